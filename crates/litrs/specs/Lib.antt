@@ -1,0 +1,4 @@
+pub mod Kind
+pub mod Fault
+pub mod Text
+pub mod Suffix
