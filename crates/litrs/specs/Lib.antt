@@ -2,3 +2,8 @@ pub mod Kind
 pub mod Fault
 pub mod Text
 pub mod Suffix
+pub mod Reading
+pub mod Bool
+pub mod Base
+pub mod IntegerTypes
+pub mod Integer

@@ -1,0 +1,5 @@
+pub mod Chars
+pub mod SuffixLemmas
+pub mod BoolLemmas
+pub mod Firsts
+pub mod IntegerLaws
