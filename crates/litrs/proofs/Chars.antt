@@ -1,14 +1,16 @@
 -- The characters of a text and its bytes: what tests and cuts on bytes say of the characters.
-use Rattle.std.proofs.Common.{◌≡◌, ◌≢◌, ℕ, zero, suc, ◌+◌, ◌-◌, ◌<◌, ◌≤◌, ◌⊎◌, Bool, true, false, cond, eqb, ltb, List, [], ◌∷◌, ◌++◌, length, take, drop, get_or, refl, sym, ap, subst, ◌∙◌, inl, inr, arith}
+use Rattle.std.proofs.Common.{◌≡◌, ◌≢◌, ℕ, zero, suc, ◌+◌, ◌-◌, ◌<◌, ◌≤◌, ◌⊎◌, Bool, true, false, cond, eqb, ltb, ◌&&◌, List, [], ◌∷◌, ◌++◌, length, take, drop, get_or, refl, sym, ap, subst, ◌∙◌, inl, inr, arith}
 use Rattle.std.specs.Str.{chars, chars_after, IsUtf8, IsAscii, continuation_len, lead_bits}
 use Rattle.std.specs.List.{prefix_len, list_all}
 use Rattle.std.proofs.lemmas.Str.Ascii.{IsAscii-nil, IsAscii-cons}
 use Rattle.std.proofs.lemmas.Str.{chars-nil, chars_from_encodes, IsUtf8-past_char, encode_ascii, IsUtf8-nil}
-use Rattle.std.proofs.lemmas.Bool.{lt-ltb, ltb-true, and_parts, cases_lt, ne_eqb, true≢false}
+use Rattle.std.proofs.lemmas.Bool.{lt-ltb, ltb-true, and_parts, cases_lt, ne_eqb, eqb-true, true≢false, false≢true}
 use Rattle.std.specs.Prelude.{encode_utf8_all}
-use Rattle.std.specs.Char.{encode_utf8}
+use Rattle.std.proofs.lemmas.Str.{IsAscii-append}
+use Rattle.std.proofs.lemmas.List.{drop-drop, length-drop}
+use Rattle.std.proofs.Math.Seq.{take-add}
 use Rattle.litrs.specs.Suffix.{is_empty}
-use Rattle.litrs.specs.Text.{first_passes}
+use Rattle.litrs.specs.Text.{first_passes, begins_with}
 
 -- a text that is not empty has a first character
 abbrev Splits : List ℕ → Type 0
@@ -68,15 +70,19 @@ pub record IsAsciiFront (bs : List ℕ) (n : ℕ) : Type 0 where
   pub taken : take n (chars bs) ≡ take n bs
   pub rest : drop n (chars bs) ≡ chars (drop n bs)
   pub utf8 : IsUtf8 (drop n bs)
+  pub ascii : IsAscii (take n bs)
+  pub within : n ≤ length bs
 
 pub front_zero : (bs : List ℕ) → IsUtf8 bs → IsAsciiFront bs 0
-front_zero bs u = record { taken = refl; rest = refl; utf8 = u }
+front_zero bs u = record { taken = refl; rest = refl; utf8 = u; ascii = IsAscii-nil; within = omega arith }
 
 pub front_suc : (b : ℕ) (bs : List ℕ) (n : ℕ) → b < 128 → IsAsciiFront bs n → IsAsciiFront (b ∷ bs) (suc n)
 front_suc b bs n low f = record {
   taken = rw (chars_ascii b bs low) (ap (λ t. b ∷ t) f.taken);
   rest = rw (chars_ascii b bs low) f.rest;
   utf8 = f.utf8;
+  ascii = IsAscii-cons b (take n bs) low f.ascii;
+  within = let within = f.within in omega arith;
 }
 
 ascii_from_test : (p : ℕ → Bool) (c : ℕ) → OnlyAscii p → p c ≡ true → c < 128
@@ -110,3 +116,39 @@ first_passes-chars p (b ∷ bs) only u = elim (cases_lt b 128) [
   | inl low ↦ ap (first_passes p) (chars_ascii b bs low)
   | inr high ↦ (let w = chars_wide b bs high u in ap (first_passes p) w.is ∙ (only w.first w.wide ∙ sym (only b high)))
 ]
+
+-- one front behind another
+pub front_front : (bs : List ℕ) (n m : ℕ) → IsAsciiFront bs n → IsAsciiFront (drop n bs) m → IsAsciiFront bs (n + m)
+front_front bs n m f g = record {
+  taken = take-add n m (chars bs) ∙ (ap (λ t. t ++ take m (drop n (chars bs))) f.taken
+      ∙ (ap (λ t. take n bs ++ take m t) f.rest ∙ (ap (λ t. take n bs ++ t) g.taken ∙ sym (take-add n m bs))));
+  rest = sym (drop-drop m n (chars bs)) ∙ (ap (drop m) f.rest ∙ (g.rest ∙ ap chars (drop-drop m n bs)));
+  utf8 = subst (λ (t : List ℕ). IsUtf8 t) (drop-drop m n bs) g.utf8;
+  ascii = subst (λ (t : List ℕ). IsAscii t) (sym (take-add n m bs)) (IsAscii-append (take n bs) (take m (drop n bs)) f.ascii g.ascii);
+  within = let a = f.within in let b = g.within in omega (arith, length-drop n bs);
+}
+
+-- a text that begins with ASCII characters begins with those bytes
+pub begins_with-chars : (front bs : List ℕ) → list_all (λ c. ltb c 128) front ≡ true → IsUtf8 bs → begins_with front (chars bs) ≡ begins_with front bs
+begins_with-chars [] bs low u = refl
+begins_with-chars (c ∷ front) [] low u = ap (begins_with (c ∷ front)) chars-nil
+begins_with-chars (c ∷ front) (b ∷ bs) low u =
+    let parts = and_parts (ltb c 128) (list_all (λ d. ltb d 128) front) low in
+    let low_c = ltb-true c 128 parts.0 in
+    elim (cases_lt b 128) [
+      | inl low_b ↦ ap (begins_with (c ∷ front)) (chars_ascii b bs low_b) ∙ ap (λ v. eqb c b && v) (begins_with-chars front bs parts.1 (utf8_behind_ascii b bs low_b u))
+      | inr high ↦ (let w = chars_wide b bs high u in
+          let wide = w.wide in
+          ap (begins_with (c ∷ front)) w.is
+          ∙ (ap (λ v. v && begins_with front w.rest) (ne_eqb c w.first (λ e. omega arith)) ∙ sym (ap (λ v. v && begins_with front bs) (ne_eqb c b (λ e. omega arith)))))
+    ]
+
+-- a text may be cut behind the ASCII characters that it begins with
+pub begins_front : (front bs : List ℕ) → list_all (λ c. ltb c 128) front ≡ true → begins_with front bs ≡ true → IsUtf8 bs → IsAsciiFront bs (length front)
+begins_front [] bs low e u = front_zero bs u
+begins_front (c ∷ front) [] low e u = absurd (false≢true e)
+begins_front (c ∷ front) (b ∷ bs) low e u =
+    let parts = and_parts (ltb c 128) (list_all (λ d. ltb d 128) front) low in
+    let same = and_parts (eqb c b) (begins_with front bs) e in
+    let low_b : b < 128 = let low_c = ltb-true c 128 parts.0 in let is = eqb-true c b same.0 in omega arith in
+    front_suc b bs (length front) low_b (begins_front front bs parts.1 same.1 (utf8_behind_ascii b bs low_b u))

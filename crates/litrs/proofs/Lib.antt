@@ -3,3 +3,4 @@ pub mod SuffixLemmas
 pub mod BoolLemmas
 pub mod Firsts
 pub mod IntegerLaws
+pub mod IntegerLemmas

@@ -7,3 +7,4 @@ pub mod Bool
 pub mod Base
 pub mod IntegerTypes
 pub mod Integer
+pub mod IntegerCut

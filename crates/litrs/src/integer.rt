@@ -1,8 +1,116 @@
 //! Integer literals.
-ghost use Rattle.std.specs.Prelude.{◌≡◌, length, Bool, MatchOption};
+ghost use Rattle.std.specs.Prelude.{◌≡◌, ◌≤◌, ℕ, length, Bool, IsTrue, MatchOption, slice_index, IfOk, OnErr, IfErr, Some};
+ghost use Rattle.std.specs.Char.{is_ascii_digit};
+ghost use Rattle.std.specs.List.{prefix_len, list_any};
+ghost use Rattle.std.specs.Str.{chars};
+ghost use Rattle.litrs.specs.Reading.{IsOnlyReading, HasNoReading};
+ghost use Rattle.litrs.specs.Text.{first_passes};
+ghost use Rattle.litrs.specs.IntegerCut.{parts_at, IsWithin, IsDigitsCut};
+ghost use Rattle.litrs.specs.Integer.{IsIntegerOf, integer_fault, cut_fault, integer_cut, is_e, base_of};
 
+use crate::err::{ParseError, ParseErrorKind};
+use crate::parse::check_suffix;
 use std::fmt;
 use std::str::FromStr;
+
+/// Where an integer is cut: places in bytes.
+#[derive(Clone, Copy, Debug, PartialEq, Eq)]
+pub struct IntegerCut {
+    /// Where the main part begins, behind the prefix.
+    pub start_main: usize,
+    /// Where the main part ends and the suffix begins.
+    pub end_main: usize,
+    /// What the prefix tells.
+    pub base: IntegerBase,
+}
+
+/// Cuts an integer into prefix, main part and suffix. The text begins with a decimal digit.
+///
+/// Refused with `InvalidDigit` where a decimal digit follows the main part, with the refusal of the
+/// suffix where what follows is no suffix, with `IntegerSuffixStartingWithE` where the suffix begins
+/// with `e` or `E`, and with `NoDigits` where the main part has no digit. See [the reference][ref].
+///
+/// [ref]: https://doc.rust-lang.org/reference/tokens.html#integer-literals
+pub fn cut_integer(input: &str) -> Result<IntegerCut, ParseError>
+    requires { IsTrue (first_passes is_ascii_digit (chars input.now)) }
+    ensures ok { IfOk result (λ cut. IsOnlyReading (IsIntegerOf (chars input.now)) (parts_at cut input.now)) }
+    ensures places { IfOk result (λ cut. IsWithin cut input.now) }
+    ensures none { OnErr result (HasNoReading (IsIntegerOf (chars input.now))) }
+    ensures fault { IfErr result (λ e. integer_fault (chars input.now) ≡ Some e) }
+{
+    let cut = cut_digits(input);
+    match cut_refusal(&cut, input) {
+        None => Ok(cut),
+        Some(refusal) => Err(refusal),
+    }
+}
+
+/// The text cut behind the prefix and behind all digits of the base and underscores.
+fn cut_digits(input: &str) -> IntegerCut
+    ensures { IsDigitsCut result input.now }
+{
+    let bytes = input.as_bytes();
+    let base = IntegerBase::of(bytes);
+    let start_main = base.prefix().len();
+    let end_main = start_main + base.digits_len(&bytes[start_main..]);
+    IntegerCut {
+        start_main,
+        end_main,
+        base,
+    }
+}
+
+/// Why a text that is cut so is no integer, None where it is one.
+fn cut_refusal(cut: &IntegerCut, input: &str) -> Option<ParseError>
+    requires { IsDigitsCut cut.now input.now }
+    ensures { result ≡ cut_fault (integer_cut (chars input.now)) }
+{
+    let IntegerCut {
+        start_main,
+        end_main,
+        base,
+    } = *cut;
+    let (number, suffix) = input.split_at(end_main);
+    let behind = suffix.as_bytes();
+    if let Err(kind) = check_suffix(suffix) {
+        return Some(if begins_with_digit(behind) {
+            ParseError::new(Some(end_main..end_main + 1), ParseErrorKind::InvalidDigit)
+        } else {
+            ParseError::new(Some(end_main..input.len()), kind)
+        });
+    }
+    if begins_with_e(behind) {
+        return Some(ParseError::new(
+            Some(end_main..end_main + 1),
+            ParseErrorKind::IntegerSuffixStartingWithE,
+        ));
+    }
+    if base.has_digit(&number.as_bytes()[start_main..]) {
+        None
+    } else {
+        Some(ParseError::new(Some(start_main..end_main), ParseErrorKind::NoDigits))
+    }
+}
+
+/// Whether a decimal digit stands first.
+fn begins_with_digit(bytes: &[u8]) -> bool
+    ensures { result ≡ first_passes is_ascii_digit bytes.now }
+{
+    match bytes {
+        [first, ..] => first.is_ascii_digit(),
+        [] => false,
+    }
+}
+
+/// Whether `e` or `E` stands first.
+fn begins_with_e(bytes: &[u8]) -> bool
+    ensures { result ≡ first_passes is_e bytes.now }
+{
+    match bytes {
+        [first, ..] => *first == b'e' || *first == b'E',
+        [] => false,
+    }
+}
 
 /// The bases in which an integer can be specified.
 #[derive(Clone, Copy, Debug, PartialEq, Eq)]
@@ -14,7 +122,7 @@ pub enum IntegerBase {
 }
 
 impl IntegerBase {
-    ghost use Rattle.litrs.specs.Base.{prefix, base_value, is_digit_or_underscore};
+    ghost use Rattle.litrs.specs.Base.{prefix, base_value, is_digit, is_digit_or_underscore};
 
     /// The text that indicates this base: `0b`, `0o`, the empty text and `0x`.
     pub fn prefix(self) -> &'static str
@@ -40,17 +148,46 @@ impl IntegerBase {
         }
     }
 
-    /// Whether the byte is a digit of this base or `_`.
-    fn is_digit_or_underscore(self, byte: u8) -> bool
-        ensures { result ≡ is_digit_or_underscore self byte }
+    /// The base that the front of a text tells: `0b`, `0o` and `0x` are always the prefix, and
+    /// everything else is decimal.
+    fn of(bytes: &[u8]) -> IntegerBase
+        ensures { result ≡ base_of bytes.now }
+    {
+        match bytes {
+            [b'0', b'b', ..] => IntegerBase::Binary,
+            [b'0', b'o', ..] => IntegerBase::Octal,
+            [b'0', b'x', ..] => IntegerBase::Hexadecimal,
+            _ => IntegerBase::Decimal,
+        }
+    }
+
+    /// Whether the byte is a digit of this base.
+    fn is_digit(self, byte: u8) -> bool
+        ensures { result ≡ is_digit self byte }
     {
         match self {
-            IntegerBase::Binary => matches!(byte, b'0' | b'1' | b'_'),
-            IntegerBase::Octal => matches!(byte, b'0'..=b'7' | b'_'),
-            IntegerBase::Decimal => matches!(byte, b'0'..=b'9' | b'_'),
-            IntegerBase::Hexadecimal =>
-                matches!(byte, b'0'..=b'9' | b'a'..=b'f' | b'A'..=b'F' | b'_'),
+            IntegerBase::Binary => matches!(byte, b'0' | b'1'),
+            IntegerBase::Octal => matches!(byte, b'0'..=b'7'),
+            IntegerBase::Decimal => matches!(byte, b'0'..=b'9'),
+            IntegerBase::Hexadecimal => matches!(byte, b'0'..=b'9' | b'a'..=b'f' | b'A'..=b'F'),
         }
+    }
+
+    /// How many digits of this base and underscores stand at the front, in bytes.
+    fn digits_len(self, bytes: &[u8]) -> usize
+        ensures { result ≡ prefix_len (is_digit_or_underscore self) bytes.now }
+    {
+        bytes
+            .iter()
+            .take_while(|b| self.is_digit(**b) || **b == b'_')
+            .count()
+    }
+
+    /// Whether a digit of this base is among the bytes.
+    fn has_digit(self, bytes: &[u8]) -> bool
+        ensures { result ≡ list_any (is_digit self) bytes.now }
+    {
+        bytes.iter().any(|b| self.is_digit(*b))
     }
 }
 

@@ -2,11 +2,13 @@
 #![tactic(auto)]
 
 pub use bool::BoolLit;
+pub use buffer::Buffer;
 pub use err::{ParseError, ParseErrorKind};
-pub use integer::{IntegerBase, IntegerType};
+pub use integer::{IntegerBase, IntegerCut, IntegerType, cut_integer};
 pub use parse::{check_suffix, first_byte_or_empty};
 
 mod bool;
+mod buffer;
 mod err;
 mod integer;
 mod parse;
