@@ -220,3 +220,8 @@ refused t e fault d r = let free = integer_fault-free t d r in cc
 -- the cut of a text that is not refused is its only derivation
 pub only_cut : (t : List ℕ) → integer_fault t ≡ None → IsOnlyReading (IsIntegerOf t) (integer_cut t)
 only_cut t free = (readable t free, λ e r. only_integer t (integer_cut t) e (readable t free) r)
+
+-- where a text begins with a digit the cut alone tells
+pub fault_of_digit : (t : List ℕ) → first_passes is_ascii_digit t ≡ true → integer_fault t ≡ cut_fault (integer_cut t)
+unfolding integer_fault
+fault_of_digit t digit = rw (not_empty_by_first is_ascii_digit t digit, digit) refl

@@ -3,7 +3,7 @@ use Rattle.std.proofs.Common.{◌≡◌, ℕ, ◌+◌, ◌-◌, ◌≤◌, Bool,
 use Rattle.std.specs.Str.{chars, IsUtf8, IsAscii, IsCharBoundary, encode_utf8_all}
 use Rattle.std.specs.Char.{is_ascii_digit}
 use Rattle.std.specs.List.{prefix_len, list_all, list_any, take_while}
-use Rattle.std.proofs.lemmas.List.{drop-drop, length-append}
+use Rattle.std.proofs.lemmas.List.{drop-drop, length-append, take_rest}
 use Rattle.std.proofs.lemmas.List.Folds.{length-prefix_len}
 use Rattle.std.proofs.lemmas.Str.{encodes-chars, encodes-IsAscii, chars-IsAscii, IsAscii-append, IsCharBoundary-from_drop}
 use Rattle.std.proofs.lemmas.Bool.{le-ltb, lt-leb, ne_eqb}
@@ -176,3 +176,18 @@ places_of_cut cut bs u h =
 -- what the code needs of the cut
 pub within_bytes : (bs : List ℕ) → IsUtf8 bs → (start_of bs ≤ length bs) × (start_of bs + run_of bs ≤ length bs)
 within_bytes bs u = ((prefix_front bs u).within, (number_front bs u).within)
+
+-- what the code computes of the bytes is a cut
+pub digits_cut_made : (bs bytes front : List ℕ) (base : IntegerBase) (n : ℕ) → IsUtf8 bs → bytes ≡ bs → base ≡ base_of bytes → front ≡ prefix base →
+    n ≡ prefix_len (is_digit_or_underscore base) (take (length bytes - length front) (drop (length front) bytes)) →
+    IsDigitsCut (record { start_main = length front; end_main = length front + n; base = base }) bs
+digits_cut_made bs bytes front base n u same is_base is_front is_run =
+    let base_is : base ≡ base_of bs = is_base ∙ ap base_of same in
+    let start : length front ≡ length (prefix base) = ap length is_front in
+    let run : n ≡ prefix_len (is_digit_or_underscore base) (drop (length front) bs) =
+    is_run ∙ (ap (prefix_len (is_digit_or_underscore base)) (take_rest bytes (length front)) ∙ ap (λ t. prefix_len (is_digit_or_underscore base) (drop (length front) t)) same) in
+    let start_is : length front ≡ start_of bs = start ∙ ap (λ b. length (prefix b)) base_is in
+    let run_is : n ≡ run_of bs = run ∙ (ap (λ b. prefix_len (is_digit_or_underscore b) (drop (length front) bs)) base_is
+    ∙ ap (λ k. prefix_len (is_digit_or_underscore (base_of bs)) (drop k bs)) start_is) in
+    let inside = (within_bytes bs u).1 in
+    record { base = base_is; start = start; end = ap (λ k. length front + k) run; within = omega arith }
