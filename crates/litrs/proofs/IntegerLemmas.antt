@@ -1,11 +1,11 @@
 -- Integers: what the cut of the bytes says of the characters.
-use Rattle.std.proofs.Common.{◌≡◌, ℕ, ◌+◌, ◌-◌, ◌≤◌, Bool, true, false, cond, ltb, List, [], ◌∷◌, ◌++◌, length, take, drop, slice_range, Option, Some, None, refl, sym, ap, subst, ◌∙◌, arith}
+use Rattle.std.proofs.Common.{◌≡◌, ℕ, suc, ◌+◌, ◌-◌, ◌≤◌, Bool, true, false, cond, ltb, List, [], ◌∷◌, ◌++◌, length, take, drop, slice_range, slice_get, Option, Some, None, refl, sym, ap, subst, ◌∙◌, arith}
 use Rattle.std.specs.Str.{chars, IsUtf8, IsAscii, IsCharBoundary, encode_utf8_all}
 use Rattle.std.specs.Char.{is_ascii_digit}
 use Rattle.std.specs.List.{prefix_len, list_all, list_any, take_while}
 use Rattle.std.proofs.lemmas.List.{drop-drop, length-append, take_rest}
 use Rattle.std.proofs.lemmas.List.Folds.{length-prefix_len}
-use Rattle.std.proofs.lemmas.Str.{encodes-chars, encodes-IsAscii, chars-IsAscii, IsAscii-append, IsCharBoundary-from_drop}
+use Rattle.std.proofs.lemmas.Str.{chars-nil, encodes-chars, encodes-IsAscii, chars-IsAscii, IsAscii-append, IsCharBoundary-from_drop}
 use Rattle.std.proofs.lemmas.Bool.{le-ltb, lt-leb, ne_eqb}
 use Rattle.std.proofs.lemmas.Bool.Decides.{nat_tests}
 use Rattle.std.proofs.lemmas.Grind.{common_steps}
@@ -13,12 +13,14 @@ use Rattle.litrs.specs.declared.err.ParseError.{ParseError}
 use Rattle.litrs.specs.declared.integer.IntegerCut.{IntegerCut}
 use Rattle.litrs.specs.declared.integer.IntegerBase.{IntegerBase}
 use Rattle.litrs.specs.declared.integer.IntegerBase.TheVariants.{Binary, Octal, Decimal, Hexadecimal}
+use Rattle.litrs.specs.declared.err.ParseErrorKind.TheVariants.{Empty, DoesNotStartWithDigit}
+use Rattle.litrs.specs.Fault.{plain, at}
 use Rattle.litrs.specs.Text.{byte_len, first_passes, begins_with}
-use Rattle.litrs.specs.Suffix.{is_suffix, suffix_fault}
+use Rattle.litrs.specs.Suffix.{is_empty, is_suffix, suffix_fault}
 use Rattle.litrs.specs.Base.{prefix, is_hex_digit, is_digit, is_digit_or_underscore}
-use Rattle.litrs.specs.Integer.{IntegerParts, integer_text, is_e, base_of, integer_cut, integer_rows, cut_fault}
+use Rattle.litrs.specs.Integer.{IntegerParts, integer_text, is_e, base_of, integer_cut, integer_rows, cut_fault, integer_fault}
 use Rattle.litrs.specs.IntegerCut.{parts_at, IsWithin, IsDigitsCut}
-use Rattle.litrs.proofs.Chars.{OnlyAscii, IsAsciiFront, front_zero, front_front, begins_front, passing_front, prefix_len-chars, first_passes-chars, begins_with-chars, ascii_by_test}
+use Rattle.litrs.proofs.Chars.{chars_empty, OnlyAscii, IsAsciiFront, front_zero, front_front, begins_front, passing_front, prefix_len-chars, first_passes-chars, begins_with-chars, ascii_by_test}
 use Rattle.litrs.proofs.IntegerLaws.{cut_with, integer_cut-is, cut-spells}
 
 -- only ASCII characters are digits or underscores
@@ -191,3 +193,21 @@ digits_cut_made bs bytes front base n u same is_base is_front is_run =
     ∙ ap (λ k. prefix_len (is_digit_or_underscore (base_of bs)) (drop k bs)) start_is) in
     let inside = (within_bytes bs u).1 in
     record { base = base_is; start = start; end = ap (λ k. length front + k) run; within = omega arith }
+
+-- a text that has a first byte is not empty
+pub filled_by_first : (bs : List ℕ) (b : ℕ) → IsUtf8 bs → slice_get bs 0 ≡ Some b → is_empty (chars bs) ≡ false
+filled_by_first [] b u e = cc
+filled_by_first (c ∷ bs) b u e = chars_empty (c ∷ bs) u ∙ ne_eqb (suc (length bs)) 0 (λ h. omega arith)
+
+-- the first two rows of numbers, by the bytes
+pub fault-empty : (bs : List ℕ) → bs ≡ [] → integer_fault (chars bs) ≡ Some (plain Empty)
+unfolding integer_fault
+fault-empty bs e = ap (λ t. integer_fault (chars t)) e ∙ ap integer_fault chars-nil
+
+pub fault-no_digit : (bs : List ℕ) (b : ℕ) → IsUtf8 bs → slice_get bs 0 ≡ Some b → first_passes is_ascii_digit bs ≡ false →
+    integer_fault (chars bs) ≡ Some (at 0 DoesNotStartWithDigit)
+unfolding integer_fault
+fault-no_digit bs b u first none = rw (filled_by_first bs b u first, first_passes-chars is_ascii_digit bs digit_is_ascii u, none) refl
+
+pub digit-chars : (bs : List ℕ) → IsUtf8 bs → first_passes is_ascii_digit (chars bs) ≡ first_passes is_ascii_digit bs
+digit-chars bs u = first_passes-chars is_ascii_digit bs digit_is_ascii u

@@ -8,3 +8,4 @@ pub mod Base
 pub mod IntegerTypes
 pub mod Integer
 pub mod IntegerCut
+pub mod IntegerLiteral

@@ -1,6 +1,9 @@
 //! Integer literals.
 ghost use Rattle.std.specs.Prelude.{◌≡◌, ◌≤◌, ℕ, length, Bool, IsTrue, MatchOption, slice_index, IfOk, OnErr, IfErr, Some};
+ghost use Rattle.std.specs.Prelude.{nat_eq};
 ghost use Rattle.std.specs.Char.{is_ascii_digit};
+ghost use Rattle.std.specs.Cmp.{on_per, on_equiv, partial_equiv_from_equiv};
+ghost use Rattle.std.specs.Cmp.Lexicographic.{pointwise, nat_list_eq_equiv};
 ghost use Rattle.std.specs.List.{prefix_len, list_any};
 ghost use Rattle.std.specs.Str.{chars};
 ghost use Rattle.litrs.specs.Reading.{IsOnlyReading, HasNoReading};
@@ -8,10 +11,127 @@ ghost use Rattle.litrs.specs.Text.{first_passes};
 ghost use Rattle.litrs.specs.IntegerCut.{parts_at, IsWithin, IsDigitsCut};
 ghost use Rattle.litrs.specs.Integer.{IsIntegerOf, integer_fault, cut_fault, integer_cut, is_e, base_of};
 
+use crate::buffer::Buffer;
 use crate::err::{ParseError, ParseErrorKind};
-use crate::parse::check_suffix;
+use crate::parse::{check_suffix, first_byte_or_empty};
+use std::alloc::AllocError;
 use std::fmt;
 use std::str::FromStr;
+
+/// An integer literal, e.g. `27`, `0x7F`, `0b101010u8` or `5_000_000i64`.
+///
+/// An integer literal consists of an optional base prefix (`0b`, `0o`, `0x`), the main part (digits
+/// and underscores), and an optional type suffix (e.g. `u64` or `i8`). It has no sign. See [the
+/// reference][ref].
+///
+/// [ref]: https://doc.rust-lang.org/reference/tokens.html#integer-literals
+pub struct IntegerLit<B: Buffer> {
+    raw: B,
+    cut: IntegerCut,
+    ghost places: { IsWithin cut (B.bytes raw) },
+    ghost integer: { IsIntegerOf (chars (B.bytes raw)) (parts_at cut (B.bytes raw)) },
+}
+
+impl<B: Buffer> IntegerLit<B> {
+    ghost use Rattle.litrs.specs.IntegerLiteral.{integer_raw, integer_parts};
+
+    /// Parses the input as an integer literal.
+    ///
+    /// Refused as `Empty`, as `DoesNotStartWithDigit`, or as [`cut_integer`] refuses it.
+    pub fn parse(input: B) -> Result<IntegerLit<B>, ParseError>
+        ensures raw { IfOk result (λ lit. integer_raw lit ≡ B.bytes input) }
+        ensures ok { IfOk result (λ lit. IsOnlyReading (IsIntegerOf (chars (B.bytes input))) (integer_parts lit)) }
+        ensures none { OnErr result (HasNoReading (IsIntegerOf (chars (B.bytes input)))) }
+        ensures fault { IfErr result (λ e. integer_fault (chars (B.bytes input)) ≡ Some e) }
+    {
+        let cut = read(input.as_str())?;
+        Ok(IntegerLit { raw: input, cut })
+    }
+
+    /// The base of this integer literal.
+    pub fn base(&self) -> IntegerBase
+        ensures { result ≡ (integer_parts self.now).base }
+    {
+        self.cut.base
+    }
+
+    /// The main part: the digits and underscores, without the prefix.
+    pub fn raw_main_part(&self) -> &str
+        ensures { chars result.now ≡ (integer_parts self.now).main }
+    {
+        &self.raw.as_str()[self.cut.start_main..self.cut.end_main]
+    }
+
+    /// The suffix, empty where there is none.
+    pub fn suffix(&self) -> &str
+        ensures { chars result.now ≡ (integer_parts self.now).suffix }
+    {
+        &self.raw.as_str()[self.cut.end_main..]
+    }
+
+    /// The text that was parsed.
+    pub fn raw_input(&self) -> &str
+        ensures { result.now ≡ integer_raw self.now }
+    {
+        self.raw.as_str()
+    }
+
+    /// The text that was parsed, in its buffer.
+    pub fn into_raw_input(self) -> B
+        ensures { B.bytes result ≡ integer_raw self }
+    {
+        let IntegerLit { raw, cut: _ } = self;
+        raw
+    }
+}
+
+/// Where the text is cut, if it is an integer.
+fn read(input: &str) -> Result<IntegerCut, ParseError>
+    ensures ok { IfOk result (λ cut. IsOnlyReading (IsIntegerOf (chars input.now)) (parts_at cut input.now)) }
+    ensures places { IfOk result (λ cut. IsWithin cut input.now) }
+    ensures none { OnErr result (HasNoReading (IsIntegerOf (chars input.now))) }
+    ensures fault { IfErr result (λ e. integer_fault (chars input.now) ≡ Some e) }
+{
+    first_byte_or_empty(input)?;
+    if begins_with_digit(input.as_bytes()) {
+        cut_integer(input)
+    } else {
+        Err(ParseError::new(Some(0..1), ParseErrorKind::DoesNotStartWithDigit))
+    }
+}
+
+impl<B: Buffer> PartialEq for IntegerLit<B> {
+    ghost eq = { λ x y. pointwise nat_eq (B.bytes x.raw) (B.bytes y.raw) };
+
+    ghost laws = { on_per (λ lit. B.bytes lit.raw) (partial_equiv_from_equiv nat_list_eq_equiv) };
+
+    fn eq(&self, other: &IntegerLit<B>) -> bool {
+        self.raw.as_str() == other.raw.as_str()
+    }
+}
+
+impl<B: Buffer> Eq for IntegerLit<B> {
+    ghost laws = { on_equiv (λ lit. B.bytes lit.raw) nat_list_eq_equiv };
+}
+
+impl<B: Buffer + Copy> Copy for IntegerLit<B> {}
+
+impl<B: Buffer + Copy> Clone for IntegerLit<B> {
+    fn clone(&self) -> Result<IntegerLit<B>, AllocError> {
+        Ok(IntegerLit {
+            raw: self.raw,
+            cut: self.cut,
+        })
+    }
+}
+
+impl<B: Buffer> fmt::Display for IntegerLit<B> {
+    ghost output = { λ lit. Some (B.bytes lit.raw) };
+
+    fn fmt<W: fmt::Write>(&self, f: &mut fmt::Formatter<W>) -> fmt::Result {
+        f.write_str(self.raw.as_str())
+    }
+}
 
 /// Where an integer is cut: places in bytes.
 #[derive(Clone, Copy, Debug, PartialEq, Eq)]

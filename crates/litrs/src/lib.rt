@@ -4,7 +4,7 @@
 pub use bool::BoolLit;
 pub use buffer::Buffer;
 pub use err::{ParseError, ParseErrorKind};
-pub use integer::{IntegerBase, IntegerCut, IntegerType, cut_integer};
+pub use integer::{IntegerBase, IntegerCut, IntegerLit, IntegerType, cut_integer};
 pub use parse::{check_suffix, first_byte_or_empty};
 
 mod bool;
