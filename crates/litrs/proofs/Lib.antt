@@ -4,3 +4,5 @@ pub mod BoolLemmas
 pub mod Firsts
 pub mod IntegerLaws
 pub mod IntegerLemmas
+pub mod LiteralLaws
+pub mod Dispatch
