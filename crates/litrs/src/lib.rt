@@ -2,7 +2,6 @@
 #![tactic(auto)]
 
 pub use err::{ParseError, ParseErrorKind};
-pub use parse::{check_suffix, first_byte_or_empty};
 
 mod err;
-mod parse;
+mod laws;

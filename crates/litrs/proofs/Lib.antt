@@ -1,0 +1,2 @@
+pub mod FloatExamples
+pub mod RawExamples
