@@ -1,3 +1,3 @@
 //! Laws of the grammar: each is the contract of a function with an empty body.
-pub mod float;
-pub mod raw;
+mod float;
+mod raw;
