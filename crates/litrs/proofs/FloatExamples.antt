@@ -1,6 +1,6 @@
 -- Each form of a float and each row of its refusals, computed.
 use Rattle.std.specs.Prelude.{◌≡◌, ℕ, true, false, List, [], ◌∷◌, ◌++◌, Option, Some, None, refl, codes}
-use Rattle.std.specs.Char.{is_ascii_digit}
+use Rattle.std.proofs.lemmas.Bool.{false≢true}
 use Rattle.litrs.specs.declared.err.ParseErrorKind.TheVariants.{Empty, UnexpectedChar, InvalidSuffix, DoesNotStartWithDigit, NoExponentDigits, UnexpectedIntegerLit}
 use Rattle.litrs.specs.declared.err.ParseError.{ParseError}
 use Rattle.unicode_ident.proofs.Computing.{unicode_ident}
@@ -22,7 +22,7 @@ form-fraction = record { spells = refl; grammar = record { integer = refl; form 
 
 form-exponent : IsFloatOf (codes "3e2e5") (parts (codes "3") None (codes "e2") (codes "e5"))
 unfolding is_exponent is_suffix unicode_ident
-form-exponent = record { spells = refl; grammar = record { integer = refl; form = refl; suffix = refl; no_underscore = refl; no_letter = λ e. ? } }
+form-exponent = record { spells = refl; grammar = record { integer = refl; form = refl; suffix = refl; no_underscore = refl; no_letter = λ e. absurd (false≢true e) } }
 
 row-empty : float_fault [] ≡ Some (plain Empty)
 unfolding float_fault fraction_len exponent_len is_suffix

@@ -1,2 +1,4 @@
+pub mod Runs
+pub mod SuffixStart
+pub mod FloatCuts
 pub mod FloatExamples
-pub mod RawExamples
