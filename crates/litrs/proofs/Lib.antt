@@ -1,4 +1,6 @@
 pub mod Runs
 pub mod SuffixStart
+pub mod Spans
 pub mod FloatCuts
+pub mod FloatLaws
 pub mod FloatExamples
