@@ -47,11 +47,11 @@ pub record IsCut (d : FloatParts) : Type 0 where
 
 -- behind the fraction
 
-exponent_stops : (p x : List ℕ) → is_exponent_front p ≡ true → first_passes is_decimal_char x ≡ false → first_passes is_decimal_char (p ++ x) ≡ false
+pub exponent_stops : (p x : List ℕ) → is_exponent_front p ≡ true → first_passes is_decimal_char x ≡ false → first_passes is_decimal_char (p ++ x) ≡ false
 exponent_stops [] x front stop = stop
 exponent_stops (c ∷ cs) x front stop = letter_decimal c (and_parts _ _ front).0
 
-fraction_stops : (f : Option (List ℕ)) (p x : List ℕ) → is_exponent_front p ≡ true → first_passes is_decimal_char x ≡ false →
+pub fraction_stops : (f : Option (List ℕ)) (p x : List ℕ) → is_exponent_front p ≡ true → first_passes is_decimal_char x ≡ false →
     first_passes is_decimal_char (fraction_text f ++ (p ++ x)) ≡ false
 fraction_stops None p x front stop = exponent_stops p x front stop
 fraction_stops (Some f) p x front stop = refl

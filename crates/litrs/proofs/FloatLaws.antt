@@ -4,7 +4,7 @@ use Rattle.std.specs.Prelude.{◌==◌}
 use Rattle.std.specs.Char.{is_ascii_digit}
 use Rattle.std.specs.List.{list_all, list_any, prefix_len}
 use Rattle.std.specs.Option.{is_some}
-use Rattle.std.proofs.lemmas.Bool.{and_parts, and_from, true≢false, false≢true, or_cases, eqb-true, cases_Bool, cases_lt, or_from, or_left, or_right, not-false, not-true}
+use Rattle.std.proofs.lemmas.Bool.{and_parts, and_from, true≢false, false≢true, or_cases, eqb-true, cases_Bool, cases_lt, or_from, or_left, or_right, or_parts, and_left, and_right, not-false, not-true}
 use Rattle.std.proofs.lemmas.Bool.Decides.{nat_tests}
 use Rattle.std.proofs.lemmas.List.{take_at, drop_at, length-append, append_assoc, append-nil}
 use Rattle.litrs.specs.declared.err.ParseErrorKind.{ParseErrorKind}
@@ -13,7 +13,7 @@ use Rattle.litrs.specs.Text.{byte_len, first_passes}
 use Rattle.litrs.specs.Suffix.{is_empty, is_suffix, suffix_fault}
 use Rattle.litrs.specs.Float.{FloatParts, fraction_text, float_text, is_decimal_char, is_underscore, is_period, is_exponent_letter, is_sign, is_decimal_literal, is_exponent_number, sign_len, is_exponent, is_float_form, IsFloat, IsFloatOf, decimal_len, fraction_len, exponent_len, integer_end, fraction_end, number_end, has_wrong_fraction, float_rows, float_fault}
 use Rattle.litrs.proofs.SuffixStart.{suffix_begins_otherwise}
-use Rattle.litrs.proofs.FloatCuts.{IsCut, is_exponent_front, fraction_passes, HasEnds, ends_of_cut, same_cut, CutOf, cut_of, fraction_len-text, exponent_len-text}
+use Rattle.litrs.proofs.FloatCuts.{letter_period, letter_decimal, IsCut, is_exponent_front, fraction_passes, ends_of_cut, same_cut, cut_of, fraction_stops, exponent_stops}
 
 -- the table by the parts of a text that is cut
 abbrev pub cut_rows : FloatParts → Option ParseError
@@ -146,3 +146,125 @@ float_is_cut d g = let form = form_says d.fraction d.exponent d.suffix g.form in
 
 pub only_float : (t : List ℕ) (d e : FloatParts) → IsFloatOf t d → IsFloatOf t e → d ≡ e
 only_float t d e r s = same_cut d e (float_is_cut d r.grammar) (float_is_cut e s.grammar) (r.spells ∙ sym s.spells)
+
+-- no row fits a float
+
+list_any-drop : (p : ℕ → Bool) (n : ℕ) (xs : List ℕ) → list_any p (drop n xs) ≡ true → list_any p xs ≡ true
+list_any-drop p zero xs h = h
+list_any-drop p (suc n) [] h = h
+list_any-drop p (suc n) (x ∷ xs) h = or_right (p x) _ (list_any-drop p n xs h)
+
+exponent_has_digit : (p : List ℕ) → is_exponent p ≡ true → list_any is_ascii_digit p ≡ true
+unfolding is_exponent
+exponent_has_digit [] h = absurd (false≢true h)
+exponent_has_digit (c ∷ cs) h = or_right (is_ascii_digit c) _ (list_any-drop is_ascii_digit (sign_len cs) cs (and_parts _ _ (and_parts _ _ h).1).1)
+
+digit_row : (p : List ℕ) → (is_empty p ≡ true) ⊎ (is_exponent p ≡ true) → (not (is_empty p) && not (list_any is_ascii_digit p)) ≡ false
+digit_row p (inl empty) = rw empty refl
+digit_row p (inr exponent) = and_right (not (is_empty p)) _ (ap not (exponent_has_digit p exponent))
+
+starts_digit : (i r : List ℕ) → is_decimal_literal i ≡ true → (is_empty (i ++ r) ≡ false) × (first_passes is_ascii_digit (i ++ r) ≡ true)
+starts_digit [] r h = absurd (false≢true h)
+starts_digit (c ∷ cs) r h = (refl, (and_parts _ _ h).0)
+
+no_wrong_fraction_without : (p x : List ℕ) → is_exponent p ≡ true → has_wrong_fraction (p ++ x) ≡ false
+unfolding is_exponent
+no_wrong_fraction_without [] x h = absurd (false≢true h)
+no_wrong_fraction_without (c ∷ cs) x h = and_left (is_period c) _ (letter_period c (and_parts _ _ h).0)
+
+fraction_row : (f : Option (List ℕ)) (p x : List ℕ) → is_float_form f p x ≡ true → has_wrong_fraction (fraction_text f ++ (p ++ x)) ≡ false
+fraction_row None p x h = no_wrong_fraction_without p x h
+fraction_row (Some []) [] [] h = refl
+fraction_row (Some []) [] (y ∷ ys) h = absurd (false≢true h)
+fraction_row (Some []) (y ∷ ys) x h = absurd (false≢true h)
+fraction_row (Some (c ∷ cs)) p x h =
+    let digit : is_ascii_digit c ≡ true = (and_parts _ _ (and_parts (is_decimal_literal (c ∷ cs)) (is_empty p || is_exponent p) h).0).0 in
+    ap not digit
+
+either_row : (f : Option (List ℕ)) (p x : List ℕ) → is_float_form f p x ≡ true → (is_some f || not (is_empty p)) ≡ true
+unfolding is_exponent
+either_row None [] x h = absurd (false≢true h)
+either_row None (c ∷ cs) x h = refl
+either_row (Some f) p x h = refl
+
+pub float_fits_no_row : (d : FloatParts) → IsFloat d → cut_rows d ≡ None
+float_fits_no_row d g =
+    let form = form_says d.fraction d.exponent d.suffix g.form in
+    let start = starts_digit d.integer (fraction_text d.fraction ++ (d.exponent ++ d.suffix)) g.integer in
+    row_free _ _ _ _ _ _ _ _ _ _ _ _ record {
+      empty = start.0;
+      digit = start.1;
+      fraction = fraction_row d.fraction d.exponent d.suffix g.form;
+      exponent = digit_row d.exponent form.exponent;
+      suffix = g.suffix;
+      either = either_row d.fraction d.exponent d.suffix g.form }
+
+-- a text that no row fits is a float
+
+decimal_digit : (c : ℕ) → is_decimal_char c ≡ false → is_ascii_digit c ≡ false
+decimal_digit c h = (or_parts _ _ h).0
+
+digit_from_decimal : (r : List ℕ) → first_passes is_decimal_char r ≡ false → first_passes is_ascii_digit r ≡ false
+digit_from_decimal [] h = refl
+digit_from_decimal (c ∷ cs) h = decimal_digit c h
+
+integer_literal : (i r : List ℕ) → list_all is_decimal_char i ≡ true → first_passes is_decimal_char r ≡ false → first_passes is_ascii_digit (i ++ r) ≡ true → is_decimal_literal i ≡ true
+integer_literal [] r all stop digit = absurd (false≢true (sym (digit_from_decimal r stop) ∙ digit))
+integer_literal (c ∷ cs) r all stop digit = and_from _ _ digit all
+
+behind_sign : (cs : List ℕ) → list_any is_ascii_digit cs ≡ true → list_any is_ascii_digit (drop (sign_len cs) cs) ≡ true
+behind_sign [] h = h
+behind_sign (s ∷ ds) h = elim (cases_Bool (is_sign s)) [
+    inl sign ↦ (let other : is_ascii_digit s ≡ false = grind (arith, nat_tests) in
+        let rest : list_any is_ascii_digit ds ≡ true = ap (λ v. v || list_any is_ascii_digit ds) (sym other) ∙ h in
+        ap (λ v. list_any is_ascii_digit (drop (cond v 1 0) (s ∷ ds))) sign ∙ rest)
+    | inr no_sign ↦ ap (λ v. list_any is_ascii_digit (drop (cond v 1 0) (s ∷ ds))) no_sign ∙ h ]
+
+exponent_from : (p : List ℕ) → is_empty p ≡ false → is_exponent_front p ≡ true → (not (is_empty p) && not (list_any is_ascii_digit p)) ≡ false → is_exponent p ≡ true
+unfolding is_exponent
+exponent_from [] some front row = absurd (true≢false some)
+exponent_from (c ∷ cs) some front row =
+    let parts : (is_exponent_letter c ≡ true) × (list_all is_decimal_char (drop (sign_len cs) cs) ≡ true) = and_parts _ _ front in
+    let any : (is_ascii_digit c || list_any is_ascii_digit cs) ≡ true = not-false _ row in
+    let other : is_ascii_digit c ≡ false = decimal_digit c (letter_decimal c parts.0) in
+    let rest : list_any is_ascii_digit cs ≡ true = ap (λ v. v || list_any is_ascii_digit cs) (sym other) ∙ any in
+    and_from _ _ parts.0 (and_from _ _ parts.1 (behind_sign cs rest))
+
+empty_or_exponent : (p : List ℕ) → is_exponent_front p ≡ true → (not (is_empty p) && not (list_any is_ascii_digit p)) ≡ false → (is_empty p || is_exponent p) ≡ true
+empty_or_exponent [] front row = refl
+empty_or_exponent (c ∷ cs) front row = exponent_from (c ∷ cs) refl front row
+
+nothing_behind : (p x : List ℕ) → first_passes is_decimal_char (p ++ x) ≡ false → has_wrong_fraction (46 ∷ (p ++ x)) ≡ false → (is_empty p && is_empty x) ≡ true
+nothing_behind [] [] stop row = refl
+nothing_behind [] (y ∷ ys) stop row = absurd (true≢false (sym (ap not (decimal_digit y stop)) ∙ row))
+nothing_behind (y ∷ ys) x stop row = absurd (true≢false (sym (ap not (decimal_digit y stop)) ∙ row))
+
+form_from : (f : Option (List ℕ)) (p x : List ℕ) → fraction_passes f ≡ true → is_exponent_front p ≡ true → first_passes is_decimal_char x ≡ false →
+    has_wrong_fraction (fraction_text f ++ (p ++ x)) ≡ false → (not (is_empty p) && not (list_any is_ascii_digit p)) ≡ false → (is_some f || not (is_empty p)) ≡ true →
+    is_float_form f p x ≡ true
+form_from None p x passes front stop row digits either = exponent_from p (not-true _ either) front digits
+form_from (Some []) p x passes front stop row digits either = nothing_behind p x (exponent_stops p x front stop) row
+form_from (Some (c ∷ cs)) p x passes front stop row digits either =
+    and_from (is_decimal_literal (c ∷ cs)) _ (and_from (is_ascii_digit c) _ (not-false _ row) passes) (empty_or_exponent p front digits)
+
+no_underscore_from : (x : List ℕ) → first_passes is_decimal_char x ≡ false → first_passes is_underscore x ≡ false
+no_underscore_from [] h = refl
+no_underscore_from (c ∷ cs) h = (or_parts _ _ h).1
+
+pub float_from_cut : (d : FloatParts) → IsCut d → cut_rows d ≡ None → IsFloat d
+float_from_cut d cut h =
+    let r = no_row _ _ _ _ _ _ _ _ _ _ _ _ h in
+    record {
+      integer = integer_literal d.integer (fraction_text d.fraction ++ (d.exponent ++ d.suffix)) cut.integer (fraction_stops d.fraction d.exponent d.suffix cut.exponent cut.stops) r.digit;
+      form = form_from d.fraction d.exponent d.suffix cut.fraction cut.exponent cut.stops r.fraction r.exponent r.either;
+      suffix = r.suffix;
+      no_underscore = no_underscore_from d.suffix cut.stops;
+      no_letter = λ e. cut.no_letter (empty-true d.exponent e) }
+
+pub fault_free : (t : List ℕ) (d : FloatParts) → IsFloatOf t d → float_fault t ≡ None
+fault_free t d r = ap float_fault (sym r.spells) ∙ (fault_of_cut d (float_is_cut d r.grammar) ∙ float_fits_no_row d r.grammar)
+
+pub readable : (t : List ℕ) → float_fault t ≡ None → (d : FloatParts) × IsFloatOf t d
+readable t h = let c = cut_of t in
+    let rows : cut_rows c.parts ≡ None = sym (fault_of_cut c.parts c.cut) ∙ (ap float_fault c.spells ∙ h) in
+    (c.parts, record { spells = c.spells; grammar = float_from_cut c.parts c.cut rows })
