@@ -3,4 +3,5 @@ pub mod SuffixStart
 pub mod Spans
 pub mod FloatCuts
 pub mod FloatLaws
+pub mod FloatSpans
 pub mod FloatExamples

@@ -56,3 +56,7 @@ last_passes-both q xs (y ∷ ys) a b = last_passes-append q xs y ys ∙ b
 pub list_all-append : (p : ℕ → Bool) (xs ys : List ℕ) → list_all p xs ≡ true → list_all p ys ≡ true → list_all p (xs ++ ys) ≡ true
 list_all-append p [] ys a b = b
 list_all-append p (x ∷ xs) ys a b = and_from _ _ (and_parts _ _ a).0 (list_all-append p xs ys (and_parts _ _ a).1 b)
+
+pub list_all-weaken : (p q : ℕ → Bool) → ((c : ℕ) → p c ≡ true → q c ≡ true) → (xs : List ℕ) → list_all p xs ≡ true → list_all q xs ≡ true
+list_all-weaken p q weaker [] all = refl
+list_all-weaken p q weaker (x ∷ xs) all = and_from _ _ (weaker x (and_parts _ _ all).0) (list_all-weaken p q weaker xs (and_parts _ _ all).1)

@@ -59,3 +59,10 @@ at_within t a c b place kind spells at_place =
     let all : byte_len t ≡ byte_len a + byte_len (c ∷ b) = ap byte_len (sym spells) ∙ byte_len-append a (c ∷ b) in
     let room : 1 + byte_len b ≤ byte_len (c ∷ b) = byte_len-cons c b in
     span_of t place (place + 1) kind (omega arith) (omega arith) (boundary_behind t a (c ∷ b) place spells at_place)
+
+-- what holds of the one refusal, or of none
+pub of_some : (P : ParseError → Type 0) (e : ParseError) → P e → ForSome (Some e) P
+of_some P e here found h = subst P (let same : Some e ≡ Some found = h in let inside : e ≡ found = cc in inside) here
+
+pub of_none : (P : ParseError → Type 0) → ForSome None P
+of_none P e h = absurd (cc)

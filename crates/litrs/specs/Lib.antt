@@ -5,3 +5,4 @@ pub mod Suffix
 pub mod Span
 pub mod Float
 pub mod Raw
+pub mod FloatLaws
