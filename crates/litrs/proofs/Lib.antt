@@ -5,3 +5,4 @@ pub mod FloatCuts
 pub mod FloatLaws
 pub mod FloatSpans
 pub mod FloatExamples
+pub mod RawCuts
