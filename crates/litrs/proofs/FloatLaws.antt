@@ -12,6 +12,7 @@ use Rattle.litrs.specs.declared.err.ParseError.{ParseError}
 use Rattle.litrs.specs.Text.{byte_len, first_passes}
 use Rattle.litrs.specs.Suffix.{is_empty, is_suffix, suffix_fault}
 use Rattle.litrs.specs.Float.{FloatParts, fraction_text, float_text, is_decimal_char, is_underscore, is_period, is_exponent_letter, is_sign, is_decimal_literal, is_exponent_number, sign_len, is_exponent, is_float_form, IsFloat, IsFloatOf, decimal_len, fraction_len, exponent_len, integer_end, fraction_end, number_end, has_wrong_fraction, float_rows, float_fault}
+use Rattle.litrs.proofs.Spans.{none_from}
 use Rattle.litrs.proofs.SuffixStart.{suffix_begins_otherwise}
 use Rattle.litrs.proofs.FloatCuts.{letter_period, letter_decimal, IsCut, is_exponent_front, fraction_passes, ends_of_cut, same_cut, cut_of, fraction_stops, exponent_stops}
 
@@ -49,10 +50,6 @@ fault_of_cut d cut =
         (has_wrong_fraction (e.behind_integer j)) (period j) (letter j) (digit j) (is_suffix (e.behind_number j))
 
 -- where no row fits
-
-none_from : (b : Bool) (e : ParseError) (o : Option ParseError) → cond b (Some e) o ≡ None → (b ≡ false) × (o ≡ None)
-none_from true e o h = absurd (cc)
-none_from false e o h = (refl, h)
 
 pub record NoRow (is_empty digit_first wrong_fraction period has_exponent exponent_digit has_suffix : Bool) : Type 0 where
   pub empty : is_empty ≡ false

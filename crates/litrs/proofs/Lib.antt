@@ -6,3 +6,4 @@ pub mod FloatLaws
 pub mod FloatSpans
 pub mod FloatExamples
 pub mod RawCuts
+pub mod RawLaws

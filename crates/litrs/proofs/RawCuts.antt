@@ -15,11 +15,14 @@ pub hashes_pass : (n : ℕ) → list_all is_hash (hashes n) ≡ true
 hashes_pass zero = refl
 hashes_pass (suc n) = hashes_pass n
 
+pub length-hashes : (n : ℕ) → length (hashes n) ≡ n
+length-hashes n = length-replicate n 35
+
 pub hash_len-append : (n : ℕ) (r : List ℕ) → first_passes is_hash r ≡ false → hash_len (hashes n ++ r) ≡ n
-hash_len-append n r stop = prefix_len-append is_hash (hashes n) r (hashes_pass n) stop ∙ length-replicate n 35
+hash_len-append n r stop = prefix_len-append is_hash (hashes n) r (hashes_pass n) stop ∙ length-hashes n
 
 pub behind_hashes : (n : ℕ) (r : List ℕ) → drop n (hashes n ++ r) ≡ r
-behind_hashes n r = drop_at (hashes n) r n (length-replicate n 35)
+behind_hashes n r = drop_at (hashes n) r n (length-hashes n)
 
 all_hashes : (xs : List ℕ) → list_all is_hash xs ≡ true → xs ≡ hashes (length xs)
 all_hashes [] h = refl

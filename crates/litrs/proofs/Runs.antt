@@ -60,3 +60,19 @@ list_all-append p (x ∷ xs) ys a b = and_from _ _ (and_parts _ _ a).0 (list_all
 pub list_all-weaken : (p q : ℕ → Bool) → ((c : ℕ) → p c ≡ true → q c ≡ true) → (xs : List ℕ) → list_all p xs ≡ true → list_all q xs ≡ true
 list_all-weaken p q weaker [] all = refl
 list_all-weaken p q weaker (x ∷ xs) all = and_from _ _ (weaker x (and_parts _ _ all).0) (list_all-weaken p q weaker xs (and_parts _ _ all).1)
+
+-- the whole list passes
+pub prefix_len_all : (p : ℕ → Bool) (xs : List ℕ) → list_all p xs ≡ true → prefix_len p xs ≡ length xs
+prefix_len_all p [] all = refl
+prefix_len_all p (x ∷ xs) all =
+    let parts : (p x ≡ true) × (list_all p xs ≡ true) = and_parts _ _ all in
+    ap (λ v. cond v (1 + prefix_len p xs) 0) parts.0 ∙ omega (arith, prefix_len_all p xs parts.1)
+
+all_step : (p : ℕ → Bool) (x : ℕ) (xs : List ℕ) (v : Bool) → p x ≡ v → (length xs ≤ prefix_len p xs → list_all p xs ≡ true) →
+    suc (length xs) ≤ cond v (1 + prefix_len p xs) 0 → list_all p (x ∷ xs) ≡ true
+all_step p x xs true e more long = and_from _ _ e (more (omega arith))
+all_step p x xs false e more long = absurd (omega arith)
+
+pub all_from_prefix_len : (p : ℕ → Bool) (xs : List ℕ) → length xs ≤ prefix_len p xs → list_all p xs ≡ true
+all_from_prefix_len p [] long = refl
+all_from_prefix_len p (x ∷ xs) long = all_step p x xs (p x) refl (all_from_prefix_len p xs) long

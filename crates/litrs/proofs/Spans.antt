@@ -66,3 +66,8 @@ of_some P e here found h = subst P (let same : Some e ≡ Some found = h in let 
 
 pub of_none : (P : ParseError → Type 0) → ForSome None P
 of_none P e h = absurd (cc)
+
+-- no row fits: not the first, nor those below it
+pub none_from : (b : Bool) (e : ParseError) (o : Option ParseError) → cond b (Some e) o ≡ None → (b ≡ false) × (o ≡ None)
+none_from true e o h = absurd (cc)
+none_from false e o h = (refl, h)
