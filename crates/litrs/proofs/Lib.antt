@@ -7,3 +7,4 @@ pub mod FloatSpans
 pub mod FloatExamples
 pub mod RawCuts
 pub mod RawLaws
+pub mod RawSpans
