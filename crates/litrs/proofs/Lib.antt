@@ -8,3 +8,5 @@ pub mod FloatExamples
 pub mod RawCuts
 pub mod RawLaws
 pub mod RawSpans
+pub mod RawKinds
+pub mod RawExamples

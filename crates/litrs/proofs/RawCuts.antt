@@ -56,7 +56,7 @@ begins_with_longer [] s t h = refl
 begins_with_longer (c ∷ cs) [] t h = absurd (false≢true h)
 begins_with_longer (c ∷ cs) (d ∷ ds) t h = and_from _ _ (and_parts _ _ h).0 (begins_with_longer cs ds t (and_parts _ _ h).1)
 
-front_of : (p t : List ℕ) → begins_with p t ≡ true → p ++ drop (length p) t ≡ t
+pub front_of : (p t : List ℕ) → begins_with p t ≡ true → p ++ drop (length p) t ≡ t
 front_of [] t h = refl
 front_of (c ∷ cs) [] h = absurd (false≢true h)
 front_of (c ∷ cs) (d ∷ ds) h =

@@ -15,7 +15,7 @@ use Rattle.litrs.specs.Fault.{plain, over, at}
 use Rattle.litrs.specs.Text.{byte_len, first_passes}
 use Rattle.litrs.specs.Span.{LiesWithin, last_passes, is_line_feed}
 use Rattle.litrs.specs.Suffix.{is_empty, is_suffix, suffix_fault}
-use Rattle.litrs.specs.Raw.{is_quote, is_hash, hashes, raw_closing, occurs, is_raw_char, raw_value, RawParts, raw_text, IsRaw, RawKind, raw_string, raw_byte_string, raw_c_string, raw_front, has_unicode, allows_nul, IsRawLiteral, length_before, raw_char_fault, raw_body_rows, raw_body_fault, raw_rows, raw_fault}
+use Rattle.litrs.specs.Raw.{is_quote, is_hash, is_nul, hashes, raw_closing, occurs, is_raw_char, raw_value, RawParts, raw_text, IsRaw, RawKind, raw_string, raw_byte_string, raw_c_string, raw_front, has_unicode, allows_nul, IsRawLiteral, length_before, raw_char_fault, raw_body_rows, raw_body_fault, raw_rows, raw_fault}
 use Rattle.litrs.proofs.Runs.{last_passes-all, last_passes-append, last_passes-both, list_all-weaken}
 use Rattle.litrs.proofs.Spans.{byte_len-append, is_ascii_char, byte_len_ascii, plain_within, over_within, at_within, of_some, of_none}
 use Rattle.litrs.proofs.SuffixStart.{suffix_last}
@@ -137,9 +137,6 @@ raw_last unicode nul_allowed front d g =
     ∙ last_passes-both is_line_feed (raw_closing n) d.suffix (closing_last n) (suffix_last d.suffix g.suffix))
 
 -- the value where NUL is not allowed
-
-abbrev pub is_nul : ℕ → Bool
-is_nul c = c == 0
 
 encode_no_nul : (c : ℕ) → is_nul c ≡ false → list_any is_nul (encode_utf8 c) ≡ false
 encode_no_nul c h = or_from_places (list_any is_nul) is_nul refl (λ _ _. refl) (encode_utf8 c) 0

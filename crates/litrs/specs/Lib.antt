@@ -6,3 +6,4 @@ pub mod Span
 pub mod Float
 pub mod Raw
 pub mod FloatLaws
+pub mod RawLaws

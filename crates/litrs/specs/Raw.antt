@@ -10,11 +10,17 @@ use Rattle.litrs.specs.Text.{byte_len, first_passes, begins_with}
 use Rattle.litrs.specs.Fault.{plain, over, at}
 use Rattle.litrs.specs.Suffix.{is_empty, is_suffix, suffix_fault}
 
+-- `"`
 abbrev pub is_quote : ℕ → Bool
 is_quote c = c == 34
 
+-- `#`
 abbrev pub is_hash : ℕ → Bool
 is_hash c = c == 35
+
+-- NUL
+abbrev pub is_nul : ℕ → Bool
+is_nul c = c == 0
 
 -- so many hashes
 abbrev pub hashes : ℕ → List ℕ
@@ -32,7 +38,7 @@ occurs part (c ∷ cs) = begins_with part (c ∷ cs) || occurs part cs
 -- No CR stands in a raw body, only ASCII in that of a byte string, and no NUL in that of a C string.
 -- A backslash means nothing.
 abbrev pub is_raw_char : Bool → Bool → ℕ → Bool
-is_raw_char unicode nul_allowed c = not (c == 13) && ((unicode || nat_lt c 128) && (nul_allowed || not (c == 0)))
+is_raw_char unicode nul_allowed c = not (c == 13) && ((unicode || nat_lt c 128) && (nul_allowed || not (is_nul c)))
 
 -- a raw body between n hashes: its characters may stand there, and what would close it does not occur in it
 pub record IsRawBody (unicode nul_allowed : Bool) (n : ℕ) (body : List ℕ) : Type 0 where
@@ -103,7 +109,7 @@ length_before part (c ∷ cs) = if begins_with part (c ∷ cs) then 0 else 1 + l
 
 -- why a character may not stand in a raw body
 abbrev pub raw_char_fault : ℕ → ParseErrorKind
-raw_char_fault c = if c == 13 then CarriageReturn else if c == 0 then NulByte else NonAsciiInByteLiteral
+raw_char_fault c = if c == 13 then CarriageReturn else if is_nul c then NulByte else NonAsciiInByteLiteral
 
 -- The rows behind the opening quote. The places of the first character that may not stand in the body and of the
 -- suffix, and the kinds of refusal for both; then: there is such a character before the first closing; there is a
@@ -141,3 +147,7 @@ raw_fault unicode nul_allowed start t =
     let behind = drop n t in
     raw_rows start n (raw_body_fault unicode nul_allowed n (start + (n + 1)) (drop 1 behind))
         (is_empty behind) (nat_lt 255 n) (first_passes is_quote behind)
+
+-- why a text that begins with the front of the kind is no raw literal of the kind
+abbrev pub raw_literal_fault : RawKind → List ℕ → Option ParseError
+raw_literal_fault kind t = raw_fault (has_unicode kind) (allows_nul kind) (length (raw_front kind)) (drop (length (raw_front kind)) t)
