@@ -1,16 +1,12 @@
 -- Every text that begins with digits is cut in one way into the parts that a float would have.
-use Rattle.std.proofs.Common.{◌≡◌, ℕ, zero, suc, ◌+◌, ◌-◌, ◌<◌, ◌≤◌, Bool, true, false, cond, not, ◌&&◌, ◌||◌, eqb, ltb, leb, List, [], ◌∷◌, ◌++◌, length, take, drop, Option, Some, None, refl, sym, ap, subst, ◌∙◌, inl, inr, arith}
-use Rattle.std.specs.Prelude.{◌==◌}
-use Rattle.std.specs.Char.{is_ascii_digit}
-use Rattle.std.specs.List.{list_all, list_any, prefix_len}
-use Rattle.std.specs.Option.{is_some}
-use Rattle.std.proofs.lemmas.Bool.{and_parts, and_from, true≢false, false≢true, or_cases, eqb-true, eq-eqb, ne_eqb, cases_Bool, cases_lt, or_from, or_left}
+use Rattle.std.proofs.Common.{◌≡◌, ℕ, suc, ◌+◌, ◌≤◌, Bool, true, false, cond, ◌&&◌, eqb, List, [], ◌∷◌, ◌++◌, length, take, drop, Option, Some, None, refl, sym, ap, subst, ◌∙◌, inl, inr, arith}
+use Rattle.std.specs.List.{list_all}
+use Rattle.std.proofs.lemmas.Bool.{and_parts, and_from, eqb-true, eq-eqb, ne_eqb, cases_Bool}
 use Rattle.std.proofs.lemmas.Bool.Decides.{nat_tests}
-use Rattle.std.proofs.lemmas.List.{length-drop, take_at, drop_at, length-append, append_assoc, append-nil, take-append-le, drop-append-le}
+use Rattle.std.proofs.lemmas.List.{length-drop, take_at, drop_at, length-append, append_assoc, drop-append-le}
 use Rattle.litrs.specs.Text.{first_passes}
-use Rattle.litrs.specs.Suffix.{is_empty, is_suffix}
-use Rattle.litrs.specs.Float.{FloatParts, fraction_text, float_text, is_decimal_char, is_underscore, is_period, is_exponent_letter, is_sign, is_decimal_literal, is_exponent_number, sign_len, is_exponent, is_float_form, IsFloat, decimal_len, fraction_len, exponent_len, integer_end, fraction_end, number_end, parts_between}
-use Rattle.litrs.proofs.Runs.{prefix_len-append, IsRun, run_of}
+use Rattle.litrs.specs.Float.{FloatParts, fraction_text, float_text, is_decimal_char, is_period, is_exponent_letter, is_sign, sign_len, decimal_len, fraction_len, exponent_len, integer_end, fraction_end, number_end, parts_between}
+use Rattle.litrs.proofs.Runs.{prefix_len-append, run_of}
 
 -- tests on one character
 

@@ -1,13 +1,12 @@
 -- Each form of a float and each row of its refusals, computed.
-use Rattle.std.specs.Prelude.{◌≡◌, ℕ, true, false, List, [], ◌∷◌, ◌++◌, Option, Some, None, refl, codes}
+use Rattle.std.specs.Prelude.{◌≡◌, ℕ, List, [], Option, Some, None, refl, codes}
 use Rattle.std.specs.Char.{encode_utf8}
 use Rattle.std.proofs.lemmas.Bool.{false≢true}
 use Rattle.litrs.specs.declared.err.ParseErrorKind.TheVariants.{Empty, UnexpectedChar, InvalidSuffix, DoesNotStartWithDigit, NoExponentDigits, UnexpectedIntegerLit}
-use Rattle.litrs.specs.declared.err.ParseError.{ParseError}
 use Rattle.unicode_ident.proofs.Computing.{unicode_ident}
 use Rattle.litrs.specs.Fault.{plain, over, at}
 use Rattle.litrs.specs.Suffix.{is_suffix}
-use Rattle.litrs.specs.Float.{FloatParts, IsFloatOf, float_text, number_part, is_exponent, fraction_len, exponent_len, float_fault, integer_end, fraction_end, number_end, parts_between}
+use Rattle.litrs.specs.Float.{FloatParts, IsFloatOf, number_part, is_exponent, fraction_len, exponent_len, float_fault, integer_end, fraction_end, number_end, parts_between}
 
 -- The forms. The parts are the integer part, the fraction, the exponent and the suffix.
 

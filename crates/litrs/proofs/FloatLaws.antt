@@ -1,17 +1,16 @@
 -- Floats: a derivation stands exactly where the table has no row, and there is one at most.
-use Rattle.std.proofs.Common.{◌≡◌, ℕ, zero, suc, ◌+◌, ◌-◌, ◌<◌, ◌≤◌, ◌⊎◌, Bool, true, false, cond, not, ◌&&◌, ◌||◌, eqb, ltb, leb, List, [], ◌∷◌, ◌++◌, length, take, drop, Option, Some, None, refl, sym, ap, subst, ◌∙◌, inl, inr, arith}
-use Rattle.std.specs.Prelude.{◌==◌}
+use Rattle.std.proofs.Common.{◌≡◌, ℕ, zero, suc, ◌+◌, ◌⊎◌, Bool, true, false, cond, not, ◌&&◌, ◌||◌, List, [], ◌∷◌, ◌++◌, length, take, drop, Option, Some, None, refl, sym, ap, subst, ◌∙◌, inl, inr, arith}
 use Rattle.std.specs.Char.{is_ascii_digit}
-use Rattle.std.specs.List.{list_all, list_any, prefix_len}
+use Rattle.std.specs.List.{list_all, list_any}
 use Rattle.std.specs.Option.{is_some}
-use Rattle.std.proofs.lemmas.Bool.{and_parts, and_from, true≢false, false≢true, or_cases, eqb-true, cases_Bool, cases_lt, or_from, or_left, or_right, or_parts, and_left, and_right, not-false, not-true}
+use Rattle.std.proofs.lemmas.Bool.{and_parts, and_from, true≢false, false≢true, or_cases, cases_Bool, or_from, or_right, or_parts, and_left, and_right, not-false, not-true}
 use Rattle.std.proofs.lemmas.Bool.Decides.{nat_tests}
-use Rattle.std.proofs.lemmas.List.{take_at, drop_at, length-append, append_assoc, append-nil}
+use Rattle.std.proofs.lemmas.List.{take_at}
 use Rattle.litrs.specs.declared.err.ParseErrorKind.{ParseErrorKind}
 use Rattle.litrs.specs.declared.err.ParseError.{ParseError}
 use Rattle.litrs.specs.Text.{byte_len, first_passes}
 use Rattle.litrs.specs.Suffix.{is_empty, is_suffix, suffix_fault}
-use Rattle.litrs.specs.Float.{FloatParts, fraction_text, float_text, is_decimal_char, is_underscore, is_period, is_exponent_letter, is_sign, is_decimal_literal, is_exponent_number, sign_len, is_exponent, is_float_form, IsFloat, IsFloatOf, decimal_len, fraction_len, exponent_len, integer_end, fraction_end, number_end, has_wrong_fraction, float_rows, float_fault}
+use Rattle.litrs.specs.Float.{FloatParts, fraction_text, float_text, is_decimal_char, is_underscore, is_period, is_exponent_letter, is_sign, is_decimal_literal, is_exponent_number, sign_len, is_exponent, is_float_form, IsFloat, IsFloatOf, exponent_len, integer_end, fraction_end, has_wrong_fraction, float_rows, float_fault}
 use Rattle.litrs.proofs.Spans.{none_from}
 use Rattle.litrs.proofs.SuffixStart.{suffix_begins_otherwise}
 use Rattle.litrs.proofs.FloatCuts.{letter_period, letter_decimal, IsCut, is_exponent_front, fraction_passes, ends_of_cut, same_cut, cut_of, fraction_stops, exponent_stops}

@@ -1,9 +1,7 @@
 -- The spans of the refusals of floats, and what floats end with.
-use Rattle.std.proofs.Common.{◌≡◌, ℕ, zero, suc, ◌+◌, ◌-◌, ◌<◌, ◌≤◌, ◌⊎◌, Bool, true, false, cond, not, ◌&&◌, ◌||◌, eqb, ltb, leb, List, [], ◌∷◌, ◌++◌, length, take, drop, Option, Some, None, refl, sym, ap, subst, ◌∙◌, inl, inr, arith}
-use Rattle.std.specs.Prelude.{◌==◌}
-use Rattle.std.specs.Char.{is_ascii_digit}
-use Rattle.std.specs.List.{list_all, list_any, prefix_len}
-use Rattle.std.specs.Option.{is_some, ForSome}
+use Rattle.std.proofs.Common.{◌≡◌, ℕ, ◌+◌, Bool, true, false, cond, ◌||◌, List, [], ◌∷◌, ◌++◌, length, drop, Option, Some, None, refl, sym, ap, subst, ◌∙◌, inl, inr, arith}
+use Rattle.std.specs.List.{list_all}
+use Rattle.std.specs.Option.{ForSome}
 use Rattle.std.proofs.lemmas.Bool.{and_parts, and_from, true≢false, false≢true, cases_Bool, or_left}
 use Rattle.std.proofs.lemmas.Bool.Decides.{nat_tests}
 use Rattle.std.proofs.lemmas.List.{length-append, append_assoc, append-nil}
@@ -11,14 +9,14 @@ use Rattle.litrs.specs.declared.err.ParseErrorKind.{ParseErrorKind}
 use Rattle.litrs.specs.declared.err.ParseErrorKind.TheVariants.{Empty, UnexpectedChar, DoesNotStartWithDigit, NoExponentDigits, UnexpectedIntegerLit}
 use Rattle.litrs.specs.declared.err.ParseError.{ParseError}
 use Rattle.litrs.specs.Fault.{plain, over, at}
-use Rattle.litrs.specs.Text.{byte_len, first_passes}
+use Rattle.litrs.specs.Text.{byte_len}
 use Rattle.litrs.specs.Span.{LiesWithin, last_passes, is_line_feed}
-use Rattle.litrs.specs.Suffix.{is_empty, is_suffix, suffix_fault}
-use Rattle.litrs.specs.Float.{FloatParts, fraction_text, float_text, is_decimal_char, is_period, is_exponent_letter, is_sign, sign_len, IsFloat, IsFloatOf, has_wrong_fraction, float_rows, float_fault}
+use Rattle.litrs.specs.Suffix.{is_empty, suffix_fault}
+use Rattle.litrs.specs.Float.{FloatParts, fraction_text, float_text, is_decimal_char, is_period, is_exponent_letter, is_sign, sign_len, IsFloatOf, has_wrong_fraction, float_rows, float_fault}
 use Rattle.litrs.proofs.Runs.{last_passes-all, last_passes-both, list_all-append, list_all-weaken}
 use Rattle.litrs.proofs.Spans.{byte_len-append, is_ascii_char, byte_len_ascii, plain_within, over_within, at_within, of_some, of_none}
 use Rattle.litrs.proofs.SuffixStart.{suffix_last}
-use Rattle.litrs.proofs.FloatCuts.{IsCut, is_exponent_front, fraction_passes, CutOf, cut_of}
+use Rattle.litrs.proofs.FloatCuts.{IsCut, is_exponent_front, fraction_passes, cut_of}
 use Rattle.litrs.proofs.FloatLaws.{cut_rows, fault_of_cut, float_is_cut}
 
 -- what stands in front of the suffix

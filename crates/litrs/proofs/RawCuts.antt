@@ -1,13 +1,12 @@
 -- Where a raw string opens and where it closes.
-use Rattle.std.proofs.Common.{◌≡◌, ℕ, zero, suc, ◌+◌, ◌-◌, ◌<◌, ◌≤◌, ◌⊎◌, Bool, true, false, cond, not, ◌&&◌, ◌||◌, eqb, ltb, leb, List, [], ◌∷◌, ◌++◌, length, take, drop, replicate, refl, sym, ap, subst, ◌∙◌, inl, inr, arith}
+use Rattle.std.proofs.Common.{◌≡◌, ℕ, zero, suc, ◌+◌, ◌≤◌, Bool, true, false, cond, ◌&&◌, ◌||◌, List, [], ◌∷◌, ◌++◌, length, drop, refl, sym, ap, ◌∙◌, inl, inr, arith}
 use Rattle.std.specs.Prelude.{◌==◌}
-use Rattle.std.specs.List.{list_all, list_any, prefix_len}
-use Rattle.std.proofs.lemmas.Bool.{and_parts, and_from, and_left, or_parts, or_left, or_right, true≢false, false≢true, eqb-true, eq-eqb, or_from, cases_Bool}
-use Rattle.std.proofs.lemmas.List.{take_at, drop_at, length-append, append_assoc, append-nil, length-replicate}
+use Rattle.std.specs.List.{list_all}
+use Rattle.std.proofs.lemmas.Bool.{and_parts, and_from, or_parts, or_left, or_right, true≢false, false≢true, eqb-true, eq-eqb, or_from, cases_Bool}
+use Rattle.std.proofs.lemmas.List.{drop_at, length-replicate}
 use Rattle.litrs.specs.Text.{first_passes, begins_with}
-use Rattle.litrs.specs.Suffix.{is_empty}
-use Rattle.litrs.specs.Raw.{is_quote, is_hash, hashes, raw_closing, occurs, hash_len, length_before}
-use Rattle.litrs.proofs.Runs.{prefix_len-append, IsRun, run_of}
+use Rattle.litrs.specs.Raw.{is_hash, hashes, raw_closing, occurs, hash_len, length_before}
+use Rattle.litrs.proofs.Runs.{prefix_len-append, run_of}
 
 -- hashes
 

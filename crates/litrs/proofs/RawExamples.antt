@@ -1,12 +1,12 @@
 -- Each form of a raw literal and each row of its refusals, computed.
-use Rattle.std.specs.Prelude.{◌≡◌, ℕ, true, false, List, [], ◌∷◌, ◌++◌, Option, Some, None, refl, codes}
+use Rattle.std.specs.Prelude.{◌≡◌, ℕ, List, [], ◌∷◌, ◌++◌, Some, None, refl, codes}
 use Rattle.std.specs.Char.{encode_utf8}
 use Rattle.std.proofs.lemmas.Bool.{leb-true}
 use Rattle.litrs.specs.declared.err.ParseErrorKind.TheVariants.{InvalidLiteral, TooManyHashes, CarriageReturn, NulByte, NonAsciiInByteLiteral, UnterminatedRawString, UnexpectedChar, InvalidSuffix}
 use Rattle.unicode_ident.proofs.Computing.{unicode_ident}
 use Rattle.litrs.specs.Fault.{plain, over, at}
 use Rattle.litrs.specs.Suffix.{is_suffix}
-use Rattle.litrs.specs.Raw.{hashes, raw_value, RawParts, RawKind, raw_string, raw_byte_string, raw_c_string, IsRawLiteral, raw_body_fault, raw_fault, raw_literal_fault}
+use Rattle.litrs.specs.Raw.{hashes, raw_value, RawParts, raw_string, raw_byte_string, raw_c_string, IsRawLiteral, raw_body_fault, raw_fault, raw_literal_fault}
 
 -- The forms. The parts are the number of hashes, the body and the suffix.
 

@@ -1,11 +1,11 @@
 -- The three kinds of raw literals.
-use Rattle.std.proofs.Common.{◌≡◌, ℕ, Bool, true, false, List, [], ◌∷◌, ◌++◌, length, drop, get_or, Option, Some, None, refl, sym, ap, subst, ◌∙◌, arith}
+use Rattle.std.proofs.Common.{◌≡◌, ℕ, true, false, List, ◌++◌, length, drop, get_or, None, refl, sym, ap, subst, ◌∙◌, arith}
 use Rattle.std.specs.List.{list_any}
 use Rattle.std.specs.Option.{ForSome}
 use Rattle.std.proofs.lemmas.List.{append_cancel_left}
 use Rattle.litrs.specs.Text.{byte_len, begins_with}
 use Rattle.litrs.specs.Span.{LiesWithin, last_passes, is_line_feed}
-use Rattle.litrs.specs.Raw.{is_nul, raw_value, RawParts, raw_text, IsRaw, IsRawOf, RawKind, raw_string, raw_byte_string, raw_c_string, raw_front, has_unicode, allows_nul, IsRawLiteral, raw_fault, raw_literal_fault}
+use Rattle.litrs.specs.Raw.{is_nul, raw_value, RawParts, raw_text, IsRawOf, RawKind, raw_string, raw_byte_string, raw_c_string, raw_front, has_unicode, allows_nul, IsRawLiteral, raw_fault, raw_literal_fault}
 use Rattle.litrs.proofs.Spans.{byte_len_ascii}
 use Rattle.litrs.proofs.RawCuts.{front_of}
 use Rattle.litrs.proofs.RawLaws.{only_raw, readable, fault_free}

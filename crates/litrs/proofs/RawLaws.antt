@@ -1,17 +1,16 @@
 -- Raw strings: a derivation stands exactly where the table has no row, and there is one at most.
-use Rattle.std.proofs.Common.{◌≡◌, ℕ, zero, suc, ◌+◌, ◌-◌, ◌<◌, ◌≤◌, ◌⊎◌, Bool, true, false, cond, not, ◌&&◌, ◌||◌, eqb, ltb, leb, List, [], ◌∷◌, ◌++◌, length, take, drop, replicate, Option, Some, None, refl, sym, ap, subst, ◌∙◌, inl, inr, arith}
-use Rattle.std.specs.Prelude.{◌==◌}
-use Rattle.std.specs.List.{list_all, list_any, prefix_len, slice_index}
-use Rattle.std.proofs.lemmas.Bool.{true≢false, false≢true, eqb-true, ltb-false, le-ltb, not-false, not-true}
-use Rattle.std.proofs.lemmas.List.{take_at, drop_at, length-append, append_assoc, append_cancel_left}
+use Rattle.std.proofs.Common.{◌≡◌, ℕ, suc, ◌+◌, Bool, true, false, ltb, List, [], ◌∷◌, ◌++◌, length, take, drop, Option, None, refl, sym, ap, ◌∙◌, arith}
+use Rattle.std.specs.List.{prefix_len, slice_index}
+use Rattle.std.proofs.lemmas.Bool.{false≢true, eqb-true, ltb-false, le-ltb, not-false}
+use Rattle.std.proofs.lemmas.List.{take_at, drop_at, length-append, append_assoc}
 use Rattle.litrs.specs.declared.err.ParseErrorKind.{ParseErrorKind}
 use Rattle.litrs.specs.declared.err.ParseError.{ParseError}
 use Rattle.litrs.specs.Text.{byte_len, first_passes}
 use Rattle.litrs.specs.Suffix.{is_empty, is_suffix, suffix_fault}
-use Rattle.litrs.specs.Raw.{is_quote, is_hash, hashes, raw_closing, occurs, is_raw_char, IsRawBody, RawParts, raw_text, IsRaw, IsRawOf, RawKind, raw_string, raw_byte_string, raw_c_string, raw_front, has_unicode, allows_nul, IsRawLiteral, hash_len, length_before, raw_char_fault, raw_body_rows, raw_body_fault, raw_rows, raw_fault}
+use Rattle.litrs.specs.Raw.{is_quote, is_hash, hashes, raw_closing, occurs, is_raw_char, RawParts, raw_text, IsRaw, IsRawOf, hash_len, length_before, raw_char_fault, raw_body_rows, raw_body_fault, raw_rows, raw_fault}
 use Rattle.litrs.proofs.Runs.{prefix_len_all, all_from_prefix_len}
 use Rattle.litrs.proofs.Spans.{none_from}
-use Rattle.litrs.proofs.RawCuts.{length-hashes, hash_len-append, behind_hashes, HashCut, hash_cut, length_before-body, occurs-body, ClosingCut, closing_cut}
+use Rattle.litrs.proofs.RawCuts.{length-hashes, hash_len-append, behind_hashes, hash_cut, length_before-body, occurs-body, ClosingCut, closing_cut}
 
 -- the table by the parts of a text that is cut
 

@@ -1,11 +1,11 @@
 -- The spans of the refusals of raw strings, what raw strings end with, and their values.
-use Rattle.std.proofs.Common.{◌≡◌, ℕ, zero, suc, ◌+◌, ◌-◌, ◌<◌, ◌≤◌, ◌⊎◌, Bool, true, false, cond, not, ◌&&◌, ◌||◌, eqb, ltb, leb, List, [], ◌∷◌, ◌++◌, length, take, drop, replicate, get_or, Option, Some, None, refl, sym, ap, subst, ◌∙◌, inl, inr, arith}
+use Rattle.std.proofs.Common.{◌≡◌, ℕ, zero, suc, ◌+◌, ◌<◌, Bool, true, false, not, ◌||◌, ltb, List, [], ◌∷◌, ◌++◌, length, take, drop, get_or, Option, refl, sym, ap, subst, ◌∙◌, arith}
 use Rattle.std.specs.Prelude.{◌==◌, encode_utf8_all}
 use Rattle.std.specs.Char.{encode_utf8}
 use Rattle.std.specs.List.{list_all, list_any, prefix_len, slice_index}
 use Rattle.std.specs.Option.{ForSome}
-use Rattle.std.proofs.lemmas.Bool.{and_parts, and_from, true≢false, false≢true, eqb-true, ne_eqb, ltb-true, not-true, not-false, or_from, or_parts}
-use Rattle.std.proofs.lemmas.List.{take-append-drop, drop_more, length-take-le, take_at, append_assoc, length-append, append-nil}
+use Rattle.std.proofs.lemmas.Bool.{and_parts, true≢false, false≢true, eqb-true, ne_eqb, ltb-true, not-true, or_from, or_parts}
+use Rattle.std.proofs.lemmas.List.{take-append-drop, drop_more, length-take-le, append_assoc, append-nil}
 use Rattle.std.proofs.lemmas.List.Recursion.{or_from_places}
 use Rattle.std.proofs.lemmas.Str.{inside_one}
 use Rattle.litrs.specs.declared.err.ParseErrorKind.{ParseErrorKind}
@@ -15,12 +15,12 @@ use Rattle.litrs.specs.Fault.{plain, over, at}
 use Rattle.litrs.specs.Text.{byte_len, first_passes}
 use Rattle.litrs.specs.Span.{LiesWithin, last_passes, is_line_feed}
 use Rattle.litrs.specs.Suffix.{is_empty, is_suffix, suffix_fault}
-use Rattle.litrs.specs.Raw.{is_quote, is_hash, is_nul, hashes, raw_closing, occurs, is_raw_char, raw_value, RawParts, raw_text, IsRaw, RawKind, raw_string, raw_byte_string, raw_c_string, raw_front, has_unicode, allows_nul, IsRawLiteral, length_before, raw_char_fault, raw_body_rows, raw_body_fault, raw_rows, raw_fault}
+use Rattle.litrs.specs.Raw.{is_quote, is_hash, is_nul, hashes, raw_closing, is_raw_char, raw_value, RawParts, raw_text, IsRaw, length_before, raw_char_fault, raw_body_rows, raw_body_fault, raw_rows, raw_fault}
 use Rattle.litrs.proofs.Runs.{last_passes-all, last_passes-append, last_passes-both, list_all-weaken}
 use Rattle.litrs.proofs.Spans.{byte_len-append, is_ascii_char, byte_len_ascii, plain_within, over_within, at_within, of_some, of_none}
 use Rattle.litrs.proofs.SuffixStart.{suffix_last}
 use Rattle.litrs.proofs.RawCuts.{hashes_pass, length-hashes, hash_cut, ClosingCut, closing_cut, length_before_le}
-use Rattle.litrs.proofs.RawLaws.{fault_of_hashes, before_closing, behind_closing, length_closing}
+use Rattle.litrs.proofs.RawLaws.{fault_of_hashes, before_closing, behind_closing}
 
 -- what holds of the refusal in each row holds of the tables
 

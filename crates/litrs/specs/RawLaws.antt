@@ -1,5 +1,5 @@
 -- What holds of all raw literals: raw strings, raw byte strings and raw C strings.
-use Rattle.std.specs.Prelude.{◌≡◌, ◌↔◌, ℕ, Bool, List, length, drop, ◌++◌, None, IsTrue, IsFalse}
+use Rattle.std.specs.Prelude.{◌≡◌, ◌↔◌, ℕ, Bool, List, length, ◌++◌, None, IsTrue, IsFalse}
 use Rattle.std.specs.List.{list_any}
 use Rattle.std.specs.Option.{ForSome}
 use Rattle.litrs.specs.Text.{byte_len, begins_with}
