@@ -10,3 +10,9 @@ pub mod RawLaws
 pub mod RawSpans
 pub mod RawKinds
 pub mod RawExamples
+pub mod Chars
+pub mod SuffixLemmas
+pub mod BoolLemmas
+pub mod Firsts
+pub mod IntegerLaws
+pub mod IntegerLemmas

@@ -7,3 +7,10 @@ pub mod Float
 pub mod Raw
 pub mod FloatLaws
 pub mod RawLaws
+pub mod Reading
+pub mod Bool
+pub mod Base
+pub mod IntegerTypes
+pub mod Integer
+pub mod IntegerCut
+pub mod IntegerLiteral
