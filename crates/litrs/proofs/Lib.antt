@@ -1,3 +1,15 @@
+pub mod Runs
+pub mod SuffixStart
+pub mod Spans
+pub mod FloatCuts
+pub mod FloatLaws
+pub mod FloatSpans
+pub mod FloatExamples
+pub mod RawCuts
+pub mod RawLaws
+pub mod RawSpans
+pub mod RawKinds
+pub mod RawExamples
 pub mod Chars
 pub mod SuffixLemmas
 pub mod BoolLemmas

@@ -2,6 +2,11 @@ pub mod Kind
 pub mod Fault
 pub mod Text
 pub mod Suffix
+pub mod Span
+pub mod Float
+pub mod Raw
+pub mod FloatLaws
+pub mod RawLaws
 pub mod Reading
 pub mod Bool
 pub mod Base

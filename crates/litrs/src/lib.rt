@@ -24,6 +24,7 @@ mod bool;
 mod buffer;
 mod err;
 mod integer;
+mod laws;
 mod parse;
 
 /// A literal. This is the main type of this library.
