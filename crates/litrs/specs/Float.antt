@@ -145,10 +145,10 @@ float_rows integer fraction number len kind empty digit wrong_fraction period ex
 unfoldable pub float_fault : List ℕ → Option ParseError
 float_fault t =
     float_rows (integer_end t) (fraction_end t) (number_end t) (byte_len t) (suffix_fault (drop (number_end t) t))
-        (is_empty t)
-        (first_passes is_ascii_digit t)
-        (has_wrong_fraction (drop (integer_end t) t))
-        (first_passes is_period (drop (integer_end t) t))
-        (first_passes is_exponent_letter (drop (fraction_end t) t))
-        (list_any is_ascii_digit (take (exponent_len (drop (fraction_end t) t)) (drop (fraction_end t) t)))
-        (is_suffix (drop (number_end t) t))
+    (is_empty t)
+    (first_passes is_ascii_digit t)
+    (has_wrong_fraction (drop (integer_end t) t))
+    (first_passes is_period (drop (integer_end t) t))
+    (first_passes is_exponent_letter (drop (fraction_end t) t))
+    (list_any is_ascii_digit (take (exponent_len (drop (fraction_end t) t)) (drop (fraction_end t) t)))
+    (is_suffix (drop (number_end t) t))

@@ -15,6 +15,7 @@ ghost use Rattle.litrs.specs.LiteralDerivation.{literal_raw, derivation, suffix_
 pub use bool::BoolLit;
 pub use buffer::Buffer;
 pub use err::{ParseError, ParseErrorKind};
+pub use from_integer_literal::FromIntegerLiteral;
 pub use integer::{IntegerBase, IntegerCut, IntegerLit, IntegerType, cut_integer};
 pub use parse::{check_suffix, end_dec_digits, first_byte_or_empty, hex_digit_value};
 use std::alloc::Global;
@@ -23,6 +24,7 @@ use std::fmt;
 mod bool;
 mod buffer;
 mod err;
+mod from_integer_literal;
 mod integer;
 mod laws;
 mod parse;
