@@ -37,7 +37,7 @@ occurs part (c ∷ cs) = begins_with part (c ∷ cs) || occurs part cs
 
 -- No CR stands in a raw body, only ASCII in that of a byte string, and no NUL in that of a C string.
 -- A backslash means nothing.
-abbrev pub is_raw_char : Bool → Bool → ℕ → Bool
+abbrev pub is_raw_char : (unicode nul_allowed : Bool) → ℕ → Bool
 is_raw_char unicode nul_allowed c = not (c == 13) && ((unicode || nat_lt c 128) && (nul_allowed || not (is_nul c)))
 
 -- a raw body between n hashes: its characters may stand there, and what would close it does not occur in it
@@ -114,7 +114,7 @@ raw_char_fault c = if c == 13 then CarriageReturn else if is_nul c then NulByte 
 -- The rows behind the opening quote. The places of the first character that may not stand in the body and of the
 -- suffix, and the kinds of refusal for both; then: there is such a character before the first closing; there is a
 -- closing; behind it stands a suffix.
-abbrev pub raw_body_rows : ℕ → ℕ → ParseErrorKind → ParseErrorKind → Bool → Bool → Bool → Option ParseError
+abbrev pub raw_body_rows : (place suffix_place : ℕ) (kind suffix_kind : ParseErrorKind) (refused closed suffix : Bool) → Option ParseError
 raw_body_rows place suffix_place kind suffix_kind refused closed suffix =
     if refused then Some (at place kind)
     else if not closed then Some (plain UnterminatedRawString)
@@ -122,7 +122,7 @@ raw_body_rows place suffix_place kind suffix_kind refused closed suffix =
     else None
 
 -- what stands behind n hashes and the quote is refused, where it begins at the place
-unfoldable pub raw_body_fault : Bool → Bool → ℕ → ℕ → List ℕ → Option ParseError
+unfoldable pub raw_body_fault : (unicode nul_allowed : Bool) (n start : ℕ) → List ℕ → Option ParseError
 raw_body_fault unicode nul_allowed n start t =
     let before = take (length_before (raw_closing n) t) t in
     let good = prefix_len (is_raw_char unicode nul_allowed) before in
@@ -133,7 +133,7 @@ raw_body_fault unicode nul_allowed n start t =
 
 -- The rows before it. The place of the hashes and their number, and the refusal of what is behind the quote; then:
 -- nothing is behind the hashes; there are too many; `"` is behind them.
-abbrev pub raw_rows : ℕ → ℕ → Option ParseError → Bool → Bool → Bool → Option ParseError
+abbrev pub raw_rows : (start n : ℕ) (body_fault : Option ParseError) (nothing too_many quote : Bool) → Option ParseError
 raw_rows start n body_fault nothing too_many quote =
     if nothing then Some (plain InvalidLiteral)
     else if too_many then Some (over start (start + n) TooManyHashes)
@@ -141,7 +141,7 @@ raw_rows start n body_fault nothing too_many quote =
     else body_fault
 
 -- why a text behind a front is no raw literal, where it begins at the place: None where it is one
-unfoldable pub raw_fault : Bool → Bool → ℕ → List ℕ → Option ParseError
+unfoldable pub raw_fault : (unicode nul_allowed : Bool) (start : ℕ) → List ℕ → Option ParseError
 raw_fault unicode nul_allowed start t =
     let n = hash_len t in
     let behind = drop n t in

@@ -1,5 +1,5 @@
 //! Laws of raw strings.
-ghost use Rattle.litrs.specs.RawLaws.{RawLiteralsAreUnique, RawLiteralsAreDecided, RawSpansLieWithin, RawTextsAreUnique, RawTextsAreDecided, RawTextSpansLieWithin, NoRawLiteralEndsWithLineFeed, NoNulInRawCStrings, RawValuesAreAsLongAsBodies};
+ghost use Rattle.litrs.specs.RawLaws.{RawLiteralsAreUnique, RawLiteralsAreDecided, RawSpansLieInText, RawTextsAreUnique, RawTextsAreDecided, RawTextSpansLieInText, NoRawLiteralEndsWithLineFeed, NoNulInRawCStrings, RawValuesAreAsLongAsBodies};
 
 /// A text has at most one derivation as a raw literal, over all three kinds together.
 pub fn raw_literals_are_unique()
@@ -15,8 +15,8 @@ pub fn raw_literals_are_decided()
 }
 
 /// The span of each refusal lies within the text and starts on a character boundary.
-pub fn raw_spans_lie_within()
-    ensures { RawSpansLieWithin }
+pub fn raw_spans_lie_in_text()
+    ensures { RawSpansLieInText }
 {
 }
 
@@ -35,8 +35,8 @@ pub fn raw_texts_are_decided()
 
 /// Its spans, counted from the start of the text, lie within the text and start on a character
 /// boundary.
-pub fn raw_text_spans_lie_within()
-    ensures { RawTextSpansLieWithin }
+pub fn raw_text_spans_lie_in_text()
+    ensures { RawTextSpansLieInText }
 {
 }
 
