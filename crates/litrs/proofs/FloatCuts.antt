@@ -5,9 +5,9 @@ use Rattle.std.proofs.lemmas.Bool.{and_parts, and_from, eqb-true, eq-eqb, ne_eqb
 use Rattle.std.proofs.lemmas.Bool.Decides.{nat_tests}
 use Rattle.std.proofs.lemmas.List.{length-drop, take_at, drop_at, length-append, append_assoc, drop-append-le}
 use Rattle.litrs.specs.Text.{first_passes}
-use Rattle.litrs.specs.Integer.{is_e, number_rows}
+use Rattle.litrs.specs.Integer.{is_e}
 use Rattle.litrs.specs.Float.{FloatParts, fraction_text, float_text, is_decimal_char, is_period, is_sign, sign_len, decimal_len, fraction_len, exponent_len, integer_end, fraction_end, number_end, parts_between}
-use Rattle.litrs.proofs.IntegerLaws.{prefix_len_front, begins_with-split}
+use Rattle.litrs.proofs.IntegerLaws.{prefix_len_front}
 use Rattle.litrs.proofs.Runs.{run_of}
 
 -- tests on one character
@@ -79,8 +79,9 @@ sign_len-append (c ∷ cs) x no_sign = refl
 sign_len_le : (cs : List ℕ) → sign_len cs ≤ length cs
 sign_len_le [] = omega arith
 sign_len_le (c ∷ cs) = elim (cases_Bool (is_sign c)) [
-    inl yes_sign ↦ (let e : sign_len (c ∷ cs) ≡ 1 = ap (λ v. cond v 1 0) yes_sign in omega arith)
-    | inr no_sign ↦ (let e : sign_len (c ∷ cs) ≡ 0 = ap (λ v. cond v 1 0) no_sign in omega arith) ]
+  | inl yes_sign ↦ (let e : sign_len (c ∷ cs) ≡ 1 = ap (λ v. cond v 1 0) yes_sign in omega arith)
+  | inr no_sign ↦ (let e : sign_len (c ∷ cs) ≡ 0 = ap (λ v. cond v 1 0) no_sign in omega arith)
+]
 
 -- the number of an exponent goes as far as its text
 number_len : (cs x : List ℕ) → list_all is_decimal_char (drop (sign_len cs) cs) ≡ true → first_passes is_decimal_char x ≡ false → (cs ≡ [] → first_passes is_sign x ≡ false) →
@@ -100,7 +101,7 @@ exponent_len-text [] (c ∷ cs) front stop no_letter no_sign = ap (λ v. cond v 
 exponent_len-text (c ∷ cs) x front stop no_letter no_sign =
     let parts : (is_e c ≡ true) × (list_all is_decimal_char (drop (sign_len cs) cs) ≡ true) = and_parts _ _ front in
     let number : sign_len (cs ++ x) + decimal_len (drop (sign_len (cs ++ x)) (cs ++ x)) ≡ length cs =
-        number_len cs x parts.1 stop (λ e. no_sign c (ap (λ t. c ∷ t) e)) in
+    number_len cs x parts.1 stop (λ e. no_sign c (ap (λ t. c ∷ t) e)) in
     ap (λ v. cond v (1 + (sign_len (cs ++ x) + decimal_len (drop (sign_len (cs ++ x)) (cs ++ x)))) 0) parts.0 ∙ omega (arith, number)
 
 -- the ends of a text that is cut, and what stands behind them
@@ -125,13 +126,13 @@ ends_of_cut d cut =
     let fraction : fraction_end (float_text d) ≡ length i + length f = rw (behind_integer) (omega (arith, integer, fraction_here)) in
     let regroup : float_text d ≡ (i ++ f) ++ (p ++ x) = sym (append_assoc i f (p ++ x)) in
     let behind_fraction : drop (fraction_end (float_text d)) (float_text d) ≡ p ++ x =
-        ap (drop (fraction_end (float_text d))) regroup ∙ drop_at (i ++ f) (p ++ x) (fraction_end (float_text d)) (length-append i f ∙ sym fraction) in
+    ap (drop (fraction_end (float_text d))) regroup ∙ drop_at (i ++ f) (p ++ x) (fraction_end (float_text d)) (length-append i f ∙ sym fraction) in
     let exponent_here : exponent_len (p ++ x) ≡ length p = exponent_len-text p x cut.exponent cut.stops cut.no_letter cut.no_sign in
     let number : number_end (float_text d) ≡ length i + length f + length p = rw (behind_fraction) (omega (arith, fraction, exponent_here)) in
     let regroup_more : float_text d ≡ ((i ++ f) ++ p) ++ x = regroup ∙ sym (append_assoc (i ++ f) p x) in
     let behind_number : drop (number_end (float_text d)) (float_text d) ≡ x =
-        ap (drop (number_end (float_text d))) regroup_more
-        ∙ drop_at ((i ++ f) ++ p) x (number_end (float_text d)) (length-append (i ++ f) p ∙ (ap (λ n. n + length p) (length-append i f) ∙ sym number)) in
+    ap (drop (number_end (float_text d))) regroup_more
+    ∙ drop_at ((i ++ f) ++ p) x (number_end (float_text d)) (length-append (i ++ f) p ∙ (ap (λ n. n + length p) (length-append i f) ∙ sym number)) in
     record { integer = integer; behind_integer = behind_integer; fraction = fraction; behind_fraction = behind_fraction; exponent = exponent_here; number = number; behind_number = behind_number }
 
 -- a text is cut in one way
@@ -142,7 +143,7 @@ fraction_of i None r = rw (eq-eqb (length i) (length i + 0) (omega arith)) refl
 fraction_of i (Some f) r =
     let differ : eqb (length i) (length i + suc (length f)) ≡ false = ne_eqb _ _ (λ e. omega arith) in
     let taken : take (length i + suc (length f)) (i ++ (46 ∷ (f ++ r))) ≡ i ++ (46 ∷ f) =
-        ap (take (length i + suc (length f))) (sym (append_assoc i (46 ∷ f) r)) ∙ take_at (i ++ (46 ∷ f)) r (length i + suc (length f)) (length-append i (46 ∷ f)) in
+    ap (take (length i + suc (length f))) (sym (append_assoc i (46 ∷ f) r)) ∙ take_at (i ++ (46 ∷ f)) r (length i + suc (length f)) (length-append i (46 ∷ f)) in
     let regroup : i ++ (46 ∷ f) ≡ (i ++ (46 ∷ [])) ++ f = sym (append_assoc i (46 ∷ []) f) in
     let left : drop (length i + 1) (i ++ (46 ∷ f)) ≡ f = ap (drop (length i + 1)) regroup ∙ drop_at (i ++ (46 ∷ [])) f (length i + 1) (length-append i (46 ∷ [])) in
     ap (λ v. cond v None (Some (drop (length i + 1) (take (length i + suc (length f)) (i ++ (46 ∷ (f ++ r))))))) differ ∙ ap Some (ap (drop (length i + 1)) taken ∙ left)
@@ -195,8 +196,15 @@ record ExponentCut (r : List ℕ) : Type 0 where
 
 no_exponent : (r : List ℕ) → first_passes is_decimal_char r ≡ false → first_passes is_e r ≡ false → ExponentCut r
 no_exponent r stop no_letter = record {
-    exponent = []; suffix = r; spells = refl; front = refl; stops = stop; no_letter = λ e. no_letter;
-    no_sign = λ c e. absurd (let none : [] ≡ c ∷ [] = e in cc); all = λ e. refl }
+  exponent = [];
+  suffix = r;
+  spells = refl;
+  front = refl;
+  stops = stop;
+  no_letter = λ e. no_letter;
+  no_sign = λ c e. absurd (let none : [] ≡ c ∷ [] = e in cc);
+  all = λ e. refl;
+}
 
 sign_front : (c s : ℕ) (ds : List ℕ) → is_e c ≡ true → is_sign s ≡ true → list_all is_decimal_char ds ≡ true → is_exponent_front (c ∷ s ∷ ds) ≡ true
 sign_front c s ds letter sign all = and_from _ _ letter (ap (λ n. list_all is_decimal_char (drop n (s ∷ ds))) (ap (λ v. cond v 1 0) sign) ∙ all)
@@ -208,42 +216,59 @@ plain_front c (s ∷ ds) letter all = and_from _ _ letter
 
 exponent_plain : (c : ℕ) (cs : List ℕ) → is_e c ≡ true → first_passes is_sign cs ≡ false → ExponentCut (c ∷ cs)
 exponent_plain c cs letter no_sign = let r = run_of is_decimal_char cs in record {
-    exponent = c ∷ r.front; suffix = r.rest; spells = ap (λ t. c ∷ t) r.spells;
-    front = plain_front c r.front letter r.passes; stops = r.stops;
-    no_letter = λ e. absurd (let none : c ∷ r.front ≡ [] = e in cc);
-    no_sign = λ d e. (let none : r.front ≡ [] = (let here : c ∷ r.front ≡ d ∷ [] = e in cc) in
-        subst (λ (t : List ℕ). first_passes is_sign t ≡ false) (sym r.spells ∙ ap (λ t. t ++ r.rest) none) no_sign);
-    all = λ e. absurd (let none : c ∷ r.front ≡ [] = e in cc) }
+  exponent = c ∷ r.front;
+  suffix = r.rest;
+  spells = ap (λ t. c ∷ t) r.spells;
+  front = plain_front c r.front letter r.passes;
+  stops = r.stops;
+  no_letter = λ e. absurd (let none : c ∷ r.front ≡ [] = e in cc);
+  no_sign = λ d e. (let none : r.front ≡ [] = (let here : c ∷ r.front ≡ d ∷ [] = e in cc) in
+      subst (λ (t : List ℕ). first_passes is_sign t ≡ false) (sym r.spells ∙ ap (λ t. t ++ r.rest) none) no_sign);
+  all = λ e. absurd (let none : c ∷ r.front ≡ [] = e in cc);
+}
 
 exponent_signed : (c s : ℕ) (cs : List ℕ) → is_e c ≡ true → is_sign s ≡ true → ExponentCut (c ∷ s ∷ cs)
 exponent_signed c s cs letter sign = let r = run_of is_decimal_char cs in record {
-    exponent = c ∷ s ∷ r.front; suffix = r.rest; spells = ap (λ t. c ∷ s ∷ t) r.spells;
-    front = sign_front c s r.front letter sign r.passes; stops = r.stops;
-    no_letter = λ e. absurd (let none : c ∷ s ∷ r.front ≡ [] = e in cc);
-    no_sign = λ d e. absurd (let none : c ∷ s ∷ r.front ≡ d ∷ [] = e in cc);
-    all = λ e. absurd (let none : c ∷ s ∷ r.front ≡ [] = e in cc) }
+  exponent = c ∷ s ∷ r.front;
+  suffix = r.rest;
+  spells = ap (λ t. c ∷ s ∷ t) r.spells;
+  front = sign_front c s r.front letter sign r.passes;
+  stops = r.stops;
+  no_letter = λ e. absurd (let none : c ∷ s ∷ r.front ≡ [] = e in cc);
+  no_sign = λ d e. absurd (let none : c ∷ s ∷ r.front ≡ d ∷ [] = e in cc);
+  all = λ e. absurd (let none : c ∷ s ∷ r.front ≡ [] = e in cc);
+}
 
 exponent_behind : (c : ℕ) (cs : List ℕ) → is_e c ≡ true → ExponentCut (c ∷ cs)
 exponent_behind c [] letter = exponent_plain c [] letter refl
 exponent_behind c (s ∷ cs) letter = elim (cases_Bool (is_sign s)) [
-    inl sign ↦ exponent_signed c s cs letter sign
-    | inr no_sign ↦ exponent_plain c (s ∷ cs) letter no_sign ]
+  | inl sign ↦ exponent_signed c s cs letter sign
+  | inr no_sign ↦ exponent_plain c (s ∷ cs) letter no_sign
+]
 
 exponent_cut : (r : List ℕ) → first_passes is_decimal_char r ≡ false → ExponentCut r
 exponent_cut [] stop = no_exponent [] refl refl
 exponent_cut (c ∷ cs) stop = elim (cases_Bool (is_e c)) [
-    inl letter ↦ exponent_behind c cs letter
-    | inr no_letter ↦ no_exponent (c ∷ cs) stop no_letter ]
+  | inl letter ↦ exponent_behind c cs letter
+  | inr no_letter ↦ no_exponent (c ∷ cs) stop no_letter
+]
 
 -- a text with this integer part
 whole_cut : (t i : List ℕ) (f : Option (List ℕ)) (r : List ℕ) → i ++ (fraction_text f ++ r) ≡ t → list_all is_decimal_char i ≡ true → fraction_passes f ≡ true →
     (f ≡ None → first_passes is_period r ≡ false) → ExponentCut r → CutOf t
 whole_cut t i f r spells integer fraction no_period e = record {
-    parts = record { integer = i; fraction = f; exponent = e.exponent; suffix = e.suffix };
-    spells = ap (λ t. i ++ (fraction_text f ++ t)) e.spells ∙ spells;
-    cut = record {
-      integer = integer; fraction = fraction; exponent = e.front; stops = e.stops; no_letter = e.no_letter; no_sign = e.no_sign;
-      no_period = λ none empty. subst (λ (t : List ℕ). first_passes is_period t ≡ false) (sym (e.all empty)) (no_period none) } }
+  parts = record { integer = i; fraction = f; exponent = e.exponent; suffix = e.suffix };
+  spells = ap (λ t. i ++ (fraction_text f ++ t)) e.spells ∙ spells;
+  cut = record {
+    integer = integer;
+    fraction = fraction;
+    exponent = e.front;
+    stops = e.stops;
+    no_letter = e.no_letter;
+    no_sign = e.no_sign;
+    no_period = λ none empty. subst (λ (t : List ℕ). first_passes is_period t ≡ false) (sym (e.all empty)) (no_period none);
+  };
+}
 
 fraction_cut : (t i : List ℕ) (cs : List ℕ) → i ++ (46 ∷ cs) ≡ t → list_all is_decimal_char i ≡ true → CutOf t
 fraction_cut t i cs spells integer = let r = run_of is_decimal_char cs in
@@ -252,8 +277,9 @@ fraction_cut t i cs spells integer = let r = run_of is_decimal_char cs in
 behind_cut : (t i r : List ℕ) → i ++ r ≡ t → list_all is_decimal_char i ≡ true → first_passes is_decimal_char r ≡ false → CutOf t
 behind_cut t i [] spells integer stop = whole_cut t i None [] spells integer refl (λ e. refl) (exponent_cut [] refl)
 behind_cut t i (c ∷ cs) spells integer stop = elim (cases_Bool (is_period c)) [
-    inl period ↦ fraction_cut t i cs (ap (λ d. i ++ (d ∷ cs)) (sym (eqb-true c 46 period)) ∙ spells) integer
-    | inr no_period ↦ whole_cut t i None (c ∷ cs) spells integer refl (λ e. no_period) (exponent_cut (c ∷ cs) stop) ]
+  | inl period ↦ fraction_cut t i cs (ap (λ d. i ++ (d ∷ cs)) (sym (eqb-true c 46 period)) ∙ spells) integer
+  | inr no_period ↦ whole_cut t i None (c ∷ cs) spells integer refl (λ e. no_period) (exponent_cut (c ∷ cs) stop)
+]
 
 pub cut_of : (t : List ℕ) → CutOf t
 cut_of t = let r = run_of is_decimal_char t in behind_cut t r.front r.rest r.spells r.passes r.stops

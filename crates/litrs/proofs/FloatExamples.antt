@@ -16,38 +16,44 @@ parts integer fraction exponent suffix = record { integer = integer; fraction = 
 form-period : IsFloatOf (codes "9.") (parts (codes "9") (Some []) [] [])
 unfolding is_exponent is_suffix unicode_ident
 form-period = record {
-    spells = refl;
-    grammar = record { integer = refl; form = refl; suffix = refl; no_underscore = refl; no_letter = λ _. refl } }
+  spells = refl;
+  grammar = record { integer = refl; form = refl; suffix = refl; no_underscore = refl; no_letter = λ _. refl };
+}
 
 form-fraction : IsFloatOf (codes "3.14f33") (parts (codes "3") (Some (codes "14")) [] (codes "f33"))
 unfolding is_exponent is_suffix unicode_ident
 form-fraction = record {
-    spells = refl;
-    grammar = record { integer = refl; form = refl; suffix = refl; no_underscore = refl; no_letter = λ _. refl } }
+  spells = refl;
+  grammar = record { integer = refl; form = refl; suffix = refl; no_underscore = refl; no_letter = λ _. refl };
+}
 
 form-fraction_exponent : IsFloatOf (codes "147.3_33__E3f64") (parts (codes "147") (Some (codes "3_33__")) (codes "E3") (codes "f64"))
 unfolding is_exponent is_suffix unicode_ident
 form-fraction_exponent = record {
-    spells = refl;
-    grammar = record { integer = refl; form = refl; suffix = refl; no_underscore = refl; no_letter = λ e. absurd (false≢true e) } }
+  spells = refl;
+  grammar = record { integer = refl; form = refl; suffix = refl; no_underscore = refl; no_letter = λ e. absurd (false≢true e) };
+}
 
 form-signed_exponent : IsFloatOf (codes "8.2e-_04_9") (parts (codes "8") (Some (codes "2")) (codes "e-_04_9") [])
 unfolding is_exponent is_suffix unicode_ident
 form-signed_exponent = record {
-    spells = refl;
-    grammar = record { integer = refl; form = refl; suffix = refl; no_underscore = refl; no_letter = λ e. absurd (false≢true e) } }
+  spells = refl;
+  grammar = record { integer = refl; form = refl; suffix = refl; no_underscore = refl; no_letter = λ e. absurd (false≢true e) };
+}
 
 form-exponent : IsFloatOf (codes "23e2_banana") (parts (codes "23") None (codes "e2_") (codes "banana"))
 unfolding is_exponent is_suffix unicode_ident
 form-exponent = record {
-    spells = refl;
-    grammar = record { integer = refl; form = refl; suffix = refl; no_underscore = refl; no_letter = λ e. absurd (false≢true e) } }
+  spells = refl;
+  grammar = record { integer = refl; form = refl; suffix = refl; no_underscore = refl; no_letter = λ e. absurd (false≢true e) };
+}
 
 form-letter_suffix : IsFloatOf (codes "3e2e5") (parts (codes "3") None (codes "e2") (codes "e5"))
 unfolding is_exponent is_suffix unicode_ident
 form-letter_suffix = record {
-    spells = refl;
-    grammar = record { integer = refl; form = refl; suffix = refl; no_underscore = refl; no_letter = λ e. absurd (false≢true e) } }
+  spells = refl;
+  grammar = record { integer = refl; form = refl; suffix = refl; no_underscore = refl; no_letter = λ e. absurd (false≢true e) };
+}
 
 -- what stands in front of the suffix
 number_part-period : number_part (parts (codes "9") (Some []) [] []) ≡ codes "9."

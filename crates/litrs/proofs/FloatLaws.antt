@@ -21,10 +21,10 @@ use Rattle.litrs.proofs.FloatCuts.{letter_period, letter_decimal, IsCut, is_expo
 abbrev pub cut_rows : FloatParts → Option ParseError
 cut_rows d =
     number_rows (is_empty (float_text d)) (first_passes is_ascii_digit (float_text d))
-        (float_rows (length d.integer) (length d.integer + length (fraction_text d.fraction)) (length d.integer + length (fraction_text d.fraction) + length d.exponent)
-            (byte_len (float_text d)) (suffix_fault d.suffix)
-            (has_wrong_fraction (fraction_text d.fraction ++ (d.exponent ++ d.suffix))) (is_some d.fraction) (not (is_empty d.exponent))
-            (list_any is_ascii_digit d.exponent) (is_suffix d.suffix))
+    (float_rows (length d.integer) (length d.integer + length (fraction_text d.fraction)) (length d.integer + length (fraction_text d.fraction) + length d.exponent)
+    (byte_len (float_text d)) (suffix_fault d.suffix)
+    (has_wrong_fraction (fraction_text d.fraction ++ (d.exponent ++ d.suffix))) (is_some d.fraction) (not (is_empty d.exponent))
+    (list_any is_ascii_digit d.exponent) (is_suffix d.suffix))
 
 period_flag : (f : Option (List ℕ)) (p x : List ℕ) → is_exponent_front p ≡ true → (f ≡ None → p ≡ [] → first_passes is_period x ≡ false) →
     first_passes is_period (fraction_text f ++ (p ++ x)) ≡ is_some f
@@ -42,15 +42,15 @@ fault_of_cut d cut =
     let e = ends_of_cut d cut in
     let t = float_text d in
     let period : first_passes is_period (drop (integer_end t) t) ≡ is_some d.fraction =
-        ap (first_passes is_period) e.behind_integer ∙ period_flag d.fraction d.exponent d.suffix cut.exponent cut.no_period in
+    ap (first_passes is_period) e.behind_integer ∙ period_flag d.fraction d.exponent d.suffix cut.exponent cut.no_period in
     let letter : first_passes is_e (drop (fraction_end t) t) ≡ not (is_empty d.exponent) =
-        ap (first_passes is_e) e.behind_fraction ∙ letter_flag d.exponent d.suffix cut.exponent cut.no_letter in
+    ap (first_passes is_e) e.behind_fraction ∙ letter_flag d.exponent d.suffix cut.exponent cut.no_letter in
     let digit : list_any is_ascii_digit (take (exponent_len (drop (fraction_end t) t)) (drop (fraction_end t) t)) ≡ list_any is_ascii_digit d.exponent =
-        ap (λ r. list_any is_ascii_digit (take (exponent_len r) r)) e.behind_fraction
-        ∙ ap (list_any is_ascii_digit) (take_at d.exponent d.suffix (exponent_len (d.exponent ++ d.suffix)) (sym e.exponent)) in
+    ap (λ r. list_any is_ascii_digit (take (exponent_len r) r)) e.behind_fraction
+    ∙ ap (list_any is_ascii_digit) (take_at d.exponent d.suffix (exponent_len (d.exponent ++ d.suffix)) (sym e.exponent)) in
     λ j. number_rows (is_empty t) (first_passes is_ascii_digit t)
-        (float_rows (e.integer j) (e.fraction j) (e.number j) (byte_len t) (suffix_fault (e.behind_number j))
-            (has_wrong_fraction (e.behind_integer j)) (period j) (letter j) (digit j) (is_suffix (e.behind_number j)))
+    (float_rows (e.integer j) (e.fraction j) (e.number j) (byte_len t) (suffix_fault (e.behind_number j))
+    (has_wrong_fraction (e.behind_integer j)) (period j) (letter j) (digit j) (is_suffix (e.behind_number j)))
 
 -- where no row fits
 
@@ -111,9 +111,10 @@ form_says : (f : Option (List ℕ)) (p x : List ℕ) → is_float_form f p x ≡
 form_says None p x h = record { fraction = refl; exponent = inr h; without = λ e. h }
 form_says (Some []) p x h = record { fraction = refl; exponent = inl (and_parts _ _ h).0; without = λ e. absurd (let none : Some [] ≡ None = e in cc) }
 form_says (Some (c ∷ cs)) p x h = record {
-    fraction = (and_parts (first_passes is_ascii_digit (c ∷ cs)) (list_all is_decimal_char (c ∷ cs)) (and_parts (is_decimal_literal (c ∷ cs)) (is_empty p || is_exponent p) h).0).1;
-    exponent = or_cases _ _ (and_parts (is_decimal_literal (c ∷ cs)) (is_empty p || is_exponent p) h).1;
-    without = λ e. absurd (let none : Some (c ∷ cs) ≡ None = e in cc) }
+  fraction = (and_parts (first_passes is_ascii_digit (c ∷ cs)) (list_all is_decimal_char (c ∷ cs)) (and_parts (is_decimal_literal (c ∷ cs)) (is_empty p || is_exponent p) h).0).1;
+  exponent = or_cases _ _ (and_parts (is_decimal_literal (c ∷ cs)) (is_empty p || is_exponent p) h).1;
+  without = λ e. absurd (let none : Some (c ∷ cs) ≡ None = e in cc);
+}
 
 -- a suffix without `_` in front ends a run of digits and `_`
 digit_stops : (x : List ℕ) → is_suffix x ≡ true → first_passes is_ascii_digit x ≡ false
@@ -135,13 +136,14 @@ front_of p (inr exponent) = letter_or p exponent
 
 pub float_is_cut : (d : FloatParts) → IsFloat d → IsCut d
 float_is_cut d g = let form = form_says d.fraction d.exponent d.suffix g.form in record {
-    integer = (and_parts _ _ g.integer).1;
-    fraction = form.fraction;
-    exponent = front_of d.exponent form.exponent;
-    stops = suffix_stops d.suffix g.suffix g.no_underscore;
-    no_letter = λ e. g.no_letter (ap is_empty e);
-    no_sign = λ c e. suffix_no_sign d.suffix g.suffix;
-    no_period = λ f e. suffix_no_period d.suffix g.suffix }
+  integer = (and_parts _ _ g.integer).1;
+  fraction = form.fraction;
+  exponent = front_of d.exponent form.exponent;
+  stops = suffix_stops d.suffix g.suffix g.no_underscore;
+  no_letter = λ e. g.no_letter (ap is_empty e);
+  no_sign = λ c e. suffix_no_sign d.suffix g.suffix;
+  no_period = λ f e. suffix_no_period d.suffix g.suffix;
+}
 
 pub only_float : (t : List ℕ) (d e : FloatParts) → IsFloatOf t d → IsFloatOf t e → d ≡ e
 only_float t d e r s = same_cut d e (float_is_cut d r.grammar) (float_is_cut e s.grammar) (r.spells ∙ sym s.spells)
@@ -196,7 +198,8 @@ float_fits_no_row d g =
       fraction = fraction_row d.fraction d.exponent d.suffix g.form;
       exponent = digit_row d.exponent form.exponent;
       suffix = g.suffix;
-      either = either_row d.fraction d.exponent d.suffix g.form }
+      either = either_row d.fraction d.exponent d.suffix g.form;
+    }
 
 -- a text that no row fits is a float
 
@@ -214,10 +217,11 @@ integer_literal (c ∷ cs) r all stop digit = and_from _ _ digit all
 behind_sign : (cs : List ℕ) → list_any is_ascii_digit cs ≡ true → list_any is_ascii_digit (drop (sign_len cs) cs) ≡ true
 behind_sign [] h = h
 behind_sign (s ∷ ds) h = elim (cases_Bool (is_sign s)) [
-    inl sign ↦ (let other : is_ascii_digit s ≡ false = grind (arith, nat_tests) in
-        let rest : list_any is_ascii_digit ds ≡ true = ap (λ v. v || list_any is_ascii_digit ds) (sym other) ∙ h in
-        ap (λ v. list_any is_ascii_digit (drop (cond v 1 0) (s ∷ ds))) sign ∙ rest)
-    | inr no_sign ↦ ap (λ v. list_any is_ascii_digit (drop (cond v 1 0) (s ∷ ds))) no_sign ∙ h ]
+  | inl sign ↦ (let other : is_ascii_digit s ≡ false = grind (arith, nat_tests) in
+      let rest : list_any is_ascii_digit ds ≡ true = ap (λ v. v || list_any is_ascii_digit ds) (sym other) ∙ h in
+      ap (λ v. list_any is_ascii_digit (drop (cond v 1 0) (s ∷ ds))) sign ∙ rest)
+  | inr no_sign ↦ ap (λ v. list_any is_ascii_digit (drop (cond v 1 0) (s ∷ ds))) no_sign ∙ h
+]
 
 exponent_from : (p : List ℕ) → is_empty p ≡ false → is_exponent_front p ≡ true → (not (is_empty p) && not (list_any is_ascii_digit p)) ≡ false → is_exponent p ≡ true
 unfolding is_exponent
@@ -258,7 +262,8 @@ float_from_cut d cut h =
       form = form_from d.fraction d.exponent d.suffix cut.fraction cut.exponent cut.stops r.fraction r.exponent r.either;
       suffix = r.suffix;
       no_underscore = no_underscore_from d.suffix cut.stops;
-      no_letter = λ e. cut.no_letter (empty-true d.exponent e) }
+      no_letter = λ e. cut.no_letter (empty-true d.exponent e);
+    }
 
 pub fault_free : (t : List ℕ) (d : FloatParts) → IsFloatOf t d → float_fault t ≡ None
 fault_free t d r = ap float_fault (sym r.spells) ∙ (fault_of_cut d (float_is_cut d r.grammar) ∙ float_fits_no_row d r.grammar)

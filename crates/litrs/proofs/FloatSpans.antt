@@ -45,8 +45,9 @@ fraction_number (Some f) h = decimals_number f h
 behind_letter : (cs : List ℕ) → list_all is_decimal_char (drop (sign_len cs) cs) ≡ true → list_all is_number_char cs ≡ true
 behind_letter [] h = refl
 behind_letter (s ∷ ds) h = elim (cases_Bool (is_sign s)) [
-    inl sign ↦ and_from _ _ (sign_number s sign) (decimals_number ds (sym (ap (λ v. list_all is_decimal_char (drop (cond v 1 0) (s ∷ ds))) sign) ∙ h))
-    | inr no_sign ↦ decimals_number (s ∷ ds) (sym (ap (λ v. list_all is_decimal_char (drop (cond v 1 0) (s ∷ ds))) no_sign) ∙ h) ]
+  | inl sign ↦ and_from _ _ (sign_number s sign) (decimals_number ds (sym (ap (λ v. list_all is_decimal_char (drop (cond v 1 0) (s ∷ ds))) sign) ∙ h))
+  | inr no_sign ↦ decimals_number (s ∷ ds) (sym (ap (λ v. list_all is_decimal_char (drop (cond v 1 0) (s ∷ ds))) no_sign) ∙ h)
+]
 
 exponent_number : (p : List ℕ) → is_exponent_front p ≡ true → list_all is_number_char p ≡ true
 exponent_number [] h = refl
@@ -102,9 +103,9 @@ cut_rows_within d cut =
     let spells_ifp : ((i ++ f) ++ p) ++ x ≡ t = append_assoc (i ++ f) p x ∙ spells_if in
     let bytes_t : byte_len t ≡ length i + length f + length p + byte_len x = ap byte_len (sym spells_ifp) ∙ (byte_len-append ((i ++ f) ++ p) x ∙ omega (arith, bytes_ifp)) in
     rows_hold (IsInText t) _ _ _ _ _ _ _ _ _ _ _ _ (λ kind. plain_within t kind) (λ some. first_span t DoesNotStartWithDigit some)
-        (λ wrong. fraction_span t i (f ++ (p ++ x)) UnexpectedChar refl cut.integer wrong)
-        (over_within t (i ++ f) p x _ _ NoExponentDigits spells_if bytes_if (ap (λ n. length i + length f + n) bytes_p))
-        (over_within t ((i ++ f) ++ p) x [] _ _ (suffix_fault x) (ap (λ y. ((i ++ f) ++ p) ++ y) (append-nil x) ∙ spells_ifp) bytes_ifp (sym bytes_t))
+    (λ wrong. fraction_span t i (f ++ (p ++ x)) UnexpectedChar refl cut.integer wrong)
+    (over_within t (i ++ f) p x _ _ NoExponentDigits spells_if bytes_if (ap (λ n. length i + length f + n) bytes_p))
+    (over_within t ((i ++ f) ++ p) x [] _ _ (suffix_fault x) (ap (λ y. ((i ++ f) ++ p) ++ y) (append-nil x) ∙ spells_ifp) bytes_ifp (sym bytes_t))
 
 -- the span of a refusal lies within the text, and starts on a character boundary
 pub float_fault_within : (t : List ℕ) → ForSome (float_fault t) (IsInText t)
@@ -117,8 +118,8 @@ float_last : (d : FloatParts) → IsFloat d → last_passes is_line_feed (float_
 float_last d g = let cut = float_is_cut d g in
     let last : (s : List ℕ) → list_all is_number_char s ≡ true → last_passes is_line_feed s ≡ false = last_passes-all is_number_char is_line_feed number_line_feed in
     last_passes-both is_line_feed d.integer _ (last d.integer (decimals_number d.integer cut.integer))
-        (last_passes-both is_line_feed (fraction_text d.fraction) _ (last (fraction_text d.fraction) (fraction_number d.fraction cut.fraction))
-        (last_passes-both is_line_feed d.exponent d.suffix (last d.exponent (exponent_number d.exponent cut.exponent)) (suffix_last d.suffix g.suffix)))
+    (last_passes-both is_line_feed (fraction_text d.fraction) _ (last (fraction_text d.fraction) (fraction_number d.fraction cut.fraction))
+    (last_passes-both is_line_feed d.exponent d.suffix (last d.exponent (exponent_number d.exponent cut.exponent)) (suffix_last d.suffix g.suffix)))
 
 pub no_float_with_line_feed : (t : List ℕ) (d : FloatParts) → ¬ IsFloatOf (t ++ (10 ∷ [])) d
 no_float_with_line_feed t d r = true≢false (sym (line_feed_last t) ∙ (ap (last_passes is_line_feed) (sym r.spells) ∙ float_last d r.grammar))

@@ -16,3 +16,5 @@ pub mod BoolLemmas
 pub mod Firsts
 pub mod IntegerLaws
 pub mod IntegerLemmas
+pub mod LiteralLaws
+pub mod Dispatch

@@ -41,9 +41,11 @@ pub record HashCut (t : List ℕ) : Type 0 where
 
 pub hash_cut : (t : List ℕ) → HashCut t
 hash_cut t = let r = run_of is_hash t in record {
-    count = length r.front; rest = r.rest;
-    spells = ap (λ f. f ++ r.rest) (sym (all_hashes r.front r.passes)) ∙ r.spells;
-    stops = r.stops }
+  count = length r.front;
+  rest = r.rest;
+  spells = ap (λ f. f ++ r.rest) (sym (all_hashes r.front r.passes)) ∙ r.spells;
+  stops = r.stops;
+}
 
 -- a part that a text begins with
 
@@ -91,8 +93,11 @@ closing_here n t h = record { before = []; behind = drop (length (raw_closing n)
 
 closing_later : (n c : ℕ) (cs : List ℕ) → begins_with (raw_closing n) (c ∷ cs) ≡ false → ClosingCut n cs → ClosingCut n (c ∷ cs)
 closing_later n c cs not_here r = record {
-    before = c ∷ r.before; behind = r.behind; spells = ap (λ t. c ∷ t) r.spells;
-    unclosed = or_from _ _ (shorter (begins_with (raw_closing n) (c ∷ r.before)) refl) r.unclosed }
+  before = c ∷ r.before;
+  behind = r.behind;
+  spells = ap (λ t. c ∷ t) r.spells;
+  unclosed = or_from _ _ (shorter (begins_with (raw_closing n) (c ∷ r.before)) refl) r.unclosed;
+}
   where
     shorter : (v : Bool) → begins_with (raw_closing n) (c ∷ r.before) ≡ v → v ≡ false
     shorter false e = refl
@@ -101,11 +106,13 @@ closing_later n c cs not_here r = record {
 pub closing_cut : (n : ℕ) (t : List ℕ) → occurs (raw_closing n) t ≡ true → ClosingCut n t
 closing_cut n [] h = absurd (false≢true h)
 closing_cut n (c ∷ cs) h = elim (cases_Bool (begins_with (raw_closing n) (c ∷ cs))) [
-    inl here ↦ closing_here n (c ∷ cs) here
-    | inr not_here ↦ closing_later n c cs not_here (closing_cut n cs (ap (λ v. v || occurs (raw_closing n) cs) (sym not_here) ∙ h)) ]
+  | inl here ↦ closing_here n (c ∷ cs) here
+  | inr not_here ↦ closing_later n c cs not_here (closing_cut n cs (ap (λ v. v || occurs (raw_closing n) cs) (sym not_here) ∙ h))
+]
 
 pub length_before_le : (p t : List ℕ) → length_before p t ≤ length t
 length_before_le p [] = omega arith
 length_before_le p (c ∷ cs) = elim (cases_Bool (begins_with p (c ∷ cs))) [
-    inl here ↦ (let e : length_before p (c ∷ cs) ≡ 0 = ap (λ v. cond v 0 (1 + length_before p cs)) here in omega arith)
-    | inr later ↦ (let e : length_before p (c ∷ cs) ≡ 1 + length_before p cs = ap (λ v. cond v 0 (1 + length_before p cs)) later in omega (arith, length_before_le p cs)) ]
+  | inl here ↦ (let e : length_before p (c ∷ cs) ≡ 0 = ap (λ v. cond v 0 (1 + length_before p cs)) here in omega arith)
+  | inr later ↦ (let e : length_before p (c ∷ cs) ≡ 1 + length_before p cs = ap (λ v. cond v 0 (1 + length_before p cs)) later in omega (arith, length_before_le p cs))
+]

@@ -16,32 +16,37 @@ parts hash_count body suffix = record { hash_count = hash_count; body = body; su
 form-string : IsRawLiteral raw_string (codes "r##\"a\"#\"##") (parts 2 (codes "a\"#") [])
 unfolding is_suffix unicode_ident
 form-string = record {
-    spells = refl;
-    grammar = record { hash_count = leb-true 2 255 refl; body = record { allowed = refl; unclosed = refl }; suffix = refl } }
+  spells = refl;
+  grammar = record { hash_count = leb-true 2 255 refl; body = record { allowed = refl; unclosed = refl }; suffix = refl };
+}
 
 form-string_three : IsRawLiteral raw_string (codes "r###\"\"##foo\"##bar'\"###") (parts 3 (codes "\"##foo\"##bar'") [])
 unfolding is_suffix unicode_ident
 form-string_three = record {
-    spells = refl;
-    grammar = record { hash_count = leb-true 3 255 refl; body = record { allowed = refl; unclosed = refl }; suffix = refl } }
+  spells = refl;
+  grammar = record { hash_count = leb-true 3 255 refl; body = record { allowed = refl; unclosed = refl }; suffix = refl };
+}
 
 form-byte_string : IsRawLiteral raw_byte_string (codes "br\"\\n\"") (parts 0 (codes "\\n") [])
 unfolding is_suffix unicode_ident
 form-byte_string = record {
-    spells = refl;
-    grammar = record { hash_count = leb-true 0 255 refl; body = record { allowed = refl; unclosed = refl }; suffix = refl } }
+  spells = refl;
+  grammar = record { hash_count = leb-true 0 255 refl; body = record { allowed = refl; unclosed = refl }; suffix = refl };
+}
 
 form-most_hashes : IsRawLiteral raw_byte_string (codes "br" ++ (hashes 255 ++ (codes "\"peter\"" ++ hashes 255))) (parts 255 (codes "peter") [])
 unfolding is_suffix unicode_ident
 form-most_hashes = record {
-    spells = refl;
-    grammar = record { hash_count = leb-true 255 255 refl; body = record { allowed = refl; unclosed = refl }; suffix = refl } }
+  spells = refl;
+  grammar = record { hash_count = leb-true 255 255 refl; body = record { allowed = refl; unclosed = refl }; suffix = refl };
+}
 
 form-c_string : IsRawLiteral raw_c_string (codes "cr#\"a\\x0cb\\\\\"#_jürgen") (parts 1 (codes "a\\x0cb\\\\") (codes "_jürgen"))
 unfolding is_suffix unicode_ident
 form-c_string = record {
-    spells = refl;
-    grammar = record { hash_count = leb-true 1 255 refl; body = record { allowed = refl; unclosed = refl }; suffix = refl } }
+  spells = refl;
+  grammar = record { hash_count = leb-true 1 255 refl; body = record { allowed = refl; unclosed = refl }; suffix = refl };
+}
 
 -- values
 value-backslash : raw_value (codes "\\n") ≡ 0x5c ∷ 0x6e ∷ []

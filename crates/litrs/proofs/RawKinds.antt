@@ -60,7 +60,7 @@ literal_readable kind t front h = let r = readable (has_unicode kind) (allows_nu
 pub literal_fault_free : (kind : RawKind) (t : List ℕ) (d : RawParts) → begins_with (raw_front kind) t ≡ true → IsRawLiteral kind t d → raw_literal_fault kind t ≡ None
 literal_fault_free kind t d front r =
     fault_free (has_unicode kind) (allows_nul kind) (length (raw_front kind)) (drop (length (raw_front kind)) t) d
-        (behind_front kind (drop (length (raw_front kind)) t) t d (begins_with-split (raw_front kind) t front) r)
+    (behind_front kind (drop (length (raw_front kind)) t) t d (begins_with-split (raw_front kind) t front) r)
 
 front_bytes : (kind : RawKind) → byte_len (raw_front kind) ≡ length (raw_front kind)
 front_bytes raw_string = byte_len_ascii (raw_front raw_string) refl
@@ -70,8 +70,8 @@ front_bytes raw_c_string = byte_len_ascii (raw_front raw_c_string) refl
 pub literal_fault_within : (kind : RawKind) (t : List ℕ) → begins_with (raw_front kind) t ≡ true → ForSome (raw_literal_fault kind t) (IsInText t)
 literal_fault_within kind t front =
     subst (λ (s : List ℕ). ForSome (raw_literal_fault kind t) (IsInText s)) (begins_with-split (raw_front kind) t front)
-        (subst (λ (start : ℕ). ForSome (raw_fault (has_unicode kind) (allows_nul kind) start (drop (length (raw_front kind)) t)) (IsInText (raw_front kind ++ drop (length (raw_front kind)) t)))
-            (front_bytes kind) (raw_fault_within (has_unicode kind) (allows_nul kind) (raw_front kind) (drop (length (raw_front kind)) t)))
+    (subst (λ (start : ℕ). ForSome (raw_fault (has_unicode kind) (allows_nul kind) start (drop (length (raw_front kind)) t)) (IsInText (raw_front kind ++ drop (length (raw_front kind)) t)))
+    (front_bytes kind) (raw_fault_within (has_unicode kind) (allows_nul kind) (raw_front kind) (drop (length (raw_front kind)) t)))
 
 pub no_literal_with_line_feed : (kind : RawKind) (t : List ℕ) (d : RawParts) → ¬ IsRawLiteral kind (t ++ (10 ∷ [])) d
 no_literal_with_line_feed kind t d r =

@@ -39,8 +39,8 @@ behind_closing n body x =
 pub fault_of_closed : (unicode nul_allowed : Bool) (n start : ℕ) (body x : List ℕ) → occurs (raw_closing n) body ≡ false →
     raw_body_fault unicode nul_allowed n start (body ++ (raw_closing n ++ x))
     ≡ raw_body_rows (start + byte_len (take (prefix_len (is_raw_char unicode nul_allowed) body) (body ++ (raw_closing n ++ x)))) (start + (byte_len body + (1 + n)))
-        (raw_char_fault (slice_index (body ++ (raw_closing n ++ x)) (prefix_len (is_raw_char unicode nul_allowed) body))) (suffix_fault x)
-        (ltb (prefix_len (is_raw_char unicode nul_allowed) body) (length body)) true (is_suffix x)
+    (raw_char_fault (slice_index (body ++ (raw_closing n ++ x)) (prefix_len (is_raw_char unicode nul_allowed) body))) (suffix_fault x)
+    (ltb (prefix_len (is_raw_char unicode nul_allowed) body) (length body)) true (is_suffix x)
 unfolding raw_body_fault
 fault_of_closed unicode nul_allowed n start body x none =
     let ok = is_raw_char unicode nul_allowed in
@@ -49,8 +49,8 @@ fault_of_closed unicode nul_allowed n start body x none =
     let behind : drop (length (take (length_before (raw_closing n) r) r) + (1 + n)) r ≡ x = ap (λ b. drop (length b + (1 + n)) r) before ∙ behind_closing n body x in
     let closed : occurs (raw_closing n) r ≡ true = occurs-body n body x in
     λ j. raw_body_rows (start + byte_len (take (prefix_len ok (before j)) r)) (start + (byte_len (before j) + (1 + n)))
-        (raw_char_fault (slice_index r (prefix_len ok (before j)))) (suffix_fault (behind j))
-        (ltb (prefix_len ok (before j)) (length (before j))) (closed j) (is_suffix (behind j))
+    (raw_char_fault (slice_index r (prefix_len ok (before j)))) (suffix_fault (behind j))
+    (ltb (prefix_len ok (before j)) (length (before j))) (closed j) (is_suffix (behind j))
 
 -- where no row fits
 
@@ -91,9 +91,9 @@ raw_fits_no_row unicode nul_allowed start d g =
     let all : prefix_len ok d.body ≡ length d.body = prefix_len_all ok d.body g.body.allowed in
     let none_refused : ltb (prefix_len ok d.body) (length d.body) ≡ false = le-ltb _ _ (omega (arith, all)) in
     let body : raw_body_fault unicode nul_allowed n place (d.body ++ (raw_closing n ++ d.suffix)) ≡ None =
-        fault_of_closed unicode nul_allowed n place d.body d.suffix g.body.unclosed
-        ∙ (λ j. raw_body_rows (place + byte_len (take (prefix_len ok d.body) (d.body ++ (raw_closing n ++ d.suffix)))) (place + (byte_len d.body + (1 + n)))
-            (raw_char_fault (slice_index (d.body ++ (raw_closing n ++ d.suffix)) (prefix_len ok d.body))) (suffix_fault d.suffix) (none_refused j) true (g.suffix j)) in
+    fault_of_closed unicode nul_allowed n place d.body d.suffix g.body.unclosed
+    ∙ (λ j. raw_body_rows (place + byte_len (take (prefix_len ok d.body) (d.body ++ (raw_closing n ++ d.suffix)))) (place + (byte_len d.body + (1 + n)))
+    (raw_char_fault (slice_index (d.body ++ (raw_closing n ++ d.suffix)) (prefix_len ok d.body))) (suffix_fault d.suffix) (none_refused j) true (g.suffix j)) in
     fault_of_hashes unicode nul_allowed start n (34 ∷ (d.body ++ (raw_closing n ++ d.suffix))) refl
     ∙ (λ j. raw_rows start n (body j) false (few j) true)
 
@@ -110,25 +110,29 @@ readable_closed : (unicode nul_allowed : Bool) (start n : ℕ) (t r : List ℕ) 
     raw_body_fault unicode nul_allowed n start r ≡ None → ClosingCut n r → (d : RawParts) × IsRawOf unicode nul_allowed t d
 readable_closed unicode nul_allowed start n t r spells few h c =
     let rows = no_body_row _ (start + (byte_len c.before + (1 + n))) _ (suffix_fault c.behind) _ true (is_suffix c.behind) (sym (fault_of_closed unicode nul_allowed n start c.before c.behind c.unclosed) ∙ (ap (raw_body_fault unicode nul_allowed n start) c.spells ∙ h)) in
-    let d : RawParts = record { hash_count = n; body = c.before; suffix = c.behind } in
-    (d, record {
-      spells = ap (λ s. hashes n ++ (34 ∷ s)) c.spells ∙ spells;
-      grammar = record {
-        hash_count = ltb-false 255 n few;
-        body = record { allowed = all_from_prefix_len (is_raw_char unicode nul_allowed) c.before (ltb-false _ _ rows.allowed); unclosed = c.unclosed };
-        suffix = rows.behind } })
+    let d : RawParts = record { hash_count = n; body = c.before; suffix = c.behind } in (
+      d,
+      record {
+        spells = ap (λ s. hashes n ++ (34 ∷ s)) c.spells ∙ spells;
+        grammar = record {
+          hash_count = ltb-false 255 n few;
+          body = record { allowed = all_from_prefix_len (is_raw_char unicode nul_allowed) c.before (ltb-false _ _ rows.allowed); unclosed = c.unclosed };
+          suffix = rows.behind;
+        };
+      },
+    )
 
 readable_quoted : (unicode nul_allowed : Bool) (start n : ℕ) (t rest : List ℕ) → hashes n ++ rest ≡ t →
     NoRow (raw_body_fault unicode nul_allowed n start (drop 1 rest)) (is_empty rest) (ltb 255 n) (first_passes is_quote rest) → (d : RawParts) × IsRawOf unicode nul_allowed t d
 readable_quoted unicode nul_allowed start n t [] spells rows = absurd (false≢true rows.opening)
 readable_quoted unicode nul_allowed start n t (c ∷ r) spells rows =
     readable_closed unicode nul_allowed start n t r (ap (λ q. hashes n ++ (q ∷ r)) (sym (eqb-true c 34 rows.opening)) ∙ spells) rows.few rows.body
-        (closing_cut n r (closed_from unicode nul_allowed n start r rows.body))
+    (closing_cut n r (closed_from unicode nul_allowed n start r rows.body))
 
 pub readable : (unicode nul_allowed : Bool) (start : ℕ) (t : List ℕ) → raw_fault unicode nul_allowed start t ≡ None → (d : RawParts) × IsRawOf unicode nul_allowed t d
 readable unicode nul_allowed start t h = let c = hash_cut t in
     readable_quoted unicode nul_allowed (start + (c.count + 1)) c.count t c.rest c.spells
-        (no_row _ _ _ _ _ _ (sym (fault_of_hashes unicode nul_allowed start c.count c.rest c.stops) ∙ (ap (raw_fault unicode nul_allowed start) c.spells ∙ h)))
+    (no_row _ _ _ _ _ _ (sym (fault_of_hashes unicode nul_allowed start c.count c.rest c.stops) ∙ (ap (raw_fault unicode nul_allowed start) c.spells ∙ h)))
 
 -- one derivation at most
 
@@ -155,9 +159,9 @@ parts_of_text unicode nul_allowed d g =
     let rest : drop (suc (hash_len (raw_text d))) (raw_text d) ≡ r = behind_opening d in
     let before : take (length_before (raw_closing n) r) r ≡ d.body = before_closing n d.body d.suffix g.body.unclosed in
     let behind : drop (length_before (raw_closing n) r + (1 + n)) r ≡ d.suffix =
-        ap (λ k. drop (k + (1 + n)) r) (length_before-body n d.body d.suffix g.body.unclosed) ∙ behind_closing n d.body d.suffix in
+    ap (λ k. drop (k + (1 + n)) r) (length_before-body n d.body d.suffix g.body.unclosed) ∙ behind_closing n d.body d.suffix in
     let first : parts_of (raw_text d) ≡ record { hash_count = n; body = take (length_before (raw_closing n) r) r; suffix = drop (length_before (raw_closing n) r + (1 + n)) r } =
-        (λ j. record { hash_count = count j; body = take (length_before (raw_closing (count j)) (rest j)) (rest j); suffix = drop (length_before (raw_closing (count j)) (rest j) + (1 + count j)) (rest j) }) in
+    (λ j. record { hash_count = count j; body = take (length_before (raw_closing (count j)) (rest j)) (rest j); suffix = drop (length_before (raw_closing (count j)) (rest j) + (1 + count j)) (rest j) }) in
     first ∙ (λ j. record { hash_count = n; body = before j; suffix = behind j })
 
 pub only_raw : (unicode nul_allowed : Bool) (t : List ℕ) (d e : RawParts) → IsRawOf unicode nul_allowed t d → IsRawOf unicode nul_allowed t e → d ≡ e

@@ -55,8 +55,8 @@ char_span : (t front r : List ℕ) (start k : ℕ) (kind : ParseErrorKind) → f
 char_span t front r start k kind spells at_start inside =
     let split : take k r ++ (get_or r k 0 ∷ drop (k + 1) r) ≡ r = ap (λ s. take k r ++ s) (sym (drop_more r k 0 inside)) ∙ take-append-drop k r in
     at_within t (front ++ take k r) (get_or r k 0) (drop (k + 1) r) (start + byte_len (take k r)) kind
-        (append_assoc front (take k r) (get_or r k 0 ∷ drop (k + 1) r) ∙ (ap (λ s. front ++ s) split ∙ spells))
-        (byte_len-append front (take k r) ∙ ap (λ m. m + byte_len (take k r)) at_start)
+    (append_assoc front (take k r) (get_or r k 0 ∷ drop (k + 1) r) ∙ (ap (λ s. front ++ s) split ∙ spells))
+    (byte_len-append front (take k r) ∙ ap (λ m. m + byte_len (take k r)) at_start)
 
 -- what stands behind a closing, where that is not empty
 suffix_span : (t front x : List ℕ) (place : ℕ) (kind : ParseErrorKind) → front ++ x ≡ t → byte_len front ≡ place → is_suffix x ≡ false → IsInText t (at place kind)
@@ -70,13 +70,13 @@ closed_span : (t front r : List ℕ) (start n : ℕ) (kind : ParseErrorKind) →
 closed_span t front r start n kind spells at_start c h =
     let s : List ℕ = c.before ++ (raw_closing n ++ c.behind) in
     let before : take (length_before (raw_closing n) r) r ≡ c.before =
-        ap (λ r. take (length_before (raw_closing n) r) r) (sym c.spells) ∙ before_closing n c.before c.behind c.unclosed in
+    ap (λ r. take (length_before (raw_closing n) r) r) (sym c.spells) ∙ before_closing n c.before c.behind c.unclosed in
     let behind : drop (length (take (length_before (raw_closing n) r) r) + (1 + n)) r ≡ c.behind =
-        (λ j. drop (length (before j) + (1 + n)) (sym c.spells j)) ∙ behind_closing n c.before c.behind in
+    (λ j. drop (length (before j) + (1 + n)) (sym c.spells j)) ∙ behind_closing n c.before c.behind in
     suffix_span t ((front ++ c.before) ++ raw_closing n) c.behind _ kind
-        (append_assoc (front ++ c.before) (raw_closing n) c.behind ∙ (append_assoc front c.before (raw_closing n ++ c.behind) ∙ (ap (λ s. front ++ s) c.spells ∙ spells)))
-        (byte_len-append (front ++ c.before) (raw_closing n) ∙ (ap (λ m. m + byte_len (raw_closing n)) (byte_len-append front c.before) ∙ omega (arith, quoted_bytes n, at_start, ap byte_len before)))
-        (ap is_suffix (sym behind) ∙ h)
+    (append_assoc (front ++ c.before) (raw_closing n) c.behind ∙ (append_assoc front c.before (raw_closing n ++ c.behind) ∙ (ap (λ s. front ++ s) c.spells ∙ spells)))
+    (byte_len-append (front ++ c.before) (raw_closing n) ∙ (ap (λ m. m + byte_len (raw_closing n)) (byte_len-append front c.before) ∙ omega (arith, quoted_bytes n, at_start, ap byte_len before)))
+    (ap is_suffix (sym behind) ∙ h)
 
 body_within : (unicode nul_allowed : Bool) (t front r : List ℕ) (n start : ℕ) → front ++ r ≡ t → byte_len front ≡ start →
     ForSome (raw_body_fault unicode nul_allowed n start r) (IsInText t)
@@ -85,10 +85,10 @@ body_within unicode nul_allowed t front r n start spells at_start =
     let before : List ℕ = take (length_before (raw_closing n) r) r in
     let good : ℕ = prefix_len (is_raw_char unicode nul_allowed) before in
     body_rows_hold (IsInText t) _ _ _ _ _ _ _
-        (λ refused. char_span t front r start good (raw_char_fault (slice_index r good)) spells at_start
-            (omega (arith, ltb-true _ _ refused, length-take-le (length_before (raw_closing n) r) r (length_before_le (raw_closing n) r), length_before_le (raw_closing n) r)))
-        (plain_within t UnterminatedRawString)
-        (λ closed h. closed_span t front r start n (suffix_fault (drop (length before + (1 + n)) r)) spells at_start (closing_cut n r closed) h)
+    (λ refused. char_span t front r start good (raw_char_fault (slice_index r good)) spells at_start
+    (omega (arith, ltb-true _ _ refused, length-take-le (length_before (raw_closing n) r) r (length_before_le (raw_closing n) r), length_before_le (raw_closing n) r)))
+    (plain_within t UnterminatedRawString)
+    (λ closed h. closed_span t front r start n (suffix_fault (drop (length before + (1 + n)) r)) spells at_start (closing_cut n r closed) h)
 
 quoted_within : (unicode nul_allowed : Bool) (t front rest : List ℕ) (n start : ℕ) → front ++ rest ≡ t → byte_len front ≡ start → first_passes is_quote rest ≡ true →
     ForSome (raw_body_fault unicode nul_allowed n (start + 1) (drop 1 rest)) (IsInText t)
@@ -96,7 +96,7 @@ quoted_within unicode nul_allowed t front [] n start spells at_start quote = abs
 quoted_within unicode nul_allowed t front (c ∷ r) n start spells at_start quote =
     let one : byte_len (c ∷ []) ≡ 1 = ap (λ q. byte_len (q ∷ [])) (eqb-true c 34 quote) ∙ byte_len_ascii (34 ∷ []) refl in
     body_within unicode nul_allowed t (front ++ (c ∷ [])) r n (start + 1) (append_assoc front (c ∷ []) r ∙ spells)
-        (byte_len-append front (c ∷ []) ∙ omega (arith, one, at_start))
+    (byte_len-append front (c ∷ []) ∙ omega (arith, one, at_start))
 
 -- the span of a refusal lies within the text, and starts on a character boundary
 pub raw_fault_within : (unicode nul_allowed : Bool) (front t : List ℕ) → ForSome (raw_fault unicode nul_allowed (byte_len front) t) (IsInText (front ++ t))
@@ -108,13 +108,13 @@ raw_fault_within unicode nul_allowed front t =
     let regroup : (front ++ hashes n) ++ c.rest ≡ front ++ t = append_assoc front (hashes n) c.rest ∙ spells in
     let bytes : byte_len (front ++ hashes n) ≡ start + n = byte_len-append front (hashes n) ∙ ap (λ m. start + m) (hashes_bytes n) in
     let same : raw_fault unicode nul_allowed start t
-        ≡ raw_rows start n (raw_body_fault unicode nul_allowed n (start + (n + 1)) (drop 1 c.rest)) (is_empty c.rest) (ltb 255 n) (first_passes is_quote c.rest) =
-        ap (raw_fault unicode nul_allowed start) (sym c.spells) ∙ fault_of_hashes unicode nul_allowed start n c.rest c.stops in
+    ≡ raw_rows start n (raw_body_fault unicode nul_allowed n (start + (n + 1)) (drop 1 c.rest)) (is_empty c.rest) (ltb 255 n) (first_passes is_quote c.rest) =
+    ap (raw_fault unicode nul_allowed start) (sym c.spells) ∙ fault_of_hashes unicode nul_allowed start n c.rest c.stops in
     subst (λ (o : Option ParseError). ForSome o (IsInText (front ++ t))) (sym same)
-        (rows_hold (IsInText (front ++ t)) _ _ _ _ _ _ (plain_within (front ++ t) InvalidLiteral)
-            (over_within (front ++ t) front (hashes n) c.rest start (start + n) TooManyHashes spells refl (ap (λ m. start + m) (hashes_bytes n)))
-            (λ quote. subst (λ (place : ℕ). ForSome (raw_body_fault unicode nul_allowed n place (drop 1 c.rest)) (IsInText (front ++ t))) (omega arith)
-                (quoted_within unicode nul_allowed (front ++ t) (front ++ hashes n) c.rest n (start + n) regroup bytes quote)))
+    (rows_hold (IsInText (front ++ t)) _ _ _ _ _ _ (plain_within (front ++ t) InvalidLiteral)
+    (over_within (front ++ t) front (hashes n) c.rest start (start + n) TooManyHashes spells refl (ap (λ m. start + m) (hashes_bytes n)))
+    (λ quote. subst (λ (place : ℕ). ForSome (raw_body_fault unicode nul_allowed n place (drop 1 c.rest)) (IsInText (front ++ t))) (omega arith)
+    (quoted_within unicode nul_allowed (front ++ t) (front ++ hashes n) c.rest n (start + n) regroup bytes quote)))
 
 -- what raw literals end with
 
@@ -130,7 +130,7 @@ raw_last unicode nul_allowed front d g =
     let n = d.hash_count in
     let tail : List ℕ = hashes n ++ d.suffix in
     let regroup : front ++ raw_text d ≡ (front ++ (hashes n ++ (34 ∷ d.body))) ++ (34 ∷ tail) =
-        ap (λ s. front ++ s) (sym (append_assoc (hashes n) (34 ∷ d.body) (34 ∷ tail))) ∙ sym (append_assoc front (hashes n ++ (34 ∷ d.body)) (34 ∷ tail)) in
+    ap (λ s. front ++ s) (sym (append_assoc (hashes n) (34 ∷ d.body) (34 ∷ tail))) ∙ sym (append_assoc front (hashes n ++ (34 ∷ d.body)) (34 ∷ tail)) in
     ap (last_passes is_line_feed) regroup
     ∙ (last_passes-append is_line_feed (front ++ (hashes n ++ (34 ∷ d.body))) 34 tail
     ∙ last_passes-both is_line_feed (raw_closing n) d.suffix (closing_last n) (suffix_last d.suffix g.suffix))
@@ -140,7 +140,7 @@ raw_last unicode nul_allowed front d g =
 encode_no_nul : (c : ℕ) → is_nul c ≡ false → list_any is_nul (encode_utf8 c) ≡ false
 encode_no_nul c h = or_from_places (list_any is_nul) is_nul refl (λ _ _. refl) (encode_utf8 c) 0
     (λ i inside. ne_eqb _ 0 (λ zero_byte.
-        true≢false (sym (ap is_nul (inside_one c [] (encode_utf8 c) i (sym (append-nil (encode_utf8 c))) inside (omega arith) ∙ zero_byte)) ∙ h)))
+    true≢false (sym (ap is_nul (inside_one c [] (encode_utf8 c) i (sym (append-nil (encode_utf8 c))) inside (omega arith) ∙ zero_byte)) ∙ h)))
 
 list_any-append : (p : ℕ → Bool) (xs ys : List ℕ) → list_any p xs ≡ false → list_any p ys ≡ false → list_any p (xs ++ ys) ≡ false
 list_any-append p [] ys a b = b

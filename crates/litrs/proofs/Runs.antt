@@ -26,11 +26,12 @@ pub record IsRun (p : ℕ → Bool) (xs : List ℕ) : Type 0 where
 
 run_step : (p : ℕ → Bool) (x : ℕ) (xs : List ℕ) (v : Bool) → p x ≡ v → IsRun p xs → IsRun p (x ∷ xs)
 run_step p x xs true e r = record {
-    front = x ∷ r.front;
-    rest = r.rest;
-    spells = ap (λ t. x ∷ t) r.spells;
-    passes = and_from _ _ e r.passes;
-    stops = r.stops }
+  front = x ∷ r.front;
+  rest = r.rest;
+  spells = ap (λ t. x ∷ t) r.spells;
+  passes = and_from _ _ e r.passes;
+  stops = r.stops;
+}
 run_step p x xs false e r = record { front = []; rest = x ∷ xs; spells = refl; passes = refl; stops = e }
 
 pub run_of : (p : ℕ → Bool) (xs : List ℕ) → IsRun p xs

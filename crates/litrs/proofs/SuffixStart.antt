@@ -24,18 +24,21 @@ pub suffix_begins_otherwise : (p : ℕ → Bool) → ((c : ℕ) → p c ≡ true
 unfolding is_suffix
 suffix_begins_otherwise p low other [] h = refl
 suffix_begins_otherwise p low other (c ∷ cs) h = elim (cases_Bool (p c)) [
-    inr no_pass ↦ no_pass
-    | inl pass ↦ absurd (true≢false (sym (starts_ascii c (low c pass) (and_parts _ _ (and_parts _ _ h).0).0) ∙ other c pass)) ]
+  | inr no_pass ↦ no_pass
+  | inl pass ↦ absurd (true≢false (sym (starts_ascii c (low c pass) (and_parts _ _ (and_parts _ _ h).0).0) ∙ other c pass))
+]
 
 not_line_feed : (c : ℕ) → is_xid_continue c ≡ true → is_line_feed c ≡ false
 not_line_feed c h = elim (cases_lt c 128) [
-    inl low ↦ (let e : (is_ascii_alphanumeric c || (c == 95)) ≡ true = sym (is_xid_continue-ascii c low) ∙ h in grind (arith, nat_tests))
-    | inr high ↦ grind (arith, nat_tests) ]
+  | inl low ↦ (let e : (is_ascii_alphanumeric c || (c == 95)) ≡ true = sym (is_xid_continue-ascii c low) ∙ h in grind (arith, nat_tests))
+  | inr high ↦ grind (arith, nat_tests)
+]
 
 starts_continue : (c : ℕ) → starts_identifier c ≡ true → is_xid_continue c ≡ true
 starts_continue c h = elim (or_cases (c == 95) (is_xid_start c) h) [
-    inl underscore ↦ (let e : c ≡ 95 = eqb-true c 95 underscore in subst (λ (x : ℕ). is_xid_continue x ≡ true) (sym e) (is_xid_continue-ascii 95 (omega arith)))
-    | inr start ↦ is_xid_start-is_xid_continue c start ]
+  | inl underscore ↦ (let e : c ≡ 95 = eqb-true c 95 underscore in subst (λ (x : ℕ). is_xid_continue x ≡ true) (sym e) (is_xid_continue-ascii 95 (omega arith)))
+  | inr start ↦ is_xid_start-is_xid_continue c start
+]
 
 -- every character of a suffix may continue an identifier
 pub suffix_continues : (t : List ℕ) → is_suffix t ≡ true → list_all is_xid_continue t ≡ true

@@ -4,7 +4,7 @@ use Rattle.std.specs.Prelude.{◌≡◌, ℕ, ◌+◌, ◌==◌, ◌&&◌, ◌||
 use Rattle.std.specs.Char.{is_ascii_digit}
 use Rattle.std.specs.List.{list_all, list_any, prefix_len}
 use Rattle.litrs.specs.declared.err.ParseErrorKind.{ParseErrorKind}
-use Rattle.litrs.specs.declared.err.ParseErrorKind.TheVariants.{Empty, UnexpectedChar, DoesNotStartWithDigit, NoExponentDigits, UnexpectedIntegerLit}
+use Rattle.litrs.specs.declared.err.ParseErrorKind.TheVariants.{UnexpectedChar, NoExponentDigits, UnexpectedIntegerLit}
 use Rattle.litrs.specs.declared.err.ParseError.{ParseError}
 use Rattle.litrs.specs.Text.{byte_len, first_passes}
 use Rattle.litrs.specs.Fault.{plain, over, at}
@@ -142,8 +142,8 @@ float_rows integer fraction number len kind wrong_fraction period exponent expon
 unfoldable pub float_fault : List ℕ → Option ParseError
 float_fault t = number_rows (is_empty t) (first_passes is_ascii_digit t)
     (float_rows (integer_end t) (fraction_end t) (number_end t) (byte_len t) (suffix_fault (drop (number_end t) t))
-        (has_wrong_fraction (drop (integer_end t) t))
-        (first_passes is_period (drop (integer_end t) t))
-        (first_passes is_e (drop (fraction_end t) t))
-        (list_any is_ascii_digit (take (exponent_len (drop (fraction_end t) t)) (drop (fraction_end t) t)))
-        (is_suffix (drop (number_end t) t)))
+    (has_wrong_fraction (drop (integer_end t) t))
+    (first_passes is_period (drop (integer_end t) t))
+    (first_passes is_e (drop (fraction_end t) t))
+    (list_any is_ascii_digit (take (exponent_len (drop (fraction_end t) t)) (drop (fraction_end t) t)))
+    (is_suffix (drop (number_end t) t)))

@@ -13,3 +13,7 @@ pub mod IntegerTypes
 pub mod Integer
 pub mod IntegerCut
 pub mod IntegerLiteral
+pub mod Literal
+pub mod LiteralDerivation
+pub mod Dispatch
+pub mod Numeral

@@ -128,8 +128,8 @@ raw_body_fault unicode nul_allowed n start t =
     let good = prefix_len (is_raw_char unicode nul_allowed) before in
     let suffix = drop (length before + (1 + n)) t in
     raw_body_rows (start + byte_len (take good t)) (start + (byte_len before + (1 + n)))
-        (raw_char_fault (slice_index t good)) (suffix_fault suffix)
-        (nat_lt good (length before)) (occurs (raw_closing n) t) (is_suffix suffix)
+    (raw_char_fault (slice_index t good)) (suffix_fault suffix)
+    (nat_lt good (length before)) (occurs (raw_closing n) t) (is_suffix suffix)
 
 -- The rows before it. The place of the hashes and their number, and the refusal of what is behind the quote; then:
 -- nothing is behind the hashes; there are too many; `"` is behind them.
@@ -146,7 +146,7 @@ raw_fault unicode nul_allowed start t =
     let n = hash_len t in
     let behind = drop n t in
     raw_rows start n (raw_body_fault unicode nul_allowed n (start + (n + 1)) (drop 1 behind))
-        (is_empty behind) (nat_lt 255 n) (first_passes is_quote behind)
+    (is_empty behind) (nat_lt 255 n) (first_passes is_quote behind)
 
 -- why a text that begins with the front of the kind is no raw literal of the kind
 abbrev pub raw_literal_fault : RawKind → List ℕ → Option ParseError

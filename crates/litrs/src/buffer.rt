@@ -1,5 +1,5 @@
 //! What holds the text of a literal.
-ghost use Rattle.std.specs.Prelude.{◌≡◌, ℕ, Bool, false, List, IsOk, IfOk};
+ghost use Rattle.std.specs.Prelude.{◌≡◌, ℕ, Bool, true, false, List, string_bytes, IsOk, IfOk};
 
 use std::alloc::{AllocError, Global};
 
@@ -38,5 +38,21 @@ impl Buffer for &str {
 
     fn copy(&self, _alloc: Global) -> Result<Self, AllocError> {
         Ok(*self)
+    }
+}
+
+impl sealed::Sealed for String {}
+
+impl Buffer for String {
+    ghost bytes = { string_bytes };
+
+    ghost owns = { true };
+
+    fn as_str(&self) -> &str {
+        self.as_str()
+    }
+
+    fn copy(&self, alloc: Global) -> Result<String, AllocError> {
+        String::from_str(alloc, self.as_str())
     }
 }

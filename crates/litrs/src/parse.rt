@@ -1,13 +1,79 @@
 //! Suffixes, digits and the dispatch over the kinds.
-ghost use Rattle.std.specs.Prelude.{◌≡◌, [], ◌∷◌, is_ok, IfErr, IfSome, IfNone, MatchResult, slice_get};
-ghost use Rattle.std.specs.List.{list_all};
+ghost use Rattle.std.specs.Prelude.{◌≡◌, ◌≤◌, length, [], ◌∷◌, is_ok, IsTrue, IfErr, IfSome, IfNone, MatchResult, slice_get};
+ghost use Rattle.std.specs.Char.{digit_value};
+ghost use Rattle.std.specs.List.{list_all, prefix_len};
+ghost use Rattle.std.specs.Option.{SomeIff};
 ghost use Rattle.std.specs.Str.{chars, IsUtf8};
 ghost use Rattle.unicode_ident.specs.Ident.{is_xid_continue};
+ghost use Rattle.litrs.specs.Base.{is_hex_digit, is_digit_or_underscore};
+ghost use Rattle.litrs.specs.Literal.{begins_float};
+ghost use Rattle.litrs.specs.Dispatch.{BeginsLike};
 ghost use Rattle.litrs.specs.Fault.{plain};
 ghost use Rattle.litrs.specs.Suffix.{starts_identifier, is_suffix, is_ascii_symbol, suffix_fault};
 
-use crate::err::ParseError;
-use crate::err::ParseErrorKind::{self, Empty, InvalidSuffix, UnexpectedChar};
+use crate::bool::BoolLit;
+use crate::err::{ParseError, ParseErrorKind};
+use crate::integer::IntegerBase;
+
+/// What a text is, by how it begins.
+pub(crate) enum Kind {
+    /// A bool, which is the whole text.
+    Bool(BoolLit),
+    /// What only an integer begins like.
+    Integer,
+    /// What no kind begins like.
+    Refused(ParseError),
+}
+
+/// What kind of literal the text begins like.
+pub(crate) fn kind_of(input: &str) -> Kind
+    ensures { BeginsLike result (chars input.now) }
+{
+    match first_byte_or_empty(input) {
+        Err(e) => Kind::Refused(e),
+        Ok(first) if first.is_ascii_digit() => {
+            if begins_float(input.as_bytes()) {
+                Kind::Refused(ParseError::new(None, ParseErrorKind::InvalidLiteral))
+            } else {
+                Kind::Integer
+            }
+        }
+        Ok(_) => match BoolLit::parse(input) {
+            Ok(lit) => Kind::Bool(lit),
+            Err(e) => Kind::Refused(e),
+        },
+    }
+}
+
+/// Whether a period, `e` or `E` stands behind the leading run of decimal digits and underscores.
+fn begins_float(bytes: &[u8]) -> bool
+    ensures { result ≡ begins_float bytes.now }
+{
+    matches!(&bytes[end_dec_digits(bytes)..], [b'.' | b'e' | b'E', ..])
+}
+
+/// How many decimal digits and underscores stand at the front, in bytes.
+pub fn end_dec_digits(input: &[u8]) -> usize
+    ensures run { result ≡ prefix_len (is_digit_or_underscore IntegerBase.Decimal) input.now }
+    ensures within { result ≤ length input.now }
+{
+    input
+        .iter()
+        .take_while(|b| matches!(**b, b'0'..=b'9' | b'_'))
+        .count()
+}
+
+/// The value of a hex digit of either case, 0 to 15, or None.
+pub fn hex_digit_value(digit: u8) -> Option<u8>
+    ensures { SomeIff result (IsTrue (is_hex_digit digit)) (digit_value digit) }
+{
+    match digit {
+        b'0'..=b'9' => Some(digit - b'0'),
+        b'a'..=b'f' => Some(digit - b'a' + 10),
+        b'A'..=b'F' => Some(digit - b'A' + 10),
+        _ => None,
+    }
+}
 
 /// The first byte of the text, or `Empty` where there is none.
 pub fn first_byte_or_empty(s: &str) -> Result<u8, ParseError>
