@@ -127,7 +127,7 @@ suffix_stops (c ∷ cs) h u = let d : is_ascii_digit c ≡ false = digit_stops (
 suffix_no_sign : (x : List ℕ) → is_suffix x ≡ true → first_passes is_sign x ≡ false
 suffix_no_sign x h = suffix_begins_otherwise is_sign (λ c e. grind (arith, nat_tests)) (λ c e. grind (arith, nat_tests)) x h
 
-suffix_no_period : (x : List ℕ) → is_suffix x ≡ true → first_passes is_period x ≡ false
+pub suffix_no_period : (x : List ℕ) → is_suffix x ≡ true → first_passes is_period x ≡ false
 suffix_no_period x h = suffix_begins_otherwise is_period (λ c e. grind (arith, nat_tests)) (λ c e. grind (arith, nat_tests)) x h
 
 front_of : (p : List ℕ) → (is_empty p ≡ true) ⊎ (is_exponent p ≡ true) → is_exponent_front p ≡ true

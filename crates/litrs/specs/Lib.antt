@@ -17,3 +17,4 @@ pub mod Literal
 pub mod LiteralDerivation
 pub mod Dispatch
 pub mod Numeral
+pub mod NumberLaws
