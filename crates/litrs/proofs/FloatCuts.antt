@@ -6,7 +6,7 @@ use Rattle.std.proofs.lemmas.Bool.Decides.{nat_tests}
 use Rattle.std.proofs.lemmas.List.{length-drop, take_at, drop_at, length-append, append_assoc, drop-append-le}
 use Rattle.litrs.specs.Text.{first_passes}
 use Rattle.litrs.specs.Integer.{is_e}
-use Rattle.litrs.specs.Float.{FloatParts, fraction_text, float_text, is_decimal_char, is_period, is_sign, sign_len, decimal_len, fraction_len, exponent_len, integer_end, fraction_end, number_end, parts_between}
+use Rattle.litrs.specs.Float.{FloatParts, fraction_text, number_part, float_text, is_decimal_char, is_period, is_sign, sign_len, decimal_len, fraction_len, exponent_len, integer_end, fraction_end, number_end, parts_between}
 use Rattle.litrs.proofs.IntegerLaws.{prefix_len_front}
 use Rattle.litrs.proofs.Runs.{run_of}
 
@@ -283,3 +283,8 @@ behind_cut t i (c ∷ cs) spells integer stop = elim (cases_Bool (is_period c)) 
 
 pub cut_of : (t : List ℕ) → CutOf t
 cut_of t = let r = run_of is_decimal_char t in behind_cut t r.front r.rest r.spells r.passes r.stops
+
+-- the text is its number part and the suffix
+pub number_part-suffix : (d : FloatParts) → number_part d ++ d.suffix ≡ float_text d
+number_part-suffix d =
+    append_assoc d.integer (fraction_text d.fraction ++ d.exponent) d.suffix ∙ ap (λ t. d.integer ++ t) (append_assoc (fraction_text d.fraction) d.exponent d.suffix)

@@ -11,11 +11,12 @@ use Rattle.litrs.specs.declared.err.ParseError.{ParseError}
 use Rattle.litrs.specs.Text.{byte_len, first_passes}
 use Rattle.litrs.specs.Suffix.{is_empty, is_suffix, suffix_fault}
 use Rattle.litrs.specs.Integer.{is_e, number_rows}
-use Rattle.litrs.specs.Float.{FloatParts, fraction_text, float_text, is_decimal_char, is_underscore, is_period, is_sign, is_decimal_literal, is_exponent_number, sign_len, is_exponent, is_float_form, IsFloat, IsFloatOf, exponent_len, integer_end, fraction_end, has_wrong_fraction, float_rows, float_fault}
+use Rattle.litrs.specs.Float.{FloatParts, fraction_text, float_text, is_decimal_char, is_underscore, is_period, is_sign, is_decimal_literal, is_exponent_number, sign_len, is_exponent, is_float_form, IsFloat, IsFloatOf, exponent_len, integer_end, fraction_end, number_end, parts_between, has_wrong_fraction, float_rows, float_fault}
+use Rattle.litrs.specs.Reading.{IsOnlyReading, HasNoReading}
 use Rattle.litrs.proofs.IntegerLaws.{number_rows-None}
 use Rattle.litrs.proofs.Spans.{none_from}
 use Rattle.litrs.proofs.SuffixStart.{suffix_begins_otherwise}
-use Rattle.litrs.proofs.FloatCuts.{letter_period, letter_decimal, IsCut, is_exponent_front, fraction_passes, ends_of_cut, same_cut, cut_of, fraction_stops, exponent_stops}
+use Rattle.litrs.proofs.FloatCuts.{parts_of_cut, letter_period, letter_decimal, IsCut, is_exponent_front, fraction_passes, ends_of_cut, same_cut, cut_of, fraction_stops, exponent_stops}
 
 -- the table by the parts of a text that is cut
 abbrev pub cut_rows : FloatParts → Option ParseError
@@ -272,3 +273,15 @@ pub readable : (t : List ℕ) → float_fault t ≡ None → (d : FloatParts) ×
 readable t h = let c = cut_of t in
     let rows : cut_rows c.parts ≡ None = sym (fault_of_cut c.parts c.cut) ∙ (ap float_fault c.spells ∙ h) in
     (c.parts, record { spells = c.spells; grammar = float_from_cut c.parts c.cut rows })
+
+-- the one derivation of a float, cut at the ends of its parts
+pub only_cut : (t : List ℕ) → float_fault t ≡ None → IsOnlyReading (IsFloatOf t) (parts_between (integer_end t) (fraction_end t) (number_end t) t)
+only_cut t h =
+    let r = readable t h in
+    let same : parts_between (integer_end t) (fraction_end t) (number_end t) t ≡ r.0 =
+    ap (λ s. parts_between (integer_end s) (fraction_end s) (number_end s) s) (sym r.1.spells) ∙ parts_of_cut r.0 (float_is_cut r.0 r.1.grammar) in
+    (subst (λ (d : FloatParts). IsFloatOf t d) (sym same) r.1, λ e s. only_float t e r.0 s r.1 ∙ sym same)
+
+-- a text that the table refuses has none
+pub refused : (t : List ℕ) (e : ParseError) → float_fault t ≡ Some e → HasNoReading (IsFloatOf t)
+refused t e h d r = absurd (let none : Some e ≡ None = sym h ∙ fault_free t d r in cc)

@@ -1,5 +1,5 @@
 -- What stands behind the leading run of digits tells floats and integers apart.
-use Rattle.std.proofs.Common.{◌≡◌, ℕ, ◌⊎◌, Bool, true, false, ◌||◌, List, [], ◌∷◌, ◌++◌, length, drop, Option, Some, None, refl, sym, ap, subst, ◌∙◌, arith}
+use Rattle.std.proofs.Common.{◌≡◌, ℕ, true, false, List, [], ◌∷◌, ◌++◌, drop, Option, Some, None, refl, sym, ap, ◌∙◌}
 use Rattle.std.specs.List.{list_all, prefix_len}
 use Rattle.std.proofs.lemmas.Bool.{true≢false, false≢true, and_parts, or_from, or_right}
 use Rattle.std.proofs.lemmas.List.{drop_at}
@@ -8,8 +8,8 @@ use Rattle.litrs.specs.declared.integer.IntegerBase.TheVariants.{Binary, Octal, 
 use Rattle.litrs.specs.Text.{first_passes}
 use Rattle.litrs.specs.Suffix.{is_suffix}
 use Rattle.litrs.specs.Base.{prefix, is_digit_or_underscore}
-use Rattle.litrs.specs.Integer.{IntegerParts, integer_text, IsInteger, IsIntegerOf, is_e}
-use Rattle.litrs.specs.Float.{FloatParts, fraction_text, float_text, is_period, is_exponent, is_float_form, IsFloat, IsFloatOf}
+use Rattle.litrs.specs.Integer.{IntegerParts, IsIntegerOf, is_e}
+use Rattle.litrs.specs.Float.{FloatParts, fraction_text, is_period, is_exponent, is_float_form, IsFloatOf}
 use Rattle.litrs.specs.Literal.{is_float_mark, begins_float}
 use Rattle.litrs.proofs.IntegerLaws.{prefix_len_front}
 use Rattle.litrs.proofs.FloatCuts.{ends_of_cut}

@@ -23,15 +23,15 @@ RawSpansLieInText = (kind : RawKind) (t : List ℕ) → IsTrue (begins_with (raw
 -- The same of what stands behind any front, under any switches.
 
 abbrev pub RawTextsAreUnique : Type 0
-RawTextsAreUnique = (unicode nul_allowed : Bool) (t : List ℕ) (d e : RawParts) → IsRawOf unicode nul_allowed t d → IsRawOf unicode nul_allowed t e → d ≡ e
+RawTextsAreUnique = (unicode allow_nul : Bool) (t : List ℕ) (d e : RawParts) → IsRawOf unicode allow_nul t d → IsRawOf unicode allow_nul t e → d ≡ e
 
 abbrev pub RawTextsAreDecided : Type 0
-RawTextsAreDecided = (unicode nul_allowed : Bool) (start : ℕ) (t : List ℕ) →
-    (raw_fault unicode nul_allowed start t ≡ None) ↔ ((d : RawParts) × IsRawOf unicode nul_allowed t d)
+RawTextsAreDecided = (unicode allow_nul : Bool) (start : ℕ) (t : List ℕ) →
+    (raw_fault unicode allow_nul start t ≡ None) ↔ ((d : RawParts) × IsRawOf unicode allow_nul t d)
 
 abbrev pub RawTextSpansLieInText : Type 0
-RawTextSpansLieInText = (unicode nul_allowed : Bool) (front t : List ℕ) (e : ParseError) →
-    raw_fault unicode nul_allowed (byte_len front) t ≡ Some e → IsInText (front ++ t) e
+RawTextSpansLieInText = (unicode allow_nul : Bool) (front t : List ℕ) (e : ParseError) →
+    raw_fault unicode allow_nul (byte_len front) t ≡ Some e → IsInText (front ++ t) e
 
 -- no raw literal ends with LF
 abbrev pub NoRawLiteralEndsWithLineFeed : Type 0
