@@ -18,4 +18,4 @@ pub mod IntegerLaws
 pub mod IntegerLemmas
 pub mod LiteralLaws
 pub mod Dispatch
-pub mod NumeralLemmas
+pub mod NumberLaws

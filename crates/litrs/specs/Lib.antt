@@ -2,7 +2,6 @@ pub mod Kind
 pub mod Fault
 pub mod Text
 pub mod Suffix
-pub mod Span
 pub mod Float
 pub mod Raw
 pub mod FloatLaws
@@ -18,3 +17,4 @@ pub mod Literal
 pub mod LiteralDerivation
 pub mod Dispatch
 pub mod Numeral
+pub mod NumberLaws
