@@ -19,3 +19,4 @@ pub mod IntegerLemmas
 pub mod LiteralLaws
 pub mod Dispatch
 pub mod NumberLaws
+pub mod NumeralLemmas
