@@ -20,3 +20,4 @@ pub mod LiteralLaws
 pub mod Dispatch
 pub mod NumberLaws
 pub mod NumeralLemmas
+pub mod IntegerSpans

@@ -4,7 +4,7 @@ use Rattle.std.specs.Str.{chars, IsCharBoundary}
 use Rattle.litrs.specs.declared.integer.IntegerCut.{IntegerCut}
 use Rattle.std.specs.List.{prefix_len}
 use Rattle.litrs.specs.Base.{prefix, is_digit_or_underscore}
-use Rattle.litrs.specs.Integer.{IntegerParts, base_of}
+use Rattle.litrs.specs.Integer.{IntegerParts, IsIntegerOf, base_of}
 
 -- the parts that a cut of the text with these bytes names
 abbrev pub parts_at : IntegerCut → List ℕ → IntegerParts
@@ -19,6 +19,11 @@ pub record IsWithin (cut : IntegerCut) (bytes : List ℕ) : Type 0 where
   pub in_order : cut.start_main ≤ cut.end_main
   pub start : IsCharBoundary bytes cut.start_main
   pub end : IsCharBoundary bytes cut.end_main
+
+-- the text is an integer, cut at these places
+pub record IsIntegerAt (cut : IntegerCut) (bytes : List ℕ) : Type 0 where
+  pub places : IsWithin cut bytes
+  pub integer : IsIntegerOf (chars bytes) (parts_at cut bytes)
 
 -- cut behind the prefix and behind all digits of the base and underscores that follow
 pub record IsDigitsCut (cut : IntegerCut) (bytes : List ℕ) : Type 0 where

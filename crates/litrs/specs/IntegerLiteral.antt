@@ -1,14 +1,15 @@
 -- What an integer literal holds.
 use Rattle.std.specs.Prelude.{ℕ, List}
-use Rattle.litrs.specs.declared.buffer.Buffer.{Ghosts}
-use Rattle.litrs.specs.declared.integer.IntegerLit.{IntegerLit}
+use Rattle.litrs.specs.declared.integer.IntegerCut.{IntegerCut}
 use Rattle.litrs.specs.Integer.{IntegerParts}
 use Rattle.litrs.specs.IntegerCut.{parts_at}
 
--- the bytes of its text
-abbrev pub integer_raw : {B : Type 0} {buffer : Ghosts B} → IntegerLit B buffer → List ℕ
-integer_raw {B} {buffer} lit = buffer.bytes lit.raw
+-- its buffer, the bytes of its text, and where it is cut
+pub record IntegerLiteral (B : Type 0) : Type 0 where
+  pub buffer : B
+  pub raw : List ℕ
+  pub cut : IntegerCut
 
 -- its derivation
-abbrev pub integer_parts : {B : Type 0} {buffer : Ghosts B} → IntegerLit B buffer → IntegerParts
-integer_parts lit = parts_at lit.cut (integer_raw lit)
+abbrev pub integer_parts : {B : Type 0} → IntegerLiteral B → IntegerParts
+integer_parts lit = parts_at lit.cut lit.raw

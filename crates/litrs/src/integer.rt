@@ -1,5 +1,5 @@
 //! Integer literals.
-ghost use Rattle.std.specs.Prelude.{◌≡◌, ◌≤◌, ℕ, length, Bool, IsTrue, MatchOption, slice_index, IfOk, OnErr, IfErr, Some};
+ghost use Rattle.std.specs.Prelude.{◌≡◌, ◌≤◌, ℕ, length, Bool, false, IsTrue, MatchOption, slice_index, IsOk, IfOk, OnErr, IfErr, Some};
 ghost use Rattle.std.specs.Prelude.{nat_eq};
 ghost use Rattle.std.specs.Char.{is_ascii_digit};
 ghost use Rattle.std.specs.Cmp.{on_per, on_equiv, partial_equiv_from_equiv};
@@ -9,18 +9,21 @@ ghost use Rattle.std.specs.List.{list_all};
 ghost use Rattle.std.specs.Option.{SomeIff};
 ghost use Rattle.std.specs.Str.{chars};
 ghost use Rattle.litrs.specs.Base.{base_value, is_digit_or_underscore};
-ghost use Rattle.litrs.specs.Numeral.{numeral};
+ghost use Rattle.litrs.specs.IntegerLiteral.{IntegerLiteral, integer_parts};
+ghost use Rattle.litrs.specs.Numeral.{numeral, integer_value};
 ghost use Rattle.litrs.specs.Reading.{IsOnlyReading, HasNoReading};
+ghost use Rattle.litrs.specs.Fault.{IsInText};
 ghost use Rattle.litrs.specs.Text.{first_passes};
-ghost use Rattle.litrs.specs.IntegerCut.{parts_at, IsWithin, IsDigitsCut};
+ghost use Rattle.litrs.specs.IntegerCut.{parts_at, IsWithin, IsIntegerAt, IsDigitsCut};
 ghost use Rattle.litrs.specs.Integer.{IsIntegerOf, integer_fault, cut_fault, integer_cut, is_e, base_of};
 
 use crate::buffer::Buffer;
 use crate::err::{ParseError, ParseErrorKind};
 use crate::from_integer_literal::FromIntegerLiteral;
 use crate::parse::{check_suffix, first_byte_or_empty, hex_digit_value};
-use std::alloc::AllocError;
+use std::alloc::{AllocError, Global};
 use std::fmt;
+use std::marker::Model;
 use std::str::FromStr;
 
 /// An integer literal, e.g. `27`, `0x7F`, `0b101010u8` or `5_000_000i64`.
@@ -33,22 +36,29 @@ use std::str::FromStr;
 pub struct IntegerLit<B: Buffer> {
     raw: B,
     cut: IntegerCut,
-    ghost places: { IsWithin cut (B.bytes raw) },
-    ghost integer: { IsIntegerOf (chars (B.bytes raw)) (parts_at cut (B.bytes raw)) },
+}
+
+impl<B: Buffer> Model for IntegerLit<B> {
+    ghost Value = { IntegerLiteral B };
+
+    ghost view = { λ s. record { buffer = s.raw; raw = B.bytes s.raw; cut = s.cut } };
+
+    ghost inverse = { λ lit. record { raw = lit.buffer; cut = lit.cut } };
+
+    ghost invariant = { λ s. IsIntegerAt s.cut (B.bytes s.raw) };
 }
 
 impl<B: Buffer> IntegerLit<B> {
-    ghost use Rattle.litrs.specs.IntegerLiteral.{integer_raw, integer_parts};
-    ghost use Rattle.litrs.specs.Numeral.{integer_value};
-
     /// Parses the input as an integer literal.
     ///
     /// Refused as `Empty`, as `DoesNotStartWithDigit`, or as [`cut_integer`] refuses it.
     pub fn parse(input: B) -> Result<IntegerLit<B>, ParseError>
-        ensures raw { IfOk result (λ lit. integer_raw lit ≡ B.bytes input) }
+        ensures buffer { IfOk result (λ lit. lit.buffer ≡ input) }
+        ensures raw { IfOk result (λ lit. lit.raw ≡ B.bytes input) }
         ensures ok { IfOk result (λ lit. IsOnlyReading (IsIntegerOf (chars (B.bytes input))) (integer_parts lit)) }
         ensures none { OnErr result (HasNoReading (IsIntegerOf (chars (B.bytes input)))) }
         ensures fault { IfErr result (λ e. integer_fault (chars (B.bytes input)) ≡ Some e) }
+        ensures span { IfErr result (IsInText (chars (B.bytes input))) }
     {
         let cut = read(input.as_str())?;
         Ok(IntegerLit { raw: input, cut })
@@ -87,17 +97,39 @@ impl<B: Buffer> IntegerLit<B> {
 
     /// The text that was parsed.
     pub fn raw_input(&self) -> &str
-        ensures { result.now ≡ integer_raw self.now }
+        ensures { result.now ≡ self.now.raw }
     {
         self.raw.as_str()
     }
 
+    /// The same literal again. Over `&str` it takes no memory and succeeds.
+    pub fn clone(&self, alloc: Global) -> Result<IntegerLit<B>, AllocError>
+        ensures raw { IfOk result (λ copy. copy.raw ≡ self.now.raw) }
+        ensures parts { IfOk result (λ copy. integer_parts copy ≡ integer_parts self.now) }
+        ensures succeeds { B.owns ≡ false → IsOk result }
+    {
+        let raw = self.raw.copy(alloc)?;
+        Ok(IntegerLit { raw, cut: self.cut })
+    }
+
     /// The text that was parsed, in its buffer.
     pub fn into_raw_input(self) -> B
-        ensures { B.bytes result ≡ integer_raw self }
+        ensures buffer { result ≡ self.buffer }
+        ensures text { B.bytes result ≡ self.raw }
     {
         let IntegerLit { raw, cut: _ } = self;
         raw
+    }
+}
+
+impl IntegerLit<&str> {
+    /// The same literal with a text of its own.
+    pub fn to_owned(&self, alloc: Global) -> Result<IntegerLit<String>, AllocError>
+        ensures raw { IfOk result (λ owned. owned.raw ≡ self.now.raw) }
+        ensures parts { IfOk result (λ owned. integer_parts owned ≡ integer_parts self.now) }
+    {
+        let raw = String::from_str(alloc, self.raw)?;
+        Ok(IntegerLit { raw, cut: self.cut })
     }
 }
 
@@ -107,6 +139,7 @@ fn read(input: &str) -> Result<IntegerCut, ParseError>
     ensures places { IfOk result (λ cut. IsWithin cut input.now) }
     ensures none { OnErr result (HasNoReading (IsIntegerOf (chars input.now))) }
     ensures fault { IfErr result (λ e. integer_fault (chars input.now) ≡ Some e) }
+    ensures span { IfErr result (IsInText (chars input.now)) }
 {
     first_byte_or_empty(input)?;
     if begins_with_digit(input.as_bytes()) {
@@ -137,9 +170,9 @@ fn value_of<N: FromIntegerLiteral>(base: IntegerBase, main: &[u8]) -> Option<N>
 }
 
 impl<B: Buffer> PartialEq for IntegerLit<B> {
-    ghost eq = { λ x y. pointwise nat_eq (B.bytes x.raw) (B.bytes y.raw) };
+    ghost eq = { λ x y. pointwise nat_eq x.raw y.raw };
 
-    ghost laws = { on_per (λ lit. B.bytes lit.raw) (partial_equiv_from_equiv nat_list_eq_equiv) };
+    ghost laws = { on_per (λ lit. lit.raw) (partial_equiv_from_equiv nat_list_eq_equiv) };
 
     fn eq(&self, other: &IntegerLit<B>) -> bool {
         self.raw.as_str() == other.raw.as_str()
@@ -147,7 +180,7 @@ impl<B: Buffer> PartialEq for IntegerLit<B> {
 }
 
 impl<B: Buffer> Eq for IntegerLit<B> {
-    ghost laws = { on_equiv (λ lit. B.bytes lit.raw) nat_list_eq_equiv };
+    ghost laws = { on_equiv (λ lit. lit.raw) nat_list_eq_equiv };
 }
 
 impl<B: Buffer + Copy> Copy for IntegerLit<B> {}
@@ -162,7 +195,7 @@ impl<B: Buffer + Copy> Clone for IntegerLit<B> {
 }
 
 impl<B: Buffer> fmt::Display for IntegerLit<B> {
-    ghost output = { λ lit. Some (B.bytes lit.raw) };
+    ghost output = { λ lit. Some lit.raw };
 
     fn fmt<W: fmt::Write>(&self, f: &mut fmt::Formatter<W>) -> fmt::Result {
         f.write_str(self.raw.as_str())
@@ -193,6 +226,7 @@ pub fn cut_integer(input: &str) -> Result<IntegerCut, ParseError>
     ensures places { IfOk result (λ cut. IsWithin cut input.now) }
     ensures none { OnErr result (HasNoReading (IsIntegerOf (chars input.now))) }
     ensures fault { IfErr result (λ e. integer_fault (chars input.now) ≡ Some e) }
+    ensures span { IfErr result (IsInText (chars input.now)) }
 {
     let cut = cut_digits(input);
     match cut_refusal(&cut, input) {

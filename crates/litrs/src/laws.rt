@@ -1,4 +1,4 @@
 //! Laws of the grammar: each is the contract of a function with an empty body.
-mod float;
-mod number;
-mod raw;
+pub mod float;
+pub mod number;
+pub mod raw;

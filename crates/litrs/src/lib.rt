@@ -4,10 +4,11 @@
 //! a `parse`, which reads a text that is one literal and nothing else.
 #![tactic(auto)]
 
-ghost use Rattle.std.specs.Prelude.{◌≡◌, nat_eq, IfOk, OnErr, IfErr, Some};
+ghost use Rattle.std.specs.Prelude.{◌≡◌, ◌≢◌, false, nat_eq, IsOk, IfOk, OnErr, IfErr, Some};
 ghost use Rattle.std.specs.Cmp.{on_per, on_equiv, partial_equiv_from_equiv};
 ghost use Rattle.std.specs.Cmp.Lexicographic.{pointwise, nat_list_eq_equiv};
 ghost use Rattle.std.specs.Str.{chars};
+ghost use Rattle.litrs.specs.Fault.{kind_of, IsInText};
 ghost use Rattle.litrs.specs.Reading.{IsOnlyReading, HasNoReading};
 ghost use Rattle.litrs.specs.Literal.{IsLiteral, literal_fault};
 ghost use Rattle.litrs.specs.LiteralDerivation.{literal_raw, derivation, suffix_of};
@@ -18,7 +19,7 @@ pub use err::{ParseError, ParseErrorKind};
 pub use from_integer_literal::FromIntegerLiteral;
 pub use integer::{IntegerBase, IntegerCut, IntegerLit, IntegerType, cut_integer};
 pub use parse::{check_suffix, end_dec_digits, first_byte_or_empty, hex_digit_value};
-use std::alloc::Global;
+use std::alloc::{AllocError, Global};
 use std::fmt;
 
 mod bool;
@@ -26,7 +27,7 @@ mod buffer;
 mod err;
 mod from_integer_literal;
 mod integer;
-mod laws;
+pub mod laws;
 mod parse;
 
 /// A literal. This is the main type of this library.
@@ -45,6 +46,9 @@ impl<B: Buffer> Literal<B> {
         ensures ok { IfOk result (λ lit. IsOnlyReading (IsLiteral (chars (B.bytes input))) (derivation lit)) }
         ensures none { OnErr result (HasNoReading (IsLiteral (chars (B.bytes input)))) }
         ensures fault { IfErr result (λ e. literal_fault (chars (B.bytes input)) ≡ Some e) }
+        ensures span { IfErr result (IsInText (chars (B.bytes input))) }
+        // No text of these kinds takes memory.
+        ensures memory { IfErr result (λ e. kind_of e ≢ ParseErrorKind.OutOfMemory) }
     {
         match parse::kind_of(input.as_str()) {
             parse::Kind::Bool(lit) => Ok(Literal::Bool(lit)),
@@ -70,6 +74,33 @@ impl<B: Buffer> Literal<B> {
         match self {
             Literal::Bool(lit) => lit.as_str(),
             Literal::Integer(lit) => lit.raw_input(),
+        }
+    }
+}
+
+impl<B: Buffer> Literal<B> {
+    /// The same literal again. Over `&str` it takes no memory and succeeds.
+    pub fn clone(&self, alloc: Global) -> Result<Literal<B>, AllocError>
+        ensures raw { IfOk result (λ copy. literal_raw copy ≡ literal_raw self.now) }
+        ensures parts { IfOk result (λ copy. derivation copy ≡ derivation self.now) }
+        ensures succeeds { B.owns ≡ false → IsOk result }
+    {
+        match self {
+            Literal::Bool(lit) => Ok(Literal::Bool(*lit)),
+            Literal::Integer(lit) => Ok(Literal::Integer(lit.clone(alloc)?)),
+        }
+    }
+}
+
+impl Literal<&str> {
+    /// The same literal with a text of its own. It is dropped where memory is refused.
+    pub fn into_owned(self, alloc: Global) -> Result<Literal<String>, AllocError>
+        ensures raw { IfOk result (λ owned. literal_raw owned ≡ literal_raw self.entry) }
+        ensures parts { IfOk result (λ owned. derivation owned ≡ derivation self.entry) }
+    {
+        match self {
+            Literal::Bool(lit) => Ok(Literal::Bool(lit)),
+            Literal::Integer(lit) => Ok(Literal::Integer(lit.to_owned(alloc)?)),
         }
     }
 }

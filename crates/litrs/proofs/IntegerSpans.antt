@@ -1,0 +1,60 @@
+-- The spans of refused integers lie within the text, and no integer ends with LF.
+use Rattle.std.proofs.Common.{◌≡◌, ℕ, suc, ◌+◌, ◌≤◌, Bool, true, false, not, cond, List, [], ◌∷◌, ◌++◌, length, Option, Some, None, refl, sym, ap, subst, ◌∙◌, arith, append_assoc, append-nil}
+use Rattle.std.specs.Char.{is_ascii_digit}
+use Rattle.std.specs.List.{list_any}
+use Rattle.litrs.specs.declared.err.ParseErrorKind.{ParseErrorKind}
+use Rattle.litrs.specs.declared.err.ParseErrorKind.TheVariants.{Empty, DoesNotStartWithDigit, InvalidDigit, NoDigits, IntegerSuffixStartingWithE}
+use Rattle.litrs.specs.declared.err.ParseError.{ParseError}
+use Rattle.litrs.specs.Fault.{plain, over, at, IsInText}
+use Rattle.litrs.specs.Text.{byte_len, first_passes}
+use Rattle.litrs.specs.Suffix.{is_suffix, is_empty, suffix_fault}
+use Rattle.litrs.specs.Base.{prefix, is_digit}
+use Rattle.litrs.specs.Integer.{IntegerParts, integer_text, is_e, base_of, integer_cut, integer_rows, cut_fault, number_rows, integer_fault}
+use Rattle.litrs.proofs.IntegerLaws.{cut_with, integer_cut-is, cut-spells}
+use Rattle.litrs.proofs.Spans.{byte_len-append, plain_within, over_within, at_within}
+
+-- what a row refuses is what is refused
+row_is : (t : List ℕ) (row e : ParseError) → IsInText t row → Some row ≡ Some e → IsInText t e
+row_is t row e within is = subst (λ (f : ParseError). IsInText t f) (let same : row ≡ e = cc in same) within
+
+-- one byte at the start of what is not empty
+at_first : (p : ℕ → Bool) (t front x : List ℕ) (kind : ParseErrorKind) → front ++ x ≡ t → first_passes p x ≡ true → IsInText t (at (byte_len front) kind)
+at_first p t front [] kind spells passes = cc
+at_first p t front (c ∷ x) kind spells passes = at_within t front c x (byte_len front) kind spells refl
+
+rows_within : (t a m x : List ℕ) (suffix digit is some : Bool) (kind : ParseErrorKind) (e : ParseError) → a ++ (m ++ x) ≡ t →
+    first_passes is_ascii_digit x ≡ digit → first_passes is_e x ≡ is →
+    integer_rows (byte_len a) (byte_len (a ++ m)) (byte_len (a ++ (m ++ x))) suffix digit kind is some ≡ Some e → IsInText t e
+rows_within t a m x false true is some kind e spells is_digit is_is row =
+    row_is t (at (byte_len (a ++ m)) InvalidDigit) e (at_first is_ascii_digit t (a ++ m) x InvalidDigit (append_assoc a m x ∙ spells) is_digit) row
+rows_within t a m x false false is some kind e spells is_digit is_is row =
+    row_is t (over (byte_len (a ++ m)) (byte_len (a ++ (m ++ x))) kind) e
+    (over_within t (a ++ m) x [] (byte_len (a ++ m)) (byte_len (a ++ (m ++ x))) kind
+    (ap (λ y. a ++ m ++ y) (append-nil x) ∙ (append_assoc a m x ∙ spells)) refl
+    (sym (byte_len-append (a ++ m) x) ∙ ap byte_len (append_assoc a m x))) row
+rows_within t a m x true digit true some kind e spells is_digit is_is row =
+    row_is t (at (byte_len (a ++ m)) IntegerSuffixStartingWithE) e (at_first is_e t (a ++ m) x IntegerSuffixStartingWithE (append_assoc a m x ∙ spells) is_is) row
+rows_within t a m x true digit false false kind e spells is_digit is_is row =
+    row_is t (over (byte_len a) (byte_len (a ++ m)) NoDigits) e
+    (over_within t a m x (byte_len a) (byte_len (a ++ m)) NoDigits spells refl (sym (byte_len-append a m))) row
+rows_within t a m x true digit false true kind e spells is_digit is_is row = cc
+
+cut_within : (t : List ℕ) (e : ParseError) → cut_fault (integer_cut t) ≡ Some e → IsInText t e
+cut_within t e fault =
+    let d = cut_with (base_of t) t in
+    rows_within t (prefix d.base) d.main d.suffix (is_suffix d.suffix) (first_passes is_ascii_digit d.suffix) (first_passes is_e d.suffix)
+    (list_any (is_digit d.base) d.main) (suffix_fault d.suffix) e (cut-spells t) refl refl
+    (ap cut_fault (sym (integer_cut-is t)) ∙ fault)
+
+number_within : (t : List ℕ) (a b : Bool) (r : Option ParseError) (e : ParseError) → is_empty t ≡ a → (r ≡ Some e → IsInText t e) →
+    number_rows a b r ≡ Some e → IsInText t e
+number_within t true b r e empty below row = row_is t (plain Empty) e (plain_within t Empty) row
+number_within t false true r e empty below row = below row
+number_within [] false false r e empty below row = cc
+number_within (c ∷ t) false false r e empty below row =
+    row_is (c ∷ t) (at 0 DoesNotStartWithDigit) e (at_within (c ∷ t) [] c t 0 DoesNotStartWithDigit refl refl) row
+
+pub integer_fault_within : (t : List ℕ) (e : ParseError) → integer_fault t ≡ Some e → IsInText t e
+unfolding integer_fault
+integer_fault_within t e fault =
+    number_within t (is_empty t) (first_passes is_ascii_digit t) (cut_fault (integer_cut t)) e refl (cut_within t e) fault
