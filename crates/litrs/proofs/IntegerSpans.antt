@@ -14,7 +14,7 @@ use Rattle.litrs.proofs.IntegerLaws.{cut_with, integer_cut-is, cut-spells}
 use Rattle.litrs.proofs.Spans.{byte_len-append, plain_within, over_within, at_within}
 
 -- what a row refuses is what is refused
-row_is : (t : List ℕ) (row e : ParseError) → IsInText t row → Some row ≡ Some e → IsInText t e
+pub row_is : (t : List ℕ) (row e : ParseError) → IsInText t row → Some row ≡ Some e → IsInText t e
 row_is t row e within is = subst (λ (f : ParseError). IsInText t f) (let same : row ≡ e = cc in same) within
 
 -- one byte at the start of what is not empty

@@ -21,3 +21,4 @@ pub mod Dispatch
 pub mod NumberLaws
 pub mod NumeralLemmas
 pub mod IntegerSpans
+pub mod LiteralSpans

@@ -6,6 +6,7 @@ use Rattle.litrs.specs.Reading.{IsOnlyReading}
 use Rattle.litrs.specs.Integer.{IntegerParts, IsIntegerOf, integer_fault, cut_fault, integer_cut}
 use Rattle.litrs.proofs.IntegerLaws.{only_cut, refused, fault_of_digit}
 use Rattle.litrs.proofs.IntegerLemmas.{parts_of_cut, places_of_cut}
+use Rattle.litrs.proofs.IntegerSpans.{integer_fault_within}
 use Rattle.litrs.proofs.integer.cut_integer.Goals as goal
 
 pub returns-in-None-clause-ok : goal.returns-in-None-clause-ok
@@ -24,3 +25,7 @@ returns-in-Some-clause-none c =
 
 pub returns-in-Some-clause-fault : goal.returns-in-Some-clause-fault
 returns-in-Some-clause-fault c = fault_of_digit (chars c.args.input.now) c.requires ∙ sym c.in-Some.ensures
+
+pub returns-in-Some-clause-span : goal.returns-in-Some-clause-span
+returns-in-Some-clause-span c =
+    integer_fault_within (chars c.args.input.now) c.in-Some.refusal (fault_of_digit (chars c.args.input.now) c.requires ∙ sym c.in-Some.ensures)

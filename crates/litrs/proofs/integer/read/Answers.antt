@@ -6,6 +6,7 @@ use Rattle.std.proofs.lemmas.Result.{err_from_is_err_and}
 use Rattle.litrs.specs.Text.{first_passes}
 use Rattle.litrs.specs.Integer.{integer_fault}
 use Rattle.litrs.proofs.IntegerLaws.{refused}
+use Rattle.litrs.proofs.IntegerSpans.{integer_fault_within}
 use Rattle.litrs.proofs.IntegerLemmas.{fault-empty, fault-no_digit, digit-chars}
 use Rattle.litrs.proofs.integer.read.Goals as goal
 
@@ -33,3 +34,10 @@ returns-else-begins_with_digit-clause-fault c =
     fault-no_digit c.args.input.now c.in_ok-first_byte_or_empty.field-0 c.utf8.input c.in_ok-first_byte_or_empty.ensures
     (ap (first_passes is_ascii_digit) (sym c.as_bytes.ensures.value) ∙ sym c.if-begins_with_digit.ensures)
     ∙ ap Some (sym c.new.ensures)
+
+pub returns-else-begins_with_digit-clause-span : goal.returns-else-begins_with_digit-clause-span
+returns-else-begins_with_digit-clause-span c =
+    integer_fault_within (chars c.args.input.now) c.new.result
+    (fault-no_digit c.args.input.now c.in_ok-first_byte_or_empty.field-0 c.utf8.input c.in_ok-first_byte_or_empty.ensures
+    (ap (first_passes is_ascii_digit) (sym c.as_bytes.ensures.value) ∙ sym c.if-begins_with_digit.ensures)
+    ∙ ap Some (sym c.new.ensures))

@@ -1,24 +1,26 @@
-use Rattle.std.proofs.Common.{rules, ◌≡◌, ◌≤◌, ℕ, length, Bool, false, IsTrue, MatchOption, slice_index, IsOk, IfOk, OnErr, IfErr, Some, nat_eq, ◌+◌, ◌-◌, ◌*◌, ◌<◌, ◌/◌, ◌%◌, true, nat_lt, List, [], ◌∷◌, ◌++◌, slice_index_or, slice_set, bit_and, bit_or, Fits, w8, w32, w64, Bor, MutBor}
-use Rattle.std.specs.Char.{is_ascii_digit}
-use Rattle.std.specs.Cmp.{on_per, on_equiv, partial_equiv_from_equiv}
-use Rattle.std.specs.Cmp.Lexicographic.{pointwise, nat_list_eq_equiv}
-use Rattle.std.specs.List.{prefix_len, list_any, list_all}
+-- The main part is ASCII, so that its bytes are its characters.
+use Rattle.std.proofs.Common.{◌≡◌, ◌≤◌, ℕ, List, true, ap, sym, ◌∙◌, subst}
 use Rattle.std.specs.Option.{SomeIff}
-use Rattle.std.specs.Str.{chars}
+use Rattle.std.specs.List.{list_all}
+use Rattle.litrs.specs.declared.integer.IntegerBase.{IntegerBase}
 use Rattle.litrs.specs.Base.{base_value, is_digit_or_underscore}
 use Rattle.litrs.specs.IntegerLiteral.{IntegerLiteral, integer_parts}
-use Rattle.litrs.specs.Numeral.{numeral, integer_value}
-use Rattle.litrs.specs.Reading.{IsOnlyReading, HasNoReading}
-use Rattle.litrs.specs.Fault.{IsInText}
-use Rattle.litrs.specs.Text.{first_passes}
-use Rattle.litrs.specs.IntegerCut.{parts_at, IsWithin, IsIntegerAt, IsDigitsCut}
-use Rattle.litrs.specs.Integer.{IsIntegerOf, integer_fault, cut_fault, integer_cut, is_e, base_of}
+use Rattle.litrs.specs.Numeral.{numeral}
+use Rattle.litrs.proofs.NumeralLemmas.{bytes_of_digits}
 use Rattle.litrs.proofs.integer.IntegerLit.value.Goals as goal
 
--- src/integer.rt:74:9
 pub value_of-requires : goal.value_of-requires
-value_of-requires g c = ?
+value_of-requires g c =
+    let digits = subst (λ (lit : IntegerLiteral g.row.B.Denot). list_all (is_digit_or_underscore lit.cut.base) (integer_parts lit).main ≡ true) c.self.view_is c.self.invariant.integer.grammar.digits in
+    let base = ap (λ (lit : IntegerLiteral g.row.B.Denot). lit.cut.base) c.self.view_is in
+    let bytes = bytes_of_digits c.args.self.now.cut.base c.raw_main_part.result.now _ c.raw_main_part.utf8 c.raw_main_part.ensures digits in
+    ap (λ (b : IntegerBase). list_all (is_digit_or_underscore b) c.as_bytes.result.now) base
+    ∙ (ap (list_all (is_digit_or_underscore c.args.self.now.cut.base)) (c.as_bytes.ensures.value ∙ bytes) ∙ digits)
 
--- src/integer.rt:71:5
 pub returns : goal.returns
-returns g c = ?
+returns g c =
+    let digits = subst (λ (lit : IntegerLiteral g.row.B.Denot). list_all (is_digit_or_underscore lit.cut.base) (integer_parts lit).main ≡ true) c.self.view_is c.self.invariant.integer.grammar.digits in
+    let base = ap (λ (lit : IntegerLiteral g.row.B.Denot). lit.cut.base) c.self.view_is in
+    let bytes = bytes_of_digits c.args.self.now.cut.base c.raw_main_part.result.now _ c.raw_main_part.utf8 c.raw_main_part.ensures digits in
+    let number : ℕ → Type 0 = λ n. SomeIff c.value_of.result (n ≤ g.N.FromIntegerLiteral.greatest) (g.N.FromIntegerLiteral.of n) in
+    subst number (ap (λ (b : IntegerBase). numeral (base_value b) c.as_bytes.result.now) base ∙ ap (numeral (base_value c.args.self.now.cut.base)) (c.as_bytes.ensures.value ∙ bytes)) c.value_of.ensures
