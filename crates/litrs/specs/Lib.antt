@@ -18,3 +18,4 @@ pub mod LiteralDerivation
 pub mod Dispatch
 pub mod Numeral
 pub mod NumberLaws
+pub mod Report

@@ -29,6 +29,7 @@ mod from_integer_literal;
 mod integer;
 pub mod laws;
 mod parse;
+pub mod report;
 
 /// A literal. This is the main type of this library.
 #[derive(Drop)]
