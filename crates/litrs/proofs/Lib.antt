@@ -1,2 +1,5 @@
 pub mod ListTests
+pub mod SuffixEnd
 pub mod EscapeLemmas
+pub mod QuotedLemmas
+pub mod QuotedProofs

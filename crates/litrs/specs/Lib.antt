@@ -6,3 +6,5 @@ pub mod Characters
 pub mod Escape
 pub mod Quoted
 pub mod CharByte
+pub mod EscapeLaws
+pub mod QuotedLaws
