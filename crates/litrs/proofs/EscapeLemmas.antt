@@ -221,6 +221,15 @@ read_escape w (c ∷ t) h =
     let a = if_none ((c == 48) && not w.allow_nul) _ _ h in
     read_letter w c t (c == 120) (c == 117) refl refl a.0 _ a.1
 
+-- no closing brace stands inside an escape
+pub unicode_parts : (w : Switches) (inner : List ℕ) → is_escape w (unicode_escape inner) ≡ true → list_all (λ c. not (c == 125)) inner ≡ true
+unicode_parts w inner h =
+    let a = and_parts _ (is_scalar (hex_value inner)) h in
+    let b = and_parts _ (allows_value w (hex_value inner)) a.0 in
+    let c = and_parts _ (leb (count_by is_ascii_hexdigit inner) 6) b.0 in
+    let d = and_parts _ (list_all is_hex_or_underscore inner) c.0 in
+    list_all_mono _ _ not_brace inner d.1
+
 second_same : (c d : ℕ) (x y : List ℕ) → 92 ∷ c ∷ x ≡ 92 ∷ d ∷ y → c ≡ d
 second_same c d x y same = cc
 
@@ -246,11 +255,3 @@ same_escape w (unicode_escape inner) (unicode_escape other) x y h g same =
     let tails' : inner ++ 125 ∷ x ≡ other ++ 125 ∷ y = sym (append_assoc inner (125 ∷ []) x) ∙ tails ∙ append_assoc other (125 ∷ []) y in
     let both = split_only (λ c. c == 125) inner other 125 125 x y parts others refl refl tails' in
     (ap unicode_escape both.0, both.1)
-  where
-    unicode_parts : (w : Switches) (inner : List ℕ) → is_escape w (unicode_escape inner) ≡ true → list_all (λ c. not (c == 125)) inner ≡ true
-    unicode_parts w inner h =
-        let a = and_parts _ (is_scalar (hex_value inner)) h in
-        let b = and_parts _ (allows_value w (hex_value inner)) a.0 in
-        let c = and_parts _ (leb (count_by is_ascii_hexdigit inner) 6) b.0 in
-        let d = and_parts _ (list_all is_hex_or_underscore inner) c.0 in
-        list_all_mono _ _ not_brace inner d.1

@@ -3,3 +3,4 @@ pub mod SuffixEnd
 pub mod EscapeLemmas
 pub mod QuotedLemmas
 pub mod QuotedProofs
+pub mod CharByteProofs

@@ -8,3 +8,4 @@ pub mod Quoted
 pub mod CharByte
 pub mod EscapeLaws
 pub mod QuotedLaws
+pub mod CharByteLaws
