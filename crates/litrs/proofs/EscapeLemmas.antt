@@ -13,6 +13,7 @@ use Rattle.litrs.specs.Text.{byte_len, first_passes}
 use Rattle.litrs.specs.Escape.{Switches, Escape, simple_escape, hex_escape, unicode_escape, escape_text, is_escape, is_simple, escape_fault, hex_fault, unicode_fault, inner_fault, allows_value, allows_byte, simple_value, pair_value, hex_value, has_two_bytes, is_hex_or_underscore}
 use Rattle.litrs.specs.Suffix.{is_empty}
 use Rattle.litrs.specs.Characters.{is_scalar}
+use Rattle.litrs.proofs.ByteLen.{byte_len_ascii}
 use Rattle.litrs.proofs.ListTests.{none_if, none_unless, unless_none, if_none, if_true, if_false, take_while_all, take_while_whole, before_first-split, list_any-split, list_all_mono, split_only, split_first, Split, Splits}
 
 -- what holds of the seven simple escapes holds of each
@@ -48,9 +49,6 @@ not_brace c h = grind (arith, nat_tests)
 pub hexdigit_no_underscore : (c : ℕ) → is_ascii_hexdigit c ≡ true → (c == 95) ≡ false
 hexdigit_no_underscore c h = grind (arith, nat_tests)
 
-pub byte_len_ascii : (c : ℕ) (t : List ℕ) → c < 128 → byte_len (c ∷ t) ≡ 1 + byte_len t
-byte_len_ascii c t h = rw (encode_ascii c h) (omega arith)
-
 -- two hex digits are two bytes
 pub two_bytes : (c d : ℕ) (t : List ℕ) → is_ascii_hexdigit c ≡ true → is_ascii_hexdigit d ≡ true → has_two_bytes (c ∷ d ∷ t) ≡ true
 two_bytes c d t h g =
@@ -68,7 +66,8 @@ starts_inner : (inner : List ℕ) → first_passes is_ascii_hexdigit inner ≡ t
 starts_inner [] f = cc
 starts_inner (c ∷ t) f = hexdigit_no_underscore c f
 
-abbrev has_stranger : List ℕ → Bool
+-- a character that is neither a hex digit nor an underscore, with at most six digits before it
+abbrev pub has_stranger : List ℕ → Bool
 has_stranger inner =
     ltb (length (take_while is_hex_or_underscore inner)) (length inner)
     && leb (count_by is_ascii_hexdigit (take_while is_hex_or_underscore inner)) 6
@@ -128,7 +127,7 @@ abbrev pub SomeEscape : Switches → List ℕ → Type 0
 SomeEscape w t = (e : Escape) × (rest : List ℕ) × HasEscape w t e rest
 
 -- the digits of a text without a stranger
-no_stranger_all : (inner : List ℕ) → has_stranger inner ≡ false → ltb 6 (count_by is_ascii_hexdigit inner) ≡ false → list_all is_hex_or_underscore inner ≡ true
+pub no_stranger_all : (inner : List ℕ) → has_stranger inner ≡ false → ltb 6 (count_by is_ascii_hexdigit inner) ≡ false → list_all is_hex_or_underscore inner ≡ true
 no_stranger_all inner h n =
     take_while_whole is_hex_or_underscore inner
     (⊎_elim (λ e. ltb-false _ _ e)

@@ -16,6 +16,7 @@ use Rattle.litrs.specs.Text.{first_passes, byte_len}
 use Rattle.litrs.specs.Escape.{Switches, Escape, simple_escape, hex_escape, unicode_escape, escape_text, escape_value, value_bytes, is_escape, is_simple, hex_value, pair_value, allows_value}
 use Rattle.litrs.specs.Quoted.{Item, plain_item, escape_item, continuation, item_text, item_value, is_item, allows_character, stand_before, body_text, body_value, is_body, takes_all_blanks, rest_fault, IsBodyOf, QuotedParts, quoted_text, IsQuoted, IsQuotedFault}
 use Rattle.litrs.specs.QuotedLaws.{OnlyBody, OnlyQuoted, OnlyQuotedFault, QuotedOrRefused, QuotedNotRefused, BodiesJoin, ValueFitsBody, NoNulInValue, QuotedNeverEndsWithLineFeed}
+use Rattle.litrs.proofs.ByteLen.{byte_len-append, length-le-byte_len}
 use Rattle.litrs.proofs.ListTests.{none_unless}
 use Rattle.litrs.proofs.SuffixEnd.{closed_never_ends_with_line_feed}
 use Rattle.litrs.proofs.QuotedLemmas.{NoItem, same_items, quote_no_item, refused_no_item, read_items, Reads, SomeReading, Closes, body_stands, stands_body}
@@ -109,16 +110,6 @@ bodies_join w a b items others h g n =
       spells = body_text-append items others ∙ ap (λ l. l ++ body_text others) h.spells ∙ ap (λ l. a ++ l) g.spells;
       body = join_body w items others h.body g.body (subst (λ l. first_passes is_blank l ≡ false) (sym g.spells) n) },
     body_value-append items others)
-
--- how many bytes a text has
-pub byte_len-append : (s t : List ℕ) → byte_len (s ++ t) ≡ byte_len s + byte_len t
-byte_len-append s t = ap length (encodes-append s t) ∙ length-append (encode_utf8_all s) (encode_utf8_all t)
-
-pub byte_len-cons : (c : ℕ) (t : List ℕ) → byte_len (c ∷ t) ≡ len_utf8 c + byte_len t
-byte_len-cons c t = length-append (encode_utf8 c) (encode_utf8_all t) ∙ ap (λ n. n + byte_len t) (length-encode c)
-
-pub length-le-byte_len : (t : List ℕ) → length t ≤ byte_len t
-length-le-byte_len t = length-le-encodes t
 
 -- an item has fewer bytes of value than of text, and a backslash; or as many, and none
 abbrev pub HasSize : List ℕ → List ℕ → Type 0

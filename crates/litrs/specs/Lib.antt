@@ -6,6 +6,7 @@ pub mod Characters
 pub mod Escape
 pub mod Quoted
 pub mod CharByte
+pub mod Span
 pub mod EscapeLaws
 pub mod QuotedLaws
 pub mod CharByteLaws

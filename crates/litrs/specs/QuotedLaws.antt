@@ -5,6 +5,7 @@ use Rattle.litrs.specs.declared.err.ParseError.{ParseError}
 use Rattle.litrs.specs.Characters.{backslash, line_feed, nul, is_blank}
 use Rattle.litrs.specs.Escape.{Switches}
 use Rattle.litrs.specs.Quoted.{Item, body_value, IsBodyOf, QuotedParts, IsQuoted, IsQuotedFault}
+use Rattle.litrs.specs.Span.{SpanFits}
 use Rattle.litrs.specs.Text.{byte_len, first_passes}
 
 -- A text is that of at most one body.
@@ -53,3 +54,7 @@ NoNulInValue = (w : Switches) (t : List ℕ) (items : List Item) → IsFalse w.a
 abbrev pub QuotedNeverEndsWithLineFeed : Type 0
 QuotedNeverEndsWithLineFeed = (front : List ℕ) (w : Switches) (t : List ℕ) (q : QuotedParts) →
     ¬ IsQuoted front w (t ++ line_feed ∷ []) q
+
+-- The span of a refusal lies within the text and starts on a character boundary.
+abbrev pub QuotedSpanFits : Type 0
+QuotedSpanFits = (front : List ℕ) (w : Switches) (t : List ℕ) (e : ParseError) → IsQuotedFault front w t e → SpanFits t e
