@@ -6,3 +6,4 @@ pub mod SpanLemmas
 pub mod QuotedLemmas
 pub mod QuotedProofs
 pub mod CharByteProofs
+pub mod QuotedSpans
