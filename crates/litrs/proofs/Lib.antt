@@ -1,6 +1,7 @@
 pub mod ListTests
 pub mod SuffixEnd
 pub mod ByteLen
+pub mod EscapeProofs
 pub mod EscapeLemmas
 pub mod SpanLemmas
 pub mod QuotedLemmas
