@@ -8,3 +8,4 @@ pub mod QuotedLemmas
 pub mod QuotedProofs
 pub mod CharByteProofs
 pub mod QuotedSpans
+pub mod EscapeExamples
