@@ -8,4 +8,7 @@ pub mod QuotedLemmas
 pub mod QuotedProofs
 pub mod CharByteProofs
 pub mod QuotedSpans
+pub mod Computing
 pub mod EscapeExamples
+pub mod CharByteExamples
+pub mod QuotedExamples
