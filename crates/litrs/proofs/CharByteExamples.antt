@@ -1,9 +1,9 @@
 -- Chars and bytes: each row of the table of refusals and each form, by computation.
-use Rattle.std.specs.Prelude.{◌≡◌, ℕ, List, [], ◌∷◌, Option, Some, None, codes, refl}
+use Rattle.std.specs.Prelude.{◌≡◌, [], ◌∷◌, Some, None, codes, refl}
 use Rattle.litrs.specs.declared.err.ParseErrorKind.TheVariants.{Empty, UnexpectedChar, UnknownEscape, UnterminatedEscape, InvalidXEscape, UnicodeEscapeInByteLiteral, InvalidStartOfUnicodeEscape, NonHexDigitInUnicodeEscape, TooManyDigitInUnicodeEscape, InvalidUnicodeEscapeChar, UnterminatedUnicodeEscape, UnterminatedCharLiteral, OverlongCharLiteral, EmptyCharLiteral, UnterminatedByteLiteral, OverlongByteLiteral, EmptyByteLiteral, NonAsciiInByteLiteral, UnescapedSingleQuote, UnescapedSpecialWhitespace, DoesNotStartWithQuote, InvalidByteLiteralStart, InvalidSuffix}
 use Rattle.litrs.specs.Fault.{plain, at, over}
 use Rattle.litrs.specs.Escape.{simple_escape, hex_escape, unicode_escape}
-use Rattle.litrs.specs.CharByte.{CharKind, a_char, a_byte, plain_char, escaped_char, CharParts, IsCharLiteral, char_value, char_fault, byte_fault}
+use Rattle.litrs.specs.CharByte.{a_char, a_byte, plain_char, escaped_char, IsCharLiteral, char_value, char_fault, byte_fault}
 use Rattle.litrs.proofs.Computing.{computing}
 
 empty_char : char_fault [] ≡ Some (plain Empty)

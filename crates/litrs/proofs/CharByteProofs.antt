@@ -1,15 +1,15 @@
 -- The laws of chars and bytes.
-use Rattle.std.proofs.Common.{◌≡◌, ℕ, ◌+◌, ◌<◌, ◌≤◌, Bool, true, false, not, ◌&&◌, ◌||◌, cond, List, [], ◌∷◌, ◌++◌, length, take, drop, Option, Some, None, refl, sym, ap, ◌∙◌, subst, arith, ◌⊎◌, inl, inr, append_assoc, length-append}
-use Rattle.std.specs.Prelude.{◌==◌, if◌then◌else◌, ◌↔◌, option_map, is_some}
-use Rattle.std.specs.List.{list_all, list_any, position_or_len}
-use Rattle.std.proofs.lemmas.Bool.{and_parts, and_from, and_cases, not-true, not-false, eqb-true, eq-eqb, both_ways, true≢false, false≢true, and_left, and_right, not_from_false, or_left}
+use Rattle.std.proofs.Common.{◌≡◌, ℕ, Bool, true, false, not, ◌&&◌, List, [], ◌∷◌, ◌++◌, length, take, drop, Option, Some, None, refl, sym, ap, ◌∙◌, subst, arith, append_assoc, length-append}
+use Rattle.std.specs.Prelude.{◌==◌, if◌then◌else◌, option_map, is_some}
+use Rattle.std.specs.List.{list_any, position_or_len}
+use Rattle.std.proofs.lemmas.Bool.{and_parts, and_from, not-true, eqb-true, eq-eqb, false≢true, and_left, not_from_false}
 use Rattle.std.proofs.lemmas.List.{append_cancel_left}
 use Rattle.litrs.specs.declared.err.ParseError.{ParseError}
 use Rattle.litrs.specs.Fault.{moved}
 use Rattle.litrs.specs.Suffix.{is_suffix}
 use Rattle.litrs.specs.Text.{first_passes, byte_len, begins_with}
-use Rattle.litrs.specs.Escape.{Switches, Escape, simple_escape, hex_escape, unicode_escape, escape_text, is_escape, is_simple, escape_fault, allows_value, simple_value}
-use Rattle.litrs.specs.CharByte.{CharKind, a_char, a_byte, char_front, char_kind_switches, CharItem, plain_char, escaped_char, char_item_text, is_special_whitespace, allows_char, is_char_item, CharParts, char_text, IsCharLiteral, escape_length, char_item_length, closing_fault, char_item_fault, char_kind_fault}
+use Rattle.litrs.specs.Escape.{Switches, Escape, simple_escape, hex_escape, unicode_escape, escape_text, is_escape, is_simple, escape_fault}
+use Rattle.litrs.specs.CharByte.{CharKind, a_char, a_byte, char_front, char_kind_switches, CharItem, plain_char, escaped_char, char_item_text, is_special_whitespace, allows_char, is_char_item, CharParts, IsCharLiteral, escape_length, char_item_length, closing_fault, char_item_fault, char_kind_fault}
 use Rattle.litrs.specs.CharByteLaws.{OnlyChar, CharOrRefused, CharNeverEndsWithLineFeed}
 use Rattle.litrs.proofs.ListTests.{if_none, unless_none, none_if, none_unless, if_true, if_false, position_or_len-split, drop-length}
 use Rattle.litrs.proofs.EscapeLemmas.{by_simple, same_escape, fault_escape, read_escape, HasEscape, unicode_parts}
@@ -146,14 +146,18 @@ escape_before kind t none h = go (read_escape (char_kind_switches kind) t none)
     go : (e : Escape) × (rest : List ℕ) × HasEscape (char_kind_switches kind) (92 ∷ t) e rest → SomeChar kind (92 ∷ t)
     go (e, rest, here) =
         let size : escape_length (92 ∷ t) ≡ length (escape_text e) =
-            subst (λ l. escape_length l ≡ length (escape_text e)) here.spells (escape_length_is (char_kind_switches kind) e rest here.grammar) in
+        subst (λ l. escape_length l ≡ length (escape_text e)) here.spells (escape_length_is (char_kind_switches kind) e rest here.grammar) in
         let behind : drop (escape_length (92 ∷ t)) (92 ∷ t) ≡ rest =
-            ap (λ n. drop n (92 ∷ t)) size ∙ subst (λ l. drop (length (escape_text e)) l ≡ rest) here.spells (drop-length (escape_text e) rest) in
-        let closes = closing_read kind _ _ h in
-        (escaped_char e, closes.0, record {
-          spells = ap (λ l. escape_text e ++ l) (closes.1 ∙ behind) ∙ here.spells;
-          item = here.grammar;
-          suffix = closes.2 })
+        ap (λ n. drop n (92 ∷ t)) size ∙ subst (λ l. drop (length (escape_text e)) l ≡ rest) here.spells (drop-length (escape_text e) rest) in
+        let closes = closing_read kind _ _ h in (
+          escaped_char e,
+          closes.0,
+          record {
+            spells = ap (λ l. escape_text e ++ l) (closes.1 ∙ behind) ∙ here.spells;
+            item = here.grammar;
+            suffix = closes.2;
+          },
+        )
 
 item_read : (kind : CharKind) (t : List ℕ) → char_item_fault kind t ≡ None → SomeChar kind t
 item_read kind [] h = cc
@@ -170,11 +174,15 @@ item_read kind (c ∷ t) h =
         behind_item kind (c ∷ t) (char_item_length c (c ∷ t)) ≡ None → SomeChar kind (c ∷ t)
     by_backslash false n quote special none allowed behind =
         let one : char_item_length c (c ∷ t) ≡ 1 = if_false _ _ _ n in
-        let closes = closing_read kind _ _ (subst (λ n. behind_item kind (c ∷ t) n ≡ None) one behind) in
-        (plain_char c, closes.0, record {
-          spells = ap (λ l. c ∷ l) closes.1;
-          item = and_from _ _ (and_from _ _ (and_from _ _ (not_from_false _ quote) (not_from_false _ n)) (not_from_false _ special)) allowed;
-          suffix = closes.2 })
+        let closes = closing_read kind _ _ (subst (λ n. behind_item kind (c ∷ t) n ≡ None) one behind) in (
+          plain_char c,
+          closes.0,
+          record {
+            spells = ap (λ l. c ∷ l) closes.1;
+            item = and_from _ _ (and_from _ _ (and_from _ _ (not_from_false _ quote) (not_from_false _ n)) (not_from_false _ special)) allowed;
+            suffix = closes.2;
+          },
+        )
     by_backslash true y quote special none allowed behind =
         let at : c ≡ 92 = eqb-true c 92 y in
         let size : char_item_length c (c ∷ t) ≡ escape_length (c ∷ t) = if_true _ _ _ y in
@@ -189,21 +197,28 @@ char_or_refused kind t = (read, refused_none)
   where
     place : ℕ
     place = length (char_front kind)
+
     moved_none : (o : Option ParseError) → option_map (moved (length (char_front kind))) o ≡ None → o ≡ None
     moved_none None h = refl
     moved_none (Some e) h = cc
+
     begun : (b : Bool) (x : Option ParseError) (y : ParseError) → (if b then x else Some y) ≡ None → (b ≡ true) × (x ≡ None)
     begun true x y h = (refl, h)
     begun false x y h = cc
+
     read : char_kind_fault kind t ≡ None → (d : CharParts) × IsCharLiteral kind t d
     read h =
         let a = begun (begins_with (char_front kind) t) _ _ h in
         let split = begins_with-split (char_front kind) t a.0 in
-        let some = item_read kind (drop (length (char_front kind)) t) (moved_none _ a.1) in
-        (record { item = some.0; suffix = some.1 }, record {
-          spells = ap (λ l. char_front kind ++ l) some.2.spells ∙ split;
-          item = some.2.item;
-          suffix = some.2.suffix })
+        let some = item_read kind (drop (length (char_front kind)) t) (moved_none _ a.1) in (
+          record { item = some.0; suffix = some.1 },
+          record {
+            spells = ap (λ l. char_front kind ++ l) some.2.spells ∙ split;
+            item = some.2.item;
+            suffix = some.2.suffix;
+          },
+        )
+
     refused_none : (d : CharParts) × IsCharLiteral kind t d → char_kind_fault kind t ≡ None
     refused_none (d, h) =
         let inner = char_item_text d.item ++ 39 ∷ d.suffix in

@@ -1,30 +1,43 @@
 -- Escapes at the front of a text.
-use Rattle.std.proofs.Common.{◌≡◌, ℕ, ◌+◌, ◌<◌, ◌≤◌, Bool, true, false, not, ◌&&◌, ◌||◌, cond, ltb, leb, List, [], ◌∷◌, ◌++◌, length, take, drop, Option, Some, None, refl, sym, ap, ◌∙◌, subst, arith, eqb, ◌⊎◌, inl, inr, ⊎_elim, append_assoc}
+use Rattle.std.proofs.Common.{◌≡◌, ℕ, ◌+◌, ◌<◌, Bool, true, false, not, ◌&&◌, ◌||◌, cond, ltb, leb, List, [], ◌∷◌, ◌++◌, length, Some, None, refl, sym, ap, ◌∙◌, subst, arith, inl, inr, ⊎_elim, append_assoc}
 use Rattle.std.specs.Prelude.{◌==◌, if◌then◌else◌, count_by, take_while}
 use Rattle.std.specs.Char.{is_ascii_hexdigit}
 use Rattle.std.specs.List.{list_all, list_any, prefix_len, before_first}
-use Rattle.std.proofs.lemmas.Bool.{and_parts, and_from, cases_Bool, eqb-true, eqb-false, or_cases, or_parts, and_cases, ltb-false, leb-true, le-ltb, le-leb, leb-false, ltb-true, or_right, and_left, both_ways, true≢false, false≢true}
+use Rattle.std.proofs.lemmas.Bool.{and_parts, and_from, eqb-true, or_cases, and_cases, ltb-false, leb-true, le-ltb, le-leb, leb-false, or_right, and_left, both_ways, true≢false, false≢true}
 use Rattle.std.proofs.lemmas.Bool.Decides.{nat_tests}
-use Rattle.std.proofs.lemmas.Str.{encode_ascii}
-use Rattle.std.proofs.lemmas.List.{length-take-le}
-use Rattle.std.proofs.lemmas.List.Sums.{sum_by-take-le, prefix_len-le-length}
+use Rattle.std.proofs.lemmas.List.Sums.{sum_by-take-le}
 use Rattle.litrs.specs.declared.err.ParseError.{ParseError}
 use Rattle.litrs.specs.Text.{byte_len, first_passes}
 use Rattle.litrs.specs.Escape.{Switches, Escape, simple_escape, hex_escape, unicode_escape, escape_text, is_escape, is_simple, escape_fault, hex_fault, unicode_fault, inner_fault, allows_value, allows_byte, simple_value, pair_value, hex_value, has_two_bytes, is_hex_or_underscore}
 use Rattle.litrs.specs.Suffix.{is_empty}
 use Rattle.litrs.specs.Characters.{is_scalar}
 use Rattle.litrs.proofs.ByteLen.{byte_len_ascii}
-use Rattle.litrs.proofs.ListTests.{none_if, none_unless, unless_none, if_none, if_true, if_false, take_while_all, take_while_whole, before_first-split, list_any-split, list_all_mono, split_only, split_first, Split, Splits}
+use Rattle.litrs.proofs.ListTests.{none_if, none_unless, unless_none, if_none, take_while_all, take_while_whole, before_first-split, list_any-split, list_all_mono, split_only, split_first, Splits}
 
 -- what holds of the seven simple escapes holds of each
 pub by_simple : (P : ℕ → Type 0) (c : ℕ) → is_simple c ≡ true → P 39 → P 34 → P 110 → P 114 → P 116 → P 92 → P 48 → P c
 by_simple P c h a b d e f g z =
-    elim (or_cases _ (c == 48) h) [ inr r ↦ subst P (sym (eqb-true c 48 r)) z | inl h ↦
-    elim (or_cases _ (c == 92) h) [ inr r ↦ subst P (sym (eqb-true c 92 r)) g | inl h ↦
-    elim (or_cases _ (c == 116) h) [ inr r ↦ subst P (sym (eqb-true c 116 r)) f | inl h ↦
-    elim (or_cases _ (c == 114) h) [ inr r ↦ subst P (sym (eqb-true c 114 r)) e | inl h ↦
-    elim (or_cases _ (c == 110) h) [ inr r ↦ subst P (sym (eqb-true c 110 r)) d | inl h ↦
-    elim (or_cases (c == 39) (c == 34) h) [ inr r ↦ subst P (sym (eqb-true c 34 r)) b | inl r ↦ subst P (sym (eqb-true c 39 r)) a ] ] ] ] ] ]
+    elim (or_cases _ (c == 48) h) [
+      | inr r ↦ subst P (sym (eqb-true c 48 r)) z
+      | inl h ↦
+          elim (or_cases _ (c == 92) h) [
+            | inr r ↦ subst P (sym (eqb-true c 92 r)) g
+            | inl h ↦
+                elim (or_cases _ (c == 116) h) [
+                  | inr r ↦ subst P (sym (eqb-true c 116 r)) f
+                  | inl h ↦
+                      elim (or_cases _ (c == 114) h) [
+                        | inr r ↦ subst P (sym (eqb-true c 114 r)) e
+                        | inl h ↦
+                            elim (or_cases _ (c == 110) h) [
+                              | inr r ↦ subst P (sym (eqb-true c 110 r)) d
+                              | inl h ↦
+                                  elim (or_cases (c == 39) (c == 34) h) [ inr r ↦ subst P (sym (eqb-true c 34 r)) b | inl r ↦ subst P (sym (eqb-true c 39 r)) a ]
+                            ]
+                      ]
+                ]
+          ]
+    ]
 
 nul_fault : (b : Bool) (x : ParseError) → (b || false) ≡ true → (if not b then Some x else None) ≡ None
 nul_fault true x h = refl
@@ -53,7 +66,7 @@ hexdigit_no_underscore c h = grind (arith, nat_tests)
 pub two_bytes : (c d : ℕ) (t : List ℕ) → is_ascii_hexdigit c ≡ true → is_ascii_hexdigit d ≡ true → has_two_bytes (c ∷ d ∷ t) ≡ true
 two_bytes c d t h g =
     let e : byte_len (c ∷ d ∷ []) ≡ 2 =
-        byte_len_ascii c (d ∷ []) (hexdigit_ascii c h) ∙ ap (λ n. 1 + n) (byte_len_ascii d [] (hexdigit_ascii d g)) in
+    byte_len_ascii c (d ∷ []) (hexdigit_ascii c h) ∙ ap (λ n. 1 + n) (byte_len_ascii d [] (hexdigit_ascii d g)) in
     or_right _ _ (ap (λ n. n == 2) e)
 
 pub fault_hex : (w : Switches) (c d : ℕ) (x : List ℕ) → is_ascii_hexdigit c ≡ true → is_ascii_hexdigit d ≡ true →
@@ -132,8 +145,8 @@ no_stranger_all inner h n =
     take_while_whole is_hex_or_underscore inner
     (⊎_elim (λ e. ltb-false _ _ e)
     (λ e. absurd (let few = leb-false (count_by is_ascii_hexdigit (take_while is_hex_or_underscore inner)) 6 e in
-        let within = sum_by-take-le (λ c. cond (is_ascii_hexdigit c) 1 0) inner (prefix_len is_hex_or_underscore inner) in
-        let all = ltb-false 6 (count_by is_ascii_hexdigit inner) n in omega arith))
+    let within = sum_by-take-le (λ c. cond (is_ascii_hexdigit c) 1 0) inner (prefix_len is_hex_or_underscore inner) in
+    let all = ltb-false 6 (count_by is_ascii_hexdigit inner) n in omega arith))
     (and_cases _ _ h))
 
 first_inner : (inner : List ℕ) → (is_empty inner || first_passes (λ c. c == 95) inner) ≡ false → list_all is_hex_or_underscore inner ≡ true →
@@ -172,10 +185,14 @@ at_brace : (w : Switches) (r : List ℕ) → w.unicode ≡ true → Splits (λ c
 at_brace w r u (xs, c, ys, s) h =
     let brace : c ≡ 125 = eqb-true c 125 s.passes in
     let inner : before_first (λ c. c == 125) r ≡ xs =
-        subst (λ l. before_first (λ c. c == 125) l ≡ xs) s.spells (before_first-split (λ c. c == 125) xs c ys s.before s.passes) in
-    (unicode_escape xs, ys, record {
-      spells = ap (λ l. 92 ∷ 117 ∷ 123 ∷ l) (append_assoc xs (125 ∷ []) ys ∙ ap (λ d. xs ++ d ∷ ys) (sym brace) ∙ s.spells);
-      grammar = inner_escape w xs u (subst (λ l. inner_fault w l ≡ None) inner h) })
+    subst (λ l. before_first (λ c. c == 125) l ≡ xs) s.spells (before_first-split (λ c. c == 125) xs c ys s.before s.passes) in (
+      unicode_escape xs,
+      ys,
+      record {
+        spells = ap (λ l. 92 ∷ 117 ∷ 123 ∷ l) (append_assoc xs (125 ∷ []) ys ∙ ap (λ d. xs ++ d ∷ ys) (sym brace) ∙ s.spells);
+        grammar = inner_escape w xs u (subst (λ l. inner_fault w l ≡ None) inner h);
+      },
+    )
 
 read_unicode : (w : Switches) (t : List ℕ) → unicode_fault w t ≡ None → SomeEscape w (92 ∷ 117 ∷ t)
 read_unicode w [] h = let a = unless_none _ _ _ h in absurd (brace a.1)
@@ -197,6 +214,7 @@ read_simple w c t h n =
     keeps : (b : Bool) → not b ≡ false → (b || false) ≡ true
     keeps true e = refl
     keeps false e = cc
+
     allowed : ((c == 48) && not w.allow_nul) ≡ false → allows_value w (simple_value c) ≡ true
     allowed = by_simple (λ c. ((c == 48) && not w.allow_nul) ≡ false → allows_value w (simple_value c) ≡ true) c h
         (λ _. or_right _ _ refl) (λ _. or_right _ _ refl) (λ _. or_right _ _ refl) (λ _. or_right _ _ refl) (λ _. or_right _ _ refl) (λ _. or_right _ _ refl)

@@ -1,6 +1,6 @@
 -- The laws of escapes.
-use Rattle.std.proofs.Common.{◌≡◌, ℕ, List, ◌∷◌, None}
-use Rattle.litrs.specs.Escape.{Switches, escape_fault}
+use Rattle.std.proofs.Common.{◌≡◌, ◌∷◌, None}
+use Rattle.litrs.specs.Escape.{escape_fault}
 use Rattle.litrs.specs.EscapeLaws.{BeginsWithEscape, EscapeOrRefused, OnlyEscape}
 use Rattle.std.proofs.Common.{subst}
 use Rattle.litrs.proofs.EscapeLemmas.{read_escape, fault_escape, same_escape}
@@ -13,5 +13,6 @@ escape_or_refused w t = (read, refused_none)
   where
     read : escape_fault w (92 ∷ t) ≡ None → BeginsWithEscape w (92 ∷ t)
     read h = let found = read_escape w t h in (found.0, found.1, found.2.spells, found.2.grammar)
+
     refused_none : BeginsWithEscape w (92 ∷ t) → escape_fault w (92 ∷ t) ≡ None
     refused_none (e, rest, spells, grammar) = subst (λ l. escape_fault w l ≡ None) spells (fault_escape w e rest grammar)

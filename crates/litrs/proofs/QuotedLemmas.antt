@@ -1,8 +1,8 @@
 -- Quoted bodies: the items of a text, and what stands behind them.
-use Rattle.std.proofs.Common.{◌≡◌, ℕ, ◌+◌, ◌<◌, ◌≤◌, Bool, true, false, not, ◌&&◌, ◌||◌, cond, zero, suc, List, [], ◌∷◌, ◌++◌, length, Option, Some, None, refl, sym, ap, ◌∙◌, subst, arith, ◌⊎◌, inl, inr, ⊎_elim, append_assoc, length-append, append-nil}
+use Rattle.std.proofs.Common.{◌≡◌, ℕ, ◌+◌, ◌<◌, Bool, true, false, not, ◌&&◌, zero, suc, List, [], ◌∷◌, ◌++◌, length, Option, Some, None, refl, sym, ap, ◌∙◌, subst, arith, ◌⊎◌, inl, inr, append_assoc, length-append}
 use Rattle.std.specs.Prelude.{◌==◌, if◌then◌else◌}
 use Rattle.std.specs.List.{list_all}
-use Rattle.std.proofs.lemmas.Bool.{and_parts, and_from, and_cases, not-true, not-false, eqb-true, both_ways, true≢false, false≢true, and_left, and_right, not_from_false, eq-eqb}
+use Rattle.std.proofs.lemmas.Bool.{and_parts, and_from, not-true, not-false, eqb-true, both_ways, true≢false, and_left, and_right, not_from_false, eq-eqb}
 use Rattle.litrs.specs.declared.err.ParseError.{ParseError}
 use Rattle.litrs.specs.declared.err.ParseErrorKind.TheVariants.{UnterminatedString}
 use Rattle.litrs.specs.Fault.{plain}
@@ -12,7 +12,7 @@ use Rattle.litrs.specs.Text.{first_passes}
 use Rattle.litrs.specs.Escape.{Switches, Escape, simple_escape, hex_escape, unicode_escape, escape_text, is_escape, is_simple, escape_fault, allows_value}
 use Rattle.litrs.specs.Quoted.{Item, plain_item, escape_item, continuation, item_text, is_item, is_plain, body_text, is_body, takes_all_blanks, is_taken_before, stand_before, without_last, backslash_fault, rest_fault, allows_character}
 use Rattle.litrs.proofs.ListTests.{if_none, unless_none, none_if, none_unless, if_true, if_false}
-use Rattle.litrs.proofs.EscapeLemmas.{same_escape, fault_escape, read_escape, HasEscape}
+use Rattle.litrs.proofs.EscapeLemmas.{same_escape, fault_escape, read_escape}
 
 -- an escape begins with a backslash, and no LF follows it
 pub escape_head : (e : Escape) (x : List ℕ) → (c : ℕ) × (t : List ℕ) × (escape_text e ++ x ≡ 92 ∷ c ∷ t)
@@ -99,7 +99,7 @@ same_items w (a ∷ L) (b ∷ M) x y h g ends ends' same =
     let p' = and_parts _ (stand_before w y M) g in
     let q' = and_parts (is_item w b) _ p'.0 in
     let first = same_item w a b (body_text L ++ x) (body_text M ++ y) q.0 q'.0 q.1 q'.1
-        (sym (append_assoc (item_text a) (body_text L) x) ∙ same ∙ append_assoc (item_text b) (body_text M) y) in
+    (sym (append_assoc (item_text a) (body_text L) x) ∙ same ∙ append_assoc (item_text b) (body_text M) y) in
     let rest = same_items w L M x y p.1 p'.1 ends ends' first.1 in
     (cc, rest.1)
 
@@ -141,7 +141,7 @@ unfolding rest_fault
 escape_no_fault w e c t h =
     let head = escape_head e (c ∷ t) in
     let cut : without_last (92 ∷ head.0 ∷ head.1) ≡ escape_text e ++ without_last (c ∷ t) =
-        ap without_last (sym head.2) ∙ without_last-append (escape_text e) c t in
+    ap without_last (sym head.2) ∙ without_last-append (escape_text e) c t in
     subst (λ l. rest_fault w l ≡ None) (sym head.2)
     (if_false (head.0 == 10) _ _ (escape_second w e (c ∷ t) head.0 head.1 h head.2)
     ∙ ap (escape_fault w) cut ∙ fault_escape w e (without_last (c ∷ t)) h)
@@ -195,11 +195,15 @@ blanks_off (c ∷ t) h = go (is_blank c) refl (blanks_off t)
 
 continuation_here : (w : Switches) (t : List ℕ) → list_all is_blank t ≡ false → SomeItem w (92 ∷ 10 ∷ t)
 continuation_here w t h =
-    let off = blanks_off t h in
-    (continuation off.0, off.1 ∷ off.2, record {
-      spells = ap (λ l. 92 ∷ 10 ∷ l) off.3;
-      grammar = off.4;
-      taken = not_from_false _ off.5 })
+    let off = blanks_off t h in (
+      continuation off.0,
+      off.1 ∷ off.2,
+      record {
+        spells = ap (λ l. 92 ∷ 10 ∷ l) off.3;
+        grammar = off.4;
+        taken = not_from_false _ off.5;
+      },
+    )
 
 -- an escape that the text goes on behind
 escape_here : (w : Switches) (t : List ℕ) → escape_fault w (without_last (92 ∷ t)) ≡ None → SomeItem w (92 ∷ t)
@@ -207,11 +211,15 @@ unfolding escape_fault
 escape_here w [] h = cc
 escape_here w (c ∷ t) h =
     let read = read_escape w (without_last (c ∷ t)) h in
-    let last = last_of c t in
-    (escape_item read.0, read.1 ++ last.0 ∷ [], record {
-      spells = sym (append_assoc (escape_text read.0) read.1 (last.0 ∷ [])) ∙ ap (λ l. l ++ last.0 ∷ []) read.2.spells ∙ ap (λ l. 92 ∷ l) last.1;
-      grammar = read.2.grammar;
-      taken = more read.1 })
+    let last = last_of c t in (
+      escape_item read.0,
+      read.1 ++ last.0 ∷ [],
+      record {
+        spells = sym (append_assoc (escape_text read.0) read.1 (last.0 ∷ [])) ∙ ap (λ l. l ++ last.0 ∷ []) read.2.spells ∙ ap (λ l. 92 ∷ l) last.1;
+        grammar = read.2.grammar;
+        taken = more read.1;
+      },
+    )
   where
     more : (x : List ℕ) → not (is_empty (x ++ (last_of c t).0 ∷ [])) ≡ true
     more [] = refl
@@ -248,10 +256,15 @@ front_cons w c t false false b_is q_is h =
     let a = if_none (c == 13) _ _ (sym (if_false _ _ _ b_is) ∙ h) in
     let b = unless_none (allows_value w c) _ _ a.1 in
     let d = unless_none (allows_character w c) _ _ b.1 in
-    inl (plain_item c, t, record {
-      spells = refl;
-      grammar = and_from _ _ (and_from _ _ (and_from _ _ (and_from _ _ (not_from_false _ q_is) (not_from_false _ b_is)) (not_from_false _ a.0)) d.0) b.0;
-      taken = refl })
+    inl (
+      plain_item c,
+      t,
+      record {
+        spells = refl;
+        grammar = and_from _ _ (and_from _ _ (and_from _ _ (and_from _ _ (not_from_false _ q_is) (not_from_false _ b_is)) (not_from_false _ a.0)) d.0) b.0;
+        taken = refl;
+      },
+    )
 
 at_end : (w : Switches) → rest_fault w [] ≡ None → ⊥
 unfolding rest_fault
@@ -263,6 +276,7 @@ front w t = go t (rest_fault w t) refl
     none : (t : List ℕ) → rest_fault w t ≡ None → Front w t
     none [] h = absurd (at_end w h)
     none (c ∷ t) h = front_cons w c t (c == 92) (c == 34) refl refl h
+
     go : (t : List ℕ) (o : Option ParseError) → rest_fault w t ≡ o → Front w t
     go t (Some e) told = inr (inl (e, told))
     go t None told = none t told
@@ -284,11 +298,15 @@ item_longer (escape_item (unicode_escape inner)) behind = omega (arith, length-a
 item_longer (continuation a) behind = omega (arith, length-append a behind)
 
 read_item : (w : Switches) (t : List ℕ) (a : Item) (behind : List ℕ) → HasItem w t a behind → SomeReading w behind → SomeReading w t
-read_item w t a behind here (items, rest, later) =
-    (a ∷ items, rest, record {
-      spells = append_assoc (item_text a) (body_text items) rest ∙ ap (λ l. item_text a ++ l) later.spells ∙ here.spells;
-      taken = and_from _ _ (and_from _ _ here.grammar (subst (λ l. is_taken_before l a ≡ true) (sym later.spells) here.taken)) later.taken;
-      ends = later.ends })
+read_item w t a behind here (items, rest, later) = (
+  a ∷ items,
+  rest,
+  record {
+    spells = append_assoc (item_text a) (body_text items) rest ∙ ap (λ l. item_text a ++ l) later.spells ∙ here.spells;
+    taken = and_from _ _ (and_from _ _ here.grammar (subst (λ l. is_taken_before l a ≡ true) (sym later.spells) here.taken)) later.taken;
+    ends = later.ends;
+  },
+)
 
 read_within : (n : ℕ) (w : Switches) (t : List ℕ) → length t < n → SomeReading w t
 read_within zero w t h = absurd (omega arith)

@@ -1,25 +1,25 @@
 -- The laws of quoted literals.
-use Rattle.std.proofs.Common.{◌≡◌, ℕ, ◌+◌, ◌<◌, ◌≤◌, ◌/◌, ◌%◌, ltb, Bool, true, false, not, ◌&&◌, ◌||◌, cond, List, [], ◌∷◌, ◌++◌, length, Option, Some, None, refl, sym, ap, ◌∙◌, subst, arith, ◌⊎◌, inl, inr, ⊎_elim, append_assoc, length-append, append-nil}
-use Rattle.std.specs.Prelude.{◌==◌, if◌then◌else◌}
+use Rattle.std.proofs.Common.{◌≡◌, ℕ, ◌+◌, ◌<◌, ◌≤◌, ◌/◌, ◌%◌, ltb, Bool, true, false, not, ◌||◌, cond, List, [], ◌∷◌, ◌++◌, length, Some, None, refl, sym, ap, ◌∙◌, subst, arith, ◌⊎◌, inl, inr, append_assoc, length-append, append-nil}
+use Rattle.std.specs.Prelude.{◌==◌}
 use Rattle.std.specs.List.{list_all, list_any}
-use Rattle.std.proofs.lemmas.Bool.{and_parts, and_from, and_cases, not-true, not-false, eqb-true, both_ways, true≢false, false≢true, and_left, and_right, or_right, or_left, or_from, not_from_false, ne_eqb}
+use Rattle.std.proofs.lemmas.Bool.{and_parts, and_from, not-true, both_ways, or_right, or_left, or_from, not_from_false, ne_eqb}
 use Rattle.std.proofs.lemmas.List.{append_cancel_left}
-use Rattle.std.specs.Prelude.{encode_utf8_all, ◌↔◌}
-use Rattle.std.specs.Char.{len_utf8, encode_utf8}
+use Rattle.std.specs.Prelude.{◌↔◌}
+use Rattle.std.specs.Char.{encode_utf8}
 use Rattle.std.proofs.lemmas.List.Folds.{list_any-append, list_all-append}
-use Rattle.std.proofs.lemmas.Str.{encodes-append, length-encode, length-le-encodes, len_utf8_bounds}
+use Rattle.std.proofs.lemmas.Str.{length-encode, len_utf8_bounds}
 use Rattle.litrs.specs.Characters.{is_blank, is_scalar}
 use Rattle.litrs.specs.declared.err.ParseError.{ParseError}
 use Rattle.litrs.specs.Fault.{moved}
-use Rattle.litrs.specs.Suffix.{is_empty, is_suffix}
+use Rattle.litrs.specs.Suffix.{is_suffix}
 use Rattle.litrs.specs.Text.{first_passes, byte_len}
 use Rattle.litrs.specs.Escape.{Switches, Escape, simple_escape, hex_escape, unicode_escape, escape_text, escape_value, value_bytes, is_escape, is_simple, hex_value, pair_value, allows_value}
-use Rattle.litrs.specs.Quoted.{Item, plain_item, escape_item, continuation, item_text, item_value, is_item, allows_character, stand_before, body_text, body_value, is_body, takes_all_blanks, rest_fault, IsBodyOf, QuotedParts, quoted_text, IsQuoted, IsQuotedFault}
+use Rattle.litrs.specs.Quoted.{Item, plain_item, escape_item, continuation, item_text, item_value, is_item, allows_character, stand_before, body_text, body_value, is_body, takes_all_blanks, rest_fault, QuotedParts, IsQuoted, IsQuotedFault}
 use Rattle.litrs.specs.QuotedLaws.{OnlyBody, OnlyQuoted, OnlyQuotedFault, QuotedOrRefused, QuotedNotRefused, BodiesJoin, ValueFitsBody, NoNulInValue, QuotedNeverEndsWithLineFeed}
 use Rattle.litrs.proofs.ByteLen.{byte_len-append, length-le-byte_len}
 use Rattle.litrs.proofs.ListTests.{none_unless}
 use Rattle.litrs.proofs.SuffixEnd.{closed_never_ends_with_line_feed}
-use Rattle.litrs.proofs.QuotedLemmas.{NoItem, same_items, quote_no_item, refused_no_item, read_items, Reads, SomeReading, Closes, body_stands, stands_body}
+use Rattle.litrs.proofs.QuotedLemmas.{same_items, quote_no_item, refused_no_item, read_items, Reads, SomeReading, Closes, body_stands, stands_body}
 
 -- two quoted texts behind one front
 same_parts : (w : Switches) (items others : List Item) (s r : List ℕ) → is_body w items ≡ true → is_body w others ≡ true →
@@ -40,7 +40,7 @@ only_quoted front w t q r h g =
 pub only_quoted_fault : OnlyQuotedFault
 only_quoted_fault front w t e f h g =
     let both = same_items w h.items g.items h.rest g.rest h.taken g.taken (refused_no_item w h.rest h.cause h.told) (refused_no_item w g.rest g.cause g.told)
-        (append_cancel_left front _ _ (h.spells ∙ sym g.spells)) in
+    (append_cancel_left front _ _ (h.spells ∙ sym g.spells)) in
     let told : rest_fault w h.rest ≡ Some g.cause = ap (rest_fault w) both.1 ∙ g.told in
     let causes : h.cause ≡ g.cause = cc in
     let places : byte_len (front ++ body_text h.items) ≡ byte_len (front ++ body_text g.items) = ap (λ l. byte_len (front ++ body_text l)) both.0 in
@@ -52,14 +52,28 @@ quoted_or_refused front w t = go (read_items w t)
     ended : (items : List Item) (rest : List ℕ) → Reads w t items rest → (((e : ParseError) × (rest_fault w rest ≡ Some e)) ⊎ Closes rest) →
         ((q : QuotedParts) × IsQuoted front w (front ++ t) q) ⊎ ((e : ParseError) × IsQuotedFault front w (front ++ t) e)
     ended items rest read (inl (e, told)) =
-        inr (moved (byte_len (front ++ body_text items)) e, record {
-          items = items; rest = rest; cause = e;
-          spells = ap (λ l. front ++ l) read.spells; taken = read.taken; told = told; placed = refl })
+        inr (
+          moved (byte_len (front ++ body_text items)) e,
+          record {
+            items = items;
+            rest = rest;
+            cause = e;
+            spells = ap (λ l. front ++ l) read.spells;
+            taken = read.taken;
+            told = told;
+            placed = refl;
+          },
+        )
     ended items rest read (inr (s, closes, suffix)) =
-        inl (record { items = items; suffix = s }, record {
-          spells = ap (λ l. front ++ l) (ap (λ l. body_text items ++ l) closes ∙ read.spells);
-          body = stands_body w items s (subst (λ l. stand_before w l items ≡ true) (sym closes) read.taken);
-          suffix = suffix })
+        inl (
+          record { items = items; suffix = s },
+          record {
+            spells = ap (λ l. front ++ l) (ap (λ l. body_text items ++ l) closes ∙ read.spells);
+            body = stands_body w items s (subst (λ l. stand_before w l items ≡ true) (sym closes) read.taken);
+            suffix = suffix;
+          },
+        )
+
     go : SomeReading w t → ((q : QuotedParts) × IsQuoted front w (front ++ t) q) ⊎ ((e : ParseError) × IsQuotedFault front w (front ++ t) e)
     go (items, rest, read) = ended items rest read read.ends
 
@@ -74,7 +88,7 @@ closed_no_fault w s h =
 pub quoted_not_refused : QuotedNotRefused
 quoted_not_refused front w t q e h g =
     let both = same_items w q.items g.items (34 ∷ q.suffix) g.rest (body_stands w q.items q.suffix h.body) g.taken (quote_no_item w q.suffix)
-        (refused_no_item w g.rest g.cause g.told) (append_cancel_left front _ _ (h.spells ∙ sym g.spells)) in
+    (refused_no_item w g.rest g.cause g.told) (append_cancel_left front _ _ (h.spells ∙ sym g.spells)) in
     let none = closed_no_fault w q.suffix h.suffix in
     let told : rest_fault w (34 ∷ q.suffix) ≡ Some g.cause = ap (rest_fault w) both.1 ∙ g.told in
     cc
@@ -101,15 +115,17 @@ join_body w (a ∷ items) others h g n =
     let p = and_parts _ (is_body w items) h in
     let q = and_parts (is_item w a) _ p.0 in
     let joined : takes_all_blanks a (body_text (items ++ others)) ≡ true =
-        subst (λ l. takes_all_blanks a l ≡ true) (sym (body_text-append items others)) (join_item a (body_text items) (body_text others) q.1 n) in
+    subst (λ l. takes_all_blanks a l ≡ true) (sym (body_text-append items others)) (join_item a (body_text items) (body_text others) q.1 n) in
     and_from _ _ (and_from _ _ q.0 joined) (join_body w items others p.1 g n)
 
 pub bodies_join : BodiesJoin
-bodies_join w a b items others h g n =
-    (record {
-      spells = body_text-append items others ∙ ap (λ l. l ++ body_text others) h.spells ∙ ap (λ l. a ++ l) g.spells;
-      body = join_body w items others h.body g.body (subst (λ l. first_passes is_blank l ≡ false) (sym g.spells) n) },
-    body_value-append items others)
+bodies_join w a b items others h g n = (
+  record {
+    spells = body_text-append items others ∙ ap (λ l. l ++ body_text others) h.spells ∙ ap (λ l. a ++ l) g.spells;
+    body = join_body w items others h.body g.body (subst (λ l. first_passes is_blank l ≡ false) (sym g.spells) n);
+  },
+  body_value-append items others,
+)
 
 -- an item has fewer bytes of value than of text, and a backslash; or as many, and none
 abbrev pub HasSize : List ℕ → List ℕ → Type 0

@@ -1,17 +1,17 @@
 -- The spans of refused quoted literals, chars and bytes lie within the text.
-use Rattle.std.proofs.Common.{◌≡◌, ℕ, ◌+◌, ◌<◌, ◌≤◌, Bool, true, false, not, ◌&&◌, ◌||◌, List, [], ◌∷◌, ◌++◌, length, take, drop, Option, Some, None, refl, sym, ap, ◌∙◌, subst, arith, lit<, append_assoc, length-append, take-append-drop}
-use Rattle.std.specs.Prelude.{◌==◌, if◌then◌else◌, option_map, is_some, IfSome}
+use Rattle.std.proofs.Common.{◌≡◌, ℕ, ◌+◌, ◌<◌, Bool, true, false, not, ◌&&◌, List, [], ◌∷◌, ◌++◌, length, take, drop, Option, Some, None, refl, sym, ap, ◌∙◌, subst, arith, lit<, append_assoc, take-append-drop}
+use Rattle.std.specs.Prelude.{◌==◌, if◌then◌else◌, option_map, is_some}
 use Rattle.std.specs.List.{list_all, list_any}
-use Rattle.std.proofs.lemmas.Bool.{and_parts, eqb-true, true≢false, false≢true, both_ways}
+use Rattle.std.proofs.lemmas.Bool.{and_parts, eqb-true}
 use Rattle.litrs.specs.declared.err.ParseError.{ParseError}
 use Rattle.litrs.specs.declared.err.ParseErrorKind.TheVariants.{UnterminatedString}
 use Rattle.litrs.specs.Characters.{is_blank}
-use Rattle.litrs.specs.Fault.{at, plain, moved}
+use Rattle.litrs.specs.Fault.{plain, moved}
 use Rattle.litrs.specs.Span.{Marks, SpanFits}
 use Rattle.litrs.specs.Suffix.{is_suffix}
 use Rattle.litrs.specs.Text.{byte_len, first_passes, begins_with}
 use Rattle.litrs.specs.Escape.{Switches, escape_fault, allows_value}
-use Rattle.litrs.specs.Quoted.{body_text, allows_character, without_last, backslash_fault, rest_fault, IsQuotedFault}
+use Rattle.litrs.specs.Quoted.{body_text, allows_character, without_last, backslash_fault, rest_fault}
 use Rattle.litrs.specs.QuotedLaws.{QuotedSpanFits}
 use Rattle.litrs.specs.CharByte.{CharKind, a_char, a_byte, char_front, char_kind_switches, is_special_whitespace, allows_char, char_item_length, closing_fault, char_item_fault, start_fault, char_kind_fault}
 use Rattle.litrs.specs.CharByteLaws.{CharSpanFits}
@@ -60,6 +60,7 @@ rest_fits w (c ∷ t) =
     not_suffix : (b : Bool) → not b ≡ true → b ≡ false
     not_suffix false h = refl
     not_suffix true h = cc
+
     behind_quote : ((c == 34) && not (is_suffix t)) ≡ true → Marks (c ∷ t) 1 2
     behind_quote e =
         let both = and_parts (c == 34) (not (is_suffix t)) e in
@@ -100,7 +101,7 @@ item_fits kind (c ∷ t) =
     (λ _. fit_either _ ((c == 92) && is_some (escape_fault (char_kind_switches kind) (c ∷ t))) (escape_fault (char_kind_switches kind) (c ∷ t)) _ (λ e. escaped e)
     (λ _. fit_unless _ (allows_char kind c) _ _ (λ _. first_byte c t)
     (λ _. let Text : List ℕ → Type 0 = λ l. AllFit l (closing_fault kind (byte_len (take n (c ∷ t))) (drop n (c ∷ t))) in
-        subst Text (take-append-drop n (c ∷ t)) (closing_fits kind (take n (c ∷ t)) (drop n (c ∷ t))))))))
+    subst Text (take-append-drop n (c ∷ t)) (closing_fits kind (take n (c ∷ t)) (drop n (c ∷ t))))))))
   where
     escaped : ((c == 92) && is_some (escape_fault (char_kind_switches kind) (c ∷ t))) ≡ true → AllFit (c ∷ t) (escape_fault (char_kind_switches kind) (c ∷ t))
     escaped e =

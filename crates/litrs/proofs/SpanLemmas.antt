@@ -1,24 +1,26 @@
 -- The spans of refusals lie within the text.
-use Rattle.std.proofs.Common.{◌≡◌, ℕ, ◌+◌, ◌<◌, ◌≤◌, Bool, true, false, not, ◌&&◌, ◌||◌, cond, zero, suc, leb, ltb, List, [], ◌∷◌, ◌++◌, length, take, drop, Option, Some, None, refl, sym, ap, ◌∙◌, subst, arith, ◌⊎◌, inl, inr, ⊎_elim, append_assoc, length-append, append-nil, take-append-drop, lit<}
-use Rattle.std.specs.Prelude.{◌==◌, if◌then◌else◌, option_map, IfSome, count_by, take_while, slice_index}
-use Rattle.std.specs.Char.{is_ascii_hexdigit, len_utf8}
+use Rattle.std.proofs.Common.{◌≡◌, ℕ, ◌+◌, ◌<◌, ◌≤◌, Bool, true, false, not, ◌&&◌, ◌||◌, cond, zero, suc, leb, ltb, List, [], ◌∷◌, ◌++◌, length, drop, Option, Some, None, refl, sym, ap, ◌∙◌, subst, arith, ⊎_elim, append_assoc, length-append, append-nil, take-append-drop, lit<}
+use Rattle.std.specs.Prelude.{◌==◌, if◌then◌else◌, IfSome, count_by, take_while, slice_index}
+use Rattle.std.specs.Prelude.{IsUtf8, IsCharBoundary, chars, encode_utf8_all}
+use Rattle.std.specs.Str.{all_scalars as scalars}
+use Rattle.std.proofs.lemmas.Str.{encodes-append, encodes-chars, scalars-chars, IsCharBoundary-at_seam}
+use Rattle.std.specs.Char.{is_ascii_hexdigit}
 use Rattle.std.specs.List.{list_all, list_any, prefix_len, before_first}
-use Rattle.std.proofs.lemmas.Bool.{and_parts, and_from, and_cases, or_cases, not-true, not-false, eqb-true, both_ways, true≢false, false≢true, ltb-true, ltb-false, leb-true, leb-false}
+use Rattle.std.proofs.lemmas.Bool.{and_parts, and_from, and_cases, eqb-true, ltb-true, ltb-false, leb-false}
 use Rattle.std.proofs.lemmas.List.Folds.{list_all-append}
 use Rattle.std.proofs.lemmas.List.Sums.{take_while-cons, sum_by-cons}
 use Rattle.litrs.specs.declared.err.ParseError.{ParseError}
-use Rattle.litrs.specs.declared.err.ParseErrorKind.{ParseErrorKind}
 use Rattle.litrs.specs.Characters.{is_scalar}
 use Rattle.std.specs.declared.ops.Range.{Range}
-use Rattle.litrs.specs.Fault.{at, over, plain, moved, moved_span}
+use Rattle.litrs.specs.Fault.{moved, moved_span}
 use Rattle.litrs.specs.Span.{Marks, SpanFits}
-use Rattle.litrs.specs.Suffix.{is_empty, is_suffix}
+use Rattle.litrs.specs.Suffix.{is_empty}
 use Rattle.litrs.specs.Text.{byte_len, first_passes}
-use Rattle.litrs.specs.Escape.{Switches, Escape, escape_fault, hex_fault, unicode_fault, inner_fault, is_simple, is_hex_or_underscore, has_two_bytes, place_behind, allows_value, allows_byte, pair_value, hex_value}
+use Rattle.litrs.specs.Escape.{Switches, escape_fault, hex_fault, unicode_fault, inner_fault, is_simple, is_hex_or_underscore, has_two_bytes, place_behind, allows_value, allows_byte, pair_value, hex_value}
 use Rattle.litrs.specs.EscapeLaws.{EscapeSpanFits}
-use Rattle.litrs.proofs.ByteLen.{byte_len-append, byte_len-cons, byte_len_ascii, byte_len_all_ascii, length-le-byte_len}
-use Rattle.litrs.proofs.ListTests.{Split, Splits, split_first, before_first-split, take_while_whole, if_true, if_false}
-use Rattle.litrs.proofs.EscapeLemmas.{hex_or_underscore_ascii, has_stranger, no_stranger_all}
+use Rattle.litrs.proofs.ByteLen.{byte_len-append, byte_len_ascii, byte_len_all_ascii, length-le-byte_len}
+use Rattle.litrs.proofs.ListTests.{Splits, split_first, before_first-split, take_while_whole, if_true, if_false}
+use Rattle.litrs.proofs.EscapeLemmas.{hex_or_underscore_ascii, has_stranger}
 
 -- a span from the start
 pub marks_start : (t : List ℕ) (end : ℕ) → end ≤ byte_len t → Marks t 0 end
@@ -36,9 +38,13 @@ pub marks_on : (t more : List ℕ) (start end : ℕ) → Marks t start end → M
 marks_on t more start end m =
     let fits = m.fits in
     record {
-      before = m.before; behind = m.behind ++ more;
+      before = m.before;
+      behind = m.behind ++ more;
       spells = sym (append_assoc m.before m.behind more) ∙ ap (λ l. l ++ more) m.spells;
-      starts = m.starts; ordered = m.ordered; fits = omega (arith, byte_len-append t more) }
+      starts = m.starts;
+      ordered = m.ordered;
+      fits = omega (arith, byte_len-append t more);
+    }
 
 pub marks_later : (front t : List ℕ) (start end : ℕ) → Marks t start end → Marks (front ++ t) (start + byte_len front) (end + byte_len front)
 marks_later front t start end m =
@@ -46,10 +52,28 @@ marks_later front t start end m =
     let fits = m.fits in
     let ordered = m.ordered in
     record {
-      before = front ++ m.before; behind = m.behind;
+      before = front ++ m.before;
+      behind = m.behind;
       spells = append_assoc front m.before m.behind ∙ ap (λ l. front ++ l) m.spells;
       starts = (let both = byte_len-append front m.before in omega arith);
-      ordered = omega arith; fits = omega (arith, byte_len-append front t) }
+      ordered = omega arith;
+      fits = omega (arith, byte_len-append front t);
+    }
+
+-- what stands behind a part of a text is text
+behind_scalars : (xs ys : List ℕ) → scalars (xs ++ ys) ≡ true → scalars ys ≡ true
+behind_scalars [] ys h = h
+behind_scalars (x ∷ xs) ys h = let both = and_parts _ (scalars (xs ++ ys)) h in behind_scalars xs ys both.1
+
+-- the same of the bytes of a text
+pub marks_bytes : (bs : List ℕ) (start end : ℕ) → IsUtf8 bs → Marks (chars bs) start end → IsCharBoundary bs start × (start ≤ end) × (end ≤ length bs)
+marks_bytes bs start end utf8 m =
+    let whole : encode_utf8_all m.before ++ encode_utf8_all m.behind ≡ bs = sym (encodes-append m.before m.behind) ∙ ap encode_utf8_all m.spells ∙ encodes-chars bs utf8 in
+    let scalar : scalars (m.before ++ m.behind) ≡ true = ap scalars m.spells ∙ scalars-chars bs utf8 in
+    let size : byte_len (chars bs) ≡ length bs = ap length (encodes-chars bs utf8) in
+    let fits = m.fits in
+    let Boundary : ℕ → Type 0 = λ n. IsCharBoundary bs n in
+    (subst Boundary m.starts (IsCharBoundary-at_seam bs (encode_utf8_all m.before) (encode_utf8_all m.behind) (sym whole) (m.behind, (behind_scalars m.before m.behind scalar, refl))), m.ordered, omega arith)
 
 -- each refusal that a table may give
 abbrev pub AllFit : List ℕ → Option ParseError → Type 0
@@ -146,17 +170,25 @@ place_in (suc n) (c ∷ front) more h = go (is_ascii_hexdigit c) refl (place_in 
     go true e rec other =
         let count = count_yes c front e in
         let later = rec (omega arith) in
-        let m : (if is_ascii_hexdigit c then n else suc n) ≡ n = if_true _ _ _ e in
-        (c ∷ later.0, later.1, later.2, ap (λ l. c ∷ l) later.3,
-         (let at = later.4 in let here : length (c ∷ later.0) ≡ 1 + place_behind n is_ascii_hexdigit (front ++ more) = omega arith in
-          here ∙ ap (λ k. 1 + place_behind k is_ascii_hexdigit (front ++ more)) (sym m)))
+        let m : (if is_ascii_hexdigit c then n else suc n) ≡ n = if_true _ _ _ e in (
+          c ∷ later.0,
+          later.1,
+          later.2,
+          ap (λ l. c ∷ l) later.3,
+          (let at = later.4 in let here : length (c ∷ later.0) ≡ 1 + place_behind n is_ascii_hexdigit (front ++ more) = omega arith in
+              here ∙ ap (λ k. 1 + place_behind k is_ascii_hexdigit (front ++ more)) (sym m)),
+        )
     go false e rec other =
         let count = count_no c front e in
         let later = other (omega arith) in
-        let m : (if is_ascii_hexdigit c then n else suc n) ≡ suc n = if_false _ _ _ e in
-        (c ∷ later.0, later.1, later.2, ap (λ l. c ∷ l) later.3,
-         (let at = later.4 in let here : length (c ∷ later.0) ≡ 1 + place_behind (suc n) is_ascii_hexdigit (front ++ more) = omega arith in
-          here ∙ ap (λ k. 1 + place_behind k is_ascii_hexdigit (front ++ more)) (sym m)))
+        let m : (if is_ascii_hexdigit c then n else suc n) ≡ suc n = if_false _ _ _ e in (
+          c ∷ later.0,
+          later.1,
+          later.2,
+          ap (λ l. c ∷ l) later.3,
+          (let at = later.4 in let here : length (c ∷ later.0) ≡ 1 + place_behind (suc n) is_ascii_hexdigit (front ++ more) = omega arith in
+              here ∙ ap (λ k. 1 + place_behind k is_ascii_hexdigit (front ++ more)) (sym m)),
+        )
 
 opening : (t : List ℕ) → byte_len (92 ∷ 117 ∷ 123 ∷ t) ≡ 3 + byte_len t
 opening t =
@@ -193,7 +225,7 @@ seventh_somewhere inner c ys r spells none many =
     ⊎_elim
     (λ e. seventh inner c ys r spells inner [] (append-nil inner) (take_while_whole is_hex_or_underscore inner (ltb-false (length digits) (length inner) e)) many)
     (λ e. seventh inner c ys r spells digits (drop (prefix_len is_hex_or_underscore inner) inner) (take-append-drop (prefix_len is_hex_or_underscore inner) inner)
-        (take_while_passes is_hex_or_underscore inner) (leb-false (count_by is_ascii_hexdigit digits) 6 e))
+    (take_while_passes is_hex_or_underscore inner) (leb-false (count_by is_ascii_hexdigit digits) 6 e))
     (and_cases (ltb (length digits) (length inner)) (leb (count_by is_ascii_hexdigit digits) 6) none)
 
 inner_fits : (w : Switches) (inner : List ℕ) (c : ℕ) (ys r : List ℕ) → inner ++ c ∷ ys ≡ r → AllFit (92 ∷ 117 ∷ 123 ∷ r) (inner_fault w inner)
@@ -204,7 +236,7 @@ inner_fits w inner c ys r spells =
     let digits = take_while is_hex_or_underscore inner in
     fit_if _ (is_empty inner || first_passes (λ c. c == 95) inner) _ _ (λ _. marks_inner inner c ys r [] inner spells refl refl)
     (λ _. fit_if _ (has_stranger inner) _ _
-        (λ _. marks_inner inner c ys r digits (drop (prefix_len is_hex_or_underscore inner) inner) spells (take-append-drop (prefix_len is_hex_or_underscore inner) inner) (take_while_passes is_hex_or_underscore inner))
+    (λ _. marks_inner inner c ys r digits (drop (prefix_len is_hex_or_underscore inner) inner) spells (take-append-drop (prefix_len is_hex_or_underscore inner) inner) (take_while_passes is_hex_or_underscore inner))
     (λ none. fit_if _ (ltb 6 (count_by is_ascii_hexdigit inner)) _ _ (λ e. seventh_somewhere inner c ys r spells none (ltb-true 6 (count_by is_ascii_hexdigit inner) e))
     (λ _. fit_unless _ (allows_value w (hex_value inner)) _ _ (λ _. whole)
     (λ _. fit_unless _ (is_scalar (hex_value inner)) _ None (λ _. whole) (λ _. tt)))))
@@ -212,7 +244,7 @@ inner_fits w inner c ys r spells =
 braced_fits : (w : Switches) (r : List ℕ) → Splits (λ c. c == 125) r → AllFit (92 ∷ 117 ∷ 123 ∷ r) (inner_fault w (before_first (λ c. c == 125) r))
 braced_fits w r (inner, c, ys, s) =
     let same : before_first (λ c. c == 125) r ≡ inner =
-        subst (λ l. before_first (λ c. c == 125) l ≡ inner) s.spells (before_first-split (λ c. c == 125) inner c ys s.before s.passes) in
+    subst (λ l. before_first (λ c. c == 125) l ≡ inner) s.spells (before_first-split (λ c. c == 125) inner c ys s.before s.passes) in
     subst (λ l. AllFit (92 ∷ 117 ∷ 123 ∷ r) (inner_fault w l)) (sym same) (inner_fits w inner c ys r s.spells)
 
 two_long : (c : ℕ) (t : List ℕ) → Marks (92 ∷ c ∷ t) 0 2
@@ -227,7 +259,7 @@ unicode_fits w (c ∷ r) =
     (λ brace. let at : c ≡ 123 = eqb-true c 123 brace in
     fit_unless _ (list_any (λ c. c == 125) (c ∷ r)) _ _ (λ _. marks_start (92 ∷ 117 ∷ c ∷ r) (2 + byte_len (c ∷ r)) (omega arith))
     (λ any. subst (λ n. AllFit (92 ∷ 117 ∷ n ∷ r) (inner_fault w (before_first (λ c. c == 125) r))) (sym at)
-        (braced_fits w r (split_first _ r (subst (λ n. ((n == 125) || list_any (λ c. c == 125) r) ≡ true) at any))))))
+    (braced_fits w r (split_first _ r (subst (λ n. ((n == 125) || list_any (λ c. c == 125) r) ≡ true) at any))))))
 
 pub escape_fits : (w : Switches) (t : List ℕ) → AllFit (92 ∷ t) (escape_fault w (92 ∷ t))
 unfolding escape_fault

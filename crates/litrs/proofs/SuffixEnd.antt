@@ -1,8 +1,8 @@
 -- No suffix ends with LF, so nothing does that ends with a closing quote and a suffix.
-use Rattle.std.proofs.Common.{◌≡◌, ℕ, ◌<◌, Bool, true, false, not, ◌&&◌, ◌||◌, List, [], ◌∷◌, ◌++◌, refl, sym, ap, ◌∙◌, subst, arith, lit<, append_assoc}
+use Rattle.std.proofs.Common.{◌≡◌, ℕ, true, false, List, [], ◌∷◌, ◌++◌, refl, sym, ap, ◌∙◌, subst, lit<, append_assoc}
 use Rattle.std.specs.Prelude.{◌==◌}
 use Rattle.std.specs.List.{list_all}
-use Rattle.std.proofs.lemmas.Bool.{and_parts, both_ways, eq-eqb, and_right, false≢true}
+use Rattle.std.proofs.lemmas.Bool.{and_parts, both_ways, eq-eqb}
 use Rattle.std.proofs.lemmas.List.{same_from_push}
 use Rattle.std.proofs.lemmas.List.Folds.{list_all-append}
 use Rattle.unicode_ident.specs.Ident.{is_xid_start, is_xid_continue}

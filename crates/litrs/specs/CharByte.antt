@@ -1,5 +1,5 @@
 -- Chars and bytes. The Rust Reference, Tokens, Literals: "Character literals" and "Byte literals".
-use Rattle.std.specs.Prelude.{◌≡◌, ℕ, ◌+◌, Bool, true, false, not, ◌==◌, ◌&&◌, ◌||◌, if◌then◌else◌, List, [], ◌∷◌, ◌++◌, Option, Some, None, IsTrue, length, take, drop, slice_index, option_map, is_some}
+use Rattle.std.specs.Prelude.{◌≡◌, ℕ, ◌+◌, Bool, true, not, ◌==◌, ◌&&◌, ◌||◌, if◌then◌else◌, List, [], ◌∷◌, ◌++◌, Option, Some, None, IsTrue, length, take, drop, slice_index, option_map, is_some}
 use Rattle.std.specs.List.{list_any, position_or_len}
 use Rattle.litrs.specs.declared.escape.Unescape.{Unescape}
 use Rattle.litrs.specs.declared.escape.Unescape.TheVariants.{Byte, Unicode}
@@ -126,7 +126,7 @@ char_item_fault kind (c ∷ t) =
     else if c == single_quote then Some (plain (empty_literal kind))
     else if is_special_whitespace c then Some (at 0 UnescapedSpecialWhitespace)
     else if (c == backslash) && is_some (escape_fault (char_kind_switches kind) (c ∷ t))
-        then escape_fault (char_kind_switches kind) (c ∷ t)
+    then escape_fault (char_kind_switches kind) (c ∷ t)
     else if not (allows_char kind c) then Some (at 0 NonAsciiInByteLiteral)
     else closing_fault kind (byte_len (take n (c ∷ t))) (drop n (c ∷ t))
 

@@ -1,9 +1,9 @@
 -- Escapes. The Rust Reference, Tokens, Literals: the tables "Quote escapes", "ASCII escapes", "Byte escapes" and
 -- "Unicode escapes", and which of them each literal has, under "Character escapes", "Byte literals",
 -- "Byte string literals" and "C string literals".
-use Rattle.std.specs.Prelude.{◌≡◌, ℕ, ◌+◌, ◌*◌, Bool, true, false, not, ◌==◌, ◌&&◌, ◌||◌, nat_lt, nat_le, if◌then◌else◌, List, [], ◌∷◌, ◌++◌, Option, Some, None, IsTrue, length, slice_index, drop, zero, suc, filter, fold, count_by, take_while, encode_utf8}
+use Rattle.std.specs.Prelude.{ℕ, ◌+◌, ◌*◌, Bool, true, false, not, ◌==◌, ◌&&◌, ◌||◌, nat_lt, nat_le, if◌then◌else◌, List, [], ◌∷◌, ◌++◌, Option, Some, None, IsTrue, length, slice_index, drop, zero, suc, filter, fold, count_by, take_while, encode_utf8}
 use Rattle.std.specs.Char.{is_ascii_hexdigit, digit_value}
-use Rattle.std.specs.List.{list_all, list_any, prefix_len, before_first}
+use Rattle.std.specs.List.{list_all, list_any, before_first}
 use Rattle.litrs.specs.declared.escape.Unescape.{Unescape}
 use Rattle.litrs.specs.declared.escape.Unescape.TheVariants.{Byte, Unicode}
 use Rattle.litrs.specs.declared.err.ParseError.{ParseError}
@@ -139,9 +139,9 @@ inner_fault w inner =
     let digits = take_while is_hex_or_underscore inner in
     if is_empty inner || first_passes (λ c. c == underscore) inner then Some (at 3 InvalidStartOfUnicodeEscape)
     else if nat_lt (length digits) (length inner) && nat_le (count_by is_ascii_hexdigit digits) 6
-        then Some (at (3 + length digits) NonHexDigitInUnicodeEscape)
+    then Some (at (3 + length digits) NonHexDigitInUnicodeEscape)
     else if nat_lt 6 (count_by is_ascii_hexdigit inner)
-        then Some (at (3 + place_behind 6 is_ascii_hexdigit inner) TooManyDigitInUnicodeEscape)
+    then Some (at (3 + place_behind 6 is_ascii_hexdigit inner) TooManyDigitInUnicodeEscape)
     else if not (allows_value w (hex_value inner)) then Some (over 0 (4 + length inner) DisallowedNulEscape)
     else if not (is_scalar (hex_value inner)) then Some (over 0 (4 + length inner) InvalidUnicodeEscapeChar)
     else None

@@ -1,6 +1,6 @@
 -- Quoted strings, byte strings and C strings. The Rust Reference, Tokens, Literals: "String literals" (with "String
 -- continuation escapes"), "Byte string literals" and "C string literals".
-use Rattle.std.specs.Prelude.{◌≡◌, ℕ, ◌+◌, Bool, true, false, not, ◌==◌, ◌&&◌, ◌||◌, if◌then◌else◌, List, [], ◌∷◌, ◌++◌, Option, Some, None, IsTrue, encode_utf8}
+use Rattle.std.specs.Prelude.{◌≡◌, ℕ, Bool, true, not, ◌==◌, ◌&&◌, ◌||◌, if◌then◌else◌, List, [], ◌∷◌, ◌++◌, Option, Some, None, IsTrue, encode_utf8}
 use Rattle.std.specs.List.{list_all}
 use Rattle.litrs.specs.declared.err.ParseError.{ParseError}
 use Rattle.litrs.specs.declared.err.ParseErrorKind.TheVariants.{UnterminatedString, CarriageReturn, NulByte, NonAsciiInByteLiteral}
@@ -135,7 +135,7 @@ without_last (c ∷ d ∷ t) = c ∷ without_last (d ∷ t)
 abbrev pub backslash_fault : Switches → List ℕ → Option ParseError
 backslash_fault w t =
     if first_passes (λ c. c == line_feed) t
-        then (if list_all is_blank t then Some (plain UnterminatedString) else None)
+    then (if list_all is_blank t then Some (plain UnterminatedString) else None)
     else escape_fault w (without_last (backslash ∷ t))
 
 -- Why nothing of the literal stands at the front of the rest; spans count from there. At its end the closing quote
@@ -159,3 +159,7 @@ pub record IsQuotedFault (front : List ℕ) (w : Switches) (t : List ℕ) (e : P
   pub taken : IsTrue (stand_before w rest items)
   pub told : rest_fault w rest ≡ Some cause
   pub placed : moved (byte_len (front ++ body_text items)) cause ≡ e
+
+-- the same for one of the three kinds
+abbrev pub IsQuotedLiteralFault : StringKind → List ℕ → ParseError → Type 0
+IsQuotedLiteralFault kind = IsQuotedFault (quoted_front kind) (string_kind_switches kind)
