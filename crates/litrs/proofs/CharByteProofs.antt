@@ -3,18 +3,19 @@ use Rattle.std.proofs.Common.{◌≡◌, ℕ, Bool, true, false, not, ◌&&◌, 
 use Rattle.std.specs.Prelude.{◌==◌, if◌then◌else◌, option_map, is_some}
 use Rattle.std.specs.List.{list_any, position_or_len}
 use Rattle.std.proofs.lemmas.Bool.{and_parts, and_from, not-true, eqb-true, eq-eqb, false≢true, and_left, not_from_false}
-use Rattle.std.proofs.lemmas.List.{append_cancel_left}
+use Rattle.std.proofs.lemmas.List.{append_cancel_left, drop_at}
 use Rattle.litrs.specs.declared.err.ParseError.{ParseError}
 use Rattle.litrs.specs.Fault.{moved}
+use Rattle.litrs.specs.Span.{last_passes, is_line_feed}
 use Rattle.litrs.specs.Suffix.{is_suffix}
 use Rattle.litrs.specs.Text.{first_passes, byte_len, begins_with}
 use Rattle.litrs.specs.Escape.{Switches, Escape, simple_escape, hex_escape, unicode_escape, escape_text, is_escape, is_simple, escape_fault}
 use Rattle.litrs.specs.CharByte.{CharKind, a_char, a_byte, char_front, char_kind_switches, CharItem, plain_char, escaped_char, char_item_text, is_special_whitespace, allows_char, is_char_item, CharParts, IsCharLiteral, escape_length, char_item_length, closing_fault, char_item_fault, char_kind_fault}
-use Rattle.litrs.specs.CharByteLaws.{OnlyChar, CharOrRefused, CharNeverEndsWithLineFeed}
-use Rattle.litrs.proofs.ListTests.{if_none, unless_none, none_if, none_unless, if_true, if_false, position_or_len-split, drop-length}
+use Rattle.litrs.specs.CharByteLaws.{CharsAreUnique, CharsAreDecided, NoCharEndsWithLineFeed}
+use Rattle.litrs.proofs.ListTests.{unless_none, none_if, none_unless, if_true, if_false, position_or_len-split}
+use Rattle.litrs.proofs.Spans.{none_from}
 use Rattle.litrs.proofs.EscapeLemmas.{by_simple, same_escape, fault_escape, read_escape, HasEscape, unicode_parts}
-use Rattle.litrs.proofs.QuotedLemmas.{escape_head}
-use Rattle.litrs.proofs.SuffixEnd.{closed_never_ends_with_line_feed}
+use Rattle.litrs.proofs.QuotedLemmas.{escape_head, behind_quote_last, heads_differ}
 
 -- a text that begins with another
 pub begins_with-split : (f t : List ℕ) → begins_with f t ≡ true → f ++ drop (length f) t ≡ t
@@ -46,17 +47,24 @@ same_char_item kind (escaped_char e) (plain_char d) x y h g same =
 same_char_item kind (escaped_char e) (escaped_char f) x y h g same =
     let both = same_escape (char_kind_switches kind) e f x y h g same in (ap escaped_char both.0, both.1)
 
-pub only_char : OnlyChar
-only_char kind t d e h g =
+-- two literals of one kind
+same_char : (kind : CharKind) (t : List ℕ) (d e : CharParts) → IsCharLiteral kind t d → IsCharLiteral kind t e → d ≡ e
+same_char kind t d e h g =
     let both = same_char_item kind d.item e.item (39 ∷ d.suffix) (39 ∷ e.suffix) h.item g.item (append_cancel_left (char_front kind) _ _ (h.spells ∙ sym g.spells)) in
     let tails = both.1 in
     let suffixes : d.suffix ≡ e.suffix = cc in
     λ i. record { item = both.0 i; suffix = suffixes i }
 
-pub char_never_ends_with_line_feed : CharNeverEndsWithLineFeed
-char_never_ends_with_line_feed kind t d h =
-    closed_never_ends_with_line_feed (char_front kind ++ char_item_text d.item) 39 d.suffix t h.suffix
-    (append_assoc (char_front kind) (char_item_text d.item) (39 ∷ d.suffix) ∙ h.spells) refl
+pub chars_are_unique : CharsAreUnique
+chars_are_unique t a_char a_char d e h g = (refl, same_char a_char t d e h g)
+chars_are_unique t a_char a_byte d e h g = absurd (heads_differ 39 98 _ _ (h.spells ∙ sym g.spells) refl)
+chars_are_unique t a_byte a_char d e h g = absurd (heads_differ 98 39 _ _ (h.spells ∙ sym g.spells) refl)
+chars_are_unique t a_byte a_byte d e h g = (refl, same_char a_byte t d e h g)
+
+pub no_char_ends_with_line_feed : NoCharEndsWithLineFeed
+no_char_ends_with_line_feed kind t d h =
+    sym (ap (last_passes is_line_feed) (append_assoc (char_front kind) (char_item_text d.item) (39 ∷ d.suffix) ∙ h.spells))
+    ∙ behind_quote_last (char_front kind ++ char_item_text d.item) 39 d.suffix refl h.suffix
 
 -- the length of an escape, told from the text
 escape_length_is : (w : Switches) (e : Escape) (x : List ℕ) → is_escape w e ≡ true → escape_length (escape_text e ++ x) ≡ length (escape_text e)
@@ -120,7 +128,7 @@ item_none kind (escaped_char e) s h g = escaped (escape_text e ++ 39 ∷ s) (esc
         let w = char_kind_switches kind in
         let none : escape_fault w (92 ∷ c ∷ r) ≡ None = subst (λ l. escape_fault w l ≡ None) whole (fault_escape w e (39 ∷ s) h) in
         let size : escape_length (92 ∷ c ∷ r) ≡ length (escape_text e) = subst (λ l. escape_length l ≡ length (escape_text e)) whole (escape_length_is w e (39 ∷ s) h) in
-        let behind : drop (length (escape_text e)) (92 ∷ c ∷ r) ≡ 39 ∷ s = subst (λ l. drop (length (escape_text e)) l ≡ 39 ∷ s) whole (drop-length (escape_text e) (39 ∷ s)) in
+        let behind : drop (length (escape_text e)) (92 ∷ c ∷ r) ≡ 39 ∷ s = subst (λ l. drop (length (escape_text e)) l ≡ 39 ∷ s) whole (drop_at (escape_text e) (39 ∷ s) (length (escape_text e)) refl) in
         subst (λ l. char_item_fault kind l ≡ None) (sym head)
         (none_some true _ _ none
         (none_unless _ _ _ (backslash_allowed kind)
@@ -148,7 +156,7 @@ escape_before kind t none h = go (read_escape (char_kind_switches kind) t none)
         let size : escape_length (92 ∷ t) ≡ length (escape_text e) =
         subst (λ l. escape_length l ≡ length (escape_text e)) here.spells (escape_length_is (char_kind_switches kind) e rest here.grammar) in
         let behind : drop (escape_length (92 ∷ t)) (92 ∷ t) ≡ rest =
-        ap (λ n. drop n (92 ∷ t)) size ∙ subst (λ l. drop (length (escape_text e)) l ≡ rest) here.spells (drop-length (escape_text e) rest) in
+        ap (λ n. drop n (92 ∷ t)) size ∙ subst (λ l. drop (length (escape_text e)) l ≡ rest) here.spells (drop_at (escape_text e) rest (length (escape_text e)) refl) in
         let closes = closing_read kind _ _ h in (
           escaped_char e,
           closes.0,
@@ -162,9 +170,9 @@ escape_before kind t none h = go (read_escape (char_kind_switches kind) t none)
 item_read : (kind : CharKind) (t : List ℕ) → char_item_fault kind t ≡ None → SomeChar kind t
 item_read kind [] h = cc
 item_read kind (c ∷ t) h =
-    let a = if_none ((c == 39) && first_passes (λ d. d == 39) t) _ _ h in
-    let b = if_none (c == 39) _ _ a.1 in
-    let d = if_none (is_special_whitespace c) _ _ b.1 in
+    let a = none_from ((c == 39) && first_passes (λ d. d == 39) t) _ _ h in
+    let b = none_from (c == 39) _ _ a.1 in
+    let d = none_from (is_special_whitespace c) _ _ b.1 in
     let e = some_none (c == 92) _ _ d.1 in
     let f = unless_none (allows_char kind c) _ _ e.1 in
     by_backslash (c == 92) refl b.0 d.0 e.0 f.0 f.1
@@ -191,9 +199,9 @@ item_read kind (c ∷ t) h =
         (escape_before kind t (subst (λ n. escape_fault (char_kind_switches kind) (n ∷ t) ≡ None) at (not_some _ never))
         (subst (λ n. behind_item kind (n ∷ t) (escape_length (n ∷ t)) ≡ None) at (subst (λ n. behind_item kind (c ∷ t) n ≡ None) size behind)))
 
-pub char_or_refused : CharOrRefused
+pub chars_are_decided : CharsAreDecided
 unfolding char_kind_fault
-char_or_refused kind t = (read, refused_none)
+chars_are_decided kind t = (read, refused_none)
   where
     place : ℕ
     place = length (char_front kind)
@@ -223,5 +231,5 @@ char_or_refused kind t = (read, refused_none)
     refused_none (d, h) =
         let inner = char_item_text d.item ++ 39 ∷ d.suffix in
         let begins : begins_with (char_front kind) t ≡ true = subst (λ l. begins_with (char_front kind) l ≡ true) h.spells (begins_with-append (char_front kind) inner) in
-        let behind : drop (length (char_front kind)) t ≡ inner = subst (λ l. drop (length (char_front kind)) l ≡ inner) h.spells (drop-length (char_front kind) inner) in
+        let behind : drop (length (char_front kind)) t ≡ inner = subst (λ l. drop (length (char_front kind)) l ≡ inner) h.spells (drop_at (char_front kind) inner (length (char_front kind)) refl) in
         if_true _ _ _ begins ∙ ap (option_map (moved (length (char_front kind)))) (ap (char_item_fault kind) behind ∙ item_none kind d.item d.suffix h.item h.suffix)

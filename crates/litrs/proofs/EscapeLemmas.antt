@@ -11,8 +11,10 @@ use Rattle.litrs.specs.Text.{byte_len, first_passes}
 use Rattle.litrs.specs.Escape.{Switches, Escape, simple_escape, hex_escape, unicode_escape, escape_text, is_escape, is_simple, escape_fault, hex_fault, unicode_fault, inner_fault, allows_value, allows_byte, simple_value, pair_value, hex_value, has_two_bytes, is_hex_or_underscore}
 use Rattle.litrs.specs.Suffix.{is_empty}
 use Rattle.litrs.specs.Characters.{is_scalar}
-use Rattle.litrs.proofs.ByteLen.{byte_len_ascii}
-use Rattle.litrs.proofs.ListTests.{none_if, none_unless, unless_none, if_none, take_while_all, take_while_whole, before_first-split, list_any-split, list_all_mono, split_only, split_first, Splits}
+use Rattle.litrs.proofs.ByteLen.{byte_len_one_ascii}
+use Rattle.litrs.proofs.Runs.{list_all-weaken}
+use Rattle.litrs.proofs.ListTests.{none_if, none_unless, unless_none, take_while_all, take_while_whole, before_first-split, list_any-split, split_only, split_first, Splits}
+use Rattle.litrs.proofs.Spans.{none_from}
 
 -- what holds of the seven simple escapes holds of each
 pub by_simple : (P : ℕ → Type 0) (c : ℕ) → is_simple c ≡ true → P 39 → P 34 → P 110 → P 114 → P 116 → P 92 → P 48 → P c
@@ -66,7 +68,7 @@ hexdigit_no_underscore c h = grind (arith, nat_tests)
 pub two_bytes : (c d : ℕ) (t : List ℕ) → is_ascii_hexdigit c ≡ true → is_ascii_hexdigit d ≡ true → has_two_bytes (c ∷ d ∷ t) ≡ true
 two_bytes c d t h g =
     let e : byte_len (c ∷ d ∷ []) ≡ 2 =
-    byte_len_ascii c (d ∷ []) (hexdigit_ascii c h) ∙ ap (λ n. 1 + n) (byte_len_ascii d [] (hexdigit_ascii d g)) in
+    byte_len_one_ascii c (d ∷ []) (hexdigit_ascii c h) ∙ ap (λ n. 1 + n) (byte_len_one_ascii d [] (hexdigit_ascii d g)) in
     or_right _ _ (ap (λ n. n == 2) e)
 
 pub fault_hex : (w : Switches) (c d : ℕ) (x : List ℕ) → is_ascii_hexdigit c ≡ true → is_ascii_hexdigit d ≡ true →
@@ -104,7 +106,7 @@ inner_none w inner f a n v s =
 fault_braced : (w : Switches) (inner x : List ℕ) → w.unicode ≡ true → list_all is_hex_or_underscore inner ≡ true → inner_fault w inner ≡ None →
     unicode_fault w (123 ∷ (inner ++ 125 ∷ x)) ≡ None
 fault_braced w inner x u a none =
-    let open_inner : list_all (λ c. not (c == 125)) inner ≡ true = list_all_mono _ _ not_brace inner a in
+    let open_inner : list_all (λ c. not (c == 125)) inner ≡ true = list_all-weaken _ _ not_brace inner a in
     none_unless _ _ _ u
     (none_unless _ _ _ (list_any-split (λ c. c == 125) inner 125 x refl)
     (subst (λ l. inner_fault w l ≡ None) (sym (before_first-split (λ c. c == 125) inner 125 x open_inner refl)) none))
@@ -158,9 +160,9 @@ first_inner (c ∷ t) h a =
 
 inner_escape : (w : Switches) (inner : List ℕ) → w.unicode ≡ true → inner_fault w inner ≡ None → is_escape w (unicode_escape inner) ≡ true
 inner_escape w inner u h =
-    let a = if_none _ _ _ h in
-    let b = if_none _ _ _ a.1 in
-    let c = if_none _ _ _ b.1 in
+    let a = none_from _ _ _ h in
+    let b = none_from _ _ _ a.1 in
+    let c = none_from _ _ _ b.1 in
     let d = unless_none _ _ _ c.1 in
     let e = unless_none _ _ _ d.1 in
     let all = no_stranger_all inner b.0 c.0 in
@@ -235,7 +237,7 @@ pub read_escape : (w : Switches) (t : List ℕ) → escape_fault w (92 ∷ t) �
 unfolding escape_fault
 read_escape w [] h = cc
 read_escape w (c ∷ t) h =
-    let a = if_none ((c == 48) && not w.allow_nul) _ _ h in
+    let a = none_from ((c == 48) && not w.allow_nul) _ _ h in
     read_letter w c t (c == 120) (c == 117) refl refl a.0 _ a.1
 
 -- no closing brace stands inside an escape
@@ -245,7 +247,7 @@ unicode_parts w inner h =
     let b = and_parts _ (allows_value w (hex_value inner)) a.0 in
     let c = and_parts _ (leb (count_by is_ascii_hexdigit inner) 6) b.0 in
     let d = and_parts _ (list_all is_hex_or_underscore inner) c.0 in
-    list_all_mono _ _ not_brace inner d.1
+    list_all-weaken _ _ not_brace inner d.1
 
 second_same : (c d : ℕ) (x y : List ℕ) → 92 ∷ c ∷ x ≡ 92 ∷ d ∷ y → c ≡ d
 second_same c d x y same = cc

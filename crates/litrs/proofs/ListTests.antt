@@ -3,13 +3,11 @@ use Rattle.std.proofs.Common.{◌≡◌, ℕ, Bool, true, false, not, ◌||◌, 
 use Rattle.std.specs.Prelude.{if◌then◌else◌}
 use Rattle.std.specs.List.{list_all, list_any, prefix_len, position_or_len, before_first, take_while}
 use Rattle.std.proofs.lemmas.Bool.{and_parts, and_from}
+use Rattle.std.proofs.lemmas.List.{take_at, take_all}
+use Rattle.litrs.proofs.Runs.{prefix_len_all}
 use Rattle.std.proofs.lemmas.List.Sums.{take_while-cons}
 
--- a refusal that does not stand
-pub if_none : {A : Type 0} (b : Bool) (x : A) (y : Option A) → (if b then Some x else y) ≡ None → (b ≡ false) × (y ≡ None)
-if_none true x y h = cc
-if_none false x y h = (refl, h)
-
+-- no row fits where each test turns out so
 pub none_if : {A : Type 0} (b : Bool) (x : A) (y : Option A) → b ≡ false → y ≡ None → (if b then Some x else y) ≡ None
 none_if true x y h e = cc
 none_if false x y h e = e
@@ -58,17 +56,9 @@ position_or_len-split p (x ∷ xs) c ys h e =
     let both = and_parts (not (p x)) (list_all (λ x. not (p x)) xs) h in
     rw both.0 (let rec = position_or_len-split p xs c ys both.1 e in omega (arith, rec))
 
-pub take-length : (xs ys : List ℕ) → take (length xs) (xs ++ ys) ≡ xs
-take-length [] ys = refl
-take-length (x ∷ xs) ys = ap (λ l. x ∷ l) (take-length xs ys)
-
-pub drop-length : (xs ys : List ℕ) → drop (length xs) (xs ++ ys) ≡ ys
-drop-length [] ys = refl
-drop-length (x ∷ xs) ys = drop-length xs ys
-
 pub before_first-split : (p : ℕ → Bool) (xs : List ℕ) (c : ℕ) (ys : List ℕ) → list_all (λ x. not (p x)) xs ≡ true → p c ≡ true →
     before_first p (xs ++ c ∷ ys) ≡ xs
-before_first-split p xs c ys h e = rw (position_or_len-split p xs c ys h e) (take-length xs (c ∷ ys))
+before_first-split p xs c ys h e = rw (position_or_len-split p xs c ys h e) (take_at xs (c ∷ ys) (length xs) refl)
 
 pub list_any-split : (p : ℕ → Bool) (xs : List ℕ) (c : ℕ) (ys : List ℕ) → p c ≡ true → list_any p (xs ++ c ∷ ys) ≡ true
 list_any-split p [] c ys e = rw e refl
@@ -105,25 +95,8 @@ split_only p (x ∷ xs) (y ∷ ys) c d u v h g e f same =
     (cc, rec.1)
 
 -- all elements pass
-pub prefix_len_all : (p : ℕ → Bool) (xs : List ℕ) → list_all p xs ≡ true → prefix_len p xs ≡ length xs
-prefix_len_all p [] h = refl
-prefix_len_all p (x ∷ xs) h =
-    let both = and_parts (p x) (list_all p xs) h in
-    rw both.0 (let rec = prefix_len_all p xs both.1 in omega (arith, rec))
-
-pub take_all_of : (xs : List ℕ) → take (length xs) xs ≡ xs
-take_all_of [] = refl
-take_all_of (x ∷ xs) = ap (λ l. x ∷ l) (take_all_of xs)
-
 pub take_while_all : (p : ℕ → Bool) (xs : List ℕ) → list_all p xs ≡ true → take_while p xs ≡ xs
-take_while_all p xs h = rw (prefix_len_all p xs h) (take_all_of xs)
-
--- each that passes one test passes another
-pub list_all_mono : (p q : ℕ → Bool) → ((x : ℕ) → p x ≡ true → q x ≡ true) → (xs : List ℕ) → list_all p xs ≡ true → list_all q xs ≡ true
-list_all_mono p q each [] h = refl
-list_all_mono p q each (x ∷ xs) h =
-    let both = and_parts (p x) (list_all p xs) h in
-    and_from (q x) (list_all q xs) (each x both.0) (list_all_mono p q each xs both.1)
+take_while_all p xs h = rw (prefix_len_all p xs h) (take_all (length xs) xs (omega arith))
 
 -- a longest front of passing elements that is not shorter is the whole list
 pub take_while_whole : (p : ℕ → Bool) (xs : List ℕ) → length xs ≤ length (take_while p xs) → list_all p xs ≡ true

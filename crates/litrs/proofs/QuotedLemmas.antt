@@ -7,11 +7,15 @@ use Rattle.litrs.specs.declared.err.ParseError.{ParseError}
 use Rattle.litrs.specs.declared.err.ParseErrorKind.TheVariants.{UnterminatedString}
 use Rattle.litrs.specs.Fault.{plain}
 use Rattle.litrs.specs.Characters.{is_blank}
+use Rattle.litrs.specs.Span.{last_passes, is_line_feed}
+use Rattle.litrs.proofs.Runs.{last_passes-append}
+use Rattle.litrs.proofs.SuffixStart.{suffix_last}
 use Rattle.litrs.specs.Suffix.{is_empty, is_suffix}
 use Rattle.litrs.specs.Text.{first_passes}
 use Rattle.litrs.specs.Escape.{Switches, Escape, simple_escape, hex_escape, unicode_escape, escape_text, is_escape, is_simple, escape_fault, allows_value}
 use Rattle.litrs.specs.Quoted.{Item, plain_item, escape_item, continuation, item_text, is_item, is_plain, body_text, is_body, takes_all_blanks, is_taken_before, stand_before, without_last, backslash_fault, rest_fault, allows_character}
-use Rattle.litrs.proofs.ListTests.{if_none, unless_none, none_if, none_unless, if_true, if_false}
+use Rattle.litrs.proofs.ListTests.{unless_none, none_if, none_unless, if_true, if_false}
+use Rattle.litrs.proofs.Spans.{none_from}
 use Rattle.litrs.proofs.EscapeLemmas.{same_escape, fault_escape, read_escape}
 
 -- an escape begins with a backslash, and no LF follows it
@@ -103,7 +107,8 @@ same_items w (a ∷ L) (b ∷ M) x y h g ends ends' same =
     let rest = same_items w L M x y p.1 p'.1 ends ends' first.1 in
     (cc, rest.1)
 
-heads_differ : (c d : ℕ) (x y : List ℕ) → c ∷ x ≡ d ∷ y → (c == d) ≡ false → ⊥
+-- two lists that begin differently
+pub heads_differ : (c d : ℕ) (x y : List ℕ) → c ∷ x ≡ d ∷ y → (c == d) ≡ false → ⊥
 heads_differ c d x y same differ = let at : c ≡ d = cc in both_ways (c == d) differ (eq-eqb c d at)
 
 -- the closing quote is no item
@@ -238,7 +243,7 @@ behind_backslash w (c ∷ t) h = go (c == 10) refl h
     go false e g = escape_here w (c ∷ t) g
     go true e g =
         let at = eqb-true c 10 e in
-        let stops = if_none _ _ _ g in
+        let stops = none_from _ _ _ g in
         subst (λ n. SomeItem w (92 ∷ n ∷ t)) (sym at) (continuation_here w t (subst (λ n. (is_blank n && list_all is_blank t) ≡ false) at stops.0))
 
 front_cons : (w : Switches) (c : ℕ) (t : List ℕ) (b q : Bool) → (c == 92) ≡ b → (c == 34) ≡ q → rest_fault w (c ∷ t) ≡ None → Front w (c ∷ t)
@@ -247,13 +252,13 @@ front_cons w c t true q b_is q_is h =
     let at = eqb-true c 92 b_is in
     inl (subst (λ n. SomeItem w (n ∷ t)) (sym at) (behind_backslash w t (sym (if_true _ _ _ b_is) ∙ h)))
 front_cons w c t false true b_is q_is h =
-    let a = if_none (c == 13) _ _ (sym (if_false _ _ _ b_is) ∙ h) in
+    let a = none_from (c == 13) _ _ (sym (if_false _ _ _ b_is) ∙ h) in
     let b = unless_none (allows_value w c) _ _ a.1 in
     let d = unless_none (allows_character w c) _ _ b.1 in
-    let e = if_none ((c == 34) && not (is_suffix t)) _ _ d.1 in
+    let e = none_from ((c == 34) && not (is_suffix t)) _ _ d.1 in
     inr (inr (t, ap (λ n. n ∷ t) (sym (eqb-true c 34 q_is)), not-false _ (subst (λ b. (b && not (is_suffix t)) ≡ false) q_is e.0)))
 front_cons w c t false false b_is q_is h =
-    let a = if_none (c == 13) _ _ (sym (if_false _ _ _ b_is) ∙ h) in
+    let a = none_from (c == 13) _ _ (sym (if_false _ _ _ b_is) ∙ h) in
     let b = unless_none (allows_value w c) _ _ a.1 in
     let d = unless_none (allows_character w c) _ _ b.1 in
     inl (
@@ -350,3 +355,8 @@ stands_body w (a ∷ items) s h =
     let p = and_parts _ (stand_before w (34 ∷ s) items) h in
     let q = and_parts (is_item w a) _ p.0 in
     and_from _ _ (and_from _ _ q.0 (item_stands a (body_text items) s q.1)) (stands_body w items s p.1)
+
+-- a text that ends with a quote and a suffix does not end with LF
+pub behind_quote_last : (x : List ℕ) (q : ℕ) (s : List ℕ) → is_line_feed q ≡ false → is_suffix s ≡ true → last_passes is_line_feed (x ++ q ∷ s) ≡ false
+behind_quote_last x q [] other h = last_passes-append is_line_feed x q [] ∙ other
+behind_quote_last x q (c ∷ s) other h = last_passes-append is_line_feed x q (c ∷ s) ∙ suffix_last (c ∷ s) h

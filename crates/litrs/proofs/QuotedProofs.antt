@@ -11,15 +11,16 @@ use Rattle.std.proofs.lemmas.Str.{length-encode, len_utf8_bounds}
 use Rattle.litrs.specs.Characters.{is_blank, is_scalar}
 use Rattle.litrs.specs.declared.err.ParseError.{ParseError}
 use Rattle.litrs.specs.Fault.{moved}
+use Rattle.litrs.specs.Span.{last_passes, is_line_feed}
 use Rattle.litrs.specs.Suffix.{is_suffix}
 use Rattle.litrs.specs.Text.{first_passes, byte_len}
 use Rattle.litrs.specs.Escape.{Switches, Escape, simple_escape, hex_escape, unicode_escape, escape_text, escape_value, value_bytes, is_escape, is_simple, hex_value, pair_value, allows_value}
-use Rattle.litrs.specs.Quoted.{Item, plain_item, escape_item, continuation, item_text, item_value, is_item, allows_character, stand_before, body_text, body_value, is_body, takes_all_blanks, rest_fault, QuotedParts, IsQuoted, IsQuotedFault}
-use Rattle.litrs.specs.QuotedLaws.{OnlyBody, OnlyQuoted, OnlyQuotedFault, QuotedOrRefused, QuotedNotRefused, BodiesJoin, ValueFitsBody, NoNulInValue, QuotedNeverEndsWithLineFeed}
-use Rattle.litrs.proofs.ByteLen.{byte_len-append, length-le-byte_len}
+use Rattle.litrs.specs.Quoted.{Item, plain_item, escape_item, continuation, item_text, item_value, is_item, allows_character, stand_before, body_text, body_value, is_body, takes_all_blanks, rest_fault, QuotedParts, IsQuoted, IsQuotedFault, a_string, a_byte_string, a_c_string}
+use Rattle.litrs.specs.QuotedLaws.{QuotedBodiesAreUnique, QuotedTextsAreUnique, QuotedRefusalsAreUnique, QuotedTextsAreDecided, QuotedTextsAreNotRefused, QuotedBodiesJoin, QuotedValuesFitBodies, NoNulInQuotedCStrings, NoQuotedTextEndsWithLineFeed, QuotedLiteralsAreUnique}
+use Rattle.litrs.proofs.Spans.{byte_len-append}
+use Rattle.litrs.proofs.ByteLen.{length-le-byte_len}
 use Rattle.litrs.proofs.ListTests.{none_unless}
-use Rattle.litrs.proofs.SuffixEnd.{closed_never_ends_with_line_feed}
-use Rattle.litrs.proofs.QuotedLemmas.{same_items, quote_no_item, refused_no_item, read_items, Reads, SomeReading, Closes, body_stands, stands_body}
+use Rattle.litrs.proofs.QuotedLemmas.{behind_quote_last, heads_differ, same_items, quote_no_item, refused_no_item, read_items, Reads, SomeReading, Closes, body_stands, stands_body}
 
 -- two quoted texts behind one front
 same_parts : (w : Switches) (items others : List Item) (s r : List ℕ) → is_body w items ≡ true → is_body w others ≡ true →
@@ -27,18 +28,18 @@ same_parts : (w : Switches) (items others : List Item) (s r : List ℕ) → is_b
 same_parts w items others s r h g same =
     same_items w items others (34 ∷ s) (34 ∷ r) (body_stands w items s h) (body_stands w others r g) (quote_no_item w s) (quote_no_item w r) same
 
-pub only_body : OnlyBody
-only_body w t items others p q =
+pub quoted_bodies_are_unique : QuotedBodiesAreUnique
+quoted_bodies_are_unique w t items others p q =
     (same_parts w items others [] [] p.body q.body (ap (λ l. l ++ 34 ∷ []) (p.spells ∙ sym q.spells))).0
 
-pub only_quoted : OnlyQuoted
-only_quoted front w t q r h g =
+pub quoted_texts_are_unique : QuotedTextsAreUnique
+quoted_texts_are_unique front w t q r h g =
     let both = same_parts w q.items r.items q.suffix r.suffix h.body g.body (append_cancel_left front _ _ (h.spells ∙ sym g.spells)) in
     let suffixes : q.suffix ≡ r.suffix = cc in
     λ i. record { items = both.0 i; suffix = suffixes i }
 
-pub only_quoted_fault : OnlyQuotedFault
-only_quoted_fault front w t e f h g =
+pub quoted_refusals_are_unique : QuotedRefusalsAreUnique
+quoted_refusals_are_unique front w t e f h g =
     let both = same_items w h.items g.items h.rest g.rest h.taken g.taken (refused_no_item w h.rest h.cause h.told) (refused_no_item w g.rest g.cause g.told)
     (append_cancel_left front _ _ (h.spells ∙ sym g.spells)) in
     let told : rest_fault w h.rest ≡ Some g.cause = ap (rest_fault w) both.1 ∙ g.told in
@@ -46,8 +47,8 @@ only_quoted_fault front w t e f h g =
     let places : byte_len (front ++ body_text h.items) ≡ byte_len (front ++ body_text g.items) = ap (λ l. byte_len (front ++ body_text l)) both.0 in
     sym h.placed ∙ ap (λ n. moved n h.cause) places ∙ ap (λ c. moved (byte_len (front ++ body_text g.items)) c) causes ∙ g.placed
 
-pub quoted_or_refused : QuotedOrRefused
-quoted_or_refused front w t = go (read_items w t)
+pub quoted_texts_are_decided : QuotedTextsAreDecided
+quoted_texts_are_decided front w t = go (read_items w t)
   where
     ended : (items : List Item) (rest : List ℕ) → Reads w t items rest → (((e : ParseError) × (rest_fault w rest ≡ Some e)) ⊎ Closes rest) →
         ((q : QuotedParts) × IsQuoted front w (front ++ t) q) ⊎ ((e : ParseError) × IsQuotedFault front w (front ++ t) e)
@@ -85,8 +86,8 @@ closed_no_fault w s h =
     (none_unless _ _ _ (or_right w.unicode true refl)
     (none_unless (is_suffix s) _ _ h refl))
 
-pub quoted_not_refused : QuotedNotRefused
-quoted_not_refused front w t q e h g =
+pub quoted_texts_are_not_refused : QuotedTextsAreNotRefused
+quoted_texts_are_not_refused front w t q e h g =
     let both = same_items w q.items g.items (34 ∷ q.suffix) g.rest (body_stands w q.items q.suffix h.body) g.taken (quote_no_item w q.suffix)
     (refused_no_item w g.rest g.cause g.told) (append_cancel_left front _ _ (h.spells ∙ sym g.spells)) in
     let none = closed_no_fault w q.suffix h.suffix in
@@ -118,8 +119,8 @@ join_body w (a ∷ items) others h g n =
     subst (λ l. takes_all_blanks a l ≡ true) (sym (body_text-append items others)) (join_item a (body_text items) (body_text others) q.1 n) in
     and_from _ _ (and_from _ _ q.0 joined) (join_body w items others p.1 g n)
 
-pub bodies_join : BodiesJoin
-bodies_join w a b items others h g n = (
+pub quoted_bodies_join : QuotedBodiesJoin
+quoted_bodies_join w a b items others h g n = (
   record {
     spells = body_text-append items others ∙ ap (λ l. l ++ body_text others) h.spells ∙ ap (λ l. a ++ l) g.spells;
     body = join_body w items others h.body g.body (subst (λ l. first_passes is_blank l ≡ false) (sym g.spells) n);
@@ -190,8 +191,8 @@ value_size : (value t : List ℕ) → HasSize value t →
 value_size value t (inl h) = (omega (arith, h.0), ((λ _. h.1), (λ _. h.0)))
 value_size value t (inr h) = (omega (arith, h.0), ((λ e. absurd (omega (arith, h.0, e))), (λ e. absurd (both_ways _ e h.1))))
 
-pub value_fits_body : ValueFitsBody
-value_fits_body w t items h = value_size (body_value items) t (subst (λ l. HasSize (body_value items) l) h.spells (body_size w items h.body))
+pub quoted_values_fit_bodies : QuotedValuesFitBodies
+quoted_values_fit_bodies w t items h = value_size (body_value items) t (subst (λ l. HasSize (body_value items) l) h.spells (body_size w items h.body))
 
 -- the bytes of a character that is not NUL
 abbrev has_no_nul : List ℕ → Bool
@@ -244,10 +245,26 @@ body_no_nul w (a ∷ items) off h =
     let q = and_parts (is_item w a) _ p.0 in
     list_all-append _ (item_value a) (body_value items) ∙ and_from _ _ (item_no_nul w a off q.0) (body_no_nul w items off p.1)
 
-pub no_nul_in_value : NoNulInValue
-no_nul_in_value w t items off h = body_no_nul w items off h.body
+pub no_nul_in_quoted_c_strings : NoNulInQuotedCStrings
+no_nul_in_quoted_c_strings w t items off h = none_of (body_value items) (body_no_nul w items off h.body)
+  where
+    none_of : (bs : List ℕ) → has_no_nul bs ≡ true → list_any (λ b. b == 0) bs ≡ false
+    none_of [] h = refl
+    none_of (b ∷ bs) h =
+        let both = and_parts (not (b == 0)) (has_no_nul bs) h in or_from _ _ (not-true _ both.0) (none_of bs both.1)
 
-pub quoted_never_ends_with_line_feed : QuotedNeverEndsWithLineFeed
-quoted_never_ends_with_line_feed front w t q h =
-    closed_never_ends_with_line_feed (front ++ body_text q.items) 34 q.suffix t h.suffix
-    (append_assoc front (body_text q.items) (34 ∷ q.suffix) ∙ h.spells) refl
+pub no_quoted_text_ends_with_line_feed : NoQuotedTextEndsWithLineFeed
+no_quoted_text_ends_with_line_feed front w t q h =
+    sym (ap (last_passes is_line_feed) (append_assoc front (body_text q.items) (34 ∷ q.suffix) ∙ h.spells))
+    ∙ behind_quote_last (front ++ body_text q.items) 34 q.suffix refl h.suffix
+
+pub quoted_literals_are_unique : QuotedLiteralsAreUnique
+quoted_literals_are_unique t a_string a_string q r h g = (refl, quoted_texts_are_unique _ _ t q r h g)
+quoted_literals_are_unique t a_string a_byte_string q r h g = absurd (heads_differ 34 98 _ _ (h.spells ∙ sym g.spells) refl)
+quoted_literals_are_unique t a_string a_c_string q r h g = absurd (heads_differ 34 99 _ _ (h.spells ∙ sym g.spells) refl)
+quoted_literals_are_unique t a_byte_string a_string q r h g = absurd (heads_differ 98 34 _ _ (h.spells ∙ sym g.spells) refl)
+quoted_literals_are_unique t a_byte_string a_byte_string q r h g = (refl, quoted_texts_are_unique _ _ t q r h g)
+quoted_literals_are_unique t a_byte_string a_c_string q r h g = absurd (heads_differ 98 99 _ _ (h.spells ∙ sym g.spells) refl)
+quoted_literals_are_unique t a_c_string a_string q r h g = absurd (heads_differ 99 34 _ _ (h.spells ∙ sym g.spells) refl)
+quoted_literals_are_unique t a_c_string a_byte_string q r h g = absurd (heads_differ 99 98 _ _ (h.spells ∙ sym g.spells) refl)
+quoted_literals_are_unique t a_c_string a_c_string q r h g = (refl, quoted_texts_are_unique _ _ t q r h g)

@@ -7,16 +7,16 @@ use Rattle.litrs.specs.declared.err.ParseError.{ParseError}
 use Rattle.litrs.specs.declared.err.ParseErrorKind.TheVariants.{UnterminatedString}
 use Rattle.litrs.specs.Characters.{is_blank}
 use Rattle.litrs.specs.Fault.{plain, moved}
-use Rattle.litrs.specs.Span.{Marks, SpanFits}
 use Rattle.litrs.specs.Suffix.{is_suffix}
 use Rattle.litrs.specs.Text.{byte_len, first_passes, begins_with}
 use Rattle.litrs.specs.Escape.{Switches, escape_fault, allows_value}
 use Rattle.litrs.specs.Quoted.{body_text, allows_character, without_last, backslash_fault, rest_fault}
-use Rattle.litrs.specs.QuotedLaws.{QuotedSpanFits}
+use Rattle.litrs.specs.QuotedLaws.{QuotedSpansLieWithin}
 use Rattle.litrs.specs.CharByte.{CharKind, a_char, a_byte, char_front, char_kind_switches, is_special_whitespace, allows_char, char_item_length, closing_fault, char_item_fault, start_fault, char_kind_fault}
-use Rattle.litrs.specs.CharByteLaws.{CharSpanFits}
-use Rattle.litrs.proofs.ByteLen.{byte_len-append, byte_len_ascii, length-le-byte_len}
-use Rattle.litrs.proofs.SpanLemmas.{AllFit, marks_start, marks_byte, fit_if, fit_unless, fit_either, fit_some, fit_on, fit_later, escape_fits}
+use Rattle.litrs.specs.CharByteLaws.{CharSpansLieWithin}
+use Rattle.litrs.proofs.Spans.{byte_len-append}
+use Rattle.litrs.proofs.ByteLen.{byte_len_one_ascii, length-le-byte_len}
+use Rattle.litrs.proofs.SpanLemmas.{Marks, SpanFits, lies_within, AllFit, marks_start, marks_byte, fit_if, fit_unless, fit_either, fit_some, fit_on, fit_later, escape_fits}
 use Rattle.litrs.proofs.QuotedLemmas.{last_of}
 use Rattle.litrs.proofs.CharByteProofs.{begins_with-split}
 
@@ -65,16 +65,16 @@ rest_fits w (c ∷ t) =
     behind_quote e =
         let both = and_parts (c == 34) (not (is_suffix t)) e in
         let ascii : c < 128 = (let at = eqb-true c 34 both.0 in omega arith) in
-        marks_byte (c ∷ []) t (c ∷ t) 1 refl (byte_len_ascii c [] ascii) (some_no_suffix t (not_suffix _ both.1))
+        marks_byte (c ∷ []) t (c ∷ t) 1 refl (byte_len_one_ascii c [] ascii) (some_no_suffix t (not_suffix _ both.1))
 
-pub quoted_span_fits : QuotedSpanFits
-quoted_span_fits front w t e h =
+pub quoted_spans_lie_within : QuotedSpansLieWithin
+quoted_spans_lie_within front w t e h =
     let before = front ++ body_text h.items in
     let fits = fit_later before h.rest h.cause (fit_some h.rest (rest_fault w h.rest) h.cause (rest_fits w h.rest) h.told) in
     let whole : before ++ h.rest ≡ t = append_assoc front (body_text h.items) h.rest ∙ h.spells in
     let Text : List ℕ → Type 0 = λ l. SpanFits l (moved (byte_len before) h.cause) in
     let Refusal : ParseError → Type 0 = λ f. SpanFits t f in
-    subst Refusal h.placed (subst Text whole fits)
+    lies_within t e (subst Refusal h.placed (subst Text whole fits))
 
 -- behind the item of a char
 closing_fits : (kind : CharKind) (before behind : List ℕ) → AllFit (before ++ behind) (closing_fault kind (byte_len before) behind)
@@ -87,7 +87,7 @@ closing_fits kind before (c ∷ t) =
     behind_quote : (c == 39) ≡ true → is_suffix t ≡ false → Marks (before ++ c ∷ t) (byte_len before + 1) (byte_len before + 1 + 1)
     behind_quote quote none =
         let ascii : c < 128 = (let at = eqb-true c 39 quote in omega arith) in
-        let one = byte_len_ascii c [] ascii in
+        let one = byte_len_one_ascii c [] ascii in
         let size : byte_len (before ++ c ∷ []) ≡ byte_len before + 1 = byte_len-append before (c ∷ []) ∙ ap (λ n. byte_len before + n) one in
         marks_byte (before ++ c ∷ []) t (before ++ c ∷ t) (byte_len before + 1) (append_assoc before (c ∷ []) t) size (some_no_suffix t none)
 
@@ -109,8 +109,8 @@ item_fits kind (c ∷ t) =
         subst (λ n. AllFit (n ∷ t) (escape_fault (char_kind_switches kind) (n ∷ t))) (sym (eqb-true c 92 both.0)) (escape_fits (char_kind_switches kind) t)
 
 front_bytes : (kind : CharKind) → byte_len (char_front kind) ≡ length (char_front kind)
-front_bytes a_char = byte_len_ascii 39 [] (lit< tt)
-front_bytes a_byte = byte_len_ascii 98 (39 ∷ []) (lit< tt) ∙ ap (λ n. 1 + n) (byte_len_ascii 39 [] (lit< tt))
+front_bytes a_char = byte_len_one_ascii 39 [] (lit< tt)
+front_bytes a_byte = byte_len_one_ascii 98 (39 ∷ []) (lit< tt) ∙ ap (λ n. 1 + n) (byte_len_one_ascii 39 [] (lit< tt))
 
 start_fits : (kind : CharKind) (t : List ℕ) → SpanFits t (start_fault kind t)
 start_fits kind [] = tt
@@ -134,5 +134,5 @@ char_fits kind t =
         let Place : ℕ → Type 0 = λ n. AllFit t (option_map (moved n) (char_item_fault kind rest)) in
         subst Place (front_bytes kind) (subst Text (begins_with-split (char_front kind) t e) fits)
 
-pub char_span_fits : CharSpanFits
-char_span_fits kind t e told = fit_some t (char_kind_fault kind t) e (char_fits kind t) told
+pub char_spans_lie_within : CharSpansLieWithin
+char_spans_lie_within kind t e told = lies_within t e (fit_some t (char_kind_fault kind t) e (char_fits kind t) told)

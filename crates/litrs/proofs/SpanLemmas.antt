@@ -13,14 +13,34 @@ use Rattle.litrs.specs.declared.err.ParseError.{ParseError}
 use Rattle.litrs.specs.Characters.{is_scalar}
 use Rattle.std.specs.declared.ops.Range.{Range}
 use Rattle.litrs.specs.Fault.{moved, moved_span}
-use Rattle.litrs.specs.Span.{Marks, SpanFits}
+use Rattle.litrs.specs.Span.{IsBoundary, LiesWithin}
 use Rattle.litrs.specs.Suffix.{is_empty}
 use Rattle.litrs.specs.Text.{byte_len, first_passes}
 use Rattle.litrs.specs.Escape.{Switches, escape_fault, hex_fault, unicode_fault, inner_fault, is_simple, is_hex_or_underscore, has_two_bytes, place_behind, allows_value, allows_byte, pair_value, hex_value}
-use Rattle.litrs.specs.EscapeLaws.{EscapeSpanFits}
-use Rattle.litrs.proofs.ByteLen.{byte_len-append, byte_len_ascii, byte_len_all_ascii, length-le-byte_len}
+use Rattle.litrs.specs.EscapeLaws.{EscapeSpansLieWithin}
+use Rattle.litrs.proofs.Spans.{byte_len-append, boundary_behind}
+use Rattle.litrs.proofs.ByteLen.{byte_len_one_ascii, byte_len_all_ascii, length-le-byte_len}
 use Rattle.litrs.proofs.ListTests.{Splits, split_first, before_first-split, take_while_whole, if_true, if_false}
 use Rattle.litrs.proofs.EscapeLemmas.{hex_or_underscore_ascii, has_stranger}
+
+-- the bytes from start up to end lie within the text, and start is a character boundary
+pub record Marks (t : List ℕ) (start end : ℕ) : Type 0 where
+  pub before : List ℕ
+  pub behind : List ℕ
+  pub spells : before ++ behind ≡ t
+  pub starts : byte_len before ≡ start
+  pub ordered : start ≤ end
+  pub fits : end ≤ byte_len t
+
+-- a refusal points at no part of the text, or at such bytes
+abbrev pub SpanFits : List ℕ → ParseError → Type 0
+SpanFits t e = IfSome e.span (λ span. Marks t span.start span.end)
+
+pub lies_within : (t : List ℕ) (e : ParseError) → SpanFits t e → LiesWithin t e
+lies_within t e h span is = go (let P : Option (Range ℕ) → Type 0 = λ s. IfSome s (λ span. Marks t span.start span.end) in subst P is h)
+  where
+    go : Marks t span.start span.end → (span.start ≤ span.end) × (span.end ≤ byte_len t) × IsBoundary t span.start
+    go m = (m.ordered, m.fits, boundary_behind t m.before m.behind span.start m.spells m.starts)
 
 -- a span from the start
 pub marks_start : (t : List ℕ) (end : ℕ) → end ≤ byte_len t → Marks t 0 end
@@ -120,8 +140,8 @@ two_bytes_there (c ∷ d ∷ t) h = length_two (length-le-byte_len (c ∷ d ∷ 
 
 prefixed : (c : ℕ) (t : List ℕ) → c < 128 → byte_len (92 ∷ c ∷ t) ≡ 2 + byte_len t
 prefixed c t h =
-    let one = byte_len_ascii 92 (c ∷ t) (lit< tt) in
-    let two = byte_len_ascii c t h in
+    let one = byte_len_one_ascii 92 (c ∷ t) (lit< tt) in
+    let two = byte_len_one_ascii c t h in
     omega arith
 
 hex_fits : (w : Switches) (t : List ℕ) → AllFit (92 ∷ 120 ∷ t) (hex_fault w t)
@@ -193,7 +213,7 @@ place_in (suc n) (c ∷ front) more h = go (is_ascii_hexdigit c) refl (place_in 
 opening : (t : List ℕ) → byte_len (92 ∷ 117 ∷ 123 ∷ t) ≡ 3 + byte_len t
 opening t =
     let a = prefixed 117 (123 ∷ t) (lit< tt) in
-    let b = byte_len_ascii 123 t (lit< tt) in
+    let b = byte_len_one_ascii 123 t (lit< tt) in
     omega arith
 
 -- a byte behind hex digits and underscores
@@ -270,5 +290,5 @@ escape_fits w (c ∷ t) =
     (λ _. fit_either _ (c == 117) (unicode_fault w t) _ (λ e. subst (λ n. AllFit (92 ∷ n ∷ t) (unicode_fault w t)) (sym (eqb-true c 117 e)) (unicode_fits w t))
     (λ _. fit_either _ (is_simple c) None _ (λ _. tt) (λ _. two_long c t))))
 
-pub escape_span_fits : EscapeSpanFits
-escape_span_fits w t e told = fit_some (92 ∷ t) (escape_fault w (92 ∷ t)) e (escape_fits w t) told
+pub escape_spans_lie_within : EscapeSpansLieWithin
+escape_spans_lie_within w t e told = lies_within (92 ∷ t) e (fit_some (92 ∷ t) (escape_fault w (92 ∷ t)) e (escape_fits w t) told)

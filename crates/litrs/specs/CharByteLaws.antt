@@ -1,22 +1,21 @@
--- What holds of chars and bytes.
-use Rattle.std.specs.Prelude.{◌≡◌, ◌↔◌, ℕ, List, [], ◌∷◌, ◌++◌, Some, None}
-use Rattle.litrs.specs.declared.err.ParseError.{ParseError}
-use Rattle.litrs.specs.Characters.{line_feed}
+-- What holds of all chars and bytes.
+use Rattle.std.specs.Prelude.{◌≡◌, ◌↔◌, ℕ, List, None, IsFalse}
+use Rattle.std.specs.Option.{ForSome}
 use Rattle.litrs.specs.CharByte.{CharKind, CharParts, IsCharLiteral, char_kind_fault}
-use Rattle.litrs.specs.Span.{SpanFits}
+use Rattle.litrs.specs.Span.{LiesWithin, last_passes, is_line_feed}
 
--- A text has at most one derivation as a char, and as a byte.
-abbrev pub OnlyChar : Type 0
-OnlyChar = (kind : CharKind) (t : List ℕ) (d e : CharParts) → IsCharLiteral kind t d → IsCharLiteral kind t e → d ≡ e
+-- a text has at most one derivation as a char or a byte, over both kinds together
+abbrev pub CharsAreUnique : Type 0
+CharsAreUnique = (t : List ℕ) (k l : CharKind) (d e : CharParts) → IsCharLiteral k t d → IsCharLiteral l t e → (k ≡ l) × (d ≡ e)
 
--- It is refused exactly where it has none.
-abbrev pub CharOrRefused : Type 0
-CharOrRefused = (kind : CharKind) (t : List ℕ) → (char_kind_fault kind t ≡ None) ↔ ((d : CharParts) × IsCharLiteral kind t d)
+-- a text is a literal of the kind, or the table refuses it: one of the two, and never both
+abbrev pub CharsAreDecided : Type 0
+CharsAreDecided = (kind : CharKind) (t : List ℕ) → (char_kind_fault kind t ≡ None) ↔ ((d : CharParts) × IsCharLiteral kind t d)
 
--- No char and no byte ends with LF.
-abbrev pub CharNeverEndsWithLineFeed : Type 0
-CharNeverEndsWithLineFeed = (kind : CharKind) (t : List ℕ) (d : CharParts) → ¬ IsCharLiteral kind (t ++ line_feed ∷ []) d
+-- the span of each refusal lies within the text and starts on a character boundary
+abbrev pub CharSpansLieWithin : Type 0
+CharSpansLieWithin = (kind : CharKind) (t : List ℕ) → ForSome (char_kind_fault kind t) (LiesWithin t)
 
--- The span of a refusal lies within the text and starts on a character boundary.
-abbrev pub CharSpanFits : Type 0
-CharSpanFits = (kind : CharKind) (t : List ℕ) (e : ParseError) → char_kind_fault kind t ≡ Some e → SpanFits t e
+-- no char and no byte ends with LF
+abbrev pub NoCharEndsWithLineFeed : Type 0
+NoCharEndsWithLineFeed = (kind : CharKind) (t : List ℕ) (d : CharParts) → IsCharLiteral kind t d → IsFalse (last_passes is_line_feed t)

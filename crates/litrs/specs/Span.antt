@@ -1,17 +1,24 @@
--- Where the span of a refusal may lie.
-use Rattle.std.specs.Prelude.{◌≡◌, ℕ, ◌≤◌, List, ◌++◌, IfSome}
+-- Spans of refusals and the ends of texts. Places and lengths count the bytes of the UTF-8.
+use Rattle.std.specs.Prelude.{◌≡◌, ℕ, ◌≤◌, ◌==◌, Bool, false, List, [], ◌∷◌, take}
+use Rattle.std.specs.Option.{ForSome}
 use Rattle.litrs.specs.declared.err.ParseError.{ParseError}
 use Rattle.litrs.specs.Text.{byte_len}
 
--- the bytes from start up to end lie within the text, and start is a character boundary
-pub record Marks (t : List ℕ) (start end : ℕ) : Type 0 where
-  pub before : List ℕ
-  pub behind : List ℕ
-  pub spells : before ++ behind ≡ t
-  pub starts : byte_len before ≡ start
-  pub ordered : start ≤ end
-  pub fits : end ≤ byte_len t
+-- the place lies between two characters of the text: some number of its first characters has so many bytes
+abbrev pub IsBoundary : List ℕ → ℕ → Type 0
+IsBoundary t place = (k : ℕ) × (byte_len (take k t) ≡ place)
 
--- a refusal points at no part of the text, or at such bytes
-abbrev pub SpanFits : List ℕ → ParseError → Type 0
-SpanFits t e = IfSome e.span (λ span. Marks t span.start span.end)
+-- The span of a refusal, where it has one, lies within the text and starts on a character boundary.
+-- It may end inside a character.
+abbrev pub LiesWithin : List ℕ → ParseError → Type 0
+LiesWithin t e = ForSome e.span (λ span. (span.start ≤ span.end) × (span.end ≤ byte_len t) × IsBoundary t span.start)
+
+-- the last character is there and passes the test
+abbrev pub last_passes : (ℕ → Bool) → List ℕ → Bool
+last_passes p [] = false
+last_passes p (c ∷ []) = p c
+last_passes p (c ∷ d ∷ cs) = last_passes p (d ∷ cs)
+
+-- LF
+abbrev pub is_line_feed : ℕ → Bool
+is_line_feed c = c == 10

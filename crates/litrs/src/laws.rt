@@ -1,5 +1,6 @@
-//! What holds of the definitions alone. Each law is the contract of a function that does nothing.
-
-pub mod char_byte;
-pub mod escape;
-pub mod quoted;
+//! Laws of the grammar: each is the contract of a function with an empty body.
+mod char_byte;
+mod escape;
+mod float;
+mod quoted;
+mod raw;

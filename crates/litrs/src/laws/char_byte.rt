@@ -1,22 +1,22 @@
-//! What holds of chars and bytes.
-ghost use Rattle.litrs.specs.CharByteLaws.{OnlyChar, CharOrRefused, CharNeverEndsWithLineFeed, CharSpanFits};
+//! Laws of chars and bytes.
+ghost use Rattle.litrs.specs.CharByteLaws.{CharsAreUnique, CharsAreDecided, CharSpansLieWithin, NoCharEndsWithLineFeed};
 
-/// A text has at most one derivation as a char, and at most one as a byte.
-pub fn only_char()
-    ensures { OnlyChar }
+/// A text has at most one derivation as a char or a byte, over both kinds together.
+pub fn chars_are_unique()
+    ensures { CharsAreUnique }
 {}
 
-/// A text is refused as a char or byte exactly where it has no derivation as one.
-pub fn char_or_refused()
-    ensures { CharOrRefused }
+/// A text is a char, or a byte, or the table of the kind refuses it: one of the two, and never both.
+pub fn chars_are_decided()
+    ensures { CharsAreDecided }
+{}
+
+/// The span of each refusal lies within the text and starts on a character boundary.
+pub fn char_spans_lie_within()
+    ensures { CharSpansLieWithin }
 {}
 
 /// No char and no byte ends with LF.
-pub fn char_never_ends_with_line_feed()
-    ensures { CharNeverEndsWithLineFeed }
-{}
-
-/// The span of a refused char or byte lies within the text and starts on a character boundary.
-pub fn char_span_fits()
-    ensures { CharSpanFits }
+pub fn no_char_ends_with_line_feed()
+    ensures { NoCharEndsWithLineFeed }
 {}

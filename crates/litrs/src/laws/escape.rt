@@ -1,17 +1,18 @@
-//! What holds of escapes.
-ghost use Rattle.litrs.specs.EscapeLaws.{EscapeOrRefused, OnlyEscape, EscapeSpanFits};
-
-/// A text that begins with a backslash is refused exactly where no escape stands at its front.
-pub fn escape_or_refused()
-    ensures { EscapeOrRefused }
-{}
+//! Laws of escapes.
+ghost use Rattle.litrs.specs.EscapeLaws.{EscapesAreUnique, EscapesAreDecided, EscapeSpansLieWithin};
 
 /// At most one escape stands at the front of a text.
-pub fn only_escape()
-    ensures { OnlyEscape }
+pub fn escapes_are_unique()
+    ensures { EscapesAreUnique }
 {}
 
-/// The span of a refused escape lies within the text and starts on a character boundary.
-pub fn escape_span_fits()
-    ensures { EscapeSpanFits }
+/// An escape stands at the front of a text that begins with a backslash, or the table refuses it:
+/// one of the two, and never both.
+pub fn escapes_are_decided()
+    ensures { EscapesAreDecided }
+{}
+
+/// The span of each refusal lies within the text and starts on a character boundary.
+pub fn escape_spans_lie_within()
+    ensures { EscapeSpansLieWithin }
 {}
