@@ -3,7 +3,7 @@ use Rattle.std.specs.Prelude.{◌≡◌, [], ◌∷◌, Some, None, codes, refl}
 use Rattle.litrs.specs.declared.err.ParseErrorKind.TheVariants.{Empty, UnexpectedChar, UnknownEscape, UnterminatedEscape, InvalidXEscape, UnicodeEscapeInByteLiteral, InvalidStartOfUnicodeEscape, NonHexDigitInUnicodeEscape, TooManyDigitInUnicodeEscape, InvalidUnicodeEscapeChar, UnterminatedUnicodeEscape, UnterminatedCharLiteral, OverlongCharLiteral, EmptyCharLiteral, UnterminatedByteLiteral, OverlongByteLiteral, EmptyByteLiteral, NonAsciiInByteLiteral, UnescapedSingleQuote, UnescapedSpecialWhitespace, DoesNotStartWithQuote, InvalidByteLiteralStart, InvalidSuffix}
 use Rattle.litrs.specs.Fault.{plain, at, over}
 use Rattle.litrs.specs.Escape.{simple_escape, hex_escape, unicode_escape}
-use Rattle.litrs.specs.CharByte.{a_char, a_byte, plain_char, escaped_char, IsCharLiteral, char_value, char_fault, byte_fault}
+use Rattle.litrs.specs.CharByte.{char_kind, byte_kind, plain_char, escaped_char, IsCharLiteral, char_value, char_fault, byte_fault}
 use Rattle.litrs.proofs.Computing.{computing}
 
 empty_char : char_fault [] ≡ Some (plain Empty)
@@ -152,32 +152,32 @@ unfolding computing
 fox_fault = refl
 
 -- literals and what they stand for
-fox : IsCharLiteral a_char (codes "'🦊'good_boy") (record { item = plain_char 0x1F98A; suffix = codes "good_boy" })
+fox : IsCharLiteral char_kind (codes "'🦊'good_boy") (record { item = plain_char 0x1F98A; suffix = codes "good_boy" })
 unfolding computing
 fox = record { spells = refl; item = refl; suffix = refl }
 
-face : IsCharLiteral a_char (codes "'\\u{1_F6_02_____}'") (record { item = escaped_char (unicode_escape (codes "1_F6_02_____")); suffix = [] })
+face : IsCharLiteral char_kind (codes "'\\u{1_F6_02_____}'") (record { item = escaped_char (unicode_escape (codes "1_F6_02_____")); suffix = [] })
 unfolding computing
 face = record { spells = refl; item = refl; suffix = refl }
 
 face_value : char_value (escaped_char (unicode_escape (codes "1_F6_02_____"))) ≡ 0x1F602
 face_value = refl
 
-nul_char : IsCharLiteral a_char (39 ∷ 0 ∷ 39 ∷ []) (record { item = plain_char 0; suffix = [] })
+nul_char : IsCharLiteral char_kind (39 ∷ 0 ∷ 39 ∷ []) (record { item = plain_char 0; suffix = [] })
 unfolding computing
 nul_char = record { spells = refl; item = refl; suffix = refl }
 
-quote_char : IsCharLiteral a_char (codes "'\\''") (record { item = escaped_char (simple_escape 39); suffix = [] })
+quote_char : IsCharLiteral char_kind (codes "'\\''") (record { item = escaped_char (simple_escape 39); suffix = [] })
 unfolding computing
 quote_char = record { spells = refl; item = refl; suffix = refl }
 
-last_byte : IsCharLiteral a_byte (codes "b'\\xFF'") (record { item = escaped_char (hex_escape 70 70); suffix = [] })
+last_byte : IsCharLiteral byte_kind (codes "b'\\xFF'") (record { item = escaped_char (hex_escape 70 70); suffix = [] })
 unfolding computing
 last_byte = record { spells = refl; item = refl; suffix = refl }
 
 last_byte_value : char_value (escaped_char (hex_escape 70 70)) ≡ 255
 last_byte_value = refl
 
-raw_byte : IsCharLiteral a_byte (codes "b'r'") (record { item = plain_char 114; suffix = [] })
+raw_byte : IsCharLiteral byte_kind (codes "b'r'") (record { item = plain_char 114; suffix = [] })
 unfolding computing
 raw_byte = record { spells = refl; item = refl; suffix = refl }

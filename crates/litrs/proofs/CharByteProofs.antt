@@ -10,7 +10,7 @@ use Rattle.litrs.specs.Span.{last_passes, is_line_feed}
 use Rattle.litrs.specs.Suffix.{is_suffix}
 use Rattle.litrs.specs.Text.{first_passes, byte_len, begins_with}
 use Rattle.litrs.specs.Escape.{Switches, Escape, simple_escape, hex_escape, unicode_escape, escape_text, is_escape, is_simple, escape_fault}
-use Rattle.litrs.specs.CharByte.{CharKind, a_char, a_byte, char_front, char_kind_switches, CharItem, plain_char, escaped_char, char_item_text, is_special_whitespace, allows_char, is_char_item, CharParts, IsCharLiteral, escape_length, char_item_length, closing_fault, char_item_fault, char_kind_fault}
+use Rattle.litrs.specs.CharByte.{CharKind, char_kind, byte_kind, char_front, char_switches_of, CharItem, plain_char, escaped_char, char_item_text, is_special_whitespace, allows_char, is_char_item, CharParts, IsCharLiteral, escape_length, char_item_length, closing_fault, char_item_fault, char_kind_fault}
 use Rattle.litrs.specs.CharByteLaws.{CharsAreUnique, CharsAreDecided, NoCharEndsWithLineFeed}
 use Rattle.litrs.proofs.ListTests.{unless_none, none_if, none_unless, if_true, if_false, position_or_len-split}
 use Rattle.litrs.proofs.Spans.{none_from}
@@ -45,7 +45,7 @@ same_char_item kind (escaped_char e) (plain_char d) x y h g same =
     let head = escape_head e x in
     absurd (let both : d ∷ y ≡ 92 ∷ head.0 ∷ head.1 = sym same ∙ head.2 in let at : d ≡ 92 = cc in not_plain_char kind d g at)
 same_char_item kind (escaped_char e) (escaped_char f) x y h g same =
-    let both = same_escape (char_kind_switches kind) e f x y h g same in (ap escaped_char both.0, both.1)
+    let both = same_escape (char_switches_of kind) e f x y h g same in (ap escaped_char both.0, both.1)
 
 -- two literals of one kind
 same_char : (kind : CharKind) (t : List ℕ) (d e : CharParts) → IsCharLiteral kind t d → IsCharLiteral kind t e → d ≡ e
@@ -56,10 +56,10 @@ same_char kind t d e h g =
     λ i. record { item = both.0 i; suffix = suffixes i }
 
 pub chars_are_unique : CharsAreUnique
-chars_are_unique t a_char a_char d e h g = (refl, same_char a_char t d e h g)
-chars_are_unique t a_char a_byte d e h g = absurd (heads_differ 39 98 _ _ (h.spells ∙ sym g.spells) refl)
-chars_are_unique t a_byte a_char d e h g = absurd (heads_differ 98 39 _ _ (h.spells ∙ sym g.spells) refl)
-chars_are_unique t a_byte a_byte d e h g = (refl, same_char a_byte t d e h g)
+chars_are_unique t char_kind char_kind d e h g = (refl, same_char char_kind t d e h g)
+chars_are_unique t char_kind byte_kind d e h g = absurd (heads_differ 39 98 _ _ (h.spells ∙ sym g.spells) refl)
+chars_are_unique t byte_kind char_kind d e h g = absurd (heads_differ 98 39 _ _ (h.spells ∙ sym g.spells) refl)
+chars_are_unique t byte_kind byte_kind d e h g = (refl, same_char byte_kind t d e h g)
 
 pub no_char_ends_with_line_feed : NoCharEndsWithLineFeed
 no_char_ends_with_line_feed kind t d h =
@@ -96,8 +96,8 @@ abbrev behind_item : CharKind → List ℕ → ℕ → Option ParseError
 behind_item kind t n = closing_fault kind (byte_len (take n t)) (drop n t)
 
 backslash_allowed : (kind : CharKind) → allows_char kind 92 ≡ true
-backslash_allowed a_char = refl
-backslash_allowed a_byte = refl
+backslash_allowed char_kind = refl
+backslash_allowed byte_kind = refl
 
 none_some : (b : Bool) (o y : Option ParseError) → o ≡ None → y ≡ None → (if b && is_some o then o else y) ≡ None
 none_some true o y h g = rw h g
@@ -125,7 +125,7 @@ item_none kind (escaped_char e) s h g = escaped (escape_text e ++ 39 ∷ s) (esc
     escaped : (t : List ℕ) → (c : ℕ) × (r : List ℕ) × (t ≡ 92 ∷ c ∷ r) → t ≡ escape_text e ++ 39 ∷ s → char_item_fault kind t ≡ None
     escaped t (c, r, head) same =
         let whole : escape_text e ++ 39 ∷ s ≡ 92 ∷ c ∷ r = sym same ∙ head in
-        let w = char_kind_switches kind in
+        let w = char_switches_of kind in
         let none : escape_fault w (92 ∷ c ∷ r) ≡ None = subst (λ l. escape_fault w l ≡ None) whole (fault_escape w e (39 ∷ s) h) in
         let size : escape_length (92 ∷ c ∷ r) ≡ length (escape_text e) = subst (λ l. escape_length l ≡ length (escape_text e)) whole (escape_length_is w e (39 ∷ s) h) in
         let behind : drop (length (escape_text e)) (92 ∷ c ∷ r) ≡ 39 ∷ s = subst (λ l. drop (length (escape_text e)) l ≡ 39 ∷ s) whole (drop_at (escape_text e) (39 ∷ s) (length (escape_text e)) refl) in
@@ -148,13 +148,13 @@ not_some : (o : Option ParseError) → is_some o ≡ false → o ≡ None
 not_some None h = refl
 not_some (Some e) h = cc
 
-escape_before : (kind : CharKind) (t : List ℕ) → escape_fault (char_kind_switches kind) (92 ∷ t) ≡ None → behind_item kind (92 ∷ t) (escape_length (92 ∷ t)) ≡ None → SomeChar kind (92 ∷ t)
-escape_before kind t none h = go (read_escape (char_kind_switches kind) t none)
+escape_before : (kind : CharKind) (t : List ℕ) → escape_fault (char_switches_of kind) (92 ∷ t) ≡ None → behind_item kind (92 ∷ t) (escape_length (92 ∷ t)) ≡ None → SomeChar kind (92 ∷ t)
+escape_before kind t none h = go (read_escape (char_switches_of kind) t none)
   where
-    go : (e : Escape) × (rest : List ℕ) × HasEscape (char_kind_switches kind) (92 ∷ t) e rest → SomeChar kind (92 ∷ t)
+    go : (e : Escape) × (rest : List ℕ) × HasEscape (char_switches_of kind) (92 ∷ t) e rest → SomeChar kind (92 ∷ t)
     go (e, rest, here) =
         let size : escape_length (92 ∷ t) ≡ length (escape_text e) =
-        subst (λ l. escape_length l ≡ length (escape_text e)) here.spells (escape_length_is (char_kind_switches kind) e rest here.grammar) in
+        subst (λ l. escape_length l ≡ length (escape_text e)) here.spells (escape_length_is (char_switches_of kind) e rest here.grammar) in
         let behind : drop (escape_length (92 ∷ t)) (92 ∷ t) ≡ rest =
         ap (λ n. drop n (92 ∷ t)) size ∙ subst (λ l. drop (length (escape_text e)) l ≡ rest) here.spells (drop_at (escape_text e) rest (length (escape_text e)) refl) in
         let closes = closing_read kind _ _ h in (
@@ -178,7 +178,7 @@ item_read kind (c ∷ t) h =
     by_backslash (c == 92) refl b.0 d.0 e.0 f.0 f.1
   where
     by_backslash : (b : Bool) → (c == 92) ≡ b → (c == 39) ≡ false → is_special_whitespace c ≡ false →
-        ((c == 92) && is_some (escape_fault (char_kind_switches kind) (c ∷ t))) ≡ false → allows_char kind c ≡ true →
+        ((c == 92) && is_some (escape_fault (char_switches_of kind) (c ∷ t))) ≡ false → allows_char kind c ≡ true →
         behind_item kind (c ∷ t) (char_item_length c (c ∷ t)) ≡ None → SomeChar kind (c ∷ t)
     by_backslash false n quote special none allowed behind =
         let one : char_item_length c (c ∷ t) ≡ 1 = if_false _ _ _ n in
@@ -194,9 +194,9 @@ item_read kind (c ∷ t) h =
     by_backslash true y quote special none allowed behind =
         let at : c ≡ 92 = eqb-true c 92 y in
         let size : char_item_length c (c ∷ t) ≡ escape_length (c ∷ t) = if_true _ _ _ y in
-        let never : is_some (escape_fault (char_kind_switches kind) (c ∷ t)) ≡ false = subst (λ b. (b && is_some (escape_fault (char_kind_switches kind) (c ∷ t))) ≡ false) y none in
+        let never : is_some (escape_fault (char_switches_of kind) (c ∷ t)) ≡ false = subst (λ b. (b && is_some (escape_fault (char_switches_of kind) (c ∷ t))) ≡ false) y none in
         subst (λ n. SomeChar kind (n ∷ t)) (sym at)
-        (escape_before kind t (subst (λ n. escape_fault (char_kind_switches kind) (n ∷ t) ≡ None) at (not_some _ never))
+        (escape_before kind t (subst (λ n. escape_fault (char_switches_of kind) (n ∷ t) ≡ None) at (not_some _ never))
         (subst (λ n. behind_item kind (n ∷ t) (escape_length (n ∷ t)) ≡ None) at (subst (λ n. behind_item kind (c ∷ t) n ≡ None) size behind)))
 
 pub chars_are_decided : CharsAreDecided

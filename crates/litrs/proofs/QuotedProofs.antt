@@ -15,7 +15,7 @@ use Rattle.litrs.specs.Span.{last_passes, is_line_feed}
 use Rattle.litrs.specs.Suffix.{is_suffix}
 use Rattle.litrs.specs.Text.{first_passes, byte_len}
 use Rattle.litrs.specs.Escape.{Switches, Escape, simple_escape, hex_escape, unicode_escape, escape_text, escape_value, value_bytes, is_escape, is_simple, hex_value, pair_value, allows_value}
-use Rattle.litrs.specs.Quoted.{Item, plain_item, escape_item, continuation, item_text, item_value, is_item, allows_character, stand_before, body_text, body_value, is_body, takes_all_blanks, rest_fault, QuotedParts, IsQuoted, IsQuotedFault, a_string, a_byte_string, a_c_string}
+use Rattle.litrs.specs.Quoted.{Item, plain_item, escape_item, continuation, item_text, item_value, is_item, allows_character, stand_before, body_text, body_value, is_body, takes_all_blanks, rest_fault, QuotedParts, IsQuoted, IsQuotedFault, quoted_string, quoted_byte_string, quoted_c_string}
 use Rattle.litrs.specs.QuotedLaws.{QuotedBodiesAreUnique, QuotedTextsAreUnique, QuotedRefusalsAreUnique, QuotedTextsAreDecided, QuotedTextsAreNotRefused, QuotedBodiesJoin, QuotedValuesFitBodies, NoNulInQuotedCStrings, NoQuotedTextEndsWithLineFeed, QuotedLiteralsAreUnique}
 use Rattle.litrs.proofs.Spans.{byte_len-append}
 use Rattle.litrs.proofs.ByteLen.{length-le-byte_len}
@@ -259,12 +259,12 @@ no_quoted_text_ends_with_line_feed front w t q h =
     ∙ behind_quote_last (front ++ body_text q.items) 34 q.suffix refl h.suffix
 
 pub quoted_literals_are_unique : QuotedLiteralsAreUnique
-quoted_literals_are_unique t a_string a_string q r h g = (refl, quoted_texts_are_unique _ _ t q r h g)
-quoted_literals_are_unique t a_string a_byte_string q r h g = absurd (heads_differ 34 98 _ _ (h.spells ∙ sym g.spells) refl)
-quoted_literals_are_unique t a_string a_c_string q r h g = absurd (heads_differ 34 99 _ _ (h.spells ∙ sym g.spells) refl)
-quoted_literals_are_unique t a_byte_string a_string q r h g = absurd (heads_differ 98 34 _ _ (h.spells ∙ sym g.spells) refl)
-quoted_literals_are_unique t a_byte_string a_byte_string q r h g = (refl, quoted_texts_are_unique _ _ t q r h g)
-quoted_literals_are_unique t a_byte_string a_c_string q r h g = absurd (heads_differ 98 99 _ _ (h.spells ∙ sym g.spells) refl)
-quoted_literals_are_unique t a_c_string a_string q r h g = absurd (heads_differ 99 34 _ _ (h.spells ∙ sym g.spells) refl)
-quoted_literals_are_unique t a_c_string a_byte_string q r h g = absurd (heads_differ 99 98 _ _ (h.spells ∙ sym g.spells) refl)
-quoted_literals_are_unique t a_c_string a_c_string q r h g = (refl, quoted_texts_are_unique _ _ t q r h g)
+quoted_literals_are_unique t quoted_string quoted_string q r h g = (refl, quoted_texts_are_unique _ _ t q r h g)
+quoted_literals_are_unique t quoted_string quoted_byte_string q r h g = absurd (heads_differ 34 98 _ _ (h.spells ∙ sym g.spells) refl)
+quoted_literals_are_unique t quoted_string quoted_c_string q r h g = absurd (heads_differ 34 99 _ _ (h.spells ∙ sym g.spells) refl)
+quoted_literals_are_unique t quoted_byte_string quoted_string q r h g = absurd (heads_differ 98 34 _ _ (h.spells ∙ sym g.spells) refl)
+quoted_literals_are_unique t quoted_byte_string quoted_byte_string q r h g = (refl, quoted_texts_are_unique _ _ t q r h g)
+quoted_literals_are_unique t quoted_byte_string quoted_c_string q r h g = absurd (heads_differ 98 99 _ _ (h.spells ∙ sym g.spells) refl)
+quoted_literals_are_unique t quoted_c_string quoted_string q r h g = absurd (heads_differ 99 34 _ _ (h.spells ∙ sym g.spells) refl)
+quoted_literals_are_unique t quoted_c_string quoted_byte_string q r h g = absurd (heads_differ 99 98 _ _ (h.spells ∙ sym g.spells) refl)
+quoted_literals_are_unique t quoted_c_string quoted_c_string q r h g = (refl, quoted_texts_are_unique _ _ t q r h g)

@@ -12,7 +12,7 @@ use Rattle.litrs.specs.Text.{byte_len, first_passes, begins_with}
 use Rattle.litrs.specs.Escape.{Switches, escape_fault, allows_value}
 use Rattle.litrs.specs.Quoted.{body_text, allows_character, without_last, backslash_fault, rest_fault}
 use Rattle.litrs.specs.QuotedLaws.{QuotedSpansLieWithin}
-use Rattle.litrs.specs.CharByte.{CharKind, a_char, a_byte, char_front, char_kind_switches, is_special_whitespace, allows_char, char_item_length, closing_fault, char_item_fault, start_fault, char_kind_fault}
+use Rattle.litrs.specs.CharByte.{CharKind, char_kind, byte_kind, char_front, char_switches_of, is_special_whitespace, allows_char, char_item_length, closing_fault, char_item_fault, start_fault, char_kind_fault}
 use Rattle.litrs.specs.CharByteLaws.{CharSpansLieWithin}
 use Rattle.litrs.proofs.Spans.{byte_len-append}
 use Rattle.litrs.proofs.ByteLen.{byte_len_one_ascii, length-le-byte_len}
@@ -98,24 +98,24 @@ item_fits kind (c ∷ t) =
     fit_if _ ((c == 39) && first_passes (λ d. d == 39) t) _ _ (λ _. first_byte c t)
     (λ _. fit_if _ (c == 39) _ _ (λ _. tt)
     (λ _. fit_if _ (is_special_whitespace c) _ _ (λ _. first_byte c t)
-    (λ _. fit_either _ ((c == 92) && is_some (escape_fault (char_kind_switches kind) (c ∷ t))) (escape_fault (char_kind_switches kind) (c ∷ t)) _ (λ e. escaped e)
+    (λ _. fit_either _ ((c == 92) && is_some (escape_fault (char_switches_of kind) (c ∷ t))) (escape_fault (char_switches_of kind) (c ∷ t)) _ (λ e. escaped e)
     (λ _. fit_unless _ (allows_char kind c) _ _ (λ _. first_byte c t)
     (λ _. let Text : List ℕ → Type 0 = λ l. AllFit l (closing_fault kind (byte_len (take n (c ∷ t))) (drop n (c ∷ t))) in
     subst Text (take-append-drop n (c ∷ t)) (closing_fits kind (take n (c ∷ t)) (drop n (c ∷ t))))))))
   where
-    escaped : ((c == 92) && is_some (escape_fault (char_kind_switches kind) (c ∷ t))) ≡ true → AllFit (c ∷ t) (escape_fault (char_kind_switches kind) (c ∷ t))
+    escaped : ((c == 92) && is_some (escape_fault (char_switches_of kind) (c ∷ t))) ≡ true → AllFit (c ∷ t) (escape_fault (char_switches_of kind) (c ∷ t))
     escaped e =
         let both = and_parts (c == 92) _ e in
-        subst (λ n. AllFit (n ∷ t) (escape_fault (char_kind_switches kind) (n ∷ t))) (sym (eqb-true c 92 both.0)) (escape_fits (char_kind_switches kind) t)
+        subst (λ n. AllFit (n ∷ t) (escape_fault (char_switches_of kind) (n ∷ t))) (sym (eqb-true c 92 both.0)) (escape_fits (char_switches_of kind) t)
 
 front_bytes : (kind : CharKind) → byte_len (char_front kind) ≡ length (char_front kind)
-front_bytes a_char = byte_len_one_ascii 39 [] (lit< tt)
-front_bytes a_byte = byte_len_one_ascii 98 (39 ∷ []) (lit< tt) ∙ ap (λ n. 1 + n) (byte_len_one_ascii 39 [] (lit< tt))
+front_bytes char_kind = byte_len_one_ascii 39 [] (lit< tt)
+front_bytes byte_kind = byte_len_one_ascii 98 (39 ∷ []) (lit< tt) ∙ ap (λ n. 1 + n) (byte_len_one_ascii 39 [] (lit< tt))
 
 start_fits : (kind : CharKind) (t : List ℕ) → SpanFits t (start_fault kind t)
 start_fits kind [] = tt
-start_fits a_char (c ∷ t) = first_byte c t
-start_fits a_byte (c ∷ t) = tt
+start_fits char_kind (c ∷ t) = first_byte c t
+start_fits byte_kind (c ∷ t) = tt
 
 fit_behind : (front t : List ℕ) (o : Option ParseError) → AllFit t o → AllFit (front ++ t) (option_map (moved (byte_len front)) o)
 fit_behind front t None h = tt

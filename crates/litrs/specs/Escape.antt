@@ -110,7 +110,8 @@ IsEscape w e = IsTrue (is_escape w e)
 -- Why a text has no escape at its front. The text begins with the backslash, from which the spans count; of the rows of
 -- each function the first that fits decides, and where none fits an escape stands there.
 
--- whether the first character ends behind two bytes, or the second does
+-- the first character has two bytes, or the first two have: otherwise the two bytes behind `\x` are not there, or they
+-- end inside a character
 abbrev pub has_two_bytes : List ℕ → Bool
 has_two_bytes [] = false
 has_two_bytes (c ∷ []) = byte_len (c ∷ []) == 2

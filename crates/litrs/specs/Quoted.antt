@@ -11,22 +11,22 @@ use Rattle.litrs.specs.Suffix.{is_empty, is_suffix, suffix_fault}
 use Rattle.litrs.specs.Text.{byte_len, first_passes}
 
 -- The three kinds. Where only switches are given, unicode off is read as byte string, and NUL not allowed as C string.
-pub data StringKind : Type 0 where
-  a_string : StringKind
-  a_byte_string : StringKind
-  a_c_string : StringKind
+pub data QuotedKind : Type 0 where
+  quoted_string : QuotedKind
+  quoted_byte_string : QuotedKind
+  quoted_c_string : QuotedKind
 
 -- what a kind allows in its escapes
-abbrev pub string_kind_switches : StringKind → Switches
-string_kind_switches a_string = string_switches
-string_kind_switches a_byte_string = byte_string_switches
-string_kind_switches a_c_string = c_string_switches
+abbrev pub quoted_switches : QuotedKind → Switches
+quoted_switches quoted_string = string_switches
+quoted_switches quoted_byte_string = byte_string_switches
+quoted_switches quoted_c_string = c_string_switches
 
 -- what stands before its body: `"`, `b"` or `c"`
-abbrev pub quoted_front : StringKind → List ℕ
-quoted_front a_string = double_quote ∷ []
-quoted_front a_byte_string = letter_b ∷ double_quote ∷ []
-quoted_front a_c_string = letter_c ∷ double_quote ∷ []
+abbrev pub quoted_front : QuotedKind → List ℕ
+quoted_front quoted_string = double_quote ∷ []
+quoted_front quoted_byte_string = letter_b ∷ double_quote ∷ []
+quoted_front quoted_c_string = letter_c ∷ double_quote ∷ []
 
 -- An item of a body: a character that stands for itself, an escape, or a continuation, which is a backslash, LF and all
 -- spaces, tabs and LFs behind it.
@@ -105,20 +105,19 @@ pub record IsQuoted (front : List ℕ) (w : Switches) (t : List ℕ) (q : Quoted
   pub suffix : IsTrue (is_suffix q.suffix)
 
 -- the same for one of the three kinds
-abbrev pub IsQuotedLiteral : StringKind → List ℕ → QuotedParts → Type 0
-IsQuotedLiteral kind = IsQuoted (quoted_front kind) (string_kind_switches kind)
+abbrev pub IsQuotedLiteral : QuotedKind → List ℕ → QuotedParts → Type 0
+IsQuotedLiteral kind = IsQuoted (quoted_front kind) (quoted_switches kind)
 
--- Why a text is no quoted literal. It is the front, the text of a list of items, and a rest which alone tells the
--- reason.
+-- Why a text is no quoted literal. It is the front, the text of a list of items, and a rest which alone tells why.
 
--- A continuation has all spaces, tabs and LFs, and neither a continuation nor an escape that ends the text is taken
--- into the list: it belongs to the rest.
+-- An item is taken into the list by what stands behind it. A continuation has all spaces, tabs and LFs; and neither a
+-- continuation nor an escape is taken that ends the text: it belongs to the rest.
 abbrev pub is_taken_before : List ℕ → Item → Bool
 is_taken_before behind (plain_item c) = true
 is_taken_before behind (escape_item e) = not (is_empty behind)
 is_taken_before behind (continuation blanks) = not (is_empty behind) && not (first_passes is_blank behind)
 
--- the items stand before the rest
+-- the items are taken into the list, where the rest stands behind them
 abbrev pub stand_before : Switches → List ℕ → List Item → Bool
 stand_before w rest [] = true
 stand_before w rest (item ∷ items) =
@@ -130,8 +129,8 @@ without_last [] = []
 without_last (c ∷ []) = []
 without_last (c ∷ d ∷ t) = c ∷ without_last (d ∷ t)
 
--- A rest that begins with a backslash, by what follows that: LF and only spaces, tabs and LFs to the end; or no escape,
--- where the last character of the text is not read.
+-- The rest begins with a backslash: LF and only spaces, tabs and LFs follow it to the end of the text; or no LF follows,
+-- and no escape stands there, which is read without the last character of the text.
 abbrev pub backslash_fault : Switches → List ℕ → Option ParseError
 backslash_fault w t =
     if first_passes (λ c. c == line_feed) t
@@ -150,7 +149,8 @@ rest_fault w (c ∷ t) =
     else if (c == double_quote) && not (is_suffix t) then Some (at 1 (suffix_fault t))
     else None
 
--- the text is refused as a quoted literal behind this front
+-- The text is refused as a quoted literal behind this front, as the rest tells. The span moves by the bytes before the
+-- rest.
 pub record IsQuotedFault (front : List ℕ) (w : Switches) (t : List ℕ) (e : ParseError) : Type 0 where
   pub items : List Item
   pub rest : List ℕ
@@ -161,5 +161,5 @@ pub record IsQuotedFault (front : List ℕ) (w : Switches) (t : List ℕ) (e : P
   pub placed : moved (byte_len (front ++ body_text items)) cause ≡ e
 
 -- the same for one of the three kinds
-abbrev pub IsQuotedLiteralFault : StringKind → List ℕ → ParseError → Type 0
-IsQuotedLiteralFault kind = IsQuotedFault (quoted_front kind) (string_kind_switches kind)
+abbrev pub IsQuotedLiteralFault : QuotedKind → List ℕ → ParseError → Type 0
+IsQuotedLiteralFault kind = IsQuotedFault (quoted_front kind) (quoted_switches kind)
