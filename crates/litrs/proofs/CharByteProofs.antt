@@ -6,7 +6,6 @@ use Rattle.std.proofs.lemmas.Bool.{and_parts, and_from, not-true, eqb-true, eq-e
 use Rattle.std.proofs.lemmas.List.{append_cancel_left, drop_at}
 use Rattle.litrs.specs.declared.err.ParseError.{ParseError}
 use Rattle.litrs.specs.Fault.{moved}
-use Rattle.litrs.specs.Span.{last_passes, is_line_feed}
 use Rattle.litrs.specs.Suffix.{is_suffix}
 use Rattle.litrs.specs.Text.{first_passes, byte_len, begins_with}
 use Rattle.litrs.specs.Escape.{Switches, Escape, simple_escape, hex_escape, unicode_escape, escape_text, is_escape, is_simple, escape_fault}
@@ -15,7 +14,7 @@ use Rattle.litrs.specs.CharByteLaws.{CharsAreUnique, CharsAreDecided, NoCharEnds
 use Rattle.litrs.proofs.ListTests.{unless_none, none_if, none_unless, if_true, if_false, position_or_len-split}
 use Rattle.litrs.proofs.Spans.{none_from}
 use Rattle.litrs.proofs.EscapeLemmas.{by_simple, same_escape, fault_escape, read_escape, HasEscape, unicode_parts}
-use Rattle.litrs.proofs.QuotedLemmas.{escape_head, behind_quote_last, heads_differ}
+use Rattle.litrs.proofs.QuotedLemmas.{escape_head, closed_before_line_feed, heads_differ}
 
 -- a text that begins with another
 pub begins_with-split : (f t : List ℕ) → begins_with f t ≡ true → f ++ drop (length f) t ≡ t
@@ -63,8 +62,8 @@ chars_are_unique t byte_kind byte_kind d e h g = (refl, same_char byte_kind t d 
 
 pub no_char_ends_with_line_feed : NoCharEndsWithLineFeed
 no_char_ends_with_line_feed kind t d h =
-    sym (ap (last_passes is_line_feed) (append_assoc (char_front kind) (char_item_text d.item) (39 ∷ d.suffix) ∙ h.spells))
-    ∙ behind_quote_last (char_front kind ++ char_item_text d.item) 39 d.suffix refl h.suffix
+    closed_before_line_feed (char_front kind ++ char_item_text d.item) 39 d.suffix t refl h.suffix
+    (append_assoc (char_front kind) (char_item_text d.item) (39 ∷ d.suffix) ∙ h.spells)
 
 -- the length of an escape, told from the text
 escape_length_is : (w : Switches) (e : Escape) (x : List ℕ) → is_escape w e ≡ true → escape_length (escape_text e ++ x) ≡ length (escape_text e)

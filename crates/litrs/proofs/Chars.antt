@@ -85,7 +85,8 @@ front_suc b bs n low f = record {
   within = let within = f.within in omega arith;
 }
 
-ascii_from_test : (p : ℕ → Bool) (c : ℕ) → OnlyAscii p → p c ≡ true → c < 128
+-- a character that passes such a test is ASCII
+pub ascii_from_test : (p : ℕ → Bool) (c : ℕ) → OnlyAscii p → p c ≡ true → c < 128
 ascii_from_test p c only passes = elim (cases_lt c 128) [ inl low ↦ low | inr high ↦ absurd (true≢false (sym passes ∙ only c high)) ]
 
 -- how many characters pass from the front on is how many bytes do

@@ -5,15 +5,17 @@ use Rattle.std.proofs.lemmas.Bool.{and_parts, and_from, eqb-true, eq-eqb, ne_eqb
 use Rattle.std.proofs.lemmas.Bool.Decides.{nat_tests}
 use Rattle.std.proofs.lemmas.List.{length-drop, take_at, drop_at, length-append, append_assoc, drop-append-le}
 use Rattle.litrs.specs.Text.{first_passes}
-use Rattle.litrs.specs.Float.{FloatParts, fraction_text, float_text, is_decimal_char, is_period, is_exponent_letter, is_sign, sign_len, decimal_len, fraction_len, exponent_len, integer_end, fraction_end, number_end, parts_between}
-use Rattle.litrs.proofs.Runs.{prefix_len-append, run_of}
+use Rattle.litrs.specs.Integer.{is_e}
+use Rattle.litrs.specs.Float.{FloatParts, fraction_text, number_part, float_text, is_decimal_char, is_period, is_sign, sign_len, decimal_len, fraction_len, exponent_len, integer_end, fraction_end, number_end, parts_between}
+use Rattle.litrs.proofs.IntegerLaws.{prefix_len_front}
+use Rattle.litrs.proofs.Runs.{run_of}
 
 -- tests on one character
 
-pub letter_decimal : (c : ℕ) → is_exponent_letter c ≡ true → is_decimal_char c ≡ false
+pub letter_decimal : (c : ℕ) → is_e c ≡ true → is_decimal_char c ≡ false
 letter_decimal c h = grind (arith, nat_tests)
 
-pub letter_period : (c : ℕ) → is_exponent_letter c ≡ true → is_period c ≡ false
+pub letter_period : (c : ℕ) → is_e c ≡ true → is_period c ≡ false
 letter_period c h = grind (arith, nat_tests)
 
 pub sign_decimal : (c : ℕ) → is_sign c ≡ true → is_decimal_char c ≡ false
@@ -25,7 +27,7 @@ decimal_sign c h = grind (arith, nat_tests)
 -- an exponent that need not have a digit
 abbrev pub is_exponent_front : List ℕ → Bool
 is_exponent_front [] = true
-is_exponent_front (c ∷ cs) = is_exponent_letter c && list_all is_decimal_char (drop (sign_len cs) cs)
+is_exponent_front (c ∷ cs) = is_e c && list_all is_decimal_char (drop (sign_len cs) cs)
 
 abbrev pub fraction_passes : Option (List ℕ) → Bool
 fraction_passes None = true
@@ -37,7 +39,7 @@ pub record IsCut (d : FloatParts) : Type 0 where
   pub fraction : fraction_passes d.fraction ≡ true
   pub exponent : is_exponent_front d.exponent ≡ true
   pub stops : first_passes is_decimal_char d.suffix ≡ false
-  pub no_letter : d.exponent ≡ [] → first_passes is_exponent_letter d.suffix ≡ false
+  pub no_letter : d.exponent ≡ [] → first_passes is_e d.suffix ≡ false
   pub no_sign : (c : ℕ) → d.exponent ≡ c ∷ [] → first_passes is_sign d.suffix ≡ false
   pub no_period : d.fraction ≡ None → d.exponent ≡ [] → first_passes is_period d.suffix ≡ false
 
@@ -62,7 +64,7 @@ fraction_len_none (c ∷ cs) x front no_period = ap (λ v. cond v (1 + decimal_l
 
 fraction_len_some : (f r : List ℕ) → list_all is_decimal_char f ≡ true → first_passes is_decimal_char r ≡ false → fraction_len (46 ∷ (f ++ r)) ≡ suc (length f)
 unfolding fraction_len
-fraction_len_some f r passes stop = omega (arith, prefix_len-append is_decimal_char f r passes stop)
+fraction_len_some f r passes stop = omega (arith, prefix_len_front is_decimal_char f r passes stop)
 
 pub fraction_len-text : (f : Option (List ℕ)) (p x : List ℕ) → fraction_passes f ≡ true → is_exponent_front p ≡ true →
     first_passes is_decimal_char x ≡ false → (f ≡ None → p ≡ [] → first_passes is_period x ≡ false) →
@@ -88,16 +90,16 @@ number_len cs x all stop no_sign =
     let same : sign_len (cs ++ x) ≡ sign_len cs = sign_len-append cs x no_sign in
     let within : sign_len cs ≤ length cs = sign_len_le cs in
     let behind : drop (sign_len cs) (cs ++ x) ≡ drop (sign_len cs) cs ++ x = drop-append-le (sign_len cs) cs x within in
-    let run : decimal_len (drop (sign_len cs) cs ++ x) ≡ length (drop (sign_len cs) cs) = prefix_len-append is_decimal_char (drop (sign_len cs) cs) x all stop in
+    let run : decimal_len (drop (sign_len cs) cs ++ x) ≡ length (drop (sign_len cs) cs) = prefix_len_front is_decimal_char (drop (sign_len cs) cs) x all stop in
     rw (same, behind, run) (omega (arith, length-drop (sign_len cs) cs))
 
-pub exponent_len-text : (p x : List ℕ) → is_exponent_front p ≡ true → first_passes is_decimal_char x ≡ false → (p ≡ [] → first_passes is_exponent_letter x ≡ false) →
+pub exponent_len-text : (p x : List ℕ) → is_exponent_front p ≡ true → first_passes is_decimal_char x ≡ false → (p ≡ [] → first_passes is_e x ≡ false) →
     ((c : ℕ) → p ≡ c ∷ [] → first_passes is_sign x ≡ false) → exponent_len (p ++ x) ≡ length p
 unfolding exponent_len
 exponent_len-text [] [] front stop no_letter no_sign = refl
 exponent_len-text [] (c ∷ cs) front stop no_letter no_sign = ap (λ v. cond v (1 + (sign_len cs + decimal_len (drop (sign_len cs) cs))) 0) (no_letter refl)
 exponent_len-text (c ∷ cs) x front stop no_letter no_sign =
-    let parts : (is_exponent_letter c ≡ true) × (list_all is_decimal_char (drop (sign_len cs) cs) ≡ true) = and_parts _ _ front in
+    let parts : (is_e c ≡ true) × (list_all is_decimal_char (drop (sign_len cs) cs) ≡ true) = and_parts _ _ front in
     let number : sign_len (cs ++ x) + decimal_len (drop (sign_len (cs ++ x)) (cs ++ x)) ≡ length cs =
     number_len cs x parts.1 stop (λ e. no_sign c (ap (λ t. c ∷ t) e)) in
     ap (λ v. cond v (1 + (sign_len (cs ++ x) + decimal_len (drop (sign_len (cs ++ x)) (cs ++ x)))) 0) parts.0 ∙ omega (arith, number)
@@ -118,7 +120,7 @@ ends_of_cut d cut =
     let f = fraction_text d.fraction in
     let p = d.exponent in
     let x = d.suffix in
-    let integer : integer_end (float_text d) ≡ length i = prefix_len-append is_decimal_char i (f ++ (p ++ x)) cut.integer (fraction_stops d.fraction p x cut.exponent cut.stops) in
+    let integer : integer_end (float_text d) ≡ length i = prefix_len_front is_decimal_char i (f ++ (p ++ x)) cut.integer (fraction_stops d.fraction p x cut.exponent cut.stops) in
     let behind_integer : drop (integer_end (float_text d)) (float_text d) ≡ f ++ (p ++ x) = drop_at i (f ++ (p ++ x)) (integer_end (float_text d)) (sym integer) in
     let fraction_here : fraction_len (f ++ (p ++ x)) ≡ length f = fraction_len-text d.fraction p x cut.fraction cut.exponent cut.stops cut.no_period in
     let fraction : fraction_end (float_text d) ≡ length i + length f = rw (behind_integer) (omega (arith, integer, fraction_here)) in
@@ -188,11 +190,11 @@ record ExponentCut (r : List ℕ) : Type 0 where
   spells : exponent ++ suffix ≡ r
   front : is_exponent_front exponent ≡ true
   stops : first_passes is_decimal_char suffix ≡ false
-  no_letter : exponent ≡ [] → first_passes is_exponent_letter suffix ≡ false
+  no_letter : exponent ≡ [] → first_passes is_e suffix ≡ false
   no_sign : (c : ℕ) → exponent ≡ c ∷ [] → first_passes is_sign suffix ≡ false
   all : exponent ≡ [] → suffix ≡ r
 
-no_exponent : (r : List ℕ) → first_passes is_decimal_char r ≡ false → first_passes is_exponent_letter r ≡ false → ExponentCut r
+no_exponent : (r : List ℕ) → first_passes is_decimal_char r ≡ false → first_passes is_e r ≡ false → ExponentCut r
 no_exponent r stop no_letter = record {
   exponent = [];
   suffix = r;
@@ -204,15 +206,15 @@ no_exponent r stop no_letter = record {
   all = λ e. refl;
 }
 
-sign_front : (c s : ℕ) (ds : List ℕ) → is_exponent_letter c ≡ true → is_sign s ≡ true → list_all is_decimal_char ds ≡ true → is_exponent_front (c ∷ s ∷ ds) ≡ true
+sign_front : (c s : ℕ) (ds : List ℕ) → is_e c ≡ true → is_sign s ≡ true → list_all is_decimal_char ds ≡ true → is_exponent_front (c ∷ s ∷ ds) ≡ true
 sign_front c s ds letter sign all = and_from _ _ letter (ap (λ n. list_all is_decimal_char (drop n (s ∷ ds))) (ap (λ v. cond v 1 0) sign) ∙ all)
 
-plain_front : (c : ℕ) (ds : List ℕ) → is_exponent_letter c ≡ true → list_all is_decimal_char ds ≡ true → is_exponent_front (c ∷ ds) ≡ true
+plain_front : (c : ℕ) (ds : List ℕ) → is_e c ≡ true → list_all is_decimal_char ds ≡ true → is_exponent_front (c ∷ ds) ≡ true
 plain_front c [] letter all = and_from _ _ letter refl
 plain_front c (s ∷ ds) letter all = and_from _ _ letter
     (ap (λ n. list_all is_decimal_char (drop n (s ∷ ds))) (ap (λ v. cond v 1 0) (decimal_sign s (and_parts _ _ all).0)) ∙ all)
 
-exponent_plain : (c : ℕ) (cs : List ℕ) → is_exponent_letter c ≡ true → first_passes is_sign cs ≡ false → ExponentCut (c ∷ cs)
+exponent_plain : (c : ℕ) (cs : List ℕ) → is_e c ≡ true → first_passes is_sign cs ≡ false → ExponentCut (c ∷ cs)
 exponent_plain c cs letter no_sign = let r = run_of is_decimal_char cs in record {
   exponent = c ∷ r.front;
   suffix = r.rest;
@@ -225,7 +227,7 @@ exponent_plain c cs letter no_sign = let r = run_of is_decimal_char cs in record
   all = λ e. absurd (let none : c ∷ r.front ≡ [] = e in cc);
 }
 
-exponent_signed : (c s : ℕ) (cs : List ℕ) → is_exponent_letter c ≡ true → is_sign s ≡ true → ExponentCut (c ∷ s ∷ cs)
+exponent_signed : (c s : ℕ) (cs : List ℕ) → is_e c ≡ true → is_sign s ≡ true → ExponentCut (c ∷ s ∷ cs)
 exponent_signed c s cs letter sign = let r = run_of is_decimal_char cs in record {
   exponent = c ∷ s ∷ r.front;
   suffix = r.rest;
@@ -237,7 +239,7 @@ exponent_signed c s cs letter sign = let r = run_of is_decimal_char cs in record
   all = λ e. absurd (let none : c ∷ s ∷ r.front ≡ [] = e in cc);
 }
 
-exponent_behind : (c : ℕ) (cs : List ℕ) → is_exponent_letter c ≡ true → ExponentCut (c ∷ cs)
+exponent_behind : (c : ℕ) (cs : List ℕ) → is_e c ≡ true → ExponentCut (c ∷ cs)
 exponent_behind c [] letter = exponent_plain c [] letter refl
 exponent_behind c (s ∷ cs) letter = elim (cases_Bool (is_sign s)) [
   | inl sign ↦ exponent_signed c s cs letter sign
@@ -246,7 +248,7 @@ exponent_behind c (s ∷ cs) letter = elim (cases_Bool (is_sign s)) [
 
 exponent_cut : (r : List ℕ) → first_passes is_decimal_char r ≡ false → ExponentCut r
 exponent_cut [] stop = no_exponent [] refl refl
-exponent_cut (c ∷ cs) stop = elim (cases_Bool (is_exponent_letter c)) [
+exponent_cut (c ∷ cs) stop = elim (cases_Bool (is_e c)) [
   | inl letter ↦ exponent_behind c cs letter
   | inr no_letter ↦ no_exponent (c ∷ cs) stop no_letter
 ]
@@ -281,3 +283,8 @@ behind_cut t i (c ∷ cs) spells integer stop = elim (cases_Bool (is_period c)) 
 
 pub cut_of : (t : List ℕ) → CutOf t
 cut_of t = let r = run_of is_decimal_char t in behind_cut t r.front r.rest r.spells r.passes r.stops
+
+-- the text is its number part and the suffix
+pub number_part-suffix : (d : FloatParts) → number_part d ++ d.suffix ≡ float_text d
+number_part-suffix d =
+    append_assoc d.integer (fraction_text d.fraction ++ d.exponent) d.suffix ∙ ap (λ t. d.integer ++ t) (append_assoc (fraction_text d.fraction) d.exponent d.suffix)

@@ -10,26 +10,30 @@ use Rattle.litrs.specs.declared.err.ParseErrorKind.{ParseErrorKind}
 use Rattle.litrs.specs.declared.err.ParseError.{ParseError}
 use Rattle.litrs.specs.Text.{byte_len, first_passes}
 use Rattle.litrs.specs.Suffix.{is_empty, is_suffix, suffix_fault}
-use Rattle.litrs.specs.Float.{FloatParts, fraction_text, float_text, is_decimal_char, is_underscore, is_period, is_exponent_letter, is_sign, is_decimal_literal, is_exponent_number, sign_len, is_exponent, is_float_form, IsFloat, IsFloatOf, exponent_len, integer_end, fraction_end, has_wrong_fraction, float_rows, float_fault}
+use Rattle.litrs.specs.Integer.{is_e, number_rows}
+use Rattle.litrs.specs.Float.{FloatParts, fraction_text, float_text, is_decimal_char, is_underscore, is_period, is_sign, is_decimal_literal, is_exponent_number, sign_len, is_exponent, is_float_form, IsFloat, IsFloatOf, exponent_len, integer_end, fraction_end, number_end, parts_between, has_wrong_fraction, float_rows, float_fault}
+use Rattle.litrs.specs.Reading.{IsOnlyReading, HasNoReading}
+use Rattle.litrs.proofs.IntegerLaws.{number_rows-None}
 use Rattle.litrs.proofs.Spans.{none_from}
 use Rattle.litrs.proofs.SuffixStart.{suffix_begins_otherwise}
-use Rattle.litrs.proofs.FloatCuts.{letter_period, letter_decimal, IsCut, is_exponent_front, fraction_passes, ends_of_cut, same_cut, cut_of, fraction_stops, exponent_stops}
+use Rattle.litrs.proofs.FloatCuts.{parts_of_cut, letter_period, letter_decimal, IsCut, is_exponent_front, fraction_passes, ends_of_cut, same_cut, cut_of, fraction_stops, exponent_stops}
 
 -- the table by the parts of a text that is cut
 abbrev pub cut_rows : FloatParts → Option ParseError
 cut_rows d =
-    float_rows (length d.integer) (length d.integer + length (fraction_text d.fraction)) (length d.integer + length (fraction_text d.fraction) + length d.exponent)
-    (byte_len (float_text d)) (suffix_fault d.suffix) (is_empty (float_text d)) (first_passes is_ascii_digit (float_text d))
+    number_rows (is_empty (float_text d)) (first_passes is_ascii_digit (float_text d))
+    (float_rows (length d.integer) (length d.integer + length (fraction_text d.fraction)) (length d.integer + length (fraction_text d.fraction) + length d.exponent)
+    (byte_len (float_text d)) (suffix_fault d.suffix)
     (has_wrong_fraction (fraction_text d.fraction ++ (d.exponent ++ d.suffix))) (is_some d.fraction) (not (is_empty d.exponent))
-    (list_any is_ascii_digit d.exponent) (is_suffix d.suffix)
+    (list_any is_ascii_digit d.exponent) (is_suffix d.suffix))
 
 period_flag : (f : Option (List ℕ)) (p x : List ℕ) → is_exponent_front p ≡ true → (f ≡ None → p ≡ [] → first_passes is_period x ≡ false) →
     first_passes is_period (fraction_text f ++ (p ++ x)) ≡ is_some f
 period_flag None [] x front no_period = no_period refl refl
-period_flag None (c ∷ cs) x front no_period = let letter : is_exponent_letter c ≡ true = (and_parts _ _ front).0 in grind (arith, nat_tests)
+period_flag None (c ∷ cs) x front no_period = let letter : is_e c ≡ true = (and_parts _ _ front).0 in grind (arith, nat_tests)
 period_flag (Some f) p x front no_period = refl
 
-letter_flag : (p x : List ℕ) → is_exponent_front p ≡ true → (p ≡ [] → first_passes is_exponent_letter x ≡ false) → first_passes is_exponent_letter (p ++ x) ≡ not (is_empty p)
+letter_flag : (p x : List ℕ) → is_exponent_front p ≡ true → (p ≡ [] → first_passes is_e x ≡ false) → first_passes is_e (p ++ x) ≡ not (is_empty p)
 letter_flag [] x front no_letter = no_letter refl
 letter_flag (c ∷ cs) x front no_letter = (and_parts _ _ front).0
 
@@ -40,18 +44,19 @@ fault_of_cut d cut =
     let t = float_text d in
     let period : first_passes is_period (drop (integer_end t) t) ≡ is_some d.fraction =
     ap (first_passes is_period) e.behind_integer ∙ period_flag d.fraction d.exponent d.suffix cut.exponent cut.no_period in
-    let letter : first_passes is_exponent_letter (drop (fraction_end t) t) ≡ not (is_empty d.exponent) =
-    ap (first_passes is_exponent_letter) e.behind_fraction ∙ letter_flag d.exponent d.suffix cut.exponent cut.no_letter in
+    let letter : first_passes is_e (drop (fraction_end t) t) ≡ not (is_empty d.exponent) =
+    ap (first_passes is_e) e.behind_fraction ∙ letter_flag d.exponent d.suffix cut.exponent cut.no_letter in
     let digit : list_any is_ascii_digit (take (exponent_len (drop (fraction_end t) t)) (drop (fraction_end t) t)) ≡ list_any is_ascii_digit d.exponent =
     ap (λ r. list_any is_ascii_digit (take (exponent_len r) r)) e.behind_fraction
     ∙ ap (list_any is_ascii_digit) (take_at d.exponent d.suffix (exponent_len (d.exponent ++ d.suffix)) (sym e.exponent)) in
-    λ j. float_rows (e.integer j) (e.fraction j) (e.number j) (byte_len t) (suffix_fault (e.behind_number j)) (is_empty t) (first_passes is_ascii_digit t)
-    (has_wrong_fraction (e.behind_integer j)) (period j) (letter j) (digit j) (is_suffix (e.behind_number j))
+    λ j. number_rows (is_empty t) (first_passes is_ascii_digit t)
+    (float_rows (e.integer j) (e.fraction j) (e.number j) (byte_len t) (suffix_fault (e.behind_number j))
+    (has_wrong_fraction (e.behind_integer j)) (period j) (letter j) (digit j) (is_suffix (e.behind_number j)))
 
 -- where no row fits
 
-pub record NoRow (is_empty digit_first wrong_fraction period has_exponent exponent_digit has_suffix : Bool) : Type 0 where
-  pub empty : is_empty ≡ false
+pub record NoRow (empty digit_first wrong_fraction period has_exponent exponent_digit has_suffix : Bool) : Type 0 where
+  pub some : empty ≡ false
   pub digit : digit_first ≡ true
   pub fraction : wrong_fraction ≡ false
   pub exponent : (has_exponent && not exponent_digit) ≡ false
@@ -59,20 +64,19 @@ pub record NoRow (is_empty digit_first wrong_fraction period has_exponent expone
   pub either : (period || has_exponent) ≡ true
 
 no_row : (i f n len : ℕ) (kind : ParseErrorKind) (empty digit wrong_fraction period exponent exponent_digit suffix : Bool) →
-    float_rows i f n len kind empty digit wrong_fraction period exponent exponent_digit suffix ≡ None → NoRow empty digit wrong_fraction period exponent exponent_digit suffix
+    number_rows empty digit (float_rows i f n len kind wrong_fraction period exponent exponent_digit suffix) ≡ None → NoRow empty digit wrong_fraction period exponent exponent_digit suffix
 no_row i f n len kind empty digit wrong_fraction period exponent exponent_digit suffix h =
-    let a = none_from _ _ _ h in
-    let b = none_from _ _ _ a.1 in
-    let c = none_from _ _ _ b.1 in
+    let start = number_rows-None empty digit _ h in
+    let c = none_from _ _ _ start.2 in
     let d = none_from _ _ _ c.1 in
     let e = none_from _ _ _ d.1 in
     let g = none_from _ _ _ e.1 in
-    record { empty = a.0; digit = not-false _ b.0; fraction = c.0; exponent = d.0; suffix = not-false _ e.0; either = not-false _ g.0 }
+    record { some = start.0; digit = start.1; fraction = c.0; exponent = d.0; suffix = not-false _ e.0; either = not-false _ g.0 }
 
 row_free : (i f n len : ℕ) (kind : ParseErrorKind) (empty digit wrong_fraction period exponent exponent_digit suffix : Bool) →
-    NoRow empty digit wrong_fraction period exponent exponent_digit suffix → float_rows i f n len kind empty digit wrong_fraction period exponent exponent_digit suffix ≡ None
+    NoRow empty digit wrong_fraction period exponent exponent_digit suffix → number_rows empty digit (float_rows i f n len kind wrong_fraction period exponent exponent_digit suffix) ≡ None
 row_free i f n len kind empty digit wrong_fraction period exponent exponent_digit suffix r =
-    rw (r.empty, r.digit, r.fraction, r.exponent, r.suffix, r.either) refl
+    rw (r.some, r.digit, r.fraction, r.exponent, r.suffix, r.either) refl
 
 -- a float is cut
 
@@ -80,7 +84,7 @@ letter_or : (p : List ℕ) → is_exponent p ≡ true → is_exponent_front p �
 unfolding is_exponent
 letter_or [] h = absurd (false≢true h)
 letter_or (c ∷ cs) h =
-    let parts : (is_exponent_letter c ≡ true) × (is_exponent_number (drop (sign_len cs) cs) ≡ true) = and_parts _ _ h in
+    let parts : (is_e c ≡ true) × (is_exponent_number (drop (sign_len cs) cs) ≡ true) = and_parts _ _ h in
     and_from _ _ parts.0 (and_parts _ _ parts.1).0
 
 empty-true : (p : List ℕ) → is_empty p ≡ true → p ≡ []
@@ -124,7 +128,7 @@ suffix_stops (c ∷ cs) h u = let d : is_ascii_digit c ≡ false = digit_stops (
 suffix_no_sign : (x : List ℕ) → is_suffix x ≡ true → first_passes is_sign x ≡ false
 suffix_no_sign x h = suffix_begins_otherwise is_sign (λ c e. grind (arith, nat_tests)) (λ c e. grind (arith, nat_tests)) x h
 
-suffix_no_period : (x : List ℕ) → is_suffix x ≡ true → first_passes is_period x ≡ false
+pub suffix_no_period : (x : List ℕ) → is_suffix x ≡ true → first_passes is_period x ≡ false
 suffix_no_period x h = suffix_begins_otherwise is_period (λ c e. grind (arith, nat_tests)) (λ c e. grind (arith, nat_tests)) x h
 
 front_of : (p : List ℕ) → (is_empty p ≡ true) ⊎ (is_exponent p ≡ true) → is_exponent_front p ≡ true
@@ -190,7 +194,7 @@ float_fits_no_row d g =
     let form = form_says d.fraction d.exponent d.suffix g.form in
     let start = starts_digit d.integer (fraction_text d.fraction ++ (d.exponent ++ d.suffix)) g.integer in
     row_free _ _ _ _ _ _ _ _ _ _ _ _ record {
-      empty = start.0;
+      some = start.0;
       digit = start.1;
       fraction = fraction_row d.fraction d.exponent d.suffix g.form;
       exponent = digit_row d.exponent form.exponent;
@@ -224,7 +228,7 @@ exponent_from : (p : List ℕ) → is_empty p ≡ false → is_exponent_front p 
 unfolding is_exponent
 exponent_from [] some front row = absurd (true≢false some)
 exponent_from (c ∷ cs) some front row =
-    let parts : (is_exponent_letter c ≡ true) × (list_all is_decimal_char (drop (sign_len cs) cs) ≡ true) = and_parts _ _ front in
+    let parts : (is_e c ≡ true) × (list_all is_decimal_char (drop (sign_len cs) cs) ≡ true) = and_parts _ _ front in
     let any : (is_ascii_digit c || list_any is_ascii_digit cs) ≡ true = not-false _ row in
     let other : is_ascii_digit c ≡ false = decimal_digit c (letter_decimal c parts.0) in
     let rest : list_any is_ascii_digit cs ≡ true = ap (λ v. v || list_any is_ascii_digit cs) (sym other) ∙ any in
@@ -269,3 +273,15 @@ pub readable : (t : List ℕ) → float_fault t ≡ None → (d : FloatParts) ×
 readable t h = let c = cut_of t in
     let rows : cut_rows c.parts ≡ None = sym (fault_of_cut c.parts c.cut) ∙ (ap float_fault c.spells ∙ h) in
     (c.parts, record { spells = c.spells; grammar = float_from_cut c.parts c.cut rows })
+
+-- the one derivation of a float, cut at the ends of its parts
+pub only_cut : (t : List ℕ) → float_fault t ≡ None → IsOnlyReading (IsFloatOf t) (parts_between (integer_end t) (fraction_end t) (number_end t) t)
+only_cut t h =
+    let r = readable t h in
+    let same : parts_between (integer_end t) (fraction_end t) (number_end t) t ≡ r.0 =
+    ap (λ s. parts_between (integer_end s) (fraction_end s) (number_end s) s) (sym r.1.spells) ∙ parts_of_cut r.0 (float_is_cut r.0 r.1.grammar) in
+    (subst (λ (d : FloatParts). IsFloatOf t d) (sym same) r.1, λ e s. only_float t e r.0 s r.1 ∙ sym same)
+
+-- a text that the table refuses has none
+pub refused : (t : List ℕ) (e : ParseError) → float_fault t ≡ Some e → HasNoReading (IsFloatOf t)
+refused t e h d r = absurd (let none : Some e ≡ None = sym h ∙ fault_free t d r in cc)

@@ -31,3 +31,5 @@ pub mod Computing
 pub mod EscapeExamples
 pub mod CharByteExamples
 pub mod QuotedExamples
+pub mod NumberLaws
+pub mod NumeralLemmas

@@ -7,8 +7,7 @@ use Rattle.litrs.specs.declared.err.ParseError.{ParseError}
 use Rattle.litrs.specs.declared.err.ParseErrorKind.TheVariants.{UnterminatedString}
 use Rattle.litrs.specs.Fault.{plain}
 use Rattle.litrs.specs.Characters.{is_blank}
-use Rattle.litrs.specs.Span.{last_passes, is_line_feed}
-use Rattle.litrs.proofs.Runs.{last_passes-append}
+use Rattle.litrs.proofs.Runs.{last_passes, is_line_feed, last_passes-append, line_feed_last}
 use Rattle.litrs.proofs.SuffixStart.{suffix_last}
 use Rattle.litrs.specs.Suffix.{is_empty, is_suffix}
 use Rattle.litrs.specs.Text.{first_passes}
@@ -357,6 +356,10 @@ stands_body w (a ∷ items) s h =
     and_from _ _ (and_from _ _ q.0 (item_stands a (body_text items) s q.1)) (stands_body w items s p.1)
 
 -- a text that ends with a quote and a suffix does not end with LF
-pub behind_quote_last : (x : List ℕ) (q : ℕ) (s : List ℕ) → is_line_feed q ≡ false → is_suffix s ≡ true → last_passes is_line_feed (x ++ q ∷ s) ≡ false
+behind_quote_last : (x : List ℕ) (q : ℕ) (s : List ℕ) → is_line_feed q ≡ false → is_suffix s ≡ true → last_passes is_line_feed (x ++ q ∷ s) ≡ false
 behind_quote_last x q [] other h = last_passes-append is_line_feed x q [] ∙ other
 behind_quote_last x q (c ∷ s) other h = last_passes-append is_line_feed x q (c ∷ s) ∙ suffix_last (c ∷ s) h
+
+pub closed_before_line_feed : (x : List ℕ) (q : ℕ) (s t : List ℕ) → is_line_feed q ≡ false → is_suffix s ≡ true → x ++ q ∷ s ≡ t ++ 10 ∷ [] → ⊥
+closed_before_line_feed x q s t other h same =
+    both_ways _ (behind_quote_last x q s other h) (ap (last_passes is_line_feed) same ∙ line_feed_last t)

@@ -11,7 +11,6 @@ use Rattle.std.proofs.lemmas.Str.{length-encode, len_utf8_bounds}
 use Rattle.litrs.specs.Characters.{is_blank, is_scalar}
 use Rattle.litrs.specs.declared.err.ParseError.{ParseError}
 use Rattle.litrs.specs.Fault.{moved}
-use Rattle.litrs.specs.Span.{last_passes, is_line_feed}
 use Rattle.litrs.specs.Suffix.{is_suffix}
 use Rattle.litrs.specs.Text.{first_passes, byte_len}
 use Rattle.litrs.specs.Escape.{Switches, Escape, simple_escape, hex_escape, unicode_escape, escape_text, escape_value, value_bytes, is_escape, is_simple, hex_value, pair_value, allows_value}
@@ -20,7 +19,7 @@ use Rattle.litrs.specs.QuotedLaws.{QuotedBodiesAreUnique, QuotedTextsAreUnique, 
 use Rattle.litrs.proofs.Spans.{byte_len-append}
 use Rattle.litrs.proofs.ByteLen.{length-le-byte_len}
 use Rattle.litrs.proofs.ListTests.{none_unless}
-use Rattle.litrs.proofs.QuotedLemmas.{behind_quote_last, heads_differ, same_items, quote_no_item, refused_no_item, read_items, Reads, SomeReading, Closes, body_stands, stands_body}
+use Rattle.litrs.proofs.QuotedLemmas.{closed_before_line_feed, heads_differ, same_items, quote_no_item, refused_no_item, read_items, Reads, SomeReading, Closes, body_stands, stands_body}
 
 -- two quoted texts behind one front
 same_parts : (w : Switches) (items others : List Item) (s r : List ℕ) → is_body w items ≡ true → is_body w others ≡ true →
@@ -255,8 +254,7 @@ no_nul_in_quoted_c_strings w t items off h = none_of (body_value items) (body_no
 
 pub no_quoted_text_ends_with_line_feed : NoQuotedTextEndsWithLineFeed
 no_quoted_text_ends_with_line_feed front w t q h =
-    sym (ap (last_passes is_line_feed) (append_assoc front (body_text q.items) (34 ∷ q.suffix) ∙ h.spells))
-    ∙ behind_quote_last (front ++ body_text q.items) 34 q.suffix refl h.suffix
+    closed_before_line_feed (front ++ body_text q.items) 34 q.suffix t refl h.suffix (append_assoc front (body_text q.items) (34 ∷ q.suffix) ∙ h.spells)
 
 pub quoted_literals_are_unique : QuotedLiteralsAreUnique
 quoted_literals_are_unique t quoted_string quoted_string q r h g = (refl, quoted_texts_are_unique _ _ t q r h g)

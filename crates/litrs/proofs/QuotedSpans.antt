@@ -6,17 +6,17 @@ use Rattle.std.proofs.lemmas.Bool.{and_parts, eqb-true}
 use Rattle.litrs.specs.declared.err.ParseError.{ParseError}
 use Rattle.litrs.specs.declared.err.ParseErrorKind.TheVariants.{UnterminatedString}
 use Rattle.litrs.specs.Characters.{is_blank}
-use Rattle.litrs.specs.Fault.{plain, moved}
+use Rattle.litrs.specs.Fault.{plain, moved, IsInText}
 use Rattle.litrs.specs.Suffix.{is_suffix}
 use Rattle.litrs.specs.Text.{byte_len, first_passes, begins_with}
 use Rattle.litrs.specs.Escape.{Switches, escape_fault, allows_value}
 use Rattle.litrs.specs.Quoted.{body_text, allows_character, without_last, backslash_fault, rest_fault}
-use Rattle.litrs.specs.QuotedLaws.{QuotedSpansLieWithin}
+use Rattle.litrs.specs.QuotedLaws.{QuotedSpansLieInText}
 use Rattle.litrs.specs.CharByte.{CharKind, char_kind, byte_kind, char_front, char_switches_of, is_special_whitespace, allows_char, char_item_length, closing_fault, char_item_fault, start_fault, char_kind_fault}
-use Rattle.litrs.specs.CharByteLaws.{CharSpansLieWithin}
+use Rattle.litrs.specs.CharByteLaws.{CharSpansLieInText}
 use Rattle.litrs.proofs.Spans.{byte_len-append}
 use Rattle.litrs.proofs.ByteLen.{byte_len_one_ascii, length-le-byte_len}
-use Rattle.litrs.proofs.SpanLemmas.{Marks, SpanFits, lies_within, AllFit, marks_start, marks_byte, fit_if, fit_unless, fit_either, fit_some, fit_on, fit_later, escape_fits}
+use Rattle.litrs.proofs.SpanLemmas.{Marks, AllFit, marks_start, marks_byte, fit_if, fit_unless, fit_either, fit_some, fit_on, fit_later, escape_fits}
 use Rattle.litrs.proofs.QuotedLemmas.{last_of}
 use Rattle.litrs.proofs.CharByteProofs.{begins_with-split}
 
@@ -67,14 +67,14 @@ rest_fits w (c ∷ t) =
         let ascii : c < 128 = (let at = eqb-true c 34 both.0 in omega arith) in
         marks_byte (c ∷ []) t (c ∷ t) 1 refl (byte_len_one_ascii c [] ascii) (some_no_suffix t (not_suffix _ both.1))
 
-pub quoted_spans_lie_within : QuotedSpansLieWithin
-quoted_spans_lie_within front w t e h =
+pub quoted_spans_lie_in_text : QuotedSpansLieInText
+quoted_spans_lie_in_text front w t e h =
     let before = front ++ body_text h.items in
     let fits = fit_later before h.rest h.cause (fit_some h.rest (rest_fault w h.rest) h.cause (rest_fits w h.rest) h.told) in
     let whole : before ++ h.rest ≡ t = append_assoc front (body_text h.items) h.rest ∙ h.spells in
-    let Text : List ℕ → Type 0 = λ l. SpanFits l (moved (byte_len before) h.cause) in
-    let Refusal : ParseError → Type 0 = λ f. SpanFits t f in
-    lies_within t e (subst Refusal h.placed (subst Text whole fits))
+    let Text : List ℕ → Type 0 = λ l. IsInText l (moved (byte_len before) h.cause) in
+    let Refusal : ParseError → Type 0 = λ f. IsInText t f in
+    subst Refusal h.placed (subst Text whole fits)
 
 -- behind the item of a char
 closing_fits : (kind : CharKind) (before behind : List ℕ) → AllFit (before ++ behind) (closing_fault kind (byte_len before) behind)
@@ -112,7 +112,7 @@ front_bytes : (kind : CharKind) → byte_len (char_front kind) ≡ length (char_
 front_bytes char_kind = byte_len_one_ascii 39 [] (lit< tt)
 front_bytes byte_kind = byte_len_one_ascii 98 (39 ∷ []) (lit< tt) ∙ ap (λ n. 1 + n) (byte_len_one_ascii 39 [] (lit< tt))
 
-start_fits : (kind : CharKind) (t : List ℕ) → SpanFits t (start_fault kind t)
+start_fits : (kind : CharKind) (t : List ℕ) → IsInText t (start_fault kind t)
 start_fits kind [] = tt
 start_fits char_kind (c ∷ t) = first_byte c t
 start_fits byte_kind (c ∷ t) = tt
@@ -134,5 +134,5 @@ char_fits kind t =
         let Place : ℕ → Type 0 = λ n. AllFit t (option_map (moved n) (char_item_fault kind rest)) in
         subst Place (front_bytes kind) (subst Text (begins_with-split (char_front kind) t e) fits)
 
-pub char_spans_lie_within : CharSpansLieWithin
-char_spans_lie_within kind t e told = lies_within t e (fit_some t (char_kind_fault kind t) e (char_fits kind t) told)
+pub char_spans_lie_in_text : CharSpansLieInText
+char_spans_lie_in_text kind t e told = fit_some t (char_kind_fault kind t) e (char_fits kind t) told

@@ -6,7 +6,8 @@ use Rattle.std.proofs.lemmas.Bool.{and_parts, and_from, or_parts, or_left, or_ri
 use Rattle.std.proofs.lemmas.List.{drop_at, length-replicate}
 use Rattle.litrs.specs.Text.{first_passes, begins_with}
 use Rattle.litrs.specs.Raw.{is_hash, hashes, raw_closing, occurs, hash_len, length_before}
-use Rattle.litrs.proofs.Runs.{prefix_len-append, run_of}
+use Rattle.litrs.proofs.IntegerLaws.{prefix_len_front, begins_with-split}
+use Rattle.litrs.proofs.Runs.{run_of}
 
 -- hashes
 
@@ -18,7 +19,7 @@ pub length-hashes : (n : ℕ) → length (hashes n) ≡ n
 length-hashes n = length-replicate n 35
 
 pub hash_len-append : (n : ℕ) (r : List ℕ) → first_passes is_hash r ≡ false → hash_len (hashes n ++ r) ≡ n
-hash_len-append n r stop = prefix_len-append is_hash (hashes n) r (hashes_pass n) stop ∙ length-hashes n
+hash_len-append n r stop = prefix_len_front is_hash (hashes n) r (hashes_pass n) stop ∙ length-hashes n
 
 pub behind_hashes : (n : ℕ) (r : List ℕ) → drop n (hashes n ++ r) ≡ r
 behind_hashes n r = drop_at (hashes n) r n (length-hashes n)
@@ -57,14 +58,6 @@ begins_with_longer [] s t h = refl
 begins_with_longer (c ∷ cs) [] t h = absurd (false≢true h)
 begins_with_longer (c ∷ cs) (d ∷ ds) t h = and_from _ _ (and_parts _ _ h).0 (begins_with_longer cs ds t (and_parts _ _ h).1)
 
-pub front_of : (p t : List ℕ) → begins_with p t ≡ true → p ++ drop (length p) t ≡ t
-front_of [] t h = refl
-front_of (c ∷ cs) [] h = absurd (false≢true h)
-front_of (c ∷ cs) (d ∷ ds) h =
-    let first : c ≡ d = eqb-true c d (and_parts _ _ h).0 in
-    let rest : cs ++ drop (length cs) ds ≡ ds = front_of cs ds (and_parts _ _ h).1 in
-    λ j. first j ∷ rest j
-
 -- Hashes do not reach past a quote.
 hashes_before_quote : (n : ℕ) (s t : List ℕ) → begins_with (hashes n) (s ++ (34 ∷ t)) ≡ begins_with (hashes n) s
 hashes_before_quote zero s t = refl
@@ -96,7 +89,7 @@ pub record ClosingCut (n : ℕ) (t : List ℕ) : Type 0 where
   pub unclosed : occurs (raw_closing n) before ≡ false
 
 closing_here : (n : ℕ) (t : List ℕ) → begins_with (raw_closing n) t ≡ true → ClosingCut n t
-closing_here n t h = record { before = []; behind = drop (length (raw_closing n)) t; spells = front_of (raw_closing n) t h; unclosed = refl }
+closing_here n t h = record { before = []; behind = drop (length (raw_closing n)) t; spells = begins_with-split (raw_closing n) t h; unclosed = refl }
 
 closing_later : (n c : ℕ) (cs : List ℕ) → begins_with (raw_closing n) (c ∷ cs) ≡ false → ClosingCut n cs → ClosingCut n (c ∷ cs)
 closing_later n c cs not_here r = record {

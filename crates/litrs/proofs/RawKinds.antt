@@ -1,13 +1,15 @@
 -- The three kinds of raw literals.
-use Rattle.std.proofs.Common.{◌≡◌, ℕ, true, false, List, ◌++◌, length, drop, get_or, None, refl, sym, ap, subst, ◌∙◌, arith}
+use Rattle.std.proofs.Common.{◌≡◌, ℕ, true, false, List, [], ◌∷◌, ◌++◌, length, drop, get_or, None, refl, sym, ap, subst, ◌∙◌, arith}
 use Rattle.std.specs.List.{list_any}
 use Rattle.std.specs.Option.{ForSome}
+use Rattle.std.proofs.lemmas.Bool.{true≢false}
 use Rattle.std.proofs.lemmas.List.{append_cancel_left}
+use Rattle.litrs.specs.Fault.{IsInText}
 use Rattle.litrs.specs.Text.{byte_len, begins_with}
-use Rattle.litrs.specs.Span.{LiesWithin, last_passes, is_line_feed}
 use Rattle.litrs.specs.Raw.{is_nul, raw_value, RawParts, raw_text, IsRawOf, RawKind, raw_string, raw_byte_string, raw_c_string, raw_front, has_unicode, allows_nul, IsRawLiteral, raw_fault, raw_literal_fault}
+use Rattle.litrs.proofs.Runs.{last_passes, is_line_feed, line_feed_last}
 use Rattle.litrs.proofs.Spans.{byte_len_ascii}
-use Rattle.litrs.proofs.RawCuts.{front_of}
+use Rattle.litrs.proofs.IntegerLaws.{begins_with-split}
 use Rattle.litrs.proofs.RawLaws.{only_raw, readable, fault_free}
 use Rattle.litrs.proofs.RawSpans.{raw_fault_within, raw_last, raw_no_nul}
 
@@ -53,26 +55,27 @@ only_raw_literal t k l d e r s =
 
 pub literal_readable : (kind : RawKind) (t : List ℕ) → begins_with (raw_front kind) t ≡ true → raw_literal_fault kind t ≡ None → (d : RawParts) × IsRawLiteral kind t d
 literal_readable kind t front h = let r = readable (has_unicode kind) (allows_nul kind) (length (raw_front kind)) (drop (length (raw_front kind)) t) h in
-    (r.0, record { spells = ap (λ s. raw_front kind ++ s) r.1.spells ∙ front_of (raw_front kind) t front; grammar = r.1.grammar })
+    (r.0, record { spells = ap (λ s. raw_front kind ++ s) r.1.spells ∙ begins_with-split (raw_front kind) t front; grammar = r.1.grammar })
 
 pub literal_fault_free : (kind : RawKind) (t : List ℕ) (d : RawParts) → begins_with (raw_front kind) t ≡ true → IsRawLiteral kind t d → raw_literal_fault kind t ≡ None
 literal_fault_free kind t d front r =
     fault_free (has_unicode kind) (allows_nul kind) (length (raw_front kind)) (drop (length (raw_front kind)) t) d
-    (behind_front kind (drop (length (raw_front kind)) t) t d (front_of (raw_front kind) t front) r)
+    (behind_front kind (drop (length (raw_front kind)) t) t d (begins_with-split (raw_front kind) t front) r)
 
 front_bytes : (kind : RawKind) → byte_len (raw_front kind) ≡ length (raw_front kind)
 front_bytes raw_string = byte_len_ascii (raw_front raw_string) refl
 front_bytes raw_byte_string = byte_len_ascii (raw_front raw_byte_string) refl
 front_bytes raw_c_string = byte_len_ascii (raw_front raw_c_string) refl
 
-pub literal_fault_within : (kind : RawKind) (t : List ℕ) → begins_with (raw_front kind) t ≡ true → ForSome (raw_literal_fault kind t) (LiesWithin t)
+pub literal_fault_within : (kind : RawKind) (t : List ℕ) → begins_with (raw_front kind) t ≡ true → ForSome (raw_literal_fault kind t) (IsInText t)
 literal_fault_within kind t front =
-    subst (λ (s : List ℕ). ForSome (raw_literal_fault kind t) (LiesWithin s)) (front_of (raw_front kind) t front)
-    (subst (λ (start : ℕ). ForSome (raw_fault (has_unicode kind) (allows_nul kind) start (drop (length (raw_front kind)) t)) (LiesWithin (raw_front kind ++ drop (length (raw_front kind)) t)))
+    subst (λ (s : List ℕ). ForSome (raw_literal_fault kind t) (IsInText s)) (begins_with-split (raw_front kind) t front)
+    (subst (λ (start : ℕ). ForSome (raw_fault (has_unicode kind) (allows_nul kind) start (drop (length (raw_front kind)) t)) (IsInText (raw_front kind ++ drop (length (raw_front kind)) t)))
     (front_bytes kind) (raw_fault_within (has_unicode kind) (allows_nul kind) (raw_front kind) (drop (length (raw_front kind)) t)))
 
-pub literal_last : (kind : RawKind) (t : List ℕ) (d : RawParts) → IsRawLiteral kind t d → last_passes is_line_feed t ≡ false
-literal_last kind t d r = subst (λ (s : List ℕ). last_passes is_line_feed s ≡ false) r.spells (raw_last (has_unicode kind) (allows_nul kind) (raw_front kind) d r.grammar)
+pub no_literal_with_line_feed : (kind : RawKind) (t : List ℕ) (d : RawParts) → ¬ IsRawLiteral kind (t ++ (10 ∷ [])) d
+no_literal_with_line_feed kind t d r =
+    true≢false (sym (line_feed_last t) ∙ (ap (last_passes is_line_feed) (sym r.spells) ∙ raw_last (has_unicode kind) (allows_nul kind) (raw_front kind) d r.grammar))
 
 pub c_string_no_nul : (t : List ℕ) (d : RawParts) → IsRawLiteral raw_c_string t d → list_any is_nul (raw_value d.body) ≡ false
 c_string_no_nul t d r = raw_no_nul true d.body r.grammar.body.allowed

@@ -11,12 +11,11 @@ use Rattle.std.proofs.lemmas.Str.{inside_one}
 use Rattle.litrs.specs.declared.err.ParseErrorKind.{ParseErrorKind}
 use Rattle.litrs.specs.declared.err.ParseErrorKind.TheVariants.{InvalidLiteral, TooManyHashes, UnterminatedRawString}
 use Rattle.litrs.specs.declared.err.ParseError.{ParseError}
-use Rattle.litrs.specs.Fault.{plain, over, at}
+use Rattle.litrs.specs.Fault.{IsInText, plain, over, at}
 use Rattle.litrs.specs.Text.{byte_len, first_passes}
-use Rattle.litrs.specs.Span.{LiesWithin, last_passes, is_line_feed}
 use Rattle.litrs.specs.Suffix.{is_empty, is_suffix, suffix_fault}
 use Rattle.litrs.specs.Raw.{is_quote, is_hash, is_nul, hashes, raw_closing, is_raw_char, raw_value, RawParts, raw_text, IsRaw, length_before, raw_char_fault, raw_body_rows, raw_body_fault, raw_rows, raw_fault}
-use Rattle.litrs.proofs.Runs.{last_passes-all, last_passes-append, last_passes-both, list_all-weaken}
+use Rattle.litrs.proofs.Runs.{last_passes, is_line_feed, last_passes-all, last_passes-append, last_passes-both, list_all-weaken}
 use Rattle.litrs.proofs.Spans.{byte_len-append, is_ascii_char, byte_len_ascii, plain_within, over_within, at_within, of_some, of_none}
 use Rattle.litrs.proofs.SuffixStart.{suffix_last}
 use Rattle.litrs.proofs.RawCuts.{hashes_pass, length-hashes, hash_cut, ClosingCut, closing_cut, length_before_le}
@@ -52,7 +51,7 @@ quoted_bytes : (n : ℕ) → byte_len (raw_closing n) ≡ 1 + n
 quoted_bytes n = byte_len-append (34 ∷ []) (hashes n) ∙ omega (arith, hashes_bytes n, byte_len_ascii (34 ∷ []) refl)
 
 -- a character in the text
-char_span : (t front r : List ℕ) (start k : ℕ) (kind : ParseErrorKind) → front ++ r ≡ t → byte_len front ≡ start → k < length r → LiesWithin t (at (start + byte_len (take k r)) kind)
+char_span : (t front r : List ℕ) (start k : ℕ) (kind : ParseErrorKind) → front ++ r ≡ t → byte_len front ≡ start → k < length r → IsInText t (at (start + byte_len (take k r)) kind)
 char_span t front r start k kind spells at_start inside =
     let split : take k r ++ (get_or r k 0 ∷ drop (k + 1) r) ≡ r = ap (λ s. take k r ++ s) (sym (drop_more r k 0 inside)) ∙ take-append-drop k r in
     at_within t (front ++ take k r) (get_or r k 0) (drop (k + 1) r) (start + byte_len (take k r)) kind
@@ -60,14 +59,14 @@ char_span t front r start k kind spells at_start inside =
     (byte_len-append front (take k r) ∙ ap (λ m. m + byte_len (take k r)) at_start)
 
 -- what stands behind a closing, where that is not empty
-suffix_span : (t front x : List ℕ) (place : ℕ) (kind : ParseErrorKind) → front ++ x ≡ t → byte_len front ≡ place → is_suffix x ≡ false → LiesWithin t (at place kind)
+suffix_span : (t front x : List ℕ) (place : ℕ) (kind : ParseErrorKind) → front ++ x ≡ t → byte_len front ≡ place → is_suffix x ≡ false → IsInText t (at place kind)
 unfolding is_suffix
 suffix_span t front [] place kind spells at_place h = absurd (true≢false h)
 suffix_span t front (c ∷ cs) place kind spells at_place h = at_within t front c cs place kind spells at_place
 
 closed_span : (t front r : List ℕ) (start n : ℕ) (kind : ParseErrorKind) → front ++ r ≡ t → byte_len front ≡ start → (c : ClosingCut n r) →
     is_suffix (drop (length (take (length_before (raw_closing n) r) r) + (1 + n)) r) ≡ false →
-    LiesWithin t (at (start + (byte_len (take (length_before (raw_closing n) r) r) + (1 + n))) kind)
+    IsInText t (at (start + (byte_len (take (length_before (raw_closing n) r) r) + (1 + n))) kind)
 closed_span t front r start n kind spells at_start c h =
     let s : List ℕ = c.before ++ (raw_closing n ++ c.behind) in
     let before : take (length_before (raw_closing n) r) r ≡ c.before =
@@ -79,43 +78,43 @@ closed_span t front r start n kind spells at_start c h =
     (byte_len-append (front ++ c.before) (raw_closing n) ∙ (ap (λ m. m + byte_len (raw_closing n)) (byte_len-append front c.before) ∙ omega (arith, quoted_bytes n, at_start, ap byte_len before)))
     (ap is_suffix (sym behind) ∙ h)
 
-body_within : (unicode nul_allowed : Bool) (t front r : List ℕ) (n start : ℕ) → front ++ r ≡ t → byte_len front ≡ start →
-    ForSome (raw_body_fault unicode nul_allowed n start r) (LiesWithin t)
+body_within : (unicode allow_nul : Bool) (t front r : List ℕ) (n start : ℕ) → front ++ r ≡ t → byte_len front ≡ start →
+    ForSome (raw_body_fault unicode allow_nul n start r) (IsInText t)
 unfolding raw_body_fault
-body_within unicode nul_allowed t front r n start spells at_start =
+body_within unicode allow_nul t front r n start spells at_start =
     let before : List ℕ = take (length_before (raw_closing n) r) r in
-    let good : ℕ = prefix_len (is_raw_char unicode nul_allowed) before in
-    body_rows_hold (LiesWithin t) _ _ _ _ _ _ _
+    let good : ℕ = prefix_len (is_raw_char unicode allow_nul) before in
+    body_rows_hold (IsInText t) _ _ _ _ _ _ _
     (λ refused. char_span t front r start good (raw_char_fault (slice_index r good)) spells at_start
     (omega (arith, ltb-true _ _ refused, length-take-le (length_before (raw_closing n) r) r (length_before_le (raw_closing n) r), length_before_le (raw_closing n) r)))
     (plain_within t UnterminatedRawString)
     (λ closed h. closed_span t front r start n (suffix_fault (drop (length before + (1 + n)) r)) spells at_start (closing_cut n r closed) h)
 
-quoted_within : (unicode nul_allowed : Bool) (t front rest : List ℕ) (n start : ℕ) → front ++ rest ≡ t → byte_len front ≡ start → first_passes is_quote rest ≡ true →
-    ForSome (raw_body_fault unicode nul_allowed n (start + 1) (drop 1 rest)) (LiesWithin t)
-quoted_within unicode nul_allowed t front [] n start spells at_start quote = absurd (false≢true quote)
-quoted_within unicode nul_allowed t front (c ∷ r) n start spells at_start quote =
+quoted_within : (unicode allow_nul : Bool) (t front rest : List ℕ) (n start : ℕ) → front ++ rest ≡ t → byte_len front ≡ start → first_passes is_quote rest ≡ true →
+    ForSome (raw_body_fault unicode allow_nul n (start + 1) (drop 1 rest)) (IsInText t)
+quoted_within unicode allow_nul t front [] n start spells at_start quote = absurd (false≢true quote)
+quoted_within unicode allow_nul t front (c ∷ r) n start spells at_start quote =
     let one : byte_len (c ∷ []) ≡ 1 = ap (λ q. byte_len (q ∷ [])) (eqb-true c 34 quote) ∙ byte_len_ascii (34 ∷ []) refl in
-    body_within unicode nul_allowed t (front ++ (c ∷ [])) r n (start + 1) (append_assoc front (c ∷ []) r ∙ spells)
+    body_within unicode allow_nul t (front ++ (c ∷ [])) r n (start + 1) (append_assoc front (c ∷ []) r ∙ spells)
     (byte_len-append front (c ∷ []) ∙ omega (arith, one, at_start))
 
 -- the span of a refusal lies within the text, and starts on a character boundary
-pub raw_fault_within : (unicode nul_allowed : Bool) (front t : List ℕ) → ForSome (raw_fault unicode nul_allowed (byte_len front) t) (LiesWithin (front ++ t))
-raw_fault_within unicode nul_allowed front t =
+pub raw_fault_within : (unicode allow_nul : Bool) (front t : List ℕ) → ForSome (raw_fault unicode allow_nul (byte_len front) t) (IsInText (front ++ t))
+raw_fault_within unicode allow_nul front t =
     let c = hash_cut t in
     let n = c.count in
     let start = byte_len front in
     let spells : front ++ (hashes n ++ c.rest) ≡ front ++ t = ap (λ s. front ++ s) c.spells in
     let regroup : (front ++ hashes n) ++ c.rest ≡ front ++ t = append_assoc front (hashes n) c.rest ∙ spells in
     let bytes : byte_len (front ++ hashes n) ≡ start + n = byte_len-append front (hashes n) ∙ ap (λ m. start + m) (hashes_bytes n) in
-    let same : raw_fault unicode nul_allowed start t
-    ≡ raw_rows start n (raw_body_fault unicode nul_allowed n (start + (n + 1)) (drop 1 c.rest)) (is_empty c.rest) (ltb 255 n) (first_passes is_quote c.rest) =
-    ap (raw_fault unicode nul_allowed start) (sym c.spells) ∙ fault_of_hashes unicode nul_allowed start n c.rest c.stops in
-    subst (λ (o : Option ParseError). ForSome o (LiesWithin (front ++ t))) (sym same)
-    (rows_hold (LiesWithin (front ++ t)) _ _ _ _ _ _ (plain_within (front ++ t) InvalidLiteral)
+    let same : raw_fault unicode allow_nul start t
+    ≡ raw_rows start n (raw_body_fault unicode allow_nul n (start + (n + 1)) (drop 1 c.rest)) (is_empty c.rest) (ltb 255 n) (first_passes is_quote c.rest) =
+    ap (raw_fault unicode allow_nul start) (sym c.spells) ∙ fault_of_hashes unicode allow_nul start n c.rest c.stops in
+    subst (λ (o : Option ParseError). ForSome o (IsInText (front ++ t))) (sym same)
+    (rows_hold (IsInText (front ++ t)) _ _ _ _ _ _ (plain_within (front ++ t) InvalidLiteral)
     (over_within (front ++ t) front (hashes n) c.rest start (start + n) TooManyHashes spells refl (ap (λ m. start + m) (hashes_bytes n)))
-    (λ quote. subst (λ (place : ℕ). ForSome (raw_body_fault unicode nul_allowed n place (drop 1 c.rest)) (LiesWithin (front ++ t))) (omega arith)
-    (quoted_within unicode nul_allowed (front ++ t) (front ++ hashes n) c.rest n (start + n) regroup bytes quote)))
+    (λ quote. subst (λ (place : ℕ). ForSome (raw_body_fault unicode allow_nul n place (drop 1 c.rest)) (IsInText (front ++ t))) (omega arith)
+    (quoted_within unicode allow_nul (front ++ t) (front ++ hashes n) c.rest n (start + n) regroup bytes quote)))
 
 -- what raw literals end with
 
@@ -126,8 +125,8 @@ closing_last : (n : ℕ) → last_passes is_line_feed (raw_closing n) ≡ false
 closing_last zero = refl
 closing_last (suc n) = last_passes-append is_line_feed (34 ∷ []) 35 (hashes n) ∙ last_passes-all is_hash is_line_feed hash_line_feed (hashes (suc n)) (hashes_pass (suc n))
 
-pub raw_last : (unicode nul_allowed : Bool) (front : List ℕ) (d : RawParts) → IsRaw unicode nul_allowed d → last_passes is_line_feed (front ++ raw_text d) ≡ false
-raw_last unicode nul_allowed front d g =
+pub raw_last : (unicode allow_nul : Bool) (front : List ℕ) (d : RawParts) → IsRaw unicode allow_nul d → last_passes is_line_feed (front ++ raw_text d) ≡ false
+raw_last unicode allow_nul front d g =
     let n = d.hash_count in
     let tail : List ℕ = hashes n ++ d.suffix in
     let regroup : front ++ raw_text d ≡ (front ++ (hashes n ++ (34 ∷ d.body))) ++ (34 ∷ tail) =

@@ -1,19 +1,20 @@
 -- The longest front of a list whose elements pass a test.
 use Rattle.std.proofs.Common.{◌≡◌, ℕ, suc, ◌+◌, ◌≤◌, Bool, true, false, cond, List, [], ◌∷◌, ◌++◌, length, refl, sym, ap, subst, ◌∙◌, arith}
+use Rattle.std.specs.Prelude.{◌==◌}
 use Rattle.std.specs.List.{prefix_len, list_all}
 use Rattle.std.proofs.lemmas.Bool.{and_parts, and_from}
 use Rattle.std.proofs.lemmas.List.{append-nil}
 use Rattle.litrs.specs.Text.{first_passes}
-use Rattle.litrs.specs.Span.{last_passes}
 
--- what passes, and then something that does not or the end
-pub prefix_len-append : (p : ℕ → Bool) (xs ys : List ℕ) → list_all p xs ≡ true → first_passes p ys ≡ false → prefix_len p (xs ++ ys) ≡ length xs
-prefix_len-append p [] [] all stop = refl
-prefix_len-append p [] (y ∷ ys) all stop = ap (λ v. cond v (1 + prefix_len p ys) 0) stop
-prefix_len-append p (x ∷ xs) ys all stop =
-    let parts : (p x ≡ true) × (list_all p xs ≡ true) = and_parts _ _ all in
-    let more : prefix_len p (xs ++ ys) ≡ length xs = prefix_len-append p xs ys parts.1 stop in
-    ap (λ v. cond v (1 + prefix_len p (xs ++ ys)) 0) parts.0 ∙ omega (arith, more)
+-- the last character is there and passes the test
+abbrev pub last_passes : (ℕ → Bool) → List ℕ → Bool
+last_passes p [] = false
+last_passes p (c ∷ []) = p c
+last_passes p (c ∷ d ∷ cs) = last_passes p (d ∷ cs)
+
+-- LF
+abbrev pub is_line_feed : ℕ → Bool
+is_line_feed c = c == 10
 
 -- a list as such a front and the rest
 pub record IsRun (p : ℕ → Bool) (xs : List ℕ) : Type 0 where
@@ -77,3 +78,7 @@ all_step p x xs false e more long = absurd (omega arith)
 pub all_from_prefix_len : (p : ℕ → Bool) (xs : List ℕ) → length xs ≤ prefix_len p xs → list_all p xs ≡ true
 all_from_prefix_len p [] long = refl
 all_from_prefix_len p (x ∷ xs) long = all_step p x xs (p x) refl (all_from_prefix_len p xs) long
+
+-- a text that ends with LF
+pub line_feed_last : (t : List ℕ) → last_passes is_line_feed (t ++ (10 ∷ [])) ≡ true
+line_feed_last t = last_passes-append is_line_feed t 10 []

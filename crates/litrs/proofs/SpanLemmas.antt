@@ -12,72 +12,56 @@ use Rattle.std.proofs.lemmas.List.Sums.{take_while-cons, sum_by-cons}
 use Rattle.litrs.specs.declared.err.ParseError.{ParseError}
 use Rattle.litrs.specs.Characters.{is_scalar}
 use Rattle.std.specs.declared.ops.Range.{Range}
-use Rattle.litrs.specs.Fault.{moved, moved_span}
-use Rattle.litrs.specs.Span.{IsBoundary, LiesWithin}
+use Rattle.litrs.specs.Fault.{IsInText, moved, moved_span}
 use Rattle.litrs.specs.Suffix.{is_empty}
-use Rattle.litrs.specs.Text.{byte_len, first_passes}
+use Rattle.litrs.specs.Text.{PointsInto, byte_len, first_passes}
 use Rattle.litrs.specs.Escape.{Switches, escape_fault, hex_fault, unicode_fault, inner_fault, is_simple, is_hex_or_underscore, has_two_bytes, place_behind, allows_value, allows_byte, pair_value, hex_value}
-use Rattle.litrs.specs.EscapeLaws.{EscapeSpansLieWithin}
-use Rattle.litrs.proofs.Spans.{byte_len-append, boundary_behind}
+use Rattle.litrs.specs.EscapeLaws.{EscapeSpansLieInText}
+use Rattle.litrs.proofs.Spans.{byte_len-append}
 use Rattle.litrs.proofs.ByteLen.{byte_len_one_ascii, byte_len_all_ascii, length-le-byte_len}
 use Rattle.litrs.proofs.ListTests.{Splits, split_first, before_first-split, take_while_whole, if_true, if_false}
 use Rattle.litrs.proofs.EscapeLemmas.{hex_or_underscore_ascii, has_stranger}
 
 -- the bytes from start up to end lie within the text, and start is a character boundary
-pub record Marks (t : List ℕ) (start end : ℕ) : Type 0 where
-  pub before : List ℕ
-  pub behind : List ℕ
-  pub spells : before ++ behind ≡ t
-  pub starts : byte_len before ≡ start
-  pub ordered : start ≤ end
-  pub fits : end ≤ byte_len t
-
--- a refusal points at no part of the text, or at such bytes
-abbrev pub SpanFits : List ℕ → ParseError → Type 0
-SpanFits t e = IfSome e.span (λ span. Marks t span.start span.end)
-
-pub lies_within : (t : List ℕ) (e : ParseError) → SpanFits t e → LiesWithin t e
-lies_within t e h span is = go (let P : Option (Range ℕ) → Type 0 = λ s. IfSome s (λ span. Marks t span.start span.end) in subst P is h)
-  where
-    go : Marks t span.start span.end → (span.start ≤ span.end) × (span.end ≤ byte_len t) × IsBoundary t span.start
-    go m = (m.ordered, m.fits, boundary_behind t m.before m.behind span.start m.spells m.starts)
+abbrev pub Marks : List ℕ → ℕ → ℕ → Type 0
+Marks t start end = PointsInto t (record { start = start; end = end })
 
 -- a span from the start
 pub marks_start : (t : List ℕ) (end : ℕ) → end ≤ byte_len t → Marks t 0 end
-marks_start t end h = record { before = []; behind = t; spells = refl; starts = refl; ordered = omega arith; fits = h }
+marks_start t end h = record { front = []; rest = t; cut = refl; start = refl; in_order = omega arith; within = h }
 
 -- the byte behind some front
 pub marks_byte : (before behind t : List ℕ) (place : ℕ) → before ++ behind ≡ t → byte_len before ≡ place → 0 < length behind → Marks t place (place + 1)
 marks_byte before behind t place spells starts some =
     let size : byte_len (before ++ behind) ≡ byte_len t = ap byte_len spells in
     let more = length-le-byte_len behind in
-    record { before = before; behind = behind; spells = spells; starts = starts; ordered = omega arith; fits = omega (arith, byte_len-append before behind) }
+    record { front = before; rest = behind; cut = spells; start = sym starts; in_order = omega arith; within = omega (arith, byte_len-append before behind) }
 
 -- the same span where the text goes on, and where it begins earlier
 pub marks_on : (t more : List ℕ) (start end : ℕ) → Marks t start end → Marks (t ++ more) start end
 marks_on t more start end m =
-    let fits = m.fits in
+    let within : end ≤ byte_len t = m.within in
     record {
-      before = m.before;
-      behind = m.behind ++ more;
-      spells = sym (append_assoc m.before m.behind more) ∙ ap (λ l. l ++ more) m.spells;
-      starts = m.starts;
-      ordered = m.ordered;
-      fits = omega (arith, byte_len-append t more);
+      front = m.front;
+      rest = m.rest ++ more;
+      cut = sym (append_assoc m.front m.rest more) ∙ ap (λ l. l ++ more) m.cut;
+      start = m.start;
+      in_order = m.in_order;
+      within = omega (arith, byte_len-append t more);
     }
 
 pub marks_later : (front t : List ℕ) (start end : ℕ) → Marks t start end → Marks (front ++ t) (start + byte_len front) (end + byte_len front)
 marks_later front t start end m =
-    let starts = m.starts in
-    let fits = m.fits in
-    let ordered = m.ordered in
+    let starts : start ≡ byte_len m.front = m.start in
+    let within : end ≤ byte_len t = m.within in
+    let in_order : start ≤ end = m.in_order in
     record {
-      before = front ++ m.before;
-      behind = m.behind;
-      spells = append_assoc front m.before m.behind ∙ ap (λ l. front ++ l) m.spells;
-      starts = (let both = byte_len-append front m.before in omega arith);
-      ordered = omega arith;
-      fits = omega (arith, byte_len-append front t);
+      front = front ++ m.front;
+      rest = m.rest;
+      cut = append_assoc front m.front m.rest ∙ ap (λ l. front ++ l) m.cut;
+      start = (let both = byte_len-append front m.front in omega arith);
+      in_order = omega arith;
+      within = omega (arith, byte_len-append front t);
     }
 
 -- what stands behind a part of a text is text
@@ -88,22 +72,22 @@ behind_scalars (x ∷ xs) ys h = let both = and_parts _ (scalars (xs ++ ys)) h i
 -- the same of the bytes of a text
 pub marks_bytes : (bs : List ℕ) (start end : ℕ) → IsUtf8 bs → Marks (chars bs) start end → IsCharBoundary bs start × (start ≤ end) × (end ≤ length bs)
 marks_bytes bs start end utf8 m =
-    let whole : encode_utf8_all m.before ++ encode_utf8_all m.behind ≡ bs = sym (encodes-append m.before m.behind) ∙ ap encode_utf8_all m.spells ∙ encodes-chars bs utf8 in
-    let scalar : scalars (m.before ++ m.behind) ≡ true = ap scalars m.spells ∙ scalars-chars bs utf8 in
+    let whole : encode_utf8_all m.front ++ encode_utf8_all m.rest ≡ bs = sym (encodes-append m.front m.rest) ∙ ap encode_utf8_all m.cut ∙ encodes-chars bs utf8 in
+    let scalar : scalars (m.front ++ m.rest) ≡ true = ap scalars m.cut ∙ scalars-chars bs utf8 in
     let size : byte_len (chars bs) ≡ length bs = ap length (encodes-chars bs utf8) in
-    let fits = m.fits in
+    let within : end ≤ byte_len (chars bs) = m.within in
     let Boundary : ℕ → Type 0 = λ n. IsCharBoundary bs n in
-    (subst Boundary m.starts (IsCharBoundary-at_seam bs (encode_utf8_all m.before) (encode_utf8_all m.behind) (sym whole) (m.behind, (behind_scalars m.before m.behind scalar, refl))), m.ordered, omega arith)
+    (subst Boundary (sym m.start) (IsCharBoundary-at_seam bs (encode_utf8_all m.front) (encode_utf8_all m.rest) (sym whole) (m.rest, (behind_scalars m.front m.rest scalar, refl))), m.in_order, omega arith)
 
 -- each refusal that a table may give
 abbrev pub AllFit : List ℕ → Option ParseError → Type 0
-AllFit t o = IfSome o (λ e. SpanFits t e)
+AllFit t o = IfSome o (λ e. IsInText t e)
 
-pub fit_if : (t : List ℕ) (b : Bool) (x : ParseError) (y : Option ParseError) → (b ≡ true → SpanFits t x) → (b ≡ false → AllFit t y) → AllFit t (if b then Some x else y)
+pub fit_if : (t : List ℕ) (b : Bool) (x : ParseError) (y : Option ParseError) → (b ≡ true → IsInText t x) → (b ≡ false → AllFit t y) → AllFit t (if b then Some x else y)
 fit_if t true x y f g = f refl
 fit_if t false x y f g = g refl
 
-pub fit_unless : (t : List ℕ) (b : Bool) (x : ParseError) (y : Option ParseError) → (b ≡ false → SpanFits t x) → (b ≡ true → AllFit t y) → AllFit t (if not b then Some x else y)
+pub fit_unless : (t : List ℕ) (b : Bool) (x : ParseError) (y : Option ParseError) → (b ≡ false → IsInText t x) → (b ≡ true → AllFit t y) → AllFit t (if not b then Some x else y)
 fit_unless t true x y f g = g refl
 fit_unless t false x y f g = f refl
 
@@ -111,21 +95,21 @@ pub fit_either : (t : List ℕ) (b : Bool) (x y : Option ParseError) → (b ≡ 
 fit_either t true x y f g = f refl
 fit_either t false x y f g = g refl
 
-pub fit_some : (t : List ℕ) (o : Option ParseError) (e : ParseError) → AllFit t o → o ≡ Some e → SpanFits t e
+pub fit_some : (t : List ℕ) (o : Option ParseError) (e : ParseError) → AllFit t o → o ≡ Some e → IsInText t e
 fit_some t o e all is = let P : Option ParseError → Type 0 = λ o. AllFit t o in subst P is all
 
 pub fit_on : (t more : List ℕ) (o : Option ParseError) → AllFit t o → AllFit (t ++ more) o
 fit_on t more None h = h
 fit_on t more (Some e) h = go e.span h
   where
-    go : (s : Option (Range ℕ)) → IfSome s (λ span. Marks t span.start span.end) → IfSome s (λ span. Marks (t ++ more) span.start span.end)
+    go : (s : Option (Range ℕ)) → IfSome s (PointsInto t) → IfSome s (PointsInto (t ++ more))
     go None h = h
     go (Some span) h = marks_on t more span.start span.end h
 
-pub fit_later : (front t : List ℕ) (e : ParseError) → SpanFits t e → SpanFits (front ++ t) (moved (byte_len front) e)
+pub fit_later : (front t : List ℕ) (e : ParseError) → IsInText t e → IsInText (front ++ t) (moved (byte_len front) e)
 fit_later front t e h = go e.span h
   where
-    go : (s : Option (Range ℕ)) → IfSome s (λ span. Marks t span.start span.end) → IfSome (moved_span (byte_len front) s) (λ span. Marks (front ++ t) span.start span.end)
+    go : (s : Option (Range ℕ)) → IfSome s (PointsInto t) → IfSome (moved_span (byte_len front) s) (PointsInto (front ++ t))
     go None h = h
     go (Some span) h = marks_later front t span.start span.end h
 
@@ -290,5 +274,5 @@ escape_fits w (c ∷ t) =
     (λ _. fit_either _ (c == 117) (unicode_fault w t) _ (λ e. subst (λ n. AllFit (92 ∷ n ∷ t) (unicode_fault w t)) (sym (eqb-true c 117 e)) (unicode_fits w t))
     (λ _. fit_either _ (is_simple c) None _ (λ _. tt) (λ _. two_long c t))))
 
-pub escape_spans_lie_within : EscapeSpansLieWithin
-escape_spans_lie_within w t e told = lies_within (92 ∷ t) e (fit_some (92 ∷ t) (escape_fault w (92 ∷ t)) e (escape_fits w t) told)
+pub escape_spans_lie_in_text : EscapeSpansLieInText
+escape_spans_lie_in_text w t e told = fit_some (92 ∷ t) (escape_fault w (92 ∷ t)) e (escape_fits w t) told

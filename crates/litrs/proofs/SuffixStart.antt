@@ -8,9 +8,8 @@ use Rattle.std.proofs.lemmas.Bool.Decides.{nat_tests}
 use Rattle.unicode_ident.specs.Ident.{is_xid_start, is_xid_continue}
 use Rattle.unicode_ident.proofs.IdentLemmas.{is_xid_start-ascii, is_xid_continue-ascii, is_xid_start-is_xid_continue}
 use Rattle.litrs.specs.Text.{first_passes}
-use Rattle.litrs.specs.Span.{last_passes, is_line_feed}
 use Rattle.litrs.specs.Suffix.{is_suffix, starts_identifier}
-use Rattle.litrs.proofs.Runs.{last_passes-all}
+use Rattle.litrs.proofs.Runs.{last_passes, is_line_feed, last_passes-all}
 
 -- an ASCII character that begins an identifier is a letter or `_`
 starts_ascii : (c : ℕ) → c < 128 → starts_identifier c ≡ true → (is_ascii_alphabetic c || (c == 95)) ≡ true

@@ -1,8 +1,9 @@
 -- What holds of all chars and bytes.
-use Rattle.std.specs.Prelude.{◌≡◌, ◌↔◌, ℕ, List, None, IsFalse}
-use Rattle.std.specs.Option.{ForSome}
+use Rattle.std.specs.Prelude.{◌≡◌, ◌↔◌, ℕ, List, [], ◌∷◌, ◌++◌, Some, None}
+use Rattle.litrs.specs.declared.err.ParseError.{ParseError}
+use Rattle.litrs.specs.Characters.{line_feed}
+use Rattle.litrs.specs.Fault.{IsInText}
 use Rattle.litrs.specs.CharByte.{CharKind, CharParts, IsCharLiteral, char_kind_fault}
-use Rattle.litrs.specs.Span.{LiesWithin, last_passes, is_line_feed}
 
 -- a text has at most one derivation as a char or a byte, over both kinds together
 abbrev pub CharsAreUnique : Type 0
@@ -13,9 +14,9 @@ abbrev pub CharsAreDecided : Type 0
 CharsAreDecided = (kind : CharKind) (t : List ℕ) → (char_kind_fault kind t ≡ None) ↔ ((d : CharParts) × IsCharLiteral kind t d)
 
 -- the span of each refusal lies within the text and starts on a character boundary
-abbrev pub CharSpansLieWithin : Type 0
-CharSpansLieWithin = (kind : CharKind) (t : List ℕ) → ForSome (char_kind_fault kind t) (LiesWithin t)
+abbrev pub CharSpansLieInText : Type 0
+CharSpansLieInText = (kind : CharKind) (t : List ℕ) (e : ParseError) → char_kind_fault kind t ≡ Some e → IsInText t e
 
 -- no char and no byte ends with LF
 abbrev pub NoCharEndsWithLineFeed : Type 0
-NoCharEndsWithLineFeed = (kind : CharKind) (t : List ℕ) (d : CharParts) → IsCharLiteral kind t d → IsFalse (last_passes is_line_feed t)
+NoCharEndsWithLineFeed = (kind : CharKind) (t : List ℕ) (d : CharParts) → ¬ IsCharLiteral kind (t ++ line_feed ∷ []) d

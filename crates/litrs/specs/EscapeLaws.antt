@@ -1,9 +1,9 @@
 -- What holds of all escapes.
-use Rattle.std.specs.Prelude.{◌≡◌, ◌↔◌, ℕ, List, ◌∷◌, ◌++◌, None}
-use Rattle.std.specs.Option.{ForSome}
+use Rattle.std.specs.Prelude.{◌≡◌, ◌↔◌, ℕ, List, ◌∷◌, ◌++◌, Some, None}
+use Rattle.litrs.specs.declared.err.ParseError.{ParseError}
 use Rattle.litrs.specs.Characters.{backslash}
 use Rattle.litrs.specs.Escape.{Switches, Escape, IsEscape, escape_text, escape_fault}
-use Rattle.litrs.specs.Span.{LiesWithin}
+use Rattle.litrs.specs.Fault.{IsInText}
 
 -- at most one escape stands at the front of a text
 abbrev pub EscapesAreUnique : Type 0
@@ -21,5 +21,5 @@ EscapesAreDecided = (w : Switches) (t : List ℕ) →
     (escape_fault w (backslash ∷ t) ≡ None) ↔ BeginsWithEscape w (backslash ∷ t)
 
 -- the span of each refusal lies within the text and starts on a character boundary
-abbrev pub EscapeSpansLieWithin : Type 0
-EscapeSpansLieWithin = (w : Switches) (t : List ℕ) → ForSome (escape_fault w (backslash ∷ t)) (LiesWithin (backslash ∷ t))
+abbrev pub EscapeSpansLieInText : Type 0
+EscapeSpansLieInText = (w : Switches) (t : List ℕ) (e : ParseError) → escape_fault w (backslash ∷ t) ≡ Some e → IsInText (backslash ∷ t) e

@@ -4,11 +4,14 @@ use Rattle.std.specs.Prelude.{◌≡◌, ℕ, ◌+◌, ◌==◌, ◌&&◌, ◌||
 use Rattle.std.specs.Char.{is_ascii_digit}
 use Rattle.std.specs.List.{list_all, list_any, prefix_len}
 use Rattle.litrs.specs.declared.err.ParseErrorKind.{ParseErrorKind}
-use Rattle.litrs.specs.declared.err.ParseErrorKind.TheVariants.{Empty, UnexpectedChar, DoesNotStartWithDigit, NoExponentDigits, UnexpectedIntegerLit}
+use Rattle.litrs.specs.declared.err.ParseErrorKind.TheVariants.{UnexpectedChar, NoExponentDigits, UnexpectedIntegerLit}
 use Rattle.litrs.specs.declared.err.ParseError.{ParseError}
 use Rattle.litrs.specs.Text.{byte_len, first_passes}
 use Rattle.litrs.specs.Fault.{plain, over, at}
 use Rattle.litrs.specs.Suffix.{is_empty, is_suffix, suffix_fault}
+use Rattle.litrs.specs.declared.integer.IntegerBase.TheVariants.{Decimal}
+use Rattle.litrs.specs.Base.{is_digit_or_underscore}
+use Rattle.litrs.specs.Integer.{is_e, number_rows}
 
 -- The parts of a float: `147.3_33__E3f64` has the integer part `147`, the fraction `3_33__`, the exponent `E3`
 -- and the suffix `f64`. The fraction is None where there is no period, and empty where nothing is behind it.
@@ -34,17 +37,13 @@ float_text d = d.integer ++ (fraction_text d.fraction ++ (d.exponent ++ d.suffix
 
 -- what may stand behind the first digit: a decimal digit or `_`
 abbrev pub is_decimal_char : ℕ → Bool
-is_decimal_char c = is_ascii_digit c || (c == 95)
+is_decimal_char c = is_digit_or_underscore Decimal c
 
 abbrev pub is_underscore : ℕ → Bool
 is_underscore c = c == 95
 
 abbrev pub is_period : ℕ → Bool
 is_period c = c == 46
-
--- what an exponent begins with: `e` or `E`
-abbrev pub is_exponent_letter : ℕ → Bool
-is_exponent_letter c = (c == 101) || (c == 69)
 
 -- `+` or `-`
 abbrev pub is_sign : ℕ → Bool
@@ -65,7 +64,7 @@ sign_len t = if first_passes is_sign t then 1 else 0
 -- `e` or `E`, an optional sign, then digits and `_` with at least one digit
 unfoldable pub is_exponent : List ℕ → Bool
 is_exponent [] = false
-is_exponent (c ∷ cs) = is_exponent_letter c && is_exponent_number (drop (sign_len cs) cs)
+is_exponent (c ∷ cs) = is_e c && is_exponent_number (drop (sign_len cs) cs)
 
 -- The three forms behind the integer part: a period that ends the text; a period, a fraction, an optional
 -- exponent and a suffix; an exponent and a suffix.
@@ -80,7 +79,7 @@ pub record IsFloat (d : FloatParts) : Type 0 where
   pub form : IsTrue (is_float_form d.fraction d.exponent d.suffix)
   pub suffix : IsTrue (is_suffix d.suffix)
   pub no_underscore : IsFalse (first_passes is_underscore d.suffix)
-  pub no_letter : IsTrue (is_empty d.exponent) → IsFalse (first_passes is_exponent_letter d.suffix)
+  pub no_letter : IsTrue (is_empty d.exponent) → IsFalse (first_passes is_e d.suffix)
 
 -- the text is a float with these parts
 pub record IsFloatOf (t : List ℕ) (d : FloatParts) : Type 0 where
@@ -101,7 +100,7 @@ fraction_len (c ∷ cs) = if is_period c then 1 + decimal_len cs else 0
 -- how many characters `e` or `E` takes with a sign, digits and `_` behind it
 unfoldable pub exponent_len : List ℕ → ℕ
 exponent_len [] = 0
-exponent_len (c ∷ cs) = if is_exponent_letter c then 1 + (sign_len cs + decimal_len (drop (sign_len cs) cs)) else 0
+exponent_len (c ∷ cs) = if is_e c then 1 + (sign_len cs + decimal_len (drop (sign_len cs) cs)) else 0
 
 -- Where the integer part ends, the period and the fraction, and the number as a whole. All before is ASCII,
 -- one byte a character.
@@ -128,14 +127,12 @@ abbrev pub has_wrong_fraction : List ℕ → Bool
 has_wrong_fraction [] = false
 has_wrong_fraction (c ∷ cs) = is_period c && (not (is_empty cs) && not (first_passes is_ascii_digit cs))
 
--- The table; the first row that fits decides. The three ends and the length of the text, the kind of refusal for the
--- suffix, then what is known of the text: it is empty; it begins with a digit; a period has something else than a
--- digit behind it; there is a period; an exponent; a digit in the exponent; behind the number stands a suffix.
-abbrev pub float_rows : ℕ → ℕ → ℕ → ℕ → ParseErrorKind → Bool → Bool → Bool → Bool → Bool → Bool → Bool → Option ParseError
-float_rows integer fraction number len kind empty digit wrong_fraction period exponent exponent_digit suffix =
-    if empty then Some (plain Empty)
-    else if not digit then Some (at 0 DoesNotStartWithDigit)
-    else if wrong_fraction then Some (at (integer + 1) UnexpectedChar)
+-- The table for a text that begins with a digit; the first row that fits decides. The three ends and the length of the
+-- text, the kind of refusal for the suffix, then what is known of the text: a period has something else than a digit
+-- behind it; there is a period; an exponent; a digit in the exponent; behind the number stands a suffix.
+abbrev pub float_rows : (integer fraction number len : ℕ) (kind : ParseErrorKind) (wrong_fraction period exponent exponent_digit suffix : Bool) → Option ParseError
+float_rows integer fraction number len kind wrong_fraction period exponent exponent_digit suffix =
+    if wrong_fraction then Some (at (integer + 1) UnexpectedChar)
     else if exponent && not exponent_digit then Some (over fraction number NoExponentDigits)
     else if not suffix then Some (over number len kind)
     else if not (period || exponent) then Some (plain UnexpectedIntegerLit)
@@ -143,12 +140,10 @@ float_rows integer fraction number len kind empty digit wrong_fraction period ex
 
 -- why a text is no float: None where it is one
 unfoldable pub float_fault : List ℕ → Option ParseError
-float_fault t =
-    float_rows (integer_end t) (fraction_end t) (number_end t) (byte_len t) (suffix_fault (drop (number_end t) t))
-    (is_empty t)
-    (first_passes is_ascii_digit t)
+float_fault t = number_rows (is_empty t) (first_passes is_ascii_digit t)
+    (float_rows (integer_end t) (fraction_end t) (number_end t) (byte_len t) (suffix_fault (drop (number_end t) t))
     (has_wrong_fraction (drop (integer_end t) t))
     (first_passes is_period (drop (integer_end t) t))
-    (first_passes is_exponent_letter (drop (fraction_end t) t))
+    (first_passes is_e (drop (fraction_end t) t))
     (list_any is_ascii_digit (take (exponent_len (drop (fraction_end t) t)) (drop (fraction_end t) t)))
-    (is_suffix (drop (number_end t) t))
+    (is_suffix (drop (number_end t) t)))

@@ -1,7 +1,7 @@
 -- What holds of all floats.
-use Rattle.std.specs.Prelude.{◌≡◌, ◌↔◌, ℕ, List, None, IsFalse}
-use Rattle.std.specs.Option.{ForSome}
-use Rattle.litrs.specs.Span.{LiesWithin, last_passes, is_line_feed}
+use Rattle.std.specs.Prelude.{◌≡◌, ◌↔◌, ℕ, List, [], ◌∷◌, ◌++◌, Some, None}
+use Rattle.litrs.specs.declared.err.ParseError.{ParseError}
+use Rattle.litrs.specs.Fault.{IsInText}
 use Rattle.litrs.specs.Float.{FloatParts, IsFloatOf, float_fault}
 
 -- a text has at most one derivation as a float
@@ -13,9 +13,9 @@ abbrev pub FloatsAreDecided : Type 0
 FloatsAreDecided = (t : List ℕ) → (float_fault t ≡ None) ↔ ((d : FloatParts) × IsFloatOf t d)
 
 -- the span of each refusal lies within the text and starts on a character boundary
-abbrev pub FloatSpansLieWithin : Type 0
-FloatSpansLieWithin = (t : List ℕ) → ForSome (float_fault t) (LiesWithin t)
+abbrev pub FloatSpansLieInText : Type 0
+FloatSpansLieInText = (t : List ℕ) (e : ParseError) → float_fault t ≡ Some e → IsInText t e
 
 -- no float ends with LF
 abbrev pub NoFloatEndsWithLineFeed : Type 0
-NoFloatEndsWithLineFeed = (t : List ℕ) (d : FloatParts) → IsFloatOf t d → IsFalse (last_passes is_line_feed t)
+NoFloatEndsWithLineFeed = (t : List ℕ) (d : FloatParts) → ¬ IsFloatOf (t ++ 10 ∷ []) d

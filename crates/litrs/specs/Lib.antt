@@ -2,7 +2,6 @@ pub mod Kind
 pub mod Fault
 pub mod Text
 pub mod Suffix
-pub mod Span
 pub mod Float
 pub mod Raw
 pub mod FloatLaws
@@ -25,3 +24,4 @@ pub mod CharByte
 pub mod EscapeLaws
 pub mod QuotedLaws
 pub mod CharByteLaws
+pub mod NumberLaws

@@ -1,6 +1,8 @@
 -- The number that digits stand for.
 use Rattle.std.specs.Prelude.{ℕ, Bool, ◌+◌, ◌*◌, ◌^◌, ◌-◌, not, ◌==◌, List, [], ◌∷◌, length, filter}
 use Rattle.std.specs.Char.{digit_value}
+use Rattle.litrs.specs.Base.{base_value}
+use Rattle.litrs.specs.Integer.{IntegerParts}
 use Rattle.litrs.specs.declared.integer.IntegerType.{IntegerType}
 use Rattle.litrs.specs.declared.integer.IntegerType.TheVariants.{U8, U16, U32, U64, U128, Usize, I8, I16, I32, I64, I128, Isize}
 
@@ -17,6 +19,10 @@ is_no_underscore c = not (c == 95)
 -- the number of digits behind it. It has no bound.
 abbrev pub numeral : ℕ → List ℕ → ℕ
 numeral base t = place_sum base (filter is_no_underscore t)
+
+-- the value of an integer: of its main part in its base, whatever the suffix
+abbrev pub integer_value : IntegerParts → ℕ
+integer_value d = numeral (base_value d.base) d.main
 
 -- the greatest number of a type
 abbrev pub greatest_of : IntegerType → ℕ

@@ -1,11 +1,11 @@
 -- What holds of all quoted literals: strings, byte strings and C strings.
-use Rattle.std.specs.Prelude.{◌≡◌, ◌↔◌, ◌⊎◌, ℕ, ◌≤◌, ◌==◌, List, ◌++◌, length, IsFalse}
+use Rattle.std.specs.Prelude.{◌≡◌, ◌↔◌, ◌⊎◌, ℕ, ◌≤◌, ◌==◌, List, [], ◌∷◌, ◌++◌, length, IsFalse}
 use Rattle.std.specs.List.{list_any}
 use Rattle.litrs.specs.declared.err.ParseError.{ParseError}
-use Rattle.litrs.specs.Characters.{backslash, nul, is_blank}
+use Rattle.litrs.specs.Characters.{backslash, line_feed, nul, is_blank}
 use Rattle.litrs.specs.Escape.{Switches}
 use Rattle.litrs.specs.Quoted.{QuotedKind, Item, body_value, IsBodyOf, QuotedParts, IsQuoted, IsQuotedLiteral, IsQuotedFault}
-use Rattle.litrs.specs.Span.{LiesWithin, last_passes, is_line_feed}
+use Rattle.litrs.specs.Fault.{IsInText}
 use Rattle.litrs.specs.Text.{byte_len, first_passes}
 
 -- a text has at most one derivation as a quoted literal, over all three kinds together
@@ -36,13 +36,13 @@ QuotedTextsAreNotRefused = (front : List ℕ) (w : Switches) (t : List ℕ) (q :
     IsQuoted front w t q → ¬ IsQuotedFault front w t e
 
 -- the span of each refusal lies within the text and starts on a character boundary
-abbrev pub QuotedSpansLieWithin : Type 0
-QuotedSpansLieWithin = (front : List ℕ) (w : Switches) (t : List ℕ) (e : ParseError) → IsQuotedFault front w t e → LiesWithin t e
+abbrev pub QuotedSpansLieInText : Type 0
+QuotedSpansLieInText = (front : List ℕ) (w : Switches) (t : List ℕ) (e : ParseError) → IsQuotedFault front w t e → IsInText t e
 
 -- no quoted literal ends with LF
 abbrev pub NoQuotedTextEndsWithLineFeed : Type 0
 NoQuotedTextEndsWithLineFeed = (front : List ℕ) (w : Switches) (t : List ℕ) (q : QuotedParts) →
-    IsQuoted front w t q → IsFalse (last_passes is_line_feed t)
+    ¬ IsQuoted front w (t ++ line_feed ∷ []) q
 
 -- Of bodies.
 

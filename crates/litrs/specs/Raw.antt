@@ -37,12 +37,12 @@ occurs part (c ∷ cs) = begins_with part (c ∷ cs) || occurs part cs
 
 -- No CR stands in a raw body, only ASCII in that of a byte string, and no NUL in that of a C string.
 -- A backslash means nothing.
-abbrev pub is_raw_char : Bool → Bool → ℕ → Bool
-is_raw_char unicode nul_allowed c = not (c == 13) && ((unicode || nat_lt c 128) && (nul_allowed || not (is_nul c)))
+abbrev pub is_raw_char : (unicode allow_nul : Bool) → ℕ → Bool
+is_raw_char unicode allow_nul c = not (c == 13) && ((unicode || nat_lt c 128) && (allow_nul || not (is_nul c)))
 
 -- a raw body between n hashes: its characters may stand there, and what would close it does not occur in it
-pub record IsRawBody (unicode nul_allowed : Bool) (n : ℕ) (body : List ℕ) : Type 0 where
-  pub allowed : IsTrue (list_all (is_raw_char unicode nul_allowed) body)
+pub record IsRawBody (unicode allow_nul : Bool) (n : ℕ) (body : List ℕ) : Type 0 where
+  pub allowed : IsTrue (list_all (is_raw_char unicode allow_nul) body)
   pub unclosed : IsFalse (occurs (raw_closing n) body)
 
 -- the value of a raw body: its own bytes
@@ -60,15 +60,15 @@ abbrev pub raw_text : RawParts → List ℕ
 raw_text d = hashes d.hash_count ++ (34 ∷ (d.body ++ (raw_closing d.hash_count ++ d.suffix)))
 
 -- the parts are those of a raw literal, which has at most 255 hashes
-pub record IsRaw (unicode nul_allowed : Bool) (d : RawParts) : Type 0 where
+pub record IsRaw (unicode allow_nul : Bool) (d : RawParts) : Type 0 where
   pub hash_count : d.hash_count ≤ 255
-  pub body : IsRawBody unicode nul_allowed d.hash_count d.body
+  pub body : IsRawBody unicode allow_nul d.hash_count d.body
   pub suffix : IsTrue (is_suffix d.suffix)
 
 -- what stands behind the front is a raw literal with these parts
-pub record IsRawOf (unicode nul_allowed : Bool) (t : List ℕ) (d : RawParts) : Type 0 where
+pub record IsRawOf (unicode allow_nul : Bool) (t : List ℕ) (d : RawParts) : Type 0 where
   pub spells : raw_text d ≡ t
-  pub grammar : IsRaw unicode nul_allowed d
+  pub grammar : IsRaw unicode allow_nul d
 
 -- the three kinds
 pub data RawKind : Type 0 where
@@ -114,18 +114,18 @@ raw_char_fault c = if c == 13 then CarriageReturn else if is_nul c then NulByte 
 -- The rows behind the opening quote. The places of the first character that may not stand in the body and of the
 -- suffix, and the kinds of refusal for both; then: there is such a character before the first closing; there is a
 -- closing; behind it stands a suffix.
-abbrev pub raw_body_rows : ℕ → ℕ → ParseErrorKind → ParseErrorKind → Bool → Bool → Bool → Option ParseError
+abbrev pub raw_body_rows : (place suffix_place : ℕ) (kind suffix_kind : ParseErrorKind) (refused closed suffix : Bool) → Option ParseError
 raw_body_rows place suffix_place kind suffix_kind refused closed suffix =
     if refused then Some (at place kind)
     else if not closed then Some (plain UnterminatedRawString)
     else if not suffix then Some (at suffix_place suffix_kind)
     else None
 
--- what stands behind n hashes and the quote is refused, where it begins at the place
-unfoldable pub raw_body_fault : Bool → Bool → ℕ → ℕ → List ℕ → Option ParseError
-raw_body_fault unicode nul_allowed n start t =
+-- why what stands behind n hashes and the quote, from the place start on, ends no raw literal: None where it does
+unfoldable pub raw_body_fault : (unicode allow_nul : Bool) (n start : ℕ) → List ℕ → Option ParseError
+raw_body_fault unicode allow_nul n start t =
     let before = take (length_before (raw_closing n) t) t in
-    let good = prefix_len (is_raw_char unicode nul_allowed) before in
+    let good = prefix_len (is_raw_char unicode allow_nul) before in
     let suffix = drop (length before + (1 + n)) t in
     raw_body_rows (start + byte_len (take good t)) (start + (byte_len before + (1 + n)))
     (raw_char_fault (slice_index t good)) (suffix_fault suffix)
@@ -133,19 +133,19 @@ raw_body_fault unicode nul_allowed n start t =
 
 -- The rows before it. The place of the hashes and their number, and the refusal of what is behind the quote; then:
 -- nothing is behind the hashes; there are too many; `"` is behind them.
-abbrev pub raw_rows : ℕ → ℕ → Option ParseError → Bool → Bool → Bool → Option ParseError
+abbrev pub raw_rows : (start n : ℕ) (body_fault : Option ParseError) (nothing too_many quote : Bool) → Option ParseError
 raw_rows start n body_fault nothing too_many quote =
     if nothing then Some (plain InvalidLiteral)
     else if too_many then Some (over start (start + n) TooManyHashes)
     else if not quote then Some (plain InvalidLiteral)
     else body_fault
 
--- why a text behind a front is no raw literal, where it begins at the place: None where it is one
-unfoldable pub raw_fault : Bool → Bool → ℕ → List ℕ → Option ParseError
-raw_fault unicode nul_allowed start t =
+-- why what stands behind a front, from the place start on, is no raw literal: None where it is one
+unfoldable pub raw_fault : (unicode allow_nul : Bool) (start : ℕ) → List ℕ → Option ParseError
+raw_fault unicode allow_nul start t =
     let n = hash_len t in
     let behind = drop n t in
-    raw_rows start n (raw_body_fault unicode nul_allowed n (start + (n + 1)) (drop 1 behind))
+    raw_rows start n (raw_body_fault unicode allow_nul n (start + (n + 1)) (drop 1 behind))
     (is_empty behind) (nat_lt 255 n) (first_passes is_quote behind)
 
 -- why a text that begins with the front of the kind is no raw literal of the kind

@@ -5,7 +5,11 @@ ghost use Rattle.std.specs.Char.{is_ascii_digit};
 ghost use Rattle.std.specs.Cmp.{on_per, on_equiv, partial_equiv_from_equiv};
 ghost use Rattle.std.specs.Cmp.Lexicographic.{pointwise, nat_list_eq_equiv};
 ghost use Rattle.std.specs.List.{prefix_len, list_any};
+ghost use Rattle.std.specs.List.{list_all};
+ghost use Rattle.std.specs.Option.{SomeIff};
 ghost use Rattle.std.specs.Str.{chars};
+ghost use Rattle.litrs.specs.Base.{base_value, is_digit_or_underscore};
+ghost use Rattle.litrs.specs.Numeral.{numeral};
 ghost use Rattle.litrs.specs.Reading.{IsOnlyReading, HasNoReading};
 ghost use Rattle.litrs.specs.Text.{first_passes};
 ghost use Rattle.litrs.specs.IntegerCut.{parts_at, IsWithin, IsDigitsCut};
@@ -13,7 +17,8 @@ ghost use Rattle.litrs.specs.Integer.{IsIntegerOf, integer_fault, cut_fault, int
 
 use crate::buffer::Buffer;
 use crate::err::{ParseError, ParseErrorKind};
-use crate::parse::{check_suffix, first_byte_or_empty};
+use crate::from_integer_literal::FromIntegerLiteral;
+use crate::parse::{check_suffix, first_byte_or_empty, hex_digit_value};
 use std::alloc::AllocError;
 use std::fmt;
 use std::str::FromStr;
@@ -34,6 +39,7 @@ pub struct IntegerLit<B: Buffer> {
 
 impl<B: Buffer> IntegerLit<B> {
     ghost use Rattle.litrs.specs.IntegerLiteral.{integer_raw, integer_parts};
+    ghost use Rattle.litrs.specs.Numeral.{integer_value};
 
     /// Parses the input as an integer literal.
     ///
@@ -46,6 +52,16 @@ impl<B: Buffer> IntegerLit<B> {
     {
         let cut = read(input.as_str())?;
         Ok(IntegerLit { raw: input, cut })
+    }
+
+    /// The value of the main part in its base. Underscores and the suffix are ignored, so `N` does not
+    /// need to match the suffix.
+    ///
+    /// None exactly where the number is greater than the greatest number of `N`. It takes no memory.
+    pub fn value<N: FromIntegerLiteral>(&self) -> Option<N>
+        ensures { let number = integer_value (integer_parts self.now) in SomeIff result (number ≤ N.greatest) (N.of number) }
+    {
+        value_of(self.cut.base, self.raw_main_part().as_bytes())
     }
 
     /// The base of this integer literal.
@@ -98,6 +114,26 @@ fn read(input: &str) -> Result<IntegerCut, ParseError>
     } else {
         Err(ParseError::new(Some(0..1), ParseErrorKind::DoesNotStartWithDigit))
     }
+}
+
+/// The number that digits of the base and underscores stand for, or None where `N` does not have it.
+fn value_of<N: FromIntegerLiteral>(base: IntegerBase, main: &[u8]) -> Option<N>
+    requires { IsTrue (list_all (is_digit_or_underscore base) main.now) }
+    ensures { let number = numeral (base_value base) main.now in SomeIff result (number ≤ N.greatest) (N.of number) }
+{
+    let radix = N::from_small_number(base.value());
+    let mut number = N::from_small_number(0);
+    for byte in main {
+        if *byte == b'_' {
+            continue;
+        }
+        let Some(digit) = hex_digit_value(*byte) else {
+            unreachable!();
+        };
+        number = number.checked_mul(radix)?;
+        number = number.checked_add(N::from_small_number(digit))?;
+    }
+    Some(number)
 }
 
 impl<B: Buffer> PartialEq for IntegerLit<B> {
@@ -242,7 +278,7 @@ pub enum IntegerBase {
 }
 
 impl IntegerBase {
-    ghost use Rattle.litrs.specs.Base.{prefix, base_value, is_digit, is_digit_or_underscore};
+    ghost use Rattle.litrs.specs.Base.{prefix, is_digit};
 
     /// The text that indicates this base: `0b`, `0o`, the empty text and `0x`.
     pub fn prefix(self) -> &'static str

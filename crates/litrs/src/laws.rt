@@ -3,4 +3,5 @@ mod char_byte;
 mod escape;
 mod float;
 mod quoted;
+mod number;
 mod raw;

@@ -1,5 +1,5 @@
 //! Laws of chars and bytes.
-ghost use Rattle.litrs.specs.CharByteLaws.{CharsAreUnique, CharsAreDecided, CharSpansLieWithin, NoCharEndsWithLineFeed};
+ghost use Rattle.litrs.specs.CharByteLaws.{CharsAreUnique, CharsAreDecided, CharSpansLieInText, NoCharEndsWithLineFeed};
 
 /// A text has at most one derivation as a char or a byte, over both kinds together.
 pub fn chars_are_unique()
@@ -12,8 +12,8 @@ pub fn chars_are_decided()
 {}
 
 /// The span of each refusal lies within the text and starts on a character boundary.
-pub fn char_spans_lie_within()
-    ensures { CharSpansLieWithin }
+pub fn char_spans_lie_in_text()
+    ensures { CharSpansLieInText }
 {}
 
 /// No char and no byte ends with LF.

@@ -1,5 +1,5 @@
 //! Laws of escapes.
-ghost use Rattle.litrs.specs.EscapeLaws.{EscapesAreUnique, EscapesAreDecided, EscapeSpansLieWithin};
+ghost use Rattle.litrs.specs.EscapeLaws.{EscapesAreUnique, EscapesAreDecided, EscapeSpansLieInText};
 
 /// At most one escape stands at the front of a text.
 pub fn escapes_are_unique()
@@ -13,6 +13,6 @@ pub fn escapes_are_decided()
 {}
 
 /// The span of each refusal lies within the text and starts on a character boundary.
-pub fn escape_spans_lie_within()
-    ensures { EscapeSpansLieWithin }
+pub fn escape_spans_lie_in_text()
+    ensures { EscapeSpansLieInText }
 {}

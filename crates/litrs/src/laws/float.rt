@@ -1,5 +1,5 @@
 //! Laws of floating-point literals.
-ghost use Rattle.litrs.specs.FloatLaws.{FloatsAreUnique, FloatsAreDecided, FloatSpansLieWithin, NoFloatEndsWithLineFeed};
+ghost use Rattle.litrs.specs.FloatLaws.{FloatsAreUnique, FloatsAreDecided, FloatSpansLieInText, NoFloatEndsWithLineFeed};
 
 /// A text has at most one derivation as a float.
 pub fn floats_are_unique()
@@ -12,8 +12,8 @@ pub fn floats_are_decided()
 {}
 
 /// The span of each refusal lies within the text and starts on a character boundary.
-pub fn float_spans_lie_within()
-    ensures { FloatSpansLieWithin }
+pub fn float_spans_lie_in_text()
+    ensures { FloatSpansLieInText }
 {}
 
 /// No float ends with LF.

@@ -1,5 +1,5 @@
 //! Laws of quoted strings, byte strings and C strings.
-ghost use Rattle.litrs.specs.QuotedLaws.{QuotedLiteralsAreUnique, QuotedTextsAreUnique, QuotedRefusalsAreUnique, QuotedTextsAreDecided, QuotedTextsAreNotRefused, QuotedSpansLieWithin, NoQuotedTextEndsWithLineFeed, QuotedBodiesAreUnique, QuotedBodiesJoin, QuotedValuesFitBodies, NoNulInQuotedCStrings};
+ghost use Rattle.litrs.specs.QuotedLaws.{QuotedLiteralsAreUnique, QuotedTextsAreUnique, QuotedRefusalsAreUnique, QuotedTextsAreDecided, QuotedTextsAreNotRefused, QuotedSpansLieInText, NoQuotedTextEndsWithLineFeed, QuotedBodiesAreUnique, QuotedBodiesJoin, QuotedValuesFitBodies, NoNulInQuotedCStrings};
 
 /// A text has at most one derivation as a quoted literal, over all three kinds together.
 pub fn quoted_literals_are_unique()
@@ -27,8 +27,8 @@ pub fn quoted_texts_are_not_refused()
 {}
 
 /// The span of each refusal lies within the text and starts on a character boundary.
-pub fn quoted_spans_lie_within()
-    ensures { QuotedSpansLieWithin }
+pub fn quoted_spans_lie_in_text()
+    ensures { QuotedSpansLieInText }
 {}
 
 /// No quoted literal ends with LF.

@@ -1,5 +1,5 @@
 //! Laws of raw strings.
-ghost use Rattle.litrs.specs.RawLaws.{RawLiteralsAreUnique, RawLiteralsAreDecided, RawSpansLieWithin, RawTextsAreUnique, RawTextsAreDecided, RawTextSpansLieWithin, NoRawLiteralEndsWithLineFeed, NoNulInRawCStrings, RawValuesAreAsLongAsBodies};
+ghost use Rattle.litrs.specs.RawLaws.{RawLiteralsAreUnique, RawLiteralsAreDecided, RawSpansLieInText, RawTextsAreUnique, RawTextsAreDecided, RawTextSpansLieInText, NoRawLiteralEndsWithLineFeed, NoNulInRawCStrings, RawValuesAreAsLongAsBodies};
 
 /// A text has at most one derivation as a raw literal, over all three kinds together.
 pub fn raw_literals_are_unique()
@@ -13,8 +13,8 @@ pub fn raw_literals_are_decided()
 {}
 
 /// The span of each refusal lies within the text and starts on a character boundary.
-pub fn raw_spans_lie_within()
-    ensures { RawSpansLieWithin }
+pub fn raw_spans_lie_in_text()
+    ensures { RawSpansLieInText }
 {}
 
 /// What stands behind a front has at most one derivation under the same switches.
@@ -30,8 +30,8 @@ pub fn raw_texts_are_decided()
 
 /// Its spans, counted from the start of the text, lie within the text and start on a character
 /// boundary.
-pub fn raw_text_spans_lie_within()
-    ensures { RawTextSpansLieWithin }
+pub fn raw_text_spans_lie_in_text()
+    ensures { RawTextSpansLieInText }
 {}
 
 /// No raw literal ends with LF.
