@@ -1,10 +1,9 @@
 -- How many bytes a text has.
-use Rattle.std.proofs.Common.{◌≡◌, ℕ, ◌+◌, ◌<◌, ◌≤◌, Bool, true, List, [], ◌∷◌, ◌++◌, length, refl, ap, ◌∙◌, arith, length-append}
+use Rattle.std.proofs.Common.{◌≡◌, ℕ, ◌+◌, ◌<◌, ◌≤◌, Bool, true, List, ◌∷◌, length, ap, ◌∙◌, length-append}
 use Rattle.std.specs.Prelude.{encode_utf8, encode_utf8_all}
-use Rattle.std.specs.Char.{len_utf8}
 use Rattle.std.specs.List.{list_all}
 use Rattle.std.proofs.lemmas.Bool.{lt-ltb}
-use Rattle.std.proofs.lemmas.Str.{encodes-append, length-encode, length-le-encodes, len_utf8_ascii}
+use Rattle.std.proofs.lemmas.Str.{length-encode, length-le-encodes, len_utf8_ascii}
 use Rattle.litrs.specs.Text.{byte_len}
 use Rattle.litrs.proofs.Spans.{is_ascii_char, byte_len_ascii}
 use Rattle.litrs.proofs.Runs.{list_all-weaken}

@@ -2,6 +2,6 @@
 mod char_byte;
 mod escape;
 mod float;
-mod quoted;
 mod number;
+mod quoted;
 mod raw;
