@@ -17,5 +17,12 @@ pub mod Literal
 pub mod LiteralDerivation
 pub mod Dispatch
 pub mod Numeral
+pub mod Characters
+pub mod Escape
+pub mod Quoted
+pub mod CharByte
+pub mod EscapeLaws
+pub mod QuotedLaws
+pub mod CharByteLaws
 pub mod NumberLaws
 pub mod Report

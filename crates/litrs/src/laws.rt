@@ -1,4 +1,7 @@
 //! Laws of the grammar: each is the contract of a function with an empty body.
+pub mod char_byte;
+pub mod escape;
 pub mod float;
 pub mod number;
+pub mod quoted;
 pub mod raw;

@@ -16,6 +16,7 @@ ghost use Rattle.litrs.specs.LiteralDerivation.{literal_raw, derivation, suffix_
 pub use bool::BoolLit;
 pub use buffer::Buffer;
 pub use err::{ParseError, ParseErrorKind};
+pub use escape::Unescape;
 pub use from_integer_literal::FromIntegerLiteral;
 pub use integer::{IntegerBase, IntegerCut, IntegerLit, IntegerType, cut_integer};
 pub use parse::{check_suffix, end_dec_digits, first_byte_or_empty, hex_digit_value};
@@ -25,6 +26,7 @@ use std::fmt;
 mod bool;
 mod buffer;
 mod err;
+mod escape;
 mod from_integer_literal;
 mod integer;
 pub mod laws;
