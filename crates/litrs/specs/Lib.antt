@@ -2,3 +2,12 @@ pub mod Kind
 pub mod Fault
 pub mod Text
 pub mod Suffix
+pub mod Report
+pub mod Lines
+pub mod Devices
+pub mod Calls
+pub mod MemInput
+pub mod MemOutput
+pub mod StdInput
+pub mod StdOutput
+pub mod RunError

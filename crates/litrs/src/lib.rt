@@ -5,4 +5,5 @@ pub use err::{ParseError, ParseErrorKind};
 pub use parse::{check_suffix, first_byte_or_empty};
 
 mod err;
+pub mod lines;
 mod parse;
