@@ -2,8 +2,8 @@
 #![tactic(auto)]
 
 pub use err::{ParseError, ParseErrorKind};
-pub use parse::{check_suffix, first_byte_or_empty};
+// pub use parse::{check_suffix, first_byte_or_empty};
 
 mod err;
 pub mod lines;
-mod parse;
+// mod parse;

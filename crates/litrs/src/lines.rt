@@ -141,6 +141,17 @@ fn take_piece<O: Output>(
     }
 }
 
+/// Reports on a last line that has no end, where it is not empty.
+fn report_open_line(line: &mut Vec<u8>, reports: &mut Vec<u8>) -> Result<(), AllocError>
+    requires { reports.old.items ≡ [] }
+    ensures { OnOk result (reports.new.items ≡ reports_of (unless_empty line.old.items)) }
+{
+    if line.is_empty() {
+        return Ok(());
+    }
+    report_line(line, reports, &[])
+}
+
 /// Takes the end of the input: writes the report on a last line that has no end, and flushes.
 fn finish<O: Output>(
     line: &mut Vec<u8>,
@@ -157,9 +168,7 @@ fn finish<O: Output>(
     ensures write { IsErrOf result RunError.Write ↔ (O.has_failed writer.new ≡ true) }
 {
     reports.clear();
-    if !line.is_empty() {
-        report_line(line, reports, &[])?;
-    }
+    report_open_line(line, reports)?;
     if let Err(Failed) = write_all(writer, reports) {
         return Err(RunError::Write);
     }
