@@ -10,15 +10,15 @@ use Rattle.std.proofs.lemmas.List.Sums.{fails_before_first}
 use Rattle.std.specs.List.{position_or_len}
 use Rattle.std.specs.Io.{StartsWith}
 use Rattle.std.specs.Io.KnownBytes.{Appends, Keeps, Consumes, IsAtEnd}
-use Rattle.std.proofs.KnownBytes.{Appends-nil, Appends-trans, Appends-kept, Consumes-nil, Consumes-trans, Consumes-kept, Keeps-refl}
+use Rattle.std.proofs.KnownBytes.{Appends-nil, Appends-trans, Appends-kept, Consumes-nil, Consumes-trans, Consumes-kept, Consumes-whole, Keeps-refl, starts_with_rest}
 use Rattle.std.proofs.Math.Seq.{take-append_seam}
 use Rattle.std.proofs.lemmas.Option.{none-some}
 use Rattle.std.proofs.lemmas.Bool.{ltb-false}
-use Rattle.std.proofs.Common.{Option, Result, Ok, Err, OnOk}
+use Rattle.std.proofs.Common.{Option, Result, Ok, Err, OnOk, OnErr, IfSome, IsSome, ◌^◌, length-append}
 use Rattle.std.specs.Prelude.{is_ok, if◌then◌else◌}
 use Rattle.litrs.specs.Devices.{AppendsBeginning, AreWholeLines, StopsWithin}
 use Rattle.std.proofs.Common.{eqb-true, ltb, cond, add-one, get_or, take-append-drop, drop-cons, length-take}
-use Rattle.std.proofs.lemmas.List.{get_or-take, take_rest}
+use Rattle.std.proofs.lemmas.List.{get_or-take, take_rest, take_all}
 use Rattle.litrs.specs.Report.{report_of}
 use Rattle.litrs.specs.Lines.{is_line_feed, HasNoLineFeed, before_last_part, last_part, ended_parts, open_part, unless_empty, ended_lines, open_line, lines_of, reports_of}
 
@@ -281,3 +281,143 @@ begins_so_far old mid new bytes rest so_far kept = record {
 pub OnOk-holds : {T E P : Type 0} (r : Result T E) → P → OnOk r P
 OnOk-holds (Ok x) p = p
 OnOk-holds (Err e) p = tt
+
+pub OnOk-map : {T E P Q : Type 0} (r : Result T E) → (P → Q) → OnOk r P → OnOk r Q
+OnOk-map (Ok x) f p = f p
+OnOk-map (Err e) f p = tt
+
+pub OnErr-map : {T E P Q : Type 0} (r : Result T E) → (P → Q) → OnErr r P → OnErr r Q
+OnErr-map (Ok x) f p = tt
+OnErr-map (Err e) f p = f p
+
+-- ---- a last line that has no end
+
+pub reports_of-empty : (line : List ℕ) → length line ≡ 0 → reports_of (unless_empty line) ≡ []
+reports_of-empty [] none = reports_of-nil
+reports_of-empty (b ∷ bs) none = absurd (omega arith)
+
+pub reports_of-last : (line new old : List ℕ) → 0 < length line → old ≡ [] → new ≡ old ++ (report_of (line ++ []) ++ 10 ∷ []) → new ≡ reports_of (unless_empty line)
+reports_of-last line new old some none is =
+    is ∙ ap (λ xs. xs ++ (report_of (line ++ []) ++ 10 ∷ [])) none ∙ ap (λ xs. report_of xs ++ 10 ∷ []) (append-nil line)
+    ∙ sym (reports_of-open line (λ nothing. let e : length line ≡ 0 = ap length nothing in omega arith))
+
+-- ---- a run
+
+-- of the bytes taken so far all but the line that goes on was reported, and each read took one at least
+pub record RunsOn (left_old left_new contents_old contents_new : Option (List ℕ)) (line : List ℕ) (reads : ℕ) : Type 0 where
+  pub taken : List ℕ
+  pub takes : Consumes left_old left_new taken
+  pub goes_on : line ≡ open_line taken
+  pub writes : Appends contents_old contents_new (reports_of (ended_lines taken))
+  pub few : reads ≤ length taken
+
+pub runs_none : (left contents : Option (List ℕ)) (line : List ℕ) → line ≡ [] → RunsOn left left contents contents line 0
+runs_none left contents line none = record {
+  taken = [];
+  takes = Consumes-nil left;
+  goes_on = none ∙ sym (open_line-none [] (All-nil EndsNoLine));
+  writes = subst (Appends contents contents) (sym (ap reports_of (ended_lines-none [] (All-nil EndsNoLine)) ∙ reports_of-nil)) (Appends-nil contents);
+  few = omega arith
+}
+
+module _ {left_old left contents_old contents : Option (List ℕ)} {line : List ℕ} {reads : ℕ} (run : RunsOn left_old left contents_old contents line reads) where
+  pub line_held : HasNoLineFeed line
+  line_held = subst HasNoLineFeed (sym run.goes_on) (open_line-has_no_line_feed run.taken)
+
+  -- what is reported on a piece, behind what was reported before it
+  reports_on_piece : (piece : List ℕ) → reports_of (ended_lines (run.taken ++ piece)) ≡ reports_of (ended_lines run.taken) ++ reports_of (ended_lines (line ++ piece))
+  reports_on_piece piece =
+      ap reports_of (ended_lines-append run.taken piece) ∙ reports_of-append (ended_lines run.taken) _
+      ∙ ap (λ xs. reports_of (ended_lines run.taken) ++ reports_of (ended_lines (xs ++ piece))) (sym run.goes_on)
+
+  -- what is reported on the whole, where nothing more is taken
+  reports_on_all : reports_of (lines_of run.taken) ≡ reports_of (ended_lines run.taken) ++ reports_of (unless_empty line)
+  unfolding lines_of
+  reports_on_all =
+      reports_of-append (ended_lines run.taken) (unless_empty (open_line run.taken))
+      ∙ ap (λ xs. reports_of (ended_lines run.taken) ++ reports_of (unless_empty xs)) (sym run.goes_on)
+
+  pub runs_more : (left_new contents_new : Option (List ℕ)) (line_new piece : List ℕ) → Consumes left left_new piece → line_new ≡ open_line (line ++ piece)
+      → Appends contents contents_new (reports_of (ended_lines (line ++ piece))) → 0 < length piece → RunsOn left_old left_new contents_old contents_new line_new (reads + 1)
+  runs_more left_new contents_new line_new piece takes goes_on writes some = record {
+    taken = run.taken ++ piece;
+    takes = Consumes-trans left_old left left_new run.taken piece run.takes takes;
+    goes_on = goes_on ∙ ap (λ xs. open_line (xs ++ piece)) run.goes_on ∙ sym (open_line-append run.taken piece);
+    writes = subst (Appends contents_old contents_new) (sym (reports_on_piece piece)) (Appends-trans contents_old contents contents_new _ _ run.writes writes);
+    few = let before = run.few in omega (arith, length-append run.taken piece)
+  }
+
+  writes_beginning : (contents_new : Option (List ℕ)) (bytes whole : List ℕ) → AppendsBeginning contents contents_new bytes
+      → whole ≡ reports_of (ended_lines run.taken) ++ bytes → AppendsBeginning contents_old contents_new whole
+  writes_beginning contents_new bytes whole more is =
+      let front : List ℕ = reports_of (ended_lines run.taken) in
+      let rest : List ℕ = drop (length more.written) bytes in
+      let cut : whole ≡ (front ++ more.written) ++ rest = is ∙ ap (λ xs. front ++ xs) (starts_with_rest bytes more.written more.begins) ∙ sym (append_assoc front more.written rest) in
+      record {
+        written = front ++ more.written;
+        appends = Appends-trans contents_old contents contents_new front more.written run.writes more.appends;
+        begins = ap (take (length (front ++ more.written))) cut ∙ take-append_seam (front ++ more.written) rest
+      }
+
+  -- a read failed
+  pub stops_at_read : (left_new : Option (List ℕ)) → Keeps left left_new → StopsWithin left_old left_new contents_old contents
+  stops_at_read left_new kept = record {
+    taken = run.taken;
+    takes = Consumes-kept left_old left left_new run.taken run.takes kept;
+    lines = ended_lines run.taken;
+    whole = inl refl;
+    writes = record { written = reports_of (ended_lines run.taken); appends = run.writes; begins = take_all (length (reports_of (ended_lines run.taken))) (reports_of (ended_lines run.taken)) (omega arith) }
+  }
+
+  -- a piece was not reported on as a whole
+  pub stops_in_piece : (left_new contents_new : Option (List ℕ)) (piece : List ℕ) → Consumes left left_new piece
+      → AppendsBeginning contents contents_new (reports_of (ended_lines (line ++ piece))) → StopsWithin left_old left_new contents_old contents_new
+  stops_in_piece left_new contents_new piece takes writes = record {
+    taken = run.taken ++ piece;
+    takes = Consumes-trans left_old left left_new run.taken piece run.takes takes;
+    lines = ended_lines (run.taken ++ piece);
+    whole = inl refl;
+    writes = writes_beginning contents_new _ _ writes (reports_on_piece piece)
+  }
+
+  consumes_end : (left_new : Option (List ℕ)) (piece : List ℕ) → Consumes left left_new piece → piece ≡ [] → Consumes left_old left_new run.taken
+  consumes_end left_new piece takes none =
+      subst (Consumes left_old left_new) (ap (λ xs. run.taken ++ xs) none ∙ append-nil run.taken) (Consumes-trans left_old left left_new run.taken piece run.takes takes)
+
+  -- the end was not reported on as a whole
+  pub stops_at_end : (left_new contents_new : Option (List ℕ)) (piece : List ℕ) → Consumes left left_new piece → piece ≡ [] → IsAtEnd left_new
+      → AppendsBeginning contents contents_new (reports_of (unless_empty line)) → StopsWithin left_old left_new contents_old contents_new
+  stops_at_end left_new contents_new piece takes none at_end writes = record {
+    taken = run.taken;
+    takes = consumes_end left_new piece takes none;
+    lines = lines_of run.taken;
+    whole = inr (at_end, refl);
+    writes = writes_beginning contents_new _ _ writes reports_on_all
+  }
+
+  -- the end was reported on
+  pub ends_run : (left_new contents_new : Option (List ℕ)) (piece : List ℕ) → Consumes left left_new piece → piece ≡ [] → IsAtEnd left_new
+      → Appends contents contents_new (reports_of (unless_empty line)) → IfSome left_old (λ bytes. Appends contents_old contents_new (reports_of (lines_of bytes)))
+  ends_run left_new contents_new piece takes none at_end writes =
+      Consumes-whole left_old left_new run.taken (λ bytes. Appends contents_old contents_new (reports_of (lines_of bytes))) (consumes_end left_new piece takes none) at_end
+      (subst (Appends contents_old contents_new) (sym reports_on_all) (Appends-trans contents_old contents contents_new _ _ run.writes writes))
+
+-- a known input ends before the reads run out
+pub runs_short : (left_old left contents_old contents : Option (List ℕ)) (line : List ℕ) (reads : ℕ) → RunsOn left_old left contents_old contents line reads
+    → IfSome left_old (λ bytes. length bytes < 2 ^ 63) → IsSome left_old → reads < 2 ^ 63
+runs_short None left contents_old contents line reads run few some = cc
+runs_short (Some bytes) None contents_old contents line reads run few some = absurd run.takes
+runs_short (Some bytes) (Some rest) contents_old contents line reads run few some =
+    let reads_few = run.few in
+    let whole : length bytes ≡ length run.taken + length rest = ap length run.takes ∙ length-append run.taken rest in
+    omega arith
+
+pub false_unless : (b : Bool) → (b ≡ true → ⊥) → b ≡ false
+false_unless true h = absurd (h refl)
+false_unless false h = refl
+
+pub take_none : (count : ℕ) (bytes : List ℕ) → count ≡ 0 → take count bytes ≡ []
+take_none count bytes none = ap (λ n. take n bytes) none
+
+pub ok_not_err : {T E : Type 0} {x : T} {e : E} → Ok x ≡ Err e → ⊥
+ok_not_err is = cc
