@@ -18,6 +18,8 @@ mod device;
 mod memory;
 mod report;
 mod standard;
+#[cfg(test)]
+mod tests;
 
 /// The bytes that are read at a time.
 const BUFFER_LEN: usize = 8192;
