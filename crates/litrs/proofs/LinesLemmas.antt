@@ -1,22 +1,21 @@
 -- Lemmas on lines: how the words of specs/Lines go along a list that grows at its end, and one that is taken from the front.
-use Rattle.std.proofs.Common.{◌≡◌, ℕ, zero, suc, ◌+◌, ◌-◌, ◌<◌, ◌≤◌, Bool, true, false, ◌⊎◌, inl, inr, List, [], ◌∷◌, ◌++◌, length, take, drop, Some, None, refl, sym, ap, ◌∙◌, subst, append_assoc, append-nil, arith}
-use Rattle.std.specs.Prelude.{All, position, flat_map}
+use Rattle.std.proofs.Common.{◌≡◌, ℕ, suc, ◌+◌, ◌-◌, ◌<◌, ◌≤◌, Bool, true, false, ◌⊎◌, inl, inr, List, [], ◌∷◌, ◌++◌, length, take, drop, Some, None, refl, sym, ap, ◌∙◌, subst, append_assoc, append-nil, arith}
+use Rattle.std.specs.Prelude.{position}
 use Rattle.std.specs.List.{slice_split, onto_first}
-use Rattle.std.proofs.lemmas.List.Splits.{slice_split-cons_yes, slice_split-cons_no, slice_split_none, slice_split_at}
-use Rattle.std.proofs.lemmas.Grind.{flat_map-append, common_steps}
+use Rattle.std.proofs.lemmas.List.Splits.{slice_split-cons_yes, slice_split-cons_no, slice_split_none}
+use Rattle.std.proofs.lemmas.Grind.{flat_map-append}
 use Rattle.std.proofs.lemmas.List.Elements.{All-nil, All-cons, All-append}
 use Rattle.std.proofs.lemmas.List.Quantifiers.{position-Some}
 use Rattle.std.proofs.lemmas.List.Sums.{fails_before_first}
 use Rattle.std.specs.List.{position_or_len}
-use Rattle.std.specs.Io.{StartsWith}
 use Rattle.std.specs.Io.KnownBytes.{Appends, Keeps, Consumes, IsAtEnd}
-use Rattle.std.proofs.KnownBytes.{Appends-nil, Appends-trans, Appends-kept, Consumes-nil, Consumes-trans, Consumes-kept, Consumes-whole, Keeps-refl, starts_with_rest}
+use Rattle.std.proofs.KnownBytes.{Appends-nil, Appends-trans, Appends-kept, Consumes-nil, Consumes-trans, Consumes-kept, Consumes-whole, starts_with_rest}
 use Rattle.std.proofs.Math.Seq.{take-append_seam}
 use Rattle.std.proofs.lemmas.Option.{none-some}
 use Rattle.std.proofs.lemmas.Bool.{ltb-false}
 use Rattle.std.proofs.Common.{Option, Result, Ok, Err, OnOk, OnErr, IfSome, IsSome, ◌^◌, length-append}
 use Rattle.std.specs.Prelude.{is_ok, if◌then◌else◌}
-use Rattle.litrs.specs.Devices.{AppendsBeginning, AreWholeLines, StopsWithin}
+use Rattle.litrs.specs.Devices.{AppendsBeginning, StopsWithin}
 use Rattle.std.proofs.Common.{eqb-true, ltb, cond, add-one, get_or, take-append-drop, drop-cons, length-take}
 use Rattle.std.proofs.lemmas.List.{get_or-take, take_rest, take_all}
 use Rattle.litrs.specs.Report.{report_of}
@@ -34,10 +33,10 @@ onto_first-parts b parts some = record { first = b ∷ some.first; behind = some
 split_parts : (bytes : List ℕ) → Parts (slice_split is_line_feed bytes)
 split_parts [] = record { first = []; behind = []; is = refl }
 split_parts (b ∷ bs) = split_cons b bs (is_line_feed b) refl (split_parts bs)
- where
-  split_cons : (b : ℕ) (bs : List ℕ) (test : Bool) → is_line_feed b ≡ test → Parts (slice_split is_line_feed bs) → Parts (slice_split is_line_feed (b ∷ bs))
-  split_cons b bs true is some = record { first = []; behind = slice_split is_line_feed bs; is = slice_split-cons_yes is_line_feed b bs is }
-  split_cons b bs false is some = subst Parts (sym (slice_split-cons_no is_line_feed b bs is)) (onto_first-parts b _ some)
+  where
+    split_cons : (b : ℕ) (bs : List ℕ) (test : Bool) → is_line_feed b ≡ test → Parts (slice_split is_line_feed bs) → Parts (slice_split is_line_feed (b ∷ bs))
+    split_cons b bs true is some = record { first = []; behind = slice_split is_line_feed bs; is = slice_split-cons_yes is_line_feed b bs is }
+    split_cons b bs false is some = subst Parts (sym (slice_split-cons_no is_line_feed b bs is)) (onto_first-parts b _ some)
 
 -- ---- a list that is split behind an LF
 
@@ -120,34 +119,34 @@ cut_at_byte b bs false is none = inl (All-cons EndsNoLine b bs is none)
 cut_bytes : (bytes : List ℕ) → HasNoLineFeed bytes ⊎ Cut bytes
 cut_bytes [] = inl (All-nil EndsNoLine)
 cut_bytes (b ∷ bs) = elim (cut_bytes bs) [
-    inl none ↦ cut_at_byte b bs (is_line_feed b) refl none
+  | inl none ↦ cut_at_byte b bs (is_line_feed b) refl none
   | inr cut ↦ inr (record { front = b ∷ cut.front; behind = cut.behind; is = ap (λ xs. b ∷ xs) cut.is; none = cut.none })
-  ]
+]
 
 pub open_line-append : (bytes more : List ℕ) → open_line (bytes ++ more) ≡ open_line (open_line bytes ++ more)
 open_line-append bytes more = elim (cut_bytes bytes) [
-    inl none ↦ ap (λ line. open_line (line ++ more)) (sym (open_line-none bytes none))
+  | inl none ↦ ap (λ line. open_line (line ++ more)) (sym (open_line-none bytes none))
   | inr cut ↦
       ap (λ xs. open_line (xs ++ more)) cut.is ∙ ap open_line (append_assoc cut.front (10 ∷ cut.behind) more) ∙ open_line-line_feed cut.front (cut.behind ++ more)
       ∙ ap (λ line. open_line (line ++ more)) (sym (ap open_line cut.is ∙ open_line-line_feed cut.front cut.behind ∙ open_line-none cut.behind cut.none))
-  ]
+]
 
 pub ended_lines-append : (bytes more : List ℕ) → ended_lines (bytes ++ more) ≡ ended_lines bytes ++ ended_lines (open_line bytes ++ more)
 ended_lines-append bytes more = elim (cut_bytes bytes) [
-    inl none ↦ ap (λ line. ended_lines (line ++ more)) (sym (open_line-none bytes none)) ∙ ap (λ ls. ls ++ ended_lines (open_line bytes ++ more)) (sym (ended_lines-none bytes none))
+  | inl none ↦ ap (λ line. ended_lines (line ++ more)) (sym (open_line-none bytes none)) ∙ ap (λ ls. ls ++ ended_lines (open_line bytes ++ more)) (sym (ended_lines-none bytes none))
   | inr cut ↦
       let line : open_line bytes ≡ cut.behind = ap open_line cut.is ∙ open_line-line_feed cut.front cut.behind ∙ open_line-none cut.behind cut.none in
       let ended : ended_lines bytes ≡ slice_split is_line_feed cut.front =
-        ap ended_lines cut.is ∙ ended_lines-line_feed cut.front cut.behind ∙ ap (λ ls. slice_split is_line_feed cut.front ++ ls) (ended_lines-none cut.behind cut.none) ∙ append-nil _ in
+      ap ended_lines cut.is ∙ ended_lines-line_feed cut.front cut.behind ∙ ap (λ ls. slice_split is_line_feed cut.front ++ ls) (ended_lines-none cut.behind cut.none) ∙ append-nil _ in
       ap (λ xs. ended_lines (xs ++ more)) cut.is ∙ ap ended_lines (append_assoc cut.front (10 ∷ cut.behind) more) ∙ ended_lines-line_feed cut.front (cut.behind ++ more)
       ∙ ap (λ xs. slice_split is_line_feed cut.front ++ ended_lines (xs ++ more)) (sym line) ∙ ap (λ ls. ls ++ ended_lines (open_line bytes ++ more)) (sym ended)
-  ]
+]
 
 pub open_line-has_no_line_feed : (bytes : List ℕ) → HasNoLineFeed (open_line bytes)
 open_line-has_no_line_feed bytes = elim (cut_bytes bytes) [
-    inl none ↦ subst HasNoLineFeed (sym (open_line-none bytes none)) none
+  | inl none ↦ subst HasNoLineFeed (sym (open_line-none bytes none)) none
   | inr cut ↦ subst HasNoLineFeed (sym (ap open_line cut.is ∙ open_line-line_feed cut.front cut.behind ∙ open_line-none cut.behind cut.none)) cut.none
-  ]
+]
 
 -- ---- reports
 
@@ -191,10 +190,10 @@ none_found : (bytes : List ℕ) → position is_line_feed bytes ≡ None → Has
 none_found bytes at = λ k d h.
     let far : length bytes ≤ position_or_len is_line_feed bytes = not_below (ltb (position_or_len is_line_feed bytes) (length bytes)) refl in
     fails_before_first is_line_feed bytes k d (omega arith)
- where
-  not_below : (test : Bool) → ltb (position_or_len is_line_feed bytes) (length bytes) ≡ test → length bytes ≤ position_or_len is_line_feed bytes
-  not_below true is = absurd (none-some (position_or_len is_line_feed bytes) (sym at ∙ ap (λ t. cond t (Some (position_or_len is_line_feed bytes)) None) is))
-  not_below false is = ltb-false _ _ is
+  where
+    not_below : (test : Bool) → ltb (position_or_len is_line_feed bytes) (length bytes) ≡ test → length bytes ≤ position_or_len is_line_feed bytes
+    not_below true is = absurd (none-some (position_or_len is_line_feed bytes) (sym at ∙ ap (λ t. cond t (Some (position_or_len is_line_feed bytes)) None) is))
+    not_below false is = ltb-false _ _ is
 
 pub ends_line : (line rest : List ℕ) (end : ℕ) → HasNoLineFeed line → position is_line_feed rest ≡ Some end → EndsLine line rest end
 ends_line line rest end held at =
@@ -207,9 +206,9 @@ ends_line line rest end held at =
       within = found.0;
       leaves = ap open_line joined ∙ open_line-line_feed (line ++ take end rest) (drop (end + 1) rest);
       reports =
-        ap (λ xs. reports_of (ended_lines xs)) joined ∙ ap reports_of (ended_lines-line_feed (line ++ take end rest) (drop (end + 1) rest))
-        ∙ ap (λ ps. reports_of (ps ++ ended_lines (drop (end + 1) rest))) (slice_split_none is_line_feed (line ++ take end rest) none)
-        ∙ reports_of-cons (line ++ take end rest) (ended_lines (drop (end + 1) rest))
+          ap (λ xs. reports_of (ended_lines xs)) joined ∙ ap reports_of (ended_lines-line_feed (line ++ take end rest) (drop (end + 1) rest))
+          ∙ ap (λ ps. reports_of (ps ++ ended_lines (drop (end + 1) rest))) (slice_split_none is_line_feed (line ++ take end rest) none)
+          ∙ reports_of-cons (line ++ take end rest) (ended_lines (drop (end + 1) rest));
     }
 
 -- without one the line goes on
@@ -240,8 +239,8 @@ steps_on line reports rest line' reports' end held at none more =
       held = subst HasNoLineFeed (sym none) (All-nil EndsNoLine);
       leaves = step.leaves ∙ ap open_line (sym empty);
       same =
-        ap (λ xs. reports ++ xs) step.reports ∙ sym (append_assoc reports (report_of (line ++ take end rest) ++ 10 ∷ []) behind)
-        ∙ ap (λ xs. xs ++ behind) (sym more) ∙ ap (λ xs. reports' ++ reports_of (ended_lines xs)) (sym empty)
+          ap (λ xs. reports ++ xs) step.reports ∙ sym (append_assoc reports (report_of (line ++ take end rest) ++ 10 ∷ []) behind)
+          ∙ ap (λ xs. xs ++ behind) (sym more) ∙ ap (λ xs. reports' ++ reports_of (ended_lines xs)) (sym empty);
     }
 
 -- ---- growths
@@ -265,7 +264,7 @@ pub writes_more : (old mid new : Option (List ℕ)) (bytes rest : List ℕ) (cou
 writes_more old mid new bytes rest count so_far more = subst (WritesOn old new bytes) (sym (take_rest rest count)) (record {
   front = so_far.front ++ take count rest;
   is = so_far.is ∙ ap (λ xs. so_far.front ++ xs) (sym (take-append-drop count rest)) ∙ sym (append_assoc so_far.front (take count rest) (drop count rest));
-  appends = Appends-trans old mid new _ _ so_far.appends more
+  appends = Appends-trans old mid new _ _ so_far.appends more;
 })
 
 pub writes_all : (old new : Option (List ℕ)) (bytes : List ℕ) → WritesOn old new bytes [] → Appends old new bytes
@@ -275,7 +274,7 @@ pub begins_so_far : (old mid new : Option (List ℕ)) (bytes rest : List ℕ) �
 begins_so_far old mid new bytes rest so_far kept = record {
   written = so_far.front;
   appends = Appends-kept old mid new so_far.front so_far.appends kept;
-  begins = ap (take (length so_far.front)) so_far.is ∙ take-append_seam so_far.front rest
+  begins = ap (take (length so_far.front)) so_far.is ∙ take-append_seam so_far.front rest;
 }
 
 pub OnOk-holds : {T E P : Type 0} (r : Result T E) → P → OnOk r P
@@ -317,7 +316,7 @@ runs_none left contents line none = record {
   takes = Consumes-nil left;
   goes_on = none ∙ sym (open_line-none [] (All-nil EndsNoLine));
   writes = subst (Appends contents contents) (sym (ap reports_of (ended_lines-none [] (All-nil EndsNoLine)) ∙ reports_of-nil)) (Appends-nil contents);
-  few = omega arith
+  few = omega arith;
 }
 
 module _ {left_old left contents_old contents : Option (List ℕ)} {line : List ℕ} {reads : ℕ} (run : RunsOn left_old left contents_old contents line reads) where
@@ -344,7 +343,7 @@ module _ {left_old left contents_old contents : Option (List ℕ)} {line : List 
     takes = Consumes-trans left_old left left_new run.taken piece run.takes takes;
     goes_on = goes_on ∙ ap (λ xs. open_line (xs ++ piece)) run.goes_on ∙ sym (open_line-append run.taken piece);
     writes = subst (Appends contents_old contents_new) (sym (reports_on_piece piece)) (Appends-trans contents_old contents contents_new _ _ run.writes writes);
-    few = let before = run.few in omega (arith, length-append run.taken piece)
+    few = let before = run.few in omega (arith, length-append run.taken piece);
   }
 
   writes_beginning : (contents_new : Option (List ℕ)) (bytes whole : List ℕ) → AppendsBeginning contents contents_new bytes
@@ -356,7 +355,7 @@ module _ {left_old left contents_old contents : Option (List ℕ)} {line : List 
       record {
         written = front ++ more.written;
         appends = Appends-trans contents_old contents contents_new front more.written run.writes more.appends;
-        begins = ap (take (length (front ++ more.written))) cut ∙ take-append_seam (front ++ more.written) rest
+        begins = ap (take (length (front ++ more.written))) cut ∙ take-append_seam (front ++ more.written) rest;
       }
 
   -- a read failed
@@ -366,7 +365,7 @@ module _ {left_old left contents_old contents : Option (List ℕ)} {line : List 
     takes = Consumes-kept left_old left left_new run.taken run.takes kept;
     lines = ended_lines run.taken;
     whole = inl refl;
-    writes = record { written = reports_of (ended_lines run.taken); appends = run.writes; begins = take_all (length (reports_of (ended_lines run.taken))) (reports_of (ended_lines run.taken)) (omega arith) }
+    writes = record { written = reports_of (ended_lines run.taken); appends = run.writes; begins = take_all (length (reports_of (ended_lines run.taken))) (reports_of (ended_lines run.taken)) (omega arith) };
   }
 
   -- a piece was not reported on as a whole
@@ -377,7 +376,7 @@ module _ {left_old left contents_old contents : Option (List ℕ)} {line : List 
     takes = Consumes-trans left_old left left_new run.taken piece run.takes takes;
     lines = ended_lines (run.taken ++ piece);
     whole = inl refl;
-    writes = writes_beginning contents_new _ _ writes (reports_on_piece piece)
+    writes = writes_beginning contents_new _ _ writes (reports_on_piece piece);
   }
 
   consumes_end : (left_new : Option (List ℕ)) (piece : List ℕ) → Consumes left left_new piece → piece ≡ [] → Consumes left_old left_new run.taken
@@ -392,7 +391,7 @@ module _ {left_old left contents_old contents : Option (List ℕ)} {line : List 
     takes = consumes_end left_new piece takes none;
     lines = lines_of run.taken;
     whole = inr (at_end, refl);
-    writes = writes_beginning contents_new _ _ writes reports_on_all
+    writes = writes_beginning contents_new _ _ writes reports_on_all;
   }
 
   -- the end was reported on

@@ -1,7 +1,7 @@
 -- What an input over memory holds.
 use Rattle.std.specs.Prelude.{ℕ, List, Bool}
 use Rattle.litrs.specs.declared.lines.calls.Calls.{Calls}
-use Rattle.litrs.specs.declared.lines.memory.MemInput.{MemInput}
+use Rattle.litrs.specs.declared.lines.mem_input.MemInput.{MemInput}
 
 -- the bytes that are left
 abbrev pub left_of : MemInput → List ℕ

@@ -1,7 +1,7 @@
 -- What an output over memory holds.
 use Rattle.std.specs.Prelude.{ℕ, ◌-◌, List, Bool, length}
 use Rattle.litrs.specs.declared.lines.calls.Calls.{Calls}
-use Rattle.litrs.specs.declared.lines.memory.MemOutput.{MemOutput}
+use Rattle.litrs.specs.declared.lines.mem_output.MemOutput.{MemOutput}
 
 -- the bytes that were written
 abbrev pub bytes_of : MemOutput → List ℕ

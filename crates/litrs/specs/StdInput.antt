@@ -1,6 +1,6 @@
 -- What an input over a reader holds.
 use Rattle.std.specs.Prelude.{Bool, false}
-use Rattle.litrs.specs.declared.lines.standard.StdInput.{StdInput}
+use Rattle.litrs.specs.declared.lines.std_input.StdInput.{StdInput}
 
 -- nothing has failed yet
 abbrev pub unfailed_input : {R : Type 0} → R → StdInput R

@@ -1,6 +1,6 @@
 -- What an output over a writer holds.
 use Rattle.std.specs.Prelude.{Bool, false}
-use Rattle.litrs.specs.declared.lines.standard.StdOutput.{StdOutput}
+use Rattle.litrs.specs.declared.lines.std_output.StdOutput.{StdOutput}
 
 -- nothing has failed yet
 abbrev pub unfailed_output : {W : Type 0} → W → StdOutput W

@@ -6,18 +6,22 @@ ghost use Rattle.litrs.specs.Lines.{is_line_feed, HasNoLineFeed, ended_lines, op
 ghost use Rattle.litrs.specs.Report.{report_of};
 
 pub use device::{Failed, Input, Output};
-pub use memory::{MemInput, MemOutput};
+pub use mem_input::MemInput;
+pub use mem_output::MemOutput;
 use report::push_report;
-pub use standard::{StdInput, StdOutput};
 use std::alloc::{AllocError, Global};
 use std::error::Error;
 use std::fmt;
+pub use std_input::StdInput;
+pub use std_output::StdOutput;
 
 mod calls;
 mod device;
-mod memory;
+mod mem_input;
+mod mem_output;
 mod report;
-mod standard;
+mod std_input;
+mod std_output;
 #[cfg(test)]
 mod tests;
 

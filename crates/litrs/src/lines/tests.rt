@@ -84,7 +84,10 @@ fn the_flush_fails(rt: HostRuntime) -> Result<(), Fail> {
 fn the_room_is_full(rt: HostRuntime) -> Result<(), Fail> {
     let mut input = MemInput::new(LINES.as_bytes(), 5, NEVER);
     let mut output = MemOutput::new(rt.alloc(), 7, 4, NEVER)?;
-    assert_eq!(rt; run(rt.alloc(), &mut input, &mut output), Err(RunError::Write));
+    assert_eq!(rt;
+        run(rt.alloc(), &mut input, &mut output),
+        Err(RunError::Write)
+    );
     assert_eq!(rt; Some(output.bytes()), REPORTS.as_bytes().get(..7));
     assert!(rt; output.failed());
     Ok(())

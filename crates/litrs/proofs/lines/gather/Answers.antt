@@ -1,6 +1,5 @@
 use Rattle.std.proofs.Common.{arith, rules, ◌-◌, ◌+◌, drop, sym, ◌∙◌, ap, ◌++◌, append-nil, length, length-take, length-drop}
 use Rattle.std.proofs.lemmas.Grind.{common_steps}
-use Rattle.std.proofs.lemmas.List.{take_rest}
 use Rattle.litrs.proofs.LinesLemmas.{steps_on, goes_on, OnOk-appended, OnOk-holds, ends_line}
 use Rattle.litrs.proofs.lines.gather.Goals as goal
 

@@ -7,7 +7,7 @@ invariant-loop-end l = record {
   within : length l.rest ≤ length l.piece;
   held : HasNoLineFeed l.line.items;
   leaves : open_line (l.fn.line.items ++ l.piece) ≡ open_line (l.line.items ++ l.rest);
-  reports : l.fn.reports.items ++ reports_of (ended_lines (l.fn.line.items ++ l.piece)) ≡ l.reports.items ++ reports_of (ended_lines (l.line.items ++ l.rest))
+  reports : l.fn.reports.items ++ reports_of (ended_lines (l.fn.line.items ++ l.piece)) ≡ l.reports.items ++ reports_of (ended_lines (l.line.items ++ l.rest));
 }
 
 abbrev pub decreases-loop-end : goal.decreases-loop-end

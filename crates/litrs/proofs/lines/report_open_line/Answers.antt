@@ -1,4 +1,4 @@
-use Rattle.std.proofs.Common.{arith, ◌≡◌, ◌<◌, ◌∙◌, sym, length, eqb-true}
+use Rattle.std.proofs.Common.{arith, ◌≡◌, ◌<◌, ◌∙◌, sym, length}
 use Rattle.std.proofs.lemmas.Bool.Decides.{nat_tests}
 use Rattle.litrs.proofs.LinesLemmas.{reports_of-empty, reports_of-last, OnOk-map}
 use Rattle.litrs.proofs.lines.report_open_line.Goals as goal

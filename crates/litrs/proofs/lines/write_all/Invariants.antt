@@ -1,5 +1,4 @@
-use Rattle.std.proofs.Common.{◌≡◌, ◌++◌, List, ℕ, length, false}
-use Rattle.std.specs.Io.KnownBytes.{Appends}
+use Rattle.std.proofs.Common.{◌≡◌, length, false}
 use Rattle.litrs.proofs.LinesLemmas.{WritesOn}
 use Rattle.litrs.proofs.lines.write_all.Given as goal
 
