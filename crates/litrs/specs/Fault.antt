@@ -1,11 +1,12 @@
 -- Refusals: a kind, and where there is one the span in the text, in bytes.
-use Rattle.std.specs.Prelude.{◌≡◌, ℕ, ◌+◌, ◌<◌, ◌≤◌, ◌^◌, List, [], ◌++◌, Option, Some, None, codes}
+use Rattle.std.specs.Prelude.{◌≡◌, ℕ, ◌+◌, ◌<◌, ◌≤◌, ◌^◌, List, [], ◌++◌, Option, Some, None, IfSome, codes}
 use Rattle.std.specs.Option.{ForSome}
 use Rattle.std.specs.Fmt.{decimal}
 use Rattle.std.specs.declared.ops.Range.{Range}
 use Rattle.litrs.specs.declared.err.ParseErrorKind.{ParseErrorKind}
 use Rattle.litrs.specs.declared.err.ParseError.{ParseError}
 use Rattle.litrs.specs.Kind.{kind_text}
+use Rattle.litrs.specs.Text.{PointsInto}
 
 -- the refusal of this kind with this span
 abbrev pub fault : Option (Range ℕ) → ParseErrorKind → ParseError
@@ -51,3 +52,7 @@ span_text (Some span) = codes " (at " ++ decimal span.start ++ codes ".." ++ dec
 -- what is printed of a refusal: the description, and the span where there is one
 abbrev pub fault_text : ParseError → List ℕ
 fault_text e = kind_text e.kind ++ span_text e.span
+
+-- where the refusal has a span, it lies in the text
+abbrev pub IsInText : List ℕ → ParseError → Type 0
+IsInText t e = IfSome e.span (PointsInto t)

@@ -1,6 +1,7 @@
 -- A text is a list of characters, Unicode scalar values. Places and lengths count the bytes of its UTF-8.
-use Rattle.std.specs.Prelude.{ℕ, Bool, true, false, ◌==◌, ◌&&◌, List, [], ◌∷◌, length}
+use Rattle.std.specs.Prelude.{◌≡◌, ◌≤◌, ◌++◌, ℕ, Bool, true, false, ◌==◌, ◌&&◌, List, [], ◌∷◌, length}
 use Rattle.std.specs.Str.{encode_utf8_all}
+use Rattle.std.specs.declared.ops.Range.{Range}
 
 -- how many bytes a text has
 abbrev pub byte_len : List ℕ → ℕ
@@ -16,3 +17,19 @@ abbrev pub begins_with : List ℕ → List ℕ → Bool
 begins_with [] t = true
 begins_with (c ∷ cs) [] = false
 begins_with (c ∷ cs) (d ∷ ds) = (c == d) && begins_with cs ds
+
+-- the text is the other
+abbrev pub is_text : List ℕ → List ℕ → Bool
+is_text [] [] = true
+is_text [] (d ∷ ds) = false
+is_text (c ∷ cs) [] = false
+is_text (c ∷ cs) (d ∷ ds) = (c == d) && is_text cs ds
+
+-- The span begins on a character boundary of the text, behind some of its characters, and ends within the text.
+pub record PointsInto (t : List ℕ) (span : Range ℕ) : Type 0 where
+  pub front : List ℕ
+  pub rest : List ℕ
+  pub cut : front ++ rest ≡ t
+  pub start : span.start ≡ byte_len front
+  pub in_order : span.start ≤ span.end
+  pub within : span.end ≤ byte_len t

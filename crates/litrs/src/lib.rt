@@ -1,9 +1,121 @@
 //! Parsing and inspecting Rust literals.
+//!
+//! [`Literal`] is any kind of literal, and the `*Lit` types, like [`IntegerLit`], are the kinds. Each has
+//! a `parse`, which reads a text that is one literal and nothing else.
 #![tactic(auto)]
 
-pub use err::{ParseError, ParseErrorKind};
-// pub use parse::{check_suffix, first_byte_or_empty};
+ghost use Rattle.std.specs.Prelude.{◌≡◌, nat_eq, IfOk, OnErr, IfErr, Some};
+ghost use Rattle.std.specs.Cmp.{on_per, on_equiv, partial_equiv_from_equiv};
+ghost use Rattle.std.specs.Cmp.Lexicographic.{pointwise, nat_list_eq_equiv};
+ghost use Rattle.std.specs.Str.{chars};
+ghost use Rattle.litrs.specs.Reading.{IsOnlyReading, HasNoReading};
+ghost use Rattle.litrs.specs.Literal.{IsLiteral, literal_fault};
+ghost use Rattle.litrs.specs.LiteralDerivation.{literal_raw, derivation, suffix_of};
 
+pub use bool::BoolLit;
+pub use buffer::Buffer;
+pub use err::{ParseError, ParseErrorKind};
+pub use from_integer_literal::FromIntegerLiteral;
+pub use integer::{IntegerBase, IntegerCut, IntegerLit, IntegerType, cut_integer};
+pub use parse::{check_suffix, end_dec_digits, first_byte_or_empty, hex_digit_value};
+use std::alloc::Global;
+use std::fmt;
+
+mod bool;
+mod buffer;
 mod err;
+mod from_integer_literal;
+mod integer;
+mod laws;
 pub mod lines;
-// mod parse;
+mod parse;
+
+/// A literal. This is the main type of this library.
+#[derive(Drop)]
+pub enum Literal<B: Buffer> {
+    Bool(BoolLit),
+    Integer(IntegerLit<B>),
+}
+
+impl<B: Buffer> Literal<B> {
+    /// Parses the input as a literal of any kind.
+    ///
+    /// Refused as `Empty`, as the kind that the text begins like refuses it, or as `InvalidLiteral`.
+    pub fn parse(_alloc: Global, input: B) -> Result<Literal<B>, ParseError>
+        ensures raw { IfOk result (λ lit. literal_raw lit ≡ B.bytes input) }
+        ensures ok { IfOk result (λ lit. IsOnlyReading (IsLiteral (chars (B.bytes input))) (derivation lit)) }
+        ensures none { OnErr result (HasNoReading (IsLiteral (chars (B.bytes input)))) }
+        ensures fault { IfErr result (λ e. literal_fault (chars (B.bytes input)) ≡ Some e) }
+    {
+        match parse::kind_of(input.as_str()) {
+            parse::Kind::Bool(lit) => Ok(Literal::Bool(lit)),
+            parse::Kind::Integer => Ok(Literal::Integer(IntegerLit::parse(input)?)),
+            parse::Kind::Refused(e) => Err(e),
+        }
+    }
+
+    /// The suffix, empty where there is none. A bool has none.
+    pub fn suffix(&self) -> &str
+        ensures { chars result.now ≡ suffix_of (derivation self.now) }
+    {
+        match self {
+            Literal::Bool(_) => "",
+            Literal::Integer(lit) => lit.suffix(),
+        }
+    }
+
+    /// The text that was parsed.
+    pub fn raw_input(&self) -> &str
+        ensures { result.now ≡ literal_raw self.now }
+    {
+        match self {
+            Literal::Bool(lit) => lit.as_str(),
+            Literal::Integer(lit) => lit.raw_input(),
+        }
+    }
+}
+
+impl<B: Buffer> From<BoolLit> for Literal<B> {
+    ghost use Rattle.litrs.specs.declared.Literal.TheVariants.{Bool};
+
+    ghost from_gives = { λ lit literal. literal ≡ Bool lit };
+
+    fn from(lit: BoolLit) -> Literal<B> {
+        Literal::Bool(lit)
+    }
+}
+
+impl<B: Buffer> From<IntegerLit<B>> for Literal<B> {
+    ghost use Rattle.litrs.specs.declared.Literal.TheVariants.{Integer};
+
+    ghost from_gives = { λ lit literal. literal ≡ Integer lit };
+
+    fn from(lit: IntegerLit<B>) -> Literal<B> {
+        Literal::Integer(lit)
+    }
+}
+
+impl<B: Buffer> PartialEq for Literal<B> {
+    ghost eq = { λ x y. pointwise nat_eq (literal_raw x) (literal_raw y) };
+
+    ghost laws = { on_per (λ lit. literal_raw lit) (partial_equiv_from_equiv nat_list_eq_equiv) };
+
+    fn eq(&self, other: &Literal<B>) -> bool {
+        self.raw_input() == other.raw_input()
+    }
+}
+
+impl<B: Buffer> Eq for Literal<B> {
+    ghost laws = { on_equiv (λ lit. literal_raw lit) nat_list_eq_equiv };
+}
+
+impl<B: Buffer> fmt::Display for Literal<B> {
+    ghost output = { λ lit. Some (literal_raw lit) };
+
+    fn fmt<W: fmt::Write>(&self, f: &mut fmt::Formatter<W>) -> fmt::Result {
+        match self {
+            Literal::Bool(lit) => lit.fmt(f),
+            Literal::Integer(lit) => lit.fmt(f),
+        }
+    }
+}

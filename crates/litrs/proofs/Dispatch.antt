@@ -1,0 +1,48 @@
+-- The dispatch over the kinds, by the bytes of the text.
+use Rattle.std.proofs.Common.{◌≡◌, ℕ, Bool, true, false, List, [], ◌∷◌, drop, slice_get, Option, Some, None, refl, sym, ap, ◌∙◌, arith}
+use Rattle.std.specs.Str.{chars, IsUtf8}
+use Rattle.std.specs.Char.{is_ascii_digit}
+use Rattle.std.specs.List.{prefix_len}
+use Rattle.std.proofs.lemmas.Str.{chars-nil}
+use Rattle.std.proofs.lemmas.Bool.Decides.{nat_tests}
+use Rattle.litrs.specs.declared.bool.BoolLit.{BoolLit}
+use Rattle.litrs.specs.declared.integer.IntegerBase.TheVariants.{Decimal}
+use Rattle.litrs.specs.declared.err.ParseErrorKind.TheVariants.{Empty, InvalidLiteral}
+use Rattle.litrs.specs.Fault.{plain}
+use Rattle.litrs.specs.Text.{first_passes}
+use Rattle.litrs.specs.Base.{is_digit_or_underscore}
+use Rattle.litrs.specs.Bool.{bool_text}
+use Rattle.litrs.specs.Integer.{integer_fault}
+use Rattle.litrs.specs.Literal.{is_float_mark, begins_float, literal_rows, literal_fault}
+use Rattle.litrs.proofs.Chars.{OnlyAscii, prefix_len-chars, passing_front, first_passes-chars}
+use Rattle.litrs.proofs.Firsts.{first_passes_at}
+use Rattle.litrs.proofs.IntegerLemmas.{digits_are_ascii, digit-chars, filled_by_first}
+use Rattle.litrs.proofs.LiteralLaws.{is_bool-none, literal_fault-digit, literal_fault-other}
+
+marks_are_ascii : OnlyAscii is_float_mark
+marks_are_ascii c high = grind (arith, nat_tests)
+
+pub begins_float-chars : (bs : List ℕ) → IsUtf8 bs → begins_float (chars bs) ≡ begins_float bs
+begins_float-chars bs u =
+    let p = is_digit_or_underscore Decimal in
+    let front = passing_front p bs (digits_are_ascii Decimal) u in
+    ap (λ n. first_passes is_float_mark (drop n (chars bs))) (prefix_len-chars p bs (digits_are_ascii Decimal) u)
+    ∙ (ap (first_passes is_float_mark) front.rest ∙ first_passes-chars is_float_mark (drop (prefix_len p bs) bs) marks_are_ascii front.utf8)
+
+pub dispatch-empty : (bs : List ℕ) → bs ≡ [] → literal_fault (chars bs) ≡ Some (plain Empty)
+unfolding literal_fault
+dispatch-empty bs e = ap (λ t. literal_fault (chars t)) e ∙ ap literal_fault chars-nil
+
+-- a text whose first byte is a digit
+pub dispatch-digit : (bs : List ℕ) (b : ℕ) → IsUtf8 bs → slice_get bs 0 ≡ Some b → is_ascii_digit b ≡ true →
+    literal_fault (chars bs) ≡ literal_rows false false true (begins_float bs) (integer_fault (chars bs))
+dispatch-digit bs b u first digit =
+    literal_fault-digit (chars bs) (digit-chars bs u ∙ (first_passes_at is_ascii_digit bs b first ∙ digit))
+    ∙ ap (λ f. literal_rows false false true f (integer_fault (chars bs))) (begins_float-chars bs u)
+
+-- one whose first byte is none, and which is no bool
+pub dispatch-other : (bs : List ℕ) (b : ℕ) → IsUtf8 bs → slice_get bs 0 ≡ Some b → is_ascii_digit b ≡ false →
+    ((lit : BoolLit) → bool_text lit ≡ chars bs → ⊥) → literal_fault (chars bs) ≡ Some (plain InvalidLiteral)
+dispatch-other bs b u first digit none =
+    literal_fault-other (chars bs) false (filled_by_first bs b u first) (is_bool-none (chars bs) none)
+    (digit-chars bs u ∙ (first_passes_at is_ascii_digit bs b first ∙ digit))

@@ -1,0 +1,169 @@
+-- Raw strings: a derivation stands exactly where the table has no row, and there is one at most.
+use Rattle.std.proofs.Common.{◌≡◌, ℕ, suc, ◌+◌, Bool, true, false, ltb, List, [], ◌∷◌, ◌++◌, length, take, drop, Option, None, refl, sym, ap, ◌∙◌, arith}
+use Rattle.std.specs.List.{prefix_len, slice_index}
+use Rattle.std.proofs.lemmas.Bool.{false≢true, eqb-true, ltb-false, le-ltb, not-false}
+use Rattle.std.proofs.lemmas.List.{take_at, drop_at, length-append, append_assoc}
+use Rattle.litrs.specs.declared.err.ParseErrorKind.{ParseErrorKind}
+use Rattle.litrs.specs.declared.err.ParseError.{ParseError}
+use Rattle.litrs.specs.Text.{byte_len, first_passes}
+use Rattle.litrs.specs.Suffix.{is_empty, is_suffix, suffix_fault}
+use Rattle.litrs.specs.Raw.{is_quote, is_hash, hashes, raw_closing, occurs, is_raw_char, RawParts, raw_text, IsRaw, IsRawOf, hash_len, length_before, raw_char_fault, raw_body_rows, raw_body_fault, raw_rows, raw_fault}
+use Rattle.litrs.proofs.Runs.{prefix_len_all, all_from_prefix_len}
+use Rattle.litrs.proofs.Spans.{none_from}
+use Rattle.litrs.proofs.RawCuts.{length-hashes, hash_len-append, behind_hashes, hash_cut, length_before-body, occurs-body, ClosingCut, closing_cut}
+
+-- the table by the parts of a text that is cut
+
+pub fault_of_hashes : (unicode nul_allowed : Bool) (start n : ℕ) (rest : List ℕ) → first_passes is_hash rest ≡ false →
+    raw_fault unicode nul_allowed start (hashes n ++ rest)
+    ≡ raw_rows start n (raw_body_fault unicode nul_allowed n (start + (n + 1)) (drop 1 rest)) (is_empty rest) (ltb 255 n) (first_passes is_quote rest)
+unfolding raw_fault
+fault_of_hashes unicode nul_allowed start n rest stop =
+    let count : hash_len (hashes n ++ rest) ≡ n = hash_len-append n rest stop in
+    let behind : drop (hash_len (hashes n ++ rest)) (hashes n ++ rest) ≡ rest = ap (λ k. drop k (hashes n ++ rest)) count ∙ behind_hashes n rest in
+    λ j. raw_rows start (count j) (raw_body_fault unicode nul_allowed (count j) (start + (count j + 1)) (drop 1 (behind j))) (is_empty (behind j)) (ltb 255 (count j)) (first_passes is_quote (behind j))
+
+-- what stands before the first closing, and behind it
+pub before_closing : (n : ℕ) (body x : List ℕ) → occurs (raw_closing n) body ≡ false →
+    take (length_before (raw_closing n) (body ++ (raw_closing n ++ x))) (body ++ (raw_closing n ++ x)) ≡ body
+before_closing n body x none = take_at body (raw_closing n ++ x) (length_before (raw_closing n) (body ++ (raw_closing n ++ x))) (sym (length_before-body n body x none))
+
+pub length_closing : (n : ℕ) → length (raw_closing n) ≡ 1 + n
+length_closing n = omega (arith, length-hashes n)
+
+pub behind_closing : (n : ℕ) (body x : List ℕ) → drop (length body + (1 + n)) (body ++ (raw_closing n ++ x)) ≡ x
+behind_closing n body x =
+    ap (drop (length body + (1 + n))) (sym (append_assoc body (raw_closing n) x))
+    ∙ drop_at (body ++ raw_closing n) x (length body + (1 + n)) (length-append body (raw_closing n) ∙ ap (λ k. length body + k) (length_closing n))
+
+pub fault_of_closed : (unicode nul_allowed : Bool) (n start : ℕ) (body x : List ℕ) → occurs (raw_closing n) body ≡ false →
+    raw_body_fault unicode nul_allowed n start (body ++ (raw_closing n ++ x))
+    ≡ raw_body_rows (start + byte_len (take (prefix_len (is_raw_char unicode nul_allowed) body) (body ++ (raw_closing n ++ x)))) (start + (byte_len body + (1 + n)))
+    (raw_char_fault (slice_index (body ++ (raw_closing n ++ x)) (prefix_len (is_raw_char unicode nul_allowed) body))) (suffix_fault x)
+    (ltb (prefix_len (is_raw_char unicode nul_allowed) body) (length body)) true (is_suffix x)
+unfolding raw_body_fault
+fault_of_closed unicode nul_allowed n start body x none =
+    let ok = is_raw_char unicode nul_allowed in
+    let r : List ℕ = body ++ (raw_closing n ++ x) in
+    let before : take (length_before (raw_closing n) r) r ≡ body = before_closing n body x none in
+    let behind : drop (length (take (length_before (raw_closing n) r) r) + (1 + n)) r ≡ x = ap (λ b. drop (length b + (1 + n)) r) before ∙ behind_closing n body x in
+    let closed : occurs (raw_closing n) r ≡ true = occurs-body n body x in
+    λ j. raw_body_rows (start + byte_len (take (prefix_len ok (before j)) r)) (start + (byte_len (before j) + (1 + n)))
+    (raw_char_fault (slice_index r (prefix_len ok (before j)))) (suffix_fault (behind j))
+    (ltb (prefix_len ok (before j)) (length (before j))) (closed j) (is_suffix (behind j))
+
+-- where no row fits
+
+record NoBodyRow (refused closed suffix : Bool) : Type 0 where
+  allowed : refused ≡ false
+  closing : closed ≡ true
+  behind : suffix ≡ true
+
+no_body_row : (place suffix_place : ℕ) (kind suffix_kind : ParseErrorKind) (refused closed suffix : Bool) →
+    raw_body_rows place suffix_place kind suffix_kind refused closed suffix ≡ None → NoBodyRow refused closed suffix
+no_body_row place suffix_place kind suffix_kind refused closed suffix h =
+    let a = none_from _ _ _ h in
+    let b = none_from _ _ _ a.1 in
+    let c = none_from _ _ _ b.1 in
+    record { allowed = a.0; closing = not-false _ b.0; behind = not-false _ c.0 }
+
+record NoRow (body_fault : Option ParseError) (nothing too_many quote : Bool) : Type 0 where
+  something : nothing ≡ false
+  few : too_many ≡ false
+  opening : quote ≡ true
+  body : body_fault ≡ None
+
+no_row : (start n : ℕ) (body_fault : Option ParseError) (nothing too_many quote : Bool) → raw_rows start n body_fault nothing too_many quote ≡ None → NoRow body_fault nothing too_many quote
+no_row start n body_fault nothing too_many quote h =
+    let a = none_from _ _ _ h in
+    let b = none_from _ _ _ a.1 in
+    let c = none_from _ _ _ b.1 in
+    record { something = a.0; few = b.0; opening = not-false _ c.0; body = c.1 }
+
+-- no row fits a raw literal
+
+pub raw_fits_no_row : (unicode nul_allowed : Bool) (start : ℕ) (d : RawParts) → IsRaw unicode nul_allowed d → raw_fault unicode nul_allowed start (raw_text d) ≡ None
+raw_fits_no_row unicode nul_allowed start d g =
+    let n = d.hash_count in
+    let ok = is_raw_char unicode nul_allowed in
+    let place = start + (n + 1) in
+    let few : ltb 255 n ≡ false = le-ltb 255 n g.hash_count in
+    let all : prefix_len ok d.body ≡ length d.body = prefix_len_all ok d.body g.body.allowed in
+    let none_refused : ltb (prefix_len ok d.body) (length d.body) ≡ false = le-ltb _ _ (omega (arith, all)) in
+    let body : raw_body_fault unicode nul_allowed n place (d.body ++ (raw_closing n ++ d.suffix)) ≡ None =
+    fault_of_closed unicode nul_allowed n place d.body d.suffix g.body.unclosed
+    ∙ (λ j. raw_body_rows (place + byte_len (take (prefix_len ok d.body) (d.body ++ (raw_closing n ++ d.suffix)))) (place + (byte_len d.body + (1 + n)))
+    (raw_char_fault (slice_index (d.body ++ (raw_closing n ++ d.suffix)) (prefix_len ok d.body))) (suffix_fault d.suffix) (none_refused j) true (g.suffix j)) in
+    fault_of_hashes unicode nul_allowed start n (34 ∷ (d.body ++ (raw_closing n ++ d.suffix))) refl
+    ∙ (λ j. raw_rows start n (body j) false (few j) true)
+
+pub fault_free : (unicode nul_allowed : Bool) (start : ℕ) (t : List ℕ) (d : RawParts) → IsRawOf unicode nul_allowed t d → raw_fault unicode nul_allowed start t ≡ None
+fault_free unicode nul_allowed start t d r = ap (raw_fault unicode nul_allowed start) (sym r.spells) ∙ raw_fits_no_row unicode nul_allowed start d r.grammar
+
+-- a text that no row fits is a raw literal
+
+closed_from : (unicode nul_allowed : Bool) (n start : ℕ) (r : List ℕ) → raw_body_fault unicode nul_allowed n start r ≡ None → occurs (raw_closing n) r ≡ true
+unfolding raw_body_fault
+closed_from unicode nul_allowed n start r h = (no_body_row _ _ _ _ _ _ _ h).closing
+
+readable_closed : (unicode nul_allowed : Bool) (start n : ℕ) (t r : List ℕ) → hashes n ++ (34 ∷ r) ≡ t → ltb 255 n ≡ false →
+    raw_body_fault unicode nul_allowed n start r ≡ None → ClosingCut n r → (d : RawParts) × IsRawOf unicode nul_allowed t d
+readable_closed unicode nul_allowed start n t r spells few h c =
+    let rows = no_body_row _ (start + (byte_len c.before + (1 + n))) _ (suffix_fault c.behind) _ true (is_suffix c.behind) (sym (fault_of_closed unicode nul_allowed n start c.before c.behind c.unclosed) ∙ (ap (raw_body_fault unicode nul_allowed n start) c.spells ∙ h)) in
+    let d : RawParts = record { hash_count = n; body = c.before; suffix = c.behind } in (
+      d,
+      record {
+        spells = ap (λ s. hashes n ++ (34 ∷ s)) c.spells ∙ spells;
+        grammar = record {
+          hash_count = ltb-false 255 n few;
+          body = record { allowed = all_from_prefix_len (is_raw_char unicode nul_allowed) c.before (ltb-false _ _ rows.allowed); unclosed = c.unclosed };
+          suffix = rows.behind;
+        };
+      },
+    )
+
+readable_quoted : (unicode nul_allowed : Bool) (start n : ℕ) (t rest : List ℕ) → hashes n ++ rest ≡ t →
+    NoRow (raw_body_fault unicode nul_allowed n start (drop 1 rest)) (is_empty rest) (ltb 255 n) (first_passes is_quote rest) → (d : RawParts) × IsRawOf unicode nul_allowed t d
+readable_quoted unicode nul_allowed start n t [] spells rows = absurd (false≢true rows.opening)
+readable_quoted unicode nul_allowed start n t (c ∷ r) spells rows =
+    readable_closed unicode nul_allowed start n t r (ap (λ q. hashes n ++ (q ∷ r)) (sym (eqb-true c 34 rows.opening)) ∙ spells) rows.few rows.body
+    (closing_cut n r (closed_from unicode nul_allowed n start r rows.body))
+
+pub readable : (unicode nul_allowed : Bool) (start : ℕ) (t : List ℕ) → raw_fault unicode nul_allowed start t ≡ None → (d : RawParts) × IsRawOf unicode nul_allowed t d
+readable unicode nul_allowed start t h = let c = hash_cut t in
+    readable_quoted unicode nul_allowed (start + (c.count + 1)) c.count t c.rest c.spells
+    (no_row _ _ _ _ _ _ (sym (fault_of_hashes unicode nul_allowed start c.count c.rest c.stops) ∙ (ap (raw_fault unicode nul_allowed start) c.spells ∙ h)))
+
+-- one derivation at most
+
+behind_opening : (d : RawParts) → drop (suc (hash_len (raw_text d))) (raw_text d) ≡ d.body ++ (raw_closing d.hash_count ++ d.suffix)
+behind_opening d =
+    let r = d.body ++ (raw_closing d.hash_count ++ d.suffix) in
+    let n = d.hash_count in
+    let count : hash_len (raw_text d) ≡ n = hash_len-append n (34 ∷ r) refl in
+    ap (λ k. drop (suc k) (raw_text d)) count
+    ∙ (ap (drop (suc n)) (sym (append_assoc (hashes n) (34 ∷ []) r)) ∙ drop_at (hashes n ++ (34 ∷ [])) r (suc n) (length-append (hashes n) (34 ∷ []) ∙ omega (arith, length-hashes n)))
+
+-- the parts that a text tells
+abbrev parts_of : List ℕ → RawParts
+parts_of t =
+    let n = hash_len t in
+    let r = drop (suc n) t in
+    record { hash_count = n; body = take (length_before (raw_closing n) r) r; suffix = drop (length_before (raw_closing n) r + (1 + n)) r }
+
+parts_of_text : (unicode nul_allowed : Bool) (d : RawParts) → IsRaw unicode nul_allowed d → parts_of (raw_text d) ≡ d
+parts_of_text unicode nul_allowed d g =
+    let r = d.body ++ (raw_closing d.hash_count ++ d.suffix) in
+    let n = d.hash_count in
+    let count : hash_len (raw_text d) ≡ n = hash_len-append n (34 ∷ r) refl in
+    let rest : drop (suc (hash_len (raw_text d))) (raw_text d) ≡ r = behind_opening d in
+    let before : take (length_before (raw_closing n) r) r ≡ d.body = before_closing n d.body d.suffix g.body.unclosed in
+    let behind : drop (length_before (raw_closing n) r + (1 + n)) r ≡ d.suffix =
+    ap (λ k. drop (k + (1 + n)) r) (length_before-body n d.body d.suffix g.body.unclosed) ∙ behind_closing n d.body d.suffix in
+    let first : parts_of (raw_text d) ≡ record { hash_count = n; body = take (length_before (raw_closing n) r) r; suffix = drop (length_before (raw_closing n) r + (1 + n)) r } =
+    (λ j. record { hash_count = count j; body = take (length_before (raw_closing (count j)) (rest j)) (rest j); suffix = drop (length_before (raw_closing (count j)) (rest j) + (1 + count j)) (rest j) }) in
+    first ∙ (λ j. record { hash_count = n; body = before j; suffix = behind j })
+
+pub only_raw : (unicode nul_allowed : Bool) (t : List ℕ) (d e : RawParts) → IsRawOf unicode nul_allowed t d → IsRawOf unicode nul_allowed t e → d ≡ e
+only_raw unicode nul_allowed t d e r s =
+    sym (parts_of_text unicode nul_allowed d r.grammar) ∙ (ap parts_of (r.spells ∙ sym s.spells) ∙ parts_of_text unicode nul_allowed e s.grammar)

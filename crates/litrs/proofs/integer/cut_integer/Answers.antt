@@ -1,0 +1,26 @@
+-- The text has no refusal exactly where the cut is its only derivation.
+use Rattle.std.proofs.Common.{◌≡◌, sym, ap, ◌∙◌, subst, Some, None, true, false}
+use Rattle.std.specs.Str.{chars}
+use Rattle.std.specs.Char.{is_ascii_digit}
+use Rattle.litrs.specs.Reading.{IsOnlyReading}
+use Rattle.litrs.specs.Integer.{IntegerParts, IsIntegerOf, integer_fault, cut_fault, integer_cut}
+use Rattle.litrs.proofs.IntegerLaws.{only_cut, refused, fault_of_digit}
+use Rattle.litrs.proofs.IntegerLemmas.{parts_of_cut, places_of_cut}
+use Rattle.litrs.proofs.integer.cut_integer.Goals as goal
+
+pub returns-in-None-clause-ok : goal.returns-in-None-clause-ok
+returns-in-None-clause-ok c =
+    let text = chars c.args.input.now in
+    let free : integer_fault text ≡ None = fault_of_digit text c.requires ∙ sym c.in-None.ensures in
+    subst (λ (d : IntegerParts). IsOnlyReading (IsIntegerOf text) d) (parts_of_cut c.cut_digits-cut.result c.args.input.now c.utf8.input c.cut_digits-cut.ensures) (only_cut text free)
+
+pub returns-in-None-clause-places : goal.returns-in-None-clause-places
+returns-in-None-clause-places c = places_of_cut c.cut_digits-cut.result c.args.input.now c.utf8.input c.cut_digits-cut.ensures
+
+pub returns-in-Some-clause-none : goal.returns-in-Some-clause-none
+returns-in-Some-clause-none c =
+    let text = chars c.args.input.now in
+    refused text c.in-Some.refusal (fault_of_digit text c.requires ∙ sym c.in-Some.ensures)
+
+pub returns-in-Some-clause-fault : goal.returns-in-Some-clause-fault
+returns-in-Some-clause-fault c = fault_of_digit (chars c.args.input.now) c.requires ∙ sym c.in-Some.ensures

@@ -1,0 +1,21 @@
+-- What holds of all floats.
+use Rattle.std.specs.Prelude.{◌≡◌, ◌↔◌, ℕ, List, None, IsFalse}
+use Rattle.std.specs.Option.{ForSome}
+use Rattle.litrs.specs.Span.{LiesWithin, last_passes, is_line_feed}
+use Rattle.litrs.specs.Float.{FloatParts, IsFloatOf, float_fault}
+
+-- a text has at most one derivation as a float
+abbrev pub FloatsAreUnique : Type 0
+FloatsAreUnique = (t : List ℕ) (d e : FloatParts) → IsFloatOf t d → IsFloatOf t e → d ≡ e
+
+-- a text is a float, or the table refuses it: one of the two, and never both
+abbrev pub FloatsAreDecided : Type 0
+FloatsAreDecided = (t : List ℕ) → (float_fault t ≡ None) ↔ ((d : FloatParts) × IsFloatOf t d)
+
+-- the span of each refusal lies within the text and starts on a character boundary
+abbrev pub FloatSpansLieWithin : Type 0
+FloatSpansLieWithin = (t : List ℕ) → ForSome (float_fault t) (LiesWithin t)
+
+-- no float ends with LF
+abbrev pub NoFloatEndsWithLineFeed : Type 0
+NoFloatEndsWithLineFeed = (t : List ℕ) (d : FloatParts) → IsFloatOf t d → IsFalse (last_passes is_line_feed t)

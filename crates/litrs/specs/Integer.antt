@@ -1,0 +1,98 @@
+-- Integers. The Rust Reference, Tokens, Integer literals.
+use Rattle.std.specs.Prelude.{◌≡◌, ℕ, ◌+◌, ◌==◌, ◌||◌, Bool, not, IsTrue, IsFalse, List, length, drop, ◌++◌, Option, Some, None, if◌then◌else◌}
+use Rattle.std.specs.Char.{is_ascii_digit}
+use Rattle.std.specs.List.{list_all, list_any, take_while}
+use Rattle.litrs.specs.declared.integer.IntegerBase.{IntegerBase}
+use Rattle.litrs.specs.declared.integer.IntegerBase.TheVariants.{Binary, Octal, Decimal, Hexadecimal}
+use Rattle.litrs.specs.declared.err.ParseErrorKind.{ParseErrorKind}
+use Rattle.litrs.specs.declared.err.ParseErrorKind.TheVariants.{Empty, DoesNotStartWithDigit, InvalidDigit, NoDigits, IntegerSuffixStartingWithE}
+use Rattle.litrs.specs.declared.err.ParseError.{ParseError}
+use Rattle.litrs.specs.Fault.{plain, over, at}
+use Rattle.litrs.specs.Text.{byte_len, first_passes, begins_with}
+use Rattle.litrs.specs.Suffix.{is_suffix, is_empty, suffix_fault}
+use Rattle.litrs.specs.Base.{prefix, is_digit, is_digit_or_underscore}
+
+-- The grammar
+
+-- what an integer is made of: a prefix that tells the base, the main part, and the suffix
+pub record IntegerParts : Type 0 where
+  pub base : IntegerBase
+  pub main : List ℕ
+  pub suffix : List ℕ
+
+abbrev pub integer_text : IntegerParts → List ℕ
+integer_text d = prefix d.base ++ (d.main ++ d.suffix)
+
+-- `e` or `E`
+abbrev pub is_e : ℕ → Bool
+is_e c = (c == 101) || (c == 69)
+
+-- `0b`, `0o` or `0x` stands at the start
+abbrev pub has_prefix : List ℕ → Bool
+has_prefix t = begins_with (prefix Binary) t || begins_with (prefix Octal) t || begins_with (prefix Hexadecimal) t
+
+-- The main part has digits of the base and underscores, at least one digit, and takes all of them that follow.
+-- The suffix does not begin with `e` or `E`. A decimal integer begins with a digit, and not with the prefix of another base.
+pub record IsInteger (d : IntegerParts) : Type 0 where
+  pub digits : IsTrue (list_all (is_digit_or_underscore d.base) d.main)
+  pub some_digit : IsTrue (list_any (is_digit d.base) d.main)
+  pub ends : IsFalse (first_passes (is_digit_or_underscore d.base) d.suffix)
+  pub suffix : IsTrue (is_suffix d.suffix)
+  pub no_exponent : IsFalse (first_passes is_e d.suffix)
+  pub decimal_digit : d.base ≡ Decimal → IsTrue (first_passes is_ascii_digit d.main)
+  pub decimal_prefix : d.base ≡ Decimal → IsFalse (has_prefix (integer_text d))
+
+-- d is a derivation of t as an integer
+pub record IsIntegerOf (t : List ℕ) (d : IntegerParts) : Type 0 where
+  pub spells : integer_text d ≡ t
+  pub grammar : IsInteger d
+
+-- The refusals
+
+-- The base that the front of a text tells: `0b`, `0o` and `0x` are always the prefix, and everything else is decimal.
+abbrev pub base_of : List ℕ → IntegerBase
+base_of t = if begins_with (prefix Binary) t then Binary
+    else if begins_with (prefix Octal) t then Octal
+    else if begins_with (prefix Hexadecimal) t then Hexadecimal
+    else Decimal
+
+-- what stands behind the prefix
+abbrev pub behind_prefix : List ℕ → List ℕ
+behind_prefix t = drop (length (prefix (base_of t))) t
+
+-- the main part: all digits of the base and underscores that follow the prefix
+abbrev pub main_of : List ℕ → List ℕ
+main_of t = take_while (is_digit_or_underscore (base_of t)) (behind_prefix t)
+
+-- what stands behind the main part
+abbrev pub behind_main : List ℕ → List ℕ
+behind_main t = drop (length (main_of t)) (behind_prefix t)
+
+-- a text cut behind the prefix and behind the main part
+unfoldable pub integer_cut : List ℕ → IntegerParts
+integer_cut t = record { base = base_of t; main = main_of t; suffix = behind_main t }
+
+-- A text that begins with a decimal digit, by what stands behind the main part, whose bytes go from start up to end, and
+-- by the main part. The first row that fits decides.
+abbrev pub integer_rows : (start end len : ℕ) (is_suffix is_digit : Bool) (kind : ParseErrorKind) (is_e some_digit : Bool) → Option ParseError
+integer_rows start end len is_suffix is_digit kind is_e some_digit =
+    if not is_suffix then (if is_digit then Some (at end InvalidDigit) else Some (over end len kind))
+    else if is_e then Some (at end IntegerSuffixStartingWithE)
+    else if not some_digit then Some (over start end NoDigits)
+    else None
+
+-- the same of a text that is cut
+abbrev pub cut_fault : IntegerParts → Option ParseError
+cut_fault d =
+    integer_rows (byte_len (prefix d.base)) (byte_len (prefix d.base ++ d.main)) (byte_len (integer_text d))
+    (is_suffix d.suffix) (first_passes is_ascii_digit d.suffix) (suffix_fault d.suffix)
+    (first_passes is_e d.suffix) (list_any (is_digit d.base) d.main)
+
+-- Any number: the empty text, and one that does not begin with a decimal digit, come first.
+abbrev pub number_rows : (is_empty is_digit : Bool) → Option ParseError → Option ParseError
+number_rows is_empty is_digit refusal =
+    if is_empty then Some (plain Empty) else if not is_digit then Some (at 0 DoesNotStartWithDigit) else refusal
+
+-- the refusal of a text as an integer, None where there is none
+unfoldable pub integer_fault : List ℕ → Option ParseError
+integer_fault t = number_rows (is_empty t) (first_passes is_ascii_digit t) (cut_fault (integer_cut t))

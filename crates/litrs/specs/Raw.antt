@@ -1,0 +1,153 @@
+-- Raw strings. The Rust Reference, Tokens, Literals, 'Raw string literals', 'Raw byte string literals' and
+-- 'Raw C string literals'. The grammar stands first, the refusals below it.
+-- Two switches tell the kinds apart: in a byte string `unicode` is off, in a C string NUL is not allowed.
+use Rattle.std.specs.Prelude.{◌≡◌, ℕ, ◌+◌, ◌≤◌, ◌==◌, ◌&&◌, ◌||◌, nat_lt, Bool, true, false, not, List, [], ◌∷◌, ◌++◌, length, take, drop, replicate, Option, Some, None, IsTrue, IsFalse, if◌then◌else◌, encode_utf8_all, codes}
+use Rattle.std.specs.List.{list_all, prefix_len, slice_index}
+use Rattle.litrs.specs.declared.err.ParseErrorKind.{ParseErrorKind}
+use Rattle.litrs.specs.declared.err.ParseErrorKind.TheVariants.{InvalidLiteral, TooManyHashes, CarriageReturn, NulByte, NonAsciiInByteLiteral, UnterminatedRawString}
+use Rattle.litrs.specs.declared.err.ParseError.{ParseError}
+use Rattle.litrs.specs.Text.{byte_len, first_passes, begins_with}
+use Rattle.litrs.specs.Fault.{plain, over, at}
+use Rattle.litrs.specs.Suffix.{is_empty, is_suffix, suffix_fault}
+
+-- `"`
+abbrev pub is_quote : ℕ → Bool
+is_quote c = c == 34
+
+-- `#`
+abbrev pub is_hash : ℕ → Bool
+is_hash c = c == 35
+
+-- NUL
+abbrev pub is_nul : ℕ → Bool
+is_nul c = c == 0
+
+-- so many hashes
+abbrev pub hashes : ℕ → List ℕ
+hashes n = replicate n 35
+
+-- what closes a raw string that opens with n hashes: `"` and n hashes
+abbrev pub raw_closing : ℕ → List ℕ
+raw_closing n = 34 ∷ hashes n
+
+-- the part stands somewhere in the text
+abbrev pub occurs : List ℕ → List ℕ → Bool
+occurs part [] = is_empty part
+occurs part (c ∷ cs) = begins_with part (c ∷ cs) || occurs part cs
+
+-- No CR stands in a raw body, only ASCII in that of a byte string, and no NUL in that of a C string.
+-- A backslash means nothing.
+abbrev pub is_raw_char : Bool → Bool → ℕ → Bool
+is_raw_char unicode nul_allowed c = not (c == 13) && ((unicode || nat_lt c 128) && (nul_allowed || not (is_nul c)))
+
+-- a raw body between n hashes: its characters may stand there, and what would close it does not occur in it
+pub record IsRawBody (unicode nul_allowed : Bool) (n : ℕ) (body : List ℕ) : Type 0 where
+  pub allowed : IsTrue (list_all (is_raw_char unicode nul_allowed) body)
+  pub unclosed : IsFalse (occurs (raw_closing n) body)
+
+-- the value of a raw body: its own bytes
+abbrev pub raw_value : List ℕ → List ℕ
+raw_value body = encode_utf8_all body
+
+-- the parts of a raw literal: how many hashes, the body, the suffix
+pub record RawParts : Type 0 where
+  pub hash_count : ℕ
+  pub body : List ℕ
+  pub suffix : List ℕ
+
+-- the text with these parts behind its front: hashes, `"`, body, `"`, as many hashes, suffix
+abbrev pub raw_text : RawParts → List ℕ
+raw_text d = hashes d.hash_count ++ (34 ∷ (d.body ++ (raw_closing d.hash_count ++ d.suffix)))
+
+-- the parts are those of a raw literal, which has at most 255 hashes
+pub record IsRaw (unicode nul_allowed : Bool) (d : RawParts) : Type 0 where
+  pub hash_count : d.hash_count ≤ 255
+  pub body : IsRawBody unicode nul_allowed d.hash_count d.body
+  pub suffix : IsTrue (is_suffix d.suffix)
+
+-- what stands behind the front is a raw literal with these parts
+pub record IsRawOf (unicode nul_allowed : Bool) (t : List ℕ) (d : RawParts) : Type 0 where
+  pub spells : raw_text d ≡ t
+  pub grammar : IsRaw unicode nul_allowed d
+
+-- the three kinds
+pub data RawKind : Type 0 where
+  raw_string : RawKind
+  raw_byte_string : RawKind
+  raw_c_string : RawKind
+
+-- what a literal of the kind begins with
+abbrev pub raw_front : RawKind → List ℕ
+raw_front raw_string = codes "r"
+raw_front raw_byte_string = codes "br"
+raw_front raw_c_string = codes "cr"
+
+-- the switches of the kind
+abbrev pub has_unicode : RawKind → Bool
+has_unicode raw_byte_string = false
+has_unicode _ = true
+
+abbrev pub allows_nul : RawKind → Bool
+allows_nul raw_c_string = false
+allows_nul _ = true
+
+-- the text is a raw literal of the kind with these parts
+pub record IsRawLiteral (kind : RawKind) (t : List ℕ) (d : RawParts) : Type 0 where
+  pub spells : raw_front kind ++ raw_text d ≡ t
+  pub grammar : IsRaw (has_unicode kind) (allows_nul kind) d
+
+-- Refusals. They are told by the hashes behind the front, and by what stands before the first closing.
+
+-- how many hashes the text begins with
+abbrev pub hash_len : List ℕ → ℕ
+hash_len t = prefix_len is_hash t
+
+-- how many characters stand before the first place where the part stands, in all where it stands nowhere
+abbrev pub length_before : List ℕ → List ℕ → ℕ
+length_before part [] = 0
+length_before part (c ∷ cs) = if begins_with part (c ∷ cs) then 0 else 1 + length_before part cs
+
+-- why a character may not stand in a raw body
+abbrev pub raw_char_fault : ℕ → ParseErrorKind
+raw_char_fault c = if c == 13 then CarriageReturn else if is_nul c then NulByte else NonAsciiInByteLiteral
+
+-- The rows behind the opening quote. The places of the first character that may not stand in the body and of the
+-- suffix, and the kinds of refusal for both; then: there is such a character before the first closing; there is a
+-- closing; behind it stands a suffix.
+abbrev pub raw_body_rows : ℕ → ℕ → ParseErrorKind → ParseErrorKind → Bool → Bool → Bool → Option ParseError
+raw_body_rows place suffix_place kind suffix_kind refused closed suffix =
+    if refused then Some (at place kind)
+    else if not closed then Some (plain UnterminatedRawString)
+    else if not suffix then Some (at suffix_place suffix_kind)
+    else None
+
+-- what stands behind n hashes and the quote is refused, where it begins at the place
+unfoldable pub raw_body_fault : Bool → Bool → ℕ → ℕ → List ℕ → Option ParseError
+raw_body_fault unicode nul_allowed n start t =
+    let before = take (length_before (raw_closing n) t) t in
+    let good = prefix_len (is_raw_char unicode nul_allowed) before in
+    let suffix = drop (length before + (1 + n)) t in
+    raw_body_rows (start + byte_len (take good t)) (start + (byte_len before + (1 + n)))
+    (raw_char_fault (slice_index t good)) (suffix_fault suffix)
+    (nat_lt good (length before)) (occurs (raw_closing n) t) (is_suffix suffix)
+
+-- The rows before it. The place of the hashes and their number, and the refusal of what is behind the quote; then:
+-- nothing is behind the hashes; there are too many; `"` is behind them.
+abbrev pub raw_rows : ℕ → ℕ → Option ParseError → Bool → Bool → Bool → Option ParseError
+raw_rows start n body_fault nothing too_many quote =
+    if nothing then Some (plain InvalidLiteral)
+    else if too_many then Some (over start (start + n) TooManyHashes)
+    else if not quote then Some (plain InvalidLiteral)
+    else body_fault
+
+-- why a text behind a front is no raw literal, where it begins at the place: None where it is one
+unfoldable pub raw_fault : Bool → Bool → ℕ → List ℕ → Option ParseError
+raw_fault unicode nul_allowed start t =
+    let n = hash_len t in
+    let behind = drop n t in
+    raw_rows start n (raw_body_fault unicode nul_allowed n (start + (n + 1)) (drop 1 behind))
+    (is_empty behind) (nat_lt 255 n) (first_passes is_quote behind)
+
+-- why a text that begins with the front of the kind is no raw literal of the kind
+abbrev pub raw_literal_fault : RawKind → List ℕ → Option ParseError
+raw_literal_fault kind t = raw_fault (has_unicode kind) (allows_nul kind) (length (raw_front kind)) (drop (length (raw_front kind)) t)

@@ -1,0 +1,65 @@
+//! Bool literals.
+ghost use Rattle.std.specs.Prelude.{◌≡◌, MatchResult};
+ghost use Rattle.std.specs.Str.{chars};
+ghost use Rattle.litrs.specs.Fault.{plain};
+
+use crate::err::{ParseError, ParseErrorKind};
+use std::fmt;
+
+/// A bool literal: `true` or `false`. Also see [the reference][ref].
+///
+/// [ref]: https://doc.rust-lang.org/reference/expressions/literal-expr.html#boolean-literal-expressions
+#[derive(Clone, Copy, Debug, PartialEq, Eq)]
+pub enum BoolLit {
+    False,
+    True,
+}
+
+impl BoolLit {
+    ghost use Rattle.litrs.specs.Bool.{bool_text, bool_value};
+
+    /// Parses the input as a bool literal: exactly `true` or `false`.
+    ///
+    /// Every other text is refused as `InvalidLiteral`, without a span.
+    pub fn parse(s: &str) -> Result<BoolLit, ParseError>
+        ensures { MatchResult result (λ b. bool_text b ≡ chars s.now)
+            (λ e. ((b : BoolLit) → bool_text b ≡ chars s.now → ⊥) × (e ≡ plain ParseErrorKind.InvalidLiteral)) }
+    {
+        match s {
+            "false" => Ok(BoolLit::False),
+            "true" => Ok(BoolLit::True),
+            _ => Err(ParseError::new(None, ParseErrorKind::InvalidLiteral)),
+        }
+    }
+
+    /// The value of this literal.
+    pub fn value(self) -> bool
+        ensures { result ≡ bool_value self }
+    {
+        match self {
+            BoolLit::False => false,
+            BoolLit::True => true,
+        }
+    }
+
+    /// The literal as text.
+    pub fn as_str(&self) -> &'static str
+        ensures { result.now ≡ bool_text self.now }
+    {
+        match self {
+            BoolLit::False => "false",
+            BoolLit::True => "true",
+        }
+    }
+}
+
+impl fmt::Display for BoolLit {
+    ghost use Rattle.std.specs.Prelude.{Some};
+    ghost use Rattle.litrs.specs.Bool.{bool_text};
+
+    ghost output = { λ b. Some (bool_text b) };
+
+    fn fmt<W: fmt::Write>(&self, f: &mut fmt::Formatter<W>) -> fmt::Result {
+        f.pad(self.as_str())
+    }
+}

@@ -1,0 +1,3 @@
+//! Laws of the grammar: each is the contract of a function with an empty body.
+mod float;
+mod raw;
