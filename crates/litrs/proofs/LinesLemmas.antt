@@ -1,10 +1,10 @@
 -- Lemmas on lines: how the words of specs/Lines go along a list that grows at its end, and one that is taken from the front.
 use Rattle.std.proofs.Common.{◌≡◌, ℕ, suc, ◌+◌, ◌-◌, ◌<◌, ◌≤◌, Bool, true, false, ◌⊎◌, inl, inr, List, [], ◌∷◌, ◌++◌, length, take, drop, Some, None, refl, sym, ap, ◌∙◌, subst, append_assoc, append-nil, arith}
-use Rattle.std.specs.Prelude.{position}
+use Rattle.std.specs.Prelude.{All, flat_map, position}
 use Rattle.std.specs.List.{slice_split, onto_first}
 use Rattle.std.proofs.lemmas.List.Splits.{slice_split-cons_yes, slice_split-cons_no, slice_split_none}
 use Rattle.std.proofs.lemmas.Grind.{flat_map-append}
-use Rattle.std.proofs.lemmas.List.Elements.{All-nil, All-cons, All-append}
+use Rattle.std.proofs.lemmas.List.Elements.{All-nil, All-cons, All-append, All-head, All-tail}
 use Rattle.std.proofs.lemmas.List.Quantifiers.{position-Some}
 use Rattle.std.proofs.lemmas.List.Sums.{fails_before_first}
 use Rattle.std.specs.List.{position_or_len}
@@ -15,11 +15,13 @@ use Rattle.std.proofs.lemmas.Option.{none-some}
 use Rattle.std.proofs.lemmas.Bool.{ltb-false}
 use Rattle.std.proofs.Common.{Option, Result, Ok, Err, OnOk, OnErr, IfSome, IsSome, ◌^◌, length-append}
 use Rattle.std.specs.Prelude.{is_ok, if◌then◌else◌}
+use Rattle.litrs.specs.LinesLaws.{spelled, LinesSpellTheBytes, NoLineFeedInLines, LinesAreUnique}
 use Rattle.litrs.specs.Devices.{AppendsBeginning, StopsWithin}
 use Rattle.std.proofs.Common.{eqb-true, ltb, cond, add-one, get_or, take-append-drop, drop-cons, length-take}
 use Rattle.std.proofs.lemmas.List.{get_or-take, take_rest, take_all}
 use Rattle.litrs.specs.Report.{report_of}
-use Rattle.litrs.specs.Lines.{is_line_feed, HasNoLineFeed, before_last_part, last_part, ended_parts, open_part, unless_empty, ended_lines, open_line, lines_of, reports_of}
+use Rattle.litrs.specs.Span.{is_line_feed}
+use Rattle.litrs.specs.Lines.{HasNoLineFeed, before_last_part, last_part, ended_parts, open_part, unless_empty, ended_lines, open_line, lines_of, reports_of}
 
 -- the first part of a split, and those behind it
 record Parts (parts : List (List ℕ)) : Type 0 where
@@ -257,25 +259,12 @@ pub record WritesOn (old new : Option (List ℕ)) (bytes rest : List ℕ) : Type
   pub is : bytes ≡ front ++ rest
   pub appends : Appends old new front
 
-pub writes_none : (contents : Option (List ℕ)) (bytes : List ℕ) → WritesOn contents contents bytes bytes
-writes_none contents bytes = record { front = []; is = refl; appends = Appends-nil contents }
-
 pub writes_more : (old mid new : Option (List ℕ)) (bytes rest : List ℕ) (count : ℕ) → WritesOn old mid bytes rest → Appends mid new (take count rest) → WritesOn old new bytes (take (length rest - count) (drop count rest))
 writes_more old mid new bytes rest count so_far more = subst (WritesOn old new bytes) (sym (take_rest rest count)) (record {
   front = so_far.front ++ take count rest;
   is = so_far.is ∙ ap (λ xs. so_far.front ++ xs) (sym (take-append-drop count rest)) ∙ sym (append_assoc so_far.front (take count rest) (drop count rest));
   appends = Appends-trans old mid new _ _ so_far.appends more;
 })
-
-pub writes_all : (old new : Option (List ℕ)) (bytes : List ℕ) → WritesOn old new bytes [] → Appends old new bytes
-writes_all old new bytes so_far = subst (Appends old new) (sym (so_far.is ∙ append-nil so_far.front)) so_far.appends
-
-pub begins_so_far : (old mid new : Option (List ℕ)) (bytes rest : List ℕ) → WritesOn old mid bytes rest → Keeps mid new → AppendsBeginning old new bytes
-begins_so_far old mid new bytes rest so_far kept = record {
-  written = so_far.front;
-  appends = Appends-kept old mid new so_far.front so_far.appends kept;
-  begins = ap (take (length so_far.front)) so_far.is ∙ take-append_seam so_far.front rest;
-}
 
 pub OnOk-holds : {T E P : Type 0} (r : Result T E) → P → OnOk r P
 OnOk-holds (Ok x) p = p
@@ -401,15 +390,6 @@ module _ {left_old left contents_old contents : Option (List ℕ)} {line : List 
       Consumes-whole left_old left_new run.taken (λ bytes. Appends contents_old contents_new (reports_of (lines_of bytes))) (consumes_end left_new piece takes none) at_end
       (subst (Appends contents_old contents_new) (sym reports_on_all) (Appends-trans contents_old contents contents_new _ _ run.writes writes))
 
--- a known input ends before the reads run out
-pub runs_short : (left_old left contents_old contents : Option (List ℕ)) (line : List ℕ) (reads : ℕ) → RunsOn left_old left contents_old contents line reads
-    → IfSome left_old (λ bytes. length bytes < 2 ^ 63) → IsSome left_old → reads < 2 ^ 63
-runs_short None left contents_old contents line reads run few some = cc
-runs_short (Some bytes) None contents_old contents line reads run few some = absurd run.takes
-runs_short (Some bytes) (Some rest) contents_old contents line reads run few some =
-    let reads_few = run.few in
-    let whole : length bytes ≡ length run.taken + length rest = ap length run.takes ∙ length-append run.taken rest in
-    omega arith
 
 pub false_unless : (b : Bool) → (b ≡ true → ⊥) → b ≡ false
 false_unless true h = absurd (h refl)
@@ -420,3 +400,78 @@ take_none count bytes none = ap (λ n. take n bytes) none
 
 pub ok_not_err : {T E : Type 0} {x : T} {e : E} → Ok x ≡ Err e → ⊥
 ok_not_err is = cc
+
+-- ---- bytes that are spelled by lines
+
+spelled-cons : (line : List ℕ) (lines : List (List ℕ)) (last : List ℕ) → spelled (line ∷ lines) last ≡ line ++ 10 ∷ spelled lines last
+spelled-cons line lines last =
+    append_assoc (line ++ 10 ∷ []) (flat_map (λ l. l ++ 10 ∷ []) lines) last ∙ append_assoc line (10 ∷ []) (spelled lines last)
+
+-- lines with an LF behind each, and bytes behind them
+pub ended_lines-spelled : (lines : List (List ℕ)) (last : List ℕ) → All HasNoLineFeed lines → HasNoLineFeed last → ended_lines (spelled lines last) ≡ lines
+ended_lines-spelled [] last each none = ended_lines-none last none
+ended_lines-spelled (line ∷ lines) last each none =
+    let held : HasNoLineFeed line = All-head HasNoLineFeed line lines each in
+    ap ended_lines (spelled-cons line lines last) ∙ ended_lines-line_feed line (spelled lines last)
+    ∙ ap (λ ps. ps ++ ended_lines (spelled lines last)) (slice_split_none is_line_feed line held)
+    ∙ ap (λ ls. line ∷ ls) (ended_lines-spelled lines last (All-tail HasNoLineFeed line lines each) none)
+
+pub open_line-spelled : (lines : List (List ℕ)) (last : List ℕ) → HasNoLineFeed last → open_line (spelled lines last) ≡ last
+open_line-spelled [] last none = open_line-none last none
+open_line-spelled (line ∷ lines) last none =
+    ap open_line (spelled-cons line lines last) ∙ open_line-line_feed line (spelled lines last) ∙ open_line-spelled lines last none
+
+record Spelling (bytes : List ℕ) : Type 0 where
+  lines : List (List ℕ)
+  last : List ℕ
+  spells : spelled lines last ≡ bytes
+  each : All HasNoLineFeed lines
+  none : HasNoLineFeed last
+
+longer_spelling : (b : ℕ) (lines : List (List ℕ)) (last bytes : List ℕ) → is_line_feed b ≡ false → spelled lines last ≡ bytes → All HasNoLineFeed lines → HasNoLineFeed last → Spelling (b ∷ bytes)
+longer_spelling b [] last bytes is spells each none = record {
+  lines = [];
+  last = b ∷ last;
+  spells = ap (λ xs. b ∷ xs) spells;
+  each = each;
+  none = All-cons EndsNoLine b last is none
+}
+longer_spelling b (line ∷ lines) last bytes is spells each none = record {
+  lines = (b ∷ line) ∷ lines;
+  last = last;
+  spells = ap (λ xs. b ∷ xs) spells;
+  each = All-cons HasNoLineFeed (b ∷ line) lines (All-cons EndsNoLine b line is (All-head HasNoLineFeed line lines each)) (All-tail HasNoLineFeed line lines each);
+  none = none
+}
+
+spelling_at_byte : (b : ℕ) (bytes : List ℕ) (test : Bool) → is_line_feed b ≡ test → Spelling bytes → Spelling (b ∷ bytes)
+spelling_at_byte b bytes true is s = record {
+  lines = [] ∷ s.lines;
+  last = s.last;
+  spells = ap (λ x. x ∷ spelled s.lines s.last) (sym (eqb-true b 10 is)) ∙ ap (λ xs. b ∷ xs) s.spells;
+  each = All-cons HasNoLineFeed [] s.lines (All-nil EndsNoLine) s.each;
+  none = s.none
+}
+spelling_at_byte b bytes false is s = longer_spelling b s.lines s.last bytes is s.spells s.each s.none
+
+spelling : (bytes : List ℕ) → Spelling bytes
+spelling [] = record { lines = []; last = []; spells = refl; each = All-nil HasNoLineFeed; none = All-nil EndsNoLine }
+spelling (b ∷ bs) = spelling_at_byte b bs (is_line_feed b) refl (spelling bs)
+
+pub ended_lines-spell : LinesSpellTheBytes
+ended_lines-spell bytes =
+    let s = spelling bytes in
+    let ended : ended_lines bytes ≡ s.lines = ap ended_lines (sym s.spells) ∙ ended_lines-spelled s.lines s.last s.each s.none in
+    let open_is : open_line bytes ≡ s.last = ap open_line (sym s.spells) ∙ open_line-spelled s.lines s.last s.none in
+    ap (λ ls. spelled ls (open_line bytes)) ended ∙ ap (spelled s.lines) open_is ∙ s.spells
+
+pub ended_lines-have_no_line_feed : (bytes : List ℕ) → All HasNoLineFeed (ended_lines bytes)
+ended_lines-have_no_line_feed bytes =
+    let s = spelling bytes in
+    subst (All HasNoLineFeed) (sym (ap ended_lines (sym s.spells) ∙ ended_lines-spelled s.lines s.last s.each s.none)) s.each
+
+pub no_line_feed_in_lines : NoLineFeedInLines
+no_line_feed_in_lines bytes = (ended_lines-have_no_line_feed bytes, open_line-has_no_line_feed bytes)
+
+pub lines_are_unique : LinesAreUnique
+lines_are_unique lines last each none = (ended_lines-spelled lines last each none, open_line-spelled lines last none)

@@ -4,6 +4,7 @@ pub mod Text
 pub mod Suffix
 pub mod Report
 pub mod Lines
+pub mod LinesLaws
 pub mod Devices
 pub mod Calls
 pub mod MemInput

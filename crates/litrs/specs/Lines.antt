@@ -1,11 +1,8 @@
 -- The lines of some bytes, and what is written on them.
-use Rattle.std.specs.Prelude.{◌≡◌, ℕ, Bool, false, ◌==◌, List, [], ◌∷◌, ◌++◌, All, flat_map}
+use Rattle.std.specs.Prelude.{◌≡◌, ℕ, false, List, [], ◌∷◌, ◌++◌, All, flat_map}
 use Rattle.std.specs.List.{slice_split}
+use Rattle.litrs.specs.Span.{is_line_feed}
 use Rattle.litrs.specs.Report.{report_of}
-
--- LF, the byte that ends a line
-abbrev pub is_line_feed : ℕ → Bool
-is_line_feed b = b == 10
 
 -- no line ends within the bytes
 abbrev pub HasNoLineFeed : List ℕ → Type 0

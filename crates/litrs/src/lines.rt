@@ -2,7 +2,8 @@
 ghost use Rattle.std.specs.Prelude.{◌≡◌, ◌≢◌, ◌↔◌, ◌∷◌, [], ◌++◌, true, false, Some, IsSome, IfSome, IsErrOf, OnOk, OnErr, position};
 ghost use Rattle.std.specs.Io.KnownBytes.{Appends, IsAtEnd};
 ghost use Rattle.litrs.specs.Devices.{AppendsBeginning, StopsWithin};
-ghost use Rattle.litrs.specs.Lines.{is_line_feed, HasNoLineFeed, ended_lines, open_line, unless_empty, reports_of, output_of};
+ghost use Rattle.litrs.specs.Span.{is_line_feed};
+ghost use Rattle.litrs.specs.Lines.{HasNoLineFeed, ended_lines, open_line, unless_empty, reports_of, output_of};
 ghost use Rattle.litrs.specs.Report.{report_of};
 
 pub use device::{Failed, Input, Output};
