@@ -9,11 +9,11 @@ use Rattle.std.proofs.lemmas.List.Quantifiers.{position-Some}
 use Rattle.std.proofs.lemmas.List.Sums.{fails_before_first}
 use Rattle.std.specs.List.{position_or_len}
 use Rattle.std.specs.Io.KnownBytes.{Appends, Keeps, Consumes, IsAtEnd}
-use Rattle.std.proofs.KnownBytes.{Appends-nil, Appends-trans, Appends-kept, Consumes-nil, Consumes-trans, Consumes-kept, Consumes-whole, starts_with_rest}
+use Rattle.std.proofs.KnownBytes.{Appends-nil, Appends-trans, Consumes-nil, Consumes-trans, Consumes-kept, Consumes-whole, starts_with_rest}
 use Rattle.std.proofs.Math.Seq.{take-append_seam}
 use Rattle.std.proofs.lemmas.Option.{none-some}
 use Rattle.std.proofs.lemmas.Bool.{ltb-false}
-use Rattle.std.proofs.Common.{Option, Result, Ok, Err, OnOk, OnErr, IfSome, IsSome, ◌^◌, length-append}
+use Rattle.std.proofs.Common.{Option, Result, Ok, Err, OnOk, OnErr, IfSome, length-append}
 use Rattle.std.specs.Prelude.{is_ok, if◌then◌else◌}
 use Rattle.litrs.specs.LinesLaws.{spelled, LinesSpellTheBytes, NoLineFeedInLines, LinesAreUnique}
 use Rattle.litrs.specs.Devices.{AppendsBeginning, StopsWithin}
@@ -390,7 +390,6 @@ module _ {left_old left contents_old contents : Option (List ℕ)} {line : List 
       Consumes-whole left_old left_new run.taken (λ bytes. Appends contents_old contents_new (reports_of (lines_of bytes))) (consumes_end left_new piece takes none) at_end
       (subst (Appends contents_old contents_new) (sym reports_on_all) (Appends-trans contents_old contents contents_new _ _ run.writes writes))
 
-
 pub false_unless : (b : Bool) → (b ≡ true → ⊥) → b ≡ false
 false_unless true h = absurd (h refl)
 false_unless false h = refl
@@ -434,14 +433,14 @@ longer_spelling b [] last bytes is spells each none = record {
   last = b ∷ last;
   spells = ap (λ xs. b ∷ xs) spells;
   each = each;
-  none = All-cons EndsNoLine b last is none
+  none = All-cons EndsNoLine b last is none;
 }
 longer_spelling b (line ∷ lines) last bytes is spells each none = record {
   lines = (b ∷ line) ∷ lines;
   last = last;
   spells = ap (λ xs. b ∷ xs) spells;
   each = All-cons HasNoLineFeed (b ∷ line) lines (All-cons EndsNoLine b line is (All-head HasNoLineFeed line lines each)) (All-tail HasNoLineFeed line lines each);
-  none = none
+  none = none;
 }
 
 spelling_at_byte : (b : ℕ) (bytes : List ℕ) (test : Bool) → is_line_feed b ≡ test → Spelling bytes → Spelling (b ∷ bytes)
@@ -450,7 +449,7 @@ spelling_at_byte b bytes true is s = record {
   last = s.last;
   spells = ap (λ x. x ∷ spelled s.lines s.last) (sym (eqb-true b 10 is)) ∙ ap (λ xs. b ∷ xs) s.spells;
   each = All-cons HasNoLineFeed [] s.lines (All-nil EndsNoLine) s.each;
-  none = s.none
+  none = s.none;
 }
 spelling_at_byte b bytes false is s = longer_spelling b s.lines s.last bytes is s.spells s.each s.none
 

@@ -7,9 +7,13 @@ use Rattle.litrs.specs.declared.lines.mem_output.MemOutput.{MemOutput}
 abbrev pub bytes_of : MemOutput → List ℕ
 bytes_of output = output.bytes.items
 
+-- how many bytes there is room for
+abbrev pub room_of : MemOutput → ℕ
+room_of output = output.room
+
 -- how many bytes may still be written
 abbrev pub room_left : MemOutput → ℕ
-room_left output = output.room - length output.bytes.items
+room_left output = room_of output - length (bytes_of output)
 
 -- how many bytes a call moves at most
 abbrev pub piece_of : MemOutput → ℕ

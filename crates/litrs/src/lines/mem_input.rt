@@ -21,8 +21,8 @@ pub struct MemInput<'a> {
 impl<'a> MemInput<'a> {
     ghost use Rattle.litrs.specs.MemInput.{left_of, piece_of, calls_of, failed_of};
 
-    /// An input that gives `bytes`, at most `piece` of them in a call, and whose calls fail from number `fail_at` on,
-    /// counted from 0.
+    /// An input that gives `bytes`, at most `piece` of them in a call, one at least, and whose calls fail from number
+    /// `fail_at` on, counted from 0.
     pub fn new(bytes: &'a [u8], piece: usize, fail_at: Option<u64>) -> Self
         requires { 0 < piece }
         ensures bytes { left_of result ≡ bytes.now }

@@ -23,10 +23,11 @@ pub struct MemOutput {
 }
 
 impl MemOutput {
-    ghost use Rattle.litrs.specs.MemOutput.{bytes_of, room_left, piece_of, calls_of, failed_of, flushed_of};
+    ghost use Rattle.litrs.specs.MemOutput.{bytes_of, room_of, piece_of, calls_of, failed_of, flushed_of};
 
-    /// An output with memory for `room` bytes, which takes at most `piece` of them in a call, and whose calls fail
-    /// from number `fail_at` on, counted from 0. A write fails also where the room is full.
+    /// An output with memory for `room` bytes, which takes at most `piece` bytes in a call, one at least, and whose
+    /// calls fail from number `fail_at` on. Writes and flushes are counted together, from 0. A write fails also where
+    /// the room is full.
     pub fn new(
         alloc: Global,
         room: usize,
@@ -35,7 +36,7 @@ impl MemOutput {
     ) -> Result<Self, AllocError>
         requires { 0 < piece }
         ensures bytes { IfOk result (λ output. bytes_of output ≡ []) }
-        ensures room { IfOk result (λ output. room_left output ≡ room) }
+        ensures room { IfOk result (λ output. room_of output ≡ room) }
         ensures piece { IfOk result (λ output. piece_of output ≡ piece) }
         ensures calls { IfOk result (λ output. calls_of output ≡ fresh_calls fail_at) }
         ensures failed { IfOk result (λ output. failed_of output ≡ false) }
@@ -60,7 +61,7 @@ impl MemOutput {
 }
 
 impl Output for MemOutput {
-    ghost use Rattle.litrs.specs.MemOutput.{bytes_of, room_left, piece_of, calls_of, failed_of, flushed_of};
+    ghost use Rattle.litrs.specs.MemOutput.{bytes_of, room_of, room_left, piece_of, calls_of, failed_of, flushed_of};
 
     ghost contents = { λ output. Some (bytes_of output) };
 
@@ -79,7 +80,7 @@ impl Output for MemOutput {
         ensures count { IfOk result (λ count. count ≡ min (min (length piece.now) (piece_of self.old)) (room_left self.old)) }
         ensures calls { calls_of self.new ≡ after_call (calls_of self.old) }
         ensures piece { piece_of self.new ≡ piece_of self.old }
-        ensures room { room_left self.new ≡ room_left self.old - (length (bytes_of self.new) - length (bytes_of self.old)) }
+        ensures room { room_of self.new ≡ room_of self.old }
         ensures flushed { flushed_of self.new ≡ false }
     {
         self.flushed = false;
@@ -104,7 +105,7 @@ impl Output for MemOutput {
         ensures fails { IsErr result ↔ IsTrue (next_fails (calls_of self.old)) }
         ensures calls { calls_of self.new ≡ after_call (calls_of self.old) }
         ensures piece { piece_of self.new ≡ piece_of self.old }
-        ensures room { room_left self.new ≡ room_left self.old }
+        ensures room { room_of self.new ≡ room_of self.old }
     {
         if self.calls.make().is_err() {
             self.failed = true;
