@@ -110,7 +110,8 @@ fn write_all<O: Output>(writer: &mut O, bytes: &[u8]) -> Result<(), Failed>
     requires { O.has_failed writer.old ≡ false }
     ensures ok { OnOk result (Appends (O.contents writer.old) (O.contents writer.new) bytes.now) }
     ensures works { OnOk result (O.has_failed writer.new ≡ false) }
-    ensures err { OnErr result (AppendsBeginning (O.contents writer.old) (O.contents writer.new) bytes.now) }
+    ensures err { OnErr result (AppendsBeginning (O.contents writer.old) (O.contents writer.new)
+        bytes.now) }
     ensures failed { OnErr result (O.has_failed writer.new ≡ true) }
 {
     let mut rest = bytes;
@@ -185,15 +186,17 @@ fn finish<O: Output>(
     }
 }
 
-/// Reads to the end of the input, writes the report on each line and an LF behind it, and flushes once at the end.
+/// Reads to the end of the input, writes the report on each line and an LF behind it, and flushes
+/// once at the end.
 ///
-/// A line is the bytes before an LF, without it, and what stands behind the last LF where that is not empty. It holds
-/// one line at a time, and so takes memory in proportion to the longest.
+/// A line is the bytes before an LF, without it, and what stands behind the last LF where that is
+/// not empty. One line is held at a time, so memory is taken in proportion to the longest.
 ///
 /// # Errors
 ///
-/// `Read` where the reader failed, or gave no end in 2^64 - 1 reads. `Write` where the writer failed. `Memory` where a
-/// growth was refused. What was written is then a beginning of the reports on the whole lines that were read.
+/// `Read` where the reader failed, or gave no end in 2^64 - 1 reads. `Write` where the writer
+/// failed. `Memory` where a growth was refused. What was written is then a beginning of the reports
+/// on the whole lines that were read.
 pub fn run<I: Input, O: Output>(
     alloc: Global,
     reader: &mut I,
@@ -209,7 +212,8 @@ pub fn run<I: Input, O: Output>(
     ensures flushed { OnOk result (O.is_flushed writer.new ≡ true) }
 
     // An input whose bytes are known never runs out of reads.
-    ensures read { IsErrOf result RunError.Read → IsSome (I.remaining reader.old) → I.has_failed reader.new ≡ true }
+    ensures read { IsErrOf result RunError.Read → IsSome (I.remaining reader.old)
+        → I.has_failed reader.new ≡ true }
     ensures read_failed { I.has_failed reader.new ≡ true → IsErrOf result RunError.Read }
     ensures write { IsErrOf result RunError.Write ↔ (O.has_failed writer.new ≡ true) }
     ensures err { OnErr result (StopsWithin (I.remaining reader.old) (I.remaining reader.new)

@@ -17,8 +17,8 @@ pub trait Input {
 
     /// Reads bytes into the front of `buffer` and answers their number.
     ///
-    /// Of a known input these are the next bytes, and none only at its end or where `buffer` is empty. A call that
-    /// fails takes none of them.
+    /// Of a known input these are the next bytes, and none only at its end or where `buffer` is
+    /// empty. A call that fails takes none of them.
     fn read(&mut self, buffer: &mut [u8]) -> Result<usize, Failed>
         ensures bound { IfOk result (λ count. count ≤ length buffer.new) }
         ensures bytes { ReadConsumes (remaining self.old) (remaining self.new) result buffer.new }
@@ -43,9 +43,8 @@ pub trait Output {
     // Nothing was written behind the last flush, where that is known.
     ghost is_flushed: { Self → Bool } = { λ _. true };
 
-    /// Writes bytes from the front of `piece` and answers their number, at least one where `piece` is not empty.
-    ///
-    /// A call that fails writes none.
+    /// Writes bytes from the front of `piece` and answers their number, at least one where `piece`
+    /// is not empty. A call that fails writes none.
     fn write(&mut self, piece: &[u8]) -> Result<usize, Failed>
         ensures bound { IfOk result (λ count. count ≤ length piece.now) }
         ensures some { IfOk result (λ count. count ≡ 0 → piece.now ≡ []) }

@@ -21,8 +21,8 @@ pub struct MemInput<'a> {
 impl<'a> MemInput<'a> {
     ghost use Rattle.litrs.specs.MemInput.{left_of, piece_of, calls_of, failed_of};
 
-    /// An input that gives `bytes`, at most `piece` of them in a call, one at least, and whose calls fail from number
-    /// `fail_at` on, counted from 0.
+    /// An input that gives `bytes`, at most `piece` of them in a call, which is one at least. Its
+    /// calls fail from number `fail_at` on, counted from 0.
     pub fn new(bytes: &'a [u8], piece: usize, fail_at: Option<u64>) -> Self
         requires { 0 < piece }
         ensures bytes { left_of result ≡ bytes.now }
@@ -50,12 +50,14 @@ impl Input for MemInput<'_> {
 
     fn read(&mut self, buffer: &mut [u8]) -> Result<usize, Failed>
         ensures bound { IfOk result (λ count. count ≤ length buffer.new) }
-        ensures bytes { ReadConsumes (Some (left_of self.old)) (Some (left_of self.new)) result buffer.new }
+        ensures bytes { ReadConsumes (Some (left_of self.old)) (Some (left_of self.new))
+            result buffer.new }
         ensures failed { RecordsFailure (failed_of self.old) (failed_of self.new) result }
 
         // How many bytes move, and when the call fails.
         ensures fails { IsErr result ↔ IsTrue (next_fails (calls_of self.old)) }
-        ensures count { IfOk result (λ count. count ≡ min (min (length buffer.old) (piece_of self.old)) (length (left_of self.old))) }
+        ensures count { IfOk result (λ count.
+            count ≡ min (min (length buffer.old) (piece_of self.old)) (length (left_of self.old))) }
         ensures calls { calls_of self.new ≡ after_call (calls_of self.old) }
         ensures piece { piece_of self.new ≡ piece_of self.old }
     {

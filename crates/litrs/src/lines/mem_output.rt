@@ -25,9 +25,13 @@ pub struct MemOutput {
 impl MemOutput {
     ghost use Rattle.litrs.specs.MemOutput.{bytes_of, room_of, piece_of, calls_of, failed_of, flushed_of};
 
-    /// An output with memory for `room` bytes, which takes at most `piece` bytes in a call, one at least, and whose
-    /// calls fail from number `fail_at` on. Writes and flushes are counted together, from 0. A write fails also where
-    /// the room is full.
+    /// An output with memory for `room` bytes, which takes at most `piece` of them in a call, which
+    /// is one at least. Its calls fail from number `fail_at` on, writes and flushes counted together
+    /// from 0. A write fails also where the room is full.
+    ///
+    /// # Errors
+    ///
+    /// `AllocError` where there is no memory for the room.
     pub fn new(
         alloc: Global,
         room: usize,
@@ -72,12 +76,15 @@ impl Output for MemOutput {
     fn write(&mut self, piece: &[u8]) -> Result<usize, Failed>
         ensures bound { IfOk result (λ count. count ≤ length piece.now) }
         ensures some { IfOk result (λ count. count ≡ 0 → piece.now ≡ []) }
-        ensures bytes { WriteAppends (Some (bytes_of self.old)) (Some (bytes_of self.new)) result piece.now }
+        ensures bytes { WriteAppends (Some (bytes_of self.old)) (Some (bytes_of self.new))
+            result piece.now }
         ensures failed { RecordsFailure (failed_of self.old) (failed_of self.new) result }
 
         // How many bytes move, and when the call fails.
-        ensures fails { IsErr result ↔ (IsTrue (next_fails (calls_of self.old)) ⊎ (room_left self.old ≡ 0)) }
-        ensures count { IfOk result (λ count. count ≡ min (min (length piece.now) (piece_of self.old)) (room_left self.old)) }
+        ensures fails { IsErr result
+            ↔ (IsTrue (next_fails (calls_of self.old)) ⊎ (room_left self.old ≡ 0)) }
+        ensures count { IfOk result (λ count.
+            count ≡ min (min (length piece.now) (piece_of self.old)) (room_left self.old)) }
         ensures calls { calls_of self.new ≡ after_call (calls_of self.old) }
         ensures piece { piece_of self.new ≡ piece_of self.old }
         ensures room { room_of self.new ≡ room_of self.old }

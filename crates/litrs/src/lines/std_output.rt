@@ -6,8 +6,8 @@ ghost use Rattle.litrs.specs.Devices.{RecordsFailure};
 use super::device::{Failed, Output};
 use std::io::Write;
 
-/// An output over any writer. Each of the writer's errors is a failure, and so is a write that takes no byte of a
-/// piece that is not empty.
+/// An output over any writer. Each of the writer's errors is a failure, and so is a write that takes
+/// no byte of a piece that is not empty.
 #[derive(Debug, Drop)]
 pub struct StdOutput<W> {
     writer: W,
@@ -36,7 +36,8 @@ impl<W: Write> Output for StdOutput<W> {
     fn write(&mut self, piece: &[u8]) -> Result<usize, Failed>
         ensures bound { IfOk result (λ count. count ≤ length piece.now) }
         ensures some { IfOk result (λ count. count ≡ 0 → piece.now ≡ []) }
-        ensures bytes { WriteAppends (W.contents (writer_of self.old)) (W.contents (writer_of self.new)) result piece.now }
+        ensures bytes { WriteAppends (W.contents (writer_of self.old)) (W.contents (writer_of self.new))
+            result piece.now }
         ensures failed { RecordsFailure (failed_of self.old) (failed_of self.new) result }
     {
         match self.writer.write(piece) {

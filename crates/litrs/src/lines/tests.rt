@@ -69,7 +69,7 @@ fn a_write_fails(rt: HostRuntime) -> Result<(), Fail> {
 
 #[test]
 fn the_flush_fails(rt: HostRuntime) -> Result<(), Fail> {
-    // One read and one write of everything, then the read that gives the end, the last line's write and the flush.
+    // The calls are a write for the ended lines, one for the last line, and the flush.
     let (result, output) = run_lines(rt.alloc(), (4096, 4096), (NEVER, Some(2)))?;
     assert_eq!(rt; result, Err(RunError::Write));
     assert_eq!(rt; output.bytes(), REPORTS.as_bytes());
