@@ -1,3 +1,4 @@
+pub mod LinesLemmas
 pub mod Runs
 pub mod SuffixStart
 pub mod Spans

@@ -30,8 +30,8 @@ mod escape;
 mod from_integer_literal;
 mod integer;
 pub mod laws;
+pub mod lines;
 mod parse;
-pub mod report;
 
 /// A literal. This is the main type of this library.
 #[derive(Drop)]
