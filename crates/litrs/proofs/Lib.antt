@@ -36,3 +36,4 @@ pub mod NumberLaws
 pub mod NumeralLemmas
 pub mod IntegerSpans
 pub mod LiteralSpans
+pub mod ReportLemmas
