@@ -32,6 +32,8 @@ mod integer;
 pub mod laws;
 pub mod lines;
 mod parse;
+#[cfg(test)]
+mod tests;
 
 /// A literal. This is the main type of this library.
 #[derive(Drop)]

@@ -8,10 +8,19 @@ use std::test::Fail;
 const LINES: &str = "true\n1_000u32\n0b12\n\nfalse";
 
 /// What is written on `LINES`.
-const REPORTS: &str = "true\n1_000u32\n0b12\n\nfalse\n";
+const REPORTS: &str = "bool true
+integer base=10 digits=1_000 suffix=u32 value=1000
+error integer literal contains a digit invalid for its base (at 3..4)
+error input is empty
+bool false
+";
 
 /// What is written on the lines of `LINES` that an LF ends.
-const ENDED_REPORTS: &str = "true\n1_000u32\n0b12\n\n";
+const ENDED_REPORTS: &str = "bool true
+integer base=10 digits=1_000 suffix=u32 value=1000
+error integer literal contains a digit invalid for its base (at 3..4)
+error input is empty
+";
 
 /// More room than any report here takes.
 const ROOM: usize = 4096;
