@@ -47,7 +47,7 @@ impl ParseError {
         requires { MovesWithin offset self }
         ensures { result ≡ moved offset self }
     {
-        let ParseError { span, kind } = self;
+        let Self { span, kind } = self;
         match span {
             Some(span) => ParseError {
                 span: Some(span.start + offset..span.end + offset),

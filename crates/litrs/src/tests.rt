@@ -259,14 +259,19 @@ fn printing_keeps_the_text(rt: HostRuntime) -> Result<(), Fail> {
     Ok(())
 }
 
+/// Checks a copy of a parsed integer.
+fn check_copy<B: Buffer + Copy>(rt: &impl Abort, lit: &IntegerLit<B>, expected: &Integer) {
+    let copy = *lit;
+    check_integer(rt, &copy, expected);
+}
+
 #[test]
 fn owned_literals_keep_all(rt: HostRuntime) -> Result<(), Fail> {
     let alloc = rt.alloc();
     for expected in &INTEGERS {
         match IntegerLit::parse(expected.0) {
             Ok(lit) => {
-                let copy = lit;
-                check_integer(&rt, &copy, expected);
+                check_copy(&rt, &lit, expected);
                 check_integer(&rt, &lit.to_owned(alloc)?, expected);
             }
             Err(_) => assert!(rt; false, "{} is an integer", expected.0),
