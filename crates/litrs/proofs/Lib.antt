@@ -37,3 +37,4 @@ pub mod NumeralLemmas
 pub mod IntegerSpans
 pub mod LiteralSpans
 pub mod ReportLemmas
+pub mod NameLemmas

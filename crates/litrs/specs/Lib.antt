@@ -35,3 +35,5 @@ pub mod QuotedLaws
 pub mod CharByteLaws
 pub mod NumberLaws
 pub mod Report
+pub mod ReportLaws
+pub mod NameLaws

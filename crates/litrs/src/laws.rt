@@ -3,6 +3,8 @@ pub mod char_byte;
 pub mod escape;
 pub mod float;
 pub mod lines;
+pub mod name;
 pub mod number;
 pub mod quoted;
 pub mod raw;
+pub mod report;
