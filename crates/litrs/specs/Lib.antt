@@ -19,6 +19,7 @@ pub mod Dispatch
 pub mod Numeral
 pub mod Characters
 pub mod Escape
+pub mod StringKind
 pub mod Quoted
 pub mod CharByte
 pub mod EscapeLaws

@@ -8,6 +8,7 @@ use Rattle.litrs.specs.declared.err.ParseErrorKind.TheVariants.{InvalidLiteral, 
 use Rattle.litrs.specs.declared.err.ParseError.{ParseError}
 use Rattle.litrs.specs.Text.{byte_len, first_passes, begins_with}
 use Rattle.litrs.specs.Fault.{plain, over, at}
+use Rattle.litrs.specs.StringKind.{StringKind, string_kind, byte_string_kind, c_string_kind, switches_of}
 use Rattle.litrs.specs.Suffix.{is_empty, is_suffix, suffix_fault}
 
 -- `"`
@@ -70,29 +71,21 @@ pub record IsRawOf (unicode allow_nul : Bool) (t : List ℕ) (d : RawParts) : Ty
   pub spells : raw_text d ≡ t
   pub grammar : IsRaw unicode allow_nul d
 
--- the three kinds
-pub data RawKind : Type 0 where
-  raw_string : RawKind
-  raw_byte_string : RawKind
-  raw_c_string : RawKind
-
 -- what a literal of the kind begins with
-abbrev pub raw_front : RawKind → List ℕ
-raw_front raw_string = codes "r"
-raw_front raw_byte_string = codes "br"
-raw_front raw_c_string = codes "cr"
+abbrev pub raw_front : StringKind → List ℕ
+raw_front string_kind = codes "r"
+raw_front byte_string_kind = codes "br"
+raw_front c_string_kind = codes "cr"
 
 -- the switches of the kind
-abbrev pub has_unicode : RawKind → Bool
-has_unicode raw_byte_string = false
-has_unicode _ = true
+abbrev pub has_unicode : StringKind → Bool
+has_unicode kind = (switches_of kind).unicode
 
-abbrev pub allows_nul : RawKind → Bool
-allows_nul raw_c_string = false
-allows_nul _ = true
+abbrev pub allows_nul : StringKind → Bool
+allows_nul kind = (switches_of kind).allow_nul
 
 -- the text is a raw literal of the kind with these parts
-pub record IsRawLiteral (kind : RawKind) (t : List ℕ) (d : RawParts) : Type 0 where
+pub record IsRawLiteral (kind : StringKind) (t : List ℕ) (d : RawParts) : Type 0 where
   pub spells : raw_front kind ++ raw_text d ≡ t
   pub grammar : IsRaw (has_unicode kind) (allows_nul kind) d
 
@@ -149,5 +142,5 @@ raw_fault unicode allow_nul start t =
     (is_empty behind) (nat_lt 255 n) (first_passes is_quote behind)
 
 -- why a text that begins with the front of the kind is no raw literal of the kind
-abbrev pub raw_literal_fault : RawKind → List ℕ → Option ParseError
+abbrev pub raw_literal_fault : StringKind → List ℕ → Option ParseError
 raw_literal_fault kind t = raw_fault (has_unicode kind) (allows_nul kind) (length (raw_front kind)) (drop (length (raw_front kind)) t)
