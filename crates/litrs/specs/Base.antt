@@ -2,6 +2,7 @@
 use Rattle.std.specs.Prelude.{ℕ, Bool, ◌==◌, ◌||◌, List, codes}
 use Rattle.std.specs.Char.{is_ascii_digit}
 use Rattle.std.specs.Int.{is_in_range}
+use Rattle.litrs.specs.Characters.{underscore}
 use Rattle.litrs.specs.declared.integer.IntegerBase.{IntegerBase}
 use Rattle.litrs.specs.declared.integer.IntegerBase.TheVariants.{Binary, Octal, Decimal, Hexadecimal}
 
@@ -32,4 +33,4 @@ is_digit Hexadecimal c = is_hex_digit c
 
 -- a digit of the base, or `_`
 abbrev pub is_digit_or_underscore : IntegerBase → ℕ → Bool
-is_digit_or_underscore base c = is_digit base c || (c == 95)
+is_digit_or_underscore base c = is_digit base c || (c == underscore)
