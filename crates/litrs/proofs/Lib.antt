@@ -17,6 +17,7 @@ pub mod Firsts
 pub mod IntegerLaws
 pub mod IntegerLemmas
 pub mod LiteralLaws
+pub mod ReadLiteral
 pub mod Dispatch
 pub mod ListTests
 pub mod ByteLen
@@ -34,4 +35,4 @@ pub mod QuotedExamples
 pub mod NumberLaws
 pub mod NumeralLemmas
 pub mod IntegerSpans
-pub mod LiteralSpans
+pub mod ReadSpans

@@ -14,6 +14,11 @@ pub mod Integer
 pub mod IntegerCut
 pub mod IntegerLiteral
 pub mod Literal
+pub mod LiteralFault
+pub mod LiteralLaws
+pub mod Finality
+pub mod Growth
+pub mod ReadLiteral
 pub mod LiteralDerivation
 pub mod Dispatch
 pub mod Numeral

@@ -1,6 +1,7 @@
 -- What holds of all raw literals: raw strings, raw byte strings and raw C strings.
 use Rattle.std.specs.Prelude.{◌≡◌, ◌↔◌, ℕ, Bool, List, [], ◌∷◌, length, ◌++◌, Some, None, IsTrue, IsFalse}
 use Rattle.std.specs.List.{list_any}
+use Rattle.litrs.specs.Characters.{line_feed}
 use Rattle.litrs.specs.StringKind.{StringKind, c_string_kind}
 use Rattle.litrs.specs.Text.{byte_len, begins_with}
 use Rattle.litrs.specs.declared.err.ParseError.{ParseError}
@@ -36,7 +37,7 @@ RawTextSpansLieInText = (unicode allow_nul : Bool) (front t : List ℕ) (e : Par
 
 -- no raw literal ends with LF
 abbrev pub NoRawLiteralEndsWithLineFeed : Type 0
-NoRawLiteralEndsWithLineFeed = (kind : StringKind) (t : List ℕ) (d : RawParts) → ¬ IsRawLiteral kind (t ++ 10 ∷ []) d
+NoRawLiteralEndsWithLineFeed = (kind : StringKind) (t : List ℕ) (d : RawParts) → ¬ IsRawLiteral kind (t ++ line_feed ∷ []) d
 
 -- no byte of a raw C string's value is zero
 abbrev pub NoNulInRawCStrings : Type 0

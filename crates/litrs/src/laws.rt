@@ -2,6 +2,7 @@
 pub mod char_byte;
 pub mod escape;
 pub mod float;
+pub mod literal;
 pub mod number;
 pub mod quoted;
 pub mod raw;

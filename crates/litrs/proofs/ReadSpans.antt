@@ -10,23 +10,25 @@ use Rattle.litrs.specs.Text.{byte_len, first_passes}
 use Rattle.litrs.specs.Suffix.{is_suffix, is_empty, is_ascii_symbol, suffix_fault}
 use Rattle.litrs.specs.Base.{prefix, is_digit}
 use Rattle.litrs.specs.Integer.{IntegerParts, integer_text, is_e, integer_cut, integer_rows, cut_fault, number_rows, integer_fault}
-use Rattle.litrs.specs.Literal.{begins_float, is_bool, literal_rows, literal_fault}
+use Rattle.litrs.specs.Bool.{is_bool}
+use Rattle.litrs.specs.LiteralFault.{begins_float}
+use Rattle.litrs.specs.ReadLiteral.{read_rows, read_fault}
 use Rattle.litrs.proofs.Spans.{plain_within}
 use Rattle.litrs.proofs.IntegerSpans.{row_is, integer_fault_within}
 
 -- What holds of each row of the dispatch and of the refusals of integers holds of each refusal.
-literal_rows_give : (P : ParseError → Type 0) (a b d f : Bool) (r : Option ParseError) (e : ParseError) →
-    P (plain Empty) → P (plain InvalidLiteral) → (r ≡ Some e → P e) → literal_rows a b d f r ≡ Some e → P e
-literal_rows_give P true b d f r e empty invalid below row = subst P (let same : plain Empty ≡ e = cc in same) empty
-literal_rows_give P false true d f r e empty invalid below row = cc
-literal_rows_give P false false true true r e empty invalid below row = subst P (let same : plain InvalidLiteral ≡ e = cc in same) invalid
-literal_rows_give P false false true false r e empty invalid below row = below row
-literal_rows_give P false false false f r e empty invalid below row = subst P (let same : plain InvalidLiteral ≡ e = cc in same) invalid
+read_rows_give : (P : ParseError → Type 0) (a b d f : Bool) (r : Option ParseError) (e : ParseError) →
+    P (plain Empty) → P (plain InvalidLiteral) → (r ≡ Some e → P e) → read_rows a b d f r ≡ Some e → P e
+read_rows_give P true b d f r e empty invalid below row = subst P (let same : plain Empty ≡ e = cc in same) empty
+read_rows_give P false true d f r e empty invalid below row = cc
+read_rows_give P false false true true r e empty invalid below row = subst P (let same : plain InvalidLiteral ≡ e = cc in same) invalid
+read_rows_give P false false true false r e empty invalid below row = below row
+read_rows_give P false false false f r e empty invalid below row = subst P (let same : plain InvalidLiteral ≡ e = cc in same) invalid
 
-pub literal_fault_within : (t : List ℕ) (e : ParseError) → literal_fault t ≡ Some e → IsInText t e
-unfolding literal_fault
-literal_fault_within t e fault =
-    literal_rows_give (IsInText t) (is_empty t) (is_bool t) (first_passes is_ascii_digit t) (begins_float t) (integer_fault t) e
+pub read_fault_within : (t : List ℕ) (e : ParseError) → read_fault t ≡ Some e → IsInText t e
+unfolding read_fault
+read_fault_within t e fault =
+    read_rows_give (IsInText t) (is_empty t) (is_bool t) (first_passes is_ascii_digit t) (begins_float t) (integer_fault t) e
     (plain_within t Empty) (plain_within t InvalidLiteral) (integer_fault_within t e) fault
 
 -- Memory
@@ -63,8 +65,8 @@ integer_fault_of_text t e fault =
     (first_passes is_e d.suffix) (list_any (is_digit d.base) d.main) (suffix_fault d.suffix) e
     (suffix_kind (first_passes is_ascii_symbol d.suffix) (suffix_fault d.suffix) refl)) fault
 
-pub literal_fault_of_text : (t : List ℕ) (e : ParseError) → literal_fault t ≡ Some e → kind_of e ≢ OutOfMemory
-unfolding literal_fault
-literal_fault_of_text t e fault =
-    literal_rows_give IsOfText (is_empty t) (is_bool t) (first_passes is_ascii_digit t) (begins_float t) (integer_fault t) e
+pub read_fault_of_text : (t : List ℕ) (e : ParseError) → read_fault t ≡ Some e → kind_of e ≢ OutOfMemory
+unfolding read_fault
+read_fault_of_text t e fault =
+    read_rows_give IsOfText (is_empty t) (is_bool t) (first_passes is_ascii_digit t) (begins_float t) (integer_fault t) e
     (λ memory. cc) (λ memory. cc) (integer_fault_of_text t e) fault
