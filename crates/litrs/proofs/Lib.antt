@@ -35,4 +35,6 @@ pub mod QuotedExamples
 pub mod NumberLaws
 pub mod NumeralLemmas
 pub mod IntegerSpans
+pub mod LiteralSpans
 pub mod ReadSpans
+pub mod RefusalKinds

@@ -127,6 +127,36 @@ dispatch_literal t (a_string d) r = dispatch_string string_kind t d r
 dispatch_literal t (a_byte_string d) r = dispatch_string byte_string_kind t d r
 dispatch_literal t (a_c_string d) r = dispatch_string c_string_kind t d r
 
+-- Where the dispatch names no kind, the text is empty or no kind begins so.
+
+else_row : (P : ParseError → Type 0) (b : Bool) (kind : LiteralKind) (o : Dispatch) (e : ParseError) →
+    (o ≡ refused_as e → P e) → (if b then read_as kind else o) ≡ refused_as e → P e
+else_row P true kind o e below is = cc
+else_row P false kind o e below is = below is
+
+number_row : (P : ParseError → Type 0) (b : Bool) (e : ParseError) → (if b then read_as float_literal else read_as integer_literal) ≡ refused_as e → P e
+number_row P true e is = cc
+number_row P false e is = cc
+
+either_row : (P : ParseError → Type 0) (b : Bool) (x y : Dispatch) (e : ParseError) → (x ≡ refused_as e → P e) → (y ≡ refused_as e → P e) → (if b then x else y) ≡ refused_as e → P e
+either_row P true x y e here below is = here is
+either_row P false x y e here below is = below is
+
+refusal_is : (P : ParseError → Type 0) (row e : ParseError) → P row → refused_as row ≡ refused_as e → P e
+refusal_is P row e holds is = subst P (let same : row ≡ e = cc in same) holds
+
+pub dispatch_refusal : (P : ParseError → Type 0) (t : List ℕ) (e : ParseError) → P (plain Empty) → P (plain InvalidLiteral) → dispatch t ≡ refused_as e → P e
+unfolding dispatch
+dispatch_refusal P t e empty invalid =
+    either_row P (is_empty t) _ _ e (refusal_is P (plain Empty) e empty)
+    (else_row P (is_bool t) bool_literal _ e
+    (either_row P (first_passes is_ascii_digit t) _ _ e (number_row P (begins_float t) e)
+    (else_row P _ char_literal _ e
+    (else_row P _ string_literal _ e
+    (else_row P _ byte_literal _ e
+    (else_row P _ byte_string_literal _ e
+    (else_row P _ c_string_literal _ e (refusal_is P (plain InvalidLiteral) e invalid))))))))
+
 -- At most one derivation
 
 start_quoted : (kind : StringKind) (x : List ℕ) → string_start kind (quoted_front kind ++ x) ≡ quoted_start
@@ -244,7 +274,7 @@ by_option None read = inl (read refl)
 by_option (Some e) read = inr (e, refl)
 
 -- what a start says of the text
-abbrev StartSays : StringStart → (quoted raw : Bool) → Type 0
+abbrev pub StartSays : StringStart → (quoted raw : Bool) → Type 0
 StartSays start quoted raw = (start ≡ quoted_start → quoted ≡ true) × (start ≡ raw_start → raw ≡ true)
 
 start_says : (empty quoted raw : Bool) (e f : ParseError) →
@@ -253,6 +283,10 @@ start_says true quoted raw e f = (λ is. cc, λ is. cc)
 start_says false true raw e f = (λ is. refl, λ is. cc)
 start_says false false true e f = (λ is. cc, λ is. refl)
 start_says false false false e f = (λ is. cc, λ is. cc)
+
+pub string_start_says : (kind : StringKind) (t : List ℕ) → StartSays (string_start kind t) (begins_with (quoted_front kind) t) (begins_with (raw_front kind) t)
+string_start_says kind t =
+    start_says (is_empty t) (begins_with (quoted_front kind) t) (begins_with (raw_front kind) t) (plain Empty) (string_start_fault kind)
 
 abbrev IsStringDecided : StringKind → StringStart → List ℕ → Type 0
 IsStringDecided kind start t = ((d : StringParts) × IsString kind t d) ⊎ ((e : ParseError) × IsStartedFault kind start t e)
@@ -276,9 +310,7 @@ started_decided kind quoted_start t says = quoted_decided kind t (says.0 refl)
 started_decided kind raw_start t says = raw_decided kind t (says.1 refl)
 
 string_decided : (kind : StringKind) (t : List ℕ) → IsStringDecided kind (string_start kind t) t
-string_decided kind t =
-    started_decided kind (string_start kind t) t
-    (start_says (is_empty t) (begins_with (quoted_front kind) t) (begins_with (raw_front kind) t) (plain Empty) (string_start_fault kind))
+string_decided kind t = started_decided kind (string_start kind t) t (string_start_says kind t)
 
 -- of what is derived, by a constructor of derivations
 named : {D : Type 0} (kind : LiteralKind) (t : List ℕ) (name : D → Derivation) (Reads : D → Type 0) (Refuses : ParseError → Type 0) →
