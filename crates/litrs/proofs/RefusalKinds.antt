@@ -50,29 +50,29 @@ fine_moved n (Some e) h = h
 -- Escapes
 
 fine_hex : (w : Switches) (t : List ℕ) → is_fine (hex_fault w t) ≡ true
-fine_hex w t = fine_if _ _ _ refl (fine_if _ _ _ refl (fine_if _ _ _ refl (fine_if _ _ _ refl refl)))
+fine_hex w t = search fine_if
 
 fine_inner : (w : Switches) (inner : List ℕ) → is_fine (inner_fault w inner) ≡ true
-fine_inner w inner = fine_if _ _ _ refl (fine_if _ _ _ refl (fine_if _ _ _ refl (fine_if _ _ _ refl (fine_if _ _ _ refl refl))))
+fine_inner w inner = search fine_if
 
 fine_unicode : (w : Switches) (t : List ℕ) → is_fine (unicode_fault w t) ≡ true
-fine_unicode w t = fine_if _ _ _ refl (fine_if _ _ _ refl (fine_if _ _ _ refl (fine_inner w _)))
+fine_unicode w t = search (fine_if, fine_inner)
 
 fine_escape : (w : Switches) (t : List ℕ) → is_fine (escape_fault w t) ≡ true
 unfolding escape_fault
 fine_escape w [] = refl
 fine_escape w (c ∷ []) = refl
-fine_escape w (c ∷ letter ∷ t) = fine_if _ _ _ refl (fine_if _ _ _ (fine_hex w t) (fine_if _ _ _ (fine_unicode w t) (fine_if _ _ _ refl refl)))
+fine_escape w (c ∷ letter ∷ t) = search (fine_if, fine_hex, fine_unicode)
 
 -- Quoted strings
 
 fine_backslash : (w : Switches) (t : List ℕ) → is_fine (backslash_fault w t) ≡ true
-fine_backslash w t = fine_if _ _ _ (fine_if _ _ _ refl refl) (fine_escape w (without_last (92 ∷ t)))
+fine_backslash w t = search (fine_if, fine_escape)
 
 fine_rest : (w : Switches) (t : List ℕ) → is_fine (rest_fault w t) ≡ true
 unfolding rest_fault
 fine_rest w [] = refl
-fine_rest w (c ∷ t) = fine_if _ _ _ (fine_backslash w t) (fine_if _ _ _ refl (fine_if _ _ _ refl (fine_if _ _ _ refl (fine_if _ _ _ (fine_suffix t) refl))))
+fine_rest w (c ∷ t) = search (fine_if, fine_backslash, fine_suffix) depth 8
 
 -- Chars and bytes
 
@@ -94,38 +94,37 @@ fine_start char_kind (c ∷ t) = refl
 fine_start byte_kind (c ∷ t) = refl
 
 fine_closing : (kind : CharKind) (place : ℕ) (t : List ℕ) → is_fine (closing_fault kind place t) ≡ true
-fine_closing kind place t = fine_if _ _ _ (fine_unterminated kind) (fine_if _ _ _ (fine_overlong kind) (fine_if _ _ _ (fine_suffix _) refl))
+fine_closing kind place t = search (fine_if, fine_unterminated, fine_overlong, fine_suffix)
 
 fine_item : (kind : CharKind) (t : List ℕ) → is_fine (char_item_fault kind t) ≡ true
 fine_item kind [] = fine_unterminated kind
-fine_item kind (c ∷ t) =
-    fine_if _ _ _ refl (fine_if _ _ _ (fine_empty kind) (fine_if _ _ _ refl (fine_if _ _ _ (fine_escape _ (c ∷ t)) (fine_if _ _ _ refl (fine_closing kind _ _)))))
+fine_item kind (c ∷ t) = search (fine_if, fine_empty, fine_escape, fine_closing) depth 8
 
 fine_char : (kind : CharKind) (t : List ℕ) → is_fine (char_kind_fault kind t) ≡ true
 unfolding char_kind_fault
-fine_char kind t = fine_if _ _ _ (fine_moved _ _ (fine_item kind _)) (fine_start kind t)
+fine_char kind t = search (fine_if, fine_moved, fine_item, fine_start)
 
 -- Floats
 
 fine_number : (empty digit : Bool) (o : Option ParseError) → is_fine o ≡ true → is_fine (number_rows empty digit o) ≡ true
-fine_number empty digit o h = fine_if _ _ _ refl (fine_if _ _ _ refl h)
+fine_number empty digit o h = search (fine_if, h)
 
 fine_float : (t : List ℕ) → is_fine (float_fault t) ≡ true
 unfolding float_fault
-fine_float t = fine_number _ _ _ (fine_if _ _ _ refl (fine_if _ _ _ refl (fine_if _ _ _ (fine_suffix _) (fine_if _ _ _ refl refl))))
+fine_float t = search (fine_number, fine_if, fine_suffix)
 
 -- Raw strings
 
 fine_raw_char : (c : ℕ) → is_of_text (raw_char_fault c) ≡ true
-fine_raw_char c = fine_kind_if _ _ _ refl (fine_kind_if _ _ _ refl refl)
+fine_raw_char c = search fine_kind_if
 
 fine_raw_body : (unicode allow_nul : Bool) (n start : ℕ) (t : List ℕ) → is_fine (raw_body_fault unicode allow_nul n start t) ≡ true
 unfolding raw_body_fault
-fine_raw_body unicode allow_nul n start t = fine_if _ _ _ (fine_raw_char _) (fine_if _ _ _ refl (fine_if _ _ _ (fine_suffix _) refl))
+fine_raw_body unicode allow_nul n start t = search (fine_if, fine_raw_char, fine_suffix)
 
 fine_raw : (unicode allow_nul : Bool) (start : ℕ) (t : List ℕ) → is_fine (raw_fault unicode allow_nul start t) ≡ true
 unfolding raw_fault
-fine_raw unicode allow_nul start t = fine_if _ _ _ refl (fine_if _ _ _ refl (fine_if _ _ _ refl (fine_raw_body unicode allow_nul _ _ _)))
+fine_raw unicode allow_nul start t = search (fine_if, fine_raw_body)
 
 -- All
 
