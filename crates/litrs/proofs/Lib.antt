@@ -38,3 +38,4 @@ pub mod IntegerSpans
 pub mod LiteralSpans
 pub mod ReadSpans
 pub mod RefusalKinds
+pub mod LiteralExamples
