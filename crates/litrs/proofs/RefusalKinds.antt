@@ -10,7 +10,7 @@ use Rattle.litrs.specs.Suffix.{is_ascii_symbol, suffix_fault}
 use Rattle.litrs.specs.Text.{first_passes}
 use Rattle.litrs.specs.StringKind.{StringKind, string_kind, byte_string_kind, c_string_kind, switches_of}
 use Rattle.litrs.specs.Bool.{is_bool, bool_fault}
-use Rattle.litrs.specs.Integer.{number_rows, integer_fault}
+use Rattle.litrs.specs.Integer.{number_rows, integer_rows, integer_fault}
 use Rattle.litrs.specs.Float.{float_rows, float_fault}
 use Rattle.litrs.specs.Escape.{Switches, hex_fault, inner_fault, unicode_fault, escape_fault}
 use Rattle.litrs.specs.CharByte.{CharKind, char_kind, byte_kind, unterminated_kind, empty_kind, overlong_kind, start_fault, closing_fault, char_item_fault, char_kind_fault}
@@ -19,7 +19,6 @@ use Rattle.litrs.specs.Raw.{is_nul, raw_char_fault, raw_body_rows, raw_body_faul
 use Rattle.litrs.specs.Literal.{LiteralKind, bool_literal, integer_literal, float_literal, char_literal, byte_literal, string_literal, byte_string_literal, c_string_literal, Parse, literal_parse, kind_parse}
 use Rattle.litrs.specs.LiteralFault.{StringStart, no_start, quoted_start, raw_start, string_start, string_start_fault, IsStartedFault, IsKindFault, Dispatch, refused_as, read_as, dispatch, IsDispatchedFault}
 use Rattle.litrs.specs.LiteralLaws.{NoRefusalIsOfMemory}
-use Rattle.litrs.proofs.ReadSpans.{integer_fault_of_text}
 use Rattle.litrs.proofs.LiteralLaws.{dispatch_refusal}
 
 -- the kind is another
@@ -104,10 +103,14 @@ fine_char : (kind : CharKind) (t : List ℕ) → is_fine (char_kind_fault kind t
 unfolding char_kind_fault
 fine_char kind t = search (fine_if, fine_moved, fine_item, fine_start)
 
--- Floats
+-- Numbers
 
 fine_number : (empty digit : Bool) (o : Option ParseError) → is_fine o ≡ true → is_fine (number_rows empty digit o) ≡ true
 fine_number empty digit o h = search (fine_if, h)
+
+fine_integer : (t : List ℕ) → is_fine (integer_fault t) ≡ true
+unfolding integer_fault
+fine_integer t = search (fine_number, fine_if, fine_suffix)
 
 fine_float : (t : List ℕ) → is_fine (float_fault t) ≡ true
 unfolding float_fault
@@ -128,7 +131,7 @@ fine_raw unicode allow_nul start t = search (fine_if, fine_raw_body)
 
 -- All
 
-abbrev IsOfText : ParseError → Type 0
+abbrev pub IsOfText : ParseError → Type 0
 IsOfText e = kind_of e ≢ OutOfMemory
 
 of_kind : (kind : ParseErrorKind) → is_of_text kind ≡ true → kind ≢ OutOfMemory
@@ -136,6 +139,9 @@ of_kind kind h memory = true≢false (sym h ∙ ap is_of_text memory)
 
 of_table : (o : Option ParseError) (e : ParseError) → is_fine o ≡ true → o ≡ Some e → IsOfText e
 of_table o e h is = of_kind (kind_of e) (sym (ap is_fine is) ∙ h)
+
+pub integer_fault_of_text : (t : List ℕ) (e : ParseError) → integer_fault t ≡ Some e → IsOfText e
+integer_fault_of_text t e refused = of_table (integer_fault t) e (fine_integer t) refused
 
 quoted_of_text : (front : List ℕ) (w : Switches) (t : List ℕ) (e : ParseError) → IsQuotedFault front w t e → IsOfText e
 quoted_of_text front w t e h = subst IsOfText h.placed (of_table (rest_fault w h.rest) h.cause (fine_rest w h.rest) h.told)

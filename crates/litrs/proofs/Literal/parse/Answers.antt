@@ -11,7 +11,8 @@ use Rattle.litrs.proofs.ReadLiteral.{no_literal, only_bool}
 use Rattle.litrs.specs.declared.err.ParseError.{ParseError}
 use Rattle.litrs.specs.declared.err.ParseErrorKind.TheVariants.{OutOfMemory}
 use Rattle.litrs.specs.Fault.{kind_of}
-use Rattle.litrs.proofs.ReadSpans.{integer_fault_of_text, read_fault_within, read_fault_of_text}
+use Rattle.litrs.proofs.RefusalKinds.{integer_fault_of_text}
+use Rattle.litrs.proofs.ReadSpans.{read_fault_within, read_fault_of_text}
 use Rattle.litrs.proofs.Literal.parse.Goals as goal
 
 pub returns-in_err-parse-in-Integer-clause-none : goal.returns-in_err-parse-in-Integer-clause-none
