@@ -1,4 +1,5 @@
 pub mod Runs
+pub mod Begins
 pub mod SuffixStart
 pub mod Spans
 pub mod FloatCuts

@@ -19,9 +19,10 @@ use Rattle.litrs.specs.CharByte.{CharKind, char_kind, byte_kind, CharParts, IsCh
 use Rattle.litrs.specs.Quoted.{QuotedParts, quoted_front, IsQuotedLiteral, IsQuotedLiteralFault}
 use Rattle.litrs.specs.Raw.{RawParts, raw_front, IsRawLiteral, raw_literal_fault}
 use Rattle.litrs.specs.Literal.{StringParts, quoted_parts, raw_parts, IsString, Derivation, a_bool, an_integer, a_float, a_char, a_byte, a_string, a_byte_string, a_c_string, IsLiteral, LiteralKind, bool_literal, integer_literal, float_literal, char_literal, byte_literal, string_literal, byte_string_literal, c_string_literal, literal_kind, Parse, literal_parse, kind_parse, IsLiteralOf}
-use Rattle.litrs.specs.LiteralFault.{StringStart, no_start, quoted_start, raw_start, string_start, string_start_fault, IsStartedFault, IsStringFault, IsKindFault, begins_float, Dispatch, refused_as, read_as, dispatch, IsDispatchedFault}
+use Rattle.litrs.specs.LiteralFault.{StringStart, refused_start, quoted_start, raw_start, string_start, string_start_fault, IsFaultOfStart, IsStringFault, IsKindFault, begins_float, Dispatch, refused_as, read_as, dispatch, IsFaultOfDispatch}
 use Rattle.litrs.specs.LiteralLaws.{LiteralsAreUnique, TextsAreDecided, LiteralsAreNotRefused, RefusalsAreUnique}
-use Rattle.litrs.proofs.IntegerLaws.{only_integer, starts_with_digit, not_empty_by_first, integer_fault-free, begins_with-split}
+use Rattle.litrs.proofs.Begins.{begins_with-split, begins_with-append}
+use Rattle.litrs.proofs.IntegerLaws.{only_integer, starts_with_digit, not_empty_by_first, integer_fault-free}
 use Rattle.litrs.proofs.IntegerLaws.{readable as readable_integer}
 use Rattle.litrs.proofs.FloatLaws.{only_float, starts_digit, fault_free, readable}
 use Rattle.litrs.proofs.NumberLaws.{float_begins, integer_begins}
@@ -209,16 +210,11 @@ none_some o e none some = let both : None ≡ Some e = sym none ∙ some in cc
 string_not_refused : (kind : StringKind) (t : List ℕ) (d : StringParts) (e : ParseError) → IsString kind t d → IsStringFault kind t e → ⊥
 string_not_refused kind t (quoted_parts d) e r refused =
     quoted_texts_are_not_refused (quoted_front kind) (switches_of kind) t d e r
-    (subst (λ o. IsStartedFault kind o t e) (quoted_starts kind t d r) refused)
+    (subst (λ o. IsFaultOfStart kind o t e) (quoted_starts kind t d r) refused)
 string_not_refused kind t (raw_parts d) e r refused =
-    let begins : begins_with (raw_front kind) t ≡ true = ap (begins_with (raw_front kind)) (sym r.spells) ∙ begins_raw kind _ in
+    let begins : begins_with (raw_front kind) t ≡ true = ap (begins_with (raw_front kind)) (sym r.spells) ∙ begins_with-append (raw_front kind) _ in
     none_some (raw_literal_fault kind t) e (literal_fault_free kind t d begins r)
-    (subst (λ o. IsStartedFault kind o t e) (raw_starts kind t d r) refused)
-  where
-    begins_raw : (kind : StringKind) (x : List ℕ) → begins_with (raw_front kind) (raw_front kind ++ x) ≡ true
-    begins_raw string_kind x = refl
-    begins_raw byte_string_kind x = refl
-    begins_raw c_string_kind x = refl
+    (subst (λ o. IsFaultOfStart kind o t e) (raw_starts kind t d r) refused)
 
 char_free : (kind : CharKind) (t : List ℕ) (d : CharParts) → IsCharLiteral kind t d → char_kind_fault kind t ≡ None
 char_free kind t d r = (chars_are_decided kind t).1 (d, r)
@@ -235,7 +231,7 @@ not_refused t (a_c_string d) e r refused = string_not_refused c_string_kind t d 
 
 pub literals_are_not_refused : LiteralsAreNotRefused
 literals_are_not_refused literal_parse t d e r refused =
-    not_refused t d e r (subst (λ o. IsDispatchedFault o t e) (dispatch_literal t d r) refused)
+    not_refused t d e r (subst (λ o. IsFaultOfDispatch o t e) (dispatch_literal t d r) refused)
 literals_are_not_refused (kind_parse kind) t d e r refused =
     not_refused t d e r.1 (subst (λ k. IsKindFault k t e) (sym r.0) refused)
 
@@ -244,8 +240,8 @@ literals_are_not_refused (kind_parse kind) t d e r refused =
 same_some : (o : Option ParseError) (e f : ParseError) → o ≡ Some e → o ≡ Some f → e ≡ f
 same_some o e f is also = let both : Some e ≡ Some f = sym is ∙ also in cc
 
-started_refusal : (kind : StringKind) (start : StringStart) (t : List ℕ) (e f : ParseError) → IsStartedFault kind start t e → IsStartedFault kind start t f → e ≡ f
-started_refusal kind (no_start refusal) t e f is also = sym is ∙ also
+started_refusal : (kind : StringKind) (start : StringStart) (t : List ℕ) (e f : ParseError) → IsFaultOfStart kind start t e → IsFaultOfStart kind start t f → e ≡ f
+started_refusal kind (refused_start refusal) t e f is also = sym is ∙ also
 started_refusal kind quoted_start t e f is also = quoted_refusals_are_unique (quoted_front kind) (switches_of kind) t e f is also
 started_refusal kind raw_start t e f is also = same_some (raw_literal_fault kind t) e f is also
 
@@ -259,7 +255,7 @@ only_refusal string_literal t e f is also = started_refusal string_kind (string_
 only_refusal byte_string_literal t e f is also = started_refusal byte_string_kind (string_start byte_string_kind t) t e f is also
 only_refusal c_string_literal t e f is also = started_refusal c_string_kind (string_start c_string_kind t) t e f is also
 
-dispatched_refusal : (o : Dispatch) (t : List ℕ) (e f : ParseError) → IsDispatchedFault o t e → IsDispatchedFault o t f → e ≡ f
+dispatched_refusal : (o : Dispatch) (t : List ℕ) (e f : ParseError) → IsFaultOfDispatch o t e → IsFaultOfDispatch o t f → e ≡ f
 dispatched_refusal (refused_as refusal) t e f is also = sym is ∙ also
 dispatched_refusal (read_as kind) t e f is also = only_refusal kind t e f is also
 
@@ -278,7 +274,7 @@ abbrev pub StartSays : StringStart → (quoted raw : Bool) → Type 0
 StartSays start quoted raw = (start ≡ quoted_start → quoted ≡ true) × (start ≡ raw_start → raw ≡ true)
 
 start_says : (empty quoted raw : Bool) (e f : ParseError) →
-    StartSays (if empty then no_start e else if quoted then quoted_start else if raw then raw_start else no_start f) quoted raw
+    StartSays (if empty then refused_start e else if quoted then quoted_start else if raw then raw_start else refused_start f) quoted raw
 start_says true quoted raw e f = (λ is. cc, λ is. cc)
 start_says false true raw e f = (λ is. refl, λ is. cc)
 start_says false false true e f = (λ is. cc, λ is. refl)
@@ -289,7 +285,7 @@ string_start_says kind t =
     start_says (is_empty t) (begins_with (quoted_front kind) t) (begins_with (raw_front kind) t) (plain Empty) (string_start_fault kind)
 
 abbrev IsStringDecided : StringKind → StringStart → List ℕ → Type 0
-IsStringDecided kind start t = ((d : StringParts) × IsString kind t d) ⊎ ((e : ParseError) × IsStartedFault kind start t e)
+IsStringDecided kind start t = ((d : StringParts) × IsString kind t d) ⊎ ((e : ParseError) × IsFaultOfStart kind start t e)
 
 quoted_decided : (kind : StringKind) (t : List ℕ) → begins_with (quoted_front kind) t ≡ true → IsStringDecided kind quoted_start t
 quoted_decided kind t begins =
@@ -305,7 +301,7 @@ raw_decided kind t begins =
 
 started_decided : (kind : StringKind) (start : StringStart) (t : List ℕ) → StartSays start (begins_with (quoted_front kind) t) (begins_with (raw_front kind) t) →
     IsStringDecided kind start t
-started_decided kind (no_start refusal) t says = inr (refusal, refl)
+started_decided kind (refused_start refusal) t says = inr (refusal, refl)
 started_decided kind quoted_start t says = quoted_decided kind t (says.0 refl)
 started_decided kind raw_start t says = raw_decided kind t (says.1 refl)
 
@@ -336,7 +332,7 @@ kind_decided string_literal t = named string_literal t a_string (IsString string
 kind_decided byte_string_literal t = named byte_string_literal t a_byte_string (IsString byte_string_kind t) (IsStringFault byte_string_kind t) (λ d r. (refl, r)) (string_decided byte_string_kind t)
 kind_decided c_string_literal t = named c_string_literal t a_c_string (IsString c_string_kind t) (IsStringFault c_string_kind t) (λ d r. (refl, r)) (string_decided c_string_kind t)
 
-dispatched_decided : (o : Dispatch) (t : List ℕ) → ((d : Derivation) × IsLiteral t d) ⊎ ((e : ParseError) × IsDispatchedFault o t e)
+dispatched_decided : (o : Dispatch) (t : List ℕ) → ((d : Derivation) × IsLiteral t d) ⊎ ((e : ParseError) × IsFaultOfDispatch o t e)
 dispatched_decided (refused_as refusal) t = inr (refusal, refl)
 dispatched_decided (read_as kind) t = elim (kind_decided kind t) [
   | inl r ↦ inl (r.0, r.1.1)

@@ -15,7 +15,7 @@ use Rattle.litrs.specs.CharByte.{char_kind, byte_kind}
 use Rattle.litrs.specs.Quoted.{quoted_front}
 use Rattle.litrs.specs.Raw.{raw_front}
 use Rattle.litrs.specs.Literal.{StringParts, quoted_parts, raw_parts, IsString, Derivation, a_bool, an_integer, a_float, a_char, a_byte, a_string, a_byte_string, a_c_string, IsLiteral, LiteralKind, bool_literal, integer_literal, float_literal, char_literal, byte_literal, string_literal, byte_string_literal, c_string_literal, Parse, literal_parse, kind_parse}
-use Rattle.litrs.specs.LiteralFault.{StringStart, no_start, quoted_start, raw_start, string_start, string_start_fault, IsStartedFault, IsKindFault, Dispatch, refused_as, read_as, dispatch, IsDispatchedFault}
+use Rattle.litrs.specs.LiteralFault.{StringStart, refused_start, quoted_start, raw_start, string_start, string_start_fault, IsFaultOfStart, IsKindFault, Dispatch, refused_as, read_as, dispatch, IsFaultOfDispatch}
 use Rattle.litrs.specs.LiteralLaws.{RefusalSpansLieInText, NoLiteralEndsWithLineFeed}
 use Rattle.litrs.proofs.Runs.{last_passes, is_line_feed, line_feed_last}
 use Rattle.litrs.proofs.Spans.{plain_within, at_within}
@@ -58,19 +58,19 @@ start_within string_kind c t = at_within (c ∷ t) [] c t 0 InvalidStringLiteral
 start_within byte_string_kind c t = plain_within (c ∷ t) InvalidByteStringLiteralStart
 start_within c_string_kind c t = plain_within (c ∷ t) InvalidCStringLiteralStart
 
-last_start : (quoted raw : Bool) (e f : ParseError) → (if quoted then quoted_start else if raw then raw_start else no_start e) ≡ no_start f → e ≡ f
+last_start : (quoted raw : Bool) (e f : ParseError) → (if quoted then quoted_start else if raw then raw_start else refused_start e) ≡ refused_start f → e ≡ f
 last_start true raw e f h = cc
 last_start false true e f h = cc
 last_start false false e f h = cc
 
-no_start_within : (kind : StringKind) (t : List ℕ) (refusal : ParseError) → string_start kind t ≡ no_start refusal → IsInText t refusal
+no_start_within : (kind : StringKind) (t : List ℕ) (refusal : ParseError) → string_start kind t ≡ refused_start refusal → IsInText t refusal
 no_start_within kind [] refusal h = subst (λ e. IsInText [] e) (let same : plain Empty ≡ refusal = cc in same) (plain_within [] Empty)
 no_start_within kind (c ∷ t) refusal h =
     subst (λ e. IsInText (c ∷ t) e) (last_start (begins_with (quoted_front kind) (c ∷ t)) (begins_with (raw_front kind) (c ∷ t)) (string_start_fault kind) refusal h)
     (start_within kind c t)
 
-started_within : (kind : StringKind) (start : StringStart) (t : List ℕ) (e : ParseError) → string_start kind t ≡ start → IsStartedFault kind start t e → IsInText t e
-started_within kind (no_start refusal) t e is refused = subst (λ f. IsInText t f) refused (no_start_within kind t refusal is)
+started_within : (kind : StringKind) (start : StringStart) (t : List ℕ) (e : ParseError) → string_start kind t ≡ start → IsFaultOfStart kind start t e → IsInText t e
+started_within kind (refused_start refusal) t e is refused = subst (λ f. IsInText t f) refused (no_start_within kind t refusal is)
 started_within kind quoted_start t e is refused = quoted_spans_lie_in_text (quoted_front kind) (switches_of kind) t e refused
 started_within kind raw_start t e is refused =
     let says = string_start_says kind t in
@@ -86,7 +86,7 @@ kind_within string_literal t e refused = started_within string_kind (string_star
 kind_within byte_string_literal t e refused = started_within byte_string_kind (string_start byte_string_kind t) t e refl refused
 kind_within c_string_literal t e refused = started_within c_string_kind (string_start c_string_kind t) t e refl refused
 
-dispatched_within : (o : Dispatch) (t : List ℕ) (e : ParseError) → ((refusal : ParseError) → o ≡ refused_as refusal → IsInText t refusal) → IsDispatchedFault o t e → IsInText t e
+dispatched_within : (o : Dispatch) (t : List ℕ) (e : ParseError) → ((refusal : ParseError) → o ≡ refused_as refusal → IsInText t refusal) → IsFaultOfDispatch o t e → IsInText t e
 dispatched_within (refused_as refusal) t e within refused = subst (λ f. IsInText t f) refused (within refusal refl)
 dispatched_within (read_as kind) t e within refused = kind_within kind t e refused
 

@@ -10,7 +10,7 @@ use Rattle.litrs.specs.Text.{byte_len, begins_with}
 use Rattle.litrs.specs.Raw.{is_nul, raw_value, RawParts, raw_text, IsRawOf, raw_front, has_unicode, allows_nul, IsRawLiteral, raw_fault, raw_literal_fault}
 use Rattle.litrs.proofs.Runs.{last_passes, is_line_feed, line_feed_last}
 use Rattle.litrs.proofs.Spans.{byte_len_ascii}
-use Rattle.litrs.proofs.IntegerLaws.{begins_with-split}
+use Rattle.litrs.proofs.Begins.{begins_with-split}
 use Rattle.litrs.proofs.RawLaws.{only_raw, readable, fault_free}
 use Rattle.litrs.proofs.RawSpans.{raw_fault_within, raw_last, raw_no_nul}
 

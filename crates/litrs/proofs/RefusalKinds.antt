@@ -17,7 +17,7 @@ use Rattle.litrs.specs.CharByte.{CharKind, char_kind, byte_kind, unterminated_ki
 use Rattle.litrs.specs.Quoted.{quoted_front, without_last, backslash_fault, rest_fault, IsQuotedFault}
 use Rattle.litrs.specs.Raw.{is_nul, raw_char_fault, raw_body_rows, raw_body_fault, raw_rows, raw_fault, raw_literal_fault}
 use Rattle.litrs.specs.Literal.{LiteralKind, bool_literal, integer_literal, float_literal, char_literal, byte_literal, string_literal, byte_string_literal, c_string_literal, Parse, literal_parse, kind_parse}
-use Rattle.litrs.specs.LiteralFault.{StringStart, no_start, quoted_start, raw_start, string_start, string_start_fault, IsStartedFault, IsKindFault, Dispatch, refused_as, read_as, dispatch, IsDispatchedFault}
+use Rattle.litrs.specs.LiteralFault.{StringStart, refused_start, quoted_start, raw_start, string_start, string_start_fault, IsFaultOfStart, IsKindFault, Dispatch, refused_as, read_as, dispatch, IsFaultOfDispatch}
 use Rattle.litrs.specs.LiteralLaws.{NoRefusalIsOfMemory}
 use Rattle.litrs.proofs.LiteralLaws.{dispatch_refusal}
 
@@ -152,14 +152,14 @@ string_start_of_text byte_string_kind memory = cc
 string_start_of_text c_string_kind memory = cc
 
 no_start_of_text : (kind : StringKind) (empty quoted raw : Bool) (e : ParseError) →
-    (if empty then no_start (plain Empty) else if quoted then quoted_start else if raw then raw_start else no_start (string_start_fault kind)) ≡ no_start e → IsOfText e
+    (if empty then refused_start (plain Empty) else if quoted then quoted_start else if raw then raw_start else refused_start (string_start_fault kind)) ≡ refused_start e → IsOfText e
 no_start_of_text kind true quoted raw e is = subst IsOfText (let same : plain Empty ≡ e = cc in same) (λ memory. cc)
 no_start_of_text kind false true raw e is = cc
 no_start_of_text kind false false true e is = cc
 no_start_of_text kind false false false e is = subst IsOfText (let same : string_start_fault kind ≡ e = cc in same) (string_start_of_text kind)
 
-started_of_text : (kind : StringKind) (start : StringStart) (t : List ℕ) (e : ParseError) → string_start kind t ≡ start → IsStartedFault kind start t e → IsOfText e
-started_of_text kind (no_start refusal) t e is refused = subst IsOfText refused (no_start_of_text kind _ _ _ refusal is)
+started_of_text : (kind : StringKind) (start : StringStart) (t : List ℕ) (e : ParseError) → string_start kind t ≡ start → IsFaultOfStart kind start t e → IsOfText e
+started_of_text kind (refused_start refusal) t e is refused = subst IsOfText refused (no_start_of_text kind _ _ _ refusal is)
 started_of_text kind quoted_start t e is refused = quoted_of_text (quoted_front kind) (switches_of kind) t e refused
 started_of_text kind raw_start t e is refused = of_table (raw_literal_fault kind t) e (fine_raw _ _ _ _) refused
 
@@ -173,7 +173,7 @@ kind_of_text string_literal t e refused = started_of_text string_kind (string_st
 kind_of_text byte_string_literal t e refused = started_of_text byte_string_kind (string_start byte_string_kind t) t e refl refused
 kind_of_text c_string_literal t e refused = started_of_text c_string_kind (string_start c_string_kind t) t e refl refused
 
-dispatched_of_text : (o : Dispatch) (t : List ℕ) (e : ParseError) → ((refusal : ParseError) → o ≡ refused_as refusal → IsOfText refusal) → IsDispatchedFault o t e → IsOfText e
+dispatched_of_text : (o : Dispatch) (t : List ℕ) (e : ParseError) → ((refusal : ParseError) → o ≡ refused_as refusal → IsOfText refusal) → IsFaultOfDispatch o t e → IsOfText e
 dispatched_of_text (refused_as refusal) t e of refused = subst IsOfText refused (of refusal refl)
 dispatched_of_text (read_as kind) t e of refused = kind_of_text kind t e refused
 

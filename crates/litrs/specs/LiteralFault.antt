@@ -29,26 +29,26 @@ string_start_fault c_string_kind = plain InvalidCStringLiteralStart
 
 -- How a text starts tells its refusal, or the table where that stands.
 pub data StringStart : Type 0 where
-  no_start : ParseError → StringStart
+  refused_start : ParseError → StringStart
   quoted_start : StringStart
   raw_start : StringStart
 
 -- the first row that fits decides
 abbrev pub string_start : StringKind → List ℕ → StringStart
 string_start kind t =
-    if is_empty t then no_start (plain Empty)
+    if is_empty t then refused_start (plain Empty)
     else if begins_with (quoted_front kind) t then quoted_start
     else if begins_with (raw_front kind) t then raw_start
-    else no_start (string_start_fault kind)
+    else refused_start (string_start_fault kind)
 
 -- the refusals of a text that starts so
-abbrev pub IsStartedFault : StringKind → StringStart → List ℕ → ParseError → Type 0
-IsStartedFault kind (no_start refusal) t e = refusal ≡ e
-IsStartedFault kind quoted_start t e = IsQuotedLiteralFault kind t e
-IsStartedFault kind raw_start t e = raw_literal_fault kind t ≡ Some e
+abbrev pub IsFaultOfStart : StringKind → StringStart → List ℕ → ParseError → Type 0
+IsFaultOfStart kind (refused_start refusal) t e = refusal ≡ e
+IsFaultOfStart kind quoted_start t e = IsQuotedLiteralFault kind t e
+IsFaultOfStart kind raw_start t e = raw_literal_fault kind t ≡ Some e
 
 abbrev pub IsStringFault : StringKind → List ℕ → ParseError → Type 0
-IsStringFault kind t = IsStartedFault kind (string_start kind t) t
+IsStringFault kind t = IsFaultOfStart kind (string_start kind t) t
 
 -- Each kind by its own table
 
@@ -91,11 +91,11 @@ dispatch t =
     else refused_as (plain InvalidLiteral)
 
 -- the refusals of a text that is dispatched so; a bool has none
-abbrev pub IsDispatchedFault : Dispatch → List ℕ → ParseError → Type 0
-IsDispatchedFault (refused_as refusal) t e = refusal ≡ e
-IsDispatchedFault (read_as kind) t e = IsKindFault kind t e
+abbrev pub IsFaultOfDispatch : Dispatch → List ℕ → ParseError → Type 0
+IsFaultOfDispatch (refused_as refusal) t e = refusal ≡ e
+IsFaultOfDispatch (read_as kind) t e = IsKindFault kind t e
 
 -- e is the refusal of t by the parse
 abbrev pub IsFault : Parse → List ℕ → ParseError → Type 0
-IsFault literal_parse t e = IsDispatchedFault (dispatch t) t e
+IsFault literal_parse t e = IsFaultOfDispatch (dispatch t) t e
 IsFault (kind_parse kind) t e = IsKindFault kind t e
