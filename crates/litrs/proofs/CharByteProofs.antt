@@ -12,21 +12,10 @@ use Rattle.litrs.specs.Escape.{Switches, Escape, simple_escape, hex_escape, unic
 use Rattle.litrs.specs.CharByte.{CharKind, char_kind, byte_kind, char_front, char_switches_of, CharItem, plain_char, escaped_char, char_item_text, is_special_whitespace, allows_char, is_char_item, CharParts, IsCharLiteral, escape_length, char_item_length, closing_fault, char_item_fault, char_kind_fault}
 use Rattle.litrs.specs.CharByteLaws.{CharsAreUnique, CharsAreDecided, NoCharEndsWithLineFeed}
 use Rattle.litrs.proofs.ListTests.{unless_none, none_if, none_unless, if_true, if_false, position_or_len-split}
+use Rattle.litrs.proofs.Begins.{begins_with-split, begins_with-append}
 use Rattle.litrs.proofs.Spans.{none_from}
 use Rattle.litrs.proofs.EscapeLemmas.{by_simple, same_escape, fault_escape, read_escape, HasEscape, unicode_parts}
 use Rattle.litrs.proofs.QuotedLemmas.{escape_head, closed_before_line_feed, heads_differ}
-
--- a text that begins with another
-pub begins_with-split : (f t : List ℕ) → begins_with f t ≡ true → f ++ drop (length f) t ≡ t
-begins_with-split [] t h = refl
-begins_with-split (c ∷ f) [] h = cc
-begins_with-split (c ∷ f) (d ∷ t) h =
-    let both = and_parts (c == d) (begins_with f t) h in
-    ap (λ l. c ∷ l) (begins_with-split f t both.1) ∙ ap (λ n. n ∷ t) (eqb-true c d both.0)
-
-pub begins_with-append : (f t : List ℕ) → begins_with f (f ++ t) ≡ true
-begins_with-append [] t = refl
-begins_with-append (c ∷ f) t = and_from _ _ (eq-eqb c c refl) (begins_with-append f t)
 
 not_plain_char : (kind : CharKind) (c : ℕ) → is_char_item kind (plain_char c) ≡ true → c ≡ 92 → ⊥
 not_plain_char kind c h at =

@@ -13,11 +13,13 @@ use Rattle.litrs.specs.Text.{first_passes}
 use Rattle.litrs.specs.Base.{is_digit_or_underscore}
 use Rattle.litrs.specs.Bool.{bool_text}
 use Rattle.litrs.specs.Integer.{integer_fault}
-use Rattle.litrs.specs.Literal.{is_float_mark, begins_float, literal_rows, literal_fault}
+use Rattle.litrs.specs.LiteralFault.{is_float_mark, begins_float}
+use Rattle.litrs.specs.ReadLiteral.{read_rows, read_fault}
 use Rattle.litrs.proofs.Chars.{OnlyAscii, prefix_len-chars, passing_front, first_passes-chars}
 use Rattle.litrs.proofs.Firsts.{first_passes_at}
 use Rattle.litrs.proofs.IntegerLemmas.{digits_are_ascii, digit-chars, filled_by_first}
-use Rattle.litrs.proofs.LiteralLaws.{is_bool-none, literal_fault-digit, literal_fault-other}
+use Rattle.litrs.proofs.LiteralLaws.{is_bool-none}
+use Rattle.litrs.proofs.ReadLiteral.{read_fault-digit, read_fault-other}
 
 marks_are_ascii : OnlyAscii is_float_mark
 marks_are_ascii c high = grind (arith, nat_tests)
@@ -29,20 +31,20 @@ begins_float-chars bs u =
     ap (λ n. first_passes is_float_mark (drop n (chars bs))) (prefix_len-chars p bs (digits_are_ascii Decimal) u)
     ∙ (ap (first_passes is_float_mark) front.rest ∙ first_passes-chars is_float_mark (drop (prefix_len p bs) bs) marks_are_ascii front.utf8)
 
-pub dispatch-empty : (bs : List ℕ) → bs ≡ [] → literal_fault (chars bs) ≡ Some (plain Empty)
-unfolding literal_fault
-dispatch-empty bs e = ap (λ t. literal_fault (chars t)) e ∙ ap literal_fault chars-nil
+pub dispatch-empty : (bs : List ℕ) → bs ≡ [] → read_fault (chars bs) ≡ Some (plain Empty)
+unfolding read_fault
+dispatch-empty bs e = ap (λ t. read_fault (chars t)) e ∙ ap read_fault chars-nil
 
 -- a text whose first byte is a digit
 pub dispatch-digit : (bs : List ℕ) (b : ℕ) → IsUtf8 bs → slice_get bs 0 ≡ Some b → is_ascii_digit b ≡ true →
-    literal_fault (chars bs) ≡ literal_rows false false true (begins_float bs) (integer_fault (chars bs))
+    read_fault (chars bs) ≡ read_rows false false true (begins_float bs) (integer_fault (chars bs))
 dispatch-digit bs b u first digit =
-    literal_fault-digit (chars bs) (digit-chars bs u ∙ (first_passes_at is_ascii_digit bs b first ∙ digit))
-    ∙ ap (λ f. literal_rows false false true f (integer_fault (chars bs))) (begins_float-chars bs u)
+    read_fault-digit (chars bs) (digit-chars bs u ∙ (first_passes_at is_ascii_digit bs b first ∙ digit))
+    ∙ ap (λ f. read_rows false false true f (integer_fault (chars bs))) (begins_float-chars bs u)
 
 -- one whose first byte is none, and which is no bool
 pub dispatch-other : (bs : List ℕ) (b : ℕ) → IsUtf8 bs → slice_get bs 0 ≡ Some b → is_ascii_digit b ≡ false →
-    ((lit : BoolLit) → bool_text lit ≡ chars bs → ⊥) → literal_fault (chars bs) ≡ Some (plain InvalidLiteral)
+    ((lit : BoolLit) → bool_text lit ≡ chars bs → ⊥) → read_fault (chars bs) ≡ Some (plain InvalidLiteral)
 dispatch-other bs b u first digit none =
-    literal_fault-other (chars bs) false (filled_by_first bs b u first) (is_bool-none (chars bs) none)
+    read_fault-other (chars bs) false (filled_by_first bs b u first) (is_bool-none (chars bs) none)
     (digit-chars bs u ∙ (first_passes_at is_ascii_digit bs b first ∙ digit))

@@ -165,7 +165,7 @@ digit_row : (p : List ℕ) → (is_empty p ≡ true) ⊎ (is_exponent p ≡ true
 digit_row p (inl empty) = rw empty refl
 digit_row p (inr exponent) = and_right (not (is_empty p)) _ (ap not (exponent_has_digit p exponent))
 
-starts_digit : (i r : List ℕ) → is_decimal_literal i ≡ true → (is_empty (i ++ r) ≡ false) × (first_passes is_ascii_digit (i ++ r) ≡ true)
+pub starts_digit : (i r : List ℕ) → is_decimal_literal i ≡ true → (is_empty (i ++ r) ≡ false) × (first_passes is_ascii_digit (i ++ r) ≡ true)
 starts_digit [] r h = absurd (false≢true h)
 starts_digit (c ∷ cs) r h = (refl, (and_parts _ _ h).0)
 

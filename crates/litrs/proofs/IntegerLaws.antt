@@ -14,6 +14,7 @@ use Rattle.litrs.specs.Suffix.{is_suffix, is_empty, suffix_fault}
 use Rattle.litrs.specs.Base.{prefix, is_digit, is_digit_or_underscore}
 use Rattle.litrs.specs.Reading.{IsOnlyReading, HasNoReading}
 use Rattle.litrs.specs.Integer.{IntegerParts, integer_text, IsInteger, IsIntegerOf, is_e, has_prefix, base_of, behind_prefix, main_of, behind_main, integer_cut, integer_rows, cut_fault, number_rows, integer_fault}
+use Rattle.litrs.proofs.Begins.{begins_with-split}
 
 -- Lists
 
@@ -57,15 +58,6 @@ first_passes-rest p (c ∷ xs) = stops p c xs (p c) refl (first_passes-rest p xs
 
 pub take_while-append-rest : (p : ℕ → Bool) (xs : List ℕ) → take_while p xs ++ drop (length (take_while p xs)) xs ≡ xs
 take_while-append-rest p xs = rw (length-prefix_len p xs) (take-append-drop (prefix_len p xs) xs)
-
--- a text that begins with another is the other and the rest
-pub begins_with-split : (front t : List ℕ) → begins_with front t ≡ true → front ++ drop (length front) t ≡ t
-begins_with-split [] t e = refl
-begins_with-split (c ∷ front) [] e = cc
-begins_with-split (c ∷ front) (d ∷ t) e =
-    let parts = and_parts (eqb c d) (begins_with front t) e in
-    let same = eqb-true c d parts.0 in
-    let more = begins_with-split front t parts.1 in cc
 
 pub first_passes-append : (p : ℕ → Bool) (xs ys : List ℕ) → first_passes p xs ≡ true → first_passes p (xs ++ ys) ≡ true
 first_passes-append p [] ys e = cc

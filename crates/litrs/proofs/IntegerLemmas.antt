@@ -17,7 +17,7 @@ use Rattle.litrs.specs.declared.err.ParseErrorKind.TheVariants.{Empty, DoesNotSt
 use Rattle.litrs.specs.Fault.{plain, at}
 use Rattle.litrs.specs.Text.{byte_len, first_passes, begins_with}
 use Rattle.litrs.specs.Suffix.{is_empty, is_suffix, suffix_fault}
-use Rattle.litrs.specs.Base.{prefix, is_hex_digit, is_digit, is_digit_or_underscore}
+use Rattle.litrs.specs.Base.{prefix, is_digit, is_digit_or_underscore}
 use Rattle.litrs.specs.Integer.{IntegerParts, integer_text, is_e, base_of, integer_cut, integer_rows, cut_fault, integer_fault}
 use Rattle.litrs.specs.IntegerCut.{parts_at, IsWithin, IsDigitsCut}
 use Rattle.litrs.proofs.Chars.{chars_empty, OnlyAscii, IsAsciiFront, front_zero, front_front, begins_front, passing_front, prefix_len-chars, first_passes-chars, begins_with-chars, ascii_by_test}

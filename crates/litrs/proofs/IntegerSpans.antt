@@ -2,15 +2,21 @@
 use Rattle.std.proofs.Common.{◌≡◌, ℕ, suc, ◌+◌, ◌≤◌, Bool, true, false, not, cond, List, [], ◌∷◌, ◌++◌, length, Option, Some, None, refl, sym, ap, subst, ◌∙◌, arith, append_assoc, append-nil}
 use Rattle.std.specs.Char.{is_ascii_digit}
 use Rattle.std.specs.List.{list_any}
+use Rattle.std.proofs.lemmas.Bool.{true≢false}
+use Rattle.std.proofs.lemmas.Bool.Decides.{nat_tests}
 use Rattle.litrs.specs.declared.err.ParseErrorKind.{ParseErrorKind}
 use Rattle.litrs.specs.declared.err.ParseErrorKind.TheVariants.{Empty, DoesNotStartWithDigit, InvalidDigit, NoDigits, IntegerSuffixStartingWithE}
 use Rattle.litrs.specs.declared.err.ParseError.{ParseError}
 use Rattle.litrs.specs.Fault.{plain, over, at, IsInText}
 use Rattle.litrs.specs.Text.{byte_len, first_passes}
 use Rattle.litrs.specs.Suffix.{is_suffix, is_empty, suffix_fault}
-use Rattle.litrs.specs.Base.{prefix, is_digit}
-use Rattle.litrs.specs.Integer.{IntegerParts, integer_text, is_e, base_of, integer_cut, integer_rows, cut_fault, number_rows, integer_fault}
+use Rattle.litrs.specs.declared.integer.IntegerBase.{IntegerBase}
+use Rattle.litrs.specs.declared.integer.IntegerBase.TheVariants.{Binary, Octal, Decimal, Hexadecimal}
+use Rattle.litrs.specs.Base.{prefix, is_digit, is_digit_or_underscore}
+use Rattle.litrs.specs.Integer.{IntegerParts, integer_text, IsInteger, IsIntegerOf, is_e, base_of, integer_cut, integer_rows, cut_fault, number_rows, integer_fault}
 use Rattle.litrs.proofs.IntegerLaws.{cut_with, integer_cut-is, cut-spells}
+use Rattle.litrs.proofs.Runs.{last_passes, is_line_feed, line_feed_last, last_passes-all, last_passes-both}
+use Rattle.litrs.proofs.SuffixStart.{suffix_last}
 use Rattle.litrs.proofs.Spans.{byte_len-append, plain_within, over_within, at_within}
 
 -- what a row refuses is what is refused
@@ -58,3 +64,27 @@ pub integer_fault_within : (t : List ℕ) (e : ParseError) → integer_fault t �
 unfolding integer_fault
 integer_fault_within t e fault =
     number_within t (is_empty t) (first_passes is_ascii_digit t) (cut_fault (integer_cut t)) e refl (cut_within t e) fault
+
+-- What integers end with
+
+not_line_feed : (base : IntegerBase) (c : ℕ) → is_digit_or_underscore base c ≡ true → is_line_feed c ≡ false
+not_line_feed Binary c h = grind (arith, nat_tests)
+not_line_feed Octal c h = grind (arith, nat_tests)
+not_line_feed Decimal c h = grind (arith, nat_tests)
+not_line_feed Hexadecimal c h = grind (arith, nat_tests)
+
+prefix_last : (base : IntegerBase) → last_passes is_line_feed (prefix base) ≡ false
+prefix_last Binary = refl
+prefix_last Octal = refl
+prefix_last Decimal = refl
+prefix_last Hexadecimal = refl
+
+integer_last : (d : IntegerParts) → IsInteger d → last_passes is_line_feed (integer_text d) ≡ false
+integer_last d g =
+    last_passes-both is_line_feed (prefix d.base) _ (prefix_last d.base)
+    (last_passes-both is_line_feed d.main d.suffix
+    (last_passes-all (is_digit_or_underscore d.base) is_line_feed (not_line_feed d.base) d.main g.digits) (suffix_last d.suffix g.suffix))
+
+-- no integer ends with LF
+pub no_integer_with_line_feed : (t : List ℕ) (d : IntegerParts) → ¬ IsIntegerOf (t ++ (10 ∷ [])) d
+no_integer_with_line_feed t d r = true≢false (sym (line_feed_last t) ∙ (ap (last_passes is_line_feed) (sym r.spells) ∙ integer_last d r.grammar))

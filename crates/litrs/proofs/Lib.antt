@@ -1,5 +1,6 @@
 pub mod LinesLemmas
 pub mod Runs
+pub mod Begins
 pub mod SuffixStart
 pub mod Spans
 pub mod FloatCuts
@@ -18,6 +19,7 @@ pub mod Firsts
 pub mod IntegerLaws
 pub mod IntegerLemmas
 pub mod LiteralLaws
+pub mod ReadLiteral
 pub mod Dispatch
 pub mod ListTests
 pub mod ByteLen
@@ -38,3 +40,6 @@ pub mod IntegerSpans
 pub mod LiteralSpans
 pub mod ReportLemmas
 pub mod NameLemmas
+pub mod ReadSpans
+pub mod RefusalKinds
+pub mod LiteralExamples

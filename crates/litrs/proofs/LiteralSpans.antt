@@ -1,70 +1,96 @@
--- The spans of refused literals lie within the text, and no refusal speaks of memory.
-use Rattle.std.proofs.Common.{◌≡◌, ◌≢◌, ℕ, ◌++◌, Bool, true, false, not, cond, List, [], ◌∷◌, Option, Some, None, refl, sym, ap, subst, ◌∙◌}
-use Rattle.std.specs.Char.{is_ascii_digit}
-use Rattle.std.specs.List.{list_any}
-use Rattle.litrs.specs.declared.err.ParseErrorKind.{ParseErrorKind}
-use Rattle.litrs.specs.declared.err.ParseErrorKind.TheVariants.{Empty, InvalidLiteral, UnexpectedChar, InvalidSuffix, InvalidDigit, NoDigits, IntegerSuffixStartingWithE, DoesNotStartWithDigit, OutOfMemory}
+-- The spans of the refusals of all parses, and what literals end with.
+use Rattle.std.proofs.Common.{◌≡◌, ℕ, Bool, true, false, cond, List, [], ◌∷◌, ◌++◌, Option, Some, None, refl, sym, ap, subst, ◌∙◌}
+use Rattle.std.specs.Prelude.{if◌then◌else◌}
+use Rattle.std.proofs.lemmas.Bool.{true≢false}
+use Rattle.litrs.specs.declared.bool.BoolLit.{BoolLit}
+use Rattle.litrs.specs.declared.bool.BoolLit.TheVariants.{False, True}
+use Rattle.litrs.specs.declared.err.ParseErrorKind.TheVariants.{Empty, InvalidLiteral, InvalidStringLiteralStart, InvalidByteStringLiteralStart, InvalidCStringLiteralStart}
 use Rattle.litrs.specs.declared.err.ParseError.{ParseError}
-use Rattle.litrs.specs.Fault.{plain, over, at, kind_of, IsInText}
-use Rattle.litrs.specs.Text.{byte_len, first_passes}
-use Rattle.litrs.specs.Suffix.{is_suffix, is_empty, is_ascii_symbol, suffix_fault}
-use Rattle.litrs.specs.Base.{prefix, is_digit}
-use Rattle.litrs.specs.Integer.{IntegerParts, integer_text, is_e, integer_cut, integer_rows, cut_fault, number_rows, integer_fault}
-use Rattle.litrs.specs.Literal.{begins_float, is_bool, literal_rows, literal_fault}
-use Rattle.litrs.proofs.Spans.{plain_within}
-use Rattle.litrs.proofs.IntegerSpans.{row_is, integer_fault_within}
+use Rattle.litrs.specs.Fault.{plain, at, IsInText}
+use Rattle.litrs.specs.Text.{begins_with}
+use Rattle.litrs.specs.Suffix.{is_empty}
+use Rattle.litrs.specs.StringKind.{StringKind, string_kind, byte_string_kind, c_string_kind, switches_of}
+use Rattle.litrs.specs.Bool.{bool_text, is_bool, bool_fault}
+use Rattle.litrs.specs.CharByte.{char_kind, byte_kind}
+use Rattle.litrs.specs.Quoted.{quoted_front}
+use Rattle.litrs.specs.Raw.{raw_front}
+use Rattle.litrs.specs.Literal.{StringParts, quoted_parts, raw_parts, IsString, Derivation, a_bool, an_integer, a_float, a_char, a_byte, a_string, a_byte_string, a_c_string, IsLiteral, LiteralKind, bool_literal, integer_literal, float_literal, char_literal, byte_literal, string_literal, byte_string_literal, c_string_literal, Parse, literal_parse, kind_parse}
+use Rattle.litrs.specs.LiteralFault.{StringStart, refused_start, quoted_start, raw_start, string_start, string_start_fault, IsFaultOfStart, IsKindFault, Dispatch, refused_as, read_as, dispatch, IsFaultOfDispatch}
+use Rattle.litrs.specs.LiteralLaws.{RefusalSpansLieInText, NoLiteralEndsWithLineFeed}
+use Rattle.litrs.proofs.Runs.{last_passes, is_line_feed, line_feed_last}
+use Rattle.litrs.proofs.Spans.{plain_within, at_within}
+use Rattle.litrs.proofs.IntegerSpans.{row_is, integer_fault_within, no_integer_with_line_feed}
+use Rattle.litrs.proofs.FloatSpans.{float_fault_within, no_float_with_line_feed}
+use Rattle.litrs.proofs.CharByteProofs.{no_char_ends_with_line_feed}
+use Rattle.litrs.proofs.QuotedProofs.{no_quoted_text_ends_with_line_feed}
+use Rattle.litrs.proofs.QuotedSpans.{char_spans_lie_in_text, quoted_spans_lie_in_text}
+use Rattle.litrs.proofs.RawKinds.{literal_fault_within, no_literal_with_line_feed}
+use Rattle.litrs.proofs.LiteralLaws.{StartSays, string_start_says, dispatch_refusal}
 
--- What holds of each row of the dispatch and of the refusals of integers holds of each refusal.
-literal_rows_give : (P : ParseError → Type 0) (a b d f : Bool) (r : Option ParseError) (e : ParseError) →
-    P (plain Empty) → P (plain InvalidLiteral) → (r ≡ Some e → P e) → literal_rows a b d f r ≡ Some e → P e
-literal_rows_give P true b d f r e empty invalid below row = subst P (let same : plain Empty ≡ e = cc in same) empty
-literal_rows_give P false true d f r e empty invalid below row = cc
-literal_rows_give P false false true true r e empty invalid below row = subst P (let same : plain InvalidLiteral ≡ e = cc in same) invalid
-literal_rows_give P false false true false r e empty invalid below row = below row
-literal_rows_give P false false false f r e empty invalid below row = subst P (let same : plain InvalidLiteral ≡ e = cc in same) invalid
+-- The ends of literals
 
-pub literal_fault_within : (t : List ℕ) (e : ParseError) → literal_fault t ≡ Some e → IsInText t e
-unfolding literal_fault
-literal_fault_within t e fault =
-    literal_rows_give (IsInText t) (is_empty t) (is_bool t) (first_passes is_ascii_digit t) (begins_float t) (integer_fault t) e
-    (plain_within t Empty) (plain_within t InvalidLiteral) (integer_fault_within t e) fault
+bool_last : (b : BoolLit) → last_passes is_line_feed (bool_text b) ≡ false
+bool_last False = refl
+bool_last True = refl
 
--- Memory
+string_last : (kind : StringKind) (t : List ℕ) (d : StringParts) → ¬ IsString kind (t ++ (10 ∷ [])) d
+string_last kind t (quoted_parts d) r = no_quoted_text_ends_with_line_feed (quoted_front kind) (switches_of kind) t d r
+string_last kind t (raw_parts d) r = no_literal_with_line_feed kind t d r
 
-abbrev IsOfText : ParseError → Type 0
-IsOfText e = kind_of e ≢ OutOfMemory
+pub no_literal_ends_with_line_feed : NoLiteralEndsWithLineFeed
+no_literal_ends_with_line_feed t (a_bool b) r = true≢false (sym (line_feed_last t) ∙ (ap (last_passes is_line_feed) (sym r) ∙ bool_last b))
+no_literal_ends_with_line_feed t (an_integer d) r = no_integer_with_line_feed t d r
+no_literal_ends_with_line_feed t (a_float d) r = no_float_with_line_feed t d r
+no_literal_ends_with_line_feed t (a_char d) r = no_char_ends_with_line_feed char_kind t d r
+no_literal_ends_with_line_feed t (a_byte d) r = no_char_ends_with_line_feed byte_kind t d r
+no_literal_ends_with_line_feed t (a_string d) r = string_last string_kind t d r
+no_literal_ends_with_line_feed t (a_byte_string d) r = string_last byte_string_kind t d r
+no_literal_ends_with_line_feed t (a_c_string d) r = string_last c_string_kind t d r
 
-suffix_kind : (v : Bool) (kind : ParseErrorKind) → cond v UnexpectedChar InvalidSuffix ≡ kind → kind ≢ OutOfMemory
-suffix_kind true kind is memory = cc
-suffix_kind false kind is memory = cc
+-- The spans of refusals
 
-of_row : (row e : ParseError) → IsOfText row → Some row ≡ Some e → IsOfText e
-of_row row e of is = subst IsOfText (let same : row ≡ e = cc in same) of
+bool_within : (t : List ℕ) (e : ParseError) (v : Bool) → (if v then None else Some (plain InvalidLiteral)) ≡ Some e → IsInText t e
+bool_within t e true h = cc
+bool_within t e false h = row_is t (plain InvalidLiteral) e (plain_within t InvalidLiteral) h
 
-rows_of_text : (start end len : ℕ) (suffix digit is some : Bool) (kind : ParseErrorKind) (e : ParseError) → kind ≢ OutOfMemory →
-    integer_rows start end len suffix digit kind is some ≡ Some e → IsOfText e
-rows_of_text start end len false true is some kind e of row = of_row (at end InvalidDigit) e (λ memory. cc) row
-rows_of_text start end len false false is some kind e of row = of_row (over end len kind) e of row
-rows_of_text start end len true digit true some kind e of row = of_row (at end IntegerSuffixStartingWithE) e (λ memory. cc) row
-rows_of_text start end len true digit false false kind e of row = of_row (over start end NoDigits) e (λ memory. cc) row
-rows_of_text start end len true digit false true kind e of row = cc
+start_within : (kind : StringKind) (c : ℕ) (t : List ℕ) → IsInText (c ∷ t) (string_start_fault kind)
+start_within string_kind c t = at_within (c ∷ t) [] c t 0 InvalidStringLiteralStart refl refl
+start_within byte_string_kind c t = plain_within (c ∷ t) InvalidByteStringLiteralStart
+start_within c_string_kind c t = plain_within (c ∷ t) InvalidCStringLiteralStart
 
-number_of_text : (a b : Bool) (r : Option ParseError) (e : ParseError) → (r ≡ Some e → IsOfText e) → number_rows a b r ≡ Some e → IsOfText e
-number_of_text true b r e below row = of_row (plain Empty) e (λ memory. cc) row
-number_of_text false true r e below row = below row
-number_of_text false false r e below row = of_row (at 0 DoesNotStartWithDigit) e (λ memory. cc) row
+last_start : (quoted raw : Bool) (e f : ParseError) → (if quoted then quoted_start else if raw then raw_start else refused_start e) ≡ refused_start f → e ≡ f
+last_start true raw e f h = cc
+last_start false true e f h = cc
+last_start false false e f h = cc
 
-pub integer_fault_of_text : (t : List ℕ) (e : ParseError) → integer_fault t ≡ Some e → kind_of e ≢ OutOfMemory
-unfolding integer_fault
-integer_fault_of_text t e fault =
-    let d = integer_cut t in
-    number_of_text (is_empty t) (first_passes is_ascii_digit t) (cut_fault d) e
-    (rows_of_text (byte_len (prefix d.base)) (byte_len (prefix d.base ++ d.main)) (byte_len (integer_text d)) (is_suffix d.suffix) (first_passes is_ascii_digit d.suffix)
-    (first_passes is_e d.suffix) (list_any (is_digit d.base) d.main) (suffix_fault d.suffix) e
-    (suffix_kind (first_passes is_ascii_symbol d.suffix) (suffix_fault d.suffix) refl)) fault
+no_start_within : (kind : StringKind) (t : List ℕ) (refusal : ParseError) → string_start kind t ≡ refused_start refusal → IsInText t refusal
+no_start_within kind [] refusal h = subst (λ e. IsInText [] e) (let same : plain Empty ≡ refusal = cc in same) (plain_within [] Empty)
+no_start_within kind (c ∷ t) refusal h =
+    subst (λ e. IsInText (c ∷ t) e) (last_start (begins_with (quoted_front kind) (c ∷ t)) (begins_with (raw_front kind) (c ∷ t)) (string_start_fault kind) refusal h)
+    (start_within kind c t)
 
-pub literal_fault_of_text : (t : List ℕ) (e : ParseError) → literal_fault t ≡ Some e → kind_of e ≢ OutOfMemory
-unfolding literal_fault
-literal_fault_of_text t e fault =
-    literal_rows_give IsOfText (is_empty t) (is_bool t) (first_passes is_ascii_digit t) (begins_float t) (integer_fault t) e
-    (λ memory. cc) (λ memory. cc) (integer_fault_of_text t e) fault
+started_within : (kind : StringKind) (start : StringStart) (t : List ℕ) (e : ParseError) → string_start kind t ≡ start → IsFaultOfStart kind start t e → IsInText t e
+started_within kind (refused_start refusal) t e is refused = subst (λ f. IsInText t f) refused (no_start_within kind t refusal is)
+started_within kind quoted_start t e is refused = quoted_spans_lie_in_text (quoted_front kind) (switches_of kind) t e refused
+started_within kind raw_start t e is refused =
+    let says = string_start_says kind t in
+    literal_fault_within kind t (says.1 is) e refused
+
+kind_within : (kind : LiteralKind) (t : List ℕ) (e : ParseError) → IsKindFault kind t e → IsInText t e
+kind_within bool_literal t e refused = bool_within t e (is_bool t) refused
+kind_within integer_literal t e refused = integer_fault_within t e refused
+kind_within float_literal t e refused = float_fault_within t e refused
+kind_within char_literal t e refused = char_spans_lie_in_text char_kind t e refused
+kind_within byte_literal t e refused = char_spans_lie_in_text byte_kind t e refused
+kind_within string_literal t e refused = started_within string_kind (string_start string_kind t) t e refl refused
+kind_within byte_string_literal t e refused = started_within byte_string_kind (string_start byte_string_kind t) t e refl refused
+kind_within c_string_literal t e refused = started_within c_string_kind (string_start c_string_kind t) t e refl refused
+
+dispatched_within : (o : Dispatch) (t : List ℕ) (e : ParseError) → ((refusal : ParseError) → o ≡ refused_as refusal → IsInText t refusal) → IsFaultOfDispatch o t e → IsInText t e
+dispatched_within (refused_as refusal) t e within refused = subst (λ f. IsInText t f) refused (within refusal refl)
+dispatched_within (read_as kind) t e within refused = kind_within kind t e refused
+
+pub refusal_spans_lie_in_text : RefusalSpansLieInText
+refusal_spans_lie_in_text literal_parse t e refused =
+    dispatched_within (dispatch t) t e (λ refusal is. dispatch_refusal (IsInText t) t refusal (plain_within t Empty) (plain_within t InvalidLiteral) is) refused
+refusal_spans_lie_in_text (kind_parse kind) t e refused = kind_within kind t e refused

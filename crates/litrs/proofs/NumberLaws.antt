@@ -10,7 +10,7 @@ use Rattle.litrs.specs.Suffix.{is_suffix}
 use Rattle.litrs.specs.Base.{prefix, is_digit_or_underscore}
 use Rattle.litrs.specs.Integer.{IntegerParts, IsIntegerOf, is_e}
 use Rattle.litrs.specs.Float.{FloatParts, fraction_text, is_period, is_exponent, is_float_form, IsFloatOf}
-use Rattle.litrs.specs.Literal.{is_float_mark, begins_float}
+use Rattle.litrs.specs.LiteralFault.{is_float_mark, begins_float}
 use Rattle.litrs.proofs.IntegerLaws.{prefix_len_front}
 use Rattle.litrs.proofs.FloatCuts.{ends_of_cut}
 use Rattle.litrs.proofs.FloatLaws.{float_is_cut, suffix_no_period}

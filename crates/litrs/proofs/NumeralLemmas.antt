@@ -1,7 +1,7 @@
 -- The number of digits, one more digit at a time.
 use Rattle.std.proofs.Common.{◌≡◌, ℕ, zero, suc, ◌+◌, ◌*◌, ◌^◌, ◌-◌, ◌≤◌, ◌<◌, Bool, true, false, not, cond, eqb, List, [], ◌∷◌, ◌++◌, length, take, drop, get_or, refl, sym, ap, ◌∙◌, arith, append_assoc, length-append}
 use Rattle.std.specs.Prelude.{filter}
-use Rattle.std.specs.Char.{digit_value}
+use Rattle.std.specs.Char.{digit_value, is_ascii_hexdigit}
 use Rattle.std.proofs.lemmas.List.{take_more, take-append-drop, length_push}
 use Rattle.std.proofs.lemmas.List.Elements.{filter-append}
 use Rattle.std.proofs.lemmas.Nat.{pow-add}
@@ -17,7 +17,7 @@ use Rattle.std.proofs.lemmas.Bool.{ne_eqb, and_parts}
 use Rattle.std.proofs.lemmas.Bool.Decides.{nat_tests}
 use Rattle.litrs.specs.declared.integer.IntegerBase.{IntegerBase}
 use Rattle.litrs.specs.declared.integer.IntegerBase.TheVariants.{Binary, Octal, Decimal, Hexadecimal}
-use Rattle.litrs.specs.Base.{base_value, is_hex_digit, is_digit_or_underscore}
+use Rattle.litrs.specs.Base.{base_value, is_digit_or_underscore}
 use Rattle.litrs.specs.Numeral.{place_sum, is_no_underscore, numeral}
 
 -- the digits in front stand so many places higher
@@ -85,7 +85,7 @@ positive_base Decimal = omega arith
 positive_base Hexadecimal = omega arith
 
 -- a digit of a base is a hex digit
-pub digit_is_hex : (base : IntegerBase) (c : ℕ) → is_digit_or_underscore base c ≡ true → (c ≡ 95 → ⊥) → is_hex_digit c ≡ true
+pub digit_is_hex : (base : IntegerBase) (c : ℕ) → is_digit_or_underscore base c ≡ true → (c ≡ 95 → ⊥) → is_ascii_hexdigit c ≡ true
 digit_is_hex Binary c is ne = grind (arith, nat_tests)
 digit_is_hex Octal c is ne = grind (arith, nat_tests)
 digit_is_hex Decimal c is ne = grind (arith, nat_tests)

@@ -1,10 +1,11 @@
 -- Quoted strings, byte strings and C strings: each row of the table of refusals and each form, by computation. The items
 -- are written out.
 use Rattle.std.specs.Prelude.{◌≡◌, ℕ, List, [], ◌∷◌, ◌++◌, map, codes, refl, false, encode_utf8_all}
+use Rattle.litrs.specs.StringKind.{string_kind, byte_string_kind, c_string_kind}
 use Rattle.litrs.specs.declared.err.ParseErrorKind.TheVariants.{UnexpectedChar, UnknownEscape, UnterminatedEscape, NonAsciiXEscape, InvalidStartOfUnicodeEscape, TooManyDigitInUnicodeEscape, UnterminatedUnicodeEscape, NonAsciiInByteLiteral, UnterminatedString, DisallowedNulEscape, NulByte, CarriageReturn, InvalidSuffix}
 use Rattle.litrs.specs.Escape.{string_switches, simple_escape, hex_escape, unicode_escape}
 use Rattle.litrs.specs.Fault.{plain, at, over}
-use Rattle.litrs.specs.Quoted.{quoted_string, quoted_byte_string, quoted_c_string, Item, plain_item, escape_item, continuation, body_value, is_body, IsQuotedLiteral, IsQuotedLiteralFault}
+use Rattle.litrs.specs.Quoted.{Item, plain_item, escape_item, continuation, body_value, is_body, IsQuotedLiteral, IsQuotedLiteralFault}
 use Rattle.litrs.proofs.Computing.{computing}
 
 -- characters that stand for themselves
@@ -12,123 +13,123 @@ abbrev plains : List ℕ → List Item
 plains t = map plain_item t
 
 -- a continuation that ends the text
-open_continuation : IsQuotedLiteralFault quoted_string (codes "\"foo\\\n  ") (plain UnterminatedString)
+open_continuation : IsQuotedLiteralFault string_kind (codes "\"foo\\\n  ") (plain UnterminatedString)
 unfolding computing
 open_continuation =
     record { items = plains (codes "foo"); rest = codes "\\\n  "; cause = plain UnterminatedString; spells = refl; taken = refl; told = refl; placed = refl }
 
 -- no closing quote
-open_string : IsQuotedLiteralFault quoted_string (codes "\"ab") (plain UnterminatedString)
+open_string : IsQuotedLiteralFault string_kind (codes "\"ab") (plain UnterminatedString)
 unfolding computing
 open_string =
     record { items = plains (codes "ab"); rest = []; cause = plain UnterminatedString; spells = refl; taken = refl; told = refl; placed = refl }
 
-open_behind_line_feed : IsQuotedLiteralFault quoted_string (codes "\"\\n\n") (plain UnterminatedString)
+open_behind_line_feed : IsQuotedLiteralFault string_kind (codes "\"\\n\n") (plain UnterminatedString)
 unfolding computing
 open_behind_line_feed =
     record { items = escape_item (simple_escape 110) ∷ plain_item 10 ∷ []; rest = []; cause = plain UnterminatedString; spells = refl; taken = refl; told = refl; placed = refl }
 
 -- an escape is read without the last character of the text
-escape_at_the_end : IsQuotedLiteralFault quoted_string (codes "\"\\n") (over 1 2 UnterminatedEscape)
+escape_at_the_end : IsQuotedLiteralFault string_kind (codes "\"\\n") (over 1 2 UnterminatedEscape)
 unfolding computing
 escape_at_the_end =
     record { items = []; rest = codes "\\n"; cause = at 0 UnterminatedEscape; spells = refl; taken = refl; told = refl; placed = refl }
 
-backslash_at_the_end : IsQuotedLiteralFault quoted_string (codes "\"\\") (over 1 2 UnterminatedEscape)
+backslash_at_the_end : IsQuotedLiteralFault string_kind (codes "\"\\") (over 1 2 UnterminatedEscape)
 unfolding computing
 backslash_at_the_end =
     record { items = []; rest = codes "\\"; cause = at 0 UnterminatedEscape; spells = refl; taken = refl; told = refl; placed = refl }
 
-wide_at_the_end : IsQuotedLiteralFault quoted_string (codes "\"\\é") (over 1 2 UnterminatedEscape)
+wide_at_the_end : IsQuotedLiteralFault string_kind (codes "\"\\é") (over 1 2 UnterminatedEscape)
 unfolding computing
 wide_at_the_end =
     record { items = []; rest = codes "\\é"; cause = at 0 UnterminatedEscape; spells = refl; taken = refl; told = refl; placed = refl }
 
-brace_at_the_end : IsQuotedLiteralFault quoted_string (codes "\"\\u{41}") (over 1 6 UnterminatedUnicodeEscape)
+brace_at_the_end : IsQuotedLiteralFault string_kind (codes "\"\\u{41}") (over 1 6 UnterminatedUnicodeEscape)
 unfolding computing
 brace_at_the_end =
     record { items = []; rest = codes "\\u{41}"; cause = over 0 5 UnterminatedUnicodeEscape; spells = refl; taken = refl; told = refl; placed = refl }
 
-no_closing_brace : IsQuotedLiteralFault quoted_string (codes "\"\\u{12\"") (over 1 6 UnterminatedUnicodeEscape)
+no_closing_brace : IsQuotedLiteralFault string_kind (codes "\"\\u{12\"") (over 1 6 UnterminatedUnicodeEscape)
 unfolding computing
 no_closing_brace =
     record { items = []; rest = codes "\\u{12\""; cause = over 0 5 UnterminatedUnicodeEscape; spells = refl; taken = refl; told = refl; placed = refl }
 
-high_hex : IsQuotedLiteralFault quoted_string (codes "\"\\x80\"") (over 1 5 NonAsciiXEscape)
+high_hex : IsQuotedLiteralFault string_kind (codes "\"\\x80\"") (over 1 5 NonAsciiXEscape)
 unfolding computing
 high_hex =
     record { items = []; rest = codes "\\x80\""; cause = over 0 4 NonAsciiXEscape; spells = refl; taken = refl; told = refl; placed = refl }
 
-high_hex_later : IsQuotedLiteralFault quoted_string (codes "\"నక్క\\xB0\"") (over 13 17 NonAsciiXEscape)
+high_hex_later : IsQuotedLiteralFault string_kind (codes "\"నక్క\\xB0\"") (over 13 17 NonAsciiXEscape)
 unfolding computing
 high_hex_later =
     record { items = plains (codes "నక్క"); rest = codes "\\xB0\""; cause = over 0 4 NonAsciiXEscape; spells = refl; taken = refl; told = refl; placed = refl }
 
-no_digit : IsQuotedLiteralFault quoted_string (codes "\"🦊\\u{}a\"") (over 8 9 InvalidStartOfUnicodeEscape)
+no_digit : IsQuotedLiteralFault string_kind (codes "\"🦊\\u{}a\"") (over 8 9 InvalidStartOfUnicodeEscape)
 unfolding computing
 no_digit =
     record { items = plains (codes "🦊"); rest = codes "\\u{}a\""; cause = at 3 InvalidStartOfUnicodeEscape; spells = refl; taken = refl; told = refl; placed = refl }
 
-seventh_digit : IsQuotedLiteralFault quoted_string (codes "\"నక్క\\u{1234567}🦊\"") (over 22 23 TooManyDigitInUnicodeEscape)
+seventh_digit : IsQuotedLiteralFault string_kind (codes "\"నక్క\\u{1234567}🦊\"") (over 22 23 TooManyDigitInUnicodeEscape)
 unfolding computing
 seventh_digit =
     record { items = plains (codes "నక్క"); rest = codes "\\u{1234567}🦊\""; cause = at 9 TooManyDigitInUnicodeEscape; spells = refl; taken = refl; told = refl; placed = refl }
 
-unknown_escape : IsQuotedLiteralFault quoted_byte_string (codes "b\"a\\\r\"") (over 3 5 UnknownEscape)
+unknown_escape : IsQuotedLiteralFault byte_string_kind (codes "b\"a\\\r\"") (over 3 5 UnknownEscape)
 unfolding computing
 unknown_escape =
     record { items = plains (codes "a"); rest = codes "\\\r\""; cause = over 0 2 UnknownEscape; spells = refl; taken = refl; told = refl; placed = refl }
 
-zero_escape : IsQuotedLiteralFault quoted_c_string (codes "c\"\\u{0}🦊\"") (over 2 7 DisallowedNulEscape)
+zero_escape : IsQuotedLiteralFault c_string_kind (codes "c\"\\u{0}🦊\"") (over 2 7 DisallowedNulEscape)
 unfolding computing
 zero_escape =
     record { items = []; rest = codes "\\u{0}🦊\""; cause = over 0 5 DisallowedNulEscape; spells = refl; taken = refl; told = refl; placed = refl }
 
-zero_escape_later : IsQuotedLiteralFault quoted_c_string (codes "c\" \\u{00}\"") (over 3 9 DisallowedNulEscape)
+zero_escape_later : IsQuotedLiteralFault c_string_kind (codes "c\" \\u{00}\"") (over 3 9 DisallowedNulEscape)
 unfolding computing
 zero_escape_later =
     record { items = plains (codes " "); rest = codes "\\u{00}\""; cause = over 0 6 DisallowedNulEscape; spells = refl; taken = refl; told = refl; placed = refl }
 
-zero_with_underscores : IsQuotedLiteralFault quoted_c_string (codes "c\"лиса\\u{0__}\"") (over 10 17 DisallowedNulEscape)
+zero_with_underscores : IsQuotedLiteralFault c_string_kind (codes "c\"лиса\\u{0__}\"") (over 10 17 DisallowedNulEscape)
 unfolding computing
 zero_with_underscores =
     record { items = plains (codes "лиса"); rest = codes "\\u{0__}\""; cause = over 0 7 DisallowedNulEscape; spells = refl; taken = refl; told = refl; placed = refl }
 
 -- CR; NUL in a C string; in a byte string what is not ASCII
-return_in_string : IsQuotedLiteralFault quoted_string (codes "\"a\r\"") (over 2 3 CarriageReturn)
+return_in_string : IsQuotedLiteralFault string_kind (codes "\"a\r\"") (over 2 3 CarriageReturn)
 unfolding computing
 return_in_string =
     record { items = plains (codes "a"); rest = codes "\r\""; cause = at 0 CarriageReturn; spells = refl; taken = refl; told = refl; placed = refl }
 
-nul_in_c_string : IsQuotedLiteralFault quoted_c_string (99 ∷ 34 ∷ 0 ∷ 34 ∷ []) (over 2 3 NulByte)
+nul_in_c_string : IsQuotedLiteralFault c_string_kind (99 ∷ 34 ∷ 0 ∷ 34 ∷ []) (over 2 3 NulByte)
 unfolding computing
 nul_in_c_string =
     record { items = []; rest = 0 ∷ 34 ∷ []; cause = at 0 NulByte; spells = refl; taken = refl; told = refl; placed = refl }
 
-wide_in_byte_string : IsQuotedLiteralFault quoted_byte_string (codes "b\"\\nJosé") (over 7 8 NonAsciiInByteLiteral)
+wide_in_byte_string : IsQuotedLiteralFault byte_string_kind (codes "b\"\\nJosé") (over 7 8 NonAsciiInByteLiteral)
 unfolding computing
 wide_in_byte_string =
     record { items = escape_item (simple_escape 110) ∷ plains (codes "Jos"); rest = codes "é"; cause = at 0 NonAsciiInByteLiteral; spells = refl; taken = refl; told = refl; placed = refl }
 
 -- no suffix behind the closing quote
-quote_in_suffix : IsQuotedLiteralFault quoted_string (codes "\"fox\"peter\"") (over 5 6 InvalidSuffix)
+quote_in_suffix : IsQuotedLiteralFault string_kind (codes "\"fox\"peter\"") (over 5 6 InvalidSuffix)
 unfolding computing
 quote_in_suffix =
     record { items = plains (codes "fox"); rest = codes "\"peter\""; cause = at 1 InvalidSuffix; spells = refl; taken = refl; told = refl; placed = refl }
 
-lone_underscore : IsQuotedLiteralFault quoted_string (codes "\"a\"_") (over 3 4 InvalidSuffix)
+lone_underscore : IsQuotedLiteralFault string_kind (codes "\"a\"_") (over 3 4 InvalidSuffix)
 unfolding computing
 lone_underscore =
     record { items = plains (codes "a"); rest = codes "\"_"; cause = at 1 InvalidSuffix; spells = refl; taken = refl; told = refl; placed = refl }
 
-blank_behind : IsQuotedLiteralFault quoted_string (codes "\"a\" ") (over 3 4 UnexpectedChar)
+blank_behind : IsQuotedLiteralFault string_kind (codes "\"a\" ") (over 3 4 UnexpectedChar)
 unfolding computing
 blank_behind =
     record { items = plains (codes "a"); rest = codes "\" "; cause = at 1 UnexpectedChar; spells = refl; taken = refl; told = refl; placed = refl }
 
 -- Literals.
 
-two_letters : IsQuotedLiteral quoted_string (codes "\"ab\"") (record { items = plains (codes "ab"); suffix = [] })
+two_letters : IsQuotedLiteral string_kind (codes "\"ab\"") (record { items = plains (codes "ab"); suffix = [] })
 unfolding computing
 two_letters = record { spells = refl; body = refl; suffix = refl }
 
@@ -136,7 +137,7 @@ two_letters_value : body_value (plains (codes "ab")) ≡ codes "ab"
 unfolding computing
 two_letters_value = refl
 
-suffixed : IsQuotedLiteral quoted_string (codes "\"a\"_x") (record { items = plains (codes "a"); suffix = codes "_x" })
+suffixed : IsQuotedLiteral string_kind (codes "\"a\"_x") (record { items = plains (codes "a"); suffix = codes "_x" })
 unfolding computing
 suffixed = record { spells = refl; body = refl; suffix = refl }
 
@@ -145,7 +146,7 @@ unfolding computing
 suffixed_value = refl
 
 -- a continuation takes all spaces, tabs and LFs, and no other blank
-long_continuation : IsQuotedLiteral quoted_string (codes "\"foo\\\n\t\n \n\tbar\"") (record { items = plains (codes "foo") ++ continuation (codes "\t\n \n\t") ∷ plains (codes "bar"); suffix = [] })
+long_continuation : IsQuotedLiteral string_kind (codes "\"foo\\\n\t\n \n\tbar\"") (record { items = plains (codes "foo") ++ continuation (codes "\t\n \n\t") ∷ plains (codes "bar"); suffix = [] })
 unfolding computing
 long_continuation = record { spells = refl; body = refl; suffix = refl }
 
@@ -153,7 +154,7 @@ long_continuation_value : body_value (plains (codes "foo") ++ continuation (code
 unfolding computing
 long_continuation_value = refl
 
-next_line : IsQuotedLiteral quoted_string (codes "\"foo\\\n" ++ 0x85 ∷ codes "bar\"") (record { items = plains (codes "foo") ++ continuation [] ∷ plain_item 0x85 ∷ plains (codes "bar"); suffix = [] })
+next_line : IsQuotedLiteral string_kind (codes "\"foo\\\n" ++ 0x85 ∷ codes "bar\"") (record { items = plains (codes "foo") ++ continuation [] ∷ plain_item 0x85 ∷ plains (codes "bar"); suffix = [] })
 unfolding computing
 next_line = record { spells = refl; body = refl; suffix = refl }
 
@@ -161,7 +162,7 @@ next_line_value : body_value (plains (codes "foo") ++ continuation [] ∷ plain_
 unfolding computing
 next_line_value = refl
 
-two_spaces : IsQuotedLiteral quoted_string (codes "\"foo\\\n  bar\"") (record { items = plains (codes "foo") ++ continuation (codes "  ") ∷ plains (codes "bar"); suffix = [] })
+two_spaces : IsQuotedLiteral string_kind (codes "\"foo\\\n  bar\"") (record { items = plains (codes "foo") ++ continuation (codes "  ") ∷ plains (codes "bar"); suffix = [] })
 unfolding computing
 two_spaces = record { spells = refl; body = refl; suffix = refl }
 
@@ -169,7 +170,7 @@ two_spaces_value : body_value (plains (codes "foo") ++ continuation (codes "  ")
 unfolding computing
 two_spaces_value = refl
 
-nul_in_string : IsQuotedLiteral quoted_string (34 ∷ 0 ∷ 34 ∷ []) (record { items = plain_item 0 ∷ []; suffix = [] })
+nul_in_string : IsQuotedLiteral string_kind (34 ∷ 0 ∷ 34 ∷ []) (record { items = plain_item 0 ∷ []; suffix = [] })
 unfolding computing
 nul_in_string = record { spells = refl; body = refl; suffix = refl }
 
@@ -177,7 +178,7 @@ nul_in_string_value : body_value (plain_item 0 ∷ []) ≡ 0 ∷ []
 unfolding computing
 nul_in_string_value = refl
 
-c_string : IsQuotedLiteral quoted_c_string (codes "c\"a\\x0cb\\\\\"_jürgen") (record { items = plain_item 97 ∷ escape_item (hex_escape 48 99) ∷ plain_item 98 ∷ escape_item (simple_escape 92) ∷ []; suffix = codes "_jürgen" })
+c_string : IsQuotedLiteral c_string_kind (codes "c\"a\\x0cb\\\\\"_jürgen") (record { items = plain_item 97 ∷ escape_item (hex_escape 48 99) ∷ plain_item 98 ∷ escape_item (simple_escape 92) ∷ []; suffix = codes "_jürgen" })
 unfolding computing
 c_string = record { spells = refl; body = refl; suffix = refl }
 
@@ -185,7 +186,7 @@ c_string_value : body_value (plain_item 97 ∷ escape_item (hex_escape 48 99) �
 unfolding computing
 c_string_value = refl
 
-c_string_bytes : IsQuotedLiteral quoted_c_string (codes "c\"é\\xFF\"") (record { items = plains (codes "é") ++ escape_item (hex_escape 70 70) ∷ []; suffix = [] })
+c_string_bytes : IsQuotedLiteral c_string_kind (codes "c\"é\\xFF\"") (record { items = plains (codes "é") ++ escape_item (hex_escape 70 70) ∷ []; suffix = [] })
 unfolding computing
 c_string_bytes = record { spells = refl; body = refl; suffix = refl }
 
@@ -193,7 +194,7 @@ c_string_bytes_value : body_value (plains (codes "é") ++ escape_item (hex_escap
 unfolding computing
 c_string_bytes_value = refl
 
-byte_string : IsQuotedLiteral quoted_byte_string (codes "b\"\\xFFa\\t\"") (record { items = escape_item (hex_escape 70 70) ∷ plain_item 97 ∷ escape_item (simple_escape 116) ∷ []; suffix = [] })
+byte_string : IsQuotedLiteral byte_string_kind (codes "b\"\\xFFa\\t\"") (record { items = escape_item (hex_escape 70 70) ∷ plain_item 97 ∷ escape_item (simple_escape 116) ∷ []; suffix = [] })
 unfolding computing
 byte_string = record { spells = refl; body = refl; suffix = refl }
 
@@ -201,7 +202,7 @@ byte_string_value : body_value (escape_item (hex_escape 70 70) ∷ plain_item 97
 unfolding computing
 byte_string_value = refl
 
-unicode : IsQuotedLiteral quoted_c_string (codes "c\"\\u{1_F6_02_____}\"") (record { items = escape_item (unicode_escape (codes "1_F6_02_____")) ∷ []; suffix = [] })
+unicode : IsQuotedLiteral c_string_kind (codes "c\"\\u{1_F6_02_____}\"") (record { items = escape_item (unicode_escape (codes "1_F6_02_____")) ∷ []; suffix = [] })
 unfolding computing
 unicode = record { spells = refl; body = refl; suffix = refl }
 

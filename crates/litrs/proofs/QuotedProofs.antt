@@ -8,13 +8,14 @@ use Rattle.std.specs.Prelude.{◌↔◌}
 use Rattle.std.specs.Char.{encode_utf8}
 use Rattle.std.proofs.lemmas.List.Folds.{list_any-append, list_all-append}
 use Rattle.std.proofs.lemmas.Str.{length-encode, len_utf8_bounds}
+use Rattle.litrs.specs.StringKind.{string_kind, byte_string_kind, c_string_kind}
 use Rattle.litrs.specs.Characters.{is_blank, is_scalar}
 use Rattle.litrs.specs.declared.err.ParseError.{ParseError}
 use Rattle.litrs.specs.Fault.{moved}
 use Rattle.litrs.specs.Suffix.{is_suffix}
 use Rattle.litrs.specs.Text.{first_passes, byte_len}
 use Rattle.litrs.specs.Escape.{Switches, Escape, simple_escape, hex_escape, unicode_escape, escape_text, escape_value, value_bytes, is_escape, is_simple, hex_value, pair_value, allows_value}
-use Rattle.litrs.specs.Quoted.{Item, plain_item, escape_item, continuation, item_text, item_value, is_item, allows_character, stand_before, body_text, body_value, is_body, takes_all_blanks, rest_fault, QuotedParts, IsQuoted, IsQuotedFault, quoted_string, quoted_byte_string, quoted_c_string}
+use Rattle.litrs.specs.Quoted.{Item, plain_item, escape_item, continuation, item_text, item_value, is_item, allows_character, stand_before, body_text, body_value, is_body, takes_all_blanks, rest_fault, QuotedParts, IsQuoted, IsQuotedFault}
 use Rattle.litrs.specs.QuotedLaws.{QuotedBodiesAreUnique, QuotedTextsAreUnique, QuotedRefusalsAreUnique, QuotedTextsAreDecided, QuotedTextsAreNotRefused, QuotedBodiesJoin, QuotedValuesFitBodies, NoNulInQuotedCStrings, NoQuotedTextEndsWithLineFeed, QuotedLiteralsAreUnique}
 use Rattle.litrs.proofs.Spans.{byte_len-append}
 use Rattle.litrs.proofs.ByteLen.{length-le-byte_len}
@@ -257,12 +258,12 @@ no_quoted_text_ends_with_line_feed front w t q h =
     closed_before_line_feed (front ++ body_text q.items) 34 q.suffix t refl h.suffix (append_assoc front (body_text q.items) (34 ∷ q.suffix) ∙ h.spells)
 
 pub quoted_literals_are_unique : QuotedLiteralsAreUnique
-quoted_literals_are_unique t quoted_string quoted_string q r h g = (refl, quoted_texts_are_unique _ _ t q r h g)
-quoted_literals_are_unique t quoted_string quoted_byte_string q r h g = absurd (heads_differ 34 98 _ _ (h.spells ∙ sym g.spells) refl)
-quoted_literals_are_unique t quoted_string quoted_c_string q r h g = absurd (heads_differ 34 99 _ _ (h.spells ∙ sym g.spells) refl)
-quoted_literals_are_unique t quoted_byte_string quoted_string q r h g = absurd (heads_differ 98 34 _ _ (h.spells ∙ sym g.spells) refl)
-quoted_literals_are_unique t quoted_byte_string quoted_byte_string q r h g = (refl, quoted_texts_are_unique _ _ t q r h g)
-quoted_literals_are_unique t quoted_byte_string quoted_c_string q r h g = absurd (heads_differ 98 99 _ _ (h.spells ∙ sym g.spells) refl)
-quoted_literals_are_unique t quoted_c_string quoted_string q r h g = absurd (heads_differ 99 34 _ _ (h.spells ∙ sym g.spells) refl)
-quoted_literals_are_unique t quoted_c_string quoted_byte_string q r h g = absurd (heads_differ 99 98 _ _ (h.spells ∙ sym g.spells) refl)
-quoted_literals_are_unique t quoted_c_string quoted_c_string q r h g = (refl, quoted_texts_are_unique _ _ t q r h g)
+quoted_literals_are_unique t string_kind string_kind q r h g = (refl, quoted_texts_are_unique _ _ t q r h g)
+quoted_literals_are_unique t string_kind byte_string_kind q r h g = absurd (heads_differ 34 98 _ _ (h.spells ∙ sym g.spells) refl)
+quoted_literals_are_unique t string_kind c_string_kind q r h g = absurd (heads_differ 34 99 _ _ (h.spells ∙ sym g.spells) refl)
+quoted_literals_are_unique t byte_string_kind string_kind q r h g = absurd (heads_differ 98 34 _ _ (h.spells ∙ sym g.spells) refl)
+quoted_literals_are_unique t byte_string_kind byte_string_kind q r h g = (refl, quoted_texts_are_unique _ _ t q r h g)
+quoted_literals_are_unique t byte_string_kind c_string_kind q r h g = absurd (heads_differ 98 99 _ _ (h.spells ∙ sym g.spells) refl)
+quoted_literals_are_unique t c_string_kind string_kind q r h g = absurd (heads_differ 99 34 _ _ (h.spells ∙ sym g.spells) refl)
+quoted_literals_are_unique t c_string_kind byte_string_kind q r h g = absurd (heads_differ 99 98 _ _ (h.spells ∙ sym g.spells) refl)
+quoted_literals_are_unique t c_string_kind c_string_kind q r h g = (refl, quoted_texts_are_unique _ _ t q r h g)

@@ -18,7 +18,7 @@ use Rattle.litrs.proofs.Spans.{byte_len-append}
 use Rattle.litrs.proofs.ByteLen.{byte_len_one_ascii, length-le-byte_len}
 use Rattle.litrs.proofs.SpanLemmas.{Marks, AllFit, marks_start, marks_byte, fit_if, fit_unless, fit_either, fit_some, fit_on, fit_later, escape_fits}
 use Rattle.litrs.proofs.QuotedLemmas.{last_of}
-use Rattle.litrs.proofs.CharByteProofs.{begins_with-split}
+use Rattle.litrs.proofs.Begins.{begins_with-split}
 
 first_byte : (c : ℕ) (t : List ℕ) → Marks (c ∷ t) 0 1
 first_byte c t = let size = length-le-byte_len (c ∷ t) in marks_start (c ∷ t) 1 (omega arith)

@@ -6,7 +6,8 @@ use Rattle.std.proofs.lemmas.Bool.{and_parts, and_from, or_parts, or_left, or_ri
 use Rattle.std.proofs.lemmas.List.{drop_at, length-replicate}
 use Rattle.litrs.specs.Text.{first_passes, begins_with}
 use Rattle.litrs.specs.Raw.{is_hash, hashes, raw_closing, occurs, hash_len, length_before}
-use Rattle.litrs.proofs.IntegerLaws.{prefix_len_front, begins_with-split}
+use Rattle.litrs.proofs.Begins.{begins_with-split, begins_with-append}
+use Rattle.litrs.proofs.IntegerLaws.{prefix_len_front}
 use Rattle.litrs.proofs.Runs.{run_of}
 
 -- hashes
@@ -48,10 +49,6 @@ hash_cut t = let r = run_of is_hash t in record {
 }
 
 -- a part that a text begins with
-
-pub begins_with-append : (p t : List ℕ) → begins_with p (p ++ t) ≡ true
-begins_with-append [] t = refl
-begins_with-append (c ∷ cs) t = and_from _ _ (eq-eqb c c refl) (begins_with-append cs t)
 
 begins_with_longer : (p s t : List ℕ) → begins_with p s ≡ true → begins_with p (s ++ t) ≡ true
 begins_with_longer [] s t h = refl

@@ -12,10 +12,12 @@ use Rattle.litrs.specs.Bool.{bool_text}
 use Rattle.litrs.specs.Base.{base_value}
 use Rattle.litrs.specs.Integer.{IntegerParts, IsIntegerOf}
 use Rattle.litrs.specs.Numeral.{integer_value}
-use Rattle.litrs.specs.Literal.{Derivation, a_bool, an_integer, IsLiteral, literal_fault}
+use Rattle.litrs.specs.Literal.{Derivation, a_bool, an_integer, a_float, a_char, a_byte, a_string, a_byte_string, a_c_string}
+use Rattle.litrs.specs.ReadLiteral.{IsReadLiteral, read_fault}
 use Rattle.litrs.specs.Report.{value_text, integer_front, literal_report, refusal_report, derivation_of, text_report_by, text_report, report_of}
 use Rattle.litrs.proofs.IntegerLaws.{cut_of_text}
-use Rattle.litrs.proofs.LiteralLaws.{is_text-is, no_bool_is_integer, literal_fault-free}
+use Rattle.litrs.proofs.LiteralLaws.{is_text-is, literals_are_unique}
+use Rattle.litrs.proofs.ReadLiteral.{read_fault-free}
 
 -- The bytes of a line
 
@@ -30,20 +32,22 @@ report_of-other line none = rw (false_from_ne_true (is_utf8 line) (λ is. none (
 -- The derivation of a text
 
 no_bool : (t : List ℕ) (b : BoolLit) (d : IntegerParts) → IsIntegerOf t d → is_text (bool_text b) t ≡ false
-no_bool t b d r = false_from_ne_true (is_text (bool_text b) t) (λ is. no_bool_is_integer t b d (is_text-is (bool_text b) t is) r)
+no_bool t b d r = false_from_ne_true (is_text (bool_text b) t)
+    (λ is. let same : a_bool b ≡ an_integer d = literals_are_unique t (a_bool b) (an_integer d) (is_text-is (bool_text b) t is) r in cc)
 
 derivation_of-bool : (b : BoolLit) → derivation_of (bool_text b) ≡ a_bool b
 derivation_of-bool False = refl
 derivation_of-bool True = refl
 
-pub derivation_of-literal : (t : List ℕ) (d : Derivation) → IsLiteral t d → derivation_of t ≡ d
+pub derivation_of-literal : (t : List ℕ) (d : Derivation) → IsReadLiteral t d → derivation_of t ≡ d
 derivation_of-literal t (a_bool b) r = ap derivation_of (sym r) ∙ derivation_of-bool b
 derivation_of-literal t (an_integer d) r = rw (no_bool t True d r, no_bool t False d r) (ap an_integer (cut_of_text t d r))
+derivation_of-literal t d r = absurd r
 
-pub text_report-literal : (t : List ℕ) (d : Derivation) → IsLiteral t d → text_report t ≡ literal_report d
-text_report-literal t d r = ap (λ o. text_report_by o (derivation_of t)) (literal_fault-free t d r) ∙ ap literal_report (derivation_of-literal t d r)
+pub text_report-literal : (t : List ℕ) (d : Derivation) → IsReadLiteral t d → text_report t ≡ literal_report d
+text_report-literal t d r = ap (λ o. text_report_by o (derivation_of t)) (read_fault-free t d r) ∙ ap literal_report (derivation_of-literal t d r)
 
-pub text_report-refused : (t : List ℕ) (e : ParseError) → literal_fault t ≡ Some e → text_report t ≡ refusal_report e
+pub text_report-refused : (t : List ℕ) (e : ParseError) → read_fault t ≡ Some e → text_report t ≡ refusal_report e
 text_report-refused t e fault = ap (λ o. text_report_by o (derivation_of t)) fault
 
 -- An integer, part by part

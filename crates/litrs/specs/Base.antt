@@ -1,7 +1,8 @@
 -- The bases of integers. The Rust Reference, Tokens, Integer literals.
 use Rattle.std.specs.Prelude.{ℕ, Bool, ◌==◌, ◌||◌, List, codes}
-use Rattle.std.specs.Char.{is_ascii_digit}
+use Rattle.std.specs.Char.{is_ascii_digit, is_ascii_hexdigit}
 use Rattle.std.specs.Int.{is_in_range}
+use Rattle.litrs.specs.Characters.{underscore}
 use Rattle.litrs.specs.declared.integer.IntegerBase.{IntegerBase}
 use Rattle.litrs.specs.declared.integer.IntegerBase.TheVariants.{Binary, Octal, Decimal, Hexadecimal}
 
@@ -19,17 +20,13 @@ base_value Octal = 8
 base_value Decimal = 10
 base_value Hexadecimal = 16
 
--- a decimal digit, or a letter from `a` to `f` of either case
-abbrev pub is_hex_digit : ℕ → Bool
-is_hex_digit c = is_ascii_digit c || is_in_range 97 102 c || is_in_range 65 70 c
-
 -- the characters that are digits of the base
 abbrev pub is_digit : IntegerBase → ℕ → Bool
 is_digit Binary c = is_in_range 48 49 c
 is_digit Octal c = is_in_range 48 55 c
 is_digit Decimal c = is_ascii_digit c
-is_digit Hexadecimal c = is_hex_digit c
+is_digit Hexadecimal c = is_ascii_hexdigit c
 
 -- a digit of the base, or `_`
 abbrev pub is_digit_or_underscore : IntegerBase → ℕ → Bool
-is_digit_or_underscore base c = is_digit base c || (c == 95)
+is_digit_or_underscore base c = is_digit base c || (c == underscore)

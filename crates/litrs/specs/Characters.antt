@@ -16,8 +16,20 @@ carriage_return = 13
 abbrev pub double_quote : ℕ
 double_quote = 34
 
+abbrev pub hash : ℕ
+hash = 35
+
 abbrev pub single_quote : ℕ
 single_quote = 39
+
+abbrev pub plus : ℕ
+plus = 43
+
+abbrev pub minus : ℕ
+minus = 45
+
+abbrev pub period : ℕ
+period = 46
 
 abbrev pub digit_zero : ℕ
 digit_zero = 48

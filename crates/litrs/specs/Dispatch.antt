@@ -4,10 +4,10 @@ use Rattle.litrs.specs.declared.parse.Kind.{Kind}
 use Rattle.litrs.specs.declared.parse.Kind.TheVariants.{Bool, Integer, Refused}
 use Rattle.litrs.specs.Bool.{bool_text}
 use Rattle.litrs.specs.Integer.{integer_fault}
-use Rattle.litrs.specs.Literal.{literal_fault}
+use Rattle.litrs.specs.ReadLiteral.{read_fault}
 
 -- the text is this bool, has the refusals of an integer, or is refused
 abbrev pub BeginsLike : Kind → List ℕ → Type 0
 BeginsLike (Bool b) t = bool_text b ≡ t
-BeginsLike Integer t = literal_fault t ≡ integer_fault t
-BeginsLike (Refused e) t = literal_fault t ≡ Some e
+BeginsLike Integer t = read_fault t ≡ integer_fault t
+BeginsLike (Refused e) t = read_fault t ≡ Some e

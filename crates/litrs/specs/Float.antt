@@ -6,6 +6,7 @@ use Rattle.std.specs.List.{list_all, list_any, prefix_len}
 use Rattle.litrs.specs.declared.err.ParseErrorKind.{ParseErrorKind}
 use Rattle.litrs.specs.declared.err.ParseErrorKind.TheVariants.{UnexpectedChar, NoExponentDigits, UnexpectedIntegerLit}
 use Rattle.litrs.specs.declared.err.ParseError.{ParseError}
+use Rattle.litrs.specs.Characters.{period, underscore, plus, minus}
 use Rattle.litrs.specs.Text.{byte_len, first_passes}
 use Rattle.litrs.specs.Fault.{plain, over, at}
 use Rattle.litrs.specs.Suffix.{is_empty, is_suffix, suffix_fault}
@@ -25,7 +26,7 @@ pub record FloatParts : Type 0 where
 -- the period and the fraction
 abbrev pub fraction_text : Option (List ℕ) → List ℕ
 fraction_text None = []
-fraction_text (Some digits) = 46 ∷ digits
+fraction_text (Some digits) = period ∷ digits
 
 -- all but the suffix
 abbrev pub number_part : FloatParts → List ℕ
@@ -40,14 +41,14 @@ abbrev pub is_decimal_char : ℕ → Bool
 is_decimal_char c = is_digit_or_underscore Decimal c
 
 abbrev pub is_underscore : ℕ → Bool
-is_underscore c = c == 95
+is_underscore c = c == underscore
 
 abbrev pub is_period : ℕ → Bool
-is_period c = c == 46
+is_period c = c == period
 
 -- `+` or `-`
 abbrev pub is_sign : ℕ → Bool
-is_sign c = (c == 43) || (c == 45)
+is_sign c = (c == plus) || (c == minus)
 
 -- a decimal digit, then digits and `_`
 abbrev pub is_decimal_literal : List ℕ → Bool

@@ -1,5 +1,6 @@
 -- What holds of all floats.
 use Rattle.std.specs.Prelude.{◌≡◌, ◌↔◌, ℕ, List, [], ◌∷◌, ◌++◌, Some, None}
+use Rattle.litrs.specs.Characters.{line_feed}
 use Rattle.litrs.specs.declared.err.ParseError.{ParseError}
 use Rattle.litrs.specs.Fault.{IsInText}
 use Rattle.litrs.specs.Float.{FloatParts, IsFloatOf, float_fault}
@@ -18,4 +19,4 @@ FloatSpansLieInText = (t : List ℕ) (e : ParseError) → float_fault t ≡ Some
 
 -- no float ends with LF
 abbrev pub NoFloatEndsWithLineFeed : Type 0
-NoFloatEndsWithLineFeed = (t : List ℕ) (d : FloatParts) → ¬ IsFloatOf (t ++ 10 ∷ []) d
+NoFloatEndsWithLineFeed = (t : List ℕ) (d : FloatParts) → ¬ IsFloatOf (t ++ line_feed ∷ []) d

@@ -23,11 +23,17 @@ pub mod Integer
 pub mod IntegerCut
 pub mod IntegerLiteral
 pub mod Literal
+pub mod LiteralFault
+pub mod LiteralLaws
+pub mod Finality
+pub mod Growth
+pub mod ReadLiteral
 pub mod LiteralDerivation
 pub mod Dispatch
 pub mod Numeral
 pub mod Characters
 pub mod Escape
+pub mod StringKind
 pub mod Quoted
 pub mod CharByte
 pub mod EscapeLaws

@@ -1,51 +1,91 @@
--- Literals of every kind. The Rust Reference, Tokens, Literals.
-use Rattle.std.specs.Prelude.{◌≡◌, ℕ, ◌==◌, ◌||◌, Bool, List, [], drop, Option, Some, None, if◌then◌else◌}
-use Rattle.std.specs.Char.{is_ascii_digit}
-use Rattle.std.specs.List.{prefix_len}
+-- Literals of all eight kinds. The Rust Reference, Tokens, Literals.
+use Rattle.std.specs.Prelude.{◌≡◌, ℕ, List, [], ◌++◌}
 use Rattle.litrs.specs.declared.bool.BoolLit.{BoolLit}
-use Rattle.litrs.specs.declared.bool.BoolLit.TheVariants.{False, True}
-use Rattle.litrs.specs.declared.err.ParseErrorKind.TheVariants.{Empty, InvalidLiteral}
-use Rattle.litrs.specs.declared.err.ParseError.{ParseError}
-use Rattle.litrs.specs.declared.integer.IntegerBase.TheVariants.{Decimal}
-use Rattle.litrs.specs.Fault.{plain}
-use Rattle.litrs.specs.Text.{first_passes, is_text}
-use Rattle.litrs.specs.Suffix.{is_empty}
+use Rattle.litrs.specs.StringKind.{StringKind, string_kind, byte_string_kind, c_string_kind}
 use Rattle.litrs.specs.Bool.{bool_text}
-use Rattle.litrs.specs.Base.{is_digit_or_underscore}
-use Rattle.litrs.specs.Integer.{IntegerParts, IsIntegerOf, is_e, integer_fault}
+use Rattle.litrs.specs.Integer.{IntegerParts, IsIntegerOf}
+use Rattle.litrs.specs.Float.{FloatParts, IsFloatOf}
+use Rattle.litrs.specs.CharByte.{CharParts, char_kind, byte_kind, IsCharLiteral}
+use Rattle.litrs.specs.Quoted.{QuotedParts, IsQuotedLiteral}
+use Rattle.litrs.specs.Raw.{RawParts, IsRawLiteral}
 
--- what a literal is made of
+-- A string literal of each of its three kinds is quoted or raw.
+pub data StringParts : Type 0 where
+  quoted_parts : QuotedParts → StringParts
+  raw_parts : RawParts → StringParts
+
+abbrev pub IsString : StringKind → List ℕ → StringParts → Type 0
+IsString kind t (quoted_parts d) = IsQuotedLiteral kind t d
+IsString kind t (raw_parts d) = IsRawLiteral kind t d
+
+abbrev pub string_suffix : StringParts → List ℕ
+string_suffix (quoted_parts d) = d.suffix
+string_suffix (raw_parts d) = d.suffix
+
+-- A derivation tells the kind of a literal and the parts that it is made of.
 pub data Derivation : Type 0 where
   a_bool : BoolLit → Derivation
   an_integer : IntegerParts → Derivation
+  a_float : FloatParts → Derivation
+  a_char : CharParts → Derivation
+  a_byte : CharParts → Derivation
+  a_string : StringParts → Derivation
+  a_byte_string : StringParts → Derivation
+  a_c_string : StringParts → Derivation
 
--- d is a derivation of t
+-- d is a derivation of t: the text is a literal of this kind with these parts
 abbrev pub IsLiteral : List ℕ → Derivation → Type 0
 IsLiteral t (a_bool b) = bool_text b ≡ t
 IsLiteral t (an_integer d) = IsIntegerOf t d
+IsLiteral t (a_float d) = IsFloatOf t d
+IsLiteral t (a_char d) = IsCharLiteral char_kind t d
+IsLiteral t (a_byte d) = IsCharLiteral byte_kind t d
+IsLiteral t (a_string d) = IsString string_kind t d
+IsLiteral t (a_byte_string d) = IsString byte_string_kind t d
+IsLiteral t (a_c_string d) = IsString c_string_kind t d
 
--- The refusals
+-- the suffix of a literal; a bool has none
+abbrev pub suffix_of : Derivation → List ℕ
+suffix_of (a_bool b) = []
+suffix_of (an_integer d) = d.suffix
+suffix_of (a_float d) = d.suffix
+suffix_of (a_char d) = d.suffix
+suffix_of (a_byte d) = d.suffix
+suffix_of (a_string d) = string_suffix d
+suffix_of (a_byte_string d) = string_suffix d
+suffix_of (a_c_string d) = string_suffix d
 
--- what a float has behind its integer part: a period, `e` or `E`
-abbrev pub is_float_mark : ℕ → Bool
-is_float_mark c = (c == 46) || is_e c
+-- The kinds, and the kind of a literal.
+pub data LiteralKind : Type 0 where
+  bool_literal : LiteralKind
+  integer_literal : LiteralKind
+  float_literal : LiteralKind
+  char_literal : LiteralKind
+  byte_literal : LiteralKind
+  string_literal : LiteralKind
+  byte_string_literal : LiteralKind
+  c_string_literal : LiteralKind
 
--- behind the leading run of decimal digits and underscores stands such a mark
-abbrev pub begins_float : List ℕ → Bool
-begins_float t = first_passes is_float_mark (drop (prefix_len (is_digit_or_underscore Decimal) t) t)
+abbrev pub literal_kind : Derivation → LiteralKind
+literal_kind (a_bool b) = bool_literal
+literal_kind (an_integer d) = integer_literal
+literal_kind (a_float d) = float_literal
+literal_kind (a_char d) = char_literal
+literal_kind (a_byte d) = byte_literal
+literal_kind (a_string d) = string_literal
+literal_kind (a_byte_string d) = byte_string_literal
+literal_kind (a_c_string d) = c_string_literal
 
--- exactly `true` or `false`
-abbrev pub is_bool : List ℕ → Bool
-is_bool t = is_text (bool_text True) t || is_text (bool_text False) t
+-- The nine parses: that of literals of any kind, and that of each kind alone.
+pub data Parse : Type 0 where
+  literal_parse : Parse
+  kind_parse : LiteralKind → Parse
 
--- The refusal of a text of any kind, by how it begins. A text that no kind begins with, and one of a kind that is not read
--- yet, is no literal.
-abbrev pub literal_rows : (is_empty is_bool is_digit is_float : Bool) → Option ParseError → Option ParseError
-literal_rows is_empty is_bool is_digit is_float integer =
-    if is_empty then Some (plain Empty)
-    else if is_bool then None
-    else if is_digit then (if is_float then Some (plain InvalidLiteral) else integer)
-    else Some (plain InvalidLiteral)
+-- d is a derivation of t that the parse looks for
+abbrev pub IsLiteralOf : Parse → List ℕ → Derivation → Type 0
+IsLiteralOf literal_parse t d = IsLiteral t d
+IsLiteralOf (kind_parse kind) t d = (literal_kind d ≡ kind) × IsLiteral t d
 
-unfoldable pub literal_fault : List ℕ → Option ParseError
-literal_fault t = literal_rows (is_empty t) (is_bool t) (first_passes is_ascii_digit t) (begins_float t) (integer_fault t)
+-- t begins a literal: with some text behind it, which may be empty, it is one
+abbrev pub Begins : Parse → List ℕ → Type 0
+Begins parse t = (more : List ℕ) × (d : Derivation) × IsLiteralOf parse (t ++ more) d

@@ -1,5 +1,5 @@
 -- What a literal of any kind holds.
-use Rattle.std.specs.Prelude.{ℕ, List, []}
+use Rattle.std.specs.Prelude.{ℕ, List}
 use Rattle.litrs.specs.declared.Literal.{Literal}
 use Rattle.litrs.specs.declared.Literal.TheVariants.{Bool, Integer}
 use Rattle.litrs.specs.Bool.{bool_text}
@@ -15,8 +15,3 @@ literal_raw (Integer lit) = lit.raw
 abbrev pub derivation : {B : Type 0} → Literal B → Derivation
 derivation (Bool b) = a_bool b
 derivation (Integer lit) = an_integer (integer_parts lit)
-
--- the characters of its suffix; a bool has none
-abbrev pub suffix_of : Derivation → List ℕ
-suffix_of (a_bool b) = []
-suffix_of (an_integer d) = d.suffix

@@ -5,28 +5,17 @@ use Rattle.std.specs.List.{list_all}
 use Rattle.litrs.specs.declared.err.ParseError.{ParseError}
 use Rattle.litrs.specs.declared.err.ParseErrorKind.TheVariants.{UnterminatedString, CarriageReturn, NulByte, NonAsciiInByteLiteral}
 use Rattle.litrs.specs.Characters.{line_feed, carriage_return, double_quote, backslash, letter_b, letter_c, is_ascii, is_blank}
-use Rattle.litrs.specs.Escape.{Switches, string_switches, byte_string_switches, c_string_switches, Escape, escape_text, escape_value, value_bytes, allows_value, is_escape, escape_fault}
+use Rattle.litrs.specs.Escape.{Switches, Escape, escape_text, escape_value, value_bytes, allows_value, is_escape, escape_fault}
 use Rattle.litrs.specs.Fault.{plain, at, moved}
+use Rattle.litrs.specs.StringKind.{StringKind, string_kind, byte_string_kind, c_string_kind, switches_of}
 use Rattle.litrs.specs.Suffix.{is_empty, is_suffix, suffix_fault}
 use Rattle.litrs.specs.Text.{byte_len, first_passes}
 
--- The three kinds. Where only switches are given, unicode off is read as byte string, and NUL not allowed as C string.
-pub data QuotedKind : Type 0 where
-  quoted_string : QuotedKind
-  quoted_byte_string : QuotedKind
-  quoted_c_string : QuotedKind
-
--- what a kind allows in its escapes
-abbrev pub quoted_switches : QuotedKind → Switches
-quoted_switches quoted_string = string_switches
-quoted_switches quoted_byte_string = byte_string_switches
-quoted_switches quoted_c_string = c_string_switches
-
 -- what stands before its body: `"`, `b"` or `c"`
-abbrev pub quoted_front : QuotedKind → List ℕ
-quoted_front quoted_string = double_quote ∷ []
-quoted_front quoted_byte_string = letter_b ∷ double_quote ∷ []
-quoted_front quoted_c_string = letter_c ∷ double_quote ∷ []
+abbrev pub quoted_front : StringKind → List ℕ
+quoted_front string_kind = double_quote ∷ []
+quoted_front byte_string_kind = letter_b ∷ double_quote ∷ []
+quoted_front c_string_kind = letter_c ∷ double_quote ∷ []
 
 -- An item of a body: a character that stands for itself, an escape, or a continuation, which is a backslash, LF and all
 -- spaces, tabs and LFs behind it.
@@ -105,8 +94,8 @@ pub record IsQuoted (front : List ℕ) (w : Switches) (t : List ℕ) (q : Quoted
   pub suffix : IsTrue (is_suffix q.suffix)
 
 -- the same for one of the three kinds
-abbrev pub IsQuotedLiteral : QuotedKind → List ℕ → QuotedParts → Type 0
-IsQuotedLiteral kind = IsQuoted (quoted_front kind) (quoted_switches kind)
+abbrev pub IsQuotedLiteral : StringKind → List ℕ → QuotedParts → Type 0
+IsQuotedLiteral kind = IsQuoted (quoted_front kind) (switches_of kind)
 
 -- Why a text is no quoted literal. It is the front, the text of a list of items, and a rest which alone tells why.
 
@@ -161,5 +150,5 @@ pub record IsQuotedFault (front : List ℕ) (w : Switches) (t : List ℕ) (e : P
   pub placed : moved (byte_len (front ++ body_text items)) cause ≡ e
 
 -- the same for one of the three kinds
-abbrev pub IsQuotedLiteralFault : QuotedKind → List ℕ → ParseError → Type 0
-IsQuotedLiteralFault kind = IsQuotedFault (quoted_front kind) (quoted_switches kind)
+abbrev pub IsQuotedLiteralFault : StringKind → List ℕ → ParseError → Type 0
+IsQuotedLiteralFault kind = IsQuotedFault (quoted_front kind) (switches_of kind)

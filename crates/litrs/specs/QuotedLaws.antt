@@ -1,16 +1,17 @@
 -- What holds of all quoted literals: strings, byte strings and C strings.
 use Rattle.std.specs.Prelude.{◌≡◌, ◌↔◌, ◌⊎◌, ℕ, ◌≤◌, ◌==◌, List, [], ◌∷◌, ◌++◌, length, IsFalse}
 use Rattle.std.specs.List.{list_any}
+use Rattle.litrs.specs.StringKind.{StringKind}
 use Rattle.litrs.specs.declared.err.ParseError.{ParseError}
 use Rattle.litrs.specs.Characters.{backslash, line_feed, nul, is_blank}
 use Rattle.litrs.specs.Escape.{Switches}
-use Rattle.litrs.specs.Quoted.{QuotedKind, Item, body_value, IsBodyOf, QuotedParts, IsQuoted, IsQuotedLiteral, IsQuotedFault}
+use Rattle.litrs.specs.Quoted.{Item, body_value, IsBodyOf, QuotedParts, IsQuoted, IsQuotedLiteral, IsQuotedFault}
 use Rattle.litrs.specs.Fault.{IsInText}
 use Rattle.litrs.specs.Text.{byte_len, first_passes}
 
 -- a text has at most one derivation as a quoted literal, over all three kinds together
 abbrev pub QuotedLiteralsAreUnique : Type 0
-QuotedLiteralsAreUnique = (t : List ℕ) (k l : QuotedKind) (q r : QuotedParts) →
+QuotedLiteralsAreUnique = (t : List ℕ) (k l : StringKind) (q r : QuotedParts) →
     IsQuotedLiteral k t q → IsQuotedLiteral l t r → (k ≡ l) × (q ≡ r)
 
 -- Of any front and any switches.

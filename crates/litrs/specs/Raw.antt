@@ -6,29 +6,31 @@ use Rattle.std.specs.List.{list_all, prefix_len, slice_index}
 use Rattle.litrs.specs.declared.err.ParseErrorKind.{ParseErrorKind}
 use Rattle.litrs.specs.declared.err.ParseErrorKind.TheVariants.{InvalidLiteral, TooManyHashes, CarriageReturn, NulByte, NonAsciiInByteLiteral, UnterminatedRawString}
 use Rattle.litrs.specs.declared.err.ParseError.{ParseError}
+use Rattle.litrs.specs.Characters.{double_quote, hash, carriage_return, nul, is_ascii}
 use Rattle.litrs.specs.Text.{byte_len, first_passes, begins_with}
 use Rattle.litrs.specs.Fault.{plain, over, at}
+use Rattle.litrs.specs.StringKind.{StringKind, string_kind, byte_string_kind, c_string_kind, switches_of}
 use Rattle.litrs.specs.Suffix.{is_empty, is_suffix, suffix_fault}
 
 -- `"`
 abbrev pub is_quote : ℕ → Bool
-is_quote c = c == 34
+is_quote c = c == double_quote
 
 -- `#`
 abbrev pub is_hash : ℕ → Bool
-is_hash c = c == 35
+is_hash c = c == hash
 
 -- NUL
 abbrev pub is_nul : ℕ → Bool
-is_nul c = c == 0
+is_nul c = c == nul
 
 -- so many hashes
 abbrev pub hashes : ℕ → List ℕ
-hashes n = replicate n 35
+hashes n = replicate n hash
 
 -- what closes a raw string that opens with n hashes: `"` and n hashes
 abbrev pub raw_closing : ℕ → List ℕ
-raw_closing n = 34 ∷ hashes n
+raw_closing n = double_quote ∷ hashes n
 
 -- the part stands somewhere in the text
 abbrev pub occurs : List ℕ → List ℕ → Bool
@@ -38,7 +40,7 @@ occurs part (c ∷ cs) = begins_with part (c ∷ cs) || occurs part cs
 -- No CR stands in a raw body, only ASCII in that of a byte string, and no NUL in that of a C string.
 -- A backslash means nothing.
 abbrev pub is_raw_char : (unicode allow_nul : Bool) → ℕ → Bool
-is_raw_char unicode allow_nul c = not (c == 13) && ((unicode || nat_lt c 128) && (allow_nul || not (is_nul c)))
+is_raw_char unicode allow_nul c = not (c == carriage_return) && ((unicode || is_ascii c) && (allow_nul || not (is_nul c)))
 
 -- a raw body between n hashes: its characters may stand there, and what would close it does not occur in it
 pub record IsRawBody (unicode allow_nul : Bool) (n : ℕ) (body : List ℕ) : Type 0 where
@@ -57,7 +59,7 @@ pub record RawParts : Type 0 where
 
 -- the text with these parts behind its front: hashes, `"`, body, `"`, as many hashes, suffix
 abbrev pub raw_text : RawParts → List ℕ
-raw_text d = hashes d.hash_count ++ (34 ∷ (d.body ++ (raw_closing d.hash_count ++ d.suffix)))
+raw_text d = hashes d.hash_count ++ (double_quote ∷ (d.body ++ (raw_closing d.hash_count ++ d.suffix)))
 
 -- the parts are those of a raw literal, which has at most 255 hashes
 pub record IsRaw (unicode allow_nul : Bool) (d : RawParts) : Type 0 where
@@ -70,29 +72,21 @@ pub record IsRawOf (unicode allow_nul : Bool) (t : List ℕ) (d : RawParts) : Ty
   pub spells : raw_text d ≡ t
   pub grammar : IsRaw unicode allow_nul d
 
--- the three kinds
-pub data RawKind : Type 0 where
-  raw_string : RawKind
-  raw_byte_string : RawKind
-  raw_c_string : RawKind
-
 -- what a literal of the kind begins with
-abbrev pub raw_front : RawKind → List ℕ
-raw_front raw_string = codes "r"
-raw_front raw_byte_string = codes "br"
-raw_front raw_c_string = codes "cr"
+abbrev pub raw_front : StringKind → List ℕ
+raw_front string_kind = codes "r"
+raw_front byte_string_kind = codes "br"
+raw_front c_string_kind = codes "cr"
 
 -- the switches of the kind
-abbrev pub has_unicode : RawKind → Bool
-has_unicode raw_byte_string = false
-has_unicode _ = true
+abbrev pub has_unicode : StringKind → Bool
+has_unicode kind = (switches_of kind).unicode
 
-abbrev pub allows_nul : RawKind → Bool
-allows_nul raw_c_string = false
-allows_nul _ = true
+abbrev pub allows_nul : StringKind → Bool
+allows_nul kind = (switches_of kind).allow_nul
 
 -- the text is a raw literal of the kind with these parts
-pub record IsRawLiteral (kind : RawKind) (t : List ℕ) (d : RawParts) : Type 0 where
+pub record IsRawLiteral (kind : StringKind) (t : List ℕ) (d : RawParts) : Type 0 where
   pub spells : raw_front kind ++ raw_text d ≡ t
   pub grammar : IsRaw (has_unicode kind) (allows_nul kind) d
 
@@ -109,7 +103,7 @@ length_before part (c ∷ cs) = if begins_with part (c ∷ cs) then 0 else 1 + l
 
 -- why a character may not stand in a raw body
 abbrev pub raw_char_fault : ℕ → ParseErrorKind
-raw_char_fault c = if c == 13 then CarriageReturn else if is_nul c then NulByte else NonAsciiInByteLiteral
+raw_char_fault c = if c == carriage_return then CarriageReturn else if is_nul c then NulByte else NonAsciiInByteLiteral
 
 -- The rows behind the opening quote. The places of the first character that may not stand in the body and of the
 -- suffix, and the kinds of refusal for both; then: there is such a character before the first closing; there is a
@@ -149,5 +143,5 @@ raw_fault unicode allow_nul start t =
     (is_empty behind) (nat_lt 255 n) (first_passes is_quote behind)
 
 -- why a text that begins with the front of the kind is no raw literal of the kind
-abbrev pub raw_literal_fault : RawKind → List ℕ → Option ParseError
+abbrev pub raw_literal_fault : StringKind → List ℕ → Option ParseError
 raw_literal_fault kind t = raw_fault (has_unicode kind) (allows_nul kind) (length (raw_front kind)) (drop (length (raw_front kind)) t)

@@ -1,5 +1,5 @@
 -- The report on a line, made from the derivation of the text or from its refusal.
-use Rattle.std.specs.Prelude.{ℕ, Bool, true, false, nat_le, List, ◌++◌, Option, Some, None, codes, if◌then◌else◌, unwrap_or}
+use Rattle.std.specs.Prelude.{ℕ, Bool, true, false, nat_le, List, [], ◌++◌, Option, Some, None, codes, if◌then◌else◌, unwrap_or}
 use Rattle.std.specs.Fmt.{decimal}
 use Rattle.std.specs.Str.{chars, is_utf8, encode_utf8_all}
 use Rattle.litrs.specs.declared.bool.BoolLit.{BoolLit}
@@ -12,7 +12,8 @@ use Rattle.litrs.specs.Bool.{bool_text}
 use Rattle.litrs.specs.Base.{base_value}
 use Rattle.litrs.specs.Integer.{IntegerParts, integer_cut}
 use Rattle.litrs.specs.Numeral.{integer_value, greatest_of}
-use Rattle.litrs.specs.Literal.{Derivation, a_bool, an_integer, is_bool, literal_fault}
+use Rattle.litrs.specs.Literal.{Derivation, a_bool, an_integer, a_float, a_char, a_byte, a_string, a_byte_string, a_c_string}
+use Rattle.litrs.specs.ReadLiteral.{read_fault}
 
 -- a value in decimal, or `none` where 128 bits do not hold it
 abbrev pub value_text : ℕ → List ℕ
@@ -23,11 +24,17 @@ abbrev pub integer_front : ℕ → List ℕ → List ℕ → List ℕ
 integer_front base digits suffix =
     codes "integer base=" ++ (decimal base ++ (codes " digits=" ++ (digits ++ (codes " suffix=" ++ (suffix ++ codes " value=")))))
 
--- `bool true`; `integer base=16 digits=ff80 suffix= value=65408`
+-- `bool true`; `integer base=16 digits=ff80 suffix= value=65408`; nothing of the kinds that are not read yet
 abbrev pub literal_report : Derivation → List ℕ
 literal_report (a_bool b) = codes "bool " ++ bool_text b
 literal_report (an_integer d) =
     integer_front (base_value d.base) (encode_utf8_all d.main) (encode_utf8_all d.suffix) ++ value_text (integer_value d)
+literal_report (a_float d) = []
+literal_report (a_char d) = []
+literal_report (a_byte d) = []
+literal_report (a_string d) = []
+literal_report (a_byte_string d) = []
+literal_report (a_c_string d) = []
 
 -- `error`, and what is printed of the refusal
 abbrev pub refusal_report : ParseError → List ℕ
@@ -43,7 +50,7 @@ text_report_by None d = literal_report d
 text_report_by (Some e) d = refusal_report e
 
 abbrev pub text_report : List ℕ → List ℕ
-text_report t = text_report_by (literal_fault t) (derivation_of t)
+text_report t = text_report_by (read_fault t) (derivation_of t)
 
 -- the report of a line, whose bytes may be no text
 unfoldable pub report_of : List ℕ → List ℕ

@@ -5,11 +5,12 @@ use Rattle.std.specs.List.{list_all}
 use Rattle.unicode_ident.specs.Ident.{is_xid_start, is_xid_continue}
 use Rattle.litrs.specs.declared.err.ParseErrorKind.{ParseErrorKind}
 use Rattle.litrs.specs.declared.err.ParseErrorKind.TheVariants.{UnexpectedChar, InvalidSuffix}
+use Rattle.litrs.specs.Characters.{underscore, is_ascii}
 use Rattle.litrs.specs.Text.{first_passes}
 
 -- what an identifier begins with: `_` or an XID_Start character
 abbrev pub starts_identifier : ℕ → Bool
-starts_identifier c = (c == 95) || is_xid_start c
+starts_identifier c = (c == underscore) || is_xid_start c
 
 -- the list has no element
 abbrev pub is_empty : List ℕ → Bool
@@ -20,11 +21,11 @@ is_empty (c ∷ cs) = false
 -- The lone `_` is no suffix.
 unfoldable pub is_suffix : List ℕ → Bool
 is_suffix [] = true
-is_suffix (c ∷ cs) = starts_identifier c && list_all is_xid_continue cs && not ((c == 95) && is_empty cs)
+is_suffix (c ∷ cs) = starts_identifier c && list_all is_xid_continue cs && not ((c == underscore) && is_empty cs)
 
 -- ASCII, and neither a letter nor `_`
 abbrev pub is_ascii_symbol : ℕ → Bool
-is_ascii_symbol c = nat_lt c 128 && not (is_ascii_alphabetic c || (c == 95))
+is_ascii_symbol c = is_ascii c && not (is_ascii_alphabetic c || (c == underscore))
 
 -- Of a text that is no suffix, why: it begins with an ASCII character that is neither a letter nor `_`,
 -- or it is not an identifier for another reason.

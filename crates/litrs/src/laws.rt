@@ -3,6 +3,7 @@ pub mod char_byte;
 pub mod escape;
 pub mod float;
 pub mod lines;
+pub mod literal;
 pub mod name;
 pub mod number;
 pub mod quoted;

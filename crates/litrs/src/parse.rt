@@ -1,12 +1,12 @@
 //! Suffixes, digits and the dispatch over the kinds.
 ghost use Rattle.std.specs.Prelude.{◌≡◌, ◌≤◌, length, [], ◌∷◌, is_ok, IsTrue, IfErr, IfSome, IfNone, MatchResult, slice_get};
-ghost use Rattle.std.specs.Char.{digit_value};
+ghost use Rattle.std.specs.Char.{digit_value, is_ascii_hexdigit};
 ghost use Rattle.std.specs.List.{list_all, prefix_len};
 ghost use Rattle.std.specs.Option.{SomeIff};
 ghost use Rattle.std.specs.Str.{chars, IsUtf8};
 ghost use Rattle.unicode_ident.specs.Ident.{is_xid_continue};
-ghost use Rattle.litrs.specs.Base.{is_hex_digit, is_digit_or_underscore};
-ghost use Rattle.litrs.specs.Literal.{begins_float};
+ghost use Rattle.litrs.specs.Base.{is_digit_or_underscore};
+ghost use Rattle.litrs.specs.LiteralFault.{begins_float};
 ghost use Rattle.litrs.specs.Dispatch.{BeginsLike};
 ghost use Rattle.litrs.specs.Fault.{plain};
 ghost use Rattle.litrs.specs.Suffix.{starts_identifier, is_suffix, is_ascii_symbol, suffix_fault};
@@ -65,7 +65,7 @@ pub fn end_dec_digits(input: &[u8]) -> usize
 
 /// The value of a hex digit of either case, 0 to 15, or None.
 pub fn hex_digit_value(digit: u8) -> Option<u8>
-    ensures { SomeIff result (IsTrue (is_hex_digit digit)) (digit_value digit) }
+    ensures { SomeIff result (IsTrue (is_ascii_hexdigit digit)) (digit_value digit) }
 {
     match digit {
         b'0'..=b'9' => Some(digit - b'0'),

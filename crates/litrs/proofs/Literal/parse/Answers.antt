@@ -5,13 +5,14 @@ use Rattle.std.proofs.lemmas.Result.{err_from_is_err_and}
 use Rattle.litrs.specs.Bool.{bool_text}
 use Rattle.litrs.specs.Reading.{IsOnlyReading, HasNoReading}
 use Rattle.litrs.specs.Integer.{integer_fault}
-use Rattle.litrs.specs.Literal.{Derivation, a_bool, IsLiteral, literal_fault}
+use Rattle.litrs.specs.ReadLiteral.{read_fault}
 use Rattle.litrs.proofs.BoolLemmas.{bool_text_from_chars}
-use Rattle.litrs.proofs.LiteralLaws.{no_literal, only_bool}
+use Rattle.litrs.proofs.ReadLiteral.{no_literal, only_bool}
 use Rattle.litrs.specs.declared.err.ParseError.{ParseError}
 use Rattle.litrs.specs.declared.err.ParseErrorKind.TheVariants.{OutOfMemory}
 use Rattle.litrs.specs.Fault.{kind_of}
-use Rattle.litrs.proofs.LiteralSpans.{integer_fault_of_text, literal_fault_within, literal_fault_of_text}
+use Rattle.litrs.proofs.RefusalKinds.{integer_fault_of_text}
+use Rattle.litrs.proofs.ReadSpans.{read_fault_within, read_fault_of_text}
 use Rattle.litrs.proofs.Literal.parse.Goals as goal
 
 pub returns-in_err-parse-in-Integer-clause-none : goal.returns-in_err-parse-in-Integer-clause-none
@@ -19,7 +20,7 @@ returns-in_err-parse-in-Integer-clause-none g c =
     let p = err_from_is_err_and c.from_residual.result c.from_residual.ensures.1 in
     let same = ap chars (sym c.as_str.ensures) in
     rw (p.1) (no_literal _ c.in_err-parse-in-Integer.field-0.0
-    (ap literal_fault same ∙ (c.in-Integer.ensures ∙ (ap integer_fault (sym same) ∙ c.in_err-parse-in-Integer.ensures.fault))))
+    (ap read_fault same ∙ (c.in-Integer.ensures ∙ (ap integer_fault (sym same) ∙ c.in_err-parse-in-Integer.ensures.fault))))
 
 pub returns-in-Bool-clause-raw : goal.returns-in-Bool-clause-raw
 returns-in-Bool-clause-raw g c =
@@ -29,7 +30,7 @@ pub returns-in-Bool-clause-ok : goal.returns-in-Bool-clause-ok
 returns-in-Bool-clause-ok g c = only_bool _ c.in-Bool.lit (c.in-Bool.ensures ∙ ap chars c.as_str.ensures)
 
 pub returns-in-Refused-clause-none : goal.returns-in-Refused-clause-none
-returns-in-Refused-clause-none g c = no_literal _ c.in-Refused.e (ap literal_fault (ap chars (sym c.as_str.ensures)) ∙ c.in-Refused.ensures)
+returns-in-Refused-clause-none g c = no_literal _ c.in-Refused.e (ap read_fault (ap chars (sym c.as_str.ensures)) ∙ c.in-Refused.ensures)
 
 pub returns-in_err-parse-in-Integer-clause-memory : goal.returns-in_err-parse-in-Integer-clause-memory
 returns-in_err-parse-in-Integer-clause-memory g c =
@@ -37,7 +38,7 @@ returns-in_err-parse-in-Integer-clause-memory g c =
     rw (p.1) (subst (λ (e : ParseError). kind_of e ≢ OutOfMemory) (sym p.2) (integer_fault_of_text _ c.in_err-parse-in-Integer.field-0.0 c.in_err-parse-in-Integer.ensures.fault))
 
 pub returns-in-Refused-clause-span : goal.returns-in-Refused-clause-span
-returns-in-Refused-clause-span g c = literal_fault_within _ c.in-Refused.e (ap literal_fault (ap chars (sym c.as_str.ensures)) ∙ c.in-Refused.ensures)
+returns-in-Refused-clause-span g c = read_fault_within _ c.in-Refused.e (ap read_fault (ap chars (sym c.as_str.ensures)) ∙ c.in-Refused.ensures)
 
 pub returns-in-Refused-clause-memory : goal.returns-in-Refused-clause-memory
-returns-in-Refused-clause-memory g c = literal_fault_of_text _ c.in-Refused.e (ap literal_fault (ap chars (sym c.as_str.ensures)) ∙ c.in-Refused.ensures)
+returns-in-Refused-clause-memory g c = read_fault_of_text _ c.in-Refused.e (ap read_fault (ap chars (sym c.as_str.ensures)) ∙ c.in-Refused.ensures)
