@@ -1,5 +1,5 @@
 -- The report of a text, by its derivation or its refusal.
-use Rattle.std.proofs.Common.{◌≡◌, ℕ, Bool, true, false, cond, List, [], ◌∷◌, ◌++◌, drop, slice_range, Option, Some, None, refl, sym, ap, ◌∙◌, append_assoc}
+use Rattle.std.proofs.Common.{◌≡◌, ℕ, false, List, ◌++◌, Some, refl, sym, ap, ◌∙◌, append_assoc}
 use Rattle.std.specs.Prelude.{codes}
 use Rattle.std.specs.Str.{chars, is_utf8, IsUtf8, encode_utf8_all}
 use Rattle.std.proofs.lemmas.Str.{encodes-chars, is_utf8-from_IsUtf8, IsUtf8-from_is_utf8}
@@ -12,7 +12,7 @@ use Rattle.litrs.specs.Bool.{bool_text}
 use Rattle.litrs.specs.Base.{base_value}
 use Rattle.litrs.specs.Integer.{IntegerParts, IsIntegerOf}
 use Rattle.litrs.specs.Numeral.{integer_value}
-use Rattle.litrs.specs.Literal.{Derivation, a_bool, an_integer, a_float, a_char, a_byte, a_string, a_byte_string, a_c_string}
+use Rattle.litrs.specs.Literal.{Derivation, a_bool, an_integer}
 use Rattle.litrs.specs.ReadLiteral.{IsReadLiteral, read_fault}
 use Rattle.litrs.specs.Report.{value_text, integer_front, literal_report, refusal_report, derivation_of, text_report_by, text_report, report_of}
 use Rattle.litrs.proofs.IntegerLaws.{cut_of_text}

@@ -1,5 +1,5 @@
 -- Integers. The Rust Reference, Tokens, Integer literals.
-use Rattle.std.specs.Prelude.{◌≡◌, ℕ, ◌+◌, ◌==◌, ◌||◌, Bool, not, IsTrue, IsFalse, List, length, drop, ◌++◌, Option, Some, None, if◌then◌else◌}
+use Rattle.std.specs.Prelude.{◌≡◌, ℕ, ◌==◌, ◌||◌, Bool, not, IsTrue, IsFalse, List, length, drop, ◌++◌, Option, Some, None, if◌then◌else◌}
 use Rattle.std.specs.Char.{is_ascii_digit}
 use Rattle.std.specs.List.{list_all, list_any, take_while}
 use Rattle.litrs.specs.declared.integer.IntegerBase.{IntegerBase}

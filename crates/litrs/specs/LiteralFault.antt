@@ -1,5 +1,5 @@
 -- The refusals of the nine parses.
-use Rattle.std.specs.Prelude.{◌≡◌, ℕ, ◌==◌, ◌||◌, Bool, List, drop, Option, Some, codes, if◌then◌else◌}
+use Rattle.std.specs.Prelude.{◌≡◌, ℕ, ◌==◌, ◌||◌, Bool, List, drop, Some, codes, if◌then◌else◌}
 use Rattle.std.specs.Char.{is_ascii_digit}
 use Rattle.std.specs.List.{prefix_len}
 use Rattle.litrs.specs.declared.err.ParseErrorKind.TheVariants.{Empty, InvalidLiteral, InvalidStringLiteralStart, InvalidByteStringLiteralStart, InvalidCStringLiteralStart}
