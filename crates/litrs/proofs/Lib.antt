@@ -43,3 +43,4 @@ pub mod NameLemmas
 pub mod ReadSpans
 pub mod RefusalKinds
 pub mod LiteralExamples
+pub mod IntegerExamples
