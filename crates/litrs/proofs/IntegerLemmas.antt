@@ -1,15 +1,13 @@
 -- Integers: what the cut of the bytes says of the characters.
-use Rattle.std.proofs.Common.{◌≡◌, ℕ, suc, ◌+◌, ◌-◌, ◌≤◌, Bool, true, false, cond, ltb, List, [], ◌∷◌, ◌++◌, length, take, drop, slice_range, slice_get, Option, Some, None, refl, sym, ap, subst, ◌∙◌, arith}
-use Rattle.std.specs.Str.{chars, IsUtf8, IsAscii, IsCharBoundary, encode_utf8_all}
+use Rattle.std.proofs.Common.{◌≡◌, ℕ, suc, ◌+◌, ◌-◌, ◌≤◌, Bool, true, false, cond, ltb, List, [], ◌∷◌, ◌++◌, length, take, drop, slice_range, slice_get, Some, refl, sym, ap, ◌∙◌, arith}
+use Rattle.std.specs.Str.{chars, IsUtf8, IsAscii, encode_utf8_all}
 use Rattle.std.specs.Char.{is_ascii_digit}
 use Rattle.std.specs.List.{prefix_len, list_all, list_any, take_while}
 use Rattle.std.proofs.lemmas.List.{drop-drop, length-append, take_rest}
 use Rattle.std.proofs.lemmas.List.Folds.{length-prefix_len}
 use Rattle.std.proofs.lemmas.Str.{chars-nil, encodes-chars, encodes-IsAscii, chars-IsAscii, IsAscii-append, IsCharBoundary-from_drop}
-use Rattle.std.proofs.lemmas.Bool.{le-ltb, lt-leb, ne_eqb}
+use Rattle.std.proofs.lemmas.Bool.{ne_eqb}
 use Rattle.std.proofs.lemmas.Bool.Decides.{nat_tests}
-use Rattle.std.proofs.lemmas.Grind.{common_steps}
-use Rattle.litrs.specs.declared.err.ParseError.{ParseError}
 use Rattle.litrs.specs.declared.integer.IntegerCut.{IntegerCut}
 use Rattle.litrs.specs.declared.integer.IntegerBase.{IntegerBase}
 use Rattle.litrs.specs.declared.integer.IntegerBase.TheVariants.{Binary, Octal, Decimal, Hexadecimal}
@@ -18,7 +16,7 @@ use Rattle.litrs.specs.Fault.{plain, at}
 use Rattle.litrs.specs.Text.{byte_len, first_passes, begins_with}
 use Rattle.litrs.specs.Suffix.{is_empty, is_suffix, suffix_fault}
 use Rattle.litrs.specs.Base.{prefix, is_digit, is_digit_or_underscore}
-use Rattle.litrs.specs.Integer.{IntegerParts, integer_text, is_e, base_of, integer_cut, integer_rows, cut_fault, integer_fault}
+use Rattle.litrs.specs.Integer.{integer_text, is_e, base_of, integer_cut, integer_rows, cut_fault, integer_fault}
 use Rattle.litrs.specs.IntegerCut.{parts_at, IsWithin, IsDigitsCut}
 use Rattle.litrs.proofs.Chars.{chars_empty, OnlyAscii, IsAsciiFront, front_zero, front_front, begins_front, passing_front, prefix_len-chars, first_passes-chars, begins_with-chars, ascii_by_test}
 use Rattle.litrs.proofs.IntegerLaws.{cut_with, integer_cut-is, cut-spells}

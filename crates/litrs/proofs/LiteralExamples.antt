@@ -1,5 +1,5 @@
 -- Literals of all kinds: the rows of the dispatch and of the starts, and what refusals call for, by computation.
-use Rattle.std.specs.Prelude.{◌≡◌, ℕ, true, false, List, [], ◌∷◌, ◌++◌, Some, None, codes, refl}
+use Rattle.std.specs.Prelude.{◌≡◌, true, false, [], ◌∷◌, ◌++◌, codes, refl}
 use Rattle.std.specs.Char.{encode_utf8}
 use Rattle.std.proofs.lemmas.Bool.{leb-true}
 use Rattle.unicode_ident.proofs.Computing.{unicode_ident}

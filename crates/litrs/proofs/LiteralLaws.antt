@@ -1,9 +1,9 @@
 -- Literals of all eight kinds: the dispatch names the kind of each, a text has at most one derivation, and one exactly
 -- where no refusal stands.
-use Rattle.std.proofs.Common.{◌≡◌, ◌⊎◌, ℕ, Bool, true, false, cond, eqb, ◌&&◌, ◌||◌, List, [], ◌∷◌, ◌++◌, length, drop, Option, Some, None, refl, sym, ap, subst, ◌∙◌, inl, inr, arith}
+use Rattle.std.proofs.Common.{◌≡◌, ◌⊎◌, ℕ, Bool, true, false, eqb, List, [], ◌∷◌, ◌++◌, length, drop, Option, Some, None, refl, sym, ap, subst, ◌∙◌, inl, inr}
 use Rattle.std.specs.Prelude.{if◌then◌else◌}
 use Rattle.std.specs.Char.{is_ascii_digit}
-use Rattle.std.proofs.lemmas.Bool.{and_parts, or_cases, or_from, eqb-true, true≢false, false_from_ne_true, cases_Bool}
+use Rattle.std.proofs.lemmas.Bool.{and_parts, or_cases, eqb-true, true≢false, false_from_ne_true}
 use Rattle.litrs.specs.declared.bool.BoolLit.{BoolLit}
 use Rattle.litrs.specs.declared.bool.BoolLit.TheVariants.{False, True}
 use Rattle.litrs.specs.declared.err.ParseErrorKind.TheVariants.{Empty, InvalidLiteral}
@@ -13,12 +13,12 @@ use Rattle.litrs.specs.Text.{first_passes, begins_with, is_text}
 use Rattle.litrs.specs.Suffix.{is_empty}
 use Rattle.litrs.specs.StringKind.{StringKind, string_kind, byte_string_kind, c_string_kind, switches_of}
 use Rattle.litrs.specs.Bool.{bool_text, is_bool, bool_fault}
-use Rattle.litrs.specs.Integer.{IntegerParts, integer_cut, integer_fault}
+use Rattle.litrs.specs.Integer.{integer_cut, integer_fault}
 use Rattle.litrs.specs.Float.{FloatParts, IsFloatOf, float_fault}
 use Rattle.litrs.specs.CharByte.{CharKind, char_kind, byte_kind, CharParts, IsCharLiteral, char_kind_fault}
-use Rattle.litrs.specs.Quoted.{QuotedParts, quoted_front, IsQuotedLiteral, IsQuotedLiteralFault}
+use Rattle.litrs.specs.Quoted.{QuotedParts, quoted_front, IsQuotedLiteral}
 use Rattle.litrs.specs.Raw.{RawParts, raw_front, IsRawLiteral, raw_literal_fault}
-use Rattle.litrs.specs.Literal.{StringParts, quoted_parts, raw_parts, IsString, Derivation, a_bool, an_integer, a_float, a_char, a_byte, a_string, a_byte_string, a_c_string, IsLiteral, LiteralKind, bool_literal, integer_literal, float_literal, char_literal, byte_literal, string_literal, byte_string_literal, c_string_literal, literal_kind, Parse, literal_parse, kind_parse, IsLiteralOf}
+use Rattle.litrs.specs.Literal.{StringParts, quoted_parts, raw_parts, IsString, Derivation, a_bool, an_integer, a_float, a_char, a_byte, a_string, a_byte_string, a_c_string, IsLiteral, LiteralKind, bool_literal, integer_literal, float_literal, char_literal, byte_literal, string_literal, byte_string_literal, c_string_literal, literal_kind, literal_parse, kind_parse, IsLiteralOf}
 use Rattle.litrs.specs.LiteralFault.{StringStart, refused_start, quoted_start, raw_start, string_start, string_start_fault, IsFaultOfStart, IsStringFault, IsKindFault, begins_float, Dispatch, refused_as, read_as, dispatch, IsFaultOfDispatch}
 use Rattle.litrs.specs.LiteralLaws.{LiteralsAreUnique, TextsAreDecided, LiteralsAreNotRefused, RefusalsAreUnique}
 use Rattle.litrs.proofs.Begins.{begins_with-split, begins_with-append}

@@ -1,20 +1,19 @@
 -- The spans of the refusals of all parses, and what literals end with.
-use Rattle.std.proofs.Common.{◌≡◌, ℕ, Bool, true, false, cond, List, [], ◌∷◌, ◌++◌, Option, Some, None, refl, sym, ap, subst, ◌∙◌}
+use Rattle.std.proofs.Common.{◌≡◌, ℕ, Bool, true, false, List, [], ◌∷◌, ◌++◌, Some, None, refl, sym, ap, subst, ◌∙◌}
 use Rattle.std.specs.Prelude.{if◌then◌else◌}
 use Rattle.std.proofs.lemmas.Bool.{true≢false}
 use Rattle.litrs.specs.declared.bool.BoolLit.{BoolLit}
 use Rattle.litrs.specs.declared.bool.BoolLit.TheVariants.{False, True}
 use Rattle.litrs.specs.declared.err.ParseErrorKind.TheVariants.{Empty, InvalidLiteral, InvalidStringLiteralStart, InvalidByteStringLiteralStart, InvalidCStringLiteralStart}
 use Rattle.litrs.specs.declared.err.ParseError.{ParseError}
-use Rattle.litrs.specs.Fault.{plain, at, IsInText}
+use Rattle.litrs.specs.Fault.{plain, IsInText}
 use Rattle.litrs.specs.Text.{begins_with}
-use Rattle.litrs.specs.Suffix.{is_empty}
 use Rattle.litrs.specs.StringKind.{StringKind, string_kind, byte_string_kind, c_string_kind, switches_of}
-use Rattle.litrs.specs.Bool.{bool_text, is_bool, bool_fault}
+use Rattle.litrs.specs.Bool.{bool_text, is_bool}
 use Rattle.litrs.specs.CharByte.{char_kind, byte_kind}
 use Rattle.litrs.specs.Quoted.{quoted_front}
 use Rattle.litrs.specs.Raw.{raw_front}
-use Rattle.litrs.specs.Literal.{StringParts, quoted_parts, raw_parts, IsString, Derivation, a_bool, an_integer, a_float, a_char, a_byte, a_string, a_byte_string, a_c_string, IsLiteral, LiteralKind, bool_literal, integer_literal, float_literal, char_literal, byte_literal, string_literal, byte_string_literal, c_string_literal, Parse, literal_parse, kind_parse}
+use Rattle.litrs.specs.Literal.{StringParts, quoted_parts, raw_parts, IsString, a_bool, an_integer, a_float, a_char, a_byte, a_string, a_byte_string, a_c_string, LiteralKind, bool_literal, integer_literal, float_literal, char_literal, byte_literal, string_literal, byte_string_literal, c_string_literal, literal_parse, kind_parse}
 use Rattle.litrs.specs.LiteralFault.{StringStart, refused_start, quoted_start, raw_start, string_start, string_start_fault, IsFaultOfStart, IsKindFault, Dispatch, refused_as, read_as, dispatch, IsFaultOfDispatch}
 use Rattle.litrs.specs.LiteralLaws.{RefusalSpansLieInText, NoLiteralEndsWithLineFeed}
 use Rattle.litrs.proofs.Runs.{last_passes, is_line_feed, line_feed_last}
@@ -25,7 +24,7 @@ use Rattle.litrs.proofs.CharByteProofs.{no_char_ends_with_line_feed}
 use Rattle.litrs.proofs.QuotedProofs.{no_quoted_text_ends_with_line_feed}
 use Rattle.litrs.proofs.QuotedSpans.{char_spans_lie_in_text, quoted_spans_lie_in_text}
 use Rattle.litrs.proofs.RawKinds.{literal_fault_within, no_literal_with_line_feed}
-use Rattle.litrs.proofs.LiteralLaws.{StartSays, string_start_says, dispatch_refusal}
+use Rattle.litrs.proofs.LiteralLaws.{string_start_says, dispatch_refusal}
 
 -- The ends of literals
 

@@ -2,7 +2,7 @@
 use Rattle.std.proofs.Common.{◌≡◌, ℕ, zero, suc, ◌+◌, ◌≤◌, Bool, true, false, cond, ◌&&◌, ◌||◌, List, [], ◌∷◌, ◌++◌, length, drop, refl, sym, ap, ◌∙◌, inl, inr, arith}
 use Rattle.std.specs.Prelude.{◌==◌}
 use Rattle.std.specs.List.{list_all}
-use Rattle.std.proofs.lemmas.Bool.{and_parts, and_from, or_parts, or_left, or_right, true≢false, false≢true, eqb-true, eq-eqb, or_from, cases_Bool}
+use Rattle.std.proofs.lemmas.Bool.{and_parts, and_from, or_parts, or_left, or_right, true≢false, false≢true, eqb-true, or_from, cases_Bool}
 use Rattle.std.proofs.lemmas.List.{drop_at, length-replicate}
 use Rattle.litrs.specs.Text.{first_passes, begins_with}
 use Rattle.litrs.specs.Raw.{is_hash, hashes, raw_closing, occurs, hash_len, length_before}

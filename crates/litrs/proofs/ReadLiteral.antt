@@ -1,5 +1,5 @@
 -- The literals that are read as yet: at most one derivation, and one exactly where no refusal stands.
-use Rattle.std.proofs.Common.{◌≡◌, ℕ, Bool, true, false, List, [], ◌∷◌, Option, Some, None, refl, sym, ap, ◌∙◌}
+use Rattle.std.proofs.Common.{◌≡◌, ℕ, Bool, true, false, List, Some, None, refl, sym, ap, ◌∙◌}
 use Rattle.std.specs.Char.{is_ascii_digit}
 use Rattle.litrs.specs.declared.bool.BoolLit.{BoolLit}
 use Rattle.litrs.specs.declared.bool.BoolLit.TheVariants.{False, True}
@@ -9,7 +9,7 @@ use Rattle.litrs.specs.Suffix.{is_empty}
 use Rattle.litrs.specs.Bool.{bool_text, is_bool}
 use Rattle.litrs.specs.Reading.{IsOnlyReading, HasNoReading}
 use Rattle.litrs.specs.Integer.{IntegerParts, IsIntegerOf, integer_fault}
-use Rattle.litrs.specs.Literal.{Derivation, a_bool, an_integer, a_float, a_char, a_byte, a_string, a_byte_string, a_c_string, IsLiteral}
+use Rattle.litrs.specs.Literal.{Derivation, a_bool, an_integer, IsLiteral}
 use Rattle.litrs.specs.LiteralFault.{begins_float}
 use Rattle.litrs.specs.ReadLiteral.{IsReadLiteral, read_rows, read_fault}
 use Rattle.litrs.proofs.IntegerLaws.{starts_with_digit, not_empty_by_first, integer_fault-free}

@@ -3,20 +3,20 @@ use Rattle.std.proofs.Common.{◌≡◌, ◌≢◌, ℕ, Bool, true, false, List
 use Rattle.std.specs.Prelude.{if◌then◌else◌, option_map}
 use Rattle.std.proofs.lemmas.Bool.{true≢false}
 use Rattle.litrs.specs.declared.err.ParseErrorKind.{ParseErrorKind}
-use Rattle.litrs.specs.declared.err.ParseErrorKind.TheVariants.{Empty, InvalidLiteral, OutOfMemory, CarriageReturn, NulByte, NonAsciiInByteLiteral, UnexpectedChar, InvalidSuffix}
+use Rattle.litrs.specs.declared.err.ParseErrorKind.TheVariants.{Empty, InvalidLiteral, OutOfMemory, UnexpectedChar, InvalidSuffix}
 use Rattle.litrs.specs.declared.err.ParseError.{ParseError}
-use Rattle.litrs.specs.Fault.{plain, at, over, moved, kind_of}
+use Rattle.litrs.specs.Fault.{plain, moved, kind_of}
 use Rattle.litrs.specs.Suffix.{is_ascii_symbol, suffix_fault}
 use Rattle.litrs.specs.Text.{first_passes}
 use Rattle.litrs.specs.StringKind.{StringKind, string_kind, byte_string_kind, c_string_kind, switches_of}
 use Rattle.litrs.specs.Bool.{is_bool, bool_fault}
-use Rattle.litrs.specs.Integer.{number_rows, integer_rows, integer_fault}
-use Rattle.litrs.specs.Float.{float_rows, float_fault}
+use Rattle.litrs.specs.Integer.{number_rows, integer_fault}
+use Rattle.litrs.specs.Float.{float_fault}
 use Rattle.litrs.specs.Escape.{Switches, hex_fault, inner_fault, unicode_fault, escape_fault}
 use Rattle.litrs.specs.CharByte.{CharKind, char_kind, byte_kind, unterminated_kind, empty_kind, overlong_kind, start_fault, closing_fault, char_item_fault, char_kind_fault}
-use Rattle.litrs.specs.Quoted.{quoted_front, without_last, backslash_fault, rest_fault, IsQuotedFault}
-use Rattle.litrs.specs.Raw.{is_nul, raw_char_fault, raw_body_rows, raw_body_fault, raw_rows, raw_fault, raw_literal_fault}
-use Rattle.litrs.specs.Literal.{LiteralKind, bool_literal, integer_literal, float_literal, char_literal, byte_literal, string_literal, byte_string_literal, c_string_literal, Parse, literal_parse, kind_parse}
+use Rattle.litrs.specs.Quoted.{quoted_front, backslash_fault, rest_fault, IsQuotedFault}
+use Rattle.litrs.specs.Raw.{raw_char_fault, raw_body_fault, raw_fault, raw_literal_fault}
+use Rattle.litrs.specs.Literal.{LiteralKind, bool_literal, integer_literal, float_literal, char_literal, byte_literal, string_literal, byte_string_literal, c_string_literal, literal_parse, kind_parse}
 use Rattle.litrs.specs.LiteralFault.{StringStart, refused_start, quoted_start, raw_start, string_start, string_start_fault, IsFaultOfStart, IsKindFault, Dispatch, refused_as, read_as, dispatch, IsFaultOfDispatch}
 use Rattle.litrs.specs.LiteralLaws.{NoRefusalIsOfMemory}
 use Rattle.litrs.proofs.LiteralLaws.{dispatch_refusal}

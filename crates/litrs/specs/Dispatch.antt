@@ -1,5 +1,5 @@
 -- What the dispatch over the kinds tells of a text.
-use Rattle.std.specs.Prelude.{◌≡◌, ℕ, List, Option, Some, None}
+use Rattle.std.specs.Prelude.{◌≡◌, ℕ, List, Some}
 use Rattle.litrs.specs.declared.parse.Kind.{Kind}
 use Rattle.litrs.specs.declared.parse.Kind.TheVariants.{Bool, Integer, Refused}
 use Rattle.litrs.specs.Bool.{bool_text}

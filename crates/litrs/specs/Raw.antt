@@ -1,7 +1,7 @@
 -- Raw strings. The Rust Reference, Tokens, Literals, 'Raw string literals', 'Raw byte string literals' and
 -- 'Raw C string literals'. The grammar stands first, the refusals below it.
 -- Two switches tell the kinds apart: in a byte string `unicode` is off, in a C string NUL is not allowed.
-use Rattle.std.specs.Prelude.{◌≡◌, ℕ, ◌+◌, ◌≤◌, ◌==◌, ◌&&◌, ◌||◌, nat_lt, Bool, true, false, not, List, [], ◌∷◌, ◌++◌, length, take, drop, replicate, Option, Some, None, IsTrue, IsFalse, if◌then◌else◌, encode_utf8_all, codes}
+use Rattle.std.specs.Prelude.{◌≡◌, ℕ, ◌+◌, ◌≤◌, ◌==◌, ◌&&◌, ◌||◌, nat_lt, Bool, not, List, [], ◌∷◌, ◌++◌, length, take, drop, replicate, Option, Some, None, IsTrue, IsFalse, if◌then◌else◌, encode_utf8_all, codes}
 use Rattle.std.specs.List.{list_all, prefix_len, slice_index}
 use Rattle.litrs.specs.declared.err.ParseErrorKind.{ParseErrorKind}
 use Rattle.litrs.specs.declared.err.ParseErrorKind.TheVariants.{InvalidLiteral, TooManyHashes, CarriageReturn, NulByte, NonAsciiInByteLiteral, UnterminatedRawString}

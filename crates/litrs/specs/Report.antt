@@ -1,8 +1,7 @@
 -- The report on a line, made from the derivation of the text or from its refusal.
-use Rattle.std.specs.Prelude.{ℕ, Bool, true, false, nat_le, List, [], ◌++◌, Option, Some, None, codes, if◌then◌else◌, unwrap_or}
+use Rattle.std.specs.Prelude.{ℕ, nat_le, List, [], ◌++◌, Option, Some, None, codes, if◌then◌else◌}
 use Rattle.std.specs.Fmt.{decimal}
 use Rattle.std.specs.Str.{chars, is_utf8, encode_utf8_all}
-use Rattle.litrs.specs.declared.bool.BoolLit.{BoolLit}
 use Rattle.litrs.specs.declared.bool.BoolLit.TheVariants.{True, False}
 use Rattle.litrs.specs.declared.integer.IntegerType.TheVariants.{U128}
 use Rattle.litrs.specs.declared.err.ParseError.{ParseError}
@@ -10,7 +9,7 @@ use Rattle.litrs.specs.Fault.{fault_text}
 use Rattle.litrs.specs.Text.{is_text}
 use Rattle.litrs.specs.Bool.{bool_text}
 use Rattle.litrs.specs.Base.{base_value}
-use Rattle.litrs.specs.Integer.{IntegerParts, integer_cut}
+use Rattle.litrs.specs.Integer.{integer_cut}
 use Rattle.litrs.specs.Numeral.{integer_value, greatest_of}
 use Rattle.litrs.specs.Literal.{Derivation, a_bool, an_integer, a_float, a_char, a_byte, a_string, a_byte_string, a_c_string}
 use Rattle.litrs.specs.ReadLiteral.{read_fault}

@@ -1,9 +1,7 @@
 -- Each arm is the parse of its kind.
-use Rattle.std.proofs.Common.{◌≡◌, ◌≢◌, sym, ap, ◌∙◌, subst, Some, List, ℕ}
+use Rattle.std.proofs.Common.{◌≢◌, sym, ap, ◌∙◌, subst}
 use Rattle.std.specs.Str.{chars}
 use Rattle.std.proofs.lemmas.Result.{err_from_is_err_and}
-use Rattle.litrs.specs.Bool.{bool_text}
-use Rattle.litrs.specs.Reading.{IsOnlyReading, HasNoReading}
 use Rattle.litrs.specs.Integer.{integer_fault}
 use Rattle.litrs.specs.ReadLiteral.{read_fault}
 use Rattle.litrs.proofs.BoolLemmas.{bool_text_from_chars}

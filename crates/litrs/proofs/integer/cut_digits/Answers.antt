@@ -1,7 +1,6 @@
 -- The prefix and the digits are cut on character boundaries.
 use Rattle.std.proofs.Common.{arith}
 use Rattle.litrs.proofs.IntegerLemmas.{digits_cut_made}
-use Rattle.litrs.specs.IntegerCut.{IsDigitsCut}
 use Rattle.litrs.proofs.integer.cut_digits.Goals as goal
 
 pub overflow_add-end_main : goal.overflow_add-end_main

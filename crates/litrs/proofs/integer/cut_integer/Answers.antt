@@ -1,9 +1,8 @@
 -- The text has no refusal exactly where the cut is its only derivation.
-use Rattle.std.proofs.Common.{◌≡◌, sym, ap, ◌∙◌, subst, Some, None, true, false}
+use Rattle.std.proofs.Common.{◌≡◌, sym, ◌∙◌, subst, None}
 use Rattle.std.specs.Str.{chars}
-use Rattle.std.specs.Char.{is_ascii_digit}
 use Rattle.litrs.specs.Reading.{IsOnlyReading}
-use Rattle.litrs.specs.Integer.{IntegerParts, IsIntegerOf, integer_fault, cut_fault, integer_cut}
+use Rattle.litrs.specs.Integer.{IntegerParts, IsIntegerOf, integer_fault}
 use Rattle.litrs.proofs.IntegerLaws.{only_cut, refused, fault_of_digit}
 use Rattle.litrs.proofs.IntegerLemmas.{parts_of_cut, places_of_cut}
 use Rattle.litrs.proofs.IntegerSpans.{integer_fault_within}

@@ -1,10 +1,9 @@
 -- The empty text and one that does not begin with a digit come before the cut.
-use Rattle.std.proofs.Common.{◌≡◌, ap, sym, ◌∙◌, Some, refl}
+use Rattle.std.proofs.Common.{ap, sym, ◌∙◌, Some}
 use Rattle.std.specs.Str.{chars}
 use Rattle.std.specs.Char.{is_ascii_digit}
 use Rattle.std.proofs.lemmas.Result.{err_from_is_err_and}
 use Rattle.litrs.specs.Text.{first_passes}
-use Rattle.litrs.specs.Integer.{integer_fault}
 use Rattle.litrs.proofs.IntegerLaws.{refused}
 use Rattle.litrs.proofs.IntegerSpans.{integer_fault_within}
 use Rattle.litrs.proofs.IntegerLemmas.{fault-empty, fault-no_digit, digit-chars}

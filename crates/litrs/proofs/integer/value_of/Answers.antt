@@ -1,7 +1,6 @@
 -- One more byte: an underscore, or a digit.
-use Rattle.std.proofs.Common.{◌≡◌, ℕ, ◌+◌, ◌*◌, ◌≤◌, ◌<◌, take, length, get_or, sym, ap, subst, ◌∙◌, arith}
+use Rattle.std.proofs.Common.{◌+◌, ◌*◌, take, get_or, sym, ap, ◌∙◌, arith}
 use Rattle.std.specs.Char.{digit_value}
-use Rattle.std.proofs.lemmas.List.{take_all}
 use Rattle.litrs.specs.Base.{base_value}
 use Rattle.litrs.specs.Numeral.{numeral}
 use Rattle.litrs.proofs.NumeralLemmas.{numeral-nil, numeral_take, numeral_digit, positive_base}

@@ -1,6 +1,5 @@
 -- The first character and the others tell whether a text is a suffix.
-use Rattle.std.proofs.Common.{◌≡◌, sym, ap, ◌∙◌, arith}
-use Rattle.std.specs.Str.{chars}
+use Rattle.std.proofs.Common.{sym, ap, ◌∙◌, arith}
 use Rattle.std.proofs.lemmas.Bool.Decides.{nat_tests}
 use Rattle.litrs.specs.Suffix.{is_suffix}
 use Rattle.litrs.proofs.Chars.{chars_empty}

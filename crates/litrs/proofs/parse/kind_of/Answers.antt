@@ -1,5 +1,5 @@
 -- Each arm is a row of the dispatch.
-use Rattle.std.proofs.Common.{◌≡◌, sym, ap, ◌∙◌, Some, true, false}
+use Rattle.std.proofs.Common.{sym, ap, ◌∙◌, Some, true, false}
 use Rattle.std.specs.Str.{chars}
 use Rattle.litrs.specs.Integer.{integer_fault}
 use Rattle.litrs.specs.LiteralFault.{begins_float}

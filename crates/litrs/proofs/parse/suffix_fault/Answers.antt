@@ -1,5 +1,5 @@
 -- The first byte tells whether the first character is an ASCII symbol.
-use Rattle.std.proofs.Common.{◌≡◌, ℕ, Some, None, sym, ap, ◌∙◌, slice_get}
+use Rattle.std.proofs.Common.{◌≡◌, Some, None, sym, ap, ◌∙◌, slice_get}
 use Rattle.std.specs.Option.{option_copied}
 use Rattle.litrs.specs.Suffix.{is_ascii_symbol}
 use Rattle.litrs.proofs.Firsts.{first_passes_at, first_passes_nowhere, suffix_fault-symbol, suffix_fault-other}

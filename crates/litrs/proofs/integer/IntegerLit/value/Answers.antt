@@ -1,5 +1,5 @@
 -- The main part is ASCII, so that its bytes are its characters.
-use Rattle.std.proofs.Common.{◌≡◌, ◌≤◌, ℕ, List, true, ap, sym, ◌∙◌, subst}
+use Rattle.std.proofs.Common.{◌≡◌, ◌≤◌, ℕ, true, ap, ◌∙◌, subst}
 use Rattle.std.specs.Option.{SomeIff}
 use Rattle.std.specs.List.{list_all}
 use Rattle.litrs.specs.declared.integer.IntegerBase.{IntegerBase}
