@@ -1,3 +1,4 @@
+pub mod LinesLemmas
 pub mod Runs
 pub mod Begins
 pub mod SuffixStart
@@ -37,6 +38,8 @@ pub mod NumberLaws
 pub mod NumeralLemmas
 pub mod IntegerSpans
 pub mod LiteralSpans
+pub mod ReportLemmas
+pub mod NameLemmas
 pub mod ReadSpans
 pub mod RefusalKinds
 pub mod LiteralExamples

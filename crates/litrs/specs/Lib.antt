@@ -2,6 +2,15 @@ pub mod Kind
 pub mod Fault
 pub mod Text
 pub mod Suffix
+pub mod Lines
+pub mod LinesLaws
+pub mod Devices
+pub mod Calls
+pub mod MemInput
+pub mod MemOutput
+pub mod StdInput
+pub mod StdOutput
+pub mod RunError
 pub mod Float
 pub mod Raw
 pub mod FloatLaws
@@ -32,3 +41,5 @@ pub mod QuotedLaws
 pub mod CharByteLaws
 pub mod NumberLaws
 pub mod Report
+pub mod ReportLaws
+pub mod NameLaws

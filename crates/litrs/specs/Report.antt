@@ -18,12 +18,16 @@ use Rattle.litrs.specs.ReadLiteral.{read_fault}
 abbrev pub value_text : ℕ → List ℕ
 value_text n = if nat_le n (greatest_of U128) then decimal n else codes "none"
 
+-- an integer up to its value, by the bytes of its main part and suffix
+abbrev pub integer_front : ℕ → List ℕ → List ℕ → List ℕ
+integer_front base digits suffix =
+    codes "integer base=" ++ (decimal base ++ (codes " digits=" ++ (digits ++ (codes " suffix=" ++ (suffix ++ codes " value=")))))
+
 -- `bool true`; `integer base=16 digits=ff80 suffix= value=65408`; nothing of the kinds that are not read yet
 abbrev pub literal_report : Derivation → List ℕ
 literal_report (a_bool b) = codes "bool " ++ bool_text b
 literal_report (an_integer d) =
-    codes "integer base=" ++ (decimal (base_value d.base) ++ (codes " digits=" ++ (encode_utf8_all d.main
-    ++ (codes " suffix=" ++ (encode_utf8_all d.suffix ++ (codes " value=" ++ value_text (integer_value d)))))))
+    integer_front (base_value d.base) (encode_utf8_all d.main) (encode_utf8_all d.suffix) ++ value_text (integer_value d)
 literal_report (a_float d) = []
 literal_report (a_char d) = []
 literal_report (a_byte d) = []

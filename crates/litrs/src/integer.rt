@@ -221,7 +221,7 @@ pub struct IntegerCut {
 ///
 /// [ref]: https://doc.rust-lang.org/reference/tokens.html#integer-literals
 pub fn cut_integer(input: &str) -> Result<IntegerCut, ParseError>
-    requires { IsTrue (first_passes is_ascii_digit (chars input.now)) }
+    requires { IsTrue (first_passes is_ascii_digit input.now) }
     ensures ok { IfOk result (λ cut. IsOnlyReading (IsIntegerOf (chars input.now)) (parts_at cut input.now)) }
     ensures places { IfOk result (λ cut. IsWithin cut input.now) }
     ensures none { OnErr result (HasNoReading (IsIntegerOf (chars input.now))) }

@@ -31,8 +31,10 @@ mod escape;
 mod from_integer_literal;
 mod integer;
 pub mod laws;
+pub mod lines;
 mod parse;
-pub mod report;
+#[cfg(test)]
+mod tests;
 
 /// A literal. This is the main type of this library.
 #[derive(Drop)]

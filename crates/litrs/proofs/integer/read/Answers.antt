@@ -6,7 +6,7 @@ use Rattle.std.proofs.lemmas.Result.{err_from_is_err_and}
 use Rattle.litrs.specs.Text.{first_passes}
 use Rattle.litrs.proofs.IntegerLaws.{refused}
 use Rattle.litrs.proofs.IntegerSpans.{integer_fault_within}
-use Rattle.litrs.proofs.IntegerLemmas.{fault-empty, fault-no_digit, digit-chars}
+use Rattle.litrs.proofs.IntegerLemmas.{fault-empty, fault-no_digit}
 use Rattle.litrs.proofs.integer.read.Goals as goal
 
 pub returns-in_err-first_byte_or_empty-clause-none : goal.returns-in_err-first_byte_or_empty-clause-none
@@ -20,8 +20,7 @@ returns-in_err-first_byte_or_empty-clause-fault c =
     rw (p.1) (fault-empty c.args.input.now c.in_err-first_byte_or_empty.ensures.0 ∙ ap Some (sym c.in_err-first_byte_or_empty.ensures.1 ∙ sym p.2))
 
 pub cut_integer-requires : goal.cut_integer-requires
-cut_integer-requires c =
-    digit-chars c.args.input.now c.utf8.input ∙ (ap (first_passes is_ascii_digit) (sym c.as_bytes.ensures.value) ∙ sym c.if-begins_with_digit.ensures)
+cut_integer-requires c = ap (first_passes is_ascii_digit) (sym c.as_bytes.ensures.value) ∙ sym c.if-begins_with_digit.ensures
 
 pub returns-else-begins_with_digit-clause-none : goal.returns-else-begins_with_digit-clause-none
 returns-else-begins_with_digit-clause-none c =

@@ -1,11 +1,11 @@
 //! The report on one line.
-ghost use Rattle.std.specs.Prelude.{◌≡◌, ◌++◌, OnOk, string_bytes};
+ghost use Rattle.std.specs.Prelude.{◌≡◌, ◌++◌, OnOk, string_bytes, codes};
 ghost use Rattle.std.specs.Str.{chars};
 ghost use Rattle.litrs.specs.LiteralDerivation.{derivation};
 ghost use Rattle.litrs.specs.Numeral.{integer_value};
 ghost use Rattle.litrs.specs.IntegerLiteral.{integer_parts};
 ghost use Rattle.litrs.specs.Literal.{an_integer};
-ghost use Rattle.litrs.specs.Report.{value_text, literal_report, text_report, report_of};
+ghost use Rattle.litrs.specs.Report.{value_text, integer_front, literal_report, text_report, report_of};
 
 use crate::{BoolLit, Buffer, IntegerLit, Literal};
 use std::alloc::{AllocError, Global};
@@ -18,8 +18,15 @@ pub(crate) fn push_report(out: &mut String, line: &[u8]) -> Result<(), AllocErro
     let alloc = *out.allocator();
     match str::from_utf8(line) {
         Ok(text) => push_text_report(alloc, out, text),
-        Err(_) => out.push_str("error input is not UTF-8"),
+        Err(_) => push_no_text_report(out),
     }
+}
+
+/// Adds the report on a line that is no text.
+fn push_no_text_report(out: &mut String) -> Result<(), AllocError>
+    ensures { OnOk result (string_bytes out.new ≡ string_bytes out.old ++ codes "error input is not UTF-8") }
+{
+    out.push_str("error input is not UTF-8")
 }
 
 /// Adds the report on a text.
@@ -46,14 +53,23 @@ fn push_literal_report<B: Buffer>(out: &mut String, lit: &Literal<B>) -> Result<
 fn push_integer_report<B: Buffer>(out: &mut String, lit: &IntegerLit<B>) -> Result<(), AllocError>
     ensures { OnOk result (string_bytes out.new ≡ string_bytes out.old ++ literal_report (an_integer (integer_parts lit.now))) }
 {
-    let base = lit.base().value();
-    let digits = lit.raw_main_part();
-    let suffix = lit.suffix();
+    push_integer_front(out, lit.base().value(), lit.raw_main_part(), lit.suffix())?;
+    push_value(out, lit)
+}
+
+/// Adds the report on an integer up to its value.
+fn push_integer_front(
+    out: &mut String,
+    base: u8,
+    digits: &str,
+    suffix: &str,
+) -> Result<(), AllocError>
+    ensures { OnOk result (string_bytes out.new ≡ string_bytes out.old ++ integer_front base digits.now suffix.now) }
+{
     write!(
         out,
         "integer base={base} digits={digits} suffix={suffix} value="
-    )?;
-    push_value(out, lit)
+    )
 }
 
 /// Adds the value of an integer in decimal, or `none`.
