@@ -1,6 +1,7 @@
 pub mod LinesLemmas
 pub mod Runs
 pub mod Begins
+pub mod NoNul
 pub mod SuffixStart
 pub mod Spans
 pub mod FloatCuts

@@ -3,8 +3,8 @@ use Rattle.std.specs.Prelude.{◌≡◌, true, false, [], ◌∷◌, ◌++◌, c
 use Rattle.std.specs.Char.{encode_utf8}
 use Rattle.std.proofs.lemmas.Bool.{leb-true}
 use Rattle.unicode_ident.proofs.Computing.{unicode_ident}
-use Rattle.litrs.specs.declared.bool.BoolLit.TheVariants.{True}
-use Rattle.litrs.specs.declared.err.ParseErrorKind.TheVariants.{Empty, UnexpectedChar, InvalidLiteral, NoDigits, NoExponentDigits, UnescapedSingleQuote, EmptyByteLiteral, DoesNotStartWithDigit, DoesNotStartWithQuote, UnterminatedString, UnterminatedRawString, UnterminatedUnicodeEscape, InvalidStringLiteralStart, InvalidByteLiteralStart, InvalidByteStringLiteralStart, InvalidCStringLiteralStart, TooManyHashes, InvalidSuffix, UnexpectedIntegerLit, IntegerSuffixStartingWithE, OutOfMemory}
+use Rattle.litrs.specs.declared.bool.BoolLit.TheVariants.{False, True}
+use Rattle.litrs.specs.declared.err.ParseErrorKind.TheVariants.{Empty, UnexpectedChar, InvalidLiteral, NoDigits, NoExponentDigits, UnescapedSingleQuote, EmptyByteLiteral, NonAsciiInByteLiteral, NulByte, DoesNotStartWithDigit, DoesNotStartWithQuote, UnterminatedString, UnterminatedRawString, UnterminatedUnicodeEscape, InvalidStringLiteralStart, InvalidByteLiteralStart, InvalidByteStringLiteralStart, InvalidCStringLiteralStart, TooManyHashes, InvalidSuffix, UnexpectedIntegerLit, IntegerSuffixStartingWithE, OutOfMemory}
 use Rattle.litrs.specs.Fault.{plain, at, over}
 use Rattle.litrs.specs.Suffix.{is_suffix}
 use Rattle.litrs.specs.Integer.{integer_cut, integer_fault}
@@ -13,7 +13,7 @@ use Rattle.litrs.specs.CharByte.{plain_char}
 use Rattle.litrs.specs.Quoted.{plain_item}
 use Rattle.litrs.specs.Raw.{hashes, raw_body_fault, raw_fault}
 use Rattle.litrs.specs.Literal.{Derivation, quoted_parts, raw_parts, a_bool, a_char, a_string, a_c_string, IsLiteral, suffix_of, bool_literal, integer_literal, float_literal, char_literal, byte_literal, string_literal, byte_string_literal, c_string_literal, literal_parse, kind_parse, IsLiteralOf, Begins}
-use Rattle.litrs.specs.LiteralFault.{dispatch, IsFault}
+use Rattle.litrs.specs.LiteralFault.{read_as, dispatch, IsFault}
 use Rattle.litrs.specs.Finality.{is_final, is_open, closing_of}
 use Rattle.litrs.specs.Growth.{grows}
 use Rattle.litrs.proofs.Computing.{computing}
@@ -109,6 +109,27 @@ any-quoted = record {
   told = refl;
   placed = refl;
 }
+
+-- a bool has no refusal
+any-bool : dispatch (codes "true") ≡ read_as bool_literal
+unfolding all_tables
+any-bool = refl
+
+any-byte_string : IsFault literal_parse (codes "b\"\né") (at 3 NonAsciiInByteLiteral)
+unfolding all_tables
+any-byte_string = record {
+  items = plain_item 10 ∷ [];
+  rest = codes "é";
+  cause = at 0 NonAsciiInByteLiteral;
+  spells = refl;
+  taken = refl;
+  told = refl;
+  placed = refl;
+}
+
+any-c_string : IsFault literal_parse (codes "c\"\0\"") (at 2 NulByte)
+unfolding all_tables
+any-c_string = record { items = []; rest = codes "\0\""; cause = at 0 NulByte; spells = refl; taken = refl; told = refl; placed = refl }
 
 any-raw : IsFault literal_parse (codes "r##\"a\"#") (plain UnterminatedRawString)
 unfolding all_tables

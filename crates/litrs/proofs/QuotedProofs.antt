@@ -1,12 +1,12 @@
 -- The laws of quoted literals.
-use Rattle.std.proofs.Common.{◌≡◌, ℕ, ◌+◌, ◌<◌, ◌≤◌, ◌/◌, ◌%◌, ltb, Bool, true, false, not, ◌||◌, cond, List, [], ◌∷◌, ◌++◌, length, Some, None, refl, sym, ap, ◌∙◌, subst, arith, ◌⊎◌, inl, inr, append_assoc, length-append, append-nil}
+use Rattle.std.proofs.Common.{◌≡◌, ℕ, ◌+◌, ◌<◌, ◌≤◌, true, false, not, ◌||◌, List, [], ◌∷◌, ◌++◌, length, Some, None, refl, sym, ap, ◌∙◌, subst, arith, ◌⊎◌, inl, inr, append_assoc, length-append, append-nil}
 use Rattle.std.specs.Prelude.{◌==◌}
-use Rattle.std.specs.List.{list_all, list_any}
-use Rattle.std.proofs.lemmas.Bool.{and_parts, and_from, not-true, both_ways, or_right, or_left, or_from, not_from_false, ne_eqb}
+use Rattle.std.specs.List.{list_any}
+use Rattle.std.proofs.lemmas.Bool.{and_parts, and_from, not-true, both_ways, or_right, or_left, or_from, not_from_false}
 use Rattle.std.proofs.lemmas.List.{append_cancel_left}
 use Rattle.std.specs.Prelude.{◌↔◌}
 use Rattle.std.specs.Char.{encode_utf8}
-use Rattle.std.proofs.lemmas.List.Folds.{list_any-append, list_all-append}
+use Rattle.std.proofs.lemmas.List.Folds.{list_any-append}
 use Rattle.std.proofs.lemmas.Str.{length-encode, len_utf8_bounds}
 use Rattle.litrs.specs.StringKind.{string_kind, byte_string_kind, c_string_kind}
 use Rattle.litrs.specs.Characters.{is_blank, is_scalar}
@@ -16,8 +16,10 @@ use Rattle.litrs.specs.Suffix.{is_suffix}
 use Rattle.litrs.specs.Text.{first_passes, byte_len}
 use Rattle.litrs.specs.Escape.{Switches, Escape, simple_escape, hex_escape, unicode_escape, escape_text, escape_value, value_bytes, is_escape, is_simple, hex_value, pair_value, allows_value}
 use Rattle.litrs.specs.Quoted.{Item, plain_item, escape_item, continuation, item_text, item_value, is_item, allows_character, stand_before, body_text, body_value, is_body, takes_all_blanks, rest_fault, QuotedParts, IsQuoted, IsQuotedFault}
+use Rattle.litrs.specs.Raw.{is_nul}
 use Rattle.litrs.specs.QuotedLaws.{QuotedBodiesAreUnique, QuotedTextsAreUnique, QuotedRefusalsAreUnique, QuotedTextsAreDecided, QuotedTextsAreNotRefused, QuotedBodiesJoin, QuotedValuesFitBodies, NoNulInQuotedCStrings, NoQuotedTextEndsWithLineFeed, QuotedLiteralsAreUnique}
 use Rattle.litrs.proofs.Spans.{byte_len-append}
+use Rattle.litrs.proofs.NoNul.{encode_no_nul}
 use Rattle.litrs.proofs.ByteLen.{length-le-byte_len}
 use Rattle.litrs.proofs.ListTests.{none_unless}
 use Rattle.litrs.proofs.QuotedLemmas.{closed_before_line_feed, heads_differ, same_items, quote_no_item, refused_no_item, read_items, Reads, SomeReading, Closes, body_stands, stands_body}
@@ -194,64 +196,34 @@ value_size value t (inr h) = (omega (arith, h.0), ((λ e. absurd (omega (arith, 
 pub quoted_values_fit_bodies : QuotedValuesFitBodies
 quoted_values_fit_bodies w t items h = value_size (body_value items) t (subst (λ l. HasSize (body_value items) l) h.spells (body_size w items h.body))
 
--- the bytes of a character that is not NUL
-abbrev has_no_nul : List ℕ → Bool
-has_no_nul bs = list_all (λ b. not (b == 0)) bs
+-- no byte of a value is zero where NUL is not allowed
+not_nul : (w : Switches) (n : ℕ) → w.allow_nul ≡ false → allows_value w n ≡ true → is_nul n ≡ false
+not_nul w n off h = not-true _ (subst (λ b. (b || not (n == 0)) ≡ true) off h)
 
-above_nul : (n : ℕ) → 0 < n → not (n == 0) ≡ true
-above_nul n h = not_from_false _ (ne_eqb n 0 (λ e. omega arith))
-
-by_widths : (a b d : Bool) (u v x y : List ℕ) → has_no_nul u ≡ true → has_no_nul v ≡ true → has_no_nul x ≡ true → has_no_nul y ≡ true →
-    has_no_nul (cond a u (cond b v (cond d x y))) ≡ true
-by_widths true b d u v x y p q r s = p
-by_widths false true d u v x y p q r s = q
-by_widths false false true u v x y p q r s = r
-by_widths false false false u v x y p q r s = s
-
-two : (a b : ℕ) → 0 < a → 0 < b → has_no_nul (a ∷ b ∷ []) ≡ true
-two a b h g = and_from _ _ (above_nul a h) (and_from _ _ (above_nul b g) refl)
-
-encode_no_nul : (c : ℕ) → not (c == 0) ≡ true → has_no_nul (encode_utf8 c) ≡ true
-unfolding encode_utf8
-encode_no_nul c h =
-    by_widths (ltb c 128) (ltb c 2048) (ltb c 65536) _ _ _ _ (and_from _ _ h refl)
-    (two (192 + c / 64) (128 + c % 64) (omega arith) (omega arith))
-    (and_from _ _ (above_nul (224 + c / 4096) (omega arith)) (two (128 + c / 64 % 64) (128 + c % 64) (omega arith) (omega arith)))
-    (and_from _ _ (above_nul (240 + c / 262144) (omega arith))
-    (and_from _ _ (above_nul (128 + c / 4096 % 64) (omega arith)) (two (128 + c / 64 % 64) (128 + c % 64) (omega arith) (omega arith))))
-
-not_nul : (w : Switches) (n : ℕ) → w.allow_nul ≡ false → allows_value w n ≡ true → not (n == 0) ≡ true
-not_nul w n off h = subst (λ b. (b || not (n == 0)) ≡ true) off h
-
-escape_no_nul : (w : Switches) (e : Escape) → w.allow_nul ≡ false → is_escape w e ≡ true → has_no_nul (value_bytes (escape_value e)) ≡ true
+escape_no_nul : (w : Switches) (e : Escape) → w.allow_nul ≡ false → is_escape w e ≡ true → list_any is_nul (value_bytes (escape_value e)) ≡ false
 escape_no_nul w (simple_escape c) off h =
-    let p = and_parts (is_simple c) _ h in and_from _ _ (not_nul w _ off p.1) refl
+    let p = and_parts (is_simple c) _ h in or_from _ _ (not_nul w _ off p.1) refl
 escape_no_nul w (hex_escape c d) off h =
-    let p = and_parts _ (allows_value w (pair_value c d)) h in and_from _ _ (not_nul w _ off p.1) refl
+    let p = and_parts _ (allows_value w (pair_value c d)) h in or_from _ _ (not_nul w _ off p.1) refl
 escape_no_nul w (unicode_escape inner) off h =
     let p = and_parts _ (is_scalar (hex_value inner)) h in
     let q = and_parts _ (allows_value w (hex_value inner)) p.0 in
     encode_no_nul (hex_value inner) (not_nul w _ off q.1)
 
-item_no_nul : (w : Switches) (a : Item) → w.allow_nul ≡ false → is_item w a ≡ true → has_no_nul (item_value a) ≡ true
+item_no_nul : (w : Switches) (a : Item) → w.allow_nul ≡ false → is_item w a ≡ true → list_any is_nul (item_value a) ≡ false
 item_no_nul w (plain_item c) off h = let p = and_parts _ (allows_value w c) h in encode_no_nul c (not_nul w c off p.1)
 item_no_nul w (escape_item e) off h = escape_no_nul w e off h
 item_no_nul w (continuation a) off h = refl
 
-body_no_nul : (w : Switches) (items : List Item) → w.allow_nul ≡ false → is_body w items ≡ true → has_no_nul (body_value items) ≡ true
+body_no_nul : (w : Switches) (items : List Item) → w.allow_nul ≡ false → is_body w items ≡ true → list_any is_nul (body_value items) ≡ false
 body_no_nul w [] off h = refl
 body_no_nul w (a ∷ items) off h =
     let p = and_parts _ (is_body w items) h in
     let q = and_parts (is_item w a) _ p.0 in
-    list_all-append _ (item_value a) (body_value items) ∙ and_from _ _ (item_no_nul w a off q.0) (body_no_nul w items off p.1)
+    list_any-append is_nul (item_value a) (body_value items) ∙ or_from _ _ (item_no_nul w a off q.0) (body_no_nul w items off p.1)
 
 pub no_nul_in_quoted_c_strings : NoNulInQuotedCStrings
-no_nul_in_quoted_c_strings w t items off h = none_of (body_value items) (body_no_nul w items off h.body)
-  where
-    none_of : (bs : List ℕ) → has_no_nul bs ≡ true → list_any (λ b. b == 0) bs ≡ false
-    none_of [] h = refl
-    none_of (b ∷ bs) h =
-        let both = and_parts (not (b == 0)) (has_no_nul bs) h in or_from _ _ (not-true _ both.0) (none_of bs both.1)
+no_nul_in_quoted_c_strings w t items off h = body_no_nul w items off h.body
 
 pub no_quoted_text_ends_with_line_feed : NoQuotedTextEndsWithLineFeed
 no_quoted_text_ends_with_line_feed front w t q h =

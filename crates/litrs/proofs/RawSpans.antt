@@ -4,10 +4,9 @@ use Rattle.std.specs.Prelude.{◌==◌, encode_utf8_all}
 use Rattle.std.specs.Char.{encode_utf8}
 use Rattle.std.specs.List.{list_all, list_any, prefix_len, slice_index}
 use Rattle.std.specs.Option.{ForSome}
-use Rattle.std.proofs.lemmas.Bool.{and_parts, true≢false, false≢true, eqb-true, ne_eqb, ltb-true, not-true, or_from, or_parts}
-use Rattle.std.proofs.lemmas.List.{take-append-drop, drop_more, length-take-le, append_assoc, append-nil}
-use Rattle.std.proofs.lemmas.List.Recursion.{or_from_places}
-use Rattle.std.proofs.lemmas.Str.{inside_one}
+use Rattle.std.proofs.lemmas.Bool.{and_parts, true≢false, false≢true, eqb-true, ltb-true, not-true, or_from}
+use Rattle.std.proofs.lemmas.List.{take-append-drop, drop_more, length-take-le, append_assoc}
+use Rattle.std.proofs.lemmas.List.Folds.{list_any-append}
 use Rattle.litrs.specs.declared.err.ParseErrorKind.{ParseErrorKind}
 use Rattle.litrs.specs.declared.err.ParseErrorKind.TheVariants.{InvalidLiteral, TooManyHashes, UnterminatedRawString}
 use Rattle.litrs.specs.declared.err.ParseError.{ParseError}
@@ -18,6 +17,7 @@ use Rattle.litrs.specs.Raw.{is_quote, is_hash, is_nul, hashes, raw_closing, is_r
 use Rattle.litrs.proofs.Runs.{last_passes, is_line_feed, last_passes-all, last_passes-append, last_passes-both, list_all-weaken}
 use Rattle.litrs.proofs.Spans.{byte_len-append, is_ascii_char, byte_len_ascii, plain_within, over_within, at_within, of_some, of_none}
 use Rattle.litrs.proofs.SuffixStart.{suffix_last}
+use Rattle.litrs.proofs.NoNul.{encode_no_nul}
 use Rattle.litrs.proofs.RawCuts.{hashes_pass, length-hashes, hash_cut, ClosingCut, closing_cut, length_before_le}
 use Rattle.litrs.proofs.RawLaws.{fault_of_hashes, before_closing, behind_closing}
 
@@ -137,15 +137,6 @@ raw_last unicode allow_nul front d g =
 
 -- the value where NUL is not allowed
 
-encode_no_nul : (c : ℕ) → is_nul c ≡ false → list_any is_nul (encode_utf8 c) ≡ false
-encode_no_nul c h = or_from_places (list_any is_nul) is_nul refl (λ _ _. refl) (encode_utf8 c) 0
-    (λ i inside. ne_eqb _ 0 (λ zero_byte.
-    true≢false (sym (ap is_nul (inside_one c [] (encode_utf8 c) i (sym (append-nil (encode_utf8 c))) inside (omega arith) ∙ zero_byte)) ∙ h)))
-
-list_any-append : (p : ℕ → Bool) (xs ys : List ℕ) → list_any p xs ≡ false → list_any p ys ≡ false → list_any p (xs ++ ys) ≡ false
-list_any-append p [] ys a b = b
-list_any-append p (x ∷ xs) ys a b = or_from _ _ (or_parts _ _ a).0 (list_any-append p xs ys (or_parts _ _ a).1 b)
-
 raw_char_no_nul : (unicode : Bool) (c : ℕ) → is_raw_char unicode false c ≡ true → is_nul c ≡ false
 raw_char_no_nul unicode c h = not-true _ (and_parts (unicode || ltb c 128) _ (and_parts (not (c == 13)) _ h).1).1
 
@@ -153,4 +144,4 @@ pub raw_no_nul : (unicode : Bool) (body : List ℕ) → list_all (is_raw_char un
 raw_no_nul unicode [] h = refl
 raw_no_nul unicode (c ∷ cs) h =
     let parts : (is_raw_char unicode false c ≡ true) × (list_all (is_raw_char unicode false) cs ≡ true) = and_parts _ _ h in
-    list_any-append is_nul (encode_utf8 c) (encode_utf8_all cs) (encode_no_nul c (raw_char_no_nul unicode c parts.0)) (raw_no_nul unicode cs parts.1)
+    list_any-append is_nul (encode_utf8 c) (encode_utf8_all cs) ∙ or_from _ _ (encode_no_nul c (raw_char_no_nul unicode c parts.0)) (raw_no_nul unicode cs parts.1)

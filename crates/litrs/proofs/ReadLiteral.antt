@@ -8,21 +8,13 @@ use Rattle.litrs.specs.Text.{first_passes}
 use Rattle.litrs.specs.Suffix.{is_empty}
 use Rattle.litrs.specs.Bool.{bool_text, is_bool}
 use Rattle.litrs.specs.Reading.{IsOnlyReading, HasNoReading}
-use Rattle.litrs.specs.Integer.{integer_fault}
+use Rattle.litrs.specs.Integer.{IntegerParts, IsIntegerOf, integer_fault}
 use Rattle.litrs.specs.Literal.{Derivation, a_bool, an_integer, IsLiteral}
 use Rattle.litrs.specs.LiteralFault.{begins_float}
 use Rattle.litrs.specs.ReadLiteral.{IsReadLiteral, read_rows, read_fault}
 use Rattle.litrs.proofs.IntegerLaws.{starts_with_digit, not_empty_by_first, integer_fault-free}
 use Rattle.litrs.proofs.NumberLaws.{integer_begins}
 use Rattle.litrs.proofs.LiteralLaws.{is_bool-digit, literals_are_unique}
-
-read_is_literal : (t : List ℕ) (d : Derivation) → IsReadLiteral t d → IsLiteral t d
-read_is_literal t (a_bool b) r = r
-read_is_literal t (an_integer d) r = r
-read_is_literal t d r = absurd r
-
-pub only_literal : (t : List ℕ) (d e : Derivation) → IsReadLiteral t d → IsReadLiteral t e → e ≡ d
-only_literal t d e r s = literals_are_unique t e d (read_is_literal t e s) (read_is_literal t d r)
 
 -- Where there is a derivation no refusal stands
 
@@ -55,5 +47,8 @@ read_fault-free t d r = absurd r
 pub no_literal : (t : List ℕ) (e : ParseError) → read_fault t ≡ Some e → HasNoReading (IsReadLiteral t)
 no_literal t e fault d r = let free = read_fault-free t d r in cc
 
-pub only_bool : (t : List ℕ) (b : BoolLit) → bool_text b ≡ t → IsOnlyReading (IsReadLiteral t) (a_bool b)
-only_bool t b r = (r, λ e s. only_literal t (a_bool b) e r s)
+pub only_bool : (t : List ℕ) (b : BoolLit) → bool_text b ≡ t → IsOnlyReading (IsLiteral t) (a_bool b)
+only_bool t b r = (r, λ e s. literals_are_unique t e (a_bool b) s r)
+
+pub only_integer_literal : (t : List ℕ) (d : IntegerParts) → IsIntegerOf t d → IsOnlyReading (IsLiteral t) (an_integer d)
+only_integer_literal t d r = (r, λ e s. literals_are_unique t e (an_integer d) s r)

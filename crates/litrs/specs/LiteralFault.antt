@@ -27,7 +27,7 @@ string_start_fault string_kind = at 0 InvalidStringLiteralStart
 string_start_fault byte_string_kind = plain InvalidByteStringLiteralStart
 string_start_fault c_string_kind = plain InvalidCStringLiteralStart
 
--- How a text starts tells its refusal, or the table where that stands.
+-- How a text starts: it is refused at once, or the table of quoted or of raw literals tells its refusal.
 pub data StringStart : Type 0 where
   refused_start : ParseError → StringStart
   quoted_start : StringStart
@@ -72,7 +72,8 @@ is_float_mark c = (c == period) || is_e c
 abbrev pub begins_float : List ℕ → Bool
 begins_float t = first_passes is_float_mark (drop (prefix_len (is_digit_or_underscore Decimal) t) t)
 
--- How a text of any kind begins tells the kind whose table refuses it, or its refusal where no kind begins so.
+-- By how a text begins it is read as a literal of one kind, whose table tells its refusal, or no kind begins so and it
+-- is refused at once.
 pub data Dispatch : Type 0 where
   refused_as : ParseError → Dispatch
   read_as : LiteralKind → Dispatch
@@ -90,7 +91,7 @@ dispatch t =
     else if begins_with (codes "c") t then read_as c_string_literal
     else refused_as (plain InvalidLiteral)
 
--- the refusals of a text that is dispatched so; a bool has none
+-- the refusals of a text that is dispatched so; one that is read as a bool is a bool, and has none
 abbrev pub IsFaultOfDispatch : Dispatch → List ℕ → ParseError → Type 0
 IsFaultOfDispatch (refused_as refusal) t e = refusal ≡ e
 IsFaultOfDispatch (read_as kind) t e = IsKindFault kind t e

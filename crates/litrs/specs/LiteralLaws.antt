@@ -18,11 +18,13 @@ TextsAreDecided = (parse : Parse) (t : List ℕ) →
 
 -- never both,
 abbrev pub LiteralsAreNotRefused : Type 0
-LiteralsAreNotRefused = (parse : Parse) (t : List ℕ) (d : Derivation) (e : ParseError) → IsLiteralOf parse t d → ¬ IsFault parse t e
+LiteralsAreNotRefused = (parse : Parse) (t : List ℕ) (d : Derivation) (e : ParseError) →
+    IsLiteralOf parse t d → ¬ IsFault parse t e
 
 -- and at most one pair of kind and span refuses it.
 abbrev pub RefusalsAreUnique : Type 0
-RefusalsAreUnique = (parse : Parse) (t : List ℕ) (e f : ParseError) → IsFault parse t e → IsFault parse t f → e ≡ f
+RefusalsAreUnique = (parse : Parse) (t : List ℕ) (e f : ParseError) →
+    IsFault parse t e → IsFault parse t f → e ≡ f
 
 -- the span of each refusal lies within the text and starts on a character boundary
 abbrev pub RefusalSpansLieInText : Type 0

@@ -22,8 +22,8 @@ IsReadLiteral t (a_string d) = ⊥
 IsReadLiteral t (a_byte_string d) = ⊥
 IsReadLiteral t (a_c_string d) = ⊥
 
--- The refusal of a text of any kind, by how it begins. A text that no kind begins with, and one of a kind that is not read
--- yet, is no literal.
+-- The refusal of a text, by how it begins. A text that no kind begins with, and one of a kind that is not read yet, is no
+-- literal.
 abbrev pub read_rows : (is_empty is_bool is_digit is_float : Bool) → Option ParseError → Option ParseError
 read_rows is_empty is_bool is_digit is_float integer =
     if is_empty then Some (plain Empty)

@@ -10,7 +10,7 @@ ghost use Rattle.std.specs.Cmp.Lexicographic.{pointwise, nat_list_eq_equiv};
 ghost use Rattle.std.specs.Str.{chars};
 ghost use Rattle.litrs.specs.Fault.{kind_of, IsInText};
 ghost use Rattle.litrs.specs.Reading.{IsOnlyReading, HasNoReading};
-ghost use Rattle.litrs.specs.Literal.{suffix_of};
+ghost use Rattle.litrs.specs.Literal.{IsLiteral, suffix_of};
 ghost use Rattle.litrs.specs.ReadLiteral.{IsReadLiteral, read_fault};
 ghost use Rattle.litrs.specs.LiteralDerivation.{literal_raw, derivation};
 
@@ -49,7 +49,7 @@ impl<B: Buffer> Literal<B> {
     /// Refused as `Empty`, as the kind that the text begins like refuses it, or as `InvalidLiteral`.
     pub fn parse(_alloc: Global, input: B) -> Result<Literal<B>, ParseError>
         ensures raw { IfOk result (λ lit. literal_raw lit ≡ B.bytes input) }
-        ensures ok { IfOk result (λ lit. IsOnlyReading (IsReadLiteral (chars (B.bytes input))) (derivation lit)) }
+        ensures ok { IfOk result (λ lit. IsOnlyReading (IsLiteral (chars (B.bytes input))) (derivation lit)) }
         ensures none { OnErr result (HasNoReading (IsReadLiteral (chars (B.bytes input)))) }
         ensures fault { IfErr result (λ e. read_fault (chars (B.bytes input)) ≡ Some e) }
         ensures span { IfErr result (IsInText (chars (B.bytes input))) }

@@ -5,7 +5,7 @@ use Rattle.std.proofs.lemmas.Result.{err_from_is_err_and}
 use Rattle.litrs.specs.Integer.{integer_fault}
 use Rattle.litrs.specs.ReadLiteral.{read_fault}
 use Rattle.litrs.proofs.BoolLemmas.{bool_text_from_chars}
-use Rattle.litrs.proofs.ReadLiteral.{no_literal, only_bool}
+use Rattle.litrs.proofs.ReadLiteral.{no_literal, only_bool, only_integer_literal}
 use Rattle.litrs.specs.declared.err.ParseError.{ParseError}
 use Rattle.litrs.specs.declared.err.ParseErrorKind.TheVariants.{OutOfMemory}
 use Rattle.litrs.specs.Fault.{kind_of}
@@ -40,3 +40,6 @@ returns-in-Refused-clause-span g c = read_fault_within _ c.in-Refused.e (ap read
 
 pub returns-in-Refused-clause-memory : goal.returns-in-Refused-clause-memory
 returns-in-Refused-clause-memory g c = read_fault_of_text _ c.in-Refused.e (ap read_fault (ap chars (sym c.as_str.ensures)) ∙ c.in-Refused.ensures)
+
+pub returns-in_ok-parse-in-Integer-clause-ok : goal.returns-in_ok-parse-in-Integer-clause-ok
+returns-in_ok-parse-in-Integer-clause-ok g c = only_integer_literal _ _ c.in_ok-parse-in-Integer.ensures.ok.0
