@@ -3,7 +3,7 @@ use Rattle.std.specs.Prelude.{◌≡◌, true, false, [], ◌∷◌, ◌++◌, c
 use Rattle.std.specs.Char.{encode_utf8}
 use Rattle.std.proofs.lemmas.Bool.{leb-true}
 use Rattle.unicode_ident.proofs.Computing.{unicode_ident}
-use Rattle.litrs.specs.declared.bool.BoolLit.TheVariants.{False, True}
+use Rattle.litrs.specs.declared.bool.BoolLit.TheVariants.{True}
 use Rattle.litrs.specs.declared.err.ParseErrorKind.TheVariants.{Empty, UnexpectedChar, InvalidLiteral, NoDigits, NoExponentDigits, UnescapedSingleQuote, EmptyByteLiteral, NonAsciiInByteLiteral, NulByte, DoesNotStartWithDigit, DoesNotStartWithQuote, UnterminatedString, UnterminatedRawString, UnterminatedUnicodeEscape, InvalidStringLiteralStart, InvalidByteLiteralStart, InvalidByteStringLiteralStart, InvalidCStringLiteralStart, TooManyHashes, InvalidSuffix, UnexpectedIntegerLit, IntegerSuffixStartingWithE, OutOfMemory}
 use Rattle.litrs.specs.Fault.{plain, at, over}
 use Rattle.litrs.specs.Suffix.{is_suffix}

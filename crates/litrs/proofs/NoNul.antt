@@ -1,5 +1,5 @@
 -- The bytes of a character that is not NUL.
-use Rattle.std.proofs.Common.{◌≡◌, ℕ, true, false, [], refl, sym, ap, ◌∙◌, arith}
+use Rattle.std.proofs.Common.{◌≡◌, ℕ, false, [], refl, sym, ap, ◌∙◌, arith}
 use Rattle.std.specs.Char.{encode_utf8}
 use Rattle.std.specs.List.{list_any}
 use Rattle.std.proofs.lemmas.Bool.{true≢false, ne_eqb}
