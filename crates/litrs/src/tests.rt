@@ -96,8 +96,9 @@ const NO_INTEGERS: [Refusal; 5] = [
 ];
 
 /// Texts that begin like no literal, or like one of a kind that is not read yet.
-const NO_LITERALS: [&str; 13] = [
-    "1e3", "1.", "1_.5", "\"a\"", "'a'", "b'a'", "r", "foo", ".5", "_3", "False", "fals", " 0",
+const NO_LITERALS: [&str; 14] = [
+    "1e3", "1.", "1_.5", "\"a\"", "'a'", "b'a'", "r", "foo", ".5", "_3", "False", "fals", "a_123",
+    " 0",
 ];
 
 /// Checks a parsed integer, by each accessor.
