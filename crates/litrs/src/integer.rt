@@ -1,11 +1,9 @@
 //! Integer literals.
-ghost use Rattle.std.specs.Prelude.{◌≡◌, ◌≤◌, ℕ, length, Bool, false, IsTrue, MatchOption, slice_index, IsOk, IfOk, OnErr, IfErr, Some};
-ghost use Rattle.std.specs.Prelude.{nat_eq};
+ghost use Rattle.std.specs.Prelude.{◌≡◌, ◌≤◌, ℕ, length, Bool, false, IsTrue, MatchOption, slice_index, IsOk, IfOk, OnErr, IfErr, Some, nat_eq};
 ghost use Rattle.std.specs.Char.{is_ascii_digit};
 ghost use Rattle.std.specs.Cmp.{on_per, on_equiv, partial_equiv_from_equiv};
 ghost use Rattle.std.specs.Cmp.Lexicographic.{pointwise, nat_list_eq_equiv};
-ghost use Rattle.std.specs.List.{prefix_len, list_any};
-ghost use Rattle.std.specs.List.{list_all};
+ghost use Rattle.std.specs.List.{prefix_len, list_all, list_any};
 ghost use Rattle.std.specs.Option.{SomeIff};
 ghost use Rattle.std.specs.Str.{chars};
 ghost use Rattle.litrs.specs.Base.{base_value, is_digit_or_underscore};
@@ -51,7 +49,11 @@ impl<B: Buffer> Model for IntegerLit<B> {
 impl<B: Buffer> IntegerLit<B> {
     /// Parses the input as an integer literal.
     ///
-    /// Refused as `Empty`, as `DoesNotStartWithDigit`, or as [`cut_integer`] refuses it.
+    /// Refused as `Empty`, as `DoesNotStartWithDigit`, or as [`cut_integer`] refuses it. It takes no
+    /// memory.
+    ///
+    /// `0xFF_u8` has the base 16, the main part `FF_` and the suffix `u8`. `0b12` is refused as
+    /// `InvalidDigit` at 3..4.
     pub fn parse(input: B) -> Result<IntegerLit<B>, ParseError>
         ensures buffer { IfOk result (λ lit. lit.buffer ≡ input) }
         ensures raw { IfOk result (λ lit. lit.raw ≡ B.bytes input) }
@@ -68,6 +70,7 @@ impl<B: Buffer> IntegerLit<B> {
     /// need to match the suffix.
     ///
     /// None exactly where the number is greater than the greatest number of `N`. It takes no memory.
+    /// `0b1111_1111` is `Some(255)` as a `u8` and None as an `i8`; `128i8` is `Some(128)` as a `u8`.
     pub fn value<N: FromIntegerLiteral>(&self) -> Option<N>
         ensures { let number = integer_value (integer_parts self.now) in SomeIff result (number ≤ N.greatest) (N.of number) }
     {
@@ -217,7 +220,8 @@ pub struct IntegerCut {
 ///
 /// Refused with `InvalidDigit` where a decimal digit follows the main part, with the refusal of the
 /// suffix where what follows is no suffix, with `IntegerSuffixStartingWithE` where the suffix begins
-/// with `e` or `E`, and with `NoDigits` where the main part has no digit. See [the reference][ref].
+/// with `e` or `E`, and with `NoDigits` where the main part has no digit. Of `0x_7fu8` the main part
+/// goes from 2 to 5. See [the reference][ref].
 ///
 /// [ref]: https://doc.rust-lang.org/reference/tokens.html#integer-literals
 pub fn cut_integer(input: &str) -> Result<IntegerCut, ParseError>

@@ -47,6 +47,13 @@ impl<B: Buffer> Literal<B> {
     /// Parses the input as a literal of any kind.
     ///
     /// Refused as `Empty`, as the kind that the text begins like refuses it, or as `InvalidLiteral`.
+    /// Bools and integers are read today: a text that another kind begins like, as `1.5` or `"a"`, is
+    /// `InvalidLiteral`.
+    ///
+    /// `true` is a bool, `1_000u32` an integer with the suffix `u32`. `0 ` is refused as
+    /// `UnexpectedChar` at 1..2. See [the reference][ref].
+    ///
+    /// [ref]: https://doc.rust-lang.org/reference/tokens.html#literals
     pub fn parse(_alloc: Global, input: B) -> Result<Literal<B>, ParseError>
         ensures raw { IfOk result (λ lit. literal_raw lit ≡ B.bytes input) }
         ensures ok { IfOk result (λ lit. IsOnlyReading (IsLiteral (chars (B.bytes input))) (derivation lit)) }

@@ -52,7 +52,7 @@ fn begins_float(bytes: &[u8]) -> bool
     matches!(&bytes[end_dec_digits(bytes)..], [b'.' | b'e' | b'E', ..])
 }
 
-/// How many decimal digits and underscores stand at the front, in bytes.
+/// How many decimal digits and underscores stand at the front, in bytes: 4 of `1_0_a2`.
 pub fn end_dec_digits(input: &[u8]) -> usize
     ensures run { result ≡ prefix_len (is_digit_or_underscore IntegerBase.Decimal) input.now }
     ensures within { result ≤ length input.now }
@@ -63,7 +63,7 @@ pub fn end_dec_digits(input: &[u8]) -> usize
         .count()
 }
 
-/// The value of a hex digit of either case, 0 to 15, or None.
+/// The value of a hex digit of either case, 0 to 15, or None: `Some(10)` for `a`, None for `g`.
 pub fn hex_digit_value(digit: u8) -> Option<u8>
     ensures { SomeIff result (IsTrue (is_ascii_hexdigit digit)) (digit_value digit) }
 {
@@ -143,7 +143,8 @@ fn suffix_fault(s: &str) -> ParseErrorKind
 /// Makes sure that `s` is a literal suffix: empty, or an identifier other than the lone `_`.
 ///
 /// Refused as `UnexpectedChar` where it begins with an ASCII character that is neither a letter nor
-/// `_`, else as `InvalidSuffix`. See [the reference][ref].
+/// `_`, else as `InvalidSuffix`. The empty text, `u8` and `_x` are suffixes; `_` and `1x` are none.
+/// See [the reference][ref].
 ///
 /// [ref]: https://doc.rust-lang.org/reference/tokens.html#suffixes
 pub fn check_suffix(s: &str) -> Result<(), ParseErrorKind>
