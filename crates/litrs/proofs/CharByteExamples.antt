@@ -161,6 +161,7 @@ unfolding computing
 face = record { spells = refl; item = refl; suffix = refl }
 
 face_value : char_value (escaped_char (unicode_escape (codes "1_F6_02_____"))) ≡ 0x1F602
+unfolding computing
 face_value = refl
 
 nul_char : IsCharLiteral char_kind (39 ∷ 0 ∷ 39 ∷ []) (record { item = plain_char 0; suffix = [] })

@@ -2,10 +2,11 @@
 use Rattle.std.specs.Char.{encode_utf8}
 use Rattle.unicode_ident.proofs.Computing.{unicode_ident}
 use Rattle.litrs.specs.Suffix.{is_suffix}
+use Rattle.litrs.specs.Numeral.{place_sum}
 use Rattle.litrs.specs.Escape.{escape_fault}
 use Rattle.litrs.specs.Quoted.{rest_fault}
 use Rattle.litrs.specs.CharByte.{char_kind_fault}
 
 unfoldable pub computing : Unit {0}
-unfolding encode_utf8 unicode_ident is_suffix escape_fault rest_fault char_kind_fault
+unfolding encode_utf8 unicode_ident is_suffix place_sum escape_fault rest_fault char_kind_fault
 computing = tt

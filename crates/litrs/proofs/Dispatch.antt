@@ -1,5 +1,5 @@
 -- The dispatch over the kinds, by the bytes of the text.
-use Rattle.std.proofs.Common.{◌≡◌, ℕ, true, false, List, [], drop, slice_get, Some, ap, ◌∙◌, arith}
+use Rattle.std.proofs.Common.{◌≡◌, ℕ, true, false, List, [], drop, slice_get, Some, sym, ap, ◌∙◌, arith}
 use Rattle.std.specs.Str.{chars, IsUtf8}
 use Rattle.std.specs.Char.{is_ascii_digit}
 use Rattle.std.specs.List.{prefix_len}
@@ -7,19 +7,19 @@ use Rattle.std.proofs.lemmas.Str.{chars-nil}
 use Rattle.std.proofs.lemmas.Bool.Decides.{nat_tests}
 use Rattle.litrs.specs.declared.bool.BoolLit.{BoolLit}
 use Rattle.litrs.specs.declared.integer.IntegerBase.TheVariants.{Decimal}
-use Rattle.litrs.specs.declared.err.ParseErrorKind.TheVariants.{Empty, InvalidLiteral}
+use Rattle.litrs.specs.declared.err.ParseErrorKind.TheVariants.{Empty}
 use Rattle.litrs.specs.Fault.{plain}
 use Rattle.litrs.specs.Text.{first_passes}
 use Rattle.litrs.specs.Base.{is_digit_or_underscore}
-use Rattle.litrs.specs.Bool.{bool_text}
+use Rattle.litrs.specs.Bool.{bool_text, bool_fault}
 use Rattle.litrs.specs.Integer.{integer_fault}
 use Rattle.litrs.specs.LiteralFault.{is_float_mark, begins_float}
-use Rattle.litrs.specs.ReadLiteral.{read_rows, read_fault}
+use Rattle.litrs.specs.ReadLiteral.{read_fault}
 use Rattle.litrs.proofs.Chars.{OnlyAscii, prefix_len-chars, passing_front, first_passes-chars}
 use Rattle.litrs.proofs.Firsts.{first_passes_at}
 use Rattle.litrs.proofs.IntegerLemmas.{digits_are_ascii, digit-chars, filled_by_first}
-use Rattle.litrs.proofs.LiteralLaws.{is_bool-none}
-use Rattle.litrs.proofs.ReadLiteral.{read_fault-digit, read_fault-other}
+use Rattle.litrs.proofs.LiteralLaws.{is_bool-none, bool_fault-none}
+use Rattle.litrs.proofs.ReadLiteral.{read_rows, read_fault_by_rows, read_fault-digit, read_fault-other}
 
 marks_are_ascii : OnlyAscii is_float_mark
 marks_are_ascii c high = grind (arith, nat_tests)
@@ -32,8 +32,7 @@ begins_float-chars bs u =
     ∙ (ap (first_passes is_float_mark) front.rest ∙ first_passes-chars is_float_mark (drop (prefix_len p bs) bs) marks_are_ascii front.utf8)
 
 pub dispatch-empty : (bs : List ℕ) → bs ≡ [] → read_fault (chars bs) ≡ Some (plain Empty)
-unfolding read_fault
-dispatch-empty bs e = ap (λ t. read_fault (chars t)) e ∙ ap read_fault chars-nil
+dispatch-empty bs e = ap (λ t. read_fault (chars t)) e ∙ (ap read_fault chars-nil ∙ read_fault_by_rows [])
 
 -- a text whose first byte is a digit
 pub dispatch-digit : (bs : List ℕ) (b : ℕ) → IsUtf8 bs → slice_get bs 0 ≡ Some b → is_ascii_digit b ≡ true →
@@ -44,7 +43,8 @@ dispatch-digit bs b u first digit =
 
 -- one whose first byte is none, and which is no bool
 pub dispatch-other : (bs : List ℕ) (b : ℕ) → IsUtf8 bs → slice_get bs 0 ≡ Some b → is_ascii_digit b ≡ false →
-    ((lit : BoolLit) → bool_text lit ≡ chars bs → ⊥) → read_fault (chars bs) ≡ Some (plain InvalidLiteral)
+    ((lit : BoolLit) → bool_text lit ≡ chars bs → ⊥) → read_fault (chars bs) ≡ bool_fault (chars bs)
 dispatch-other bs b u first digit none =
     read_fault-other (chars bs) false (filled_by_first bs b u first) (is_bool-none (chars bs) none)
     (digit-chars bs u ∙ (first_passes_at is_ascii_digit bs b first ∙ digit))
+    ∙ sym (bool_fault-none (chars bs) none)

@@ -150,6 +150,7 @@ last_byte : Stands byte_switches (hex_escape 70 70) (codes "\\xFF") (Byte 255)
 last_byte = (refl, refl, refl)
 
 face : Stands char_switches (unicode_escape (codes "1_F6_02_____")) (codes "\\u{1_F6_02_____}") (Unicode 0x1F602)
+unfolding computing
 face = (refl, refl, refl)
 
 face_bytes : value_bytes (Unicode 0x1F602) ≡ 0xF0 ∷ 0x9F ∷ 0x98 ∷ 0x82 ∷ []

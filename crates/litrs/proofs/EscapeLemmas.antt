@@ -111,16 +111,30 @@ fault_braced w inner x u a none =
     (none_unless _ _ _ (list_any-split (λ c. c == 125) inner 125 x refl)
     (subst (λ l. inner_fault w l ≡ None) (sym (before_first-split (λ c. c == 125) inner 125 x open_inner refl)) none))
 
-pub fault_unicode : (w : Switches) (inner x : List ℕ) → is_escape w (unicode_escape inner) ≡ true →
-    escape_fault w (92 ∷ 117 ∷ 123 ∷ (inner ++ 125 ∷ x)) ≡ None
-unfolding escape_fault
-fault_unicode w inner x h =
+-- what an escape has between its braces, test by test
+pub record IsInner (w : Switches) (inner : List ℕ) : Type 0 where
+  pub unicode : w.unicode ≡ true
+  pub first : first_passes is_ascii_hexdigit inner ≡ true
+  pub all : list_all is_hex_or_underscore inner ≡ true
+  pub few : leb (count_by is_ascii_hexdigit inner) 6 ≡ true
+  pub allowed : allows_value w (hex_value inner) ≡ true
+  pub scalar : is_scalar (hex_value inner) ≡ true
+
+pub inner_of : (w : Switches) (inner : List ℕ) → is_escape w (unicode_escape inner) ≡ true → IsInner w inner
+inner_of w inner h =
     let a = and_parts _ (is_scalar (hex_value inner)) h in
     let b = and_parts _ (allows_value w (hex_value inner)) a.0 in
     let c = and_parts _ (leb (count_by is_ascii_hexdigit inner) 6) b.0 in
     let d = and_parts _ (list_all is_hex_or_underscore inner) c.0 in
     let e = and_parts w.unicode (first_passes is_ascii_hexdigit inner) d.0 in
-    fault_braced w inner x e.0 d.1 (inner_none w inner e.1 d.1 c.1 b.1 a.1)
+    record { unicode = e.0; first = e.1; all = d.1; few = c.1; allowed = b.1; scalar = a.1 }
+
+pub fault_unicode : (w : Switches) (inner x : List ℕ) → is_escape w (unicode_escape inner) ≡ true →
+    escape_fault w (92 ∷ 117 ∷ 123 ∷ (inner ++ 125 ∷ x)) ≡ None
+unfolding escape_fault
+fault_unicode w inner x h =
+    let is = inner_of w inner h in
+    fault_braced w inner x is.unicode is.all (inner_none w inner is.first is.all is.few is.allowed is.scalar)
 
 -- an escape at the front of a text
 pub fault_escape : (w : Switches) (e : Escape) (x : List ℕ) → is_escape w e ≡ true → escape_fault w (escape_text e ++ x) ≡ None
@@ -242,12 +256,7 @@ read_escape w (c ∷ t) h =
 
 -- no closing brace stands inside an escape
 pub unicode_parts : (w : Switches) (inner : List ℕ) → is_escape w (unicode_escape inner) ≡ true → list_all (λ c. not (c == 125)) inner ≡ true
-unicode_parts w inner h =
-    let a = and_parts _ (is_scalar (hex_value inner)) h in
-    let b = and_parts _ (allows_value w (hex_value inner)) a.0 in
-    let c = and_parts _ (leb (count_by is_ascii_hexdigit inner) 6) b.0 in
-    let d = and_parts _ (list_all is_hex_or_underscore inner) c.0 in
-    list_all-weaken _ _ not_brace inner d.1
+unicode_parts w inner h = list_all-weaken _ _ not_brace inner (inner_of w inner h).all
 
 second_same : (c d : ℕ) (x y : List ℕ) → 92 ∷ c ∷ x ≡ 92 ∷ d ∷ y → c ≡ d
 second_same c d x y same = cc

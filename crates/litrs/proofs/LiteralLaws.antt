@@ -21,6 +21,7 @@ use Rattle.litrs.specs.Raw.{RawParts, raw_front, IsRawLiteral, raw_literal_fault
 use Rattle.litrs.specs.Literal.{StringParts, quoted_parts, raw_parts, IsString, Derivation, a_bool, an_integer, a_float, a_char, a_byte, a_string, a_byte_string, a_c_string, IsLiteral, LiteralKind, bool_literal, integer_literal, float_literal, char_literal, byte_literal, string_literal, byte_string_literal, c_string_literal, literal_kind, literal_parse, kind_parse, IsLiteralOf}
 use Rattle.litrs.specs.LiteralFault.{StringStart, refused_start, quoted_start, raw_start, string_start, string_start_fault, IsFaultOfStart, IsStringFault, IsKindFault, begins_float, Dispatch, refused_as, read_as, dispatch, IsFaultOfDispatch}
 use Rattle.litrs.specs.LiteralLaws.{LiteralsAreUnique, TextsAreDecided, LiteralsAreNotRefused, RefusalsAreUnique}
+use Rattle.litrs.proofs.BoolLemmas.{same_bool}
 use Rattle.litrs.proofs.Begins.{begins_with-split, begins_with-append}
 use Rattle.litrs.proofs.IntegerLaws.{only_integer, starts_with_digit, not_empty_by_first, integer_fault-free}
 use Rattle.litrs.proofs.IntegerLaws.{readable as readable_integer}
@@ -65,11 +66,8 @@ is_bool-digit t digit = false_from_ne_true (is_bool t) (λ e. let b = some_bool 
 pub is_bool-none : (t : List ℕ) → ((b : BoolLit) → bool_text b ≡ t → ⊥) → is_bool t ≡ false
 is_bool-none t none = false_from_ne_true (is_bool t) (λ e. let b = some_bool t e in none b.0 b.1)
 
-same_bool : (b c : BoolLit) → bool_text b ≡ bool_text c → b ≡ c
-same_bool False False e = refl
-same_bool False True e = cc
-same_bool True False e = cc
-same_bool True True e = refl
+pub bool_fault-none : (t : List ℕ) → ((b : BoolLit) → bool_text b ≡ t → ⊥) → bool_fault t ≡ Some (plain InvalidLiteral)
+bool_fault-none t none = ap (λ v. if v then None else Some (plain InvalidLiteral)) (is_bool-none t none)
 
 bool_free : (t : List ℕ) (b : BoolLit) → bool_text b ≡ t → bool_fault t ≡ None
 bool_free t b is = ap (λ v. if v then None else Some (plain InvalidLiteral)) (ap is_bool (sym is) ∙ is_bool-text b)

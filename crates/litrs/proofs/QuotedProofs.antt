@@ -2,14 +2,14 @@
 use Rattle.std.proofs.Common.{◌≡◌, ℕ, ◌<◌, ◌≤◌, true, false, not, ◌||◌, List, [], ◌∷◌, ◌++◌, length, Some, None, refl, sym, ap, ◌∙◌, subst, arith, ◌⊎◌, inl, inr, append_assoc, length-append, append-nil}
 use Rattle.std.specs.Prelude.{◌==◌}
 use Rattle.std.specs.List.{list_any}
-use Rattle.std.proofs.lemmas.Bool.{and_parts, and_from, not-true, both_ways, or_right, or_left, or_from, not_from_false}
+use Rattle.std.proofs.lemmas.Bool.{false≢true, and_parts, and_from, not-true, both_ways, or_right, or_left, or_from, not_from_false}
 use Rattle.std.proofs.lemmas.List.{append_cancel_left}
 use Rattle.std.specs.Prelude.{◌↔◌}
 use Rattle.std.specs.Char.{encode_utf8}
 use Rattle.std.proofs.lemmas.List.Folds.{list_any-append}
 use Rattle.std.proofs.lemmas.Str.{length-encode, len_utf8_bounds}
 use Rattle.litrs.specs.StringKind.{string_kind, byte_string_kind, c_string_kind}
-use Rattle.litrs.specs.Characters.{is_blank, is_scalar}
+use Rattle.litrs.specs.Characters.{is_blank}
 use Rattle.litrs.specs.declared.err.ParseError.{ParseError}
 use Rattle.litrs.specs.Fault.{moved}
 use Rattle.litrs.specs.Suffix.{is_suffix}
@@ -22,6 +22,7 @@ use Rattle.litrs.proofs.Spans.{byte_len-append}
 use Rattle.litrs.proofs.NoNul.{encode_no_nul}
 use Rattle.litrs.proofs.ByteLen.{length-le-byte_len}
 use Rattle.litrs.proofs.ListTests.{none_unless}
+use Rattle.litrs.proofs.EscapeLemmas.{inner_of}
 use Rattle.litrs.proofs.QuotedLemmas.{closed_before_line_feed, heads_differ, same_items, quote_no_item, refused_no_item, read_items, Reads, SomeReading, Closes, body_stands, stands_body}
 
 -- two quoted texts behind one front
@@ -139,7 +140,7 @@ HasSize value t =
 escape_size : (w : Switches) (e : Escape) → is_escape w e ≡ true → length (value_bytes (escape_value e)) < byte_len (escape_text e)
 escape_size w (simple_escape c) h = let le = length-le-byte_len (92 ∷ c ∷ []) in omega arith
 escape_size w (hex_escape c d) h = let le = length-le-byte_len (92 ∷ 120 ∷ c ∷ d ∷ []) in omega arith
-escape_size w (unicode_escape []) h = let le = length-le-byte_len (92 ∷ 117 ∷ 123 ∷ 125 ∷ []) in omega (arith, length-encode 0)
+escape_size w (unicode_escape []) h = absurd (false≢true (inner_of w [] h).first)
 escape_size w (unicode_escape (c ∷ inner)) h =
     let le = length-le-byte_len (92 ∷ 117 ∷ 123 ∷ c ∷ (inner ++ 125 ∷ [])) in
     let four = len_utf8_bounds (hex_value (c ∷ inner)) in
@@ -206,9 +207,7 @@ escape_no_nul w (simple_escape c) off h =
 escape_no_nul w (hex_escape c d) off h =
     let p = and_parts _ (allows_value w (pair_value c d)) h in or_from _ _ (not_nul w _ off p.1) refl
 escape_no_nul w (unicode_escape inner) off h =
-    let p = and_parts _ (is_scalar (hex_value inner)) h in
-    let q = and_parts _ (allows_value w (hex_value inner)) p.0 in
-    encode_no_nul (hex_value inner) (not_nul w _ off q.1)
+    encode_no_nul (hex_value inner) (not_nul w _ off (inner_of w inner h).allowed)
 
 item_no_nul : (w : Switches) (a : Item) → w.allow_nul ≡ false → is_item w a ≡ true → list_any is_nul (item_value a) ≡ false
 item_no_nul w (plain_item c) off h = let p = and_parts _ (allows_value w c) h in encode_no_nul c (not_nul w c off p.1)

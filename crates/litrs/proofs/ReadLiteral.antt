@@ -1,39 +1,80 @@
 -- The literals that are read as yet: at most one derivation, and one exactly where no refusal stands.
-use Rattle.std.proofs.Common.{◌≡◌, ℕ, Bool, true, false, List, Some, None, refl, sym, ap, ◌∙◌}
+use Rattle.std.proofs.Common.{◌≡◌, ℕ, Bool, true, false, ◌||◌, List, Option, Some, None, refl, sym, ap, ◌∙◌}
+use Rattle.std.specs.Prelude.{codes, if◌then◌else◌}
 use Rattle.std.specs.Char.{is_ascii_digit}
 use Rattle.litrs.specs.declared.bool.BoolLit.{BoolLit}
 use Rattle.litrs.specs.declared.bool.BoolLit.TheVariants.{False, True}
 use Rattle.litrs.specs.declared.err.ParseError.{ParseError}
-use Rattle.litrs.specs.Text.{first_passes}
+use Rattle.litrs.specs.declared.err.ParseErrorKind.TheVariants.{Empty, InvalidLiteral}
+use Rattle.litrs.specs.Fault.{plain}
+use Rattle.litrs.specs.Text.{first_passes, begins_with}
 use Rattle.litrs.specs.Suffix.{is_empty}
-use Rattle.litrs.specs.Bool.{bool_text, is_bool}
+use Rattle.litrs.specs.Bool.{bool_text, is_bool, bool_fault}
 use Rattle.litrs.specs.Reading.{IsOnlyReading, HasNoReading}
 use Rattle.litrs.specs.Integer.{IntegerParts, IsIntegerOf, integer_fault}
-use Rattle.litrs.specs.Literal.{Derivation, a_bool, an_integer, IsLiteral}
-use Rattle.litrs.specs.LiteralFault.{begins_float}
-use Rattle.litrs.specs.ReadLiteral.{IsReadLiteral, read_rows, read_fault}
+use Rattle.litrs.specs.Literal.{Derivation, a_bool, an_integer, IsLiteral, bool_literal, integer_literal, float_literal, char_literal, byte_literal, string_literal, byte_string_literal, c_string_literal}
+use Rattle.litrs.specs.LiteralFault.{begins_float, refused_as, read_as, dispatch}
+use Rattle.litrs.specs.ReadLiteral.{IsReadLiteral, read_dispatch_fault, read_fault}
 use Rattle.litrs.proofs.IntegerLaws.{starts_with_digit, not_empty_by_first, integer_fault-free}
 use Rattle.litrs.proofs.NumberLaws.{integer_begins}
 use Rattle.litrs.proofs.LiteralLaws.{is_bool-digit, literals_are_unique}
 
+-- The refusal by tests of the text: those that tell apart the kinds that are not read yet do not matter.
+abbrev pub read_rows : (is_empty is_bool is_digit is_float : Bool) → Option ParseError → Option ParseError
+read_rows is_empty is_bool is_digit is_float integer =
+    if is_empty then Some (plain Empty)
+    else if is_bool then None
+    else if is_digit then (if is_float then Some (plain InvalidLiteral) else integer)
+    else Some (plain InvalidLiteral)
+
+rows_of_dispatch : (empty bool digit float quote string byte byte_string c_string : Bool) (t : List ℕ) → (bool ≡ true → bool_fault t ≡ None) →
+    read_dispatch_fault
+    (if empty then refused_as (plain Empty)
+    else if bool then read_as bool_literal
+    else if digit then (if float then read_as float_literal else read_as integer_literal)
+    else if quote then read_as char_literal
+    else if string then read_as string_literal
+    else if byte then read_as byte_literal
+    else if byte_string then read_as byte_string_literal
+    else if c_string then read_as c_string_literal
+    else refused_as (plain InvalidLiteral))
+    t ≡ read_rows empty bool digit float (integer_fault t)
+rows_of_dispatch true bool digit float quote string byte byte_string c_string t h = refl
+rows_of_dispatch false true digit float quote string byte byte_string c_string t h = h refl
+rows_of_dispatch false false true true quote string byte byte_string c_string t h = refl
+rows_of_dispatch false false true false quote string byte byte_string c_string t h = refl
+rows_of_dispatch false false false float true string byte byte_string c_string t h = refl
+rows_of_dispatch false false false float false true byte byte_string c_string t h = refl
+rows_of_dispatch false false false float false false true byte_string c_string t h = refl
+rows_of_dispatch false false false float false false false true c_string t h = refl
+rows_of_dispatch false false false float false false false false true t h = refl
+rows_of_dispatch false false false float false false false false false t h = refl
+
+bool_free : (t : List ℕ) → is_bool t ≡ true → bool_fault t ≡ None
+bool_free t h = rw h refl
+
+pub read_fault_by_rows : (t : List ℕ) → read_fault t ≡ read_rows (is_empty t) (is_bool t) (first_passes is_ascii_digit t) (begins_float t) (integer_fault t)
+unfolding read_fault dispatch
+read_fault_by_rows t =
+    rows_of_dispatch (is_empty t) (is_bool t) (first_passes is_ascii_digit t) (begins_float t)
+    (begins_with (codes "'") t) (begins_with (codes "\"") t || begins_with (codes "r") t) (begins_with (codes "b'") t)
+    (begins_with (codes "b\"") t || begins_with (codes "br") t) (begins_with (codes "c") t) t (bool_free t)
+
 -- Where there is a derivation no refusal stands
 
 read_fault-bool : (b : BoolLit) → read_fault (bool_text b) ≡ None
-unfolding read_fault
-read_fault-bool False = refl
-read_fault-bool True = refl
+read_fault-bool False = read_fault_by_rows (bool_text False)
+read_fault-bool True = read_fault_by_rows (bool_text True)
 
 -- a text that begins with a digit
 pub read_fault-digit : (t : List ℕ) → first_passes is_ascii_digit t ≡ true →
     read_fault t ≡ read_rows false false true (begins_float t) (integer_fault t)
-unfolding read_fault
-read_fault-digit t digit = rw (not_empty_by_first is_ascii_digit t digit, is_bool-digit t digit, digit) refl
+read_fault-digit t digit = read_fault_by_rows t ∙ rw (not_empty_by_first is_ascii_digit t digit, is_bool-digit t digit, digit) refl
 
 -- one that does not, and is no bool
 pub read_fault-other : (t : List ℕ) (a : Bool) → is_empty t ≡ a → is_bool t ≡ false → first_passes is_ascii_digit t ≡ false →
     read_fault t ≡ read_rows a false false (begins_float t) (integer_fault t)
-unfolding read_fault
-read_fault-other t a empty bool digit = rw (empty, bool, digit) refl
+read_fault-other t a empty bool digit = read_fault_by_rows t ∙ rw (empty, bool, digit) refl
 
 pub read_fault-free : (t : List ℕ) (d : Derivation) → IsReadLiteral t d → read_fault t ≡ None
 read_fault-free t (a_bool b) r = ap read_fault (sym r) ∙ read_fault-bool b

@@ -1,5 +1,5 @@
 -- The spans of what is refused as yet lie within the text, and no refusal speaks of memory.
-use Rattle.std.proofs.Common.{◌≡◌, ◌≢◌, ℕ, Bool, true, false, List, Option, Some, subst}
+use Rattle.std.proofs.Common.{◌≡◌, ◌≢◌, ℕ, Bool, true, false, List, Option, Some, sym, ◌∙◌, subst}
 use Rattle.std.specs.Char.{is_ascii_digit}
 use Rattle.litrs.specs.declared.err.ParseErrorKind.TheVariants.{Empty, InvalidLiteral, OutOfMemory}
 use Rattle.litrs.specs.declared.err.ParseError.{ParseError}
@@ -9,9 +9,10 @@ use Rattle.litrs.specs.Suffix.{is_empty}
 use Rattle.litrs.specs.Integer.{integer_fault}
 use Rattle.litrs.specs.Bool.{is_bool}
 use Rattle.litrs.specs.LiteralFault.{begins_float}
-use Rattle.litrs.specs.ReadLiteral.{read_rows, read_fault}
+use Rattle.litrs.specs.ReadLiteral.{read_fault}
 use Rattle.litrs.proofs.Spans.{plain_within}
 use Rattle.litrs.proofs.IntegerSpans.{integer_fault_within}
+use Rattle.litrs.proofs.ReadLiteral.{read_rows, read_fault_by_rows}
 use Rattle.litrs.proofs.RefusalKinds.{IsOfText, integer_fault_of_text}
 
 -- What holds of each row of the dispatch and of the refusals of integers holds of each refusal.
@@ -24,13 +25,11 @@ read_rows_give P false false true false r e empty invalid below row = below row
 read_rows_give P false false false f r e empty invalid below row = subst P (let same : plain InvalidLiteral ≡ e = cc in same) invalid
 
 pub read_fault_within : (t : List ℕ) (e : ParseError) → read_fault t ≡ Some e → IsInText t e
-unfolding read_fault
 read_fault_within t e fault =
     read_rows_give (IsInText t) (is_empty t) (is_bool t) (first_passes is_ascii_digit t) (begins_float t) (integer_fault t) e
-    (plain_within t Empty) (plain_within t InvalidLiteral) (integer_fault_within t e) fault
+    (plain_within t Empty) (plain_within t InvalidLiteral) (integer_fault_within t e) (sym (read_fault_by_rows t) ∙ fault)
 
 pub read_fault_of_text : (t : List ℕ) (e : ParseError) → read_fault t ≡ Some e → kind_of e ≢ OutOfMemory
-unfolding read_fault
 read_fault_of_text t e fault =
     read_rows_give IsOfText (is_empty t) (is_bool t) (first_passes is_ascii_digit t) (begins_float t) (integer_fault t) e
-    (λ memory. cc) (λ memory. cc) (integer_fault_of_text t e) fault
+    (λ memory. cc) (λ memory. cc) (integer_fault_of_text t e) (sym (read_fault_by_rows t) ∙ fault)

@@ -1,5 +1,5 @@
 -- Bools. The Rust Reference, Literal expressions, Boolean literal expressions.
-use Rattle.std.specs.Prelude.{ℕ, Bool, true, false, ◌||◌, List, Option, Some, None, codes, if◌then◌else◌}
+use Rattle.std.specs.Prelude.{◌≡◌, ℕ, Bool, true, false, ◌||◌, List, Option, Some, None, codes, if◌then◌else◌}
 use Rattle.litrs.specs.declared.bool.BoolLit.{BoolLit}
 use Rattle.litrs.specs.declared.bool.BoolLit.TheVariants.{False, True}
 use Rattle.litrs.specs.declared.err.ParseError.{ParseError}
@@ -11,6 +11,10 @@ use Rattle.litrs.specs.Text.{is_text}
 abbrev pub bool_text : BoolLit → List ℕ
 bool_text False = codes "false"
 bool_text True = codes "true"
+
+-- the text is this bool
+abbrev pub IsBool : List ℕ → BoolLit → Type 0
+IsBool t b = bool_text b ≡ t
 
 abbrev pub bool_value : BoolLit → Bool
 bool_value False = false

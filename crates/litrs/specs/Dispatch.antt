@@ -2,12 +2,12 @@
 use Rattle.std.specs.Prelude.{◌≡◌, ℕ, List, Some}
 use Rattle.litrs.specs.declared.parse.Kind.{Kind}
 use Rattle.litrs.specs.declared.parse.Kind.TheVariants.{Bool, Integer, Refused}
-use Rattle.litrs.specs.Bool.{bool_text}
+use Rattle.litrs.specs.Bool.{IsBool}
 use Rattle.litrs.specs.Integer.{integer_fault}
 use Rattle.litrs.specs.ReadLiteral.{read_fault}
 
 -- the text is this bool, has the refusals of an integer, or is refused
 abbrev pub BeginsLike : Kind → List ℕ → Type 0
-BeginsLike (Bool b) t = bool_text b ≡ t
+BeginsLike (Bool b) t = IsBool t b
 BeginsLike Integer t = read_fault t ≡ integer_fault t
 BeginsLike (Refused e) t = read_fault t ≡ Some e

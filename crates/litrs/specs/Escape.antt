@@ -1,7 +1,7 @@
 -- Escapes. The Rust Reference, Tokens, Literals: the tables "Quote escapes", "ASCII escapes", "Byte escapes" and
 -- "Unicode escapes", and which of them each literal has, under "Character escapes", "Byte literals",
 -- "Byte string literals" and "C string literals".
-use Rattle.std.specs.Prelude.{ℕ, ◌+◌, ◌*◌, Bool, true, false, not, ◌==◌, ◌&&◌, ◌||◌, nat_lt, nat_le, if◌then◌else◌, List, [], ◌∷◌, ◌++◌, Option, Some, None, IsTrue, length, slice_index, drop, zero, suc, filter, fold, count_by, take_while, encode_utf8}
+use Rattle.std.specs.Prelude.{ℕ, ◌+◌, ◌*◌, Bool, true, false, not, ◌==◌, ◌&&◌, ◌||◌, nat_lt, nat_le, if◌then◌else◌, List, [], ◌∷◌, ◌++◌, Option, Some, None, IsTrue, length, slice_index, drop, zero, suc, count_by, take_while, encode_utf8}
 use Rattle.std.specs.Char.{is_ascii_hexdigit, digit_value}
 use Rattle.std.specs.List.{list_all, list_any, before_first}
 use Rattle.litrs.specs.declared.escape.Unescape.{Unescape}
@@ -10,6 +10,7 @@ use Rattle.litrs.specs.declared.err.ParseError.{ParseError}
 use Rattle.litrs.specs.declared.err.ParseErrorKind.TheVariants.{UnterminatedEscape, DisallowedNulEscape, InvalidXEscape, NonAsciiXEscape, UnicodeEscapeInByteLiteral, UnicodeEscapeWithoutBrace, UnterminatedUnicodeEscape, InvalidStartOfUnicodeEscape, NonHexDigitInUnicodeEscape, TooManyDigitInUnicodeEscape, InvalidUnicodeEscapeChar, UnknownEscape}
 use Rattle.litrs.specs.Characters.{line_feed, tab, carriage_return, nul, single_quote, double_quote, backslash, digit_zero, underscore, letter_n, letter_r, letter_t, letter_u, letter_x, open_brace, close_brace, is_ascii, is_scalar}
 use Rattle.litrs.specs.Fault.{at, over}
+use Rattle.litrs.specs.Numeral.{numeral}
 use Rattle.litrs.specs.Suffix.{is_empty}
 use Rattle.litrs.specs.Text.{byte_len, first_passes}
 
@@ -65,9 +66,9 @@ simple_value c =
 abbrev pub pair_value : ℕ → ℕ → ℕ
 pair_value high low = 16 * digit_value high + digit_value low
 
--- the number that hex digits write, underscores left out
+-- the number that hex digits and underscores write
 abbrev pub hex_value : List ℕ → ℕ
-hex_value digits = fold (λ n digit. 16 * n + digit_value digit) 0 (filter is_ascii_hexdigit digits)
+hex_value = numeral 16
 
 -- what may stand between the braces of `\u{..}`
 abbrev pub is_hex_or_underscore : ℕ → Bool

@@ -2,7 +2,7 @@
 use Rattle.std.specs.Prelude.{◌≡◌, ℕ, List, [], ◌++◌}
 use Rattle.litrs.specs.declared.bool.BoolLit.{BoolLit}
 use Rattle.litrs.specs.StringKind.{StringKind, string_kind, byte_string_kind, c_string_kind}
-use Rattle.litrs.specs.Bool.{bool_text}
+use Rattle.litrs.specs.Bool.{IsBool}
 use Rattle.litrs.specs.Integer.{IntegerParts, IsIntegerOf}
 use Rattle.litrs.specs.Float.{FloatParts, IsFloatOf}
 use Rattle.litrs.specs.CharByte.{CharParts, char_kind, byte_kind, IsCharLiteral}
@@ -35,7 +35,7 @@ pub data Derivation : Type 0 where
 
 -- d is a derivation of t: the text is a literal of this kind with these parts
 abbrev pub IsLiteral : List ℕ → Derivation → Type 0
-IsLiteral t (a_bool b) = bool_text b ≡ t
+IsLiteral t (a_bool b) = IsBool t b
 IsLiteral t (an_integer d) = IsIntegerOf t d
 IsLiteral t (a_float d) = IsFloatOf t d
 IsLiteral t (a_char d) = IsCharLiteral char_kind t d

@@ -1,7 +1,7 @@
 //! Bool literals.
-ghost use Rattle.std.specs.Prelude.{◌≡◌, MatchResult};
+ghost use Rattle.std.specs.Prelude.{◌≡◌, Some, IfOk, IfErr, OnErr};
 ghost use Rattle.std.specs.Str.{chars};
-ghost use Rattle.litrs.specs.Fault.{plain};
+ghost use Rattle.litrs.specs.Reading.{IsOnlyReading, HasNoReading};
 
 use crate::err::{ParseError, ParseErrorKind};
 use std::fmt;
@@ -16,14 +16,15 @@ pub enum BoolLit {
 }
 
 impl BoolLit {
-    ghost use Rattle.litrs.specs.Bool.{bool_text, bool_value};
+    ghost use Rattle.litrs.specs.Bool.{IsBool, bool_text, bool_value, bool_fault};
 
     /// Parses the input as a bool literal: exactly `true` or `false`.
     ///
     /// Every other text is refused as `InvalidLiteral`, without a span.
     pub fn parse(s: &str) -> Result<BoolLit, ParseError>
-        ensures { MatchResult result (λ b. bool_text b ≡ chars s.now)
-            (λ e. ((b : BoolLit) → bool_text b ≡ chars s.now → ⊥) × (e ≡ plain ParseErrorKind.InvalidLiteral)) }
+        ensures ok { IfOk result (IsOnlyReading (IsBool (chars s.now))) }
+        ensures none { OnErr result (HasNoReading (IsBool (chars s.now))) }
+        ensures fault { IfErr result (λ e. bool_fault (chars s.now) ≡ Some e) }
     {
         match s {
             "false" => Ok(BoolLit::False),

@@ -1,5 +1,5 @@
 //! Integer literals.
-ghost use Rattle.std.specs.Prelude.{◌≡◌, ◌≤◌, ℕ, length, Bool, false, IsTrue, MatchOption, slice_index, IsOk, IfOk, OnErr, IfErr, Some, nat_eq};
+ghost use Rattle.std.specs.Prelude.{◌≡◌, ◌≤◌, ℕ, length, Bool, false, IsTrue, MatchOption, slice_index, IsOk, IfOk, OnErr, IfErr, Some, nat_eq, ⊤};
 ghost use Rattle.std.specs.Char.{is_ascii_digit};
 ghost use Rattle.std.specs.Cmp.{on_per, on_equiv, partial_equiv_from_equiv};
 ghost use Rattle.std.specs.Cmp.Lexicographic.{pointwise, nat_list_eq_equiv};
@@ -98,9 +98,10 @@ impl<B: Buffer> IntegerLit<B> {
         &self.raw.as_str()[self.cut.end_main..]
     }
 
-    /// The text that was parsed.
+    /// The text that was parsed. It is an integer, with the parts that the accessors answer.
     pub fn raw_input(&self) -> &str
-        ensures { result.now ≡ self.now.raw }
+        ensures raw { result.now ≡ self.now.raw }
+        ensures literal { IsIntegerOf (chars result.now) (integer_parts self.now) }
     {
         self.raw.as_str()
     }
@@ -189,6 +190,10 @@ impl<B: Buffer> Eq for IntegerLit<B> {
 impl<B: Buffer + Copy> Copy for IntegerLit<B> {}
 
 impl<B: Buffer + Copy> Clone for IntegerLit<B> {
+    ghost is_clone = { λ lit copy. copy ≡ lit };
+
+    ghost is_infallible = { λ _. ⊤ };
+
     fn clone(&self) -> Result<IntegerLit<B>, AllocError> {
         Ok(IntegerLit {
             raw: self.raw,

@@ -80,9 +80,10 @@ impl<B: Buffer> Literal<B> {
         }
     }
 
-    /// The text that was parsed.
+    /// The text that was parsed. It is a literal, of the kind and with the parts that the accessors answer.
     pub fn raw_input(&self) -> &str
-        ensures { result.now ≡ literal_raw self.now }
+        ensures raw { result.now ≡ literal_raw self.now }
+        ensures literal { IsLiteral (chars result.now) (derivation self.now) }
     {
         match self {
             Literal::Bool(lit) => lit.as_str(),

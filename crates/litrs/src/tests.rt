@@ -74,12 +74,13 @@ const INTEGERS: [Integer; 19] = [
 ];
 
 /// Texts that both `IntegerLit` and `Literal` refuse, in the same way.
-const REFUSED_INTEGERS: [Refusal; 9] = [
+const REFUSED_INTEGERS: [Refusal; 10] = [
     ("", Empty, None),
     ("0b12", InvalidDigit, Some(3..4)),
     ("0b1e3", IntegerSuffixStartingWithE, Some(3..4)),
     ("0x", NoDigits, Some(2..2)),
     ("0xg", NoDigits, Some(2..2)),
+    ("0x44.5", UnexpectedChar, Some(4..6)),
     ("0 ", UnexpectedChar, Some(1..2)),
     ("0;", UnexpectedChar, Some(1..2)),
     ("0b_", NoDigits, Some(2..3)),
@@ -96,9 +97,9 @@ const NO_INTEGERS: [Refusal; 5] = [
 ];
 
 /// Texts that begin like no literal, or like one of a kind that is not read yet.
-const NO_LITERALS: [&str; 14] = [
-    "1e3", "1.", "1_.5", "\"a\"", "'a'", "b'a'", "r", "foo", ".5", "_3", "False", "fals", "a_123",
-    " 0",
+const NO_LITERALS: [&str; 15] = [
+    "1e3", "1.", "1_.5", "\"a\"", "'a'", "b'a'", "r", "b", "foo", ".5", "_3", "False", "fals",
+    "a_123", " 0",
 ];
 
 /// Checks a parsed integer, by each accessor.
@@ -219,51 +220,98 @@ fn refusals_over_both_buffers(rt: HostRuntime) -> Result<(), Fail> {
 
 #[test]
 fn bools(rt: HostRuntime) -> Result<(), Fail> {
-    let alloc = rt.alloc();
-    for (text, lit, value) in [
-        ("true", BoolLit::True, true),
-        ("false", BoolLit::False, false),
+    for (text, lit, value, printed) in [
+        ("true", BoolLit::True, true, "true|  true|"),
+        ("false", BoolLit::False, false, "false| false|"),
     ] {
-        assert_eq!(rt; BoolLit::parse(text).ok().map(|b| b.value()), Some(value));
+        assert_eq!(rt; BoolLit::parse(text).ok(), Some(lit));
+        assert_eq!(rt; lit.value(), value);
         assert_eq!(rt; lit.as_str(), text);
-        assert_eq!(rt;
-            format!(in alloc; "{lit}|{lit:>6}|")?.as_str().len(),
-            text.len() + 8
-        );
-        let literal: Literal<String> = Literal::from(lit);
-        assert_eq!(rt; literal.raw_input(), text);
-        assert_eq!(rt; literal.suffix(), "");
-        assert_eq!(rt; literal.to_string(alloc)?.as_str(), text);
+        assert_eq!(rt; format!(in rt.alloc(); "{lit}|{lit:>6}|")?.as_str(), printed);
     }
+    Ok(())
+}
+
+#[test]
+fn no_bools(rt: HostRuntime) {
     for text in ["", "True", "fals", "truee", "1"] {
         match BoolLit::parse(text) {
             Ok(_) => assert!(rt; false, "{text} is no bool"),
-            Err(e) => check_refusal(&rt, &e, &("", InvalidLiteral, None)),
+            Err(e) => check_refusal(&rt, &e, &(text, InvalidLiteral, None)),
         }
     }
+}
+
+/// Checks a bool as a literal of any kind: parsed, made, copied and printed.
+fn check_bool<B: Buffer>(
+    rt: &impl Abort,
+    alloc: Global,
+    text: B,
+    expected: BoolLit,
+) -> Result<(), AllocError> {
+    let made: Literal<B> = Literal::from(expected);
+    match Literal::parse(alloc, text) {
+        Ok(lit) => {
+            assert!(rt; lit == made);
+            assert!(rt; lit.clone(alloc)? == made);
+            assert!(rt; matches!(lit, Literal::Bool(found) if found == expected));
+        }
+        Err(e) => assert!(rt; false, "{expected} is a literal, but {e}"),
+    }
+    assert_eq!(rt; made.raw_input(), expected.as_str());
+    assert_eq!(rt; made.suffix(), "");
+    assert_eq!(rt; made.to_string(alloc)?.as_str(), expected.as_str());
+    Ok(())
+}
+
+#[test]
+fn bools_over_both_buffers(rt: HostRuntime) -> Result<(), Fail> {
+    let alloc = rt.alloc();
+    for lit in [BoolLit::True, BoolLit::False] {
+        let text = lit.as_str();
+        check_bool(&rt, alloc, text, lit)?;
+        check_bool(&rt, alloc, String::from_str(alloc, text)?, lit)?;
+        let borrowed: Literal<&str> = Literal::from(lit);
+        assert!(rt; borrowed.into_owned(alloc)? == Literal::from(lit));
+    }
+    Ok(())
+}
+
+/// Checks what is printed of an integer, which ignores a width.
+fn check_printed<B: Buffer>(
+    rt: &impl Abort,
+    alloc: Global,
+    lit: IntegerLit<B>,
+    text: &str,
+    printed: &str,
+) -> Result<(), AllocError> {
+    assert_eq!(rt; format!(in alloc; "{lit}|{lit:>9}|")?.as_str(), printed);
+    let literal = Literal::from(lit);
+    assert_eq!(rt; format!(in alloc; "{literal}|{literal:>9}|")?.as_str(), printed);
+    assert_eq!(rt; literal.raw_input(), text);
     Ok(())
 }
 
 #[test]
 fn printing_keeps_the_text(rt: HostRuntime) -> Result<(), Fail> {
     let alloc = rt.alloc();
-    let lit = IntegerLit::parse(String::from_str(alloc, "0xFF_u8")?).map_err(
-        |_| "0xFF_u8 is an integer",
-    )?;
-    // An integer ignores a width.
-    assert_eq!(rt;
-        format!(in alloc; "{lit}|{lit:>9}|")?.as_str(),
-        "0xFF_u8|0xFF_u8|"
-    );
-    let literal = Literal::from(lit);
-    assert_eq!(rt; literal.to_string(alloc)?.as_str(), "0xFF_u8");
+    let lit = IntegerLit::parse("0xFF_u8").map_err(|_| "0xFF_u8 is an integer")?;
+    let owned = lit.to_owned(alloc)?;
+    check_printed(&rt, alloc, owned, "0xFF_u8", "0xFF_u8|0xFF_u8|")?;
+    check_printed(&rt, alloc, lit, "0xFF_u8", "0xFF_u8|0xFF_u8|")?;
     Ok(())
 }
 
-/// Checks a copy of a parsed integer.
-fn check_copy<B: Buffer + Copy>(rt: &impl Abort, lit: &IntegerLit<B>, expected: &Integer) {
+/// Checks both copies of a parsed integer that take no memory.
+fn check_copy<B: Buffer + Copy>(
+    rt: &impl Abort,
+    lit: &IntegerLit<B>,
+    expected: &Integer,
+) -> Result<(), AllocError> {
     let copy = *lit;
     check_integer(rt, &copy, expected);
+    check_integer(rt, &Clone::clone(lit)?, expected);
+    Ok(())
 }
 
 #[test]
@@ -272,7 +320,7 @@ fn owned_literals_keep_all(rt: HostRuntime) -> Result<(), Fail> {
     for expected in &INTEGERS {
         match IntegerLit::parse(expected.0) {
             Ok(lit) => {
-                check_copy(&rt, &lit, expected);
+                check_copy(&rt, &lit, expected)?;
                 check_integer(&rt, &lit.to_owned(alloc)?, expected);
             }
             Err(_) => assert!(rt; false, "{} is an integer", expected.0),
@@ -302,11 +350,10 @@ fn equal_exactly_where_the_texts_are(rt: HostRuntime) -> Result<(), Fail> {
 
 /// Checks the value of a text at a type.
 fn check_value<N: FromIntegerLiteral + Eq>(rt: &impl Abort, text: &str, value: Option<N>) {
-    let found = match IntegerLit::parse(text) {
-        Ok(lit) => lit.value::<N>(),
-        Err(_) => None,
-    };
-    assert!(rt; found == value, "{text} at {}", N::ty());
+    match IntegerLit::parse(text) {
+        Ok(lit) => assert!(rt; lit.value::<N>() == value, "{text} at {}", N::ty()),
+        Err(e) => assert!(rt; false, "{text} is an integer, but {e}"),
+    }
 }
 
 #[test]
@@ -340,7 +387,7 @@ fn each_type_at_its_greatest_number(rt: HostRuntime) {
         "170141183460469231731687303715884105727",
         Some(i128::MAX),
     );
-    check_value::<i128>(&rt, "340282366920938463463374607431768211455", None);
+    check_value::<i128>(&rt, "170141183460469231731687303715884105728", None);
     check_value::<isize>(&rt, "9223372036854775807", Some(isize::MAX));
     check_value::<isize>(&rt, "9223372036854775808", None);
 }
@@ -357,37 +404,48 @@ fn values_by_the_number_alone(rt: HostRuntime) {
     check_value::<i8>(&rt, "0xFF_u8", None);
     check_value::<u8>(&rt, "128i8", Some(128));
     check_value::<u8>(&rt, "0_b1", Some(0));
+    check_value::<i128>(&rt, "340282366920938463463374607431768211455", None);
 }
+
+/// Each type with its name.
+const TYPES: [(IntegerType, &str); 12] = [
+    (IntegerType::U8, "u8"),
+    (IntegerType::U16, "u16"),
+    (IntegerType::U32, "u32"),
+    (IntegerType::U64, "u64"),
+    (IntegerType::U128, "u128"),
+    (IntegerType::Usize, "usize"),
+    (IntegerType::I8, "i8"),
+    (IntegerType::I16, "i16"),
+    (IntegerType::I32, "i32"),
+    (IntegerType::I64, "i64"),
+    (IntegerType::I128, "i128"),
+    (IntegerType::Isize, "isize"),
+];
 
 #[test]
 fn types_by_their_names(rt: HostRuntime) -> Result<(), Fail> {
-    let types = [
-        (IntegerType::U8, "u8"),
-        (IntegerType::U16, "u16"),
-        (IntegerType::U32, "u32"),
-        (IntegerType::U64, "u64"),
-        (IntegerType::U128, "u128"),
-        (IntegerType::Usize, "usize"),
-        (IntegerType::I8, "i8"),
-        (IntegerType::I16, "i16"),
-        (IntegerType::I32, "i32"),
-        (IntegerType::I64, "i64"),
-        (IntegerType::I128, "i128"),
-        (IntegerType::Isize, "isize"),
-    ];
-    for (ty, name) in types {
+    for (ty, name) in TYPES {
         assert_eq!(rt; ty.suffix(), name);
         assert_eq!(rt; IntegerType::from_suffix(name), Some(ty));
         assert_eq!(rt; name.parse::<IntegerType>(), Ok(ty));
-        assert_eq!(rt;
-            format!(in rt.alloc(); "{ty}|{ty:<6}|")?.as_str().len(),
-            name.len() + 8
-        );
+        assert_eq!(rt; ty.to_string(rt.alloc())?.as_str(), name);
     }
+    let padded = format!(in rt.alloc(); "{:<6}|{:>6}|", IntegerType::U8, IntegerType::Usize)?;
+    assert_eq!(rt; padded.as_str(), "u8    | usize|");
+    Ok(())
+}
+
+#[test]
+fn names_of_no_type(rt: HostRuntime) {
     for name in ["", "u", "f32", "U8", "u8 "] {
         assert_eq!(rt; IntegerType::from_suffix(name), None);
         assert_eq!(rt; name.parse::<IntegerType>(), Err(()));
     }
+}
+
+#[test]
+fn each_type_names_itself(rt: HostRuntime) {
     let own = [
         u8::ty(),
         u16::ty(),
@@ -402,24 +460,37 @@ fn types_by_their_names(rt: HostRuntime) -> Result<(), Fail> {
         i128::ty(),
         isize::ty(),
     ];
-    for (found, (ty, _)) in own.iter().zip(&types) {
+    for (found, (ty, _)) in own.iter().zip(&TYPES) {
         assert_eq!(rt; found, ty);
     }
+}
+
+#[test]
+fn buffers_are_copied(rt: HostRuntime) -> Result<(), Fail> {
+    let alloc = rt.alloc();
+    let borrowed = "0xFF_u8";
+    let owned = String::from_str(alloc, borrowed)?;
+    assert_eq!(rt; Buffer::as_str(&borrowed.copy(alloc)?), borrowed);
+    assert_eq!(rt; Buffer::as_str(&owned.copy(alloc)?), borrowed);
+    assert_eq!(rt; Buffer::as_str(&owned), borrowed);
     Ok(())
 }
 
 #[test]
-fn bases_and_digits(rt: HostRuntime) {
-    let bases = [
+fn bases(rt: HostRuntime) {
+    for (base, prefix, value) in [
         (IntegerBase::Binary, "0b", 2),
         (IntegerBase::Octal, "0o", 8),
         (IntegerBase::Decimal, "", 10),
         (IntegerBase::Hexadecimal, "0x", 16),
-    ];
-    for (base, prefix, value) in bases {
+    ] {
         assert_eq!(rt; base.prefix(), prefix);
         assert_eq!(rt; base.value(), value);
     }
+}
+
+#[test]
+fn digits(rt: HostRuntime) {
     assert_eq!(rt; end_dec_digits(b"1_0_a2"), 4);
     assert_eq!(rt; end_dec_digits(b""), 0);
     for (byte, value) in [
@@ -432,8 +503,15 @@ fn bases_and_digits(rt: HostRuntime) {
     ] {
         assert_eq!(rt; hex_digit_value(byte), value);
     }
+}
+
+#[test]
+fn first_bytes(rt: HostRuntime) {
     assert_eq!(rt; first_byte_or_empty("é").ok(), Some(0xc3));
-    assert!(rt; first_byte_or_empty("").is_err());
+    match first_byte_or_empty("") {
+        Ok(_) => assert!(rt; false, "the empty text has no byte"),
+        Err(e) => check_refusal(&rt, &e, &("", Empty, None)),
+    }
 }
 
 #[test]
@@ -441,6 +519,10 @@ fn suffixes(rt: HostRuntime) {
     for text in ["", "u8", "_x", "good_boy", "é", "jürgen", "__"] {
         assert_eq!(rt; check_suffix(text), Ok(()), "{text}");
     }
+}
+
+#[test]
+fn no_suffixes(rt: HostRuntime) {
     for (text, kind) in [
         ("_", InvalidSuffix),
         (".", UnexpectedChar),
@@ -452,9 +534,17 @@ fn suffixes(rt: HostRuntime) {
     ] {
         assert_eq!(rt; check_suffix(text), Err(kind), "{text}");
     }
+}
+
+#[test]
+fn where_an_integer_is_cut(rt: HostRuntime) {
     match cut_integer("0xFF_u8") {
-        Ok(cut) => assert_eq!(rt; (cut.start_main, cut.end_main), (2, 5)),
-        Err(_) => assert!(rt; false),
+        Ok(cut) => assert_eq!(rt; (cut.start_main, cut.end_main, cut.base), (2, 5, IntegerBase::Hexadecimal)),
+        Err(e) => assert!(rt; false, "0xFF_u8 is an integer, but {e}"),
+    }
+    match cut_integer("0b12") {
+        Ok(_) => assert!(rt; false, "0b12 is no integer"),
+        Err(e) => check_refusal(&rt, &e, &("0b12", InvalidDigit, Some(3..4))),
     }
 }
 

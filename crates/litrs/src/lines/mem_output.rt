@@ -1,5 +1,5 @@
 //! An output into memory, whose bytes contracts know.
-ghost use Rattle.std.specs.Prelude.{◌≡◌, ◌-◌, ◌≤◌, ◌<◌, ◌↔◌, ◌⊎◌, min, true, false, Some, [], length, vec_len, vec_capacity, IsErr, IsTrue, IfOk, OnOk};
+ghost use Rattle.std.specs.Prelude.{◌≡◌, ◌-◌, ◌≤◌, ◌<◌, ◌↔◌, ◌⊎◌, min, true, false, Some, [], length, vec_len, vec_capacity, IsErr, IsTrue, IfOk, OnOk, OnErr};
 ghost use Rattle.std.specs.Io.KnownBytes.{Keeps, WriteAppends};
 ghost use Rattle.litrs.specs.Devices.{RecordsFailure};
 ghost use Rattle.litrs.specs.Calls.{fresh_calls, next_fails, after_call};
@@ -108,7 +108,8 @@ impl Output for MemOutput {
         ensures flushed { OnOk result (flushed_of self.new ≡ true) }
         ensures failed { RecordsFailure (failed_of self.old) (failed_of self.new) result }
 
-        // When the call fails.
+        // When the call fails, and that it then changes nothing else.
+        ensures kept { OnErr result (flushed_of self.new ≡ flushed_of self.old) }
         ensures fails { IsErr result ↔ IsTrue (next_fails (calls_of self.old)) }
         ensures calls { calls_of self.new ≡ after_call (calls_of self.old) }
         ensures piece { piece_of self.new ≡ piece_of self.old }

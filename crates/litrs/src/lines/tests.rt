@@ -53,12 +53,19 @@ fn pieces_of_any_size_give_the_same(rt: HostRuntime) -> Result<(), Fail> {
     Ok(())
 }
 
+/// How many lines an LF ends.
+fn count_lines(bytes: &[u8]) -> usize {
+    bytes.iter().filter(|b| **b == b'\n').count()
+}
+
 #[test]
 fn a_read_fails(rt: HostRuntime) -> Result<(), Fail> {
     // One read gives each byte, and one more the end.
     for number in 0..=LINES.len() as u64 {
         let (result, output) = run_lines(rt.alloc(), (1, 3), (Some(number), NEVER))?;
         assert_eq!(rt; result, Err(RunError::Read));
+        let read = LINES.as_bytes().get(..number as usize).unwrap_or(&[]);
+        assert_eq!(rt; count_lines(output.bytes()), count_lines(read));
         assert!(rt; ENDED_REPORTS.as_bytes().starts_with(output.bytes()));
         assert!(rt; !output.failed());
     }
@@ -144,5 +151,17 @@ fn a_writer_that_takes_nothing_has_failed(rt: HostRuntime) -> Result<(), Fail> {
     assert!(rt; output.failed());
     assert_eq!(rt; output.flush(), Ok(()));
     assert!(rt; output.failed());
+    Ok(())
+}
+
+#[test]
+fn errors_say_what_failed(rt: HostRuntime) -> Result<(), Fail> {
+    for (error, text) in [
+        (RunError::Read, "read failed"),
+        (RunError::Write, "write failed"),
+        (RunError::Memory, "out of memory"),
+    ] {
+        assert_eq!(rt; error.to_string(rt.alloc())?.as_str(), text);
+    }
     Ok(())
 }

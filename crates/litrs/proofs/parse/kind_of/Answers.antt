@@ -3,7 +3,7 @@ use Rattle.std.proofs.Common.{sym, ap, ◌∙◌, Some, true, false}
 use Rattle.std.specs.Str.{chars}
 use Rattle.litrs.specs.Integer.{integer_fault}
 use Rattle.litrs.specs.LiteralFault.{begins_float}
-use Rattle.litrs.specs.ReadLiteral.{read_rows}
+use Rattle.litrs.proofs.ReadLiteral.{read_rows}
 use Rattle.litrs.proofs.Dispatch.{dispatch-empty, dispatch-digit, dispatch-other}
 use Rattle.litrs.proofs.parse.kind_of.Goals as goal
 
@@ -23,5 +23,5 @@ returns-else-begins_float c =
 
 pub returns-in-Err-parse : goal.returns-in-Err-parse
 returns-in-Err-parse c =
-    dispatch-other c.args.input.now c.in-Ok.first c.utf8.input c.in-Ok.ensures (sym c.if-is_ascii_digit.ensures.value) c.in-Err-parse.ensures.0
-    ∙ ap Some (sym c.in-Err-parse.ensures.1)
+    dispatch-other c.args.input.now c.in-Ok.first c.utf8.input c.in-Ok.ensures (sym c.if-is_ascii_digit.ensures.value) c.in-Err-parse.ensures.none
+    ∙ c.in-Err-parse.ensures.fault
