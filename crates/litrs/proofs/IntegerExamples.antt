@@ -6,7 +6,7 @@ use Rattle.litrs.specs.declared.integer.IntegerBase.TheVariants.{Binary, Octal, 
 use Rattle.litrs.specs.declared.err.ParseErrorKind.TheVariants.{Empty, UnexpectedChar, DoesNotStartWithDigit, InvalidDigit, NoDigits, InvalidSuffix, IntegerSuffixStartingWithE}
 use Rattle.litrs.specs.Fault.{plain, at, over}
 use Rattle.litrs.specs.Suffix.{is_suffix, suffix_fault}
-use Rattle.litrs.specs.Integer.{integer_cut, integer_fault}
+use Rattle.litrs.specs.Integer.{IsIntegerOf, integer_cut, integer_fault}
 use Rattle.litrs.specs.Numeral.{place_sum, numeral}
 
 unfoldable integer_tables : Unit {0}
@@ -61,33 +61,135 @@ suffix_fault-not_ascii = refl
 
 -- The forms
 
-binary : integer_cut (codes "0b1111_1111") ≡ record { base = Binary; main = codes "1111_1111"; suffix = codes "" }
+binary : IsIntegerOf (codes "0b1111_1111") (record { base = Binary; main = codes "1111_1111"; suffix = codes "" })
 unfolding integer_tables
-binary = refl
+binary = record {
+  spells = refl;
+  grammar = record {
+    digits = refl;
+    some_digit = refl;
+    ends = refl;
+    suffix = refl;
+    no_exponent = refl;
+    decimal_digit = λ e. cc;
+    decimal_prefix = λ e. cc;
+  };
+}
 
-octal : integer_cut (codes "0o400") ≡ record { base = Octal; main = codes "400"; suffix = codes "" }
+octal : IsIntegerOf (codes "0o400") (record { base = Octal; main = codes "400"; suffix = codes "" })
 unfolding integer_tables
-octal = refl
+octal = record {
+  spells = refl;
+  grammar = record {
+    digits = refl;
+    some_digit = refl;
+    ends = refl;
+    suffix = refl;
+    no_exponent = refl;
+    decimal_digit = λ e. cc;
+    decimal_prefix = λ e. cc;
+  };
+}
 
-decimal-underscore : integer_cut (codes "0_b1") ≡ record { base = Decimal; main = codes "0_"; suffix = codes "b1" }
+decimal-zeros : IsIntegerOf (codes "00b1") (record { base = Decimal; main = codes "00"; suffix = codes "b1" })
 unfolding integer_tables
-decimal-underscore = refl
+decimal-zeros = record {
+  spells = refl;
+  grammar = record {
+    digits = refl;
+    some_digit = refl;
+    ends = refl;
+    suffix = refl;
+    no_exponent = refl;
+    decimal_digit = λ e. refl;
+    decimal_prefix = λ e. refl;
+  };
+}
 
-decimal-zeros : integer_cut (codes "00b1") ≡ record { base = Decimal; main = codes "00"; suffix = codes "b1" }
+decimal-underscore : IsIntegerOf (codes "0_b1") (record { base = Decimal; main = codes "0_"; suffix = codes "b1" })
 unfolding integer_tables
-decimal-zeros = refl
+decimal-underscore = record {
+  spells = refl;
+  grammar = record {
+    digits = refl;
+    some_digit = refl;
+    ends = refl;
+    suffix = refl;
+    no_exponent = refl;
+    decimal_digit = λ e. refl;
+    decimal_prefix = λ e. refl;
+  };
+}
 
-decimal-upper_case : integer_cut (codes "0B1") ≡ record { base = Decimal; main = codes "0"; suffix = codes "B1" }
+decimal-upper_case : IsIntegerOf (codes "0B1") (record { base = Decimal; main = codes "0"; suffix = codes "B1" })
 unfolding integer_tables
-decimal-upper_case = refl
+decimal-upper_case = record {
+  spells = refl;
+  grammar = record {
+    digits = refl;
+    some_digit = refl;
+    ends = refl;
+    suffix = refl;
+    no_exponent = refl;
+    decimal_digit = λ e. refl;
+    decimal_prefix = λ e. refl;
+  };
+}
 
-hexadecimal : integer_cut (codes "0xFF_u8") ≡ record { base = Hexadecimal; main = codes "FF_"; suffix = codes "u8" }
+decimal-type : IsIntegerOf (codes "1_000u32") (record { base = Decimal; main = codes "1_000"; suffix = codes "u32" })
 unfolding integer_tables
-hexadecimal = refl
+decimal-type = record {
+  spells = refl;
+  grammar = record {
+    digits = refl;
+    some_digit = refl;
+    ends = refl;
+    suffix = refl;
+    no_exponent = refl;
+    decimal_digit = λ e. refl;
+    decimal_prefix = λ e. refl;
+  };
+}
 
-hexadecimal-suffix : integer_cut (codes "0x5abcdefgh") ≡ record { base = Hexadecimal; main = codes "5abcdef"; suffix = codes "gh" }
+hexadecimal : IsIntegerOf (codes "0xFF_u8") (record { base = Hexadecimal; main = codes "FF_"; suffix = codes "u8" })
 unfolding integer_tables
-hexadecimal-suffix = refl
+hexadecimal = record {
+  spells = refl;
+  grammar = record {
+    digits = refl;
+    some_digit = refl;
+    ends = refl;
+    suffix = refl;
+    no_exponent = refl;
+    decimal_digit = λ e. cc;
+    decimal_prefix = λ e. cc;
+  };
+}
+
+hexadecimal-suffix : IsIntegerOf (codes "0x5abcdefgh") (record { base = Hexadecimal; main = codes "5abcdef"; suffix = codes "gh" })
+unfolding integer_tables
+hexadecimal-suffix = record {
+  spells = refl;
+  grammar = record {
+    digits = refl;
+    some_digit = refl;
+    ends = refl;
+    suffix = refl;
+    no_exponent = refl;
+    decimal_digit = λ e. cc;
+    decimal_prefix = λ e. cc;
+  };
+}
+
+-- where the refusals cut a text, an integer or not
+
+cut-wrong_digit : integer_cut (codes "0b12") ≡ record { base = Binary; main = codes "1"; suffix = codes "2" }
+unfolding integer_tables
+cut-wrong_digit = refl
+
+cut-no_digits : integer_cut (codes "0x") ≡ record { base = Hexadecimal; main = codes ""; suffix = codes "" }
+unfolding integer_tables
+cut-no_digits = refl
 
 -- texts that are integers have no refusal
 

@@ -1,10 +1,10 @@
 -- Literals of all kinds: the rows of the dispatch and of the starts, and what refusals call for, by computation.
-use Rattle.std.specs.Prelude.{◌≡◌, true, false, [], ◌∷◌, ◌++◌, codes, refl}
+use Rattle.std.specs.Prelude.{◌≡◌, true, false, [], ◌∷◌, ◌++◌, Some, None, codes, refl}
 use Rattle.std.specs.Char.{encode_utf8}
 use Rattle.std.proofs.lemmas.Bool.{leb-true}
 use Rattle.unicode_ident.proofs.Computing.{unicode_ident}
 use Rattle.litrs.specs.declared.bool.BoolLit.TheVariants.{True}
-use Rattle.litrs.specs.declared.err.ParseErrorKind.TheVariants.{Empty, UnexpectedChar, InvalidLiteral, NoDigits, NoExponentDigits, UnescapedSingleQuote, EmptyByteLiteral, NonAsciiInByteLiteral, NulByte, DoesNotStartWithDigit, DoesNotStartWithQuote, UnterminatedString, UnterminatedRawString, UnterminatedUnicodeEscape, InvalidStringLiteralStart, InvalidByteLiteralStart, InvalidByteStringLiteralStart, InvalidCStringLiteralStart, TooManyHashes, InvalidSuffix, UnexpectedIntegerLit, IntegerSuffixStartingWithE, OutOfMemory}
+use Rattle.litrs.specs.declared.err.ParseErrorKind.TheVariants.{Empty, UnexpectedChar, InvalidLiteral, InvalidDigit, NoDigits, NoExponentDigits, UnescapedSingleQuote, EmptyByteLiteral, NonAsciiInByteLiteral, NulByte, DoesNotStartWithDigit, DoesNotStartWithQuote, UnterminatedString, UnterminatedRawString, UnterminatedUnicodeEscape, InvalidStringLiteralStart, InvalidByteLiteralStart, InvalidByteStringLiteralStart, InvalidCStringLiteralStart, TooManyHashes, InvalidSuffix, UnexpectedIntegerLit, IntegerSuffixStartingWithE, OutOfMemory}
 use Rattle.litrs.specs.Fault.{plain, at, over}
 use Rattle.litrs.specs.Suffix.{is_suffix}
 use Rattle.litrs.specs.Integer.{integer_cut, integer_fault}
@@ -14,14 +14,61 @@ use Rattle.litrs.specs.Quoted.{plain_item}
 use Rattle.litrs.specs.Raw.{hashes, raw_body_fault, raw_fault}
 use Rattle.litrs.specs.Literal.{Derivation, quoted_parts, raw_parts, a_bool, a_char, a_string, a_c_string, IsLiteral, suffix_of, bool_literal, integer_literal, float_literal, char_literal, byte_literal, string_literal, byte_string_literal, c_string_literal, literal_parse, kind_parse, IsLiteralOf, Begins}
 use Rattle.litrs.specs.LiteralFault.{read_as, dispatch, IsFault}
+use Rattle.litrs.specs.ReadLiteral.{read_fault}
 use Rattle.litrs.specs.Finality.{is_final, is_open, closing_of}
 use Rattle.litrs.specs.Growth.{grows}
 use Rattle.litrs.proofs.Computing.{computing}
 
 -- what the tables of all kinds compute with
 unfoldable all_tables : Unit {0}
-unfolding computing dispatch integer_cut integer_fault float_fault fraction_len exponent_len raw_fault raw_body_fault is_suffix unicode_ident encode_utf8
+unfolding computing dispatch read_fault integer_cut integer_fault float_fault fraction_len exponent_len raw_fault raw_body_fault is_suffix unicode_ident encode_utf8
 all_tables = tt
+
+-- As far as literals of any kind are read
+
+read-empty : read_fault (codes "") ≡ Some (plain Empty)
+unfolding all_tables
+read-empty = refl
+
+read-bool : read_fault (codes "true") ≡ None
+unfolding all_tables
+read-bool = refl
+
+read-integer : read_fault (codes "0xFF_u8") ≡ None
+unfolding all_tables
+read-integer = refl
+
+read-wrong_digit : read_fault (codes "0b12") ≡ Some (at 3 InvalidDigit)
+unfolding all_tables
+read-wrong_digit = refl
+
+read-float : read_fault (codes "1e3") ≡ Some (plain InvalidLiteral)
+unfolding all_tables
+read-float = refl
+
+read-char : read_fault (codes "'a'") ≡ Some (plain InvalidLiteral)
+unfolding all_tables
+read-char = refl
+
+read-string : read_fault (codes "\"a\"") ≡ Some (plain InvalidLiteral)
+unfolding all_tables
+read-string = refl
+
+read-byte : read_fault (codes "b'a'") ≡ Some (plain InvalidLiteral)
+unfolding all_tables
+read-byte = refl
+
+read-byte_string : read_fault (codes "b\"a\"") ≡ Some (plain InvalidLiteral)
+unfolding all_tables
+read-byte_string = refl
+
+read-c_string : read_fault (codes "cat") ≡ Some (plain InvalidLiteral)
+unfolding all_tables
+read-c_string = refl
+
+read-word : read_fault (codes "foo") ≡ Some (plain InvalidLiteral)
+unfolding all_tables
+read-word = refl
 
 -- Any kind, by the dispatch
 

@@ -1,4 +1,5 @@
--- The characters that literals are made of, by their names.
+-- The characters that literals are made of, by their names. The Rust Reference, Notation, Unicode productions, and Tokens,
+-- Literals.
 use Rattle.std.specs.Prelude.{ℕ, Bool, ◌==◌, ◌||◌, ◌&&◌, nat_lt, nat_le, true, if◌then◌else◌}
 
 abbrev pub nul : ℕ

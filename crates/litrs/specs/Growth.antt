@@ -1,4 +1,4 @@
--- What takes memory.
+-- What takes memory. The Rust Reference does not speak of it.
 use Rattle.std.specs.Prelude.{ℕ, Bool, ◌==◌, ◌&&◌, ◌||◌, List, codes}
 use Rattle.std.specs.List.{list_any}
 use Rattle.litrs.specs.Characters.{backslash}

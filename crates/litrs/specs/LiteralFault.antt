@@ -1,4 +1,5 @@
--- The refusals of the nine parses.
+-- The refusals of the nine parses. The Rust Reference tells which texts are literals, and not why another is none: the
+-- tables here and in the files of the kinds do.
 use Rattle.std.specs.Prelude.{◌≡◌, ℕ, ◌==◌, ◌||◌, Bool, List, drop, Some, codes, if◌then◌else◌}
 use Rattle.std.specs.Char.{is_ascii_digit}
 use Rattle.std.specs.List.{prefix_len}

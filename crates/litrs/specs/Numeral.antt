@@ -1,4 +1,4 @@
--- The number that digits stand for.
+-- The number that digits stand for. The Rust Reference, Literal expressions, Integer literal expressions.
 use Rattle.std.specs.Prelude.{ℕ, Bool, ◌+◌, ◌*◌, ◌^◌, ◌-◌, not, ◌==◌, List, [], ◌∷◌, length, filter}
 use Rattle.std.specs.Char.{digit_value}
 use Rattle.litrs.specs.Base.{base_value}

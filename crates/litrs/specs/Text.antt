@@ -1,4 +1,5 @@
--- A text is a list of characters, Unicode scalar values. Places and lengths count the bytes of its UTF-8.
+-- A text is a list of characters, Unicode scalar values. The Rust Reference, Input format. Places and lengths count the
+-- bytes of its UTF-8.
 use Rattle.std.specs.Prelude.{◌≡◌, ◌≤◌, ◌++◌, ℕ, Bool, true, false, ◌==◌, ◌&&◌, List, [], ◌∷◌, length}
 use Rattle.std.specs.Str.{encode_utf8_all}
 use Rattle.std.specs.declared.ops.Range.{Range}

@@ -6,21 +6,25 @@ ghost use Rattle.litrs.specs.Reading.{IsOnlyReading, HasNoReading};
 use crate::err::{ParseError, ParseErrorKind};
 use std::fmt;
 
-/// A bool literal: `true` or `false`. Also see [the reference][ref].
+/// One of the two words `true` and `false`. See [the reference][ref].
 ///
 /// [ref]: https://doc.rust-lang.org/reference/expressions/literal-expr.html#boolean-literal-expressions
 #[derive(Clone, Copy, Debug, PartialEq, Eq)]
 pub enum BoolLit {
+    /// `false`.
     False,
+    /// `true`.
     True,
 }
 
 impl BoolLit {
     ghost use Rattle.litrs.specs.Bool.{IsBool, bool_text, bool_value, bool_fault};
 
-    /// Parses the input as a bool literal: exactly `true` or `false`.
+    /// Reads a text that is exactly `true` or `false`.
     ///
-    /// Every other text is refused as `InvalidLiteral`, without a span.
+    /// # Errors
+    ///
+    /// `InvalidLiteral` without a span for every other text, as `True` and the empty one.
     pub fn parse(s: &str) -> Result<BoolLit, ParseError>
         ensures ok { IfOk result (IsOnlyReading (IsBool (chars s.now))) }
         ensures none { OnErr result (HasNoReading (IsBool (chars s.now))) }
@@ -33,7 +37,7 @@ impl BoolLit {
         }
     }
 
-    /// The value of this literal.
+    /// What it stands for.
     pub fn value(self) -> bool
         ensures { result ≡ bool_value self }
     {
@@ -43,7 +47,7 @@ impl BoolLit {
         }
     }
 
-    /// The literal as text.
+    /// Its text.
     pub fn as_str(&self) -> &'static str
         ensures { result.now ≡ bool_text self.now }
     {

@@ -6,7 +6,7 @@ use std::error::Error;
 use std::fmt;
 use std::ops::Range;
 
-/// Errors during parsing: what is wrong with a text, and where.
+/// A refusal: what is wrong with a text, and where.
 #[derive(Debug, Drop)]
 pub struct ParseError {
     pub(crate) span: Option<Range<usize>>,
@@ -23,7 +23,8 @@ impl ParseError {
         ParseError { span, kind }
     }
 
-    /// The part of the text that the refusal points at, in bytes, if it points at one.
+    /// The part of the text that the refusal points at, in bytes, if it points at one: 3..4 of
+    /// `0b12`.
     ///
     /// The start is a character boundary. The end may lie inside a character.
     pub fn span(&self) -> Option<Range<usize>>

@@ -24,10 +24,10 @@ use std::fmt;
 use std::marker::Model;
 use std::str::FromStr;
 
-/// An integer literal, e.g. `27`, `0x7F`, `0b101010u8` or `5_000_000i64`.
+/// A number as it is written in Rust: `1_000`, `0xFF_u8`, `0b1111_1111`.
 ///
-/// An integer literal consists of an optional base prefix (`0b`, `0o`, `0x`), the main part (digits
-/// and underscores), and an optional type suffix (e.g. `u64` or `i8`). It has no sign. See [the
+/// It is made of a prefix that tells the base (`0b`, `0o`, `0x`, or none for ten), the main part, which
+/// is digits and underscores, and a suffix, which may be empty. It has no sign. See [the
 /// reference][ref].
 ///
 /// [ref]: https://doc.rust-lang.org/reference/tokens.html#integer-literals
@@ -47,13 +47,14 @@ impl<B: Buffer> Model for IntegerLit<B> {
 }
 
 impl<B: Buffer> IntegerLit<B> {
-    /// Parses the input as an integer literal.
+    /// Reads a text that is one integer. It takes no memory.
     ///
-    /// Refused as `Empty`, as `DoesNotStartWithDigit`, or as [`cut_integer`] refuses it. It takes no
-    /// memory.
+    /// `0xFF_u8` has the base 16, the main part `FF_` and the suffix `u8`.
     ///
-    /// `0xFF_u8` has the base 16, the main part `FF_` and the suffix `u8`. `0b12` is refused as
-    /// `InvalidDigit` at 3..4.
+    /// # Errors
+    ///
+    /// `Empty`, `DoesNotStartWithDigit` at the first byte, or as [`cut_integer`] refuses the text:
+    /// `0b12` is `InvalidDigit` at 3..4.
     pub fn parse(input: B) -> Result<IntegerLit<B>, ParseError>
         ensures buffer { IfOk result (λ lit. lit.buffer ≡ input) }
         ensures raw { IfOk result (λ lit. lit.raw ≡ B.bytes input) }
@@ -66,10 +67,9 @@ impl<B: Buffer> IntegerLit<B> {
         Ok(IntegerLit { raw: input, cut })
     }
 
-    /// The value of the main part in its base. Underscores and the suffix are ignored, so `N` does not
-    /// need to match the suffix.
+    /// The number that the digits of the main part stand for in their base, whatever the suffix.
     ///
-    /// None exactly where the number is greater than the greatest number of `N`. It takes no memory.
+    /// None exactly where it is greater than the greatest number of `N`. It takes no memory.
     /// `0b1111_1111` is `Some(255)` as a `u8` and None as an `i8`; `128i8` is `Some(128)` as a `u8`.
     pub fn value<N: FromIntegerLiteral>(&self) -> Option<N>
         ensures { let number = integer_value (integer_parts self.now) in SomeIff result (number ≤ N.greatest) (N.of number) }
@@ -77,21 +77,21 @@ impl<B: Buffer> IntegerLit<B> {
         value_of(self.cut.base, self.raw_main_part().as_bytes())
     }
 
-    /// The base of this integer literal.
+    /// The base that the prefix tells.
     pub fn base(&self) -> IntegerBase
         ensures { result ≡ (integer_parts self.now).base }
     {
         self.cut.base
     }
 
-    /// The main part: the digits and underscores, without the prefix.
+    /// The main part: the digits and underscores, without the prefix: `FF_` of `0xFF_u8`.
     pub fn raw_main_part(&self) -> &str
         ensures { chars result.now ≡ (integer_parts self.now).main }
     {
         &self.raw.as_str()[self.cut.start_main..self.cut.end_main]
     }
 
-    /// The suffix, empty where there is none.
+    /// The suffix, empty where there is none: `u8` of `0xFF_u8`.
     pub fn suffix(&self) -> &str
         ensures { chars result.now ≡ (integer_parts self.now).suffix }
     {
@@ -107,6 +107,10 @@ impl<B: Buffer> IntegerLit<B> {
     }
 
     /// The same literal again. Over `&str` it takes no memory and succeeds.
+    ///
+    /// # Errors
+    ///
+    /// `AllocError` where there is no memory for the text.
     pub fn clone(&self, alloc: Global) -> Result<IntegerLit<B>, AllocError>
         ensures raw { IfOk result (λ copy. copy.raw ≡ self.now.raw) }
         ensures parts { IfOk result (λ copy. integer_parts copy ≡ integer_parts self.now) }
@@ -128,6 +132,10 @@ impl<B: Buffer> IntegerLit<B> {
 
 impl IntegerLit<&str> {
     /// The same literal with a text of its own.
+    ///
+    /// # Errors
+    ///
+    /// `AllocError` where there is no memory for the text.
     pub fn to_owned(&self, alloc: Global) -> Result<IntegerLit<String>, AllocError>
         ensures raw { IfOk result (λ owned. owned.raw ≡ self.now.raw) }
         ensures parts { IfOk result (λ owned. integer_parts owned ≡ integer_parts self.now) }
@@ -221,12 +229,15 @@ pub struct IntegerCut {
     pub base: IntegerBase,
 }
 
-/// Cuts an integer into prefix, main part and suffix. The text begins with a decimal digit.
+/// Cuts an integer into prefix, main part and suffix. The text begins with a decimal digit. Of
+/// `0x_7fu8` the main part goes from 2 to 5. See [the reference][ref].
 ///
-/// Refused with `InvalidDigit` where a decimal digit follows the main part, with the refusal of the
-/// suffix where what follows is no suffix, with `IntegerSuffixStartingWithE` where the suffix begins
-/// with `e` or `E`, and with `NoDigits` where the main part has no digit. Of `0x_7fu8` the main part
-/// goes from 2 to 5. See [the reference][ref].
+/// # Errors
+///
+/// `InvalidDigit` where a decimal digit follows the main part, at that digit; the refusal of
+/// [`check_suffix`] where what follows is no suffix, from there to the end; `IntegerSuffixStartingWithE`
+/// where the suffix begins with `e` or `E`, at its first byte; `NoDigits` where the main part has no
+/// digit, over the main part.
 ///
 /// [ref]: https://doc.rust-lang.org/reference/tokens.html#integer-literals
 pub fn cut_integer(input: &str) -> Result<IntegerCut, ParseError>
@@ -311,12 +322,18 @@ fn begins_with_e(bytes: &[u8]) -> bool
     }
 }
 
-/// The bases in which an integer can be specified.
+/// The bases of integers. See [the reference][ref].
+///
+/// [ref]: https://doc.rust-lang.org/reference/tokens.html#integer-literals
 #[derive(Clone, Copy, Debug, PartialEq, Eq)]
 pub enum IntegerBase {
+    /// Two, with the prefix `0b`.
     Binary,
+    /// Eight, with the prefix `0o`.
     Octal,
+    /// Ten, without a prefix.
     Decimal,
+    /// Sixteen, with the prefix `0x`.
     Hexadecimal,
 }
 
@@ -390,7 +407,9 @@ impl IntegerBase {
     }
 }
 
-/// All possible integer type suffixes.
+/// The twelve integer types, which a suffix may name. See [the reference][ref].
+///
+/// [ref]: https://doc.rust-lang.org/reference/types/numeric.html#integer-types
 #[derive(Clone, Copy, Debug, PartialEq, Eq)]
 pub enum IntegerType {
     U8,

@@ -1,7 +1,7 @@
 //! Parsing and inspecting Rust literals.
 //!
-//! [`Literal`] is any kind of literal, and the `*Lit` types, like [`IntegerLit`], are the kinds. Each has
-//! a `parse`, which reads a text that is one literal and nothing else.
+//! Each kind of literal has a type, [`BoolLit`] and [`IntegerLit`], and [`Literal`] stands for them all.
+//! Each has a `parse`, which reads a text that is one literal and nothing else.
 #![tactic(auto)]
 
 ghost use Rattle.std.specs.Prelude.{◌≡◌, ◌≢◌, false, nat_eq, IsOk, IfOk, OnErr, IfErr, Some};
@@ -36,24 +36,26 @@ mod parse;
 #[cfg(test)]
 mod tests;
 
-/// A literal. This is the main type of this library.
+/// A literal of any kind that is read. See [the reference][ref].
+///
+/// [ref]: https://doc.rust-lang.org/reference/tokens.html#literals
 #[derive(Drop)]
 pub enum Literal<B: Buffer> {
+    /// `true` or `false`.
     Bool(BoolLit),
+    /// A number without a period or an exponent, as `0xFF_u8`.
     Integer(IntegerLit<B>),
 }
 
 impl<B: Buffer> Literal<B> {
-    /// Parses the input as a literal of any kind.
+    /// Reads a text that is one literal, of the kind that it begins like.
     ///
-    /// Refused as `Empty`, as the kind that the text begins like refuses it, or as `InvalidLiteral`.
-    /// Bools and integers are read today: a text that another kind begins like, as `1.5` or `"a"`, is
-    /// `InvalidLiteral`.
+    /// `true` is a bool, `1_000u32` an integer with the suffix `u32`. Bools and integers are read today.
     ///
-    /// `true` is a bool, `1_000u32` an integer with the suffix `u32`. `0 ` is refused as
-    /// `UnexpectedChar` at 1..2. See [the reference][ref].
+    /// # Errors
     ///
-    /// [ref]: https://doc.rust-lang.org/reference/tokens.html#literals
+    /// `Empty`; the refusal of the kind that the text begins like, as `UnexpectedChar` at 1..2 for `0 `;
+    /// else `InvalidLiteral`, also of a text that begins like a kind that is not read, as `1.5` or `"a"`.
     pub fn parse(_alloc: Global, input: B) -> Result<Literal<B>, ParseError>
         ensures raw { IfOk result (λ lit. literal_raw lit ≡ B.bytes input) }
         ensures ok { IfOk result (λ lit. IsOnlyReading (IsLiteral (chars (B.bytes input))) (derivation lit)) }
@@ -70,7 +72,7 @@ impl<B: Buffer> Literal<B> {
         }
     }
 
-    /// The suffix, empty where there is none. A bool has none.
+    /// The suffix, empty where there is none: `u8` of `0xFF_u8`. A bool has none.
     pub fn suffix(&self) -> &str
         ensures { chars result.now ≡ suffix_of (derivation self.now) }
     {
@@ -94,6 +96,10 @@ impl<B: Buffer> Literal<B> {
 
 impl<B: Buffer> Literal<B> {
     /// The same literal again. Over `&str` it takes no memory and succeeds.
+    ///
+    /// # Errors
+    ///
+    /// `AllocError` where there is no memory for the text. Nothing has changed then.
     pub fn clone(&self, alloc: Global) -> Result<Literal<B>, AllocError>
         ensures raw { IfOk result (λ copy. literal_raw copy ≡ literal_raw self.now) }
         ensures parts { IfOk result (λ copy. derivation copy ≡ derivation self.now) }
@@ -107,7 +113,11 @@ impl<B: Buffer> Literal<B> {
 }
 
 impl Literal<&str> {
-    /// The same literal with a text of its own. It is dropped where memory is refused.
+    /// The same literal with a text of its own.
+    ///
+    /// # Errors
+    ///
+    /// `AllocError` where there is no memory for the text. The literal is dropped then.
     pub fn into_owned(self, alloc: Global) -> Result<Literal<String>, AllocError>
         ensures raw { IfOk result (λ owned. literal_raw owned ≡ literal_raw self.entry) }
         ensures parts { IfOk result (λ owned. derivation owned ≡ derivation self.entry) }

@@ -75,7 +75,11 @@ pub fn hex_digit_value(digit: u8) -> Option<u8>
     }
 }
 
-/// The first byte of the text, or `Empty` where there is none.
+/// The first byte of the text: `0xC3` of `é`.
+///
+/// # Errors
+///
+/// `Empty` where there is none.
 pub fn first_byte_or_empty(s: &str) -> Result<u8, ParseError>
     ensures { MatchResult result (λ b. slice_get s.now 0 ≡ Some b) (λ e. (s.now ≡ []) × (e ≡ plain ParseErrorKind.Empty)) }
 {
@@ -140,11 +144,13 @@ fn suffix_fault(s: &str) -> ParseErrorKind
     }
 }
 
-/// Makes sure that `s` is a literal suffix: empty, or an identifier other than the lone `_`.
+/// Whether a literal may end with this suffix: it is empty, or an identifier other than the lone `_`.
+/// The empty text, `u8` and `_x` are suffixes; `_` and `1x` are none. See [the reference][ref].
 ///
-/// Refused as `UnexpectedChar` where it begins with an ASCII character that is neither a letter nor
-/// `_`, else as `InvalidSuffix`. The empty text, `u8` and `_x` are suffixes; `_` and `1x` are none.
-/// See [the reference][ref].
+/// # Errors
+///
+/// `UnexpectedChar` where the text begins with an ASCII character that is neither a letter nor `_`,
+/// as `1x`; else `InvalidSuffix`, as `_`.
 ///
 /// [ref]: https://doc.rust-lang.org/reference/tokens.html#suffixes
 pub fn check_suffix(s: &str) -> Result<(), ParseErrorKind>

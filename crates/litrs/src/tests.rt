@@ -209,11 +209,25 @@ fn refusals_over_both_buffers(rt: HostRuntime) -> Result<(), Fail> {
         check_no_literal(&rt, alloc, expected.0, expected);
         check_no_literal(&rt, alloc, String::from_str(alloc, expected.0)?, expected);
     }
+    Ok(())
+}
+
+#[test]
+fn no_integers_over_both_buffers(rt: HostRuntime) -> Result<(), Fail> {
     for expected in &NO_INTEGERS {
         check_no_integer(&rt, expected.0, expected);
+        check_no_integer(&rt, String::from_str(rt.alloc(), expected.0)?, expected);
     }
+    Ok(())
+}
+
+#[test]
+fn no_literals_over_both_buffers(rt: HostRuntime) -> Result<(), Fail> {
+    let alloc = rt.alloc();
     for text in NO_LITERALS {
-        check_no_literal(&rt, alloc, text, &(text, InvalidLiteral, None));
+        let expected = (text, InvalidLiteral, None);
+        check_no_literal(&rt, alloc, text, &expected);
+        check_no_literal(&rt, alloc, String::from_str(alloc, text)?, &expected);
     }
     Ok(())
 }
@@ -227,7 +241,10 @@ fn bools(rt: HostRuntime) -> Result<(), Fail> {
         assert_eq!(rt; BoolLit::parse(text).ok(), Some(lit));
         assert_eq!(rt; lit.value(), value);
         assert_eq!(rt; lit.as_str(), text);
-        assert_eq!(rt; format!(in rt.alloc(); "{lit}|{lit:>6}|")?.as_str(), printed);
+        assert_eq!(rt;
+            format!(in rt.alloc(); "{lit}|{lit:>6}|")?.as_str(),
+            printed
+        );
     }
     Ok(())
 }
@@ -287,7 +304,10 @@ fn check_printed<B: Buffer>(
 ) -> Result<(), AllocError> {
     assert_eq!(rt; format!(in alloc; "{lit}|{lit:>9}|")?.as_str(), printed);
     let literal = Literal::from(lit);
-    assert_eq!(rt; format!(in alloc; "{literal}|{literal:>9}|")?.as_str(), printed);
+    assert_eq!(rt;
+        format!(in alloc; "{literal}|{literal:>9}|")?.as_str(),
+        printed
+    );
     assert_eq!(rt; literal.raw_input(), text);
     Ok(())
 }
@@ -539,7 +559,10 @@ fn no_suffixes(rt: HostRuntime) {
 #[test]
 fn where_an_integer_is_cut(rt: HostRuntime) {
     match cut_integer("0xFF_u8") {
-        Ok(cut) => assert_eq!(rt; (cut.start_main, cut.end_main, cut.base), (2, 5, IntegerBase::Hexadecimal)),
+        Ok(cut) => assert_eq!(rt;
+            (cut.start_main, cut.end_main, cut.base),
+            (2, 5, IntegerBase::Hexadecimal)
+        ),
         Err(e) => assert!(rt; false, "0xFF_u8 is an integer, but {e}"),
     }
     match cut_integer("0b12") {

@@ -9,10 +9,10 @@ pub struct Failed;
 
 /// A source of bytes.
 pub trait Input {
-    // The bytes that reads will give from here on, where they are known.
+    /// The bytes that reads will give from here on, where they are known.
     ghost remaining: { Self → Option (List ℕ) } = { λ _. None };
 
-    // A call has failed.
+    /// A call has failed.
     ghost has_failed: { Self → Bool };
 
     /// Reads bytes into the front of `buffer` and answers their number.
@@ -28,19 +28,19 @@ pub trait Input {
     fn failed(&self) -> bool
         ensures { result ≡ has_failed self.now };
 
-    // A known input is shorter than 2^63 bytes.
+    /// A known input is shorter than 2^63 bytes.
     ghost few: { (input : Self) → IfSome (remaining input) (λ bytes. length bytes < 2 ^ 63) };
 }
 
 /// A place that bytes are written to.
 pub trait Output {
-    // The bytes that were written, where they are known.
+    /// The bytes that were written, where they are known.
     ghost contents: { Self → Option (List ℕ) } = { λ _. None };
 
-    // A call has failed.
+    /// A call has failed.
     ghost has_failed: { Self → Bool };
 
-    // Nothing was written behind the last flush, where that is known.
+    /// Nothing was written behind the last flush, where that is known.
     ghost is_flushed: { Self → Bool } = { λ _. true };
 
     /// Writes bytes from the front of `piece` and answers their number, at least one where `piece`
