@@ -9,8 +9,7 @@ use Rattle.std.specs.Prelude.{encode_utf8_all}
 use Rattle.std.proofs.lemmas.Str.{IsAscii-append}
 use Rattle.std.proofs.lemmas.List.{drop-drop, length-drop}
 use Rattle.std.proofs.Math.Seq.{take-add}
-use Rattle.litrs.specs.Suffix.{is_empty}
-use Rattle.litrs.specs.Text.{first_passes, begins_with}
+use Rattle.litrs.specs.Text.{is_empty, first_passes, begins_with}
 
 -- a text that is not empty has a first character
 abbrev Splits : List ℕ → Type 0

@@ -7,9 +7,8 @@ use Rattle.std.proofs.lemmas.Bool.{and_parts, and_from, eqb-true, or_cases, and_
 use Rattle.std.proofs.lemmas.Bool.Decides.{nat_tests}
 use Rattle.std.proofs.lemmas.List.Sums.{sum_by-take-le}
 use Rattle.litrs.specs.declared.err.ParseError.{ParseError}
-use Rattle.litrs.specs.Text.{byte_len, first_passes}
+use Rattle.litrs.specs.Text.{is_empty, byte_len, first_passes}
 use Rattle.litrs.specs.Escape.{Switches, Escape, simple_escape, hex_escape, unicode_escape, escape_text, is_escape, is_simple, escape_fault, hex_fault, unicode_fault, inner_fault, allows_value, allows_byte, simple_value, pair_value, hex_value, has_two_bytes, is_hex_or_underscore}
-use Rattle.litrs.specs.Suffix.{is_empty}
 use Rattle.litrs.specs.Characters.{is_scalar}
 use Rattle.litrs.proofs.ByteLen.{byte_len_one_ascii}
 use Rattle.litrs.proofs.Runs.{list_all-weaken}

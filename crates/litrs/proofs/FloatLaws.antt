@@ -8,8 +8,8 @@ use Rattle.std.proofs.lemmas.Bool.Decides.{nat_tests}
 use Rattle.std.proofs.lemmas.List.{take_at}
 use Rattle.litrs.specs.declared.err.ParseErrorKind.{ParseErrorKind}
 use Rattle.litrs.specs.declared.err.ParseError.{ParseError}
-use Rattle.litrs.specs.Text.{byte_len, first_passes}
-use Rattle.litrs.specs.Suffix.{is_empty, is_suffix, suffix_fault}
+use Rattle.litrs.specs.Text.{is_empty, byte_len, first_passes}
+use Rattle.litrs.specs.Suffix.{is_suffix, suffix_fault}
 use Rattle.litrs.specs.Integer.{is_e, number_rows}
 use Rattle.litrs.specs.Float.{FloatParts, fraction_text, float_text, is_decimal_char, is_underscore, is_period, is_sign, is_decimal_literal, is_exponent_number, sign_len, is_exponent, is_float_form, IsFloat, IsFloatOf, exponent_len, integer_end, fraction_end, number_end, parts_between, has_wrong_fraction, float_rows, float_fault}
 use Rattle.litrs.specs.Reading.{IsOnlyReading, HasNoReading}

@@ -9,8 +9,8 @@ use Rattle.litrs.specs.declared.err.ParseErrorKind.{ParseErrorKind}
 use Rattle.litrs.specs.declared.err.ParseErrorKind.TheVariants.{Empty, UnexpectedChar, DoesNotStartWithDigit, NoExponentDigits, UnexpectedIntegerLit}
 use Rattle.litrs.specs.declared.err.ParseError.{ParseError}
 use Rattle.litrs.specs.Fault.{IsInText, plain, over, at}
-use Rattle.litrs.specs.Text.{byte_len}
-use Rattle.litrs.specs.Suffix.{is_empty, suffix_fault}
+use Rattle.litrs.specs.Text.{is_empty, byte_len}
+use Rattle.litrs.specs.Suffix.{suffix_fault}
 use Rattle.litrs.specs.Integer.{is_e, number_rows}
 use Rattle.litrs.specs.Float.{FloatParts, fraction_text, float_text, is_decimal_char, is_period, is_sign, sign_len, IsFloat, IsFloatOf, has_wrong_fraction, float_rows, float_fault}
 use Rattle.litrs.proofs.Runs.{last_passes, is_line_feed, line_feed_last, last_passes-all, last_passes-both, list_all-append, list_all-weaken}

@@ -9,8 +9,8 @@ use Rattle.litrs.specs.declared.err.ParseError.{ParseError}
 use Rattle.litrs.specs.declared.err.ParseErrorKind.{ParseErrorKind}
 use Rattle.litrs.specs.declared.integer.IntegerBase.{IntegerBase}
 use Rattle.litrs.specs.declared.integer.IntegerBase.TheVariants.{Binary, Octal, Decimal, Hexadecimal}
-use Rattle.litrs.specs.Text.{byte_len, first_passes, begins_with}
-use Rattle.litrs.specs.Suffix.{is_suffix, is_empty, suffix_fault}
+use Rattle.litrs.specs.Text.{is_empty, byte_len, first_passes, begins_with}
+use Rattle.litrs.specs.Suffix.{is_suffix, suffix_fault}
 use Rattle.litrs.specs.Base.{prefix, is_digit, is_digit_or_underscore}
 use Rattle.litrs.specs.Reading.{IsOnlyReading, HasNoReading}
 use Rattle.litrs.specs.Integer.{IntegerParts, integer_text, IsInteger, IsIntegerOf, is_e, has_prefix, base_of, integer_cut, integer_rows, cut_fault, number_rows, integer_fault}

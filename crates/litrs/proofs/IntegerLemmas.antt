@@ -13,8 +13,8 @@ use Rattle.litrs.specs.declared.integer.IntegerBase.{IntegerBase}
 use Rattle.litrs.specs.declared.integer.IntegerBase.TheVariants.{Binary, Octal, Decimal, Hexadecimal}
 use Rattle.litrs.specs.declared.err.ParseErrorKind.TheVariants.{Empty, DoesNotStartWithDigit}
 use Rattle.litrs.specs.Fault.{plain, at}
-use Rattle.litrs.specs.Text.{byte_len, first_passes, begins_with}
-use Rattle.litrs.specs.Suffix.{is_empty, is_suffix, suffix_fault}
+use Rattle.litrs.specs.Text.{is_empty, byte_len, first_passes, begins_with}
+use Rattle.litrs.specs.Suffix.{is_suffix, suffix_fault}
 use Rattle.litrs.specs.Base.{prefix, is_digit, is_digit_or_underscore}
 use Rattle.litrs.specs.Integer.{integer_text, is_e, base_of, integer_cut, integer_rows, cut_fault, integer_fault}
 use Rattle.litrs.specs.IntegerCut.{parts_at, IsWithin, IsDigitsCut}

@@ -8,8 +8,8 @@ use Rattle.litrs.specs.declared.err.ParseErrorKind.{ParseErrorKind}
 use Rattle.litrs.specs.declared.err.ParseErrorKind.TheVariants.{Empty, DoesNotStartWithDigit, InvalidDigit, NoDigits, IntegerSuffixStartingWithE}
 use Rattle.litrs.specs.declared.err.ParseError.{ParseError}
 use Rattle.litrs.specs.Fault.{plain, over, at, IsInText}
-use Rattle.litrs.specs.Text.{byte_len, first_passes}
-use Rattle.litrs.specs.Suffix.{is_suffix, is_empty, suffix_fault}
+use Rattle.litrs.specs.Text.{is_empty, byte_len, first_passes}
+use Rattle.litrs.specs.Suffix.{is_suffix, suffix_fault}
 use Rattle.litrs.specs.declared.integer.IntegerBase.{IntegerBase}
 use Rattle.litrs.specs.declared.integer.IntegerBase.TheVariants.{Binary, Octal, Decimal, Hexadecimal}
 use Rattle.litrs.specs.Base.{prefix, is_digit, is_digit_or_underscore}

@@ -269,7 +269,7 @@ empty_string = a_c_string (quoted_parts (record { items = []; suffix = [] }))
 -- `c` begins the C string `c""`
 begins-c_string : Begins literal_parse (codes "c")
 unfolding all_tables
-begins-c_string = (codes "\"\"", empty_string, record { spells = refl; body = refl; suffix = refl })
+begins-c_string = (codes "\"\"", empty_string, refl, record { spells = refl; body = refl; suffix = refl })
 
 abbrev raw_string : Derivation
 raw_string = a_string (raw_parts (record { hash_count = 2; body = codes "a\"#"; suffix = [] }))
@@ -280,6 +280,7 @@ unfolding all_tables
 begins-raw_string = (
   closing_of (codes "r##\"a\"#") (plain UnterminatedRawString),
   raw_string,
+  refl,
   (
     refl,
     record {

@@ -9,8 +9,7 @@ use Rattle.litrs.specs.declared.bool.BoolLit.TheVariants.{False, True}
 use Rattle.litrs.specs.declared.err.ParseErrorKind.TheVariants.{Empty, InvalidLiteral}
 use Rattle.litrs.specs.declared.err.ParseError.{ParseError}
 use Rattle.litrs.specs.Fault.{plain}
-use Rattle.litrs.specs.Text.{first_passes, begins_with, is_text}
-use Rattle.litrs.specs.Suffix.{is_empty}
+use Rattle.litrs.specs.Text.{is_empty, first_passes, begins_with, is_text}
 use Rattle.litrs.specs.StringKind.{StringKind, string_kind, byte_string_kind, c_string_kind, switches_of}
 use Rattle.litrs.specs.Bool.{bool_text, is_bool, bool_fault}
 use Rattle.litrs.specs.Integer.{integer_cut, integer_fault}

@@ -6,13 +6,13 @@ use Rattle.std.proofs.lemmas.Bool.{and_parts, and_from, not-true, not-false, eqb
 use Rattle.litrs.specs.declared.err.ParseError.{ParseError}
 use Rattle.litrs.specs.declared.err.ParseErrorKind.TheVariants.{UnterminatedString}
 use Rattle.litrs.specs.Fault.{plain}
-use Rattle.litrs.specs.Characters.{is_blank}
+use Rattle.litrs.specs.Characters.{is_blank, is_ascii_unless}
 use Rattle.litrs.proofs.Runs.{last_passes, is_line_feed, last_passes-append, line_feed_last}
 use Rattle.litrs.proofs.SuffixStart.{suffix_last}
-use Rattle.litrs.specs.Suffix.{is_empty, is_suffix}
-use Rattle.litrs.specs.Text.{first_passes}
+use Rattle.litrs.specs.Suffix.{is_suffix}
+use Rattle.litrs.specs.Text.{is_empty, first_passes}
 use Rattle.litrs.specs.Escape.{Switches, Escape, simple_escape, hex_escape, unicode_escape, escape_text, is_escape, is_simple, escape_fault, allows_value}
-use Rattle.litrs.specs.Quoted.{Item, plain_item, escape_item, continuation, item_text, is_item, is_plain, body_text, is_body, takes_all_blanks, is_taken_before, stand_before, without_last, backslash_fault, rest_fault, allows_character}
+use Rattle.litrs.specs.Quoted.{Item, plain_item, escape_item, continuation, item_text, is_item, is_plain, body_text, is_body, takes_all_blanks, is_taken_before, stand_before, without_last, backslash_fault, rest_fault}
 use Rattle.litrs.proofs.ListTests.{unless_none, none_if, none_unless, if_true, if_false}
 use Rattle.litrs.proofs.Spans.{none_from}
 use Rattle.litrs.proofs.EscapeLemmas.{same_escape, fault_escape, read_escape}
@@ -131,13 +131,13 @@ plain_no_fault : (w : Switches) (c : ℕ) (t : List ℕ) → is_plain w c ≡ tr
 unfolding rest_fault
 plain_no_fault w c t h =
     let a = and_parts _ (allows_value w c) h in
-    let b = and_parts _ (allows_character w c) a.0 in
+    let b = and_parts _ (is_ascii_unless w.unicode c) a.0 in
     let d = and_parts _ (not (c == 13)) b.0 in
     let e = and_parts (not (c == 34)) (not (c == 92)) d.0 in
     if_false (c == 92) _ _ (not-true _ e.1)
     ∙ none_if (c == 13) _ _ (not-true _ d.1)
     (none_unless (allows_value w c) _ _ a.1
-    (none_unless (allows_character w c) _ _ b.1
+    (none_unless (is_ascii_unless w.unicode c) _ _ b.1
     (none_if _ _ _ (and_left _ _ (not-true _ e.0)) refl)))
 
 escape_no_fault : (w : Switches) (e : Escape) (c : ℕ) (t : List ℕ) → is_escape w e ≡ true → rest_fault w (escape_text e ++ c ∷ t) ≡ None
@@ -253,13 +253,13 @@ front_cons w c t true q b_is q_is h =
 front_cons w c t false true b_is q_is h =
     let a = none_from (c == 13) _ _ (sym (if_false _ _ _ b_is) ∙ h) in
     let b = unless_none (allows_value w c) _ _ a.1 in
-    let d = unless_none (allows_character w c) _ _ b.1 in
+    let d = unless_none (is_ascii_unless w.unicode c) _ _ b.1 in
     let e = none_from ((c == 34) && not (is_suffix t)) _ _ d.1 in
     inr (inr (t, ap (λ n. n ∷ t) (sym (eqb-true c 34 q_is)), not-false _ (subst (λ b. (b && not (is_suffix t)) ≡ false) q_is e.0)))
 front_cons w c t false false b_is q_is h =
     let a = none_from (c == 13) _ _ (sym (if_false _ _ _ b_is) ∙ h) in
     let b = unless_none (allows_value w c) _ _ a.1 in
-    let d = unless_none (allows_character w c) _ _ b.1 in
+    let d = unless_none (is_ascii_unless w.unicode c) _ _ b.1 in
     inl (
       plain_item c,
       t,

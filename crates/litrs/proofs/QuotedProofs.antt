@@ -9,13 +9,13 @@ use Rattle.std.specs.Char.{encode_utf8}
 use Rattle.std.proofs.lemmas.List.Folds.{list_any-append}
 use Rattle.std.proofs.lemmas.Str.{length-encode, len_utf8_bounds}
 use Rattle.litrs.specs.StringKind.{string_kind, byte_string_kind, c_string_kind}
-use Rattle.litrs.specs.Characters.{is_blank}
+use Rattle.litrs.specs.Characters.{is_blank, is_ascii_unless}
 use Rattle.litrs.specs.declared.err.ParseError.{ParseError}
 use Rattle.litrs.specs.Fault.{moved}
 use Rattle.litrs.specs.Suffix.{is_suffix}
 use Rattle.litrs.specs.Text.{first_passes, byte_len}
 use Rattle.litrs.specs.Escape.{Switches, Escape, simple_escape, hex_escape, unicode_escape, escape_text, escape_value, value_bytes, is_escape, is_simple, hex_value, pair_value, allows_value}
-use Rattle.litrs.specs.Quoted.{Item, plain_item, escape_item, continuation, item_text, item_value, is_item, allows_character, stand_before, body_text, body_value, is_body, takes_all_blanks, rest_fault, QuotedParts, IsQuoted, IsQuotedFault}
+use Rattle.litrs.specs.Quoted.{Item, plain_item, escape_item, continuation, item_text, item_value, is_item, stand_before, body_text, body_value, is_body, takes_all_blanks, rest_fault, QuotedParts, IsQuoted, IsQuotedFault}
 use Rattle.litrs.specs.Raw.{is_nul}
 use Rattle.litrs.specs.QuotedLaws.{QuotedBodiesAreUnique, QuotedTextsAreUnique, QuotedRefusalsAreUnique, QuotedTextsAreDecided, QuotedTextsAreNotRefused, QuotedBodiesJoin, QuotedValuesFitBodies, NoNulInQuotedCStrings, NoQuotedTextEndsWithLineFeed, QuotedLiteralsAreUnique}
 use Rattle.litrs.proofs.Spans.{byte_len-append}
@@ -149,7 +149,7 @@ escape_size w (unicode_escape (c ∷ inner)) h =
 item_size : (w : Switches) (a : Item) → is_item w a ≡ true → HasSize (item_value a) (item_text a)
 item_size w (plain_item c) h =
     let p = and_parts _ (allows_value w c) h in
-    let q = and_parts _ (allows_character w c) p.0 in
+    let q = and_parts _ (is_ascii_unless w.unicode c) p.0 in
     let r = and_parts _ (not (c == 13)) q.0 in
     let s = and_parts (not (c == 34)) (not (c == 92)) r.0 in
     inl (length_same (encode_utf8 c), or_from _ _ (not-true _ s.1) refl)

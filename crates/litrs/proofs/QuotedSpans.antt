@@ -5,12 +5,12 @@ use Rattle.std.specs.List.{list_all, list_any}
 use Rattle.std.proofs.lemmas.Bool.{and_parts, eqb-true}
 use Rattle.litrs.specs.declared.err.ParseError.{ParseError}
 use Rattle.litrs.specs.declared.err.ParseErrorKind.TheVariants.{UnterminatedString}
-use Rattle.litrs.specs.Characters.{is_blank}
+use Rattle.litrs.specs.Characters.{is_blank, is_ascii_unless}
 use Rattle.litrs.specs.Fault.{plain, moved, IsInText}
 use Rattle.litrs.specs.Suffix.{is_suffix}
 use Rattle.litrs.specs.Text.{byte_len, first_passes, begins_with}
 use Rattle.litrs.specs.Escape.{Switches, escape_fault, allows_value}
-use Rattle.litrs.specs.Quoted.{body_text, allows_character, without_last, backslash_fault, rest_fault}
+use Rattle.litrs.specs.Quoted.{body_text, without_last, backslash_fault, rest_fault}
 use Rattle.litrs.specs.QuotedLaws.{QuotedSpansLieInText}
 use Rattle.litrs.specs.CharByte.{CharKind, char_kind, byte_kind, char_front, char_switches_of, is_special_whitespace, allows_char, char_item_length, closing_fault, char_item_fault, start_fault, char_kind_fault}
 use Rattle.litrs.specs.CharByteLaws.{CharSpansLieInText}
@@ -54,7 +54,7 @@ rest_fits w (c ∷ t) =
     fit_either _ (c == 92) (backslash_fault w t) _ (λ e. subst (λ n. AllFit (n ∷ t) (backslash_fault w t)) (sym (eqb-true c 92 e)) (backslash_fits w t))
     (λ _. fit_if _ (c == 13) _ _ (λ _. first_byte c t)
     (λ _. fit_unless _ (allows_value w c) _ _ (λ _. first_byte c t)
-    (λ _. fit_unless _ (allows_character w c) _ _ (λ _. first_byte c t)
+    (λ _. fit_unless _ (is_ascii_unless w.unicode c) _ _ (λ _. first_byte c t)
     (λ _. fit_if _ ((c == 34) && not (is_suffix t)) _ None (λ e. behind_quote e) (λ _. tt)))))
   where
     not_suffix : (b : Bool) → not b ≡ true → b ≡ false

@@ -11,8 +11,8 @@ use Rattle.litrs.specs.declared.err.ParseErrorKind.{ParseErrorKind}
 use Rattle.litrs.specs.declared.err.ParseErrorKind.TheVariants.{InvalidLiteral, TooManyHashes, UnterminatedRawString}
 use Rattle.litrs.specs.declared.err.ParseError.{ParseError}
 use Rattle.litrs.specs.Fault.{IsInText, plain, over, at}
-use Rattle.litrs.specs.Text.{byte_len, first_passes}
-use Rattle.litrs.specs.Suffix.{is_empty, is_suffix, suffix_fault}
+use Rattle.litrs.specs.Text.{is_empty, byte_len, first_passes}
+use Rattle.litrs.specs.Suffix.{is_suffix, suffix_fault}
 use Rattle.litrs.specs.Raw.{is_quote, is_hash, is_nul, hashes, raw_closing, is_raw_char, raw_value, RawParts, raw_text, IsRaw, length_before, raw_char_fault, raw_body_rows, raw_body_fault, raw_rows, raw_fault}
 use Rattle.litrs.proofs.Runs.{last_passes, is_line_feed, last_passes-all, last_passes-append, last_passes-both, list_all-weaken}
 use Rattle.litrs.proofs.Spans.{byte_len-append, is_ascii_char, byte_len_ascii, plain_within, over_within, at_within, of_some, of_none}

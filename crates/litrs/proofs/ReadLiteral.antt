@@ -7,8 +7,7 @@ use Rattle.litrs.specs.declared.bool.BoolLit.TheVariants.{False, True}
 use Rattle.litrs.specs.declared.err.ParseError.{ParseError}
 use Rattle.litrs.specs.declared.err.ParseErrorKind.TheVariants.{Empty, InvalidLiteral}
 use Rattle.litrs.specs.Fault.{plain}
-use Rattle.litrs.specs.Text.{first_passes, begins_with}
-use Rattle.litrs.specs.Suffix.{is_empty}
+use Rattle.litrs.specs.Text.{is_empty, first_passes, begins_with}
 use Rattle.litrs.specs.Bool.{bool_text, is_bool, bool_fault}
 use Rattle.litrs.specs.Reading.{IsOnlyReading, HasNoReading}
 use Rattle.litrs.specs.Integer.{IntegerParts, IsIntegerOf, integer_fault}

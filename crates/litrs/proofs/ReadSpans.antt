@@ -4,8 +4,7 @@ use Rattle.std.specs.Char.{is_ascii_digit}
 use Rattle.litrs.specs.declared.err.ParseErrorKind.TheVariants.{Empty, InvalidLiteral, OutOfMemory}
 use Rattle.litrs.specs.declared.err.ParseError.{ParseError}
 use Rattle.litrs.specs.Fault.{plain, kind_of, IsInText}
-use Rattle.litrs.specs.Text.{first_passes}
-use Rattle.litrs.specs.Suffix.{is_empty}
+use Rattle.litrs.specs.Text.{is_empty, first_passes}
 use Rattle.litrs.specs.Integer.{integer_fault}
 use Rattle.litrs.specs.Bool.{is_bool}
 use Rattle.litrs.specs.LiteralFault.{begins_float}

@@ -13,8 +13,7 @@ use Rattle.litrs.specs.declared.err.ParseError.{ParseError}
 use Rattle.litrs.specs.Characters.{is_scalar}
 use Rattle.std.specs.declared.ops.Range.{Range}
 use Rattle.litrs.specs.Fault.{IsInText, moved, moved_span}
-use Rattle.litrs.specs.Suffix.{is_empty}
-use Rattle.litrs.specs.Text.{PointsInto, byte_len, first_passes}
+use Rattle.litrs.specs.Text.{is_empty, PointsInto, byte_len, first_passes}
 use Rattle.litrs.specs.Escape.{Switches, escape_fault, hex_fault, unicode_fault, inner_fault, is_simple, is_hex_or_underscore, has_two_bytes, place_behind, allows_value, allows_byte, pair_value, hex_value}
 use Rattle.litrs.specs.EscapeLaws.{EscapeSpansLieInText}
 use Rattle.litrs.proofs.Spans.{byte_len-append}

@@ -2,7 +2,8 @@
 use Rattle.std.proofs.Common.{◌≡◌, ℕ, true, not, ◌&&◌, eqb, List, [], ◌∷◌, refl, ap}
 use Rattle.std.specs.List.{list_all}
 use Rattle.unicode_ident.specs.Ident.{is_xid_continue}
-use Rattle.litrs.specs.Suffix.{starts_identifier, is_empty, is_suffix}
+use Rattle.litrs.specs.Text.{is_empty}
+use Rattle.litrs.specs.Suffix.{starts_identifier, is_suffix}
 
 pub is_suffix-nil : is_suffix [] ≡ true
 unfolding is_suffix

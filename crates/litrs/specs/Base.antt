@@ -1,4 +1,4 @@
--- The bases of integers. The Rust Reference, Tokens, Integer literals.
+-- The bases of integers. The Rust Reference, Tokens, Literals: "Integer literals".
 use Rattle.std.specs.Prelude.{ℕ, Bool, ◌==◌, ◌||◌, List, codes}
 use Rattle.std.specs.Char.{is_ascii_digit, is_ascii_hexdigit}
 use Rattle.std.specs.Int.{is_in_range}

@@ -16,6 +16,7 @@ bool_text True = codes "true"
 abbrev pub IsBool : List ℕ → BoolLit → Type 0
 IsBool t b = bool_text b ≡ t
 
+-- what it stands for
 abbrev pub bool_value : BoolLit → Bool
 bool_value False = false
 bool_value True = true

@@ -80,6 +80,7 @@ pub record IsCharLiteral (kind : CharKind) (t : List ℕ) (d : CharParts) : Type
 -- Why a text is no char or no byte. Of the rows of each function the first that fits decides, and where none fits the
 -- text is a literal.
 
+-- the three refusals that each kind has of its own
 abbrev pub unterminated_kind : CharKind → ParseErrorKind
 unterminated_kind char_kind = UnterminatedCharLiteral
 unterminated_kind byte_kind = UnterminatedByteLiteral
@@ -98,7 +99,7 @@ start_fault kind [] = plain Empty
 start_fault char_kind (c ∷ t) = at 0 DoesNotStartWithQuote
 start_fault byte_kind (c ∷ t) = plain InvalidByteLiteralStart
 
--- how many characters the escape at the front of a text has
+-- how many characters the escape has that stands at the front of a text
 abbrev pub escape_length : List ℕ → ℕ
 escape_length t =
     if slice_index t 1 == letter_x then 4
@@ -130,6 +131,7 @@ char_item_fault kind (c ∷ t) =
     else if not (allows_char kind c) then Some (at 0 NonAsciiInByteLiteral)
     else closing_fault kind (byte_len (take n (c ∷ t))) (drop n (c ∷ t))
 
+-- by the front, which a text must have
 unfoldable pub char_kind_fault : CharKind → List ℕ → Option ParseError
 char_kind_fault kind t =
     let place = length (char_front kind) in

@@ -1,6 +1,5 @@
--- The characters that literals are made of, by their names. The Rust Reference, Notation, Unicode productions, and Tokens,
--- Literals.
-use Rattle.std.specs.Prelude.{ℕ, Bool, ◌==◌, ◌||◌, ◌&&◌, nat_lt, nat_le, true, if◌then◌else◌}
+-- The characters that literals are made of, by their names. The Rust Reference, Tokens, Literals.
+use Rattle.std.specs.Prelude.{ℕ, Bool, not, ◌==◌, ◌||◌, ◌&&◌, nat_lt, nat_le, true, if◌then◌else◌}
 
 abbrev pub nul : ℕ
 nul = 0
@@ -13,6 +12,9 @@ line_feed = 10
 
 abbrev pub carriage_return : ℕ
 carriage_return = 13
+
+abbrev pub space : ℕ
+space = 32
 
 abbrev pub double_quote : ℕ
 double_quote = 34
@@ -35,6 +37,9 @@ period = 46
 abbrev pub digit_zero : ℕ
 digit_zero = 48
 
+abbrev pub capital_e : ℕ
+capital_e = 69
+
 abbrev pub backslash : ℕ
 backslash = 92
 
@@ -46,6 +51,9 @@ letter_b = 98
 
 abbrev pub letter_c : ℕ
 letter_c = 99
+
+abbrev pub letter_e : ℕ
+letter_e = 101
 
 abbrev pub letter_n : ℕ
 letter_n = 110
@@ -70,7 +78,7 @@ close_brace = 125
 
 -- the whitespace that a continuation takes: space, tab and LF, and no other
 abbrev pub is_blank : ℕ → Bool
-is_blank c = (c == 32) || (c == tab) || (c == line_feed)
+is_blank c = (c == space) || (c == tab) || (c == line_feed)
 
 -- ASCII
 abbrev pub is_ascii : ℕ → Bool
@@ -79,3 +87,11 @@ is_ascii c = nat_lt c 128
 -- a Unicode scalar value: a code point that is no surrogate
 abbrev pub is_scalar : ℕ → Bool
 is_scalar c = if nat_lt c 0xD800 then true else nat_le 0xE000 c && nat_lt c 0x110000
+
+-- Where Unicode is off, as in byte strings, a character is ASCII.
+abbrev pub is_ascii_unless : (unicode : Bool) → ℕ → Bool
+is_ascii_unless unicode c = unicode || is_ascii c
+
+-- Where NUL is not allowed, as in C strings, a character or a value is not NUL.
+abbrev pub is_no_nul_unless : (allow_nul : Bool) → ℕ → Bool
+is_no_nul_unless allow_nul c = allow_nul || not (c == nul)

@@ -8,13 +8,12 @@ use Rattle.litrs.specs.declared.escape.Unescape.{Unescape}
 use Rattle.litrs.specs.declared.escape.Unescape.TheVariants.{Byte, Unicode}
 use Rattle.litrs.specs.declared.err.ParseError.{ParseError}
 use Rattle.litrs.specs.declared.err.ParseErrorKind.TheVariants.{UnterminatedEscape, DisallowedNulEscape, InvalidXEscape, NonAsciiXEscape, UnicodeEscapeInByteLiteral, UnicodeEscapeWithoutBrace, UnterminatedUnicodeEscape, InvalidStartOfUnicodeEscape, NonHexDigitInUnicodeEscape, TooManyDigitInUnicodeEscape, InvalidUnicodeEscapeChar, UnknownEscape}
-use Rattle.litrs.specs.Characters.{line_feed, tab, carriage_return, nul, single_quote, double_quote, backslash, digit_zero, underscore, letter_n, letter_r, letter_t, letter_u, letter_x, open_brace, close_brace, is_ascii, is_scalar}
+use Rattle.litrs.specs.Characters.{line_feed, tab, carriage_return, nul, single_quote, double_quote, backslash, digit_zero, underscore, letter_n, letter_r, letter_t, letter_u, letter_x, open_brace, close_brace, is_ascii, is_scalar, is_no_nul_unless}
 use Rattle.litrs.specs.Fault.{at, over}
 use Rattle.litrs.specs.Numeral.{numeral}
-use Rattle.litrs.specs.Suffix.{is_empty}
-use Rattle.litrs.specs.Text.{byte_len, first_passes}
+use Rattle.litrs.specs.Text.{is_empty, byte_len, first_passes}
 
--- What a literal allows in its escapes: `\u{..}`; `\x` above 7F; the value 0.
+-- What a literal allows in its escapes: `\u{..}`; `\x` above 7F; the value 0. Below is what each kind allows.
 pub record Switches : Type 0 where
   pub unicode : Bool
   pub byte_escapes : Bool
@@ -87,7 +86,7 @@ value_bytes (Unicode c) = encode_utf8 c
 
 -- a value may be 0 only where NUL is allowed
 abbrev pub allows_value : Switches → ℕ → Bool
-allows_value w value = w.allow_nul || not (value == nul)
+allows_value w value = is_no_nul_unless w.allow_nul value
 
 -- `\x` goes up to 7F, or to FF where byte escapes are on
 abbrev pub allows_byte : Switches → ℕ → Bool
@@ -105,14 +104,15 @@ is_escape w (unicode_escape inner) =
     && nat_le (count_by is_ascii_hexdigit inner) 6
     && allows_value w (hex_value inner) && is_scalar (hex_value inner)
 
+-- the same, as a condition
 abbrev pub IsEscape : Switches → Escape → Type 0
 IsEscape w e = IsTrue (is_escape w e)
 
--- Why a text has no escape at its front. The text begins with the backslash, from which the spans count; of the rows of
--- each function the first that fits decides, and where none fits an escape stands there.
+-- Why a text has no escape at its front. The text is empty or begins with the backslash, from which the spans count; of the
+-- rows of each function the first that fits decides, and where none fits an escape stands there.
 
--- the first character has two bytes, or the first two have: otherwise the two bytes behind `\x` are not there, or they
--- end inside a character
+-- a character ends behind the first two bytes, as it does where the first one has two, or the first two have: otherwise the
+-- two bytes behind `\x` are not there, or they end inside a character
 abbrev pub has_two_bytes : List ℕ → Bool
 has_two_bytes [] = false
 has_two_bytes (c ∷ []) = byte_len (c ∷ []) == 2
@@ -156,6 +156,7 @@ unicode_fault w t =
     else if not (list_any (λ c. c == close_brace) t) then Some (over 0 (2 + byte_len t) UnterminatedUnicodeEscape)
     else inner_fault w (before_first (λ c. c == close_brace) (drop 1 t))
 
+-- by what follows the backslash
 unfoldable pub escape_fault : Switches → List ℕ → Option ParseError
 escape_fault w [] = Some (at 0 UnterminatedEscape)
 escape_fault w (c ∷ []) = Some (at 0 UnterminatedEscape)

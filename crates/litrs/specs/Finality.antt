@@ -54,13 +54,13 @@ is_final InvalidSuffix = false
 is_final UnexpectedIntegerLit = false
 is_final OutOfMemory = false
 
--- After an open refusal the closing text makes the refused text a literal.
+-- After an open refusal, one of these two kinds, the closing text makes the refused text a literal.
 abbrev pub is_open : ParseErrorKind → Bool
 is_open UnterminatedString = true
 is_open UnterminatedRawString = true
 is_open _ = false
 
--- what stands behind the front `r`, `br` or `cr`
+-- what stands behind the front `r`, `br` or `cr` of a text that begins with one of them
 abbrev pub behind_raw_front : List ℕ → List ℕ
 behind_raw_front t = if begins_with (raw_front string_kind) t then drop 1 t else drop 2 t
 
@@ -71,5 +71,6 @@ closing_text t UnterminatedString = double_quote ∷ []
 closing_text t UnterminatedRawString = raw_closing (hash_len (behind_raw_front t))
 closing_text t _ = []
 
+-- that of a refusal
 abbrev pub closing_of : List ℕ → ParseError → List ℕ
 closing_of t e = closing_text t (kind_of e)

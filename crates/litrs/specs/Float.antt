@@ -1,4 +1,4 @@
--- Floating-point literals. The Rust Reference, Tokens, Literals, 'Floating-point literals'.
+-- Floating-point literals. The Rust Reference, Tokens, Literals: "Floating-point literals".
 -- The grammar stands first, the refusals below it.
 use Rattle.std.specs.Prelude.{◌≡◌, ℕ, ◌+◌, ◌==◌, ◌&&◌, ◌||◌, Bool, false, not, List, [], ◌∷◌, ◌++◌, take, drop, Option, Some, None, IsTrue, IsFalse, if◌then◌else◌}
 use Rattle.std.specs.Char.{is_ascii_digit}
@@ -7,9 +7,9 @@ use Rattle.litrs.specs.declared.err.ParseErrorKind.{ParseErrorKind}
 use Rattle.litrs.specs.declared.err.ParseErrorKind.TheVariants.{UnexpectedChar, NoExponentDigits, UnexpectedIntegerLit}
 use Rattle.litrs.specs.declared.err.ParseError.{ParseError}
 use Rattle.litrs.specs.Characters.{period, underscore, plus, minus}
-use Rattle.litrs.specs.Text.{byte_len, first_passes}
+use Rattle.litrs.specs.Text.{is_empty, byte_len, first_passes}
 use Rattle.litrs.specs.Fault.{plain, over, at}
-use Rattle.litrs.specs.Suffix.{is_empty, is_suffix, suffix_fault}
+use Rattle.litrs.specs.Suffix.{is_suffix, suffix_fault}
 use Rattle.litrs.specs.declared.integer.IntegerBase.TheVariants.{Decimal}
 use Rattle.litrs.specs.Base.{is_digit_or_underscore}
 use Rattle.litrs.specs.Integer.{is_e, number_rows}
@@ -131,12 +131,12 @@ has_wrong_fraction (c ∷ cs) = is_period c && (not (is_empty cs) && not (first_
 -- The table for a text that begins with a digit; the first row that fits decides. The three ends and the length of the
 -- text, the kind of refusal for the suffix, then what is known of the text: a period has something else than a digit
 -- behind it; there is a period; an exponent; a digit in the exponent; behind the number stands a suffix.
-abbrev pub float_rows : (integer fraction number len : ℕ) (kind : ParseErrorKind) (wrong_fraction period exponent exponent_digit suffix : Bool) → Option ParseError
-float_rows integer fraction number len kind wrong_fraction period exponent exponent_digit suffix =
+abbrev pub float_rows : (integer fraction number len : ℕ) (kind : ParseErrorKind) (wrong_fraction has_period has_exponent exponent_digit suffix_behind : Bool) → Option ParseError
+float_rows integer fraction number len kind wrong_fraction has_period has_exponent exponent_digit suffix_behind =
     if wrong_fraction then Some (at (integer + 1) UnexpectedChar)
-    else if exponent && not exponent_digit then Some (over fraction number NoExponentDigits)
-    else if not suffix then Some (over number len kind)
-    else if not (period || exponent) then Some (plain UnexpectedIntegerLit)
+    else if has_exponent && not exponent_digit then Some (over fraction number NoExponentDigits)
+    else if not suffix_behind then Some (over number len kind)
+    else if not (has_period || has_exponent) then Some (plain UnexpectedIntegerLit)
     else None
 
 -- why a text is no float: None where it is one

@@ -1,4 +1,4 @@
--- Integers. The Rust Reference, Tokens, Integer literals.
+-- Integers. The Rust Reference, Tokens, Literals: "Integer literals".
 use Rattle.std.specs.Prelude.{◌≡◌, ℕ, ◌==◌, ◌||◌, Bool, not, IsTrue, IsFalse, List, length, drop, ◌++◌, Option, Some, None, if◌then◌else◌}
 use Rattle.std.specs.Char.{is_ascii_digit}
 use Rattle.std.specs.List.{list_all, list_any, take_while}
@@ -7,9 +7,10 @@ use Rattle.litrs.specs.declared.integer.IntegerBase.TheVariants.{Binary, Octal, 
 use Rattle.litrs.specs.declared.err.ParseErrorKind.{ParseErrorKind}
 use Rattle.litrs.specs.declared.err.ParseErrorKind.TheVariants.{Empty, DoesNotStartWithDigit, InvalidDigit, NoDigits, IntegerSuffixStartingWithE}
 use Rattle.litrs.specs.declared.err.ParseError.{ParseError}
+use Rattle.litrs.specs.Characters.{letter_e, capital_e}
 use Rattle.litrs.specs.Fault.{plain, over, at}
-use Rattle.litrs.specs.Text.{byte_len, first_passes, begins_with}
-use Rattle.litrs.specs.Suffix.{is_suffix, is_empty, suffix_fault}
+use Rattle.litrs.specs.Text.{is_empty, byte_len, first_passes, begins_with}
+use Rattle.litrs.specs.Suffix.{is_suffix, suffix_fault}
 use Rattle.litrs.specs.Base.{prefix, is_digit, is_digit_or_underscore}
 
 -- The grammar
@@ -20,12 +21,13 @@ pub record IntegerParts : Type 0 where
   pub main : List ℕ
   pub suffix : List ℕ
 
+-- how it is written
 abbrev pub integer_text : IntegerParts → List ℕ
 integer_text d = prefix d.base ++ (d.main ++ d.suffix)
 
 -- `e` or `E`
 abbrev pub is_e : ℕ → Bool
-is_e c = (c == 101) || (c == 69)
+is_e c = (c == letter_e) || (c == capital_e)
 
 -- `0b`, `0o` or `0x` stands at the start
 abbrev pub has_prefix : List ℕ → Bool
@@ -74,10 +76,10 @@ integer_cut t = record { base = base_of t; main = main_of t; suffix = behind_mai
 
 -- A text that begins with a decimal digit, by what stands behind the main part, whose bytes go from start up to end, and
 -- by the main part. The first row that fits decides.
-abbrev pub integer_rows : (start end len : ℕ) (is_suffix is_digit : Bool) (kind : ParseErrorKind) (is_e some_digit : Bool) → Option ParseError
-integer_rows start end len is_suffix is_digit kind is_e some_digit =
-    if not is_suffix then (if is_digit then Some (at end InvalidDigit) else Some (over end len kind))
-    else if is_e then Some (at end IntegerSuffixStartingWithE)
+abbrev pub integer_rows : (start end len : ℕ) (suffix_behind digit_behind : Bool) (kind : ParseErrorKind) (e_behind some_digit : Bool) → Option ParseError
+integer_rows start end len suffix_behind digit_behind kind e_behind some_digit =
+    if not suffix_behind then (if digit_behind then Some (at end InvalidDigit) else Some (over end len kind))
+    else if e_behind then Some (at end IntegerSuffixStartingWithE)
     else if not some_digit then Some (over start end NoDigits)
     else None
 
@@ -89,9 +91,9 @@ cut_fault d =
     (first_passes is_e d.suffix) (list_any (is_digit d.base) d.main)
 
 -- Any number: the empty text, and one that does not begin with a decimal digit, come first.
-abbrev pub number_rows : (is_empty is_digit : Bool) → Option ParseError → Option ParseError
-number_rows is_empty is_digit refusal =
-    if is_empty then Some (plain Empty) else if not is_digit then Some (at 0 DoesNotStartWithDigit) else refusal
+abbrev pub number_rows : (no_character digit_first : Bool) → Option ParseError → Option ParseError
+number_rows no_character digit_first refusal =
+    if no_character then Some (plain Empty) else if not digit_first then Some (at 0 DoesNotStartWithDigit) else refusal
 
 -- the refusal of a text as an integer, None where there is none
 unfoldable pub integer_fault : List ℕ → Option ParseError

@@ -29,7 +29,7 @@ pub mod Finality
 pub mod Growth
 pub mod ReadLiteral
 pub mod LiteralDerivation
-pub mod Dispatch
+pub mod BeginsLike
 pub mod Numeral
 pub mod Characters
 pub mod Escape

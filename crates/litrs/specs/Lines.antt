@@ -1,11 +1,12 @@
 -- The lines of some bytes, and what is written on them.
 use Rattle.std.specs.Prelude.{◌≡◌, ◌==◌, ℕ, Bool, false, List, [], ◌∷◌, ◌++◌, All, flat_map}
 use Rattle.std.specs.List.{slice_split}
+use Rattle.litrs.specs.Characters.{line_feed}
 use Rattle.litrs.specs.Report.{report_of}
 
 -- LF, which ends a line
 abbrev pub is_line_feed : ℕ → Bool
-is_line_feed b = b == 10
+is_line_feed b = b == line_feed
 
 -- no line ends within the bytes
 abbrev pub HasNoLineFeed : List ℕ → Type 0
@@ -50,7 +51,7 @@ lines_of bytes = ended_lines bytes ++ unless_empty (open_line bytes)
 
 -- the report on each line, with an LF behind it
 unfoldable pub reports_of : List (List ℕ) → List ℕ
-reports_of lines = flat_map (λ line. report_of line ++ 10 ∷ []) lines
+reports_of lines = flat_map (λ line. report_of line ++ line_feed ∷ []) lines
 
 -- what is written on some bytes as a whole
 abbrev pub output_of : List ℕ → List ℕ

@@ -2,6 +2,7 @@
 use Rattle.std.specs.Prelude.{◌≡◌, ℕ, List, [], ◌++◌}
 use Rattle.litrs.specs.declared.bool.BoolLit.{BoolLit}
 use Rattle.litrs.specs.StringKind.{StringKind, string_kind, byte_string_kind, c_string_kind}
+use Rattle.litrs.specs.Text.{IsText}
 use Rattle.litrs.specs.Bool.{IsBool}
 use Rattle.litrs.specs.Integer.{IntegerParts, IsIntegerOf}
 use Rattle.litrs.specs.Float.{FloatParts, IsFloatOf}
@@ -14,10 +15,12 @@ pub data StringParts : Type 0 where
   quoted_parts : QuotedParts → StringParts
   raw_parts : RawParts → StringParts
 
+-- the text is a string of the kind with these parts
 abbrev pub IsString : StringKind → List ℕ → StringParts → Type 0
 IsString kind t (quoted_parts d) = IsQuotedLiteral kind t d
 IsString kind t (raw_parts d) = IsRawLiteral kind t d
 
+-- its suffix
 abbrev pub string_suffix : StringParts → List ℕ
 string_suffix (quoted_parts d) = d.suffix
 string_suffix (raw_parts d) = d.suffix
@@ -55,7 +58,7 @@ suffix_of (a_string d) = string_suffix d
 suffix_of (a_byte_string d) = string_suffix d
 suffix_of (a_c_string d) = string_suffix d
 
--- The kinds, and the kind of a literal.
+-- The kinds.
 pub data LiteralKind : Type 0 where
   bool_literal : LiteralKind
   integer_literal : LiteralKind
@@ -66,6 +69,7 @@ pub data LiteralKind : Type 0 where
   byte_string_literal : LiteralKind
   c_string_literal : LiteralKind
 
+-- the kind of a literal
 abbrev pub literal_kind : Derivation → LiteralKind
 literal_kind (a_bool b) = bool_literal
 literal_kind (an_integer d) = integer_literal
@@ -88,4 +92,4 @@ IsLiteralOf (kind_parse kind) t d = (literal_kind d ≡ kind) × IsLiteral t d
 
 -- t begins a literal: with some text behind it, which may be empty, it is one
 abbrev pub Begins : Parse → List ℕ → Type 0
-Begins parse t = (more : List ℕ) × (d : Derivation) × IsLiteralOf parse (t ++ more) d
+Begins parse t = (more : List ℕ) × (d : Derivation) × IsText more × IsLiteralOf parse (t ++ more) d

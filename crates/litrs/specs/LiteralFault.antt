@@ -8,8 +8,7 @@ use Rattle.litrs.specs.declared.err.ParseError.{ParseError}
 use Rattle.litrs.specs.declared.integer.IntegerBase.TheVariants.{Decimal}
 use Rattle.litrs.specs.Characters.{period}
 use Rattle.litrs.specs.Fault.{plain, at}
-use Rattle.litrs.specs.Text.{first_passes, begins_with}
-use Rattle.litrs.specs.Suffix.{is_empty}
+use Rattle.litrs.specs.Text.{is_empty, first_passes, begins_with}
 use Rattle.litrs.specs.StringKind.{StringKind, string_kind, byte_string_kind, c_string_kind}
 use Rattle.litrs.specs.Bool.{is_bool, bool_fault}
 use Rattle.litrs.specs.Base.{is_digit_or_underscore}
@@ -48,6 +47,7 @@ IsFaultOfStart kind (refused_start refusal) t e = refusal ≡ e
 IsFaultOfStart kind quoted_start t e = IsQuotedLiteralFault kind t e
 IsFaultOfStart kind raw_start t e = raw_literal_fault kind t ≡ Some e
 
+-- the refusals of a text as a string of the kind
 abbrev pub IsStringFault : StringKind → List ℕ → ParseError → Type 0
 IsStringFault kind t = IsFaultOfStart kind (string_start kind t) t
 

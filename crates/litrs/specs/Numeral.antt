@@ -1,6 +1,7 @@
 -- The number that digits stand for. The Rust Reference, Literal expressions, Integer literal expressions.
 use Rattle.std.specs.Prelude.{ℕ, Bool, ◌+◌, ◌*◌, ◌^◌, ◌-◌, not, ◌==◌, List, [], ◌∷◌, length, filter}
 use Rattle.std.specs.Char.{digit_value}
+use Rattle.litrs.specs.Characters.{underscore}
 use Rattle.litrs.specs.Base.{base_value}
 use Rattle.litrs.specs.Integer.{IntegerParts}
 use Rattle.litrs.specs.declared.integer.IntegerType.{IntegerType}
@@ -13,7 +14,7 @@ place_sum base (c ∷ cs) = digit_value c * base ^ length cs + place_sum base cs
 
 -- any character but `_`
 abbrev pub is_no_underscore : ℕ → Bool
-is_no_underscore c = not (c == 95)
+is_no_underscore c = not (c == underscore)
 
 -- The value of digits of a base and underscores: underscores dropped, the sum of each digit times the base to the power of
 -- the number of digits behind it. It has no bound.

@@ -1,15 +1,15 @@
--- Quoted strings, byte strings and C strings. The Rust Reference, Tokens, Literals: "String literals" (with "String
--- continuation escapes"), "Byte string literals" and "C string literals".
-use Rattle.std.specs.Prelude.{◌≡◌, ℕ, Bool, true, not, ◌==◌, ◌&&◌, ◌||◌, if◌then◌else◌, List, [], ◌∷◌, ◌++◌, Option, Some, None, IsTrue, encode_utf8}
+-- Quoted strings, byte strings and C strings. The Rust Reference, Tokens, Literals: "String literals", "Byte
+-- string literals" and "C string literals"; Literal expressions: "String continuation escapes".
+use Rattle.std.specs.Prelude.{◌≡◌, ℕ, Bool, true, not, ◌==◌, ◌&&◌, if◌then◌else◌, List, [], ◌∷◌, ◌++◌, Option, Some, None, IsTrue, encode_utf8}
 use Rattle.std.specs.List.{list_all}
 use Rattle.litrs.specs.declared.err.ParseError.{ParseError}
 use Rattle.litrs.specs.declared.err.ParseErrorKind.TheVariants.{UnterminatedString, CarriageReturn, NulByte, NonAsciiInByteLiteral}
-use Rattle.litrs.specs.Characters.{line_feed, carriage_return, double_quote, backslash, letter_b, letter_c, is_ascii, is_blank}
+use Rattle.litrs.specs.Characters.{line_feed, carriage_return, double_quote, backslash, letter_b, letter_c, is_blank, is_ascii_unless, is_no_nul_unless}
 use Rattle.litrs.specs.Escape.{Switches, Escape, escape_text, escape_value, value_bytes, allows_value, is_escape, escape_fault}
 use Rattle.litrs.specs.Fault.{plain, at, moved}
 use Rattle.litrs.specs.StringKind.{StringKind, string_kind, byte_string_kind, c_string_kind, switches_of}
-use Rattle.litrs.specs.Suffix.{is_empty, is_suffix, suffix_fault}
-use Rattle.litrs.specs.Text.{byte_len, first_passes}
+use Rattle.litrs.specs.Suffix.{is_suffix, suffix_fault}
+use Rattle.litrs.specs.Text.{is_empty, byte_len, first_passes}
 
 -- what stands before its body: `"`, `b"` or `c"`
 abbrev pub quoted_front : StringKind → List ℕ
@@ -36,16 +36,12 @@ item_value (plain_item c) = encode_utf8 c
 item_value (escape_item e) = value_bytes (escape_value e)
 item_value (continuation blanks) = []
 
--- in a byte string a character that stands for itself is ASCII
-abbrev pub allows_character : Switches → ℕ → Bool
-allows_character w c = w.unicode || is_ascii c
-
 -- A character stands for itself that is no `"`, no backslash and no CR; in a byte string it is ASCII, and in a C string
 -- it is not NUL.
 abbrev pub is_plain : Switches → ℕ → Bool
 is_plain w c =
     not (c == double_quote) && not (c == backslash) && not (c == carriage_return)
-    && allows_character w c && allows_value w c
+    && is_ascii_unless w.unicode c && is_no_nul_unless w.allow_nul c
 
 abbrev pub is_item : Switches → Item → Bool
 is_item w (plain_item c) = is_plain w c
@@ -134,7 +130,7 @@ rest_fault w (c ∷ t) =
     if c == backslash then backslash_fault w t
     else if c == carriage_return then Some (at 0 CarriageReturn)
     else if not (allows_value w c) then Some (at 0 NulByte)
-    else if not (allows_character w c) then Some (at 0 NonAsciiInByteLiteral)
+    else if not (is_ascii_unless w.unicode c) then Some (at 0 NonAsciiInByteLiteral)
     else if (c == double_quote) && not (is_suffix t) then Some (at 1 (suffix_fault t))
     else None
 

@@ -1,16 +1,16 @@
--- Raw strings. The Rust Reference, Tokens, Literals, 'Raw string literals', 'Raw byte string literals' and
--- 'Raw C string literals'. The grammar stands first, the refusals below it.
+-- Raw strings. The Rust Reference, Tokens, Literals: "Raw string literals", "Raw byte string literals" and
+-- "Raw C string literals". The grammar stands first, the refusals below it.
 -- Two switches tell the kinds apart: in a byte string `unicode` is off, in a C string NUL is not allowed.
 use Rattle.std.specs.Prelude.{◌≡◌, ℕ, ◌+◌, ◌≤◌, ◌==◌, ◌&&◌, ◌||◌, nat_lt, Bool, not, List, [], ◌∷◌, ◌++◌, length, take, drop, replicate, Option, Some, None, IsTrue, IsFalse, if◌then◌else◌, encode_utf8_all, codes}
 use Rattle.std.specs.List.{list_all, prefix_len, slice_index}
 use Rattle.litrs.specs.declared.err.ParseErrorKind.{ParseErrorKind}
 use Rattle.litrs.specs.declared.err.ParseErrorKind.TheVariants.{InvalidLiteral, TooManyHashes, CarriageReturn, NulByte, NonAsciiInByteLiteral, UnterminatedRawString}
 use Rattle.litrs.specs.declared.err.ParseError.{ParseError}
-use Rattle.litrs.specs.Characters.{double_quote, hash, carriage_return, nul, is_ascii}
-use Rattle.litrs.specs.Text.{byte_len, first_passes, begins_with}
+use Rattle.litrs.specs.Characters.{double_quote, hash, carriage_return, nul, is_ascii_unless, is_no_nul_unless}
+use Rattle.litrs.specs.Text.{is_empty, byte_len, first_passes, begins_with}
 use Rattle.litrs.specs.Fault.{plain, over, at}
 use Rattle.litrs.specs.StringKind.{StringKind, string_kind, byte_string_kind, c_string_kind, switches_of}
-use Rattle.litrs.specs.Suffix.{is_empty, is_suffix, suffix_fault}
+use Rattle.litrs.specs.Suffix.{is_suffix, suffix_fault}
 
 -- `"`
 abbrev pub is_quote : ℕ → Bool
@@ -40,7 +40,7 @@ occurs part (c ∷ cs) = begins_with part (c ∷ cs) || occurs part cs
 -- No CR stands in a raw body, only ASCII in that of a byte string, and no NUL in that of a C string.
 -- A backslash means nothing.
 abbrev pub is_raw_char : (unicode allow_nul : Bool) → ℕ → Bool
-is_raw_char unicode allow_nul c = not (c == carriage_return) && ((unicode || is_ascii c) && (allow_nul || not (is_nul c)))
+is_raw_char unicode allow_nul c = not (c == carriage_return) && (is_ascii_unless unicode c && is_no_nul_unless allow_nul c)
 
 -- a raw body between n hashes: its characters may stand there, and what would close it does not occur in it
 pub record IsRawBody (unicode allow_nul : Bool) (n : ℕ) (body : List ℕ) : Type 0 where

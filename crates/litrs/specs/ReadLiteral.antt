@@ -19,13 +19,14 @@ IsReadLiteral t (a_string d) = ⊥
 IsReadLiteral t (a_byte_string d) = ⊥
 IsReadLiteral t (a_c_string d) = ⊥
 
--- The refusal of a text that is dispatched so: bools and integers by their tables, and one of a kind that is not read yet
--- is no literal.
+-- The refusal of a text that is dispatched so: as a bool or an integer by their tables, and as a kind that is not read yet
+-- by `InvalidLiteral`.
 abbrev pub read_dispatch_fault : Dispatch → List ℕ → Option ParseError
 read_dispatch_fault (refused_as refusal) t = Some refusal
 read_dispatch_fault (read_as bool_literal) t = bool_fault t
 read_dispatch_fault (read_as integer_literal) t = integer_fault t
 read_dispatch_fault (read_as kind) t = Some (plain InvalidLiteral)
 
+-- the refusal of a text
 unfoldable pub read_fault : List ℕ → Option ParseError
 read_fault t = read_dispatch_fault (dispatch t) t

@@ -48,6 +48,7 @@ abbrev pub text_report_by : Option ParseError → Derivation → List ℕ
 text_report_by None d = literal_report d
 text_report_by (Some e) d = refusal_report e
 
+-- the report of a text
 abbrev pub text_report : List ℕ → List ℕ
 text_report t = text_report_by (read_fault t) (derivation_of t)
 

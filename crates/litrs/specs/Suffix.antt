@@ -1,21 +1,16 @@
 -- Suffixes. The Rust Reference, Tokens, Suffixes, and Identifiers for what an identifier is.
-use Rattle.std.specs.Prelude.{ℕ, Bool, true, false, not, ◌==◌, ◌&&◌, ◌||◌, List, [], ◌∷◌, if◌then◌else◌}
+use Rattle.std.specs.Prelude.{ℕ, Bool, true, not, ◌==◌, ◌&&◌, ◌||◌, List, [], ◌∷◌, if◌then◌else◌}
 use Rattle.std.specs.Char.{is_ascii_alphabetic}
 use Rattle.std.specs.List.{list_all}
 use Rattle.unicode_ident.specs.Ident.{is_xid_start, is_xid_continue}
 use Rattle.litrs.specs.declared.err.ParseErrorKind.{ParseErrorKind}
 use Rattle.litrs.specs.declared.err.ParseErrorKind.TheVariants.{UnexpectedChar, InvalidSuffix}
 use Rattle.litrs.specs.Characters.{underscore, is_ascii}
-use Rattle.litrs.specs.Text.{first_passes}
+use Rattle.litrs.specs.Text.{is_empty, first_passes}
 
 -- what an identifier begins with: `_` or an XID_Start character
 abbrev pub starts_identifier : ℕ → Bool
 starts_identifier c = (c == underscore) || is_xid_start c
-
--- the list has no element
-abbrev pub is_empty : List ℕ → Bool
-is_empty [] = true
-is_empty (c ∷ cs) = false
 
 -- A suffix is empty, or one character that is `_` or XID_Start and then XID_Continue characters.
 -- The lone `_` is no suffix.

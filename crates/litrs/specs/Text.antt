@@ -1,12 +1,23 @@
 -- A text is a list of characters, Unicode scalar values. The Rust Reference, Input format. Places and lengths count the
 -- bytes of its UTF-8.
-use Rattle.std.specs.Prelude.{◌≡◌, ◌≤◌, ◌++◌, ℕ, Bool, true, false, ◌==◌, ◌&&◌, List, [], ◌∷◌, length}
+use Rattle.std.specs.Prelude.{◌≡◌, ◌≤◌, ◌++◌, ℕ, Bool, true, false, ◌==◌, ◌&&◌, List, [], ◌∷◌, length, IsTrue}
+use Rattle.std.specs.List.{list_all}
 use Rattle.std.specs.Str.{encode_utf8_all}
 use Rattle.std.specs.declared.ops.Range.{Range}
+use Rattle.litrs.specs.Characters.{is_scalar}
+
+-- a list of numbers is a text where each is a scalar value
+abbrev pub IsText : List ℕ → Type 0
+IsText t = IsTrue (list_all is_scalar t)
 
 -- how many bytes a text has
 abbrev pub byte_len : List ℕ → ℕ
 byte_len t = length (encode_utf8_all t)
+
+-- the text has no character
+abbrev pub is_empty : List ℕ → Bool
+is_empty [] = true
+is_empty (c ∷ cs) = false
 
 -- the first character is there and passes the test
 abbrev pub first_passes : (ℕ → Bool) → List ℕ → Bool

@@ -7,7 +7,7 @@ ghost use Rattle.std.specs.Str.{chars, IsUtf8};
 ghost use Rattle.unicode_ident.specs.Ident.{is_xid_continue};
 ghost use Rattle.litrs.specs.Base.{is_digit_or_underscore};
 ghost use Rattle.litrs.specs.LiteralFault.{begins_float};
-ghost use Rattle.litrs.specs.Dispatch.{BeginsLike};
+ghost use Rattle.litrs.specs.BeginsLike.{BeginsLike};
 ghost use Rattle.litrs.specs.Fault.{plain};
 ghost use Rattle.litrs.specs.Suffix.{starts_identifier, is_suffix, is_ascii_symbol, suffix_fault};
 
