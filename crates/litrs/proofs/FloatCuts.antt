@@ -1,13 +1,13 @@
 -- Every text that begins with digits is cut in one way into the parts that a float would have.
-use Rattle.std.proofs.Common.{◌≡◌, ℕ, suc, ◌+◌, ◌≤◌, Bool, true, false, cond, ◌&&◌, eqb, List, [], ◌∷◌, ◌++◌, length, take, drop, Option, Some, None, refl, sym, ap, subst, ◌∙◌, inl, inr, arith}
-use Rattle.std.specs.List.{list_all}
-use Rattle.std.proofs.lemmas.Bool.{and_parts, and_from, eqb-true, eq-eqb, ne_eqb, cases_Bool}
+use Rattle.std.proofs.Common.{◌≡◌, ℕ, ◌≤◌, Bool, true, false, cond, ◌&&◌, List, [], ◌∷◌, ◌++◌, length, take, drop, Option, Some, None, refl, sym, ap, subst, ◌∙◌, inl, inr, arith}
+use Rattle.std.specs.List.{list_all, prefix_len, take_while}
+use Rattle.std.proofs.lemmas.Bool.{and_parts, and_from, eqb-true, cases_Bool}
 use Rattle.std.proofs.lemmas.Bool.Decides.{nat_tests}
-use Rattle.std.proofs.lemmas.List.{length-drop, take_at, drop_at, length-append, append_assoc, drop-append-le}
+use Rattle.std.proofs.lemmas.List.{drop_at, append_assoc, take-append-drop, take-append-le, drop-append-le}
 use Rattle.litrs.specs.Text.{first_passes}
 use Rattle.litrs.specs.Integer.{is_e}
-use Rattle.litrs.specs.Float.{FloatParts, fraction_text, number_part, float_text, is_decimal_char, is_period, is_sign, sign_len, decimal_len, fraction_len, exponent_len, integer_end, fraction_end, number_end, parts_between}
-use Rattle.litrs.proofs.IntegerLaws.{prefix_len_front}
+use Rattle.litrs.specs.Float.{FloatParts, fraction_text, number_part, float_text, is_decimal_char, is_period, is_sign, sign_len, fraction_of, exponent_of, behind, float_cut}
+use Rattle.litrs.proofs.IntegerLaws.{prefix_len_front, take_while_front}
 use Rattle.litrs.proofs.Runs.{run_of}
 
 -- tests on one character
@@ -54,23 +54,26 @@ pub fraction_stops : (f : Option (List ℕ)) (p x : List ℕ) → is_exponent_fr
 fraction_stops None p x front stop = exponent_stops p x front stop
 fraction_stops (Some f) p x front stop = refl
 
--- how far each part goes
+-- what stands behind the digits and `_` in front
+pub behind_decimals : (d : FloatParts) → IsCut d →
+    drop (prefix_len is_decimal_char (float_text d)) (float_text d) ≡ fraction_text d.fraction ++ (d.exponent ++ d.suffix)
+behind_decimals d cut =
+    let r = fraction_text d.fraction ++ (d.exponent ++ d.suffix) in
+    drop_at d.integer r (prefix_len is_decimal_char (d.integer ++ r))
+    (sym (prefix_len_front is_decimal_char d.integer r cut.integer (fraction_stops d.fraction d.exponent d.suffix cut.exponent cut.stops)))
 
-fraction_len_none : (p x : List ℕ) → is_exponent_front p ≡ true → (p ≡ [] → first_passes is_period x ≡ false) → fraction_len (p ++ x) ≡ 0
-unfolding fraction_len
-fraction_len_none [] [] front no_period = refl
-fraction_len_none [] (c ∷ cs) front no_period = ap (λ v. cond v (1 + decimal_len cs) 0) (no_period refl)
-fraction_len_none (c ∷ cs) x front no_period = ap (λ v. cond v (1 + decimal_len (cs ++ x)) 0) (letter_period c (and_parts _ _ front).0)
+-- what each part takes
 
-fraction_len_some : (f r : List ℕ) → list_all is_decimal_char f ≡ true → first_passes is_decimal_char r ≡ false → fraction_len (46 ∷ (f ++ r)) ≡ suc (length f)
-unfolding fraction_len
-fraction_len_some f r passes stop = omega (arith, prefix_len_front is_decimal_char f r passes stop)
+fraction_none : (p x : List ℕ) → is_exponent_front p ≡ true → (p ≡ [] → first_passes is_period x ≡ false) → fraction_of (p ++ x) ≡ None
+fraction_none [] [] front no_period = refl
+fraction_none [] (c ∷ cs) front no_period = ap (λ v. cond v (Some (take_while is_decimal_char cs)) None) (no_period refl)
+fraction_none (c ∷ cs) x front no_period = ap (λ v. cond v (Some (take_while is_decimal_char (cs ++ x))) None) (letter_period c (and_parts _ _ front).0)
 
-pub fraction_len-text : (f : Option (List ℕ)) (p x : List ℕ) → fraction_passes f ≡ true → is_exponent_front p ≡ true →
+fraction_of-text : (f : Option (List ℕ)) (p x : List ℕ) → fraction_passes f ≡ true → is_exponent_front p ≡ true →
     first_passes is_decimal_char x ≡ false → (f ≡ None → p ≡ [] → first_passes is_period x ≡ false) →
-    fraction_len (fraction_text f ++ (p ++ x)) ≡ length (fraction_text f)
-fraction_len-text None p x passes front stop no_period = fraction_len_none p x front (no_period refl)
-fraction_len-text (Some f) p x passes front stop no_period = fraction_len_some f (p ++ x) passes (exponent_stops p x front stop)
+    fraction_of (fraction_text f ++ (p ++ x)) ≡ f
+fraction_of-text None p x passes front stop no_period = fraction_none p x front (no_period refl)
+fraction_of-text (Some f) p x passes front stop no_period = ap Some (take_while_front is_decimal_char f (p ++ x) passes (exponent_stops p x front stop))
 
 sign_len-append : (cs x : List ℕ) → (cs ≡ [] → first_passes is_sign x ≡ false) → sign_len (cs ++ x) ≡ sign_len cs
 sign_len-append [] x no_sign = ap (λ v. cond v 1 0) (no_sign refl)
@@ -83,98 +86,66 @@ sign_len_le (c ∷ cs) = elim (cases_Bool (is_sign c)) [
   | inr no_sign ↦ (let e : sign_len (c ∷ cs) ≡ 0 = ap (λ v. cond v 1 0) no_sign in omega arith)
 ]
 
--- the number of an exponent goes as far as its text
-number_len : (cs x : List ℕ) → list_all is_decimal_char (drop (sign_len cs) cs) ≡ true → first_passes is_decimal_char x ≡ false → (cs ≡ [] → first_passes is_sign x ≡ false) →
-    sign_len (cs ++ x) + decimal_len (drop (sign_len (cs ++ x)) (cs ++ x)) ≡ length cs
-number_len cs x all stop no_sign =
+-- the number of an exponent, with its sign
+number_of : (cs x : List ℕ) → list_all is_decimal_char (drop (sign_len cs) cs) ≡ true → first_passes is_decimal_char x ≡ false → (cs ≡ [] → first_passes is_sign x ≡ false) →
+    take (sign_len (cs ++ x)) (cs ++ x) ++ take_while is_decimal_char (drop (sign_len (cs ++ x)) (cs ++ x)) ≡ cs
+number_of cs x all stop no_sign =
     let same : sign_len (cs ++ x) ≡ sign_len cs = sign_len-append cs x no_sign in
     let within : sign_len cs ≤ length cs = sign_len_le cs in
-    let behind : drop (sign_len cs) (cs ++ x) ≡ drop (sign_len cs) cs ++ x = drop-append-le (sign_len cs) cs x within in
-    let run : decimal_len (drop (sign_len cs) cs ++ x) ≡ length (drop (sign_len cs) cs) = prefix_len_front is_decimal_char (drop (sign_len cs) cs) x all stop in
-    rw (same, behind, run) (omega (arith, length-drop (sign_len cs) cs))
+    let taken : take (sign_len cs) (cs ++ x) ≡ take (sign_len cs) cs = take-append-le (sign_len cs) cs x within in
+    let left : drop (sign_len cs) (cs ++ x) ≡ drop (sign_len cs) cs ++ x = drop-append-le (sign_len cs) cs x within in
+    let run : take_while is_decimal_char (drop (sign_len cs) cs ++ x) ≡ drop (sign_len cs) cs = take_while_front is_decimal_char (drop (sign_len cs) cs) x all stop in
+    rw (same, taken, left, run) (take-append-drop (sign_len cs) cs)
 
-pub exponent_len-text : (p x : List ℕ) → is_exponent_front p ≡ true → first_passes is_decimal_char x ≡ false → (p ≡ [] → first_passes is_e x ≡ false) →
-    ((c : ℕ) → p ≡ c ∷ [] → first_passes is_sign x ≡ false) → exponent_len (p ++ x) ≡ length p
-unfolding exponent_len
-exponent_len-text [] [] front stop no_letter no_sign = refl
-exponent_len-text [] (c ∷ cs) front stop no_letter no_sign = ap (λ v. cond v (1 + (sign_len cs + decimal_len (drop (sign_len cs) cs))) 0) (no_letter refl)
-exponent_len-text (c ∷ cs) x front stop no_letter no_sign =
+exponent_of-text : (p x : List ℕ) → is_exponent_front p ≡ true → first_passes is_decimal_char x ≡ false → (p ≡ [] → first_passes is_e x ≡ false) →
+    ((c : ℕ) → p ≡ c ∷ [] → first_passes is_sign x ≡ false) → exponent_of (p ++ x) ≡ p
+exponent_of-text [] [] front stop no_letter no_sign = refl
+exponent_of-text [] (c ∷ cs) front stop no_letter no_sign =
+    ap (λ v. cond v (c ∷ (take (sign_len cs) cs ++ take_while is_decimal_char (drop (sign_len cs) cs))) []) (no_letter refl)
+exponent_of-text (c ∷ cs) x front stop no_letter no_sign =
     let parts : (is_e c ≡ true) × (list_all is_decimal_char (drop (sign_len cs) cs) ≡ true) = and_parts _ _ front in
-    let number : sign_len (cs ++ x) + decimal_len (drop (sign_len (cs ++ x)) (cs ++ x)) ≡ length cs =
-    number_len cs x parts.1 stop (λ e. no_sign c (ap (λ t. c ∷ t) e)) in
-    ap (λ v. cond v (1 + (sign_len (cs ++ x) + decimal_len (drop (sign_len (cs ++ x)) (cs ++ x)))) 0) parts.0 ∙ omega (arith, number)
+    let r = cs ++ x in
+    ap (λ v. cond v (c ∷ (take (sign_len r) r ++ take_while is_decimal_char (drop (sign_len r) r))) []) parts.0
+    ∙ ap (λ t. c ∷ t) (number_of cs x parts.1 stop (λ e. no_sign c (ap (λ t. c ∷ t) e)))
 
--- the ends of a text that is cut, and what stands behind them
-pub record HasEnds (d : FloatParts) (t : List ℕ) : Type 0 where
-  pub integer : integer_end t ≡ length d.integer
-  pub behind_integer : drop (integer_end t) t ≡ fraction_text d.fraction ++ (d.exponent ++ d.suffix)
-  pub fraction : fraction_end t ≡ length d.integer + length (fraction_text d.fraction)
-  pub behind_fraction : drop (fraction_end t) t ≡ d.exponent ++ d.suffix
-  pub exponent : exponent_len (d.exponent ++ d.suffix) ≡ length d.exponent
-  pub number : number_end t ≡ length d.integer + length (fraction_text d.fraction) + length d.exponent
-  pub behind_number : drop (number_end t) t ≡ d.suffix
-
-pub ends_of_cut : (d : FloatParts) → IsCut d → HasEnds d (float_text d)
-ends_of_cut d cut =
-    let i = d.integer in
-    let f = fraction_text d.fraction in
-    let p = d.exponent in
-    let x = d.suffix in
-    let integer : integer_end (float_text d) ≡ length i = prefix_len_front is_decimal_char i (f ++ (p ++ x)) cut.integer (fraction_stops d.fraction p x cut.exponent cut.stops) in
-    let behind_integer : drop (integer_end (float_text d)) (float_text d) ≡ f ++ (p ++ x) = drop_at i (f ++ (p ++ x)) (integer_end (float_text d)) (sym integer) in
-    let fraction_here : fraction_len (f ++ (p ++ x)) ≡ length f = fraction_len-text d.fraction p x cut.fraction cut.exponent cut.stops cut.no_period in
-    let fraction : fraction_end (float_text d) ≡ length i + length f = rw (behind_integer) (omega (arith, integer, fraction_here)) in
-    let regroup : float_text d ≡ (i ++ f) ++ (p ++ x) = sym (append_assoc i f (p ++ x)) in
-    let behind_fraction : drop (fraction_end (float_text d)) (float_text d) ≡ p ++ x =
-    ap (drop (fraction_end (float_text d))) regroup ∙ drop_at (i ++ f) (p ++ x) (fraction_end (float_text d)) (length-append i f ∙ sym fraction) in
-    let exponent_here : exponent_len (p ++ x) ≡ length p = exponent_len-text p x cut.exponent cut.stops cut.no_letter cut.no_sign in
-    let number : number_end (float_text d) ≡ length i + length f + length p = rw (behind_fraction) (omega (arith, fraction, exponent_here)) in
-    let regroup_more : float_text d ≡ ((i ++ f) ++ p) ++ x = regroup ∙ sym (append_assoc (i ++ f) p x) in
-    let behind_number : drop (number_end (float_text d)) (float_text d) ≡ x =
-    ap (drop (number_end (float_text d))) regroup_more
-    ∙ drop_at ((i ++ f) ++ p) x (number_end (float_text d)) (length-append (i ++ f) p ∙ (ap (λ n. n + length p) (length-append i f) ∙ sym number)) in
-    record { integer = integer; behind_integer = behind_integer; fraction = fraction; behind_fraction = behind_fraction; exponent = exponent_here; number = number; behind_number = behind_number }
+-- the text is its number part and the suffix
+pub number_part-suffix : (d : FloatParts) → number_part d ++ d.suffix ≡ float_text d
+number_part-suffix d =
+    append_assoc d.integer (fraction_text d.fraction ++ d.exponent) d.suffix ∙ ap (λ t. d.integer ++ t) (append_assoc (fraction_text d.fraction) d.exponent d.suffix)
 
 -- a text is cut in one way
 
-fraction_of : (i : List ℕ) (f : Option (List ℕ)) (r : List ℕ) →
-    cond (eqb (length i) (length i + length (fraction_text f))) None (Some (drop (length i + 1) (take (length i + length (fraction_text f)) (i ++ (fraction_text f ++ r))))) ≡ f
-fraction_of i None r = rw (eq-eqb (length i) (length i + 0) (omega arith)) refl
-fraction_of i (Some f) r =
-    let differ : eqb (length i) (length i + suc (length f)) ≡ false = ne_eqb _ _ (λ e. omega arith) in
-    let taken : take (length i + suc (length f)) (i ++ (46 ∷ (f ++ r))) ≡ i ++ (46 ∷ f) =
-    ap (take (length i + suc (length f))) (sym (append_assoc i (46 ∷ f) r)) ∙ take_at (i ++ (46 ∷ f)) r (length i + suc (length f)) (length-append i (46 ∷ f)) in
-    let regroup : i ++ (46 ∷ f) ≡ (i ++ (46 ∷ [])) ++ f = sym (append_assoc i (46 ∷ []) f) in
-    let left : drop (length i + 1) (i ++ (46 ∷ f)) ≡ f = ap (drop (length i + 1)) regroup ∙ drop_at (i ++ (46 ∷ [])) f (length i + 1) (length-append i (46 ∷ [])) in
-    ap (λ v. cond v None (Some (drop (length i + 1) (take (length i + suc (length f)) (i ++ (46 ∷ (f ++ r))))))) differ ∙ ap Some (ap (drop (length i + 1)) taken ∙ left)
+behind_exponent : List ℕ → Option (List ℕ) → List ℕ → List ℕ → FloatParts
+behind_exponent i f p t = record { integer = i; fraction = f; exponent = p; suffix = behind (i ++ (fraction_text f ++ p)) t }
 
--- a text that is cut at the ends of its parts has those parts
-pub parts_of_text : (d : FloatParts) → parts_between (length d.integer) (length d.integer + length (fraction_text d.fraction)) (length d.integer + length (fraction_text d.fraction) + length d.exponent) (float_text d) ≡ d
-parts_of_text d =
+behind_fraction : List ℕ → Option (List ℕ) → List ℕ → FloatParts
+behind_fraction i f t = behind_exponent i f (exponent_of (behind (i ++ fraction_text f) t)) t
+
+behind_integer : List ℕ → List ℕ → FloatParts
+behind_integer i t = behind_fraction i (fraction_of (behind i t)) t
+
+-- the parts of a text that is cut
+pub cut_of_text : (d : FloatParts) → IsCut d → float_cut (float_text d) ≡ d
+unfolding float_cut behind_integer behind_fraction behind_exponent
+cut_of_text d cut =
     let i = d.integer in
     let f = fraction_text d.fraction in
     let p = d.exponent in
     let x = d.suffix in
-    let m = length i + length f in
-    let n = length i + length f + length p in
-    let integer : take (length i) (float_text d) ≡ i = take_at i (f ++ (p ++ x)) (length i) refl in
-    let front : length (i ++ f) ≡ m = length-append i f in
-    let whole : length ((i ++ f) ++ p) ≡ n = length-append (i ++ f) p ∙ ap (λ k. k + length p) front in
-    let regroup : float_text d ≡ ((i ++ f) ++ p) ++ x = sym (append_assoc i f (p ++ x)) ∙ sym (append_assoc (i ++ f) p x) in
-    let number : take n (float_text d) ≡ (i ++ f) ++ p = ap (take n) regroup ∙ take_at ((i ++ f) ++ p) x n whole in
-    let exponent : drop m (take n (float_text d)) ≡ p = ap (drop m) number ∙ drop_at (i ++ f) p m front in
-    let suffix : drop n (float_text d) ≡ x = ap (drop n) regroup ∙ drop_at ((i ++ f) ++ p) x n whole in
-    let fraction : (parts_between (length i) m n (float_text d)).fraction ≡ d.fraction = fraction_of i d.fraction (p ++ x) in
-    λ j. record { integer = integer j; fraction = fraction j; exponent = exponent j; suffix = suffix j }
-
--- the parts of a text that is cut are those between its ends
-pub parts_of_cut : (d : FloatParts) → IsCut d → parts_between (integer_end (float_text d)) (fraction_end (float_text d)) (number_end (float_text d)) (float_text d) ≡ d
-parts_of_cut d cut = let e = ends_of_cut d cut in
-    rw (e.number, e.fraction, e.integer) (parts_of_text d)
+    let t = float_text d in
+    let integer : take_while is_decimal_char t ≡ i = take_while_front is_decimal_char i (f ++ (p ++ x)) cut.integer (fraction_stops d.fraction p x cut.exponent cut.stops) in
+    let after_integer : behind i t ≡ f ++ (p ++ x) = drop_at i (f ++ (p ++ x)) (length i) refl in
+    let after_fraction : behind (i ++ f) t ≡ p ++ x = ap (behind (i ++ f)) (sym (append_assoc i f (p ++ x))) ∙ drop_at (i ++ f) (p ++ x) (length (i ++ f)) refl in
+    let after_number : behind (number_part d) t ≡ x = ap (behind (number_part d)) (sym (number_part-suffix d)) ∙ drop_at (number_part d) x (length (number_part d)) refl in
+    let fraction = fraction_of-text d.fraction p x cut.fraction cut.exponent cut.stops cut.no_period in
+    let exponent = exponent_of-text p x cut.exponent cut.stops cut.no_letter cut.no_sign in
+    ap (λ s. behind_integer s t) integer
+    ∙ (ap (λ s. behind_fraction i s t) (ap fraction_of after_integer ∙ fraction)
+    ∙ (ap (λ s. behind_exponent i d.fraction s t) (ap exponent_of after_fraction ∙ exponent)
+    ∙ (λ j. record { integer = i; fraction = d.fraction; exponent = p; suffix = after_number j })))
 
 pub same_cut : (d e : FloatParts) → IsCut d → IsCut e → float_text d ≡ float_text e → d ≡ e
-same_cut d e cut_d cut_e same =
-    sym (parts_of_cut d cut_d) ∙ (ap (λ t. parts_between (integer_end t) (fraction_end t) (number_end t) t) same ∙ parts_of_cut e cut_e)
+same_cut d e cut_d cut_e same = sym (cut_of_text d cut_d) ∙ (ap float_cut same ∙ cut_of_text e cut_e)
 
 -- every text is cut
 
@@ -283,8 +254,3 @@ behind_cut t i (c ∷ cs) spells integer stop = elim (cases_Bool (is_period c)) 
 
 pub cut_of : (t : List ℕ) → CutOf t
 cut_of t = let r = run_of is_decimal_char t in behind_cut t r.front r.rest r.spells r.passes r.stops
-
--- the text is its number part and the suffix
-pub number_part-suffix : (d : FloatParts) → number_part d ++ d.suffix ≡ float_text d
-number_part-suffix d =
-    append_assoc d.integer (fraction_text d.fraction ++ d.exponent) d.suffix ∙ ap (λ t. d.integer ++ t) (append_assoc (fraction_text d.fraction) d.exponent d.suffix)

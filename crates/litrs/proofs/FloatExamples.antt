@@ -6,7 +6,7 @@ use Rattle.litrs.specs.declared.err.ParseErrorKind.TheVariants.{Empty, Unexpecte
 use Rattle.unicode_ident.proofs.Computing.{unicode_ident}
 use Rattle.litrs.specs.Fault.{plain, over, at}
 use Rattle.litrs.specs.Suffix.{is_suffix}
-use Rattle.litrs.specs.Float.{FloatParts, IsFloatOf, number_part, is_exponent, fraction_len, exponent_len, float_fault, integer_end, fraction_end, number_end, parts_between}
+use Rattle.litrs.specs.Float.{FloatParts, IsFloatOf, number_part, is_exponent, float_cut, float_fault}
 
 -- The forms. The parts are the integer part, the fraction, the exponent and the suffix.
 
@@ -62,83 +62,85 @@ number_part-period = refl
 number_part-exponent : number_part (parts (codes "8") (Some (codes "2")) (codes "e-_04_9") []) ≡ codes "8.2e-_04_9"
 number_part-exponent = refl
 
--- a text cut at the ends of its parts
-cut-fraction : parts_between (integer_end (codes "147.3_33__E3f64")) (fraction_end (codes "147.3_33__E3f64")) (number_end (codes "147.3_33__E3f64")) (codes "147.3_33__E3f64")
-    ≡ parts (codes "147") (Some (codes "3_33__")) (codes "E3") (codes "f64")
-unfolding fraction_len exponent_len
+-- a text that is cut, a float or not
+cut-fraction : float_cut (codes "147.3_33__E3f64") ≡ parts (codes "147") (Some (codes "3_33__")) (codes "E3") (codes "f64")
+unfolding float_cut
 cut-fraction = refl
 
-cut-exponent : parts_between (integer_end (codes "3e2e5")) (fraction_end (codes "3e2e5")) (number_end (codes "3e2e5")) (codes "3e2e5")
-    ≡ parts (codes "3") None (codes "e2") (codes "e5")
-unfolding fraction_len exponent_len
+cut-exponent : float_cut (codes "3e2e5") ≡ parts (codes "3") None (codes "e2") (codes "e5")
+unfolding float_cut
 cut-exponent = refl
+
+cut-signs : float_cut (codes "3.7e-+3") ≡ parts (codes "3") (Some (codes "7")) (codes "e-") (codes "+3")
+unfolding float_cut
+cut-signs = refl
 
 -- The rows, from the first on, and texts that no row fits.
 
 row-empty : float_fault (codes "") ≡ Some (plain Empty)
-unfolding float_fault fraction_len exponent_len is_suffix unicode_ident encode_utf8
+unfolding float_fault float_cut is_suffix unicode_ident encode_utf8
 row-empty = refl
 
 row-no_digit : float_fault (codes "_3") ≡ Some (at 0 DoesNotStartWithDigit)
-unfolding float_fault fraction_len exponent_len is_suffix unicode_ident encode_utf8
+unfolding float_fault float_cut is_suffix unicode_ident encode_utf8
 row-no_digit = refl
 
 row-no_digit-period : float_fault (codes ".5") ≡ Some (at 0 DoesNotStartWithDigit)
-unfolding float_fault fraction_len exponent_len is_suffix unicode_ident encode_utf8
+unfolding float_fault float_cut is_suffix unicode_ident encode_utf8
 row-no_digit-period = refl
 
 row-exponent_behind_period : float_fault (codes "1.e4") ≡ Some (at 2 UnexpectedChar)
-unfolding float_fault fraction_len exponent_len is_suffix unicode_ident encode_utf8
+unfolding float_fault float_cut is_suffix unicode_ident encode_utf8
 row-exponent_behind_period = refl
 
 row-underscore_behind_period : float_fault (codes "12345._987") ≡ Some (at 6 UnexpectedChar)
-unfolding float_fault fraction_len exponent_len is_suffix unicode_ident encode_utf8
+unfolding float_fault float_cut is_suffix unicode_ident encode_utf8
 row-underscore_behind_period = refl
 
 row-exponent_digits : float_fault (codes "0eel") ≡ Some (over 1 2 NoExponentDigits)
-unfolding float_fault fraction_len exponent_len is_suffix unicode_ident encode_utf8
+unfolding float_fault float_cut is_suffix unicode_ident encode_utf8
 row-exponent_digits = refl
 
 row-exponent_underscores : float_fault (codes "23E___f32") ≡ Some (over 2 6 NoExponentDigits)
-unfolding float_fault fraction_len exponent_len is_suffix unicode_ident encode_utf8
+unfolding float_fault float_cut is_suffix unicode_ident encode_utf8
 row-exponent_underscores = refl
 
 row-exponent_two_signs : float_fault (codes "3.7e-+3") ≡ Some (over 3 5 NoExponentDigits)
-unfolding float_fault fraction_len exponent_len is_suffix unicode_ident encode_utf8
+unfolding float_fault float_cut is_suffix unicode_ident encode_utf8
 row-exponent_two_signs = refl
 
 row-suffix_symbol : float_fault (codes "3.7+2") ≡ Some (over 3 5 UnexpectedChar)
-unfolding float_fault fraction_len exponent_len is_suffix unicode_ident encode_utf8
+unfolding float_fault float_cut is_suffix unicode_ident encode_utf8
 row-suffix_symbol = refl
 
 row-suffix_period : float_fault (codes "55e3.1") ≡ Some (over 4 6 UnexpectedChar)
-unfolding float_fault fraction_len exponent_len is_suffix unicode_ident encode_utf8
+unfolding float_fault float_cut is_suffix unicode_ident encode_utf8
 row-suffix_period = refl
 
 row-suffix : float_fault (codes "0x44.5") ≡ Some (over 1 6 InvalidSuffix)
-unfolding float_fault fraction_len exponent_len is_suffix unicode_ident encode_utf8
+unfolding float_fault float_cut is_suffix unicode_ident encode_utf8
 row-suffix = refl
 
 row-integer : float_fault (codes "35_389") ≡ Some (plain UnexpectedIntegerLit)
-unfolding float_fault fraction_len exponent_len is_suffix unicode_ident encode_utf8
+unfolding float_fault float_cut is_suffix unicode_ident encode_utf8
 row-integer = refl
 
 row-integer_suffix : float_fault (codes "55f32") ≡ Some (plain UnexpectedIntegerLit)
-unfolding float_fault fraction_len exponent_len is_suffix unicode_ident encode_utf8
+unfolding float_fault float_cut is_suffix unicode_ident encode_utf8
 row-integer_suffix = refl
 
 row-none-period : float_fault (codes "9.") ≡ None
-unfolding float_fault fraction_len exponent_len is_suffix unicode_ident encode_utf8
+unfolding float_fault float_cut is_suffix unicode_ident encode_utf8
 row-none-period = refl
 
 row-none-fraction : float_fault (codes "3.14f33") ≡ None
-unfolding float_fault fraction_len exponent_len is_suffix unicode_ident encode_utf8
+unfolding float_fault float_cut is_suffix unicode_ident encode_utf8
 row-none-fraction = refl
 
 row-none-exponent : float_fault (codes "8.2e-_04_9") ≡ None
-unfolding float_fault fraction_len exponent_len is_suffix unicode_ident encode_utf8
+unfolding float_fault float_cut is_suffix unicode_ident encode_utf8
 row-none-exponent = refl
 
 row-none-letter_suffix : float_fault (codes "3e2e5") ≡ None
-unfolding float_fault fraction_len exponent_len is_suffix unicode_ident encode_utf8
+unfolding float_fault float_cut is_suffix unicode_ident encode_utf8
 row-none-letter_suffix = refl

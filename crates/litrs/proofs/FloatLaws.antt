@@ -1,22 +1,34 @@
 -- Floats: a derivation stands exactly where the table has no row, and there is one at most.
-use Rattle.std.proofs.Common.{◌≡◌, ℕ, zero, suc, ◌+◌, ◌⊎◌, Bool, true, false, cond, not, ◌&&◌, ◌||◌, List, [], ◌∷◌, ◌++◌, length, take, drop, Option, Some, None, refl, sym, ap, subst, ◌∙◌, inl, inr, arith}
+use Rattle.std.specs.Prelude.{if◌then◌else◌}
+use Rattle.std.proofs.Common.{◌≡◌, ℕ, zero, suc, ◌+◌, ◌⊎◌, Bool, true, false, cond, not, ◌&&◌, ◌||◌, List, [], ◌∷◌, ◌++◌, length, drop, Option, Some, None, refl, sym, ap, subst, ◌∙◌, inl, inr, arith}
 use Rattle.std.specs.Char.{is_ascii_digit}
 use Rattle.std.specs.List.{list_all, list_any}
 use Rattle.std.specs.Option.{is_some}
 use Rattle.std.proofs.lemmas.Bool.{and_parts, and_from, true≢false, false≢true, or_cases, cases_Bool, or_from, or_right, or_parts, and_left, and_right, not-false, not-true}
 use Rattle.std.proofs.lemmas.Bool.Decides.{nat_tests}
-use Rattle.std.proofs.lemmas.List.{take_at}
 use Rattle.litrs.specs.declared.err.ParseErrorKind.{ParseErrorKind}
+use Rattle.litrs.specs.declared.err.ParseErrorKind.TheVariants.{UnexpectedChar, NoExponentDigits, UnexpectedIntegerLit}
+use Rattle.litrs.specs.Fault.{plain, at, over}
 use Rattle.litrs.specs.declared.err.ParseError.{ParseError}
 use Rattle.litrs.specs.Text.{is_empty, byte_len, first_passes}
 use Rattle.litrs.specs.Suffix.{is_suffix, suffix_fault}
 use Rattle.litrs.specs.Integer.{is_e, number_rows}
-use Rattle.litrs.specs.Float.{FloatParts, fraction_text, float_text, is_decimal_char, is_underscore, is_period, is_sign, is_decimal_literal, is_exponent_number, sign_len, is_exponent, is_float_form, IsFloat, IsFloatOf, exponent_len, integer_end, fraction_end, number_end, parts_between, has_wrong_fraction, float_rows, float_fault}
+use Rattle.litrs.specs.Float.{FloatParts, fraction_text, float_text, is_decimal_char, is_underscore, is_period, is_sign, is_decimal_literal, is_exponent_number, sign_len, is_exponent, is_float_form, IsFloat, IsFloatOf, float_cut, has_wrong_fraction, float_cut_fault, float_fault}
 use Rattle.litrs.specs.Reading.{IsOnlyReading, HasNoReading}
 use Rattle.litrs.proofs.IntegerLaws.{number_rows-None}
 use Rattle.litrs.proofs.Spans.{none_from}
 use Rattle.litrs.proofs.SuffixStart.{suffix_begins_otherwise}
-use Rattle.litrs.proofs.FloatCuts.{parts_of_cut, letter_period, letter_decimal, IsCut, is_exponent_front, fraction_passes, ends_of_cut, same_cut, cut_of, fraction_stops, exponent_stops}
+use Rattle.litrs.proofs.FloatCuts.{cut_of_text, letter_period, letter_decimal, IsCut, is_exponent_front, fraction_passes, same_cut, cut_of, fraction_stops, exponent_stops}
+
+-- the rows by what is known of the parts: something else than a digit behind a period; a period; an exponent; a digit in it;
+-- a suffix behind the number
+abbrev pub float_rows : (fraction exponent suffix len : ℕ) (kind : ParseErrorKind) (wrong_fraction has_fraction has_exponent exponent_digit suffix_behind : Bool) → Option ParseError
+float_rows fraction exponent suffix len kind wrong_fraction has_fraction has_exponent exponent_digit suffix_behind =
+    if wrong_fraction then Some (at (fraction + 1) UnexpectedChar)
+    else if has_exponent && not exponent_digit then Some (over exponent suffix NoExponentDigits)
+    else if not suffix_behind then Some (over suffix len kind)
+    else if not (has_fraction || has_exponent) then Some (plain UnexpectedIntegerLit)
+    else None
 
 -- the table by the parts of a text that is cut
 abbrev pub cut_rows : FloatParts → Option ParseError
@@ -27,31 +39,10 @@ cut_rows d =
     (has_wrong_fraction (fraction_text d.fraction ++ (d.exponent ++ d.suffix))) (is_some d.fraction) (not (is_empty d.exponent))
     (list_any is_ascii_digit d.exponent) (is_suffix d.suffix))
 
-period_flag : (f : Option (List ℕ)) (p x : List ℕ) → is_exponent_front p ≡ true → (f ≡ None → p ≡ [] → first_passes is_period x ≡ false) →
-    first_passes is_period (fraction_text f ++ (p ++ x)) ≡ is_some f
-period_flag None [] x front no_period = no_period refl refl
-period_flag None (c ∷ cs) x front no_period = let letter : is_e c ≡ true = (and_parts _ _ front).0 in grind (arith, nat_tests)
-period_flag (Some f) p x front no_period = refl
-
-letter_flag : (p x : List ℕ) → is_exponent_front p ≡ true → (p ≡ [] → first_passes is_e x ≡ false) → first_passes is_e (p ++ x) ≡ not (is_empty p)
-letter_flag [] x front no_letter = no_letter refl
-letter_flag (c ∷ cs) x front no_letter = (and_parts _ _ front).0
-
 pub fault_of_cut : (d : FloatParts) → IsCut d → float_fault (float_text d) ≡ cut_rows d
 unfolding float_fault
 fault_of_cut d cut =
-    let e = ends_of_cut d cut in
-    let t = float_text d in
-    let period : first_passes is_period (drop (integer_end t) t) ≡ is_some d.fraction =
-    ap (first_passes is_period) e.behind_integer ∙ period_flag d.fraction d.exponent d.suffix cut.exponent cut.no_period in
-    let letter : first_passes is_e (drop (fraction_end t) t) ≡ not (is_empty d.exponent) =
-    ap (first_passes is_e) e.behind_fraction ∙ letter_flag d.exponent d.suffix cut.exponent cut.no_letter in
-    let digit : list_any is_ascii_digit (take (exponent_len (drop (fraction_end t) t)) (drop (fraction_end t) t)) ≡ list_any is_ascii_digit d.exponent =
-    ap (λ r. list_any is_ascii_digit (take (exponent_len r) r)) e.behind_fraction
-    ∙ ap (list_any is_ascii_digit) (take_at d.exponent d.suffix (exponent_len (d.exponent ++ d.suffix)) (sym e.exponent)) in
-    λ j. number_rows (is_empty t) (first_passes is_ascii_digit t)
-    (float_rows (e.integer j) (e.fraction j) (e.number j) (byte_len t) (suffix_fault (e.behind_number j))
-    (has_wrong_fraction (e.behind_integer j)) (period j) (letter j) (digit j) (is_suffix (e.behind_number j)))
+    ap (λ (c : FloatParts). number_rows (is_empty (float_text d)) (first_passes is_ascii_digit (float_text d)) (float_cut_fault c)) (cut_of_text d cut)
 
 -- where no row fits
 
@@ -274,12 +265,11 @@ readable t h = let c = cut_of t in
     let rows : cut_rows c.parts ≡ None = sym (fault_of_cut c.parts c.cut) ∙ (ap float_fault c.spells ∙ h) in
     (c.parts, record { spells = c.spells; grammar = float_from_cut c.parts c.cut rows })
 
--- the one derivation of a float, cut at the ends of its parts
-pub only_cut : (t : List ℕ) → float_fault t ≡ None → IsOnlyReading (IsFloatOf t) (parts_between (integer_end t) (fraction_end t) (number_end t) t)
+-- the one derivation of a float
+pub only_cut : (t : List ℕ) → float_fault t ≡ None → IsOnlyReading (IsFloatOf t) (float_cut t)
 only_cut t h =
     let r = readable t h in
-    let same : parts_between (integer_end t) (fraction_end t) (number_end t) t ≡ r.0 =
-    ap (λ s. parts_between (integer_end s) (fraction_end s) (number_end s) s) (sym r.1.spells) ∙ parts_of_cut r.0 (float_is_cut r.0 r.1.grammar) in
+    let same : float_cut t ≡ r.0 = ap float_cut (sym r.1.spells) ∙ cut_of_text r.0 (float_is_cut r.0 r.1.grammar) in
     (subst (λ (d : FloatParts). IsFloatOf t d) (sym same) r.1, λ e s. only_float t e r.0 s r.1 ∙ sym same)
 
 -- a text that the table refuses has none

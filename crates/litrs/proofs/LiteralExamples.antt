@@ -8,7 +8,7 @@ use Rattle.litrs.specs.declared.err.ParseErrorKind.TheVariants.{Empty, Unexpecte
 use Rattle.litrs.specs.Fault.{plain, at, over}
 use Rattle.litrs.specs.Suffix.{is_suffix}
 use Rattle.litrs.specs.Integer.{integer_cut, integer_fault}
-use Rattle.litrs.specs.Float.{fraction_len, exponent_len, float_fault}
+use Rattle.litrs.specs.Float.{float_cut, float_fault}
 use Rattle.litrs.specs.CharByte.{plain_char}
 use Rattle.litrs.specs.Quoted.{plain_item}
 use Rattle.litrs.specs.Raw.{hashes, raw_body_fault, raw_fault}
@@ -21,7 +21,7 @@ use Rattle.litrs.proofs.Computing.{computing}
 
 -- what the tables of all kinds compute with
 unfoldable all_tables : Unit {0}
-unfolding computing dispatch read_fault integer_cut integer_fault float_fault fraction_len exponent_len raw_fault raw_body_fault is_suffix unicode_ident encode_utf8
+unfolding computing dispatch read_fault integer_cut integer_fault float_fault float_cut raw_fault raw_body_fault is_suffix unicode_ident encode_utf8
 all_tables = tt
 
 -- As far as literals of any kind are read

@@ -12,7 +12,7 @@ use Rattle.litrs.specs.Integer.{IntegerParts, IsIntegerOf, is_e}
 use Rattle.litrs.specs.Float.{FloatParts, fraction_text, is_period, is_exponent, is_float_form, IsFloatOf}
 use Rattle.litrs.specs.LiteralFault.{is_float_mark, begins_float}
 use Rattle.litrs.proofs.IntegerLaws.{prefix_len_front}
-use Rattle.litrs.proofs.FloatCuts.{ends_of_cut}
+use Rattle.litrs.proofs.FloatCuts.{behind_decimals}
 use Rattle.litrs.proofs.FloatLaws.{float_is_cut, suffix_no_period}
 
 -- floats
@@ -29,7 +29,7 @@ form_mark (Some f) p x h = refl
 pub float_begins : (t : List ℕ) (d : FloatParts) → IsFloatOf t d → begins_float t ≡ true
 float_begins t d r =
     ap begins_float (sym r.spells)
-    ∙ (ap (first_passes is_float_mark) (ends_of_cut d (float_is_cut d r.grammar)).behind_integer ∙ form_mark d.fraction d.exponent d.suffix r.grammar.form)
+    ∙ (ap (first_passes is_float_mark) (behind_decimals d (float_is_cut d r.grammar)) ∙ form_mark d.fraction d.exponent d.suffix r.grammar.form)
 
 -- integers
 

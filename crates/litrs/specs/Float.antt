@@ -1,9 +1,8 @@
 -- Floating-point literals. The Rust Reference, Tokens, Literals: "Floating-point literals".
 -- The grammar stands first, the refusals below it.
-use Rattle.std.specs.Prelude.{◌≡◌, ℕ, ◌+◌, ◌==◌, ◌&&◌, ◌||◌, Bool, false, not, List, [], ◌∷◌, ◌++◌, take, drop, Option, Some, None, IsTrue, IsFalse, if◌then◌else◌}
+use Rattle.std.specs.Prelude.{◌≡◌, ℕ, ◌+◌, ◌==◌, ◌&&◌, ◌||◌, Bool, false, not, List, [], ◌∷◌, ◌++◌, length, take, drop, take_while, Option, Some, None, is_some, IsTrue, IsFalse, if◌then◌else◌}
 use Rattle.std.specs.Char.{is_ascii_digit}
-use Rattle.std.specs.List.{list_all, list_any, prefix_len}
-use Rattle.litrs.specs.declared.err.ParseErrorKind.{ParseErrorKind}
+use Rattle.std.specs.List.{list_all, list_any}
 use Rattle.litrs.specs.declared.err.ParseErrorKind.TheVariants.{UnexpectedChar, NoExponentDigits, UnexpectedIntegerLit}
 use Rattle.litrs.specs.declared.err.ParseError.{ParseError}
 use Rattle.litrs.specs.Characters.{period, underscore, plus, minus}
@@ -87,64 +86,56 @@ pub record IsFloatOf (t : List ℕ) (d : FloatParts) : Type 0 where
   pub spells : float_text d ≡ t
   pub grammar : IsFloat d
 
--- Refusals. What follows says how far each part would go in a text that need not be a float.
+-- Refusals. A text that begins with a digit is cut into the parts that a float would have, whether it is one or not.
 
--- how many digits and `_` the text begins with
-abbrev pub decimal_len : List ℕ → ℕ
-decimal_len t = prefix_len is_decimal_char t
+-- the fraction, by what stands behind the integer part: where that is a period, the digits and `_` behind it
+abbrev pub fraction_of : List ℕ → Option (List ℕ)
+fraction_of [] = None
+fraction_of (c ∷ cs) = if is_period c then Some (take_while is_decimal_char cs) else None
 
--- how many characters a period takes with the digits and `_` behind it
-unfoldable pub fraction_len : List ℕ → ℕ
-fraction_len [] = 0
-fraction_len (c ∷ cs) = if is_period c then 1 + decimal_len cs else 0
+-- the exponent, by what stands behind the fraction: where that is `e` or `E`, the letter, a sign that follows, and the
+-- digits and `_` behind them
+abbrev pub exponent_of : List ℕ → List ℕ
+exponent_of [] = []
+exponent_of (c ∷ cs) =
+    if is_e c then c ∷ (take (sign_len cs) cs ++ take_while is_decimal_char (drop (sign_len cs) cs)) else []
 
--- how many characters `e` or `E` takes with a sign, digits and `_` behind it
-unfoldable pub exponent_len : List ℕ → ℕ
-exponent_len [] = 0
-exponent_len (c ∷ cs) = if is_e c then 1 + (sign_len cs + decimal_len (drop (sign_len cs) cs)) else 0
+-- what stands behind the front of a text
+abbrev pub behind : List ℕ → List ℕ → List ℕ
+behind front t = drop (length front) t
 
--- Where the integer part ends, the period and the fraction, and the number as a whole. All before is ASCII,
--- one byte a character.
-abbrev pub integer_end : List ℕ → ℕ
-integer_end t = decimal_len t
-
-abbrev pub fraction_end : List ℕ → ℕ
-fraction_end t = integer_end t + fraction_len (drop (integer_end t) t)
-
-abbrev pub number_end : List ℕ → ℕ
-number_end t = fraction_end t + exponent_len (drop (fraction_end t) t)
-
--- the parts of a text that is cut at these three places
-abbrev pub parts_between : ℕ → ℕ → ℕ → List ℕ → FloatParts
-parts_between integer fraction number t = record {
-  integer = take integer t;
-  fraction = if integer == fraction then None else Some (drop (integer + 1) (take fraction t));
-  exponent = drop fraction (take number t);
-  suffix = drop number t;
-}
+-- the integer part is the digits and `_` that the text begins with, and the suffix what stands behind the other parts
+unfoldable pub float_cut : List ℕ → FloatParts
+float_cut t =
+    let integer = take_while is_decimal_char t in
+    let fraction = fraction_of (behind integer t) in
+    let exponent = exponent_of (behind (integer ++ fraction_text fraction) t) in
+    record {
+      integer = integer;
+      fraction = fraction;
+      exponent = exponent;
+      suffix = behind (integer ++ (fraction_text fraction ++ exponent)) t;
+    }
 
 -- a period, and behind it something that is no decimal digit
 abbrev pub has_wrong_fraction : List ℕ → Bool
 has_wrong_fraction [] = false
 has_wrong_fraction (c ∷ cs) = is_period c && (not (is_empty cs) && not (first_passes is_ascii_digit cs))
 
--- The table for a text that begins with a digit; the first row that fits decides. The three ends and the length of the
--- text, the kind of refusal for the suffix, then what is known of the text: a period has something else than a digit
--- behind it; there is a period; an exponent; a digit in the exponent; behind the number stands a suffix.
-abbrev pub float_rows : (integer fraction number len : ℕ) (kind : ParseErrorKind) (wrong_fraction has_period has_exponent exponent_digit suffix_behind : Bool) → Option ParseError
-float_rows integer fraction number len kind wrong_fraction has_period has_exponent exponent_digit suffix_behind =
-    if wrong_fraction then Some (at (integer + 1) UnexpectedChar)
-    else if has_exponent && not exponent_digit then Some (over fraction number NoExponentDigits)
-    else if not suffix_behind then Some (over number len kind)
-    else if not (has_period || has_exponent) then Some (plain UnexpectedIntegerLit)
+-- A text that begins with a digit, by its parts; the first row that fits decides. All before the suffix is ASCII, one byte a
+-- character.
+abbrev pub float_cut_fault : FloatParts → Option ParseError
+float_cut_fault d =
+    let fraction = length d.integer in
+    let exponent = fraction + length (fraction_text d.fraction) in
+    let suffix = exponent + length d.exponent in
+    let has_exponent = not (is_empty d.exponent) in
+    if has_wrong_fraction (fraction_text d.fraction ++ (d.exponent ++ d.suffix)) then Some (at (fraction + 1) UnexpectedChar)
+    else if has_exponent && not (list_any is_ascii_digit d.exponent) then Some (over exponent suffix NoExponentDigits)
+    else if not (is_suffix d.suffix) then Some (over suffix (byte_len (float_text d)) (suffix_fault d.suffix))
+    else if not (is_some d.fraction || has_exponent) then Some (plain UnexpectedIntegerLit)
     else None
 
 -- why a text is no float: None where it is one
 unfoldable pub float_fault : List ℕ → Option ParseError
-float_fault t = number_rows (is_empty t) (first_passes is_ascii_digit t)
-    (float_rows (integer_end t) (fraction_end t) (number_end t) (byte_len t) (suffix_fault (drop (number_end t) t))
-    (has_wrong_fraction (drop (integer_end t) t))
-    (first_passes is_period (drop (integer_end t) t))
-    (first_passes is_e (drop (fraction_end t) t))
-    (list_any is_ascii_digit (take (exponent_len (drop (fraction_end t) t)) (drop (fraction_end t) t)))
-    (is_suffix (drop (number_end t) t)))
+float_fault t = number_rows (is_empty t) (first_passes is_ascii_digit t) (float_cut_fault (float_cut t))
