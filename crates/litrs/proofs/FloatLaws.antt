@@ -12,10 +12,10 @@ use Rattle.litrs.specs.Fault.{plain, at, over}
 use Rattle.litrs.specs.declared.err.ParseError.{ParseError}
 use Rattle.litrs.specs.Text.{is_empty, byte_len, first_passes}
 use Rattle.litrs.specs.Suffix.{is_suffix, suffix_fault}
-use Rattle.litrs.specs.Integer.{is_e, number_rows}
+use Rattle.litrs.specs.Integer.{is_e}
 use Rattle.litrs.specs.Float.{FloatParts, fraction_text, float_text, is_decimal_char, is_underscore, is_period, is_sign, is_decimal_literal, is_exponent_number, sign_len, is_exponent, is_float_form, IsFloat, IsFloatOf, float_cut, has_wrong_fraction, float_cut_fault, float_fault}
 use Rattle.litrs.specs.Reading.{IsOnlyReading, HasNoReading}
-use Rattle.litrs.proofs.IntegerLaws.{number_rows-None}
+use Rattle.litrs.proofs.IntegerLaws.{number_rows-None, number_rows}
 use Rattle.litrs.proofs.Spans.{none_from}
 use Rattle.litrs.proofs.SuffixStart.{suffix_begins_otherwise}
 use Rattle.litrs.proofs.FloatCuts.{cut_of_text, letter_period, letter_decimal, IsCut, is_exponent_front, fraction_passes, same_cut, cut_of, fraction_stops, exponent_stops}

@@ -11,13 +11,14 @@ use Rattle.litrs.specs.declared.err.ParseError.{ParseError}
 use Rattle.litrs.specs.Fault.{IsInText, plain, over, at}
 use Rattle.litrs.specs.Text.{is_empty, byte_len}
 use Rattle.litrs.specs.Suffix.{suffix_fault}
-use Rattle.litrs.specs.Integer.{is_e, number_rows}
+use Rattle.litrs.specs.Integer.{is_e}
 use Rattle.litrs.specs.Float.{FloatParts, fraction_text, float_text, is_decimal_char, is_period, is_sign, sign_len, IsFloat, IsFloatOf, has_wrong_fraction, float_fault}
 use Rattle.litrs.proofs.Runs.{last_passes, is_line_feed, line_feed_last, last_passes-all, last_passes-both, list_all-append, list_all-weaken}
 use Rattle.litrs.proofs.Spans.{byte_len-append, is_ascii_char, byte_len_ascii, plain_within, over_within, at_within, of_some, of_none}
 use Rattle.litrs.proofs.SuffixStart.{suffix_last}
 use Rattle.litrs.proofs.FloatCuts.{IsCut, is_exponent_front, fraction_passes, cut_of}
 use Rattle.litrs.proofs.FloatLaws.{float_rows, cut_rows, fault_of_cut, float_is_cut}
+use Rattle.litrs.proofs.IntegerLaws.{number_rows}
 
 -- what stands in front of the suffix
 abbrev is_number_char : ℕ → Bool

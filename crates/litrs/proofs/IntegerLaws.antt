@@ -7,14 +7,31 @@ use Rattle.std.proofs.lemmas.List.Folds.{length-prefix_len}
 use Rattle.std.proofs.lemmas.Bool.{and_parts, and_from, or_parts, or_left}
 use Rattle.litrs.specs.declared.err.ParseError.{ParseError}
 use Rattle.litrs.specs.declared.err.ParseErrorKind.{ParseErrorKind}
+use Rattle.litrs.specs.declared.err.ParseErrorKind.TheVariants.{Empty, DoesNotStartWithDigit, InvalidDigit, NoDigits, IntegerSuffixStartingWithE}
+use Rattle.litrs.specs.Fault.{plain, over, at}
+use Rattle.std.specs.Prelude.{if◌then◌else◌, not}
 use Rattle.litrs.specs.declared.integer.IntegerBase.{IntegerBase}
 use Rattle.litrs.specs.declared.integer.IntegerBase.TheVariants.{Binary, Octal, Decimal, Hexadecimal}
 use Rattle.litrs.specs.Text.{is_empty, byte_len, first_passes, begins_with}
 use Rattle.litrs.specs.Suffix.{is_suffix, suffix_fault}
 use Rattle.litrs.specs.Base.{prefix, is_digit, is_digit_or_underscore}
 use Rattle.litrs.specs.Reading.{IsOnlyReading, HasNoReading}
-use Rattle.litrs.specs.Integer.{IntegerParts, integer_text, IsInteger, IsIntegerOf, is_e, has_prefix, base_of, integer_cut, integer_rows, cut_fault, number_rows, integer_fault}
+use Rattle.litrs.specs.Integer.{IntegerParts, integer_text, IsInteger, IsIntegerOf, is_e, has_prefix, base_of, integer_cut, cut_fault, integer_fault}
 use Rattle.litrs.proofs.Begins.{begins_with-split}
+
+-- The rows of the refusals, by tests of the text
+
+abbrev pub integer_rows : (start end len : ℕ) (suffix_behind digit_behind : Bool) (kind : ParseErrorKind) (e_behind some_digit : Bool) → Option ParseError
+integer_rows start end len suffix_behind digit_behind kind e_behind some_digit =
+    if not suffix_behind then (if digit_behind then Some (at end InvalidDigit) else Some (over end len kind))
+    else if e_behind then Some (at end IntegerSuffixStartingWithE)
+    else if not some_digit then Some (over start end NoDigits)
+    else None
+
+-- any number: the empty text, and one that does not begin with a decimal digit, come first
+abbrev pub number_rows : (no_character digit_first : Bool) → Option ParseError → Option ParseError
+number_rows no_character digit_first refusal =
+    if no_character then Some (plain Empty) else if not digit_first then Some (at 0 DoesNotStartWithDigit) else refusal
 
 -- Lists
 

@@ -16,10 +16,10 @@ use Rattle.litrs.specs.Fault.{plain, at}
 use Rattle.litrs.specs.Text.{is_empty, byte_len, first_passes, begins_with}
 use Rattle.litrs.specs.Suffix.{is_suffix, suffix_fault}
 use Rattle.litrs.specs.Base.{prefix, is_digit, is_digit_or_underscore}
-use Rattle.litrs.specs.Integer.{integer_text, is_e, base_of, integer_cut, integer_rows, cut_fault, integer_fault}
+use Rattle.litrs.specs.Integer.{integer_text, is_e, base_of, integer_cut, cut_fault, integer_fault}
 use Rattle.litrs.specs.IntegerCut.{parts_at, IsWithin, IsDigitsCut}
 use Rattle.litrs.proofs.Chars.{chars_empty, OnlyAscii, IsAsciiFront, front_zero, front_front, begins_front, passing_front, prefix_len-chars, first_passes-chars, begins_with-chars, ascii_by_test}
-use Rattle.litrs.proofs.IntegerLaws.{cut_with, integer_cut-is, cut-spells}
+use Rattle.litrs.proofs.IntegerLaws.{cut_with, integer_cut-is, cut-spells, integer_rows}
 
 -- only ASCII characters are digits or underscores
 pub digits_are_ascii : (base : IntegerBase) → OnlyAscii (is_digit_or_underscore base)

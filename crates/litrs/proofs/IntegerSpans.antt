@@ -13,8 +13,8 @@ use Rattle.litrs.specs.Suffix.{is_suffix, suffix_fault}
 use Rattle.litrs.specs.declared.integer.IntegerBase.{IntegerBase}
 use Rattle.litrs.specs.declared.integer.IntegerBase.TheVariants.{Binary, Octal, Decimal, Hexadecimal}
 use Rattle.litrs.specs.Base.{prefix, is_digit, is_digit_or_underscore}
-use Rattle.litrs.specs.Integer.{IntegerParts, integer_text, IsInteger, IsIntegerOf, is_e, base_of, integer_cut, integer_rows, cut_fault, number_rows, integer_fault}
-use Rattle.litrs.proofs.IntegerLaws.{cut_with, integer_cut-is, cut-spells}
+use Rattle.litrs.specs.Integer.{IntegerParts, integer_text, IsInteger, IsIntegerOf, is_e, base_of, integer_cut, cut_fault, integer_fault}
+use Rattle.litrs.proofs.IntegerLaws.{cut_with, integer_cut-is, cut-spells, integer_rows, number_rows}
 use Rattle.litrs.proofs.Runs.{last_passes, is_line_feed, line_feed_last, last_passes-all, last_passes-both}
 use Rattle.litrs.proofs.SuffixStart.{suffix_last}
 use Rattle.litrs.proofs.Spans.{byte_len-append, plain_within, over_within, at_within}

@@ -7,11 +7,31 @@ use Rattle.litrs.specs.declared.err.ParseErrorKind.{ParseErrorKind}
 use Rattle.litrs.specs.declared.err.ParseError.{ParseError}
 use Rattle.litrs.specs.Text.{is_empty, byte_len, first_passes}
 use Rattle.litrs.specs.Suffix.{is_suffix, suffix_fault}
-use Rattle.litrs.specs.Raw.{is_quote, is_hash, hashes, raw_closing, occurs, is_raw_char, RawParts, raw_text, IsRaw, IsRawOf, hash_len, length_before, raw_char_fault, raw_body_rows, raw_body_fault, raw_rows, raw_fault}
+use Rattle.std.specs.Prelude.{not, if◌then◌else◌}
+use Rattle.litrs.specs.Fault.{plain, over, at}
+use Rattle.litrs.specs.declared.err.ParseErrorKind.TheVariants.{InvalidLiteral, TooManyHashes, UnterminatedRawString}
+use Rattle.litrs.specs.Raw.{is_quote, is_hash, hashes, raw_closing, occurs, is_raw_char, RawParts, raw_text, IsRaw, IsRawOf, hash_len, length_before, raw_char_fault, raw_body_fault, raw_fault}
 use Rattle.litrs.specs.Reading.{IsOnlyReading, HasNoReading}
 use Rattle.litrs.proofs.Runs.{prefix_len_all, all_from_prefix_len}
 use Rattle.litrs.proofs.Spans.{none_from}
 use Rattle.litrs.proofs.RawCuts.{length-hashes, hash_len-append, behind_hashes, hash_cut, length_before-body, occurs-body, ClosingCut, closing_cut}
+
+-- The rows behind the opening quote, by what is known of the text: a character that may not stand in the body stands before
+-- the first closing; there is a closing; a suffix stands behind it.
+abbrev pub raw_body_rows : (place suffix_place : ℕ) (kind suffix_kind : ParseErrorKind) (refused closed suffix : Bool) → Option ParseError
+raw_body_rows place suffix_place kind suffix_kind refused closed suffix =
+    if refused then Some (at place kind)
+    else if not closed then Some (plain UnterminatedRawString)
+    else if not suffix then Some (at suffix_place suffix_kind)
+    else None
+
+-- The rows before it: nothing is behind the hashes; there are too many; `"` is behind them.
+abbrev pub raw_rows : (start n : ℕ) (body_fault : Option ParseError) (nothing too_many quote : Bool) → Option ParseError
+raw_rows start n body_fault nothing too_many quote =
+    if nothing then Some (plain InvalidLiteral)
+    else if too_many then Some (over start (start + n) TooManyHashes)
+    else if not quote then Some (plain InvalidLiteral)
+    else body_fault
 
 -- the table by the parts of a text that is cut
 

@@ -13,13 +13,13 @@ use Rattle.litrs.specs.declared.err.ParseError.{ParseError}
 use Rattle.litrs.specs.Fault.{IsInText, plain, over, at}
 use Rattle.litrs.specs.Text.{is_empty, byte_len, first_passes}
 use Rattle.litrs.specs.Suffix.{is_suffix, suffix_fault}
-use Rattle.litrs.specs.Raw.{is_quote, is_hash, is_nul, hashes, raw_closing, is_raw_char, raw_value, RawParts, raw_text, IsRaw, length_before, raw_char_fault, raw_body_rows, raw_body_fault, raw_rows, raw_fault}
+use Rattle.litrs.specs.Raw.{is_quote, is_hash, is_nul, hashes, raw_closing, is_raw_char, raw_value, RawParts, raw_text, IsRaw, length_before, raw_char_fault, raw_body_fault, raw_fault}
 use Rattle.litrs.proofs.Runs.{last_passes, is_line_feed, last_passes-all, last_passes-append, last_passes-both, list_all-weaken}
 use Rattle.litrs.proofs.Spans.{byte_len-append, is_ascii_char, byte_len_ascii, plain_within, over_within, at_within, of_some, of_none}
 use Rattle.litrs.proofs.SuffixStart.{suffix_last}
 use Rattle.litrs.proofs.NoNul.{encode_no_nul}
 use Rattle.litrs.proofs.RawCuts.{hashes_pass, length-hashes, hash_cut, ClosingCut, closing_cut, length_before_le}
-use Rattle.litrs.proofs.RawLaws.{fault_of_hashes, before_closing, behind_closing}
+use Rattle.litrs.proofs.RawLaws.{fault_of_hashes, before_closing, behind_closing, raw_body_rows, raw_rows}
 
 -- what holds of the refusal in each row holds of the tables
 

@@ -10,7 +10,7 @@ use Rattle.litrs.specs.Suffix.{is_ascii_symbol, suffix_fault}
 use Rattle.litrs.specs.Text.{first_passes}
 use Rattle.litrs.specs.StringKind.{StringKind, string_kind, byte_string_kind, c_string_kind, switches_of}
 use Rattle.litrs.specs.Bool.{is_bool, bool_fault}
-use Rattle.litrs.specs.Integer.{number_rows, integer_fault}
+use Rattle.litrs.specs.Integer.{integer_fault}
 use Rattle.litrs.specs.Float.{float_fault}
 use Rattle.litrs.specs.Escape.{Switches, hex_fault, inner_fault, unicode_fault, escape_fault}
 use Rattle.litrs.specs.CharByte.{CharKind, char_kind, byte_kind, unterminated_kind, empty_kind, overlong_kind, start_fault, closing_fault, char_item_fault, char_kind_fault}
@@ -20,6 +20,7 @@ use Rattle.litrs.specs.Literal.{LiteralKind, bool_literal, integer_literal, floa
 use Rattle.litrs.specs.LiteralFault.{StringStart, refused_start, quoted_start, raw_start, string_start, string_start_fault, IsFaultOfStart, IsKindFault, Dispatch, refused_as, read_as, dispatch, IsFaultOfDispatch}
 use Rattle.litrs.specs.LiteralLaws.{NoRefusalIsOfMemory}
 use Rattle.litrs.proofs.LiteralLaws.{dispatch_refusal}
+use Rattle.litrs.proofs.IntegerLaws.{number_rows}
 
 -- the kind is another
 abbrev is_of_text : ParseErrorKind → Bool

@@ -3,7 +3,7 @@
 use Rattle.std.specs.Prelude.{◌≡◌, ℕ, ◌+◌, ◌==◌, ◌&&◌, ◌||◌, Bool, false, not, List, [], ◌∷◌, ◌++◌, length, take, drop, take_while, Option, Some, None, is_some, IsTrue, IsFalse, if◌then◌else◌}
 use Rattle.std.specs.Char.{is_ascii_digit}
 use Rattle.std.specs.List.{list_all, list_any}
-use Rattle.litrs.specs.declared.err.ParseErrorKind.TheVariants.{UnexpectedChar, NoExponentDigits, UnexpectedIntegerLit}
+use Rattle.litrs.specs.declared.err.ParseErrorKind.TheVariants.{Empty, DoesNotStartWithDigit, UnexpectedChar, NoExponentDigits, UnexpectedIntegerLit}
 use Rattle.litrs.specs.declared.err.ParseError.{ParseError}
 use Rattle.litrs.specs.Characters.{period, underscore, plus, minus}
 use Rattle.litrs.specs.Text.{is_empty, byte_len, first_passes}
@@ -11,7 +11,7 @@ use Rattle.litrs.specs.Fault.{plain, over, at}
 use Rattle.litrs.specs.Suffix.{is_suffix, suffix_fault}
 use Rattle.litrs.specs.declared.integer.IntegerBase.TheVariants.{Decimal}
 use Rattle.litrs.specs.Base.{is_digit_or_underscore}
-use Rattle.litrs.specs.Integer.{is_e, number_rows}
+use Rattle.litrs.specs.Integer.{is_e}
 
 -- The parts of a float: `147.3_33__E3f64` has the integer part `147`, the fraction `3_33__`, the exponent `E3`
 -- and the suffix `f64`. The fraction is None where there is no period, and empty where nothing is behind it.
@@ -138,4 +138,7 @@ float_cut_fault d =
 
 -- why a text is no float: None where it is one
 unfoldable pub float_fault : List ℕ → Option ParseError
-float_fault t = number_rows (is_empty t) (first_passes is_ascii_digit t) (float_cut_fault (float_cut t))
+float_fault t =
+    if is_empty t then Some (plain Empty)
+    else if not (first_passes is_ascii_digit t) then Some (at 0 DoesNotStartWithDigit)
+    else float_cut_fault (float_cut t)

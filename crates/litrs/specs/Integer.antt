@@ -4,7 +4,6 @@ use Rattle.std.specs.Char.{is_ascii_digit}
 use Rattle.std.specs.List.{list_all, list_any, take_while}
 use Rattle.litrs.specs.declared.integer.IntegerBase.{IntegerBase}
 use Rattle.litrs.specs.declared.integer.IntegerBase.TheVariants.{Binary, Octal, Decimal, Hexadecimal}
-use Rattle.litrs.specs.declared.err.ParseErrorKind.{ParseErrorKind}
 use Rattle.litrs.specs.declared.err.ParseErrorKind.TheVariants.{Empty, DoesNotStartWithDigit, InvalidDigit, NoDigits, IntegerSuffixStartingWithE}
 use Rattle.litrs.specs.declared.err.ParseError.{ParseError}
 use Rattle.litrs.specs.Characters.{letter_e, capital_e}
@@ -74,27 +73,21 @@ behind_main t = drop (length (main_of t)) (behind_prefix t)
 unfoldable pub integer_cut : List ℕ → IntegerParts
 integer_cut t = record { base = base_of t; main = main_of t; suffix = behind_main t }
 
--- A text that begins with a decimal digit, by what stands behind the main part, whose bytes go from start up to end, and
--- by the main part. The first row that fits decides.
-abbrev pub integer_rows : (start end len : ℕ) (suffix_behind digit_behind : Bool) (kind : ParseErrorKind) (e_behind some_digit : Bool) → Option ParseError
-integer_rows start end len suffix_behind digit_behind kind e_behind some_digit =
-    if not suffix_behind then (if digit_behind then Some (at end InvalidDigit) else Some (over end len kind))
-    else if e_behind then Some (at end IntegerSuffixStartingWithE)
-    else if not some_digit then Some (over start end NoDigits)
-    else None
-
--- the same of a text that is cut
+-- A text that begins with a decimal digit, by its main part and by what stands behind; the first row that fits decides.
 abbrev pub cut_fault : IntegerParts → Option ParseError
 cut_fault d =
-    integer_rows (byte_len (prefix d.base)) (byte_len (prefix d.base ++ d.main)) (byte_len (integer_text d))
-    (is_suffix d.suffix) (first_passes is_ascii_digit d.suffix) (suffix_fault d.suffix)
-    (first_passes is_e d.suffix) (list_any (is_digit d.base) d.main)
-
--- Any number: the empty text, and one that does not begin with a decimal digit, come first.
-abbrev pub number_rows : (no_character digit_first : Bool) → Option ParseError → Option ParseError
-number_rows no_character digit_first refusal =
-    if no_character then Some (plain Empty) else if not digit_first then Some (at 0 DoesNotStartWithDigit) else refusal
+    let start = byte_len (prefix d.base) in
+    let end = byte_len (prefix d.base ++ d.main) in
+    if not (is_suffix d.suffix) then
+    (if first_passes is_ascii_digit d.suffix then Some (at end InvalidDigit)
+    else Some (over end (byte_len (integer_text d)) (suffix_fault d.suffix)))
+    else if first_passes is_e d.suffix then Some (at end IntegerSuffixStartingWithE)
+    else if not (list_any (is_digit d.base) d.main) then Some (over start end NoDigits)
+    else None
 
 -- the refusal of a text as an integer, None where there is none
 unfoldable pub integer_fault : List ℕ → Option ParseError
-integer_fault t = number_rows (is_empty t) (first_passes is_ascii_digit t) (cut_fault (integer_cut t))
+integer_fault t =
+    if is_empty t then Some (plain Empty)
+    else if not (first_passes is_ascii_digit t) then Some (at 0 DoesNotStartWithDigit)
+    else cut_fault (integer_cut t)

@@ -105,42 +105,28 @@ length_before part (c ∷ cs) = if begins_with part (c ∷ cs) then 0 else 1 + l
 abbrev pub raw_char_fault : ℕ → ParseErrorKind
 raw_char_fault c = if c == carriage_return then CarriageReturn else if is_nul c then NulByte else NonAsciiInByteLiteral
 
--- The rows behind the opening quote. The places of the first character that may not stand in the body and of the
--- suffix, and the kinds of refusal for both; then: there is such a character before the first closing; there is a
--- closing; behind it stands a suffix.
-abbrev pub raw_body_rows : (place suffix_place : ℕ) (kind suffix_kind : ParseErrorKind) (refused closed suffix : Bool) → Option ParseError
-raw_body_rows place suffix_place kind suffix_kind refused closed suffix =
-    if refused then Some (at place kind)
-    else if not closed then Some (plain UnterminatedRawString)
-    else if not suffix then Some (at suffix_place suffix_kind)
-    else None
-
--- why what stands behind n hashes and the quote, from the place start on, ends no raw literal: None where it does
+-- Why what stands behind n hashes and the quote, from the place start on, ends no raw literal: None where it does. The body
+-- goes up to the first closing, and the first row that fits decides.
 unfoldable pub raw_body_fault : (unicode allow_nul : Bool) (n start : ℕ) → List ℕ → Option ParseError
 raw_body_fault unicode allow_nul n start t =
-    let before = take (length_before (raw_closing n) t) t in
-    let good = prefix_len (is_raw_char unicode allow_nul) before in
-    let suffix = drop (length before + (1 + n)) t in
-    raw_body_rows (start + byte_len (take good t)) (start + (byte_len before + (1 + n)))
-    (raw_char_fault (slice_index t good)) (suffix_fault suffix)
-    (nat_lt good (length before)) (occurs (raw_closing n) t) (is_suffix suffix)
+    let body = take (length_before (raw_closing n) t) t in
+    let allowed = prefix_len (is_raw_char unicode allow_nul) body in
+    let suffix = drop (length body + (1 + n)) t in
+    if nat_lt allowed (length body) then Some (at (start + byte_len (take allowed t)) (raw_char_fault (slice_index t allowed)))
+    else if not (occurs (raw_closing n) t) then Some (plain UnterminatedRawString)
+    else if not (is_suffix suffix) then Some (at (start + (byte_len body + (1 + n))) (suffix_fault suffix))
+    else None
 
--- The rows before it. The place of the hashes and their number, and the refusal of what is behind the quote; then:
--- nothing is behind the hashes; there are too many; `"` is behind them.
-abbrev pub raw_rows : (start n : ℕ) (body_fault : Option ParseError) (nothing too_many quote : Bool) → Option ParseError
-raw_rows start n body_fault nothing too_many quote =
-    if nothing then Some (plain InvalidLiteral)
-    else if too_many then Some (over start (start + n) TooManyHashes)
-    else if not quote then Some (plain InvalidLiteral)
-    else body_fault
-
--- why what stands behind a front, from the place start on, is no raw literal: None where it is one
+-- Why what stands behind a front, from the place start on, is no raw literal: None where it is one. The first row that fits
+-- decides.
 unfoldable pub raw_fault : (unicode allow_nul : Bool) (start : ℕ) → List ℕ → Option ParseError
 raw_fault unicode allow_nul start t =
     let n = hash_len t in
     let behind = drop n t in
-    raw_rows start n (raw_body_fault unicode allow_nul n (start + (n + 1)) (drop 1 behind))
-    (is_empty behind) (nat_lt 255 n) (first_passes is_quote behind)
+    if is_empty behind then Some (plain InvalidLiteral)
+    else if nat_lt 255 n then Some (over start (start + n) TooManyHashes)
+    else if not (first_passes is_quote behind) then Some (plain InvalidLiteral)
+    else raw_body_fault unicode allow_nul n (start + (n + 1)) (drop 1 behind)
 
 -- why a text that begins with the front of the kind is no raw literal of the kind
 abbrev pub raw_literal_fault : StringKind → List ℕ → Option ParseError
