@@ -1,9 +1,9 @@
 -- Chars and bytes: each row of the table of refusals and each form, by computation.
-use Rattle.std.specs.Prelude.{◌≡◌, [], ◌∷◌, Some, None, codes, refl}
-use Rattle.litrs.specs.declared.err.ParseErrorKind.TheVariants.{Empty, UnexpectedChar, UnknownEscape, UnterminatedEscape, InvalidXEscape, UnicodeEscapeInByteLiteral, InvalidStartOfUnicodeEscape, NonHexDigitInUnicodeEscape, TooManyDigitInUnicodeEscape, InvalidUnicodeEscapeChar, UnterminatedUnicodeEscape, UnterminatedCharLiteral, OverlongCharLiteral, EmptyCharLiteral, UnterminatedByteLiteral, OverlongByteLiteral, EmptyByteLiteral, NonAsciiInByteLiteral, UnescapedSingleQuote, UnescapedSpecialWhitespace, DoesNotStartWithQuote, InvalidByteLiteralStart, InvalidSuffix}
+use Rattle.std.specs.Prelude.{◌≡◌, [], ◌∷◌, Some, None, codes, refl, false}
+use Rattle.litrs.specs.declared.err.ParseErrorKind.TheVariants.{Empty, UnexpectedChar, UnknownEscape, UnterminatedEscape, InvalidXEscape, UnicodeEscapeInByteLiteral, InvalidStartOfUnicodeEscape, NonHexDigitInUnicodeEscape, TooManyDigitInUnicodeEscape, InvalidUnicodeEscapeChar, UnterminatedUnicodeEscape, UnterminatedCharLiteral, OverlongCharLiteral, EmptyCharLiteral, UnterminatedByteLiteral, OverlongByteLiteral, EmptyByteLiteral, NonAsciiInByteLiteral, UnescapedSingleQuote, UnescapedSpecialWhitespace, DoesNotStartWithQuote, InvalidByteLiteralStart, InvalidSuffix, NonAsciiXEscape}
 use Rattle.litrs.specs.Fault.{plain, at, over}
 use Rattle.litrs.specs.Escape.{simple_escape, hex_escape, unicode_escape}
-use Rattle.litrs.specs.CharByte.{char_kind, byte_kind, plain_char, escaped_char, IsCharLiteral, char_value, char_fault, byte_fault}
+use Rattle.litrs.specs.CharByte.{char_kind, byte_kind, plain_char, escaped_char, IsCharLiteral, char_value, char_fault, byte_fault, is_char_item}
 use Rattle.litrs.proofs.Computing.{computing}
 
 empty_char : char_fault [] ≡ Some (plain Empty)
@@ -182,3 +182,51 @@ last_byte_value = refl
 raw_byte : IsCharLiteral byte_kind (codes "b'r'") (record { item = plain_char 114; suffix = [] })
 unfolding computing
 raw_byte = record { spells = refl; item = refl; suffix = refl }
+
+-- What stands behind an escape or a wide character
+
+hex_char : char_fault (codes "'\\x41'") ≡ None
+unfolding computing
+hex_char = refl
+
+hex_unclosed : char_fault (codes "'\\x41") ≡ Some (plain UnterminatedCharLiteral)
+unfolding computing
+hex_unclosed = refl
+
+unicode_suffix : char_fault (codes "'\\u{41}'_") ≡ Some (at 8 InvalidSuffix)
+unfolding computing
+unicode_suffix = refl
+
+wide_suffix : char_fault (codes "'é'_") ≡ Some (at 4 InvalidSuffix)
+unfolding computing
+wide_suffix = refl
+
+nul_escape : char_fault (codes "'\\0'") ≡ None
+unfolding computing
+nul_escape = refl
+
+high_hex : char_fault (codes "'\\x80'") ≡ Some (over 1 5 NonAsciiXEscape)
+unfolding computing
+high_hex = refl
+
+nul_byte : byte_fault (codes "b'\\0'") ≡ None
+unfolding computing
+nul_byte = refl
+
+long_hex_byte : byte_fault (codes "b'\\xFFa'") ≡ Some (plain OverlongByteLiteral)
+unfolding computing
+long_hex_byte = refl
+
+-- What may not stand by itself
+
+plain_quote : is_char_item char_kind (plain_char 39) ≡ false
+plain_quote = refl
+
+plain_backslash : is_char_item char_kind (plain_char 92) ≡ false
+plain_backslash = refl
+
+plain_tab : is_char_item char_kind (plain_char 9) ≡ false
+plain_tab = refl
+
+plain_wide_byte : is_char_item byte_kind (plain_char 128) ≡ false
+plain_wide_byte = refl

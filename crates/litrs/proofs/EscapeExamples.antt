@@ -1,5 +1,5 @@
 -- Escapes: each row of the table of refusals and each form, by computation.
-use Rattle.std.specs.Prelude.{◌≡◌, ℕ, List, [], ◌∷◌, Some, None, IsTrue, codes, refl}
+use Rattle.std.specs.Prelude.{◌≡◌, ℕ, List, [], ◌∷◌, Some, None, IsTrue, codes, refl, true, false}
 use Rattle.litrs.specs.declared.escape.Unescape.{Unescape}
 use Rattle.litrs.specs.declared.escape.Unescape.TheVariants.{Byte, Unicode}
 use Rattle.litrs.specs.declared.err.ParseErrorKind.TheVariants.{UnterminatedEscape, DisallowedNulEscape, InvalidXEscape, NonAsciiXEscape, UnicodeEscapeInByteLiteral, UnicodeEscapeWithoutBrace, UnterminatedUnicodeEscape, InvalidStartOfUnicodeEscape, NonHexDigitInUnicodeEscape, TooManyDigitInUnicodeEscape, InvalidUnicodeEscapeChar, UnknownEscape}
@@ -156,3 +156,155 @@ face = (refl, refl, refl)
 face_bytes : value_bytes (Unicode 0x1F602) ≡ 0xF0 ∷ 0x9F ∷ 0x98 ∷ 0x82 ∷ []
 unfolding computing
 face_bytes = refl
+
+-- What the switches allow, and the order of the rows
+
+high_hex_in_char : escape_fault char_switches (codes "\\x80'") ≡ Some (over 0 4 NonAsciiXEscape)
+unfolding computing
+high_hex_in_char = refl
+
+nul_in_char : escape_fault char_switches (codes "\\0'") ≡ None
+unfolding computing
+nul_in_char = refl
+
+nul_in_byte : escape_fault byte_switches (codes "\\0'") ≡ None
+unfolding computing
+nul_in_byte = refl
+
+last_ascii_hex : escape_fault string_switches (codes "\\x7F\"") ≡ None
+unfolding computing
+last_ascii_hex = refl
+
+low_hex : escape_fault string_switches (codes "\\x08\"") ≡ None
+unfolding computing
+low_hex = refl
+
+one_in_c_string : escape_fault c_string_switches (codes "\\x01\"") ≡ None
+unfolding computing
+one_in_c_string = refl
+
+two_bytes_alone : escape_fault char_switches (codes "\\xé") ≡ Some (over 0 4 InvalidXEscape)
+unfolding computing
+two_bytes_alone = refl
+
+wrong_high_digit : escape_fault char_switches (codes "\\xg0'") ≡ Some (over 0 4 InvalidXEscape)
+unfolding computing
+wrong_high_digit = refl
+
+digit_before_two_bytes : escape_fault char_switches (codes "\\x0é'") ≡ Some (over 0 6 UnterminatedEscape)
+unfolding computing
+digit_before_two_bytes = refl
+
+unicode_before_brace : escape_fault byte_switches (codes "\\u'") ≡ Some (over 0 2 UnicodeEscapeInByteLiteral)
+unfolding computing
+unicode_before_brace = refl
+
+wide_without_brace : escape_fault char_switches (codes "\\u{é'") ≡ Some (over 0 6 UnterminatedUnicodeEscape)
+unfolding computing
+wide_without_brace = refl
+
+underscore_before_stranger : escape_fault char_switches (codes "\\u{_x}'") ≡ Some (at 3 InvalidStartOfUnicodeEscape)
+unfolding computing
+underscore_before_stranger = refl
+
+stranger_first : escape_fault char_switches (codes "\\u{x}'") ≡ Some (at 3 NonHexDigitInUnicodeEscape)
+unfolding computing
+stranger_first = refl
+
+seventh_letter : escape_fault char_switches (codes "\\u{abcdefa}'") ≡ Some (at 9 TooManyDigitInUnicodeEscape)
+unfolding computing
+seventh_letter = refl
+
+seventh_letter_before_stranger : escape_fault char_switches (codes "\\u{abcdefax}'") ≡ Some (at 9 TooManyDigitInUnicodeEscape)
+unfolding computing
+seventh_letter_before_stranger = refl
+
+seventh_behind_underscores : escape_fault char_switches (codes "\\u{123456__7}'") ≡ Some (at 11 TooManyDigitInUnicodeEscape)
+unfolding computing
+seventh_behind_underscores = refl
+
+seventh_before_zero : escape_fault c_string_switches (codes "\\u{0000000}\"") ≡ Some (at 9 TooManyDigitInUnicodeEscape)
+unfolding computing
+seventh_before_zero = refl
+
+last_scalar : escape_fault char_switches (codes "\\u{10FFFF}'") ≡ None
+unfolding computing
+last_scalar = refl
+
+before_surrogates : escape_fault char_switches (codes "\\u{D7FF}'") ≡ None
+unfolding computing
+before_surrogates = refl
+
+last_surrogate : escape_fault char_switches (codes "\\u{DFFF}'") ≡ Some (over 0 8 InvalidUnicodeEscapeChar)
+unfolding computing
+last_surrogate = refl
+
+behind_surrogates : escape_fault char_switches (codes "\\u{E000}'") ≡ None
+unfolding computing
+behind_surrogates = refl
+
+-- What is an escape, and what is none
+
+letter_escape : is_escape string_switches (simple_escape 97) ≡ false
+unfolding computing
+letter_escape = refl
+
+nul_not_allowed : is_escape c_string_switches (simple_escape 48) ≡ false
+unfolding computing
+nul_not_allowed = refl
+
+first_no_digit : is_escape string_switches (hex_escape 103 48) ≡ false
+unfolding computing
+first_no_digit = refl
+
+second_no_digit : is_escape string_switches (hex_escape 48 103) ≡ false
+unfolding computing
+second_no_digit = refl
+
+above_ascii : is_escape string_switches (hex_escape 56 48) ≡ false
+unfolding computing
+above_ascii = refl
+
+zero_not_allowed : is_escape c_string_switches (hex_escape 48 48) ≡ false
+unfolding computing
+zero_not_allowed = refl
+
+within_ascii : is_escape string_switches (hex_escape 48 99) ≡ true
+unfolding computing
+within_ascii = refl
+
+no_unicode : is_escape byte_string_switches (unicode_escape (codes "41")) ≡ false
+unfolding computing
+no_unicode = refl
+
+nothing_inside : is_escape string_switches (unicode_escape []) ≡ false
+unfolding computing
+nothing_inside = refl
+
+underscore_inside_first : is_escape string_switches (unicode_escape (codes "_1")) ≡ false
+unfolding computing
+underscore_inside_first = refl
+
+stranger_inside : is_escape string_switches (unicode_escape (codes "1x")) ≡ false
+unfolding computing
+stranger_inside = refl
+
+seven_digits : is_escape string_switches (unicode_escape (codes "0000000")) ≡ false
+unfolding computing
+seven_digits = refl
+
+zero_scalar : is_escape c_string_switches (unicode_escape (codes "0")) ≡ false
+unfolding computing
+zero_scalar = refl
+
+no_scalar_value : is_escape string_switches (unicode_escape (codes "d800")) ≡ false
+unfolding computing
+no_scalar_value = refl
+
+one_letter : is_escape string_switches (unicode_escape (codes "a")) ≡ true
+unfolding computing
+one_letter = refl
+
+greatest_scalar : is_escape string_switches (unicode_escape (codes "10FFFF")) ≡ true
+unfolding computing
+greatest_scalar = refl

@@ -144,3 +144,25 @@ row-none-exponent = refl
 row-none-letter_suffix : float_fault (codes "3e2e5") ≡ None
 unfolding float_fault float_cut is_suffix unicode_ident encode_utf8
 row-none-letter_suffix = refl
+
+-- Signs, and the order of the rows
+
+row-sign_alone : float_fault (codes "1e+") ≡ Some (over 1 3 NoExponentDigits)
+unfolding float_fault float_cut is_suffix unicode_ident encode_utf8
+row-sign_alone = refl
+
+row-period_before_letter : float_fault (codes "1.e") ≡ Some (at 2 UnexpectedChar)
+unfolding float_fault float_cut is_suffix unicode_ident encode_utf8
+row-period_before_letter = refl
+
+row-wide_suffix : float_fault (codes "1.5🦊") ≡ Some (over 3 7 InvalidSuffix)
+unfolding float_fault float_cut is_suffix unicode_ident encode_utf8
+row-wide_suffix = refl
+
+row-letter_first : float_fault (codes "f.5") ≡ Some (at 0 DoesNotStartWithDigit)
+unfolding float_fault float_cut is_suffix unicode_ident encode_utf8
+row-letter_first = refl
+
+row-none-plus : float_fault (codes "1e+5") ≡ None
+unfolding float_fault float_cut is_suffix unicode_ident encode_utf8
+row-none-plus = refl

@@ -1,5 +1,5 @@
 -- Suffixes, integers and their numbers by examples: each form, and each row of the refusals, by computation.
-use Rattle.std.specs.Prelude.{◌≡◌, true, false, ◌∷◌, [], ◌++◌, Some, None, codes, refl}
+use Rattle.std.specs.Prelude.{◌≡◌, true, false, ◌∷◌, [], ◌++◌, Some, None, codes, refl, ℕ, List}
 use Rattle.std.specs.Char.{encode_utf8}
 use Rattle.unicode_ident.proofs.Computing.{unicode_ident}
 use Rattle.litrs.specs.declared.integer.IntegerBase.TheVariants.{Binary, Octal, Decimal, Hexadecimal}
@@ -7,7 +7,10 @@ use Rattle.litrs.specs.declared.err.ParseErrorKind.TheVariants.{Empty, Unexpecte
 use Rattle.litrs.specs.Fault.{plain, at, over}
 use Rattle.litrs.specs.Suffix.{is_suffix, suffix_fault}
 use Rattle.litrs.specs.Integer.{IsIntegerOf, integer_cut, integer_fault}
-use Rattle.litrs.specs.Numeral.{place_sum, numeral}
+use Rattle.litrs.specs.Numeral.{place_sum, numeral, integer_value, greatest_of}
+use Rattle.litrs.specs.IntegerTypes.{type_name}
+use Rattle.litrs.specs.declared.integer.IntegerType.{IntegerType}
+use Rattle.litrs.specs.declared.integer.IntegerType.TheVariants.{U8, U16, U32, U64, U128, Usize, I8, I16, I32, I64, I128, Isize}
 
 unfoldable integer_tables : Unit {0}
 unfolding integer_cut integer_fault is_suffix unicode_ident encode_utf8
@@ -274,3 +277,117 @@ number-underscores = refl
 number-wide : numeral 10 (codes "340282366920938463463374607431768211456") ≡ 340282366920938463463374607431768211456
 unfolding place_sum
 number-wide = refl
+
+-- The refusals by base, and their order
+
+row-binary : integer_fault (codes "0b10") ≡ None
+unfolding integer_tables
+row-binary = refl
+
+row-binary_symbol : integer_fault (codes "0b/") ≡ Some (over 2 3 UnexpectedChar)
+unfolding integer_tables
+row-binary_symbol = refl
+
+row-octal : integer_fault (codes "0o17") ≡ None
+unfolding integer_tables
+row-octal = refl
+
+row-octal_digit : integer_fault (codes "0o8") ≡ Some (at 2 InvalidDigit)
+unfolding integer_tables
+row-octal_digit = refl
+
+row-octal_symbol : integer_fault (codes "0o/") ≡ Some (over 2 3 UnexpectedChar)
+unfolding integer_tables
+row-octal_symbol = refl
+
+row-octal_no_digits : integer_fault (codes "0o") ≡ Some (over 2 2 NoDigits)
+unfolding integer_tables
+row-octal_no_digits = refl
+
+row-underscores_alone : integer_fault (codes "0x_") ≡ Some (over 2 3 NoDigits)
+unfolding integer_tables
+row-underscores_alone = refl
+
+row-letter_e-before_no_digits : integer_fault (codes "0be") ≡ Some (at 2 IntegerSuffixStartingWithE)
+unfolding integer_tables
+row-letter_e-before_no_digits = refl
+
+row-suffix_before_letter_e : integer_fault (codes "1e+x") ≡ Some (over 1 4 InvalidSuffix)
+unfolding integer_tables
+row-suffix_before_letter_e = refl
+
+row-letter_before_symbol : integer_fault (codes "1a ") ≡ Some (over 1 3 InvalidSuffix)
+unfolding integer_tables
+row-letter_before_symbol = refl
+
+row-letter_first : integer_fault (codes "a1") ≡ Some (at 0 DoesNotStartWithDigit)
+unfolding integer_tables
+row-letter_first = refl
+
+row-underscore_first : integer_fault (codes "_3") ≡ Some (at 0 DoesNotStartWithDigit)
+unfolding integer_tables
+row-underscore_first = refl
+
+-- the last ASCII character
+row-delete : integer_fault (codes "1" ++ 127 ∷ []) ≡ Some (over 1 2 UnexpectedChar)
+unfolding integer_tables
+row-delete = refl
+
+-- The number of an integer, by its base
+
+value-binary : integer_value (record { base = Binary; main = codes "10"; suffix = [] }) ≡ 2
+unfolding place_sum
+value-binary = refl
+
+value-octal : integer_value (record { base = Octal; main = codes "10"; suffix = [] }) ≡ 8
+unfolding place_sum
+value-octal = refl
+
+value-decimal : integer_value (record { base = Decimal; main = codes "10"; suffix = [] }) ≡ 10
+unfolding place_sum
+value-decimal = refl
+
+value-hexadecimal : integer_value (record { base = Hexadecimal; main = codes "10"; suffix = [] }) ≡ 16
+unfolding place_sum
+value-hexadecimal = refl
+
+-- The types: the name, and the greatest number
+
+abbrev IsType : IntegerType → List ℕ → ℕ → Type 0
+IsType ty name greatest = (type_name ty ≡ name) × (greatest_of ty ≡ greatest)
+
+type-u8 : IsType U8 (codes "u8") 255
+type-u8 = (refl, refl)
+
+type-u16 : IsType U16 (codes "u16") 65535
+type-u16 = (refl, refl)
+
+type-u32 : IsType U32 (codes "u32") 4294967295
+type-u32 = (refl, refl)
+
+type-u64 : IsType U64 (codes "u64") 18446744073709551615
+type-u64 = (refl, refl)
+
+type-u128 : IsType U128 (codes "u128") 340282366920938463463374607431768211455
+type-u128 = (refl, refl)
+
+type-usize : IsType Usize (codes "usize") 18446744073709551615
+type-usize = (refl, refl)
+
+type-i8 : IsType I8 (codes "i8") 127
+type-i8 = (refl, refl)
+
+type-i16 : IsType I16 (codes "i16") 32767
+type-i16 = (refl, refl)
+
+type-i32 : IsType I32 (codes "i32") 2147483647
+type-i32 = (refl, refl)
+
+type-i64 : IsType I64 (codes "i64") 9223372036854775807
+type-i64 = (refl, refl)
+
+type-i128 : IsType I128 (codes "i128") 170141183460469231731687303715884105727
+type-i128 = (refl, refl)
+
+type-isize : IsType Isize (codes "isize") 9223372036854775807
+type-isize = (refl, refl)

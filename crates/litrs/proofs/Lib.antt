@@ -45,3 +45,5 @@ pub mod ReadSpans
 pub mod RefusalKinds
 pub mod LiteralExamples
 pub mod IntegerExamples
+pub mod KindExamples
+pub mod ReportExamples

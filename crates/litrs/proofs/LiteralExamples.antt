@@ -1,27 +1,30 @@
 -- Literals of all kinds: the rows of the dispatch and of the starts, and what refusals call for, by computation.
 use Rattle.std.specs.Prelude.{◌≡◌, true, false, [], ◌∷◌, ◌++◌, Some, None, codes, refl}
 use Rattle.std.specs.Char.{encode_utf8}
-use Rattle.std.proofs.lemmas.Bool.{leb-true}
+use Rattle.std.proofs.lemmas.Bool.{leb-true, false≢true}
 use Rattle.unicode_ident.proofs.Computing.{unicode_ident}
-use Rattle.litrs.specs.declared.bool.BoolLit.TheVariants.{True}
-use Rattle.litrs.specs.declared.err.ParseErrorKind.TheVariants.{Empty, UnexpectedChar, InvalidLiteral, InvalidDigit, NoDigits, NoExponentDigits, UnescapedSingleQuote, EmptyByteLiteral, NonAsciiInByteLiteral, NulByte, DoesNotStartWithDigit, DoesNotStartWithQuote, UnterminatedString, UnterminatedRawString, UnterminatedUnicodeEscape, InvalidStringLiteralStart, InvalidByteLiteralStart, InvalidByteStringLiteralStart, InvalidCStringLiteralStart, TooManyHashes, InvalidSuffix, UnexpectedIntegerLit, IntegerSuffixStartingWithE, OutOfMemory}
+use Rattle.litrs.specs.declared.bool.BoolLit.TheVariants.{True, False}
+use Rattle.litrs.specs.declared.err.ParseErrorKind.TheVariants.{Empty, UnexpectedChar, InvalidLiteral, InvalidDigit, NoDigits, NoExponentDigits, UnescapedSingleQuote, EmptyByteLiteral, NonAsciiInByteLiteral, NulByte, DoesNotStartWithDigit, DoesNotStartWithQuote, UnterminatedString, UnterminatedRawString, UnterminatedUnicodeEscape, InvalidStringLiteralStart, InvalidByteLiteralStart, InvalidByteStringLiteralStart, InvalidCStringLiteralStart, TooManyHashes, InvalidSuffix, UnexpectedIntegerLit, IntegerSuffixStartingWithE, OutOfMemory, UnterminatedCharLiteral}
 use Rattle.litrs.specs.Fault.{plain, at, over}
 use Rattle.litrs.specs.Suffix.{is_suffix}
 use Rattle.litrs.specs.Integer.{integer_cut, integer_fault}
-use Rattle.litrs.specs.Float.{float_cut, float_fault}
-use Rattle.litrs.specs.CharByte.{plain_char}
+use Rattle.litrs.specs.Float.{float_cut, float_fault, is_exponent}
+use Rattle.litrs.specs.CharByte.{plain_char, escaped_char}
 use Rattle.litrs.specs.Quoted.{plain_item}
 use Rattle.litrs.specs.Raw.{hashes, raw_body_fault, raw_fault}
-use Rattle.litrs.specs.Literal.{Derivation, quoted_parts, raw_parts, a_bool, a_char, a_string, a_c_string, IsLiteral, suffix_of, bool_literal, integer_literal, float_literal, char_literal, byte_literal, string_literal, byte_string_literal, c_string_literal, literal_parse, kind_parse, IsLiteralOf, Begins}
+use Rattle.litrs.specs.Literal.{Derivation, quoted_parts, raw_parts, a_bool, a_char, a_string, a_c_string, IsLiteral, suffix_of, bool_literal, integer_literal, float_literal, char_literal, byte_literal, string_literal, byte_string_literal, c_string_literal, literal_parse, kind_parse, IsLiteralOf, Begins, an_integer, a_float, a_byte, a_byte_string}
 use Rattle.litrs.specs.LiteralFault.{read_as, dispatch, IsFault}
 use Rattle.litrs.specs.ReadLiteral.{read_fault}
 use Rattle.litrs.specs.Finality.{is_final, is_open, closing_of}
 use Rattle.litrs.specs.Growth.{grows}
 use Rattle.litrs.proofs.Computing.{computing}
+use Rattle.litrs.specs.Bool.{IsBool, bool_value, bool_fault}
+use Rattle.litrs.specs.declared.integer.IntegerBase.TheVariants.{Decimal, Hexadecimal}
+use Rattle.litrs.specs.Escape.{simple_escape, unicode_escape}
 
 -- what the tables of all kinds compute with
 unfoldable all_tables : Unit {0}
-unfolding computing dispatch read_fault integer_cut integer_fault float_fault float_cut raw_fault raw_body_fault is_suffix unicode_ident encode_utf8
+unfolding computing dispatch read_fault integer_cut integer_fault float_fault float_cut is_exponent raw_fault raw_body_fault is_suffix unicode_ident encode_utf8
 all_tables = tt
 
 -- As far as literals of any kind are read
@@ -350,3 +353,179 @@ stays-char = refl
 
 stays-word : grows (codes "cat\\") ≡ false
 stays-word = refl
+
+-- Bools
+
+bool-true : bool_fault (codes "true") ≡ None
+unfolding all_tables
+bool-true = refl
+
+bool-false : bool_fault (codes "false") ≡ None
+unfolding all_tables
+bool-false = refl
+
+bool-text : IsBool (codes "false") False
+unfolding all_tables
+bool-text = refl
+
+value-true : bool_value True ≡ true
+unfolding all_tables
+value-true = refl
+
+value-false : bool_value False ≡ false
+unfolding all_tables
+value-false = refl
+
+any-false : dispatch (codes "false") ≡ read_as bool_literal
+unfolding all_tables
+any-false = refl
+
+-- Long runs of digits in front of what begins a float
+
+any-no_exponent_digit : IsFault literal_parse (codes "98e") (over 2 3 NoExponentDigits)
+unfolding all_tables
+any-no_exponent_digit = refl
+
+any-capital_letter : IsFault literal_parse (codes "23E___f32") (over 2 6 NoExponentDigits)
+unfolding all_tables
+any-capital_letter = refl
+
+any-second_period : IsFault literal_parse (codes "55e3.1") (over 4 6 UnexpectedChar)
+unfolding all_tables
+any-second_period = refl
+
+any-underscore_behind_period : IsFault literal_parse (codes "12345._987") (at 6 UnexpectedChar)
+unfolding all_tables
+any-underscore_behind_period = refl
+
+-- A literal of each kind, by its own parse
+
+own-bool : IsLiteralOf (kind_parse bool_literal) (codes "false") (a_bool False)
+unfolding all_tables
+own-bool = (refl, refl)
+
+own-integer : IsLiteralOf (kind_parse integer_literal) (codes "1_x") (an_integer (record { base = Decimal; main = codes "1_"; suffix = codes "x" }))
+unfolding all_tables
+own-integer = (refl, record { spells = refl; grammar = record { digits = refl; some_digit = refl; ends = refl; suffix = refl; no_exponent = refl; decimal_digit = λ e. refl; decimal_prefix = λ e. refl } })
+
+own-float : IsLiteralOf (kind_parse float_literal) (codes "1e+5") (a_float (record { integer = codes "1"; fraction = None; exponent = codes "e+5"; suffix = codes "" }))
+unfolding all_tables
+own-float = (refl, record { spells = refl; grammar = record { integer = refl; form = refl; suffix = refl; no_underscore = refl; no_letter = λ e. absurd (false≢true e) } })
+
+own-char : IsLiteralOf (kind_parse char_literal) (codes "'P'") (a_char (record { item = plain_char 80; suffix = [] }))
+unfolding all_tables
+own-char = (refl, record { spells = refl; item = refl; suffix = refl })
+
+own-byte : IsLiteralOf (kind_parse byte_literal) (codes "b'r'") (a_byte (record { item = plain_char 114; suffix = [] }))
+unfolding all_tables
+own-byte = (refl, record { spells = refl; item = refl; suffix = refl })
+
+own-string : IsLiteralOf (kind_parse string_literal) (codes "\"a\"_x") (a_string (quoted_parts (record { items = plain_item 97 ∷ []; suffix = codes "_x" })))
+unfolding all_tables
+own-string = (refl, record { spells = refl; body = refl; suffix = refl })
+
+own-byte_string : IsLiteralOf (kind_parse byte_string_literal) (codes "b\"\"x") (a_byte_string (quoted_parts (record { items = []; suffix = codes "x" })))
+unfolding all_tables
+own-byte_string = (refl, record { spells = refl; body = refl; suffix = refl })
+
+own-c_string : IsLiteralOf (kind_parse c_string_literal) (codes "c\"\"") (a_c_string (quoted_parts (record { items = []; suffix = [] })))
+unfolding all_tables
+own-c_string = (refl, record { spells = refl; body = refl; suffix = refl })
+
+-- The suffix of each kind
+
+suffix-integer : suffix_of (an_integer (record { base = Decimal; main = codes "1_"; suffix = codes "x" })) ≡ codes "x"
+suffix-integer = refl
+
+suffix-float : suffix_of (a_float (record { integer = codes "1"; fraction = None; exponent = codes "e5"; suffix = codes "f32" })) ≡ codes "f32"
+suffix-float = refl
+
+suffix-byte : suffix_of (a_byte (record { item = plain_char 114; suffix = codes "_y" })) ≡ codes "_y"
+suffix-byte = refl
+
+suffix-string : suffix_of (a_string (quoted_parts (record { items = []; suffix = codes "q" }))) ≡ codes "q"
+suffix-string = refl
+
+suffix-byte_string : suffix_of (a_byte_string (raw_parts (record { hash_count = 1; body = []; suffix = codes "r" }))) ≡ codes "r"
+suffix-byte_string = refl
+
+suffix-c_string : suffix_of (a_c_string (quoted_parts (record { items = []; suffix = codes "s" }))) ≡ codes "s"
+suffix-c_string = refl
+
+-- Texts that begin literals, though a kind that is not final refuses them
+
+begins-empty : Begins literal_parse (codes "")
+unfolding all_tables
+begins-empty = (codes "true", a_bool True, refl, refl)
+
+begins-bool : Begins literal_parse (codes "tru")
+unfolding all_tables
+begins-bool = (codes "e", a_bool True, refl, refl)
+
+begins-prefix : Begins literal_parse (codes "0x")
+unfolding all_tables
+begins-prefix = (codes "1", an_integer (record { base = Hexadecimal; main = codes "1"; suffix = codes "" }), refl, record { spells = refl; grammar = record { digits = refl; some_digit = refl; ends = refl; suffix = refl; no_exponent = refl; decimal_digit = λ e. cc; decimal_prefix = λ e. cc } })
+
+begins-exponent : Begins literal_parse (codes "1e")
+unfolding all_tables
+begins-exponent = (codes "3", a_float (record { integer = codes "1"; fraction = None; exponent = codes "e3"; suffix = codes "" }), refl, record { spells = refl; grammar = record { integer = refl; form = refl; suffix = refl; no_underscore = refl; no_letter = λ e. absurd (false≢true e) } })
+
+begins-escape : Begins literal_parse (codes "'\\")
+unfolding all_tables
+begins-escape = (codes "n'", a_char (record { item = escaped_char (simple_escape 110); suffix = [] }), refl, record { spells = refl; item = refl; suffix = refl })
+
+begins-unicode : Begins literal_parse (codes "'\\u")
+unfolding all_tables
+begins-unicode = (codes "{41}'", a_char (record { item = escaped_char (unicode_escape (codes "41")); suffix = [] }), refl, record { spells = refl; item = refl; suffix = refl })
+
+begins-brace : Begins literal_parse (codes "'\\u{1")
+unfolding all_tables
+begins-brace = (codes "}'", a_char (record { item = escaped_char (unicode_escape (codes "1")); suffix = [] }), refl, record { spells = refl; item = refl; suffix = refl })
+
+begins-char : Begins literal_parse (codes "'a")
+unfolding all_tables
+begins-char = (codes "'", a_char (record { item = plain_char 97; suffix = [] }), refl, record { spells = refl; item = refl; suffix = refl })
+
+begins-byte : Begins literal_parse (codes "b'a")
+unfolding all_tables
+begins-byte = (codes "'", a_byte (record { item = plain_char 97; suffix = [] }), refl, record { spells = refl; item = refl; suffix = refl })
+
+begins-string : Begins literal_parse (codes "\"a")
+unfolding all_tables
+begins-string = (codes "\"", a_string (quoted_parts (record { items = plain_item 97 ∷ []; suffix = [] })), refl, record { spells = refl; body = refl; suffix = refl })
+
+begins-suffix : Begins literal_parse (codes "\"a\"_")
+unfolding all_tables
+begins-suffix = (codes "x", a_string (quoted_parts (record { items = plain_item 97 ∷ []; suffix = codes "_x" })), refl, record { spells = refl; body = refl; suffix = refl })
+
+begins-front_of_byte : Begins (kind_parse byte_literal) (codes "b")
+unfolding all_tables
+begins-front_of_byte = (codes "'a'", a_byte (record { item = plain_char 97; suffix = [] }), refl, (refl, record { spells = refl; item = refl; suffix = refl }))
+
+begins-front_of_byte_string : Begins (kind_parse byte_string_literal) (codes "b")
+unfolding all_tables
+begins-front_of_byte_string = (codes "\"\"", a_byte_string (quoted_parts (record { items = []; suffix = [] })), refl, (refl, record { spells = refl; body = refl; suffix = refl }))
+
+begins-integer_part : Begins (kind_parse float_literal) (codes "3")
+unfolding all_tables
+begins-integer_part = (codes ".", a_float (record { integer = codes "3"; fraction = Some []; exponent = codes ""; suffix = codes "" }), refl, (refl, record { spells = refl; grammar = record { integer = refl; form = refl; suffix = refl; no_underscore = refl; no_letter = λ e. refl } }))
+
+-- More closing texts, and texts that take no memory
+
+closing-raw_byte_string : closing_of (codes "br##\"a") (plain UnterminatedRawString) ≡ codes "\"##"
+closing-raw_byte_string = refl
+
+closing-raw_c_string_hash : closing_of (codes "cr#\"a") (plain UnterminatedRawString) ≡ codes "\"#"
+closing-raw_c_string_hash = refl
+
+closing-none : closing_of (codes "'a") (plain UnterminatedCharLiteral) ≡ []
+closing-none = refl
+
+stays-byte : grows (codes "b'\\n'") ≡ false
+stays-byte = refl
+
+stays-raw_byte_string : grows (codes "br\"\\n\"") ≡ false
+stays-raw_byte_string = refl
+
+stays-byte_string : grows (codes "b\"ab\"") ≡ false
+stays-byte_string = refl

@@ -1,11 +1,11 @@
 -- Quoted strings, byte strings and C strings: each row of the table of refusals and each form, by computation. The items
 -- are written out.
-use Rattle.std.specs.Prelude.{◌≡◌, ℕ, List, [], ◌∷◌, ◌++◌, map, codes, refl, false, encode_utf8_all}
+use Rattle.std.specs.Prelude.{◌≡◌, ℕ, List, [], ◌∷◌, ◌++◌, map, codes, refl, false, encode_utf8_all, None}
 use Rattle.litrs.specs.StringKind.{string_kind, byte_string_kind, c_string_kind}
 use Rattle.litrs.specs.declared.err.ParseErrorKind.TheVariants.{UnexpectedChar, UnknownEscape, UnterminatedEscape, NonAsciiXEscape, InvalidStartOfUnicodeEscape, TooManyDigitInUnicodeEscape, UnterminatedUnicodeEscape, NonAsciiInByteLiteral, UnterminatedString, DisallowedNulEscape, NulByte, CarriageReturn, InvalidSuffix}
-use Rattle.litrs.specs.Escape.{string_switches, simple_escape, hex_escape, unicode_escape}
+use Rattle.litrs.specs.Escape.{string_switches, simple_escape, hex_escape, unicode_escape, byte_string_switches, c_string_switches}
 use Rattle.litrs.specs.Fault.{plain, at, over}
-use Rattle.litrs.specs.Quoted.{Item, plain_item, escape_item, continuation, body_value, is_body, IsQuotedLiteral, IsQuotedLiteralFault}
+use Rattle.litrs.specs.Quoted.{Item, plain_item, escape_item, continuation, body_value, is_body, IsQuotedLiteral, IsQuotedLiteralFault, rest_fault, stand_before, is_plain}
 use Rattle.litrs.proofs.Computing.{computing}
 
 -- characters that stand for themselves
@@ -213,3 +213,59 @@ unicode_value = refl
 -- no item that begins with a blank follows a continuation
 blank_behind_continuation : is_body string_switches (continuation [] ∷ plain_item 32 ∷ []) ≡ false
 blank_behind_continuation = refl
+
+-- Escapes and continuations among the items before a refused place
+
+open_behind_continuation : IsQuotedLiteralFault string_kind (codes "\"a\\\n  b") (plain UnterminatedString)
+unfolding computing
+open_behind_continuation = record { items = plain_item 97 ∷ continuation (codes "  ") ∷ plain_item 98 ∷ []; rest = []; cause = plain UnterminatedString; spells = refl; taken = refl; told = refl; placed = refl }
+
+underscore_behind_escape : IsQuotedLiteralFault string_kind (codes "\"\\n\"_") (at 4 InvalidSuffix)
+unfolding computing
+underscore_behind_escape = record { items = escape_item (simple_escape 110) ∷ []; rest = codes "\"_"; cause = at 1 InvalidSuffix; spells = refl; taken = refl; told = refl; placed = refl }
+
+-- Rests that no row tells, as an item or the end stands there
+
+rest-letter : rest_fault string_switches (codes "a") ≡ None
+unfolding computing
+rest-letter = refl
+
+rest-closing : rest_fault string_switches (codes "\"x") ≡ None
+unfolding computing
+rest-closing = refl
+
+rest-continuation : rest_fault string_switches (codes "\\\n b") ≡ None
+unfolding computing
+rest-continuation = refl
+
+-- Items that do not stand before a rest, and characters that do not stand for themselves
+
+ends-continuation : stand_before string_switches [] (continuation [] ∷ []) ≡ false
+ends-continuation = refl
+
+ends-escape : stand_before string_switches [] (escape_item (simple_escape 110) ∷ []) ≡ false
+ends-escape = refl
+
+blank-continuation : stand_before string_switches (codes " a") (continuation [] ∷ []) ≡ false
+blank-continuation = refl
+
+return-item : stand_before string_switches (codes "a") (plain_item 13 ∷ []) ≡ false
+return-item = refl
+
+return-second : stand_before string_switches (codes "a") (plain_item 97 ∷ plain_item 13 ∷ []) ≡ false
+return-second = refl
+
+plain-quote : is_plain string_switches 34 ≡ false
+plain-quote = refl
+
+plain-backslash : is_plain string_switches 92 ≡ false
+plain-backslash = refl
+
+plain-return : is_plain string_switches 13 ≡ false
+plain-return = refl
+
+plain-wide : is_plain byte_string_switches 128 ≡ false
+plain-wide = refl
+
+plain-nul : is_plain c_string_switches 0 ≡ false
+plain-nul = refl

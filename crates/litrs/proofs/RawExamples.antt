@@ -139,3 +139,13 @@ row-none-hashes = refl
 row-none-most_hashes : raw_literal_fault byte_string_kind (codes "br" ++ (hashes 255 ++ (codes "\"peter\"" ++ hashes 255))) ≡ None
 unfolding raw_fault raw_body_fault is_suffix unicode_ident encode_utf8
 row-none-most_hashes = refl
+
+-- A closing at the first place, and the order of the rows
+
+row-none-empty : raw_literal_fault string_kind (codes "r\"\"") ≡ None
+unfolding raw_fault raw_body_fault is_suffix unicode_ident encode_utf8
+row-none-empty = refl
+
+row-too_many_before_quote : raw_literal_fault string_kind (codes "r" ++ (hashes 256 ++ codes "x")) ≡ Some (over 1 257 TooManyHashes)
+unfolding raw_fault raw_body_fault is_suffix unicode_ident encode_utf8
+row-too_many_before_quote = refl
