@@ -1,24 +1,23 @@
 -- The dispatch over the kinds, by the bytes of the text.
-use Rattle.std.proofs.Common.{◌≡◌, ℕ, true, false, List, [], drop, slice_get, Some, sym, ap, ◌∙◌, arith}
+use Rattle.std.proofs.Common.{◌≡◌, ℕ, true, false, List, [], drop, slice_get, Some, sym, ap, ◌∙◌, arith, Bool}
 use Rattle.std.specs.Str.{chars, IsUtf8}
 use Rattle.std.specs.Char.{is_ascii_digit}
 use Rattle.std.specs.List.{prefix_len}
 use Rattle.std.proofs.lemmas.Str.{chars-nil}
 use Rattle.std.proofs.lemmas.Bool.Decides.{nat_tests}
-use Rattle.litrs.specs.declared.bool.BoolLit.{BoolLit}
-use Rattle.litrs.specs.declared.integer.IntegerBase.TheVariants.{Decimal}
-use Rattle.litrs.specs.declared.err.ParseErrorKind.TheVariants.{Empty}
-use Rattle.litrs.specs.Fault.{plain}
-use Rattle.litrs.specs.Text.{first_passes}
-use Rattle.litrs.specs.Base.{is_digit_or_underscore}
-use Rattle.litrs.specs.Bool.{bool_text, bool_fault}
-use Rattle.litrs.specs.Integer.{integer_fault}
-use Rattle.litrs.specs.LiteralFault.{is_float_mark, begins_float}
+use Rattle.litrs_base.specs.declared.integer.IntegerBase.TheVariants.{Decimal}
+use Rattle.litrs_base.specs.declared.err.ParseErrorKind.TheVariants.{Empty}
+use Rattle.litrs_base.specs.Fault.{plain}
+use Rattle.litrs_base.specs.Text.{first_passes}
+use Rattle.litrs_base.specs.Base.{is_digit_or_underscore}
+use Rattle.litrs_grammar.specs.Bool.{bool_text, bool_fault}
+use Rattle.litrs_grammar.specs.Integer.{integer_fault}
+use Rattle.litrs_grammar.specs.LiteralFault.{is_float_mark, begins_float}
 use Rattle.litrs.specs.ReadLiteral.{read_fault}
-use Rattle.litrs.proofs.Chars.{OnlyAscii, prefix_len-chars, passing_front, first_passes-chars}
-use Rattle.litrs.proofs.Firsts.{first_passes_at}
-use Rattle.litrs.proofs.IntegerLemmas.{digits_are_ascii, digit-chars, filled_by_first}
-use Rattle.litrs.proofs.LiteralLaws.{is_bool-none, bool_fault-none}
+use Rattle.litrs_base.proofs.Chars.{OnlyAscii, prefix_len-chars, passing_front, first_passes-chars}
+use Rattle.litrs_lex.proofs.Firsts.{first_passes_at}
+use Rattle.litrs_lex.proofs.IntegerLemmas.{digits_are_ascii, digit-chars, filled_by_first}
+use Rattle.litrs_grammar.proofs.LiteralLaws.{is_bool-none, bool_fault-none}
 use Rattle.litrs.proofs.ReadLiteral.{read_rows, read_fault_by_rows, read_fault-digit, read_fault-other}
 
 marks_are_ascii : OnlyAscii is_float_mark
@@ -43,7 +42,7 @@ dispatch-digit bs b u first digit =
 
 -- one whose first byte is none, and which is no bool
 pub dispatch-other : (bs : List ℕ) (b : ℕ) → IsUtf8 bs → slice_get bs 0 ≡ Some b → is_ascii_digit b ≡ false →
-    ((lit : BoolLit) → bool_text lit ≡ chars bs → ⊥) → read_fault (chars bs) ≡ bool_fault (chars bs)
+    ((lit : Bool) → bool_text lit ≡ chars bs → ⊥) → read_fault (chars bs) ≡ bool_fault (chars bs)
 dispatch-other bs b u first digit none =
     read_fault-other (chars bs) false (filled_by_first bs b u first) (is_bool-none (chars bs) none)
     (digit-chars bs u ∙ (first_passes_at is_ascii_digit bs b first ∙ digit))

@@ -2,21 +2,19 @@
 use Rattle.std.proofs.Common.{◌≡◌, ℕ, Bool, true, false, ◌||◌, List, Option, Some, None, refl, sym, ap, ◌∙◌}
 use Rattle.std.specs.Prelude.{codes, if◌then◌else◌}
 use Rattle.std.specs.Char.{is_ascii_digit}
-use Rattle.litrs.specs.declared.bool.BoolLit.{BoolLit}
-use Rattle.litrs.specs.declared.bool.BoolLit.TheVariants.{False, True}
-use Rattle.litrs.specs.declared.err.ParseError.{ParseError}
-use Rattle.litrs.specs.declared.err.ParseErrorKind.TheVariants.{Empty, InvalidLiteral}
-use Rattle.litrs.specs.Fault.{plain}
-use Rattle.litrs.specs.Text.{is_empty, first_passes, begins_with}
-use Rattle.litrs.specs.Bool.{bool_text, is_bool, bool_fault}
-use Rattle.litrs.specs.Reading.{IsOnlyReading, HasNoReading}
-use Rattle.litrs.specs.Integer.{IntegerParts, IsIntegerOf, integer_fault}
-use Rattle.litrs.specs.Literal.{Derivation, a_bool, an_integer, IsLiteral, bool_literal, integer_literal, float_literal, char_literal, byte_literal, string_literal, byte_string_literal, c_string_literal}
-use Rattle.litrs.specs.LiteralFault.{begins_float, refused_as, read_as, dispatch}
+use Rattle.litrs_base.specs.declared.err.ParseError.{ParseError}
+use Rattle.litrs_base.specs.declared.err.ParseErrorKind.TheVariants.{Empty, InvalidLiteral}
+use Rattle.litrs_base.specs.Fault.{plain}
+use Rattle.litrs_base.specs.Text.{is_empty, first_passes, begins_with}
+use Rattle.litrs_grammar.specs.Bool.{bool_text, is_bool, bool_fault}
+use Rattle.litrs_base.specs.Reading.{IsOnlyReading, HasNoReading}
+use Rattle.litrs_grammar.specs.Integer.{IntegerParts, IsIntegerOf, integer_fault}
+use Rattle.litrs_grammar.specs.Literal.{Derivation, a_bool, an_integer, IsLiteral, bool_literal, integer_literal, float_literal, char_literal, byte_literal, string_literal, byte_string_literal, c_string_literal}
+use Rattle.litrs_grammar.specs.LiteralFault.{begins_float, refused_as, read_as, dispatch}
 use Rattle.litrs.specs.ReadLiteral.{IsReadLiteral, read_dispatch_fault, read_fault}
-use Rattle.litrs.proofs.IntegerLaws.{starts_with_digit, not_empty_by_first, integer_fault-free}
-use Rattle.litrs.proofs.NumberLaws.{integer_begins}
-use Rattle.litrs.proofs.LiteralLaws.{is_bool-digit, literals_are_unique}
+use Rattle.litrs_grammar.proofs.IntegerLaws.{starts_with_digit, not_empty_by_first, integer_fault-free}
+use Rattle.litrs_grammar.proofs.NumberLaws.{integer_begins}
+use Rattle.litrs_grammar.proofs.LiteralLaws.{is_bool-digit, literals_are_unique}
 
 -- The refusal by tests of the text: those that tell apart the kinds that are not read yet do not matter.
 abbrev pub read_rows : (is_empty is_bool is_digit is_float : Bool) → Option ParseError → Option ParseError
@@ -61,9 +59,9 @@ read_fault_by_rows t =
 
 -- Where there is a derivation no refusal stands
 
-read_fault-bool : (b : BoolLit) → read_fault (bool_text b) ≡ None
-read_fault-bool False = read_fault_by_rows (bool_text False)
-read_fault-bool True = read_fault_by_rows (bool_text True)
+read_fault-bool : (b : Bool) → read_fault (bool_text b) ≡ None
+read_fault-bool false = read_fault_by_rows (bool_text false)
+read_fault-bool true = read_fault_by_rows (bool_text true)
 
 -- a text that begins with a digit
 pub read_fault-digit : (t : List ℕ) → first_passes is_ascii_digit t ≡ true →
@@ -87,7 +85,7 @@ read_fault-free t d r = absurd r
 pub no_literal : (t : List ℕ) (e : ParseError) → read_fault t ≡ Some e → HasNoReading (IsReadLiteral t)
 no_literal t e fault d r = let free = read_fault-free t d r in cc
 
-pub only_bool : (t : List ℕ) (b : BoolLit) → bool_text b ≡ t → IsOnlyReading (IsLiteral t) (a_bool b)
+pub only_bool : (t : List ℕ) (b : Bool) → bool_text b ≡ t → IsOnlyReading (IsLiteral t) (a_bool b)
 only_bool t b r = (r, λ e s. literals_are_unique t e (a_bool b) s r)
 
 pub only_integer_literal : (t : List ℕ) (d : IntegerParts) → IsIntegerOf t d → IsOnlyReading (IsLiteral t) (an_integer d)

@@ -1,18 +1,18 @@
 -- The spans of what is refused as yet lie within the text, and no refusal speaks of memory.
 use Rattle.std.proofs.Common.{◌≡◌, ◌≢◌, ℕ, Bool, true, false, List, Option, Some, sym, ◌∙◌, subst}
 use Rattle.std.specs.Char.{is_ascii_digit}
-use Rattle.litrs.specs.declared.err.ParseErrorKind.TheVariants.{Empty, InvalidLiteral, OutOfMemory}
-use Rattle.litrs.specs.declared.err.ParseError.{ParseError}
-use Rattle.litrs.specs.Fault.{plain, kind_of, IsInText}
-use Rattle.litrs.specs.Text.{is_empty, first_passes}
-use Rattle.litrs.specs.Integer.{integer_fault}
-use Rattle.litrs.specs.Bool.{is_bool}
-use Rattle.litrs.specs.LiteralFault.{begins_float}
+use Rattle.litrs_base.specs.declared.err.ParseErrorKind.TheVariants.{Empty, InvalidLiteral, OutOfMemory}
+use Rattle.litrs_base.specs.declared.err.ParseError.{ParseError}
+use Rattle.litrs_base.specs.Fault.{plain, kind_of, IsInText}
+use Rattle.litrs_base.specs.Text.{is_empty, first_passes}
+use Rattle.litrs_grammar.specs.Integer.{integer_fault}
+use Rattle.litrs_grammar.specs.Bool.{is_bool}
+use Rattle.litrs_grammar.specs.LiteralFault.{begins_float}
 use Rattle.litrs.specs.ReadLiteral.{read_fault}
-use Rattle.litrs.proofs.Spans.{plain_within}
-use Rattle.litrs.proofs.IntegerSpans.{integer_fault_within}
+use Rattle.litrs_grammar.proofs.Spans.{plain_within}
+use Rattle.litrs_grammar.proofs.IntegerSpans.{integer_fault_within}
 use Rattle.litrs.proofs.ReadLiteral.{read_rows, read_fault_by_rows}
-use Rattle.litrs.proofs.RefusalKinds.{IsOfText, integer_fault_of_text}
+use Rattle.litrs_grammar.proofs.RefusalKinds.{IsOfText, integer_fault_of_text}
 
 -- What holds of each row of the dispatch and of the refusals of integers holds of each refusal.
 read_rows_give : (P : ParseError → Type 0) (a b d f : Bool) (r : Option ParseError) (e : ParseError) →

@@ -2,16 +2,17 @@
 use Rattle.std.specs.Prelude.{ℕ, List}
 use Rattle.litrs.specs.declared.Literal.{Literal}
 use Rattle.litrs.specs.declared.Literal.TheVariants.{Bool, Integer}
-use Rattle.litrs.specs.Bool.{bool_text}
+use Rattle.litrs_grammar.specs.Bool.{bool_text}
+use Rattle.litrs.specs.BoolLiteral.{bool_value}
 use Rattle.litrs.specs.IntegerLiteral.{integer_parts}
-use Rattle.litrs.specs.Literal.{Derivation, a_bool, an_integer}
+use Rattle.litrs_grammar.specs.Literal.{Derivation, a_bool, an_integer}
 
 -- the bytes of its text
 abbrev pub literal_raw : {B : Type 0} → Literal B → List ℕ
-literal_raw (Bool b) = bool_text b
+literal_raw (Bool b) = bool_text (bool_value b)
 literal_raw (Integer lit) = lit.raw
 
 -- its derivation
 abbrev pub derivation : {B : Type 0} → Literal B → Derivation
-derivation (Bool b) = a_bool b
+derivation (Bool b) = a_bool (bool_value b)
 derivation (Integer lit) = an_integer (integer_parts lit)

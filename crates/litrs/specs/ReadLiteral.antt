@@ -1,12 +1,12 @@
 -- What the parse of any literal reads as yet: bools and integers.
 use Rattle.std.specs.Prelude.{ℕ, List, Option, Some}
-use Rattle.litrs.specs.declared.err.ParseErrorKind.TheVariants.{InvalidLiteral}
-use Rattle.litrs.specs.declared.err.ParseError.{ParseError}
-use Rattle.litrs.specs.Fault.{plain}
-use Rattle.litrs.specs.Bool.{bool_fault}
-use Rattle.litrs.specs.Integer.{integer_fault}
-use Rattle.litrs.specs.Literal.{Derivation, a_bool, an_integer, a_float, a_char, a_byte, a_string, a_byte_string, a_c_string, IsLiteral, bool_literal, integer_literal}
-use Rattle.litrs.specs.LiteralFault.{Dispatch, refused_as, read_as, dispatch}
+use Rattle.litrs_base.specs.declared.err.ParseErrorKind.TheVariants.{InvalidLiteral}
+use Rattle.litrs_base.specs.declared.err.ParseError.{ParseError}
+use Rattle.litrs_base.specs.Fault.{plain}
+use Rattle.litrs_grammar.specs.Bool.{bool_fault}
+use Rattle.litrs_grammar.specs.Integer.{integer_fault}
+use Rattle.litrs_grammar.specs.Literal.{Derivation, a_bool, an_integer, a_float, a_char, a_byte, a_string, a_byte_string, a_c_string, IsLiteral, bool_literal, integer_literal}
+use Rattle.litrs_grammar.specs.LiteralFault.{Dispatch, refused_as, read_as, dispatch}
 
 -- d is a derivation of t, and of a kind that is read
 abbrev pub IsReadLiteral : List ℕ → Derivation → Type 0

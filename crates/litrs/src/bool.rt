@@ -1,9 +1,9 @@
 //! Bool literals.
 ghost use Rattle.std.specs.Prelude.{◌≡◌, Some, IfOk, IfErr, OnErr};
 ghost use Rattle.std.specs.Str.{chars};
-ghost use Rattle.litrs.specs.Reading.{IsOnlyReading, HasNoReading};
+ghost use Rattle.litrs_base.specs.Reading.{IsOnlyReading, HasNoReading};
 
-use crate::err::{ParseError, ParseErrorKind};
+use litrs_lex::{ParseError, ParseErrorKind};
 use std::fmt;
 
 /// One of the two words `true` and `false`. See [the reference][ref].
@@ -18,7 +18,8 @@ pub enum BoolLit {
 }
 
 impl BoolLit {
-    ghost use Rattle.litrs.specs.Bool.{IsBool, bool_text, bool_value, bool_fault};
+    ghost use Rattle.litrs.specs.BoolLiteral.{bool_value};
+    ghost use Rattle.litrs_grammar.specs.Bool.{IsBool, bool_text, bool_fault};
 
     /// Reads a text that is exactly `true` or `false`.
     ///
@@ -26,7 +27,7 @@ impl BoolLit {
     ///
     /// `InvalidLiteral` without a span for every other text, as `True` and the empty one.
     pub fn parse(s: &str) -> Result<BoolLit, ParseError>
-        ensures ok { IfOk result (IsOnlyReading (IsBool (chars s.now))) }
+        ensures ok { IfOk result (λ lit. IsOnlyReading (IsBool (chars s.now)) (bool_value lit)) }
         ensures none { OnErr result (HasNoReading (IsBool (chars s.now))) }
         ensures fault { IfErr result (λ e. bool_fault (chars s.now) ≡ Some e) }
     {
@@ -49,7 +50,7 @@ impl BoolLit {
 
     /// Its text.
     pub fn as_str(&self) -> &'static str
-        ensures { result.now ≡ bool_text self.now }
+        ensures { result.now ≡ bool_text (bool_value self.now) }
     {
         match self {
             BoolLit::False => "false",
@@ -60,9 +61,10 @@ impl BoolLit {
 
 impl fmt::Display for BoolLit {
     ghost use Rattle.std.specs.Prelude.{Some};
-    ghost use Rattle.litrs.specs.Bool.{bool_text};
+    ghost use Rattle.litrs.specs.BoolLiteral.{bool_value};
+    ghost use Rattle.litrs_grammar.specs.Bool.{bool_text};
 
-    ghost output = { λ b. Some (bool_text b) };
+    ghost output = { λ b. Some (bool_text (bool_value b)) };
 
     fn fmt<W: fmt::Write>(&self, f: &mut fmt::Formatter<W>) -> fmt::Result {
         f.pad(self.as_str())

@@ -8,30 +8,22 @@ ghost use Rattle.std.specs.Prelude.{◌≡◌, ◌≢◌, false, nat_eq, IsOk, I
 ghost use Rattle.std.specs.Cmp.{on_per, on_equiv, partial_equiv_from_equiv};
 ghost use Rattle.std.specs.Cmp.Lexicographic.{pointwise, nat_list_eq_equiv};
 ghost use Rattle.std.specs.Str.{chars};
-ghost use Rattle.litrs.specs.Fault.{kind_of, IsInText};
-ghost use Rattle.litrs.specs.Reading.{IsOnlyReading, HasNoReading};
-ghost use Rattle.litrs.specs.Literal.{IsLiteral, suffix_of};
+ghost use Rattle.litrs_base.specs.Fault.{kind_of, IsInText};
+ghost use Rattle.litrs_base.specs.Reading.{IsOnlyReading, HasNoReading};
+ghost use Rattle.litrs_grammar.specs.Literal.{IsLiteral, suffix_of};
 ghost use Rattle.litrs.specs.ReadLiteral.{IsReadLiteral, read_fault};
 ghost use Rattle.litrs.specs.LiteralDerivation.{literal_raw, derivation};
 
 pub use bool::BoolLit;
-pub use buffer::Buffer;
-pub use err::{ParseError, ParseErrorKind};
-pub use escape::Unescape;
-pub use from_integer_literal::FromIntegerLiteral;
-pub use integer::{IntegerBase, IntegerCut, IntegerLit, IntegerType, cut_integer};
-pub use parse::{check_suffix, end_dec_digits, first_byte_or_empty, hex_digit_value};
+pub use integer::IntegerLit;
+pub use litrs_lex::{
+    Buffer, FromIntegerLiteral, IntegerBase, IntegerType, ParseError, ParseErrorKind,
+};
 use std::alloc::{AllocError, Global};
 use std::fmt;
 
 mod bool;
-mod buffer;
-mod err;
-mod escape;
-mod from_integer_literal;
 mod integer;
-pub mod laws;
-pub mod lines;
 mod parse;
 #[cfg(test)]
 mod tests;

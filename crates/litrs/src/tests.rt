@@ -2,8 +2,8 @@
 use crate::ParseErrorKind::{self, *};
 use crate::{
     BoolLit, Buffer, FromIntegerLiteral, IntegerBase, IntegerLit, IntegerType, Literal, ParseError,
-    check_suffix, cut_integer, end_dec_digits, first_byte_or_empty, hex_digit_value,
 };
+use litrs_lex::{check_suffix, cut_integer, end_dec_digits, first_byte_or_empty, hex_digit_value};
 use std::alloc::{AllocError, Global};
 use std::ops::Range;
 use std::process::Abort;

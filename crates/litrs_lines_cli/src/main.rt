@@ -3,7 +3,7 @@
 //! The status is 0, or 1 with one line on standard error. Arguments are ignored.
 #![tactic(auto)]
 
-use litrs::lines::{StdInput, StdOutput, run};
+use litrs_lines::{StdInput, StdOutput, run};
 use std::io;
 use std::process::ExitCode;
 

@@ -2,14 +2,15 @@
 use Rattle.std.proofs.Common.{◌≢◌, sym, ap, ◌∙◌, subst}
 use Rattle.std.specs.Str.{chars}
 use Rattle.std.proofs.lemmas.Result.{err_from_is_err_and}
-use Rattle.litrs.specs.Integer.{integer_fault}
+use Rattle.litrs_grammar.specs.Integer.{integer_fault}
+use Rattle.litrs.specs.BoolLiteral.{bool_value}
 use Rattle.litrs.specs.ReadLiteral.{read_fault}
-use Rattle.litrs.proofs.BoolLemmas.{bool_text_from_chars}
+use Rattle.litrs_grammar.proofs.BoolLemmas.{bool_text_from_chars}
 use Rattle.litrs.proofs.ReadLiteral.{no_literal, only_bool, only_integer_literal}
-use Rattle.litrs.specs.declared.err.ParseError.{ParseError}
-use Rattle.litrs.specs.declared.err.ParseErrorKind.TheVariants.{OutOfMemory}
-use Rattle.litrs.specs.Fault.{kind_of}
-use Rattle.litrs.proofs.RefusalKinds.{integer_fault_of_text}
+use Rattle.litrs_base.specs.declared.err.ParseError.{ParseError}
+use Rattle.litrs_base.specs.declared.err.ParseErrorKind.TheVariants.{OutOfMemory}
+use Rattle.litrs_base.specs.Fault.{kind_of}
+use Rattle.litrs_grammar.proofs.RefusalKinds.{integer_fault_of_text}
 use Rattle.litrs.proofs.ReadSpans.{read_fault_within, read_fault_of_text}
 use Rattle.litrs.proofs.Literal.parse.Goals as goal
 
@@ -22,10 +23,10 @@ returns-in_err-parse-in-Integer-clause-none g c =
 
 pub returns-in-Bool-clause-raw : goal.returns-in-Bool-clause-raw
 returns-in-Bool-clause-raw g c =
-    sym (bool_text_from_chars c.in-Bool.lit c.as_str.result.now c.as_str.utf8 c.in-Bool.ensures) ∙ c.as_str.ensures
+    sym (bool_text_from_chars (bool_value c.in-Bool.lit) c.as_str.result.now c.as_str.utf8 c.in-Bool.ensures) ∙ c.as_str.ensures
 
 pub returns-in-Bool-clause-ok : goal.returns-in-Bool-clause-ok
-returns-in-Bool-clause-ok g c = only_bool _ c.in-Bool.lit (c.in-Bool.ensures ∙ ap chars c.as_str.ensures)
+returns-in-Bool-clause-ok g c = only_bool _ (bool_value c.in-Bool.lit) (c.in-Bool.ensures ∙ ap chars c.as_str.ensures)
 
 pub returns-in-Refused-clause-none : goal.returns-in-Refused-clause-none
 returns-in-Refused-clause-none g c = no_literal _ c.in-Refused.e (ap read_fault (ap chars (sym c.as_str.ensures)) ∙ c.in-Refused.ensures)

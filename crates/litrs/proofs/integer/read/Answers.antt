@@ -3,10 +3,10 @@ use Rattle.std.proofs.Common.{ap, sym, ◌∙◌, Some}
 use Rattle.std.specs.Str.{chars}
 use Rattle.std.specs.Char.{is_ascii_digit}
 use Rattle.std.proofs.lemmas.Result.{err_from_is_err_and}
-use Rattle.litrs.specs.Text.{first_passes}
-use Rattle.litrs.proofs.IntegerLaws.{refused}
-use Rattle.litrs.proofs.IntegerSpans.{integer_fault_within}
-use Rattle.litrs.proofs.IntegerLemmas.{fault-empty, fault-no_digit}
+use Rattle.litrs_base.specs.Text.{first_passes}
+use Rattle.litrs_grammar.proofs.IntegerLaws.{refused}
+use Rattle.litrs_grammar.proofs.IntegerSpans.{integer_fault_within}
+use Rattle.litrs_lex.proofs.IntegerLemmas.{fault-empty, fault-no_digit}
 use Rattle.litrs.proofs.integer.read.Goals as goal
 
 pub returns-in_err-first_byte_or_empty-clause-none : goal.returns-in_err-first_byte_or_empty-clause-none

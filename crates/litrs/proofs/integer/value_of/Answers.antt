@@ -1,9 +1,9 @@
 -- One more byte: an underscore, or a digit.
 use Rattle.std.proofs.Common.{◌+◌, ◌*◌, take, get_or, sym, ap, ◌∙◌, arith}
 use Rattle.std.specs.Char.{digit_value}
-use Rattle.litrs.specs.Base.{base_value}
-use Rattle.litrs.specs.Numeral.{numeral}
-use Rattle.litrs.proofs.NumeralLemmas.{numeral-nil, numeral_take, numeral_digit, positive_base}
+use Rattle.litrs_base.specs.Base.{base_value}
+use Rattle.litrs_base.specs.Numeral.{numeral}
+use Rattle.litrs_lex.proofs.NumeralLemmas.{numeral-nil, numeral_take, numeral_digit, positive_base}
 use Rattle.litrs.proofs.integer.value_of.Goals as goal
 
 pub loop-byte-init : goal.loop-byte-init

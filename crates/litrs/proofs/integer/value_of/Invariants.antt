@@ -1,7 +1,7 @@
 -- the number so far is that of the bytes so far, and the type has it
 use Rattle.std.proofs.Common.{◌≡◌, ◌≤◌, take}
-use Rattle.litrs.specs.Base.{base_value}
-use Rattle.litrs.specs.Numeral.{numeral}
+use Rattle.litrs_base.specs.Base.{base_value}
+use Rattle.litrs_base.specs.Numeral.{numeral}
 use Rattle.litrs.proofs.integer.value_of.Given as goal
 
 abbrev pub invariant-loop-byte : goal.invariant-loop-byte

@@ -1,8 +1,8 @@
 -- Each arm is a row of the dispatch.
 use Rattle.std.proofs.Common.{sym, ap, ◌∙◌, Some, true, false}
 use Rattle.std.specs.Str.{chars}
-use Rattle.litrs.specs.Integer.{integer_fault}
-use Rattle.litrs.specs.LiteralFault.{begins_float}
+use Rattle.litrs_grammar.specs.Integer.{integer_fault}
+use Rattle.litrs_grammar.specs.LiteralFault.{begins_float}
 use Rattle.litrs.proofs.ReadLiteral.{read_rows}
 use Rattle.litrs.proofs.Dispatch.{dispatch-empty, dispatch-digit, dispatch-other}
 use Rattle.litrs.proofs.parse.kind_of.Goals as goal

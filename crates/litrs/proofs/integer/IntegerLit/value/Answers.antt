@@ -2,11 +2,11 @@
 use Rattle.std.proofs.Common.{◌≡◌, ◌≤◌, ℕ, true, ap, ◌∙◌, subst}
 use Rattle.std.specs.Option.{SomeIff}
 use Rattle.std.specs.List.{list_all}
-use Rattle.litrs.specs.declared.integer.IntegerBase.{IntegerBase}
-use Rattle.litrs.specs.Base.{base_value, is_digit_or_underscore}
+use Rattle.litrs_base.specs.declared.integer.IntegerBase.{IntegerBase}
+use Rattle.litrs_base.specs.Base.{base_value, is_digit_or_underscore}
 use Rattle.litrs.specs.IntegerLiteral.{IntegerLiteral, integer_parts}
-use Rattle.litrs.specs.Numeral.{numeral}
-use Rattle.litrs.proofs.NumeralLemmas.{bytes_of_digits}
+use Rattle.litrs_base.specs.Numeral.{numeral}
+use Rattle.litrs_lex.proofs.NumeralLemmas.{bytes_of_digits}
 use Rattle.litrs.proofs.integer.IntegerLit.value.Goals as goal
 
 pub value_of-requires : goal.value_of-requires

@@ -1,5 +1,0 @@
-use Rattle.litrs.proofs.CharByteProofs.{no_char_ends_with_line_feed}
-use Rattle.litrs.proofs.laws.char_byte.no_char_ends_with_line_feed.Goals as goal
-
-pub returns : goal.returns
-returns c = no_char_ends_with_line_feed

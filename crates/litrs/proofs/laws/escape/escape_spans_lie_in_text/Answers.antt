@@ -1,5 +1,0 @@
-use Rattle.litrs.proofs.SpanLemmas.{escape_spans_lie_in_text}
-use Rattle.litrs.proofs.laws.escape.escape_spans_lie_in_text.Goals as goal
-
-pub returns : goal.returns
-returns c = escape_spans_lie_in_text

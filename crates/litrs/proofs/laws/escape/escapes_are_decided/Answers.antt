@@ -1,5 +1,0 @@
-use Rattle.litrs.proofs.EscapeProofs.{escapes_are_decided}
-use Rattle.litrs.proofs.laws.escape.escapes_are_decided.Goals as goal
-
-pub returns : goal.returns
-returns c = escapes_are_decided

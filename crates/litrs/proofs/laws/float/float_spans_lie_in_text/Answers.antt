@@ -1,5 +1,0 @@
-use Rattle.litrs.proofs.FloatSpans.{float_fault_within}
-use Rattle.litrs.proofs.laws.float.float_spans_lie_in_text.Goals as goal
-
-pub returns : goal.returns
-returns c = float_fault_within

@@ -1,5 +1,0 @@
-use Rattle.litrs.proofs.FloatLaws.{fault_free, readable}
-use Rattle.litrs.proofs.laws.float.floats_are_decided.Goals as goal
-
-pub returns : goal.returns
-returns c = λ t. (readable t, λ r. fault_free t r.0 r.1)

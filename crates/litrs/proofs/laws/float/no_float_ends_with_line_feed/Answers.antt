@@ -1,5 +1,0 @@
-use Rattle.litrs.proofs.FloatSpans.{no_float_with_line_feed}
-use Rattle.litrs.proofs.laws.float.no_float_ends_with_line_feed.Goals as goal
-
-pub returns : goal.returns
-returns c = no_float_with_line_feed

@@ -1,5 +1,0 @@
-use Rattle.litrs.proofs.LinesLemmas.{lines_are_unique}
-use Rattle.litrs.proofs.laws.lines.lines_are_unique.Goals as goal
-
-pub returns : goal.returns
-returns c = lines_are_unique

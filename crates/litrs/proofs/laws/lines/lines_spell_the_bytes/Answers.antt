@@ -1,5 +1,0 @@
-use Rattle.litrs.proofs.LinesLemmas.{ended_lines-spell}
-use Rattle.litrs.proofs.laws.lines.lines_spell_the_bytes.Goals as goal
-
-pub returns : goal.returns
-returns c = ended_lines-spell

@@ -1,5 +1,0 @@
-use Rattle.std.specs.Cmp.Lexicographic.{bytes_decides}
-use Rattle.litrs.proofs.laws.name.equality_is_of_texts.Goals as goal
-
-pub returns : goal.returns
-returns c = bytes_decides

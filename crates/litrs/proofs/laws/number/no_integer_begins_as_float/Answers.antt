@@ -1,5 +1,0 @@
-use Rattle.litrs.proofs.NumberLaws.{integer_begins}
-use Rattle.litrs.proofs.laws.number.no_integer_begins_as_float.Goals as goal
-
-pub returns : goal.returns
-returns c = integer_begins

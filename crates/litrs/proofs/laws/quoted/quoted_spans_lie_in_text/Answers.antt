@@ -1,5 +1,0 @@
-use Rattle.litrs.proofs.QuotedSpans.{quoted_spans_lie_in_text}
-use Rattle.litrs.proofs.laws.quoted.quoted_spans_lie_in_text.Goals as goal
-
-pub returns : goal.returns
-returns c = quoted_spans_lie_in_text

@@ -1,5 +1,0 @@
-use Rattle.litrs.proofs.QuotedProofs.{quoted_texts_are_decided}
-use Rattle.litrs.proofs.laws.quoted.quoted_texts_are_decided.Goals as goal
-
-pub returns : goal.returns
-returns c = quoted_texts_are_decided

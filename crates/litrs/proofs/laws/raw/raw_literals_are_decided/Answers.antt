@@ -1,5 +1,0 @@
-use Rattle.litrs.proofs.RawKinds.{literal_readable, literal_fault_free}
-use Rattle.litrs.proofs.laws.raw.raw_literals_are_decided.Goals as goal
-
-pub returns : goal.returns
-returns c = λ kind t front. (literal_readable kind t front, λ r. literal_fault_free kind t r.0 front r.1)

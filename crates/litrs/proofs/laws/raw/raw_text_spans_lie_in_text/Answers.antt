@@ -1,5 +1,0 @@
-use Rattle.litrs.proofs.RawSpans.{raw_fault_within}
-use Rattle.litrs.proofs.laws.raw.raw_text_spans_lie_in_text.Goals as goal
-
-pub returns : goal.returns
-returns c = raw_fault_within

@@ -1,5 +1,0 @@
-use Rattle.litrs.proofs.RawLaws.{readable, fault_free}
-use Rattle.litrs.proofs.laws.raw.raw_texts_are_decided.Goals as goal
-
-pub returns : goal.returns
-returns c = λ unicode allow_nul start t. (readable unicode allow_nul start t, λ r. fault_free unicode allow_nul start t r.0 r.1)

@@ -1,0 +1,4 @@
+pub mod Chars
+pub mod Runs
+pub mod Begins
+pub mod NameLemmas

@@ -1,0 +1,35 @@
+-- The number that digits stand for. The Rust Reference, Literal expressions, Integer literal expressions.
+use Rattle.std.specs.Prelude.{ℕ, Bool, ◌+◌, ◌*◌, ◌^◌, ◌-◌, not, ◌==◌, List, [], ◌∷◌, length, filter}
+use Rattle.std.specs.Char.{digit_value}
+use Rattle.litrs_base.specs.Characters.{underscore}
+use Rattle.litrs_base.specs.declared.integer.IntegerType.{IntegerType}
+use Rattle.litrs_base.specs.declared.integer.IntegerType.TheVariants.{U8, U16, U32, U64, U128, Usize, I8, I16, I32, I64, I128, Isize}
+
+-- each digit times the base to the power of the number of digits behind it
+unfoldable pub place_sum : ℕ → List ℕ → ℕ
+place_sum base [] = 0
+place_sum base (c ∷ cs) = digit_value c * base ^ length cs + place_sum base cs
+
+-- any character but `_`
+abbrev pub is_no_underscore : ℕ → Bool
+is_no_underscore c = not (c == underscore)
+
+-- The value of digits of a base and underscores: underscores dropped, the sum of each digit times the base to the power of
+-- the number of digits behind it. It has no bound.
+abbrev pub numeral : ℕ → List ℕ → ℕ
+numeral base t = place_sum base (filter is_no_underscore t)
+
+-- the greatest number of a type
+abbrev pub greatest_of : IntegerType → ℕ
+greatest_of U8 = 2 ^ 8 - 1
+greatest_of U16 = 2 ^ 16 - 1
+greatest_of U32 = 2 ^ 32 - 1
+greatest_of U64 = 2 ^ 64 - 1
+greatest_of U128 = 2 ^ 128 - 1
+greatest_of Usize = 2 ^ 64 - 1
+greatest_of I8 = 2 ^ 7 - 1
+greatest_of I16 = 2 ^ 15 - 1
+greatest_of I32 = 2 ^ 31 - 1
+greatest_of I64 = 2 ^ 63 - 1
+greatest_of I128 = 2 ^ 127 - 1
+greatest_of Isize = 2 ^ 63 - 1

@@ -1,0 +1,421 @@
+//! Why a text is refused.
+ghost use Rattle.std.specs.Prelude.{◌≡◌, ◌+◌, ◌≤◌, ◌<◌, ◌^◌};
+ghost use Rattle.litrs_base.specs.Kind.{kind_text};
+
+use std::error::Error;
+use std::fmt;
+use std::ops::Range;
+
+/// A refusal: what is wrong with a text, and where.
+#[derive(Debug, Drop)]
+pub struct ParseError {
+    pub(crate) span: Option<Range<usize>>,
+    pub(crate) kind: ParseErrorKind,
+}
+
+impl ParseError {
+    ghost use Rattle.litrs_base.specs.Fault.{fault, kind_of, span_of, moved, MovesWithin};
+
+    /// A refusal of this kind. The span counts bytes of the text.
+    pub fn new(span: Option<Range<usize>>, kind: ParseErrorKind) -> ParseError
+        ensures { result ≡ fault span kind }
+    {
+        ParseError { span, kind }
+    }
+
+    /// The part of the text that the refusal points at, in bytes, if it points at one: 3..4 of
+    /// `0b12`.
+    ///
+    /// The start is a character boundary. The end may lie inside a character.
+    pub fn span(&self) -> Option<Range<usize>>
+        ensures { result ≡ span_of self.now }
+    {
+        match &self.span {
+            Some(span) => Some(span.start..span.end),
+            None => None,
+        }
+    }
+
+    /// What is wrong.
+    pub fn kind(&self) -> ParseErrorKind
+        ensures { result ≡ kind_of self.now }
+    {
+        self.kind
+    }
+
+    /// Adds `offset` bytes to the start and the end of the span. Both sums fit.
+    pub fn offset_span(self, offset: usize) -> ParseError
+        requires { MovesWithin offset self }
+        ensures { result ≡ moved offset self }
+    {
+        let Self { span, kind } = self;
+        match span {
+            Some(span) => ParseError {
+                span: Some(span.start + offset..span.end + offset),
+                kind,
+            },
+            None => ParseError { span: None, kind },
+        }
+    }
+
+    /// The same refusal again. It takes no memory.
+    pub fn clone(&self) -> ParseError
+        ensures { result ≡ self.now }
+    {
+        ParseError {
+            span: self.span(),
+            kind: self.kind,
+        }
+    }
+}
+
+impl fmt::Display for ParseError {
+    ghost use Rattle.std.specs.Prelude.{Some};
+    ghost use Rattle.litrs_base.specs.Fault.{fault_text};
+
+    ghost output = { λ error. Some (fault_text error) };
+
+    fn fmt<W: fmt::Write>(&self, f: &mut fmt::Formatter<W>) -> fmt::Result {
+        self.kind.fmt(f)?;
+        if let Some(span) = &self.span {
+            let start = span.start;
+            let end = span.end;
+            write!(f, " (at {start}..{end})")?;
+        }
+        Ok(())
+    }
+}
+
+impl Error for ParseError {}
+
+/// The kinds of refusals.
+#[derive(Clone, Copy, Debug, PartialEq, Eq)]
+pub enum ParseErrorKind {
+    /// The text is empty.
+    Empty,
+    /// A character that cannot stand there.
+    UnexpectedChar,
+    /// The text is no literal of any kind, or not of the wanted one.
+    InvalidLiteral,
+    /// A number does not begin with a decimal digit.
+    DoesNotStartWithDigit,
+    /// A decimal digit stands in an integer whose base does not have it.
+    InvalidDigit,
+    /// The main part of an integer has no digit.
+    NoDigits,
+    /// The exponent of a float has no digit.
+    NoExponentDigits,
+    /// A backslash is followed by a character that begins no escape.
+    UnknownEscape,
+    /// The text ends inside an escape.
+    UnterminatedEscape,
+    /// `\x` is not followed by two hex digits.
+    InvalidXEscape,
+    /// A `\x` escape above 7F where only ASCII is allowed.
+    NonAsciiXEscape,
+    /// A `\u` escape in a byte or a byte string.
+    UnicodeEscapeInByteLiteral,
+    /// The first place inside `\u{..}` is no hex digit.
+    InvalidStartOfUnicodeEscape,
+    /// `\u` is not followed by `{`.
+    UnicodeEscapeWithoutBrace,
+    /// Something inside `\u{..}` is neither a hex digit nor `_`.
+    NonHexDigitInUnicodeEscape,
+    /// A `\u{..}` escape has more than six hex digits.
+    TooManyDigitInUnicodeEscape,
+    /// The value of a `\u{..}` escape is no Unicode scalar value.
+    InvalidUnicodeEscapeChar,
+    /// A `\u{` has no closing brace.
+    UnterminatedUnicodeEscape,
+    /// A char has no closing quote.
+    UnterminatedCharLiteral,
+    /// A char holds more than one character.
+    OverlongCharLiteral,
+    /// A char holds nothing.
+    EmptyCharLiteral,
+    /// A byte has no closing quote.
+    UnterminatedByteLiteral,
+    /// A byte holds more than one byte.
+    OverlongByteLiteral,
+    /// A byte holds nothing.
+    EmptyByteLiteral,
+    /// A character that is not ASCII in a byte or a byte string.
+    NonAsciiInByteLiteral,
+    /// A single quote stands unescaped in a char or a byte.
+    UnescapedSingleQuote,
+    /// LF, tab or CR stands unescaped in a char or a byte.
+    UnescapedSpecialWhitespace,
+    /// A char does not begin with a single quote.
+    DoesNotStartWithQuote,
+    /// A raw string has no closing quote with its hashes.
+    UnterminatedRawString,
+    /// A quoted string has no closing quote.
+    UnterminatedString,
+    /// A string does not begin as one.
+    InvalidStringLiteralStart,
+    /// A byte does not begin as one.
+    InvalidByteLiteralStart,
+    /// A byte string does not begin as one.
+    InvalidByteStringLiteralStart,
+    /// A C string does not begin as one.
+    InvalidCStringLiteralStart,
+    /// An escape of value 0 in a C string.
+    DisallowedNulEscape,
+    /// A NUL in a C string.
+    NulByte,
+    /// A CR in a string.
+    CarriageReturn,
+    /// A raw string has more than 255 hashes.
+    TooManyHashes,
+    /// What follows a literal is no suffix.
+    InvalidSuffix,
+    /// A float was wanted, and the text has neither period nor exponent.
+    UnexpectedIntegerLit,
+    /// The suffix of an integer begins with `e` or `E`.
+    IntegerSuffixStartingWithE,
+    /// A growth was refused. It says nothing of the text.
+    OutOfMemory,
+}
+
+impl ParseErrorKind {
+    fn description(self) -> &'static str
+        ensures { result.now ≡ kind_text self }
+    {
+        match self {
+            Self::Empty => "input is empty",
+            Self::UnexpectedChar => "unexpected character",
+            Self::InvalidLiteral => "invalid literal",
+            Self::DoesNotStartWithDigit => "number literal does not start with decimal digit",
+            Self::InvalidDigit => "integer literal contains a digit invalid for its base",
+            Self::NoDigits => "integer literal does not contain any digits",
+            Self::NoExponentDigits =>
+                "exponent of floating point literal does not contain any digits",
+            Self::UnknownEscape => "unknown escape",
+            Self::UnterminatedEscape => "unterminated escape: input ended too soon",
+            Self::InvalidXEscape => "invalid `\\x` escape: not followed by two hex digits",
+            Self::NonAsciiXEscape => "`\\x` escape in char/string literal exceed ASCII range",
+            Self::UnicodeEscapeInByteLiteral =>
+                "`\\u{...}` escape in byte (string) literal not allowed",
+            Self::InvalidStartOfUnicodeEscape => "invalid start of `\\u{...}` escape",
+            Self::UnicodeEscapeWithoutBrace => "`Unicode \\u{...}` escape without opening brace",
+            Self::NonHexDigitInUnicodeEscape => "non-hex digit found in `\\u{...}` escape",
+            Self::TooManyDigitInUnicodeEscape => "more than six digits in `\\u{...}` escape",
+            Self::InvalidUnicodeEscapeChar =>
+                "value specified in `\\u{...}` escape is not a valid char",
+            Self::UnterminatedUnicodeEscape => "unterminated `\\u{...}` escape",
+            Self::UnterminatedCharLiteral => "character literal is not terminated",
+            Self::OverlongCharLiteral => "character literal contains more than one character",
+            Self::EmptyCharLiteral => "empty character literal",
+            Self::UnterminatedByteLiteral => "byte literal is not terminated",
+            Self::OverlongByteLiteral => "byte literal contains more than one byte",
+            Self::EmptyByteLiteral => "empty byte literal",
+            Self::NonAsciiInByteLiteral => "non ASCII character in byte (string) literal",
+            Self::UnescapedSingleQuote => "character literal contains unescaped ' character",
+            Self::UnescapedSpecialWhitespace =>
+                "unescaped newline (\\n), tab (\\t) or cr (\\r) character",
+            Self::DoesNotStartWithQuote => "invalid start for char/byte/string literal",
+            Self::UnterminatedRawString => "unterminated raw (byte) string literal",
+            Self::UnterminatedString => "unterminated (byte) string literal",
+            Self::InvalidStringLiteralStart => "invalid start for string literal",
+            Self::InvalidByteLiteralStart => "invalid start for byte literal",
+            Self::InvalidByteStringLiteralStart => "invalid start for byte string literal",
+            Self::InvalidCStringLiteralStart => "invalid start for C string literal",
+            Self::DisallowedNulEscape => "`\\0` escape not allowed inside C string literal",
+            Self::NulByte => "nul byte not allowed inside C string literal",
+            Self::CarriageReturn => "`\\r` not allowed in string literals",
+            Self::TooManyHashes => "raw string literal has too many # symbols (max 255)",
+            Self::InvalidSuffix => "literal suffix is not a valid identifier",
+            Self::UnexpectedIntegerLit => "expected float literal, but found integer",
+            Self::IntegerSuffixStartingWithE =>
+                "integer literal suffix must not start with 'e' or 'E'",
+            Self::OutOfMemory => "out of memory",
+        }
+    }
+}
+
+impl fmt::Display for ParseErrorKind {
+    ghost use Rattle.std.specs.Prelude.{Some};
+
+    ghost output = { λ kind. Some (kind_text kind) };
+
+    fn fmt<W: fmt::Write>(&self, f: &mut fmt::Formatter<W>) -> fmt::Result {
+        f.pad(self.description())
+    }
+}
+
+#[cfg(test)]
+mod tests {
+    use super::ParseErrorKind::{self, *};
+    use super::*;
+    use std::test::Fail;
+
+    /// Each kind with its description, in order.
+    const KINDS: [(ParseErrorKind, &str); 42] = [
+        (Empty, "input is empty"),
+        (UnexpectedChar, "unexpected character"),
+        (InvalidLiteral, "invalid literal"),
+        (
+            DoesNotStartWithDigit,
+            "number literal does not start with decimal digit",
+        ),
+        (
+            InvalidDigit,
+            "integer literal contains a digit invalid for its base",
+        ),
+        (NoDigits, "integer literal does not contain any digits"),
+        (
+            NoExponentDigits,
+            "exponent of floating point literal does not contain any digits",
+        ),
+        (UnknownEscape, "unknown escape"),
+        (
+            UnterminatedEscape,
+            "unterminated escape: input ended too soon",
+        ),
+        (
+            InvalidXEscape,
+            "invalid `\\x` escape: not followed by two hex digits",
+        ),
+        (
+            NonAsciiXEscape,
+            "`\\x` escape in char/string literal exceed ASCII range",
+        ),
+        (
+            UnicodeEscapeInByteLiteral,
+            "`\\u{...}` escape in byte (string) literal not allowed",
+        ),
+        (
+            InvalidStartOfUnicodeEscape,
+            "invalid start of `\\u{...}` escape",
+        ),
+        (
+            UnicodeEscapeWithoutBrace,
+            "`Unicode \\u{...}` escape without opening brace",
+        ),
+        (
+            NonHexDigitInUnicodeEscape,
+            "non-hex digit found in `\\u{...}` escape",
+        ),
+        (
+            TooManyDigitInUnicodeEscape,
+            "more than six digits in `\\u{...}` escape",
+        ),
+        (
+            InvalidUnicodeEscapeChar,
+            "value specified in `\\u{...}` escape is not a valid char",
+        ),
+        (UnterminatedUnicodeEscape, "unterminated `\\u{...}` escape"),
+        (
+            UnterminatedCharLiteral,
+            "character literal is not terminated",
+        ),
+        (
+            OverlongCharLiteral,
+            "character literal contains more than one character",
+        ),
+        (EmptyCharLiteral, "empty character literal"),
+        (UnterminatedByteLiteral, "byte literal is not terminated"),
+        (
+            OverlongByteLiteral,
+            "byte literal contains more than one byte",
+        ),
+        (EmptyByteLiteral, "empty byte literal"),
+        (
+            NonAsciiInByteLiteral,
+            "non ASCII character in byte (string) literal",
+        ),
+        (
+            UnescapedSingleQuote,
+            "character literal contains unescaped ' character",
+        ),
+        (
+            UnescapedSpecialWhitespace,
+            "unescaped newline (\\n), tab (\\t) or cr (\\r) character",
+        ),
+        (
+            DoesNotStartWithQuote,
+            "invalid start for char/byte/string literal",
+        ),
+        (
+            UnterminatedRawString,
+            "unterminated raw (byte) string literal",
+        ),
+        (UnterminatedString, "unterminated (byte) string literal"),
+        (
+            InvalidStringLiteralStart,
+            "invalid start for string literal",
+        ),
+        (InvalidByteLiteralStart, "invalid start for byte literal"),
+        (
+            InvalidByteStringLiteralStart,
+            "invalid start for byte string literal",
+        ),
+        (
+            InvalidCStringLiteralStart,
+            "invalid start for C string literal",
+        ),
+        (
+            DisallowedNulEscape,
+            "`\\0` escape not allowed inside C string literal",
+        ),
+        (NulByte, "nul byte not allowed inside C string literal"),
+        (CarriageReturn, "`\\r` not allowed in string literals"),
+        (
+            TooManyHashes,
+            "raw string literal has too many # symbols (max 255)",
+        ),
+        (InvalidSuffix, "literal suffix is not a valid identifier"),
+        (
+            UnexpectedIntegerLit,
+            "expected float literal, but found integer",
+        ),
+        (
+            IntegerSuffixStartingWithE,
+            "integer literal suffix must not start with 'e' or 'E'",
+        ),
+        (OutOfMemory, "out of memory"),
+    ];
+
+    #[test]
+    fn kinds_print_their_descriptions(rt: HostRuntime) -> Result<(), Fail> {
+        for (number, (kind, text)) in KINDS.iter().enumerate() {
+            assert_eq!(rt; *kind as usize, number);
+            assert_eq!(rt; kind.to_string(rt.alloc())?.as_str(), *text);
+            let refusal = ParseError::new(None, *kind);
+            assert_eq!(rt; refusal.to_string(rt.alloc())?.as_str(), *text);
+            assert_eq!(rt; refusal.kind(), *kind);
+            assert_eq!(rt; refusal.span(), None);
+        }
+        Ok(())
+    }
+
+    #[test]
+    fn a_span_is_printed_behind(rt: HostRuntime) -> Result<(), Fail> {
+        let refusal = ParseError::new(Some(3..4), InvalidDigit);
+        let copy = refusal.clone().offset_span(10);
+        assert_eq!(rt;
+            refusal.to_string(rt.alloc())?.as_str(),
+            "integer literal contains a digit invalid for its base (at 3..4)"
+        );
+        assert_eq!(rt;
+            copy.to_string(rt.alloc())?.as_str(),
+            "integer literal contains a digit invalid for its base (at 13..14)"
+        );
+        assert_eq!(rt; copy.span(), Some(13..14));
+        Ok(())
+    }
+
+    #[test]
+    fn a_width_pads_the_description(rt: HostRuntime) -> Result<(), Fail> {
+        let refusal = ParseError::new(Some(1..2), Empty);
+        assert_eq!(rt;
+            format!(in rt.alloc(); "{Empty:>16}|")?.as_str(),
+            "  input is empty|"
+        );
+        assert_eq!(rt;
+            format!(in rt.alloc(); "{refusal:>16}|")?.as_str(),
+            "  input is empty (at 1..2)|"
+        );
+        Ok(())
+    }
+}

@@ -1,0 +1,14 @@
+//! What every layer names: the buffers of texts, the types of integers, escapes, and refusals.
+#![tactic(auto)]
+
+pub use buffer::Buffer;
+pub use err::{ParseError, ParseErrorKind};
+pub use escape::Unescape;
+pub use from_integer_literal::FromIntegerLiteral;
+pub use integer::{IntegerBase, IntegerType};
+
+pub mod buffer;
+pub mod err;
+pub mod escape;
+pub mod from_integer_literal;
+pub mod integer;

@@ -1,0 +1,5 @@
+use Rattle.litrs_grammar.proofs.EscapeProofs.{escapes_are_decided}
+use Rattle.litrs_grammar.proofs.escape.escapes_are_decided.Goals as goal
+
+pub returns : goal.returns
+returns c = escapes_are_decided

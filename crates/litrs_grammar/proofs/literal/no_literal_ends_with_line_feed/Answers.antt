@@ -1,0 +1,5 @@
+use Rattle.litrs_grammar.proofs.LiteralSpans.{no_literal_ends_with_line_feed}
+use Rattle.litrs_grammar.proofs.literal.no_literal_ends_with_line_feed.Goals as goal
+
+pub returns : goal.returns
+returns c = no_literal_ends_with_line_feed

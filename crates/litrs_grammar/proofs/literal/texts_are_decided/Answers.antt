@@ -1,0 +1,5 @@
+use Rattle.litrs_grammar.proofs.LiteralLaws.{texts_are_decided}
+use Rattle.litrs_grammar.proofs.literal.texts_are_decided.Goals as goal
+
+pub returns : goal.returns
+returns c = texts_are_decided

@@ -1,0 +1,5 @@
+use Rattle.litrs_grammar.proofs.QuotedProofs.{no_nul_in_quoted_c_strings}
+use Rattle.litrs_grammar.proofs.quoted.no_nul_in_quoted_c_strings.Goals as goal
+
+pub returns : goal.returns
+returns c = no_nul_in_quoted_c_strings

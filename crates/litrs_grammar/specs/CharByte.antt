@@ -1,0 +1,147 @@
+-- Chars and bytes. The Rust Reference, Tokens, Literals: "Character literals" and "Byte literals".
+use Rattle.std.specs.Prelude.{◌≡◌, ℕ, ◌+◌, Bool, true, not, ◌==◌, ◌&&◌, ◌||◌, if◌then◌else◌, List, [], ◌∷◌, ◌++◌, Option, Some, None, IsTrue, length, take, drop, slice_index, option_map, is_some}
+use Rattle.std.specs.List.{list_any, position_or_len}
+use Rattle.litrs_base.specs.declared.escape.Unescape.{Unescape}
+use Rattle.litrs_base.specs.declared.escape.Unescape.TheVariants.{Byte, Unicode}
+use Rattle.litrs_base.specs.declared.err.ParseError.{ParseError}
+use Rattle.litrs_base.specs.declared.err.ParseErrorKind.{ParseErrorKind}
+use Rattle.litrs_base.specs.declared.err.ParseErrorKind.TheVariants.{Empty, DoesNotStartWithQuote, InvalidByteLiteralStart, UnterminatedCharLiteral, UnterminatedByteLiteral, UnescapedSingleQuote, EmptyCharLiteral, EmptyByteLiteral, UnescapedSpecialWhitespace, NonAsciiInByteLiteral, OverlongCharLiteral, OverlongByteLiteral}
+use Rattle.litrs_base.specs.Characters.{line_feed, tab, carriage_return, single_quote, backslash, letter_b, letter_x, letter_u, close_brace, is_ascii}
+use Rattle.litrs_grammar.specs.Escape.{Switches, char_switches, byte_switches, Escape, escape_text, escape_value, is_escape, escape_fault}
+use Rattle.litrs_base.specs.Fault.{plain, at, moved}
+use Rattle.litrs_grammar.specs.Suffix.{is_suffix, suffix_fault}
+use Rattle.litrs_base.specs.Text.{byte_len, first_passes, begins_with}
+
+-- The two kinds.
+pub data CharKind : Type 0 where
+  char_kind : CharKind
+  byte_kind : CharKind
+
+-- what stands before the character: `'` or `b'`
+abbrev pub char_front : CharKind → List ℕ
+char_front char_kind = single_quote ∷ []
+char_front byte_kind = letter_b ∷ single_quote ∷ []
+
+-- what a kind allows in its escapes
+abbrev pub char_switches_of : CharKind → Switches
+char_switches_of char_kind = char_switches
+char_switches_of byte_kind = byte_switches
+
+-- What stands between the quotes: one character that stands for itself, or one escape.
+pub data CharItem : Type 0 where
+  plain_char : ℕ → CharItem
+  escaped_char : Escape → CharItem
+
+-- how it is written
+abbrev pub char_item_text : CharItem → List ℕ
+char_item_text (plain_char c) = c ∷ []
+char_item_text (escaped_char e) = escape_text e
+
+-- the number of what an escape stands for
+abbrev pub unescaped_number : Unescape → ℕ
+unescaped_number (Byte b) = b
+unescaped_number (Unicode c) = c
+
+-- the character or byte that it stands for
+abbrev pub char_value : CharItem → ℕ
+char_value (plain_char c) = c
+char_value (escaped_char e) = unescaped_number (escape_value e)
+
+-- LF, tab and CR, which are written as escapes alone
+abbrev pub is_special_whitespace : ℕ → Bool
+is_special_whitespace c = (c == line_feed) || (c == tab) || (c == carriage_return)
+
+-- any character in a char; an ASCII one in a byte
+abbrev pub allows_char : CharKind → ℕ → Bool
+allows_char char_kind c = true
+allows_char byte_kind c = is_ascii c
+
+-- A character stands for itself that is no `'`, no backslash, no LF, tab or CR; in a byte it is ASCII.
+abbrev pub is_char_item : CharKind → CharItem → Bool
+is_char_item kind (plain_char c) =
+    not (c == single_quote) && not (c == backslash) && not (is_special_whitespace c) && allows_char kind c
+is_char_item kind (escaped_char e) = is_escape (char_switches_of kind) e
+
+-- A char or a byte: the front, one item, `'` and a suffix.
+pub record CharParts : Type 0 where
+  pub item : CharItem
+  pub suffix : List ℕ
+
+-- how it is written
+abbrev pub char_text : CharKind → CharParts → List ℕ
+char_text kind d = char_front kind ++ (char_item_text d.item ++ single_quote ∷ d.suffix)
+
+-- the text is the literal of these parts
+pub record IsCharLiteral (kind : CharKind) (t : List ℕ) (d : CharParts) : Type 0 where
+  pub spells : char_text kind d ≡ t
+  pub item : IsTrue (is_char_item kind d.item)
+  pub suffix : IsTrue (is_suffix d.suffix)
+
+-- Why a text is no char or no byte. Of the rows of each function the first that fits decides, and where none fits the
+-- text is a literal.
+
+-- the three refusals that each kind has of its own
+abbrev pub unterminated_kind : CharKind → ParseErrorKind
+unterminated_kind char_kind = UnterminatedCharLiteral
+unterminated_kind byte_kind = UnterminatedByteLiteral
+
+abbrev pub empty_kind : CharKind → ParseErrorKind
+empty_kind char_kind = EmptyCharLiteral
+empty_kind byte_kind = EmptyByteLiteral
+
+abbrev pub overlong_kind : CharKind → ParseErrorKind
+overlong_kind char_kind = OverlongCharLiteral
+overlong_kind byte_kind = OverlongByteLiteral
+
+-- a text that does not begin with the front of its kind
+abbrev pub start_fault : CharKind → List ℕ → ParseError
+start_fault kind [] = plain Empty
+start_fault char_kind (c ∷ t) = at 0 DoesNotStartWithQuote
+start_fault byte_kind (c ∷ t) = plain InvalidByteLiteralStart
+
+-- how many characters the escape has that stands at the front of a text
+abbrev pub escape_length : List ℕ → ℕ
+escape_length t =
+    if slice_index t 1 == letter_x then 4
+    else if slice_index t 1 == letter_u then position_or_len (λ c. c == close_brace) t + 1
+    else 2
+
+-- how many the item has that begins with this character
+abbrev pub char_item_length : ℕ → List ℕ → ℕ
+char_item_length c t = if c == backslash then escape_length t else 1
+
+-- by what follows the item, which has this many bytes
+abbrev pub closing_fault : CharKind → ℕ → List ℕ → Option ParseError
+closing_fault kind place t =
+    if not (list_any (λ c. c == single_quote) t) then Some (plain (unterminated_kind kind))
+    else if not (first_passes (λ c. c == single_quote) t) then Some (plain (overlong_kind kind))
+    else if not (is_suffix (drop 1 t)) then Some (at (place + 1) (suffix_fault (drop 1 t)))
+    else None
+
+-- by what follows the front; spans count from there
+abbrev pub char_item_fault : CharKind → List ℕ → Option ParseError
+char_item_fault kind [] = Some (plain (unterminated_kind kind))
+char_item_fault kind (c ∷ t) =
+    let n = char_item_length c (c ∷ t) in
+    if (c == single_quote) && first_passes (λ d. d == single_quote) t then Some (at 0 UnescapedSingleQuote)
+    else if c == single_quote then Some (plain (empty_kind kind))
+    else if is_special_whitespace c then Some (at 0 UnescapedSpecialWhitespace)
+    else if (c == backslash) && is_some (escape_fault (char_switches_of kind) (c ∷ t))
+    then escape_fault (char_switches_of kind) (c ∷ t)
+    else if not (allows_char kind c) then Some (at 0 NonAsciiInByteLiteral)
+    else closing_fault kind (byte_len (take n (c ∷ t))) (drop n (c ∷ t))
+
+-- by the front, which a text must have
+unfoldable pub char_kind_fault : CharKind → List ℕ → Option ParseError
+char_kind_fault kind t =
+    let place = length (char_front kind) in
+    if begins_with (char_front kind) t then option_map (moved place) (char_item_fault kind (drop place t))
+    else Some (start_fault kind t)
+
+-- why a text is no char
+abbrev pub char_fault : List ℕ → Option ParseError
+char_fault = char_kind_fault char_kind
+
+-- why a text is no byte
+abbrev pub byte_fault : List ℕ → Option ParseError
+byte_fault = char_kind_fault byte_kind

@@ -1,0 +1,168 @@
+-- Escapes. The Rust Reference, Tokens, Literals: the tables "Quote escapes", "ASCII escapes", "Byte escapes" and
+-- "Unicode escapes", and which of them each literal has, under "Character escapes", "Byte literals",
+-- "Byte string literals" and "C string literals".
+use Rattle.std.specs.Prelude.{ℕ, ◌+◌, ◌*◌, Bool, true, false, not, ◌==◌, ◌&&◌, ◌||◌, nat_lt, nat_le, if◌then◌else◌, List, [], ◌∷◌, ◌++◌, Option, Some, None, IsTrue, length, slice_index, drop, zero, suc, count_by, take_while, encode_utf8}
+use Rattle.std.specs.Char.{is_ascii_hexdigit, digit_value}
+use Rattle.std.specs.List.{list_all, list_any, before_first}
+use Rattle.litrs_base.specs.declared.escape.Unescape.{Unescape}
+use Rattle.litrs_base.specs.declared.escape.Unescape.TheVariants.{Byte, Unicode}
+use Rattle.litrs_base.specs.declared.err.ParseError.{ParseError}
+use Rattle.litrs_base.specs.declared.err.ParseErrorKind.TheVariants.{UnterminatedEscape, DisallowedNulEscape, InvalidXEscape, NonAsciiXEscape, UnicodeEscapeInByteLiteral, UnicodeEscapeWithoutBrace, UnterminatedUnicodeEscape, InvalidStartOfUnicodeEscape, NonHexDigitInUnicodeEscape, TooManyDigitInUnicodeEscape, InvalidUnicodeEscapeChar, UnknownEscape}
+use Rattle.litrs_base.specs.Characters.{line_feed, tab, carriage_return, nul, single_quote, double_quote, backslash, digit_zero, underscore, letter_n, letter_r, letter_t, letter_u, letter_x, open_brace, close_brace, is_ascii, is_scalar, is_no_nul_unless}
+use Rattle.litrs_base.specs.Fault.{at, over}
+use Rattle.litrs_base.specs.Numeral.{numeral}
+use Rattle.litrs_base.specs.Text.{is_empty, byte_len, first_passes}
+
+-- What a literal allows in its escapes: `\u{..}`; `\x` above 7F; the value 0. Below is what each kind allows.
+pub record Switches : Type 0 where
+  pub unicode : Bool
+  pub byte_escapes : Bool
+  pub allow_nul : Bool
+
+abbrev pub char_switches : Switches
+char_switches = record { unicode = true; byte_escapes = false; allow_nul = true }
+
+abbrev pub byte_switches : Switches
+byte_switches = record { unicode = false; byte_escapes = true; allow_nul = true }
+
+abbrev pub string_switches : Switches
+string_switches = record { unicode = true; byte_escapes = false; allow_nul = true }
+
+abbrev pub byte_string_switches : Switches
+byte_string_switches = record { unicode = false; byte_escapes = true; allow_nul = true }
+
+abbrev pub c_string_switches : Switches
+c_string_switches = record { unicode = true; byte_escapes = true; allow_nul = false }
+
+-- An escape: a backslash and one character, `\x` and two digits, or `\u{..}` by what stands between the braces.
+pub data Escape : Type 0 where
+  simple_escape : ℕ → Escape
+  hex_escape : ℕ → ℕ → Escape
+  unicode_escape : List ℕ → Escape
+
+-- how it is written
+abbrev pub escape_text : Escape → List ℕ
+escape_text (simple_escape c) = backslash ∷ c ∷ []
+escape_text (hex_escape high low) = backslash ∷ letter_x ∷ high ∷ low ∷ []
+escape_text (unicode_escape inner) = backslash ∷ letter_u ∷ open_brace ∷ (inner ++ close_brace ∷ [])
+
+-- the characters that a backslash alone makes an escape: `'`, `"`, `n`, `r`, `t`, `\` and `0`
+abbrev pub is_simple : ℕ → Bool
+is_simple c =
+    (c == single_quote) || (c == double_quote) || (c == letter_n) || (c == letter_r) || (c == letter_t)
+    || (c == backslash) || (c == digit_zero)
+
+-- `\n`, `\r`, `\t` and `\0` stand for LF, CR, tab and NUL, and the others for the character itself
+abbrev pub simple_value : ℕ → ℕ
+simple_value c =
+    if c == letter_n then line_feed
+    else if c == letter_r then carriage_return
+    else if c == letter_t then tab
+    else if c == digit_zero then nul
+    else c
+
+-- the number that two hex digits write
+abbrev pub pair_value : ℕ → ℕ → ℕ
+pair_value high low = 16 * digit_value high + digit_value low
+
+-- the number that hex digits and underscores write
+abbrev pub hex_value : List ℕ → ℕ
+hex_value = numeral 16
+
+-- what may stand between the braces of `\u{..}`
+abbrev pub is_hex_or_underscore : ℕ → Bool
+is_hex_or_underscore c = is_ascii_hexdigit c || (c == underscore)
+
+-- what it stands for
+abbrev pub escape_value : Escape → Unescape
+escape_value (simple_escape c) = Byte (simple_value c)
+escape_value (hex_escape high low) = Byte (pair_value high low)
+escape_value (unicode_escape inner) = Unicode (hex_value inner)
+
+-- the bytes of a value: the byte itself, or the UTF-8 of the character
+abbrev pub value_bytes : Unescape → List ℕ
+value_bytes (Byte b) = b ∷ []
+value_bytes (Unicode c) = encode_utf8 c
+
+-- a value may be 0 only where NUL is allowed
+abbrev pub allows_value : Switches → ℕ → Bool
+allows_value w value = is_no_nul_unless w.allow_nul value
+
+-- `\x` goes up to 7F, or to FF where byte escapes are on
+abbrev pub allows_byte : Switches → ℕ → Bool
+allows_byte w value = w.byte_escapes || is_ascii value
+
+-- An escape is a simple one; or `\x` and two hex digits; or, where Unicode escapes are on, `\u{..}` with a hex digit
+-- first, one to six hex digits in all, underscores anywhere behind the first, and a Unicode scalar value.
+abbrev pub is_escape : Switches → Escape → Bool
+is_escape w (simple_escape c) = is_simple c && allows_value w (simple_value c)
+is_escape w (hex_escape high low) =
+    is_ascii_hexdigit high && is_ascii_hexdigit low
+    && allows_byte w (pair_value high low) && allows_value w (pair_value high low)
+is_escape w (unicode_escape inner) =
+    w.unicode && first_passes is_ascii_hexdigit inner && list_all is_hex_or_underscore inner
+    && nat_le (count_by is_ascii_hexdigit inner) 6
+    && allows_value w (hex_value inner) && is_scalar (hex_value inner)
+
+-- the same, as a condition
+abbrev pub IsEscape : Switches → Escape → Type 0
+IsEscape w e = IsTrue (is_escape w e)
+
+-- Why a text has no escape at its front. The text is empty or begins with the backslash, from which the spans count; of the
+-- rows of each function the first that fits decides, and where none fits an escape stands there.
+
+-- a character ends behind the first two bytes, as it does where the first one has two, or the first two have: otherwise the
+-- two bytes behind `\x` are not there, or they end inside a character
+abbrev pub has_two_bytes : List ℕ → Bool
+has_two_bytes [] = false
+has_two_bytes (c ∷ []) = byte_len (c ∷ []) == 2
+has_two_bytes (c ∷ d ∷ t) = (byte_len (c ∷ []) == 2) || (byte_len (c ∷ d ∷ []) == 2)
+
+-- by what follows `\x`
+abbrev pub hex_fault : Switches → List ℕ → Option ParseError
+hex_fault w t =
+    let high = slice_index t 0 in
+    let low = slice_index t 1 in
+    if not (has_two_bytes t) then Some (over 0 (2 + byte_len t) UnterminatedEscape)
+    else if not (is_ascii_hexdigit high && is_ascii_hexdigit low) then Some (over 0 4 InvalidXEscape)
+    else if not (allows_byte w (pair_value high low)) then Some (over 0 4 NonAsciiXEscape)
+    else if not (allows_value w (pair_value high low)) then Some (over 0 4 DisallowedNulEscape)
+    else None
+
+-- the place of the first character that passes the test once n have passed it
+abbrev pub place_behind : ℕ → (ℕ → Bool) → List ℕ → ℕ
+place_behind n p [] = 0
+place_behind zero p (c ∷ t) = if p c then 0 else 1 + place_behind zero p t
+place_behind (suc n) p (c ∷ t) = 1 + place_behind (if p c then n else suc n) p t
+
+-- by what stands between `\u{` and the first `}`
+abbrev pub inner_fault : Switches → List ℕ → Option ParseError
+inner_fault w inner =
+    let digits = take_while is_hex_or_underscore inner in
+    if is_empty inner || first_passes (λ c. c == underscore) inner then Some (at 3 InvalidStartOfUnicodeEscape)
+    else if nat_lt (length digits) (length inner) && nat_le (count_by is_ascii_hexdigit digits) 6
+    then Some (at (3 + length digits) NonHexDigitInUnicodeEscape)
+    else if nat_lt 6 (count_by is_ascii_hexdigit inner)
+    then Some (at (3 + place_behind 6 is_ascii_hexdigit inner) TooManyDigitInUnicodeEscape)
+    else if not (allows_value w (hex_value inner)) then Some (over 0 (4 + length inner) DisallowedNulEscape)
+    else if not (is_scalar (hex_value inner)) then Some (over 0 (4 + length inner) InvalidUnicodeEscapeChar)
+    else None
+
+-- by what follows `\u`
+abbrev pub unicode_fault : Switches → List ℕ → Option ParseError
+unicode_fault w t =
+    if not w.unicode then Some (over 0 2 UnicodeEscapeInByteLiteral)
+    else if not (first_passes (λ c. c == open_brace) t) then Some (over 0 2 UnicodeEscapeWithoutBrace)
+    else if not (list_any (λ c. c == close_brace) t) then Some (over 0 (2 + byte_len t) UnterminatedUnicodeEscape)
+    else inner_fault w (before_first (λ c. c == close_brace) (drop 1 t))
+
+-- by what follows the backslash
+unfoldable pub escape_fault : Switches → List ℕ → Option ParseError
+escape_fault w [] = Some (at 0 UnterminatedEscape)
+escape_fault w (c ∷ []) = Some (at 0 UnterminatedEscape)
+escape_fault w (c ∷ letter ∷ t) =
+    if (letter == digit_zero) && not w.allow_nul then Some (over 0 2 DisallowedNulEscape)
+    else if letter == letter_x then hex_fault w t
+    else if letter == letter_u then unicode_fault w t
+    else if is_simple letter then None
+    else Some (over 0 2 UnknownEscape)

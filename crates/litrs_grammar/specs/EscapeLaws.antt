@@ -1,0 +1,25 @@
+-- What holds of all escapes.
+use Rattle.std.specs.Prelude.{◌≡◌, ◌↔◌, ℕ, List, ◌∷◌, ◌++◌, Some, None}
+use Rattle.litrs_base.specs.declared.err.ParseError.{ParseError}
+use Rattle.litrs_base.specs.Characters.{backslash}
+use Rattle.litrs_grammar.specs.Escape.{Switches, Escape, IsEscape, escape_text, escape_fault}
+use Rattle.litrs_base.specs.Fault.{IsInText}
+
+-- at most one escape stands at the front of a text
+abbrev pub EscapesAreUnique : Type 0
+EscapesAreUnique = (w : Switches) (e f : Escape) (x y : List ℕ) →
+    IsEscape w e → IsEscape w f → escape_text e ++ x ≡ escape_text f ++ y → (e ≡ f) × (x ≡ y)
+
+-- some escape stands at the front of the text
+abbrev pub BeginsWithEscape : Switches → List ℕ → Type 0
+BeginsWithEscape w t = (e : Escape) × (rest : List ℕ) × (escape_text e ++ rest ≡ t) × IsEscape w e
+
+-- an escape stands at the front of a text that begins with a backslash, or the table refuses it: one of the two, and
+-- never both
+abbrev pub EscapesAreDecided : Type 0
+EscapesAreDecided = (w : Switches) (t : List ℕ) →
+    (escape_fault w (backslash ∷ t) ≡ None) ↔ BeginsWithEscape w (backslash ∷ t)
+
+-- the span of each refusal lies within the text and starts on a character boundary
+abbrev pub EscapeSpansLieInText : Type 0
+EscapeSpansLieInText = (w : Switches) (t : List ℕ) (e : ParseError) → escape_fault w (backslash ∷ t) ≡ Some e → IsInText (backslash ∷ t) e

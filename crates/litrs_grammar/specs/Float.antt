@@ -1,0 +1,144 @@
+-- Floating-point literals. The Rust Reference, Tokens, Literals: "Floating-point literals".
+-- The grammar stands first, the refusals below it.
+use Rattle.std.specs.Prelude.{◌≡◌, ℕ, ◌+◌, ◌==◌, ◌&&◌, ◌||◌, Bool, false, not, List, [], ◌∷◌, ◌++◌, length, take, drop, take_while, Option, Some, None, is_some, IsTrue, IsFalse, if◌then◌else◌}
+use Rattle.std.specs.Char.{is_ascii_digit}
+use Rattle.std.specs.List.{list_all, list_any}
+use Rattle.litrs_base.specs.declared.err.ParseErrorKind.TheVariants.{Empty, DoesNotStartWithDigit, UnexpectedChar, NoExponentDigits, UnexpectedIntegerLit}
+use Rattle.litrs_base.specs.declared.err.ParseError.{ParseError}
+use Rattle.litrs_base.specs.Characters.{period, underscore, plus, minus}
+use Rattle.litrs_base.specs.Text.{is_empty, byte_len, first_passes}
+use Rattle.litrs_base.specs.Fault.{plain, over, at}
+use Rattle.litrs_grammar.specs.Suffix.{is_suffix, suffix_fault}
+use Rattle.litrs_base.specs.declared.integer.IntegerBase.TheVariants.{Decimal}
+use Rattle.litrs_base.specs.Base.{is_digit_or_underscore}
+use Rattle.litrs_grammar.specs.Integer.{is_e}
+
+-- The parts of a float: `147.3_33__E3f64` has the integer part `147`, the fraction `3_33__`, the exponent `E3`
+-- and the suffix `f64`. The fraction is None where there is no period, and empty where nothing is behind it.
+-- The exponent begins with its letter, and is empty where there is none.
+pub record FloatParts : Type 0 where
+  pub integer : List ℕ
+  pub fraction : Option (List ℕ)
+  pub exponent : List ℕ
+  pub suffix : List ℕ
+
+-- the period and the fraction
+abbrev pub fraction_text : Option (List ℕ) → List ℕ
+fraction_text None = []
+fraction_text (Some digits) = period ∷ digits
+
+-- all but the suffix
+abbrev pub number_part : FloatParts → List ℕ
+number_part d = d.integer ++ (fraction_text d.fraction ++ d.exponent)
+
+-- the text that has these parts
+abbrev pub float_text : FloatParts → List ℕ
+float_text d = d.integer ++ (fraction_text d.fraction ++ (d.exponent ++ d.suffix))
+
+-- what may stand behind the first digit: a decimal digit or `_`
+abbrev pub is_decimal_char : ℕ → Bool
+is_decimal_char c = is_digit_or_underscore Decimal c
+
+abbrev pub is_underscore : ℕ → Bool
+is_underscore c = c == underscore
+
+abbrev pub is_period : ℕ → Bool
+is_period c = c == period
+
+-- `+` or `-`
+abbrev pub is_sign : ℕ → Bool
+is_sign c = (c == plus) || (c == minus)
+
+-- a decimal digit, then digits and `_`
+abbrev pub is_decimal_literal : List ℕ → Bool
+is_decimal_literal t = first_passes is_ascii_digit t && list_all is_decimal_char t
+
+-- digits and `_`, with at least one digit
+abbrev pub is_exponent_number : List ℕ → Bool
+is_exponent_number t = list_all is_decimal_char t && list_any is_ascii_digit t
+
+-- how many characters an optional sign takes
+abbrev pub sign_len : List ℕ → ℕ
+sign_len t = if first_passes is_sign t then 1 else 0
+
+-- `e` or `E`, an optional sign, then digits and `_` with at least one digit
+unfoldable pub is_exponent : List ℕ → Bool
+is_exponent [] = false
+is_exponent (c ∷ cs) = is_e c && is_exponent_number (drop (sign_len cs) cs)
+
+-- The three forms behind the integer part: a period that ends the text; a period, a fraction, an optional
+-- exponent and a suffix; an exponent and a suffix.
+abbrev pub is_float_form : Option (List ℕ) → List ℕ → List ℕ → Bool
+is_float_form (Some []) exponent suffix = is_empty exponent && is_empty suffix
+is_float_form (Some (c ∷ cs)) exponent suffix = is_decimal_literal (c ∷ cs) && (is_empty exponent || is_exponent exponent)
+is_float_form None exponent suffix = is_exponent exponent
+
+-- The parts are those of a float. The suffix does not begin with `_`, nor with `e` or `E` but behind an exponent.
+pub record IsFloat (d : FloatParts) : Type 0 where
+  pub integer : IsTrue (is_decimal_literal d.integer)
+  pub form : IsTrue (is_float_form d.fraction d.exponent d.suffix)
+  pub suffix : IsTrue (is_suffix d.suffix)
+  pub no_underscore : IsFalse (first_passes is_underscore d.suffix)
+  pub no_letter : IsTrue (is_empty d.exponent) → IsFalse (first_passes is_e d.suffix)
+
+-- the text is a float with these parts
+pub record IsFloatOf (t : List ℕ) (d : FloatParts) : Type 0 where
+  pub spells : float_text d ≡ t
+  pub grammar : IsFloat d
+
+-- Refusals. A text that begins with a digit is cut into the parts that a float would have, whether it is one or not.
+
+-- the fraction, by what stands behind the integer part: where that is a period, the digits and `_` behind it
+abbrev pub fraction_of : List ℕ → Option (List ℕ)
+fraction_of [] = None
+fraction_of (c ∷ cs) = if is_period c then Some (take_while is_decimal_char cs) else None
+
+-- the exponent, by what stands behind the fraction: where that is `e` or `E`, the letter, a sign that follows, and the
+-- digits and `_` behind them
+abbrev pub exponent_of : List ℕ → List ℕ
+exponent_of [] = []
+exponent_of (c ∷ cs) =
+    if is_e c then c ∷ (take (sign_len cs) cs ++ take_while is_decimal_char (drop (sign_len cs) cs)) else []
+
+-- what stands behind the front of a text
+abbrev pub behind : List ℕ → List ℕ → List ℕ
+behind front t = drop (length front) t
+
+-- the integer part is the digits and `_` that the text begins with, and the suffix what stands behind the other parts
+unfoldable pub float_cut : List ℕ → FloatParts
+float_cut t =
+    let integer = take_while is_decimal_char t in
+    let fraction = fraction_of (behind integer t) in
+    let exponent = exponent_of (behind (integer ++ fraction_text fraction) t) in
+    record {
+      integer = integer;
+      fraction = fraction;
+      exponent = exponent;
+      suffix = behind (integer ++ (fraction_text fraction ++ exponent)) t;
+    }
+
+-- a period, and behind it something that is no decimal digit
+abbrev pub has_wrong_fraction : List ℕ → Bool
+has_wrong_fraction [] = false
+has_wrong_fraction (c ∷ cs) = is_period c && (not (is_empty cs) && not (first_passes is_ascii_digit cs))
+
+-- A text that begins with a digit, by its parts; the first row that fits decides. All before the suffix is ASCII, one byte a
+-- character.
+abbrev pub float_cut_fault : FloatParts → Option ParseError
+float_cut_fault d =
+    let fraction = length d.integer in
+    let exponent = fraction + length (fraction_text d.fraction) in
+    let suffix = exponent + length d.exponent in
+    let has_exponent = not (is_empty d.exponent) in
+    if has_wrong_fraction (fraction_text d.fraction ++ (d.exponent ++ d.suffix)) then Some (at (fraction + 1) UnexpectedChar)
+    else if has_exponent && not (list_any is_ascii_digit d.exponent) then Some (over exponent suffix NoExponentDigits)
+    else if not (is_suffix d.suffix) then Some (over suffix (byte_len (float_text d)) (suffix_fault d.suffix))
+    else if not (is_some d.fraction || has_exponent) then Some (plain UnexpectedIntegerLit)
+    else None
+
+-- why a text is no float: None where it is one
+unfoldable pub float_fault : List ℕ → Option ParseError
+float_fault t =
+    if is_empty t then Some (plain Empty)
+    else if not (first_passes is_ascii_digit t) then Some (at 0 DoesNotStartWithDigit)
+    else float_cut_fault (float_cut t)

@@ -1,0 +1,98 @@
+-- Integers. The Rust Reference, Tokens, Literals: "Integer literals".
+use Rattle.std.specs.Prelude.{◌≡◌, ℕ, ◌==◌, ◌||◌, Bool, not, IsTrue, IsFalse, List, length, drop, ◌++◌, Option, Some, None, if◌then◌else◌}
+use Rattle.std.specs.Char.{is_ascii_digit}
+use Rattle.std.specs.List.{list_all, list_any, take_while}
+use Rattle.litrs_base.specs.declared.integer.IntegerBase.{IntegerBase}
+use Rattle.litrs_base.specs.declared.integer.IntegerBase.TheVariants.{Binary, Octal, Decimal, Hexadecimal}
+use Rattle.litrs_base.specs.declared.err.ParseErrorKind.TheVariants.{Empty, DoesNotStartWithDigit, InvalidDigit, NoDigits, IntegerSuffixStartingWithE}
+use Rattle.litrs_base.specs.declared.err.ParseError.{ParseError}
+use Rattle.litrs_base.specs.Characters.{letter_e, capital_e}
+use Rattle.litrs_base.specs.Fault.{plain, over, at}
+use Rattle.litrs_base.specs.Text.{is_empty, byte_len, first_passes, begins_with}
+use Rattle.litrs_grammar.specs.Suffix.{is_suffix, suffix_fault}
+use Rattle.litrs_base.specs.Base.{prefix, base_value, is_digit, is_digit_or_underscore}
+use Rattle.litrs_base.specs.Numeral.{numeral}
+
+-- The grammar
+
+-- what an integer is made of: a prefix that tells the base, the main part, and the suffix
+pub record IntegerParts : Type 0 where
+  pub base : IntegerBase
+  pub main : List ℕ
+  pub suffix : List ℕ
+
+-- how it is written
+abbrev pub integer_text : IntegerParts → List ℕ
+integer_text d = prefix d.base ++ (d.main ++ d.suffix)
+
+-- `e` or `E`
+abbrev pub is_e : ℕ → Bool
+is_e c = (c == letter_e) || (c == capital_e)
+
+-- `0b`, `0o` or `0x` stands at the start
+abbrev pub has_prefix : List ℕ → Bool
+has_prefix t = begins_with (prefix Binary) t || begins_with (prefix Octal) t || begins_with (prefix Hexadecimal) t
+
+-- The main part has digits of the base and underscores, at least one digit, and takes all of them that follow.
+-- The suffix does not begin with `e` or `E`. A decimal integer begins with a digit, and not with the prefix of another base.
+pub record IsInteger (d : IntegerParts) : Type 0 where
+  pub digits : IsTrue (list_all (is_digit_or_underscore d.base) d.main)
+  pub some_digit : IsTrue (list_any (is_digit d.base) d.main)
+  pub ends : IsFalse (first_passes (is_digit_or_underscore d.base) d.suffix)
+  pub suffix : IsTrue (is_suffix d.suffix)
+  pub no_exponent : IsFalse (first_passes is_e d.suffix)
+  pub decimal_digit : d.base ≡ Decimal → IsTrue (first_passes is_ascii_digit d.main)
+  pub decimal_prefix : d.base ≡ Decimal → IsFalse (has_prefix (integer_text d))
+
+-- d is a derivation of t as an integer
+pub record IsIntegerOf (t : List ℕ) (d : IntegerParts) : Type 0 where
+  pub spells : integer_text d ≡ t
+  pub grammar : IsInteger d
+
+-- the value of an integer: of its main part in its base, whatever the suffix
+abbrev pub integer_value : IntegerParts → ℕ
+integer_value d = numeral (base_value d.base) d.main
+
+-- The refusals
+
+-- The base that the front of a text tells: `0b`, `0o` and `0x` are always the prefix, and everything else is decimal.
+abbrev pub base_of : List ℕ → IntegerBase
+base_of t = if begins_with (prefix Binary) t then Binary
+    else if begins_with (prefix Octal) t then Octal
+    else if begins_with (prefix Hexadecimal) t then Hexadecimal
+    else Decimal
+
+-- what stands behind the prefix
+abbrev pub behind_prefix : List ℕ → List ℕ
+behind_prefix t = drop (length (prefix (base_of t))) t
+
+-- the main part: all digits of the base and underscores that follow the prefix
+abbrev pub main_of : List ℕ → List ℕ
+main_of t = take_while (is_digit_or_underscore (base_of t)) (behind_prefix t)
+
+-- what stands behind the main part
+abbrev pub behind_main : List ℕ → List ℕ
+behind_main t = drop (length (main_of t)) (behind_prefix t)
+
+-- a text cut behind the prefix and behind the main part
+unfoldable pub integer_cut : List ℕ → IntegerParts
+integer_cut t = record { base = base_of t; main = main_of t; suffix = behind_main t }
+
+-- A text that begins with a decimal digit, by its main part and by what stands behind; the first row that fits decides.
+abbrev pub cut_fault : IntegerParts → Option ParseError
+cut_fault d =
+    let start = byte_len (prefix d.base) in
+    let end = byte_len (prefix d.base ++ d.main) in
+    if not (is_suffix d.suffix) then
+    (if first_passes is_ascii_digit d.suffix then Some (at end InvalidDigit)
+    else Some (over end (byte_len (integer_text d)) (suffix_fault d.suffix)))
+    else if first_passes is_e d.suffix then Some (at end IntegerSuffixStartingWithE)
+    else if not (list_any (is_digit d.base) d.main) then Some (over start end NoDigits)
+    else None
+
+-- the refusal of a text as an integer, None where there is none
+unfoldable pub integer_fault : List ℕ → Option ParseError
+integer_fault t =
+    if is_empty t then Some (plain Empty)
+    else if not (first_passes is_ascii_digit t) then Some (at 0 DoesNotStartWithDigit)
+    else cut_fault (integer_cut t)

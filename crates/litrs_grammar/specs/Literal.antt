@@ -1,0 +1,94 @@
+-- Literals of all eight kinds. The Rust Reference, Tokens, Literals.
+use Rattle.std.specs.Prelude.{◌≡◌, ℕ, List, [], ◌++◌, Bool}
+use Rattle.litrs_grammar.specs.StringKind.{StringKind, string_kind, byte_string_kind, c_string_kind}
+use Rattle.litrs_base.specs.Text.{IsText}
+use Rattle.litrs_grammar.specs.Bool.{IsBool}
+use Rattle.litrs_grammar.specs.Integer.{IntegerParts, IsIntegerOf}
+use Rattle.litrs_grammar.specs.Float.{FloatParts, IsFloatOf}
+use Rattle.litrs_grammar.specs.CharByte.{CharParts, char_kind, byte_kind, IsCharLiteral}
+use Rattle.litrs_grammar.specs.Quoted.{QuotedParts, IsQuotedLiteral}
+use Rattle.litrs_grammar.specs.Raw.{RawParts, IsRawLiteral}
+
+-- A string literal of each of its three kinds is quoted or raw.
+pub data StringParts : Type 0 where
+  quoted_parts : QuotedParts → StringParts
+  raw_parts : RawParts → StringParts
+
+-- the text is a string of the kind with these parts
+abbrev pub IsString : StringKind → List ℕ → StringParts → Type 0
+IsString kind t (quoted_parts d) = IsQuotedLiteral kind t d
+IsString kind t (raw_parts d) = IsRawLiteral kind t d
+
+-- its suffix
+abbrev pub string_suffix : StringParts → List ℕ
+string_suffix (quoted_parts d) = d.suffix
+string_suffix (raw_parts d) = d.suffix
+
+-- A derivation tells the kind of a literal and the parts that it is made of.
+pub data Derivation : Type 0 where
+  a_bool : Bool → Derivation
+  an_integer : IntegerParts → Derivation
+  a_float : FloatParts → Derivation
+  a_char : CharParts → Derivation
+  a_byte : CharParts → Derivation
+  a_string : StringParts → Derivation
+  a_byte_string : StringParts → Derivation
+  a_c_string : StringParts → Derivation
+
+-- d is a derivation of t: the text is a literal of this kind with these parts
+abbrev pub IsLiteral : List ℕ → Derivation → Type 0
+IsLiteral t (a_bool b) = IsBool t b
+IsLiteral t (an_integer d) = IsIntegerOf t d
+IsLiteral t (a_float d) = IsFloatOf t d
+IsLiteral t (a_char d) = IsCharLiteral char_kind t d
+IsLiteral t (a_byte d) = IsCharLiteral byte_kind t d
+IsLiteral t (a_string d) = IsString string_kind t d
+IsLiteral t (a_byte_string d) = IsString byte_string_kind t d
+IsLiteral t (a_c_string d) = IsString c_string_kind t d
+
+-- the suffix of a literal; a bool has none
+abbrev pub suffix_of : Derivation → List ℕ
+suffix_of (a_bool b) = []
+suffix_of (an_integer d) = d.suffix
+suffix_of (a_float d) = d.suffix
+suffix_of (a_char d) = d.suffix
+suffix_of (a_byte d) = d.suffix
+suffix_of (a_string d) = string_suffix d
+suffix_of (a_byte_string d) = string_suffix d
+suffix_of (a_c_string d) = string_suffix d
+
+-- The kinds.
+pub data LiteralKind : Type 0 where
+  bool_literal : LiteralKind
+  integer_literal : LiteralKind
+  float_literal : LiteralKind
+  char_literal : LiteralKind
+  byte_literal : LiteralKind
+  string_literal : LiteralKind
+  byte_string_literal : LiteralKind
+  c_string_literal : LiteralKind
+
+-- the kind of a literal
+abbrev pub literal_kind : Derivation → LiteralKind
+literal_kind (a_bool b) = bool_literal
+literal_kind (an_integer d) = integer_literal
+literal_kind (a_float d) = float_literal
+literal_kind (a_char d) = char_literal
+literal_kind (a_byte d) = byte_literal
+literal_kind (a_string d) = string_literal
+literal_kind (a_byte_string d) = byte_string_literal
+literal_kind (a_c_string d) = c_string_literal
+
+-- The nine parses: that of literals of any kind, and that of each kind alone.
+pub data Parse : Type 0 where
+  literal_parse : Parse
+  kind_parse : LiteralKind → Parse
+
+-- d is a derivation of t that the parse looks for
+abbrev pub IsLiteralOf : Parse → List ℕ → Derivation → Type 0
+IsLiteralOf literal_parse t d = IsLiteral t d
+IsLiteralOf (kind_parse kind) t d = (literal_kind d ≡ kind) × IsLiteral t d
+
+-- t begins a literal: with some text behind it, which may be empty, it is one
+abbrev pub Begins : Parse → List ℕ → Type 0
+Begins parse t = (more : List ℕ) × (d : Derivation) × IsText more × IsLiteralOf parse (t ++ more) d

@@ -1,0 +1,13 @@
+-- What holds of texts that are compared, and of the names of types.
+use Rattle.std.specs.Prelude.{◌≡◌, ◌↔◌, ℕ, List, nat_eq, IsTrue}
+use Rattle.std.specs.Cmp.Lexicographic.{pointwise}
+use Rattle.litrs_base.specs.declared.integer.IntegerType.{IntegerType}
+use Rattle.litrs_base.specs.IntegerTypes.{type_name}
+
+-- Comparing literals compares their texts, byte by byte: they are equal exactly where their texts are.
+abbrev pub EqualityIsOfTexts : Type 0
+EqualityIsOfTexts = (a b : List ℕ) → IsTrue (pointwise nat_eq a b) ↔ (a ≡ b)
+
+-- No two integer types have one name.
+abbrev pub TypeNamesAreDistinct : Type 0
+TypeNamesAreDistinct = (t u : IntegerType) → type_name t ≡ type_name u → t ≡ u

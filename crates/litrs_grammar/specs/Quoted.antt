@@ -1,0 +1,150 @@
+-- Quoted strings, byte strings and C strings. The Rust Reference, Tokens, Literals: "String literals", "Byte
+-- string literals" and "C string literals"; Literal expressions: "String continuation escapes".
+use Rattle.std.specs.Prelude.{◌≡◌, ℕ, Bool, true, not, ◌==◌, ◌&&◌, if◌then◌else◌, List, [], ◌∷◌, ◌++◌, Option, Some, None, IsTrue, encode_utf8}
+use Rattle.std.specs.List.{list_all}
+use Rattle.litrs_base.specs.declared.err.ParseError.{ParseError}
+use Rattle.litrs_base.specs.declared.err.ParseErrorKind.TheVariants.{UnterminatedString, CarriageReturn, NulByte, NonAsciiInByteLiteral}
+use Rattle.litrs_base.specs.Characters.{line_feed, carriage_return, double_quote, backslash, letter_b, letter_c, is_blank, is_ascii_unless, is_no_nul_unless}
+use Rattle.litrs_grammar.specs.Escape.{Switches, Escape, escape_text, escape_value, value_bytes, allows_value, is_escape, escape_fault}
+use Rattle.litrs_base.specs.Fault.{plain, at, moved}
+use Rattle.litrs_grammar.specs.StringKind.{StringKind, string_kind, byte_string_kind, c_string_kind, switches_of}
+use Rattle.litrs_grammar.specs.Suffix.{is_suffix, suffix_fault}
+use Rattle.litrs_base.specs.Text.{is_empty, byte_len, first_passes}
+
+-- what stands before its body: `"`, `b"` or `c"`
+abbrev pub quoted_front : StringKind → List ℕ
+quoted_front string_kind = double_quote ∷ []
+quoted_front byte_string_kind = letter_b ∷ double_quote ∷ []
+quoted_front c_string_kind = letter_c ∷ double_quote ∷ []
+
+-- An item of a body: a character that stands for itself, an escape, or a continuation, which is a backslash, LF and all
+-- spaces, tabs and LFs behind it.
+pub data Item : Type 0 where
+  plain_item : ℕ → Item
+  escape_item : Escape → Item
+  continuation : List ℕ → Item
+
+-- how it is written
+abbrev pub item_text : Item → List ℕ
+item_text (plain_item c) = c ∷ []
+item_text (escape_item e) = escape_text e
+item_text (continuation blanks) = backslash ∷ line_feed ∷ blanks
+
+-- the bytes that it stands for
+abbrev pub item_value : Item → List ℕ
+item_value (plain_item c) = encode_utf8 c
+item_value (escape_item e) = value_bytes (escape_value e)
+item_value (continuation blanks) = []
+
+-- A character stands for itself that is no `"`, no backslash and no CR; in a byte string it is ASCII, and in a C string
+-- it is not NUL.
+abbrev pub is_plain : Switches → ℕ → Bool
+is_plain w c =
+    not (c == double_quote) && not (c == backslash) && not (c == carriage_return)
+    && is_ascii_unless w.unicode c && is_no_nul_unless w.allow_nul c
+
+abbrev pub is_item : Switches → Item → Bool
+is_item w (plain_item c) = is_plain w c
+is_item w (escape_item e) = is_escape w e
+is_item w (continuation blanks) = list_all is_blank blanks
+
+-- the texts of items, one behind the other
+abbrev pub body_text : List Item → List ℕ
+body_text [] = []
+body_text (item ∷ items) = item_text item ++ body_text items
+
+-- the bytes that they stand for, one behind the other
+abbrev pub body_value : List Item → List ℕ
+body_value [] = []
+body_value (item ∷ items) = item_value item ++ body_value items
+
+-- behind a continuation stands no space, tab or LF: it has them all
+abbrev pub takes_all_blanks : Item → List ℕ → Bool
+takes_all_blanks (plain_item c) behind = true
+takes_all_blanks (escape_item e) behind = true
+takes_all_blanks (continuation blanks) behind = not (first_passes is_blank behind)
+
+-- A quoted body is a list of items in which none that begins with space, tab or LF follows a continuation.
+abbrev pub is_body : Switches → List Item → Bool
+is_body w [] = true
+is_body w (item ∷ items) = is_item w item && takes_all_blanks item (body_text items) && is_body w items
+
+-- the text is that of a body, with these items
+pub record IsBodyOf (w : Switches) (t : List ℕ) (items : List Item) : Type 0 where
+  pub spells : body_text items ≡ t
+  pub body : IsTrue (is_body w items)
+
+-- A quoted literal: the front, a body, `"` and a suffix.
+pub record QuotedParts : Type 0 where
+  pub items : List Item
+  pub suffix : List ℕ
+
+-- how it is written
+abbrev pub quoted_text : List ℕ → QuotedParts → List ℕ
+quoted_text front q = front ++ (body_text q.items ++ double_quote ∷ q.suffix)
+
+-- the text is the literal of these parts behind this front
+pub record IsQuoted (front : List ℕ) (w : Switches) (t : List ℕ) (q : QuotedParts) : Type 0 where
+  pub spells : quoted_text front q ≡ t
+  pub body : IsTrue (is_body w q.items)
+  pub suffix : IsTrue (is_suffix q.suffix)
+
+-- the same for one of the three kinds
+abbrev pub IsQuotedLiteral : StringKind → List ℕ → QuotedParts → Type 0
+IsQuotedLiteral kind = IsQuoted (quoted_front kind) (switches_of kind)
+
+-- Why a text is no quoted literal. It is the front, the text of a list of items, and a rest which alone tells why.
+
+-- An item is taken into the list by what stands behind it. A continuation has all spaces, tabs and LFs; and neither a
+-- continuation nor an escape is taken that ends the text: it belongs to the rest.
+abbrev pub is_taken_before : List ℕ → Item → Bool
+is_taken_before behind (plain_item c) = true
+is_taken_before behind (escape_item e) = not (is_empty behind)
+is_taken_before behind (continuation blanks) = not (is_empty behind) && not (first_passes is_blank behind)
+
+-- the items are taken into the list, where the rest stands behind them
+abbrev pub stand_before : Switches → List ℕ → List Item → Bool
+stand_before w rest [] = true
+stand_before w rest (item ∷ items) =
+    is_item w item && is_taken_before (body_text items ++ rest) item && stand_before w rest items
+
+-- a text without its last character
+abbrev pub without_last : List ℕ → List ℕ
+without_last [] = []
+without_last (c ∷ []) = []
+without_last (c ∷ d ∷ t) = c ∷ without_last (d ∷ t)
+
+-- The rest begins with a backslash: LF and only spaces, tabs and LFs follow it to the end of the text; or no LF follows,
+-- and no escape stands there, which is read without the last character of the text.
+abbrev pub backslash_fault : Switches → List ℕ → Option ParseError
+backslash_fault w t =
+    if first_passes (λ c. c == line_feed) t
+    then (if list_all is_blank t then Some (plain UnterminatedString) else None)
+    else escape_fault w (without_last (backslash ∷ t))
+
+-- Why nothing of the literal stands at the front of the rest; spans count from there. At its end the closing quote
+-- lacks. None: an item or the closing quote with a suffix stands there.
+unfoldable pub rest_fault : Switches → List ℕ → Option ParseError
+rest_fault w [] = Some (plain UnterminatedString)
+rest_fault w (c ∷ t) =
+    if c == backslash then backslash_fault w t
+    else if c == carriage_return then Some (at 0 CarriageReturn)
+    else if not (allows_value w c) then Some (at 0 NulByte)
+    else if not (is_ascii_unless w.unicode c) then Some (at 0 NonAsciiInByteLiteral)
+    else if (c == double_quote) && not (is_suffix t) then Some (at 1 (suffix_fault t))
+    else None
+
+-- The text is refused as a quoted literal behind this front, as the rest tells. The span moves by the bytes before the
+-- rest.
+pub record IsQuotedFault (front : List ℕ) (w : Switches) (t : List ℕ) (e : ParseError) : Type 0 where
+  pub items : List Item
+  pub rest : List ℕ
+  pub cause : ParseError
+  pub spells : front ++ (body_text items ++ rest) ≡ t
+  pub taken : IsTrue (stand_before w rest items)
+  pub told : rest_fault w rest ≡ Some cause
+  pub placed : moved (byte_len (front ++ body_text items)) cause ≡ e
+
+-- the same for one of the three kinds
+abbrev pub IsQuotedLiteralFault : StringKind → List ℕ → ParseError → Type 0
+IsQuotedLiteralFault kind = IsQuotedFault (quoted_front kind) (switches_of kind)

@@ -1,0 +1,70 @@
+-- What holds of all quoted literals: strings, byte strings and C strings.
+use Rattle.std.specs.Prelude.{◌≡◌, ◌↔◌, ◌⊎◌, ℕ, ◌≤◌, ◌==◌, List, [], ◌∷◌, ◌++◌, length, IsFalse}
+use Rattle.std.specs.List.{list_any}
+use Rattle.litrs_grammar.specs.StringKind.{StringKind}
+use Rattle.litrs_base.specs.declared.err.ParseError.{ParseError}
+use Rattle.litrs_base.specs.Characters.{backslash, line_feed, nul, is_blank}
+use Rattle.litrs_grammar.specs.Escape.{Switches}
+use Rattle.litrs_grammar.specs.Quoted.{Item, body_value, IsBodyOf, QuotedParts, IsQuoted, IsQuotedLiteral, IsQuotedFault}
+use Rattle.litrs_base.specs.Fault.{IsInText}
+use Rattle.litrs_base.specs.Text.{byte_len, first_passes}
+
+-- a text has at most one derivation as a quoted literal, over all three kinds together
+abbrev pub QuotedLiteralsAreUnique : Type 0
+QuotedLiteralsAreUnique = (t : List ℕ) (k l : StringKind) (q r : QuotedParts) →
+    IsQuotedLiteral k t q → IsQuotedLiteral l t r → (k ≡ l) × (q ≡ r)
+
+-- Of any front and any switches.
+
+-- a text has at most one derivation
+abbrev pub QuotedTextsAreUnique : Type 0
+QuotedTextsAreUnique = (front : List ℕ) (w : Switches) (t : List ℕ) (q r : QuotedParts) →
+    IsQuoted front w t q → IsQuoted front w t r → q ≡ r
+
+-- at most one pair of kind and span refuses it
+abbrev pub QuotedRefusalsAreUnique : Type 0
+QuotedRefusalsAreUnique = (front : List ℕ) (w : Switches) (t : List ℕ) (e f : ParseError) →
+    IsQuotedFault front w t e → IsQuotedFault front w t f → e ≡ f
+
+-- a text that begins with the front is a literal or refused
+abbrev pub QuotedTextsAreDecided : Type 0
+QuotedTextsAreDecided = (front : List ℕ) (w : Switches) (t : List ℕ) →
+    ((q : QuotedParts) × IsQuoted front w (front ++ t) q) ⊎ ((e : ParseError) × IsQuotedFault front w (front ++ t) e)
+
+-- and never both
+abbrev pub QuotedTextsAreNotRefused : Type 0
+QuotedTextsAreNotRefused = (front : List ℕ) (w : Switches) (t : List ℕ) (q : QuotedParts) (e : ParseError) →
+    IsQuoted front w t q → ¬ IsQuotedFault front w t e
+
+-- the span of each refusal lies within the text and starts on a character boundary
+abbrev pub QuotedSpansLieInText : Type 0
+QuotedSpansLieInText = (front : List ℕ) (w : Switches) (t : List ℕ) (e : ParseError) → IsQuotedFault front w t e → IsInText t e
+
+-- no quoted literal ends with LF
+abbrev pub NoQuotedTextEndsWithLineFeed : Type 0
+NoQuotedTextEndsWithLineFeed = (front : List ℕ) (w : Switches) (t : List ℕ) (q : QuotedParts) →
+    ¬ IsQuoted front w (t ++ line_feed ∷ []) q
+
+-- Of bodies.
+
+-- a text is that of at most one body
+abbrev pub QuotedBodiesAreUnique : Type 0
+QuotedBodiesAreUnique = (w : Switches) (t : List ℕ) (items others : List Item) →
+    IsBodyOf w t items → IsBodyOf w t others → items ≡ others
+
+-- bodies join, unless the second begins with what a continuation at the end of the first would take
+abbrev pub QuotedBodiesJoin : Type 0
+QuotedBodiesJoin = (w : Switches) (a b : List ℕ) (items others : List Item) →
+    IsBodyOf w a items → IsBodyOf w b others → IsFalse (first_passes is_blank b) →
+    IsBodyOf w (a ++ b) (items ++ others) × (body_value (items ++ others) ≡ body_value items ++ body_value others)
+
+-- a value has no more bytes than its body, and as many exactly where the body has no backslash
+abbrev pub QuotedValuesFitBodies : Type 0
+QuotedValuesFitBodies = (w : Switches) (t : List ℕ) (items : List Item) → IsBodyOf w t items →
+    (length (body_value items) ≤ byte_len t)
+    × ((length (body_value items) ≡ byte_len t) ↔ IsFalse (list_any (λ c. c == backslash) t))
+
+-- where NUL is not allowed, as in C strings, no byte of a value is zero
+abbrev pub NoNulInQuotedCStrings : Type 0
+NoNulInQuotedCStrings = (w : Switches) (t : List ℕ) (items : List Item) → IsFalse w.allow_nul → IsBodyOf w t items →
+    IsFalse (list_any (λ b. b == nul) (body_value items))

@@ -1,0 +1,48 @@
+-- What holds of all raw literals: raw strings, raw byte strings and raw C strings.
+use Rattle.std.specs.Prelude.{◌≡◌, ◌↔◌, ℕ, Bool, List, [], ◌∷◌, length, ◌++◌, Some, None, IsTrue, IsFalse}
+use Rattle.std.specs.List.{list_any}
+use Rattle.litrs_base.specs.Characters.{line_feed}
+use Rattle.litrs_grammar.specs.StringKind.{StringKind, c_string_kind}
+use Rattle.litrs_base.specs.Text.{byte_len, begins_with}
+use Rattle.litrs_base.specs.declared.err.ParseError.{ParseError}
+use Rattle.litrs_base.specs.Fault.{IsInText}
+use Rattle.litrs_grammar.specs.Raw.{is_nul, raw_value, RawParts, IsRawOf, raw_front, IsRawLiteral, raw_fault, raw_literal_fault}
+
+-- a text has at most one derivation as a raw literal, over all three kinds together
+abbrev pub RawLiteralsAreUnique : Type 0
+RawLiteralsAreUnique = (t : List ℕ) (k l : StringKind) (d e : RawParts) → IsRawLiteral k t d → IsRawLiteral l t e → (k ≡ l) × (d ≡ e)
+
+-- A text that begins with the front of a kind is a raw literal of the kind, or the table refuses it: one of the two,
+-- and never both.
+abbrev pub RawLiteralsAreDecided : Type 0
+RawLiteralsAreDecided = (kind : StringKind) (t : List ℕ) → IsTrue (begins_with (raw_front kind) t) →
+    (raw_literal_fault kind t ≡ None) ↔ ((d : RawParts) × IsRawLiteral kind t d)
+
+-- the span of each refusal lies within the text and starts on a character boundary
+abbrev pub RawSpansLieInText : Type 0
+RawSpansLieInText = (kind : StringKind) (t : List ℕ) → IsTrue (begins_with (raw_front kind) t) → (e : ParseError) → raw_literal_fault kind t ≡ Some e → IsInText t e
+
+-- The same of what stands behind any front, under any switches.
+
+abbrev pub RawTextsAreUnique : Type 0
+RawTextsAreUnique = (unicode allow_nul : Bool) (t : List ℕ) (d e : RawParts) → IsRawOf unicode allow_nul t d → IsRawOf unicode allow_nul t e → d ≡ e
+
+abbrev pub RawTextsAreDecided : Type 0
+RawTextsAreDecided = (unicode allow_nul : Bool) (start : ℕ) (t : List ℕ) →
+    (raw_fault unicode allow_nul start t ≡ None) ↔ ((d : RawParts) × IsRawOf unicode allow_nul t d)
+
+abbrev pub RawTextSpansLieInText : Type 0
+RawTextSpansLieInText = (unicode allow_nul : Bool) (front t : List ℕ) (e : ParseError) →
+    raw_fault unicode allow_nul (byte_len front) t ≡ Some e → IsInText (front ++ t) e
+
+-- no raw literal ends with LF
+abbrev pub NoRawLiteralEndsWithLineFeed : Type 0
+NoRawLiteralEndsWithLineFeed = (kind : StringKind) (t : List ℕ) (d : RawParts) → ¬ IsRawLiteral kind (t ++ line_feed ∷ []) d
+
+-- no byte of a raw C string's value is zero
+abbrev pub NoNulInRawCStrings : Type 0
+NoNulInRawCStrings = (t : List ℕ) (d : RawParts) → IsRawLiteral c_string_kind t d → IsFalse (list_any is_nul (raw_value d.body))
+
+-- the value has as many bytes as the body
+abbrev pub RawValuesAreAsLongAsBodies : Type 0
+RawValuesAreAsLongAsBodies = (d : RawParts) → length (raw_value d.body) ≡ byte_len d.body

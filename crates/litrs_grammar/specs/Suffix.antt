@@ -1,0 +1,28 @@
+-- Suffixes. The Rust Reference, Tokens, Suffixes, and Identifiers for what an identifier is.
+use Rattle.std.specs.Prelude.{ℕ, Bool, true, not, ◌==◌, ◌&&◌, ◌||◌, List, [], ◌∷◌, if◌then◌else◌}
+use Rattle.std.specs.Char.{is_ascii_alphabetic}
+use Rattle.std.specs.List.{list_all}
+use Rattle.unicode_ident.specs.Ident.{is_xid_start, is_xid_continue}
+use Rattle.litrs_base.specs.declared.err.ParseErrorKind.{ParseErrorKind}
+use Rattle.litrs_base.specs.declared.err.ParseErrorKind.TheVariants.{UnexpectedChar, InvalidSuffix}
+use Rattle.litrs_base.specs.Characters.{underscore, is_ascii}
+use Rattle.litrs_base.specs.Text.{is_empty, first_passes}
+
+-- what an identifier begins with: `_` or an XID_Start character
+abbrev pub starts_identifier : ℕ → Bool
+starts_identifier c = (c == underscore) || is_xid_start c
+
+-- A suffix is empty, or one character that is `_` or XID_Start and then XID_Continue characters.
+-- The lone `_` is no suffix.
+unfoldable pub is_suffix : List ℕ → Bool
+is_suffix [] = true
+is_suffix (c ∷ cs) = starts_identifier c && list_all is_xid_continue cs && not ((c == underscore) && is_empty cs)
+
+-- ASCII, and neither a letter nor `_`
+abbrev pub is_ascii_symbol : ℕ → Bool
+is_ascii_symbol c = is_ascii c && not (is_ascii_alphabetic c || (c == underscore))
+
+-- Of a text that is no suffix, why: it begins with an ASCII character that is neither a letter nor `_`,
+-- or it is not an identifier for another reason.
+abbrev pub suffix_fault : List ℕ → ParseErrorKind
+suffix_fault t = if first_passes is_ascii_symbol t then UnexpectedChar else InvalidSuffix

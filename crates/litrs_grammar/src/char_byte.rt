@@ -1,0 +1,22 @@
+//! Laws of chars and bytes.
+ghost use Rattle.litrs_grammar.specs.CharByteLaws.{CharsAreUnique, CharsAreDecided, CharSpansLieInText, NoCharEndsWithLineFeed};
+
+/// A text has at most one derivation as a char or a byte, over both kinds together.
+pub fn chars_are_unique()
+    ensures { CharsAreUnique }
+{}
+
+/// A text is a char, or a byte, or the table of the kind refuses it: one of the two, and never both.
+pub fn chars_are_decided()
+    ensures { CharsAreDecided }
+{}
+
+/// The span of each refusal lies within the text and starts on a character boundary.
+pub fn char_spans_lie_in_text()
+    ensures { CharSpansLieInText }
+{}
+
+/// No char and no byte ends with LF.
+pub fn no_char_ends_with_line_feed()
+    ensures { NoCharEndsWithLineFeed }
+{}

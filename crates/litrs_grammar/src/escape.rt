@@ -1,0 +1,18 @@
+//! Laws of escapes.
+ghost use Rattle.litrs_grammar.specs.EscapeLaws.{EscapesAreUnique, EscapesAreDecided, EscapeSpansLieInText};
+
+/// At most one escape stands at the front of a text.
+pub fn escapes_are_unique()
+    ensures { EscapesAreUnique }
+{}
+
+/// An escape stands at the front of a text that begins with a backslash, or the table refuses it:
+/// one of the two, and never both.
+pub fn escapes_are_decided()
+    ensures { EscapesAreDecided }
+{}
+
+/// The span of each refusal lies within the text and starts on a character boundary.
+pub fn escape_spans_lie_in_text()
+    ensures { EscapeSpansLieInText }
+{}

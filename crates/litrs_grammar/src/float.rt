@@ -1,0 +1,22 @@
+//! Laws of floating-point literals.
+ghost use Rattle.litrs_grammar.specs.FloatLaws.{FloatsAreUnique, FloatsAreDecided, FloatSpansLieInText, NoFloatEndsWithLineFeed};
+
+/// A text has at most one derivation as a float.
+pub fn floats_are_unique()
+    ensures { FloatsAreUnique }
+{}
+
+/// A text is a float, or the table refuses it: one of the two, and never both.
+pub fn floats_are_decided()
+    ensures { FloatsAreDecided }
+{}
+
+/// The span of each refusal lies within the text and starts on a character boundary.
+pub fn float_spans_lie_in_text()
+    ensures { FloatSpansLieInText }
+{}
+
+/// No float ends with LF.
+pub fn no_float_ends_with_line_feed()
+    ensures { NoFloatEndsWithLineFeed }
+{}

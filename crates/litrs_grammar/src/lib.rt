@@ -1,0 +1,12 @@
+//! The grammar of Rust literals: its definitions stand in `specs`, and its laws here, each the contract of a
+//! function with an empty body.
+#![tactic(auto)]
+
+pub mod char_byte;
+pub mod escape;
+pub mod float;
+pub mod literal;
+pub mod name;
+pub mod number;
+pub mod quoted;
+pub mod raw;

@@ -1,0 +1,38 @@
+//! Laws of literals of all kinds.
+ghost use Rattle.litrs_grammar.specs.LiteralLaws.{LiteralsAreUnique, TextsAreDecided, LiteralsAreNotRefused, RefusalsAreUnique, RefusalSpansLieInText, NoRefusalIsOfMemory, NoLiteralEndsWithLineFeed};
+
+/// A text has at most one derivation, over all eight kinds together; so no text is a literal of two
+/// kinds.
+pub fn literals_are_unique()
+    ensures { LiteralsAreUnique }
+{}
+
+/// For each of the nine parses a text has a derivation or a refusal.
+pub fn texts_are_decided()
+    ensures { TextsAreDecided }
+{}
+
+/// No text has both.
+pub fn literals_are_not_refused()
+    ensures { LiteralsAreNotRefused }
+{}
+
+/// At most one pair of kind and span refuses a text.
+pub fn refusals_are_unique()
+    ensures { RefusalsAreUnique }
+{}
+
+/// The span of each refusal lies within the text and starts on a character boundary.
+pub fn refusal_spans_lie_in_text()
+    ensures { RefusalSpansLieInText }
+{}
+
+/// No text is refused for want of memory.
+pub fn no_refusal_is_of_memory()
+    ensures { NoRefusalIsOfMemory }
+{}
+
+/// No literal ends with LF.
+pub fn no_literal_ends_with_line_feed()
+    ensures { NoLiteralEndsWithLineFeed }
+{}

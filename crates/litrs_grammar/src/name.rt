@@ -1,0 +1,12 @@
+//! Laws of texts that are compared, and of the names of types.
+ghost use Rattle.litrs_grammar.specs.NameLaws.{EqualityIsOfTexts, TypeNamesAreDistinct};
+
+/// Comparing literals compares their texts: they are equal exactly where their texts are.
+pub fn equality_is_of_texts()
+    ensures { EqualityIsOfTexts }
+{}
+
+/// No two integer types have one name, so that the name of a type leads back to it alone.
+pub fn type_names_are_distinct()
+    ensures { TypeNamesAreDistinct }
+{}

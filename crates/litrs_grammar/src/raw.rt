@@ -1,0 +1,50 @@
+//! Laws of raw strings.
+ghost use Rattle.litrs_grammar.specs.RawLaws.{RawLiteralsAreUnique, RawLiteralsAreDecided, RawSpansLieInText, RawTextsAreUnique, RawTextsAreDecided, RawTextSpansLieInText, NoRawLiteralEndsWithLineFeed, NoNulInRawCStrings, RawValuesAreAsLongAsBodies};
+
+/// A text has at most one derivation as a raw literal, over all three kinds together.
+pub fn raw_literals_are_unique()
+    ensures { RawLiteralsAreUnique }
+{}
+
+/// A text that begins with the front of a kind is a raw literal of the kind, or the table refuses it:
+/// one of the two, and never both.
+pub fn raw_literals_are_decided()
+    ensures { RawLiteralsAreDecided }
+{}
+
+/// The span of each refusal lies within the text and starts on a character boundary.
+pub fn raw_spans_lie_in_text()
+    ensures { RawSpansLieInText }
+{}
+
+/// What stands behind a front has at most one derivation under the same switches.
+pub fn raw_texts_are_unique()
+    ensures { RawTextsAreUnique }
+{}
+
+/// What stands behind a front is a raw literal under the switches, or the table refuses it: one of
+/// the two, and never both.
+pub fn raw_texts_are_decided()
+    ensures { RawTextsAreDecided }
+{}
+
+/// Its spans, counted from the start of the text, lie within the text and start on a character
+/// boundary.
+pub fn raw_text_spans_lie_in_text()
+    ensures { RawTextSpansLieInText }
+{}
+
+/// No raw literal ends with LF.
+pub fn no_raw_literal_ends_with_line_feed()
+    ensures { NoRawLiteralEndsWithLineFeed }
+{}
+
+/// No byte of a raw C string's value is zero.
+pub fn no_nul_in_raw_c_strings()
+    ensures { NoNulInRawCStrings }
+{}
+
+/// The value of a raw literal has as many bytes as the body.
+pub fn raw_values_are_as_long_as_bodies()
+    ensures { RawValuesAreAsLongAsBodies }
+{}

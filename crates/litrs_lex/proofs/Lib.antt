@@ -1,0 +1,4 @@
+pub mod SuffixLemmas
+pub mod Firsts
+pub mod IntegerLemmas
+pub mod NumeralLemmas

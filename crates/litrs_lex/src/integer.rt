@@ -1,0 +1,160 @@
+//! Where an integer is cut.
+ghost use Rattle.std.specs.Prelude.{◌≡◌, IsTrue, IfOk, OnErr, IfErr, Some};
+ghost use Rattle.std.specs.Char.{is_ascii_digit};
+ghost use Rattle.std.specs.List.{prefix_len, list_any};
+ghost use Rattle.std.specs.Str.{chars};
+ghost use Rattle.litrs_base.specs.Base.{is_digit, is_digit_or_underscore};
+ghost use Rattle.litrs_base.specs.Fault.{IsInText};
+ghost use Rattle.litrs_base.specs.Reading.{IsOnlyReading, HasNoReading};
+ghost use Rattle.litrs_base.specs.Text.{first_passes};
+ghost use Rattle.litrs_grammar.specs.Integer.{IsIntegerOf, integer_fault, cut_fault, integer_cut, is_e, base_of};
+ghost use Rattle.litrs_lex.specs.IntegerCut.{parts_at, IsWithin, IsDigitsCut};
+
+use crate::parse::check_suffix;
+use litrs_base::{IntegerBase, ParseError, ParseErrorKind};
+
+/// Where an integer is cut: places in bytes.
+#[derive(Clone, Copy, Debug, PartialEq, Eq)]
+pub struct IntegerCut {
+    /// Where the main part begins, behind the prefix.
+    pub start_main: usize,
+    /// Where the main part ends and the suffix begins.
+    pub end_main: usize,
+    /// What the prefix tells.
+    pub base: IntegerBase,
+}
+
+/// Cuts an integer into prefix, main part and suffix. The text begins with a decimal digit. Of
+/// `0x_7fu8` the main part goes from 2 to 5. See [the reference][ref].
+///
+/// # Errors
+///
+/// `InvalidDigit` where a decimal digit follows the main part, at that digit; the refusal of
+/// [`check_suffix`] where what follows is no suffix, from there to the end; `IntegerSuffixStartingWithE`
+/// where the suffix begins with `e` or `E`, at its first byte; `NoDigits` where the main part has no
+/// digit, over the main part.
+///
+/// [ref]: https://doc.rust-lang.org/reference/tokens.html#integer-literals
+pub fn cut_integer(input: &str) -> Result<IntegerCut, ParseError>
+    requires { IsTrue (first_passes is_ascii_digit input.now) }
+    ensures ok { IfOk result (λ cut. IsOnlyReading (IsIntegerOf (chars input.now)) (parts_at cut input.now)) }
+    ensures places { IfOk result (λ cut. IsWithin cut input.now) }
+    ensures none { OnErr result (HasNoReading (IsIntegerOf (chars input.now))) }
+    ensures fault { IfErr result (λ e. integer_fault (chars input.now) ≡ Some e) }
+    ensures span { IfErr result (IsInText (chars input.now)) }
+{
+    let cut = cut_digits(input);
+    match cut_refusal(&cut, input) {
+        None => Ok(cut),
+        Some(refusal) => Err(refusal),
+    }
+}
+
+/// The text cut behind the prefix and behind all digits of the base and underscores.
+fn cut_digits(input: &str) -> IntegerCut
+    ensures { IsDigitsCut result input.now }
+{
+    let bytes = input.as_bytes();
+    let base = base_of(bytes);
+    let start_main = base.prefix().len();
+    let end_main = start_main + digits_len(base, &bytes[start_main..]);
+    IntegerCut {
+        start_main,
+        end_main,
+        base,
+    }
+}
+
+/// Why a text that is cut so is no integer, None where it is one.
+fn cut_refusal(cut: &IntegerCut, input: &str) -> Option<ParseError>
+    requires { IsDigitsCut cut.now input.now }
+    ensures { result ≡ cut_fault (integer_cut (chars input.now)) }
+{
+    let IntegerCut {
+        start_main,
+        end_main,
+        base,
+    } = *cut;
+    let (number, suffix) = input.split_at(end_main);
+    let behind = suffix.as_bytes();
+    if let Err(kind) = check_suffix(suffix) {
+        return Some(if begins_with_digit(behind) {
+            ParseError::new(Some(end_main..end_main + 1), ParseErrorKind::InvalidDigit)
+        } else {
+            ParseError::new(Some(end_main..input.len()), kind)
+        });
+    }
+    if begins_with_e(behind) {
+        return Some(ParseError::new(
+            Some(end_main..end_main + 1),
+            ParseErrorKind::IntegerSuffixStartingWithE,
+        ));
+    }
+    if has_digit(base, &number.as_bytes()[start_main..]) {
+        None
+    } else {
+        Some(ParseError::new(Some(start_main..end_main), ParseErrorKind::NoDigits))
+    }
+}
+
+/// Whether a decimal digit stands first.
+fn begins_with_digit(bytes: &[u8]) -> bool
+    ensures { result ≡ first_passes is_ascii_digit bytes.now }
+{
+    match bytes {
+        [first, ..] => first.is_ascii_digit(),
+        [] => false,
+    }
+}
+
+/// Whether `e` or `E` stands first.
+fn begins_with_e(bytes: &[u8]) -> bool
+    ensures { result ≡ first_passes is_e bytes.now }
+{
+    match bytes {
+        [first, ..] => *first == b'e' || *first == b'E',
+        [] => false,
+    }
+}
+
+/// The base that the front of a text tells: `0b`, `0o` and `0x` are always the prefix, and
+/// everything else is decimal.
+fn base_of(bytes: &[u8]) -> IntegerBase
+    ensures { result ≡ base_of bytes.now }
+{
+    match bytes {
+        [b'0', b'b', ..] => IntegerBase::Binary,
+        [b'0', b'o', ..] => IntegerBase::Octal,
+        [b'0', b'x', ..] => IntegerBase::Hexadecimal,
+        _ => IntegerBase::Decimal,
+    }
+}
+
+/// Whether the byte is a digit of this base.
+fn is_digit(base: IntegerBase, byte: u8) -> bool
+    ensures { result ≡ is_digit base byte }
+{
+    match base {
+        IntegerBase::Binary => matches!(byte, b'0' | b'1'),
+        IntegerBase::Octal => matches!(byte, b'0'..=b'7'),
+        IntegerBase::Decimal => matches!(byte, b'0'..=b'9'),
+        IntegerBase::Hexadecimal => matches!(byte, b'0'..=b'9' | b'a'..=b'f' | b'A'..=b'F'),
+    }
+}
+
+/// How many digits of this base and underscores stand at the front, in bytes.
+fn digits_len(base: IntegerBase, bytes: &[u8]) -> usize
+    ensures { result ≡ prefix_len (is_digit_or_underscore base) bytes.now }
+{
+    bytes
+        .iter()
+        .take_while(|b| is_digit(base, **b) || **b == b'_')
+        .count()
+}
+
+/// Whether a digit of this base is among the bytes.
+fn has_digit(base: IntegerBase, bytes: &[u8]) -> bool
+    ensures { result ≡ list_any (is_digit base) bytes.now }
+{
+    bytes.iter().any(|b| is_digit(base, *b))
+}

@@ -1,0 +1,11 @@
+//! Reads the parts that literals are made of, and says where a text is cut.
+#![tactic(auto)]
+
+pub use integer::{IntegerCut, cut_integer};
+pub use litrs_base::{
+    Buffer, FromIntegerLiteral, IntegerBase, IntegerType, ParseError, ParseErrorKind, Unescape,
+};
+pub use parse::{check_suffix, end_dec_digits, first_byte_or_empty, hex_digit_value};
+
+pub mod integer;
+mod parse;

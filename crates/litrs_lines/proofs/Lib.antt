@@ -1,0 +1,3 @@
+pub mod ReportLemmas
+pub mod LinesLemmas
+pub mod ReportExamples

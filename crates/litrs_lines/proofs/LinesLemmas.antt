@@ -1,0 +1,475 @@
+-- Lemmas on lines: how the words of specs/Lines go along a list that grows at its end, and one that is taken from the front.
+use Rattle.std.proofs.Common.{◌≡◌, ℕ, suc, ◌+◌, ◌-◌, ◌<◌, ◌≤◌, Bool, true, false, ◌⊎◌, inl, inr, List, [], ◌∷◌, ◌++◌, length, take, drop, Some, None, refl, sym, ap, ◌∙◌, subst, append_assoc, append-nil, arith}
+use Rattle.std.specs.Prelude.{All, flat_map, position}
+use Rattle.std.specs.List.{slice_split, onto_first}
+use Rattle.std.proofs.lemmas.List.Splits.{slice_split-cons_yes, slice_split-cons_no, slice_split_none}
+use Rattle.std.proofs.lemmas.Grind.{flat_map-append}
+use Rattle.std.proofs.lemmas.List.Elements.{All-nil, All-cons, All-append, All-head, All-tail}
+use Rattle.std.proofs.lemmas.List.Quantifiers.{position-Some}
+use Rattle.std.proofs.lemmas.List.Sums.{fails_before_first}
+use Rattle.std.specs.List.{position_or_len}
+use Rattle.std.specs.Io.KnownBytes.{Appends, Keeps, Consumes, IsAtEnd}
+use Rattle.std.proofs.KnownBytes.{Appends-nil, Appends-trans, Consumes-nil, Consumes-trans, Consumes-kept, Consumes-whole, starts_with_rest}
+use Rattle.std.proofs.Math.Seq.{take-append_seam}
+use Rattle.std.proofs.lemmas.Option.{none-some}
+use Rattle.std.proofs.lemmas.Bool.{ltb-false}
+use Rattle.std.proofs.Common.{Option, Result, Ok, Err, OnOk, OnErr, IfSome, length-append}
+use Rattle.std.specs.Prelude.{is_ok, if◌then◌else◌}
+use Rattle.litrs_lines.specs.LinesLaws.{spelled, LinesSpellTheBytes, NoLineFeedInLines, LinesAreUnique}
+use Rattle.litrs_lines.specs.Devices.{AppendsBeginning, StopsWithin}
+use Rattle.std.proofs.Common.{eqb-true, ltb, cond, add-one, get_or, take-append-drop, drop-cons, length-take}
+use Rattle.std.proofs.lemmas.List.{get_or-take, take_rest, take_all}
+use Rattle.litrs_lines.specs.Report.{report_of}
+use Rattle.litrs_lines.specs.Lines.{is_line_feed, HasNoLineFeed, before_last_part, last_part, ended_parts, open_part, unless_empty, ended_lines, open_line, lines_of, reports_of}
+
+-- the first part of a split, and those behind it
+record Parts (parts : List (List ℕ)) : Type 0 where
+  first : List ℕ
+  behind : List (List ℕ)
+  is : parts ≡ first ∷ behind
+
+onto_first-parts : (b : ℕ) (parts : List (List ℕ)) → Parts parts → Parts (onto_first b parts)
+onto_first-parts b parts some = record { first = b ∷ some.first; behind = some.behind; is = ap (onto_first b) some.is }
+
+split_parts : (bytes : List ℕ) → Parts (slice_split is_line_feed bytes)
+split_parts [] = record { first = []; behind = []; is = refl }
+split_parts (b ∷ bs) = split_cons b bs (is_line_feed b) refl (split_parts bs)
+  where
+    split_cons : (b : ℕ) (bs : List ℕ) (test : Bool) → is_line_feed b ≡ test → Parts (slice_split is_line_feed bs) → Parts (slice_split is_line_feed (b ∷ bs))
+    split_cons b bs true is some = record { first = []; behind = slice_split is_line_feed bs; is = slice_split-cons_yes is_line_feed b bs is }
+    split_cons b bs false is some = subst Parts (sym (slice_split-cons_no is_line_feed b bs is)) (onto_first-parts b _ some)
+
+-- ---- a list that is split behind an LF
+
+before_last_part-append : (part : List ℕ) (parts : List (List ℕ)) (next : List ℕ) (more : List (List ℕ)) → before_last_part part (parts ++ next ∷ more) ≡ (part ∷ parts) ++ before_last_part next more
+before_last_part-append part [] next more = refl
+before_last_part-append part (other ∷ parts) next more = ap (λ ps. part ∷ ps) (before_last_part-append other parts next more)
+
+last_part-append : (part : List ℕ) (parts : List (List ℕ)) (next : List ℕ) (more : List (List ℕ)) → last_part part (parts ++ next ∷ more) ≡ last_part next more
+last_part-append part [] next more = refl
+last_part-append part (other ∷ parts) next more = last_part-append other parts next more
+
+onto_first-append : (b : ℕ) (parts more : List (List ℕ)) → Parts parts → onto_first b (parts ++ more) ≡ onto_first b parts ++ more
+onto_first-append b [] more some = cc (some.is)
+onto_first-append b (part ∷ parts) more some = refl
+
+slice_split-line_feed_cons : (b : ℕ) (bs behind : List ℕ) (test : Bool) → is_line_feed b ≡ test
+    → slice_split is_line_feed (bs ++ 10 ∷ behind) ≡ slice_split is_line_feed bs ++ slice_split is_line_feed behind
+    → slice_split is_line_feed (b ∷ (bs ++ 10 ∷ behind)) ≡ slice_split is_line_feed (b ∷ bs) ++ slice_split is_line_feed behind
+slice_split-line_feed_cons b bs behind true is same =
+    slice_split-cons_yes is_line_feed b (bs ++ 10 ∷ behind) is ∙ ap (λ ps. [] ∷ ps) same
+    ∙ ap (λ ps. ps ++ slice_split is_line_feed behind) (sym (slice_split-cons_yes is_line_feed b bs is))
+slice_split-line_feed_cons b bs behind false is same =
+    slice_split-cons_no is_line_feed b (bs ++ 10 ∷ behind) is ∙ ap (onto_first b) same
+    ∙ onto_first-append b _ _ (split_parts bs)
+    ∙ ap (λ ps. ps ++ slice_split is_line_feed behind) (sym (slice_split-cons_no is_line_feed b bs is))
+
+-- an LF ends the parts before it
+slice_split-line_feed : (front behind : List ℕ) → slice_split is_line_feed (front ++ 10 ∷ behind) ≡ slice_split is_line_feed front ++ slice_split is_line_feed behind
+slice_split-line_feed [] behind = refl
+slice_split-line_feed (b ∷ bs) behind = slice_split-line_feed_cons b bs behind (is_line_feed b) refl (slice_split-line_feed bs behind)
+
+ended_lines-line_feed : (front behind : List ℕ) → ended_lines (front ++ 10 ∷ behind) ≡ slice_split is_line_feed front ++ ended_lines behind
+unfolding ended_lines
+ended_lines-line_feed front behind =
+    let f = split_parts front in let b = split_parts behind in
+    ap ended_parts (slice_split-line_feed front behind)
+    ∙ ap (λ ps. ended_parts (ps ++ slice_split is_line_feed behind)) f.is
+    ∙ ap (λ ps. ended_parts ((f.first ∷ f.behind) ++ ps)) b.is
+    ∙ before_last_part-append f.first f.behind b.first b.behind
+    ∙ ap (λ ps. (f.first ∷ f.behind) ++ ended_parts ps) (sym b.is)
+    ∙ ap (λ ps. ps ++ ended_parts (slice_split is_line_feed behind)) (sym f.is)
+
+open_line-line_feed : (front behind : List ℕ) → open_line (front ++ 10 ∷ behind) ≡ open_line behind
+unfolding open_line
+open_line-line_feed front behind =
+    let f = split_parts front in let b = split_parts behind in
+    ap open_part (slice_split-line_feed front behind)
+    ∙ ap (λ ps. open_part (ps ++ slice_split is_line_feed behind)) f.is
+    ∙ ap (λ ps. open_part ((f.first ∷ f.behind) ++ ps)) b.is
+    ∙ last_part-append f.first f.behind b.first b.behind
+    ∙ ap open_part (sym b.is)
+
+-- ---- a line that goes on
+
+pub ended_lines-none : (line : List ℕ) → HasNoLineFeed line → ended_lines line ≡ []
+unfolding ended_lines
+ended_lines-none line h = ap ended_parts (slice_split_none is_line_feed line h)
+
+pub open_line-none : (line : List ℕ) → HasNoLineFeed line → open_line line ≡ line
+unfolding open_line
+open_line-none line h = ap open_part (slice_split_none is_line_feed line h)
+
+-- ---- a list that grows at its end
+
+-- not an LF
+abbrev EndsNoLine : ℕ → Type 0
+EndsNoLine b = is_line_feed b ≡ false
+
+-- the bytes up to the last LF, and those behind it
+record Cut (bytes : List ℕ) : Type 0 where
+  front : List ℕ
+  behind : List ℕ
+  is : bytes ≡ front ++ 10 ∷ behind
+  none : HasNoLineFeed behind
+
+cut_at_byte : (b : ℕ) (bs : List ℕ) (test : Bool) → is_line_feed b ≡ test → HasNoLineFeed bs → HasNoLineFeed (b ∷ bs) ⊎ Cut (b ∷ bs)
+cut_at_byte b bs true is none = inr (record { front = []; behind = bs; is = ap (λ x. x ∷ bs) (eqb-true b 10 is); none = none })
+cut_at_byte b bs false is none = inl (All-cons EndsNoLine b bs is none)
+
+cut_bytes : (bytes : List ℕ) → HasNoLineFeed bytes ⊎ Cut bytes
+cut_bytes [] = inl (All-nil EndsNoLine)
+cut_bytes (b ∷ bs) = elim (cut_bytes bs) [
+  | inl none ↦ cut_at_byte b bs (is_line_feed b) refl none
+  | inr cut ↦ inr (record { front = b ∷ cut.front; behind = cut.behind; is = ap (λ xs. b ∷ xs) cut.is; none = cut.none })
+]
+
+pub open_line-append : (bytes more : List ℕ) → open_line (bytes ++ more) ≡ open_line (open_line bytes ++ more)
+open_line-append bytes more = elim (cut_bytes bytes) [
+  | inl none ↦ ap (λ line. open_line (line ++ more)) (sym (open_line-none bytes none))
+  | inr cut ↦
+      ap (λ xs. open_line (xs ++ more)) cut.is ∙ ap open_line (append_assoc cut.front (10 ∷ cut.behind) more) ∙ open_line-line_feed cut.front (cut.behind ++ more)
+      ∙ ap (λ line. open_line (line ++ more)) (sym (ap open_line cut.is ∙ open_line-line_feed cut.front cut.behind ∙ open_line-none cut.behind cut.none))
+]
+
+pub ended_lines-append : (bytes more : List ℕ) → ended_lines (bytes ++ more) ≡ ended_lines bytes ++ ended_lines (open_line bytes ++ more)
+ended_lines-append bytes more = elim (cut_bytes bytes) [
+  | inl none ↦ ap (λ line. ended_lines (line ++ more)) (sym (open_line-none bytes none)) ∙ ap (λ ls. ls ++ ended_lines (open_line bytes ++ more)) (sym (ended_lines-none bytes none))
+  | inr cut ↦
+      let line : open_line bytes ≡ cut.behind = ap open_line cut.is ∙ open_line-line_feed cut.front cut.behind ∙ open_line-none cut.behind cut.none in
+      let ended : ended_lines bytes ≡ slice_split is_line_feed cut.front =
+      ap ended_lines cut.is ∙ ended_lines-line_feed cut.front cut.behind ∙ ap (λ ls. slice_split is_line_feed cut.front ++ ls) (ended_lines-none cut.behind cut.none) ∙ append-nil _ in
+      ap (λ xs. ended_lines (xs ++ more)) cut.is ∙ ap ended_lines (append_assoc cut.front (10 ∷ cut.behind) more) ∙ ended_lines-line_feed cut.front (cut.behind ++ more)
+      ∙ ap (λ xs. slice_split is_line_feed cut.front ++ ended_lines (xs ++ more)) (sym line) ∙ ap (λ ls. ls ++ ended_lines (open_line bytes ++ more)) (sym ended)
+]
+
+pub open_line-has_no_line_feed : (bytes : List ℕ) → HasNoLineFeed (open_line bytes)
+open_line-has_no_line_feed bytes = elim (cut_bytes bytes) [
+  | inl none ↦ subst HasNoLineFeed (sym (open_line-none bytes none)) none
+  | inr cut ↦ subst HasNoLineFeed (sym (ap open_line cut.is ∙ open_line-line_feed cut.front cut.behind ∙ open_line-none cut.behind cut.none)) cut.none
+]
+
+-- ---- reports
+
+pub reports_of-append : (lines more : List (List ℕ)) → reports_of (lines ++ more) ≡ reports_of lines ++ reports_of more
+unfolding reports_of
+reports_of-append lines more = flat_map-append _ lines more
+
+pub reports_of-nil : reports_of [] ≡ []
+unfolding reports_of
+reports_of-nil = refl
+
+pub reports_of-cons : (line : List ℕ) (lines : List (List ℕ)) → reports_of (line ∷ lines) ≡ (report_of line ++ 10 ∷ []) ++ reports_of lines
+unfolding reports_of
+reports_of-cons line lines = refl
+
+-- the report on a last line that has no end
+pub reports_of-open : (line : List ℕ) → (line ≡ [] → ⊥) → reports_of (unless_empty line) ≡ report_of line ++ 10 ∷ []
+reports_of-open [] some = absurd (some refl)
+reports_of-open (b ∷ bs) some = reports_of-cons (b ∷ bs) [] ∙ ap (λ xs. (report_of (b ∷ bs) ++ 10 ∷ []) ++ xs) reports_of-nil ∙ append-nil _
+
+-- ---- a piece, from the front: the line so far, and the rest of the piece
+
+-- an LF in the rest ends the line
+pub record EndsLine (line rest : List ℕ) (end : ℕ) : Type 0 where
+  pub within : end < length rest
+  pub leaves : open_line (line ++ rest) ≡ open_line (drop (end + 1) rest)
+  pub reports : reports_of (ended_lines (line ++ rest)) ≡ (report_of (line ++ take end rest) ++ 10 ∷ []) ++ reports_of (ended_lines (drop (end + 1) rest))
+
+cut_at : (bytes : List ℕ) (end : ℕ) → end < length bytes → get_or bytes end 0 ≡ 10 → bytes ≡ take end bytes ++ 10 ∷ drop (end + 1) bytes
+cut_at bytes end within is =
+    sym (take-append-drop end bytes)
+    ∙ ap (λ xs. take end bytes ++ xs) (drop-cons bytes end 0 within ∙ ap (λ b. b ∷ drop (suc end) bytes) is ∙ ap (λ n. 10 ∷ drop n bytes) (sym (add-one end)))
+
+before_end : (bytes : List ℕ) (end : ℕ) → position is_line_feed bytes ≡ Some end → HasNoLineFeed (take end bytes)
+before_end bytes end at = λ k d h.
+    let found = position-Some is_line_feed bytes end d at in
+    let below : k < end = omega (arith, length-take end bytes) in
+    subst (λ b. is_line_feed b ≡ false) (sym (get_or-take end bytes k d below)) (found.2 k below)
+
+none_found : (bytes : List ℕ) → position is_line_feed bytes ≡ None → HasNoLineFeed bytes
+none_found bytes at = λ k d h.
+    let far : length bytes ≤ position_or_len is_line_feed bytes = not_below (ltb (position_or_len is_line_feed bytes) (length bytes)) refl in
+    fails_before_first is_line_feed bytes k d (omega arith)
+  where
+    not_below : (test : Bool) → ltb (position_or_len is_line_feed bytes) (length bytes) ≡ test → length bytes ≤ position_or_len is_line_feed bytes
+    not_below true is = absurd (none-some (position_or_len is_line_feed bytes) (sym at ∙ ap (λ t. cond t (Some (position_or_len is_line_feed bytes)) None) is))
+    not_below false is = ltb-false _ _ is
+
+pub ends_line : (line rest : List ℕ) (end : ℕ) → HasNoLineFeed line → position is_line_feed rest ≡ Some end → EndsLine line rest end
+ends_line line rest end held at =
+    let found = position-Some is_line_feed rest end 0 at in
+    let cut : rest ≡ take end rest ++ 10 ∷ drop (end + 1) rest = cut_at rest end found.0 (eqb-true _ 10 found.1) in
+    let before : HasNoLineFeed (take end rest) = before_end rest end at in
+    let none : HasNoLineFeed (line ++ take end rest) = All-append EndsNoLine line (take end rest) held before in
+    let joined : line ++ rest ≡ (line ++ take end rest) ++ 10 ∷ drop (end + 1) rest = ap (λ xs. line ++ xs) cut ∙ sym (append_assoc line (take end rest) (10 ∷ drop (end + 1) rest)) in
+    record {
+      within = found.0;
+      leaves = ap open_line joined ∙ open_line-line_feed (line ++ take end rest) (drop (end + 1) rest);
+      reports =
+          ap (λ xs. reports_of (ended_lines xs)) joined ∙ ap reports_of (ended_lines-line_feed (line ++ take end rest) (drop (end + 1) rest))
+          ∙ ap (λ ps. reports_of (ps ++ ended_lines (drop (end + 1) rest))) (slice_split_none is_line_feed (line ++ take end rest) none)
+          ∙ reports_of-cons (line ++ take end rest) (ended_lines (drop (end + 1) rest));
+    }
+
+-- without one the line goes on
+pub record GoesOn (line rest : List ℕ) : Type 0 where
+  pub leaves : open_line (line ++ rest) ≡ line ++ rest
+  pub reports : reports_of (ended_lines (line ++ rest)) ≡ []
+
+pub goes_on : (line rest : List ℕ) → HasNoLineFeed line → position is_line_feed rest ≡ None → GoesOn line rest
+goes_on line rest held at =
+    let none : HasNoLineFeed (line ++ rest) = All-append EndsNoLine line rest held (none_found rest at) in
+    record { leaves = open_line-none (line ++ rest) none; reports = ap reports_of (ended_lines-none (line ++ rest) none) ∙ reports_of-nil }
+
+-- a step over a line that ends: what it leaves of the line, the reports and the rest says the same of the whole
+pub record StepsOn (line reports rest line' reports' rest' : List ℕ) : Type 0 where
+  pub held : HasNoLineFeed line'
+  pub leaves : open_line (line ++ rest) ≡ open_line (line' ++ rest')
+  pub same : reports ++ reports_of (ended_lines (line ++ rest)) ≡ reports' ++ reports_of (ended_lines (line' ++ rest'))
+
+pub steps_on : (line reports rest line' reports' : List ℕ) (end : ℕ) → HasNoLineFeed line → Some end ≡ position is_line_feed rest
+    → line' ≡ [] → reports' ≡ reports ++ (report_of (line ++ take end rest) ++ 10 ∷ []) → StepsOn line reports rest line' reports' (take (length rest - (end + 1)) (drop (end + 1) rest))
+steps_on line reports rest line' reports' end held at none more =
+    let step = ends_line line rest end held (sym at) in
+    let rest' = take (length rest - (end + 1)) (drop (end + 1) rest) in
+    let same : rest' ≡ drop (end + 1) rest = take_rest rest (end + 1) in
+    let empty : line' ++ rest' ≡ drop (end + 1) rest = ap (λ xs. xs ++ rest') none ∙ same in
+    let behind : List ℕ = reports_of (ended_lines (drop (end + 1) rest)) in
+    record {
+      held = subst HasNoLineFeed (sym none) (All-nil EndsNoLine);
+      leaves = step.leaves ∙ ap open_line (sym empty);
+      same =
+          ap (λ xs. reports ++ xs) step.reports ∙ sym (append_assoc reports (report_of (line ++ take end rest) ++ 10 ∷ []) behind)
+          ∙ ap (λ xs. xs ++ behind) (sym more) ∙ ap (λ xs. reports' ++ reports_of (ended_lines xs)) (sym empty);
+    }
+
+-- ---- growths
+
+pub OnOk-appended : {T E : Type 0} (r : Result T E) (new old more whole : List ℕ) → new ≡ (if is_ok r then old ++ more else old) → whole ≡ old ++ more → OnOk r (new ≡ whole)
+OnOk-appended (Ok x) new old more whole is same = is ∙ sym same
+OnOk-appended (Err e) new old more whole is same = tt
+
+-- ---- writing
+
+-- the bytes before the rest were written
+pub record WritesOn (old new : Option (List ℕ)) (bytes rest : List ℕ) : Type 0 where
+  pub front : List ℕ
+  pub is : bytes ≡ front ++ rest
+  pub appends : Appends old new front
+
+pub writes_more : (old mid new : Option (List ℕ)) (bytes rest : List ℕ) (count : ℕ) → WritesOn old mid bytes rest → Appends mid new (take count rest) → WritesOn old new bytes (take (length rest - count) (drop count rest))
+writes_more old mid new bytes rest count so_far more = subst (WritesOn old new bytes) (sym (take_rest rest count)) (record {
+  front = so_far.front ++ take count rest;
+  is = so_far.is ∙ ap (λ xs. so_far.front ++ xs) (sym (take-append-drop count rest)) ∙ sym (append_assoc so_far.front (take count rest) (drop count rest));
+  appends = Appends-trans old mid new _ _ so_far.appends more;
+})
+
+pub OnOk-holds : {T E P : Type 0} (r : Result T E) → P → OnOk r P
+OnOk-holds (Ok x) p = p
+OnOk-holds (Err e) p = tt
+
+pub OnOk-map : {T E P Q : Type 0} (r : Result T E) → (P → Q) → OnOk r P → OnOk r Q
+OnOk-map (Ok x) f p = f p
+OnOk-map (Err e) f p = tt
+
+pub OnErr-map : {T E P Q : Type 0} (r : Result T E) → (P → Q) → OnErr r P → OnErr r Q
+OnErr-map (Ok x) f p = tt
+OnErr-map (Err e) f p = f p
+
+-- ---- a last line that has no end
+
+pub reports_of-empty : (line : List ℕ) → length line ≡ 0 → reports_of (unless_empty line) ≡ []
+reports_of-empty [] none = reports_of-nil
+reports_of-empty (b ∷ bs) none = absurd (omega arith)
+
+pub reports_of-last : (line new old : List ℕ) → 0 < length line → old ≡ [] → new ≡ old ++ (report_of (line ++ []) ++ 10 ∷ []) → new ≡ reports_of (unless_empty line)
+reports_of-last line new old some none is =
+    is ∙ ap (λ xs. xs ++ (report_of (line ++ []) ++ 10 ∷ [])) none ∙ ap (λ xs. report_of xs ++ 10 ∷ []) (append-nil line)
+    ∙ sym (reports_of-open line (λ nothing. let e : length line ≡ 0 = ap length nothing in omega arith))
+
+-- ---- a run
+
+-- of the bytes taken so far all but the line that goes on was reported, and each read took one at least
+pub record RunsOn (left_old left_new contents_old contents_new : Option (List ℕ)) (line : List ℕ) (reads : ℕ) : Type 0 where
+  pub taken : List ℕ
+  pub takes : Consumes left_old left_new taken
+  pub goes_on : line ≡ open_line taken
+  pub writes : Appends contents_old contents_new (reports_of (ended_lines taken))
+  pub few : reads ≤ length taken
+
+pub runs_none : (left contents : Option (List ℕ)) (line : List ℕ) → line ≡ [] → RunsOn left left contents contents line 0
+runs_none left contents line none = record {
+  taken = [];
+  takes = Consumes-nil left;
+  goes_on = none ∙ sym (open_line-none [] (All-nil EndsNoLine));
+  writes = subst (Appends contents contents) (sym (ap reports_of (ended_lines-none [] (All-nil EndsNoLine)) ∙ reports_of-nil)) (Appends-nil contents);
+  few = omega arith;
+}
+
+module _ {left_old left contents_old contents : Option (List ℕ)} {line : List ℕ} {reads : ℕ} (run : RunsOn left_old left contents_old contents line reads) where
+  pub line_held : HasNoLineFeed line
+  line_held = subst HasNoLineFeed (sym run.goes_on) (open_line-has_no_line_feed run.taken)
+
+  -- what is reported on a piece, behind what was reported before it
+  reports_on_piece : (piece : List ℕ) → reports_of (ended_lines (run.taken ++ piece)) ≡ reports_of (ended_lines run.taken) ++ reports_of (ended_lines (line ++ piece))
+  reports_on_piece piece =
+      ap reports_of (ended_lines-append run.taken piece) ∙ reports_of-append (ended_lines run.taken) _
+      ∙ ap (λ xs. reports_of (ended_lines run.taken) ++ reports_of (ended_lines (xs ++ piece))) (sym run.goes_on)
+
+  -- what is reported on the whole, where nothing more is taken
+  reports_on_all : reports_of (lines_of run.taken) ≡ reports_of (ended_lines run.taken) ++ reports_of (unless_empty line)
+  unfolding lines_of
+  reports_on_all =
+      reports_of-append (ended_lines run.taken) (unless_empty (open_line run.taken))
+      ∙ ap (λ xs. reports_of (ended_lines run.taken) ++ reports_of (unless_empty xs)) (sym run.goes_on)
+
+  pub runs_more : (left_new contents_new : Option (List ℕ)) (line_new piece : List ℕ) → Consumes left left_new piece → line_new ≡ open_line (line ++ piece)
+      → Appends contents contents_new (reports_of (ended_lines (line ++ piece))) → 0 < length piece → RunsOn left_old left_new contents_old contents_new line_new (reads + 1)
+  runs_more left_new contents_new line_new piece takes goes_on writes some = record {
+    taken = run.taken ++ piece;
+    takes = Consumes-trans left_old left left_new run.taken piece run.takes takes;
+    goes_on = goes_on ∙ ap (λ xs. open_line (xs ++ piece)) run.goes_on ∙ sym (open_line-append run.taken piece);
+    writes = subst (Appends contents_old contents_new) (sym (reports_on_piece piece)) (Appends-trans contents_old contents contents_new _ _ run.writes writes);
+    few = let before = run.few in omega (arith, length-append run.taken piece);
+  }
+
+  writes_beginning : (contents_new : Option (List ℕ)) (bytes whole : List ℕ) → AppendsBeginning contents contents_new bytes
+      → whole ≡ reports_of (ended_lines run.taken) ++ bytes → AppendsBeginning contents_old contents_new whole
+  writes_beginning contents_new bytes whole more is =
+      let front : List ℕ = reports_of (ended_lines run.taken) in
+      let rest : List ℕ = drop (length more.written) bytes in
+      let cut : whole ≡ (front ++ more.written) ++ rest = is ∙ ap (λ xs. front ++ xs) (starts_with_rest bytes more.written more.begins) ∙ sym (append_assoc front more.written rest) in
+      record {
+        written = front ++ more.written;
+        appends = Appends-trans contents_old contents contents_new front more.written run.writes more.appends;
+        begins = ap (take (length (front ++ more.written))) cut ∙ take-append_seam (front ++ more.written) rest;
+      }
+
+  -- a read failed
+  pub stops_at_read : (left_new : Option (List ℕ)) → Keeps left left_new → StopsWithin left_old left_new contents_old contents
+  stops_at_read left_new kept = record {
+    taken = run.taken;
+    takes = Consumes-kept left_old left left_new run.taken run.takes kept;
+    lines = ended_lines run.taken;
+    whole = inl refl;
+    writes = record { written = reports_of (ended_lines run.taken); appends = run.writes; begins = take_all (length (reports_of (ended_lines run.taken))) (reports_of (ended_lines run.taken)) (omega arith) };
+  }
+
+  -- a piece was not reported on as a whole
+  pub stops_in_piece : (left_new contents_new : Option (List ℕ)) (piece : List ℕ) → Consumes left left_new piece
+      → AppendsBeginning contents contents_new (reports_of (ended_lines (line ++ piece))) → StopsWithin left_old left_new contents_old contents_new
+  stops_in_piece left_new contents_new piece takes writes = record {
+    taken = run.taken ++ piece;
+    takes = Consumes-trans left_old left left_new run.taken piece run.takes takes;
+    lines = ended_lines (run.taken ++ piece);
+    whole = inl refl;
+    writes = writes_beginning contents_new _ _ writes (reports_on_piece piece);
+  }
+
+  consumes_end : (left_new : Option (List ℕ)) (piece : List ℕ) → Consumes left left_new piece → piece ≡ [] → Consumes left_old left_new run.taken
+  consumes_end left_new piece takes none =
+      subst (Consumes left_old left_new) (ap (λ xs. run.taken ++ xs) none ∙ append-nil run.taken) (Consumes-trans left_old left left_new run.taken piece run.takes takes)
+
+  -- the end was not reported on as a whole
+  pub stops_at_end : (left_new contents_new : Option (List ℕ)) (piece : List ℕ) → Consumes left left_new piece → piece ≡ [] → IsAtEnd left_new
+      → AppendsBeginning contents contents_new (reports_of (unless_empty line)) → StopsWithin left_old left_new contents_old contents_new
+  stops_at_end left_new contents_new piece takes none at_end writes = record {
+    taken = run.taken;
+    takes = consumes_end left_new piece takes none;
+    lines = lines_of run.taken;
+    whole = inr (at_end, refl);
+    writes = writes_beginning contents_new _ _ writes reports_on_all;
+  }
+
+  -- the end was reported on
+  pub ends_run : (left_new contents_new : Option (List ℕ)) (piece : List ℕ) → Consumes left left_new piece → piece ≡ [] → IsAtEnd left_new
+      → Appends contents contents_new (reports_of (unless_empty line)) → IfSome left_old (λ bytes. Appends contents_old contents_new (reports_of (lines_of bytes)))
+  ends_run left_new contents_new piece takes none at_end writes =
+      Consumes-whole left_old left_new run.taken (λ bytes. Appends contents_old contents_new (reports_of (lines_of bytes))) (consumes_end left_new piece takes none) at_end
+      (subst (Appends contents_old contents_new) (sym reports_on_all) (Appends-trans contents_old contents contents_new _ _ run.writes writes))
+
+pub false_unless : (b : Bool) → (b ≡ true → ⊥) → b ≡ false
+false_unless true h = absurd (h refl)
+false_unless false h = refl
+
+pub take_none : (count : ℕ) (bytes : List ℕ) → count ≡ 0 → take count bytes ≡ []
+take_none count bytes none = ap (λ n. take n bytes) none
+
+pub ok_not_err : {T E : Type 0} {x : T} {e : E} → Ok x ≡ Err e → ⊥
+ok_not_err is = cc
+
+-- ---- bytes that are spelled by lines
+
+spelled-cons : (line : List ℕ) (lines : List (List ℕ)) (last : List ℕ) → spelled (line ∷ lines) last ≡ line ++ 10 ∷ spelled lines last
+spelled-cons line lines last =
+    append_assoc (line ++ 10 ∷ []) (flat_map (λ l. l ++ 10 ∷ []) lines) last ∙ append_assoc line (10 ∷ []) (spelled lines last)
+
+-- lines with an LF behind each, and bytes behind them
+pub ended_lines-spelled : (lines : List (List ℕ)) (last : List ℕ) → All HasNoLineFeed lines → HasNoLineFeed last → ended_lines (spelled lines last) ≡ lines
+ended_lines-spelled [] last each none = ended_lines-none last none
+ended_lines-spelled (line ∷ lines) last each none =
+    let held : HasNoLineFeed line = All-head HasNoLineFeed line lines each in
+    ap ended_lines (spelled-cons line lines last) ∙ ended_lines-line_feed line (spelled lines last)
+    ∙ ap (λ ps. ps ++ ended_lines (spelled lines last)) (slice_split_none is_line_feed line held)
+    ∙ ap (λ ls. line ∷ ls) (ended_lines-spelled lines last (All-tail HasNoLineFeed line lines each) none)
+
+pub open_line-spelled : (lines : List (List ℕ)) (last : List ℕ) → HasNoLineFeed last → open_line (spelled lines last) ≡ last
+open_line-spelled [] last none = open_line-none last none
+open_line-spelled (line ∷ lines) last none =
+    ap open_line (spelled-cons line lines last) ∙ open_line-line_feed line (spelled lines last) ∙ open_line-spelled lines last none
+
+record Spelling (bytes : List ℕ) : Type 0 where
+  lines : List (List ℕ)
+  last : List ℕ
+  spells : spelled lines last ≡ bytes
+  each : All HasNoLineFeed lines
+  none : HasNoLineFeed last
+
+longer_spelling : (b : ℕ) (lines : List (List ℕ)) (last bytes : List ℕ) → is_line_feed b ≡ false → spelled lines last ≡ bytes → All HasNoLineFeed lines → HasNoLineFeed last → Spelling (b ∷ bytes)
+longer_spelling b [] last bytes is spells each none = record {
+  lines = [];
+  last = b ∷ last;
+  spells = ap (λ xs. b ∷ xs) spells;
+  each = each;
+  none = All-cons EndsNoLine b last is none;
+}
+longer_spelling b (line ∷ lines) last bytes is spells each none = record {
+  lines = (b ∷ line) ∷ lines;
+  last = last;
+  spells = ap (λ xs. b ∷ xs) spells;
+  each = All-cons HasNoLineFeed (b ∷ line) lines (All-cons EndsNoLine b line is (All-head HasNoLineFeed line lines each)) (All-tail HasNoLineFeed line lines each);
+  none = none;
+}
+
+spelling_at_byte : (b : ℕ) (bytes : List ℕ) (test : Bool) → is_line_feed b ≡ test → Spelling bytes → Spelling (b ∷ bytes)
+spelling_at_byte b bytes true is s = record {
+  lines = [] ∷ s.lines;
+  last = s.last;
+  spells = ap (λ x. x ∷ spelled s.lines s.last) (sym (eqb-true b 10 is)) ∙ ap (λ xs. b ∷ xs) s.spells;
+  each = All-cons HasNoLineFeed [] s.lines (All-nil EndsNoLine) s.each;
+  none = s.none;
+}
+spelling_at_byte b bytes false is s = longer_spelling b s.lines s.last bytes is s.spells s.each s.none
+
+spelling : (bytes : List ℕ) → Spelling bytes
+spelling [] = record { lines = []; last = []; spells = refl; each = All-nil HasNoLineFeed; none = All-nil EndsNoLine }
+spelling (b ∷ bs) = spelling_at_byte b bs (is_line_feed b) refl (spelling bs)
+
+pub ended_lines-spell : LinesSpellTheBytes
+ended_lines-spell bytes =
+    let s = spelling bytes in
+    let ended : ended_lines bytes ≡ s.lines = ap ended_lines (sym s.spells) ∙ ended_lines-spelled s.lines s.last s.each s.none in
+    let open_is : open_line bytes ≡ s.last = ap open_line (sym s.spells) ∙ open_line-spelled s.lines s.last s.none in
+    ap (λ ls. spelled ls (open_line bytes)) ended ∙ ap (spelled s.lines) open_is ∙ s.spells
+
+pub ended_lines-have_no_line_feed : (bytes : List ℕ) → All HasNoLineFeed (ended_lines bytes)
+ended_lines-have_no_line_feed bytes =
+    let s = spelling bytes in
+    subst (All HasNoLineFeed) (sym (ap ended_lines (sym s.spells) ∙ ended_lines-spelled s.lines s.last s.each s.none)) s.each
+
+pub no_line_feed_in_lines : NoLineFeedInLines
+no_line_feed_in_lines bytes = (ended_lines-have_no_line_feed bytes, open_line-has_no_line_feed bytes)
+
+pub lines_are_unique : LinesAreUnique
+lines_are_unique lines last each none = (ended_lines-spelled lines last each none, open_line-spelled lines last none)

@@ -1,0 +1,41 @@
+use Rattle.std.proofs.Common.{arith, ◌∙◌, length-take}
+use Rattle.std.proofs.KnownBytes.{Keeps-refl}
+use Rattle.litrs_lines.proofs.LinesLemmas.{runs_none, line_held, runs_more, stops_at_read, stops_in_piece, stops_at_end, ends_run, OnOk-map, OnErr-map, false_unless, ok_not_err, take_none}
+use Rattle.litrs_lines.proofs.run.Goals as goal
+
+pub loop-turn-init : goal.loop-turn-init
+loop-turn-init g c = record {
+  reader_works = c.requires.reader_works;
+  writer_works = c.requires.writer_works;
+  runs = runs_none _ _ _ c.new-line.ensures.items;
+}
+
+pub returns-in-Err-clause-err : goal.returns-in-Err-clause-err
+returns-in-Err-clause-err g c = stops_at_read c.loop-turn.invariant.runs _ c.in-Err.ensures.bytes
+
+pub returns-then-count-eq0-clause-ok : goal.returns-then-count-eq0-clause-ok
+returns-then-count-eq0-clause-ok g c =
+    let read = c.in-Ok.ensures.bytes in
+    OnOk-map c.finish.result (ends_run c.loop-turn.invariant.runs _ _ _ read.0 (take_none _ _ (omega arith)) (read.1 (omega arith) (omega arith))) c.finish.ensures.ok
+
+pub returns-then-count-eq0-clause-err : goal.returns-then-count-eq0-clause-err
+returns-then-count-eq0-clause-err g c =
+    let read = c.in-Ok.ensures.bytes in
+    OnErr-map c.finish.result (stops_at_end c.loop-turn.invariant.runs _ _ _ read.0 (take_none _ _ (omega arith)) (read.1 (omega arith) (omega arith))) c.finish.ensures.err
+
+pub take_piece-requires-clause-line : goal.take_piece-requires-clause-line
+take_piece-requires-clause-line g c = line_held c.loop-turn.invariant.runs
+
+pub returns-in-Err-take_piece-clause-err : goal.returns-in-Err-take_piece-clause-err
+returns-in-Err-take_piece-clause-err g c =
+    stops_in_piece c.loop-turn.invariant.runs _ _ _ c.in-Ok.ensures.bytes.0 c.in-Err-take_piece.ensures.err
+
+pub loop-turn-preserved : goal.loop-turn-preserved
+loop-turn-preserved g c = record {
+  reader_works = c.in-Ok.ensures.failed ∙ c.loop-turn.invariant.reader_works;
+  writer_works = false_unless _ (λ failed. ok_not_err (c.in_default.ensures.write.1 failed));
+  runs = runs_more c.loop-turn.invariant.runs _ _ _ _ c.in-Ok.ensures.bytes.0 c.in_default.ensures.line c.in_default.ensures.ok (rw length-take (omega arith));
+}
+
+pub returns-clause-err : goal.returns-clause-err
+returns-clause-err g c = stops_at_read c.loop-turn.invariant.runs _ (Keeps-refl _)

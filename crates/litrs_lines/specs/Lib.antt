@@ -1,0 +1,11 @@
+pub mod Report
+pub mod ReportLaws
+pub mod Lines
+pub mod LinesLaws
+pub mod Devices
+pub mod Calls
+pub mod MemInput
+pub mod MemOutput
+pub mod StdInput
+pub mod StdOutput
+pub mod RunError

@@ -1,0 +1,58 @@
+-- The lines of some bytes, and what is written on them.
+use Rattle.std.specs.Prelude.{◌≡◌, ◌==◌, ℕ, Bool, false, List, [], ◌∷◌, ◌++◌, All, flat_map}
+use Rattle.std.specs.List.{slice_split}
+use Rattle.litrs_base.specs.Characters.{line_feed}
+use Rattle.litrs_lines.specs.Report.{report_of}
+
+-- LF, which ends a line
+abbrev pub is_line_feed : ℕ → Bool
+is_line_feed b = b == line_feed
+
+-- no line ends within the bytes
+abbrev pub HasNoLineFeed : List ℕ → Type 0
+HasNoLineFeed bytes = All (λ b. is_line_feed b ≡ false) bytes
+
+-- of a part and those behind it, all but the last
+abbrev pub before_last_part : List ℕ → List (List ℕ) → List (List ℕ)
+before_last_part part [] = []
+before_last_part part (next ∷ parts) = part ∷ before_last_part next parts
+
+-- of a part and those behind it, the last
+abbrev pub last_part : List ℕ → List (List ℕ) → List ℕ
+last_part part [] = part
+last_part part (next ∷ parts) = last_part next parts
+
+-- all parts but the last
+abbrev pub ended_parts : List (List ℕ) → List (List ℕ)
+ended_parts [] = []
+ended_parts (part ∷ parts) = before_last_part part parts
+
+-- the last part
+abbrev pub open_part : List (List ℕ) → List ℕ
+open_part [] = []
+open_part (part ∷ parts) = last_part part parts
+
+-- the part alone, and none where it is empty
+abbrev pub unless_empty : List ℕ → List (List ℕ)
+unless_empty [] = []
+unless_empty (b ∷ bs) = (b ∷ bs) ∷ []
+
+-- The LFs split the bytes into parts. Each part but the last has an LF behind it, and is an ended line.
+unfoldable pub ended_lines : List ℕ → List (List ℕ)
+ended_lines bytes = ended_parts (slice_split is_line_feed bytes)
+
+-- what stands behind the last LF
+unfoldable pub open_line : List ℕ → List ℕ
+open_line bytes = open_part (slice_split is_line_feed bytes)
+
+-- the ended lines, and what stands behind the last LF where it is not empty
+unfoldable pub lines_of : List ℕ → List (List ℕ)
+lines_of bytes = ended_lines bytes ++ unless_empty (open_line bytes)
+
+-- the report on each line, with an LF behind it
+unfoldable pub reports_of : List (List ℕ) → List ℕ
+reports_of lines = flat_map (λ line. report_of line ++ line_feed ∷ []) lines
+
+-- what is written on some bytes as a whole
+abbrev pub output_of : List ℕ → List ℕ
+output_of bytes = reports_of (lines_of bytes)

@@ -1,0 +1,240 @@
+//! Reads lines and writes a report on each.
+#![tactic(auto)]
+
+ghost use Rattle.std.specs.Prelude.{◌≡◌, ◌≢◌, ◌↔◌, ◌∷◌, [], ◌++◌, true, false, Some, IsSome, IfSome, IsErrOf, OnOk, OnErr, position, string_bytes};
+ghost use Rattle.std.specs.Io.KnownBytes.{Appends, IsAtEnd};
+ghost use Rattle.litrs_lines.specs.Devices.{AppendsBeginning, StopsWithin};
+ghost use Rattle.litrs_lines.specs.Lines.{is_line_feed, HasNoLineFeed, ended_lines, open_line, unless_empty, reports_of, output_of};
+ghost use Rattle.litrs_lines.specs.Report.{report_of};
+
+pub use device::{Failed, Input, Output};
+pub use mem_input::MemInput;
+pub use mem_output::MemOutput;
+use report::push_report;
+use std::alloc::{AllocError, Global};
+use std::error::Error;
+use std::fmt;
+pub use std_input::StdInput;
+pub use std_output::StdOutput;
+
+mod calls;
+mod device;
+pub mod laws;
+mod mem_input;
+mod mem_output;
+mod report;
+mod std_input;
+mod std_output;
+#[cfg(test)]
+mod tests;
+
+/// The bytes that are read at a time.
+const BUFFER_LEN: usize = 8192;
+
+/// Why `run` stopped.
+#[derive(Clone, Copy, Debug, PartialEq, Eq)]
+pub enum RunError {
+    /// The input failed, or gave no end in 2^64 - 1 reads.
+    Read,
+    /// The output failed.
+    Write,
+    /// A growth was refused.
+    Memory,
+}
+
+impl fmt::Display for RunError {
+    ghost use Rattle.litrs_lines.specs.RunError.{run_error_text};
+
+    ghost output = { λ error. Some (run_error_text error) };
+
+    fn fmt<W: fmt::Write>(&self, f: &mut fmt::Formatter<W>) -> fmt::Result {
+        f.write_str(match self {
+            RunError::Read => "read failed",
+            RunError::Write => "write failed",
+            RunError::Memory => "out of memory",
+        })
+    }
+}
+
+impl Error for RunError {}
+
+impl From<AllocError> for RunError {
+    ghost use Rattle.litrs_lines.specs.declared.RunError.TheVariants.{Memory};
+
+    ghost from_gives = { λ _ error. error ≡ Memory };
+
+    fn from(_: AllocError) -> Self {
+        RunError::Memory
+    }
+}
+
+/// Where the first line ends, in bytes.
+fn line_end(bytes: &[u8]) -> Option<usize>
+    ensures { result ≡ position is_line_feed bytes.now }
+{
+    bytes.iter().position(|b| *b == b'\n')
+}
+
+/// Reports on the line that `end` ends, and goes on with an empty one.
+fn report_line(line: &mut Vec<u8>, reports: &mut String, end: &[u8]) -> Result<(), AllocError>
+    ensures line { OnOk result (line.new.items ≡ []) }
+    ensures reports { OnOk result (string_bytes reports.new
+        ≡ string_bytes reports.old ++ (report_of (line.old.items ++ end.now) ++ 10 ∷ [])) }
+{
+    if line.is_empty() {
+        push_report(reports, end)?;
+    } else {
+        line.extend_from_slice(end)?;
+        push_report(reports, line)?;
+        line.clear();
+    }
+    reports.push('\n')?;
+    Ok(())
+}
+
+/// Reports on the lines that end in `piece`, and keeps the one that goes on.
+fn gather(line: &mut Vec<u8>, reports: &mut String, piece: &[u8]) -> Result<(), AllocError>
+    requires { HasNoLineFeed line.old.items }
+    ensures line { OnOk result (line.new.items ≡ open_line (line.old.items ++ piece.now)) }
+    ensures reports { OnOk result (string_bytes reports.new
+        ≡ string_bytes reports.old ++ reports_of (ended_lines (line.old.items ++ piece.now))) }
+{
+    let mut rest = piece;
+    while let Some(end) = line_end(rest) {
+        report_line(line, reports, &rest[..end])?;
+        rest = &rest[end + 1..];
+    }
+    line.extend_from_slice(rest)
+}
+
+/// Writes all of `bytes`.
+fn write_all<O: Output>(writer: &mut O, bytes: &[u8]) -> Result<(), Failed>
+    requires { O.has_failed writer.old ≡ false }
+    ensures ok { OnOk result (Appends (O.contents writer.old) (O.contents writer.new) bytes.now) }
+    ensures works { OnOk result (O.has_failed writer.new ≡ false) }
+    ensures err { OnErr result (AppendsBeginning (O.contents writer.old) (O.contents writer.new)
+        bytes.now) }
+    ensures failed { OnErr result (O.has_failed writer.new ≡ true) }
+{
+    let mut rest = bytes;
+    while !rest.is_empty() {
+        match writer.write(rest) {
+            Ok(count) => rest = &rest[count..],
+            Err(Failed) => return Err(Failed),
+        }
+    }
+    Ok(())
+}
+
+/// Takes the next piece of the input: writes the reports on the lines that end in it.
+fn take_piece<O: Output>(
+    line: &mut Vec<u8>,
+    reports: &mut String,
+    piece: &[u8],
+    writer: &mut O,
+) -> Result<(), RunError>
+    requires line { HasNoLineFeed line.old.items }
+    requires works { O.has_failed writer.old ≡ false }
+    ensures line { OnOk result (line.new.items ≡ open_line (line.old.items ++ piece.now)) }
+    ensures ok { OnOk result (Appends (O.contents writer.old) (O.contents writer.new)
+        (reports_of (ended_lines (line.old.items ++ piece.now)))) }
+    ensures err { OnErr result (AppendsBeginning (O.contents writer.old) (O.contents writer.new)
+        (reports_of (ended_lines (line.old.items ++ piece.now)))) }
+    ensures read { result ≢ Err RunError.Read }
+    ensures write { IsErrOf result RunError.Write ↔ (O.has_failed writer.new ≡ true) }
+{
+    reports.clear();
+    gather(line, reports, piece)?;
+    match write_all(writer, reports.as_bytes()) {
+        Ok(()) => Ok(()),
+        Err(Failed) => Err(RunError::Write),
+    }
+}
+
+/// Reports on a last line that has no end, where it is not empty.
+fn report_open_line(line: &mut Vec<u8>, reports: &mut String) -> Result<(), AllocError>
+    requires { string_bytes reports.old ≡ [] }
+    ensures { OnOk result (string_bytes reports.new ≡ reports_of (unless_empty line.old.items)) }
+{
+    if line.is_empty() {
+        return Ok(());
+    }
+    report_line(line, reports, &[])
+}
+
+/// Takes the end of the input: writes the report on a last line that has no end, and flushes.
+fn finish<O: Output>(
+    line: &mut Vec<u8>,
+    reports: &mut String,
+    writer: &mut O,
+) -> Result<(), RunError>
+    requires { O.has_failed writer.old ≡ false }
+    ensures ok { OnOk result (Appends (O.contents writer.old) (O.contents writer.new)
+        (reports_of (unless_empty line.old.items))) }
+    ensures flushed { OnOk result (O.is_flushed writer.new ≡ true) }
+    ensures err { OnErr result (AppendsBeginning (O.contents writer.old) (O.contents writer.new)
+        (reports_of (unless_empty line.old.items))) }
+    ensures read { result ≢ Err RunError.Read }
+    ensures write { IsErrOf result RunError.Write ↔ (O.has_failed writer.new ≡ true) }
+{
+    reports.clear();
+    report_open_line(line, reports)?;
+    if let Err(Failed) = write_all(writer, reports.as_bytes()) {
+        return Err(RunError::Write);
+    }
+    match writer.flush() {
+        Ok(()) => Ok(()),
+        Err(Failed) => Err(RunError::Write),
+    }
+}
+
+/// Reads to the end of the input, writes the report on each line and an LF behind it, and flushes
+/// once at the end.
+///
+/// A line is the bytes before an LF, without it, and what stands behind the last LF where that is
+/// not empty. One line is held at a time, so memory is taken in proportion to the longest.
+///
+/// # Errors
+///
+/// `Read` where the reader failed, or gave no end in 2^64 - 1 reads. `Write` where the writer
+/// failed. `Memory` where a growth was refused. What was written is then a beginning of the reports
+/// on the whole lines that were read.
+pub fn run<I: Input, O: Output>(
+    alloc: Global,
+    reader: &mut I,
+    writer: &mut O,
+) -> Result<(), RunError>
+    requires reader_works { I.has_failed reader.old ≡ false }
+    requires writer_works { O.has_failed writer.old ≡ false }
+
+    // The whole input was read, and the reports on its lines were written and flushed.
+    ensures end { OnOk result (IsAtEnd (I.remaining reader.new)) }
+    ensures ok { OnOk result (IfSome (I.remaining reader.old) (λ bytes.
+        Appends (O.contents writer.old) (O.contents writer.new) (output_of bytes))) }
+    ensures flushed { OnOk result (O.is_flushed writer.new ≡ true) }
+
+    // An input whose bytes are known never runs out of reads.
+    ensures read { IsErrOf result RunError.Read → IsSome (I.remaining reader.old)
+        → I.has_failed reader.new ≡ true }
+    ensures read_failed { I.has_failed reader.new ≡ true → IsErrOf result RunError.Read }
+    ensures write { IsErrOf result RunError.Write ↔ (O.has_failed writer.new ≡ true) }
+    ensures err { OnErr result (StopsWithin (I.remaining reader.old) (I.remaining reader.new)
+        (O.contents writer.old) (O.contents writer.new)) }
+{
+    let mut buffer = [0; BUFFER_LEN];
+    let mut line = Vec::new(alloc);
+    let mut reports = String::new(alloc);
+    for _turn in 0..u64::MAX {
+        let count = match reader.read(&mut buffer) {
+            Ok(count) => count,
+            Err(Failed) => return Err(RunError::Read),
+        };
+        if count == 0 {
+            return finish(&mut line, &mut reports, writer);
+        }
+        if let Err(error) = take_piece(&mut line, &mut reports, &buffer[..count], writer) {
+            return Err(error);
+        }
+    }
+    Err(RunError::Read)
+}

@@ -1,0 +1,83 @@
+//! The report on one line.
+ghost use Rattle.std.specs.Prelude.{◌≡◌, ◌++◌, OnOk, string_bytes, codes};
+ghost use Rattle.std.specs.Str.{chars};
+ghost use Rattle.litrs.specs.LiteralDerivation.{derivation};
+ghost use Rattle.litrs_grammar.specs.Integer.{integer_value};
+ghost use Rattle.litrs.specs.IntegerLiteral.{integer_parts};
+ghost use Rattle.litrs_grammar.specs.Literal.{an_integer};
+ghost use Rattle.litrs_lines.specs.Report.{value_text, integer_front, literal_report, text_report, report_of};
+
+use litrs::{Buffer, IntegerLit, Literal};
+use std::alloc::{AllocError, Global};
+use std::str;
+
+/// Adds the report on a line.
+pub(crate) fn push_report(out: &mut String, line: &[u8]) -> Result<(), AllocError>
+    ensures { OnOk result (string_bytes out.new ≡ string_bytes out.old ++ report_of line.now) }
+{
+    let alloc = *out.allocator();
+    match str::from_utf8(line) {
+        Ok(text) => push_text_report(alloc, out, text),
+        Err(_) => push_no_text_report(out),
+    }
+}
+
+/// Adds the report on a line that is no text.
+fn push_no_text_report(out: &mut String) -> Result<(), AllocError>
+    ensures { OnOk result (string_bytes out.new ≡ string_bytes out.old ++ codes "error input is not UTF-8") }
+{
+    out.push_str("error input is not UTF-8")
+}
+
+/// Adds the report on a text.
+fn push_text_report<B: Buffer>(alloc: Global, out: &mut String, text: B) -> Result<(), AllocError>
+    ensures { OnOk result (string_bytes out.new ≡ string_bytes out.old ++ text_report (chars (B.bytes text))) }
+{
+    match Literal::parse(alloc, text) {
+        Ok(lit) => push_literal_report(out, &lit),
+        Err(e) => write!(out, "error {e}"),
+    }
+}
+
+/// Adds the report on a literal.
+fn push_literal_report<B: Buffer>(out: &mut String, lit: &Literal<B>) -> Result<(), AllocError>
+    ensures { OnOk result (string_bytes out.new ≡ string_bytes out.old ++ literal_report (derivation lit.now)) }
+{
+    match lit {
+        Literal::Bool(lit) => write!(out, "bool {lit}"),
+        Literal::Integer(lit) => push_integer_report(out, lit),
+    }
+}
+
+/// Adds the report on an integer.
+fn push_integer_report<B: Buffer>(out: &mut String, lit: &IntegerLit<B>) -> Result<(), AllocError>
+    ensures { OnOk result (string_bytes out.new ≡ string_bytes out.old ++ literal_report (an_integer (integer_parts lit.now))) }
+{
+    push_integer_front(out, lit.base().value(), lit.raw_main_part(), lit.suffix())?;
+    push_value(out, lit)
+}
+
+/// Adds the report on an integer up to its value.
+fn push_integer_front(
+    out: &mut String,
+    base: u8,
+    digits: &str,
+    suffix: &str,
+) -> Result<(), AllocError>
+    ensures { OnOk result (string_bytes out.new ≡ string_bytes out.old ++ integer_front base digits.now suffix.now) }
+{
+    write!(
+        out,
+        "integer base={base} digits={digits} suffix={suffix} value="
+    )
+}
+
+/// Adds the value of an integer in decimal, or `none`.
+fn push_value<B: Buffer>(out: &mut String, lit: &IntegerLit<B>) -> Result<(), AllocError>
+    ensures { OnOk result (string_bytes out.new ≡ string_bytes out.old ++ value_text (integer_value (integer_parts lit.now))) }
+{
+    match lit.value::<u128>() {
+        Some(value) => write!(out, "{value}"),
+        None => out.push_str("none"),
+    }
+}

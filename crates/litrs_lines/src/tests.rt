@@ -1,0 +1,167 @@
+//! Runs over devices in memory. What is expected is the report of each line and an LF.
+use crate::{Failed, Input, MemInput, MemOutput, Output, RunError, StdInput, StdOutput, run};
+use std::alloc::Global;
+use std::io::Cursor;
+use std::test::Fail;
+
+/// Lines that are literals and lines that are not, an empty one, and a last one without an end.
+const LINES: &str = "true\n1_000u32\n0b12\n\nfalse";
+
+/// What is written on `LINES`.
+const REPORTS: &str = "bool true
+integer base=10 digits=1_000 suffix=u32 value=1000
+error integer literal contains a digit invalid for its base (at 3..4)
+error input is empty
+bool false
+";
+
+/// What is written on the lines of `LINES` that an LF ends.
+const ENDED_REPORTS: &str = "bool true
+integer base=10 digits=1_000 suffix=u32 value=1000
+error integer literal contains a digit invalid for its base (at 3..4)
+error input is empty
+";
+
+/// More room than any report here takes.
+const ROOM: usize = 4096;
+
+/// Never.
+const NEVER: Option<u64> = None;
+
+/// Runs over `LINES`, with pieces of these sizes and calls that fail from these numbers on.
+fn run_lines(
+    alloc: Global,
+    pieces: (usize, usize),
+    fails: (Option<u64>, Option<u64>),
+) -> Result<(Result<(), RunError>, MemOutput), Fail> {
+    let mut input = MemInput::new(LINES.as_bytes(), pieces.0.max(1), fails.0);
+    let mut output = MemOutput::new(alloc, ROOM, pieces.1.max(1), fails.1)?;
+    let result = run(alloc, &mut input, &mut output);
+    Ok((result, output))
+}
+
+#[test]
+fn pieces_of_any_size_give_the_same(rt: HostRuntime) -> Result<(), Fail> {
+    for read in [1, 3, 4096] {
+        for write in [1, 3, 4096] {
+            let (result, output) = run_lines(rt.alloc(), (read, write), (NEVER, NEVER))?;
+            assert_eq!(rt; result, Ok(()));
+            assert_eq!(rt; output.bytes(), REPORTS.as_bytes());
+            assert!(rt; !output.failed());
+        }
+    }
+    Ok(())
+}
+
+/// How many lines an LF ends.
+fn count_lines(bytes: &[u8]) -> usize {
+    bytes.iter().filter(|b| **b == b'\n').count()
+}
+
+#[test]
+fn a_read_fails(rt: HostRuntime) -> Result<(), Fail> {
+    // One read gives each byte, and one more the end.
+    for number in 0..=LINES.len() as u64 {
+        let (result, output) = run_lines(rt.alloc(), (1, 3), (Some(number), NEVER))?;
+        assert_eq!(rt; result, Err(RunError::Read));
+        let read = LINES.as_bytes().get(..number as usize).unwrap_or(&[]);
+        assert_eq!(rt; count_lines(output.bytes()), count_lines(read));
+        assert!(rt; ENDED_REPORTS.as_bytes().starts_with(output.bytes()));
+        assert!(rt; !output.failed());
+    }
+    Ok(())
+}
+
+#[test]
+fn a_write_fails(rt: HostRuntime) -> Result<(), Fail> {
+    for number in 0..8 {
+        let (result, output) = run_lines(rt.alloc(), (4, 4), (NEVER, Some(number)))?;
+        assert_eq!(rt; result, Err(RunError::Write));
+        assert!(rt; REPORTS.as_bytes().starts_with(output.bytes()));
+        assert!(rt; output.failed());
+    }
+    Ok(())
+}
+
+#[test]
+fn the_flush_fails(rt: HostRuntime) -> Result<(), Fail> {
+    // The calls are a write for the ended lines, one for the last line, and the flush.
+    let (result, output) = run_lines(rt.alloc(), (4096, 4096), (NEVER, Some(2)))?;
+    assert_eq!(rt; result, Err(RunError::Write));
+    assert_eq!(rt; output.bytes(), REPORTS.as_bytes());
+    Ok(())
+}
+
+#[test]
+fn the_room_is_full(rt: HostRuntime) -> Result<(), Fail> {
+    let mut input = MemInput::new(LINES.as_bytes(), 5, NEVER);
+    let mut output = MemOutput::new(rt.alloc(), 7, 4, NEVER)?;
+    assert_eq!(rt;
+        run(rt.alloc(), &mut input, &mut output),
+        Err(RunError::Write)
+    );
+    assert_eq!(rt; Some(output.bytes()), REPORTS.as_bytes().get(..7));
+    assert!(rt; output.failed());
+    Ok(())
+}
+
+#[test]
+fn nothing_is_read(rt: HostRuntime) -> Result<(), Fail> {
+    let mut input = MemInput::new(&[], 1, NEVER);
+    let mut output = MemOutput::new(rt.alloc(), 0, 1, NEVER)?;
+    assert_eq!(rt; run(rt.alloc(), &mut input, &mut output), Ok(()));
+    assert!(rt; output.bytes().is_empty());
+    assert!(rt; !input.failed());
+    Ok(())
+}
+
+#[test]
+fn calls_fail_from_a_number_on(rt: HostRuntime) -> Result<(), Fail> {
+    let mut input = MemInput::new(b"abc", 2, Some(1));
+    let mut buffer = [0; 3];
+    assert_eq!(rt; input.read(&mut buffer), Ok(2));
+    assert!(rt; !input.failed());
+    assert_eq!(rt; input.read(&mut buffer), Err(Failed));
+    assert_eq!(rt; input.read(&mut buffer), Err(Failed));
+    assert!(rt; input.failed());
+    assert_eq!(rt; buffer.as_slice(), b"ab\0".as_slice());
+    Ok(())
+}
+
+#[test]
+fn readers_and_writers_of_the_library(rt: HostRuntime) -> Result<(), Fail> {
+    let mut written = Vec::new(rt.alloc());
+    let mut input = StdInput::new(Cursor::new(LINES.as_bytes()));
+    let mut output = StdOutput::new(&mut written);
+    assert_eq!(rt; run(rt.alloc(), &mut input, &mut output), Ok(()));
+    assert!(rt; !input.failed());
+    assert!(rt; !output.failed());
+    assert_eq!(rt; written.as_slice(), REPORTS.as_bytes());
+    Ok(())
+}
+
+#[test]
+fn a_writer_that_takes_nothing_has_failed(rt: HostRuntime) -> Result<(), Fail> {
+    let mut room = [0; 3];
+    let mut output = StdOutput::new(Cursor::new(room.as_mut_slice()));
+    assert_eq!(rt; output.write(b"ab"), Ok(2));
+    assert_eq!(rt; output.write(b""), Ok(0));
+    assert_eq!(rt; output.write(b"cd"), Ok(1));
+    assert_eq!(rt; output.write(b"d"), Err(Failed));
+    assert!(rt; output.failed());
+    assert_eq!(rt; output.flush(), Ok(()));
+    assert!(rt; output.failed());
+    Ok(())
+}
+
+#[test]
+fn errors_say_what_failed(rt: HostRuntime) -> Result<(), Fail> {
+    for (error, text) in [
+        (RunError::Read, "read failed"),
+        (RunError::Write, "write failed"),
+        (RunError::Memory, "out of memory"),
+    ] {
+        assert_eq!(rt; error.to_string(rt.alloc())?.as_str(), text);
+    }
+    Ok(())
+}
