@@ -1,7 +1,7 @@
 //! Bool literals.
 ghost use Rattle.std.specs.Prelude.{◌≡◌, Some, IfOk, IfErr, OnErr};
 ghost use Rattle.std.specs.Str.{chars};
-ghost use Rattle.litrs_base.specs.Reading.{IsOnlyReading, HasNoReading};
+ghost use Rattle.litrs_base.specs.Derivations.{IsOnlyDerivation, HasNoDerivation};
 
 use litrs_lex::{ParseError, ParseErrorKind};
 use std::fmt;
@@ -19,17 +19,17 @@ pub enum BoolLit {
 
 impl BoolLit {
     ghost use Rattle.litrs.specs.BoolLiteral.{bool_value};
-    ghost use Rattle.litrs_grammar.specs.Bool.{IsBool, bool_text, bool_fault};
+    ghost use Rattle.litrs_grammar.specs.Bool.{IsBool, bool_text, bool_refusal};
 
-    /// Reads a text that is exactly `true` or `false`.
+    /// Derives a text that is exactly `true` or `false`.
     ///
     /// # Errors
     ///
     /// `InvalidLiteral` without a span for every other text, as `True` and the empty one.
     pub fn parse(s: &str) -> Result<BoolLit, ParseError>
-        ensures ok { IfOk result (λ lit. IsOnlyReading (IsBool (chars s.now)) (bool_value lit)) }
-        ensures none { OnErr result (HasNoReading (IsBool (chars s.now))) }
-        ensures fault { IfErr result (λ e. bool_fault (chars s.now) ≡ Some e) }
+        ensures ok { IfOk result (λ lit. IsOnlyDerivation (IsBool (chars s.now)) (bool_value lit)) }
+        ensures none { OnErr result (HasNoDerivation (IsBool (chars s.now))) }
+        ensures refusal { IfErr result (λ e. bool_refusal (chars s.now) ≡ Some e) }
     {
         match s {
             "false" => Ok(BoolLit::False),

@@ -10,11 +10,11 @@ ghost use Rattle.litrs_base.specs.Base.{base_value, is_digit_or_underscore};
 ghost use Rattle.litrs.specs.IntegerLiteral.{IntegerLiteral, integer_parts};
 ghost use Rattle.litrs_base.specs.Numeral.{numeral};
 ghost use Rattle.litrs_grammar.specs.Integer.{integer_value};
-ghost use Rattle.litrs_base.specs.Reading.{IsOnlyReading, HasNoReading};
-ghost use Rattle.litrs_base.specs.Fault.{IsInText};
+ghost use Rattle.litrs_base.specs.Derivations.{IsOnlyDerivation, HasNoDerivation};
+ghost use Rattle.litrs_base.specs.Refusal.{IsInText};
 ghost use Rattle.litrs_base.specs.Text.{first_passes};
 ghost use Rattle.litrs_lex.specs.IntegerCut.{parts_at, IsWithin, IsIntegerAt, IsDigitsCut};
-ghost use Rattle.litrs_grammar.specs.Integer.{IsIntegerOf, integer_fault, cut_fault, integer_cut, is_e, base_of};
+ghost use Rattle.litrs_grammar.specs.Integer.{IsIntegerOf, integer_refusal, cut_refusal, integer_cut, is_e, base_of};
 
 use litrs_lex::{
     Buffer, FromIntegerLiteral, IntegerBase, IntegerCut, ParseError, ParseErrorKind, cut_integer,
@@ -47,7 +47,7 @@ impl<B: Buffer> Model for IntegerLit<B> {
 }
 
 impl<B: Buffer> IntegerLit<B> {
-    /// Reads a text that is one integer. It takes no memory.
+    /// Derives a text that is one integer. It takes no memory.
     ///
     /// `0xFF_u8` has the base 16, the main part `FF_` and the suffix `u8`.
     ///
@@ -58,9 +58,9 @@ impl<B: Buffer> IntegerLit<B> {
     pub fn parse(input: B) -> Result<IntegerLit<B>, ParseError>
         ensures buffer { IfOk result (λ lit. lit.buffer ≡ input) }
         ensures raw { IfOk result (λ lit. lit.raw ≡ B.bytes input) }
-        ensures ok { IfOk result (λ lit. IsOnlyReading (IsIntegerOf (chars (B.bytes input))) (integer_parts lit)) }
-        ensures none { OnErr result (HasNoReading (IsIntegerOf (chars (B.bytes input)))) }
-        ensures fault { IfErr result (λ e. integer_fault (chars (B.bytes input)) ≡ Some e) }
+        ensures ok { IfOk result (λ lit. IsOnlyDerivation (IsIntegerOf (chars (B.bytes input))) (integer_parts lit)) }
+        ensures none { OnErr result (HasNoDerivation (IsIntegerOf (chars (B.bytes input)))) }
+        ensures refusal { IfErr result (λ e. integer_refusal (chars (B.bytes input)) ≡ Some e) }
         ensures span { IfErr result (IsInText (chars (B.bytes input))) }
     {
         let cut = read(input.as_str())?;
@@ -147,10 +147,10 @@ impl IntegerLit<&str> {
 
 /// Where the text is cut, if it is an integer.
 fn read(input: &str) -> Result<IntegerCut, ParseError>
-    ensures ok { IfOk result (λ cut. IsOnlyReading (IsIntegerOf (chars input.now)) (parts_at cut input.now)) }
+    ensures ok { IfOk result (λ cut. IsOnlyDerivation (IsIntegerOf (chars input.now)) (parts_at cut input.now)) }
     ensures places { IfOk result (λ cut. IsWithin cut input.now) }
-    ensures none { OnErr result (HasNoReading (IsIntegerOf (chars input.now))) }
-    ensures fault { IfErr result (λ e. integer_fault (chars input.now) ≡ Some e) }
+    ensures none { OnErr result (HasNoDerivation (IsIntegerOf (chars input.now))) }
+    ensures refusal { IfErr result (λ e. integer_refusal (chars input.now) ≡ Some e) }
     ensures span { IfErr result (IsInText (chars input.now)) }
 {
     first_byte_or_empty(input)?;

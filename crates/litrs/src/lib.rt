@@ -8,10 +8,10 @@ ghost use Rattle.std.specs.Prelude.{◌≡◌, ◌≢◌, false, nat_eq, IsOk, I
 ghost use Rattle.std.specs.Cmp.{on_per, on_equiv, partial_equiv_from_equiv};
 ghost use Rattle.std.specs.Cmp.Lexicographic.{pointwise, nat_list_eq_equiv};
 ghost use Rattle.std.specs.Str.{chars};
-ghost use Rattle.litrs_base.specs.Fault.{kind_of, IsInText};
-ghost use Rattle.litrs_base.specs.Reading.{IsOnlyReading, HasNoReading};
+ghost use Rattle.litrs_base.specs.Refusal.{kind_of, IsInText};
+ghost use Rattle.litrs_base.specs.Derivations.{IsOnlyDerivation, HasNoDerivation};
 ghost use Rattle.litrs_grammar.specs.Literal.{IsLiteral, suffix_of};
-ghost use Rattle.litrs.specs.ReadLiteral.{IsReadLiteral, read_fault};
+ghost use Rattle.litrs.specs.ReadLiteral.{IsReadLiteral, read_refusal};
 ghost use Rattle.litrs.specs.LiteralDerivation.{literal_raw, derivation};
 
 pub use bool::BoolLit;
@@ -40,7 +40,7 @@ pub enum Literal<B: Buffer> {
 }
 
 impl<B: Buffer> Literal<B> {
-    /// Reads a text that is one literal, of the kind that it begins like.
+    /// Derives a text that is one literal, of the kind that it begins like.
     ///
     /// `true` is a bool, `1_000u32` an integer with the suffix `u32`. Bools and integers are read today.
     ///
@@ -50,9 +50,9 @@ impl<B: Buffer> Literal<B> {
     /// else `InvalidLiteral`, also of a text that begins like a kind that is not read, as `1.5` or `"a"`.
     pub fn parse(_alloc: Global, input: B) -> Result<Literal<B>, ParseError>
         ensures raw { IfOk result (λ lit. literal_raw lit ≡ B.bytes input) }
-        ensures ok { IfOk result (λ lit. IsOnlyReading (IsLiteral (chars (B.bytes input))) (derivation lit)) }
-        ensures none { OnErr result (HasNoReading (IsReadLiteral (chars (B.bytes input)))) }
-        ensures fault { IfErr result (λ e. read_fault (chars (B.bytes input)) ≡ Some e) }
+        ensures ok { IfOk result (λ lit. IsOnlyDerivation (IsLiteral (chars (B.bytes input))) (derivation lit)) }
+        ensures none { OnErr result (HasNoDerivation (IsReadLiteral (chars (B.bytes input)))) }
+        ensures refusal { IfErr result (λ e. read_refusal (chars (B.bytes input)) ≡ Some e) }
         ensures span { IfErr result (IsInText (chars (B.bytes input))) }
         // No text of these kinds takes memory.
         ensures memory { IfErr result (λ e. kind_of e ≢ ParseErrorKind.OutOfMemory) }

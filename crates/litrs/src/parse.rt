@@ -1,7 +1,7 @@
 //! The dispatch over the kinds.
 ghost use Rattle.std.specs.Prelude.{◌≡◌};
 ghost use Rattle.std.specs.Str.{chars};
-ghost use Rattle.litrs_grammar.specs.LiteralFault.{begins_float};
+ghost use Rattle.litrs_grammar.specs.LiteralRefusals.{begins_float};
 ghost use Rattle.litrs.specs.BeginsLike.{BeginsLike};
 
 use crate::bool::BoolLit;

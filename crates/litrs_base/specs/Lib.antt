@@ -1,8 +1,13 @@
+-- characters and texts
 pub mod Characters
 pub mod Text
-pub mod Base
-pub mod IntegerTypes
-pub mod Numeral
+pub mod CharEnd
+-- what every kind of literal is described by
+pub mod Derivations
 pub mod Kind
-pub mod Fault
-pub mod Reading
+pub mod Finality
+pub mod Refusal
+-- numbers
+pub mod Base
+pub mod Numeral
+pub mod IntegerTypes

@@ -1,5 +1,7 @@
 //! Why a text is refused.
 ghost use Rattle.std.specs.Prelude.{◌≡◌, ◌+◌, ◌≤◌, ◌<◌, ◌^◌};
+ghost use Rattle.std.specs.Str.{chars};
+ghost use Rattle.litrs_base.specs.CharEnd.{IsCharEnd};
 ghost use Rattle.litrs_base.specs.Kind.{kind_text};
 
 use std::error::Error;
@@ -10,28 +12,70 @@ use std::ops::Range;
 #[derive(Debug, Drop)]
 pub struct ParseError {
     pub(crate) span: Option<Range<usize>>,
+    pub(crate) char_end: usize,
     pub(crate) kind: ParseErrorKind,
 }
 
 impl ParseError {
-    ghost use Rattle.litrs_base.specs.Fault.{fault, kind_of, span_of, moved, MovesWithin};
+    ghost use Rattle.std.specs.Prelude.{IsTrue, IfSome};
+    ghost use Rattle.litrs_base.specs.Refusal.{refusal, refusal_of, kind_of, span_of, char_span_of, HasCharSpan, moved, moved_span, MovesWithin};
+    ghost use Rattle.litrs_base.specs.Finality.{is_final, is_open};
 
-    /// A refusal of this kind. The span counts bytes of the text.
+    /// A refusal of this kind. The span counts bytes of the text, and is its own character span.
     pub fn new(span: Option<Range<usize>>, kind: ParseErrorKind) -> ParseError
-        ensures { result ≡ fault span kind }
+        ensures refusal { refusal_of result ≡ refusal span kind }
+        ensures char_span { char_span_of result ≡ span }
     {
-        ParseError { span, kind }
+        let char_end = match &span {
+            Some(span) => span.end,
+            None => 0,
+        };
+        ParseError {
+            span,
+            char_end,
+            kind,
+        }
+    }
+
+    /// A refusal of this text. The span, whose start is at most its end, counts bytes of it; the end
+    /// may lie inside a character.
+    pub fn in_text(text: &str, span: Option<Range<usize>>, kind: ParseErrorKind) -> ParseError
+        requires { IfSome span (λ range. range.start ≤ range.end) }
+        ensures refusal { refusal_of result ≡ refusal span kind }
+        ensures char_span { HasCharSpan (chars text.now) result }
+    {
+        let char_end = match &span {
+            Some(span) => char_end_of(text, span.end),
+            None => 0,
+        };
+        ParseError {
+            span,
+            char_end,
+            kind,
+        }
     }
 
     /// The part of the text that the refusal points at, in bytes, if it points at one: 3..4 of
     /// `0b12`.
     ///
-    /// The start is a character boundary. The end may lie inside a character.
+    /// The start is a character boundary. The end may lie inside a character: `é` is no integer, and
+    /// refused at 0..1.
     pub fn span(&self) -> Option<Range<usize>>
         ensures { result ≡ span_of self.now }
     {
         match &self.span {
             Some(span) => Some(span.start..span.end),
+            None => None,
+        }
+    }
+
+    /// The same part in whole characters: the end is the least character boundary at or after that of
+    /// [`span`](ParseError::span), as 0..2 of `é`. Where that lies past the text it is kept.
+    pub fn char_span(&self) -> Option<Range<usize>>
+        ensures { result ≡ char_span_of self.now }
+    {
+        match &self.span {
+            Some(span) => Some(span.start..self.char_end),
             None => None,
         }
     }
@@ -43,37 +87,78 @@ impl ParseError {
         self.kind
     }
 
-    /// Adds `offset` bytes to the start and the end of the span. Both sums fit.
+    /// Whether no text that begins with the refused one is a literal for the same parse: `0b12` is
+    /// refused so, and `0x`, with which `0x1` begins, is not.
+    pub fn is_final(&self) -> bool
+        ensures { result ≡ is_final (kind_of self.now) }
+    {
+        self.kind().is_final()
+    }
+
+    /// Whether the text only lacks its closing quote, with the hashes of a raw string: `"ab` and
+    /// `r#"ab"` are refused so.
+    pub fn is_open(&self) -> bool
+        ensures { result ≡ is_open (kind_of self.now) }
+    {
+        matches!(
+            self.kind(),
+            ParseErrorKind::UnterminatedString | ParseErrorKind::UnterminatedRawString
+        )
+    }
+
+    /// Adds `offset` bytes to the start and the end of both spans. The sums fit.
     pub fn offset_span(self, offset: usize) -> ParseError
         requires { MovesWithin offset self }
-        ensures { result ≡ moved offset self }
+        ensures refusal { refusal_of result ≡ moved offset (refusal_of self) }
+        ensures char_span { char_span_of result ≡ moved_span offset (char_span_of self) }
     {
-        let Self { span, kind } = self;
+        let Self {
+            span,
+            char_end,
+            kind,
+        } = self;
         match span {
             Some(span) => ParseError {
                 span: Some(span.start + offset..span.end + offset),
+                char_end: char_end + offset,
                 kind,
             },
-            None => ParseError { span: None, kind },
+            None => ParseError {
+                span: None,
+                char_end,
+                kind,
+            },
         }
     }
 
-    /// The same refusal again. It takes no memory.
+    /// The same refusal again. It does not allocate.
     pub fn clone(&self) -> ParseError
         ensures { result ≡ self.now }
     {
         ParseError {
             span: self.span(),
-            kind: self.kind,
+            char_end: self.char_end,
+            kind: self.kind(),
         }
+    }
+}
+
+/// The least character boundary at or after the place, or the place itself where it is past the text.
+fn char_end_of(text: &str, end: usize) -> usize
+    ensures { IsCharEnd (chars text.now) end result }
+{
+    if end <= text.len() {
+        text.ceil_char_boundary(end)
+    } else {
+        end
     }
 }
 
 impl fmt::Display for ParseError {
     ghost use Rattle.std.specs.Prelude.{Some};
-    ghost use Rattle.litrs_base.specs.Fault.{fault_text};
+    ghost use Rattle.litrs_base.specs.Refusal.{refusal_of, refusal_text};
 
-    ghost output = { λ error. Some (fault_text error) };
+    ghost output = { λ error. Some (refusal_text (refusal_of error)) };
 
     fn fmt<W: fmt::Write>(&self, f: &mut fmt::Formatter<W>) -> fmt::Result {
         self.kind.fmt(f)?;
@@ -178,6 +263,42 @@ pub enum ParseErrorKind {
 }
 
 impl ParseErrorKind {
+    ghost use Rattle.litrs_base.specs.Finality.{is_final};
+
+    /// Whether a refusal of this kind is final.
+    fn is_final(self) -> bool
+        ensures { result ≡ is_final self }
+    {
+        match self {
+            Self::UnexpectedChar
+            | Self::DoesNotStartWithDigit
+            | Self::InvalidDigit
+            | Self::UnknownEscape
+            | Self::InvalidXEscape
+            | Self::NonAsciiXEscape
+            | Self::UnicodeEscapeInByteLiteral
+            | Self::InvalidStartOfUnicodeEscape
+            | Self::NonHexDigitInUnicodeEscape
+            | Self::TooManyDigitInUnicodeEscape
+            | Self::InvalidUnicodeEscapeChar
+            | Self::OverlongCharLiteral
+            | Self::EmptyCharLiteral
+            | Self::OverlongByteLiteral
+            | Self::EmptyByteLiteral
+            | Self::NonAsciiInByteLiteral
+            | Self::UnescapedSingleQuote
+            | Self::UnescapedSpecialWhitespace
+            | Self::DoesNotStartWithQuote
+            | Self::InvalidStringLiteralStart
+            | Self::DisallowedNulEscape
+            | Self::NulByte
+            | Self::CarriageReturn
+            | Self::TooManyHashes
+            | Self::IntegerSuffixStartingWithE => true,
+            _ => false,
+        }
+    }
+
     fn description(self) -> &'static str
         ensures { result.now ≡ kind_text self }
     {

@@ -4,9 +4,9 @@ use Rattle.std.specs.Char.{encode_utf8}
 use Rattle.std.proofs.lemmas.Bool.{false≢true}
 use Rattle.litrs_base.specs.declared.err.ParseErrorKind.TheVariants.{Empty, UnexpectedChar, InvalidSuffix, DoesNotStartWithDigit, NoExponentDigits, UnexpectedIntegerLit}
 use Rattle.unicode_ident.proofs.Computing.{unicode_ident}
-use Rattle.litrs_base.specs.Fault.{plain, over, at}
+use Rattle.litrs_base.specs.Refusal.{plain, over, at}
 use Rattle.litrs_grammar.specs.Suffix.{is_suffix}
-use Rattle.litrs_grammar.specs.Float.{FloatParts, IsFloatOf, number_part, is_exponent, float_cut, float_fault}
+use Rattle.litrs_grammar.specs.Float.{FloatParts, IsFloatOf, number_part, is_exponent, float_cut, float_refusal}
 
 -- The forms. The parts are the integer part, the fraction, the exponent and the suffix.
 
@@ -77,92 +77,92 @@ cut-signs = refl
 
 -- The rows, from the first on, and texts that no row fits.
 
-row-empty : float_fault (codes "") ≡ Some (plain Empty)
-unfolding float_fault float_cut is_suffix unicode_ident encode_utf8
+row-empty : float_refusal (codes "") ≡ Some (plain Empty)
+unfolding float_refusal float_cut is_suffix unicode_ident encode_utf8
 row-empty = refl
 
-row-no_digit : float_fault (codes "_3") ≡ Some (at 0 DoesNotStartWithDigit)
-unfolding float_fault float_cut is_suffix unicode_ident encode_utf8
+row-no_digit : float_refusal (codes "_3") ≡ Some (at 0 DoesNotStartWithDigit)
+unfolding float_refusal float_cut is_suffix unicode_ident encode_utf8
 row-no_digit = refl
 
-row-no_digit-period : float_fault (codes ".5") ≡ Some (at 0 DoesNotStartWithDigit)
-unfolding float_fault float_cut is_suffix unicode_ident encode_utf8
+row-no_digit-period : float_refusal (codes ".5") ≡ Some (at 0 DoesNotStartWithDigit)
+unfolding float_refusal float_cut is_suffix unicode_ident encode_utf8
 row-no_digit-period = refl
 
-row-exponent_behind_period : float_fault (codes "1.e4") ≡ Some (at 2 UnexpectedChar)
-unfolding float_fault float_cut is_suffix unicode_ident encode_utf8
+row-exponent_behind_period : float_refusal (codes "1.e4") ≡ Some (at 2 UnexpectedChar)
+unfolding float_refusal float_cut is_suffix unicode_ident encode_utf8
 row-exponent_behind_period = refl
 
-row-underscore_behind_period : float_fault (codes "12345._987") ≡ Some (at 6 UnexpectedChar)
-unfolding float_fault float_cut is_suffix unicode_ident encode_utf8
+row-underscore_behind_period : float_refusal (codes "12345._987") ≡ Some (at 6 UnexpectedChar)
+unfolding float_refusal float_cut is_suffix unicode_ident encode_utf8
 row-underscore_behind_period = refl
 
-row-exponent_digits : float_fault (codes "0eel") ≡ Some (over 1 2 NoExponentDigits)
-unfolding float_fault float_cut is_suffix unicode_ident encode_utf8
+row-exponent_digits : float_refusal (codes "0eel") ≡ Some (over 1 2 NoExponentDigits)
+unfolding float_refusal float_cut is_suffix unicode_ident encode_utf8
 row-exponent_digits = refl
 
-row-exponent_underscores : float_fault (codes "23E___f32") ≡ Some (over 2 6 NoExponentDigits)
-unfolding float_fault float_cut is_suffix unicode_ident encode_utf8
+row-exponent_underscores : float_refusal (codes "23E___f32") ≡ Some (over 2 6 NoExponentDigits)
+unfolding float_refusal float_cut is_suffix unicode_ident encode_utf8
 row-exponent_underscores = refl
 
-row-exponent_two_signs : float_fault (codes "3.7e-+3") ≡ Some (over 3 5 NoExponentDigits)
-unfolding float_fault float_cut is_suffix unicode_ident encode_utf8
+row-exponent_two_signs : float_refusal (codes "3.7e-+3") ≡ Some (over 3 5 NoExponentDigits)
+unfolding float_refusal float_cut is_suffix unicode_ident encode_utf8
 row-exponent_two_signs = refl
 
-row-suffix_symbol : float_fault (codes "3.7+2") ≡ Some (over 3 5 UnexpectedChar)
-unfolding float_fault float_cut is_suffix unicode_ident encode_utf8
+row-suffix_symbol : float_refusal (codes "3.7+2") ≡ Some (over 3 5 UnexpectedChar)
+unfolding float_refusal float_cut is_suffix unicode_ident encode_utf8
 row-suffix_symbol = refl
 
-row-suffix_period : float_fault (codes "55e3.1") ≡ Some (over 4 6 UnexpectedChar)
-unfolding float_fault float_cut is_suffix unicode_ident encode_utf8
+row-suffix_period : float_refusal (codes "55e3.1") ≡ Some (over 4 6 UnexpectedChar)
+unfolding float_refusal float_cut is_suffix unicode_ident encode_utf8
 row-suffix_period = refl
 
-row-suffix : float_fault (codes "0x44.5") ≡ Some (over 1 6 InvalidSuffix)
-unfolding float_fault float_cut is_suffix unicode_ident encode_utf8
+row-suffix : float_refusal (codes "0x44.5") ≡ Some (over 1 6 InvalidSuffix)
+unfolding float_refusal float_cut is_suffix unicode_ident encode_utf8
 row-suffix = refl
 
-row-integer : float_fault (codes "35_389") ≡ Some (plain UnexpectedIntegerLit)
-unfolding float_fault float_cut is_suffix unicode_ident encode_utf8
+row-integer : float_refusal (codes "35_389") ≡ Some (plain UnexpectedIntegerLit)
+unfolding float_refusal float_cut is_suffix unicode_ident encode_utf8
 row-integer = refl
 
-row-integer_suffix : float_fault (codes "55f32") ≡ Some (plain UnexpectedIntegerLit)
-unfolding float_fault float_cut is_suffix unicode_ident encode_utf8
+row-integer_suffix : float_refusal (codes "55f32") ≡ Some (plain UnexpectedIntegerLit)
+unfolding float_refusal float_cut is_suffix unicode_ident encode_utf8
 row-integer_suffix = refl
 
-row-none-period : float_fault (codes "9.") ≡ None
-unfolding float_fault float_cut is_suffix unicode_ident encode_utf8
+row-none-period : float_refusal (codes "9.") ≡ None
+unfolding float_refusal float_cut is_suffix unicode_ident encode_utf8
 row-none-period = refl
 
-row-none-fraction : float_fault (codes "3.14f33") ≡ None
-unfolding float_fault float_cut is_suffix unicode_ident encode_utf8
+row-none-fraction : float_refusal (codes "3.14f33") ≡ None
+unfolding float_refusal float_cut is_suffix unicode_ident encode_utf8
 row-none-fraction = refl
 
-row-none-exponent : float_fault (codes "8.2e-_04_9") ≡ None
-unfolding float_fault float_cut is_suffix unicode_ident encode_utf8
+row-none-exponent : float_refusal (codes "8.2e-_04_9") ≡ None
+unfolding float_refusal float_cut is_suffix unicode_ident encode_utf8
 row-none-exponent = refl
 
-row-none-letter_suffix : float_fault (codes "3e2e5") ≡ None
-unfolding float_fault float_cut is_suffix unicode_ident encode_utf8
+row-none-letter_suffix : float_refusal (codes "3e2e5") ≡ None
+unfolding float_refusal float_cut is_suffix unicode_ident encode_utf8
 row-none-letter_suffix = refl
 
 -- Signs, and the order of the rows
 
-row-sign_alone : float_fault (codes "1e+") ≡ Some (over 1 3 NoExponentDigits)
-unfolding float_fault float_cut is_suffix unicode_ident encode_utf8
+row-sign_alone : float_refusal (codes "1e+") ≡ Some (over 1 3 NoExponentDigits)
+unfolding float_refusal float_cut is_suffix unicode_ident encode_utf8
 row-sign_alone = refl
 
-row-period_before_letter : float_fault (codes "1.e") ≡ Some (at 2 UnexpectedChar)
-unfolding float_fault float_cut is_suffix unicode_ident encode_utf8
+row-period_before_letter : float_refusal (codes "1.e") ≡ Some (at 2 UnexpectedChar)
+unfolding float_refusal float_cut is_suffix unicode_ident encode_utf8
 row-period_before_letter = refl
 
-row-wide_suffix : float_fault (codes "1.5🦊") ≡ Some (over 3 7 InvalidSuffix)
-unfolding float_fault float_cut is_suffix unicode_ident encode_utf8
+row-wide_suffix : float_refusal (codes "1.5🦊") ≡ Some (over 3 7 InvalidSuffix)
+unfolding float_refusal float_cut is_suffix unicode_ident encode_utf8
 row-wide_suffix = refl
 
-row-letter_first : float_fault (codes "f.5") ≡ Some (at 0 DoesNotStartWithDigit)
-unfolding float_fault float_cut is_suffix unicode_ident encode_utf8
+row-letter_first : float_refusal (codes "f.5") ≡ Some (at 0 DoesNotStartWithDigit)
+unfolding float_refusal float_cut is_suffix unicode_ident encode_utf8
 row-letter_first = refl
 
-row-none-plus : float_fault (codes "1e+5") ≡ None
-unfolding float_fault float_cut is_suffix unicode_ident encode_utf8
+row-none-plus : float_refusal (codes "1e+5") ≡ None
+unfolding float_refusal float_cut is_suffix unicode_ident encode_utf8
 row-none-plus = refl

@@ -8,21 +8,20 @@ use Rattle.std.proofs.lemmas.Bool.{and_parts, and_from, true≢false, false≢tr
 use Rattle.std.proofs.lemmas.Bool.Decides.{nat_tests}
 use Rattle.litrs_base.specs.declared.err.ParseErrorKind.{ParseErrorKind}
 use Rattle.litrs_base.specs.declared.err.ParseErrorKind.TheVariants.{UnexpectedChar, NoExponentDigits, UnexpectedIntegerLit}
-use Rattle.litrs_base.specs.Fault.{plain, at, over}
-use Rattle.litrs_base.specs.declared.err.ParseError.{ParseError}
+use Rattle.litrs_base.specs.Refusal.{plain, at, over, Refusal}
 use Rattle.litrs_base.specs.Text.{is_empty, byte_len, first_passes}
-use Rattle.litrs_grammar.specs.Suffix.{is_suffix, suffix_fault}
+use Rattle.litrs_grammar.specs.Suffix.{is_suffix, suffix_refusal}
 use Rattle.litrs_grammar.specs.Integer.{is_e}
-use Rattle.litrs_grammar.specs.Float.{FloatParts, fraction_text, float_text, is_decimal_char, is_underscore, is_period, is_sign, is_decimal_literal, is_exponent_number, sign_len, is_exponent, is_float_form, IsFloat, IsFloatOf, float_cut, has_wrong_fraction, float_cut_fault, float_fault}
-use Rattle.litrs_base.specs.Reading.{IsOnlyReading, HasNoReading}
+use Rattle.litrs_grammar.specs.Float.{FloatParts, fraction_text, float_text, is_decimal_char, is_underscore, is_period, is_sign, is_decimal_literal, is_exponent_number, sign_len, is_exponent, is_float_form, IsFloat, IsFloatOf, float_cut, has_wrong_fraction, float_cut_refusal, float_refusal}
+use Rattle.litrs_base.specs.Derivations.{IsOnlyDerivation, HasNoDerivation}
 use Rattle.litrs_grammar.proofs.IntegerLaws.{number_rows-None, number_rows}
-use Rattle.litrs_grammar.proofs.Spans.{none_from}
+use Rattle.litrs_base.proofs.Spans.{none_from}
 use Rattle.litrs_grammar.proofs.SuffixStart.{suffix_begins_otherwise}
 use Rattle.litrs_grammar.proofs.FloatCuts.{cut_of_text, letter_period, letter_decimal, IsCut, is_exponent_front, fraction_passes, same_cut, cut_of, fraction_stops, exponent_stops}
 
 -- the rows by what is known of the parts: something else than a digit behind a period; a period; an exponent; a digit in it;
 -- a suffix behind the number
-abbrev pub float_rows : (fraction exponent suffix len : ℕ) (kind : ParseErrorKind) (wrong_fraction has_fraction has_exponent exponent_digit suffix_behind : Bool) → Option ParseError
+abbrev pub float_rows : (fraction exponent suffix len : ℕ) (kind : ParseErrorKind) (wrong_fraction has_fraction has_exponent exponent_digit suffix_behind : Bool) → Option Refusal
 float_rows fraction exponent suffix len kind wrong_fraction has_fraction has_exponent exponent_digit suffix_behind =
     if wrong_fraction then Some (at (fraction + 1) UnexpectedChar)
     else if has_exponent && not exponent_digit then Some (over exponent suffix NoExponentDigits)
@@ -31,18 +30,18 @@ float_rows fraction exponent suffix len kind wrong_fraction has_fraction has_exp
     else None
 
 -- the table by the parts of a text that is cut
-abbrev pub cut_rows : FloatParts → Option ParseError
+abbrev pub cut_rows : FloatParts → Option Refusal
 cut_rows d =
     number_rows (is_empty (float_text d)) (first_passes is_ascii_digit (float_text d))
     (float_rows (length d.integer) (length d.integer + length (fraction_text d.fraction)) (length d.integer + length (fraction_text d.fraction) + length d.exponent)
-    (byte_len (float_text d)) (suffix_fault d.suffix)
+    (byte_len (float_text d)) (suffix_refusal d.suffix)
     (has_wrong_fraction (fraction_text d.fraction ++ (d.exponent ++ d.suffix))) (is_some d.fraction) (not (is_empty d.exponent))
     (list_any is_ascii_digit d.exponent) (is_suffix d.suffix))
 
-pub fault_of_cut : (d : FloatParts) → IsCut d → float_fault (float_text d) ≡ cut_rows d
-unfolding float_fault
-fault_of_cut d cut =
-    ap (λ (c : FloatParts). number_rows (is_empty (float_text d)) (first_passes is_ascii_digit (float_text d)) (float_cut_fault c)) (cut_of_text d cut)
+pub refusal_of_cut : (d : FloatParts) → IsCut d → float_refusal (float_text d) ≡ cut_rows d
+unfolding float_refusal
+refusal_of_cut d cut =
+    ap (λ (c : FloatParts). number_rows (is_empty (float_text d)) (first_passes is_ascii_digit (float_text d)) (float_cut_refusal c)) (cut_of_text d cut)
 
 -- where no row fits
 
@@ -257,21 +256,21 @@ float_from_cut d cut h =
       no_letter = λ e. cut.no_letter (empty-true d.exponent e);
     }
 
-pub fault_free : (t : List ℕ) (d : FloatParts) → IsFloatOf t d → float_fault t ≡ None
-fault_free t d r = ap float_fault (sym r.spells) ∙ (fault_of_cut d (float_is_cut d r.grammar) ∙ float_fits_no_row d r.grammar)
+pub refusal_free : (t : List ℕ) (d : FloatParts) → IsFloatOf t d → float_refusal t ≡ None
+refusal_free t d r = ap float_refusal (sym r.spells) ∙ (refusal_of_cut d (float_is_cut d r.grammar) ∙ float_fits_no_row d r.grammar)
 
-pub readable : (t : List ℕ) → float_fault t ≡ None → (d : FloatParts) × IsFloatOf t d
-readable t h = let c = cut_of t in
-    let rows : cut_rows c.parts ≡ None = sym (fault_of_cut c.parts c.cut) ∙ (ap float_fault c.spells ∙ h) in
+pub derivable : (t : List ℕ) → float_refusal t ≡ None → (d : FloatParts) × IsFloatOf t d
+derivable t h = let c = cut_of t in
+    let rows : cut_rows c.parts ≡ None = sym (refusal_of_cut c.parts c.cut) ∙ (ap float_refusal c.spells ∙ h) in
     (c.parts, record { spells = c.spells; grammar = float_from_cut c.parts c.cut rows })
 
 -- the one derivation of a float
-pub only_cut : (t : List ℕ) → float_fault t ≡ None → IsOnlyReading (IsFloatOf t) (float_cut t)
+pub only_cut : (t : List ℕ) → float_refusal t ≡ None → IsOnlyDerivation (IsFloatOf t) (float_cut t)
 only_cut t h =
-    let r = readable t h in
+    let r = derivable t h in
     let same : float_cut t ≡ r.0 = ap float_cut (sym r.1.spells) ∙ cut_of_text r.0 (float_is_cut r.0 r.1.grammar) in
     (subst (λ (d : FloatParts). IsFloatOf t d) (sym same) r.1, λ e s. only_float t e r.0 s r.1 ∙ sym same)
 
 -- a text that the table refuses has none
-pub refused : (t : List ℕ) (e : ParseError) → float_fault t ≡ Some e → HasNoReading (IsFloatOf t)
-refused t e h d r = absurd (let none : Some e ≡ None = sym h ∙ fault_free t d r in cc)
+pub refused : (t : List ℕ) (e : Refusal) → float_refusal t ≡ Some e → HasNoDerivation (IsFloatOf t)
+refused t e h d r = absurd (let none : Some e ≡ None = sym h ∙ refusal_free t d r in cc)

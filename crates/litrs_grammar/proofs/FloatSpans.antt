@@ -7,17 +7,16 @@ use Rattle.std.proofs.lemmas.Bool.Decides.{nat_tests}
 use Rattle.std.proofs.lemmas.List.{length-append, append_assoc, append-nil}
 use Rattle.litrs_base.specs.declared.err.ParseErrorKind.{ParseErrorKind}
 use Rattle.litrs_base.specs.declared.err.ParseErrorKind.TheVariants.{Empty, UnexpectedChar, DoesNotStartWithDigit, NoExponentDigits, UnexpectedIntegerLit}
-use Rattle.litrs_base.specs.declared.err.ParseError.{ParseError}
-use Rattle.litrs_base.specs.Fault.{IsInText, plain, over, at}
+use Rattle.litrs_base.specs.Refusal.{Refusal, IsInText, plain, over, at}
 use Rattle.litrs_base.specs.Text.{is_empty, byte_len}
-use Rattle.litrs_grammar.specs.Suffix.{suffix_fault}
+use Rattle.litrs_grammar.specs.Suffix.{suffix_refusal}
 use Rattle.litrs_grammar.specs.Integer.{is_e}
-use Rattle.litrs_grammar.specs.Float.{FloatParts, fraction_text, float_text, is_decimal_char, is_period, is_sign, sign_len, IsFloat, IsFloatOf, has_wrong_fraction, float_fault}
+use Rattle.litrs_grammar.specs.Float.{FloatParts, fraction_text, float_text, is_decimal_char, is_period, is_sign, sign_len, IsFloat, IsFloatOf, has_wrong_fraction, float_refusal}
 use Rattle.litrs_base.proofs.Runs.{last_passes, is_line_feed, line_feed_last, last_passes-all, last_passes-both, list_all-append, list_all-weaken}
-use Rattle.litrs_grammar.proofs.Spans.{byte_len-append, is_ascii_char, byte_len_ascii, plain_within, over_within, at_within, of_some, of_none}
+use Rattle.litrs_base.proofs.Spans.{byte_len-append, is_ascii_char, byte_len_ascii, plain_within, over_within, at_within, of_some, of_none}
 use Rattle.litrs_grammar.proofs.SuffixStart.{suffix_last}
 use Rattle.litrs_grammar.proofs.FloatCuts.{IsCut, is_exponent_front, fraction_passes, cut_of}
-use Rattle.litrs_grammar.proofs.FloatLaws.{float_rows, cut_rows, fault_of_cut, float_is_cut}
+use Rattle.litrs_grammar.proofs.FloatLaws.{float_rows, cut_rows, refusal_of_cut, float_is_cut}
 use Rattle.litrs_grammar.proofs.IntegerLaws.{number_rows}
 
 -- what stands in front of the suffix
@@ -72,7 +71,7 @@ fraction_span t i (c ∷ d ∷ cs) kind spells all wrong =
     at_within t (i ++ (c ∷ [])) d cs (length i + 1) kind (append_assoc i (c ∷ []) (d ∷ cs) ∙ spells) (number_bytes (i ++ (c ∷ [])) front ∙ length-append i (c ∷ []))
 
 -- what holds of the refusal in each row holds of the table
-rows_hold : (P : ParseError → Type 0) (i f n len : ℕ) (kind : ParseErrorKind) (empty digit wrong_fraction period exponent exponent_digit suffix : Bool) →
+rows_hold : (P : Refusal → Type 0) (i f n len : ℕ) (kind : ParseErrorKind) (empty digit wrong_fraction period exponent exponent_digit suffix : Bool) →
     ((k : ParseErrorKind) → P (plain k)) → (empty ≡ false → P (at 0 DoesNotStartWithDigit)) → (wrong_fraction ≡ true → P (at (i + 1) UnexpectedChar)) →
     P (over f n NoExponentDigits) → P (over n len kind) → ForSome (number_rows empty digit (float_rows i f n len kind wrong_fraction period exponent exponent_digit suffix)) P
 rows_hold P i f n len kind true digit wrong period exponent edigit suffix a b c d e = of_some P _ (a Empty)
@@ -106,12 +105,12 @@ cut_rows_within d cut =
     rows_hold (IsInText t) _ _ _ _ _ _ _ _ _ _ _ _ (λ kind. plain_within t kind) (λ some. first_span t DoesNotStartWithDigit some)
     (λ wrong. fraction_span t i (f ++ (p ++ x)) UnexpectedChar refl cut.integer wrong)
     (over_within t (i ++ f) p x _ _ NoExponentDigits spells_if bytes_if (ap (λ n. length i + length f + n) bytes_p))
-    (over_within t ((i ++ f) ++ p) x [] _ _ (suffix_fault x) (ap (λ y. ((i ++ f) ++ p) ++ y) (append-nil x) ∙ spells_ifp) bytes_ifp (sym bytes_t))
+    (over_within t ((i ++ f) ++ p) x [] _ _ (suffix_refusal x) (ap (λ y. ((i ++ f) ++ p) ++ y) (append-nil x) ∙ spells_ifp) bytes_ifp (sym bytes_t))
 
 -- the span of a refusal lies within the text, and starts on a character boundary
-pub float_fault_within : (t : List ℕ) → ForSome (float_fault t) (IsInText t)
-float_fault_within t e h = let c = cut_of t in
-    let rows : cut_rows c.parts ≡ Some e = sym (fault_of_cut c.parts c.cut) ∙ (ap float_fault c.spells ∙ h) in
+pub float_refusal_within : (t : List ℕ) → ForSome (float_refusal t) (IsInText t)
+float_refusal_within t e h = let c = cut_of t in
+    let rows : cut_rows c.parts ≡ Some e = sym (refusal_of_cut c.parts c.cut) ∙ (ap float_refusal c.spells ∙ h) in
     subst (λ (s : List ℕ). IsInText s e) c.spells (cut_rows_within c.parts c.cut e rows)
 
 -- no float ends with LF

@@ -4,17 +4,16 @@ use Rattle.std.specs.Char.{encode_utf8}
 use Rattle.unicode_ident.proofs.Computing.{unicode_ident}
 use Rattle.litrs_base.specs.declared.integer.IntegerBase.TheVariants.{Binary, Octal, Decimal, Hexadecimal}
 use Rattle.litrs_base.specs.declared.err.ParseErrorKind.TheVariants.{Empty, UnexpectedChar, DoesNotStartWithDigit, InvalidDigit, NoDigits, InvalidSuffix, IntegerSuffixStartingWithE}
-use Rattle.litrs_base.specs.Fault.{plain, at, over}
-use Rattle.litrs_grammar.specs.Suffix.{is_suffix, suffix_fault}
-use Rattle.litrs_grammar.specs.Integer.{IsIntegerOf, integer_cut, integer_fault}
+use Rattle.litrs_base.specs.Refusal.{plain, at, over}
+use Rattle.litrs_grammar.specs.Suffix.{is_suffix, suffix_refusal}
+use Rattle.litrs_grammar.specs.Integer.{IsIntegerOf, integer_cut, integer_refusal, integer_value}
 use Rattle.litrs_base.specs.Numeral.{place_sum, numeral, greatest_of}
-use Rattle.litrs_grammar.specs.Integer.{integer_value}
 use Rattle.litrs_base.specs.IntegerTypes.{type_name}
 use Rattle.litrs_base.specs.declared.integer.IntegerType.{IntegerType}
 use Rattle.litrs_base.specs.declared.integer.IntegerType.TheVariants.{U8, U16, U32, U64, U128, Usize, I8, I16, I32, I64, I128, Isize}
 
 unfoldable integer_tables : Unit {0}
-unfolding integer_cut integer_fault is_suffix unicode_ident encode_utf8
+unfolding integer_cut integer_refusal is_suffix unicode_ident encode_utf8
 integer_tables = tt
 
 -- Suffixes
@@ -51,17 +50,17 @@ suffix-quote_behind : is_suffix (codes "peter\"") ≡ false
 unfolding integer_tables
 suffix-quote_behind = refl
 
-suffix_fault-symbol : suffix_fault (codes " ") ≡ UnexpectedChar
-suffix_fault-symbol = refl
+suffix_refusal-symbol : suffix_refusal (codes " ") ≡ UnexpectedChar
+suffix_refusal-symbol = refl
 
-suffix_fault-lone_underscore : suffix_fault (codes "_") ≡ InvalidSuffix
-suffix_fault-lone_underscore = refl
+suffix_refusal-lone_underscore : suffix_refusal (codes "_") ≡ InvalidSuffix
+suffix_refusal-lone_underscore = refl
 
-suffix_fault-letter : suffix_fault (codes "peter\"") ≡ InvalidSuffix
-suffix_fault-letter = refl
+suffix_refusal-letter : suffix_refusal (codes "peter\"") ≡ InvalidSuffix
+suffix_refusal-letter = refl
 
-suffix_fault-not_ascii : suffix_fault (0x1F98A ∷ []) ≡ InvalidSuffix
-suffix_fault-not_ascii = refl
+suffix_refusal-not_ascii : suffix_refusal (0x1F98A ∷ []) ≡ InvalidSuffix
+suffix_refusal-not_ascii = refl
 
 -- The forms
 
@@ -197,62 +196,62 @@ cut-no_digits = refl
 
 -- texts that are integers have no refusal
 
-free-decimal : integer_fault (codes "1_000u32") ≡ None
+free-decimal : integer_refusal (codes "1_000u32") ≡ None
 unfolding integer_tables
 free-decimal = refl
 
-free-underscore_last : integer_fault (codes "1_") ≡ None
+free-underscore_last : integer_refusal (codes "1_") ≡ None
 unfolding integer_tables
 free-underscore_last = refl
 
-free-letters : integer_fault (codes "123hackerman") ≡ None
+free-letters : integer_refusal (codes "123hackerman") ≡ None
 unfolding integer_tables
 free-letters = refl
 
-free-float_type : integer_fault (codes "55f32") ≡ None
+free-float_type : integer_refusal (codes "55f32") ≡ None
 unfolding integer_tables
 free-float_type = refl
 
 -- The refusals
 
-row-empty : integer_fault (codes "") ≡ Some (plain Empty)
+row-empty : integer_refusal (codes "") ≡ Some (plain Empty)
 unfolding integer_tables
 row-empty = refl
 
-row-no_digit_first : integer_fault (codes "true") ≡ Some (at 0 DoesNotStartWithDigit)
+row-no_digit_first : integer_refusal (codes "true") ≡ Some (at 0 DoesNotStartWithDigit)
 unfolding integer_tables
 row-no_digit_first = refl
 
-row-wrong_digit : integer_fault (codes "0b12") ≡ Some (at 3 InvalidDigit)
+row-wrong_digit : integer_refusal (codes "0b12") ≡ Some (at 3 InvalidDigit)
 unfolding integer_tables
 row-wrong_digit = refl
 
-row-symbol : integer_fault (codes "0 ") ≡ Some (over 1 2 UnexpectedChar)
+row-symbol : integer_refusal (codes "0 ") ≡ Some (over 1 2 UnexpectedChar)
 unfolding integer_tables
 row-symbol = refl
 
-row-period : integer_fault (codes "1.") ≡ Some (over 1 2 UnexpectedChar)
+row-period : integer_refusal (codes "1.") ≡ Some (over 1 2 UnexpectedChar)
 unfolding integer_tables
 row-period = refl
 
-row-not_ascii : integer_fault (codes "1" ++ 0x1F98A ∷ []) ≡ Some (over 1 5 InvalidSuffix)
+row-not_ascii : integer_refusal (codes "1" ++ 0x1F98A ∷ []) ≡ Some (over 1 5 InvalidSuffix)
 unfolding integer_tables
 row-not_ascii = refl
 
-row-letter_e : integer_fault (codes "1e3") ≡ Some (at 1 IntegerSuffixStartingWithE)
+row-letter_e : integer_refusal (codes "1e3") ≡ Some (at 1 IntegerSuffixStartingWithE)
 unfolding integer_tables
 row-letter_e = refl
 
 -- the prefix counts in the place
-row-letter_e-behind_prefix : integer_fault (codes "0b1e3") ≡ Some (at 3 IntegerSuffixStartingWithE)
+row-letter_e-behind_prefix : integer_refusal (codes "0b1e3") ≡ Some (at 3 IntegerSuffixStartingWithE)
 unfolding integer_tables
 row-letter_e-behind_prefix = refl
 
-row-no_digits : integer_fault (codes "0x") ≡ Some (over 2 2 NoDigits)
+row-no_digits : integer_refusal (codes "0x") ≡ Some (over 2 2 NoDigits)
 unfolding integer_tables
 row-no_digits = refl
 
-row-no_digits-suffix : integer_fault (codes "0xg") ≡ Some (over 2 2 NoDigits)
+row-no_digits-suffix : integer_refusal (codes "0xg") ≡ Some (over 2 2 NoDigits)
 unfolding integer_tables
 row-no_digits-suffix = refl
 
@@ -281,56 +280,56 @@ number-wide = refl
 
 -- The refusals by base, and their order
 
-row-binary : integer_fault (codes "0b10") ≡ None
+row-binary : integer_refusal (codes "0b10") ≡ None
 unfolding integer_tables
 row-binary = refl
 
-row-binary_symbol : integer_fault (codes "0b/") ≡ Some (over 2 3 UnexpectedChar)
+row-binary_symbol : integer_refusal (codes "0b/") ≡ Some (over 2 3 UnexpectedChar)
 unfolding integer_tables
 row-binary_symbol = refl
 
-row-octal : integer_fault (codes "0o17") ≡ None
+row-octal : integer_refusal (codes "0o17") ≡ None
 unfolding integer_tables
 row-octal = refl
 
-row-octal_digit : integer_fault (codes "0o8") ≡ Some (at 2 InvalidDigit)
+row-octal_digit : integer_refusal (codes "0o8") ≡ Some (at 2 InvalidDigit)
 unfolding integer_tables
 row-octal_digit = refl
 
-row-octal_symbol : integer_fault (codes "0o/") ≡ Some (over 2 3 UnexpectedChar)
+row-octal_symbol : integer_refusal (codes "0o/") ≡ Some (over 2 3 UnexpectedChar)
 unfolding integer_tables
 row-octal_symbol = refl
 
-row-octal_no_digits : integer_fault (codes "0o") ≡ Some (over 2 2 NoDigits)
+row-octal_no_digits : integer_refusal (codes "0o") ≡ Some (over 2 2 NoDigits)
 unfolding integer_tables
 row-octal_no_digits = refl
 
-row-underscores_alone : integer_fault (codes "0x_") ≡ Some (over 2 3 NoDigits)
+row-underscores_alone : integer_refusal (codes "0x_") ≡ Some (over 2 3 NoDigits)
 unfolding integer_tables
 row-underscores_alone = refl
 
-row-letter_e-before_no_digits : integer_fault (codes "0be") ≡ Some (at 2 IntegerSuffixStartingWithE)
+row-letter_e-before_no_digits : integer_refusal (codes "0be") ≡ Some (at 2 IntegerSuffixStartingWithE)
 unfolding integer_tables
 row-letter_e-before_no_digits = refl
 
-row-suffix_before_letter_e : integer_fault (codes "1e+x") ≡ Some (over 1 4 InvalidSuffix)
+row-suffix_before_letter_e : integer_refusal (codes "1e+x") ≡ Some (over 1 4 InvalidSuffix)
 unfolding integer_tables
 row-suffix_before_letter_e = refl
 
-row-letter_before_symbol : integer_fault (codes "1a ") ≡ Some (over 1 3 InvalidSuffix)
+row-letter_before_symbol : integer_refusal (codes "1a ") ≡ Some (over 1 3 InvalidSuffix)
 unfolding integer_tables
 row-letter_before_symbol = refl
 
-row-letter_first : integer_fault (codes "a1") ≡ Some (at 0 DoesNotStartWithDigit)
+row-letter_first : integer_refusal (codes "a1") ≡ Some (at 0 DoesNotStartWithDigit)
 unfolding integer_tables
 row-letter_first = refl
 
-row-underscore_first : integer_fault (codes "_3") ≡ Some (at 0 DoesNotStartWithDigit)
+row-underscore_first : integer_refusal (codes "_3") ≡ Some (at 0 DoesNotStartWithDigit)
 unfolding integer_tables
 row-underscore_first = refl
 
 -- the last ASCII character
-row-delete : integer_fault (codes "1" ++ 127 ∷ []) ≡ Some (over 1 2 UnexpectedChar)
+row-delete : integer_refusal (codes "1" ++ 127 ∷ []) ≡ Some (over 1 2 UnexpectedChar)
 unfolding integer_tables
 row-delete = refl
 

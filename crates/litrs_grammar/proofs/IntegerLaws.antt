@@ -5,23 +5,22 @@ use Rattle.std.specs.List.{prefix_len, list_all, list_any, take_while}
 use Rattle.std.proofs.lemmas.List.{take_at, drop_at, take-append-drop}
 use Rattle.std.proofs.lemmas.List.Folds.{length-prefix_len}
 use Rattle.std.proofs.lemmas.Bool.{and_parts, and_from, or_parts, or_left}
-use Rattle.litrs_base.specs.declared.err.ParseError.{ParseError}
+use Rattle.litrs_base.specs.Refusal.{Refusal, plain, over, at}
 use Rattle.litrs_base.specs.declared.err.ParseErrorKind.{ParseErrorKind}
 use Rattle.litrs_base.specs.declared.err.ParseErrorKind.TheVariants.{Empty, DoesNotStartWithDigit, InvalidDigit, NoDigits, IntegerSuffixStartingWithE}
-use Rattle.litrs_base.specs.Fault.{plain, over, at}
 use Rattle.std.specs.Prelude.{if◌then◌else◌, not}
 use Rattle.litrs_base.specs.declared.integer.IntegerBase.{IntegerBase}
 use Rattle.litrs_base.specs.declared.integer.IntegerBase.TheVariants.{Binary, Octal, Decimal, Hexadecimal}
 use Rattle.litrs_base.specs.Text.{is_empty, byte_len, first_passes, begins_with}
-use Rattle.litrs_grammar.specs.Suffix.{is_suffix, suffix_fault}
+use Rattle.litrs_grammar.specs.Suffix.{is_suffix, suffix_refusal}
 use Rattle.litrs_base.specs.Base.{prefix, is_digit, is_digit_or_underscore}
-use Rattle.litrs_base.specs.Reading.{IsOnlyReading, HasNoReading}
-use Rattle.litrs_grammar.specs.Integer.{IntegerParts, integer_text, IsInteger, IsIntegerOf, is_e, has_prefix, base_of, integer_cut, cut_fault, integer_fault}
+use Rattle.litrs_base.specs.Derivations.{IsOnlyDerivation, HasNoDerivation}
+use Rattle.litrs_grammar.specs.Integer.{IntegerParts, integer_text, IsInteger, IsIntegerOf, is_e, has_prefix, base_of, integer_cut, cut_refusal, integer_refusal}
 use Rattle.litrs_base.proofs.Begins.{begins_with-split}
 
 -- The rows of the refusals, by tests of the text
 
-abbrev pub integer_rows : (start end len : ℕ) (suffix_behind digit_behind : Bool) (kind : ParseErrorKind) (e_behind some_digit : Bool) → Option ParseError
+abbrev pub integer_rows : (start end len : ℕ) (suffix_behind digit_behind : Bool) (kind : ParseErrorKind) (e_behind some_digit : Bool) → Option Refusal
 integer_rows start end len suffix_behind digit_behind kind e_behind some_digit =
     if not suffix_behind then (if digit_behind then Some (at end InvalidDigit) else Some (over end len kind))
     else if e_behind then Some (at end IntegerSuffixStartingWithE)
@@ -29,7 +28,7 @@ integer_rows start end len suffix_behind digit_behind kind e_behind some_digit =
     else None
 
 -- any number: the empty text, and one that does not begin with a decimal digit, come first
-abbrev pub number_rows : (no_character digit_first : Bool) → Option ParseError → Option ParseError
+abbrev pub number_rows : (no_character digit_first : Bool) → Option Refusal → Option Refusal
 number_rows no_character digit_first refusal =
     if no_character then Some (plain Empty) else if not digit_first then Some (at 0 DoesNotStartWithDigit) else refusal
 
@@ -86,7 +85,7 @@ not_empty_by_first p (c ∷ t) e = refl
 
 -- The rows, read backwards
 
-pub number_rows-None : (a b : Bool) (r : Option ParseError) → number_rows a b r ≡ None → (a ≡ false) × (b ≡ true) × (r ≡ None)
+pub number_rows-None : (a b : Bool) (r : Option Refusal) → number_rows a b r ≡ None → (a ≡ false) × (b ≡ true) × (r ≡ None)
 number_rows-None true b r e = cc
 number_rows-None false true r e = (refl, refl, e)
 number_rows-None false false r e = cc
@@ -155,15 +154,15 @@ first_digit Decimal m x g = first_passes-append is_ascii_digit m x (g.decimal_di
 pub starts_with_digit : (t : List ℕ) (d : IntegerParts) → IsIntegerOf t d → first_passes is_ascii_digit t ≡ true
 starts_with_digit t d r = ap (first_passes is_ascii_digit) (sym r.spells) ∙ first_digit d.base d.main d.suffix r.grammar
 
-cut_fault-free : (d : IntegerParts) → IsInteger d → cut_fault d ≡ None
-cut_fault-free d g = rw (g.suffix, g.no_exponent, g.some_digit) refl
+cut_refusal-free : (d : IntegerParts) → IsInteger d → cut_refusal d ≡ None
+cut_refusal-free d g = rw (g.suffix, g.no_exponent, g.some_digit) refl
 
-pub integer_fault-free : (t : List ℕ) (d : IntegerParts) → IsIntegerOf t d → integer_fault t ≡ None
-unfolding integer_fault
-integer_fault-free t d r =
+pub integer_refusal-free : (t : List ℕ) (d : IntegerParts) → IsIntegerOf t d → integer_refusal t ≡ None
+unfolding integer_refusal
+integer_refusal-free t d r =
     let digit = starts_with_digit t d r in
     let filled = not_empty_by_first is_ascii_digit t digit in
-    rw (filled, digit, cut_of_text t d r) (cut_fault-free d r.grammar)
+    rw (filled, digit, cut_of_text t d r) (cut_refusal-free d r.grammar)
 
 -- Where no refusal stands the cut is a derivation
 
@@ -198,14 +197,14 @@ decimal_main t base e digit =
     subst (λ (b : IntegerBase). first_passes is_ascii_digit (cut_with b t).main ≡ true) (sym e)
     (first_taken (is_digit_or_underscore Decimal) is_ascii_digit t (λ c is. or_left (is_ascii_digit c) (eqb c 95) is) digit)
 
-pub readable : (t : List ℕ) → integer_fault t ≡ None → IsIntegerOf t (integer_cut t)
-unfolding integer_fault
-readable t free =
-    let rows = number_rows-None (is_empty t) (first_passes is_ascii_digit t) (cut_fault (integer_cut t)) free in
+pub derivable : (t : List ℕ) → integer_refusal t ≡ None → IsIntegerOf t (integer_cut t)
+unfolding integer_refusal
+derivable t free =
+    let rows = number_rows-None (is_empty t) (first_passes is_ascii_digit t) (cut_refusal (integer_cut t)) free in
     let d = cut_with (base_of t) t in
-    let cut_free : cut_fault d ≡ None = ap cut_fault (sym (integer_cut-is t)) ∙ rows.2 in
+    let cut_free : cut_refusal d ≡ None = ap cut_refusal (sym (integer_cut-is t)) ∙ rows.2 in
     let facts = integer_rows-None (byte_len (prefix d.base)) (byte_len (prefix d.base ++ d.main)) (byte_len (integer_text d))
-    (is_suffix d.suffix) (first_passes is_ascii_digit d.suffix) (suffix_fault d.suffix)
+    (is_suffix d.suffix) (first_passes is_ascii_digit d.suffix) (suffix_refusal d.suffix)
     (first_passes is_e d.suffix) (list_any (is_digit d.base) d.main) cut_free in
     let behind = drop (length (prefix (base_of t))) t in
     let p = is_digit_or_underscore (base_of t) in
@@ -223,14 +222,14 @@ readable t free =
     })
 
 -- a refused text has no derivation
-pub refused : (t : List ℕ) (e : ParseError) → integer_fault t ≡ Some e → HasNoReading (IsIntegerOf t)
-refused t e fault d r = let free = integer_fault-free t d r in cc
+pub refused : (t : List ℕ) (e : Refusal) → integer_refusal t ≡ Some e → HasNoDerivation (IsIntegerOf t)
+refused t e refusal d r = let free = integer_refusal-free t d r in cc
 
 -- the cut of a text that is not refused is its only derivation
-pub only_cut : (t : List ℕ) → integer_fault t ≡ None → IsOnlyReading (IsIntegerOf t) (integer_cut t)
-only_cut t free = (readable t free, λ e r. only_integer t (integer_cut t) e (readable t free) r)
+pub only_cut : (t : List ℕ) → integer_refusal t ≡ None → IsOnlyDerivation (IsIntegerOf t) (integer_cut t)
+only_cut t free = (derivable t free, λ e r. only_integer t (integer_cut t) e (derivable t free) r)
 
 -- where a text begins with a digit the cut alone tells
-pub fault_of_digit : (t : List ℕ) → first_passes is_ascii_digit t ≡ true → integer_fault t ≡ cut_fault (integer_cut t)
-unfolding integer_fault
-fault_of_digit t digit = rw (not_empty_by_first is_ascii_digit t digit, digit) refl
+pub refusal_of_digit : (t : List ℕ) → first_passes is_ascii_digit t ≡ true → integer_refusal t ≡ cut_refusal (integer_cut t)
+unfolding integer_refusal
+refusal_of_digit t digit = rw (not_empty_by_first is_ascii_digit t digit, digit) refl

@@ -4,8 +4,8 @@ use Rattle.std.specs.Fmt.{decimal}
 use Rattle.litrs_base.specs.declared.err.ParseErrorKind.{ParseErrorKind}
 use Rattle.litrs_base.specs.declared.err.ParseErrorKind.TheVariants.{Empty, UnexpectedChar, InvalidLiteral, DoesNotStartWithDigit, InvalidDigit, NoDigits, NoExponentDigits, UnknownEscape, UnterminatedEscape, InvalidXEscape, NonAsciiXEscape, UnicodeEscapeInByteLiteral, InvalidStartOfUnicodeEscape, UnicodeEscapeWithoutBrace, NonHexDigitInUnicodeEscape, TooManyDigitInUnicodeEscape, InvalidUnicodeEscapeChar, UnterminatedUnicodeEscape, UnterminatedCharLiteral, OverlongCharLiteral, EmptyCharLiteral, UnterminatedByteLiteral, OverlongByteLiteral, EmptyByteLiteral, NonAsciiInByteLiteral, UnescapedSingleQuote, UnescapedSpecialWhitespace, DoesNotStartWithQuote, UnterminatedRawString, UnterminatedString, InvalidStringLiteralStart, InvalidByteLiteralStart, InvalidByteStringLiteralStart, InvalidCStringLiteralStart, DisallowedNulEscape, NulByte, CarriageReturn, TooManyHashes, InvalidSuffix, UnexpectedIntegerLit, IntegerSuffixStartingWithE, OutOfMemory}
 use Rattle.litrs_base.specs.Kind.{kind_text}
-use Rattle.litrs_base.specs.Fault.{plain, over, span_of, fault_text}
-use Rattle.litrs_grammar.specs.Finality.{is_final, is_open}
+use Rattle.litrs_base.specs.Refusal.{plain, over, refusal_text}
+use Rattle.litrs_base.specs.Finality.{is_final, is_open}
 
 abbrev IsKind : ParseErrorKind → List ℕ → (final opened : Bool) → Type 0
 IsKind kind text final opened = (kind_text kind ≡ text) × (is_final kind ≡ final) × (is_open kind ≡ opened)
@@ -138,15 +138,15 @@ out_of_memory = (refl, refl, refl)
 
 -- What is printed
 
-printed-span : fault_text (over 1 11 InvalidUnicodeEscapeChar)
+printed-span : refusal_text (over 1 11 InvalidUnicodeEscapeChar)
     ≡ codes "value specified in `\\u{...}` escape is not a valid char (at " ++ decimal 1 ++ codes ".." ++ decimal 11 ++ codes ")"
 printed-span = refl
 
-printed-plain : fault_text (plain Empty) ≡ codes "input is empty"
+printed-plain : refusal_text (plain Empty) ≡ codes "input is empty"
 printed-plain = refl
 
-span-ends : span_of (over 1 2 Empty) ≡ Some (record { start = 1; end = 2 })
+span-ends : (over 1 2 Empty).span ≡ Some (record { start = 1; end = 2 })
 span-ends = refl
 
-span-none : span_of (plain Empty) ≡ None
+span-none : (plain Empty).span ≡ None
 span-none = refl

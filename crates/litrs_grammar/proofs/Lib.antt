@@ -1,6 +1,3 @@
-pub mod ListTests
-pub mod Spans
-pub mod ByteLen
 pub mod NoNul
 pub mod SuffixStart
 pub mod FloatCuts
@@ -12,15 +9,15 @@ pub mod RawSpans
 pub mod RawKinds
 pub mod IntegerLaws
 pub mod IntegerSpans
-pub mod EscapeLemmas
-pub mod EscapeProofs
-pub mod SpanLemmas
-pub mod QuotedLemmas
-pub mod QuotedProofs
+pub mod EscapeLaws
+pub mod EscapeSpans
+pub mod QuotedItems
+pub mod QuotedLaws
 pub mod QuotedSpans
-pub mod CharByteProofs
+pub mod CharByteSpans
+pub mod CharByteLaws
 pub mod Computing
-pub mod BoolLemmas
+pub mod BoolLaws
 pub mod LiteralLaws
 pub mod NumberLaws
 pub mod LiteralSpans
@@ -33,3 +30,4 @@ pub mod KindExamples
 pub mod LiteralExamples
 pub mod QuotedExamples
 pub mod RawExamples
+pub mod Refused

@@ -4,103 +4,104 @@ use Rattle.std.specs.Char.{encode_utf8}
 use Rattle.std.proofs.lemmas.Bool.{leb-true, false≢true}
 use Rattle.unicode_ident.proofs.Computing.{unicode_ident}
 use Rattle.litrs_base.specs.declared.err.ParseErrorKind.TheVariants.{Empty, UnexpectedChar, InvalidLiteral, InvalidDigit, NoDigits, NoExponentDigits, UnescapedSingleQuote, EmptyByteLiteral, NonAsciiInByteLiteral, NulByte, DoesNotStartWithDigit, DoesNotStartWithQuote, UnterminatedString, UnterminatedRawString, UnterminatedUnicodeEscape, InvalidStringLiteralStart, InvalidByteLiteralStart, InvalidByteStringLiteralStart, InvalidCStringLiteralStart, TooManyHashes, InvalidSuffix, UnexpectedIntegerLit, IntegerSuffixStartingWithE, OutOfMemory, UnterminatedCharLiteral}
-use Rattle.litrs_base.specs.Fault.{plain, at, over}
+use Rattle.litrs_base.specs.Refusal.{plain, at, over}
 use Rattle.litrs_grammar.specs.Suffix.{is_suffix}
-use Rattle.litrs_grammar.specs.Integer.{integer_cut, integer_fault}
-use Rattle.litrs_grammar.specs.Float.{float_cut, float_fault, is_exponent}
+use Rattle.litrs_grammar.specs.Integer.{integer_cut, integer_refusal}
+use Rattle.litrs_grammar.specs.Float.{float_cut, float_refusal, is_exponent}
 use Rattle.litrs_grammar.specs.CharByte.{plain_char, escaped_char}
 use Rattle.litrs_grammar.specs.Quoted.{plain_item}
-use Rattle.litrs_grammar.specs.Raw.{hashes, raw_body_fault, raw_fault}
+use Rattle.litrs_grammar.specs.Raw.{hashes, raw_body_refusal, raw_refusal}
 use Rattle.litrs_grammar.specs.Literal.{Derivation, quoted_parts, raw_parts, a_bool, a_char, a_string, a_c_string, IsLiteral, suffix_of, bool_literal, integer_literal, float_literal, char_literal, byte_literal, string_literal, byte_string_literal, c_string_literal, literal_parse, kind_parse, IsLiteralOf, Begins, an_integer, a_float, a_byte, a_byte_string}
-use Rattle.litrs_grammar.specs.LiteralFault.{read_as, dispatch, IsFault}
-use Rattle.litrs_grammar.specs.Finality.{is_final, is_open, closing_of}
+use Rattle.litrs_grammar.specs.LiteralRefusals.{parsed_as, dispatch, IsRefusal}
+use Rattle.litrs_base.specs.Finality.{is_final, is_open}
+use Rattle.litrs_grammar.specs.Closing.{closing_of}
 use Rattle.litrs_grammar.specs.Growth.{grows}
 use Rattle.litrs_grammar.proofs.Computing.{computing}
-use Rattle.litrs_grammar.specs.Bool.{IsBool, bool_fault}
+use Rattle.litrs_grammar.specs.Bool.{IsBool, bool_refusal}
 use Rattle.litrs_base.specs.declared.integer.IntegerBase.TheVariants.{Decimal, Hexadecimal}
 use Rattle.litrs_grammar.specs.Escape.{simple_escape, unicode_escape}
 
 -- what the tables of all kinds compute with
 unfoldable pub all_tables : Unit {0}
-unfolding computing dispatch integer_cut integer_fault float_fault float_cut is_exponent raw_fault raw_body_fault is_suffix unicode_ident encode_utf8
+unfolding computing dispatch integer_cut integer_refusal float_refusal float_cut is_exponent raw_refusal raw_body_refusal is_suffix unicode_ident encode_utf8
 all_tables = tt
 
 -- Any kind, by the dispatch
 
-any-empty : IsFault literal_parse (codes "") (plain Empty)
+any-empty : IsRefusal literal_parse (codes "") (plain Empty)
 unfolding all_tables
 any-empty = refl
 
-any-front_of_c_strings : IsFault literal_parse (codes "cat") (plain InvalidCStringLiteralStart)
+any-front_of_c_strings : IsRefusal literal_parse (codes "cat") (plain InvalidCStringLiteralStart)
 unfolding all_tables
 any-front_of_c_strings = refl
 
-any-raw_front : IsFault literal_parse (codes "r") (plain InvalidLiteral)
+any-raw_front : IsRefusal literal_parse (codes "r") (plain InvalidLiteral)
 unfolding all_tables
 any-raw_front = refl
 
-any-front_of_bytes : IsFault literal_parse (codes "b") (plain InvalidLiteral)
+any-front_of_bytes : IsRefusal literal_parse (codes "b") (plain InvalidLiteral)
 unfolding all_tables
 any-front_of_bytes = refl
 
-any-word : IsFault literal_parse (codes "foo") (plain InvalidLiteral)
+any-word : IsRefusal literal_parse (codes "foo") (plain InvalidLiteral)
 unfolding all_tables
 any-word = refl
 
-any-almost_bool : IsFault literal_parse (codes "fals") (plain InvalidLiteral)
+any-almost_bool : IsRefusal literal_parse (codes "fals") (plain InvalidLiteral)
 unfolding all_tables
 any-almost_bool = refl
 
-any-upper_case : IsFault literal_parse (codes "False") (plain InvalidLiteral)
+any-upper_case : IsRefusal literal_parse (codes "False") (plain InvalidLiteral)
 unfolding all_tables
 any-upper_case = refl
 
-any-period : IsFault literal_parse (codes ".5") (plain InvalidLiteral)
+any-period : IsRefusal literal_parse (codes ".5") (plain InvalidLiteral)
 unfolding all_tables
 any-period = refl
 
-any-underscore : IsFault literal_parse (codes "_3") (plain InvalidLiteral)
+any-underscore : IsRefusal literal_parse (codes "_3") (plain InvalidLiteral)
 unfolding all_tables
 any-underscore = refl
 
-any-space : IsFault literal_parse (codes " 0") (plain InvalidLiteral)
+any-space : IsRefusal literal_parse (codes " 0") (plain InvalidLiteral)
 unfolding all_tables
 any-space = refl
 
-any-integer : IsFault literal_parse (codes "0b1e3") (at 3 IntegerSuffixStartingWithE)
+any-integer : IsRefusal literal_parse (codes "0b1e3") (at 3 IntegerSuffixStartingWithE)
 unfolding all_tables
 any-integer = refl
 
-any-no_digits : IsFault literal_parse (codes "0xg") (over 2 2 NoDigits)
+any-no_digits : IsRefusal literal_parse (codes "0xg") (over 2 2 NoDigits)
 unfolding all_tables
 any-no_digits = refl
 
-any-float : IsFault literal_parse (codes "1.e4") (at 2 UnexpectedChar)
+any-float : IsRefusal literal_parse (codes "1.e4") (at 2 UnexpectedChar)
 unfolding all_tables
 any-float = refl
 
-any-float-letter : IsFault literal_parse (codes "0eel") (over 1 2 NoExponentDigits)
+any-float-letter : IsRefusal literal_parse (codes "0eel") (over 1 2 NoExponentDigits)
 unfolding all_tables
 any-float-letter = refl
 
 -- the digits before the period are no decimal ones: an integer with a wrong suffix, and a float with another
-any-hex_before_period : IsFault literal_parse (codes "0x44.5") (over 4 6 UnexpectedChar)
+any-hex_before_period : IsRefusal literal_parse (codes "0x44.5") (over 4 6 UnexpectedChar)
 unfolding all_tables
 any-hex_before_period = refl
 
-float-hex_before_period : IsFault (kind_parse float_literal) (codes "0x44.5") (over 1 6 InvalidSuffix)
+float-hex_before_period : IsRefusal (kind_parse float_literal) (codes "0x44.5") (over 1 6 InvalidSuffix)
 unfolding all_tables
 float-hex_before_period = refl
 
-any-char : IsFault literal_parse (codes "'''") (at 1 UnescapedSingleQuote)
+any-char : IsRefusal literal_parse (codes "'''") (at 1 UnescapedSingleQuote)
 unfolding all_tables
 any-char = refl
 
-any-byte : IsFault literal_parse (codes "b''") (plain EmptyByteLiteral)
+any-byte : IsRefusal literal_parse (codes "b''") (plain EmptyByteLiteral)
 unfolding all_tables
 any-byte = refl
 
-any-quoted : IsFault literal_parse (codes "\"ab") (plain UnterminatedString)
+any-quoted : IsRefusal literal_parse (codes "\"ab") (plain UnterminatedString)
 unfolding all_tables
 any-quoted = record {
   items = plain_item 97 ∷ plain_item 98 ∷ [];
@@ -113,11 +114,11 @@ any-quoted = record {
 }
 
 -- a bool has no refusal
-any-bool : dispatch (codes "true") ≡ read_as bool_literal
+any-bool : dispatch (codes "true") ≡ parsed_as bool_literal
 unfolding all_tables
 any-bool = refl
 
-any-byte_string : IsFault literal_parse (codes "b\"\né") (at 3 NonAsciiInByteLiteral)
+any-byte_string : IsRefusal literal_parse (codes "b\"\né") (at 3 NonAsciiInByteLiteral)
 unfolding all_tables
 any-byte_string = record {
   items = plain_item 10 ∷ [];
@@ -129,72 +130,72 @@ any-byte_string = record {
   placed = refl;
 }
 
-any-c_string : IsFault literal_parse (codes "c\"\0\"") (at 2 NulByte)
+any-c_string : IsRefusal literal_parse (codes "c\"\0\"") (at 2 NulByte)
 unfolding all_tables
 any-c_string = record { items = []; rest = codes "\0\""; cause = at 0 NulByte; spells = refl; taken = refl; told = refl; placed = refl }
 
-any-raw : IsFault literal_parse (codes "r##\"a\"#") (plain UnterminatedRawString)
+any-raw : IsRefusal literal_parse (codes "r##\"a\"#") (plain UnterminatedRawString)
 unfolding all_tables
 any-raw = refl
 
-any-raw_byte_string : IsFault literal_parse (codes "br" ++ (hashes 256 ++ codes "\"")) (over 2 258 TooManyHashes)
+any-raw_byte_string : IsRefusal literal_parse (codes "br" ++ (hashes 256 ++ codes "\"")) (over 2 258 TooManyHashes)
 unfolding all_tables
 any-raw_byte_string = refl
 
-any-raw_c_string : IsFault literal_parse (codes "cr#\"foo \"# bar\"#") (at 10 UnexpectedChar)
+any-raw_c_string : IsRefusal literal_parse (codes "cr#\"foo \"# bar\"#") (at 10 UnexpectedChar)
 unfolding all_tables
 any-raw_c_string = refl
 
 -- Each kind by itself, by how the text starts
 
-bool-empty : IsFault (kind_parse bool_literal) (codes "") (plain InvalidLiteral)
+bool-empty : IsRefusal (kind_parse bool_literal) (codes "") (plain InvalidLiteral)
 bool-empty = refl
 
-bool-word : IsFault (kind_parse bool_literal) (codes "truee") (plain InvalidLiteral)
+bool-word : IsRefusal (kind_parse bool_literal) (codes "truee") (plain InvalidLiteral)
 bool-word = refl
 
-integer-float : IsFault (kind_parse integer_literal) (codes "3.14") (over 1 4 UnexpectedChar)
+integer-float : IsRefusal (kind_parse integer_literal) (codes "3.14") (over 1 4 UnexpectedChar)
 unfolding all_tables
 integer-float = refl
 
-integer-word : IsFault (kind_parse integer_literal) (codes "x") (at 0 DoesNotStartWithDigit)
+integer-word : IsRefusal (kind_parse integer_literal) (codes "x") (at 0 DoesNotStartWithDigit)
 unfolding all_tables
 integer-word = refl
 
-float-integer : IsFault (kind_parse float_literal) (codes "3") (plain UnexpectedIntegerLit)
+float-integer : IsRefusal (kind_parse float_literal) (codes "3") (plain UnexpectedIntegerLit)
 unfolding all_tables
 float-integer = refl
 
-char-word : IsFault (kind_parse char_literal) (codes "x") (at 0 DoesNotStartWithQuote)
+char-word : IsRefusal (kind_parse char_literal) (codes "x") (at 0 DoesNotStartWithQuote)
 unfolding all_tables
 char-word = refl
 
-byte-word : IsFault (kind_parse byte_literal) (codes "b") (plain InvalidByteLiteralStart)
+byte-word : IsRefusal (kind_parse byte_literal) (codes "b") (plain InvalidByteLiteralStart)
 unfolding all_tables
 byte-word = refl
 
-string-empty : IsFault (kind_parse string_literal) (codes "") (plain Empty)
+string-empty : IsRefusal (kind_parse string_literal) (codes "") (plain Empty)
 string-empty = refl
 
-string-word : IsFault (kind_parse string_literal) (codes "x") (at 0 InvalidStringLiteralStart)
+string-word : IsRefusal (kind_parse string_literal) (codes "x") (at 0 InvalidStringLiteralStart)
 string-word = refl
 
-string-byte_string : IsFault (kind_parse string_literal) (codes "b\"\"") (at 0 InvalidStringLiteralStart)
+string-byte_string : IsRefusal (kind_parse string_literal) (codes "b\"\"") (at 0 InvalidStringLiteralStart)
 string-byte_string = refl
 
-byte_string-empty : IsFault (kind_parse byte_string_literal) (codes "") (plain Empty)
+byte_string-empty : IsRefusal (kind_parse byte_string_literal) (codes "") (plain Empty)
 byte_string-empty = refl
 
-byte_string-front : IsFault (kind_parse byte_string_literal) (codes "b") (plain InvalidByteStringLiteralStart)
+byte_string-front : IsRefusal (kind_parse byte_string_literal) (codes "b") (plain InvalidByteStringLiteralStart)
 byte_string-front = refl
 
-c_string-empty : IsFault (kind_parse c_string_literal) (codes "") (plain Empty)
+c_string-empty : IsRefusal (kind_parse c_string_literal) (codes "") (plain Empty)
 c_string-empty = refl
 
-c_string-front : IsFault (kind_parse c_string_literal) (codes "c") (plain InvalidCStringLiteralStart)
+c_string-front : IsRefusal (kind_parse c_string_literal) (codes "c") (plain InvalidCStringLiteralStart)
 c_string-front = refl
 
-c_string-string : IsFault (kind_parse c_string_literal) (codes "\"\"") (plain InvalidCStringLiteralStart)
+c_string-string : IsRefusal (kind_parse c_string_literal) (codes "\"\"") (plain InvalidCStringLiteralStart)
 c_string-string = refl
 
 -- Literals, their suffixes, and beginnings of literals
@@ -308,11 +309,11 @@ stays-word = refl
 
 -- Bools
 
-bool-true : bool_fault (codes "true") ≡ None
+bool-true : bool_refusal (codes "true") ≡ None
 unfolding all_tables
 bool-true = refl
 
-bool-false : bool_fault (codes "false") ≡ None
+bool-false : bool_refusal (codes "false") ≡ None
 unfolding all_tables
 bool-false = refl
 
@@ -320,25 +321,25 @@ bool-text : IsBool (codes "false") false
 unfolding all_tables
 bool-text = refl
 
-any-false : dispatch (codes "false") ≡ read_as bool_literal
+any-false : dispatch (codes "false") ≡ parsed_as bool_literal
 unfolding all_tables
 any-false = refl
 
 -- Long runs of digits in front of what begins a float
 
-any-no_exponent_digit : IsFault literal_parse (codes "98e") (over 2 3 NoExponentDigits)
+any-no_exponent_digit : IsRefusal literal_parse (codes "98e") (over 2 3 NoExponentDigits)
 unfolding all_tables
 any-no_exponent_digit = refl
 
-any-capital_letter : IsFault literal_parse (codes "23E___f32") (over 2 6 NoExponentDigits)
+any-capital_letter : IsRefusal literal_parse (codes "23E___f32") (over 2 6 NoExponentDigits)
 unfolding all_tables
 any-capital_letter = refl
 
-any-second_period : IsFault literal_parse (codes "55e3.1") (over 4 6 UnexpectedChar)
+any-second_period : IsRefusal literal_parse (codes "55e3.1") (over 4 6 UnexpectedChar)
 unfolding all_tables
 any-second_period = refl
 
-any-underscore_behind_period : IsFault literal_parse (codes "12345._987") (at 6 UnexpectedChar)
+any-underscore_behind_period : IsRefusal literal_parse (codes "12345._987") (at 6 UnexpectedChar)
 unfolding all_tables
 any-underscore_behind_period = refl
 

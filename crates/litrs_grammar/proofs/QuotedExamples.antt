@@ -4,8 +4,8 @@ use Rattle.std.specs.Prelude.{◌≡◌, ℕ, List, [], ◌∷◌, ◌++◌, map
 use Rattle.litrs_grammar.specs.StringKind.{string_kind, byte_string_kind, c_string_kind}
 use Rattle.litrs_base.specs.declared.err.ParseErrorKind.TheVariants.{UnexpectedChar, UnknownEscape, UnterminatedEscape, NonAsciiXEscape, InvalidStartOfUnicodeEscape, TooManyDigitInUnicodeEscape, UnterminatedUnicodeEscape, NonAsciiInByteLiteral, UnterminatedString, DisallowedNulEscape, NulByte, CarriageReturn, InvalidSuffix}
 use Rattle.litrs_grammar.specs.Escape.{string_switches, simple_escape, hex_escape, unicode_escape, byte_string_switches, c_string_switches}
-use Rattle.litrs_base.specs.Fault.{plain, at, over}
-use Rattle.litrs_grammar.specs.Quoted.{Item, plain_item, escape_item, continuation, body_value, is_body, IsQuotedLiteral, IsQuotedLiteralFault, rest_fault, stand_before, is_plain}
+use Rattle.litrs_base.specs.Refusal.{plain, at, over}
+use Rattle.litrs_grammar.specs.Quoted.{Item, plain_item, escape_item, continuation, body_value, is_body, IsQuotedLiteral, IsQuotedLiteralRefusal, rest_refusal, stand_before, is_plain}
 use Rattle.litrs_grammar.proofs.Computing.{computing}
 
 -- characters that stand for themselves
@@ -13,116 +13,116 @@ abbrev plains : List ℕ → List Item
 plains t = map plain_item t
 
 -- a continuation that ends the text
-open_continuation : IsQuotedLiteralFault string_kind (codes "\"foo\\\n  ") (plain UnterminatedString)
+open_continuation : IsQuotedLiteralRefusal string_kind (codes "\"foo\\\n  ") (plain UnterminatedString)
 unfolding computing
 open_continuation =
     record { items = plains (codes "foo"); rest = codes "\\\n  "; cause = plain UnterminatedString; spells = refl; taken = refl; told = refl; placed = refl }
 
 -- no closing quote
-open_string : IsQuotedLiteralFault string_kind (codes "\"ab") (plain UnterminatedString)
+open_string : IsQuotedLiteralRefusal string_kind (codes "\"ab") (plain UnterminatedString)
 unfolding computing
 open_string =
     record { items = plains (codes "ab"); rest = []; cause = plain UnterminatedString; spells = refl; taken = refl; told = refl; placed = refl }
 
-open_behind_line_feed : IsQuotedLiteralFault string_kind (codes "\"\\n\n") (plain UnterminatedString)
+open_behind_line_feed : IsQuotedLiteralRefusal string_kind (codes "\"\\n\n") (plain UnterminatedString)
 unfolding computing
 open_behind_line_feed =
     record { items = escape_item (simple_escape 110) ∷ plain_item 10 ∷ []; rest = []; cause = plain UnterminatedString; spells = refl; taken = refl; told = refl; placed = refl }
 
 -- an escape is read without the last character of the text
-escape_at_the_end : IsQuotedLiteralFault string_kind (codes "\"\\n") (over 1 2 UnterminatedEscape)
+escape_at_the_end : IsQuotedLiteralRefusal string_kind (codes "\"\\n") (over 1 2 UnterminatedEscape)
 unfolding computing
 escape_at_the_end =
     record { items = []; rest = codes "\\n"; cause = at 0 UnterminatedEscape; spells = refl; taken = refl; told = refl; placed = refl }
 
-backslash_at_the_end : IsQuotedLiteralFault string_kind (codes "\"\\") (over 1 2 UnterminatedEscape)
+backslash_at_the_end : IsQuotedLiteralRefusal string_kind (codes "\"\\") (over 1 2 UnterminatedEscape)
 unfolding computing
 backslash_at_the_end =
     record { items = []; rest = codes "\\"; cause = at 0 UnterminatedEscape; spells = refl; taken = refl; told = refl; placed = refl }
 
-wide_at_the_end : IsQuotedLiteralFault string_kind (codes "\"\\é") (over 1 2 UnterminatedEscape)
+wide_at_the_end : IsQuotedLiteralRefusal string_kind (codes "\"\\é") (over 1 2 UnterminatedEscape)
 unfolding computing
 wide_at_the_end =
     record { items = []; rest = codes "\\é"; cause = at 0 UnterminatedEscape; spells = refl; taken = refl; told = refl; placed = refl }
 
-brace_at_the_end : IsQuotedLiteralFault string_kind (codes "\"\\u{41}") (over 1 6 UnterminatedUnicodeEscape)
+brace_at_the_end : IsQuotedLiteralRefusal string_kind (codes "\"\\u{41}") (over 1 6 UnterminatedUnicodeEscape)
 unfolding computing
 brace_at_the_end =
     record { items = []; rest = codes "\\u{41}"; cause = over 0 5 UnterminatedUnicodeEscape; spells = refl; taken = refl; told = refl; placed = refl }
 
-no_closing_brace : IsQuotedLiteralFault string_kind (codes "\"\\u{12\"") (over 1 6 UnterminatedUnicodeEscape)
+no_closing_brace : IsQuotedLiteralRefusal string_kind (codes "\"\\u{12\"") (over 1 6 UnterminatedUnicodeEscape)
 unfolding computing
 no_closing_brace =
     record { items = []; rest = codes "\\u{12\""; cause = over 0 5 UnterminatedUnicodeEscape; spells = refl; taken = refl; told = refl; placed = refl }
 
-high_hex : IsQuotedLiteralFault string_kind (codes "\"\\x80\"") (over 1 5 NonAsciiXEscape)
+high_hex : IsQuotedLiteralRefusal string_kind (codes "\"\\x80\"") (over 1 5 NonAsciiXEscape)
 unfolding computing
 high_hex =
     record { items = []; rest = codes "\\x80\""; cause = over 0 4 NonAsciiXEscape; spells = refl; taken = refl; told = refl; placed = refl }
 
-high_hex_later : IsQuotedLiteralFault string_kind (codes "\"నక్క\\xB0\"") (over 13 17 NonAsciiXEscape)
+high_hex_later : IsQuotedLiteralRefusal string_kind (codes "\"నక్క\\xB0\"") (over 13 17 NonAsciiXEscape)
 unfolding computing
 high_hex_later =
     record { items = plains (codes "నక్క"); rest = codes "\\xB0\""; cause = over 0 4 NonAsciiXEscape; spells = refl; taken = refl; told = refl; placed = refl }
 
-no_digit : IsQuotedLiteralFault string_kind (codes "\"🦊\\u{}a\"") (over 8 9 InvalidStartOfUnicodeEscape)
+no_digit : IsQuotedLiteralRefusal string_kind (codes "\"🦊\\u{}a\"") (over 8 9 InvalidStartOfUnicodeEscape)
 unfolding computing
 no_digit =
     record { items = plains (codes "🦊"); rest = codes "\\u{}a\""; cause = at 3 InvalidStartOfUnicodeEscape; spells = refl; taken = refl; told = refl; placed = refl }
 
-seventh_digit : IsQuotedLiteralFault string_kind (codes "\"నక్క\\u{1234567}🦊\"") (over 22 23 TooManyDigitInUnicodeEscape)
+seventh_digit : IsQuotedLiteralRefusal string_kind (codes "\"నక్క\\u{1234567}🦊\"") (over 22 23 TooManyDigitInUnicodeEscape)
 unfolding computing
 seventh_digit =
     record { items = plains (codes "నక్క"); rest = codes "\\u{1234567}🦊\""; cause = at 9 TooManyDigitInUnicodeEscape; spells = refl; taken = refl; told = refl; placed = refl }
 
-unknown_escape : IsQuotedLiteralFault byte_string_kind (codes "b\"a\\\r\"") (over 3 5 UnknownEscape)
+unknown_escape : IsQuotedLiteralRefusal byte_string_kind (codes "b\"a\\\r\"") (over 3 5 UnknownEscape)
 unfolding computing
 unknown_escape =
     record { items = plains (codes "a"); rest = codes "\\\r\""; cause = over 0 2 UnknownEscape; spells = refl; taken = refl; told = refl; placed = refl }
 
-zero_escape : IsQuotedLiteralFault c_string_kind (codes "c\"\\u{0}🦊\"") (over 2 7 DisallowedNulEscape)
+zero_escape : IsQuotedLiteralRefusal c_string_kind (codes "c\"\\u{0}🦊\"") (over 2 7 DisallowedNulEscape)
 unfolding computing
 zero_escape =
     record { items = []; rest = codes "\\u{0}🦊\""; cause = over 0 5 DisallowedNulEscape; spells = refl; taken = refl; told = refl; placed = refl }
 
-zero_escape_later : IsQuotedLiteralFault c_string_kind (codes "c\" \\u{00}\"") (over 3 9 DisallowedNulEscape)
+zero_escape_later : IsQuotedLiteralRefusal c_string_kind (codes "c\" \\u{00}\"") (over 3 9 DisallowedNulEscape)
 unfolding computing
 zero_escape_later =
     record { items = plains (codes " "); rest = codes "\\u{00}\""; cause = over 0 6 DisallowedNulEscape; spells = refl; taken = refl; told = refl; placed = refl }
 
-zero_with_underscores : IsQuotedLiteralFault c_string_kind (codes "c\"лиса\\u{0__}\"") (over 10 17 DisallowedNulEscape)
+zero_with_underscores : IsQuotedLiteralRefusal c_string_kind (codes "c\"лиса\\u{0__}\"") (over 10 17 DisallowedNulEscape)
 unfolding computing
 zero_with_underscores =
     record { items = plains (codes "лиса"); rest = codes "\\u{0__}\""; cause = over 0 7 DisallowedNulEscape; spells = refl; taken = refl; told = refl; placed = refl }
 
 -- CR; NUL in a C string; in a byte string what is not ASCII
-return_in_string : IsQuotedLiteralFault string_kind (codes "\"a\r\"") (over 2 3 CarriageReturn)
+return_in_string : IsQuotedLiteralRefusal string_kind (codes "\"a\r\"") (over 2 3 CarriageReturn)
 unfolding computing
 return_in_string =
     record { items = plains (codes "a"); rest = codes "\r\""; cause = at 0 CarriageReturn; spells = refl; taken = refl; told = refl; placed = refl }
 
-nul_in_c_string : IsQuotedLiteralFault c_string_kind (99 ∷ 34 ∷ 0 ∷ 34 ∷ []) (over 2 3 NulByte)
+nul_in_c_string : IsQuotedLiteralRefusal c_string_kind (99 ∷ 34 ∷ 0 ∷ 34 ∷ []) (over 2 3 NulByte)
 unfolding computing
 nul_in_c_string =
     record { items = []; rest = 0 ∷ 34 ∷ []; cause = at 0 NulByte; spells = refl; taken = refl; told = refl; placed = refl }
 
-wide_in_byte_string : IsQuotedLiteralFault byte_string_kind (codes "b\"\\nJosé") (over 7 8 NonAsciiInByteLiteral)
+wide_in_byte_string : IsQuotedLiteralRefusal byte_string_kind (codes "b\"\\nJosé") (over 7 8 NonAsciiInByteLiteral)
 unfolding computing
 wide_in_byte_string =
     record { items = escape_item (simple_escape 110) ∷ plains (codes "Jos"); rest = codes "é"; cause = at 0 NonAsciiInByteLiteral; spells = refl; taken = refl; told = refl; placed = refl }
 
 -- no suffix behind the closing quote
-quote_in_suffix : IsQuotedLiteralFault string_kind (codes "\"fox\"peter\"") (over 5 6 InvalidSuffix)
+quote_in_suffix : IsQuotedLiteralRefusal string_kind (codes "\"fox\"peter\"") (over 5 6 InvalidSuffix)
 unfolding computing
 quote_in_suffix =
     record { items = plains (codes "fox"); rest = codes "\"peter\""; cause = at 1 InvalidSuffix; spells = refl; taken = refl; told = refl; placed = refl }
 
-lone_underscore : IsQuotedLiteralFault string_kind (codes "\"a\"_") (over 3 4 InvalidSuffix)
+lone_underscore : IsQuotedLiteralRefusal string_kind (codes "\"a\"_") (over 3 4 InvalidSuffix)
 unfolding computing
 lone_underscore =
     record { items = plains (codes "a"); rest = codes "\"_"; cause = at 1 InvalidSuffix; spells = refl; taken = refl; told = refl; placed = refl }
 
-blank_behind : IsQuotedLiteralFault string_kind (codes "\"a\" ") (over 3 4 UnexpectedChar)
+blank_behind : IsQuotedLiteralRefusal string_kind (codes "\"a\" ") (over 3 4 UnexpectedChar)
 unfolding computing
 blank_behind =
     record { items = plains (codes "a"); rest = codes "\" "; cause = at 1 UnexpectedChar; spells = refl; taken = refl; told = refl; placed = refl }
@@ -216,25 +216,25 @@ blank_behind_continuation = refl
 
 -- Escapes and continuations among the items before a refused place
 
-open_behind_continuation : IsQuotedLiteralFault string_kind (codes "\"a\\\n  b") (plain UnterminatedString)
+open_behind_continuation : IsQuotedLiteralRefusal string_kind (codes "\"a\\\n  b") (plain UnterminatedString)
 unfolding computing
 open_behind_continuation = record { items = plain_item 97 ∷ continuation (codes "  ") ∷ plain_item 98 ∷ []; rest = []; cause = plain UnterminatedString; spells = refl; taken = refl; told = refl; placed = refl }
 
-underscore_behind_escape : IsQuotedLiteralFault string_kind (codes "\"\\n\"_") (at 4 InvalidSuffix)
+underscore_behind_escape : IsQuotedLiteralRefusal string_kind (codes "\"\\n\"_") (at 4 InvalidSuffix)
 unfolding computing
 underscore_behind_escape = record { items = escape_item (simple_escape 110) ∷ []; rest = codes "\"_"; cause = at 1 InvalidSuffix; spells = refl; taken = refl; told = refl; placed = refl }
 
 -- Rests that no row tells, as an item or the end stands there
 
-rest-letter : rest_fault string_switches (codes "a") ≡ None
+rest-letter : rest_refusal string_switches (codes "a") ≡ None
 unfolding computing
 rest-letter = refl
 
-rest-closing : rest_fault string_switches (codes "\"x") ≡ None
+rest-closing : rest_refusal string_switches (codes "\"x") ≡ None
 unfolding computing
 rest-closing = refl
 
-rest-continuation : rest_fault string_switches (codes "\\\n b") ≡ None
+rest-continuation : rest_refusal string_switches (codes "\\\n b") ≡ None
 unfolding computing
 rest-continuation = refl
 

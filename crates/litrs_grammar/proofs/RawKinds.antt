@@ -5,14 +5,14 @@ use Rattle.std.specs.Option.{ForSome}
 use Rattle.std.proofs.lemmas.Bool.{true≢false}
 use Rattle.std.proofs.lemmas.List.{append_cancel_left}
 use Rattle.litrs_grammar.specs.StringKind.{StringKind, string_kind, byte_string_kind, c_string_kind}
-use Rattle.litrs_base.specs.Fault.{IsInText}
+use Rattle.litrs_base.specs.Refusal.{IsInText}
 use Rattle.litrs_base.specs.Text.{byte_len, begins_with}
-use Rattle.litrs_grammar.specs.Raw.{is_nul, raw_value, RawParts, raw_text, IsRawOf, raw_front, has_unicode, allows_nul, IsRawLiteral, raw_fault, raw_literal_fault}
+use Rattle.litrs_grammar.specs.Raw.{is_nul, raw_value, RawParts, raw_text, IsRawOf, raw_front, has_unicode, allows_nul, IsRawLiteral, raw_refusal, raw_literal_refusal}
 use Rattle.litrs_base.proofs.Runs.{last_passes, is_line_feed, line_feed_last}
-use Rattle.litrs_grammar.proofs.Spans.{byte_len_ascii}
+use Rattle.litrs_base.proofs.Spans.{byte_len_ascii}
 use Rattle.litrs_base.proofs.Begins.{begins_with-split}
-use Rattle.litrs_grammar.proofs.RawLaws.{only_raw, readable, fault_free}
-use Rattle.litrs_grammar.proofs.RawSpans.{raw_fault_within, raw_last, raw_no_nul}
+use Rattle.litrs_grammar.proofs.RawLaws.{only_raw, derivable, refusal_free}
+use Rattle.litrs_grammar.proofs.RawSpans.{raw_refusal_within, raw_last, raw_no_nul}
 
 -- The first character of a raw literal tells its kind.
 
@@ -54,13 +54,13 @@ only_raw_literal t k l d e r s =
     let same : k ≡ l = same_kind k l (raw_text d) (raw_text e) (r.spells ∙ sym s.spells) in
     (same, same_parts k l same t d e r s)
 
-pub literal_readable : (kind : StringKind) (t : List ℕ) → begins_with (raw_front kind) t ≡ true → raw_literal_fault kind t ≡ None → (d : RawParts) × IsRawLiteral kind t d
-literal_readable kind t front h = let r = readable (has_unicode kind) (allows_nul kind) (length (raw_front kind)) (drop (length (raw_front kind)) t) h in
+pub literal_derivable : (kind : StringKind) (t : List ℕ) → begins_with (raw_front kind) t ≡ true → raw_literal_refusal kind t ≡ None → (d : RawParts) × IsRawLiteral kind t d
+literal_derivable kind t front h = let r = derivable (has_unicode kind) (allows_nul kind) (length (raw_front kind)) (drop (length (raw_front kind)) t) h in
     (r.0, record { spells = ap (λ s. raw_front kind ++ s) r.1.spells ∙ begins_with-split (raw_front kind) t front; grammar = r.1.grammar })
 
-pub literal_fault_free : (kind : StringKind) (t : List ℕ) (d : RawParts) → begins_with (raw_front kind) t ≡ true → IsRawLiteral kind t d → raw_literal_fault kind t ≡ None
-literal_fault_free kind t d front r =
-    fault_free (has_unicode kind) (allows_nul kind) (length (raw_front kind)) (drop (length (raw_front kind)) t) d
+pub literal_refusal_free : (kind : StringKind) (t : List ℕ) (d : RawParts) → begins_with (raw_front kind) t ≡ true → IsRawLiteral kind t d → raw_literal_refusal kind t ≡ None
+literal_refusal_free kind t d front r =
+    refusal_free (has_unicode kind) (allows_nul kind) (length (raw_front kind)) (drop (length (raw_front kind)) t) d
     (behind_front kind (drop (length (raw_front kind)) t) t d (begins_with-split (raw_front kind) t front) r)
 
 front_bytes : (kind : StringKind) → byte_len (raw_front kind) ≡ length (raw_front kind)
@@ -68,11 +68,11 @@ front_bytes string_kind = byte_len_ascii (raw_front string_kind) refl
 front_bytes byte_string_kind = byte_len_ascii (raw_front byte_string_kind) refl
 front_bytes c_string_kind = byte_len_ascii (raw_front c_string_kind) refl
 
-pub literal_fault_within : (kind : StringKind) (t : List ℕ) → begins_with (raw_front kind) t ≡ true → ForSome (raw_literal_fault kind t) (IsInText t)
-literal_fault_within kind t front =
-    subst (λ (s : List ℕ). ForSome (raw_literal_fault kind t) (IsInText s)) (begins_with-split (raw_front kind) t front)
-    (subst (λ (start : ℕ). ForSome (raw_fault (has_unicode kind) (allows_nul kind) start (drop (length (raw_front kind)) t)) (IsInText (raw_front kind ++ drop (length (raw_front kind)) t)))
-    (front_bytes kind) (raw_fault_within (has_unicode kind) (allows_nul kind) (raw_front kind) (drop (length (raw_front kind)) t)))
+pub literal_refusal_within : (kind : StringKind) (t : List ℕ) → begins_with (raw_front kind) t ≡ true → ForSome (raw_literal_refusal kind t) (IsInText t)
+literal_refusal_within kind t front =
+    subst (λ (s : List ℕ). ForSome (raw_literal_refusal kind t) (IsInText s)) (begins_with-split (raw_front kind) t front)
+    (subst (λ (start : ℕ). ForSome (raw_refusal (has_unicode kind) (allows_nul kind) start (drop (length (raw_front kind)) t)) (IsInText (raw_front kind ++ drop (length (raw_front kind)) t)))
+    (front_bytes kind) (raw_refusal_within (has_unicode kind) (allows_nul kind) (raw_front kind) (drop (length (raw_front kind)) t)))
 
 pub no_literal_with_line_feed : (kind : StringKind) (t : List ℕ) (d : RawParts) → ¬ IsRawLiteral kind (t ++ (10 ∷ [])) d
 no_literal_with_line_feed kind t d r =

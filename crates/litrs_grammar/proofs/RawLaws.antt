@@ -4,21 +4,20 @@ use Rattle.std.specs.List.{prefix_len, slice_index}
 use Rattle.std.proofs.lemmas.Bool.{false≢true, eqb-true, ltb-false, le-ltb, not-false}
 use Rattle.std.proofs.lemmas.List.{take_at, drop_at, length-append, append_assoc}
 use Rattle.litrs_base.specs.declared.err.ParseErrorKind.{ParseErrorKind}
-use Rattle.litrs_base.specs.declared.err.ParseError.{ParseError}
+use Rattle.litrs_base.specs.Refusal.{Refusal, plain, over, at}
 use Rattle.litrs_base.specs.Text.{is_empty, byte_len, first_passes}
-use Rattle.litrs_grammar.specs.Suffix.{is_suffix, suffix_fault}
+use Rattle.litrs_grammar.specs.Suffix.{is_suffix, suffix_refusal}
 use Rattle.std.specs.Prelude.{not, if◌then◌else◌}
-use Rattle.litrs_base.specs.Fault.{plain, over, at}
 use Rattle.litrs_base.specs.declared.err.ParseErrorKind.TheVariants.{InvalidLiteral, TooManyHashes, UnterminatedRawString}
-use Rattle.litrs_grammar.specs.Raw.{is_quote, is_hash, hashes, raw_closing, occurs, is_raw_char, RawParts, raw_text, IsRaw, IsRawOf, hash_len, length_before, raw_char_fault, raw_body_fault, raw_fault}
-use Rattle.litrs_base.specs.Reading.{IsOnlyReading, HasNoReading}
+use Rattle.litrs_grammar.specs.Raw.{is_quote, is_hash, hashes, raw_closing, occurs, is_raw_char, RawParts, raw_text, IsRaw, IsRawOf, hash_len, length_before, raw_char_refusal, raw_body_refusal, raw_refusal}
+use Rattle.litrs_base.specs.Derivations.{IsOnlyDerivation, HasNoDerivation}
 use Rattle.litrs_base.proofs.Runs.{prefix_len_all, all_from_prefix_len}
-use Rattle.litrs_grammar.proofs.Spans.{none_from}
+use Rattle.litrs_base.proofs.Spans.{none_from}
 use Rattle.litrs_grammar.proofs.RawCuts.{length-hashes, hash_len-append, behind_hashes, hash_cut, length_before-body, occurs-body, ClosingCut, closing_cut}
 
 -- The rows behind the opening quote, by what is known of the text: a character that may not stand in the body stands before
 -- the first closing; there is a closing; a suffix stands behind it.
-abbrev pub raw_body_rows : (place suffix_place : ℕ) (kind suffix_kind : ParseErrorKind) (refused closed suffix : Bool) → Option ParseError
+abbrev pub raw_body_rows : (place suffix_place : ℕ) (kind suffix_kind : ParseErrorKind) (refused closed suffix : Bool) → Option Refusal
 raw_body_rows place suffix_place kind suffix_kind refused closed suffix =
     if refused then Some (at place kind)
     else if not closed then Some (plain UnterminatedRawString)
@@ -26,23 +25,23 @@ raw_body_rows place suffix_place kind suffix_kind refused closed suffix =
     else None
 
 -- The rows before it: nothing is behind the hashes; there are too many; `"` is behind them.
-abbrev pub raw_rows : (start n : ℕ) (body_fault : Option ParseError) (nothing too_many quote : Bool) → Option ParseError
-raw_rows start n body_fault nothing too_many quote =
+abbrev pub raw_rows : (start n : ℕ) (body_refusal : Option Refusal) (nothing too_many quote : Bool) → Option Refusal
+raw_rows start n body_refusal nothing too_many quote =
     if nothing then Some (plain InvalidLiteral)
     else if too_many then Some (over start (start + n) TooManyHashes)
     else if not quote then Some (plain InvalidLiteral)
-    else body_fault
+    else body_refusal
 
 -- the table by the parts of a text that is cut
 
-pub fault_of_hashes : (unicode allow_nul : Bool) (start n : ℕ) (rest : List ℕ) → first_passes is_hash rest ≡ false →
-    raw_fault unicode allow_nul start (hashes n ++ rest)
-    ≡ raw_rows start n (raw_body_fault unicode allow_nul n (start + (n + 1)) (drop 1 rest)) (is_empty rest) (ltb 255 n) (first_passes is_quote rest)
-unfolding raw_fault
-fault_of_hashes unicode allow_nul start n rest stop =
+pub refusal_of_hashes : (unicode allow_nul : Bool) (start n : ℕ) (rest : List ℕ) → first_passes is_hash rest ≡ false →
+    raw_refusal unicode allow_nul start (hashes n ++ rest)
+    ≡ raw_rows start n (raw_body_refusal unicode allow_nul n (start + (n + 1)) (drop 1 rest)) (is_empty rest) (ltb 255 n) (first_passes is_quote rest)
+unfolding raw_refusal
+refusal_of_hashes unicode allow_nul start n rest stop =
     let count : hash_len (hashes n ++ rest) ≡ n = hash_len-append n rest stop in
     let behind : drop (hash_len (hashes n ++ rest)) (hashes n ++ rest) ≡ rest = ap (λ k. drop k (hashes n ++ rest)) count ∙ behind_hashes n rest in
-    λ j. raw_rows start (count j) (raw_body_fault unicode allow_nul (count j) (start + (count j + 1)) (drop 1 (behind j))) (is_empty (behind j)) (ltb 255 (count j)) (first_passes is_quote (behind j))
+    λ j. raw_rows start (count j) (raw_body_refusal unicode allow_nul (count j) (start + (count j + 1)) (drop 1 (behind j))) (is_empty (behind j)) (ltb 255 (count j)) (first_passes is_quote (behind j))
 
 -- what stands before the first closing, and behind it
 pub before_closing : (n : ℕ) (body x : List ℕ) → occurs (raw_closing n) body ≡ false →
@@ -57,20 +56,20 @@ behind_closing n body x =
     ap (drop (length body + (1 + n))) (sym (append_assoc body (raw_closing n) x))
     ∙ drop_at (body ++ raw_closing n) x (length body + (1 + n)) (length-append body (raw_closing n) ∙ ap (λ k. length body + k) (length_closing n))
 
-pub fault_of_closed : (unicode allow_nul : Bool) (n start : ℕ) (body x : List ℕ) → occurs (raw_closing n) body ≡ false →
-    raw_body_fault unicode allow_nul n start (body ++ (raw_closing n ++ x))
+pub refusal_of_closed : (unicode allow_nul : Bool) (n start : ℕ) (body x : List ℕ) → occurs (raw_closing n) body ≡ false →
+    raw_body_refusal unicode allow_nul n start (body ++ (raw_closing n ++ x))
     ≡ raw_body_rows (start + byte_len (take (prefix_len (is_raw_char unicode allow_nul) body) (body ++ (raw_closing n ++ x)))) (start + (byte_len body + (1 + n)))
-    (raw_char_fault (slice_index (body ++ (raw_closing n ++ x)) (prefix_len (is_raw_char unicode allow_nul) body))) (suffix_fault x)
+    (raw_char_refusal (slice_index (body ++ (raw_closing n ++ x)) (prefix_len (is_raw_char unicode allow_nul) body))) (suffix_refusal x)
     (ltb (prefix_len (is_raw_char unicode allow_nul) body) (length body)) true (is_suffix x)
-unfolding raw_body_fault
-fault_of_closed unicode allow_nul n start body x none =
+unfolding raw_body_refusal
+refusal_of_closed unicode allow_nul n start body x none =
     let ok = is_raw_char unicode allow_nul in
     let r : List ℕ = body ++ (raw_closing n ++ x) in
     let before : take (length_before (raw_closing n) r) r ≡ body = before_closing n body x none in
     let behind : drop (length (take (length_before (raw_closing n) r) r) + (1 + n)) r ≡ x = ap (λ b. drop (length b + (1 + n)) r) before ∙ behind_closing n body x in
     let closed : occurs (raw_closing n) r ≡ true = occurs-body n body x in
     λ j. raw_body_rows (start + byte_len (take (prefix_len ok (before j)) r)) (start + (byte_len (before j) + (1 + n)))
-    (raw_char_fault (slice_index r (prefix_len ok (before j)))) (suffix_fault (behind j))
+    (raw_char_refusal (slice_index r (prefix_len ok (before j)))) (suffix_refusal (behind j))
     (ltb (prefix_len ok (before j)) (length (before j))) (closed j) (is_suffix (behind j))
 
 -- where no row fits
@@ -88,14 +87,14 @@ no_body_row place suffix_place kind suffix_kind refused closed suffix h =
     let c = none_from _ _ _ b.1 in
     record { allowed = a.0; closing = not-false _ b.0; behind = not-false _ c.0 }
 
-record NoRow (body_fault : Option ParseError) (nothing too_many quote : Bool) : Type 0 where
+record NoRow (body_refusal : Option Refusal) (nothing too_many quote : Bool) : Type 0 where
   something : nothing ≡ false
   few : too_many ≡ false
   opening : quote ≡ true
-  body : body_fault ≡ None
+  body : body_refusal ≡ None
 
-no_row : (start n : ℕ) (body_fault : Option ParseError) (nothing too_many quote : Bool) → raw_rows start n body_fault nothing too_many quote ≡ None → NoRow body_fault nothing too_many quote
-no_row start n body_fault nothing too_many quote h =
+no_row : (start n : ℕ) (body_refusal : Option Refusal) (nothing too_many quote : Bool) → raw_rows start n body_refusal nothing too_many quote ≡ None → NoRow body_refusal nothing too_many quote
+no_row start n body_refusal nothing too_many quote h =
     let a = none_from _ _ _ h in
     let b = none_from _ _ _ a.1 in
     let c = none_from _ _ _ b.1 in
@@ -103,7 +102,7 @@ no_row start n body_fault nothing too_many quote h =
 
 -- no row fits a raw literal
 
-pub raw_fits_no_row : (unicode allow_nul : Bool) (start : ℕ) (d : RawParts) → IsRaw unicode allow_nul d → raw_fault unicode allow_nul start (raw_text d) ≡ None
+pub raw_fits_no_row : (unicode allow_nul : Bool) (start : ℕ) (d : RawParts) → IsRaw unicode allow_nul d → raw_refusal unicode allow_nul start (raw_text d) ≡ None
 raw_fits_no_row unicode allow_nul start d g =
     let n = d.hash_count in
     let ok = is_raw_char unicode allow_nul in
@@ -111,26 +110,26 @@ raw_fits_no_row unicode allow_nul start d g =
     let few : ltb 255 n ≡ false = le-ltb 255 n g.hash_count in
     let all : prefix_len ok d.body ≡ length d.body = prefix_len_all ok d.body g.body.allowed in
     let none_refused : ltb (prefix_len ok d.body) (length d.body) ≡ false = le-ltb _ _ (omega (arith, all)) in
-    let body : raw_body_fault unicode allow_nul n place (d.body ++ (raw_closing n ++ d.suffix)) ≡ None =
-    fault_of_closed unicode allow_nul n place d.body d.suffix g.body.unclosed
+    let body : raw_body_refusal unicode allow_nul n place (d.body ++ (raw_closing n ++ d.suffix)) ≡ None =
+    refusal_of_closed unicode allow_nul n place d.body d.suffix g.body.unclosed
     ∙ (λ j. raw_body_rows (place + byte_len (take (prefix_len ok d.body) (d.body ++ (raw_closing n ++ d.suffix)))) (place + (byte_len d.body + (1 + n)))
-    (raw_char_fault (slice_index (d.body ++ (raw_closing n ++ d.suffix)) (prefix_len ok d.body))) (suffix_fault d.suffix) (none_refused j) true (g.suffix j)) in
-    fault_of_hashes unicode allow_nul start n (34 ∷ (d.body ++ (raw_closing n ++ d.suffix))) refl
+    (raw_char_refusal (slice_index (d.body ++ (raw_closing n ++ d.suffix)) (prefix_len ok d.body))) (suffix_refusal d.suffix) (none_refused j) true (g.suffix j)) in
+    refusal_of_hashes unicode allow_nul start n (34 ∷ (d.body ++ (raw_closing n ++ d.suffix))) refl
     ∙ (λ j. raw_rows start n (body j) false (few j) true)
 
-pub fault_free : (unicode allow_nul : Bool) (start : ℕ) (t : List ℕ) (d : RawParts) → IsRawOf unicode allow_nul t d → raw_fault unicode allow_nul start t ≡ None
-fault_free unicode allow_nul start t d r = ap (raw_fault unicode allow_nul start) (sym r.spells) ∙ raw_fits_no_row unicode allow_nul start d r.grammar
+pub refusal_free : (unicode allow_nul : Bool) (start : ℕ) (t : List ℕ) (d : RawParts) → IsRawOf unicode allow_nul t d → raw_refusal unicode allow_nul start t ≡ None
+refusal_free unicode allow_nul start t d r = ap (raw_refusal unicode allow_nul start) (sym r.spells) ∙ raw_fits_no_row unicode allow_nul start d r.grammar
 
 -- a text that no row fits is a raw literal
 
-closed_from : (unicode allow_nul : Bool) (n start : ℕ) (r : List ℕ) → raw_body_fault unicode allow_nul n start r ≡ None → occurs (raw_closing n) r ≡ true
-unfolding raw_body_fault
+closed_from : (unicode allow_nul : Bool) (n start : ℕ) (r : List ℕ) → raw_body_refusal unicode allow_nul n start r ≡ None → occurs (raw_closing n) r ≡ true
+unfolding raw_body_refusal
 closed_from unicode allow_nul n start r h = (no_body_row _ _ _ _ _ _ _ h).closing
 
-readable_closed : (unicode allow_nul : Bool) (start n : ℕ) (t r : List ℕ) → hashes n ++ (34 ∷ r) ≡ t → ltb 255 n ≡ false →
-    raw_body_fault unicode allow_nul n start r ≡ None → ClosingCut n r → (d : RawParts) × IsRawOf unicode allow_nul t d
-readable_closed unicode allow_nul start n t r spells few h c =
-    let rows = no_body_row _ (start + (byte_len c.before + (1 + n))) _ (suffix_fault c.behind) _ true (is_suffix c.behind) (sym (fault_of_closed unicode allow_nul n start c.before c.behind c.unclosed) ∙ (ap (raw_body_fault unicode allow_nul n start) c.spells ∙ h)) in
+derivable_closed : (unicode allow_nul : Bool) (start n : ℕ) (t r : List ℕ) → hashes n ++ (34 ∷ r) ≡ t → ltb 255 n ≡ false →
+    raw_body_refusal unicode allow_nul n start r ≡ None → ClosingCut n r → (d : RawParts) × IsRawOf unicode allow_nul t d
+derivable_closed unicode allow_nul start n t r spells few h c =
+    let rows = no_body_row _ (start + (byte_len c.before + (1 + n))) _ (suffix_refusal c.behind) _ true (is_suffix c.behind) (sym (refusal_of_closed unicode allow_nul n start c.before c.behind c.unclosed) ∙ (ap (raw_body_refusal unicode allow_nul n start) c.spells ∙ h)) in
     let d : RawParts = record { hash_count = n; body = c.before; suffix = c.behind } in (
       d,
       record {
@@ -143,17 +142,17 @@ readable_closed unicode allow_nul start n t r spells few h c =
       },
     )
 
-readable_quoted : (unicode allow_nul : Bool) (start n : ℕ) (t rest : List ℕ) → hashes n ++ rest ≡ t →
-    NoRow (raw_body_fault unicode allow_nul n start (drop 1 rest)) (is_empty rest) (ltb 255 n) (first_passes is_quote rest) → (d : RawParts) × IsRawOf unicode allow_nul t d
-readable_quoted unicode allow_nul start n t [] spells rows = absurd (false≢true rows.opening)
-readable_quoted unicode allow_nul start n t (c ∷ r) spells rows =
-    readable_closed unicode allow_nul start n t r (ap (λ q. hashes n ++ (q ∷ r)) (sym (eqb-true c 34 rows.opening)) ∙ spells) rows.few rows.body
+derivable_quoted : (unicode allow_nul : Bool) (start n : ℕ) (t rest : List ℕ) → hashes n ++ rest ≡ t →
+    NoRow (raw_body_refusal unicode allow_nul n start (drop 1 rest)) (is_empty rest) (ltb 255 n) (first_passes is_quote rest) → (d : RawParts) × IsRawOf unicode allow_nul t d
+derivable_quoted unicode allow_nul start n t [] spells rows = absurd (false≢true rows.opening)
+derivable_quoted unicode allow_nul start n t (c ∷ r) spells rows =
+    derivable_closed unicode allow_nul start n t r (ap (λ q. hashes n ++ (q ∷ r)) (sym (eqb-true c 34 rows.opening)) ∙ spells) rows.few rows.body
     (closing_cut n r (closed_from unicode allow_nul n start r rows.body))
 
-pub readable : (unicode allow_nul : Bool) (start : ℕ) (t : List ℕ) → raw_fault unicode allow_nul start t ≡ None → (d : RawParts) × IsRawOf unicode allow_nul t d
-readable unicode allow_nul start t h = let c = hash_cut t in
-    readable_quoted unicode allow_nul (start + (c.count + 1)) c.count t c.rest c.spells
-    (no_row _ _ _ _ _ _ (sym (fault_of_hashes unicode allow_nul start c.count c.rest c.stops) ∙ (ap (raw_fault unicode allow_nul start) c.spells ∙ h)))
+pub derivable : (unicode allow_nul : Bool) (start : ℕ) (t : List ℕ) → raw_refusal unicode allow_nul start t ≡ None → (d : RawParts) × IsRawOf unicode allow_nul t d
+derivable unicode allow_nul start t h = let c = hash_cut t in
+    derivable_quoted unicode allow_nul (start + (c.count + 1)) c.count t c.rest c.spells
+    (no_row _ _ _ _ _ _ (sym (refusal_of_hashes unicode allow_nul start c.count c.rest c.stops) ∙ (ap (raw_refusal unicode allow_nul start) c.spells ∙ h)))
 
 -- one derivation at most
 
@@ -190,12 +189,12 @@ only_raw unicode allow_nul t d e r s =
     sym (parts_of_text unicode allow_nul d r.grammar) ∙ (ap parts_of (r.spells ∙ sym s.spells) ∙ parts_of_text unicode allow_nul e s.grammar)
 
 -- the one derivation of a raw literal
-pub only_parts : (unicode allow_nul : Bool) (start : ℕ) (t : List ℕ) → raw_fault unicode allow_nul start t ≡ None → IsOnlyReading (IsRawOf unicode allow_nul t) (parts_of t)
+pub only_parts : (unicode allow_nul : Bool) (start : ℕ) (t : List ℕ) → raw_refusal unicode allow_nul start t ≡ None → IsOnlyDerivation (IsRawOf unicode allow_nul t) (parts_of t)
 only_parts unicode allow_nul start t h =
-    let r = readable unicode allow_nul start t h in
+    let r = derivable unicode allow_nul start t h in
     let same : parts_of t ≡ r.0 = ap parts_of (sym r.1.spells) ∙ parts_of_text unicode allow_nul r.0 r.1.grammar in
     (subst (λ (d : RawParts). IsRawOf unicode allow_nul t d) (sym same) r.1, λ e s. only_raw unicode allow_nul t e r.0 s r.1 ∙ sym same)
 
 -- a text that the table refuses has none
-pub refused : (unicode allow_nul : Bool) (start : ℕ) (t : List ℕ) (e : ParseError) → raw_fault unicode allow_nul start t ≡ Some e → HasNoReading (IsRawOf unicode allow_nul t)
-refused unicode allow_nul start t e h d r = absurd (let none : Some e ≡ None = sym h ∙ fault_free unicode allow_nul start t d r in cc)
+pub refused : (unicode allow_nul : Bool) (start : ℕ) (t : List ℕ) (e : Refusal) → raw_refusal unicode allow_nul start t ≡ Some e → HasNoDerivation (IsRawOf unicode allow_nul t)
+refused unicode allow_nul start t e h d r = absurd (let none : Some e ≡ None = sym h ∙ refusal_free unicode allow_nul start t d r in cc)

@@ -9,21 +9,20 @@ use Rattle.std.proofs.lemmas.List.{take-append-drop, drop_more, length-take-le, 
 use Rattle.std.proofs.lemmas.List.Folds.{list_any-append}
 use Rattle.litrs_base.specs.declared.err.ParseErrorKind.{ParseErrorKind}
 use Rattle.litrs_base.specs.declared.err.ParseErrorKind.TheVariants.{InvalidLiteral, TooManyHashes, UnterminatedRawString}
-use Rattle.litrs_base.specs.declared.err.ParseError.{ParseError}
-use Rattle.litrs_base.specs.Fault.{IsInText, plain, over, at}
+use Rattle.litrs_base.specs.Refusal.{Refusal, IsInText, plain, over, at}
 use Rattle.litrs_base.specs.Text.{is_empty, byte_len, first_passes}
-use Rattle.litrs_grammar.specs.Suffix.{is_suffix, suffix_fault}
-use Rattle.litrs_grammar.specs.Raw.{is_quote, is_hash, is_nul, hashes, raw_closing, is_raw_char, raw_value, RawParts, raw_text, IsRaw, length_before, raw_char_fault, raw_body_fault, raw_fault}
+use Rattle.litrs_grammar.specs.Suffix.{is_suffix, suffix_refusal}
+use Rattle.litrs_grammar.specs.Raw.{is_quote, is_hash, is_nul, hashes, raw_closing, is_raw_char, raw_value, RawParts, raw_text, IsRaw, length_before, raw_char_refusal, raw_body_refusal, raw_refusal}
 use Rattle.litrs_base.proofs.Runs.{last_passes, is_line_feed, last_passes-all, last_passes-append, last_passes-both, list_all-weaken}
-use Rattle.litrs_grammar.proofs.Spans.{byte_len-append, is_ascii_char, byte_len_ascii, plain_within, over_within, at_within, of_some, of_none}
+use Rattle.litrs_base.proofs.Spans.{byte_len-append, is_ascii_char, byte_len_ascii, plain_within, over_within, at_within, of_some, of_none}
 use Rattle.litrs_grammar.proofs.SuffixStart.{suffix_last}
 use Rattle.litrs_grammar.proofs.NoNul.{encode_no_nul}
 use Rattle.litrs_grammar.proofs.RawCuts.{hashes_pass, length-hashes, hash_cut, ClosingCut, closing_cut, length_before_le}
-use Rattle.litrs_grammar.proofs.RawLaws.{fault_of_hashes, before_closing, behind_closing, raw_body_rows, raw_rows}
+use Rattle.litrs_grammar.proofs.RawLaws.{refusal_of_hashes, before_closing, behind_closing, raw_body_rows, raw_rows}
 
 -- what holds of the refusal in each row holds of the tables
 
-body_rows_hold : (P : ParseError → Type 0) (place suffix_place : ℕ) (kind suffix_kind : ParseErrorKind) (refused closed suffix : Bool) →
+body_rows_hold : (P : Refusal → Type 0) (place suffix_place : ℕ) (kind suffix_kind : ParseErrorKind) (refused closed suffix : Bool) →
     (refused ≡ true → P (at place kind)) → P (plain UnterminatedRawString) → (closed ≡ true → suffix ≡ false → P (at suffix_place suffix_kind)) →
     ForSome (raw_body_rows place suffix_place kind suffix_kind refused closed suffix) P
 body_rows_hold P place suffix_place kind suffix_kind true closed suffix a b c = of_some P _ (a refl)
@@ -31,13 +30,13 @@ body_rows_hold P place suffix_place kind suffix_kind false false suffix a b c = 
 body_rows_hold P place suffix_place kind suffix_kind false true false a b c = of_some P _ (c refl refl)
 body_rows_hold P place suffix_place kind suffix_kind false true true a b c = of_none P
 
-rows_hold : (P : ParseError → Type 0) (start n : ℕ) (body_fault : Option ParseError) (nothing too_many quote : Bool) →
-    P (plain InvalidLiteral) → P (over start (start + n) TooManyHashes) → (quote ≡ true → ForSome body_fault P) →
-    ForSome (raw_rows start n body_fault nothing too_many quote) P
-rows_hold P start n body_fault true too_many quote a b c = of_some P _ a
-rows_hold P start n body_fault false true quote a b c = of_some P _ b
-rows_hold P start n body_fault false false false a b c = of_some P _ a
-rows_hold P start n body_fault false false true a b c = c refl
+rows_hold : (P : Refusal → Type 0) (start n : ℕ) (body_refusal : Option Refusal) (nothing too_many quote : Bool) →
+    P (plain InvalidLiteral) → P (over start (start + n) TooManyHashes) → (quote ≡ true → ForSome body_refusal P) →
+    ForSome (raw_rows start n body_refusal nothing too_many quote) P
+rows_hold P start n body_refusal true too_many quote a b c = of_some P _ a
+rows_hold P start n body_refusal false true quote a b c = of_some P _ b
+rows_hold P start n body_refusal false false false a b c = of_some P _ a
+rows_hold P start n body_refusal false false true a b c = c refl
 
 -- behind the opening quote
 
@@ -79,19 +78,19 @@ closed_span t front r start n kind spells at_start c h =
     (ap is_suffix (sym behind) ∙ h)
 
 body_within : (unicode allow_nul : Bool) (t front r : List ℕ) (n start : ℕ) → front ++ r ≡ t → byte_len front ≡ start →
-    ForSome (raw_body_fault unicode allow_nul n start r) (IsInText t)
-unfolding raw_body_fault
+    ForSome (raw_body_refusal unicode allow_nul n start r) (IsInText t)
+unfolding raw_body_refusal
 body_within unicode allow_nul t front r n start spells at_start =
     let before : List ℕ = take (length_before (raw_closing n) r) r in
     let good : ℕ = prefix_len (is_raw_char unicode allow_nul) before in
     body_rows_hold (IsInText t) _ _ _ _ _ _ _
-    (λ refused. char_span t front r start good (raw_char_fault (slice_index r good)) spells at_start
+    (λ refused. char_span t front r start good (raw_char_refusal (slice_index r good)) spells at_start
     (omega (arith, ltb-true _ _ refused, length-take-le (length_before (raw_closing n) r) r (length_before_le (raw_closing n) r), length_before_le (raw_closing n) r)))
     (plain_within t UnterminatedRawString)
-    (λ closed h. closed_span t front r start n (suffix_fault (drop (length before + (1 + n)) r)) spells at_start (closing_cut n r closed) h)
+    (λ closed h. closed_span t front r start n (suffix_refusal (drop (length before + (1 + n)) r)) spells at_start (closing_cut n r closed) h)
 
 quoted_within : (unicode allow_nul : Bool) (t front rest : List ℕ) (n start : ℕ) → front ++ rest ≡ t → byte_len front ≡ start → first_passes is_quote rest ≡ true →
-    ForSome (raw_body_fault unicode allow_nul n (start + 1) (drop 1 rest)) (IsInText t)
+    ForSome (raw_body_refusal unicode allow_nul n (start + 1) (drop 1 rest)) (IsInText t)
 quoted_within unicode allow_nul t front [] n start spells at_start quote = absurd (false≢true quote)
 quoted_within unicode allow_nul t front (c ∷ r) n start spells at_start quote =
     let one : byte_len (c ∷ []) ≡ 1 = ap (λ q. byte_len (q ∷ [])) (eqb-true c 34 quote) ∙ byte_len_ascii (34 ∷ []) refl in
@@ -99,21 +98,21 @@ quoted_within unicode allow_nul t front (c ∷ r) n start spells at_start quote 
     (byte_len-append front (c ∷ []) ∙ omega (arith, one, at_start))
 
 -- the span of a refusal lies within the text, and starts on a character boundary
-pub raw_fault_within : (unicode allow_nul : Bool) (front t : List ℕ) → ForSome (raw_fault unicode allow_nul (byte_len front) t) (IsInText (front ++ t))
-raw_fault_within unicode allow_nul front t =
+pub raw_refusal_within : (unicode allow_nul : Bool) (front t : List ℕ) → ForSome (raw_refusal unicode allow_nul (byte_len front) t) (IsInText (front ++ t))
+raw_refusal_within unicode allow_nul front t =
     let c = hash_cut t in
     let n = c.count in
     let start = byte_len front in
     let spells : front ++ (hashes n ++ c.rest) ≡ front ++ t = ap (λ s. front ++ s) c.spells in
     let regroup : (front ++ hashes n) ++ c.rest ≡ front ++ t = append_assoc front (hashes n) c.rest ∙ spells in
     let bytes : byte_len (front ++ hashes n) ≡ start + n = byte_len-append front (hashes n) ∙ ap (λ m. start + m) (hashes_bytes n) in
-    let same : raw_fault unicode allow_nul start t
-    ≡ raw_rows start n (raw_body_fault unicode allow_nul n (start + (n + 1)) (drop 1 c.rest)) (is_empty c.rest) (ltb 255 n) (first_passes is_quote c.rest) =
-    ap (raw_fault unicode allow_nul start) (sym c.spells) ∙ fault_of_hashes unicode allow_nul start n c.rest c.stops in
-    subst (λ (o : Option ParseError). ForSome o (IsInText (front ++ t))) (sym same)
+    let same : raw_refusal unicode allow_nul start t
+    ≡ raw_rows start n (raw_body_refusal unicode allow_nul n (start + (n + 1)) (drop 1 c.rest)) (is_empty c.rest) (ltb 255 n) (first_passes is_quote c.rest) =
+    ap (raw_refusal unicode allow_nul start) (sym c.spells) ∙ refusal_of_hashes unicode allow_nul start n c.rest c.stops in
+    subst (λ (o : Option Refusal). ForSome o (IsInText (front ++ t))) (sym same)
     (rows_hold (IsInText (front ++ t)) _ _ _ _ _ _ (plain_within (front ++ t) InvalidLiteral)
     (over_within (front ++ t) front (hashes n) c.rest start (start + n) TooManyHashes spells refl (ap (λ m. start + m) (hashes_bytes n)))
-    (λ quote. subst (λ (place : ℕ). ForSome (raw_body_fault unicode allow_nul n place (drop 1 c.rest)) (IsInText (front ++ t))) (omega arith)
+    (λ quote. subst (λ (place : ℕ). ForSome (raw_body_refusal unicode allow_nul n place (drop 1 c.rest)) (IsInText (front ++ t))) (omega arith)
     (quoted_within unicode allow_nul (front ++ t) (front ++ hashes n) c.rest n (start + n) regroup bytes quote)))
 
 -- what raw literals end with

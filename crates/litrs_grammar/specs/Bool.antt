@@ -1,8 +1,7 @@
 -- Bools. The Rust Reference, Literal expressions, Boolean literal expressions.
 use Rattle.std.specs.Prelude.{◌≡◌, ℕ, Bool, true, false, ◌||◌, List, Option, Some, None, codes, if◌then◌else◌}
-use Rattle.litrs_base.specs.declared.err.ParseError.{ParseError}
+use Rattle.litrs_base.specs.Refusal.{Refusal, plain}
 use Rattle.litrs_base.specs.declared.err.ParseErrorKind.TheVariants.{InvalidLiteral}
-use Rattle.litrs_base.specs.Fault.{plain}
 use Rattle.litrs_base.specs.Text.{is_text}
 
 -- a bool is exactly `true` or `false`
@@ -19,5 +18,5 @@ abbrev pub is_bool : List ℕ → Bool
 is_bool t = is_text (bool_text true) t || is_text (bool_text false) t
 
 -- Every other text is refused alike, the empty one too.
-abbrev pub bool_fault : List ℕ → Option ParseError
-bool_fault t = if is_bool t then None else Some (plain InvalidLiteral)
+abbrev pub bool_refusal : List ℕ → Option Refusal
+bool_refusal t = if is_bool t then None else Some (plain InvalidLiteral)

@@ -3,13 +3,12 @@ use Rattle.std.specs.Prelude.{◌≡◌, ℕ, ◌+◌, Bool, true, not, ◌==◌
 use Rattle.std.specs.List.{list_any, position_or_len}
 use Rattle.litrs_base.specs.declared.escape.Unescape.{Unescape}
 use Rattle.litrs_base.specs.declared.escape.Unescape.TheVariants.{Byte, Unicode}
-use Rattle.litrs_base.specs.declared.err.ParseError.{ParseError}
+use Rattle.litrs_base.specs.Refusal.{Refusal, plain, at, moved}
 use Rattle.litrs_base.specs.declared.err.ParseErrorKind.{ParseErrorKind}
 use Rattle.litrs_base.specs.declared.err.ParseErrorKind.TheVariants.{Empty, DoesNotStartWithQuote, InvalidByteLiteralStart, UnterminatedCharLiteral, UnterminatedByteLiteral, UnescapedSingleQuote, EmptyCharLiteral, EmptyByteLiteral, UnescapedSpecialWhitespace, NonAsciiInByteLiteral, OverlongCharLiteral, OverlongByteLiteral}
 use Rattle.litrs_base.specs.Characters.{line_feed, tab, carriage_return, single_quote, backslash, letter_b, letter_x, letter_u, close_brace, is_ascii}
-use Rattle.litrs_grammar.specs.Escape.{Switches, char_switches, byte_switches, Escape, escape_text, escape_value, is_escape, escape_fault}
-use Rattle.litrs_base.specs.Fault.{plain, at, moved}
-use Rattle.litrs_grammar.specs.Suffix.{is_suffix, suffix_fault}
+use Rattle.litrs_grammar.specs.Escape.{Switches, char_switches, byte_switches, Escape, escape_text, escape_value, is_escape, escape_refusal}
+use Rattle.litrs_grammar.specs.Suffix.{is_suffix, suffix_refusal}
 use Rattle.litrs_base.specs.Text.{byte_len, first_passes, begins_with}
 
 -- The two kinds.
@@ -94,10 +93,10 @@ overlong_kind char_kind = OverlongCharLiteral
 overlong_kind byte_kind = OverlongByteLiteral
 
 -- a text that does not begin with the front of its kind
-abbrev pub start_fault : CharKind → List ℕ → ParseError
-start_fault kind [] = plain Empty
-start_fault char_kind (c ∷ t) = at 0 DoesNotStartWithQuote
-start_fault byte_kind (c ∷ t) = plain InvalidByteLiteralStart
+abbrev pub start_refusal : CharKind → List ℕ → Refusal
+start_refusal kind [] = plain Empty
+start_refusal char_kind (c ∷ t) = at 0 DoesNotStartWithQuote
+start_refusal byte_kind (c ∷ t) = plain InvalidByteLiteralStart
 
 -- how many characters the escape has that stands at the front of a text
 abbrev pub escape_length : List ℕ → ℕ
@@ -111,37 +110,37 @@ abbrev pub char_item_length : ℕ → List ℕ → ℕ
 char_item_length c t = if c == backslash then escape_length t else 1
 
 -- by what follows the item, which has this many bytes
-abbrev pub closing_fault : CharKind → ℕ → List ℕ → Option ParseError
-closing_fault kind place t =
+abbrev pub closing_refusal : CharKind → ℕ → List ℕ → Option Refusal
+closing_refusal kind place t =
     if not (list_any (λ c. c == single_quote) t) then Some (plain (unterminated_kind kind))
     else if not (first_passes (λ c. c == single_quote) t) then Some (plain (overlong_kind kind))
-    else if not (is_suffix (drop 1 t)) then Some (at (place + 1) (suffix_fault (drop 1 t)))
+    else if not (is_suffix (drop 1 t)) then Some (at (place + 1) (suffix_refusal (drop 1 t)))
     else None
 
 -- by what follows the front; spans count from there
-abbrev pub char_item_fault : CharKind → List ℕ → Option ParseError
-char_item_fault kind [] = Some (plain (unterminated_kind kind))
-char_item_fault kind (c ∷ t) =
+abbrev pub char_item_refusal : CharKind → List ℕ → Option Refusal
+char_item_refusal kind [] = Some (plain (unterminated_kind kind))
+char_item_refusal kind (c ∷ t) =
     let n = char_item_length c (c ∷ t) in
     if (c == single_quote) && first_passes (λ d. d == single_quote) t then Some (at 0 UnescapedSingleQuote)
     else if c == single_quote then Some (plain (empty_kind kind))
     else if is_special_whitespace c then Some (at 0 UnescapedSpecialWhitespace)
-    else if (c == backslash) && is_some (escape_fault (char_switches_of kind) (c ∷ t))
-    then escape_fault (char_switches_of kind) (c ∷ t)
+    else if (c == backslash) && is_some (escape_refusal (char_switches_of kind) (c ∷ t))
+    then escape_refusal (char_switches_of kind) (c ∷ t)
     else if not (allows_char kind c) then Some (at 0 NonAsciiInByteLiteral)
-    else closing_fault kind (byte_len (take n (c ∷ t))) (drop n (c ∷ t))
+    else closing_refusal kind (byte_len (take n (c ∷ t))) (drop n (c ∷ t))
 
 -- by the front, which a text must have
-unfoldable pub char_kind_fault : CharKind → List ℕ → Option ParseError
-char_kind_fault kind t =
+unfoldable pub char_kind_refusal : CharKind → List ℕ → Option Refusal
+char_kind_refusal kind t =
     let place = length (char_front kind) in
-    if begins_with (char_front kind) t then option_map (moved place) (char_item_fault kind (drop place t))
-    else Some (start_fault kind t)
+    if begins_with (char_front kind) t then option_map (moved place) (char_item_refusal kind (drop place t))
+    else Some (start_refusal kind t)
 
 -- why a text is no char
-abbrev pub char_fault : List ℕ → Option ParseError
-char_fault = char_kind_fault char_kind
+abbrev pub char_refusal : List ℕ → Option Refusal
+char_refusal = char_kind_refusal char_kind
 
 -- why a text is no byte
-abbrev pub byte_fault : List ℕ → Option ParseError
-byte_fault = char_kind_fault byte_kind
+abbrev pub byte_refusal : List ℕ → Option Refusal
+byte_refusal = char_kind_refusal byte_kind

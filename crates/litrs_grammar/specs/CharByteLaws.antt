@@ -1,9 +1,8 @@
 -- What holds of all chars and bytes.
 use Rattle.std.specs.Prelude.{◌≡◌, ◌↔◌, ℕ, List, [], ◌∷◌, ◌++◌, Some, None}
-use Rattle.litrs_base.specs.declared.err.ParseError.{ParseError}
+use Rattle.litrs_base.specs.Refusal.{Refusal, IsInText}
 use Rattle.litrs_base.specs.Characters.{line_feed}
-use Rattle.litrs_base.specs.Fault.{IsInText}
-use Rattle.litrs_grammar.specs.CharByte.{CharKind, CharParts, IsCharLiteral, char_kind_fault}
+use Rattle.litrs_grammar.specs.CharByte.{CharKind, CharParts, IsCharLiteral, char_kind_refusal}
 
 -- a text has at most one derivation as a char or a byte, over both kinds together
 abbrev pub CharsAreUnique : Type 0
@@ -11,11 +10,11 @@ CharsAreUnique = (t : List ℕ) (k l : CharKind) (d e : CharParts) → IsCharLit
 
 -- a text is a literal of the kind, or the table refuses it: one of the two, and never both
 abbrev pub CharsAreDecided : Type 0
-CharsAreDecided = (kind : CharKind) (t : List ℕ) → (char_kind_fault kind t ≡ None) ↔ ((d : CharParts) × IsCharLiteral kind t d)
+CharsAreDecided = (kind : CharKind) (t : List ℕ) → (char_kind_refusal kind t ≡ None) ↔ ((d : CharParts) × IsCharLiteral kind t d)
 
 -- the span of each refusal lies within the text and starts on a character boundary
 abbrev pub CharSpansLieInText : Type 0
-CharSpansLieInText = (kind : CharKind) (t : List ℕ) (e : ParseError) → char_kind_fault kind t ≡ Some e → IsInText t e
+CharSpansLieInText = (kind : CharKind) (t : List ℕ) (e : Refusal) → char_kind_refusal kind t ≡ Some e → IsInText t e
 
 -- no char and no byte ends with LF
 abbrev pub NoCharEndsWithLineFeed : Type 0

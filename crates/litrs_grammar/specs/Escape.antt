@@ -6,10 +6,9 @@ use Rattle.std.specs.Char.{is_ascii_hexdigit, digit_value}
 use Rattle.std.specs.List.{list_all, list_any, before_first}
 use Rattle.litrs_base.specs.declared.escape.Unescape.{Unescape}
 use Rattle.litrs_base.specs.declared.escape.Unescape.TheVariants.{Byte, Unicode}
-use Rattle.litrs_base.specs.declared.err.ParseError.{ParseError}
+use Rattle.litrs_base.specs.Refusal.{Refusal, at, over}
 use Rattle.litrs_base.specs.declared.err.ParseErrorKind.TheVariants.{UnterminatedEscape, DisallowedNulEscape, InvalidXEscape, NonAsciiXEscape, UnicodeEscapeInByteLiteral, UnicodeEscapeWithoutBrace, UnterminatedUnicodeEscape, InvalidStartOfUnicodeEscape, NonHexDigitInUnicodeEscape, TooManyDigitInUnicodeEscape, InvalidUnicodeEscapeChar, UnknownEscape}
 use Rattle.litrs_base.specs.Characters.{line_feed, tab, carriage_return, nul, single_quote, double_quote, backslash, digit_zero, underscore, letter_n, letter_r, letter_t, letter_u, letter_x, open_brace, close_brace, is_ascii, is_scalar, is_no_nul_unless}
-use Rattle.litrs_base.specs.Fault.{at, over}
 use Rattle.litrs_base.specs.Numeral.{numeral}
 use Rattle.litrs_base.specs.Text.{is_empty, byte_len, first_passes}
 
@@ -119,8 +118,8 @@ has_two_bytes (c ∷ []) = byte_len (c ∷ []) == 2
 has_two_bytes (c ∷ d ∷ t) = (byte_len (c ∷ []) == 2) || (byte_len (c ∷ d ∷ []) == 2)
 
 -- by what follows `\x`
-abbrev pub hex_fault : Switches → List ℕ → Option ParseError
-hex_fault w t =
+abbrev pub hex_refusal : Switches → List ℕ → Option Refusal
+hex_refusal w t =
     let high = slice_index t 0 in
     let low = slice_index t 1 in
     if not (has_two_bytes t) then Some (over 0 (2 + byte_len t) UnterminatedEscape)
@@ -136,8 +135,8 @@ place_behind zero p (c ∷ t) = if p c then 0 else 1 + place_behind zero p t
 place_behind (suc n) p (c ∷ t) = 1 + place_behind (if p c then n else suc n) p t
 
 -- by what stands between `\u{` and the first `}`
-abbrev pub inner_fault : Switches → List ℕ → Option ParseError
-inner_fault w inner =
+abbrev pub inner_refusal : Switches → List ℕ → Option Refusal
+inner_refusal w inner =
     let digits = take_while is_hex_or_underscore inner in
     if is_empty inner || first_passes (λ c. c == underscore) inner then Some (at 3 InvalidStartOfUnicodeEscape)
     else if nat_lt (length digits) (length inner) && nat_le (count_by is_ascii_hexdigit digits) 6
@@ -149,20 +148,20 @@ inner_fault w inner =
     else None
 
 -- by what follows `\u`
-abbrev pub unicode_fault : Switches → List ℕ → Option ParseError
-unicode_fault w t =
+abbrev pub unicode_refusal : Switches → List ℕ → Option Refusal
+unicode_refusal w t =
     if not w.unicode then Some (over 0 2 UnicodeEscapeInByteLiteral)
     else if not (first_passes (λ c. c == open_brace) t) then Some (over 0 2 UnicodeEscapeWithoutBrace)
     else if not (list_any (λ c. c == close_brace) t) then Some (over 0 (2 + byte_len t) UnterminatedUnicodeEscape)
-    else inner_fault w (before_first (λ c. c == close_brace) (drop 1 t))
+    else inner_refusal w (before_first (λ c. c == close_brace) (drop 1 t))
 
 -- by what follows the backslash
-unfoldable pub escape_fault : Switches → List ℕ → Option ParseError
-escape_fault w [] = Some (at 0 UnterminatedEscape)
-escape_fault w (c ∷ []) = Some (at 0 UnterminatedEscape)
-escape_fault w (c ∷ letter ∷ t) =
+unfoldable pub escape_refusal : Switches → List ℕ → Option Refusal
+escape_refusal w [] = Some (at 0 UnterminatedEscape)
+escape_refusal w (c ∷ []) = Some (at 0 UnterminatedEscape)
+escape_refusal w (c ∷ letter ∷ t) =
     if (letter == digit_zero) && not w.allow_nul then Some (over 0 2 DisallowedNulEscape)
-    else if letter == letter_x then hex_fault w t
-    else if letter == letter_u then unicode_fault w t
+    else if letter == letter_x then hex_refusal w t
+    else if letter == letter_u then unicode_refusal w t
     else if is_simple letter then None
     else Some (over 0 2 UnknownEscape)

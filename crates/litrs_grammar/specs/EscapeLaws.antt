@@ -1,9 +1,8 @@
 -- What holds of all escapes.
 use Rattle.std.specs.Prelude.{◌≡◌, ◌↔◌, ℕ, List, ◌∷◌, ◌++◌, Some, None}
-use Rattle.litrs_base.specs.declared.err.ParseError.{ParseError}
+use Rattle.litrs_base.specs.Refusal.{Refusal, IsInText}
 use Rattle.litrs_base.specs.Characters.{backslash}
-use Rattle.litrs_grammar.specs.Escape.{Switches, Escape, IsEscape, escape_text, escape_fault}
-use Rattle.litrs_base.specs.Fault.{IsInText}
+use Rattle.litrs_grammar.specs.Escape.{Switches, Escape, IsEscape, escape_text, escape_refusal}
 
 -- at most one escape stands at the front of a text
 abbrev pub EscapesAreUnique : Type 0
@@ -18,8 +17,8 @@ BeginsWithEscape w t = (e : Escape) × (rest : List ℕ) × (escape_text e ++ re
 -- never both
 abbrev pub EscapesAreDecided : Type 0
 EscapesAreDecided = (w : Switches) (t : List ℕ) →
-    (escape_fault w (backslash ∷ t) ≡ None) ↔ BeginsWithEscape w (backslash ∷ t)
+    (escape_refusal w (backslash ∷ t) ≡ None) ↔ BeginsWithEscape w (backslash ∷ t)
 
 -- the span of each refusal lies within the text and starts on a character boundary
 abbrev pub EscapeSpansLieInText : Type 0
-EscapeSpansLieInText = (w : Switches) (t : List ℕ) (e : ParseError) → escape_fault w (backslash ∷ t) ≡ Some e → IsInText (backslash ∷ t) e
+EscapeSpansLieInText = (w : Switches) (t : List ℕ) (e : Refusal) → escape_refusal w (backslash ∷ t) ≡ Some e → IsInText (backslash ∷ t) e

@@ -4,11 +4,10 @@ use Rattle.std.specs.Prelude.{◌≡◌, ℕ, ◌+◌, ◌==◌, ◌&&◌, ◌||
 use Rattle.std.specs.Char.{is_ascii_digit}
 use Rattle.std.specs.List.{list_all, list_any}
 use Rattle.litrs_base.specs.declared.err.ParseErrorKind.TheVariants.{Empty, DoesNotStartWithDigit, UnexpectedChar, NoExponentDigits, UnexpectedIntegerLit}
-use Rattle.litrs_base.specs.declared.err.ParseError.{ParseError}
+use Rattle.litrs_base.specs.Refusal.{Refusal, plain, over, at}
 use Rattle.litrs_base.specs.Characters.{period, underscore, plus, minus}
 use Rattle.litrs_base.specs.Text.{is_empty, byte_len, first_passes}
-use Rattle.litrs_base.specs.Fault.{plain, over, at}
-use Rattle.litrs_grammar.specs.Suffix.{is_suffix, suffix_fault}
+use Rattle.litrs_grammar.specs.Suffix.{is_suffix, suffix_refusal}
 use Rattle.litrs_base.specs.declared.integer.IntegerBase.TheVariants.{Decimal}
 use Rattle.litrs_base.specs.Base.{is_digit_or_underscore}
 use Rattle.litrs_grammar.specs.Integer.{is_e}
@@ -124,21 +123,21 @@ has_wrong_fraction (c ∷ cs) = is_period c && (not (is_empty cs) && not (first_
 
 -- A text that begins with a digit, by its parts; the first row that fits decides. All before the suffix is ASCII, one byte a
 -- character.
-abbrev pub float_cut_fault : FloatParts → Option ParseError
-float_cut_fault d =
+abbrev pub float_cut_refusal : FloatParts → Option Refusal
+float_cut_refusal d =
     let fraction = length d.integer in
     let exponent = fraction + length (fraction_text d.fraction) in
     let suffix = exponent + length d.exponent in
     let has_exponent = not (is_empty d.exponent) in
     if has_wrong_fraction (fraction_text d.fraction ++ (d.exponent ++ d.suffix)) then Some (at (fraction + 1) UnexpectedChar)
     else if has_exponent && not (list_any is_ascii_digit d.exponent) then Some (over exponent suffix NoExponentDigits)
-    else if not (is_suffix d.suffix) then Some (over suffix (byte_len (float_text d)) (suffix_fault d.suffix))
+    else if not (is_suffix d.suffix) then Some (over suffix (byte_len (float_text d)) (suffix_refusal d.suffix))
     else if not (is_some d.fraction || has_exponent) then Some (plain UnexpectedIntegerLit)
     else None
 
 -- why a text is no float: None where it is one
-unfoldable pub float_fault : List ℕ → Option ParseError
-float_fault t =
+unfoldable pub float_refusal : List ℕ → Option Refusal
+float_refusal t =
     if is_empty t then Some (plain Empty)
     else if not (first_passes is_ascii_digit t) then Some (at 0 DoesNotStartWithDigit)
-    else float_cut_fault (float_cut t)
+    else float_cut_refusal (float_cut t)

@@ -8,8 +8,9 @@ pub mod Float
 pub mod Raw
 pub mod Bool
 pub mod Literal
-pub mod LiteralFault
-pub mod Finality
+pub mod LiteralRefusals
+pub mod Refused
+pub mod Closing
 pub mod Growth
 pub mod EscapeLaws
 pub mod QuotedLaws

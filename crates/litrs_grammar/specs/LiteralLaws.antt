@@ -1,11 +1,10 @@
 -- What holds of all literals, and of the refusals of the nine parses.
 use Rattle.std.specs.Prelude.{◌≡◌, ◌≢◌, ◌⊎◌, ℕ, List, [], ◌∷◌, ◌++◌}
 use Rattle.litrs_base.specs.declared.err.ParseErrorKind.TheVariants.{OutOfMemory}
-use Rattle.litrs_base.specs.declared.err.ParseError.{ParseError}
+use Rattle.litrs_base.specs.Refusal.{Refusal, IsInText}
 use Rattle.litrs_base.specs.Characters.{line_feed}
-use Rattle.litrs_base.specs.Fault.{kind_of, IsInText}
 use Rattle.litrs_grammar.specs.Literal.{Derivation, IsLiteral, Parse, IsLiteralOf}
-use Rattle.litrs_grammar.specs.LiteralFault.{IsFault}
+use Rattle.litrs_grammar.specs.LiteralRefusals.{IsRefusal}
 
 -- a text has at most one derivation, over all eight kinds together; so no text is a literal of two kinds
 abbrev pub LiteralsAreUnique : Type 0
@@ -14,25 +13,25 @@ LiteralsAreUnique = (t : List ℕ) (d e : Derivation) → IsLiteral t d → IsLi
 -- For each of the nine parses a text has a derivation or a refusal,
 abbrev pub TextsAreDecided : Type 0
 TextsAreDecided = (parse : Parse) (t : List ℕ) →
-    ((d : Derivation) × IsLiteralOf parse t d) ⊎ ((e : ParseError) × IsFault parse t e)
+    ((d : Derivation) × IsLiteralOf parse t d) ⊎ ((e : Refusal) × IsRefusal parse t e)
 
 -- never both,
 abbrev pub LiteralsAreNotRefused : Type 0
-LiteralsAreNotRefused = (parse : Parse) (t : List ℕ) (d : Derivation) (e : ParseError) →
-    IsLiteralOf parse t d → ¬ IsFault parse t e
+LiteralsAreNotRefused = (parse : Parse) (t : List ℕ) (d : Derivation) (e : Refusal) →
+    IsLiteralOf parse t d → ¬ IsRefusal parse t e
 
 -- and at most one pair of kind and span refuses it.
 abbrev pub RefusalsAreUnique : Type 0
-RefusalsAreUnique = (parse : Parse) (t : List ℕ) (e f : ParseError) →
-    IsFault parse t e → IsFault parse t f → e ≡ f
+RefusalsAreUnique = (parse : Parse) (t : List ℕ) (e f : Refusal) →
+    IsRefusal parse t e → IsRefusal parse t f → e ≡ f
 
 -- the span of each refusal lies within the text and starts on a character boundary
 abbrev pub RefusalSpansLieInText : Type 0
-RefusalSpansLieInText = (parse : Parse) (t : List ℕ) (e : ParseError) → IsFault parse t e → IsInText t e
+RefusalSpansLieInText = (parse : Parse) (t : List ℕ) (e : Refusal) → IsRefusal parse t e → IsInText t e
 
 -- no text is refused for want of memory
 abbrev pub NoRefusalIsOfMemory : Type 0
-NoRefusalIsOfMemory = (parse : Parse) (t : List ℕ) (e : ParseError) → IsFault parse t e → kind_of e ≢ OutOfMemory
+NoRefusalIsOfMemory = (parse : Parse) (t : List ℕ) (e : Refusal) → IsRefusal parse t e → e.kind ≢ OutOfMemory
 
 -- no literal ends with LF
 abbrev pub NoLiteralEndsWithLineFeed : Type 0

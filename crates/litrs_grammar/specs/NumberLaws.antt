@@ -2,7 +2,7 @@
 use Rattle.std.specs.Prelude.{ℕ, List, IsTrue, IsFalse}
 use Rattle.litrs_grammar.specs.Float.{FloatParts, IsFloatOf}
 use Rattle.litrs_grammar.specs.Integer.{IntegerParts, IsIntegerOf}
-use Rattle.litrs_grammar.specs.LiteralFault.{begins_float}
+use Rattle.litrs_grammar.specs.LiteralRefusals.{begins_float}
 
 -- behind the leading run of decimal digits and underscores of a float stands a period, `e` or `E`
 abbrev pub FloatsBeginAsFloats : Type 0

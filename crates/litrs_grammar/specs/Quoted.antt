@@ -2,13 +2,12 @@
 -- string literals" and "C string literals"; Literal expressions: "String continuation escapes".
 use Rattle.std.specs.Prelude.{◌≡◌, ℕ, Bool, true, not, ◌==◌, ◌&&◌, if◌then◌else◌, List, [], ◌∷◌, ◌++◌, Option, Some, None, IsTrue, encode_utf8}
 use Rattle.std.specs.List.{list_all}
-use Rattle.litrs_base.specs.declared.err.ParseError.{ParseError}
+use Rattle.litrs_base.specs.Refusal.{Refusal, plain, at, moved}
 use Rattle.litrs_base.specs.declared.err.ParseErrorKind.TheVariants.{UnterminatedString, CarriageReturn, NulByte, NonAsciiInByteLiteral}
 use Rattle.litrs_base.specs.Characters.{line_feed, carriage_return, double_quote, backslash, letter_b, letter_c, is_blank, is_ascii_unless, is_no_nul_unless}
-use Rattle.litrs_grammar.specs.Escape.{Switches, Escape, escape_text, escape_value, value_bytes, allows_value, is_escape, escape_fault}
-use Rattle.litrs_base.specs.Fault.{plain, at, moved}
+use Rattle.litrs_grammar.specs.Escape.{Switches, Escape, escape_text, escape_value, value_bytes, allows_value, is_escape, escape_refusal}
 use Rattle.litrs_grammar.specs.StringKind.{StringKind, string_kind, byte_string_kind, c_string_kind, switches_of}
-use Rattle.litrs_grammar.specs.Suffix.{is_suffix, suffix_fault}
+use Rattle.litrs_grammar.specs.Suffix.{is_suffix, suffix_refusal}
 use Rattle.litrs_base.specs.Text.{is_empty, byte_len, first_passes}
 
 -- what stands before its body: `"`, `b"` or `c"`
@@ -116,35 +115,35 @@ without_last (c ∷ d ∷ t) = c ∷ without_last (d ∷ t)
 
 -- The rest begins with a backslash: LF and only spaces, tabs and LFs follow it to the end of the text; or no LF follows,
 -- and no escape stands there, which is read without the last character of the text.
-abbrev pub backslash_fault : Switches → List ℕ → Option ParseError
-backslash_fault w t =
+abbrev pub backslash_refusal : Switches → List ℕ → Option Refusal
+backslash_refusal w t =
     if first_passes (λ c. c == line_feed) t
     then (if list_all is_blank t then Some (plain UnterminatedString) else None)
-    else escape_fault w (without_last (backslash ∷ t))
+    else escape_refusal w (without_last (backslash ∷ t))
 
 -- Why nothing of the literal stands at the front of the rest; spans count from there. At its end the closing quote
 -- lacks. None: an item or the closing quote with a suffix stands there.
-unfoldable pub rest_fault : Switches → List ℕ → Option ParseError
-rest_fault w [] = Some (plain UnterminatedString)
-rest_fault w (c ∷ t) =
-    if c == backslash then backslash_fault w t
+unfoldable pub rest_refusal : Switches → List ℕ → Option Refusal
+rest_refusal w [] = Some (plain UnterminatedString)
+rest_refusal w (c ∷ t) =
+    if c == backslash then backslash_refusal w t
     else if c == carriage_return then Some (at 0 CarriageReturn)
     else if not (allows_value w c) then Some (at 0 NulByte)
     else if not (is_ascii_unless w.unicode c) then Some (at 0 NonAsciiInByteLiteral)
-    else if (c == double_quote) && not (is_suffix t) then Some (at 1 (suffix_fault t))
+    else if (c == double_quote) && not (is_suffix t) then Some (at 1 (suffix_refusal t))
     else None
 
 -- The text is refused as a quoted literal behind this front, as the rest tells. The span moves by the bytes before the
 -- rest.
-pub record IsQuotedFault (front : List ℕ) (w : Switches) (t : List ℕ) (e : ParseError) : Type 0 where
+pub record IsQuotedRefusal (front : List ℕ) (w : Switches) (t : List ℕ) (e : Refusal) : Type 0 where
   pub items : List Item
   pub rest : List ℕ
-  pub cause : ParseError
+  pub cause : Refusal
   pub spells : front ++ (body_text items ++ rest) ≡ t
   pub taken : IsTrue (stand_before w rest items)
-  pub told : rest_fault w rest ≡ Some cause
+  pub told : rest_refusal w rest ≡ Some cause
   pub placed : moved (byte_len (front ++ body_text items)) cause ≡ e
 
 -- the same for one of the three kinds
-abbrev pub IsQuotedLiteralFault : StringKind → List ℕ → ParseError → Type 0
-IsQuotedLiteralFault kind = IsQuotedFault (quoted_front kind) (switches_of kind)
+abbrev pub IsQuotedLiteralRefusal : StringKind → List ℕ → Refusal → Type 0
+IsQuotedLiteralRefusal kind = IsQuotedRefusal (quoted_front kind) (switches_of kind)

@@ -2,11 +2,10 @@
 use Rattle.std.specs.Prelude.{◌≡◌, ◌↔◌, ◌⊎◌, ℕ, ◌≤◌, ◌==◌, List, [], ◌∷◌, ◌++◌, length, IsFalse}
 use Rattle.std.specs.List.{list_any}
 use Rattle.litrs_grammar.specs.StringKind.{StringKind}
-use Rattle.litrs_base.specs.declared.err.ParseError.{ParseError}
+use Rattle.litrs_base.specs.Refusal.{Refusal, IsInText}
 use Rattle.litrs_base.specs.Characters.{backslash, line_feed, nul, is_blank}
 use Rattle.litrs_grammar.specs.Escape.{Switches}
-use Rattle.litrs_grammar.specs.Quoted.{Item, body_value, IsBodyOf, QuotedParts, IsQuoted, IsQuotedLiteral, IsQuotedFault}
-use Rattle.litrs_base.specs.Fault.{IsInText}
+use Rattle.litrs_grammar.specs.Quoted.{Item, body_value, IsBodyOf, QuotedParts, IsQuoted, IsQuotedLiteral, IsQuotedRefusal}
 use Rattle.litrs_base.specs.Text.{byte_len, first_passes}
 
 -- a text has at most one derivation as a quoted literal, over all three kinds together
@@ -23,22 +22,22 @@ QuotedTextsAreUnique = (front : List ℕ) (w : Switches) (t : List ℕ) (q r : Q
 
 -- at most one pair of kind and span refuses it
 abbrev pub QuotedRefusalsAreUnique : Type 0
-QuotedRefusalsAreUnique = (front : List ℕ) (w : Switches) (t : List ℕ) (e f : ParseError) →
-    IsQuotedFault front w t e → IsQuotedFault front w t f → e ≡ f
+QuotedRefusalsAreUnique = (front : List ℕ) (w : Switches) (t : List ℕ) (e f : Refusal) →
+    IsQuotedRefusal front w t e → IsQuotedRefusal front w t f → e ≡ f
 
 -- a text that begins with the front is a literal or refused
 abbrev pub QuotedTextsAreDecided : Type 0
 QuotedTextsAreDecided = (front : List ℕ) (w : Switches) (t : List ℕ) →
-    ((q : QuotedParts) × IsQuoted front w (front ++ t) q) ⊎ ((e : ParseError) × IsQuotedFault front w (front ++ t) e)
+    ((q : QuotedParts) × IsQuoted front w (front ++ t) q) ⊎ ((e : Refusal) × IsQuotedRefusal front w (front ++ t) e)
 
 -- and never both
 abbrev pub QuotedTextsAreNotRefused : Type 0
-QuotedTextsAreNotRefused = (front : List ℕ) (w : Switches) (t : List ℕ) (q : QuotedParts) (e : ParseError) →
-    IsQuoted front w t q → ¬ IsQuotedFault front w t e
+QuotedTextsAreNotRefused = (front : List ℕ) (w : Switches) (t : List ℕ) (q : QuotedParts) (e : Refusal) →
+    IsQuoted front w t q → ¬ IsQuotedRefusal front w t e
 
 -- the span of each refusal lies within the text and starts on a character boundary
 abbrev pub QuotedSpansLieInText : Type 0
-QuotedSpansLieInText = (front : List ℕ) (w : Switches) (t : List ℕ) (e : ParseError) → IsQuotedFault front w t e → IsInText t e
+QuotedSpansLieInText = (front : List ℕ) (w : Switches) (t : List ℕ) (e : Refusal) → IsQuotedRefusal front w t e → IsInText t e
 
 -- no quoted literal ends with LF
 abbrev pub NoQuotedTextEndsWithLineFeed : Type 0

@@ -5,12 +5,11 @@ use Rattle.std.specs.Prelude.{◌≡◌, ℕ, ◌+◌, ◌≤◌, ◌==◌, ◌&
 use Rattle.std.specs.List.{list_all, prefix_len, slice_index}
 use Rattle.litrs_base.specs.declared.err.ParseErrorKind.{ParseErrorKind}
 use Rattle.litrs_base.specs.declared.err.ParseErrorKind.TheVariants.{InvalidLiteral, TooManyHashes, CarriageReturn, NulByte, NonAsciiInByteLiteral, UnterminatedRawString}
-use Rattle.litrs_base.specs.declared.err.ParseError.{ParseError}
+use Rattle.litrs_base.specs.Refusal.{Refusal, plain, over, at}
 use Rattle.litrs_base.specs.Characters.{double_quote, hash, carriage_return, nul, is_ascii_unless, is_no_nul_unless}
 use Rattle.litrs_base.specs.Text.{is_empty, byte_len, first_passes, begins_with}
-use Rattle.litrs_base.specs.Fault.{plain, over, at}
 use Rattle.litrs_grammar.specs.StringKind.{StringKind, string_kind, byte_string_kind, c_string_kind, switches_of}
-use Rattle.litrs_grammar.specs.Suffix.{is_suffix, suffix_fault}
+use Rattle.litrs_grammar.specs.Suffix.{is_suffix, suffix_refusal}
 
 -- `"`
 abbrev pub is_quote : ℕ → Bool
@@ -102,32 +101,32 @@ length_before part [] = 0
 length_before part (c ∷ cs) = if begins_with part (c ∷ cs) then 0 else 1 + length_before part cs
 
 -- why a character may not stand in a raw body
-abbrev pub raw_char_fault : ℕ → ParseErrorKind
-raw_char_fault c = if c == carriage_return then CarriageReturn else if is_nul c then NulByte else NonAsciiInByteLiteral
+abbrev pub raw_char_refusal : ℕ → ParseErrorKind
+raw_char_refusal c = if c == carriage_return then CarriageReturn else if is_nul c then NulByte else NonAsciiInByteLiteral
 
 -- Why what stands behind n hashes and the quote, from the place start on, ends no raw literal: None where it does. The body
 -- goes up to the first closing, and the first row that fits decides.
-unfoldable pub raw_body_fault : (unicode allow_nul : Bool) (n start : ℕ) → List ℕ → Option ParseError
-raw_body_fault unicode allow_nul n start t =
+unfoldable pub raw_body_refusal : (unicode allow_nul : Bool) (n start : ℕ) → List ℕ → Option Refusal
+raw_body_refusal unicode allow_nul n start t =
     let body = take (length_before (raw_closing n) t) t in
     let allowed = prefix_len (is_raw_char unicode allow_nul) body in
     let suffix = drop (length body + (1 + n)) t in
-    if nat_lt allowed (length body) then Some (at (start + byte_len (take allowed t)) (raw_char_fault (slice_index t allowed)))
+    if nat_lt allowed (length body) then Some (at (start + byte_len (take allowed t)) (raw_char_refusal (slice_index t allowed)))
     else if not (occurs (raw_closing n) t) then Some (plain UnterminatedRawString)
-    else if not (is_suffix suffix) then Some (at (start + (byte_len body + (1 + n))) (suffix_fault suffix))
+    else if not (is_suffix suffix) then Some (at (start + (byte_len body + (1 + n))) (suffix_refusal suffix))
     else None
 
 -- Why what stands behind a front, from the place start on, is no raw literal: None where it is one. The first row that fits
 -- decides.
-unfoldable pub raw_fault : (unicode allow_nul : Bool) (start : ℕ) → List ℕ → Option ParseError
-raw_fault unicode allow_nul start t =
+unfoldable pub raw_refusal : (unicode allow_nul : Bool) (start : ℕ) → List ℕ → Option Refusal
+raw_refusal unicode allow_nul start t =
     let n = hash_len t in
     let behind = drop n t in
     if is_empty behind then Some (plain InvalidLiteral)
     else if nat_lt 255 n then Some (over start (start + n) TooManyHashes)
     else if not (first_passes is_quote behind) then Some (plain InvalidLiteral)
-    else raw_body_fault unicode allow_nul n (start + (n + 1)) (drop 1 behind)
+    else raw_body_refusal unicode allow_nul n (start + (n + 1)) (drop 1 behind)
 
 -- why a text that begins with the front of the kind is no raw literal of the kind
-abbrev pub raw_literal_fault : StringKind → List ℕ → Option ParseError
-raw_literal_fault kind t = raw_fault (has_unicode kind) (allows_nul kind) (length (raw_front kind)) (drop (length (raw_front kind)) t)
+abbrev pub raw_literal_refusal : StringKind → List ℕ → Option Refusal
+raw_literal_refusal kind t = raw_refusal (has_unicode kind) (allows_nul kind) (length (raw_front kind)) (drop (length (raw_front kind)) t)

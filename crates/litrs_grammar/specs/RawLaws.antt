@@ -4,9 +4,8 @@ use Rattle.std.specs.List.{list_any}
 use Rattle.litrs_base.specs.Characters.{line_feed}
 use Rattle.litrs_grammar.specs.StringKind.{StringKind, c_string_kind}
 use Rattle.litrs_base.specs.Text.{byte_len, begins_with}
-use Rattle.litrs_base.specs.declared.err.ParseError.{ParseError}
-use Rattle.litrs_base.specs.Fault.{IsInText}
-use Rattle.litrs_grammar.specs.Raw.{is_nul, raw_value, RawParts, IsRawOf, raw_front, IsRawLiteral, raw_fault, raw_literal_fault}
+use Rattle.litrs_base.specs.Refusal.{Refusal, IsInText}
+use Rattle.litrs_grammar.specs.Raw.{is_nul, raw_value, RawParts, IsRawOf, raw_front, IsRawLiteral, raw_refusal, raw_literal_refusal}
 
 -- a text has at most one derivation as a raw literal, over all three kinds together
 abbrev pub RawLiteralsAreUnique : Type 0
@@ -16,11 +15,11 @@ RawLiteralsAreUnique = (t : List ℕ) (k l : StringKind) (d e : RawParts) → Is
 -- and never both.
 abbrev pub RawLiteralsAreDecided : Type 0
 RawLiteralsAreDecided = (kind : StringKind) (t : List ℕ) → IsTrue (begins_with (raw_front kind) t) →
-    (raw_literal_fault kind t ≡ None) ↔ ((d : RawParts) × IsRawLiteral kind t d)
+    (raw_literal_refusal kind t ≡ None) ↔ ((d : RawParts) × IsRawLiteral kind t d)
 
 -- the span of each refusal lies within the text and starts on a character boundary
 abbrev pub RawSpansLieInText : Type 0
-RawSpansLieInText = (kind : StringKind) (t : List ℕ) → IsTrue (begins_with (raw_front kind) t) → (e : ParseError) → raw_literal_fault kind t ≡ Some e → IsInText t e
+RawSpansLieInText = (kind : StringKind) (t : List ℕ) → IsTrue (begins_with (raw_front kind) t) → (e : Refusal) → raw_literal_refusal kind t ≡ Some e → IsInText t e
 
 -- The same of what stands behind any front, under any switches.
 
@@ -29,11 +28,11 @@ RawTextsAreUnique = (unicode allow_nul : Bool) (t : List ℕ) (d e : RawParts) �
 
 abbrev pub RawTextsAreDecided : Type 0
 RawTextsAreDecided = (unicode allow_nul : Bool) (start : ℕ) (t : List ℕ) →
-    (raw_fault unicode allow_nul start t ≡ None) ↔ ((d : RawParts) × IsRawOf unicode allow_nul t d)
+    (raw_refusal unicode allow_nul start t ≡ None) ↔ ((d : RawParts) × IsRawOf unicode allow_nul t d)
 
 abbrev pub RawTextSpansLieInText : Type 0
-RawTextSpansLieInText = (unicode allow_nul : Bool) (front t : List ℕ) (e : ParseError) →
-    raw_fault unicode allow_nul (byte_len front) t ≡ Some e → IsInText (front ++ t) e
+RawTextSpansLieInText = (unicode allow_nul : Bool) (front t : List ℕ) (e : Refusal) →
+    raw_refusal unicode allow_nul (byte_len front) t ≡ Some e → IsInText (front ++ t) e
 
 -- no raw literal ends with LF
 abbrev pub NoRawLiteralEndsWithLineFeed : Type 0

@@ -5,7 +5,7 @@ use Rattle.std.specs.Char.{is_ascii_alphabetic}
 use Rattle.std.proofs.lemmas.Bool.{le-ltb}
 use Rattle.litrs_base.specs.declared.err.ParseErrorKind.TheVariants.{UnexpectedChar, InvalidSuffix}
 use Rattle.litrs_base.specs.Text.{first_passes}
-use Rattle.litrs_grammar.specs.Suffix.{is_ascii_symbol, suffix_fault}
+use Rattle.litrs_grammar.specs.Suffix.{is_ascii_symbol, suffix_refusal}
 use Rattle.litrs_base.proofs.Chars.{OnlyAscii, first_passes-chars}
 
 pub first_passes_at : (p : ℕ → Bool) (bs : List ℕ) (b : ℕ) → slice_get bs 0 ≡ Some b → first_passes p bs ≡ p b
@@ -19,8 +19,8 @@ first_passes_nowhere p (c ∷ bs) e = cc
 pub symbols_are_ascii : OnlyAscii is_ascii_symbol
 symbols_are_ascii c high = ap (λ low. low && not (is_ascii_alphabetic c || eqb c 95)) (le-ltb c 128 high)
 
-pub suffix_fault-symbol : (bs : List ℕ) → IsUtf8 bs → first_passes is_ascii_symbol bs ≡ true → suffix_fault (chars bs) ≡ UnexpectedChar
-suffix_fault-symbol bs u e = rw (first_passes-chars is_ascii_symbol bs symbols_are_ascii u, e) refl
+pub suffix_refusal-symbol : (bs : List ℕ) → IsUtf8 bs → first_passes is_ascii_symbol bs ≡ true → suffix_refusal (chars bs) ≡ UnexpectedChar
+suffix_refusal-symbol bs u e = rw (first_passes-chars is_ascii_symbol bs symbols_are_ascii u, e) refl
 
-pub suffix_fault-other : (bs : List ℕ) → IsUtf8 bs → first_passes is_ascii_symbol bs ≡ false → suffix_fault (chars bs) ≡ InvalidSuffix
-suffix_fault-other bs u e = rw (first_passes-chars is_ascii_symbol bs symbols_are_ascii u, e) refl
+pub suffix_refusal-other : (bs : List ℕ) → IsUtf8 bs → first_passes is_ascii_symbol bs ≡ false → suffix_refusal (chars bs) ≡ InvalidSuffix
+suffix_refusal-other bs u e = rw (first_passes-chars is_ascii_symbol bs symbols_are_ascii u, e) refl

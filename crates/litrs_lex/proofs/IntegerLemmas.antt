@@ -12,11 +12,11 @@ use Rattle.litrs_lex.specs.declared.integer.IntegerCut.{IntegerCut}
 use Rattle.litrs_base.specs.declared.integer.IntegerBase.{IntegerBase}
 use Rattle.litrs_base.specs.declared.integer.IntegerBase.TheVariants.{Binary, Octal, Decimal, Hexadecimal}
 use Rattle.litrs_base.specs.declared.err.ParseErrorKind.TheVariants.{Empty, DoesNotStartWithDigit}
-use Rattle.litrs_base.specs.Fault.{plain, at}
+use Rattle.litrs_base.specs.Refusal.{plain, at}
 use Rattle.litrs_base.specs.Text.{is_empty, byte_len, first_passes, begins_with}
-use Rattle.litrs_grammar.specs.Suffix.{is_suffix, suffix_fault}
+use Rattle.litrs_grammar.specs.Suffix.{is_suffix, suffix_refusal}
 use Rattle.litrs_base.specs.Base.{prefix, is_digit, is_digit_or_underscore}
-use Rattle.litrs_grammar.specs.Integer.{integer_text, is_e, base_of, integer_cut, cut_fault, integer_fault}
+use Rattle.litrs_grammar.specs.Integer.{integer_text, is_e, base_of, integer_cut, cut_refusal, integer_refusal}
 use Rattle.litrs_lex.specs.IntegerCut.{parts_at, IsWithin, IsDigitsCut}
 use Rattle.litrs_base.proofs.Chars.{chars_empty, OnlyAscii, IsAsciiFront, front_zero, front_front, begins_front, passing_front, prefix_len-chars, first_passes-chars, begins_with-chars, ascii_by_test}
 use Rattle.litrs_grammar.proofs.IntegerLaws.{cut_with, integer_cut-is, cut-spells, integer_rows}
@@ -107,14 +107,14 @@ number_len bs u =
     ∙ (length-append (prefix (base_of bs)) main ∙ ap (λ n. start_of bs + n) (length-prefix_len (is_digit_or_underscore (base_of bs)) (drop (start_of bs) bs)))
 
 -- the refusal of a text, by the cut of its bytes
-pub fault_of_bytes : (bs : List ℕ) → IsUtf8 bs → cut_fault (integer_cut (chars bs)) ≡
+pub refusal_of_bytes : (bs : List ℕ) → IsUtf8 bs → cut_refusal (integer_cut (chars bs)) ≡
     integer_rows (start_of bs) (start_of bs + run_of bs) (length bs)
     (is_suffix (chars (drop (start_of bs + run_of bs) bs)))
     (first_passes is_ascii_digit (drop (start_of bs + run_of bs) bs))
-    (suffix_fault (chars (drop (start_of bs + run_of bs) bs)))
+    (suffix_refusal (chars (drop (start_of bs + run_of bs) bs)))
     (first_passes is_e (drop (start_of bs + run_of bs) bs))
     (list_any (is_digit (base_of bs)) (take (run_of bs) (drop (start_of bs) bs)))
-fault_of_bytes bs u =
+refusal_of_bytes bs u =
     let base = base_of bs in
     let main = take (run_of bs) (drop (start_of bs) bs) in
     let x = drop (start_of bs + run_of bs) bs in
@@ -127,12 +127,12 @@ fault_of_bytes bs u =
     let len : byte_len (prefix base ++ (main ++ chars x)) ≡ length bs = byte_len-chars (prefix base ++ (main ++ chars x)) bs u spelled in
     let digit : first_passes is_ascii_digit (chars x) ≡ first_passes is_ascii_digit x = first_passes-chars is_ascii_digit x digit_is_ascii front.utf8 in
     let e : first_passes is_e (chars x) ≡ first_passes is_e x = first_passes-chars is_e x e_is_ascii front.utf8 in
-    ap cut_fault cut
-    ∙ (ap (λ n. integer_rows n (byte_len (prefix base ++ main)) (byte_len (prefix base ++ (main ++ chars x))) (is_suffix (chars x)) (first_passes is_ascii_digit (chars x)) (suffix_fault (chars x)) (first_passes is_e (chars x)) (list_any (is_digit base) main)) start
-    ∙ (ap (λ n. integer_rows (start_of bs) n (byte_len (prefix base ++ (main ++ chars x))) (is_suffix (chars x)) (first_passes is_ascii_digit (chars x)) (suffix_fault (chars x)) (first_passes is_e (chars x)) (list_any (is_digit base) main)) end
-    ∙ (ap (λ n. integer_rows (start_of bs) (start_of bs + run_of bs) n (is_suffix (chars x)) (first_passes is_ascii_digit (chars x)) (suffix_fault (chars x)) (first_passes is_e (chars x)) (list_any (is_digit base) main)) len
-    ∙ (ap (λ v. integer_rows (start_of bs) (start_of bs + run_of bs) (length bs) (is_suffix (chars x)) v (suffix_fault (chars x)) (first_passes is_e (chars x)) (list_any (is_digit base) main)) digit
-    ∙ ap (λ v. integer_rows (start_of bs) (start_of bs + run_of bs) (length bs) (is_suffix (chars x)) (first_passes is_ascii_digit x) (suffix_fault (chars x)) v (list_any (is_digit base) main)) e))))
+    ap cut_refusal cut
+    ∙ (ap (λ n. integer_rows n (byte_len (prefix base ++ main)) (byte_len (prefix base ++ (main ++ chars x))) (is_suffix (chars x)) (first_passes is_ascii_digit (chars x)) (suffix_refusal (chars x)) (first_passes is_e (chars x)) (list_any (is_digit base) main)) start
+    ∙ (ap (λ n. integer_rows (start_of bs) n (byte_len (prefix base ++ (main ++ chars x))) (is_suffix (chars x)) (first_passes is_ascii_digit (chars x)) (suffix_refusal (chars x)) (first_passes is_e (chars x)) (list_any (is_digit base) main)) end
+    ∙ (ap (λ n. integer_rows (start_of bs) (start_of bs + run_of bs) n (is_suffix (chars x)) (first_passes is_ascii_digit (chars x)) (suffix_refusal (chars x)) (first_passes is_e (chars x)) (list_any (is_digit base) main)) len
+    ∙ (ap (λ v. integer_rows (start_of bs) (start_of bs + run_of bs) (length bs) (is_suffix (chars x)) v (suffix_refusal (chars x)) (first_passes is_e (chars x)) (list_any (is_digit base) main)) digit
+    ∙ ap (λ v. integer_rows (start_of bs) (start_of bs + run_of bs) (length bs) (is_suffix (chars x)) (first_passes is_ascii_digit x) (suffix_refusal (chars x)) v (list_any (is_digit base) main)) e))))
 
 -- The same by the cut that the code makes.
 
@@ -145,15 +145,15 @@ cut_bytes_is cut bs h =
           ∙ ap (λ n. n + prefix_len (is_digit_or_underscore (base_of bs)) (drop n bs)) s),
     )
 
-pub fault_of_cut : (cut : IntegerCut) (bs : List ℕ) → IsUtf8 bs → IsDigitsCut cut bs → cut_fault (integer_cut (chars bs)) ≡
+pub refusal_of_cut : (cut : IntegerCut) (bs : List ℕ) → IsUtf8 bs → IsDigitsCut cut bs → cut_refusal (integer_cut (chars bs)) ≡
     integer_rows cut.start_main cut.end_main (length bs)
     (is_suffix (chars (drop cut.end_main bs))) (first_passes is_ascii_digit (drop cut.end_main bs))
-    (suffix_fault (chars (drop cut.end_main bs))) (first_passes is_e (drop cut.end_main bs))
+    (suffix_refusal (chars (drop cut.end_main bs))) (first_passes is_e (drop cut.end_main bs))
     (list_any (is_digit cut.base) (slice_range bs cut.start_main cut.end_main))
-fault_of_cut cut bs u h =
+refusal_of_cut cut bs u h =
     let is = cut_bytes_is cut bs h in
     let run : start_of bs + run_of bs - start_of bs ≡ run_of bs = omega arith in
-    rw (is.0, is.1, h.base, run) (fault_of_bytes bs u)
+    rw (is.0, is.1, h.base, run) (refusal_of_bytes bs u)
 
 -- the parts that the cut names are those of the characters
 pub parts_of_cut : (cut : IntegerCut) (bs : List ℕ) → IsUtf8 bs → IsDigitsCut cut bs → integer_cut (chars bs) ≡ parts_at cut bs
@@ -198,14 +198,14 @@ filled_by_first [] b u e = cc
 filled_by_first (c ∷ bs) b u e = chars_empty (c ∷ bs) u ∙ ne_eqb (suc (length bs)) 0 (λ h. omega arith)
 
 -- the first two rows of numbers, by the bytes
-pub fault-empty : (bs : List ℕ) → bs ≡ [] → integer_fault (chars bs) ≡ Some (plain Empty)
-unfolding integer_fault
-fault-empty bs e = ap (λ t. integer_fault (chars t)) e ∙ ap integer_fault chars-nil
+pub refusal-empty : (bs : List ℕ) → bs ≡ [] → integer_refusal (chars bs) ≡ Some (plain Empty)
+unfolding integer_refusal
+refusal-empty bs e = ap (λ t. integer_refusal (chars t)) e ∙ ap integer_refusal chars-nil
 
-pub fault-no_digit : (bs : List ℕ) (b : ℕ) → IsUtf8 bs → slice_get bs 0 ≡ Some b → first_passes is_ascii_digit bs ≡ false →
-    integer_fault (chars bs) ≡ Some (at 0 DoesNotStartWithDigit)
-unfolding integer_fault
-fault-no_digit bs b u first none = rw (filled_by_first bs b u first, first_passes-chars is_ascii_digit bs digit_is_ascii u, none) refl
+pub refusal-no_digit : (bs : List ℕ) (b : ℕ) → IsUtf8 bs → slice_get bs 0 ≡ Some b → first_passes is_ascii_digit bs ≡ false →
+    integer_refusal (chars bs) ≡ Some (at 0 DoesNotStartWithDigit)
+unfolding integer_refusal
+refusal-no_digit bs b u first none = rw (filled_by_first bs b u first, first_passes-chars is_ascii_digit bs digit_is_ascii u, none) refl
 
 pub digit-chars : (bs : List ℕ) → IsUtf8 bs → first_passes is_ascii_digit (chars bs) ≡ first_passes is_ascii_digit bs
 digit-chars bs u = first_passes-chars is_ascii_digit bs digit_is_ascii u

@@ -4,10 +4,10 @@ ghost use Rattle.std.specs.Char.{is_ascii_digit};
 ghost use Rattle.std.specs.List.{prefix_len, list_any};
 ghost use Rattle.std.specs.Str.{chars};
 ghost use Rattle.litrs_base.specs.Base.{is_digit, is_digit_or_underscore};
-ghost use Rattle.litrs_base.specs.Fault.{IsInText};
-ghost use Rattle.litrs_base.specs.Reading.{IsOnlyReading, HasNoReading};
+ghost use Rattle.litrs_base.specs.Refusal.{IsInText};
+ghost use Rattle.litrs_base.specs.Derivations.{IsOnlyDerivation, HasNoDerivation};
 ghost use Rattle.litrs_base.specs.Text.{first_passes};
-ghost use Rattle.litrs_grammar.specs.Integer.{IsIntegerOf, integer_fault, cut_fault, integer_cut, is_e, base_of};
+ghost use Rattle.litrs_grammar.specs.Integer.{IsIntegerOf, integer_refusal, cut_refusal, integer_cut, is_e, base_of};
 ghost use Rattle.litrs_lex.specs.IntegerCut.{parts_at, IsWithin, IsDigitsCut};
 
 use crate::parse::check_suffix;
@@ -37,10 +37,10 @@ pub struct IntegerCut {
 /// [ref]: https://doc.rust-lang.org/reference/tokens.html#integer-literals
 pub fn cut_integer(input: &str) -> Result<IntegerCut, ParseError>
     requires { IsTrue (first_passes is_ascii_digit input.now) }
-    ensures ok { IfOk result (λ cut. IsOnlyReading (IsIntegerOf (chars input.now)) (parts_at cut input.now)) }
+    ensures ok { IfOk result (λ cut. IsOnlyDerivation (IsIntegerOf (chars input.now)) (parts_at cut input.now)) }
     ensures places { IfOk result (λ cut. IsWithin cut input.now) }
-    ensures none { OnErr result (HasNoReading (IsIntegerOf (chars input.now))) }
-    ensures fault { IfErr result (λ e. integer_fault (chars input.now) ≡ Some e) }
+    ensures none { OnErr result (HasNoDerivation (IsIntegerOf (chars input.now))) }
+    ensures refusal { IfErr result (λ e. integer_refusal (chars input.now) ≡ Some e) }
     ensures span { IfErr result (IsInText (chars input.now)) }
 {
     let cut = cut_digits(input);
@@ -68,7 +68,7 @@ fn cut_digits(input: &str) -> IntegerCut
 /// Why a text that is cut so is no integer, None where it is one.
 fn cut_refusal(cut: &IntegerCut, input: &str) -> Option<ParseError>
     requires { IsDigitsCut cut.now input.now }
-    ensures { result ≡ cut_fault (integer_cut (chars input.now)) }
+    ensures { result ≡ cut_refusal (integer_cut (chars input.now)) }
 {
     let IntegerCut {
         start_main,

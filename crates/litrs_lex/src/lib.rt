@@ -1,4 +1,4 @@
-//! Reads the parts that literals are made of, and says where a text is cut.
+//! Derives the parts that literals are made of, and says where a text is cut.
 #![tactic(auto)]
 
 pub use integer::{IntegerCut, cut_integer};

@@ -6,8 +6,8 @@ ghost use Rattle.std.specs.Option.{SomeIff};
 ghost use Rattle.std.specs.Str.{chars, IsUtf8};
 ghost use Rattle.unicode_ident.specs.Ident.{is_xid_continue};
 ghost use Rattle.litrs_base.specs.Base.{is_digit_or_underscore};
-ghost use Rattle.litrs_base.specs.Fault.{plain};
-ghost use Rattle.litrs_grammar.specs.Suffix.{starts_identifier, is_suffix, is_ascii_symbol, suffix_fault};
+ghost use Rattle.litrs_base.specs.Refusal.{plain};
+ghost use Rattle.litrs_grammar.specs.Suffix.{starts_identifier, is_suffix, is_ascii_symbol, suffix_refusal};
 
 use litrs_base::{IntegerBase, ParseError, ParseErrorKind};
 
@@ -94,8 +94,8 @@ fn is_ascii_symbol(byte: u8) -> bool
 }
 
 /// Why a text is no suffix.
-fn suffix_fault(s: &str) -> ParseErrorKind
-    ensures { result ≡ suffix_fault (chars s.now) }
+fn suffix_refusal(s: &str) -> ParseErrorKind
+    ensures { result ≡ suffix_refusal (chars s.now) }
 {
     match s.as_bytes().first() {
         Some(first) if is_ascii_symbol(*first) => ParseErrorKind::UnexpectedChar,
@@ -114,11 +114,11 @@ fn suffix_fault(s: &str) -> ParseErrorKind
 /// [ref]: https://doc.rust-lang.org/reference/tokens.html#suffixes
 pub fn check_suffix(s: &str) -> Result<(), ParseErrorKind>
     ensures ok { is_ok result ≡ is_suffix (chars s.now) }
-    ensures err { IfErr result (λ kind. kind ≡ suffix_fault (chars s.now)) }
+    ensures err { IfErr result (λ kind. kind ≡ suffix_refusal (chars s.now)) }
 {
     if is_suffix(s) {
         Ok(())
     } else {
-        Err(suffix_fault(s))
+        Err(suffix_refusal(s))
     }
 }

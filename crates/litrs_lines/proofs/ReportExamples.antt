@@ -1,16 +1,16 @@
 -- Lines and the reports on them, by computation. What a number is printed as is left as it is.
 use Rattle.std.specs.Prelude.{◌≡◌, ◌++◌, [], ◌∷◌, codes, refl}
 use Rattle.std.specs.Fmt.{decimal}
-use Rattle.litrs_grammar.specs.Integer.{integer_cut, integer_fault}
+use Rattle.litrs_grammar.specs.Integer.{integer_cut, integer_refusal}
 use Rattle.litrs_base.specs.Numeral.{place_sum}
-use Rattle.litrs_grammar.specs.LiteralFault.{dispatch}
-use Rattle.litrs.specs.ReadLiteral.{read_fault}
+use Rattle.litrs_grammar.specs.LiteralRefusals.{dispatch}
+use Rattle.litrs.specs.ReadLiteral.{read_refusal}
 use Rattle.litrs_lines.specs.Report.{value_text, text_report}
 use Rattle.litrs_lines.specs.Lines.{ended_lines, open_line, lines_of}
 use Rattle.litrs_grammar.proofs.Computing.{computing}
 
 unfoldable reports : Unit {0}
-unfolding computing dispatch read_fault integer_cut integer_fault place_sum
+unfolding computing dispatch read_refusal integer_cut integer_refusal place_sum
 reports = tt
 
 -- Texts

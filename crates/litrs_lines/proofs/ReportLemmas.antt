@@ -11,11 +11,11 @@ use Rattle.litrs_base.specs.Base.{base_value}
 use Rattle.litrs_grammar.specs.Integer.{IntegerParts, IsIntegerOf}
 use Rattle.litrs_grammar.specs.Integer.{integer_value}
 use Rattle.litrs_grammar.specs.Literal.{Derivation, a_bool, an_integer}
-use Rattle.litrs.specs.ReadLiteral.{IsReadLiteral, read_fault}
+use Rattle.litrs.specs.ReadLiteral.{IsReadLiteral, read_refusal}
 use Rattle.litrs_lines.specs.Report.{value_text, integer_front, literal_report, refusal_report, derivation_of, text_report_by, text_report, report_of}
 use Rattle.litrs_grammar.proofs.IntegerLaws.{cut_of_text}
 use Rattle.litrs_grammar.proofs.LiteralLaws.{is_text-is, literals_are_unique}
-use Rattle.litrs.proofs.ReadLiteral.{read_fault-free}
+use Rattle.litrs.proofs.ReadLiteral.{read_refusal-free}
 
 -- The bytes of a line
 
@@ -43,10 +43,10 @@ derivation_of-literal t (an_integer d) r = rw (no_bool t true d r, no_bool t fal
 derivation_of-literal t d r = absurd r
 
 pub text_report-literal : (t : List ℕ) (d : Derivation) → IsReadLiteral t d → text_report t ≡ literal_report d
-text_report-literal t d r = ap (λ o. text_report_by o (derivation_of t)) (read_fault-free t d r) ∙ ap literal_report (derivation_of-literal t d r)
+text_report-literal t d r = ap (λ o. text_report_by o (derivation_of t)) (read_refusal-free t d r) ∙ ap literal_report (derivation_of-literal t d r)
 
-pub text_report-refused : (t : List ℕ) (e : ParseError) → read_fault t ≡ Some e → text_report t ≡ refusal_report e
-text_report-refused t e fault = ap (λ o. text_report_by o (derivation_of t)) fault
+pub text_report-refused : (t : List ℕ) (e : ParseError) → read_refusal t ≡ Some e → text_report t ≡ refusal_report e
+text_report-refused t e refusal = ap (λ o. text_report_by o (derivation_of t)) refusal
 
 -- An integer, part by part
 

@@ -4,7 +4,7 @@ use Rattle.std.specs.Fmt.{decimal}
 use Rattle.std.specs.Str.{chars, is_utf8, encode_utf8_all}
 use Rattle.litrs_base.specs.declared.integer.IntegerType.TheVariants.{U128}
 use Rattle.litrs_base.specs.declared.err.ParseError.{ParseError}
-use Rattle.litrs_base.specs.Fault.{fault_text}
+use Rattle.litrs_base.specs.Refusal.{refusal_text}
 use Rattle.litrs_base.specs.Text.{is_text}
 use Rattle.litrs_grammar.specs.Bool.{bool_text}
 use Rattle.litrs_base.specs.Base.{base_value}
@@ -12,7 +12,7 @@ use Rattle.litrs_grammar.specs.Integer.{integer_cut}
 use Rattle.litrs_base.specs.Numeral.{greatest_of}
 use Rattle.litrs_grammar.specs.Integer.{integer_value}
 use Rattle.litrs_grammar.specs.Literal.{Derivation, a_bool, an_integer, a_float, a_char, a_byte, a_string, a_byte_string, a_c_string}
-use Rattle.litrs.specs.ReadLiteral.{read_fault}
+use Rattle.litrs.specs.ReadLiteral.{read_refusal}
 
 -- a value in decimal, or `none` where 128 bits do not hold it
 abbrev pub value_text : ℕ → List ℕ
@@ -37,7 +37,7 @@ literal_report (a_c_string d) = []
 
 -- `error`, and what is printed of the refusal
 abbrev pub refusal_report : ParseError → List ℕ
-refusal_report e = codes "error " ++ fault_text e
+refusal_report e = codes "error " ++ refusal_text e
 
 -- of a text that is a literal, its derivation
 abbrev pub derivation_of : List ℕ → Derivation
@@ -50,7 +50,7 @@ text_report_by (Some e) d = refusal_report e
 
 -- the report of a text
 abbrev pub text_report : List ℕ → List ℕ
-text_report t = text_report_by (read_fault t) (derivation_of t)
+text_report t = text_report_by (read_refusal t) (derivation_of t)
 
 -- the report of a line, whose bytes may be no text
 unfoldable pub report_of : List ℕ → List ℕ

@@ -3,7 +3,7 @@ use Rattle.std.specs.Prelude.{◌≡◌, ℕ, List, Some, codes}
 use Rattle.std.specs.Str.{chars, IsUtf8}
 use Rattle.litrs_base.specs.declared.err.ParseError.{ParseError}
 use Rattle.litrs_grammar.specs.Literal.{Derivation}
-use Rattle.litrs.specs.ReadLiteral.{IsReadLiteral, read_fault}
+use Rattle.litrs.specs.ReadLiteral.{IsReadLiteral, read_refusal}
 use Rattle.litrs_lines.specs.Report.{literal_report, refusal_report, report_of}
 
 -- The report on a text that is a literal is that of its derivation.
@@ -12,7 +12,7 @@ ReportsFollowLiterals = (line : List ℕ) (d : Derivation) → IsUtf8 line → I
 
 -- The report on a text that is refused is that of its refusal.
 abbrev pub ReportsFollowRefusals : Type 0
-ReportsFollowRefusals = (line : List ℕ) (e : ParseError) → IsUtf8 line → read_fault (chars line) ≡ Some e → report_of line ≡ refusal_report e
+ReportsFollowRefusals = (line : List ℕ) (e : ParseError) → IsUtf8 line → read_refusal (chars line) ≡ Some e → report_of line ≡ refusal_report e
 
 -- A line that is no text has a report of its own.
 abbrev pub ReportsTellNoText : Type 0

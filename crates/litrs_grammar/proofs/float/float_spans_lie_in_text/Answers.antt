@@ -1,5 +1,5 @@
-use Rattle.litrs_grammar.proofs.FloatSpans.{float_fault_within}
+use Rattle.litrs_grammar.proofs.FloatSpans.{float_refusal_within}
 use Rattle.litrs_grammar.proofs.float.float_spans_lie_in_text.Goals as goal
 
 pub returns : goal.returns
-returns c = float_fault_within
+returns c = float_refusal_within

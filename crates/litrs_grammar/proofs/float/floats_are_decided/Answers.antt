@@ -1,5 +1,5 @@
-use Rattle.litrs_grammar.proofs.FloatLaws.{fault_free, readable}
+use Rattle.litrs_grammar.proofs.FloatLaws.{refusal_free, derivable}
 use Rattle.litrs_grammar.proofs.float.floats_are_decided.Goals as goal
 
 pub returns : goal.returns
-returns c = λ t. (readable t, λ r. fault_free t r.0 r.1)
+returns c = λ t. (derivable t, λ r. refusal_free t r.0 r.1)

@@ -1,5 +1,5 @@
-use Rattle.litrs_grammar.proofs.RawKinds.{literal_readable, literal_fault_free}
+use Rattle.litrs_grammar.proofs.RawKinds.{literal_derivable, literal_refusal_free}
 use Rattle.litrs_grammar.proofs.raw.raw_literals_are_decided.Goals as goal
 
 pub returns : goal.returns
-returns c = λ kind t front. (literal_readable kind t front, λ r. literal_fault_free kind t r.0 front r.1)
+returns c = λ kind t front. (literal_derivable kind t front, λ r. literal_refusal_free kind t r.0 front r.1)

@@ -1,7 +1,6 @@
 -- The spans of refusals lie within the text.
 use Rattle.std.proofs.Common.{◌≡◌, ℕ, ◌+◌, ◌<◌, ◌≤◌, Bool, true, false, not, ◌&&◌, ◌||◌, cond, zero, suc, leb, ltb, List, [], ◌∷◌, ◌++◌, length, drop, Option, Some, None, refl, sym, ap, ◌∙◌, subst, arith, ⊎_elim, append_assoc, length-append, append-nil, take-append-drop, lit<}
-use Rattle.std.specs.Prelude.{◌==◌, if◌then◌else◌, IfSome, count_by, take_while, slice_index}
-use Rattle.std.specs.Prelude.{IsUtf8, IsCharBoundary, chars, encode_utf8_all}
+use Rattle.std.specs.Prelude.{◌==◌, if◌then◌else◌, IfSome, count_by, take_while, slice_index, IsUtf8, IsCharBoundary, chars, encode_utf8_all}
 use Rattle.std.specs.Str.{all_scalars as scalars}
 use Rattle.std.proofs.lemmas.Str.{encodes-append, encodes-chars, scalars-chars, IsCharBoundary-at_seam}
 use Rattle.std.specs.Char.{is_ascii_hexdigit}
@@ -9,17 +8,16 @@ use Rattle.std.specs.List.{list_all, list_any, prefix_len, before_first}
 use Rattle.std.proofs.lemmas.Bool.{and_parts, and_from, and_cases, eqb-true, ltb-true, ltb-false, leb-false}
 use Rattle.std.proofs.lemmas.List.Folds.{list_all-append}
 use Rattle.std.proofs.lemmas.List.Sums.{take_while-cons, sum_by-cons}
-use Rattle.litrs_base.specs.declared.err.ParseError.{ParseError}
+use Rattle.litrs_base.specs.Refusal.{Refusal, IsInText, moved, moved_span}
 use Rattle.litrs_base.specs.Characters.{is_scalar}
 use Rattle.std.specs.declared.ops.Range.{Range}
-use Rattle.litrs_base.specs.Fault.{IsInText, moved, moved_span}
 use Rattle.litrs_base.specs.Text.{is_empty, PointsInto, byte_len, first_passes}
-use Rattle.litrs_grammar.specs.Escape.{Switches, escape_fault, hex_fault, unicode_fault, inner_fault, is_simple, is_hex_or_underscore, has_two_bytes, place_behind, allows_value, allows_byte, pair_value, hex_value}
+use Rattle.litrs_grammar.specs.Escape.{Switches, escape_refusal, hex_refusal, unicode_refusal, inner_refusal, is_simple, is_hex_or_underscore, has_two_bytes, place_behind, allows_value, allows_byte, pair_value, hex_value}
 use Rattle.litrs_grammar.specs.EscapeLaws.{EscapeSpansLieInText}
-use Rattle.litrs_grammar.proofs.Spans.{byte_len-append}
-use Rattle.litrs_grammar.proofs.ByteLen.{byte_len_one_ascii, byte_len_all_ascii, length-le-byte_len}
-use Rattle.litrs_grammar.proofs.ListTests.{Splits, split_first, before_first-split, take_while_whole, if_true, if_false}
-use Rattle.litrs_grammar.proofs.EscapeLemmas.{hex_or_underscore_ascii, has_stranger}
+use Rattle.litrs_base.proofs.Spans.{byte_len-append}
+use Rattle.litrs_base.proofs.ByteLen.{byte_len_one_ascii, byte_len_all_ascii, length-le-byte_len}
+use Rattle.litrs_base.proofs.ListTests.{Splits, split_first, before_first-split, take_while_whole, if_true, if_false}
+use Rattle.litrs_grammar.proofs.EscapeLaws.{hex_or_underscore_ascii, has_stranger}
 
 -- the bytes from start up to end lie within the text, and start is a character boundary
 abbrev pub Marks : List ℕ → ℕ → ℕ → Type 0
@@ -79,25 +77,25 @@ marks_bytes bs start end utf8 m =
     (subst Boundary (sym m.start) (IsCharBoundary-at_seam bs (encode_utf8_all m.front) (encode_utf8_all m.rest) (sym whole) (m.rest, (behind_scalars m.front m.rest scalar, refl))), m.in_order, omega arith)
 
 -- each refusal that a table may give
-abbrev pub AllFit : List ℕ → Option ParseError → Type 0
+abbrev pub AllFit : List ℕ → Option Refusal → Type 0
 AllFit t o = IfSome o (λ e. IsInText t e)
 
-pub fit_if : (t : List ℕ) (b : Bool) (x : ParseError) (y : Option ParseError) → (b ≡ true → IsInText t x) → (b ≡ false → AllFit t y) → AllFit t (if b then Some x else y)
+pub fit_if : (t : List ℕ) (b : Bool) (x : Refusal) (y : Option Refusal) → (b ≡ true → IsInText t x) → (b ≡ false → AllFit t y) → AllFit t (if b then Some x else y)
 fit_if t true x y f g = f refl
 fit_if t false x y f g = g refl
 
-pub fit_unless : (t : List ℕ) (b : Bool) (x : ParseError) (y : Option ParseError) → (b ≡ false → IsInText t x) → (b ≡ true → AllFit t y) → AllFit t (if not b then Some x else y)
+pub fit_unless : (t : List ℕ) (b : Bool) (x : Refusal) (y : Option Refusal) → (b ≡ false → IsInText t x) → (b ≡ true → AllFit t y) → AllFit t (if not b then Some x else y)
 fit_unless t true x y f g = g refl
 fit_unless t false x y f g = f refl
 
-pub fit_either : (t : List ℕ) (b : Bool) (x y : Option ParseError) → (b ≡ true → AllFit t x) → (b ≡ false → AllFit t y) → AllFit t (if b then x else y)
+pub fit_either : (t : List ℕ) (b : Bool) (x y : Option Refusal) → (b ≡ true → AllFit t x) → (b ≡ false → AllFit t y) → AllFit t (if b then x else y)
 fit_either t true x y f g = f refl
 fit_either t false x y f g = g refl
 
-pub fit_some : (t : List ℕ) (o : Option ParseError) (e : ParseError) → AllFit t o → o ≡ Some e → IsInText t e
-fit_some t o e all is = let P : Option ParseError → Type 0 = λ o. AllFit t o in subst P is all
+pub fit_some : (t : List ℕ) (o : Option Refusal) (e : Refusal) → AllFit t o → o ≡ Some e → IsInText t e
+fit_some t o e all is = let P : Option Refusal → Type 0 = λ o. AllFit t o in subst P is all
 
-pub fit_on : (t more : List ℕ) (o : Option ParseError) → AllFit t o → AllFit (t ++ more) o
+pub fit_on : (t more : List ℕ) (o : Option Refusal) → AllFit t o → AllFit (t ++ more) o
 fit_on t more None h = h
 fit_on t more (Some e) h = go e.span h
   where
@@ -105,7 +103,7 @@ fit_on t more (Some e) h = go e.span h
     go None h = h
     go (Some span) h = marks_on t more span.start span.end h
 
-pub fit_later : (front t : List ℕ) (e : ParseError) → IsInText t e → IsInText (front ++ t) (moved (byte_len front) e)
+pub fit_later : (front t : List ℕ) (e : Refusal) → IsInText t e → IsInText (front ++ t) (moved (byte_len front) e)
 fit_later front t e h = go e.span h
   where
     go : (s : Option (Range ℕ)) → IfSome s (PointsInto t) → IfSome (moved_span (byte_len front) s) (PointsInto (front ++ t))
@@ -127,7 +125,7 @@ prefixed c t h =
     let two = byte_len_one_ascii c t h in
     omega arith
 
-hex_fits : (w : Switches) (t : List ℕ) → AllFit (92 ∷ 120 ∷ t) (hex_fault w t)
+hex_fits : (w : Switches) (t : List ℕ) → AllFit (92 ∷ 120 ∷ t) (hex_refusal w t)
 hex_fits w t =
     let size = prefixed 120 t (lit< tt) in
     fit_unless _ (has_two_bytes t) _ _ (λ _. marks_start (92 ∷ 120 ∷ t) (2 + byte_len t) (omega arith))
@@ -231,7 +229,7 @@ seventh_somewhere inner c ys r spells none many =
     (take_while_passes is_hex_or_underscore inner) (leb-false (count_by is_ascii_hexdigit digits) 6 e))
     (and_cases (ltb (length digits) (length inner)) (leb (count_by is_ascii_hexdigit digits) 6) none)
 
-inner_fits : (w : Switches) (inner : List ℕ) (c : ℕ) (ys r : List ℕ) → inner ++ c ∷ ys ≡ r → AllFit (92 ∷ 117 ∷ 123 ∷ r) (inner_fault w inner)
+inner_fits : (w : Switches) (inner : List ℕ) (c : ℕ) (ys r : List ℕ) → inner ++ c ∷ ys ≡ r → AllFit (92 ∷ 117 ∷ 123 ∷ r) (inner_refusal w inner)
 inner_fits w inner c ys r spells =
     let size : length (inner ++ c ∷ ys) ≡ length r = ap length spells in
     let more = length-le-byte_len (92 ∷ 117 ∷ 123 ∷ r) in
@@ -244,16 +242,16 @@ inner_fits w inner c ys r spells =
     (λ _. fit_unless _ (allows_value w (hex_value inner)) _ _ (λ _. whole)
     (λ _. fit_unless _ (is_scalar (hex_value inner)) _ None (λ _. whole) (λ _. tt)))))
 
-braced_fits : (w : Switches) (r : List ℕ) → Splits (λ c. c == 125) r → AllFit (92 ∷ 117 ∷ 123 ∷ r) (inner_fault w (before_first (λ c. c == 125) r))
+braced_fits : (w : Switches) (r : List ℕ) → Splits (λ c. c == 125) r → AllFit (92 ∷ 117 ∷ 123 ∷ r) (inner_refusal w (before_first (λ c. c == 125) r))
 braced_fits w r (inner, c, ys, s) =
     let same : before_first (λ c. c == 125) r ≡ inner =
     subst (λ l. before_first (λ c. c == 125) l ≡ inner) s.spells (before_first-split (λ c. c == 125) inner c ys s.before s.passes) in
-    subst (λ l. AllFit (92 ∷ 117 ∷ 123 ∷ r) (inner_fault w l)) (sym same) (inner_fits w inner c ys r s.spells)
+    subst (λ l. AllFit (92 ∷ 117 ∷ 123 ∷ r) (inner_refusal w l)) (sym same) (inner_fits w inner c ys r s.spells)
 
 two_long : (c : ℕ) (t : List ℕ) → Marks (92 ∷ c ∷ t) 0 2
 two_long c t = let size = length-le-byte_len (92 ∷ c ∷ t) in marks_start (92 ∷ c ∷ t) 2 (omega arith)
 
-unicode_fits : (w : Switches) (t : List ℕ) → AllFit (92 ∷ 117 ∷ t) (unicode_fault w t)
+unicode_fits : (w : Switches) (t : List ℕ) → AllFit (92 ∷ 117 ∷ t) (unicode_refusal w t)
 unicode_fits w [] = fit_unless _ w.unicode _ _ (λ _. two_long 117 []) (λ _. two_long 117 [])
 unicode_fits w (c ∷ r) =
     let size = prefixed 117 (c ∷ r) (lit< tt) in
@@ -261,17 +259,17 @@ unicode_fits w (c ∷ r) =
     (λ _. fit_unless _ (c == 123) _ _ (λ _. two_long 117 (c ∷ r))
     (λ brace. let at : c ≡ 123 = eqb-true c 123 brace in
     fit_unless _ (list_any (λ c. c == 125) (c ∷ r)) _ _ (λ _. marks_start (92 ∷ 117 ∷ c ∷ r) (2 + byte_len (c ∷ r)) (omega arith))
-    (λ any. subst (λ n. AllFit (92 ∷ 117 ∷ n ∷ r) (inner_fault w (before_first (λ c. c == 125) r))) (sym at)
+    (λ any. subst (λ n. AllFit (92 ∷ 117 ∷ n ∷ r) (inner_refusal w (before_first (λ c. c == 125) r))) (sym at)
     (braced_fits w r (split_first _ r (subst (λ n. ((n == 125) || list_any (λ c. c == 125) r) ≡ true) at any))))))
 
-pub escape_fits : (w : Switches) (t : List ℕ) → AllFit (92 ∷ t) (escape_fault w (92 ∷ t))
-unfolding escape_fault
+pub escape_fits : (w : Switches) (t : List ℕ) → AllFit (92 ∷ t) (escape_refusal w (92 ∷ t))
+unfolding escape_refusal
 escape_fits w [] = marks_start (92 ∷ []) 1 (length-le-byte_len (92 ∷ []))
 escape_fits w (c ∷ t) =
     fit_if _ ((c == 48) && not w.allow_nul) _ _ (λ _. two_long c t)
-    (λ _. fit_either _ (c == 120) (hex_fault w t) _ (λ e. subst (λ n. AllFit (92 ∷ n ∷ t) (hex_fault w t)) (sym (eqb-true c 120 e)) (hex_fits w t))
-    (λ _. fit_either _ (c == 117) (unicode_fault w t) _ (λ e. subst (λ n. AllFit (92 ∷ n ∷ t) (unicode_fault w t)) (sym (eqb-true c 117 e)) (unicode_fits w t))
+    (λ _. fit_either _ (c == 120) (hex_refusal w t) _ (λ e. subst (λ n. AllFit (92 ∷ n ∷ t) (hex_refusal w t)) (sym (eqb-true c 120 e)) (hex_fits w t))
+    (λ _. fit_either _ (c == 117) (unicode_refusal w t) _ (λ e. subst (λ n. AllFit (92 ∷ n ∷ t) (unicode_refusal w t)) (sym (eqb-true c 117 e)) (unicode_fits w t))
     (λ _. fit_either _ (is_simple c) None _ (λ _. tt) (λ _. two_long c t))))
 
 pub escape_spans_lie_in_text : EscapeSpansLieInText
-escape_spans_lie_in_text w t e told = fit_some (92 ∷ t) (escape_fault w (92 ∷ t)) e (escape_fits w t) told
+escape_spans_lie_in_text w t e told = fit_some (92 ∷ t) (escape_refusal w (92 ∷ t)) e (escape_fits w t) told

@@ -3,19 +3,18 @@ use Rattle.std.proofs.Common.{◌≡◌, ℕ, ◌+◌, ◌<◌, Bool, true, fals
 use Rattle.std.specs.Prelude.{◌==◌, if◌then◌else◌}
 use Rattle.std.specs.List.{list_all}
 use Rattle.std.proofs.lemmas.Bool.{and_parts, and_from, not-true, not-false, eqb-true, both_ways, true≢false, and_left, and_right, not_from_false, eq-eqb}
-use Rattle.litrs_base.specs.declared.err.ParseError.{ParseError}
+use Rattle.litrs_base.specs.Refusal.{Refusal, plain}
 use Rattle.litrs_base.specs.declared.err.ParseErrorKind.TheVariants.{UnterminatedString}
-use Rattle.litrs_base.specs.Fault.{plain}
 use Rattle.litrs_base.specs.Characters.{is_blank, is_ascii_unless}
 use Rattle.litrs_base.proofs.Runs.{last_passes, is_line_feed, last_passes-append, line_feed_last}
 use Rattle.litrs_grammar.proofs.SuffixStart.{suffix_last}
 use Rattle.litrs_grammar.specs.Suffix.{is_suffix}
 use Rattle.litrs_base.specs.Text.{is_empty, first_passes}
-use Rattle.litrs_grammar.specs.Escape.{Switches, Escape, simple_escape, hex_escape, unicode_escape, escape_text, is_escape, is_simple, escape_fault, allows_value}
-use Rattle.litrs_grammar.specs.Quoted.{Item, plain_item, escape_item, continuation, item_text, is_item, is_plain, body_text, is_body, takes_all_blanks, is_taken_before, stand_before, without_last, backslash_fault, rest_fault}
-use Rattle.litrs_grammar.proofs.ListTests.{unless_none, none_if, none_unless, if_true, if_false}
-use Rattle.litrs_grammar.proofs.Spans.{none_from}
-use Rattle.litrs_grammar.proofs.EscapeLemmas.{same_escape, fault_escape, read_escape}
+use Rattle.litrs_grammar.specs.Escape.{Switches, Escape, simple_escape, hex_escape, unicode_escape, escape_text, is_escape, is_simple, escape_refusal, allows_value}
+use Rattle.litrs_grammar.specs.Quoted.{Item, plain_item, escape_item, continuation, item_text, is_item, is_plain, body_text, is_body, takes_all_blanks, is_taken_before, stand_before, without_last, backslash_refusal, rest_refusal}
+use Rattle.litrs_base.proofs.ListTests.{unless_none, none_if, none_unless, if_true, if_false}
+use Rattle.litrs_base.proofs.Spans.{none_from}
+use Rattle.litrs_grammar.proofs.EscapeLaws.{same_escape, refusal_escape, read_escape}
 
 -- an escape begins with a backslash, and no LF follows it
 pub escape_head : (e : Escape) (x : List ℕ) → (c : ℕ) × (t : List ℕ) × (escape_text e ++ x ≡ 92 ∷ c ∷ t)
@@ -127,9 +126,9 @@ last_of c [] = (c, refl)
 last_of c (d ∷ t) = let rec = last_of d t in (rec.0, ap (λ l. c ∷ l) rec.1)
 
 -- the rest may begin with an item that the text goes on behind
-plain_no_fault : (w : Switches) (c : ℕ) (t : List ℕ) → is_plain w c ≡ true → rest_fault w (c ∷ t) ≡ None
-unfolding rest_fault
-plain_no_fault w c t h =
+plain_no_refusal : (w : Switches) (c : ℕ) (t : List ℕ) → is_plain w c ≡ true → rest_refusal w (c ∷ t) ≡ None
+unfolding rest_refusal
+plain_no_refusal w c t h =
     let a = and_parts _ (allows_value w c) h in
     let b = and_parts _ (is_ascii_unless w.unicode c) a.0 in
     let d = and_parts _ (not (c == 13)) b.0 in
@@ -140,35 +139,35 @@ plain_no_fault w c t h =
     (none_unless (is_ascii_unless w.unicode c) _ _ b.1
     (none_if _ _ _ (and_left _ _ (not-true _ e.0)) refl)))
 
-escape_no_fault : (w : Switches) (e : Escape) (c : ℕ) (t : List ℕ) → is_escape w e ≡ true → rest_fault w (escape_text e ++ c ∷ t) ≡ None
-unfolding rest_fault
-escape_no_fault w e c t h =
+escape_no_refusal : (w : Switches) (e : Escape) (c : ℕ) (t : List ℕ) → is_escape w e ≡ true → rest_refusal w (escape_text e ++ c ∷ t) ≡ None
+unfolding rest_refusal
+escape_no_refusal w e c t h =
     let head = escape_head e (c ∷ t) in
     let cut : without_last (92 ∷ head.0 ∷ head.1) ≡ escape_text e ++ without_last (c ∷ t) =
     ap without_last (sym head.2) ∙ without_last-append (escape_text e) c t in
-    subst (λ l. rest_fault w l ≡ None) (sym head.2)
+    subst (λ l. rest_refusal w l ≡ None) (sym head.2)
     (if_false (head.0 == 10) _ _ (escape_second w e (c ∷ t) head.0 head.1 h head.2)
-    ∙ ap (escape_fault w) cut ∙ fault_escape w e (without_last (c ∷ t)) h)
+    ∙ ap (escape_refusal w) cut ∙ refusal_escape w e (without_last (c ∷ t)) h)
 
 list_all-stop : (a : List ℕ) (c : ℕ) (t : List ℕ) → is_blank c ≡ false → list_all is_blank (a ++ c ∷ t) ≡ false
 list_all-stop [] c t h = rw h refl
 list_all-stop (d ∷ a) c t h = and_right _ _ (list_all-stop a c t h)
 
-continuation_no_fault : (w : Switches) (a : List ℕ) (c : ℕ) (t : List ℕ) → is_blank c ≡ false → rest_fault w (92 ∷ 10 ∷ (a ++ c ∷ t)) ≡ None
-unfolding rest_fault
-continuation_no_fault w a c t h = none_if _ _ _ (list_all-stop a c t h) refl
+continuation_no_refusal : (w : Switches) (a : List ℕ) (c : ℕ) (t : List ℕ) → is_blank c ≡ false → rest_refusal w (92 ∷ 10 ∷ (a ++ c ∷ t)) ≡ None
+unfolding rest_refusal
+continuation_no_refusal w a c t h = none_if _ _ _ (list_all-stop a c t h) refl
 
-pub item_no_fault : (w : Switches) (a : Item) (behind : List ℕ) → is_item w a ≡ true → is_taken_before behind a ≡ true → rest_fault w (item_text a ++ behind) ≡ None
-item_no_fault w (plain_item c) behind h k = plain_no_fault w c behind h
-item_no_fault w (escape_item e) [] h k = cc
-item_no_fault w (escape_item e) (c ∷ t) h k = escape_no_fault w e c t h
-item_no_fault w (continuation a) [] h k = cc
-item_no_fault w (continuation a) (c ∷ t) h k = continuation_no_fault w a c t (not-true _ k)
+pub item_no_refusal : (w : Switches) (a : Item) (behind : List ℕ) → is_item w a ≡ true → is_taken_before behind a ≡ true → rest_refusal w (item_text a ++ behind) ≡ None
+item_no_refusal w (plain_item c) behind h k = plain_no_refusal w c behind h
+item_no_refusal w (escape_item e) [] h k = cc
+item_no_refusal w (escape_item e) (c ∷ t) h k = escape_no_refusal w e c t h
+item_no_refusal w (continuation a) [] h k = cc
+item_no_refusal w (continuation a) (c ∷ t) h k = continuation_no_refusal w a c t (not-true _ k)
 
 -- a refused rest begins with no item
-pub refused_no_item : (w : Switches) (x : List ℕ) (e : ParseError) → rest_fault w x ≡ Some e → NoItem w x
+pub refused_no_item : (w : Switches) (x : List ℕ) (e : Refusal) → rest_refusal w x ≡ Some e → NoItem w x
 refused_no_item w x e told a behind h k same =
-    let none : rest_fault w x ≡ None = subst (λ l. rest_fault w l ≡ None) same (item_no_fault w a behind h k) in
+    let none : rest_refusal w x ≡ None = subst (λ l. rest_refusal w l ≡ None) same (item_no_refusal w a behind h k) in
     cc
 
 -- What stands at the front of a text: an item, a reason to refuse it, or the closing quote and a suffix.
@@ -210,8 +209,8 @@ continuation_here w t h =
     )
 
 -- an escape that the text goes on behind
-escape_here : (w : Switches) (t : List ℕ) → escape_fault w (without_last (92 ∷ t)) ≡ None → SomeItem w (92 ∷ t)
-unfolding escape_fault
+escape_here : (w : Switches) (t : List ℕ) → escape_refusal w (without_last (92 ∷ t)) ≡ None → SomeItem w (92 ∷ t)
+unfolding escape_refusal
 escape_here w [] h = cc
 escape_here w (c ∷ t) h =
     let read = read_escape w (without_last (c ∷ t)) h in
@@ -230,14 +229,14 @@ escape_here w (c ∷ t) h =
     more (d ∷ x) = refl
 
 abbrev pub Front : Switches → List ℕ → Type 0
-Front w t = SomeItem w t ⊎ (((e : ParseError) × (rest_fault w t ≡ Some e)) ⊎ Closes t)
+Front w t = SomeItem w t ⊎ (((e : Refusal) × (rest_refusal w t ≡ Some e)) ⊎ Closes t)
 
-behind_backslash : (w : Switches) (t : List ℕ) → backslash_fault w t ≡ None → SomeItem w (92 ∷ t)
+behind_backslash : (w : Switches) (t : List ℕ) → backslash_refusal w t ≡ None → SomeItem w (92 ∷ t)
 behind_backslash w [] h = escape_here w [] h
 behind_backslash w (c ∷ t) h = go (c == 10) refl h
   where
     go : (b : Bool) → (c == 10) ≡ b →
-        (if b then (if list_all is_blank (c ∷ t) then Some (plain UnterminatedString) else None) else escape_fault w (without_last (92 ∷ c ∷ t))) ≡ None →
+        (if b then (if list_all is_blank (c ∷ t) then Some (plain UnterminatedString) else None) else escape_refusal w (without_last (92 ∷ c ∷ t))) ≡ None →
         SomeItem w (92 ∷ c ∷ t)
     go false e g = escape_here w (c ∷ t) g
     go true e g =
@@ -245,8 +244,8 @@ behind_backslash w (c ∷ t) h = go (c == 10) refl h
         let stops = none_from _ _ _ g in
         subst (λ n. SomeItem w (92 ∷ n ∷ t)) (sym at) (continuation_here w t (subst (λ n. (is_blank n && list_all is_blank t) ≡ false) at stops.0))
 
-front_cons : (w : Switches) (c : ℕ) (t : List ℕ) (b q : Bool) → (c == 92) ≡ b → (c == 34) ≡ q → rest_fault w (c ∷ t) ≡ None → Front w (c ∷ t)
-unfolding rest_fault
+front_cons : (w : Switches) (c : ℕ) (t : List ℕ) (b q : Bool) → (c == 92) ≡ b → (c == 34) ≡ q → rest_refusal w (c ∷ t) ≡ None → Front w (c ∷ t)
+unfolding rest_refusal
 front_cons w c t true q b_is q_is h =
     let at = eqb-true c 92 b_is in
     inl (subst (λ n. SomeItem w (n ∷ t)) (sym at) (behind_backslash w t (sym (if_true _ _ _ b_is) ∙ h)))
@@ -270,29 +269,29 @@ front_cons w c t false false b_is q_is h =
       },
     )
 
-at_end : (w : Switches) → rest_fault w [] ≡ None → ⊥
-unfolding rest_fault
+at_end : (w : Switches) → rest_refusal w [] ≡ None → ⊥
+unfolding rest_refusal
 at_end w h = cc
 
 pub front : (w : Switches) (t : List ℕ) → Front w t
-front w t = go t (rest_fault w t) refl
+front w t = go t (rest_refusal w t) refl
   where
-    none : (t : List ℕ) → rest_fault w t ≡ None → Front w t
+    none : (t : List ℕ) → rest_refusal w t ≡ None → Front w t
     none [] h = absurd (at_end w h)
     none (c ∷ t) h = front_cons w c t (c == 92) (c == 34) refl refl h
 
-    go : (t : List ℕ) (o : Option ParseError) → rest_fault w t ≡ o → Front w t
+    go : (t : List ℕ) (o : Option Refusal) → rest_refusal w t ≡ o → Front w t
     go t (Some e) told = inr (inl (e, told))
     go t None told = none t told
 
 -- the items of a text, and the refused rest or the closing quote with a suffix behind them
-pub record Reads (w : Switches) (t : List ℕ) (items : List Item) (rest : List ℕ) : Type 0 where
+pub record Derives (w : Switches) (t : List ℕ) (items : List Item) (rest : List ℕ) : Type 0 where
   pub spells : body_text items ++ rest ≡ t
   pub taken : stand_before w rest items ≡ true
-  pub ends : ((e : ParseError) × (rest_fault w rest ≡ Some e)) ⊎ Closes rest
+  pub ends : ((e : Refusal) × (rest_refusal w rest ≡ Some e)) ⊎ Closes rest
 
 abbrev pub SomeReading : Switches → List ℕ → Type 0
-SomeReading w t = (items : List Item) × (rest : List ℕ) × Reads w t items rest
+SomeReading w t = (items : List Item) × (rest : List ℕ) × Derives w t items rest
 
 item_longer : (a : Item) (behind : List ℕ) → length behind < length (item_text a ++ behind)
 item_longer (plain_item c) behind = omega arith

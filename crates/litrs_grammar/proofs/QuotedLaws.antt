@@ -1,29 +1,27 @@
 -- The laws of quoted literals.
 use Rattle.std.proofs.Common.{◌≡◌, ℕ, ◌<◌, ◌≤◌, true, false, not, ◌||◌, List, [], ◌∷◌, ◌++◌, length, Some, None, refl, sym, ap, ◌∙◌, subst, arith, ◌⊎◌, inl, inr, append_assoc, length-append, append-nil}
-use Rattle.std.specs.Prelude.{◌==◌}
+use Rattle.std.specs.Prelude.{◌==◌, ◌↔◌}
 use Rattle.std.specs.List.{list_any}
 use Rattle.std.proofs.lemmas.Bool.{false≢true, and_parts, and_from, not-true, both_ways, or_right, or_left, or_from, not_from_false}
 use Rattle.std.proofs.lemmas.List.{append_cancel_left}
-use Rattle.std.specs.Prelude.{◌↔◌}
 use Rattle.std.specs.Char.{encode_utf8}
 use Rattle.std.proofs.lemmas.List.Folds.{list_any-append}
 use Rattle.std.proofs.lemmas.Str.{length-encode, len_utf8_bounds}
 use Rattle.litrs_grammar.specs.StringKind.{string_kind, byte_string_kind, c_string_kind}
 use Rattle.litrs_base.specs.Characters.{is_blank, is_ascii_unless}
-use Rattle.litrs_base.specs.declared.err.ParseError.{ParseError}
-use Rattle.litrs_base.specs.Fault.{moved}
+use Rattle.litrs_base.specs.Refusal.{Refusal, moved}
 use Rattle.litrs_grammar.specs.Suffix.{is_suffix}
 use Rattle.litrs_base.specs.Text.{first_passes, byte_len}
 use Rattle.litrs_grammar.specs.Escape.{Switches, Escape, simple_escape, hex_escape, unicode_escape, escape_text, escape_value, value_bytes, is_escape, is_simple, hex_value, pair_value, allows_value}
-use Rattle.litrs_grammar.specs.Quoted.{Item, plain_item, escape_item, continuation, item_text, item_value, is_item, stand_before, body_text, body_value, is_body, takes_all_blanks, rest_fault, QuotedParts, IsQuoted, IsQuotedFault}
+use Rattle.litrs_grammar.specs.Quoted.{Item, plain_item, escape_item, continuation, item_text, item_value, is_item, stand_before, body_text, body_value, is_body, takes_all_blanks, rest_refusal, QuotedParts, IsQuoted, IsQuotedRefusal}
 use Rattle.litrs_grammar.specs.Raw.{is_nul}
 use Rattle.litrs_grammar.specs.QuotedLaws.{QuotedBodiesAreUnique, QuotedTextsAreUnique, QuotedRefusalsAreUnique, QuotedTextsAreDecided, QuotedTextsAreNotRefused, QuotedBodiesJoin, QuotedValuesFitBodies, NoNulInQuotedCStrings, NoQuotedTextEndsWithLineFeed, QuotedLiteralsAreUnique}
-use Rattle.litrs_grammar.proofs.Spans.{byte_len-append}
+use Rattle.litrs_base.proofs.Spans.{byte_len-append}
 use Rattle.litrs_grammar.proofs.NoNul.{encode_no_nul}
-use Rattle.litrs_grammar.proofs.ByteLen.{length-le-byte_len}
-use Rattle.litrs_grammar.proofs.ListTests.{none_unless}
-use Rattle.litrs_grammar.proofs.EscapeLemmas.{inner_of}
-use Rattle.litrs_grammar.proofs.QuotedLemmas.{closed_before_line_feed, heads_differ, same_items, quote_no_item, refused_no_item, read_items, Reads, SomeReading, Closes, body_stands, stands_body}
+use Rattle.litrs_base.proofs.ByteLen.{length-le-byte_len}
+use Rattle.litrs_base.proofs.ListTests.{none_unless}
+use Rattle.litrs_grammar.proofs.EscapeLaws.{inner_of}
+use Rattle.litrs_grammar.proofs.QuotedItems.{closed_before_line_feed, heads_differ, same_items, quote_no_item, refused_no_item, read_items, Derives, SomeReading, Closes, body_stands, stands_body}
 
 -- two quoted texts behind one front
 same_parts : (w : Switches) (items others : List Item) (s r : List ℕ) → is_body w items ≡ true → is_body w others ≡ true →
@@ -45,7 +43,7 @@ pub quoted_refusals_are_unique : QuotedRefusalsAreUnique
 quoted_refusals_are_unique front w t e f h g =
     let both = same_items w h.items g.items h.rest g.rest h.taken g.taken (refused_no_item w h.rest h.cause h.told) (refused_no_item w g.rest g.cause g.told)
     (append_cancel_left front _ _ (h.spells ∙ sym g.spells)) in
-    let told : rest_fault w h.rest ≡ Some g.cause = ap (rest_fault w) both.1 ∙ g.told in
+    let told : rest_refusal w h.rest ≡ Some g.cause = ap (rest_refusal w) both.1 ∙ g.told in
     let causes : h.cause ≡ g.cause = cc in
     let places : byte_len (front ++ body_text h.items) ≡ byte_len (front ++ body_text g.items) = ap (λ l. byte_len (front ++ body_text l)) both.0 in
     sym h.placed ∙ ap (λ n. moved n h.cause) places ∙ ap (λ c. moved (byte_len (front ++ body_text g.items)) c) causes ∙ g.placed
@@ -53,8 +51,8 @@ quoted_refusals_are_unique front w t e f h g =
 pub quoted_texts_are_decided : QuotedTextsAreDecided
 quoted_texts_are_decided front w t = go (read_items w t)
   where
-    ended : (items : List Item) (rest : List ℕ) → Reads w t items rest → (((e : ParseError) × (rest_fault w rest ≡ Some e)) ⊎ Closes rest) →
-        ((q : QuotedParts) × IsQuoted front w (front ++ t) q) ⊎ ((e : ParseError) × IsQuotedFault front w (front ++ t) e)
+    ended : (items : List Item) (rest : List ℕ) → Derives w t items rest → (((e : Refusal) × (rest_refusal w rest ≡ Some e)) ⊎ Closes rest) →
+        ((q : QuotedParts) × IsQuoted front w (front ++ t) q) ⊎ ((e : Refusal) × IsQuotedRefusal front w (front ++ t) e)
     ended items rest read (inl (e, told)) =
         inr (
           moved (byte_len (front ++ body_text items)) e,
@@ -78,13 +76,13 @@ quoted_texts_are_decided front w t = go (read_items w t)
           },
         )
 
-    go : SomeReading w t → ((q : QuotedParts) × IsQuoted front w (front ++ t) q) ⊎ ((e : ParseError) × IsQuotedFault front w (front ++ t) e)
+    go : SomeReading w t → ((q : QuotedParts) × IsQuoted front w (front ++ t) q) ⊎ ((e : Refusal) × IsQuotedRefusal front w (front ++ t) e)
     go (items, rest, read) = ended items rest read read.ends
 
 -- a closing quote and a suffix are not refused
-closed_no_fault : (w : Switches) (s : List ℕ) → is_suffix s ≡ true → rest_fault w (34 ∷ s) ≡ None
-unfolding rest_fault
-closed_no_fault w s h =
+closed_no_refusal : (w : Switches) (s : List ℕ) → is_suffix s ≡ true → rest_refusal w (34 ∷ s) ≡ None
+unfolding rest_refusal
+closed_no_refusal w s h =
     none_unless _ _ _ (or_right w.allow_nul true refl)
     (none_unless _ _ _ (or_right w.unicode true refl)
     (none_unless (is_suffix s) _ _ h refl))
@@ -93,8 +91,8 @@ pub quoted_texts_are_not_refused : QuotedTextsAreNotRefused
 quoted_texts_are_not_refused front w t q e h g =
     let both = same_items w q.items g.items (34 ∷ q.suffix) g.rest (body_stands w q.items q.suffix h.body) g.taken (quote_no_item w q.suffix)
     (refused_no_item w g.rest g.cause g.told) (append_cancel_left front _ _ (h.spells ∙ sym g.spells)) in
-    let none = closed_no_fault w q.suffix h.suffix in
-    let told : rest_fault w (34 ∷ q.suffix) ≡ Some g.cause = ap (rest_fault w) both.1 ∙ g.told in
+    let none = closed_no_refusal w q.suffix h.suffix in
+    let told : rest_refusal w (34 ∷ q.suffix) ≡ Some g.cause = ap (rest_refusal w) both.1 ∙ g.told in
     cc
 
 pub body_text-append : (items others : List Item) → body_text (items ++ others) ≡ body_text items ++ body_text others

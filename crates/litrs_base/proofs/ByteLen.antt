@@ -5,7 +5,7 @@ use Rattle.std.specs.List.{list_all}
 use Rattle.std.proofs.lemmas.Bool.{lt-ltb}
 use Rattle.std.proofs.lemmas.Str.{length-encode, length-le-encodes, len_utf8_ascii}
 use Rattle.litrs_base.specs.Text.{byte_len}
-use Rattle.litrs_grammar.proofs.Spans.{is_ascii_char, byte_len_ascii}
+use Rattle.litrs_base.proofs.Spans.{is_ascii_char, byte_len_ascii}
 use Rattle.litrs_base.proofs.Runs.{list_all-weaken}
 
 -- a character of ASCII is one byte

@@ -4,7 +4,7 @@ use Rattle.std.specs.Str.{chars, IsUtf8, encode_utf8_all}
 use Rattle.std.proofs.lemmas.Str.{encodes-chars, encodes-IsAscii}
 use Rattle.litrs_base.proofs.Chars.{ascii_by_test}
 use Rattle.litrs_grammar.specs.Bool.{IsBool, bool_text}
-use Rattle.litrs_base.specs.Reading.{IsOnlyReading}
+use Rattle.litrs_base.specs.Derivations.{IsOnlyDerivation}
 
 pub same_bool : (b c : Bool) → bool_text b ≡ bool_text c → b ≡ c
 same_bool false false e = refl
@@ -13,7 +13,7 @@ same_bool true false e = cc
 same_bool true true e = refl
 
 -- a bool is the only one of its text
-pub only_bool : (t : List ℕ) (b : Bool) → bool_text b ≡ t → IsOnlyReading (IsBool t) b
+pub only_bool : (t : List ℕ) (b : Bool) → bool_text b ≡ t → IsOnlyDerivation (IsBool t) b
 only_bool t b is = (is, λ c other. same_bool c b (other ∙ sym is))
 
 pub chars-bool_text : (b : Bool) → chars (bool_text b) ≡ bool_text b

@@ -8,9 +8,8 @@ use Rattle.std.proofs.lemmas.Bool.{and_parts, ltb-true}
 use Rattle.std.proofs.lemmas.List.{length-append}
 use Rattle.std.proofs.lemmas.Str.{encodes-append, encode_ascii, length-encode, len_utf8_bounds}
 use Rattle.litrs_base.specs.declared.err.ParseErrorKind.{ParseErrorKind}
-use Rattle.litrs_base.specs.declared.err.ParseError.{ParseError}
+use Rattle.litrs_base.specs.Refusal.{Refusal, IsInText, plain, over, at}
 use Rattle.litrs_base.specs.Text.{byte_len}
-use Rattle.litrs_base.specs.Fault.{IsInText, plain, over, at}
 
 pub byte_len-append : (s t : List ℕ) → byte_len (s ++ t) ≡ byte_len s + byte_len t
 byte_len-append s t = ap length (encodes-append s t) ∙ length-append (encode_utf8_all s) (encode_utf8_all t)
@@ -48,13 +47,13 @@ at_within t a c b place kind spells at_place =
     record { front = a; rest = c ∷ b; cut = spells; start = sym at_place; in_order = omega arith; within = omega arith }
 
 -- what holds of the one refusal, or of none
-pub of_some : (P : ParseError → Type 0) (e : ParseError) → P e → ForSome (Some e) P
+pub of_some : (P : Refusal → Type 0) (e : Refusal) → P e → ForSome (Some e) P
 of_some P e here found h = subst P (let same : Some e ≡ Some found = h in let inside : e ≡ found = cc in inside) here
 
-pub of_none : (P : ParseError → Type 0) → ForSome None P
+pub of_none : (P : Refusal → Type 0) → ForSome None P
 of_none P e h = absurd (cc)
 
 -- no row fits: not the first, nor those below it
-pub none_from : (b : Bool) (e : ParseError) (o : Option ParseError) → cond b (Some e) o ≡ None → (b ≡ false) × (o ≡ None)
+pub none_from : (b : Bool) (e : Refusal) (o : Option Refusal) → cond b (Some e) o ≡ None → (b ≡ false) × (o ≡ None)
 none_from true e o h = absurd (cc)
 none_from false e o h = (refl, h)

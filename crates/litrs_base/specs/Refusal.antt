@@ -1,0 +1,79 @@
+-- Refusals: a kind, and where there is one a span in the text, in bytes. The Rust Reference has none.
+use Rattle.std.specs.Prelude.{ℕ, ◌+◌, ◌<◌, ◌^◌, List, [], ◌++◌, Option, Some, None, IfSome, option_map, codes}
+use Rattle.std.specs.Option.{ForSome}
+use Rattle.std.specs.Fmt.{decimal}
+use Rattle.std.specs.declared.ops.Range.{Range}
+use Rattle.litrs_base.specs.declared.err.ParseErrorKind.{ParseErrorKind}
+use Rattle.litrs_base.specs.declared.err.ParseError.{ParseError}
+use Rattle.litrs_base.specs.Kind.{kind_text}
+use Rattle.litrs_base.specs.Text.{PointsInto}
+use Rattle.litrs_base.specs.CharEnd.{IsCharEnd}
+
+-- what the tables of refusals give for a text: a pair of kind and span
+pub record Refusal : Type 0 where
+  pub span : Option (Range ℕ)
+  pub kind : ParseErrorKind
+
+-- the refusal of this kind with this span
+abbrev pub refusal : Option (Range ℕ) → ParseErrorKind → Refusal
+refusal span kind = record { span = span; kind = kind }
+
+-- a refusal that points at no part of the text
+abbrev pub plain : ParseErrorKind → Refusal
+plain kind = refusal None kind
+
+-- one that points at the bytes from start up to end
+abbrev pub over : ℕ → ℕ → ParseErrorKind → Refusal
+over start end kind = refusal (Some (record { start = start; end = end })) kind
+
+-- one that points at one byte
+abbrev pub at : ℕ → ParseErrorKind → Refusal
+at place kind = over place (place + 1) kind
+
+-- both ends of a span moved
+abbrev pub moved_span : ℕ → Option (Range ℕ) → Option (Range ℕ)
+moved_span offset None = None
+moved_span offset (Some span) = Some (record { start = span.start + offset; end = span.end + offset })
+
+-- the same refusal of a text that stands `offset` bytes further on
+abbrev pub moved : ℕ → Refusal → Refusal
+moved offset r = refusal (moved_span offset r.span) r.kind
+
+-- where the refusal has a span, it lies in the text
+abbrev pub IsInText : List ℕ → Refusal → Type 0
+IsInText t r = IfSome r.span (PointsInto t)
+
+-- what is printed of a span
+abbrev pub span_text : Option (Range ℕ) → List ℕ
+span_text None = []
+span_text (Some span) = codes " (at " ++ decimal span.start ++ codes ".." ++ decimal span.end ++ codes ")"
+
+-- what is printed of a refusal: the description, and the span where there is one
+abbrev pub refusal_text : Refusal → List ℕ
+refusal_text r = kind_text r.kind ++ span_text r.span
+
+-- Errors: what the code answers holds a refusal, and where its span ends in whole characters.
+
+-- the refusal that an error holds
+abbrev pub refusal_of : ParseError → Refusal
+refusal_of e = record { span = e.span; kind = e.kind }
+
+-- its parts
+abbrev pub kind_of : ParseError → ParseErrorKind
+kind_of e = (refusal_of e).kind
+
+abbrev pub span_of : ParseError → Option (Range ℕ)
+span_of e = (refusal_of e).span
+
+-- its character span: its span, up to the end in whole characters
+abbrev pub char_span_of : ParseError → Option (Range ℕ)
+char_span_of e = option_map (λ span. record { start = span.start; end = e.char_end }) (span_of e)
+
+-- where the error has a span, the end in whole characters is that of the span in the text
+abbrev pub HasCharSpan : List ℕ → ParseError → Type 0
+HasCharSpan t e = IfSome (span_of e) (λ span. IsCharEnd t span.end e.char_end)
+
+-- the starts and both ends may move so far
+abbrev pub MovesWithin : ℕ → ParseError → Type 0
+MovesWithin offset e = ForSome (span_of e) (λ span.
+    (span.start + offset < 2 ^ 64) × (span.end + offset < 2 ^ 64) × (e.char_end + offset < 2 ^ 64))

@@ -1,0 +1,102 @@
+-- The refusals of the nine parses. The Rust Reference tells which texts are literals, and not why another is none: the
+-- tables here and in the files of the kinds do.
+use Rattle.std.specs.Prelude.{◌≡◌, ℕ, ◌==◌, ◌||◌, Bool, List, drop, Some, codes, if◌then◌else◌}
+use Rattle.std.specs.Char.{is_ascii_digit}
+use Rattle.std.specs.List.{prefix_len}
+use Rattle.litrs_base.specs.declared.err.ParseErrorKind.TheVariants.{Empty, InvalidLiteral, InvalidStringLiteralStart, InvalidByteStringLiteralStart, InvalidCStringLiteralStart}
+use Rattle.litrs_base.specs.Refusal.{Refusal, plain, at}
+use Rattle.litrs_base.specs.declared.integer.IntegerBase.TheVariants.{Decimal}
+use Rattle.litrs_base.specs.Characters.{period}
+use Rattle.litrs_base.specs.Text.{is_empty, first_passes, begins_with}
+use Rattle.litrs_grammar.specs.StringKind.{StringKind, string_kind, byte_string_kind, c_string_kind}
+use Rattle.litrs_grammar.specs.Bool.{is_bool, bool_refusal}
+use Rattle.litrs_base.specs.Base.{is_digit_or_underscore}
+use Rattle.litrs_grammar.specs.Integer.{is_e, integer_refusal}
+use Rattle.litrs_grammar.specs.Float.{float_refusal}
+use Rattle.litrs_grammar.specs.CharByte.{char_refusal, byte_refusal}
+use Rattle.litrs_grammar.specs.Quoted.{quoted_front, IsQuotedLiteralRefusal}
+use Rattle.litrs_grammar.specs.Raw.{raw_front, raw_literal_refusal}
+use Rattle.litrs_grammar.specs.Literal.{LiteralKind, bool_literal, integer_literal, float_literal, char_literal, byte_literal, string_literal, byte_string_literal, c_string_literal, Parse, literal_parse, kind_parse}
+
+-- Strings of each kind
+
+-- a text that begins with neither front of its kind
+abbrev pub string_start_refusal : StringKind → Refusal
+string_start_refusal string_kind = at 0 InvalidStringLiteralStart
+string_start_refusal byte_string_kind = plain InvalidByteStringLiteralStart
+string_start_refusal c_string_kind = plain InvalidCStringLiteralStart
+
+-- How a text starts: it is refused at once, or the table of quoted or of raw literals tells its refusal.
+pub data StringStart : Type 0 where
+  refused_start : Refusal → StringStart
+  quoted_start : StringStart
+  raw_start : StringStart
+
+-- the first row that fits decides
+abbrev pub string_start : StringKind → List ℕ → StringStart
+string_start kind t =
+    if is_empty t then refused_start (plain Empty)
+    else if begins_with (quoted_front kind) t then quoted_start
+    else if begins_with (raw_front kind) t then raw_start
+    else refused_start (string_start_refusal kind)
+
+-- the refusals of a text that starts so
+abbrev pub IsRefusalOfStart : StringKind → StringStart → List ℕ → Refusal → Type 0
+IsRefusalOfStart kind (refused_start refusal) t e = refusal ≡ e
+IsRefusalOfStart kind quoted_start t e = IsQuotedLiteralRefusal kind t e
+IsRefusalOfStart kind raw_start t e = raw_literal_refusal kind t ≡ Some e
+
+-- the refusals of a text as a string of the kind
+abbrev pub IsStringRefusal : StringKind → List ℕ → Refusal → Type 0
+IsStringRefusal kind t = IsRefusalOfStart kind (string_start kind t) t
+
+-- Each kind by its own table
+
+abbrev pub IsKindRefusal : LiteralKind → List ℕ → Refusal → Type 0
+IsKindRefusal bool_literal t e = bool_refusal t ≡ Some e
+IsKindRefusal integer_literal t e = integer_refusal t ≡ Some e
+IsKindRefusal float_literal t e = float_refusal t ≡ Some e
+IsKindRefusal char_literal t e = char_refusal t ≡ Some e
+IsKindRefusal byte_literal t e = byte_refusal t ≡ Some e
+IsKindRefusal string_literal t e = IsStringRefusal string_kind t e
+IsKindRefusal byte_string_literal t e = IsStringRefusal byte_string_kind t e
+IsKindRefusal c_string_literal t e = IsStringRefusal c_string_kind t e
+
+-- Literals of any kind
+
+-- what a float has behind its integer part: a period, `e` or `E`
+abbrev pub is_float_mark : ℕ → Bool
+is_float_mark c = (c == period) || is_e c
+
+-- behind the leading run of decimal digits and underscores stands such a mark
+abbrev pub begins_float : List ℕ → Bool
+begins_float t = first_passes is_float_mark (drop (prefix_len (is_digit_or_underscore Decimal) t) t)
+
+-- By how a text begins it is read as a literal of one kind, whose table tells its refusal, or no kind begins so and it
+-- is refused at once.
+pub data Dispatch : Type 0 where
+  refused_as : Refusal → Dispatch
+  parsed_as : LiteralKind → Dispatch
+
+-- the first row that fits decides
+unfoldable pub dispatch : List ℕ → Dispatch
+dispatch t =
+    if is_empty t then refused_as (plain Empty)
+    else if is_bool t then parsed_as bool_literal
+    else if first_passes is_ascii_digit t then (if begins_float t then parsed_as float_literal else parsed_as integer_literal)
+    else if begins_with (codes "'") t then parsed_as char_literal
+    else if begins_with (codes "\"") t || begins_with (codes "r") t then parsed_as string_literal
+    else if begins_with (codes "b'") t then parsed_as byte_literal
+    else if begins_with (codes "b\"") t || begins_with (codes "br") t then parsed_as byte_string_literal
+    else if begins_with (codes "c") t then parsed_as c_string_literal
+    else refused_as (plain InvalidLiteral)
+
+-- the refusals of a text that is dispatched so; one that is read as a bool is a bool, and has none
+abbrev pub IsRefusalOfDispatch : Dispatch → List ℕ → Refusal → Type 0
+IsRefusalOfDispatch (refused_as refusal) t e = refusal ≡ e
+IsRefusalOfDispatch (parsed_as kind) t e = IsKindRefusal kind t e
+
+-- e is the refusal of t by the parse
+abbrev pub IsRefusal : Parse → List ℕ → Refusal → Type 0
+IsRefusal literal_parse t e = IsRefusalOfDispatch (dispatch t) t e
+IsRefusal (kind_parse kind) t e = IsKindRefusal kind t e
