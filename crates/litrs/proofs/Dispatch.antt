@@ -15,8 +15,8 @@ use Rattle.litrs_grammar.specs.Integer.{integer_refusal}
 use Rattle.litrs_grammar.specs.LiteralRefusals.{is_float_mark, begins_float}
 use Rattle.litrs.specs.ReadLiteral.{read_refusal}
 use Rattle.litrs_base.proofs.Chars.{OnlyAscii, prefix_len-chars, passing_front, first_passes-chars}
-use Rattle.litrs_lex.proofs.Firsts.{first_passes_at}
-use Rattle.litrs_lex.proofs.IntegerLemmas.{digits_are_ascii, digit-chars, filled_by_first}
+use Rattle.litrs_lex.proofs.SuffixBytes.{first_passes_at}
+use Rattle.litrs_lex.proofs.IntegerBytes.{digits_are_ascii, digit-chars, filled_by_first}
 use Rattle.litrs_grammar.proofs.LiteralLaws.{is_bool-none, bool_refusal-none}
 use Rattle.litrs.proofs.ReadLiteral.{read_rows, read_refusal_by_rows, read_refusal-digit, read_refusal-other}
 

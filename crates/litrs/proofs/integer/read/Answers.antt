@@ -6,7 +6,7 @@ use Rattle.std.proofs.lemmas.Result.{err_from_is_err_and}
 use Rattle.litrs_base.specs.Text.{first_passes}
 use Rattle.litrs_grammar.proofs.IntegerLaws.{refused}
 use Rattle.litrs_grammar.proofs.IntegerSpans.{integer_refusal_within}
-use Rattle.litrs_lex.proofs.IntegerLemmas.{refusal-empty, refusal-no_digit}
+use Rattle.litrs_lex.proofs.IntegerBytes.{refusal-empty, refusal-no_digit}
 use Rattle.litrs.proofs.integer.read.Goals as goal
 
 pub returns-in_err-first_byte_or_empty-clause-none : goal.returns-in_err-first_byte_or_empty-clause-none

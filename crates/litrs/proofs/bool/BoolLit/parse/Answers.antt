@@ -11,9 +11,9 @@ returns-in-false-clause-ok c = only_bool (chars c.args.s.now) false (sym (ap cha
 pub returns-in-true-clause-ok : goal.returns-in-true-clause-ok
 returns-in-true-clause-ok c = only_bool (chars c.args.s.now) true (sym (ap chars c.in-true.is ∙ chars-bool_text true))
 
-pub returns-in_derefusal-clause-none : goal.returns-in_derefusal-clause-none
-returns-in_derefusal-clause-none c = no_bool c.args.s.now c.utf8.s c.in_derefusal.not-false c.in_derefusal.not-true
+pub returns-in_default-clause-none : goal.returns-in_default-clause-none
+returns-in_default-clause-none c = no_bool c.args.s.now c.utf8.s c.in_default.not-false c.in_default.not-true
 
-pub returns-in_derefusal-clause-refusal : goal.returns-in_derefusal-clause-refusal
-returns-in_derefusal-clause-refusal c =
-    bool_refusal-none (chars c.args.s.now) (no_bool c.args.s.now c.utf8.s c.in_derefusal.not-false c.in_derefusal.not-true) ∙ ap Some (sym c.new.ensures)
+pub returns-in_default-clause-refusal : goal.returns-in_default-clause-refusal
+returns-in_default-clause-refusal c =
+    bool_refusal-none (chars c.args.s.now) (no_bool c.args.s.now c.utf8.s c.in_default.not-false c.in_default.not-true) ∙ ap Some (sym c.new.ensures)

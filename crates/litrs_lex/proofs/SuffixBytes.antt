@@ -1,12 +1,23 @@
--- The first byte and the first character.
-use Rattle.std.proofs.Common.{◌≡◌, ℕ, Bool, true, false, not, ◌&&◌, ◌||◌, eqb, List, [], ◌∷◌, slice_get, Some, None, refl, ap}
+-- Suffixes, by the first character and the first byte of a text.
+use Rattle.std.proofs.Common.{◌≡◌, ℕ, true, not, ◌&&◌, eqb, List, [], ◌∷◌, refl, ap, Bool, false, ◌||◌, slice_get, Some, None}
+use Rattle.std.specs.List.{list_all}
+use Rattle.unicode_ident.specs.Ident.{is_xid_continue}
+use Rattle.litrs_base.specs.Text.{is_empty, first_passes}
+use Rattle.litrs_grammar.specs.Suffix.{starts_identifier, is_suffix, is_ascii_symbol, suffix_refusal}
 use Rattle.std.specs.Str.{chars, IsUtf8}
 use Rattle.std.specs.Char.{is_ascii_alphabetic}
 use Rattle.std.proofs.lemmas.Bool.{le-ltb}
 use Rattle.litrs_base.specs.declared.err.ParseErrorKind.TheVariants.{UnexpectedChar, InvalidSuffix}
-use Rattle.litrs_base.specs.Text.{first_passes}
-use Rattle.litrs_grammar.specs.Suffix.{is_ascii_symbol, suffix_refusal}
 use Rattle.litrs_base.proofs.Chars.{OnlyAscii, first_passes-chars}
+
+pub is_suffix-nil : is_suffix [] ≡ true
+unfolding is_suffix
+is_suffix-nil = refl
+
+pub is_suffix-cons : (t : List ℕ) (c : ℕ) (cs : List ℕ) → t ≡ c ∷ cs →
+    is_suffix t ≡ ((starts_identifier c && list_all is_xid_continue cs) && not (eqb c 95 && is_empty cs))
+unfolding is_suffix
+is_suffix-cons t c cs e = ap is_suffix e
 
 pub first_passes_at : (p : ℕ → Bool) (bs : List ℕ) (b : ℕ) → slice_get bs 0 ≡ Some b → first_passes p bs ≡ p b
 first_passes_at p [] b e = cc
