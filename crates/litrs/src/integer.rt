@@ -1,5 +1,5 @@
 //! Integer literals.
-ghost use Rattle.std.specs.Prelude.{◌≡◌, ◌≤◌, ℕ, length, Bool, false, IsTrue, MatchOption, slice_index, IsOk, IfOk, OnErr, IfErr, Some, nat_eq, ⊤};
+ghost use Rattle.std.specs.Prelude.{◌≡◌, ◌≤◌, ℕ, length, Bool, false, IsTrue, MatchOption, slice_index, IsOk, IfOk, IfErr, Some, nat_eq, ⊤};
 ghost use Rattle.std.specs.Char.{is_ascii_digit};
 ghost use Rattle.std.specs.Cmp.{on_per, on_equiv, partial_equiv_from_equiv};
 ghost use Rattle.std.specs.Cmp.Lexicographic.{pointwise, nat_list_eq_equiv};
@@ -10,11 +10,12 @@ ghost use Rattle.litrs_base.specs.Base.{base_value, is_digit_or_underscore};
 ghost use Rattle.litrs.specs.IntegerLiteral.{IntegerLiteral, integer_parts};
 ghost use Rattle.litrs_base.specs.Numeral.{numeral};
 ghost use Rattle.litrs_grammar.specs.Integer.{integer_value};
-ghost use Rattle.litrs_base.specs.Derivations.{IsOnlyDerivation, HasNoDerivation};
-ghost use Rattle.litrs_base.specs.Refusal.{IsInText};
+ghost use Rattle.litrs_base.specs.Derivations.{IsOnlyDerivation};
+ghost use Rattle.litrs_grammar.specs.Literal.{kind_parse, integer_literal};
+ghost use Rattle.litrs_grammar.specs.Refused.{IsRefused};
 ghost use Rattle.litrs_base.specs.Text.{first_passes};
 ghost use Rattle.litrs_lex.specs.IntegerCut.{parts_at, IsWithin, IsIntegerAt, IsDigitsCut};
-ghost use Rattle.litrs_grammar.specs.Integer.{IsIntegerOf, integer_refusal, cut_refusal, integer_cut, is_e, base_of};
+ghost use Rattle.litrs_grammar.specs.Integer.{IsIntegerOf};
 
 use litrs_lex::{
     Buffer, FromIntegerLiteral, IntegerBase, IntegerCut, ParseError, ParseErrorKind, cut_integer,
@@ -58,12 +59,12 @@ impl<B: Buffer> IntegerLit<B> {
     pub fn parse(input: B) -> Result<IntegerLit<B>, ParseError>
         ensures buffer { IfOk result (λ lit. lit.buffer ≡ input) }
         ensures raw { IfOk result (λ lit. lit.raw ≡ B.bytes input) }
-        ensures ok { IfOk result (λ lit. IsOnlyDerivation (IsIntegerOf (chars (B.bytes input))) (integer_parts lit)) }
-        ensures none { OnErr result (HasNoDerivation (IsIntegerOf (chars (B.bytes input)))) }
-        ensures refusal { IfErr result (λ e. integer_refusal (chars (B.bytes input)) ≡ Some e) }
-        ensures span { IfErr result (IsInText (chars (B.bytes input))) }
+        ensures ok { IfOk result (λ lit.
+            IsOnlyDerivation (IsIntegerOf (chars (B.bytes input))) (integer_parts lit)) }
+        ensures refused { IfErr result
+            (IsRefused (kind_parse integer_literal) (chars (B.bytes input))) }
     {
-        let cut = read(input.as_str())?;
+        let cut = cut(input.as_str())?;
         Ok(IntegerLit { raw: input, cut })
     }
 
@@ -130,6 +131,15 @@ impl<B: Buffer> IntegerLit<B> {
     }
 }
 
+impl<B: Buffer + Copy> IntegerLit<B> {
+    /// The same literal again: the copy of a literal whose buffer is `Copy`.
+    pub fn copied(&self) -> Self
+        ensures { result ≡ self.now }
+    {
+        *self
+    }
+}
+
 impl IntegerLit<&str> {
     /// The same literal with a text of its own.
     ///
@@ -146,18 +156,17 @@ impl IntegerLit<&str> {
 }
 
 /// Where the text is cut, if it is an integer.
-fn read(input: &str) -> Result<IntegerCut, ParseError>
-    ensures ok { IfOk result (λ cut. IsOnlyDerivation (IsIntegerOf (chars input.now)) (parts_at cut input.now)) }
+fn cut(input: &str) -> Result<IntegerCut, ParseError>
+    ensures ok { IfOk result (λ cut.
+        IsOnlyDerivation (IsIntegerOf (chars input.now)) (parts_at cut input.now)) }
     ensures places { IfOk result (λ cut. IsWithin cut input.now) }
-    ensures none { OnErr result (HasNoDerivation (IsIntegerOf (chars input.now))) }
-    ensures refusal { IfErr result (λ e. integer_refusal (chars input.now) ≡ Some e) }
-    ensures span { IfErr result (IsInText (chars input.now)) }
+    ensures refused { IfErr result (IsRefused (kind_parse integer_literal) (chars input.now)) }
 {
     first_byte_or_empty(input)?;
     if begins_with_digit(input.as_bytes()) {
         cut_integer(input)
     } else {
-        Err(ParseError::new(Some(0..1), ParseErrorKind::DoesNotStartWithDigit))
+        Err(ParseError::in_text(input, Some(0..1), ParseErrorKind::DoesNotStartWithDigit))
     }
 }
 

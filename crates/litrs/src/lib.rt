@@ -8,10 +8,10 @@ ghost use Rattle.std.specs.Prelude.{◌≡◌, ◌≢◌, false, nat_eq, IsOk, I
 ghost use Rattle.std.specs.Cmp.{on_per, on_equiv, partial_equiv_from_equiv};
 ghost use Rattle.std.specs.Cmp.Lexicographic.{pointwise, nat_list_eq_equiv};
 ghost use Rattle.std.specs.Str.{chars};
-ghost use Rattle.litrs_base.specs.Refusal.{kind_of, IsInText};
-ghost use Rattle.litrs_base.specs.Derivations.{IsOnlyDerivation, HasNoDerivation};
+ghost use Rattle.litrs_base.specs.Refusal.{kind_of};
+ghost use Rattle.litrs_base.specs.Derivations.{IsOnlyDerivation};
 ghost use Rattle.litrs_grammar.specs.Literal.{IsLiteral, suffix_of};
-ghost use Rattle.litrs.specs.ReadLiteral.{IsReadLiteral, read_refusal};
+ghost use Rattle.litrs.specs.Parsed.{IsParseRefused};
 ghost use Rattle.litrs.specs.LiteralDerivation.{literal_raw, derivation};
 
 pub use bool::BoolLit;
@@ -19,6 +19,7 @@ pub use integer::IntegerLit;
 pub use litrs_lex::{
     Buffer, FromIntegerLiteral, IntegerBase, IntegerType, ParseError, ParseErrorKind,
 };
+use parse::Dispatched;
 use std::alloc::{AllocError, Global};
 use std::fmt;
 
@@ -50,17 +51,17 @@ impl<B: Buffer> Literal<B> {
     /// else `InvalidLiteral`, also of a text that begins like a kind that is not read, as `1.5` or `"a"`.
     pub fn parse(_alloc: Global, input: B) -> Result<Literal<B>, ParseError>
         ensures raw { IfOk result (λ lit. literal_raw lit ≡ B.bytes input) }
-        ensures ok { IfOk result (λ lit. IsOnlyDerivation (IsLiteral (chars (B.bytes input))) (derivation lit)) }
-        ensures none { OnErr result (HasNoDerivation (IsReadLiteral (chars (B.bytes input)))) }
-        ensures refusal { IfErr result (λ e. read_refusal (chars (B.bytes input)) ≡ Some e) }
-        ensures span { IfErr result (IsInText (chars (B.bytes input))) }
-        // No text of these kinds takes memory.
+        ensures ok { IfOk result (λ lit.
+            IsOnlyDerivation (IsLiteral (chars (B.bytes input))) (derivation lit)) }
+        ensures refused { IfErr result (IsParseRefused (chars (B.bytes input))) }
+        // No text of these kinds allocates.
         ensures memory { IfErr result (λ e. kind_of e ≢ ParseErrorKind.OutOfMemory) }
     {
-        match parse::kind_of(input.as_str()) {
-            parse::Kind::Bool(lit) => Ok(Literal::Bool(lit)),
-            parse::Kind::Integer => Ok(Literal::Integer(IntegerLit::parse(input)?)),
-            parse::Kind::Refused(e) => Err(e),
+        match parse::dispatch(input.as_str()) {
+            Dispatched::Refused(e) => Err(e),
+            Dispatched::Bool(lit) => Ok(Literal::Bool(lit)),
+            Dispatched::Integer => Ok(Literal::Integer(IntegerLit::parse(input)?)),
+            _ => Err(ParseError::new(None, ParseErrorKind::InvalidLiteral)),
         }
     }
 
