@@ -1,5 +1,5 @@
 -- What refuses a text as a literal of its kind refuses it as a literal of the kinds that are parsed.
-use Rattle.std.proofs.Common.{◌≡◌, ◌≢◌, ℕ, Bool, true, false, List, Option, None, Some, refl, sym, ap, subst, ◌∙◌}
+use Rattle.std.proofs.Common.{◌≡◌, ◌≢◌, ◌⊎◌, inl, inr, ℕ, Bool, true, false, List, Option, None, Some, refl, sym, ap, subst, ◌∙◌}
 use Rattle.std.specs.Prelude.{IsTrue}
 use Rattle.std.specs.Str.{chars, IsUtf8}
 use Rattle.std.specs.declared.ops.Range.{Range}
@@ -10,9 +10,9 @@ use Rattle.litrs_base.specs.Refusal.{Refusal, refusal, refusal_of, kind_of, span
 use Rattle.litrs_base.specs.Derivations.{IsOnlyDerivation}
 use Rattle.litrs_base.proofs.CharEnds.{no_span, char_span_points}
 use Rattle.litrs_grammar.specs.Literal.{Derivation, a_bool, an_integer, IsLiteral, LiteralKind, bool_literal, integer_literal, float_literal, char_literal, byte_literal, string_literal, byte_string_literal, c_string_literal, literal_kind, literal_parse, kind_parse}
-use Rattle.litrs_grammar.specs.LiteralRefusals.{Dispatch, refused_as, parsed_as, dispatch, IsRefusalOfDispatch}
+use Rattle.litrs_grammar.specs.LiteralRefusals.{IsKindRefusal, Dispatch, refused_as, parsed_as, dispatch, IsRefusalOfDispatch}
 use Rattle.litrs_grammar.specs.Refused.{IsRefused}
-use Rattle.litrs_grammar.proofs.LiteralLaws.{dispatch_literal, dispatch_refusal, literals_are_unique}
+use Rattle.litrs_grammar.proofs.LiteralLaws.{dispatch_literal, literals_are_unique, literals_are_not_refused, refusals_are_unique, texts_are_decided}
 use Rattle.litrs_grammar.proofs.RefusalKinds.{no_refusal_is_of_memory}
 use Rattle.litrs.specs.declared.bool.BoolLit.{BoolLit}
 use Rattle.litrs.specs.declared.parse.Dispatched.{Dispatched}
@@ -127,3 +127,47 @@ pub unparsed_refused_at : (bytes text : List ℕ) (e : ParseError) (d : Dispatch
 unparsed_refused_at bytes text e d u same is refused bool integer plain_one =
     let k = unparsed_kind d refused bool integer in
     unparsed_refused k.0 (chars bytes) e (row_at bytes text (parsed_as k.0) u same (sym k.1 ∙ is)) k.2 plain_one
+
+-- Each text is a literal of a kind that is parsed, or refused: one of the two, and in one way.
+
+where_refused : (v : Bool) (kind : LiteralKind) (t : List ℕ) → is_parsed kind ≡ v → (v ≡ true → (r : Refusal) × IsKindRefusal kind t r) →
+    (r : Refusal) × IsRefusalWhere v kind t r
+where_refused true kind t there refused = refused refl
+where_refused false kind t there refused = (plain InvalidLiteral, refl)
+
+literal_parsed : (v : Bool) (t : List ℕ) (d : Derivation) → is_parsed (literal_kind d) ≡ v → IsLiteral t d →
+    ((e : Derivation) × IsParsed t e) ⊎ ((r : Refusal) × IsParsedRefusal t r)
+literal_parsed true t d there r = inl (d, (r, there))
+literal_parsed false t d there r =
+    inr (plain InvalidLiteral, same_refusals t _ (parsed_as (literal_kind d)) (dispatch_literal t d r)
+    (subst (λ (v : Bool). IsRefusalWhere v (literal_kind d) t (plain InvalidLiteral)) (sym there) refl))
+
+refused_parsed : (row : Dispatch) (t : List ℕ) (r : Refusal) → IsRefusalOfDispatch row t r → (s : Refusal) × IsParsedRefusalOf row t s
+refused_parsed (refused_as refusal) t r table = (r, table)
+refused_parsed (parsed_as kind) t r table = where_refused (is_parsed kind) kind t refl (λ there. (r, table))
+
+pub parsed_or_refused : (t : List ℕ) → ((d : Derivation) × IsParsed t d) ⊎ ((r : Refusal) × IsParsedRefusal t r)
+parsed_or_refused t = elim (texts_are_decided literal_parse t) [
+  | inl d ↦ literal_parsed (is_parsed (literal_kind d.0)) t d.0 refl d.1
+  | inr r ↦ inr (refused_parsed (dispatch t) t r.0 r.1)
+]
+
+not_where : (v : Bool) (kind : LiteralKind) (t : List ℕ) (d : Derivation) (r : Refusal) → v ≡ true → literal_kind d ≡ kind → IsLiteral t d → ¬ IsRefusalWhere v kind t r
+not_where true kind t d r there is literal table = literals_are_not_refused (kind_parse kind) t d r (is, literal) table
+not_where false kind t d r there is literal table = cc
+
+pub parsed_not_refused : (t : List ℕ) (d : Derivation) (r : Refusal) → IsParsed t d → ¬ IsParsedRefusal t r
+parsed_not_refused t d r literal table =
+    not_where (is_parsed (literal_kind d)) (literal_kind d) t d r literal.1 refl literal.0
+    (back t r (parsed_as (literal_kind d)) (dispatch_literal t d literal.0) table)
+
+one_where : (v : Bool) (kind : LiteralKind) (t : List ℕ) (r s : Refusal) → IsRefusalWhere v kind t r → IsRefusalWhere v kind t s → r ≡ s
+one_where true kind t r s a b = refusals_are_unique (kind_parse kind) t r s a b
+one_where false kind t r s a b = sym a ∙ b
+
+one_of_row : (row : Dispatch) (t : List ℕ) (r s : Refusal) → IsParsedRefusalOf row t r → IsParsedRefusalOf row t s → r ≡ s
+one_of_row (refused_as refusal) t r s a b = sym a ∙ b
+one_of_row (parsed_as kind) t r s a b = one_where (is_parsed kind) kind t r s a b
+
+pub parsed_refusals_are_unique : (t : List ℕ) (r s : Refusal) → IsParsedRefusal t r → IsParsedRefusal t s → r ≡ s
+parsed_refusals_are_unique t r s a b = one_of_row (dispatch t) t r s a b

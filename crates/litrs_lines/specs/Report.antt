@@ -1,18 +1,15 @@
--- The report on a line, made from the derivation of the text or from its refusal.
-use Rattle.std.specs.Prelude.{ℕ, nat_le, List, [], ◌++◌, Option, Some, None, codes, if◌then◌else◌, true, false}
+-- The report on a line: of the derivation of its text, or of its refusal.
+use Rattle.std.specs.Prelude.{◌≡◌, ◌⊎◌, ℕ, nat_le, List, [], ◌++◌, codes, if◌then◌else◌}
 use Rattle.std.specs.Fmt.{decimal}
-use Rattle.std.specs.Str.{chars, is_utf8, encode_utf8_all}
+use Rattle.std.specs.Str.{chars, IsUtf8, encode_utf8_all}
 use Rattle.litrs_base.specs.declared.integer.IntegerType.TheVariants.{U128}
-use Rattle.litrs_base.specs.declared.err.ParseError.{ParseError}
-use Rattle.litrs_base.specs.Refusal.{refusal_text}
-use Rattle.litrs_base.specs.Text.{is_text}
-use Rattle.litrs_grammar.specs.Bool.{bool_text}
 use Rattle.litrs_base.specs.Base.{base_value}
-use Rattle.litrs_grammar.specs.Integer.{integer_cut}
 use Rattle.litrs_base.specs.Numeral.{greatest_of}
+use Rattle.litrs_base.specs.Refusal.{Refusal, refusal_text}
+use Rattle.litrs_grammar.specs.Bool.{bool_text}
 use Rattle.litrs_grammar.specs.Integer.{integer_value}
 use Rattle.litrs_grammar.specs.Literal.{Derivation, a_bool, an_integer, a_float, a_char, a_byte, a_string, a_byte_string, a_c_string}
-use Rattle.litrs.specs.ReadLiteral.{read_refusal}
+use Rattle.litrs.specs.Parsed.{IsParsed, IsParsedRefusal}
 
 -- a value in decimal, or `none` where 128 bits do not hold it
 abbrev pub value_text : ℕ → List ℕ
@@ -36,22 +33,17 @@ literal_report (a_byte_string d) = []
 literal_report (a_c_string d) = []
 
 -- `error`, and what is printed of the refusal
-abbrev pub refusal_report : ParseError → List ℕ
+abbrev pub refusal_report : Refusal → List ℕ
 refusal_report e = codes "error " ++ refusal_text e
 
--- of a text that is a literal, its derivation
-abbrev pub derivation_of : List ℕ → Derivation
-derivation_of t = if is_text (bool_text true) t then a_bool true else if is_text (bool_text false) t then a_bool false else an_integer (integer_cut t)
+-- r is the report on a text: that of its derivation, or that of its refusal
+abbrev pub IsTextReport : List ℕ → List ℕ → Type 0
+IsTextReport t r =
+    ((d : Derivation) × IsParsed t d × (r ≡ literal_report d))
+    ⊎ ((e : Refusal) × IsParsedRefusal t e × (r ≡ refusal_report e))
 
--- the report of a text: of its refusal, or where there is none of its derivation
-abbrev pub text_report_by : Option ParseError → Derivation → List ℕ
-text_report_by None d = literal_report d
-text_report_by (Some e) d = refusal_report e
-
--- the report of a text
-abbrev pub text_report : List ℕ → List ℕ
-text_report t = text_report_by (read_refusal t) (derivation_of t)
-
--- the report of a line, whose bytes may be no text
-unfoldable pub report_of : List ℕ → List ℕ
-report_of line = if is_utf8 line then text_report (chars line) else codes "error input is not UTF-8"
+-- r is the report on a line, whose bytes may be no text
+abbrev pub IsReport : List ℕ → List ℕ → Type 0
+IsReport line r =
+    (IsUtf8 line × IsTextReport (chars line) r)
+    ⊎ ((IsUtf8 line → ⊥) × (r ≡ codes "error input is not UTF-8"))

@@ -5,7 +5,8 @@ ghost use Rattle.litrs.specs.LiteralDerivation.{derivation};
 ghost use Rattle.litrs_grammar.specs.Integer.{integer_value};
 ghost use Rattle.litrs.specs.IntegerLiteral.{integer_parts};
 ghost use Rattle.litrs_grammar.specs.Literal.{an_integer};
-ghost use Rattle.litrs_lines.specs.Report.{value_text, integer_front, literal_report, text_report, report_of};
+ghost use Rattle.litrs_lines.specs.Report.{value_text, integer_front, literal_report};
+ghost use Rattle.litrs_lines.specs.Reported.{text_report, report_of};
 
 use litrs::{Buffer, IntegerLit, Literal};
 use std::alloc::{AllocError, Global};
