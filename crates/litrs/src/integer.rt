@@ -18,7 +18,7 @@ ghost use Rattle.litrs_lex.specs.IntegerCut.{parts_at, IsWithin, IsIntegerAt, Is
 ghost use Rattle.litrs_grammar.specs.Integer.{IsIntegerOf};
 
 use litrs_lex::{
-    Buffer, FromIntegerLiteral, IntegerBase, IntegerCut, ParseError, ParseErrorKind, cut_integer,
+    FromIntegerLiteral, IntegerBase, IntegerCut, ParseError, ParseErrorKind, Text, cut_integer,
     first_byte_or_empty, hex_digit_value,
 };
 use std::alloc::{AllocError, Global};
@@ -32,12 +32,12 @@ use std::marker::Model;
 /// reference][ref].
 ///
 /// [ref]: https://doc.rust-lang.org/reference/tokens.html#integer-literals
-pub struct IntegerLit<B: Buffer> {
+pub struct IntegerLit<B: Text> {
     raw: B,
     cut: IntegerCut,
 }
 
-impl<B: Buffer> Model for IntegerLit<B> {
+impl<B: Text> Model for IntegerLit<B> {
     ghost Value = { IntegerLiteral B };
 
     ghost view = { λ s. record { buffer = s.raw; raw = B.bytes s.raw; cut = s.cut } };
@@ -47,7 +47,7 @@ impl<B: Buffer> Model for IntegerLit<B> {
     ghost invariant = { λ s. IsIntegerAt s.cut (B.bytes s.raw) };
 }
 
-impl<B: Buffer> IntegerLit<B> {
+impl<B: Text> IntegerLit<B> {
     /// Derives a text that is one integer. It takes no memory.
     ///
     /// `0xFF_u8` has the base 16, the main part `FF_` and the suffix `u8`.
@@ -190,7 +190,7 @@ fn value_of<N: FromIntegerLiteral>(base: IntegerBase, main: &[u8]) -> Option<N>
     Some(number)
 }
 
-impl<B: Buffer> PartialEq for IntegerLit<B> {
+impl<B: Text> PartialEq for IntegerLit<B> {
     ghost eq = { λ x y. pointwise nat_eq x.raw y.raw };
 
     ghost laws = { on_per (λ lit. lit.raw) (partial_equiv_from_equiv nat_list_eq_equiv) };
@@ -200,13 +200,13 @@ impl<B: Buffer> PartialEq for IntegerLit<B> {
     }
 }
 
-impl<B: Buffer> Eq for IntegerLit<B> {
+impl<B: Text> Eq for IntegerLit<B> {
     ghost laws = { on_equiv (λ lit. lit.raw) nat_list_eq_equiv };
 }
 
-impl<B: Buffer + Copy> Copy for IntegerLit<B> {}
+impl<B: Text + Copy> Copy for IntegerLit<B> {}
 
-impl<B: Buffer + Copy> Clone for IntegerLit<B> {
+impl<B: Text + Copy> Clone for IntegerLit<B> {
     ghost is_clone = { λ lit copy. copy ≡ lit };
 
     ghost is_infallible = { λ _. ⊤ };
@@ -219,7 +219,7 @@ impl<B: Buffer + Copy> Clone for IntegerLit<B> {
     }
 }
 
-impl<B: Buffer> fmt::Display for IntegerLit<B> {
+impl<B: Text> fmt::Display for IntegerLit<B> {
     ghost output = { λ lit. Some lit.raw };
 
     fn fmt<W: fmt::Write>(&self, f: &mut fmt::Formatter<W>) -> fmt::Result {

@@ -17,7 +17,7 @@ ghost use Rattle.litrs.specs.LiteralDerivation.{literal_raw, derivation};
 pub use bool::BoolLit;
 pub use integer::IntegerLit;
 pub use litrs_lex::{
-    Buffer, FromIntegerLiteral, IntegerBase, IntegerType, ParseError, ParseErrorKind,
+    Buffer, FromIntegerLiteral, IntegerBase, IntegerType, ParseError, ParseErrorKind, Text,
 };
 use parse::Dispatched;
 use std::alloc::{AllocError, Global};
@@ -33,14 +33,14 @@ mod tests;
 ///
 /// [ref]: https://doc.rust-lang.org/reference/tokens.html#literals
 #[derive(Drop)]
-pub enum Literal<B: Buffer> {
+pub enum Literal<B: Text> {
     /// `true` or `false`.
     Bool(BoolLit),
     /// A number without a period or an exponent, as `0xFF_u8`.
     Integer(IntegerLit<B>),
 }
 
-impl<B: Buffer> Literal<B> {
+impl<B: Text> Literal<B> {
     /// Derives a text that is one literal, of the kind that it begins like.
     ///
     /// `true` is a bool, `1_000u32` an integer with the suffix `u32`. Bools and integers are read today.
@@ -87,7 +87,7 @@ impl<B: Buffer> Literal<B> {
     }
 }
 
-impl<B: Buffer> Literal<B> {
+impl<B: Text> Literal<B> {
     /// The same literal again. Over `&str` it takes no memory and succeeds.
     ///
     /// # Errors
@@ -122,7 +122,7 @@ impl Literal<&str> {
     }
 }
 
-impl<B: Buffer> From<BoolLit> for Literal<B> {
+impl<B: Text> From<BoolLit> for Literal<B> {
     ghost use Rattle.litrs.specs.declared.Literal.TheVariants.{Bool};
 
     ghost from_gives = { λ lit literal. literal ≡ Bool lit };
@@ -132,7 +132,7 @@ impl<B: Buffer> From<BoolLit> for Literal<B> {
     }
 }
 
-impl<B: Buffer> From<IntegerLit<B>> for Literal<B> {
+impl<B: Text> From<IntegerLit<B>> for Literal<B> {
     ghost use Rattle.litrs.specs.declared.Literal.TheVariants.{Integer};
 
     ghost from_gives = { λ lit literal. literal ≡ Integer lit };
@@ -142,7 +142,7 @@ impl<B: Buffer> From<IntegerLit<B>> for Literal<B> {
     }
 }
 
-impl<B: Buffer> PartialEq for Literal<B> {
+impl<B: Text> PartialEq for Literal<B> {
     ghost eq = { λ x y. pointwise nat_eq (literal_raw x) (literal_raw y) };
 
     ghost laws = { on_per (λ lit. literal_raw lit) (partial_equiv_from_equiv nat_list_eq_equiv) };
@@ -152,11 +152,11 @@ impl<B: Buffer> PartialEq for Literal<B> {
     }
 }
 
-impl<B: Buffer> Eq for Literal<B> {
+impl<B: Text> Eq for Literal<B> {
     ghost laws = { on_equiv (λ lit. literal_raw lit) nat_list_eq_equiv };
 }
 
-impl<B: Buffer> fmt::Display for Literal<B> {
+impl<B: Text> fmt::Display for Literal<B> {
     ghost output = { λ lit. Some (literal_raw lit) };
 
     fn fmt<W: fmt::Write>(&self, f: &mut fmt::Formatter<W>) -> fmt::Result {

@@ -1,7 +1,7 @@
 //! What every layer names: the buffers of texts, the types of integers, escapes, and refusals.
 #![tactic(auto)]
 
-pub use buffer::Buffer;
+pub use buffer::{Buffer, Text};
 pub use err::{ParseError, ParseErrorKind};
 pub use escape::Unescape;
 pub use from_integer_literal::FromIntegerLiteral;
@@ -12,3 +12,5 @@ pub mod err;
 pub mod escape;
 pub mod from_integer_literal;
 pub mod integer;
+#[cfg(test)]
+mod tests;

@@ -3,7 +3,7 @@
 
 pub use integer::{IntegerCut, cut_integer};
 pub use litrs_base::{
-    Buffer, FromIntegerLiteral, IntegerBase, IntegerType, ParseError, ParseErrorKind, Unescape,
+    Buffer, FromIntegerLiteral, IntegerBase, IntegerType, ParseError, ParseErrorKind, Text, Unescape,
 };
 pub use parse::{check_suffix, end_dec_digits, first_byte_or_empty, hex_digit_value};
 
