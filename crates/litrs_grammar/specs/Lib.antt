@@ -11,7 +11,7 @@ pub mod Literal
 pub mod LiteralRefusals
 pub mod Refused
 pub mod Closing
-pub mod Growth
+pub mod Allocation
 pub mod EscapeLaws
 pub mod QuotedLaws
 pub mod CharByteLaws
