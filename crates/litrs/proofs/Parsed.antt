@@ -139,8 +139,11 @@ literal_parsed : (v : Bool) (t : List ℕ) (d : Derivation) → is_parsed (liter
     ((e : Derivation) × IsParsed t e) ⊎ ((r : Refusal) × IsParsedRefusal t r)
 literal_parsed true t d there r = inl (d, (r, there))
 literal_parsed false t d there r =
-    inr (plain InvalidLiteral, same_refusals t _ (parsed_as (literal_kind d)) (dispatch_literal t d r)
-    (subst (λ (v : Bool). IsRefusalWhere v (literal_kind d) t (plain InvalidLiteral)) (sym there) refl))
+    inr (
+      plain InvalidLiteral,
+      same_refusals t _ (parsed_as (literal_kind d)) (dispatch_literal t d r)
+          (subst (λ (v : Bool). IsRefusalWhere v (literal_kind d) t (plain InvalidLiteral)) (sym there) refl),
+    )
 
 refused_parsed : (row : Dispatch) (t : List ℕ) (r : Refusal) → IsRefusalOfDispatch row t r → (s : Refusal) × IsParsedRefusalOf row t s
 refused_parsed (refused_as refusal) t r table = (r, table)

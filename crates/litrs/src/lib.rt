@@ -17,7 +17,8 @@ ghost use Rattle.litrs.specs.LiteralDerivation.{literal_raw, derivation};
 pub use bool::BoolLit;
 pub use integer::IntegerLit;
 pub use litrs_lex::{
-    Buffer, FromIntegerLiteral, IntegerBase, IntegerType, ParseError, ParseErrorKind, Text,
+    Buffer, FloatType, FromIntegerLiteral, IntegerBase, IntegerType, ParseError, ParseErrorKind,
+    Text,
 };
 use parse::Dispatched;
 use std::alloc::{AllocError, Global};
@@ -41,7 +42,7 @@ pub enum Literal<B: Text> {
 }
 
 impl<B: Text> Literal<B> {
-    /// Derives a text that is one literal, of the kind that it begins like.
+    /// Reads a text that is one literal, of the kind that it begins like.
     ///
     /// `true` is a bool, `1_000u32` an integer with the suffix `u32`. Bools and integers are read today.
     ///

@@ -1,7 +1,8 @@
 //! Literals over both buffers: texts, parts, values and refusals.
 use crate::ParseErrorKind::{self, *};
 use crate::{
-    BoolLit, FromIntegerLiteral, IntegerBase, IntegerLit, IntegerType, Literal, ParseError, Text,
+    BoolLit, Buffer, FloatType, FromIntegerLiteral, IntegerBase, IntegerLit, IntegerType, Literal,
+    ParseError, Text,
 };
 use litrs_lex::{check_suffix, cut_integer, end_dec_digits, first_byte_or_empty, hex_digit_value};
 use std::alloc::{AllocError, Global};
@@ -462,6 +463,23 @@ fn names_of_no_type(rt: HostRuntime) {
         assert_eq!(rt; IntegerType::from_suffix(name), None);
         assert_eq!(rt; name.parse::<IntegerType>(), Err(()));
     }
+}
+
+#[test]
+fn float_types_by_their_names(rt: HostRuntime) -> Result<(), Fail> {
+    for (ty, name) in [(FloatType::F32, "f32"), (FloatType::F64, "f64")] {
+        assert_eq!(rt; ty.suffix(), name);
+        assert_eq!(rt; FloatType::from_suffix(name), Some(ty));
+        assert_eq!(rt; name.parse::<FloatType>(), Ok(ty));
+        assert_eq!(rt; ty.to_string(rt.alloc())?.as_str(), name);
+    }
+    let padded = format!(in rt.alloc(); "{:<6}|{:>6}|", FloatType::F32, FloatType::F64)?;
+    assert_eq!(rt; padded.as_str(), "f32   |   f64|");
+    for name in ["", "f", "u32", "F32", "f16", "f128", "f64 "] {
+        assert_eq!(rt; FloatType::from_suffix(name), None);
+        assert_eq!(rt; name.parse::<FloatType>(), Err(()));
+    }
+    Ok(())
 }
 
 #[test]

@@ -1,4 +1,4 @@
-//! Derives lines and writes a report on each.
+//! Reads lines and writes a report on each.
 #![tactic(auto)]
 
 ghost use Rattle.std.specs.Prelude.{◌≡◌, ◌≢◌, ◌↔◌, ◌∷◌, [], ◌++◌, true, false, Some, IsSome, IfSome, IsErrOf, OnOk, OnErr, position, string_bytes};
@@ -190,7 +190,7 @@ fn finish<O: Output>(
     }
 }
 
-/// Derives to the end of the input, writes the report on each line and an LF behind it, and flushes
+/// Reads to the end of the input, writes the report on each line and an LF behind it, and flushes
 /// once at the end.
 ///
 /// A line is the bytes before an LF, without it, and what stands behind the last LF where that is
