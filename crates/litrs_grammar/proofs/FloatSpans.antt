@@ -11,7 +11,7 @@ use Rattle.litrs_base.specs.Refusal.{Refusal, IsInText, plain, over, at}
 use Rattle.litrs_base.specs.Text.{is_empty, byte_len}
 use Rattle.litrs_grammar.specs.Suffix.{suffix_refusal}
 use Rattle.litrs_grammar.specs.Integer.{is_e}
-use Rattle.litrs_grammar.specs.Float.{FloatParts, fraction_text, float_text, is_decimal_char, is_period, is_sign, sign_len, IsFloat, IsFloatOf, has_wrong_fraction, float_refusal}
+use Rattle.litrs_grammar.specs.Float.{FloatParts, fraction_text, number_part, float_text, is_decimal_char, is_period, is_sign, sign_len, IsFloat, IsFloatOf, has_wrong_fraction, float_refusal}
 use Rattle.litrs_base.proofs.Runs.{last_passes, is_line_feed, line_feed_last, last_passes-all, last_passes-both, list_all-append, list_all-weaken}
 use Rattle.litrs_base.proofs.Spans.{byte_len-append, is_ascii_char, byte_len_ascii, plain_within, over_within, at_within, of_some, of_none}
 use Rattle.litrs_grammar.proofs.SuffixStart.{suffix_last}
@@ -52,6 +52,12 @@ behind_letter (s ∷ ds) h = elim (cases_Bool (is_sign s)) [
 exponent_number : (p : List ℕ) → is_exponent_front p ≡ true → list_all is_number_char p ≡ true
 exponent_number [] h = refl
 exponent_number (c ∷ cs) h = and_from _ _ (letter_number c (and_parts _ _ h).0) (behind_letter cs (and_parts _ _ h).1)
+
+-- all in front of the suffix is ASCII
+pub number_part_ascii : (d : FloatParts) → IsCut d → list_all is_ascii_char (number_part d) ≡ true
+number_part_ascii d cut = list_all-weaken is_number_char is_ascii_char number_ascii (number_part d)
+    (list_all-append is_number_char d.integer (fraction_text d.fraction ++ d.exponent) (decimals_number d.integer cut.integer)
+    (list_all-append is_number_char (fraction_text d.fraction) d.exponent (fraction_number d.fraction cut.fraction) (exponent_number d.exponent cut.exponent)))
 
 number_bytes : (t : List ℕ) → list_all is_number_char t ≡ true → byte_len t ≡ length t
 number_bytes t h = byte_len_ascii t (list_all-weaken is_number_char is_ascii_char number_ascii t h)

@@ -83,10 +83,10 @@ cut-chars bs u =
     ∙ (ap (λ k. record { base = base_of bs; main = take n behind; suffix = drop k (chars behind) }) (length-prefix_len p behind)
     ∙ ap (λ x. record { base = base_of bs; main = take n behind; suffix = x }) ((digits_front bs u).rest ∙ ap chars (drop-drop n (start_of bs) bs))))))
 
-digit_is_ascii : OnlyAscii is_ascii_digit
+pub digit_is_ascii : OnlyAscii is_ascii_digit
 digit_is_ascii c high = grind (arith, nat_tests)
 
-e_is_ascii : OnlyAscii is_e
+pub e_is_ascii : OnlyAscii is_e
 e_is_ascii c high = grind (arith, nat_tests)
 
 byte_len-ascii : (t : List ℕ) → IsAscii t → byte_len t ≡ length t
