@@ -1,6 +1,7 @@
 -- what literals hold
 pub mod BoolLiteral
 pub mod IntegerLiteral
+pub mod FloatLiteral
 pub mod LiteralDerivation
 -- the dispatch, and the kinds that are parsed
 pub mod Parsed

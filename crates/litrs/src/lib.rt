@@ -1,6 +1,6 @@
 //! Parsing and inspecting Rust literals.
 //!
-//! Each kind of literal has a type, [`BoolLit`] and [`IntegerLit`], and [`Literal`] stands for them all.
+//! Each kind of literal has a type, [`BoolLit`], [`IntegerLit`] and [`FloatLit`], and [`Literal`] stands for them all.
 //! Each has a `parse`, which reads a text that is one literal and nothing else.
 #![tactic(auto)]
 
@@ -15,6 +15,7 @@ ghost use Rattle.litrs.specs.Parsed.{IsParseRefused};
 ghost use Rattle.litrs.specs.LiteralDerivation.{literal_raw, derivation};
 
 pub use bool::BoolLit;
+pub use float::FloatLit;
 pub use integer::IntegerLit;
 pub use litrs_lex::{
     Buffer, FloatType, FromIntegerLiteral, IntegerBase, IntegerType, ParseError, ParseErrorKind,
@@ -25,6 +26,7 @@ use std::alloc::{AllocError, Global};
 use std::fmt;
 
 mod bool;
+mod float;
 mod integer;
 mod parse;
 #[cfg(test)]
@@ -39,17 +41,20 @@ pub enum Literal<B: Text> {
     Bool(BoolLit),
     /// A number without a period or an exponent, as `0xFF_u8`.
     Integer(IntegerLit<B>),
+    /// A number with a period or an exponent, as `3.14f33`.
+    Float(FloatLit<B>),
 }
 
 impl<B: Text> Literal<B> {
     /// Reads a text that is one literal, of the kind that it begins like.
     ///
-    /// `true` is a bool, `1_000u32` an integer with the suffix `u32`. Bools and integers are read today.
+    /// `true` is a bool, `1_000u32` an integer with the suffix `u32`. Bools, integers and floats
+    /// are read today.
     ///
     /// # Errors
     ///
     /// `Empty`; the refusal of the kind that the text begins like, as `UnexpectedChar` at 1..2 for `0 `;
-    /// else `InvalidLiteral`, also of a text that begins like a kind that is not read, as `1.5` or `"a"`.
+    /// else `InvalidLiteral`, also of a text that begins like a kind that is not read, as `'a'` or `"a"`.
     pub fn parse(_alloc: Global, input: B) -> Result<Literal<B>, ParseError>
         ensures raw { IfOk result (λ lit. literal_raw lit ≡ B.bytes input) }
         ensures ok { IfOk result (λ lit.
@@ -62,6 +67,7 @@ impl<B: Text> Literal<B> {
             Dispatched::Refused(e) => Err(e),
             Dispatched::Bool(lit) => Ok(Literal::Bool(lit)),
             Dispatched::Integer => Ok(Literal::Integer(IntegerLit::parse(input)?)),
+            Dispatched::Float => Ok(Literal::Float(FloatLit::parse(input)?)),
             _ => Err(ParseError::new(None, ParseErrorKind::InvalidLiteral)),
         }
     }
@@ -73,6 +79,7 @@ impl<B: Text> Literal<B> {
         match self {
             Literal::Bool(_) => "",
             Literal::Integer(lit) => lit.suffix(),
+            Literal::Float(lit) => lit.suffix(),
         }
     }
 
@@ -84,6 +91,7 @@ impl<B: Text> Literal<B> {
         match self {
             Literal::Bool(lit) => lit.as_str(),
             Literal::Integer(lit) => lit.raw_input(),
+            Literal::Float(lit) => lit.raw_input(),
         }
     }
 }
@@ -102,6 +110,7 @@ impl<B: Text> Literal<B> {
         match self {
             Literal::Bool(lit) => Ok(Literal::Bool(*lit)),
             Literal::Integer(lit) => Ok(Literal::Integer(lit.clone(alloc)?)),
+            Literal::Float(lit) => Ok(Literal::Float(lit.clone(alloc)?)),
         }
     }
 }
@@ -119,6 +128,7 @@ impl Literal<&str> {
         match self {
             Literal::Bool(lit) => Ok(Literal::Bool(lit)),
             Literal::Integer(lit) => Ok(Literal::Integer(lit.to_owned(alloc)?)),
+            Literal::Float(lit) => Ok(Literal::Float(lit.to_owned(alloc)?)),
         }
     }
 }
@@ -143,6 +153,16 @@ impl<B: Text> From<IntegerLit<B>> for Literal<B> {
     }
 }
 
+impl<B: Text> From<FloatLit<B>> for Literal<B> {
+    ghost use Rattle.litrs.specs.declared.Literal.TheVariants.{Float};
+
+    ghost from_gives = { λ lit literal. literal ≡ Float lit };
+
+    fn from(lit: FloatLit<B>) -> Literal<B> {
+        Literal::Float(lit)
+    }
+}
+
 impl<B: Text> PartialEq for Literal<B> {
     ghost eq = { λ x y. pointwise nat_eq (literal_raw x) (literal_raw y) };
 
@@ -164,6 +184,7 @@ impl<B: Text> fmt::Display for Literal<B> {
         match self {
             Literal::Bool(lit) => lit.fmt(f),
             Literal::Integer(lit) => lit.fmt(f),
+            Literal::Float(lit) => lit.fmt(f),
         }
     }
 }

@@ -1,5 +1,5 @@
 -- Floats: what the cut of the bytes says of the characters.
-use Rattle.std.proofs.Common.{◌≡◌, ℕ, suc, ◌+◌, ◌-◌, ◌≤◌, ◌<◌, Bool, true, false, cond, not, eqb, ◌&&◌, ◌||◌, List, [], ◌∷◌, ◌++◌, length, take, drop, slice_range, Option, Some, None, refl, sym, ap, subst, ◌∙◌, eq-eqb, inl, inr, arith}
+use Rattle.std.proofs.Common.{◌≡◌, ℕ, suc, ◌+◌, ◌-◌, ◌≤◌, ◌<◌, Bool, true, false, cond, not, eqb, ◌&&◌, ◌||◌, List, [], ◌∷◌, ◌++◌, length, take, drop, slice_range, slice_get, Option, Some, None, refl, sym, ap, subst, ◌∙◌, eq-eqb, inl, inr, arith}
 use Rattle.std.specs.Prelude.{if◌then◌else◌, IfSome}
 use Rattle.std.specs.declared.ops.Range.{Range}
 use Rattle.std.specs.Str.{chars, IsUtf8, IsCharBoundary}
@@ -8,26 +8,27 @@ use Rattle.std.specs.List.{list_all, list_any, take_while}
 use Rattle.std.specs.Option.{is_some}
 use Rattle.std.proofs.lemmas.Bool.{and_parts, ltb-true, ne_eqb, cases_lt, false≢true}
 use Rattle.std.proofs.lemmas.Bool.Decides.{nat_tests}
-use Rattle.std.proofs.lemmas.List.{length-append, drop_at, take_at, take_rest, append_assoc}
+use Rattle.std.proofs.lemmas.List.{length-append, drop_at, take_at, take_rest, append_assoc, append_cancel_right, take-append-drop}
 use Rattle.std.proofs.lemmas.List.Folds.{length-prefix_len}
-use Rattle.std.proofs.lemmas.Str.{chars-nil, chars-IsAscii, encodes-chars, IsCharBoundary-from_drop}
+use Rattle.std.proofs.lemmas.Str.{chars-nil, chars-append, IsUtf8-take, chars-IsAscii, encodes-chars, IsCharBoundary-from_drop}
 use Rattle.litrs_base.specs.declared.integer.IntegerBase.TheVariants.{Decimal}
 use Rattle.litrs_base.specs.declared.err.ParseErrorKind.{ParseErrorKind}
-use Rattle.litrs_base.specs.declared.err.ParseErrorKind.TheVariants.{UnexpectedChar, NoExponentDigits, UnexpectedIntegerLit}
+use Rattle.litrs_base.specs.declared.err.ParseErrorKind.TheVariants.{Empty, DoesNotStartWithDigit, UnexpectedChar, NoExponentDigits, UnexpectedIntegerLit}
 use Rattle.litrs_base.specs.Refusal.{Refusal, refusal, plain, over, at}
 use Rattle.litrs_base.specs.Text.{is_empty, byte_len, first_passes}
 use Rattle.litrs_grammar.specs.Suffix.{is_suffix, suffix_refusal}
 use Rattle.litrs_grammar.specs.Integer.{is_e}
 use Rattle.litrs_grammar.specs.Float.{FloatParts, fraction_text, number_part, float_text, is_decimal_char, is_period, is_sign, fraction_of, exponent_of, behind, float_cut, has_wrong_fraction, float_cut_refusal, float_refusal}
 use Rattle.litrs_lex.specs.declared.float.FloatCut.{FloatCut}
-use Rattle.litrs_lex.specs.FloatCut.{fraction_at, float_parts_at, IsFloatWithin, IsPartsCut}
+use Rattle.litrs_lex.specs.FloatCut.{fraction_at, float_parts_at, IsFloatWithin, IsFloatAt, IsPartsCut}
 use Rattle.litrs_base.proofs.Chars.{chars_empty, chars_wide, ascii_by_test, chars_ascii, utf8_behind_ascii, OnlyAscii, first_passes-chars}
 use Rattle.litrs_base.proofs.Spans.{is_ascii_char}
 use Rattle.litrs_base.proofs.Runs.{list_all-append}
 use Rattle.litrs_grammar.proofs.IntegerLaws.{not_empty_by_first}
 use Rattle.litrs_grammar.proofs.FloatCuts.{IsCut, CutOf, cut_of, cut_of_text, number_part-suffix}
 use Rattle.litrs_grammar.proofs.FloatSpans.{number_part_ascii, float_refusal_within}
-use Rattle.litrs_lex.proofs.IntegerBytes.{digits_are_ascii, e_is_ascii, digit_is_ascii}
+use Rattle.litrs_lex.proofs.IntegerBytes.{digits_are_ascii, e_is_ascii, digit_is_ascii, filled_by_first, digit-chars}
+use Rattle.litrs_lex.proofs.SuffixBytes.{first_passes_at}
 
 -- a text that ASCII stands in front of
 
@@ -341,3 +342,29 @@ in_order t (Some range) kind h = (float_refusal_within t (refusal (Some range) k
 pub refusal_of_digit : (t : List ℕ) → first_passes is_ascii_digit t ≡ true → float_refusal t ≡ float_cut_refusal (float_cut t)
 unfolding float_refusal
 refusal_of_digit t digit = rw (not_empty_by_first is_ascii_digit t digit, digit) refl
+
+-- the first two rows, by the bytes
+pub refusal-empty : (bs : List ℕ) → bs ≡ [] → float_refusal (chars bs) ≡ Some (plain Empty)
+unfolding float_refusal
+refusal-empty bs e = ap (λ t. float_refusal (chars t)) e ∙ ap float_refusal chars-nil
+
+pub refusal-no_digit : (bs : List ℕ) (b : ℕ) → IsUtf8 bs → slice_get bs 0 ≡ Some b → is_ascii_digit b ≡ false →
+    float_refusal (chars bs) ≡ Some (at 0 DoesNotStartWithDigit)
+unfolding float_refusal
+refusal-no_digit bs b u first none =
+    let other : first_passes is_ascii_digit bs ≡ false = first_passes_at is_ascii_digit bs b first ∙ none in
+    rw (filled_by_first bs b u first, digit-chars bs u, other) refl
+
+-- the bytes up to the suffix are the number part
+pub number_part_at : (bs text front : List ℕ) (cut : FloatCut) → IsUtf8 text → text ≡ bs → IsFloatAt cut bs → front ≡ slice_range text 0 cut.end_number →
+    chars front ≡ number_part (float_parts_at cut bs)
+number_part_at bs text front cut u same at is =
+    let d = float_parts_at cut bs in
+    let utf8 : IsUtf8 bs = subst (λ (t : List ℕ). IsUtf8 t) same u in
+    let all : cut.end_number - 0 ≡ cut.end_number = omega arith in
+    let taken : front ≡ take cut.end_number bs = is ∙ (ap (λ t. slice_range t 0 cut.end_number) same ∙ ap (λ n. take n bs) all) in
+    let split : take cut.end_number bs ++ drop cut.end_number bs ≡ bs = take-append-drop cut.end_number bs in
+    let front_utf8 : IsUtf8 (take cut.end_number bs) = IsUtf8-take bs cut.end_number utf8 at.places.number in
+    let whole : chars (take cut.end_number bs) ++ d.suffix ≡ number_part d ++ d.suffix =
+    sym (chars-append (take cut.end_number bs) (drop cut.end_number bs) front_utf8) ∙ (ap chars split ∙ (sym at.float.spells ∙ sym (number_part-suffix d))) in
+    ap chars taken ∙ append_cancel_right (chars (take cut.end_number bs)) (number_part d) d.suffix whole

@@ -3,7 +3,7 @@ use Rattle.std.specs.Prelude.{◌≡◌, ℕ, ◌+◌, ◌≤◌, ◌<◌, ◌==
 use Rattle.std.specs.List.{prefix_len}
 use Rattle.std.specs.Str.{chars, IsCharBoundary}
 use Rattle.litrs_lex.specs.declared.float.FloatCut.{FloatCut}
-use Rattle.litrs_grammar.specs.Float.{FloatParts, fraction_text, fraction_of, exponent_of, is_decimal_char}
+use Rattle.litrs_grammar.specs.Float.{FloatParts, IsFloatOf, fraction_text, fraction_of, exponent_of, is_decimal_char}
 
 -- the fraction that a cut names: None where there is no period, else what stands behind it
 abbrev pub fraction_at : FloatCut → List ℕ → Option (List ℕ)
@@ -28,6 +28,11 @@ pub record IsFloatWithin (cut : FloatCut) (bytes : List ℕ) : Type 0 where
   pub behind_period : cut.end_integer < cut.end_fraction → IsCharBoundary bytes (cut.end_integer + 1)
   pub fraction : IsCharBoundary bytes cut.end_fraction
   pub number : IsCharBoundary bytes cut.end_number
+
+-- the text is a float, cut at these places
+pub record IsFloatAt (cut : FloatCut) (bytes : List ℕ) : Type 0 where
+  pub places : IsFloatWithin cut bytes
+  pub float : IsFloatOf (chars bytes) (float_parts_at cut bytes)
 
 -- cut behind the integer part, the period with the fraction, and the exponent, each as far as it goes
 pub record IsPartsCut (cut : FloatCut) (bytes : List ℕ) : Type 0 where

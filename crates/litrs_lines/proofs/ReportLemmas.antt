@@ -1,5 +1,5 @@
 -- The report of a text, by its derivation or its refusal: each line has one.
-use Rattle.std.proofs.Common.{◌≡◌, ◌⊎◌, inl, inr, ℕ, List, [], ◌∷◌, ◌++◌, refl, sym, ap, subst, ◌∙◌, append_assoc, Bool, true, false}
+use Rattle.std.proofs.Common.{◌≡◌, ◌⊎◌, inl, inr, ℕ, List, [], ◌∷◌, ◌++◌, refl, sym, ap, subst, ◌∙◌, append_assoc, Bool, true, false, Option, Some}
 use Rattle.std.specs.Prelude.{codes}
 use Rattle.std.specs.Str.{chars, is_utf8, IsUtf8, encode_utf8_all}
 use Rattle.std.proofs.lemmas.Str.{encodes-chars, is_utf8-from_IsUtf8, IsUtf8-from_is_utf8}
@@ -7,11 +7,12 @@ use Rattle.std.proofs.lemmas.Bool.{false_from_ne_true}
 use Rattle.litrs_base.specs.Base.{base_value}
 use Rattle.litrs_base.specs.Refusal.{Refusal}
 use Rattle.litrs_grammar.specs.Integer.{IntegerParts, integer_value}
-use Rattle.litrs_grammar.specs.Literal.{Derivation, an_integer}
+use Rattle.litrs_grammar.specs.Float.{FloatParts}
+use Rattle.litrs_grammar.specs.Literal.{Derivation, an_integer, a_float}
 use Rattle.litrs_grammar.proofs.LiteralLaws.{literals_are_unique}
 use Rattle.litrs.specs.Parsed.{IsParsed, IsParsedRefusal}
 use Rattle.litrs.proofs.Parsed.{parsed_or_refused, parsed_not_refused, parsed_refusals_are_unique}
-use Rattle.litrs_lines.specs.Report.{value_text, integer_front, literal_report, refusal_report, IsTextReport, IsReport}
+use Rattle.litrs_lines.specs.Report.{value_text, integer_front, fraction_field, float_report, literal_report, refusal_report, IsTextReport, IsReport}
 use Rattle.litrs_lines.specs.Reports.{AreReports}
 use Rattle.litrs_lines.specs.Reported.{report_by, text_report, report_of, reports_of}
 use Rattle.litrs_lines.specs.ReportLaws.{LinesHaveReports, ReportsAreUnique}
@@ -111,3 +112,19 @@ integer_report_made old front new digits suffix d digits_utf8 suffix_utf8 main r
     valued ∙ (ap (λ xs. xs ++ value) made ∙ (append_assoc old (integer_front (base_value d.base) digits suffix) value
     ∙ (ap (λ xs. old ++ (integer_front (base_value d.base) xs suffix ++ value)) digits_is
     ∙ ap (λ xs. old ++ (integer_front (base_value d.base) (encode_utf8_all d.main) xs ++ value)) suffix_is)))
+
+-- A float
+
+pub fraction_field-is : (found : Option (List ℕ)) (digits : List ℕ) (fraction : Option (List ℕ)) → IsUtf8 digits → found ≡ Some (chars digits) → found ≡ fraction →
+    digits ≡ fraction_field fraction
+fraction_field-is found digits fraction utf8 is same =
+    sym (encodes-chars digits utf8) ∙ ap fraction_field (sym is ∙ same)
+
+pub float_report_made : (old new integer fraction exponent suffix : List ℕ) (d : FloatParts) → IsUtf8 integer → IsUtf8 exponent → IsUtf8 suffix →
+    chars integer ≡ d.integer → fraction ≡ fraction_field d.fraction → chars exponent ≡ d.exponent → chars suffix ≡ d.suffix →
+    new ≡ old ++ float_report integer fraction exponent suffix → new ≡ old ++ literal_report (a_float d)
+float_report_made old new integer fraction exponent suffix d integer_utf8 exponent_utf8 suffix_utf8 integer_is fraction_is exponent_is suffix_is made =
+    let i : integer ≡ encode_utf8_all d.integer = sym (encodes-chars integer integer_utf8) ∙ ap encode_utf8_all integer_is in
+    let e : exponent ≡ encode_utf8_all d.exponent = sym (encodes-chars exponent exponent_utf8) ∙ ap encode_utf8_all exponent_is in
+    let s : suffix ≡ encode_utf8_all d.suffix = sym (encodes-chars suffix suffix_utf8) ∙ ap encode_utf8_all suffix_is in
+    made ∙ (λ j. old ++ float_report (i j) (fraction_is j) (e j) (s j))

@@ -1,5 +1,5 @@
 -- The report on a line: of the derivation of its text, or of its refusal.
-use Rattle.std.specs.Prelude.{◌≡◌, ◌⊎◌, ℕ, nat_le, List, [], ◌++◌, codes, if◌then◌else◌}
+use Rattle.std.specs.Prelude.{◌≡◌, ◌⊎◌, ℕ, nat_le, List, [], ◌++◌, Option, Some, None, codes, if◌then◌else◌}
 use Rattle.std.specs.Fmt.{decimal}
 use Rattle.std.specs.Str.{chars, IsUtf8, encode_utf8_all}
 use Rattle.litrs_base.specs.declared.integer.IntegerType.TheVariants.{U128}
@@ -20,12 +20,24 @@ abbrev pub integer_front : ℕ → List ℕ → List ℕ → List ℕ
 integer_front base digits suffix =
     codes "integer base=" ++ (decimal base ++ (codes " digits=" ++ (digits ++ (codes " suffix=" ++ (suffix ++ codes " value=")))))
 
--- `bool true`; `integer base=16 digits=ff80 suffix= value=65408`; nothing of the kinds that are not read yet
+-- the fraction of a float, `-` where there is no period
+abbrev pub fraction_field : Option (List ℕ) → List ℕ
+fraction_field None = codes "-"
+fraction_field (Some digits) = encode_utf8_all digits
+
+-- a float, by the bytes of its parts
+abbrev pub float_report : (integer fraction exponent suffix : List ℕ) → List ℕ
+float_report integer fraction exponent suffix =
+    codes "float int=" ++ (integer ++ (codes " frac=" ++ (fraction ++ (codes " exp=" ++ (exponent ++ (codes " suffix=" ++ suffix))))))
+
+-- `bool true`; `integer base=16 digits=ff80 suffix= value=65408`; `float int=3 frac=14 exp= suffix=f33`;
+-- nothing of the kinds that are not read yet
 abbrev pub literal_report : Derivation → List ℕ
 literal_report (a_bool b) = codes "bool " ++ bool_text b
 literal_report (an_integer d) =
     integer_front (base_value d.base) (encode_utf8_all d.main) (encode_utf8_all d.suffix) ++ value_text (integer_value d)
-literal_report (a_float d) = []
+literal_report (a_float d) =
+    float_report (encode_utf8_all d.integer) (fraction_field d.fraction) (encode_utf8_all d.exponent) (encode_utf8_all d.suffix)
 literal_report (a_char d) = []
 literal_report (a_byte d) = []
 literal_report (a_string d) = []

@@ -2,10 +2,11 @@
 use Rattle.std.proofs.Common.{refl, sym, ap, ◌∙◌}
 use Rattle.std.specs.Str.{chars}
 use Rattle.std.proofs.lemmas.Result.{err_from_is_err_and}
-use Rattle.litrs_grammar.specs.Literal.{a_bool, an_integer, integer_literal}
+use Rattle.litrs_grammar.specs.Literal.{a_bool, an_integer, a_float, integer_literal, float_literal}
 use Rattle.litrs_grammar.proofs.BoolLaws.{chars-bool_text}
 use Rattle.litrs.specs.BoolLiteral.{bool_value}
 use Rattle.litrs.specs.IntegerLiteral.{integer_parts}
+use Rattle.litrs.specs.FloatLiteral.{float_parts}
 use Rattle.litrs.proofs.Parsed.{only_literal, kind_refused_at, unparsed_refused_at, row_refused_at, refusal_of_text}
 use Rattle.litrs.proofs.Literal.parse.Goals as goal
 
@@ -36,7 +37,22 @@ returns-in_err-parse-in-Integer-clause-memory g c =
 pub returns-in_ok-parse-in-Integer-clause-ok : goal.returns-in_ok-parse-in-Integer-clause-ok
 returns-in_ok-parse-in-Integer-clause-ok g c = only_literal _ (an_integer (integer_parts c.in_ok-parse-in-Integer.field-0)) c.in_ok-parse-in-Integer.ensures.ok.0
 
+pub returns-in_err-parse-in-Float-clause-refused : goal.returns-in_err-parse-in-Float-clause-refused
+returns-in_err-parse-in-Float-clause-refused g c =
+    let p = err_from_is_err_and c.from_residual-in_err-parse-in-Float.result c.from_residual-in_err-parse-in-Float.ensures.1 in
+    rw (p.1) (kind_refused_at float_literal _ c.as_str.result.now c.in_err-parse-in-Float.field-0.0 _ c.as_str.utf8 c.as_str.ensures
+    c.in-Float.ensures.row refl p.2 c.in_err-parse-in-Float.ensures.refused)
+
+pub returns-in_err-parse-in-Float-clause-memory : goal.returns-in_err-parse-in-Float-clause-memory
+returns-in_err-parse-in-Float-clause-memory g c =
+    let p = err_from_is_err_and c.from_residual-in_err-parse-in-Float.result c.from_residual-in_err-parse-in-Float.ensures.1 in
+    rw (p.1) (refusal_of_text _ _ (kind_refused_at float_literal _ c.as_str.result.now c.in_err-parse-in-Float.field-0.0 _ c.as_str.utf8 c.as_str.ensures
+    c.in-Float.ensures.row refl p.2 c.in_err-parse-in-Float.ensures.refused))
+
+pub returns-in_ok-parse-in-Float-clause-ok : goal.returns-in_ok-parse-in-Float-clause-ok
+returns-in_ok-parse-in-Float-clause-ok g c = only_literal _ (a_float (float_parts c.in_ok-parse-in-Float.field-0)) c.in_ok-parse-in-Float.ensures.ok.0
+
 pub returns-in_default-clause-refused : goal.returns-in_default-clause-refused
 returns-in_default-clause-refused g c =
     unparsed_refused_at _ c.as_str.result.now c.new.result c.dispatch.result c.as_str.utf8 c.as_str.ensures c.dispatch.ensures.row
-    c.in_default.not-Refused c.in_default.not-Bool c.in_default.not-Integer c.new.ensures.refusal
+    c.in_default.not-Refused c.in_default.not-Bool c.in_default.not-Integer c.in_default.not-Float c.new.ensures.refusal

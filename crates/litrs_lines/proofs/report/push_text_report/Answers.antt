@@ -15,6 +15,7 @@ use Rattle.litrs_lines.proofs.report.push_text_report.Goals as goal
 held_is_parsed : {B : Type 0} (t : List ℕ) (lit : Literal B) → IsLiteral t (derivation lit) → IsParsed t (derivation lit)
 held_is_parsed t (literal.Bool b) r = (r, refl)
 held_is_parsed t (literal.Integer lit) r = (r, refl)
+held_is_parsed t (literal.Float lit) r = (r, refl)
 
 pub returns-in-Ok : goal.returns-in-Ok
 returns-in-Ok g c =
