@@ -115,10 +115,8 @@ integer_report_made old front new digits suffix d digits_utf8 suffix_utf8 main r
 
 -- A float
 
-pub fraction_field-is : (found : Option (List ℕ)) (digits : List ℕ) (fraction : Option (List ℕ)) → IsUtf8 digits → found ≡ Some (chars digits) → found ≡ fraction →
-    digits ≡ fraction_field fraction
-fraction_field-is found digits fraction utf8 is same =
-    sym (encodes-chars digits utf8) ∙ ap fraction_field (sym is ∙ same)
+pub fraction_field-is : (digits : List ℕ) (fraction : Option (List ℕ)) → IsUtf8 digits → Some (chars digits) ≡ fraction → digits ≡ fraction_field fraction
+fraction_field-is digits fraction utf8 is = sym (encodes-chars digits utf8) ∙ ap fraction_field is
 
 pub float_report_made : (old new integer fraction exponent suffix : List ℕ) (d : FloatParts) → IsUtf8 integer → IsUtf8 exponent → IsUtf8 suffix →
     chars integer ≡ d.integer → fraction ≡ fraction_field d.fraction → chars exponent ≡ d.exponent → chars suffix ≡ d.suffix →
