@@ -7,6 +7,7 @@ pub mod RawCuts
 pub mod RawLaws
 pub mod RawSpans
 pub mod RawKinds
+pub mod RawScans
 pub mod IntegerLaws
 pub mod IntegerSpans
 pub mod EscapeLaws
@@ -19,6 +20,8 @@ pub mod CharByteLaws
 pub mod Computing
 pub mod BoolLaws
 pub mod LiteralLaws
+pub mod ValueLaws
+pub mod AllocationLaws
 pub mod NumberLaws
 pub mod LiteralSpans
 pub mod RefusalKinds

@@ -18,5 +18,7 @@ pub mod CharByteLaws
 pub mod FloatLaws
 pub mod RawLaws
 pub mod LiteralLaws
+pub mod ValueLaws
+pub mod AllocationLaws
 pub mod NumberLaws
 pub mod NameLaws

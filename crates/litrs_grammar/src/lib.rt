@@ -2,6 +2,7 @@
 //! function with an empty body.
 #![tactic(auto)]
 
+pub mod allocation;
 pub mod char_byte;
 pub mod escape;
 pub mod float;
@@ -10,3 +11,4 @@ pub mod name;
 pub mod number;
 pub mod quoted;
 pub mod raw;
+pub mod value;
