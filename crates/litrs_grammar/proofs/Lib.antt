@@ -23,6 +23,7 @@ pub mod LiteralLaws
 pub mod ValueLaws
 pub mod AllocationLaws
 pub mod NumberLaws
+pub mod TextLaws
 pub mod LiteralSpans
 pub mod RefusalKinds
 pub mod CharByteExamples
@@ -33,4 +34,5 @@ pub mod KindExamples
 pub mod LiteralExamples
 pub mod QuotedExamples
 pub mod RawExamples
+pub mod TextExamples
 pub mod Refused

@@ -10,8 +10,8 @@ use Rattle.litrs_grammar.specs.Literal.{StringParts, quoted_parts, raw_parts, De
 abbrev pub has_backslash : List ℕ → Bool
 has_backslash t = list_any (λ c. c == backslash) t
 
--- A parse may allocate for a quoted string or byte string with a backslash, whose value is then written anew, and for every
--- C string, whose value ends with a zero byte.
+-- A parse may allocate for a quoted string or byte string with a backslash, whose value is then
+-- written anew, and for every C string, whose value ends with a zero byte.
 abbrev pub may_allocate : List ℕ → Bool
 may_allocate t =
     (begins_with (codes "\"") t || begins_with (codes "b\"") t) && has_backslash t

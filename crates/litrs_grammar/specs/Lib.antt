@@ -21,4 +21,5 @@ pub mod LiteralLaws
 pub mod ValueLaws
 pub mod AllocationLaws
 pub mod NumberLaws
+pub mod TextLaws
 pub mod NameLaws

@@ -11,4 +11,5 @@ pub mod name;
 pub mod number;
 pub mod quoted;
 pub mod raw;
+pub mod text;
 pub mod value;

@@ -55,8 +55,8 @@ pub fn raw_scans_go_on()
     ensures { RawScansGoOn }
 {}
 
-/// Behind such a front, whose characters a body may have, the rest has the refusal, further on by the
-/// bytes of the front.
+/// Behind such a front, whose characters a body may have, the rest has the refusal, further on by
+/// the bytes of the front.
 pub fn raw_refusals_go_on()
     ensures { RawRefusalsGoOn }
 {}
