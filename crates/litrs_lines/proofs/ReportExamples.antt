@@ -7,7 +7,7 @@ use Rattle.litrs_base.specs.Refusal.{plain, at}
 use Rattle.litrs_base.specs.Numeral.{place_sum}
 use Rattle.litrs_grammar.specs.Integer.{integer_cut}
 use Rattle.litrs_grammar.specs.Literal.{a_bool, an_integer}
-use Rattle.litrs_grammar.proofs.LiteralExamples.{all_tables}
+use Rattle.litrs_grammar.proofs.Computing.{computing}
 use Rattle.litrs_lines.specs.Report.{value_text, literal_report, IsTextReport}
 use Rattle.litrs_lines.specs.Lines.{ended_lines, open_line, lines_of}
 
@@ -20,13 +20,13 @@ integers : (literal_report (an_integer (integer_cut (codes "0xff80")))
     ≡ codes "integer base=" ++ (decimal 16 ++ (codes " digits=ff80 suffix= value=")) ++ decimal 65408)
     × (literal_report (an_integer (integer_cut (codes "1_000u32")))
     ≡ codes "integer base=" ++ (decimal 10 ++ (codes " digits=1_000 suffix=u32 value=")) ++ decimal 1000)
-unfolding all_tables integer_cut place_sum
+unfolding computing integer_cut place_sum
 integers = (refl, refl)
 
 refusals : IsTextReport (codes "") (codes "error input is empty")
     × IsTextReport (codes "0;") (codes "error unexpected character (at " ++ decimal 1 ++ codes ".." ++ decimal 2 ++ codes ")")
     × IsTextReport (codes "foo") (codes "error invalid literal")
-unfolding all_tables
+unfolding computing
 refusals = (inr (plain kind.Empty, refl, refl), inr (at 1 kind.UnexpectedChar, refl, refl), inr (plain kind.InvalidLiteral, refl, refl))
 
 -- Values
