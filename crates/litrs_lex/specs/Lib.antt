@@ -1,2 +1,3 @@
+pub mod Container
 pub mod IntegerCut
 pub mod FloatCut
