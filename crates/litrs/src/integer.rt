@@ -131,7 +131,7 @@ impl<B: Text> IntegerLit<B> {
     }
 }
 
-impl<B: Buffer + Copy> IntegerLit<B> {
+impl<B: Text + Copy> IntegerLit<B> {
     /// The same literal again: the copy of a literal whose buffer is `Copy`.
     pub fn copied(&self) -> Self
         ensures { result ≡ self.now }

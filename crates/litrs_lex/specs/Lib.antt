@@ -1,1 +1,2 @@
+pub mod Container
 pub mod IntegerCut
