@@ -15,6 +15,7 @@ ghost use Rattle.litrs.specs.Parsed.{IsParseRefused};
 ghost use Rattle.litrs.specs.LiteralDerivation.{literal_raw, derivation};
 
 pub use bool::BoolLit;
+pub use c_string::CString;
 pub use integer::IntegerLit;
 pub use litrs_lex::{
     Buffer, FloatType, FromIntegerLiteral, IntegerBase, IntegerType, ParseError, ParseErrorKind,
@@ -25,6 +26,7 @@ use std::alloc::{AllocError, Global};
 use std::fmt;
 
 mod bool;
+mod c_string;
 mod integer;
 mod parse;
 #[cfg(test)]
