@@ -1,5 +1,6 @@
 -- what literals hold
 pub mod BoolLiteral
+pub mod CString
 pub mod IntegerLiteral
 pub mod FloatLiteral
 pub mod LiteralDerivation

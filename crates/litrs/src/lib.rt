@@ -15,6 +15,7 @@ ghost use Rattle.litrs.specs.Parsed.{IsParseRefused};
 ghost use Rattle.litrs.specs.LiteralDerivation.{literal_raw, derivation};
 
 pub use bool::BoolLit;
+pub use c_string::CString;
 pub use float::FloatLit;
 pub use integer::IntegerLit;
 pub use litrs_lex::{
@@ -26,6 +27,7 @@ use std::alloc::{AllocError, Global};
 use std::fmt;
 
 mod bool;
+mod c_string;
 mod float;
 mod integer;
 mod parse;
