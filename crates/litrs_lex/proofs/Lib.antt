@@ -1,3 +1,4 @@
 pub mod SuffixBytes
 pub mod NumeralLemmas
 pub mod IntegerBytes
+pub mod EscapeBytes

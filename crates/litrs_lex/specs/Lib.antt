@@ -1,1 +1,2 @@
 pub mod IntegerCut
+pub mod Unescaped

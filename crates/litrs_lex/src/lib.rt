@@ -1,6 +1,7 @@
 //! Reads the parts that literals are made of, and says where a text is cut.
 #![tactic(auto)]
 
+pub use escape::unescape;
 pub use integer::{IntegerCut, cut_integer};
 pub use litrs_base::{
     Buffer, FloatType, FromIntegerLiteral, IntegerBase, IntegerType, ParseError, ParseErrorKind,
@@ -8,5 +9,6 @@ pub use litrs_base::{
 };
 pub use parse::{check_suffix, end_dec_digits, first_byte_or_empty, hex_digit_value};
 
+pub mod escape;
 pub mod integer;
 mod parse;
