@@ -7,6 +7,7 @@ pub mod Derivations
 pub mod Kind
 pub mod Finality
 pub mod Refusal
+pub mod Unescape
 -- numbers
 pub mod Base
 pub mod Numeral

@@ -1,8 +1,7 @@
 -- Chars and bytes. The Rust Reference, Tokens, Literals: "Character literals" and "Byte literals".
 use Rattle.std.specs.Prelude.{◌≡◌, ℕ, ◌+◌, Bool, true, not, ◌==◌, ◌&&◌, ◌||◌, if◌then◌else◌, List, [], ◌∷◌, ◌++◌, Option, Some, None, IsTrue, length, take, drop, slice_index, option_map, is_some}
 use Rattle.std.specs.List.{list_any, position_or_len}
-use Rattle.litrs_base.specs.declared.escape.Unescape.{Unescape}
-use Rattle.litrs_base.specs.declared.escape.Unescape.TheVariants.{Byte, Unicode}
+use Rattle.litrs_base.specs.Unescape.{unescaped_number}
 use Rattle.litrs_base.specs.Refusal.{Refusal, plain, at, moved}
 use Rattle.litrs_base.specs.declared.err.ParseErrorKind.{ParseErrorKind}
 use Rattle.litrs_base.specs.declared.err.ParseErrorKind.TheVariants.{Empty, DoesNotStartWithQuote, InvalidByteLiteralStart, UnterminatedCharLiteral, UnterminatedByteLiteral, UnescapedSingleQuote, EmptyCharLiteral, EmptyByteLiteral, UnescapedSpecialWhitespace, NonAsciiInByteLiteral, OverlongCharLiteral, OverlongByteLiteral}
@@ -35,11 +34,6 @@ pub data CharItem : Type 0 where
 abbrev pub char_item_text : CharItem → List ℕ
 char_item_text (plain_char c) = c ∷ []
 char_item_text (escaped_char e) = escape_text e
-
--- the number of what an escape stands for
-abbrev pub unescaped_number : Unescape → ℕ
-unescaped_number (Byte b) = b
-unescaped_number (Unicode c) = c
 
 -- the character or byte that it stands for
 abbrev pub char_value : CharItem → ℕ
