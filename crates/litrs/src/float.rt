@@ -15,6 +15,9 @@ use std::alloc::{AllocError, Global};
 use std::fmt;
 use std::marker::Model;
 
+#[cfg(test)]
+mod tests;
+
 /// A floating-point number as it is written in Rust: `3.14`, `9.`, `27e-3`, `147.3_33__E3f64`.
 ///
 /// It is made of the integer part, a fraction behind a period, an exponent, and a suffix. The period
