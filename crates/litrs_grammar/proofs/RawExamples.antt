@@ -4,7 +4,7 @@ use Rattle.std.specs.Prelude.{◌≡◌, ℕ, List, [], ◌∷◌, ◌++◌, Som
 use Rattle.litrs_base.specs.declared.err.ParseErrorKind.TheVariants as kind
 use Rattle.litrs_base.specs.Refusal.{Refusal, plain, over, at}
 use Rattle.litrs_grammar.specs.StringKind.{StringKind, string_kind, byte_string_kind, c_string_kind}
-use Rattle.litrs_grammar.specs.Raw.{hashes, raw_value, IsRawLiteral, raw_literal_refusal, is_raw_char, occurs, length_before}
+use Rattle.litrs_grammar.specs.Raw.{hashes, raw_value, IsRawLiteral, raw_literal_refusal, is_raw_char, raw_char_refusal, occurs, length_before}
 use Rattle.litrs_grammar.proofs.Computing.{computing, raw}
 
 -- the text is a raw string of the kind, with so many hashes, this body and this suffix
@@ -69,6 +69,13 @@ characters :
     × (is_raw_char false true 0 ≡ true)
 unfolding computing
 characters = (refl, refl, refl, refl, refl, refl, refl, refl, refl, refl, refl)
+
+kinds :
+    (raw_char_refusal 13 ≡ kind.CarriageReturn)
+    × (raw_char_refusal 0 ≡ kind.NulByte)
+    × (raw_char_refusal 128 ≡ kind.NonAsciiInByteLiteral)
+unfolding computing
+kinds = (refl, refl, refl)
 
 places :
     (occurs (codes "\"#") (codes "a\"#") ≡ true)
