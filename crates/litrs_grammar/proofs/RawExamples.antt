@@ -114,8 +114,9 @@ rows-too_many_hashes :
     Refused byte_string_kind (codes "br" ++ (hashes 256 ++ (codes "\"peter\"" ++ hashes 256))) (over 2 258 kind.TooManyHashes)
     -- before the quote that lacks
     × Refused string_kind (codes "r" ++ (hashes 256 ++ codes "x")) (over 1 257 kind.TooManyHashes)
+    × Refused string_kind (codes "r" ++ (hashes 257 ++ codes "\"")) (over 1 258 kind.TooManyHashes)
 unfolding computing
-rows-too_many_hashes = (refl, refl)
+rows-too_many_hashes = (refl, refl, refl)
 
 rows-carriage_return :
     Refused byte_string_kind (codes "br\"a\\\r\"") (at 5 kind.CarriageReturn)
