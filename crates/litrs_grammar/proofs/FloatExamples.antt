@@ -3,8 +3,10 @@ use Prim.Native.String.{String}
 use Rattle.std.specs.Prelude.{◌≡◌, ℕ, List, [], Option, Some, None, refl, codes, true, false}
 use Rattle.std.proofs.lemmas.Bool.{false≢true}
 use Rattle.litrs_base.specs.declared.err.ParseErrorKind.TheVariants as kind
+use Rattle.litrs_base.specs.declared.float.FloatType.TheVariants as type
+use Rattle.litrs_base.specs.FloatTypes.{float_type_name}
 use Rattle.litrs_base.specs.Refusal.{Refusal, plain, over, at}
-use Rattle.litrs_grammar.specs.Float.{FloatParts, IsFloatOf, number_part, is_exponent, float_cut, float_refusal}
+use Rattle.litrs_grammar.specs.Float.{FloatParts, IsFloatOf, number_part, is_decimal_literal, is_float_form, is_exponent, float_cut, float_refusal}
 use Rattle.litrs_grammar.proofs.Computing.{computing, float}
 
 -- the integer part, the fraction, the exponent and the suffix
@@ -71,6 +73,26 @@ unfolding computing
 cuts = (refl, refl, refl, refl, refl, refl)
 
 -- What the grammar allows, and what not
+
+decimal_literals :
+    (is_decimal_literal (codes "1_") ≡ true)
+    × (is_decimal_literal (codes "_1") ≡ false)
+    × (is_decimal_literal (codes "1x") ≡ false)
+    × (is_decimal_literal [] ≡ false)
+unfolding computing
+decimal_literals = (refl, refl, refl, refl)
+
+tails :
+    (is_float_form (Some []) [] [] ≡ true)
+    -- nothing stands behind a period at the end
+    × (is_float_form (Some []) [] (codes "x") ≡ false)
+    × (is_float_form (Some []) (codes "e5") [] ≡ false)
+    × (is_float_form (Some (codes "5")) [] (codes "x") ≡ true)
+    × (is_float_form (Some (codes "5")) (codes "e") [] ≡ false)
+    × (is_float_form (Some (codes "_5")) [] [] ≡ false)
+    × (is_float_form None [] (codes "x") ≡ false)
+unfolding computing
+tails = (refl, refl, refl, refl, refl, refl, refl)
 
 exponents :
     (is_exponent (codes "e5") ≡ true)
@@ -143,3 +165,9 @@ rows-unexpected_integer_lit :
     × Refused "55f32" (plain kind.UnexpectedIntegerLit)
 unfolding computing
 rows-unexpected_integer_lit = (refl, refl)
+
+-- Types
+
+types : (float_type_name type.F32 ≡ codes "f32") × (float_type_name type.F64 ≡ codes "f64")
+unfolding computing
+types = (refl, refl)

@@ -11,9 +11,9 @@ use Rattle.litrs_base.specs.Text.{IsText}
 use Rattle.litrs_grammar.specs.Escape.{simple_escape, unicode_escape}
 use Rattle.litrs_grammar.specs.Bool.{IsBool, bool_refusal}
 use Rattle.litrs_grammar.specs.CharByte.{plain_char, escaped_char}
-use Rattle.litrs_grammar.specs.Quoted.{plain_item}
+use Rattle.litrs_grammar.specs.Quoted.{plain_item, escape_item}
 use Rattle.litrs_grammar.specs.Raw.{hashes}
-use Rattle.litrs_grammar.specs.Literal.{Derivation, quoted_parts, raw_parts, a_bool, a_char, a_string, a_c_string, IsLiteral, suffix_of, LiteralKind, bool_literal, integer_literal, float_literal, char_literal, byte_literal, string_literal, byte_string_literal, c_string_literal, Parse, literal_parse, kind_parse, IsLiteralOf, Begins, an_integer, a_float, a_byte, a_byte_string}
+use Rattle.litrs_grammar.specs.Literal.{Derivation, quoted_parts, raw_parts, a_bool, a_char, a_string, a_c_string, IsLiteral, suffix_of, string_value, LiteralKind, bool_literal, integer_literal, float_literal, char_literal, byte_literal, string_literal, byte_string_literal, c_string_literal, Parse, literal_parse, kind_parse, IsLiteralOf, Begins, an_integer, a_float, a_byte, a_byte_string}
 use Rattle.litrs_grammar.specs.LiteralRefusals.{parsed_as, dispatch, IsRefusal}
 use Rattle.litrs_grammar.specs.Closing.{closing_of}
 use Rattle.litrs_grammar.specs.Allocation.{may_allocate}
@@ -88,6 +88,14 @@ suffixes :
     × (suffix_of (a_c_string (quoted_parts (record { items = []; suffix = codes "s" }))) ≡ codes "s")
 unfolding computing
 suffixes = (refl, refl, refl, refl, refl, refl, refl, refl)
+
+-- Values of strings
+
+string_values :
+    (string_value (quoted_parts (record { items = plain_item 233 ∷ escape_item (simple_escape 110) ∷ []; suffix = codes "x" })) ≡ 0xC3 ∷ 0xA9 ∷ 10 ∷ [])
+    × (string_value (raw_parts (record { hash_count = 0; body = codes "é\\n"; suffix = codes "x" })) ≡ 0xC3 ∷ 0xA9 ∷ 92 ∷ 110 ∷ [])
+unfolding computing
+string_values = (refl, refl)
 
 -- Bools
 

@@ -250,19 +250,26 @@ rows-non_ascii_in_byte_literal = (
   refused_behind [] (codes "\u{80}") (at 0 kind.NonAsciiInByteLiteral) refl refl refl refl,
 )
 
-rows-unexpected_char : Refused string_kind "\"a\" " (over 3 4 kind.UnexpectedChar)
+rows-unexpected_char :
+    Refused string_kind "\"a\" " (over 3 4 kind.UnexpectedChar)
+    × Refused c_string_kind "c\"\" " (at 3 kind.UnexpectedChar)
 unfolding computing
-rows-unexpected_char = refused_behind (plains "a") (codes "\" ") (at 1 kind.UnexpectedChar) refl refl refl refl
+rows-unexpected_char = (
+  refused_behind (plains "a") (codes "\" ") (at 1 kind.UnexpectedChar) refl refl refl refl,
+  refused_behind [] (codes "\" ") (at 1 kind.UnexpectedChar) refl refl refl refl,
+)
 
 rows-invalid_suffix :
     Refused string_kind "\"fox\"peter\"" (over 5 6 kind.InvalidSuffix)
     × Refused string_kind "\"a\"_" (over 3 4 kind.InvalidSuffix)
     × Refused string_kind "\"\\n\"_" (at 4 kind.InvalidSuffix)
     × Refused string_kind "\"a\"\u{80}" (at 3 kind.InvalidSuffix)
+    × Refused byte_string_kind "b\"\"é_ " (at 3 kind.InvalidSuffix)
 unfolding computing
 rows-invalid_suffix = (
   refused_behind (plains "fox") (codes "\"peter\"") (at 1 kind.InvalidSuffix) refl refl refl refl,
   refused_behind (plains "a") (codes "\"_") (at 1 kind.InvalidSuffix) refl refl refl refl,
   refused_behind (escape_item (simple_escape 110) ∷ []) (codes "\"_") (at 1 kind.InvalidSuffix) refl refl refl refl,
   refused_behind (plains "a") (codes "\"\u{80}") (at 1 kind.InvalidSuffix) refl refl refl refl,
+  refused_behind [] (codes "\"é_ ") (at 1 kind.InvalidSuffix) refl refl refl refl,
 )

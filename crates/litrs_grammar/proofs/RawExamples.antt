@@ -4,7 +4,7 @@ use Rattle.std.specs.Prelude.{◌≡◌, ℕ, List, [], ◌∷◌, ◌++◌, Som
 use Rattle.litrs_base.specs.declared.err.ParseErrorKind.TheVariants as kind
 use Rattle.litrs_base.specs.Refusal.{Refusal, plain, over, at}
 use Rattle.litrs_grammar.specs.StringKind.{StringKind, string_kind, byte_string_kind, c_string_kind}
-use Rattle.litrs_grammar.specs.Raw.{hashes, raw_value, IsRawLiteral, raw_literal_refusal, is_raw_char, occurs, length_before}
+use Rattle.litrs_grammar.specs.Raw.{hashes, raw_value, IsRawLiteral, raw_literal_refusal, is_raw_char, raw_char_refusal, occurs, length_before}
 use Rattle.litrs_grammar.proofs.Computing.{computing, raw}
 
 -- the text is a raw string of the kind, with so many hashes, this body and this suffix
@@ -70,6 +70,13 @@ characters :
 unfolding computing
 characters = (refl, refl, refl, refl, refl, refl, refl, refl, refl, refl, refl)
 
+kinds :
+    (raw_char_refusal 13 ≡ kind.CarriageReturn)
+    × (raw_char_refusal 0 ≡ kind.NulByte)
+    × (raw_char_refusal 128 ≡ kind.NonAsciiInByteLiteral)
+unfolding computing
+kinds = (refl, refl, refl)
+
 places :
     (occurs (codes "\"#") (codes "a\"#") ≡ true)
     × (occurs (codes "\"#") (codes "a\"") ≡ false)
@@ -107,8 +114,9 @@ rows-too_many_hashes :
     Refused byte_string_kind (codes "br" ++ (hashes 256 ++ (codes "\"peter\"" ++ hashes 256))) (over 2 258 kind.TooManyHashes)
     -- before the quote that lacks
     × Refused string_kind (codes "r" ++ (hashes 256 ++ codes "x")) (over 1 257 kind.TooManyHashes)
+    × Refused string_kind (codes "r" ++ (hashes 257 ++ codes "\"")) (over 1 258 kind.TooManyHashes)
 unfolding computing
-rows-too_many_hashes = (refl, refl)
+rows-too_many_hashes = (refl, refl, refl)
 
 rows-carriage_return :
     Refused byte_string_kind (codes "br\"a\\\r\"") (at 5 kind.CarriageReturn)
