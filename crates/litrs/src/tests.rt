@@ -1,8 +1,8 @@
 //! Literals over both buffers: texts, parts, values and refusals.
 use crate::ParseErrorKind::{self, *};
 use crate::{
-    BoolLit, Buffer, FloatType, FromIntegerLiteral, IntegerBase, IntegerLit, IntegerType, Literal,
-    ParseError, Text,
+    BoolLit, Buffer, FloatLit, FloatType, FromIntegerLiteral, IntegerBase, IntegerLit, IntegerType,
+    Literal, ParseError, Text,
 };
 use litrs_lex::{check_suffix, cut_integer, end_dec_digits, first_byte_or_empty, hex_digit_value};
 use std::alloc::{AllocError, Global};
@@ -590,5 +590,51 @@ fn long_numbers(rt: HostRuntime) -> Result<(), Fail> {
     check_value::<u128>(&rt, ones.as_str(), None);
     check_value::<u8>(&rt, zeros.as_str(), Some(7));
     check_value::<u128>(&rt, zeros.as_str(), Some(7));
+    Ok(())
+}
+
+/// The sample of the README: the value of an integer, where it fits 16 bits.
+fn mask(alloc: Global, text: &str) -> Result<Option<u16>, ParseError> {
+    match Literal::parse(alloc, text)? {
+        Literal::Integer(lit) => Ok(lit.value::<u16>()),
+        _ => Ok(None),
+    }
+}
+
+#[test]
+fn the_sample_of_the_readme(rt: HostRuntime) {
+    assert!(rt; matches!(mask(rt.alloc(), "0xFF_u8"), Ok(Some(255))));
+    assert!(rt; matches!(mask(rt.alloc(), "70_000"), Ok(None)));
+    match mask(rt.alloc(), "0b12") {
+        Ok(_) => assert!(rt; false),
+        Err(e) => {
+            assert_eq!(rt; e.kind(), InvalidDigit);
+            assert_eq!(rt; e.span(), Some(3..4));
+        }
+    }
+}
+
+/// Texts that are refused as a number with a span and a character span.
+const CHARACTER_SPANS: [(&str, Range<usize>, Range<usize>); 3] = [
+    ("é", 0..1, 0..2),
+    ("0x", 2..2, 2..2),
+    ("0🦊", 1..5, 1..5),
+];
+
+#[test]
+fn spans_in_whole_characters(rt: HostRuntime) -> Result<(), Fail> {
+    for (text, span, char_span) in CHARACTER_SPANS.iter() {
+        match IntegerLit::parse(*text) {
+            Ok(_) => assert!(rt; false),
+            Err(e) => {
+                assert_eq!(rt; e.span(), Some(span.start..span.end));
+                assert_eq!(rt; e.char_span(), Some(char_span.start..char_span.end));
+            }
+        }
+    }
+    match FloatLit::parse("1.é") {
+        Ok(_) => assert!(rt; false),
+        Err(e) => assert_eq!(rt; e.char_span(), Some(2..4)),
+    }
     Ok(())
 }
