@@ -7,3 +7,4 @@ pub mod PlainRuns
 pub mod QuotedScan
 pub mod QuotedBytes
 pub mod QuotedCuts
+pub mod QuotedValues

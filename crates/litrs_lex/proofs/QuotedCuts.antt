@@ -28,16 +28,18 @@ use Rattle.litrs_lex.proofs.QuotedScan.{front_splits}
 
 -- The refusal
 
-pub is_quoted_refused : (front : List ℕ) (w : Switches) (t : List ℕ) (e : ParseError) → IsQuotedRefusal front w t (refusal_of e) → HasCharSpan t e → IsQuotedRefused front w t e
-is_quoted_refused front w t e table ends = record {
-  none = λ q is. quoted_texts_are_not_refused front w t q (refusal_of e) is table;
-  table = table;
-  only = λ r other. quoted_refusals_are_unique front w t r (refusal_of e) other table;
-  span = quoted_spans_lie_in_text front w t (refusal_of e) table;
-  char_span = ends;
-  char_ends = char_span_points t e (quoted_spans_lie_in_text front w t (refusal_of e) table) ends;
-  of_text = quoted_of_text front w t (refusal_of e) table;
-}
+pub is_quoted_refused : (w : Switches) (bytes : List ℕ) (offset : ℕ) (e : ParseError) → IsQuotedRefusal (chars (take offset bytes)) w (chars bytes) (refusal_of e) →
+    HasCharSpan (chars bytes) e → IsQuotedRefused w bytes offset e
+is_quoted_refused w bytes offset e table ends =
+    let front = chars (take offset bytes) in let t = chars bytes in record {
+      none = λ q is. quoted_texts_are_not_refused front w t q (refusal_of e) is table;
+      table = table;
+      only = λ r other. quoted_refusals_are_unique front w t r (refusal_of e) other table;
+      span = quoted_spans_lie_in_text front w t (refusal_of e) table;
+      char_span = ends;
+      char_ends = char_span_points t e (quoted_spans_lie_in_text front w t (refusal_of e) table) ends;
+      of_text = quoted_of_text front w t (refusal_of e) table;
+    }
 
 pub refused_at : (w : Switches) (bytes : List ℕ) (offset : ℕ) (end : ItemsEnd) (e f : Refusal) → IsItemsEnd w bytes offset end →
     rest_refusal w (chars (drop end.place bytes)) ≡ Some e → f ≡ moved end.place e → IsQuotedRefusal (chars (take offset bytes)) w (chars bytes) f
@@ -59,11 +61,11 @@ front_of w bytes offset end read = append_assoc (chars (take offset bytes)) (bod
 -- the refusal of the rest, moved by what stands before it
 pub refused_cut : (w : Switches) (bytes : List ℕ) (offset : ℕ) (end : ItemsEnd) (e f : ParseError) → IsItemsEnd w bytes offset end →
     rest_refusal w (chars (drop end.place bytes)) ≡ Some (refusal_of e) → HasCharSpan (chars (drop end.place bytes)) e → refusal_of f ≡ moved end.place (refusal_of e) →
-    char_span_of f ≡ moved_span end.place (char_span_of e) → IsQuotedRefused (chars (take offset bytes)) w (chars bytes) f
+    char_span_of f ≡ moved_span end.place (char_span_of e) → IsQuotedRefused w bytes offset f
 refused_cut w bytes offset end e f read told ends same span =
     let front = chars (take offset bytes) ++ body_text read.items in
     let rest = chars (drop end.place bytes) in
-    is_quoted_refused (chars (take offset bytes)) w (chars bytes) f (refused_at w bytes offset end (refusal_of e) (refusal_of f) read told same)
+    is_quoted_refused w bytes offset f (refused_at w bytes offset end (refusal_of e) (refusal_of f) read told same)
     (subst (λ (l : List ℕ). HasCharSpan l f) (front_of w bytes offset end read)
     (char_span_moved front rest e f (same ∙ ap (λ n. moved n (refusal_of e)) read.place) (span ∙ ap (λ n. moved_span n (char_span_of e)) read.place) ends))
 
@@ -105,7 +107,7 @@ pub record IsSlice (bytes : List ℕ) (from : ℕ) (t : List ℕ) : Type 0 where
   pub is_bytes : take (byte_len t) (drop from bytes) ≡ encode_utf8_all t
   pub is_chars : chars (take (byte_len t) (drop from bytes)) ≡ t
 
-slice_of : (bytes t rest : List ℕ) (from : ℕ) → IsUtf8 bytes → IsCharBoundary bytes from → chars (drop from bytes) ≡ t ++ rest → IsSlice bytes from t
+pub slice_of : (bytes t rest : List ℕ) (from : ℕ) → IsUtf8 bytes → IsCharBoundary bytes from → chars (drop from bytes) ≡ t ++ rest → IsSlice bytes from t
 slice_of bytes t rest from u start split =
     let v = IsUtf8-drop bytes from u start in
     let cut = cut_at (drop from bytes) t rest v split in

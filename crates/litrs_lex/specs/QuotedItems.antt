@@ -11,7 +11,8 @@ use Rattle.litrs_grammar.specs.Quoted.{Item, item_text, item_value, is_item, is_
 use Rattle.litrs_lex.specs.Container.{is_pushable}
 use Rattle.litrs_lex.specs.declared.quoted.ItemsEnd.{ItemsEnd}
 
--- From the one place up to the other stand characters that stand for themselves, and behind them none.
+-- From the one place up to the other stand characters that stand for themselves, and behind them
+-- none.
 pub record IsPlainRun (w : Switches) (bytes : List ℕ) (from end : ℕ) : Type 0 where
   pub run : List ℕ
   pub split : chars (drop from bytes) ≡ run ++ chars (drop end bytes)
@@ -25,9 +26,10 @@ abbrev pub item_bytes : Option Unescape → List ℕ
 item_bytes None = []
 item_bytes (Some value) = value_bytes value
 
--- An item of so many bytes stands at the front. An escape has this value, which is a byte above 7F only where byte escapes
--- are on; a continuation has none.
-pub record IsItemAt (w : Switches) (bytes : List ℕ) (len : ℕ) (value : Option Unescape) : Type 0 where
+-- An item of so many bytes stands at the front. An escape has this value, which is a byte above
+-- 7F only where byte escapes are on; a continuation has none.
+pub record IsItemAt (w : Switches) (bytes : List ℕ) (len : ℕ) (value : Option Unescape)
+    : Type 0 where
   pub item : Item
   pub split : chars bytes ≡ item_text item ++ chars (drop len bytes)
   pub grammar : IsTrue (is_item w item)
@@ -42,12 +44,16 @@ pub record IsItemAt (w : Switches) (bytes : List ℕ) (len : ℕ) (value : Optio
 
 -- No item stands at the front of the rest: it begins with the closing quote, or it is refused.
 abbrev pub EndsItems : Switches → List ℕ → Type 0
-EndsItems w rest = IsTrue (first_passes (λ c. c == double_quote) rest) ⊎ ((e : Refusal) × (rest_refusal w rest ≡ Some e))
+EndsItems w rest =
+    IsTrue (first_passes (λ c. c == double_quote) rest)
+    ⊎ ((e : Refusal) × (rest_refusal w rest ≡ Some e))
 
--- Behind the front, which ends at `offset`, stand items up to the place, which stand for so many bytes; and there they end.
+-- Behind the front, which ends at `offset`, stand items up to the place, which stand for so many
+-- bytes; and there they end.
 pub record IsItemsEnd (w : Switches) (bytes : List ℕ) (offset : ℕ) (end : ItemsEnd) : Type 0 where
   pub items : List Item
-  pub spells : chars (take offset bytes) ++ (body_text items ++ chars (drop end.place bytes)) ≡ chars bytes
+  pub spells :
+      chars (take offset bytes) ++ (body_text items ++ chars (drop end.place bytes)) ≡ chars bytes
   pub taken : IsTrue (stand_before w (chars (drop end.place bytes)) items)
   pub place : end.place ≡ byte_len (chars (take offset bytes) ++ body_text items)
   pub value_len : end.value_len ≡ length (body_value items)

@@ -1,5 +1,5 @@
 //! Where a quoted string, byte string or C string is cut.
-ghost use Rattle.std.specs.Prelude.{◌≡◌, ◌≤◌, ◌==◌, length, take, IfOk, IfErr, IfSome, IfNone, MatchOption, Some, None, IsTrue, IsFalse};
+ghost use Rattle.std.specs.Prelude.{◌≡◌, ◌≤◌, ◌==◌, length, IfOk, IfErr, IfSome, IfNone, Some, None, IsFalse};
 ghost use Rattle.std.specs.List.{prefix_len};
 ghost use Rattle.std.specs.Str.{chars, IsCharBoundary};
 ghost use Rattle.litrs_base.specs.Characters.{line_feed, is_blank};
@@ -26,23 +26,23 @@ pub struct QuotedCut {
     pub start_suffix: usize,
 }
 
-/// Cuts a quoted literal whose body begins at `offset`. Of `"a\nb"u8` from 1 the value has 3 bytes, the
-/// body has an escape, and the suffix begins at 6. See [the reference][ref].
+/// Cuts a quoted literal whose body begins at `offset`. Of `"a\nb"u8` from 1 the value has 3 bytes,
+/// the body has an escape, and the suffix begins at 6. See [the reference][ref].
 ///
-/// The place stands within the text, on a character boundary. `unicode` allows `\u{..}` and characters
-/// beyond ASCII, `byte_escapes` allows `\x80` to `\xff`, and `allow_nul` allows NUL and an escape of
-/// value 0.
+/// The place stands within the text, on a character boundary. `unicode` allows `\u{..}` and
+/// characters beyond ASCII, `byte_escapes` allows `\x80` to `\xff`, and `allow_nul` allows NUL and
+/// an escape of value 0.
 ///
 /// # Errors
 ///
 /// The first that stands in the text, from `offset` on:
 /// - the refusal of [`unescape`] where a backslash begins neither an escape nor a continuation; the
 ///   escape is read without the last character of the text;
-/// - `CarriageReturn` at a CR, `NulByte` at a NUL that is not allowed, and `NonAsciiInByteLiteral` at a
-///   character beyond ASCII that is not allowed, over its first byte;
+/// - `CarriageReturn` at a CR, `NulByte` at a NUL that is not allowed, and `NonAsciiInByteLiteral`
+///   at a character beyond ASCII that is not allowed, over its first byte;
 /// - `UnterminatedString`, with no span, where the text ends before a closing quote;
-/// - the refusal of [`check_suffix`] where what follows the closing quote is no suffix, over its first
-///   byte.
+/// - the refusal of [`check_suffix`] where what follows the closing quote is no suffix, over its
+///   first byte.
 ///
 /// [ref]: https://doc.rust-lang.org/reference/tokens.html#string-literals
 pub fn cut_quoted(
@@ -53,9 +53,10 @@ pub fn cut_quoted(
     allow_nul: bool,
 ) -> Result<QuotedCut, ParseError>
     requires { IsCharBoundary input.now offset }
-    ensures ok { IfOk result (IsQuotedCut (switches unicode byte_escapes allow_nul) input.now offset) }
+    ensures ok { IfOk result
+        (IsQuotedCut (switches unicode byte_escapes allow_nul) input.now offset) }
     ensures refused { IfErr result
-        (IsQuotedRefused (chars (take offset input.now)) (switches unicode byte_escapes allow_nul) (chars input.now)) }
+        (IsQuotedRefused (switches unicode byte_escapes allow_nul) input.now offset) }
 {
     let end = items_end(input, offset, unicode, byte_escapes, allow_nul);
     match rest_refusal(&input[end.place..], unicode, byte_escapes, allow_nul) {
@@ -153,10 +154,12 @@ pub(crate) fn next_item(
     byte_escapes: bool,
     allow_nul: bool,
 ) -> Option<Escaped>
-    requires { IsFalse (first_passes (is_plain (switches unicode byte_escapes allow_nul)) (chars rest.now)) }
+    requires { IsFalse
+        (first_passes (is_plain (switches unicode byte_escapes allow_nul)) (chars rest.now)) }
     ensures item { IfSome result (λ item.
         IsItemAt (switches unicode byte_escapes allow_nul) rest.now item.len item.value) }
-    ensures none { IfNone result (EndsItems (switches unicode byte_escapes allow_nul) (chars rest.now)) }
+    ensures none { IfNone result
+        (EndsItems (switches unicode byte_escapes allow_nul) (chars rest.now)) }
 {
     let [first, behind @ ..] = rest.as_bytes() else {
         return None;
@@ -189,10 +192,13 @@ fn rest_refusal(
     byte_escapes: bool,
     allow_nul: bool,
 ) -> Option<ParseError>
-    requires { IsFalse (first_passes (is_plain (switches unicode byte_escapes allow_nul)) (chars rest.now)) }
-    ensures none { IfNone result (rest_refusal (switches unicode byte_escapes allow_nul) (chars rest.now) ≡ None) }
+    requires { IsFalse
+        (first_passes (is_plain (switches unicode byte_escapes allow_nul)) (chars rest.now)) }
+    ensures none { IfNone result
+        (rest_refusal (switches unicode byte_escapes allow_nul) (chars rest.now) ≡ None) }
     ensures refusal { IfSome result (λ e.
-        rest_refusal (switches unicode byte_escapes allow_nul) (chars rest.now) ≡ Some (refusal_of e)) }
+        rest_refusal (switches unicode byte_escapes allow_nul) (chars rest.now)
+        ≡ Some (refusal_of e)) }
     ensures char_span { IfSome result (HasCharSpan (chars rest.now)) }
 {
     let [first, behind @ ..] = rest.as_bytes() else {
@@ -264,8 +270,8 @@ mod tests {
 
     const C_STRING: Switches = (true, true, false);
 
-    /// A text, where its body begins, the switches; then the length of the value, whether the body has
-    /// a backslash, and the place of the suffix.
+    /// A text, where its body begins, the switches; then the length of the value, whether the body
+    /// has a backslash, and the place of the suffix.
     const CUTS: [(&str, usize, Switches, (usize, bool, usize)); 15] = [
         ("\"a\\u{e9}\\\n b\"x", 1, STRING, (4, true, 13)),
         ("\"a\\\n \\\n\tb\"", 1, STRING, (2, true, 10)),
