@@ -1,15 +1,16 @@
 -- Where spans end in whole characters: in the bytes of a text, and in a text behind a front.
-use Rattle.std.proofs.Common.{◌≡◌, ◌≤◌, ◌<◌, ◌+◌, ◌-◌, ◌/◌, ℕ, Bool, true, false, cond, ltb, get_or, zero, suc, List, [], ◌∷◌, ◌++◌, length, Option, Some, None, refl, sym, ap, subst, ◌∙◌, arith}
+use Rattle.std.proofs.Common.{◌≡◌, ◌≤◌, ◌<◌, ◌+◌, ◌-◌, ◌/◌, ◌^◌, ℕ, Bool, true, false, cond, ltb, get_or, zero, suc, List, [], ◌∷◌, ◌++◌, length, Option, Some, None, refl, sym, ap, subst, ◌∙◌, arith, inl, inr}
+use Rattle.std.specs.Option.{ForSome}
 use Rattle.std.specs.Prelude.{IfSome, IsUtf8, IsCharBoundary, chars, encode_utf8_all, option_map}
 use Rattle.std.specs.declared.ops.Range.{Range}
 use Rattle.std.proofs.Math.Utf8.{encode}
-use Rattle.std.proofs.lemmas.Bool.{ltb-true}
+use Rattle.std.proofs.lemmas.Bool.{ltb-true, cases_lt}
 use Rattle.std.proofs.lemmas.Str.{encodes-chars, encodes-append}
 use Rattle.litrs_base.specs.declared.err.ParseErrorKind.{ParseErrorKind}
 use Rattle.litrs_base.specs.declared.err.ParseError.{ParseError}
 use Rattle.litrs_base.specs.Text.{byte_len, PointsInto}
 use Rattle.litrs_base.specs.CharEnd.{IsBoundaryOf, IsCharEnd, PointsAtCharacters}
-use Rattle.litrs_base.specs.Refusal.{Refusal, refusal_of, IsInText, plain, moved, moved_span, char_span_of, HasCharSpan}
+use Rattle.litrs_base.specs.Refusal.{Refusal, refusal_of, IsInText, plain, moved, moved_span, char_span_of, HasCharSpan, MovesWithin}
 use Rattle.litrs_base.proofs.Spans.{byte_len-append}
 
 -- a refusal with no span
@@ -125,3 +126,54 @@ char_span_points t e = points e.span e.char_end
       in_order = omega (arith, inside.in_order, is.at_or_after);
       within = (is.boundary inside.within).0;
     }
+
+-- a text that goes on has the same boundaries, up to its end
+
+boundary_front : (x y : List ℕ) (n : ℕ) → n < length x → IsCharBoundary (x ++ y) n → IsCharBoundary x n
+boundary_front [] y n inside h = absurd (omega arith)
+boundary_front (b ∷ x) y zero inside h = (omega arith, λ within. h.1 (omega arith))
+boundary_front (b ∷ x) y (suc n) inside h = boundary_cons b n x (boundary_front x y n (omega arith) (boundary_tail b n (x ++ y) h))
+
+boundary_on : (x y : List ℕ) (n : ℕ) → n < length x → IsCharBoundary x n → IsCharBoundary (x ++ y) n
+boundary_on [] y n inside h = absurd (omega arith)
+boundary_on (b ∷ x) y zero inside h = (omega arith, λ within. h.1 (omega arith))
+boundary_on (b ∷ x) y (suc n) inside h = boundary_cons b n (x ++ y) (boundary_on x y n (omega arith) (boundary_tail b n x h))
+
+char_end_on : (t x : List ℕ) (end place : ℕ) → end ≤ byte_len t → IsCharEnd t end place → IsCharEnd (t ++ x) end place
+char_end_on t x end place inside is =
+    let both : encode_utf8_all (t ++ x) ≡ encode_utf8_all t ++ encode_utf8_all x = encodes-append t x in
+    let size : byte_len (t ++ x) ≡ byte_len t + byte_len x = byte_len-append t x in
+    let bound = (is.boundary inside).0 in
+    record {
+      at_or_after = is.at_or_after;
+      boundary = λ fits. elim (cases_lt place (byte_len t)) [
+        | inl low ↦ subst (λ (b : List ℕ). IsCharBoundary b place) (sym both) (boundary_on (encode_utf8_all t) (encode_utf8_all x) place low (is.boundary inside))
+        | inr high ↦ subst (IsBoundaryOf (t ++ x)) (let e : byte_len t ≡ place = omega arith in e) (front_boundary (t ++ x) t x refl)
+      ];
+      least = λ n low high on. is.least n low high
+          (boundary_front (encode_utf8_all t) (encode_utf8_all x) n (omega arith) (subst (λ (b : List ℕ). IsCharBoundary b n) both on));
+      past = λ over. absurd (omega arith);
+    }
+
+-- a refusal that points into a text, of a text that goes on
+pub char_span_on : (t x : List ℕ) (e : ParseError) → IsInText t (refusal_of e) → HasCharSpan t e → HasCharSpan (t ++ x) e
+char_span_on t x e = on e.span e.char_end
+  where
+    on : (o : Option (Range ℕ)) (place : ℕ) → IfSome o (PointsInto t) → IfSome o (λ span. IsCharEnd t span.end place) → IfSome o (λ span. IsCharEnd (t ++ x) span.end place)
+    on None place inside is = tt
+    on (Some span) place inside is = char_end_on t x span.end place inside.within is
+
+-- the refusal of what stands behind a front may be moved by it, where the text is not too long
+pub moves_within : (front t : List ℕ) (e : ParseError) → IsInText (front ++ t) (moved (byte_len front) (refusal_of e)) → HasCharSpan t e → byte_len (front ++ t) < 2 ^ 64 →
+    MovesWithin (byte_len front) e
+moves_within front t e inside is small = within e.span e.char_end inside is
+  where
+    within : (o : Option (Range ℕ)) (place : ℕ) → IfSome (moved_span (byte_len front) o) (PointsInto (front ++ t)) → IfSome o (λ span. IsCharEnd t span.end place) →
+        ForSome o (λ span. (span.start + byte_len front < 2 ^ 64) × (span.end + byte_len front < 2 ^ 64) × (place + byte_len front < 2 ^ 64))
+    within None place inside is = λ x same. cc
+    within (Some span) place inside is = λ x same.
+        let size : byte_len (front ++ t) ≡ byte_len front + byte_len t = byte_len-append front t in
+        let order = inside.in_order in let fits = inside.within in
+        let bound = (is.boundary (omega arith)).0 in
+        let e : span ≡ x = cc in
+        subst (λ (y : Range ℕ). (y.start + byte_len front < 2 ^ 64) × (y.end + byte_len front < 2 ^ 64) × (place + byte_len front < 2 ^ 64)) e (omega arith, omega arith, omega arith)

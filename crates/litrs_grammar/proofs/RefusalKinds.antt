@@ -143,7 +143,7 @@ of_table o e h is = of_kind e.kind (sym (ap is_fine is) ∙ h)
 pub integer_refusal_of_text : (t : List ℕ) (e : Refusal) → integer_refusal t ≡ Some e → IsOfText e
 integer_refusal_of_text t e refused = of_table (integer_refusal t) e (fine_integer t) refused
 
-quoted_of_text : (front : List ℕ) (w : Switches) (t : List ℕ) (e : Refusal) → IsQuotedRefusal front w t e → IsOfText e
+pub quoted_of_text : (front : List ℕ) (w : Switches) (t : List ℕ) (e : Refusal) → IsQuotedRefusal front w t e → IsOfText e
 quoted_of_text front w t e h = subst IsOfText h.placed (of_table (rest_refusal w h.rest) h.cause (fine_rest w h.rest) h.told)
 
 string_start_of_text : (kind : StringKind) → IsOfText (string_start_refusal kind)

@@ -3,3 +3,8 @@ pub mod NumeralLemmas
 pub mod IntegerBytes
 pub mod FloatBytes
 pub mod EscapeBytes
+pub mod PlainRuns
+pub mod QuotedScan
+pub mod QuotedBytes
+pub mod QuotedCuts
+pub mod QuotedValues

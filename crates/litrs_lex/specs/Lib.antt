@@ -2,3 +2,5 @@ pub mod Container
 pub mod IntegerCut
 pub mod FloatCut
 pub mod Unescaped
+pub mod QuotedCut
+pub mod QuotedItems

@@ -9,10 +9,15 @@ pub use litrs_base::{
     Buffer, FloatType, FromIntegerLiteral, IntegerBase, IntegerType, ParseError, ParseErrorKind,
     Text, Unescape,
 };
+pub use litrs_search::{Special, next_special};
 pub use parse::{check_suffix, end_dec_digits, first_byte_or_empty, hex_digit_value};
+pub use quoted::{QuotedCut, cut_quoted};
+pub use string::unescape_string;
 
 pub mod container;
 pub mod escape;
 pub mod float;
 pub mod integer;
 mod parse;
+pub mod quoted;
+pub mod string;

@@ -42,7 +42,8 @@ fn by_bytes(bytes: &[u8], from: usize, what: Special) -> usize
     i
 }
 
-/// The place of the lowest mark, where bit 0 is the mark of the place `from`; `end` where there is none.
+/// The place of the lowest mark, where bit 0 is the mark of the place `from`; `end` where there is
+/// none.
 #[inline(always)]
 fn first_marked(marks: u64, from: usize, end: usize) -> usize
     requires { 0 < marks → from + trailing_zeros w64 marks ≤ end }
