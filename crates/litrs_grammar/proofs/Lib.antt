@@ -11,6 +11,7 @@ pub mod IntegerLaws
 pub mod IntegerSpans
 pub mod EscapeLaws
 pub mod EscapeSpans
+pub mod EscapeContinuation
 pub mod QuotedItems
 pub mod QuotedLaws
 pub mod QuotedSpans

@@ -12,6 +12,7 @@ pub mod LiteralRefusals
 pub mod Refused
 pub mod Closing
 pub mod Growth
+pub mod EscapeGoesOn
 pub mod EscapeLaws
 pub mod QuotedLaws
 pub mod CharByteLaws
