@@ -9,12 +9,15 @@ pub mod RawSpans
 pub mod RawKinds
 pub mod IntegerLaws
 pub mod IntegerSpans
+pub mod IntegerContinuation
 pub mod EscapeLaws
 pub mod EscapeSpans
 pub mod EscapeContinuation
+pub mod SuffixContinuation
 pub mod QuotedItems
 pub mod QuotedLaws
 pub mod QuotedSpans
+pub mod QuotedContinuation
 pub mod CharByteSpans
 pub mod CharByteLaws
 pub mod Computing

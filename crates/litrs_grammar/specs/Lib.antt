@@ -12,7 +12,10 @@ pub mod LiteralRefusals
 pub mod Refused
 pub mod Closing
 pub mod Growth
+pub mod Continuation
 pub mod EscapeGoesOn
+pub mod QuotedGoesOn
+pub mod IntegerGoesOn
 pub mod EscapeLaws
 pub mod QuotedLaws
 pub mod CharByteLaws
