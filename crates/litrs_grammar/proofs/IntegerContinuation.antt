@@ -18,7 +18,8 @@ use Rattle.litrs_base.specs.Text.{byte_len, first_passes, is_empty, begins_with}
 use Rattle.litrs_base.specs.Characters.{is_scalar}
 use Rattle.litrs_base.specs.Base.{prefix, is_digit, is_digit_or_underscore}
 use Rattle.litrs_grammar.specs.Integer.{IntegerParts, integer_text, is_e, base_of, integer_cut, cut_refusal, integer_refusal, IsIntegerOf}
-use Rattle.litrs_base.proofs.Runs.{list_all-append}
+use Rattle.litrs_base.proofs.Runs.{list_all-append, list_all-weaken}
+use Rattle.litrs_grammar.proofs.LineFeeds.{is_other, suffix_other, no_line_feed}
 use Rattle.litrs_grammar.proofs.IntegerLaws.{take_while_front, list_all-take_while, first_passes-rest, not_empty_by_first, integer_rows-None, cut_with, integer_cut-is, cut-spells, derivable, integer_refusal-free, refusal_of_digit, starts_with_digit, first_passes-append}
 use Rattle.litrs_grammar.specs.Continuation.{BeginsBy, EndsBy}
 use Rattle.litrs_grammar.specs.IntegerGoesOn.{IntegerGoesOn}
@@ -120,9 +121,9 @@ one_digit c h =
     decimal : cut_with (base_of (c ∷ [])) (c ∷ []) ≡ cut_with Decimal (c ∷ [])
     decimal = ap (λ b. cut_with b (c ∷ [])) (base_single (48 == c) refl)
 
-begins_suffix : (c d : ℕ) (r : List ℕ) (e : Refusal) → is_ascii_digit c ≡ true → integer_refusal (c ∷ d ∷ r) ≡ Some e → BeginsBy IsIntegerOf (c ∷ d ∷ r) →
+begins_suffix : (c d : ℕ) (r : List ℕ) (e : Refusal) → is_ascii_digit c ≡ true → integer_refusal (c ∷ d ∷ r) ≡ Some e → (x : List ℕ) (lit : IntegerParts) → IsIntegerOf ((c ∷ d ∷ r) ++ x) lit →
     (cut_with (base_of (c ∷ d ∷ r)) (c ∷ d ∷ r)).suffix ≡ []
-begins_suffix c d r e digit h (x, lit, text, reads) = go (cut_with (base_of (c ∷ d ∷ r)) (c ∷ d ∷ r)).suffix refl
+begins_suffix c d r e digit h x lit reads = go (cut_with (base_of (c ∷ d ∷ r)) (c ∷ d ∷ r)).suffix refl
   where
     go : (sfx : List ℕ) → (cut_with (base_of (c ∷ d ∷ r)) (c ∷ d ∷ r)).suffix ≡ sfx → sfx ≡ []
     go [] is = refl
@@ -150,14 +151,17 @@ suffix_begins c d r digit is =
     one_digit_is Decimal = refl
     one_digit_is Hexadecimal = refl
 
--- a refused text that begins with a digit begins an integer exactly where nothing stands behind the main part
-pub integer_begins : (t : List ℕ) (e : Refusal) → first_passes is_ascii_digit t ≡ true → integer_refusal t ≡ Some e → BeginsBy IsIntegerOf t ↔ ((integer_cut t).suffix ≡ [])
-integer_begins [] e digit h = cc
-integer_begins (c ∷ []) e digit h = let free = one_digit c digit in absurd (cc)
-integer_begins (c ∷ d ∷ r) e digit h = (
-  λ b. ap (λ p. p.suffix) (integer_cut-is (c ∷ d ∷ r)) ∙ begins_suffix c d r e digit h b,
-  λ is. suffix_begins c d r digit (ap (λ p. p.suffix) (sym (integer_cut-is (c ∷ d ∷ r))) ∙ is),
-)
+-- where some list behind a refused text gives an integer, nothing stands behind the main part
+freed_suffix : (t : List ℕ) (e : Refusal) → first_passes is_ascii_digit t ≡ true → integer_refusal t ≡ Some e → (x : List ℕ) (d : IntegerParts) → IsIntegerOf (t ++ x) d →
+    (integer_cut t).suffix ≡ []
+freed_suffix [] e digit h x d reads = cc
+freed_suffix (c ∷ []) e digit h x d reads = let free = one_digit c digit in absurd (cc)
+freed_suffix (c ∷ d ∷ r) e digit h x lit reads = ap (λ p. p.suffix) (integer_cut-is (c ∷ d ∷ r)) ∙ begins_suffix c d r e digit h x lit reads
+
+from_suffix : (t : List ℕ) (e : Refusal) → first_passes is_ascii_digit t ≡ true → integer_refusal t ≡ Some e → (integer_cut t).suffix ≡ [] → BeginsBy IsIntegerOf t
+from_suffix [] e digit h is = cc
+from_suffix (c ∷ []) e digit h is = let free = one_digit c digit in absurd (cc)
+from_suffix (c ∷ d ∷ r) e digit h is = suffix_begins c d r digit (ap (λ p. p.suffix) (sym (integer_cut-is (c ∷ d ∷ r))) ∙ is)
 
 no_digits_kind : (d : IntegerParts) (e : Refusal) → d.suffix ≡ [] → is_final e.kind ≡ true → cut_refusal d ≡ Some e → ⊥
 no_digits_kind d e is f h = go (list_any (is_digit d.base) d.main) (rw (is, is_suffix-nil) at h)
@@ -170,13 +174,51 @@ no_integer : (t : List ℕ) (x : List ℕ) (d : IntegerParts) → first_passes i
 no_integer [] x d h n reads = cc
 no_integer (c ∷ t) x d h n reads = both_ways _ h (starts_with_digit (c ∷ (t ++ x)) d reads)
 
--- after a final refusal none begins
-pub integer_finality : (t : List ℕ) (e : Refusal) → integer_refusal t ≡ Some e → is_final e.kind ≡ true → ¬ BeginsBy IsIntegerOf t
+-- after a final refusal no longer text is an integer
+pub integer_finality : (t : List ℕ) (e : Refusal) → integer_refusal t ≡ Some e → is_final e.kind ≡ true → EndsBy IsIntegerOf t
 unfolding integer_refusal
-integer_finality t e h f begins = go (is_empty t) (first_passes is_ascii_digit t) refl refl
+integer_finality t e h f x d reads = go (is_empty t) (first_passes is_ascii_digit t) refl refl
   where
     go : (n b : Bool) → is_empty t ≡ n → first_passes is_ascii_digit t ≡ b → ⊥
     go true b is_n is_b = never (plain Empty) e refl f (rw is_n at h)
-    go false false is_n is_b = no_integer t begins.0 begins.1 is_b is_n begins.3
+    go false false is_n is_b = no_integer t x d is_b is_n reads
     go false true is_n is_b =
-        no_digits_kind (integer_cut t) e ((integer_begins t e is_b h).0 begins) f (sym (refusal_of_digit t is_b) ∙ h)
+        no_digits_kind (integer_cut t) e (freed_suffix t e is_b h x d reads) f (sym (refusal_of_digit t is_b) ∙ h)
+
+-- a refused text begins an integer exactly where it is empty or nothing stands behind its main part
+pub integer_goes_on : (t : List ℕ) (e : Refusal) → integer_refusal t ≡ Some e → BeginsBy IsIntegerOf t ↔ IntegerGoesOn t
+integer_goes_on t e h = (λ begins. goes (is_empty t) (first_passes is_ascii_digit t) refl refl begins, begin t h)
+  where
+    empty : (t : List ℕ) → is_empty t ≡ true → t ≡ []
+    empty [] is = refl
+    empty (c ∷ t) is = cc
+
+    goes : (n b : Bool) → is_empty t ≡ n → first_passes is_ascii_digit t ≡ b → BeginsBy IsIntegerOf t → IntegerGoesOn t
+    goes true b is_n is_b begins = inl (empty t is_n)
+    goes false false is_n is_b (x, d, text, reads) = absurd (no_integer t x d is_b is_n reads)
+    goes false true is_n is_b (x, d, text, reads) = inr (is_b, freed_suffix t e is_b h x d reads)
+
+    begin : (t : List ℕ) → integer_refusal t ≡ Some e → IntegerGoesOn t → BeginsBy IsIntegerOf t
+    begin t h (inl none) = subst (λ l. BeginsBy IsIntegerOf l) (sym none) (49 ∷ [], integer_cut (49 ∷ []), refl, derivable (49 ∷ []) (one_digit 49 refl))
+    begin t h (inr (digit, is)) = from_suffix t e digit h is
+
+-- Texts that end with LF
+
+digit_other : (base : IntegerBase) (c : ℕ) → is_digit_or_underscore base c ≡ true → is_other c ≡ true
+digit_other Binary c h = grind (arith, nat_tests)
+digit_other Octal c h = grind (arith, nat_tests)
+digit_other Decimal c h = grind (arith, nat_tests)
+digit_other Hexadecimal c h = grind (arith, nat_tests)
+
+prefix_other : (base : IntegerBase) → list_all is_other (prefix base) ≡ true
+prefix_other Binary = refl
+prefix_other Octal = refl
+prefix_other Decimal = refl
+prefix_other Hexadecimal = refl
+
+-- no LF stands in an integer, so none ends what begins one
+pub integer_line_end : (t : List ℕ) → EndsBy IsIntegerOf (t ++ 10 ∷ [])
+integer_line_end t x d reads =
+    no_line_feed t x (subst (λ l. list_all is_other l ≡ true) reads.spells
+    (list_all-append is_other (prefix d.base) (d.main ++ d.suffix) (prefix_other d.base)
+    (list_all-append is_other d.main d.suffix (list_all-weaken _ _ (digit_other d.base) d.main reads.grammar.digits) (suffix_other d.suffix reads.grammar.suffix))))

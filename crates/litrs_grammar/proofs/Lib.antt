@@ -14,6 +14,7 @@ pub mod EscapeLaws
 pub mod EscapeSpans
 pub mod EscapeContinuation
 pub mod SuffixContinuation
+pub mod LineFeeds
 pub mod QuotedItems
 pub mod QuotedLaws
 pub mod QuotedSpans

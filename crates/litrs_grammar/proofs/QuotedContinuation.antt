@@ -24,6 +24,7 @@ use Rattle.unicode_ident.proofs.IdentLemmas.{is_xid_continue-ascii}
 use Rattle.litrs_base.proofs.Runs.{list_all-append, list_all-weaken, last_passes, is_line_feed, last_passes-append, line_feed_last}
 use Rattle.litrs_grammar.proofs.EscapeLaws.{inner_of, read_escape, refusal_escape, SomeEscape}
 use Rattle.litrs_grammar.specs.Continuation.{BeginsBy, EndsBy}
+use Rattle.litrs_grammar.proofs.LineFeeds.{is_other, escape_other, no_line_feed_last}
 use Rattle.litrs_grammar.specs.QuotedGoesOn.{IsOpenRest, RestGoesOn, IsClosedQuoted, QuotedGoesOn}
 use Rattle.litrs_grammar.specs.EscapeGoesOn.{BeginsEscape}
 use Rattle.litrs_grammar.proofs.SuffixContinuation.{is_suffix-nil, underscore_x, front_of, suffix_final, suffix_freed}
@@ -383,43 +384,12 @@ quoted_begins front w t e h = (
 
 -- Texts that end with LF
 
-abbrev pub is_other : ℕ → Bool
-is_other c = not (c == 10)
-
-simple_other : (c : ℕ) → is_simple c ≡ true → is_other c ≡ true
-simple_other c h = grind (arith, nat_tests)
-
-digit_other : (c : ℕ) → is_ascii_hexdigit c ≡ true → is_other c ≡ true
-digit_other c h = grind (arith, nat_tests)
-
-inner_other : (c : ℕ) → is_hex_or_underscore c ≡ true → is_other c ≡ true
-inner_other c h = grind (arith, nat_tests)
-
--- no LF stands in an escape
-pub escape_other : (w : Switches) (e : Escape) → is_escape w e ≡ true → list_all is_other (escape_text e) ≡ true
-escape_other w (simple_escape c) h = let p = and_parts (is_simple c) _ h in and_from _ _ (simple_other c p.0) refl
-escape_other w (hex_escape c d) h =
-    let p = and_parts _ (allows_value w (pair_value c d)) h in
-    let q = and_parts _ (allows_byte w (pair_value c d)) p.0 in
-    let r = and_parts (is_ascii_hexdigit c) (is_ascii_hexdigit d) q.0 in
-    and_from _ _ (digit_other c r.0) (and_from _ _ (digit_other d r.1) refl)
-escape_other w (unicode_escape inner) h =
-    list_all-append is_other inner (125 ∷ []) (list_all-weaken _ _ inner_other inner (inner_of w inner h).all) refl
-
 open_kind : (w : Switches) (rest : List ℕ) (e : Refusal) → IsOpenRest rest → rest_refusal w rest ≡ Some e → plain UnterminatedString ≡ e
 unfolding rest_refusal
 open_kind w rest e (inl none) told = let h : Some (plain UnterminatedString) ≡ Some e = ap (rest_refusal w) (sym none) ∙ told in cc
 open_kind w rest e (inr (blanks, is, all)) told =
     let h : (if list_all is_blank blanks then Some (plain UnterminatedString) else None) ≡ Some e = ap (rest_refusal w) (sym is) ∙ told in
     let g : Some (plain UnterminatedString) ≡ Some e = rw all at h in cc
-
-last_not : (p : ℕ → Bool) (t : List ℕ) → list_all (λ c. not (p c)) t ≡ true → last_passes p t ≡ true → ⊥
-last_not p [] h g = cc
-last_not p (c ∷ []) h g = both_ways _ (not-true _ (and_parts (not (p c)) _ h).0) g
-last_not p (c ∷ d ∷ t) h g = last_not p (d ∷ t) (and_parts (not (p c)) _ h).1 g
-
-last_back : (p : ℕ → Bool) (t x : List ℕ) → list_all p (t ++ x) ≡ true → list_all p t ≡ true
-last_back p t x h = (and_parts _ _ (sym (all-append p t x) ∙ h)).0
 
 -- a quoted text that ends with LF and is refused begins a literal exactly where its refusal is open
 pub quoted_line_end : (front : List ℕ) (w : Switches) (t : List ℕ) (e : Refusal) → IsQuotedRefusal front w (t ++ 10 ∷ []) e →
@@ -442,7 +412,7 @@ quoted_line_end front w t e h = (shut, λ begins. go h.rest h.spells h.told (beg
     go rest spells told (inl shape) = by_shape rest told shape
     go [] spells told (inr goes) = by_shape [] told (inl refl)
     go (c ∷ r) spells told (inr (inl (esc, x, same, grammar))) =
-        absurd (last_not is_line_feed (c ∷ r) (last_back (λ c. not (is_line_feed c)) (c ∷ r) x (ap (list_all (λ c. not (is_line_feed c))) same ∙ escape_other w esc grammar)) (feed c r spells))
+        absurd (no_line_feed_last (c ∷ r) x (ap (list_all is_other) same ∙ escape_other w esc grammar) (feed c r spells))
     go (c ∷ r) spells told (inr (inr lone)) = absurd (false≢true (ap (last_passes is_line_feed) (sym lone) ∙ feed c r spells))
 
 -- after a final refusal no longer text is a literal

@@ -28,7 +28,7 @@ suffix_begins_otherwise p low other (c ∷ cs) h = elim (cases_Bool (p c)) [
   | inl pass ↦ absurd (true≢false (sym (starts_ascii c (low c pass) (and_parts _ _ (and_parts _ _ h).0).0) ∙ other c pass))
 ]
 
-not_line_feed : (c : ℕ) → is_xid_continue c ≡ true → is_line_feed c ≡ false
+pub not_line_feed : (c : ℕ) → is_xid_continue c ≡ true → is_line_feed c ≡ false
 not_line_feed c h = elim (cases_lt c 128) [
   | inl low ↦ (let e : (is_ascii_alphanumeric c || (c == 95)) ≡ true = sym (is_xid_continue-ascii c low) ∙ h in grind (arith, nat_tests))
   | inr high ↦ grind (arith, nat_tests)
