@@ -11,7 +11,7 @@ use Rattle.litrs_base.specs.Refusal.{Refusal, IsInText, plain, over, at}
 use Rattle.litrs_base.specs.Text.{is_empty, byte_len}
 use Rattle.litrs_grammar.specs.Suffix.{suffix_refusal}
 use Rattle.litrs_grammar.specs.Integer.{is_e}
-use Rattle.litrs_grammar.specs.Float.{FloatParts, fraction_text, float_text, is_decimal_char, is_period, is_sign, sign_len, IsFloat, IsFloatOf, has_wrong_fraction, float_refusal}
+use Rattle.litrs_grammar.specs.Float.{FloatParts, fraction_text, number_part, float_text, is_decimal_char, is_period, is_sign, sign_len, IsFloat, IsFloatOf, has_wrong_fraction, float_refusal}
 use Rattle.litrs_base.proofs.Runs.{last_passes, is_line_feed, line_feed_last, last_passes-all, last_passes-both, list_all-append, list_all-weaken}
 use Rattle.litrs_base.proofs.Spans.{byte_len-append, is_ascii_char, byte_len_ascii, plain_within, over_within, at_within, of_some, of_none}
 use Rattle.litrs_grammar.proofs.SuffixStart.{suffix_last}
@@ -20,13 +20,13 @@ use Rattle.litrs_grammar.proofs.FloatLaws.{float_rows, cut_rows, refusal_of_cut,
 use Rattle.litrs_grammar.proofs.IntegerLaws.{number_rows}
 
 -- what stands in front of the suffix
-abbrev is_number_char : ℕ → Bool
+abbrev pub is_number_char : ℕ → Bool
 is_number_char c = is_decimal_char c || (is_period c || (is_e c || is_sign c))
 
 number_ascii : (c : ℕ) → is_number_char c ≡ true → is_ascii_char c ≡ true
 number_ascii c h = grind (arith, nat_tests)
 
-number_line_feed : (c : ℕ) → is_number_char c ≡ true → is_line_feed c ≡ false
+pub number_line_feed : (c : ℕ) → is_number_char c ≡ true → is_line_feed c ≡ false
 number_line_feed c h = grind (arith, nat_tests)
 
 letter_number : (c : ℕ) → is_e c ≡ true → is_number_char c ≡ true
@@ -55,6 +55,12 @@ exponent_number (c ∷ cs) h = and_from _ _ (letter_number c (and_parts _ _ h).0
 
 number_bytes : (t : List ℕ) → list_all is_number_char t ≡ true → byte_len t ≡ length t
 number_bytes t h = byte_len_ascii t (list_all-weaken is_number_char is_ascii_char number_ascii t h)
+
+-- all but the suffix
+pub number_part_chars : (d : FloatParts) → IsCut d → list_all is_number_char (number_part d) ≡ true
+number_part_chars d cut =
+    list_all-append is_number_char d.integer (fraction_text d.fraction ++ d.exponent) (decimals_number d.integer cut.integer)
+    (list_all-append is_number_char (fraction_text d.fraction) d.exponent (fraction_number d.fraction cut.fraction) (exponent_number d.exponent cut.exponent))
 
 -- each row
 

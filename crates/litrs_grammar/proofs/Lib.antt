@@ -1,8 +1,10 @@
 pub mod NoNul
 pub mod SuffixStart
+pub mod OpenRows
 pub mod FloatCuts
 pub mod FloatLaws
 pub mod FloatSpans
+pub mod FloatContinuation
 pub mod RawCuts
 pub mod RawLaws
 pub mod RawSpans

@@ -16,6 +16,7 @@ pub mod Continuation
 pub mod EscapeGoesOn
 pub mod QuotedGoesOn
 pub mod IntegerGoesOn
+pub mod FloatGoesOn
 pub mod EscapeLaws
 pub mod QuotedLaws
 pub mod CharByteLaws
