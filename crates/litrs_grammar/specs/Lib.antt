@@ -17,6 +17,7 @@ pub mod EscapeGoesOn
 pub mod QuotedGoesOn
 pub mod IntegerGoesOn
 pub mod FloatGoesOn
+pub mod RawGoesOn
 pub mod EscapeLaws
 pub mod QuotedLaws
 pub mod CharByteLaws
