@@ -13,6 +13,7 @@ pub mod RawContinuation
 pub mod IntegerLaws
 pub mod IntegerSpans
 pub mod IntegerContinuation
+pub mod BoolContinuation
 pub mod EscapeLaws
 pub mod EscapeSpans
 pub mod EscapeContinuation

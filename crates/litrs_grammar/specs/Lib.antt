@@ -15,6 +15,7 @@ pub mod Growth
 pub mod Continuation
 pub mod EscapeGoesOn
 pub mod QuotedGoesOn
+pub mod BoolGoesOn
 pub mod IntegerGoesOn
 pub mod FloatGoesOn
 pub mod RawGoesOn
