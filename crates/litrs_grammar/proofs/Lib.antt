@@ -30,6 +30,7 @@ pub mod BoolLaws
 pub mod LiteralLaws
 pub mod NumberLaws
 pub mod LiteralSpans
+pub mod DispatchContinuation
 pub mod RefusalKinds
 pub mod CharByteExamples
 pub mod EscapeExamples

@@ -16,6 +16,8 @@ pub mod Continuation
 pub mod EscapeGoesOn
 pub mod QuotedGoesOn
 pub mod BoolGoesOn
+pub mod StringGoesOn
+pub mod UnnamedGoesOn
 pub mod IntegerGoesOn
 pub mod FloatGoesOn
 pub mod RawGoesOn
