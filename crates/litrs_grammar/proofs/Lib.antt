@@ -31,6 +31,7 @@ pub mod LiteralLaws
 pub mod NumberLaws
 pub mod LiteralSpans
 pub mod DispatchContinuation
+pub mod StringContinuation
 pub mod RefusalKinds
 pub mod CharByteExamples
 pub mod EscapeExamples
