@@ -27,7 +27,7 @@ use Rattle.litrs_grammar.specs.Literal.{a_bool, a_byte, Derivation, IsLiteral, l
 use Rattle.litrs_grammar.specs.Continuation.{EndsBy}
 use Rattle.litrs_grammar.specs.BoolGoesOn.{bool_goes_on}
 use Rattle.litrs_grammar.specs.UnnamedGoesOn.{unnamed_goes_on}
-use Rattle.litrs_grammar.proofs.SuffixContinuation.{empty_suffix}
+use Rattle.litrs_grammar.proofs.SuffixContinuation.{is_suffix-nil}
 use Rattle.litrs_grammar.proofs.BoolContinuation.{bool_front, bool_begins}
 use Rattle.litrs_grammar.proofs.LineFeeds.{is_other, no_line_feed}
 use Rattle.litrs_base.proofs.Begins.{begins_with-split}
@@ -105,7 +105,7 @@ plain_digits : (t : List ℕ) → list_all (is_digit_or_underscore Decimal) t �
 plain_digits t h digit =
     let cut : cut_with (base_of t) t ≡ record { base = Decimal; main = t; suffix = [] } =
     ap (λ b. cut_with b t) (digits_base t h) ∙ ap (cut_with Decimal) (sym (append-nil t)) ∙ cut_parts Decimal t [] h refl in
-    refusal_of_digit t digit ∙ ap cut_refusal (integer_cut-is t ∙ cut) ∙ rw (empty_suffix, any_first t digit) refl
+    refusal_of_digit t digit ∙ ap cut_refusal (integer_cut-is t ∙ cut) ∙ rw (is_suffix-nil, any_first t digit) refl
 
 drop-all : (t : List ℕ) → drop (length t) t ≡ []
 drop-all t = ap (drop (length t)) (sym (append-nil t)) ∙ drop_at t [] (length t) refl
@@ -216,7 +216,7 @@ b_completes : (t : List ℕ) → begins_with t (codes "b") ≡ true → Begins l
 b_completes [] h = bool_completes [] refl
 b_completes (c ∷ []) h =
     subst (λ n. Begins literal_parse (n ∷ [])) (sym (eqb-true c 98 (and_parts (c == 98) _ h).0))
-    (39 ∷ 97 ∷ 39 ∷ [], a_byte (record { item = plain_char 97; suffix = [] }), refl, record { spells = refl; item = refl; suffix = empty_suffix })
+    (39 ∷ 97 ∷ 39 ∷ [], a_byte (record { item = plain_char 97; suffix = [] }), refl, record { spells = refl; item = refl; suffix = is_suffix-nil })
 b_completes (c ∷ d ∷ r) h = absurd (false≢true (and_parts (c == 98) _ h).1)
 
 -- exactly there

@@ -24,7 +24,7 @@ use Rattle.litrs_grammar.proofs.IntegerLaws.{take_while_front, list_all-take_whi
 use Rattle.litrs_grammar.specs.Continuation.{BeginsBy, EndsBy}
 use Rattle.litrs_grammar.specs.IntegerGoesOn.{IntegerGoesOn}
 use Rattle.litrs_grammar.proofs.EscapeContinuation.{never}
-use Rattle.litrs_grammar.proofs.SuffixContinuation.{empty_suffix, suffix_freed}
+use Rattle.litrs_grammar.proofs.SuffixContinuation.{is_suffix-nil, suffix_freed}
 
 -- the cut of parts
 pub cut_parts : (base : IntegerBase) (m x : List ℕ) → list_all (is_digit_or_underscore base) m ≡ true → first_passes (is_digit_or_underscore base) x ≡ false →
@@ -112,7 +112,7 @@ one_digit : (c : ℕ) → is_ascii_digit c ≡ true → integer_refusal (c ∷ [
 one_digit c h =
     let cut : cut_with Decimal (c ∷ []) ≡ record { base = Decimal; main = c ∷ []; suffix = [] } =
     cut_parts Decimal (c ∷ []) [] (and_from _ _ (or_left _ _ h) refl) refl in
-    refusal_of_digit (c ∷ []) h ∙ ap cut_refusal (integer_cut-is (c ∷ []) ∙ decimal ∙ cut) ∙ rw (empty_suffix, h) refl
+    refusal_of_digit (c ∷ []) h ∙ ap cut_refusal (integer_cut-is (c ∷ []) ∙ decimal ∙ cut) ∙ rw (is_suffix-nil, h) refl
   where
     base_single : (b : Bool) → (48 == c) ≡ b → base_of (c ∷ []) ≡ Decimal
     base_single true e = rw e refl
@@ -142,7 +142,7 @@ suffix_begins c d r digit is =
     let m = (cut_with base (c ∷ d ∷ r)).main in
     let some : list_any (is_digit base) (m ++ 49 ∷ []) ≡ true = list_any-append (is_digit base) m (49 ∷ []) ∙ or_right _ _ (one_digit_is base) in
     let free : integer_refusal (c ∷ d ∷ (r ++ 49 ∷ [])) ≡ None =
-    refusal_of_digit (c ∷ d ∷ (r ++ 49 ∷ [])) digit ∙ ap cut_refusal (cut_one c d r is) ∙ rw (empty_suffix, some) refl in
+    refusal_of_digit (c ∷ d ∷ (r ++ 49 ∷ [])) digit ∙ ap cut_refusal (cut_one c d r is) ∙ rw (is_suffix-nil, some) refl in
     (49 ∷ [], integer_cut (c ∷ d ∷ (r ++ 49 ∷ [])), refl, derivable (c ∷ d ∷ (r ++ 49 ∷ [])) free)
   where
     one_digit_is : (base : IntegerBase) → list_any (is_digit base) (49 ∷ []) ≡ true
@@ -164,7 +164,7 @@ from_suffix (c ∷ []) e digit h is = let free = one_digit c digit in absurd (cc
 from_suffix (c ∷ d ∷ r) e digit h is = suffix_begins c d r digit (ap (λ p. p.suffix) (sym (integer_cut-is (c ∷ d ∷ r))) ∙ is)
 
 no_digits_kind : (d : IntegerParts) (e : Refusal) → d.suffix ≡ [] → is_final e.kind ≡ true → cut_refusal d ≡ Some e → ⊥
-no_digits_kind d e is f h = go (list_any (is_digit d.base) d.main) (rw (is, empty_suffix) at h)
+no_digits_kind d e is f h = go (list_any (is_digit d.base) d.main) (rw (is, is_suffix-nil) at h)
   where
     go : (b : Bool) → (if not b then Some (over (byte_len (prefix d.base)) (byte_len (prefix d.base ++ d.main)) NoDigits) else None) ≡ Some e → ⊥
     go true g = cc

@@ -27,7 +27,7 @@ use Rattle.litrs_grammar.specs.Continuation.{BeginsBy, EndsBy}
 use Rattle.litrs_grammar.proofs.LineFeeds.{is_other, escape_other, no_line_feed_last}
 use Rattle.litrs_grammar.specs.QuotedGoesOn.{IsOpenRest, RestGoesOn, IsClosedQuoted, QuotedGoesOn}
 use Rattle.litrs_grammar.specs.EscapeGoesOn.{BeginsEscape}
-use Rattle.litrs_grammar.proofs.SuffixContinuation.{empty_suffix, underscore_suffix, front_of, suffix_final, suffix_freed}
+use Rattle.litrs_grammar.proofs.SuffixContinuation.{is_suffix-nil, underscore_x, front_of, suffix_final, suffix_freed}
 
 -- what is taken before a text is taken before a longer one
 taken_more : (a : Item) (b : List ℕ) (c : ℕ) (r x : List ℕ) → is_taken_before (b ++ c ∷ r) a ≡ true → is_taken_before (b ++ c ∷ (r ++ x)) a ≡ true
@@ -209,7 +209,7 @@ closed_by front w t items body spells = record {
   literal = record {
     spells = sym (append_assoc front (body_text items) (34 ∷ [])) ∙ ap (λ l. l ++ 34 ∷ []) spells;
     body = body;
-    suffix = empty_suffix;
+    suffix = is_suffix-nil;
   };
   body = spells;
 }
@@ -359,7 +359,7 @@ rest_begins front w t items rest spelled taken (inr (inl (esc, x, spells, gramma
             ∙ sym (append_assoc front (body_text items ++ rest) (x ++ 34 ∷ []))
             ∙ ap (λ l. l ++ (x ++ 34 ∷ [])) spelled;
         body = both.body;
-        suffix = empty_suffix;
+        suffix = is_suffix-nil;
       },
     )
 rest_begins front w t items rest spelled taken (inr (inr lone)) = (
@@ -371,7 +371,7 @@ rest_begins front w t items rest spelled taken (inr (inr lone)) = (
         ∙ sym (append_assoc front (body_text items ++ rest) (120 ∷ []))
         ∙ ap (λ l. l ++ 120 ∷ []) spelled;
     body = stands_is_body w items rest taken;
-    suffix = underscore_suffix;
+    suffix = underscore_x;
   },
 )
 

@@ -19,7 +19,7 @@ use Rattle.litrs_grammar.specs.LiteralRefusals.{StringStart, refused_start, quot
 use Rattle.litrs_grammar.specs.Continuation.{BeginsBy, EndsBy}
 use Rattle.litrs_grammar.specs.StringGoesOn.{start_goes_on}
 use Rattle.litrs_grammar.proofs.LiteralLaws.{string_start_says, start_quoted, start_raw, quoted_starts, raw_starts}
-use Rattle.litrs_grammar.proofs.SuffixContinuation.{empty_suffix, front_of}
+use Rattle.litrs_grammar.proofs.SuffixContinuation.{is_suffix-nil, front_of}
 use Rattle.litrs_grammar.proofs.BoolContinuation.{rest_is_text}
 use Rattle.litrs_grammar.proofs.EscapeContinuation.{never}
 use Rattle.litrs_grammar.proofs.LineFeeds.{is_other, no_line_feed}
@@ -110,7 +110,7 @@ quoted_completes kind t h =
       record {
         spells = ap (λ l. l ++ 34 ∷ []) (sym (begins_with-split t (quoted_front kind) h)) ∙ append_assoc t rest (34 ∷ []);
         body = refl;
-        suffix = empty_suffix;
+        suffix = is_suffix-nil;
       },
     )
 
@@ -122,7 +122,7 @@ raw_completes kind t h =
       list_all-append is_scalar rest (34 ∷ 34 ∷ []) (rest_is_text t (raw_front kind) (raw_scalar kind) h) refl,
       record {
         spells = ap (λ l. l ++ 34 ∷ 34 ∷ []) (sym (begins_with-split t (raw_front kind) h)) ∙ append_assoc t rest (34 ∷ 34 ∷ []);
-        grammar = record { hash_count = omega arith; body = record { allowed = refl; unclosed = refl }; suffix = empty_suffix };
+        grammar = record { hash_count = omega arith; body = record { allowed = refl; unclosed = refl }; suffix = is_suffix-nil };
       },
     )
 

@@ -13,17 +13,17 @@ use Rattle.unicode_ident.specs.Ident.{is_xid_continue}
 use Rattle.unicode_ident.proofs.IdentLemmas.{is_xid_continue-ascii}
 use Rattle.litrs_grammar.proofs.SuffixStart.{starts_ascii}
 
-pub empty_suffix : is_suffix [] ≡ true
+pub is_suffix-nil : is_suffix [] ≡ true
 unfolding is_suffix
-empty_suffix = refl
+is_suffix-nil = refl
 
 pub is_suffix-cons : (c : ℕ) (t : List ℕ) → is_suffix (c ∷ t) ≡ (starts_identifier c && list_all is_xid_continue t && not ((c == 95) && is_empty t))
 unfolding is_suffix
 is_suffix-cons c t = refl
 
 -- `_x` is a suffix
-pub underscore_suffix : is_suffix (95 ∷ 120 ∷ []) ≡ true
-underscore_suffix = is_suffix-cons 95 (120 ∷ []) ∙ and_from _ _ (and_from _ _ (is_xid_continue-ascii 120 (omega arith)) refl) refl
+pub underscore_x : is_suffix (95 ∷ 120 ∷ []) ≡ true
+underscore_x = is_suffix-cons 95 (120 ∷ []) ∙ and_from _ _ (and_from _ _ (is_xid_continue-ascii 120 (omega arith)) refl) refl
 
 -- one of two fronts of a text goes on with the other
 pub front_of : (a b x y : List ℕ) → a ++ x ≡ b ++ y → ((z : List ℕ) × (a ≡ b ++ z)) ⊎ ((c : ℕ) × (z : List ℕ) × (b ≡ a ++ c ∷ z))
@@ -51,7 +51,7 @@ no_suffix c t h = rw h refl
 
 -- no suffix for a final reason
 pub suffix_final : (t x : List ℕ) → is_suffix t ≡ false → is_final (suffix_refusal t) ≡ true → (is_suffix (t ++ x) ≡ false) × (suffix_refusal (t ++ x) ≡ suffix_refusal t)
-suffix_final [] x h f = absurd (both_ways _ h empty_suffix)
+suffix_final [] x h f = absurd (both_ways _ h is_suffix-nil)
 suffix_final (c ∷ t) x h f = go (is_ascii_symbol c) refl f
   where
     go : (b : Bool) → is_ascii_symbol c ≡ b → is_final (if b then UnexpectedChar else InvalidSuffix) ≡ true →
@@ -61,7 +61,7 @@ suffix_final (c ∷ t) x h f = go (is_ascii_symbol c) refl f
 
 -- a lone underscore alone becomes a suffix
 pub suffix_freed : (t x : List ℕ) → is_suffix t ≡ false → is_suffix (t ++ x) ≡ true → t ≡ 95 ∷ []
-suffix_freed [] x h g = absurd (both_ways _ h empty_suffix)
+suffix_freed [] x h g = absurd (both_ways _ h is_suffix-nil)
 suffix_freed (c ∷ t) x h g =
     let p = and_parts _ _ (sym (is_suffix-cons c (t ++ x)) ∙ g) in
     let q = and_parts (starts_identifier c) (list_all is_xid_continue (t ++ x)) p.0 in
