@@ -10,18 +10,21 @@ use Rattle.std.proofs.lemmas.List.Folds.{list_all-append as all-append}
 use Rattle.litrs_base.specs.declared.err.ParseErrorKind.{ParseErrorKind}
 use Rattle.litrs_base.specs.declared.err.ParseErrorKind.TheVariants.{InvalidLiteral, TooManyHashes, UnterminatedRawString}
 use Rattle.litrs_base.specs.Finality.{is_final, is_open}
+use Rattle.litrs_base.specs.Characters.{is_scalar}
 use Rattle.litrs_base.specs.Refusal.{Refusal, plain, over, at}
 use Rattle.litrs_base.specs.Text.{IsText, byte_len, is_empty, first_passes, begins_with}
-use Rattle.litrs_base.proofs.Runs.{list_all-append, list_all-weaken, prefix_len_all, IsRun, run_of}
+use Rattle.litrs_base.proofs.Runs.{list_all-append, list_all-weaken, prefix_len_all, IsRun, run_of, last_passes, is_line_feed, last_passes-all, last_passes-append}
+use Rattle.litrs_base.specs.Derivations.{IsOnlyDerivation}
 use Rattle.litrs_grammar.specs.Suffix.{is_suffix, suffix_refusal}
 use Rattle.litrs_grammar.specs.Raw.{is_quote, is_hash, hashes, raw_closing, occurs, is_raw_char, IsRawBody, RawParts, raw_text, IsRaw, IsRawOf, hash_len, length_before, raw_char_refusal, raw_body_refusal, raw_refusal}
-use Rattle.litrs_grammar.specs.RawGoesOn.{IsClosedRaw, RawRestGoesOn, RawGoesOn}
+use Rattle.litrs_grammar.specs.RawGoesOn.{raw_open_parts, IsClosedRaw, RawRestGoesOn, RawGoesOn}
 use Rattle.litrs_grammar.specs.Continuation.{BeginsBy, EndsBy}
 use Rattle.litrs_grammar.proofs.IntegerLaws.{prefix_len_front}
 use Rattle.litrs_grammar.proofs.EscapeContinuation.{never, keep}
 use Rattle.litrs_grammar.proofs.SuffixContinuation.{suffix_freed, suffix_final, is_suffix-nil, underscore_x, front_of}
+use Rattle.litrs_grammar.proofs.OpenRows.{shut_kind_if, shut_suffix}
 use Rattle.litrs_grammar.proofs.RawCuts.{hashes_pass, length-hashes, hash_len-append, behind_hashes, HashCut, hash_cut, closing_cut, length_before-body}
-use Rattle.litrs_grammar.proofs.RawLaws.{raw_body_rows, raw_rows, refusal_of_hashes, refusal_of_closed, refused, refusal_free}
+use Rattle.litrs_grammar.proofs.RawLaws.{raw_body_rows, raw_rows, refusal_of_hashes, refusal_of_closed, refused, refusal_free, only_raw}
 
 -- Behind n hashes and the quote: what a text is up to its first closing, or to the first character that may not stand there.
 
@@ -305,3 +308,180 @@ raw_longer unicode allow_nul start t more r d h raw = by cut.rest cut.spells cut
         (sym (rows_of unicode allow_nul start cut.count c (rest ++ more) stops) ∙ ap (raw_refusal unicode allow_nul start) (sym longer) ∙ free) in
         subst (RawGoesOn unicode allow_nul) spells (from_cut unicode allow_nul cut.count (c ∷ rest) stops
         (ltb-false 255 cut.count rows.0, (eqb-true c 34 rows.1, body_longer unicode allow_nul cut.count (start + (cut.count + 1)) rest more r rows.2 rows.3)))
+
+-- What completes them.
+
+hash_scalar : (c : ℕ) → is_hash c ≡ true → is_scalar c ≡ true
+hash_scalar c h = subst (λ d. is_scalar d ≡ true) (sym (eqb-true c 35 h)) refl
+
+pub closing_is_text : (n : ℕ) → IsText (raw_closing n)
+closing_is_text n = list_all-weaken _ _ hash_scalar (hashes n) (hashes_pass n)
+
+-- the parts of a body that its closing closes, and of one that is closed already, with a suffix
+closed_parts : (unicode allow_nul : Bool) (n : ℕ) (body suffix t : List ℕ) → n ≤ 255 → IsRawBody unicode allow_nul n body → is_suffix suffix ≡ true →
+    hashes n ++ (34 ∷ (body ++ (raw_closing n ++ suffix))) ≡ t → IsRawOf unicode allow_nul t (record { hash_count = n; body = body; suffix = suffix })
+closed_parts unicode allow_nul n body suffix t few grammar is spells = record { spells = spells; grammar = record { hash_count = few; body = grammar; suffix = is } }
+
+-- the closing text makes what is not closed a literal
+closes : (unicode allow_nul : Bool) (n : ℕ) (body t : List ℕ) → hashes n ++ 34 ∷ body ≡ t → n ≤ 255 → IsRawBody unicode allow_nul n body →
+    IsRawOf unicode allow_nul (t ++ raw_closing n) (record { hash_count = n; body = body; suffix = [] })
+closes unicode allow_nul n body t spells few grammar =
+    closed_parts unicode allow_nul n body [] (t ++ raw_closing n) few grammar is_suffix-nil
+    (ap (λ l. hashes n ++ 34 ∷ (body ++ l)) (append-nil (raw_closing n)) ∙ sym (append_assoc (hashes n) (34 ∷ body) (raw_closing n)) ∙ ap (λ l. l ++ raw_closing n) spells)
+
+completed : (unicode allow_nul : Bool) (n : ℕ) (rest t : List ℕ) → hashes n ++ rest ≡ t → CutGoesOn unicode allow_nul n rest → BeginsBy (IsRawOf unicode allow_nul) t
+completed unicode allow_nul n [] t spells (few, goes_on) = (
+  34 ∷ raw_closing n,
+  record { hash_count = n; body = []; suffix = [] },
+  closing_is_text n,
+  closed_parts unicode allow_nul n [] [] (t ++ 34 ∷ raw_closing n) few (record { allowed = refl; unclosed = refl }) is_suffix-nil
+      (ap (λ l. hashes n ++ 34 ∷ l) (append-nil (raw_closing n)) ∙ ap (λ l. l ++ 34 ∷ raw_closing n) (sym (append-nil (hashes n)) ∙ spells)),
+)
+completed unicode allow_nul n (c ∷ body) t spells (few, (quote, inl grammar)) = (
+  raw_closing n,
+  record { hash_count = n; body = body; suffix = [] },
+  closing_is_text n,
+  closes unicode allow_nul n body t (ap (λ q. hashes n ++ q ∷ body) (sym quote) ∙ spells) few grammar,
+)
+completed unicode allow_nul n (c ∷ rest) t spells (few, (quote, inr x)) = (
+  120 ∷ [],
+  record { hash_count = n; body = x.body; suffix = 95 ∷ 120 ∷ [] },
+  refl,
+  closed_parts unicode allow_nul n x.body (95 ∷ 120 ∷ []) (t ++ 120 ∷ []) few x.grammar underscore_x
+      (ap (λ l. hashes n ++ 34 ∷ l) ((closed_more unicode allow_nul n rest (95 ∷ []) (120 ∷ []) x).spells) ∙ sym (append_assoc (hashes n) (34 ∷ rest) (120 ∷ []))
+      ∙ ap (λ l. l ++ 120 ∷ []) (ap (λ q. hashes n ++ q ∷ rest) (sym quote) ∙ spells)),
+)
+
+-- what stands behind a front, and is refused, begins a raw literal if and only if it goes on
+pub raw_begins : (unicode allow_nul : Bool) (start : ℕ) (t : List ℕ) (r : Refusal) → raw_refusal unicode allow_nul start t ≡ Some r →
+    BeginsBy (IsRawOf unicode allow_nul) t ↔ RawGoesOn unicode allow_nul t
+raw_begins unicode allow_nul start t r h = (
+  λ begins. raw_longer unicode allow_nul start t begins.0 r begins.1 h begins.3,
+  λ goes_on. (let cut = hash_cut t in
+      completed unicode allow_nul cut.count cut.rest t cut.spells (to_cut unicode allow_nul cut.count cut.rest cut.stops (subst (RawGoesOn unicode allow_nul) (sym cut.spells) goes_on))),
+)
+
+-- Open refusals.
+
+shut_character : (c : ℕ) → is_open (raw_char_refusal c) ≡ false
+shut_character c = search shut_kind_if
+
+not_open : {A : Type 0} (k r : Refusal) → is_open k.kind ≡ false → is_open r.kind ≡ true → Some k ≡ Some r → A
+not_open k r shut is same = let at : k ≡ r = cc in absurd (true≢false (sym is ∙ subst (λ e. is_open e.kind ≡ false) at shut))
+
+open_body : (unicode allow_nul : Bool) (n start : ℕ) (t : List ℕ) (r : Refusal) → is_open r.kind ≡ true → raw_body_refusal unicode allow_nul n start t ≡ Some r → IsRawBody unicode allow_nul n t
+open_body unicode allow_nul n start t r is h = by (raw_scan unicode allow_nul n t)
+  where
+    by : RawScan unicode allow_nul n t → IsRawBody unicode allow_nul n t
+    by (unclosed grammar) = grammar
+    by (stopped x) =
+        not_open (at (start + byte_len x.front) (raw_char_refusal x.character)) r (shut_character x.character) is (sym (stopped_refusal unicode allow_nul n start t x) ∙ h)
+    by (closed behind x) = suffix (is_suffix behind) (sym (closed_refusal unicode allow_nul n start t behind x) ∙ h)
+      where
+        suffix : (b : Bool) → (if not b then Some (at (start + (byte_len x.body + (1 + n))) (suffix_refusal behind)) else None) ≡ Some r → IsRawBody unicode allow_nul n t
+        suffix true e = cc
+        suffix false e = not_open (at (start + (byte_len x.body + (1 + n))) (suffix_refusal behind)) r (shut_suffix behind) is e
+
+rows_open : (start n : ℕ) (few quote : Bool) (o : Option Refusal) (r : Refusal) → is_open r.kind ≡ true → raw_rows start n o false few quote ≡ Some r →
+    (few ≡ false) × (quote ≡ true) × (o ≡ Some r)
+rows_open start n true quote o r is h = not_open (over start (start + n) TooManyHashes) r refl is h
+rows_open start n false false o r is h = not_open (plain InvalidLiteral) r refl is h
+rows_open start n false true o r is h = (refl, refl, h)
+
+-- what stands behind the hashes and the quote of an open text is a raw body
+record IsOpenRaw (unicode allow_nul : Bool) (t : List ℕ) : Type 0 where
+  hash_count : ℕ
+  body : List ℕ
+  spells : hashes hash_count ++ 34 ∷ body ≡ t
+  few : hash_count ≤ 255
+  grammar : IsRawBody unicode allow_nul hash_count body
+
+open_cut : (unicode allow_nul : Bool) (start : ℕ) (t : List ℕ) (r : Refusal) → is_open r.kind ≡ true → raw_refusal unicode allow_nul start t ≡ Some r → IsOpenRaw unicode allow_nul t
+open_cut unicode allow_nul start t r is h = by cut.rest cut.spells cut.stops
+  where
+    cut : HashCut t
+    cut = hash_cut t
+
+    by : (rest : List ℕ) → hashes cut.count ++ rest ≡ t → first_passes is_hash rest ≡ false → IsOpenRaw unicode allow_nul t
+    by [] spells stops = not_open (plain InvalidLiteral) r refl is (sym (rows_of_nothing unicode allow_nul start cut.count) ∙ ap (raw_refusal unicode allow_nul start) spells ∙ h)
+    by (c ∷ rest) spells stops =
+        let rows = rows_open start cut.count (ltb 255 cut.count) (is_quote c) _ r is
+        (sym (rows_of unicode allow_nul start cut.count c rest stops) ∙ ap (raw_refusal unicode allow_nul start) spells ∙ h) in
+        record {
+          hash_count = cut.count;
+          body = rest;
+          spells = ap (λ q. hashes cut.count ++ q ∷ rest) (sym (eqb-true c 34 rows.1)) ∙ spells;
+          few = ltb-false 255 cut.count rows.0;
+          grammar = open_body unicode allow_nul cut.count (start + (cut.count + 1)) rest r is rows.2;
+        }
+
+-- what is refused as open is made a literal by the closing text
+pub raw_open : (unicode allow_nul : Bool) (start : ℕ) (t : List ℕ) (r : Refusal) → is_open r.kind ≡ true → raw_refusal unicode allow_nul start t ≡ Some r →
+    IsRawOf unicode allow_nul (t ++ raw_closing (hash_len t)) (raw_open_parts t)
+raw_open unicode allow_nul start t r is h =
+    let x = open_cut unicode allow_nul start t r is h in
+    let n = x.hash_count in
+    let count : hash_len t ≡ n = ap hash_len (sym x.spells) ∙ hash_len-append n (34 ∷ x.body) refl in
+    let behind : drop (n + 1) (hashes n ++ 34 ∷ x.body) ≡ x.body = ap (drop (n + 1)) (sym (append_assoc (hashes n) (34 ∷ []) x.body))
+    ∙ drop_at (hashes n ++ 34 ∷ []) x.body (n + 1) (length-append (hashes n) (34 ∷ []) ∙ omega (arith, length-hashes n)) in
+    let body : drop (hash_len t + 1) t ≡ x.body = ap (λ k. drop (k + 1) t) count ∙ ap (drop (n + 1)) (sym x.spells) ∙ behind in
+    subst (λ k. IsRawOf unicode allow_nul (t ++ raw_closing k) (record { hash_count = k; body = drop (hash_len t + 1) t; suffix = [] })) (sym count)
+    (subst (λ b. IsRawOf unicode allow_nul (t ++ raw_closing n) (record { hash_count = n; body = b; suffix = [] })) (sym body)
+    (closes unicode allow_nul n x.body t x.spells x.few x.grammar))
+
+-- Texts that end with LF.
+
+-- what stands open is refused as open
+open_refusal : (unicode allow_nul : Bool) (start : ℕ) (t : List ℕ) → IsOpenRaw unicode allow_nul t → raw_refusal unicode allow_nul start t ≡ Some (plain UnterminatedRawString)
+open_refusal unicode allow_nul start t x =
+    let n = x.hash_count in
+    ap (raw_refusal unicode allow_nul start) (sym x.spells) ∙ rows_of unicode allow_nul start n 34 x.body refl
+    ∙ (λ j. raw_rows start n (unclosed_refusal unicode allow_nul n (start + (n + 1)) x.body x.grammar j) false (le-ltb 255 n x.few j) true)
+
+hashes_last : (n : ℕ) → last_passes is_line_feed (hashes n) ≡ false
+hashes_last n = last_passes-all is_hash is_line_feed (λ c h. grind (arith, nat_tests)) (hashes n) (hashes_pass n)
+
+closed_last : (n : ℕ) (body : List ℕ) → last_passes is_line_feed (hashes n ++ 34 ∷ (body ++ (raw_closing n ++ 95 ∷ []))) ≡ false
+closed_last n body =
+    last_passes-append is_line_feed (hashes n) 34 (body ++ (raw_closing n ++ 95 ∷ [])) ∙ last_passes-append is_line_feed (34 ∷ body) 34 (hashes n ++ 95 ∷ [])
+    ∙ last_passes-append is_line_feed (34 ∷ hashes n) 95 []
+
+-- a refused text that ends with LF goes on only where it stands open
+line_end_open : (unicode allow_nul : Bool) (t : List ℕ) → last_passes is_line_feed t ≡ true → RawGoesOn unicode allow_nul t → IsOpenRaw unicode allow_nul t
+line_end_open unicode allow_nul t last goes_on = by cut.rest cut.spells (to_cut unicode allow_nul cut.count cut.rest cut.stops (subst (RawGoesOn unicode allow_nul) (sym cut.spells) goes_on))
+  where
+    cut : HashCut t
+    cut = hash_cut t
+
+    never_last : (s : List ℕ) → s ≡ t → last_passes is_line_feed s ≡ false → IsOpenRaw unicode allow_nul t
+    never_last s same other = absurd (true≢false (sym last ∙ ap (last_passes is_line_feed) (sym same) ∙ other))
+
+    by : (rest : List ℕ) → hashes cut.count ++ rest ≡ t → CutGoesOn unicode allow_nul cut.count rest → IsOpenRaw unicode allow_nul t
+    by [] spells (few, goes_on) = never_last (hashes cut.count) (sym (append-nil (hashes cut.count)) ∙ spells) (hashes_last cut.count)
+    by (c ∷ rest) spells (few, (quote, inl grammar)) =
+        record { hash_count = cut.count; body = rest; spells = ap (λ q. hashes cut.count ++ q ∷ rest) (sym quote) ∙ spells; few = few; grammar = grammar }
+    by (c ∷ rest) spells (few, (quote, inr x)) =
+        never_last (hashes cut.count ++ 34 ∷ (x.body ++ (raw_closing cut.count ++ 95 ∷ [])))
+        (ap (λ l. hashes cut.count ++ 34 ∷ l) x.spells ∙ ap (λ q. hashes cut.count ++ q ∷ rest) (sym quote) ∙ spells) (closed_last cut.count x.body)
+
+-- a refused text that ends with LF begins a raw literal if and only if its refusal is open
+pub raw_line_end : (unicode allow_nul : Bool) (start : ℕ) (t : List ℕ) (r : Refusal) → last_passes is_line_feed t ≡ true → raw_refusal unicode allow_nul start t ≡ Some r →
+    (is_open r.kind ≡ true) ↔ BeginsBy (IsRawOf unicode allow_nul) t
+raw_line_end unicode allow_nul start t r last h = (
+  λ is. (raw_closing (hash_len t), raw_open_parts t, closing_is_text (hash_len t), raw_open unicode allow_nul start t r is h),
+  λ begins. (let x = line_end_open unicode allow_nul t last ((raw_begins unicode allow_nul start t r h).0 begins) in
+      let same : plain UnterminatedRawString ≡ r = (let told : Some (plain UnterminatedRawString) ≡ Some r = sym (open_refusal unicode allow_nul start t x) ∙ h in cc) in
+      subst (λ e. is_open e.kind ≡ true) same refl),
+)
+
+-- the kind of an open refusal
+pub raw_open_kind : (unicode allow_nul : Bool) (start : ℕ) (t : List ℕ) (r : Refusal) → is_open r.kind ≡ true → raw_refusal unicode allow_nul start t ≡ Some r →
+    UnterminatedRawString ≡ r.kind
+raw_open_kind unicode allow_nul start t r is h =
+    let told : Some (plain UnterminatedRawString) ≡ Some r = sym (open_refusal unicode allow_nul start t (open_cut unicode allow_nul start t r is h)) ∙ h in
+    let same : plain UnterminatedRawString ≡ r = cc in ap (λ e. e.kind) same
+
+-- the text of parts that are those of a raw literal is one with these parts and no others
+pub raw_parses_back : (unicode allow_nul : Bool) (d : RawParts) → IsRaw unicode allow_nul d → IsOnlyDerivation (IsRawOf unicode allow_nul (raw_text d)) d
+raw_parses_back unicode allow_nul d grammar = let raw : IsRawOf unicode allow_nul (raw_text d) d = record { spells = refl; grammar = grammar } in
+    (raw, λ e other. only_raw unicode allow_nul (raw_text d) e d other raw)
