@@ -22,6 +22,7 @@ pub mod LiteralText
 pub mod IntegerGoesOn
 pub mod FloatGoesOn
 pub mod RawGoesOn
+pub mod CharByteGoesOn
 pub mod EscapeLaws
 pub mod QuotedLaws
 pub mod CharByteLaws
