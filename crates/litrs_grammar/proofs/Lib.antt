@@ -32,6 +32,9 @@ pub mod NumberLaws
 pub mod LiteralSpans
 pub mod DispatchContinuation
 pub mod StringContinuation
+pub mod LiteralTexts
+pub mod CharByteContinuation
+pub mod LiteralContinuation
 pub mod RefusalKinds
 pub mod CharByteExamples
 pub mod EscapeExamples

@@ -90,7 +90,7 @@ dispatch_byte : (t : List ℕ) (d : CharParts) → IsCharLiteral byte_kind t d �
 unfolding dispatch
 dispatch_byte t d r = ap dispatch (sym r.spells)
 
-abbrev string_literal_of : StringKind → LiteralKind
+abbrev pub string_literal_of : StringKind → LiteralKind
 string_literal_of string_kind = string_literal
 string_literal_of byte_string_kind = byte_string_literal
 string_literal_of c_string_kind = c_string_literal

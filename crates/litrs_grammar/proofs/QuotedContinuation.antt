@@ -418,3 +418,9 @@ quoted_line_end front w t e h = (shut, λ begins. go h.rest h.spells h.told (beg
 -- after a final refusal no longer text is a literal
 pub quoted_finality : (front : List ℕ) (w : Switches) (t : List ℕ) (e : Refusal) → IsQuotedRefusal front w t e → is_final e.kind ≡ true → EndsBy (IsQuoted front w) t
 quoted_finality front w t e h f x q quoted = quoted_texts_are_not_refused front w (t ++ x) q e quoted (quoted_final front w t x e f h)
+
+-- the kind of an open refusal
+pub quoted_open_kind : (front : List ℕ) (w : Switches) (t : List ℕ) (e : Refusal) → is_open e.kind ≡ true → IsQuotedRefusal front w t e → UnterminatedString ≡ e.kind
+quoted_open_kind front w t e f h =
+    let open_cause : is_open h.cause.kind ≡ true = subst (λ r. is_open r.kind ≡ true) (sym h.placed) f in
+    ap (λ r. r.kind) (open_kind w h.rest h.cause (open_rest w h.rest h.cause open_cause h.told) h.told) ∙ ap (λ r. r.kind) h.placed

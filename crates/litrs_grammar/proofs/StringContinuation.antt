@@ -141,7 +141,7 @@ quoted_other string_kind = refl
 quoted_other byte_string_kind = refl
 quoted_other c_string_kind = refl
 
-raw_other : (kind : StringKind) → list_all is_other (raw_front kind) ≡ true
+pub raw_other : (kind : StringKind) → list_all is_other (raw_front kind) ≡ true
 raw_other string_kind = refl
 raw_other byte_string_kind = refl
 raw_other c_string_kind = refl
