@@ -22,6 +22,7 @@ use Rattle.std.proofs.Math.Nat.{mul-le-mul_left, pow-le-pow_right}
 use Rattle.litrs_base.specs.Characters.{is_scalar}
 use Rattle.litrs_base.specs.Numeral.{place_sum, is_no_underscore}
 use Rattle.litrs_base.proofs.Runs.{list_all-append}
+use Rattle.litrs_grammar.specs.ContinuationLaws.{FinalEscapeRefusalsStay, RefusedEscapesGoOn}
 use Rattle.litrs_grammar.specs.EscapeGoesOn.{BeginsEscape, inner_goes_on, hex_goes_on, braces_go_on, escape_goes_on}
 
 -- A final refusal of an escape stays.
@@ -394,3 +395,11 @@ completed w (c ∷ t) h = elim (or_cases _ ((c == 117) && (w.unicode && braces_g
 -- a refused escape is completed by some text exactly where its front goes on
 pub refused_escape_begins : (w : Switches) (t : List ℕ) (e : Refusal) → escape_refusal w (92 ∷ t) ≡ Some e → BeginsEscape w (92 ∷ t) ↔ (escape_goes_on w t ≡ true)
 refused_escape_begins w t e told = (goes_on_from w t e told, completed w t)
+
+-- The laws
+
+pub final_escape_refusals_stay : FinalEscapeRefusalsStay
+final_escape_refusals_stay w t more r refused final = escape_final w t more r final refused
+
+pub refused_escapes_go_on : RefusedEscapesGoOn
+refused_escapes_go_on w t r refused = refused_escape_begins w t r refused

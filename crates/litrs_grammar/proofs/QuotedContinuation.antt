@@ -25,6 +25,7 @@ use Rattle.litrs_base.proofs.Runs.{list_all-append, list_all-weaken, last_passes
 use Rattle.litrs_grammar.proofs.EscapeLaws.{inner_of, read_escape, refusal_escape, SomeEscape}
 use Rattle.litrs_grammar.specs.Continuation.{BeginsBy, EndsBy}
 use Rattle.litrs_grammar.proofs.LineFeeds.{is_other, escape_other, no_line_feed_last}
+use Rattle.litrs_grammar.specs.ContinuationLaws.{QuotedItemsStay, FinalQuotedRefusalsStay}
 use Rattle.litrs_grammar.specs.QuotedGoesOn.{IsOpenRest, RestGoesOn, IsClosedQuoted, QuotedGoesOn}
 use Rattle.litrs_grammar.specs.EscapeGoesOn.{BeginsEscape}
 use Rattle.litrs_grammar.proofs.SuffixContinuation.{is_suffix-nil, underscore_x, front_of, suffix_final, suffix_freed}
@@ -424,3 +425,12 @@ pub quoted_open_kind : (front : List ℕ) (w : Switches) (t : List ℕ) (e : Ref
 quoted_open_kind front w t e f h =
     let open_cause : is_open h.cause.kind ≡ true = subst (λ r. is_open r.kind ≡ true) (sym h.placed) f in
     ap (λ r. r.kind) (open_kind w h.rest h.cause (open_rest w h.rest h.cause open_cause h.told) h.told) ∙ ap (λ r. r.kind) h.placed
+
+-- The laws
+
+pub quoted_items_stay : QuotedItemsStay
+quoted_items_stay w [] more items some stands = cc
+quoted_items_stay w (c ∷ rest) more items some stands = stand_more w items c rest more stands
+
+pub final_quoted_refusals_stay : FinalQuotedRefusalsStay
+final_quoted_refusals_stay front w t more r refused final = quoted_final front w t more r final refused

@@ -23,11 +23,13 @@ pub mod IntegerGoesOn
 pub mod FloatGoesOn
 pub mod RawGoesOn
 pub mod CharByteGoesOn
+pub mod GoesOn
 pub mod EscapeLaws
 pub mod QuotedLaws
 pub mod CharByteLaws
 pub mod FloatLaws
 pub mod RawLaws
 pub mod LiteralLaws
+pub mod ContinuationLaws
 pub mod NumberLaws
 pub mod NameLaws

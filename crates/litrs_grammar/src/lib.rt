@@ -3,6 +3,7 @@
 #![tactic(auto)]
 
 pub mod char_byte;
+pub mod continuation;
 pub mod escape;
 pub mod float;
 pub mod literal;
