@@ -37,7 +37,7 @@ cut_parts base m x all stops =
     ∙ (ap (λ n. record { base = base; main = n; suffix = drop (length n) (m ++ x) }) main
     ∙ ap (λ y. record { base = base; main = m; suffix = y }) (drop_at m x (length m) refl))
 
--- the base is told by two characters
+-- two characters decide the base
 base_more : (c d : ℕ) (t x : List ℕ) → base_of (c ∷ d ∷ (t ++ x)) ≡ base_of (c ∷ d ∷ t)
 base_more c d t x = refl
 

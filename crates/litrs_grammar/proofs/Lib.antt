@@ -33,6 +33,7 @@ pub mod LiteralSpans
 pub mod DispatchContinuation
 pub mod StringContinuation
 pub mod LiteralTexts
+pub mod OtherKinds
 pub mod CharByteContinuation
 pub mod LiteralContinuation
 pub mod RefusalKinds

@@ -277,8 +277,8 @@ kind_line bool_literal t e h =
 kind_line integer_literal t e h =
     neither (is_open e.kind) (sym (ap is_open_row h) ∙ open_integer (t ++ 10 ∷ [])) (λ begins. integer_line_end t begins.0 begins.1 begins.3)
 kind_line float_literal t e h = neither (is_open e.kind) (float_not_open (t ++ 10 ∷ []) e h) (λ begins. float_line_end t begins.0 begins.1 begins.3)
-kind_line char_literal t e h = neither (is_open e.kind) (char_not_open char_kind (t ++ 10 ∷ []) e h) (λ begins. char_line_end char_kind t begins.0 begins.1 begins.3)
-kind_line byte_literal t e h = neither (is_open e.kind) (char_not_open byte_kind (t ++ 10 ∷ []) e h) (λ begins. char_line_end byte_kind t begins.0 begins.1 begins.3)
+kind_line char_literal t e h = char_line_end char_kind t e h
+kind_line byte_literal t e h = char_line_end byte_kind t e h
 kind_line string_literal t e h = start_line string_kind (string_start string_kind (t ++ 10 ∷ [])) t e refl h
 kind_line byte_string_literal t e h = start_line byte_string_kind (string_start byte_string_kind (t ++ 10 ∷ [])) t e refl h
 kind_line c_string_literal t e h = start_line c_string_kind (string_start c_string_kind (t ++ 10 ∷ [])) t e refl h

@@ -14,8 +14,8 @@ use Rattle.litrs_grammar.specs.Literal.{StringParts, quoted_parts, raw_parts, st
 abbrev pub behind_raw_front : List ℕ → List ℕ
 behind_raw_front t = if begins_with (raw_front string_kind) t then drop 1 t else drop 2 t
 
--- The closing text of a refused text: `"`, for a raw string with as many hashes as stand behind its front. Where the
--- refusal is not open there is none.
+-- The closing text of a refused text: `"`, for a raw string with as many hashes as stand behind its
+-- front. Where the refusal is not open there is none.
 abbrev pub closing_text : List ℕ → ParseErrorKind → List ℕ
 closing_text t UnterminatedString = double_quote ∷ []
 closing_text t UnterminatedRawString = raw_closing (hash_len (behind_raw_front t))
@@ -25,7 +25,8 @@ closing_text t _ = []
 abbrev pub closing_of : List ℕ → Refusal → List ℕ
 closing_of t r = closing_text t r.kind
 
--- what stands before the body of a string literal: the front, and in a raw one the hashes and the quote
+-- what stands before the body of a string literal: the front, and in a raw one the hashes and the
+-- quote
 abbrev pub opening_text : StringKind → StringParts → List ℕ
 opening_text kind (quoted_parts d) = quoted_front kind
 opening_text kind (raw_parts d) = raw_front kind ++ (hashes d.hash_count ++ double_quote ∷ [])
@@ -41,8 +42,8 @@ a_string_of string_kind d = a_string d
 a_string_of byte_string_kind d = a_byte_string d
 a_string_of c_string_kind d = a_c_string d
 
--- The closing text makes the text a string literal without suffix, whose body is all that stands in the text behind the
--- opening.
+-- The closing text makes the text a string literal without suffix, whose body is all that stands in
+-- the text behind the opening.
 pub record IsClosedBy (Derives : List ℕ → Derivation → Type 0) (t closing : List ℕ) : Type 0 where
   pub kind : StringKind
   pub parts : StringParts

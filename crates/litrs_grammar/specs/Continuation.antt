@@ -2,7 +2,8 @@
 use Rattle.std.specs.Prelude.{ℕ, List, ◌++◌}
 use Rattle.litrs_base.specs.Text.{IsText}
 
--- t begins a text that has a derivation: some text behind it, which may be empty, gives one that has
+-- t begins a text that has a derivation: some text behind it, which may be empty, gives one that
+-- has
 abbrev pub BeginsBy : {D : Type 0} → (List ℕ → D → Type 0) → List ℕ → Type 0
 BeginsBy {D} Derives t = (more : List ℕ) × (d : D) × IsText more × Derives (t ++ more) d
 

@@ -1,5 +1,5 @@
--- Which refused texts begin a literal, for the nine parses. The Rust Reference, Tokens, Literals; it does not speak of
--- refusals.
+-- Which refused texts begin a literal, for the nine parses. The Rust Reference, Tokens, Literals;
+-- it does not speak of refusals.
 use Rattle.std.specs.Prelude.{ℕ, List, IsTrue, length, drop}
 use Rattle.litrs_grammar.specs.StringKind.{StringKind, string_kind, byte_string_kind, c_string_kind, switches_of}
 use Rattle.litrs_grammar.specs.Float.{float_cut}
@@ -21,7 +21,8 @@ use Rattle.litrs_grammar.specs.UnnamedGoesOn.{unnamed_goes_on}
 abbrev pub StartGoesOn : StringKind → StringStart → List ℕ → Type 0
 StartGoesOn kind (refused_start refusal) t = IsTrue (start_goes_on kind t)
 StartGoesOn kind quoted_start t = QuotedGoesOn (quoted_front kind) (switches_of kind) t
-StartGoesOn kind raw_start t = RawGoesOn (has_unicode kind) (allows_nul kind) (drop (length (raw_front kind)) t)
+StartGoesOn kind raw_start t =
+    RawGoesOn (has_unicode kind) (allows_nul kind) (drop (length (raw_front kind)) t)
 
 -- as a string of the kind
 abbrev pub StringGoesOn : StringKind → List ℕ → Type 0

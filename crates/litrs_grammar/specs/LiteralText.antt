@@ -32,7 +32,8 @@ AreCharParts kind d = IsTrue (is_char_item kind d.item) × IsTrue (is_suffix d.s
 
 -- the parts are those of a string of the kind
 abbrev pub AreStringParts : StringKind → StringParts → Type 0
-AreStringParts kind (quoted_parts d) = IsTrue (is_body (switches_of kind) d.items) × IsTrue (is_suffix d.suffix)
+AreStringParts kind (quoted_parts d) =
+    IsTrue (is_body (switches_of kind) d.items) × IsTrue (is_suffix d.suffix)
 AreStringParts kind (raw_parts d) = IsRaw (has_unicode kind) (allows_nul kind) d
 
 -- the parts are those of a literal of their kind; no text is named

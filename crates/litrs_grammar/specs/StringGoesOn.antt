@@ -1,4 +1,5 @@
--- Which texts that begin with no front of a kind of strings begin a string of it. The Rust Reference, Tokens, Literals.
+-- Which texts that begin with no front of a kind of strings begin a string of it. The Rust
+-- Reference, Tokens, Literals.
 use Rattle.std.specs.Prelude.{ℕ, Bool, ◌||◌, List}
 use Rattle.litrs_base.specs.Text.{begins_with}
 use Rattle.litrs_grammar.specs.StringKind.{StringKind}

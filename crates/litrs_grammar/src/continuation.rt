@@ -1,13 +1,13 @@
 //! Laws of refused texts with more behind them, and of the texts of literals.
-ghost use Rattle.litrs_grammar.specs.ContinuationLaws.{FinalRefusalsStay, OpenRefusalsClose, LineEndsAreDecided, RefusedTextsGoOn, FinalEscapeRefusalsStay, RefusedEscapesGoOn, QuotedItemsStay, FinalQuotedRefusalsStay, LiteralsAreWritten, LiteralsParseBack, JoinedBodiesAreQuoted};
+ghost use Rattle.litrs_grammar.specs.ContinuationLaws.{FinalRefusalsStay, OpenRefusalsClose, LineEndsAreDecided, RefusedTextsGoOn, OtherKindsMayGoOn, FinalEscapeRefusalsStay, RefusedEscapesGoOn, QuotedItemsStay, FinalQuotedRefusalsStay, LiteralsAreWritten, LiteralsParseBack, JoinedBodiesAreQuoted};
 
 /// After a final refusal the same parse refuses every longer text.
 pub fn final_refusals_stay()
     ensures { FinalRefusalsStay }
 {}
 
-/// After an open refusal the closing text makes the text a string literal without suffix, whose body
-/// is all of the text behind the opening.
+/// After an open refusal the closing text makes the text a string literal without suffix, whose
+/// body is all of the text behind the opening.
 pub fn open_refusals_close()
     ensures { OpenRefusalsClose }
 {}
@@ -22,7 +22,13 @@ pub fn refused_texts_go_on()
     ensures { RefusedTextsGoOn }
 {}
 
-/// An escape refused with a final kind is refused with the same kind and span whatever is appended.
+/// Each kind that is not final, `OutOfMemory` aside, refuses some text that begins a literal.
+pub fn other_kinds_may_go_on()
+    ensures { OtherKindsMayGoOn }
+{}
+
+/// An escape refused with a final kind is refused with the same kind and span whatever is
+/// appended.
 pub fn final_escape_refusals_stay()
     ensures { FinalEscapeRefusalsStay }
 {}
@@ -43,8 +49,8 @@ pub fn final_quoted_refusals_stay()
     ensures { FinalQuotedRefusalsStay }
 {}
 
-/// A text is a literal with a derivation if and only if it is written so and the parts are those of a
-/// literal.
+/// A text is a literal with a derivation if and only if it is written so and the parts are those
+/// of a literal.
 pub fn literals_are_written()
     ensures { LiteralsAreWritten }
 {}
@@ -54,8 +60,8 @@ pub fn literals_parse_back()
     ensures { LiteralsParseBack }
 {}
 
-/// Two bodies between a front and a quote with a suffix are a quoted literal with the items of both,
-/// unless the second begins with what a continuation at the end of the first would take.
+/// Two bodies between a front and a quote with a suffix are a quoted literal with the items of
+/// both, unless the second begins with what a continuation at the end of the first would take.
 pub fn joined_bodies_are_quoted()
     ensures { JoinedBodiesAreQuoted }
 {}
