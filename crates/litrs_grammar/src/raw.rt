@@ -1,5 +1,5 @@
 //! Laws of raw strings.
-ghost use Rattle.litrs_grammar.specs.RawLaws.{RawLiteralsAreUnique, RawLiteralsAreDecided, RawSpansLieInText, RawTextsAreUnique, RawTextsAreDecided, RawTextSpansLieInText, NoRawLiteralEndsWithLineFeed, NoNulInRawCStrings, RawValuesAreAsLongAsBodies};
+ghost use Rattle.litrs_grammar.specs.RawLaws.{RawLiteralsAreUnique, RawLiteralsAreDecided, RawSpansLieInText, RawTextsAreUnique, RawTextsAreDecided, RawTextSpansLieInText, NoRawLiteralEndsWithLineFeed, NoNulInRawCStrings, RawValuesAreAsLongAsBodies, RawScansGoOn, RawRefusalsGoOn, RawBodiesEndAtClosings};
 
 /// A text has at most one derivation as a raw literal, over all three kinds together.
 pub fn raw_literals_are_unique()
@@ -47,4 +47,21 @@ pub fn no_nul_in_raw_c_strings()
 /// The value of a raw literal has as many bytes as the body.
 pub fn raw_values_are_as_long_as_bodies()
     ensures { RawValuesAreAsLongAsBodies }
+{}
+
+/// Behind a front in which no closing begins, the rest decides where the first closing stands, and
+/// whether there is one.
+pub fn raw_scans_go_on()
+    ensures { RawScansGoOn }
+{}
+
+/// Behind such a front, whose characters a body may have, the rest has the refusal, further on by
+/// the bytes of the front.
+pub fn raw_refusals_go_on()
+    ensures { RawRefusalsGoOn }
+{}
+
+/// Such a front is a body where a closing stands behind it.
+pub fn raw_bodies_end_at_closings()
+    ensures { RawBodiesEndAtClosings }
 {}
