@@ -93,10 +93,10 @@ begins_kind kind t = (
 )
 
 -- one equivalence behind the other
-chain : {A B C : Type 0} → A ↔ B → B ↔ C → A ↔ C
+pub chain : {A B C : Type 0} → A ↔ B → B ↔ C → A ↔ C
 chain f g = (λ a. g.0 (f.0 a), λ c. f.1 (g.1 c))
 
-back : {A B : Type 0} → A ↔ B → B ↔ A
+pub back : {A B : Type 0} → A ↔ B → B ↔ A
 back f = (f.1, f.0)
 
 -- where neither holds
@@ -286,14 +286,14 @@ kind_line c_string_literal t e h = start_line c_string_kind (string_start c_stri
 -- All kinds, by the dispatch
 
 -- a longer text is a literal of the kind that the table is named for
-own_kind : (t x : List ℕ) (k : LiteralKind) (d : Derivation) (e : Refusal) → dispatch t ≡ parsed_as k → IsKindRefusal k t e → IsLiteral (t ++ x) d → literal_kind d ≡ k
+pub own_kind : (t x : List ℕ) (k : LiteralKind) (d : Derivation) (e : Refusal) → dispatch t ≡ parsed_as k → IsKindRefusal k t e → IsLiteral (t ++ x) d → literal_kind d ≡ k
 own_kind t x k d e named refused lit =
     let same : parsed_as (literal_kind d) ≡ parsed_as k = sym (dispatch_literal (t ++ x) d lit) ∙ dispatch_stays t x k e named refused in cc
 
-unnamed_not_final : (t : List ℕ) (e : Refusal) → dispatch t ≡ refused_as e → is_final e.kind ≡ false
+pub unnamed_not_final : (t : List ℕ) (e : Refusal) → dispatch t ≡ refused_as e → is_final e.kind ≡ false
 unnamed_not_final t e is = dispatch_refusal (λ r. is_final r.kind ≡ false) t e refl refl is
 
-unnamed_not_open : (t : List ℕ) (e : Refusal) → dispatch t ≡ refused_as e → is_open e.kind ≡ false
+pub unnamed_not_open : (t : List ℕ) (e : Refusal) → dispatch t ≡ refused_as e → is_open e.kind ≡ false
 unnamed_not_open t e is = dispatch_refusal (λ r. is_open r.kind ≡ false) t e refl refl is
 
 dispatched_ends : (o : Dispatch) (t : List ℕ) (e : Refusal) → dispatch t ≡ o → IsRefusalOfDispatch o t e → is_final e.kind ≡ true → EndsBy IsLiteral t
