@@ -9,7 +9,7 @@ pub mod RawCuts
 pub mod RawLaws
 pub mod RawSpans
 pub mod RawKinds
-pub mod RawScans
+pub mod RawClosings
 pub mod RawContinuation
 pub mod IntegerLaws
 pub mod IntegerSpans

@@ -1,4 +1,4 @@
-use Rattle.litrs_grammar.proofs.RawScans.{closings_are_found}
+use Rattle.litrs_grammar.proofs.RawClosings.{closings_are_found}
 use Rattle.litrs_grammar.proofs.raw.closings_are_found.Goals as goal
 
 pub returns : goal.returns

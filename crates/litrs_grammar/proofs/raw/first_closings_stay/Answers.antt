@@ -1,4 +1,4 @@
-use Rattle.litrs_grammar.proofs.RawScans.{first_closings_stay}
+use Rattle.litrs_grammar.proofs.RawClosings.{first_closings_stay}
 use Rattle.litrs_grammar.proofs.raw.first_closings_stay.Goals as goal
 
 pub returns : goal.returns

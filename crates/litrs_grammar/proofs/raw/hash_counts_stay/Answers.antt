@@ -1,4 +1,4 @@
-use Rattle.litrs_grammar.proofs.RawScans.{hash_counts_stay}
+use Rattle.litrs_grammar.proofs.RawClosings.{hash_counts_stay}
 use Rattle.litrs_grammar.proofs.raw.hash_counts_stay.Goals as goal
 
 pub returns : goal.returns

@@ -1,4 +1,4 @@
-use Rattle.litrs_grammar.proofs.RawScans.{quotes_are_passed}
+use Rattle.litrs_grammar.proofs.RawClosings.{quotes_are_passed}
 use Rattle.litrs_grammar.proofs.raw.quotes_are_passed.Goals as goal
 
 pub returns : goal.returns
