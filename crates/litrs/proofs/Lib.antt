@@ -1,4 +1,2 @@
-pub mod ReadLiteral
+pub mod Parsed
 pub mod Dispatch
-pub mod ReadSpans
-pub mod ReadExamples

@@ -1,5 +1,9 @@
+-- what literals hold
 pub mod BoolLiteral
-pub mod ReadLiteral
-pub mod LiteralDerivation
+pub mod CString
 pub mod IntegerLiteral
-pub mod BeginsLike
+pub mod FloatLiteral
+pub mod LiteralDerivation
+-- the dispatch, and the kinds that are parsed
+pub mod Parsed
+pub mod Dispatched

@@ -1,7 +1,9 @@
 //! Bool literals.
-ghost use Rattle.std.specs.Prelude.{◌≡◌, Some, IfOk, IfErr, OnErr};
+ghost use Rattle.std.specs.Prelude.{◌≡◌, IfOk, IfErr};
 ghost use Rattle.std.specs.Str.{chars};
-ghost use Rattle.litrs_base.specs.Derivations.{IsOnlyDerivation, HasNoDerivation};
+ghost use Rattle.litrs_base.specs.Derivations.{IsOnlyDerivation};
+ghost use Rattle.litrs_grammar.specs.Literal.{kind_parse, bool_literal};
+ghost use Rattle.litrs_grammar.specs.Refused.{IsRefused};
 
 use litrs_lex::{ParseError, ParseErrorKind};
 use std::fmt;
@@ -19,17 +21,16 @@ pub enum BoolLit {
 
 impl BoolLit {
     ghost use Rattle.litrs.specs.BoolLiteral.{bool_value};
-    ghost use Rattle.litrs_grammar.specs.Bool.{IsBool, bool_text, bool_refusal};
+    ghost use Rattle.litrs_grammar.specs.Bool.{IsBool, bool_text};
 
-    /// Derives a text that is exactly `true` or `false`.
+    /// Reads a text that is exactly `true` or `false`.
     ///
     /// # Errors
     ///
     /// `InvalidLiteral` without a span for every other text, as `True` and the empty one.
     pub fn parse(s: &str) -> Result<BoolLit, ParseError>
         ensures ok { IfOk result (λ lit. IsOnlyDerivation (IsBool (chars s.now)) (bool_value lit)) }
-        ensures none { OnErr result (HasNoDerivation (IsBool (chars s.now))) }
-        ensures refusal { IfErr result (λ e. bool_refusal (chars s.now) ≡ Some e) }
+        ensures refused { IfErr result (IsRefused (kind_parse bool_literal) (chars s.now)) }
     {
         match s {
             "false" => Ok(BoolLit::False),

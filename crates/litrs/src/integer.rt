@@ -1,5 +1,5 @@
 //! Integer literals.
-ghost use Rattle.std.specs.Prelude.{◌≡◌, ◌≤◌, ℕ, length, Bool, false, IsTrue, MatchOption, slice_index, IsOk, IfOk, OnErr, IfErr, Some, nat_eq, ⊤};
+ghost use Rattle.std.specs.Prelude.{◌≡◌, ◌≤◌, ℕ, length, Bool, false, IsTrue, MatchOption, slice_index, IsOk, IfOk, IfErr, Some, nat_eq, ⊤};
 ghost use Rattle.std.specs.Char.{is_ascii_digit};
 ghost use Rattle.std.specs.Cmp.{on_per, on_equiv, partial_equiv_from_equiv};
 ghost use Rattle.std.specs.Cmp.Lexicographic.{pointwise, nat_list_eq_equiv};
@@ -10,14 +10,15 @@ ghost use Rattle.litrs_base.specs.Base.{base_value, is_digit_or_underscore};
 ghost use Rattle.litrs.specs.IntegerLiteral.{IntegerLiteral, integer_parts};
 ghost use Rattle.litrs_base.specs.Numeral.{numeral};
 ghost use Rattle.litrs_grammar.specs.Integer.{integer_value};
-ghost use Rattle.litrs_base.specs.Derivations.{IsOnlyDerivation, HasNoDerivation};
-ghost use Rattle.litrs_base.specs.Refusal.{IsInText};
+ghost use Rattle.litrs_base.specs.Derivations.{IsOnlyDerivation};
+ghost use Rattle.litrs_grammar.specs.Literal.{kind_parse, integer_literal};
+ghost use Rattle.litrs_grammar.specs.Refused.{IsRefused};
 ghost use Rattle.litrs_base.specs.Text.{first_passes};
 ghost use Rattle.litrs_lex.specs.IntegerCut.{parts_at, IsWithin, IsIntegerAt, IsDigitsCut};
-ghost use Rattle.litrs_grammar.specs.Integer.{IsIntegerOf, integer_refusal, cut_refusal, integer_cut, is_e, base_of};
+ghost use Rattle.litrs_grammar.specs.Integer.{IsIntegerOf};
 
 use litrs_lex::{
-    Buffer, FromIntegerLiteral, IntegerBase, IntegerCut, ParseError, ParseErrorKind, cut_integer,
+    FromIntegerLiteral, IntegerBase, IntegerCut, ParseError, ParseErrorKind, Text, cut_integer,
     first_byte_or_empty, hex_digit_value,
 };
 use std::alloc::{AllocError, Global};
@@ -31,12 +32,12 @@ use std::marker::Model;
 /// reference][ref].
 ///
 /// [ref]: https://doc.rust-lang.org/reference/tokens.html#integer-literals
-pub struct IntegerLit<B: Buffer> {
+pub struct IntegerLit<B: Text> {
     raw: B,
     cut: IntegerCut,
 }
 
-impl<B: Buffer> Model for IntegerLit<B> {
+impl<B: Text> Model for IntegerLit<B> {
     ghost Value = { IntegerLiteral B };
 
     ghost view = { λ s. record { buffer = s.raw; raw = B.bytes s.raw; cut = s.cut } };
@@ -46,8 +47,8 @@ impl<B: Buffer> Model for IntegerLit<B> {
     ghost invariant = { λ s. IsIntegerAt s.cut (B.bytes s.raw) };
 }
 
-impl<B: Buffer> IntegerLit<B> {
-    /// Derives a text that is one integer. It takes no memory.
+impl<B: Text> IntegerLit<B> {
+    /// Reads a text that is one integer. It takes no memory.
     ///
     /// `0xFF_u8` has the base 16, the main part `FF_` and the suffix `u8`.
     ///
@@ -58,12 +59,12 @@ impl<B: Buffer> IntegerLit<B> {
     pub fn parse(input: B) -> Result<IntegerLit<B>, ParseError>
         ensures buffer { IfOk result (λ lit. lit.buffer ≡ input) }
         ensures raw { IfOk result (λ lit. lit.raw ≡ B.bytes input) }
-        ensures ok { IfOk result (λ lit. IsOnlyDerivation (IsIntegerOf (chars (B.bytes input))) (integer_parts lit)) }
-        ensures none { OnErr result (HasNoDerivation (IsIntegerOf (chars (B.bytes input)))) }
-        ensures refusal { IfErr result (λ e. integer_refusal (chars (B.bytes input)) ≡ Some e) }
-        ensures span { IfErr result (IsInText (chars (B.bytes input))) }
+        ensures ok { IfOk result (λ lit.
+            IsOnlyDerivation (IsIntegerOf (chars (B.bytes input))) (integer_parts lit)) }
+        ensures refused { IfErr result
+            (IsRefused (kind_parse integer_literal) (chars (B.bytes input))) }
     {
-        let cut = read(input.as_str())?;
+        let cut = cut(input.as_str())?;
         Ok(IntegerLit { raw: input, cut })
     }
 
@@ -130,6 +131,15 @@ impl<B: Buffer> IntegerLit<B> {
     }
 }
 
+impl<B: Text + Copy> IntegerLit<B> {
+    /// The same literal again: the copy of a literal whose buffer is `Copy`.
+    pub fn copied(&self) -> Self
+        ensures { result ≡ self.now }
+    {
+        *self
+    }
+}
+
 impl IntegerLit<&str> {
     /// The same literal with a text of its own.
     ///
@@ -146,18 +156,17 @@ impl IntegerLit<&str> {
 }
 
 /// Where the text is cut, if it is an integer.
-fn read(input: &str) -> Result<IntegerCut, ParseError>
-    ensures ok { IfOk result (λ cut. IsOnlyDerivation (IsIntegerOf (chars input.now)) (parts_at cut input.now)) }
+fn cut(input: &str) -> Result<IntegerCut, ParseError>
+    ensures ok { IfOk result (λ cut.
+        IsOnlyDerivation (IsIntegerOf (chars input.now)) (parts_at cut input.now)) }
     ensures places { IfOk result (λ cut. IsWithin cut input.now) }
-    ensures none { OnErr result (HasNoDerivation (IsIntegerOf (chars input.now))) }
-    ensures refusal { IfErr result (λ e. integer_refusal (chars input.now) ≡ Some e) }
-    ensures span { IfErr result (IsInText (chars input.now)) }
+    ensures refused { IfErr result (IsRefused (kind_parse integer_literal) (chars input.now)) }
 {
     first_byte_or_empty(input)?;
     if begins_with_digit(input.as_bytes()) {
         cut_integer(input)
     } else {
-        Err(ParseError::new(Some(0..1), ParseErrorKind::DoesNotStartWithDigit))
+        Err(ParseError::in_text(input, Some(0..1), ParseErrorKind::DoesNotStartWithDigit))
     }
 }
 
@@ -181,7 +190,7 @@ fn value_of<N: FromIntegerLiteral>(base: IntegerBase, main: &[u8]) -> Option<N>
     Some(number)
 }
 
-impl<B: Buffer> PartialEq for IntegerLit<B> {
+impl<B: Text> PartialEq for IntegerLit<B> {
     ghost eq = { λ x y. pointwise nat_eq x.raw y.raw };
 
     ghost laws = { on_per (λ lit. lit.raw) (partial_equiv_from_equiv nat_list_eq_equiv) };
@@ -191,13 +200,13 @@ impl<B: Buffer> PartialEq for IntegerLit<B> {
     }
 }
 
-impl<B: Buffer> Eq for IntegerLit<B> {
+impl<B: Text> Eq for IntegerLit<B> {
     ghost laws = { on_equiv (λ lit. lit.raw) nat_list_eq_equiv };
 }
 
-impl<B: Buffer + Copy> Copy for IntegerLit<B> {}
+impl<B: Text + Copy> Copy for IntegerLit<B> {}
 
-impl<B: Buffer + Copy> Clone for IntegerLit<B> {
+impl<B: Text + Copy> Clone for IntegerLit<B> {
     ghost is_clone = { λ lit copy. copy ≡ lit };
 
     ghost is_infallible = { λ _. ⊤ };
@@ -210,7 +219,7 @@ impl<B: Buffer + Copy> Clone for IntegerLit<B> {
     }
 }
 
-impl<B: Buffer> fmt::Display for IntegerLit<B> {
+impl<B: Text> fmt::Display for IntegerLit<B> {
     ghost output = { λ lit. Some lit.raw };
 
     fn fmt<W: fmt::Write>(&self, f: &mut fmt::Formatter<W>) -> fmt::Result {

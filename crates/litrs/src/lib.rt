@@ -1,6 +1,6 @@
 //! Parsing and inspecting Rust literals.
 //!
-//! Each kind of literal has a type, [`BoolLit`] and [`IntegerLit`], and [`Literal`] stands for them all.
+//! Each kind of literal has a type, [`BoolLit`], [`IntegerLit`] and [`FloatLit`], and [`Literal`] stands for them all.
 //! Each has a `parse`, which reads a text that is one literal and nothing else.
 #![tactic(auto)]
 
@@ -8,21 +8,27 @@ ghost use Rattle.std.specs.Prelude.{◌≡◌, ◌≢◌, false, nat_eq, IsOk, I
 ghost use Rattle.std.specs.Cmp.{on_per, on_equiv, partial_equiv_from_equiv};
 ghost use Rattle.std.specs.Cmp.Lexicographic.{pointwise, nat_list_eq_equiv};
 ghost use Rattle.std.specs.Str.{chars};
-ghost use Rattle.litrs_base.specs.Refusal.{kind_of, IsInText};
-ghost use Rattle.litrs_base.specs.Derivations.{IsOnlyDerivation, HasNoDerivation};
+ghost use Rattle.litrs_base.specs.Refusal.{kind_of};
+ghost use Rattle.litrs_base.specs.Derivations.{IsOnlyDerivation};
 ghost use Rattle.litrs_grammar.specs.Literal.{IsLiteral, suffix_of};
-ghost use Rattle.litrs.specs.ReadLiteral.{IsReadLiteral, read_refusal};
+ghost use Rattle.litrs.specs.Parsed.{IsParseRefused};
 ghost use Rattle.litrs.specs.LiteralDerivation.{literal_raw, derivation};
 
 pub use bool::BoolLit;
+pub use c_string::CString;
+pub use float::FloatLit;
 pub use integer::IntegerLit;
 pub use litrs_lex::{
-    Buffer, FromIntegerLiteral, IntegerBase, IntegerType, ParseError, ParseErrorKind,
+    Buffer, FloatType, FromIntegerLiteral, IntegerBase, IntegerType, ParseError, ParseErrorKind,
+    Text,
 };
+use parse::Dispatched;
 use std::alloc::{AllocError, Global};
 use std::fmt;
 
 mod bool;
+mod c_string;
+mod float;
 mod integer;
 mod parse;
 #[cfg(test)]
@@ -32,35 +38,39 @@ mod tests;
 ///
 /// [ref]: https://doc.rust-lang.org/reference/tokens.html#literals
 #[derive(Drop)]
-pub enum Literal<B: Buffer> {
+pub enum Literal<B: Text> {
     /// `true` or `false`.
     Bool(BoolLit),
     /// A number without a period or an exponent, as `0xFF_u8`.
     Integer(IntegerLit<B>),
+    /// A number with a period or an exponent, as `3.14f33`.
+    Float(FloatLit<B>),
 }
 
-impl<B: Buffer> Literal<B> {
-    /// Derives a text that is one literal, of the kind that it begins like.
+impl<B: Text> Literal<B> {
+    /// Reads a text that is one literal, of the kind that it begins like.
     ///
-    /// `true` is a bool, `1_000u32` an integer with the suffix `u32`. Bools and integers are read today.
+    /// `true` is a bool, `1_000u32` an integer with the suffix `u32`. Bools, integers and floats
+    /// are read today.
     ///
     /// # Errors
     ///
     /// `Empty`; the refusal of the kind that the text begins like, as `UnexpectedChar` at 1..2 for `0 `;
-    /// else `InvalidLiteral`, also of a text that begins like a kind that is not read, as `1.5` or `"a"`.
+    /// else `InvalidLiteral`, also of a text that begins like a kind that is not read, as `'a'` or `"a"`.
     pub fn parse(_alloc: Global, input: B) -> Result<Literal<B>, ParseError>
         ensures raw { IfOk result (λ lit. literal_raw lit ≡ B.bytes input) }
-        ensures ok { IfOk result (λ lit. IsOnlyDerivation (IsLiteral (chars (B.bytes input))) (derivation lit)) }
-        ensures none { OnErr result (HasNoDerivation (IsReadLiteral (chars (B.bytes input)))) }
-        ensures refusal { IfErr result (λ e. read_refusal (chars (B.bytes input)) ≡ Some e) }
-        ensures span { IfErr result (IsInText (chars (B.bytes input))) }
-        // No text of these kinds takes memory.
+        ensures ok { IfOk result (λ lit.
+            IsOnlyDerivation (IsLiteral (chars (B.bytes input))) (derivation lit)) }
+        ensures refused { IfErr result (IsParseRefused (chars (B.bytes input))) }
+        // No text of these kinds allocates.
         ensures memory { IfErr result (λ e. kind_of e ≢ ParseErrorKind.OutOfMemory) }
     {
-        match parse::kind_of(input.as_str()) {
-            parse::Kind::Bool(lit) => Ok(Literal::Bool(lit)),
-            parse::Kind::Integer => Ok(Literal::Integer(IntegerLit::parse(input)?)),
-            parse::Kind::Refused(e) => Err(e),
+        match parse::dispatch(input.as_str()) {
+            Dispatched::Refused(e) => Err(e),
+            Dispatched::Bool(lit) => Ok(Literal::Bool(lit)),
+            Dispatched::Integer => Ok(Literal::Integer(IntegerLit::parse(input)?)),
+            Dispatched::Float => Ok(Literal::Float(FloatLit::parse(input)?)),
+            _ => Err(ParseError::new(None, ParseErrorKind::InvalidLiteral)),
         }
     }
 
@@ -71,6 +81,7 @@ impl<B: Buffer> Literal<B> {
         match self {
             Literal::Bool(_) => "",
             Literal::Integer(lit) => lit.suffix(),
+            Literal::Float(lit) => lit.suffix(),
         }
     }
 
@@ -82,11 +93,12 @@ impl<B: Buffer> Literal<B> {
         match self {
             Literal::Bool(lit) => lit.as_str(),
             Literal::Integer(lit) => lit.raw_input(),
+            Literal::Float(lit) => lit.raw_input(),
         }
     }
 }
 
-impl<B: Buffer> Literal<B> {
+impl<B: Text> Literal<B> {
     /// The same literal again. Over `&str` it takes no memory and succeeds.
     ///
     /// # Errors
@@ -100,6 +112,7 @@ impl<B: Buffer> Literal<B> {
         match self {
             Literal::Bool(lit) => Ok(Literal::Bool(*lit)),
             Literal::Integer(lit) => Ok(Literal::Integer(lit.clone(alloc)?)),
+            Literal::Float(lit) => Ok(Literal::Float(lit.clone(alloc)?)),
         }
     }
 }
@@ -117,11 +130,12 @@ impl Literal<&str> {
         match self {
             Literal::Bool(lit) => Ok(Literal::Bool(lit)),
             Literal::Integer(lit) => Ok(Literal::Integer(lit.to_owned(alloc)?)),
+            Literal::Float(lit) => Ok(Literal::Float(lit.to_owned(alloc)?)),
         }
     }
 }
 
-impl<B: Buffer> From<BoolLit> for Literal<B> {
+impl<B: Text> From<BoolLit> for Literal<B> {
     ghost use Rattle.litrs.specs.declared.Literal.TheVariants.{Bool};
 
     ghost from_gives = { λ lit literal. literal ≡ Bool lit };
@@ -131,7 +145,7 @@ impl<B: Buffer> From<BoolLit> for Literal<B> {
     }
 }
 
-impl<B: Buffer> From<IntegerLit<B>> for Literal<B> {
+impl<B: Text> From<IntegerLit<B>> for Literal<B> {
     ghost use Rattle.litrs.specs.declared.Literal.TheVariants.{Integer};
 
     ghost from_gives = { λ lit literal. literal ≡ Integer lit };
@@ -141,7 +155,17 @@ impl<B: Buffer> From<IntegerLit<B>> for Literal<B> {
     }
 }
 
-impl<B: Buffer> PartialEq for Literal<B> {
+impl<B: Text> From<FloatLit<B>> for Literal<B> {
+    ghost use Rattle.litrs.specs.declared.Literal.TheVariants.{Float};
+
+    ghost from_gives = { λ lit literal. literal ≡ Float lit };
+
+    fn from(lit: FloatLit<B>) -> Literal<B> {
+        Literal::Float(lit)
+    }
+}
+
+impl<B: Text> PartialEq for Literal<B> {
     ghost eq = { λ x y. pointwise nat_eq (literal_raw x) (literal_raw y) };
 
     ghost laws = { on_per (λ lit. literal_raw lit) (partial_equiv_from_equiv nat_list_eq_equiv) };
@@ -151,17 +175,18 @@ impl<B: Buffer> PartialEq for Literal<B> {
     }
 }
 
-impl<B: Buffer> Eq for Literal<B> {
+impl<B: Text> Eq for Literal<B> {
     ghost laws = { on_equiv (λ lit. literal_raw lit) nat_list_eq_equiv };
 }
 
-impl<B: Buffer> fmt::Display for Literal<B> {
+impl<B: Text> fmt::Display for Literal<B> {
     ghost output = { λ lit. Some (literal_raw lit) };
 
     fn fmt<W: fmt::Write>(&self, f: &mut fmt::Formatter<W>) -> fmt::Result {
         match self {
             Literal::Bool(lit) => lit.fmt(f),
             Literal::Integer(lit) => lit.fmt(f),
+            Literal::Float(lit) => lit.fmt(f),
         }
     }
 }

@@ -1,39 +1,61 @@
 //! The dispatch over the kinds.
-ghost use Rattle.std.specs.Prelude.{◌≡◌};
-ghost use Rattle.std.specs.Str.{chars};
-ghost use Rattle.litrs_grammar.specs.LiteralRefusals.{begins_float};
-ghost use Rattle.litrs.specs.BeginsLike.{BeginsLike};
+ghost use Rattle.std.specs.Prelude.{◌≡◌, false, IsFalse};
+ghost use Rattle.litrs_base.specs.Text.{is_empty};
+ghost use Rattle.litrs_grammar.specs.Bool.{is_bool};
+ghost use Rattle.litrs_grammar.specs.LiteralRefusals.{begins_float, dispatch};
+ghost use Rattle.litrs.specs.Dispatched.{row_of, HoldsOf};
 
 use crate::bool::BoolLit;
-use litrs_lex::{ParseError, ParseErrorKind, end_dec_digits, first_byte_or_empty};
+use litrs_lex::{ParseError, ParseErrorKind, end_dec_digits};
 
-/// What a text is, by how it begins.
-pub(crate) enum Kind {
+/// What a text is parsed as, by how it begins.
+#[derive(Drop)]
+pub(crate) enum Dispatched {
+    /// No kind begins so.
+    Refused(ParseError),
     /// A bool, which is the whole text.
     Bool(BoolLit),
-    /// What only an integer begins like.
+    /// An integer, if it is a literal at all; so are the other kinds.
     Integer,
-    /// What no kind begins like.
-    Refused(ParseError),
+    Float,
+    Char,
+    Byte,
+    String,
+    ByteString,
+    CString,
 }
 
-/// What kind of literal the text begins like.
-pub(crate) fn kind_of(input: &str) -> Kind
-    ensures { BeginsLike result (chars input.now) }
+/// What kind of literal a text is parsed as.
+#[tactic(auto, unfolding(litrs_grammar::specs::LiteralRefusals::dispatch))]
+pub(crate) fn dispatch(input: &str) -> Dispatched
+    ensures row { row_of result ≡ dispatch input.now }
+    ensures holds { HoldsOf result input.now }
 {
-    match first_byte_or_empty(input) {
-        Err(e) => Kind::Refused(e),
-        Ok(first) if first.is_ascii_digit() => {
-            if begins_float(input.as_bytes()) {
-                Kind::Refused(ParseError::new(None, ParseErrorKind::InvalidLiteral))
-            } else {
-                Kind::Integer
-            }
-        }
-        Ok(_) => match BoolLit::parse(input) {
-            Ok(lit) => Kind::Bool(lit),
-            Err(e) => Kind::Refused(e),
-        },
+    match input {
+        "" => Dispatched::Refused(ParseError::new(None, ParseErrorKind::Empty)),
+        "true" => Dispatched::Bool(BoolLit::True),
+        "false" => Dispatched::Bool(BoolLit::False),
+        _ => by_front(input.as_bytes()),
+    }
+}
+
+/// The same for a text that is no bool, by its first bytes.
+#[tactic(auto, unfolding(litrs_grammar::specs::LiteralRefusals::dispatch))]
+fn by_front(bytes: &[u8]) -> Dispatched
+    requires some { IsFalse (is_empty bytes.now) }
+    requires no_bool { IsFalse (is_bool bytes.now) }
+    ensures row { row_of result ≡ dispatch bytes.now }
+    ensures holds { HoldsOf result bytes.now }
+{
+    match bytes {
+        [b'0'..=b'9', ..] if begins_float(bytes) => Dispatched::Float,
+        [b'0'..=b'9', ..] => Dispatched::Integer,
+        [b'\'', ..] => Dispatched::Char,
+        [b'"' | b'r', ..] => Dispatched::String,
+        [b'b', b'\'', ..] => Dispatched::Byte,
+        [b'b', b'"' | b'r', ..] => Dispatched::ByteString,
+        [b'c', ..] => Dispatched::CString,
+        _ => Dispatched::Refused(ParseError::new(None, ParseErrorKind::InvalidLiteral)),
     }
 }
 

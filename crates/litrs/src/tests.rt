@@ -1,7 +1,8 @@
 //! Literals over both buffers: texts, parts, values and refusals.
 use crate::ParseErrorKind::{self, *};
 use crate::{
-    BoolLit, Buffer, FromIntegerLiteral, IntegerBase, IntegerLit, IntegerType, Literal, ParseError,
+    BoolLit, Buffer, FloatType, FromIntegerLiteral, IntegerBase, IntegerLit, IntegerType, Literal,
+    ParseError, Text,
 };
 use litrs_lex::{check_suffix, cut_integer, end_dec_digits, first_byte_or_empty, hex_digit_value};
 use std::alloc::{AllocError, Global};
@@ -103,7 +104,7 @@ const NO_LITERALS: [&str; 15] = [
 ];
 
 /// Checks a parsed integer, by each accessor.
-fn check_integer<B: Buffer>(rt: &impl Abort, lit: &IntegerLit<B>, expected: &Integer) {
+fn check_integer<B: Text>(rt: &impl Abort, lit: &IntegerLit<B>, expected: &Integer) {
     let (text, base, main, suffix, value) = *expected;
     assert_eq!(rt; lit.raw_input(), text);
     assert_eq!(rt; lit.base(), base, "in {text}");
@@ -113,7 +114,7 @@ fn check_integer<B: Buffer>(rt: &impl Abort, lit: &IntegerLit<B>, expected: &Int
 }
 
 /// Checks a parsed integer as a literal of any kind.
-fn check_literal<B: Buffer>(rt: &impl Abort, lit: &Literal<B>, expected: &Integer) {
+fn check_literal<B: Text>(rt: &impl Abort, lit: &Literal<B>, expected: &Integer) {
     assert_eq!(rt; lit.raw_input(), expected.0);
     assert_eq!(rt; lit.suffix(), expected.3);
     match lit {
@@ -123,7 +124,7 @@ fn check_literal<B: Buffer>(rt: &impl Abort, lit: &Literal<B>, expected: &Intege
 }
 
 /// Parses a text as an integer and as a literal, and checks both, and what copies of them are.
-fn check_parsed<B: Buffer>(
+fn check_parsed<B: Text>(
     rt: &impl Abort,
     alloc: Global,
     text: B,
@@ -185,7 +186,7 @@ fn option_range(span: &Option<Range<usize>>) -> Option<Range<usize>> {
 }
 
 /// Checks that a text is refused as an integer.
-fn check_no_integer<B: Buffer>(rt: &impl Abort, text: B, expected: &Refusal) {
+fn check_no_integer<B: Text>(rt: &impl Abort, text: B, expected: &Refusal) {
     match IntegerLit::parse(text) {
         Ok(_) => assert!(rt; false, "{} is no integer", expected.0),
         Err(e) => check_refusal(rt, &e, expected),
@@ -193,7 +194,7 @@ fn check_no_integer<B: Buffer>(rt: &impl Abort, text: B, expected: &Refusal) {
 }
 
 /// Checks that a text is refused as a literal.
-fn check_no_literal<B: Buffer>(rt: &impl Abort, alloc: Global, text: B, expected: &Refusal) {
+fn check_no_literal<B: Text>(rt: &impl Abort, alloc: Global, text: B, expected: &Refusal) {
     match Literal::parse(alloc, text) {
         Ok(_) => assert!(rt; false, "{} is no literal", expected.0),
         Err(e) => check_refusal(rt, &e, expected),
@@ -260,7 +261,7 @@ fn no_bools(rt: HostRuntime) {
 }
 
 /// Checks a bool as a literal of any kind: parsed, made, copied and printed.
-fn check_bool<B: Buffer>(
+fn check_bool<B: Text>(
     rt: &impl Abort,
     alloc: Global,
     text: B,
@@ -295,7 +296,7 @@ fn bools_over_both_buffers(rt: HostRuntime) -> Result<(), Fail> {
 }
 
 /// Checks what is printed of an integer, which ignores a width.
-fn check_printed<B: Buffer>(
+fn check_printed<B: Text>(
     rt: &impl Abort,
     alloc: Global,
     lit: IntegerLit<B>,
@@ -323,7 +324,7 @@ fn printing_keeps_the_text(rt: HostRuntime) -> Result<(), Fail> {
 }
 
 /// Checks both copies of a parsed integer that take no memory.
-fn check_copy<B: Buffer + Copy>(
+fn check_copy<B: Text + Copy>(
     rt: &impl Abort,
     lit: &IntegerLit<B>,
     expected: &Integer,
@@ -465,6 +466,23 @@ fn names_of_no_type(rt: HostRuntime) {
 }
 
 #[test]
+fn float_types_by_their_names(rt: HostRuntime) -> Result<(), Fail> {
+    for (ty, name) in [(FloatType::F32, "f32"), (FloatType::F64, "f64")] {
+        assert_eq!(rt; ty.suffix(), name);
+        assert_eq!(rt; FloatType::from_suffix(name), Some(ty));
+        assert_eq!(rt; name.parse::<FloatType>(), Ok(ty));
+        assert_eq!(rt; ty.to_string(rt.alloc())?.as_str(), name);
+    }
+    let padded = format!(in rt.alloc(); "{:<6}|{:>6}|", FloatType::F32, FloatType::F64)?;
+    assert_eq!(rt; padded.as_str(), "f32   |   f64|");
+    for name in ["", "f", "u32", "F32", "f16", "f128", "f64 "] {
+        assert_eq!(rt; FloatType::from_suffix(name), None);
+        assert_eq!(rt; name.parse::<FloatType>(), Err(()));
+    }
+    Ok(())
+}
+
+#[test]
 fn each_type_names_itself(rt: HostRuntime) {
     let own = [
         u8::ty(),
@@ -483,17 +501,6 @@ fn each_type_names_itself(rt: HostRuntime) {
     for (found, (ty, _)) in own.iter().zip(&TYPES) {
         assert_eq!(rt; found, ty);
     }
-}
-
-#[test]
-fn buffers_are_copied(rt: HostRuntime) -> Result<(), Fail> {
-    let alloc = rt.alloc();
-    let borrowed = "0xFF_u8";
-    let owned = String::from_str(alloc, borrowed)?;
-    assert_eq!(rt; Buffer::as_str(&borrowed.copy(alloc)?), borrowed);
-    assert_eq!(rt; Buffer::as_str(&owned.copy(alloc)?), borrowed);
-    assert_eq!(rt; Buffer::as_str(&owned), borrowed);
-    Ok(())
 }
 
 #[test]

@@ -101,10 +101,13 @@ lead_by false false false c two three four rest small high = omega arith
 starts_character : (t : List ℕ) → IsBoundaryOf t 0
 unfolding encode
 starts_character [] = (omega arith, λ within. absurd (omega arith))
-starts_character (c ∷ t) = (omega arith, λ within high.
-    lead_by (ltb c 128) (ltb c 2048) (ltb c 65536) c _ _ _ (encode_utf8_all t) (λ e. ltb-true c 128 e) high)
+starts_character (c ∷ t) = (
+  omega arith,
+  λ within high.
+      lead_by (ltb c 128) (ltb c 2048) (ltb c 65536) c _ _ _ (encode_utf8_all t) (λ e. ltb-true c 128 e) high,
+)
 
-front_boundary : (t front rest : List ℕ) → front ++ rest ≡ t → IsBoundaryOf t (byte_len front)
+pub front_boundary : (t front rest : List ℕ) → front ++ rest ≡ t → IsBoundaryOf t (byte_len front)
 front_boundary t front rest cut =
     subst (λ (s : List ℕ). IsBoundaryOf s (byte_len front)) cut
     (subst (λ (b : List ℕ). IsCharBoundary b (byte_len front)) (sym (encodes-append front rest))

@@ -8,7 +8,7 @@ use Rattle.std.proofs.lemmas.Bool.{lt-ltb, ltb-true, and_parts, cases_lt, ne_eqb
 use Rattle.std.specs.Prelude.{encode_utf8_all}
 use Rattle.std.proofs.lemmas.List.{drop-drop, length-drop}
 use Rattle.std.proofs.Math.Seq.{take-add}
-use Rattle.litrs_base.specs.Text.{is_empty, first_passes, begins_with}
+use Rattle.litrs_base.specs.Text.{is_text, is_empty, first_passes, begins_with}
 
 -- a text that is not empty has a first character
 abbrev Splits : List ℕ → Type 0
@@ -151,3 +151,22 @@ begins_front (c ∷ front) (b ∷ bs) low e u =
     let same = and_parts (eqb c b) (begins_with front bs) e in
     let low_b : b < 128 = let low_c = ltb-true c 128 parts.0 in let is = eqb-true c b same.0 in omega arith in
     front_suc b bs (length front) low_b (begins_front front bs parts.1 same.1 (utf8_behind_ascii b bs low_b u))
+
+-- a text of ASCII characters is the same as bytes
+pub is_text-chars : (word bs : List ℕ) → list_all (λ c. ltb c 128) word ≡ true → IsUtf8 bs → is_text word (chars bs) ≡ is_text word bs
+is_text-chars [] [] low u = ap (is_text []) chars-nil
+is_text-chars [] (b ∷ bs) low u = elim (cases_lt b 128) [
+  | inl low_b ↦ ap (is_text []) (chars_ascii b bs low_b)
+  | inr high ↦ ap (is_text []) (chars_wide b bs high u).is
+]
+is_text-chars (c ∷ word) [] low u = ap (is_text (c ∷ word)) chars-nil
+is_text-chars (c ∷ word) (b ∷ bs) low u =
+    let parts = and_parts (ltb c 128) (list_all (λ d. ltb d 128) word) low in
+    let low_c = ltb-true c 128 parts.0 in
+    elim (cases_lt b 128) [
+      | inl low_b ↦ ap (is_text (c ∷ word)) (chars_ascii b bs low_b) ∙ ap (λ v. eqb c b && v) (is_text-chars word bs parts.1 (utf8_behind_ascii b bs low_b u))
+      | inr high ↦ (let w = chars_wide b bs high u in
+          let wide = w.wide in
+          ap (is_text (c ∷ word)) w.is
+          ∙ (ap (λ v. v && is_text word w.rest) (ne_eqb c w.first (λ e. omega arith)) ∙ sym (ap (λ v. v && is_text word bs) (ne_eqb c b (λ e. omega arith)))))
+    ]

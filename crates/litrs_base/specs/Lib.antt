@@ -11,3 +11,4 @@ pub mod Refusal
 pub mod Base
 pub mod Numeral
 pub mod IntegerTypes
+pub mod FloatTypes

@@ -1,14 +1,18 @@
 //! What every layer names: the buffers of texts, the types of integers, escapes, and refusals.
 #![tactic(auto)]
 
-pub use buffer::Buffer;
+pub use buffer::{Buffer, Text};
 pub use err::{ParseError, ParseErrorKind};
 pub use escape::Unescape;
+pub use float::FloatType;
 pub use from_integer_literal::FromIntegerLiteral;
 pub use integer::{IntegerBase, IntegerType};
 
 pub mod buffer;
 pub mod err;
 pub mod escape;
+pub mod float;
 pub mod from_integer_literal;
 pub mod integer;
+#[cfg(test)]
+mod tests;

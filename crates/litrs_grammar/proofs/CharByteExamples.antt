@@ -1,232 +1,254 @@
--- Chars and bytes: each row of the table of refusals and each form, by computation.
-use Rattle.std.specs.Prelude.{◌≡◌, [], ◌∷◌, Some, None, codes, refl, false}
-use Rattle.litrs_base.specs.declared.err.ParseErrorKind.TheVariants.{Empty, UnexpectedChar, UnknownEscape, UnterminatedEscape, InvalidXEscape, UnicodeEscapeInByteLiteral, InvalidStartOfUnicodeEscape, NonHexDigitInUnicodeEscape, TooManyDigitInUnicodeEscape, InvalidUnicodeEscapeChar, UnterminatedUnicodeEscape, UnterminatedCharLiteral, OverlongCharLiteral, EmptyCharLiteral, UnterminatedByteLiteral, OverlongByteLiteral, EmptyByteLiteral, NonAsciiInByteLiteral, UnescapedSingleQuote, UnescapedSpecialWhitespace, DoesNotStartWithQuote, InvalidByteLiteralStart, InvalidSuffix, NonAsciiXEscape}
-use Rattle.litrs_base.specs.Refusal.{plain, at, over}
+-- Chars and bytes by computation: forms, values, and each row of the table of refusals.
+use Prim.Native.String.{String}
+use Rattle.std.specs.Prelude.{◌≡◌, Some, None, codes, refl, true, false}
+use Rattle.litrs_base.specs.declared.err.ParseErrorKind.TheVariants as kind
+use Rattle.litrs_base.specs.Refusal.{Refusal, plain, at, over}
 use Rattle.litrs_grammar.specs.Escape.{simple_escape, hex_escape, unicode_escape}
-use Rattle.litrs_grammar.specs.CharByte.{char_kind, byte_kind, plain_char, escaped_char, IsCharLiteral, char_value, char_refusal, byte_refusal, is_char_item}
-use Rattle.litrs_grammar.proofs.Computing.{computing}
+use Rattle.litrs_grammar.specs.CharByte.{CharKind, CharItem, char_kind, byte_kind, plain_char, escaped_char, IsCharLiteral, char_value, char_refusal, byte_refusal, is_char_item}
+use Rattle.litrs_grammar.proofs.Computing.{computing, char_or_byte}
 
-empty_char : char_refusal [] ≡ Some (plain Empty)
+-- the text is a char, or a byte, of this item and suffix
+abbrev Is : CharKind → String → CharItem → String → Type 0
+Is kind text item suffix = IsCharLiteral kind (codes text) (record { item = item; suffix = codes suffix })
+
+-- the text is refused as a char, or as a byte
+abbrev CharRefused : String → Refusal → Type 0
+CharRefused text refusal = char_refusal (codes text) ≡ Some refusal
+
+abbrev ByteRefused : String → Refusal → Type 0
+ByteRefused text refusal = byte_refusal (codes text) ≡ Some refusal
+
+-- it is not
+abbrev CharAccepted : String → Type 0
+CharAccepted text = char_refusal (codes text) ≡ None
+
+abbrev ByteAccepted : String → Type 0
+ByteAccepted text = byte_refusal (codes text) ≡ None
+
+-- Literals and their parts
+
+literals :
+    Is char_kind "'🦊'good_boy" (plain_char 0x1F98A) "good_boy"
+    × Is char_kind "'\\u{1_F6_02_____}'" (escaped_char (unicode_escape (codes "1_F6_02_____"))) ""
+    × Is char_kind "'\0'" (plain_char 0) ""
+    × Is char_kind "'\\''" (escaped_char (simple_escape 39)) ""
+    × Is byte_kind "b'\\xFF'" (escaped_char (hex_escape 70 70)) ""
+    × Is byte_kind "b'r'" (plain_char 114) ""
+    -- of whitespace only LF, tab and CR must be escaped
+    × Is char_kind "'\u{b}'" (plain_char 11) ""
+    × Is char_kind "'\u{c}'" (plain_char 12) ""
+    × Is char_kind "'\u{85}'" (plain_char 0x85) ""
+    × Is byte_kind "b'\u{b}'" (plain_char 11) ""
+    × Is char_kind "'\\0'" (escaped_char (simple_escape 48)) ""
+    × Is char_kind "'\\u{0}'" (escaped_char (unicode_escape (codes "0"))) ""
 unfolding computing
-empty_char = refl
+literals = (
+  char_or_byte refl refl refl,
+  char_or_byte refl refl refl,
+  char_or_byte refl refl refl,
+  char_or_byte refl refl refl,
+  char_or_byte refl refl refl,
+  char_or_byte refl refl refl,
+  char_or_byte refl refl refl,
+  char_or_byte refl refl refl,
+  char_or_byte refl refl refl,
+  char_or_byte refl refl refl,
+  char_or_byte refl refl refl,
+  char_or_byte refl refl refl,
+)
 
-empty_byte : byte_refusal [] ≡ Some (plain Empty)
+-- Values
+
+values :
+    (char_value (escaped_char (unicode_escape (codes "1_F6_02_____"))) ≡ 0x1F602)
+    × (char_value (escaped_char (hex_escape 70 70)) ≡ 255)
+    × (char_value (escaped_char (simple_escape 110)) ≡ 10)
+    × (char_value (plain_char 0x1F98A) ≡ 0x1F98A)
 unfolding computing
-empty_byte = refl
+values = (refl, refl, refl, refl)
 
-no_quote : char_refusal (codes "a'") ≡ Some (at 0 DoesNotStartWithQuote)
+-- What the grammar allows, and what not
+
+items_not_allowed :
+    (is_char_item char_kind (plain_char 39) ≡ false)
+    × (is_char_item char_kind (plain_char 92) ≡ false)
+    × (is_char_item char_kind (plain_char 9) ≡ false)
+    × (is_char_item byte_kind (plain_char 128) ≡ false)
+    × (is_char_item char_kind (plain_char 10) ≡ false)
+    × (is_char_item char_kind (plain_char 13) ≡ false)
+    × (is_char_item byte_kind (plain_char 10) ≡ false)
+    × (is_char_item byte_kind (plain_char 39) ≡ false)
+    × (is_char_item char_kind (escaped_char (hex_escape 56 48)) ≡ false)
+    × (is_char_item byte_kind (escaped_char (unicode_escape (codes "41"))) ≡ false)
 unfolding computing
-no_quote = refl
+items_not_allowed = (refl, refl, refl, refl, refl, refl, refl, refl, refl, refl)
 
-no_byte_quote : byte_refusal (codes "'a'") ≡ Some (plain InvalidByteLiteralStart)
+items_allowed :
+    (is_char_item char_kind (plain_char 34) ≡ true)
+    × (is_char_item char_kind (plain_char 128) ≡ true)
+    × (is_char_item byte_kind (plain_char 127) ≡ true)
+    × (is_char_item byte_kind (escaped_char (hex_escape 56 48)) ≡ true)
+    × (is_char_item byte_kind (escaped_char (hex_escape 48 48)) ≡ true)
 unfolding computing
-no_byte_quote = refl
+items_allowed = (refl, refl, refl, refl, refl)
 
-lone_quote : char_refusal (codes "'") ≡ Some (plain UnterminatedCharLiteral)
+-- Texts that are not refused
+
+accepted :
+    CharAccepted "'🦊'good_boy"
+    × CharAccepted "'\\x41'"
+    × CharAccepted "'\\0'"
+    × ByteAccepted "b'\\0'"
+    × CharAccepted "'\u{b}'"
+    × CharAccepted "'\u{c}'"
+    × CharAccepted "'\u{85}'"
+    × CharAccepted "'\\u{0}'"
+    × CharAccepted "'\\x00'"
+    × ByteAccepted "b'\u{b}'"
+    × ByteAccepted "b'\u{7f}'"
+    × ByteAccepted "b'\\xff'_x"
 unfolding computing
-lone_quote = refl
+accepted = (refl, refl, refl, refl, refl, refl, refl, refl, refl, refl, refl, refl)
 
-lone_byte_quote : byte_refusal (codes "b'") ≡ Some (plain UnterminatedByteLiteral)
+-- Refused texts, by the rows of the table
+
+rows-empty :
+    CharRefused "" (plain kind.Empty)
+    × ByteRefused "" (plain kind.Empty)
 unfolding computing
-lone_byte_quote = refl
+rows-empty = (refl, refl)
 
-three_quotes : char_refusal (codes "'''") ≡ Some (at 1 UnescapedSingleQuote)
+rows-does_not_start_with_quote : CharRefused "a'" (at 0 kind.DoesNotStartWithQuote)
 unfolding computing
-three_quotes = refl
+rows-does_not_start_with_quote = refl
 
-four_quotes : char_refusal (codes "''''") ≡ Some (at 1 UnescapedSingleQuote)
+rows-invalid_byte_literal_start :
+    ByteRefused "'a'" (plain kind.InvalidByteLiteralStart)
+    × ByteRefused "'" (plain kind.InvalidByteLiteralStart)
 unfolding computing
-four_quotes = refl
+rows-invalid_byte_literal_start = (refl, refl)
 
-three_byte_quotes : byte_refusal (codes "b'''") ≡ Some (at 2 UnescapedSingleQuote)
+rows-unterminated_char_literal :
+    CharRefused "'" (plain kind.UnterminatedCharLiteral)
+    × CharRefused "'a" (plain kind.UnterminatedCharLiteral)
+    -- an escaped quote closes nothing
+    × CharRefused "'\\'" (plain kind.UnterminatedCharLiteral)
+    × CharRefused "'\\x41" (plain kind.UnterminatedCharLiteral)
+    × CharRefused "'\\n" (plain kind.UnterminatedCharLiteral)
 unfolding computing
-three_byte_quotes = refl
+rows-unterminated_char_literal = (refl, refl, refl, refl, refl)
 
-two_quotes : char_refusal (codes "''") ≡ Some (plain EmptyCharLiteral)
+rows-unterminated_byte_literal :
+    ByteRefused "b'" (plain kind.UnterminatedByteLiteral)
+    × ByteRefused "b'a" (plain kind.UnterminatedByteLiteral)
 unfolding computing
-two_quotes = refl
+rows-unterminated_byte_literal = (refl, refl)
 
-two_quotes_more : char_refusal (codes "''a'") ≡ Some (plain EmptyCharLiteral)
+rows-unescaped_single_quote :
+    CharRefused "'''" (at 1 kind.UnescapedSingleQuote)
+    × CharRefused "''''" (at 1 kind.UnescapedSingleQuote)
+    × ByteRefused "b'''" (at 2 kind.UnescapedSingleQuote)
 unfolding computing
-two_quotes_more = refl
+rows-unescaped_single_quote = (refl, refl, refl)
 
-two_byte_quotes : byte_refusal (codes "b''") ≡ Some (plain EmptyByteLiteral)
+rows-empty_char_literal :
+    CharRefused "''" (plain kind.EmptyCharLiteral)
+    × CharRefused "''a'" (plain kind.EmptyCharLiteral)
 unfolding computing
-two_byte_quotes = refl
+rows-empty_char_literal = (refl, refl)
 
-line_feed_char : char_refusal (codes "'\n'") ≡ Some (at 1 UnescapedSpecialWhitespace)
+rows-empty_byte_literal : ByteRefused "b''" (plain kind.EmptyByteLiteral)
 unfolding computing
-line_feed_char = refl
+rows-empty_byte_literal = refl
 
-tab_byte : byte_refusal (codes "b'\t'") ≡ Some (at 2 UnescapedSpecialWhitespace)
+rows-unescaped_special_whitespace :
+    CharRefused "'\n'" (at 1 kind.UnescapedSpecialWhitespace)
+    × ByteRefused "b'\t'" (at 2 kind.UnescapedSpecialWhitespace)
+    × CharRefused "'\r'" (at 1 kind.UnescapedSpecialWhitespace)
+    × CharRefused "'\t'" (at 1 kind.UnescapedSpecialWhitespace)
+    × ByteRefused "b'\n" (at 2 kind.UnescapedSpecialWhitespace)
+    × ByteRefused "b'\r'" (at 2 kind.UnescapedSpecialWhitespace)
 unfolding computing
-tab_byte = refl
+rows-unescaped_special_whitespace = (refl, refl, refl, refl, refl, refl)
 
-return_char : char_refusal (codes "'\r'") ≡ Some (at 1 UnescapedSpecialWhitespace)
+rows-unterminated_escape :
+    ByteRefused "b'\\x'" (over 2 5 kind.UnterminatedEscape)
+    × CharRefused "'\\x🦊'" (over 1 8 kind.UnterminatedEscape)
+    -- chars are parsed to the end of the text
+    × CharRefused "'\\x" (over 1 3 kind.UnterminatedEscape)
 unfolding computing
-return_char = refl
+rows-unterminated_escape = (refl, refl, refl)
 
--- refused escapes
-short_hex : byte_refusal (codes "b'\\x'") ≡ Some (over 2 5 UnterminatedEscape)
+rows-invalid_x_escape : ByteRefused "b'\\x1'" (over 2 6 kind.InvalidXEscape)
 unfolding computing
-short_hex = refl
+rows-invalid_x_escape = refl
 
-one_digit : byte_refusal (codes "b'\\x1'") ≡ Some (over 2 6 InvalidXEscape)
+rows-non_ascii_x_escape : CharRefused "'\\x80'" (over 1 5 kind.NonAsciiXEscape)
 unfolding computing
-one_digit = refl
+rows-non_ascii_x_escape = refl
 
-unicode_in_byte : byte_refusal (codes "b'\\u{0}'") ≡ Some (over 2 4 UnicodeEscapeInByteLiteral)
+rows-unicode_escape_in_byte_literal : ByteRefused "b'\\u{0}'" (over 2 4 kind.UnicodeEscapeInByteLiteral)
 unfolding computing
-unicode_in_byte = refl
+rows-unicode_escape_in_byte_literal = refl
 
-wide_hex : char_refusal (codes "'\\x🦊'") ≡ Some (over 1 8 UnterminatedEscape)
+rows-unterminated_unicode_escape :
+    CharRefused "'\\u{a0_b  '" (over 1 11 kind.UnterminatedUnicodeEscape)
+    -- that no brace closes comes before what stands first inside
+    × CharRefused "'\\u{_" (over 1 5 kind.UnterminatedUnicodeEscape)
 unfolding computing
-wide_hex = refl
+rows-unterminated_unicode_escape = (refl, refl)
 
--- chars are read to the end of the text
-cut_hex : char_refusal (codes "'\\x") ≡ Some (over 1 3 UnterminatedEscape)
+rows-invalid_start_of_unicode_escape : CharRefused "'\\u{_}'" (at 4 kind.InvalidStartOfUnicodeEscape)
 unfolding computing
-cut_hex = refl
+rows-invalid_start_of_unicode_escape = refl
 
-never_closed : char_refusal (codes "'\\u{a0_b  '") ≡ Some (over 1 11 UnterminatedUnicodeEscape)
+rows-non_hex_digit_in_unicode_escape : CharRefused "'\\u{3b_x}'" (at 7 kind.NonHexDigitInUnicodeEscape)
 unfolding computing
-never_closed = refl
+rows-non_hex_digit_in_unicode_escape = refl
 
-underscore_first : char_refusal (codes "'\\u{_}'") ≡ Some (at 4 InvalidStartOfUnicodeEscape)
+rows-too_many_digit_in_unicode_escape : CharRefused "'\\u{1_23_4_56_7}'" (at 14 kind.TooManyDigitInUnicodeEscape)
 unfolding computing
-underscore_first = refl
+rows-too_many_digit_in_unicode_escape = refl
 
-stranger : char_refusal (codes "'\\u{3b_x}'") ≡ Some (at 7 NonHexDigitInUnicodeEscape)
+rows-invalid_unicode_escape_char : CharRefused "'\\u{110000}'" (over 1 11 kind.InvalidUnicodeEscapeChar)
 unfolding computing
-stranger = refl
+rows-invalid_unicode_escape_char = refl
 
-seventh_digit : char_refusal (codes "'\\u{1_23_4_56_7}'") ≡ Some (at 14 TooManyDigitInUnicodeEscape)
+rows-unknown_escape : CharRefused "'\\é'" (over 1 3 kind.UnknownEscape)
 unfolding computing
-seventh_digit = refl
+rows-unknown_escape = refl
 
-no_scalar : char_refusal (codes "'\\u{110000}'") ≡ Some (over 1 11 InvalidUnicodeEscapeChar)
+rows-non_ascii_in_byte_literal :
+    ByteRefused "b'犬'" (at 2 kind.NonAsciiInByteLiteral)
+    × ByteRefused "b'\u{80}'" (at 2 kind.NonAsciiInByteLiteral)
+    -- before the closing quote that lacks
+    × ByteRefused "b'\u{80}" (at 2 kind.NonAsciiInByteLiteral)
+    × ByteRefused "b'é" (at 2 kind.NonAsciiInByteLiteral)
 unfolding computing
-no_scalar = refl
+rows-non_ascii_in_byte_literal = (refl, refl, refl, refl)
 
-unknown : char_refusal (codes "'\\é'") ≡ Some (over 1 3 UnknownEscape)
+rows-overlong_char_literal :
+    CharRefused "'ab'" (plain kind.OverlongCharLiteral)
+    × CharRefused "'\\u{0}0'" (plain kind.OverlongCharLiteral)
 unfolding computing
-unknown = refl
+rows-overlong_char_literal = (refl, refl)
 
--- behind the item
-not_ascii : byte_refusal (codes "b'犬'") ≡ Some (at 2 NonAsciiInByteLiteral)
+rows-overlong_byte_literal :
+    ByteRefused "b'a _'" (plain kind.OverlongByteLiteral)
+    × ByteRefused "b'\\xFFa'" (plain kind.OverlongByteLiteral)
 unfolding computing
-not_ascii = refl
+rows-overlong_byte_literal = (refl, refl)
 
-no_closing : char_refusal (codes "'a") ≡ Some (plain UnterminatedCharLiteral)
+rows-unexpected_char :
+    ByteRefused "b' ''" (at 4 kind.UnexpectedChar)
+    × CharRefused "'a'\u{7f}" (at 3 kind.UnexpectedChar)
 unfolding computing
-no_closing = refl
+rows-unexpected_char = (refl, refl)
 
-no_byte_closing : byte_refusal (codes "b'a") ≡ Some (plain UnterminatedByteLiteral)
+rows-invalid_suffix :
+    CharRefused "'a'_" (at 3 kind.InvalidSuffix)
+    × CharRefused "'\\u{41}'_" (at 8 kind.InvalidSuffix)
+    × CharRefused "'é'_" (at 4 kind.InvalidSuffix)
+    × CharRefused "'a'\u{80}" (at 3 kind.InvalidSuffix)
 unfolding computing
-no_byte_closing = refl
-
--- an escaped quote is none that closes
-escaped_quote : char_refusal (codes "'\\'") ≡ Some (plain UnterminatedCharLiteral)
-unfolding computing
-escaped_quote = refl
-
-long_char : char_refusal (codes "'ab'") ≡ Some (plain OverlongCharLiteral)
-unfolding computing
-long_char = refl
-
-long_byte : byte_refusal (codes "b'a _'") ≡ Some (plain OverlongByteLiteral)
-unfolding computing
-long_byte = refl
-
-quote_suffix : byte_refusal (codes "b' ''") ≡ Some (at 4 UnexpectedChar)
-unfolding computing
-quote_suffix = refl
-
-underscore_suffix : char_refusal (codes "'a'_") ≡ Some (at 3 InvalidSuffix)
-unfolding computing
-underscore_suffix = refl
-
--- no row fits a literal
-fox_refusal : char_refusal (codes "'🦊'good_boy") ≡ None
-unfolding computing
-fox_refusal = refl
-
--- literals and what they stand for
-fox : IsCharLiteral char_kind (codes "'🦊'good_boy") (record { item = plain_char 0x1F98A; suffix = codes "good_boy" })
-unfolding computing
-fox = record { spells = refl; item = refl; suffix = refl }
-
-face : IsCharLiteral char_kind (codes "'\\u{1_F6_02_____}'") (record { item = escaped_char (unicode_escape (codes "1_F6_02_____")); suffix = [] })
-unfolding computing
-face = record { spells = refl; item = refl; suffix = refl }
-
-face_value : char_value (escaped_char (unicode_escape (codes "1_F6_02_____"))) ≡ 0x1F602
-unfolding computing
-face_value = refl
-
-nul_char : IsCharLiteral char_kind (39 ∷ 0 ∷ 39 ∷ []) (record { item = plain_char 0; suffix = [] })
-unfolding computing
-nul_char = record { spells = refl; item = refl; suffix = refl }
-
-quote_char : IsCharLiteral char_kind (codes "'\\''") (record { item = escaped_char (simple_escape 39); suffix = [] })
-unfolding computing
-quote_char = record { spells = refl; item = refl; suffix = refl }
-
-last_byte : IsCharLiteral byte_kind (codes "b'\\xFF'") (record { item = escaped_char (hex_escape 70 70); suffix = [] })
-unfolding computing
-last_byte = record { spells = refl; item = refl; suffix = refl }
-
-last_byte_value : char_value (escaped_char (hex_escape 70 70)) ≡ 255
-last_byte_value = refl
-
-raw_byte : IsCharLiteral byte_kind (codes "b'r'") (record { item = plain_char 114; suffix = [] })
-unfolding computing
-raw_byte = record { spells = refl; item = refl; suffix = refl }
-
--- What stands behind an escape or a wide character
-
-hex_char : char_refusal (codes "'\\x41'") ≡ None
-unfolding computing
-hex_char = refl
-
-hex_unclosed : char_refusal (codes "'\\x41") ≡ Some (plain UnterminatedCharLiteral)
-unfolding computing
-hex_unclosed = refl
-
-unicode_suffix : char_refusal (codes "'\\u{41}'_") ≡ Some (at 8 InvalidSuffix)
-unfolding computing
-unicode_suffix = refl
-
-wide_suffix : char_refusal (codes "'é'_") ≡ Some (at 4 InvalidSuffix)
-unfolding computing
-wide_suffix = refl
-
-nul_escape : char_refusal (codes "'\\0'") ≡ None
-unfolding computing
-nul_escape = refl
-
-high_hex : char_refusal (codes "'\\x80'") ≡ Some (over 1 5 NonAsciiXEscape)
-unfolding computing
-high_hex = refl
-
-nul_byte : byte_refusal (codes "b'\\0'") ≡ None
-unfolding computing
-nul_byte = refl
-
-long_hex_byte : byte_refusal (codes "b'\\xFFa'") ≡ Some (plain OverlongByteLiteral)
-unfolding computing
-long_hex_byte = refl
-
--- What may not stand by itself
-
-plain_quote : is_char_item char_kind (plain_char 39) ≡ false
-plain_quote = refl
-
-plain_backslash : is_char_item char_kind (plain_char 92) ≡ false
-plain_backslash = refl
-
-plain_tab : is_char_item char_kind (plain_char 9) ≡ false
-plain_tab = refl
-
-plain_wide_byte : is_char_item byte_kind (plain_char 128) ≡ false
-plain_wide_byte = refl
+rows-invalid_suffix = (refl, refl, refl, refl)

@@ -77,7 +77,7 @@ unfolding escape_refusal
 refusal_hex w c d x h g b v = rw (two_bytes c d x h g, h, g, b, v) refl
 
 -- what begins with a hex digit does not begin with an underscore
-starts_inner : (inner : List ℕ) → first_passes is_ascii_hexdigit inner ≡ true → (is_empty inner || first_passes (λ c. c == 95) inner) ≡ false
+pub starts_inner : (inner : List ℕ) → first_passes is_ascii_hexdigit inner ≡ true → (is_empty inner || first_passes (λ c. c == 95) inner) ≡ false
 starts_inner [] f = cc
 starts_inner (c ∷ t) f = hexdigit_no_underscore c f
 
@@ -87,7 +87,7 @@ has_stranger inner =
     ltb (length (take_while is_hex_or_underscore inner)) (length inner)
     && leb (count_by is_ascii_hexdigit (take_while is_hex_or_underscore inner)) 6
 
-no_stranger : (inner : List ℕ) → list_all is_hex_or_underscore inner ≡ true → has_stranger inner ≡ false
+pub no_stranger : (inner : List ℕ) → list_all is_hex_or_underscore inner ≡ true → has_stranger inner ≡ false
 no_stranger inner a =
     let e : length (take_while is_hex_or_underscore inner) ≡ length inner = ap length (take_while_all is_hex_or_underscore inner a) in
     and_left _ _ (le-ltb (length (take_while is_hex_or_underscore inner)) (length inner) (omega arith))

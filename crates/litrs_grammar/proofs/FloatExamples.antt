@@ -1,168 +1,145 @@
--- Each form of a float and each row of its refusals, computed.
-use Rattle.std.specs.Prelude.{◌≡◌, ℕ, List, [], Option, Some, None, refl, codes}
-use Rattle.std.specs.Char.{encode_utf8}
+-- Floats by computation: forms, where a text is cut, and each row of the table of refusals.
+use Prim.Native.String.{String}
+use Rattle.std.specs.Prelude.{◌≡◌, ℕ, List, [], Option, Some, None, refl, codes, true, false}
 use Rattle.std.proofs.lemmas.Bool.{false≢true}
-use Rattle.litrs_base.specs.declared.err.ParseErrorKind.TheVariants.{Empty, UnexpectedChar, InvalidSuffix, DoesNotStartWithDigit, NoExponentDigits, UnexpectedIntegerLit}
-use Rattle.unicode_ident.proofs.Computing.{unicode_ident}
-use Rattle.litrs_base.specs.Refusal.{plain, over, at}
-use Rattle.litrs_grammar.specs.Suffix.{is_suffix}
+use Rattle.litrs_base.specs.declared.err.ParseErrorKind.TheVariants as kind
+use Rattle.litrs_base.specs.Refusal.{Refusal, plain, over, at}
 use Rattle.litrs_grammar.specs.Float.{FloatParts, IsFloatOf, number_part, is_exponent, float_cut, float_refusal}
+use Rattle.litrs_grammar.proofs.Computing.{computing, float}
 
--- The forms. The parts are the integer part, the fraction, the exponent and the suffix.
+-- the integer part, the fraction, the exponent and the suffix
+abbrev parts : String → Option (List ℕ) → String → String → FloatParts
+parts integer fraction exponent suffix =
+    record { integer = codes integer; fraction = fraction; exponent = codes exponent; suffix = codes suffix }
 
-abbrev parts : List ℕ → Option (List ℕ) → List ℕ → List ℕ → FloatParts
-parts integer fraction exponent suffix = record { integer = integer; fraction = fraction; exponent = exponent; suffix = suffix }
+-- the text is a float of these parts
+abbrev Is : String → FloatParts → Type 0
+Is text d = IsFloatOf (codes text) d
 
-form-period : IsFloatOf (codes "9.") (parts (codes "9") (Some []) [] [])
-unfolding is_exponent is_suffix unicode_ident
-form-period = record {
-  spells = refl;
-  grammar = record { integer = refl; form = refl; suffix = refl; no_underscore = refl; no_letter = λ _. refl };
-}
+-- the text is refused
+abbrev Refused : String → Refusal → Type 0
+Refused text refusal = float_refusal (codes text) ≡ Some refusal
 
-form-fraction : IsFloatOf (codes "3.14f33") (parts (codes "3") (Some (codes "14")) [] (codes "f33"))
-unfolding is_exponent is_suffix unicode_ident
-form-fraction = record {
-  spells = refl;
-  grammar = record { integer = refl; form = refl; suffix = refl; no_underscore = refl; no_letter = λ _. refl };
-}
+-- it is not
+abbrev Accepted : String → Type 0
+Accepted text = float_refusal (codes text) ≡ None
 
-form-fraction_exponent : IsFloatOf (codes "147.3_33__E3f64") (parts (codes "147") (Some (codes "3_33__")) (codes "E3") (codes "f64"))
-unfolding is_exponent is_suffix unicode_ident
-form-fraction_exponent = record {
-  spells = refl;
-  grammar = record { integer = refl; form = refl; suffix = refl; no_underscore = refl; no_letter = λ e. absurd (false≢true e) };
-}
+-- Literals and their parts
 
-form-signed_exponent : IsFloatOf (codes "8.2e-_04_9") (parts (codes "8") (Some (codes "2")) (codes "e-_04_9") [])
-unfolding is_exponent is_suffix unicode_ident
-form-signed_exponent = record {
-  spells = refl;
-  grammar = record { integer = refl; form = refl; suffix = refl; no_underscore = refl; no_letter = λ e. absurd (false≢true e) };
-}
+literals :
+    Is "9." (parts "9" (Some []) "" "")
+    × Is "3.14f33" (parts "3" (Some (codes "14")) "" "f33")
+    × Is "147.3_33__E3f64" (parts "147" (Some (codes "3_33__")) "E3" "f64")
+    × Is "8.2e-_04_9" (parts "8" (Some (codes "2")) "e-_04_9" "")
+    × Is "23e2_banana" (parts "23" None "e2_" "banana")
+    × Is "3e2e5" (parts "3" None "e2" "e5")
+    × Is "1.5E+7" (parts "1" (Some (codes "5")) "E+7" "")
+    × Is "0_.0_" (parts "0_" (Some (codes "0_")) "" "")
+    × Is "2e_3" (parts "2" None "e_3" "")
+unfolding computing
+literals = (
+  float refl refl refl refl refl (λ e. refl),
+  float refl refl refl refl refl (λ e. refl),
+  float refl refl refl refl refl (λ e. absurd (false≢true e)),
+  float refl refl refl refl refl (λ e. absurd (false≢true e)),
+  float refl refl refl refl refl (λ e. absurd (false≢true e)),
+  float refl refl refl refl refl (λ e. absurd (false≢true e)),
+  float refl refl refl refl refl (λ e. absurd (false≢true e)),
+  float refl refl refl refl refl (λ e. refl),
+  float refl refl refl refl refl (λ e. absurd (false≢true e)),
+)
 
-form-exponent : IsFloatOf (codes "23e2_banana") (parts (codes "23") None (codes "e2_") (codes "banana"))
-unfolding is_exponent is_suffix unicode_ident
-form-exponent = record {
-  spells = refl;
-  grammar = record { integer = refl; form = refl; suffix = refl; no_underscore = refl; no_letter = λ e. absurd (false≢true e) };
-}
+-- Values
 
-form-letter_suffix : IsFloatOf (codes "3e2e5") (parts (codes "3") None (codes "e2") (codes "e5"))
-unfolding is_exponent is_suffix unicode_ident
-form-letter_suffix = record {
-  spells = refl;
-  grammar = record { integer = refl; form = refl; suffix = refl; no_underscore = refl; no_letter = λ e. absurd (false≢true e) };
-}
+number_parts :
+    (number_part (parts "9" (Some []) "" "") ≡ codes "9.")
+    × (number_part (parts "8" (Some (codes "2")) "e-_04_9" "") ≡ codes "8.2e-_04_9")
+    × (number_part (parts "3" (Some (codes "14")) "" "f33") ≡ codes "3.14")
+unfolding computing
+number_parts = (refl, refl, refl)
 
--- what stands in front of the suffix
-number_part-period : number_part (parts (codes "9") (Some []) [] []) ≡ codes "9."
-number_part-period = refl
+-- Where a text is cut, a float or not
 
-number_part-exponent : number_part (parts (codes "8") (Some (codes "2")) (codes "e-_04_9") []) ≡ codes "8.2e-_04_9"
-number_part-exponent = refl
+cuts :
+    (float_cut (codes "147.3_33__E3f64") ≡ parts "147" (Some (codes "3_33__")) "E3" "f64")
+    × (float_cut (codes "3e2e5") ≡ parts "3" None "e2" "e5")
+    × (float_cut (codes "3.7e-+3") ≡ parts "3" (Some (codes "7")) "e-" "+3")
+    × (float_cut (codes "1_2") ≡ parts "1_2" None "" "")
+    × (float_cut (codes "1.e5") ≡ parts "1" (Some []) "e5" "")
+    × (float_cut (codes "1._5") ≡ parts "1" (Some (codes "_5")) "" "")
+unfolding computing
+cuts = (refl, refl, refl, refl, refl, refl)
 
--- a text that is cut, a float or not
-cut-fraction : float_cut (codes "147.3_33__E3f64") ≡ parts (codes "147") (Some (codes "3_33__")) (codes "E3") (codes "f64")
-unfolding float_cut
-cut-fraction = refl
+-- What the grammar allows, and what not
 
-cut-exponent : float_cut (codes "3e2e5") ≡ parts (codes "3") None (codes "e2") (codes "e5")
-unfolding float_cut
-cut-exponent = refl
+exponents :
+    (is_exponent (codes "e5") ≡ true)
+    × (is_exponent (codes "E-_5_") ≡ true)
+    × (is_exponent (codes "e") ≡ false)
+    × (is_exponent (codes "e_") ≡ false)
+    × (is_exponent (codes "e++5") ≡ false)
+    × (is_exponent (codes "5") ≡ false)
+    × (is_exponent (codes "e5x") ≡ false)
+unfolding computing
+exponents = (refl, refl, refl, refl, refl, refl, refl)
 
-cut-signs : float_cut (codes "3.7e-+3") ≡ parts (codes "3") (Some (codes "7")) (codes "e-") (codes "+3")
-unfolding float_cut
-cut-signs = refl
+-- Texts that are not refused
 
--- The rows, from the first on, and texts that no row fits.
+accepted :
+    Accepted "9."
+    × Accepted "3.14f33"
+    × Accepted "8.2e-_04_9"
+    × Accepted "3e2e5"
+    × Accepted "1e+5"
+    × Accepted "0_.0_"
+    × Accepted "1E-_7x"
+unfolding computing
+accepted = (refl, refl, refl, refl, refl, refl, refl)
 
-row-empty : float_refusal (codes "") ≡ Some (plain Empty)
-unfolding float_refusal float_cut is_suffix unicode_ident encode_utf8
-row-empty = refl
+-- Refused texts, by the rows of the table
 
-row-no_digit : float_refusal (codes "_3") ≡ Some (at 0 DoesNotStartWithDigit)
-unfolding float_refusal float_cut is_suffix unicode_ident encode_utf8
-row-no_digit = refl
+rows-empty : Refused "" (plain kind.Empty)
+unfolding computing
+rows-empty = refl
 
-row-no_digit-period : float_refusal (codes ".5") ≡ Some (at 0 DoesNotStartWithDigit)
-unfolding float_refusal float_cut is_suffix unicode_ident encode_utf8
-row-no_digit-period = refl
+rows-does_not_start_with_digit :
+    Refused "_3" (at 0 kind.DoesNotStartWithDigit)
+    × Refused ".5" (at 0 kind.DoesNotStartWithDigit)
+    × Refused "f.5" (at 0 kind.DoesNotStartWithDigit)
+unfolding computing
+rows-does_not_start_with_digit = (refl, refl, refl)
 
-row-exponent_behind_period : float_refusal (codes "1.e4") ≡ Some (at 2 UnexpectedChar)
-unfolding float_refusal float_cut is_suffix unicode_ident encode_utf8
-row-exponent_behind_period = refl
+rows-unexpected_char :
+    Refused "1.e4" (at 2 kind.UnexpectedChar)
+    × Refused "12345._987" (at 6 kind.UnexpectedChar)
+    × Refused "3.7+2" (over 3 5 kind.UnexpectedChar)
+    × Refused "55e3.1" (over 4 6 kind.UnexpectedChar)
+    × Refused "1.e" (at 2 kind.UnexpectedChar)
+    × Refused "1.x" (at 2 kind.UnexpectedChar)
+    × Refused "1..2" (at 2 kind.UnexpectedChar)
+unfolding computing
+rows-unexpected_char = (refl, refl, refl, refl, refl, refl, refl)
 
-row-underscore_behind_period : float_refusal (codes "12345._987") ≡ Some (at 6 UnexpectedChar)
-unfolding float_refusal float_cut is_suffix unicode_ident encode_utf8
-row-underscore_behind_period = refl
+rows-no_exponent_digits :
+    Refused "0eel" (over 1 2 kind.NoExponentDigits)
+    × Refused "23E___f32" (over 2 6 kind.NoExponentDigits)
+    × Refused "3.7e-+3" (over 3 5 kind.NoExponentDigits)
+    × Refused "1e+" (over 1 3 kind.NoExponentDigits)
+    × Refused "1.5e_ " (over 3 5 kind.NoExponentDigits)
+    × Refused "1.0_e-" (over 4 6 kind.NoExponentDigits)
+unfolding computing
+rows-no_exponent_digits = (refl, refl, refl, refl, refl, refl)
 
-row-exponent_digits : float_refusal (codes "0eel") ≡ Some (over 1 2 NoExponentDigits)
-unfolding float_refusal float_cut is_suffix unicode_ident encode_utf8
-row-exponent_digits = refl
+rows-invalid_suffix :
+    Refused "0x44.5" (over 1 6 kind.InvalidSuffix)
+    × Refused "1.5🦊" (over 3 7 kind.InvalidSuffix)
+    × Refused "1x." (over 1 3 kind.InvalidSuffix)
+    × Refused "1e5é " (over 3 6 kind.InvalidSuffix)
+unfolding computing
+rows-invalid_suffix = (refl, refl, refl, refl)
 
-row-exponent_underscores : float_refusal (codes "23E___f32") ≡ Some (over 2 6 NoExponentDigits)
-unfolding float_refusal float_cut is_suffix unicode_ident encode_utf8
-row-exponent_underscores = refl
-
-row-exponent_two_signs : float_refusal (codes "3.7e-+3") ≡ Some (over 3 5 NoExponentDigits)
-unfolding float_refusal float_cut is_suffix unicode_ident encode_utf8
-row-exponent_two_signs = refl
-
-row-suffix_symbol : float_refusal (codes "3.7+2") ≡ Some (over 3 5 UnexpectedChar)
-unfolding float_refusal float_cut is_suffix unicode_ident encode_utf8
-row-suffix_symbol = refl
-
-row-suffix_period : float_refusal (codes "55e3.1") ≡ Some (over 4 6 UnexpectedChar)
-unfolding float_refusal float_cut is_suffix unicode_ident encode_utf8
-row-suffix_period = refl
-
-row-suffix : float_refusal (codes "0x44.5") ≡ Some (over 1 6 InvalidSuffix)
-unfolding float_refusal float_cut is_suffix unicode_ident encode_utf8
-row-suffix = refl
-
-row-integer : float_refusal (codes "35_389") ≡ Some (plain UnexpectedIntegerLit)
-unfolding float_refusal float_cut is_suffix unicode_ident encode_utf8
-row-integer = refl
-
-row-integer_suffix : float_refusal (codes "55f32") ≡ Some (plain UnexpectedIntegerLit)
-unfolding float_refusal float_cut is_suffix unicode_ident encode_utf8
-row-integer_suffix = refl
-
-row-none-period : float_refusal (codes "9.") ≡ None
-unfolding float_refusal float_cut is_suffix unicode_ident encode_utf8
-row-none-period = refl
-
-row-none-fraction : float_refusal (codes "3.14f33") ≡ None
-unfolding float_refusal float_cut is_suffix unicode_ident encode_utf8
-row-none-fraction = refl
-
-row-none-exponent : float_refusal (codes "8.2e-_04_9") ≡ None
-unfolding float_refusal float_cut is_suffix unicode_ident encode_utf8
-row-none-exponent = refl
-
-row-none-letter_suffix : float_refusal (codes "3e2e5") ≡ None
-unfolding float_refusal float_cut is_suffix unicode_ident encode_utf8
-row-none-letter_suffix = refl
-
--- Signs, and the order of the rows
-
-row-sign_alone : float_refusal (codes "1e+") ≡ Some (over 1 3 NoExponentDigits)
-unfolding float_refusal float_cut is_suffix unicode_ident encode_utf8
-row-sign_alone = refl
-
-row-period_before_letter : float_refusal (codes "1.e") ≡ Some (at 2 UnexpectedChar)
-unfolding float_refusal float_cut is_suffix unicode_ident encode_utf8
-row-period_before_letter = refl
-
-row-wide_suffix : float_refusal (codes "1.5🦊") ≡ Some (over 3 7 InvalidSuffix)
-unfolding float_refusal float_cut is_suffix unicode_ident encode_utf8
-row-wide_suffix = refl
-
-row-letter_first : float_refusal (codes "f.5") ≡ Some (at 0 DoesNotStartWithDigit)
-unfolding float_refusal float_cut is_suffix unicode_ident encode_utf8
-row-letter_first = refl
-
-row-none-plus : float_refusal (codes "1e+5") ≡ None
-unfolding float_refusal float_cut is_suffix unicode_ident encode_utf8
-row-none-plus = refl
+rows-unexpected_integer_lit :
+    Refused "35_389" (plain kind.UnexpectedIntegerLit)
+    × Refused "55f32" (plain kind.UnexpectedIntegerLit)
+unfolding computing
+rows-unexpected_integer_lit = (refl, refl)

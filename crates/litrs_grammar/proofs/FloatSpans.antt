@@ -53,6 +53,12 @@ exponent_number : (p : List ℕ) → is_exponent_front p ≡ true → list_all i
 exponent_number [] h = refl
 exponent_number (c ∷ cs) h = and_from _ _ (letter_number c (and_parts _ _ h).0) (behind_letter cs (and_parts _ _ h).1)
 
+-- all in front of the suffix is ASCII
+pub number_part_ascii : (d : FloatParts) → IsCut d → list_all is_ascii_char (number_part d) ≡ true
+number_part_ascii d cut = list_all-weaken is_number_char is_ascii_char number_ascii (number_part d)
+    (list_all-append is_number_char d.integer (fraction_text d.fraction ++ d.exponent) (decimals_number d.integer cut.integer)
+    (list_all-append is_number_char (fraction_text d.fraction) d.exponent (fraction_number d.fraction cut.fraction) (exponent_number d.exponent cut.exponent)))
+
 number_bytes : (t : List ℕ) → list_all is_number_char t ≡ true → byte_len t ≡ length t
 number_bytes t h = byte_len_ascii t (list_all-weaken is_number_char is_ascii_char number_ascii t h)
 

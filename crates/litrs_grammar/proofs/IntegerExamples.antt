@@ -1,393 +1,275 @@
--- Suffixes, integers and their numbers by examples: each form, and each row of the refusals, by computation.
-use Rattle.std.specs.Prelude.{◌≡◌, true, false, ◌∷◌, [], ◌++◌, Some, None, codes, refl, ℕ, List}
-use Rattle.std.specs.Char.{encode_utf8}
-use Rattle.unicode_ident.proofs.Computing.{unicode_ident}
-use Rattle.litrs_base.specs.declared.integer.IntegerBase.TheVariants.{Binary, Octal, Decimal, Hexadecimal}
-use Rattle.litrs_base.specs.declared.err.ParseErrorKind.TheVariants.{Empty, UnexpectedChar, DoesNotStartWithDigit, InvalidDigit, NoDigits, InvalidSuffix, IntegerSuffixStartingWithE}
-use Rattle.litrs_base.specs.Refusal.{plain, at, over}
-use Rattle.litrs_grammar.specs.Suffix.{is_suffix, suffix_refusal}
-use Rattle.litrs_grammar.specs.Integer.{IsIntegerOf, integer_cut, integer_refusal, integer_value}
-use Rattle.litrs_base.specs.Numeral.{place_sum, numeral, greatest_of}
-use Rattle.litrs_base.specs.IntegerTypes.{type_name}
+-- Suffixes, integers and their types by computation: forms, values, where a text is cut, and each row of the table of
+-- refusals.
+use Prim.Native.String.{String}
+use Rattle.std.specs.Prelude.{◌≡◌, ℕ, true, false, Some, None, codes, refl}
+use Rattle.litrs_base.specs.declared.err.ParseErrorKind.TheVariants as kind
+use Rattle.litrs_base.specs.declared.integer.IntegerBase.{IntegerBase}
+use Rattle.litrs_base.specs.declared.integer.IntegerBase.TheVariants as base
 use Rattle.litrs_base.specs.declared.integer.IntegerType.{IntegerType}
-use Rattle.litrs_base.specs.declared.integer.IntegerType.TheVariants.{U8, U16, U32, U64, U128, Usize, I8, I16, I32, I64, I128, Isize}
+use Rattle.litrs_base.specs.declared.integer.IntegerType.TheVariants as type
+use Rattle.litrs_base.specs.Refusal.{Refusal, plain, at, over}
+use Rattle.litrs_base.specs.Numeral.{numeral, greatest_of}
+use Rattle.litrs_base.specs.IntegerTypes.{type_name}
+use Rattle.litrs_base.specs.Base.{is_digit, is_digit_or_underscore}
+use Rattle.litrs_grammar.specs.Suffix.{is_suffix, suffix_refusal}
+use Rattle.litrs_grammar.specs.Integer.{IntegerParts, IsIntegerOf, integer_cut, integer_refusal, integer_value}
+use Rattle.litrs_grammar.proofs.Computing.{computing, decimal, prefixed}
 
-unfoldable integer_tables : Unit {0}
-unfolding integer_cut integer_refusal is_suffix unicode_ident encode_utf8
-integer_tables = tt
+-- the base, the main part and the suffix
+abbrev parts : IntegerBase → String → String → IntegerParts
+parts base main suffix = record { base = base; main = codes main; suffix = codes suffix }
+
+-- the text is an integer of these parts
+abbrev Is : String → IntegerParts → Type 0
+Is text d = IsIntegerOf (codes text) d
+
+-- the text is refused
+abbrev Refused : String → Refusal → Type 0
+Refused text refusal = integer_refusal (codes text) ≡ Some refusal
+
+-- it is not
+abbrev Accepted : String → Type 0
+Accepted text = integer_refusal (codes text) ≡ None
+
+-- the name of a type, and its greatest number
+abbrev IsType : IntegerType → String → ℕ → Type 0
+IsType type name greatest = (type_name type ≡ codes name) × (greatest_of type ≡ greatest)
 
 -- Suffixes
 
-suffix-empty : is_suffix (codes "") ≡ true
-unfolding integer_tables
-suffix-empty = refl
-
-suffix-type : is_suffix (codes "u8") ≡ true
-unfolding integer_tables
-suffix-type = refl
-
-suffix-underscore_first : is_suffix (codes "_x") ≡ true
-unfolding integer_tables
-suffix-underscore_first = refl
-
-suffix-two_underscores : is_suffix (codes "__") ≡ true
-unfolding integer_tables
-suffix-two_underscores = refl
-
-suffix-not_ascii : is_suffix (codes "_j" ++ 252 ∷ codes "rgen") ≡ true
-unfolding integer_tables
-suffix-not_ascii = refl
-
-suffix-lone_underscore : is_suffix (codes "_") ≡ false
-unfolding integer_tables
-suffix-lone_underscore = refl
-
-suffix-digit_first : is_suffix (codes "1x") ≡ false
-unfolding integer_tables
-suffix-digit_first = refl
-
-suffix-quote_behind : is_suffix (codes "peter\"") ≡ false
-unfolding integer_tables
-suffix-quote_behind = refl
-
-suffix_refusal-symbol : suffix_refusal (codes " ") ≡ UnexpectedChar
-suffix_refusal-symbol = refl
-
-suffix_refusal-lone_underscore : suffix_refusal (codes "_") ≡ InvalidSuffix
-suffix_refusal-lone_underscore = refl
-
-suffix_refusal-letter : suffix_refusal (codes "peter\"") ≡ InvalidSuffix
-suffix_refusal-letter = refl
-
-suffix_refusal-not_ascii : suffix_refusal (0x1F98A ∷ []) ≡ InvalidSuffix
-suffix_refusal-not_ascii = refl
-
--- The forms
-
-binary : IsIntegerOf (codes "0b1111_1111") (record { base = Binary; main = codes "1111_1111"; suffix = codes "" })
-unfolding integer_tables
-binary = record {
-  spells = refl;
-  grammar = record {
-    digits = refl;
-    some_digit = refl;
-    ends = refl;
-    suffix = refl;
-    no_exponent = refl;
-    decimal_digit = λ e. cc;
-    decimal_prefix = λ e. cc;
-  };
-}
-
-octal : IsIntegerOf (codes "0o400") (record { base = Octal; main = codes "400"; suffix = codes "" })
-unfolding integer_tables
-octal = record {
-  spells = refl;
-  grammar = record {
-    digits = refl;
-    some_digit = refl;
-    ends = refl;
-    suffix = refl;
-    no_exponent = refl;
-    decimal_digit = λ e. cc;
-    decimal_prefix = λ e. cc;
-  };
-}
-
-decimal-zeros : IsIntegerOf (codes "00b1") (record { base = Decimal; main = codes "00"; suffix = codes "b1" })
-unfolding integer_tables
-decimal-zeros = record {
-  spells = refl;
-  grammar = record {
-    digits = refl;
-    some_digit = refl;
-    ends = refl;
-    suffix = refl;
-    no_exponent = refl;
-    decimal_digit = λ e. refl;
-    decimal_prefix = λ e. refl;
-  };
-}
-
-decimal-underscore : IsIntegerOf (codes "0_b1") (record { base = Decimal; main = codes "0_"; suffix = codes "b1" })
-unfolding integer_tables
-decimal-underscore = record {
-  spells = refl;
-  grammar = record {
-    digits = refl;
-    some_digit = refl;
-    ends = refl;
-    suffix = refl;
-    no_exponent = refl;
-    decimal_digit = λ e. refl;
-    decimal_prefix = λ e. refl;
-  };
-}
-
-decimal-upper_case : IsIntegerOf (codes "0B1") (record { base = Decimal; main = codes "0"; suffix = codes "B1" })
-unfolding integer_tables
-decimal-upper_case = record {
-  spells = refl;
-  grammar = record {
-    digits = refl;
-    some_digit = refl;
-    ends = refl;
-    suffix = refl;
-    no_exponent = refl;
-    decimal_digit = λ e. refl;
-    decimal_prefix = λ e. refl;
-  };
-}
-
-decimal-type : IsIntegerOf (codes "1_000u32") (record { base = Decimal; main = codes "1_000"; suffix = codes "u32" })
-unfolding integer_tables
-decimal-type = record {
-  spells = refl;
-  grammar = record {
-    digits = refl;
-    some_digit = refl;
-    ends = refl;
-    suffix = refl;
-    no_exponent = refl;
-    decimal_digit = λ e. refl;
-    decimal_prefix = λ e. refl;
-  };
-}
-
-hexadecimal : IsIntegerOf (codes "0xFF_u8") (record { base = Hexadecimal; main = codes "FF_"; suffix = codes "u8" })
-unfolding integer_tables
-hexadecimal = record {
-  spells = refl;
-  grammar = record {
-    digits = refl;
-    some_digit = refl;
-    ends = refl;
-    suffix = refl;
-    no_exponent = refl;
-    decimal_digit = λ e. cc;
-    decimal_prefix = λ e. cc;
-  };
-}
-
-hexadecimal-suffix : IsIntegerOf (codes "0x5abcdefgh") (record { base = Hexadecimal; main = codes "5abcdef"; suffix = codes "gh" })
-unfolding integer_tables
-hexadecimal-suffix = record {
-  spells = refl;
-  grammar = record {
-    digits = refl;
-    some_digit = refl;
-    ends = refl;
-    suffix = refl;
-    no_exponent = refl;
-    decimal_digit = λ e. cc;
-    decimal_prefix = λ e. cc;
-  };
-}
-
--- where the refusals cut a text, an integer or not
-
-cut-wrong_digit : integer_cut (codes "0b12") ≡ record { base = Binary; main = codes "1"; suffix = codes "2" }
-unfolding integer_tables
-cut-wrong_digit = refl
-
-cut-no_digits : integer_cut (codes "0x") ≡ record { base = Hexadecimal; main = codes ""; suffix = codes "" }
-unfolding integer_tables
-cut-no_digits = refl
-
--- texts that are integers have no refusal
-
-free-decimal : integer_refusal (codes "1_000u32") ≡ None
-unfolding integer_tables
-free-decimal = refl
-
-free-underscore_last : integer_refusal (codes "1_") ≡ None
-unfolding integer_tables
-free-underscore_last = refl
-
-free-letters : integer_refusal (codes "123hackerman") ≡ None
-unfolding integer_tables
-free-letters = refl
-
-free-float_type : integer_refusal (codes "55f32") ≡ None
-unfolding integer_tables
-free-float_type = refl
-
--- The refusals
-
-row-empty : integer_refusal (codes "") ≡ Some (plain Empty)
-unfolding integer_tables
-row-empty = refl
-
-row-no_digit_first : integer_refusal (codes "true") ≡ Some (at 0 DoesNotStartWithDigit)
-unfolding integer_tables
-row-no_digit_first = refl
-
-row-wrong_digit : integer_refusal (codes "0b12") ≡ Some (at 3 InvalidDigit)
-unfolding integer_tables
-row-wrong_digit = refl
-
-row-symbol : integer_refusal (codes "0 ") ≡ Some (over 1 2 UnexpectedChar)
-unfolding integer_tables
-row-symbol = refl
-
-row-period : integer_refusal (codes "1.") ≡ Some (over 1 2 UnexpectedChar)
-unfolding integer_tables
-row-period = refl
-
-row-not_ascii : integer_refusal (codes "1" ++ 0x1F98A ∷ []) ≡ Some (over 1 5 InvalidSuffix)
-unfolding integer_tables
-row-not_ascii = refl
-
-row-letter_e : integer_refusal (codes "1e3") ≡ Some (at 1 IntegerSuffixStartingWithE)
-unfolding integer_tables
-row-letter_e = refl
-
--- the prefix counts in the place
-row-letter_e-behind_prefix : integer_refusal (codes "0b1e3") ≡ Some (at 3 IntegerSuffixStartingWithE)
-unfolding integer_tables
-row-letter_e-behind_prefix = refl
-
-row-no_digits : integer_refusal (codes "0x") ≡ Some (over 2 2 NoDigits)
-unfolding integer_tables
-row-no_digits = refl
-
-row-no_digits-suffix : integer_refusal (codes "0xg") ≡ Some (over 2 2 NoDigits)
-unfolding integer_tables
-row-no_digits-suffix = refl
-
--- The numbers
-
-number-binary : numeral 2 (codes "1111_1111") ≡ 255
-unfolding place_sum
-number-binary = refl
-
-number-octal : numeral 8 (codes "400") ≡ 256
-unfolding place_sum
-number-octal = refl
-
-number-hexadecimal : numeral 16 (codes "5abcdef") ≡ 95145455
-unfolding place_sum
-number-hexadecimal = refl
-
-number-underscores : numeral 10 (codes "1_0__00_") ≡ 1000
-unfolding place_sum
-number-underscores = refl
-
--- more than 128 bits hold
-number-wide : numeral 10 (codes "340282366920938463463374607431768211456") ≡ 340282366920938463463374607431768211456
-unfolding place_sum
-number-wide = refl
-
--- The refusals by base, and their order
-
-row-binary : integer_refusal (codes "0b10") ≡ None
-unfolding integer_tables
-row-binary = refl
-
-row-binary_symbol : integer_refusal (codes "0b/") ≡ Some (over 2 3 UnexpectedChar)
-unfolding integer_tables
-row-binary_symbol = refl
-
-row-octal : integer_refusal (codes "0o17") ≡ None
-unfolding integer_tables
-row-octal = refl
-
-row-octal_digit : integer_refusal (codes "0o8") ≡ Some (at 2 InvalidDigit)
-unfolding integer_tables
-row-octal_digit = refl
-
-row-octal_symbol : integer_refusal (codes "0o/") ≡ Some (over 2 3 UnexpectedChar)
-unfolding integer_tables
-row-octal_symbol = refl
-
-row-octal_no_digits : integer_refusal (codes "0o") ≡ Some (over 2 2 NoDigits)
-unfolding integer_tables
-row-octal_no_digits = refl
-
-row-underscores_alone : integer_refusal (codes "0x_") ≡ Some (over 2 3 NoDigits)
-unfolding integer_tables
-row-underscores_alone = refl
-
-row-letter_e-before_no_digits : integer_refusal (codes "0be") ≡ Some (at 2 IntegerSuffixStartingWithE)
-unfolding integer_tables
-row-letter_e-before_no_digits = refl
-
-row-suffix_before_letter_e : integer_refusal (codes "1e+x") ≡ Some (over 1 4 InvalidSuffix)
-unfolding integer_tables
-row-suffix_before_letter_e = refl
-
-row-letter_before_symbol : integer_refusal (codes "1a ") ≡ Some (over 1 3 InvalidSuffix)
-unfolding integer_tables
-row-letter_before_symbol = refl
-
-row-letter_first : integer_refusal (codes "a1") ≡ Some (at 0 DoesNotStartWithDigit)
-unfolding integer_tables
-row-letter_first = refl
-
-row-underscore_first : integer_refusal (codes "_3") ≡ Some (at 0 DoesNotStartWithDigit)
-unfolding integer_tables
-row-underscore_first = refl
-
--- the last ASCII character
-row-delete : integer_refusal (codes "1" ++ 127 ∷ []) ≡ Some (over 1 2 UnexpectedChar)
-unfolding integer_tables
-row-delete = refl
-
--- The number of an integer, by its base
-
-value-binary : integer_value (record { base = Binary; main = codes "10"; suffix = [] }) ≡ 2
-unfolding place_sum
-value-binary = refl
-
-value-octal : integer_value (record { base = Octal; main = codes "10"; suffix = [] }) ≡ 8
-unfolding place_sum
-value-octal = refl
-
-value-decimal : integer_value (record { base = Decimal; main = codes "10"; suffix = [] }) ≡ 10
-unfolding place_sum
-value-decimal = refl
-
-value-hexadecimal : integer_value (record { base = Hexadecimal; main = codes "10"; suffix = [] }) ≡ 16
-unfolding place_sum
-value-hexadecimal = refl
-
--- The types: the name, and the greatest number
-
-abbrev IsType : IntegerType → List ℕ → ℕ → Type 0
-IsType ty name greatest = (type_name ty ≡ name) × (greatest_of ty ≡ greatest)
-
-type-u8 : IsType U8 (codes "u8") 255
-type-u8 = (refl, refl)
-
-type-u16 : IsType U16 (codes "u16") 65535
-type-u16 = (refl, refl)
-
-type-u32 : IsType U32 (codes "u32") 4294967295
-type-u32 = (refl, refl)
-
-type-u64 : IsType U64 (codes "u64") 18446744073709551615
-type-u64 = (refl, refl)
-
-type-u128 : IsType U128 (codes "u128") 340282366920938463463374607431768211455
-type-u128 = (refl, refl)
-
-type-usize : IsType Usize (codes "usize") 18446744073709551615
-type-usize = (refl, refl)
-
-type-i8 : IsType I8 (codes "i8") 127
-type-i8 = (refl, refl)
-
-type-i16 : IsType I16 (codes "i16") 32767
-type-i16 = (refl, refl)
-
-type-i32 : IsType I32 (codes "i32") 2147483647
-type-i32 = (refl, refl)
-
-type-i64 : IsType I64 (codes "i64") 9223372036854775807
-type-i64 = (refl, refl)
-
-type-i128 : IsType I128 (codes "i128") 170141183460469231731687303715884105727
-type-i128 = (refl, refl)
-
-type-isize : IsType Isize (codes "isize") 9223372036854775807
-type-isize = (refl, refl)
+suffixes :
+    (is_suffix (codes "") ≡ true)
+    × (is_suffix (codes "u8") ≡ true)
+    × (is_suffix (codes "_x") ≡ true)
+    × (is_suffix (codes "__") ≡ true)
+    × (is_suffix (codes "_jürgen") ≡ true)
+    × (is_suffix (codes "_") ≡ false)
+    × (is_suffix (codes "1x") ≡ false)
+    × (is_suffix (codes "peter\"") ≡ false)
+    × (is_suffix (codes "a1_") ≡ true)
+    × (is_suffix (codes "_1") ≡ true)
+    × (is_suffix (codes " ") ≡ false)
+    × (is_suffix (codes "a b") ≡ false)
+    × (is_suffix (codes "🦊") ≡ false)
+unfolding computing
+suffixes = (refl, refl, refl, refl, refl, refl, refl, refl, refl, refl, refl, refl, refl)
+
+suffix_refusals :
+    (suffix_refusal (codes " ") ≡ kind.UnexpectedChar)
+    × (suffix_refusal (codes "_") ≡ kind.InvalidSuffix)
+    × (suffix_refusal (codes "peter\"") ≡ kind.InvalidSuffix)
+    × (suffix_refusal (codes "🦊") ≡ kind.InvalidSuffix)
+    -- the last character of ASCII, and the first behind it
+    × (suffix_refusal (codes "\u{7f}") ≡ kind.UnexpectedChar)
+    × (suffix_refusal (codes "\u{80}") ≡ kind.InvalidSuffix)
+    × (suffix_refusal (codes "5") ≡ kind.UnexpectedChar)
+    × (suffix_refusal (codes "Z ") ≡ kind.InvalidSuffix)
+unfolding computing
+suffix_refusals = (refl, refl, refl, refl, refl, refl, refl, refl)
+
+-- Literals and their parts
+
+literals :
+    Is "0b1111_1111" (parts base.Binary "1111_1111" "")
+    × Is "0o400" (parts base.Octal "400" "")
+    × Is "00b1" (parts base.Decimal "00" "b1")
+    × Is "0_b1" (parts base.Decimal "0_" "b1")
+    × Is "0B1" (parts base.Decimal "0" "B1")
+    × Is "1_000u32" (parts base.Decimal "1_000" "u32")
+    × Is "0xFF_u8" (parts base.Hexadecimal "FF_" "u8")
+    × Is "0x5abcdefgh" (parts base.Hexadecimal "5abcdef" "gh")
+unfolding computing
+literals = (
+  prefixed refl refl refl refl refl refl (λ e. cc),
+  prefixed refl refl refl refl refl refl (λ e. cc),
+  decimal refl refl refl refl refl refl refl refl,
+  decimal refl refl refl refl refl refl refl refl,
+  decimal refl refl refl refl refl refl refl refl,
+  decimal refl refl refl refl refl refl refl refl,
+  prefixed refl refl refl refl refl refl (λ e. cc),
+  prefixed refl refl refl refl refl refl (λ e. cc),
+)
+
+-- Values
+
+numbers :
+    (numeral 2 (codes "1111_1111") ≡ 255)
+    × (numeral 8 (codes "400") ≡ 256)
+    × (numeral 16 (codes "5abcdef") ≡ 95145455)
+    × (numeral 10 (codes "1_0__00_") ≡ 1000)
+    -- more than 128 bits hold
+    × (numeral 10 (codes "340282366920938463463374607431768211456") ≡ 340282366920938463463374607431768211456)
+    × (numeral 16 (codes "fF") ≡ 255)
+    × (numeral 10 (codes "_") ≡ 0)
+unfolding computing
+numbers = (refl, refl, refl, refl, refl, refl, refl)
+
+values :
+    (integer_value (parts base.Binary "10" "") ≡ 2)
+    × (integer_value (parts base.Octal "10" "") ≡ 8)
+    × (integer_value (parts base.Decimal "10" "") ≡ 10)
+    × (integer_value (parts base.Hexadecimal "10" "") ≡ 16)
+    × (integer_value (parts base.Decimal "7_0" "u8") ≡ 70)
+unfolding computing
+values = (refl, refl, refl, refl, refl)
+
+-- Where a text is cut, an integer or not
+
+cuts :
+    (integer_cut (codes "0b12") ≡ parts base.Binary "1" "2")
+    × (integer_cut (codes "0x") ≡ parts base.Hexadecimal "" "")
+    × (integer_cut (codes "0o_9") ≡ parts base.Octal "_" "9")
+    × (integer_cut (codes "0_x") ≡ parts base.Decimal "0_" "x")
+unfolding computing
+cuts = (refl, refl, refl, refl)
+
+-- What the grammar allows, and what not
+
+digits :
+    (is_digit base.Binary 47 ≡ false)
+    × (is_digit base.Binary 48 ≡ true)
+    × (is_digit base.Binary 49 ≡ true)
+    × (is_digit base.Binary 50 ≡ false)
+    × (is_digit base.Octal 47 ≡ false)
+    × (is_digit base.Octal 48 ≡ true)
+    × (is_digit base.Octal 55 ≡ true)
+    × (is_digit base.Octal 56 ≡ false)
+    × (is_digit base.Decimal 47 ≡ false)
+    × (is_digit base.Decimal 57 ≡ true)
+    × (is_digit base.Decimal 58 ≡ false)
+    × (is_digit base.Hexadecimal 57 ≡ true)
+    × (is_digit base.Hexadecimal 65 ≡ true)
+    × (is_digit base.Hexadecimal 70 ≡ true)
+    × (is_digit base.Hexadecimal 71 ≡ false)
+    × (is_digit base.Hexadecimal 97 ≡ true)
+    × (is_digit base.Hexadecimal 102 ≡ true)
+    × (is_digit base.Hexadecimal 103 ≡ false)
+    × (is_digit base.Decimal 95 ≡ false)
+    × (is_digit_or_underscore base.Binary 95 ≡ true)
+    × (is_digit_or_underscore base.Binary 50 ≡ false)
+unfolding computing
+digits = (
+  refl,
+  refl,
+  refl,
+  refl,
+  refl,
+  refl,
+  refl,
+  refl,
+  refl,
+  refl,
+  refl,
+  refl,
+  refl,
+  refl,
+  refl,
+  refl,
+  refl,
+  refl,
+  refl,
+  refl,
+  refl,
+)
+
+-- Texts that are not refused
+
+accepted :
+    Accepted "1_000u32"
+    × Accepted "1_"
+    × Accepted "123hackerman"
+    × Accepted "55f32"
+    × Accepted "0b10"
+    × Accepted "0o17"
+    × Accepted "0xe1"
+    × Accepted "0o7_x"
+    × Accepted "0xE"
+unfolding computing
+accepted = (refl, refl, refl, refl, refl, refl, refl, refl, refl)
+
+-- Refused texts, by the rows of the table
+
+rows-empty : Refused "" (plain kind.Empty)
+unfolding computing
+rows-empty = refl
+
+rows-does_not_start_with_digit :
+    Refused "true" (at 0 kind.DoesNotStartWithDigit)
+    × Refused "a1" (at 0 kind.DoesNotStartWithDigit)
+    × Refused "_3" (at 0 kind.DoesNotStartWithDigit)
+unfolding computing
+rows-does_not_start_with_digit = (refl, refl, refl)
+
+rows-invalid_digit :
+    Refused "0b12" (at 3 kind.InvalidDigit)
+    × Refused "0o8" (at 2 kind.InvalidDigit)
+    × Refused "0b2" (at 2 kind.InvalidDigit)
+unfolding computing
+rows-invalid_digit = (refl, refl, refl)
+
+rows-unexpected_char :
+    Refused "0 " (over 1 2 kind.UnexpectedChar)
+    × Refused "1." (over 1 2 kind.UnexpectedChar)
+    × Refused "0b/" (over 2 3 kind.UnexpectedChar)
+    × Refused "0o/" (over 2 3 kind.UnexpectedChar)
+    -- the last ASCII character
+    × Refused "1\u{7f}" (over 1 2 kind.UnexpectedChar)
+unfolding computing
+rows-unexpected_char = (refl, refl, refl, refl, refl)
+
+rows-invalid_suffix :
+    Refused "1🦊" (over 1 5 kind.InvalidSuffix)
+    × Refused "1e+x" (over 1 4 kind.InvalidSuffix)
+    × Refused "1a " (over 1 3 kind.InvalidSuffix)
+    × Refused "0xg " (over 2 4 kind.InvalidSuffix)
+    × Refused "1\u{80}" (over 1 3 kind.InvalidSuffix)
+unfolding computing
+rows-invalid_suffix = (refl, refl, refl, refl, refl)
+
+rows-integer_suffix_starting_with_e :
+    Refused "1e3" (at 1 kind.IntegerSuffixStartingWithE)
+    -- the prefix counts in the place
+    × Refused "0b1e3" (at 3 kind.IntegerSuffixStartingWithE)
+    × Refused "0be" (at 2 kind.IntegerSuffixStartingWithE)
+    × Refused "1E" (at 1 kind.IntegerSuffixStartingWithE)
+unfolding computing
+rows-integer_suffix_starting_with_e = (refl, refl, refl, refl)
+
+rows-no_digits :
+    Refused "0x" (over 2 2 kind.NoDigits)
+    × Refused "0xg" (over 2 2 kind.NoDigits)
+    × Refused "0o" (over 2 2 kind.NoDigits)
+    × Refused "0x_" (over 2 3 kind.NoDigits)
+unfolding computing
+rows-no_digits = (refl, refl, refl, refl)
+
+-- Types
+
+types :
+    IsType type.U8 "u8" 255
+    × IsType type.U16 "u16" 65535
+    × IsType type.U32 "u32" 4294967295
+    × IsType type.U64 "u64" 18446744073709551615
+    × IsType type.U128 "u128" 340282366920938463463374607431768211455
+    × IsType type.Usize "usize" 18446744073709551615
+    × IsType type.I8 "i8" 127
+    × IsType type.I16 "i16" 32767
+    × IsType type.I32 "i32" 2147483647
+    × IsType type.I64 "i64" 9223372036854775807
+    × IsType type.I128 "i128" 170141183460469231731687303715884105727
+    × IsType type.Isize "isize" 9223372036854775807
+unfolding computing
+types = (
+  (refl, refl),
+  (refl, refl),
+  (refl, refl),
+  (refl, refl),
+  (refl, refl),
+  (refl, refl),
+  (refl, refl),
+  (refl, refl),
+  (refl, refl),
+  (refl, refl),
+  (refl, refl),
+  (refl, refl),
+)

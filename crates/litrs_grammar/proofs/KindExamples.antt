@@ -1,152 +1,139 @@
--- The kinds of refusals: the description of each, whether it is final, and whether it is open; and what is printed.
-use Rattle.std.specs.Prelude.{◌≡◌, ◌++◌, Bool, true, false, List, ℕ, Some, None, codes, refl}
+-- The kinds of refusals by computation: the description of each, whether it is final, and whether it is open; and what is
+-- printed.
+use Prim.Native.String.{String}
+use Rattle.std.specs.Prelude.{◌≡◌, ◌++◌, Bool, true, false, Some, None, codes, refl}
 use Rattle.std.specs.Fmt.{decimal}
 use Rattle.litrs_base.specs.declared.err.ParseErrorKind.{ParseErrorKind}
-use Rattle.litrs_base.specs.declared.err.ParseErrorKind.TheVariants.{Empty, UnexpectedChar, InvalidLiteral, DoesNotStartWithDigit, InvalidDigit, NoDigits, NoExponentDigits, UnknownEscape, UnterminatedEscape, InvalidXEscape, NonAsciiXEscape, UnicodeEscapeInByteLiteral, InvalidStartOfUnicodeEscape, UnicodeEscapeWithoutBrace, NonHexDigitInUnicodeEscape, TooManyDigitInUnicodeEscape, InvalidUnicodeEscapeChar, UnterminatedUnicodeEscape, UnterminatedCharLiteral, OverlongCharLiteral, EmptyCharLiteral, UnterminatedByteLiteral, OverlongByteLiteral, EmptyByteLiteral, NonAsciiInByteLiteral, UnescapedSingleQuote, UnescapedSpecialWhitespace, DoesNotStartWithQuote, UnterminatedRawString, UnterminatedString, InvalidStringLiteralStart, InvalidByteLiteralStart, InvalidByteStringLiteralStart, InvalidCStringLiteralStart, DisallowedNulEscape, NulByte, CarriageReturn, TooManyHashes, InvalidSuffix, UnexpectedIntegerLit, IntegerSuffixStartingWithE, OutOfMemory}
+use Rattle.litrs_base.specs.declared.err.ParseErrorKind.TheVariants as kind
 use Rattle.litrs_base.specs.Kind.{kind_text}
-use Rattle.litrs_base.specs.Refusal.{plain, over, refusal_text}
+use Rattle.litrs_base.specs.Refusal.{plain, over, at, moved, refusal_text}
 use Rattle.litrs_base.specs.Finality.{is_final, is_open}
+use Rattle.litrs_grammar.proofs.Computing.{computing}
 
-abbrev IsKind : ParseErrorKind → List ℕ → (final opened : Bool) → Type 0
-IsKind kind text final opened = (kind_text kind ≡ text) × (is_final kind ≡ final) × (is_open kind ≡ opened)
+-- the description of a kind, and whether it is final and open
+abbrev IsKind : ParseErrorKind → String → (final opened : Bool) → Type 0
+IsKind kind text final opened = (kind_text kind ≡ codes text) × (is_final kind ≡ final) × (is_open kind ≡ opened)
 
-empty : IsKind Empty (codes "input is empty") false false
-empty = (refl, refl, refl)
+-- Final kinds
 
-unexpected_char : IsKind UnexpectedChar (codes "unexpected character") true false
-unexpected_char = (refl, refl, refl)
+final_kinds :
+    IsKind kind.UnexpectedChar "unexpected character" true false
+    × IsKind kind.DoesNotStartWithDigit "number literal does not start with decimal digit" true false
+    × IsKind kind.InvalidDigit "integer literal contains a digit invalid for its base" true false
+    × IsKind kind.UnknownEscape "unknown escape" true false
+    × IsKind kind.InvalidXEscape "invalid `\\x` escape: not followed by two hex digits" true false
+    × IsKind kind.NonAsciiXEscape "`\\x` escape in char/string literal exceed ASCII range" true false
+    × IsKind kind.UnicodeEscapeInByteLiteral "`\\u{...}` escape in byte (string) literal not allowed" true false
+    × IsKind kind.InvalidStartOfUnicodeEscape "invalid start of `\\u{...}` escape" true false
+    × IsKind kind.NonHexDigitInUnicodeEscape "non-hex digit found in `\\u{...}` escape" true false
+    × IsKind kind.TooManyDigitInUnicodeEscape "more than six digits in `\\u{...}` escape" true false
+    × IsKind kind.InvalidUnicodeEscapeChar "value specified in `\\u{...}` escape is not a valid char" true false
+    × IsKind kind.OverlongCharLiteral "character literal contains more than one character" true false
+    × IsKind kind.EmptyCharLiteral "empty character literal" true false
+    × IsKind kind.OverlongByteLiteral "byte literal contains more than one byte" true false
+    × IsKind kind.EmptyByteLiteral "empty byte literal" true false
+    × IsKind kind.NonAsciiInByteLiteral "non ASCII character in byte (string) literal" true false
+    × IsKind kind.UnescapedSingleQuote "character literal contains unescaped ' character" true false
+    × IsKind kind.UnescapedSpecialWhitespace "unescaped newline (\\n), tab (\\t) or cr (\\r) character" true false
+    × IsKind kind.DoesNotStartWithQuote "invalid start for char/byte/string literal" true false
+    × IsKind kind.InvalidStringLiteralStart "invalid start for string literal" true false
+    × IsKind kind.DisallowedNulEscape "`\\0` escape not allowed inside C string literal" true false
+    × IsKind kind.NulByte "nul byte not allowed inside C string literal" true false
+    × IsKind kind.CarriageReturn "`\\r` not allowed in string literals" true false
+    × IsKind kind.TooManyHashes "raw string literal has too many # symbols (max 255)" true false
+    × IsKind kind.IntegerSuffixStartingWithE "integer literal suffix must not start with 'e' or 'E'" true false
+unfolding computing
+final_kinds = (
+  (refl, refl, refl),
+  (refl, refl, refl),
+  (refl, refl, refl),
+  (refl, refl, refl),
+  (refl, refl, refl),
+  (refl, refl, refl),
+  (refl, refl, refl),
+  (refl, refl, refl),
+  (refl, refl, refl),
+  (refl, refl, refl),
+  (refl, refl, refl),
+  (refl, refl, refl),
+  (refl, refl, refl),
+  (refl, refl, refl),
+  (refl, refl, refl),
+  (refl, refl, refl),
+  (refl, refl, refl),
+  (refl, refl, refl),
+  (refl, refl, refl),
+  (refl, refl, refl),
+  (refl, refl, refl),
+  (refl, refl, refl),
+  (refl, refl, refl),
+  (refl, refl, refl),
+  (refl, refl, refl),
+)
 
-invalid_literal : IsKind InvalidLiteral (codes "invalid literal") false false
-invalid_literal = (refl, refl, refl)
+-- Open kinds
 
-does_not_start_with_digit : IsKind DoesNotStartWithDigit (codes "number literal does not start with decimal digit") true false
-does_not_start_with_digit = (refl, refl, refl)
+open_kinds :
+    IsKind kind.UnterminatedRawString "unterminated raw (byte) string literal" false true
+    × IsKind kind.UnterminatedString "unterminated (byte) string literal" false true
+unfolding computing
+open_kinds = (
+  (refl, refl, refl),
+  (refl, refl, refl),
+)
 
-invalid_digit : IsKind InvalidDigit (codes "integer literal contains a digit invalid for its base") true false
-invalid_digit = (refl, refl, refl)
+-- Kinds that are neither
 
-no_digits : IsKind NoDigits (codes "integer literal does not contain any digits") false false
-no_digits = (refl, refl, refl)
+other_kinds :
+    IsKind kind.Empty "input is empty" false false
+    × IsKind kind.InvalidLiteral "invalid literal" false false
+    × IsKind kind.NoDigits "integer literal does not contain any digits" false false
+    × IsKind kind.NoExponentDigits "exponent of floating point literal does not contain any digits" false false
+    × IsKind kind.UnterminatedEscape "unterminated escape: input ended too soon" false false
+    × IsKind kind.UnicodeEscapeWithoutBrace "`Unicode \\u{...}` escape without opening brace" false false
+    × IsKind kind.UnterminatedUnicodeEscape "unterminated `\\u{...}` escape" false false
+    × IsKind kind.UnterminatedCharLiteral "character literal is not terminated" false false
+    × IsKind kind.UnterminatedByteLiteral "byte literal is not terminated" false false
+    × IsKind kind.InvalidByteLiteralStart "invalid start for byte literal" false false
+    × IsKind kind.InvalidByteStringLiteralStart "invalid start for byte string literal" false false
+    × IsKind kind.InvalidCStringLiteralStart "invalid start for C string literal" false false
+    × IsKind kind.InvalidSuffix "literal suffix is not a valid identifier" false false
+    × IsKind kind.UnexpectedIntegerLit "expected float literal, but found integer" false false
+    × IsKind kind.OutOfMemory "out of memory" false false
+unfolding computing
+other_kinds = (
+  (refl, refl, refl),
+  (refl, refl, refl),
+  (refl, refl, refl),
+  (refl, refl, refl),
+  (refl, refl, refl),
+  (refl, refl, refl),
+  (refl, refl, refl),
+  (refl, refl, refl),
+  (refl, refl, refl),
+  (refl, refl, refl),
+  (refl, refl, refl),
+  (refl, refl, refl),
+  (refl, refl, refl),
+  (refl, refl, refl),
+  (refl, refl, refl),
+)
 
-no_exponent_digits : IsKind NoExponentDigits (codes "exponent of floating point literal does not contain any digits") false false
-no_exponent_digits = (refl, refl, refl)
+-- Spans
 
-unknown_escape : IsKind UnknownEscape (codes "unknown escape") true false
-unknown_escape = (refl, refl, refl)
-
-unterminated_escape : IsKind UnterminatedEscape (codes "unterminated escape: input ended too soon") false false
-unterminated_escape = (refl, refl, refl)
-
-invalid_x_escape : IsKind InvalidXEscape (codes "invalid `\\x` escape: not followed by two hex digits") true false
-invalid_x_escape = (refl, refl, refl)
-
-non_ascii_x_escape : IsKind NonAsciiXEscape (codes "`\\x` escape in char/string literal exceed ASCII range") true false
-non_ascii_x_escape = (refl, refl, refl)
-
-unicode_escape_in_byte_literal : IsKind UnicodeEscapeInByteLiteral (codes "`\\u{...}` escape in byte (string) literal not allowed") true false
-unicode_escape_in_byte_literal = (refl, refl, refl)
-
-invalid_start_of_unicode_escape : IsKind InvalidStartOfUnicodeEscape (codes "invalid start of `\\u{...}` escape") true false
-invalid_start_of_unicode_escape = (refl, refl, refl)
-
-unicode_escape_without_brace : IsKind UnicodeEscapeWithoutBrace (codes "`Unicode \\u{...}` escape without opening brace") false false
-unicode_escape_without_brace = (refl, refl, refl)
-
-non_hex_digit_in_unicode_escape : IsKind NonHexDigitInUnicodeEscape (codes "non-hex digit found in `\\u{...}` escape") true false
-non_hex_digit_in_unicode_escape = (refl, refl, refl)
-
-too_many_digit_in_unicode_escape : IsKind TooManyDigitInUnicodeEscape (codes "more than six digits in `\\u{...}` escape") true false
-too_many_digit_in_unicode_escape = (refl, refl, refl)
-
-invalid_unicode_escape_char : IsKind InvalidUnicodeEscapeChar (codes "value specified in `\\u{...}` escape is not a valid char") true false
-invalid_unicode_escape_char = (refl, refl, refl)
-
-unterminated_unicode_escape : IsKind UnterminatedUnicodeEscape (codes "unterminated `\\u{...}` escape") false false
-unterminated_unicode_escape = (refl, refl, refl)
-
-unterminated_char_literal : IsKind UnterminatedCharLiteral (codes "character literal is not terminated") false false
-unterminated_char_literal = (refl, refl, refl)
-
-overlong_char_literal : IsKind OverlongCharLiteral (codes "character literal contains more than one character") true false
-overlong_char_literal = (refl, refl, refl)
-
-empty_char_literal : IsKind EmptyCharLiteral (codes "empty character literal") true false
-empty_char_literal = (refl, refl, refl)
-
-unterminated_byte_literal : IsKind UnterminatedByteLiteral (codes "byte literal is not terminated") false false
-unterminated_byte_literal = (refl, refl, refl)
-
-overlong_byte_literal : IsKind OverlongByteLiteral (codes "byte literal contains more than one byte") true false
-overlong_byte_literal = (refl, refl, refl)
-
-empty_byte_literal : IsKind EmptyByteLiteral (codes "empty byte literal") true false
-empty_byte_literal = (refl, refl, refl)
-
-non_ascii_in_byte_literal : IsKind NonAsciiInByteLiteral (codes "non ASCII character in byte (string) literal") true false
-non_ascii_in_byte_literal = (refl, refl, refl)
-
-unescaped_single_quote : IsKind UnescapedSingleQuote (codes "character literal contains unescaped ' character") true false
-unescaped_single_quote = (refl, refl, refl)
-
-unescaped_special_whitespace : IsKind UnescapedSpecialWhitespace (codes "unescaped newline (\\n), tab (\\t) or cr (\\r) character") true false
-unescaped_special_whitespace = (refl, refl, refl)
-
-does_not_start_with_quote : IsKind DoesNotStartWithQuote (codes "invalid start for char/byte/string literal") true false
-does_not_start_with_quote = (refl, refl, refl)
-
-unterminated_raw_string : IsKind UnterminatedRawString (codes "unterminated raw (byte) string literal") false true
-unterminated_raw_string = (refl, refl, refl)
-
-unterminated_string : IsKind UnterminatedString (codes "unterminated (byte) string literal") false true
-unterminated_string = (refl, refl, refl)
-
-invalid_string_literal_start : IsKind InvalidStringLiteralStart (codes "invalid start for string literal") true false
-invalid_string_literal_start = (refl, refl, refl)
-
-invalid_byte_literal_start : IsKind InvalidByteLiteralStart (codes "invalid start for byte literal") false false
-invalid_byte_literal_start = (refl, refl, refl)
-
-invalid_byte_string_literal_start : IsKind InvalidByteStringLiteralStart (codes "invalid start for byte string literal") false false
-invalid_byte_string_literal_start = (refl, refl, refl)
-
-invalid_c_string_literal_start : IsKind InvalidCStringLiteralStart (codes "invalid start for C string literal") false false
-invalid_c_string_literal_start = (refl, refl, refl)
-
-disallowed_nul_escape : IsKind DisallowedNulEscape (codes "`\\0` escape not allowed inside C string literal") true false
-disallowed_nul_escape = (refl, refl, refl)
-
-nul_byte : IsKind NulByte (codes "nul byte not allowed inside C string literal") true false
-nul_byte = (refl, refl, refl)
-
-carriage_return : IsKind CarriageReturn (codes "`\\r` not allowed in string literals") true false
-carriage_return = (refl, refl, refl)
-
-too_many_hashes : IsKind TooManyHashes (codes "raw string literal has too many # symbols (max 255)") true false
-too_many_hashes = (refl, refl, refl)
-
-invalid_suffix : IsKind InvalidSuffix (codes "literal suffix is not a valid identifier") false false
-invalid_suffix = (refl, refl, refl)
-
-unexpected_integer_lit : IsKind UnexpectedIntegerLit (codes "expected float literal, but found integer") false false
-unexpected_integer_lit = (refl, refl, refl)
-
-integer_suffix_starting_with_e : IsKind IntegerSuffixStartingWithE (codes "integer literal suffix must not start with 'e' or 'E'") true false
-integer_suffix_starting_with_e = (refl, refl, refl)
-
-out_of_memory : IsKind OutOfMemory (codes "out of memory") false false
-out_of_memory = (refl, refl, refl)
+spans :
+    ((over 1 2 kind.Empty).span ≡ Some (record { start = 1; end = 2 }))
+    × ((plain kind.Empty).span ≡ None)
+    × ((at 3 kind.Empty).span ≡ Some (record { start = 3; end = 4 }))
+    × (moved 5 (over 1 3 kind.Empty) ≡ over 6 8 kind.Empty)
+    × (moved 5 (plain kind.InvalidDigit) ≡ plain kind.InvalidDigit)
+unfolding computing
+spans = (refl, refl, refl, refl, refl)
 
 -- What is printed
 
-printed-span : refusal_text (over 1 11 InvalidUnicodeEscapeChar)
-    ≡ codes "value specified in `\\u{...}` escape is not a valid char (at " ++ decimal 1 ++ codes ".." ++ decimal 11 ++ codes ")"
-printed-span = refl
-
-printed-plain : refusal_text (plain Empty) ≡ codes "input is empty"
-printed-plain = refl
-
-span-ends : (over 1 2 Empty).span ≡ Some (record { start = 1; end = 2 })
-span-ends = refl
-
-span-none : (plain Empty).span ≡ None
-span-none = refl
+printed :
+    (refusal_text (over 1 11 kind.InvalidUnicodeEscapeChar) ≡ codes "value specified in `\\u{...}` escape is not a valid char (at " ++ decimal 1 ++ codes ".." ++ decimal 11 ++ codes ")")
+    × (refusal_text (plain kind.Empty) ≡ codes "input is empty")
+unfolding computing
+printed = (refl, refl)

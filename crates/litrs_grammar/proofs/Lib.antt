@@ -11,6 +11,7 @@ pub mod RawSpans
 pub mod RawKinds
 pub mod RawClosings
 pub mod RawContinuation
+pub mod RawScans
 pub mod IntegerLaws
 pub mod IntegerSpans
 pub mod IntegerContinuation
@@ -29,7 +30,10 @@ pub mod CharByteLaws
 pub mod Computing
 pub mod BoolLaws
 pub mod LiteralLaws
+pub mod ValueLaws
+pub mod AllocationLaws
 pub mod NumberLaws
+pub mod TextLaws
 pub mod LiteralSpans
 pub mod DispatchContinuation
 pub mod StringContinuation
@@ -46,4 +50,5 @@ pub mod KindExamples
 pub mod LiteralExamples
 pub mod QuotedExamples
 pub mod RawExamples
+pub mod TextExamples
 pub mod Refused

@@ -79,7 +79,7 @@ unfolding dispatch
 dispatch_bool false = refl
 dispatch_bool true = refl
 
-float_digit : (t : List ℕ) (d : FloatParts) → IsFloatOf t d → first_passes is_ascii_digit t ≡ true
+pub float_digit : (t : List ℕ) (d : FloatParts) → IsFloatOf t d → first_passes is_ascii_digit t ≡ true
 float_digit t d r = ap (first_passes is_ascii_digit) (sym r.spells) ∙ (starts_digit d.integer _ r.grammar.integer).1
 
 dispatch_char : (t : List ℕ) (d : CharParts) → IsCharLiteral char_kind t d → dispatch t ≡ parsed_as char_literal

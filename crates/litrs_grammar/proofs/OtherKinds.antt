@@ -8,22 +8,11 @@ use Rattle.litrs_base.specs.Refusal.{plain, at, over}
 use Rattle.litrs_grammar.specs.Escape.{simple_escape, unicode_escape}
 use Rattle.litrs_grammar.specs.CharByte.{plain_char, escaped_char}
 use Rattle.litrs_grammar.specs.Literal.{quoted_parts, raw_parts, a_bool, an_integer, a_float, a_char, a_byte, a_string, a_byte_string, a_c_string, float_literal, byte_literal, byte_string_literal, literal_parse, kind_parse}
-use Rattle.litrs_grammar.specs.LiteralRefusals.{dispatch}
-use Rattle.litrs_grammar.specs.Integer.{integer_cut, integer_refusal}
-use Rattle.litrs_grammar.specs.Float.{float_cut, float_refusal, is_exponent}
-use Rattle.litrs_grammar.specs.Raw.{raw_refusal, raw_body_refusal}
-use Rattle.litrs_grammar.specs.Suffix.{is_suffix}
 use Rattle.litrs_grammar.specs.ContinuationLaws.{OtherKindsMayGoOn}
 use Rattle.litrs_grammar.proofs.Computing.{computing}
-use Rattle.std.specs.Char.{encode_utf8}
-use Rattle.unicode_ident.proofs.Computing.{unicode_ident}
-
-unfoldable tables : Unit {0}
-unfolding computing dispatch integer_cut integer_refusal float_refusal float_cut is_exponent raw_refusal raw_body_refusal is_suffix unicode_ident encode_utf8
-tables = tt
 
 pub other_kinds_may_go_on : OtherKindsMayGoOn
-unfolding tables
+unfolding computing
 other_kinds_may_go_on Empty other memory = (literal_parse, codes "", plain Empty, refl, refl, (codes "true", a_bool true, refl, refl))
 other_kinds_may_go_on UnexpectedChar other memory = cc
 other_kinds_may_go_on InvalidLiteral other memory = (literal_parse, codes "tru", plain InvalidLiteral, refl, refl, (codes "e", a_bool true, refl, refl))

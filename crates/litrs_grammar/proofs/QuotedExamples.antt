@@ -1,271 +1,268 @@
--- Quoted strings, byte strings and C strings: each row of the table of refusals and each form, by computation. The items
--- are written out.
-use Rattle.std.specs.Prelude.{◌≡◌, ℕ, List, [], ◌∷◌, ◌++◌, map, codes, refl, false, encode_utf8_all, None}
-use Rattle.litrs_grammar.specs.StringKind.{string_kind, byte_string_kind, c_string_kind}
-use Rattle.litrs_base.specs.declared.err.ParseErrorKind.TheVariants.{UnexpectedChar, UnknownEscape, UnterminatedEscape, NonAsciiXEscape, InvalidStartOfUnicodeEscape, TooManyDigitInUnicodeEscape, UnterminatedUnicodeEscape, NonAsciiInByteLiteral, UnterminatedString, DisallowedNulEscape, NulByte, CarriageReturn, InvalidSuffix}
+-- Quoted strings, byte strings and C strings by computation: forms, values, and each row of the table of refusals. The
+-- items are written out.
+use Prim.Native.String.{String}
+use Rattle.std.specs.Prelude.{◌≡◌, ℕ, List, [], ◌∷◌, ◌++◌, map, None, codes, refl, true, false, encode_utf8_all}
+use Rattle.litrs_base.specs.declared.err.ParseErrorKind.TheVariants as kind
+use Rattle.litrs_base.specs.Refusal.{Refusal, plain, at, over}
+use Rattle.litrs_base.specs.Characters.{is_blank}
+use Rattle.litrs_grammar.specs.StringKind.{StringKind, string_kind, byte_string_kind, c_string_kind}
 use Rattle.litrs_grammar.specs.Escape.{string_switches, simple_escape, hex_escape, unicode_escape, byte_string_switches, c_string_switches}
-use Rattle.litrs_base.specs.Refusal.{plain, at, over}
 use Rattle.litrs_grammar.specs.Quoted.{Item, plain_item, escape_item, continuation, body_value, is_body, IsQuotedLiteral, IsQuotedLiteralRefusal, rest_refusal, stand_before, is_plain}
-use Rattle.litrs_grammar.proofs.Computing.{computing}
+use Rattle.litrs_grammar.proofs.Computing.{computing, quoted, refused_behind}
 
 -- characters that stand for themselves
-abbrev plains : List ℕ → List Item
-plains t = map plain_item t
+abbrev plains : String → List Item
+plains text = map plain_item (codes text)
 
--- a continuation that ends the text
-open_continuation : IsQuotedLiteralRefusal string_kind (codes "\"foo\\\n  ") (plain UnterminatedString)
+-- the text is a quoted string of the kind, with these items, this suffix and this value
+abbrev Is : StringKind → String → List Item → String → List ℕ → Type 0
+Is kind text items suffix value =
+    IsQuotedLiteral kind (codes text) (record { items = items; suffix = codes suffix }) × (body_value items ≡ value)
+
+-- the text is refused as one
+abbrev Refused : StringKind → String → Refusal → Type 0
+Refused kind text refusal = IsQuotedLiteralRefusal kind (codes text) refusal
+
+-- Literals, their parts and values
+
+literals :
+    Is string_kind "\"ab\"" (plains "ab") "" (codes "ab")
+    × Is string_kind "\"a\"_x" (plains "a") "_x" (codes "a")
+    × Is string_kind "\"\0\"" (plain_item 0 ∷ []) "" (0 ∷ [])
+    × Is c_string_kind "c\"a\\x0cb\\\\\"_jürgen" (plain_item 97 ∷ escape_item (hex_escape 48 99) ∷ plain_item 98 ∷ escape_item (simple_escape 92) ∷ []) "_jürgen" (0x61 ∷ 0x0C ∷ 0x62 ∷ 0x5C ∷ [])
+    × Is c_string_kind "c\"é\\xFF\"" (plains "é" ++ escape_item (hex_escape 70 70) ∷ []) "" (0xC3 ∷ 0xA9 ∷ 0xFF ∷ [])
+    × Is byte_string_kind "b\"\\xFFa\\t\"" (escape_item (hex_escape 70 70) ∷ plain_item 97 ∷ escape_item (simple_escape 116) ∷ []) "" (0xFF ∷ 0x61 ∷ 0x09 ∷ [])
+    × Is c_string_kind "c\"\\u{1_F6_02_____}\"" (escape_item (unicode_escape (codes "1_F6_02_____")) ∷ []) "" (encode_utf8_all (codes "😂"))
+    -- 0 where NUL is allowed
+    × Is string_kind "\"\\u{0}\"" (escape_item (unicode_escape (codes "0")) ∷ []) "" (0 ∷ [])
+    × Is byte_string_kind "b\"\0\"" (plain_item 0 ∷ []) "" (0 ∷ [])
+    -- LF and tab may stand for themselves
+    × Is string_kind "\"\n\t\"" (plains "\n\t") "" (codes "\n\t")
+    × Is byte_string_kind "b\"\n\"" (plains "\n") "" (codes "\n")
+    × Is c_string_kind "c\"\"" [] "" []
 unfolding computing
-open_continuation =
-    record { items = plains (codes "foo"); rest = codes "\\\n  "; cause = plain UnterminatedString; spells = refl; taken = refl; told = refl; placed = refl }
+literals = (
+  (quoted refl refl refl, refl),
+  (quoted refl refl refl, refl),
+  (quoted refl refl refl, refl),
+  (quoted refl refl refl, refl),
+  (quoted refl refl refl, refl),
+  (quoted refl refl refl, refl),
+  (quoted refl refl refl, refl),
+  (quoted refl refl refl, refl),
+  (quoted refl refl refl, refl),
+  (quoted refl refl refl, refl),
+  (quoted refl refl refl, refl),
+  (quoted refl refl refl, refl),
+)
 
--- no closing quote
-open_string : IsQuotedLiteralRefusal string_kind (codes "\"ab") (plain UnterminatedString)
+continuations :
+    -- a continuation takes all spaces, tabs and LFs, and no other blank
+    Is string_kind "\"foo\\\n\t\n \n\tbar\"" (plains "foo" ++ continuation (codes "\t\n \n\t") ∷ plains "bar") "" (codes "foobar")
+    × Is string_kind "\"foo\\\n\u{85}bar\"" (plains "foo" ++ continuation [] ∷ plain_item 0x85 ∷ plains "bar") "" (encode_utf8_all (codes "foo\u{85}bar"))
+    × Is string_kind "\"foo\\\n  bar\"" (plains "foo" ++ continuation (codes "  ") ∷ plains "bar") "" (codes "foobar")
+    -- no-break space, vertical tab and form feed are no blanks
+    × Is string_kind "\"a\\\n\u{a0}\"" (plain_item 97 ∷ continuation [] ∷ plains "\u{a0}") "" (encode_utf8_all (codes "a\u{a0}"))
+    × Is string_kind "\"a\\\n\u{b}\"" (plain_item 97 ∷ continuation [] ∷ plains "\u{b}") "" (encode_utf8_all (codes "a\u{b}"))
+    × Is string_kind "\"a\\\n\u{c}\"" (plain_item 97 ∷ continuation [] ∷ plains "\u{c}") "" (encode_utf8_all (codes "a\u{c}"))
+    × Is byte_string_kind "b\"\\\n \\\n\"" (continuation (codes " ") ∷ continuation [] ∷ []) "" []
 unfolding computing
-open_string =
-    record { items = plains (codes "ab"); rest = []; cause = plain UnterminatedString; spells = refl; taken = refl; told = refl; placed = refl }
+continuations = (
+  (quoted refl refl refl, refl),
+  (quoted refl refl refl, refl),
+  (quoted refl refl refl, refl),
+  (quoted refl refl refl, refl),
+  (quoted refl refl refl, refl),
+  (quoted refl refl refl, refl),
+  (quoted refl refl refl, refl),
+)
 
-open_behind_line_feed : IsQuotedLiteralRefusal string_kind (codes "\"\\n\n") (plain UnterminatedString)
+-- What the grammar allows, and what not
+
+blanks :
+    (is_blank 32 ≡ true)
+    × (is_blank 9 ≡ true)
+    × (is_blank 10 ≡ true)
+    × (is_blank 13 ≡ false)
+    × (is_blank 0xA0 ≡ false)
+    × (is_blank 11 ≡ false)
+    × (is_blank 12 ≡ false)
+    × (is_blank 0x85 ≡ false)
+    × (is_blank 0 ≡ false)
+    × (is_blank 0x2028 ≡ false)
 unfolding computing
-open_behind_line_feed =
-    record { items = escape_item (simple_escape 110) ∷ plain_item 10 ∷ []; rest = []; cause = plain UnterminatedString; spells = refl; taken = refl; told = refl; placed = refl }
+blanks = (refl, refl, refl, refl, refl, refl, refl, refl, refl, refl)
 
--- an escape is read without the last character of the text
-escape_at_the_end : IsQuotedLiteralRefusal string_kind (codes "\"\\n") (over 1 2 UnterminatedEscape)
+characters_not_allowed :
+    (is_plain string_switches 34 ≡ false)
+    × (is_plain string_switches 92 ≡ false)
+    × (is_plain string_switches 13 ≡ false)
+    × (is_plain byte_string_switches 128 ≡ false)
+    × (is_plain c_string_switches 0 ≡ false)
 unfolding computing
-escape_at_the_end =
-    record { items = []; rest = codes "\\n"; cause = at 0 UnterminatedEscape; spells = refl; taken = refl; told = refl; placed = refl }
+characters_not_allowed = (refl, refl, refl, refl, refl)
 
-backslash_at_the_end : IsQuotedLiteralRefusal string_kind (codes "\"\\") (over 1 2 UnterminatedEscape)
+characters_allowed :
+    (is_plain string_switches 10 ≡ true)
+    × (is_plain string_switches 0 ≡ true)
+    × (is_plain string_switches 39 ≡ true)
+    × (is_plain byte_string_switches 127 ≡ true)
+    × (is_plain c_string_switches 1 ≡ true)
+    × (is_plain c_string_switches 128 ≡ true)
 unfolding computing
-backslash_at_the_end =
-    record { items = []; rest = codes "\\"; cause = at 0 UnterminatedEscape; spells = refl; taken = refl; told = refl; placed = refl }
+characters_allowed = (refl, refl, refl, refl, refl, refl)
 
-wide_at_the_end : IsQuotedLiteralRefusal string_kind (codes "\"\\é") (over 1 2 UnterminatedEscape)
+not_bodies :
+    (is_body string_switches (continuation [] ∷ plain_item 32 ∷ []) ≡ false)
+    × (is_body string_switches (continuation (codes " ") ∷ plain_item 9 ∷ []) ≡ false)
+    × (is_body string_switches (continuation (codes "x") ∷ []) ≡ false)
+    × (is_body string_switches (continuation (codes "\r") ∷ []) ≡ false)
+    × (is_body string_switches (plain_item 97 ∷ plain_item 34 ∷ []) ≡ false)
+    × (is_body string_switches (continuation [] ∷ plain_item 97 ∷ plain_item 13 ∷ []) ≡ false)
 unfolding computing
-wide_at_the_end =
-    record { items = []; rest = codes "\\é"; cause = at 0 UnterminatedEscape; spells = refl; taken = refl; told = refl; placed = refl }
+not_bodies = (refl, refl, refl, refl, refl, refl)
 
-brace_at_the_end : IsQuotedLiteralRefusal string_kind (codes "\"\\u{41}") (over 1 6 UnterminatedUnicodeEscape)
+-- Rests that no row fits, as an item or the end stands there
+
+accepted :
+    (rest_refusal string_switches (codes "a") ≡ None)
+    × (rest_refusal string_switches (codes "\"x") ≡ None)
+    × (rest_refusal string_switches (codes "\\\n b") ≡ None)
+    × (rest_refusal string_switches (codes "\\n\"") ≡ None)
+    × (rest_refusal string_switches (codes "\\u{0}\"") ≡ None)
 unfolding computing
-brace_at_the_end =
-    record { items = []; rest = codes "\\u{41}"; cause = over 0 5 UnterminatedUnicodeEscape; spells = refl; taken = refl; told = refl; placed = refl }
+accepted = (refl, refl, refl, refl, refl)
 
-no_closing_brace : IsQuotedLiteralRefusal string_kind (codes "\"\\u{12\"") (over 1 6 UnterminatedUnicodeEscape)
+-- Items that do not stand before a rest
+
+not_before :
+    (stand_before string_switches [] (continuation [] ∷ []) ≡ false)
+    × (stand_before string_switches [] (escape_item (simple_escape 110) ∷ []) ≡ false)
+    × (stand_before string_switches (codes " a") (continuation [] ∷ []) ≡ false)
+    × (stand_before string_switches (codes "a") (plain_item 13 ∷ []) ≡ false)
+    × (stand_before string_switches (codes "a") (plain_item 97 ∷ plain_item 13 ∷ []) ≡ false)
+    × (stand_before string_switches (codes "\ta") (continuation [] ∷ []) ≡ false)
 unfolding computing
-no_closing_brace =
-    record { items = []; rest = codes "\\u{12\""; cause = over 0 5 UnterminatedUnicodeEscape; spells = refl; taken = refl; told = refl; placed = refl }
+not_before = (refl, refl, refl, refl, refl, refl)
 
-high_hex : IsQuotedLiteralRefusal string_kind (codes "\"\\x80\"") (over 1 5 NonAsciiXEscape)
+before :
+    (stand_before string_switches (codes "\r") (continuation (codes " ") ∷ []) ≡ true)
+    × (stand_before string_switches (codes "a") (escape_item (simple_escape 110) ∷ []) ≡ true)
+    × (stand_before string_switches [] (plain_item 97 ∷ []) ≡ true)
 unfolding computing
-high_hex =
-    record { items = []; rest = codes "\\x80\""; cause = over 0 4 NonAsciiXEscape; spells = refl; taken = refl; told = refl; placed = refl }
+before = (refl, refl, refl)
 
-high_hex_later : IsQuotedLiteralRefusal string_kind (codes "\"నక్క\\xB0\"") (over 13 17 NonAsciiXEscape)
+-- Refused texts, by the rows of the table
+
+rows-unterminated_string :
+    -- a continuation that ends the text
+    Refused string_kind "\"foo\\\n  " (plain kind.UnterminatedString)
+    × Refused string_kind "\"ab" (plain kind.UnterminatedString)
+    × Refused string_kind "\"\\n\n" (plain kind.UnterminatedString)
+    × Refused string_kind "\"a\\\n  b" (plain kind.UnterminatedString)
+    × Refused string_kind "\"" (plain kind.UnterminatedString)
+    × Refused string_kind "\"\\\n\t\n" (plain kind.UnterminatedString)
 unfolding computing
-high_hex_later =
-    record { items = plains (codes "నక్క"); rest = codes "\\xB0\""; cause = over 0 4 NonAsciiXEscape; spells = refl; taken = refl; told = refl; placed = refl }
+rows-unterminated_string = (
+  refused_behind (plains "foo") (codes "\\\n  ") (plain kind.UnterminatedString) refl refl refl refl,
+  refused_behind (plains "ab") [] (plain kind.UnterminatedString) refl refl refl refl,
+  refused_behind (escape_item (simple_escape 110) ∷ plain_item 10 ∷ []) [] (plain kind.UnterminatedString) refl refl refl refl,
+  refused_behind (plain_item 97 ∷ continuation (codes "  ") ∷ plain_item 98 ∷ []) [] (plain kind.UnterminatedString) refl refl refl refl,
+  refused_behind [] [] (plain kind.UnterminatedString) refl refl refl refl,
+  refused_behind [] (codes "\\\n\t\n") (plain kind.UnterminatedString) refl refl refl refl,
+)
 
-no_digit : IsQuotedLiteralRefusal string_kind (codes "\"🦊\\u{}a\"") (over 8 9 InvalidStartOfUnicodeEscape)
+rows-unterminated_escape :
+    -- an escape is parsed without the last character of the text
+    Refused string_kind "\"\\n" (over 1 2 kind.UnterminatedEscape)
+    × Refused string_kind "\"\\" (over 1 2 kind.UnterminatedEscape)
+    × Refused string_kind "\"\\é" (over 1 2 kind.UnterminatedEscape)
 unfolding computing
-no_digit =
-    record { items = plains (codes "🦊"); rest = codes "\\u{}a\""; cause = at 3 InvalidStartOfUnicodeEscape; spells = refl; taken = refl; told = refl; placed = refl }
+rows-unterminated_escape = (
+  refused_behind [] (codes "\\n") (at 0 kind.UnterminatedEscape) refl refl refl refl,
+  refused_behind [] (codes "\\") (at 0 kind.UnterminatedEscape) refl refl refl refl,
+  refused_behind [] (codes "\\é") (at 0 kind.UnterminatedEscape) refl refl refl refl,
+)
 
-seventh_digit : IsQuotedLiteralRefusal string_kind (codes "\"నక్క\\u{1234567}🦊\"") (over 22 23 TooManyDigitInUnicodeEscape)
+rows-non_ascii_x_escape :
+    Refused string_kind "\"\\x80\"" (over 1 5 kind.NonAsciiXEscape)
+    × Refused string_kind "\"నక్క\\xB0\"" (over 13 17 kind.NonAsciiXEscape)
 unfolding computing
-seventh_digit =
-    record { items = plains (codes "నక్క"); rest = codes "\\u{1234567}🦊\""; cause = at 9 TooManyDigitInUnicodeEscape; spells = refl; taken = refl; told = refl; placed = refl }
+rows-non_ascii_x_escape = (
+  refused_behind [] (codes "\\x80\"") (over 0 4 kind.NonAsciiXEscape) refl refl refl refl,
+  refused_behind (plains "నక్క") (codes "\\xB0\"") (over 0 4 kind.NonAsciiXEscape) refl refl refl refl,
+)
 
-unknown_escape : IsQuotedLiteralRefusal byte_string_kind (codes "b\"a\\\r\"") (over 3 5 UnknownEscape)
+rows-unterminated_unicode_escape :
+    Refused string_kind "\"\\u{41}" (over 1 6 kind.UnterminatedUnicodeEscape)
+    × Refused string_kind "\"\\u{12\"" (over 1 6 kind.UnterminatedUnicodeEscape)
+    × Refused string_kind "\"\\u{_" (over 1 4 kind.UnterminatedUnicodeEscape)
 unfolding computing
-unknown_escape =
-    record { items = plains (codes "a"); rest = codes "\\\r\""; cause = over 0 2 UnknownEscape; spells = refl; taken = refl; told = refl; placed = refl }
+rows-unterminated_unicode_escape = (
+  refused_behind [] (codes "\\u{41}") (over 0 5 kind.UnterminatedUnicodeEscape) refl refl refl refl,
+  refused_behind [] (codes "\\u{12\"") (over 0 5 kind.UnterminatedUnicodeEscape) refl refl refl refl,
+  refused_behind [] (codes "\\u{_") (over 0 3 kind.UnterminatedUnicodeEscape) refl refl refl refl,
+)
 
-zero_escape : IsQuotedLiteralRefusal c_string_kind (codes "c\"\\u{0}🦊\"") (over 2 7 DisallowedNulEscape)
+rows-invalid_start_of_unicode_escape : Refused string_kind "\"🦊\\u{}a\"" (over 8 9 kind.InvalidStartOfUnicodeEscape)
 unfolding computing
-zero_escape =
-    record { items = []; rest = codes "\\u{0}🦊\""; cause = over 0 5 DisallowedNulEscape; spells = refl; taken = refl; told = refl; placed = refl }
+rows-invalid_start_of_unicode_escape = refused_behind (plains "🦊") (codes "\\u{}a\"") (at 3 kind.InvalidStartOfUnicodeEscape) refl refl refl refl
 
-zero_escape_later : IsQuotedLiteralRefusal c_string_kind (codes "c\" \\u{00}\"") (over 3 9 DisallowedNulEscape)
+rows-too_many_digit_in_unicode_escape : Refused string_kind "\"నక్క\\u{1234567}🦊\"" (over 22 23 kind.TooManyDigitInUnicodeEscape)
 unfolding computing
-zero_escape_later =
-    record { items = plains (codes " "); rest = codes "\\u{00}\""; cause = over 0 6 DisallowedNulEscape; spells = refl; taken = refl; told = refl; placed = refl }
+rows-too_many_digit_in_unicode_escape = refused_behind (plains "నక్క") (codes "\\u{1234567}🦊\"") (at 9 kind.TooManyDigitInUnicodeEscape) refl refl refl refl
 
-zero_with_underscores : IsQuotedLiteralRefusal c_string_kind (codes "c\"лиса\\u{0__}\"") (over 10 17 DisallowedNulEscape)
+rows-disallowed_nul_escape :
+    Refused c_string_kind "c\"\\u{0}🦊\"" (over 2 7 kind.DisallowedNulEscape)
+    × Refused c_string_kind "c\" \\u{00}\"" (over 3 9 kind.DisallowedNulEscape)
+    × Refused c_string_kind "c\"лиса\\u{0__}\"" (over 10 17 kind.DisallowedNulEscape)
 unfolding computing
-zero_with_underscores =
-    record { items = plains (codes "лиса"); rest = codes "\\u{0__}\""; cause = over 0 7 DisallowedNulEscape; spells = refl; taken = refl; told = refl; placed = refl }
+rows-disallowed_nul_escape = (
+  refused_behind [] (codes "\\u{0}🦊\"") (over 0 5 kind.DisallowedNulEscape) refl refl refl refl,
+  refused_behind (plains " ") (codes "\\u{00}\"") (over 0 6 kind.DisallowedNulEscape) refl refl refl refl,
+  refused_behind (plains "лиса") (codes "\\u{0__}\"") (over 0 7 kind.DisallowedNulEscape) refl refl refl refl,
+)
 
--- CR; NUL in a C string; in a byte string what is not ASCII
-return_in_string : IsQuotedLiteralRefusal string_kind (codes "\"a\r\"") (over 2 3 CarriageReturn)
+rows-unknown_escape : Refused byte_string_kind "b\"a\\\r\"" (over 3 5 kind.UnknownEscape)
 unfolding computing
-return_in_string =
-    record { items = plains (codes "a"); rest = codes "\r\""; cause = at 0 CarriageReturn; spells = refl; taken = refl; told = refl; placed = refl }
+rows-unknown_escape = refused_behind (plains "a") (codes "\\\r\"") (over 0 2 kind.UnknownEscape) refl refl refl refl
 
-nul_in_c_string : IsQuotedLiteralRefusal c_string_kind (99 ∷ 34 ∷ 0 ∷ 34 ∷ []) (over 2 3 NulByte)
+rows-carriage_return :
+    Refused string_kind "\"a\r\"" (over 2 3 kind.CarriageReturn)
+    -- CR is no blank
+    × Refused string_kind "\"a\\\n\r\"" (at 4 kind.CarriageReturn)
 unfolding computing
-nul_in_c_string =
-    record { items = []; rest = 0 ∷ 34 ∷ []; cause = at 0 NulByte; spells = refl; taken = refl; told = refl; placed = refl }
+rows-carriage_return = (
+  refused_behind (plains "a") (codes "\r\"") (at 0 kind.CarriageReturn) refl refl refl refl,
+  refused_behind (plain_item 97 ∷ continuation [] ∷ []) (codes "\r\"") (at 0 kind.CarriageReturn) refl refl refl refl,
+)
 
-wide_in_byte_string : IsQuotedLiteralRefusal byte_string_kind (codes "b\"\\nJosé") (over 7 8 NonAsciiInByteLiteral)
+rows-nul_byte : Refused c_string_kind "c\"\0\"" (over 2 3 kind.NulByte)
 unfolding computing
-wide_in_byte_string =
-    record { items = escape_item (simple_escape 110) ∷ plains (codes "Jos"); rest = codes "é"; cause = at 0 NonAsciiInByteLiteral; spells = refl; taken = refl; told = refl; placed = refl }
+rows-nul_byte = refused_behind [] (0 ∷ 34 ∷ []) (at 0 kind.NulByte) refl refl refl refl
 
--- no suffix behind the closing quote
-quote_in_suffix : IsQuotedLiteralRefusal string_kind (codes "\"fox\"peter\"") (over 5 6 InvalidSuffix)
+rows-non_ascii_in_byte_literal :
+    Refused byte_string_kind "b\"\\nJosé" (over 7 8 kind.NonAsciiInByteLiteral)
+    × Refused byte_string_kind "b\"\u{80}" (at 2 kind.NonAsciiInByteLiteral)
 unfolding computing
-quote_in_suffix =
-    record { items = plains (codes "fox"); rest = codes "\"peter\""; cause = at 1 InvalidSuffix; spells = refl; taken = refl; told = refl; placed = refl }
+rows-non_ascii_in_byte_literal = (
+  refused_behind (escape_item (simple_escape 110) ∷ plains "Jos") (codes "é") (at 0 kind.NonAsciiInByteLiteral) refl refl refl refl,
+  refused_behind [] (codes "\u{80}") (at 0 kind.NonAsciiInByteLiteral) refl refl refl refl,
+)
 
-lone_underscore : IsQuotedLiteralRefusal string_kind (codes "\"a\"_") (over 3 4 InvalidSuffix)
+rows-unexpected_char : Refused string_kind "\"a\" " (over 3 4 kind.UnexpectedChar)
 unfolding computing
-lone_underscore =
-    record { items = plains (codes "a"); rest = codes "\"_"; cause = at 1 InvalidSuffix; spells = refl; taken = refl; told = refl; placed = refl }
+rows-unexpected_char = refused_behind (plains "a") (codes "\" ") (at 1 kind.UnexpectedChar) refl refl refl refl
 
-blank_behind : IsQuotedLiteralRefusal string_kind (codes "\"a\" ") (over 3 4 UnexpectedChar)
+rows-invalid_suffix :
+    Refused string_kind "\"fox\"peter\"" (over 5 6 kind.InvalidSuffix)
+    × Refused string_kind "\"a\"_" (over 3 4 kind.InvalidSuffix)
+    × Refused string_kind "\"\\n\"_" (at 4 kind.InvalidSuffix)
+    × Refused string_kind "\"a\"\u{80}" (at 3 kind.InvalidSuffix)
 unfolding computing
-blank_behind =
-    record { items = plains (codes "a"); rest = codes "\" "; cause = at 1 UnexpectedChar; spells = refl; taken = refl; told = refl; placed = refl }
-
--- Literals.
-
-two_letters : IsQuotedLiteral string_kind (codes "\"ab\"") (record { items = plains (codes "ab"); suffix = [] })
-unfolding computing
-two_letters = record { spells = refl; body = refl; suffix = refl }
-
-two_letters_value : body_value (plains (codes "ab")) ≡ codes "ab"
-unfolding computing
-two_letters_value = refl
-
-suffixed : IsQuotedLiteral string_kind (codes "\"a\"_x") (record { items = plains (codes "a"); suffix = codes "_x" })
-unfolding computing
-suffixed = record { spells = refl; body = refl; suffix = refl }
-
-suffixed_value : body_value (plains (codes "a")) ≡ codes "a"
-unfolding computing
-suffixed_value = refl
-
--- a continuation takes all spaces, tabs and LFs, and no other blank
-long_continuation : IsQuotedLiteral string_kind (codes "\"foo\\\n\t\n \n\tbar\"") (record { items = plains (codes "foo") ++ continuation (codes "\t\n \n\t") ∷ plains (codes "bar"); suffix = [] })
-unfolding computing
-long_continuation = record { spells = refl; body = refl; suffix = refl }
-
-long_continuation_value : body_value (plains (codes "foo") ++ continuation (codes "\t\n \n\t") ∷ plains (codes "bar")) ≡ codes "foobar"
-unfolding computing
-long_continuation_value = refl
-
-next_line : IsQuotedLiteral string_kind (codes "\"foo\\\n" ++ 0x85 ∷ codes "bar\"") (record { items = plains (codes "foo") ++ continuation [] ∷ plain_item 0x85 ∷ plains (codes "bar"); suffix = [] })
-unfolding computing
-next_line = record { spells = refl; body = refl; suffix = refl }
-
-next_line_value : body_value (plains (codes "foo") ++ continuation [] ∷ plain_item 0x85 ∷ plains (codes "bar")) ≡ encode_utf8_all (codes "foo" ++ 0x85 ∷ codes "bar")
-unfolding computing
-next_line_value = refl
-
-two_spaces : IsQuotedLiteral string_kind (codes "\"foo\\\n  bar\"") (record { items = plains (codes "foo") ++ continuation (codes "  ") ∷ plains (codes "bar"); suffix = [] })
-unfolding computing
-two_spaces = record { spells = refl; body = refl; suffix = refl }
-
-two_spaces_value : body_value (plains (codes "foo") ++ continuation (codes "  ") ∷ plains (codes "bar")) ≡ codes "foobar"
-unfolding computing
-two_spaces_value = refl
-
-nul_in_string : IsQuotedLiteral string_kind (34 ∷ 0 ∷ 34 ∷ []) (record { items = plain_item 0 ∷ []; suffix = [] })
-unfolding computing
-nul_in_string = record { spells = refl; body = refl; suffix = refl }
-
-nul_in_string_value : body_value (plain_item 0 ∷ []) ≡ 0 ∷ []
-unfolding computing
-nul_in_string_value = refl
-
-c_string : IsQuotedLiteral c_string_kind (codes "c\"a\\x0cb\\\\\"_jürgen") (record { items = plain_item 97 ∷ escape_item (hex_escape 48 99) ∷ plain_item 98 ∷ escape_item (simple_escape 92) ∷ []; suffix = codes "_jürgen" })
-unfolding computing
-c_string = record { spells = refl; body = refl; suffix = refl }
-
-c_string_value : body_value (plain_item 97 ∷ escape_item (hex_escape 48 99) ∷ plain_item 98 ∷ escape_item (simple_escape 92) ∷ []) ≡ 0x61 ∷ 0x0C ∷ 0x62 ∷ 0x5C ∷ []
-unfolding computing
-c_string_value = refl
-
-c_string_bytes : IsQuotedLiteral c_string_kind (codes "c\"é\\xFF\"") (record { items = plains (codes "é") ++ escape_item (hex_escape 70 70) ∷ []; suffix = [] })
-unfolding computing
-c_string_bytes = record { spells = refl; body = refl; suffix = refl }
-
-c_string_bytes_value : body_value (plains (codes "é") ++ escape_item (hex_escape 70 70) ∷ []) ≡ 0xC3 ∷ 0xA9 ∷ 0xFF ∷ []
-unfolding computing
-c_string_bytes_value = refl
-
-byte_string : IsQuotedLiteral byte_string_kind (codes "b\"\\xFFa\\t\"") (record { items = escape_item (hex_escape 70 70) ∷ plain_item 97 ∷ escape_item (simple_escape 116) ∷ []; suffix = [] })
-unfolding computing
-byte_string = record { spells = refl; body = refl; suffix = refl }
-
-byte_string_value : body_value (escape_item (hex_escape 70 70) ∷ plain_item 97 ∷ escape_item (simple_escape 116) ∷ []) ≡ 0xFF ∷ 0x61 ∷ 0x09 ∷ []
-unfolding computing
-byte_string_value = refl
-
-unicode : IsQuotedLiteral c_string_kind (codes "c\"\\u{1_F6_02_____}\"") (record { items = escape_item (unicode_escape (codes "1_F6_02_____")) ∷ []; suffix = [] })
-unfolding computing
-unicode = record { spells = refl; body = refl; suffix = refl }
-
-unicode_value : body_value (escape_item (unicode_escape (codes "1_F6_02_____")) ∷ []) ≡ encode_utf8_all (codes "😂")
-unfolding computing
-unicode_value = refl
-
--- no item that begins with a blank follows a continuation
-blank_behind_continuation : is_body string_switches (continuation [] ∷ plain_item 32 ∷ []) ≡ false
-blank_behind_continuation = refl
-
--- Escapes and continuations among the items before a refused place
-
-open_behind_continuation : IsQuotedLiteralRefusal string_kind (codes "\"a\\\n  b") (plain UnterminatedString)
-unfolding computing
-open_behind_continuation = record { items = plain_item 97 ∷ continuation (codes "  ") ∷ plain_item 98 ∷ []; rest = []; cause = plain UnterminatedString; spells = refl; taken = refl; told = refl; placed = refl }
-
-underscore_behind_escape : IsQuotedLiteralRefusal string_kind (codes "\"\\n\"_") (at 4 InvalidSuffix)
-unfolding computing
-underscore_behind_escape = record { items = escape_item (simple_escape 110) ∷ []; rest = codes "\"_"; cause = at 1 InvalidSuffix; spells = refl; taken = refl; told = refl; placed = refl }
-
--- Rests that no row tells, as an item or the end stands there
-
-rest-letter : rest_refusal string_switches (codes "a") ≡ None
-unfolding computing
-rest-letter = refl
-
-rest-closing : rest_refusal string_switches (codes "\"x") ≡ None
-unfolding computing
-rest-closing = refl
-
-rest-continuation : rest_refusal string_switches (codes "\\\n b") ≡ None
-unfolding computing
-rest-continuation = refl
-
--- Items that do not stand before a rest, and characters that do not stand for themselves
-
-ends-continuation : stand_before string_switches [] (continuation [] ∷ []) ≡ false
-ends-continuation = refl
-
-ends-escape : stand_before string_switches [] (escape_item (simple_escape 110) ∷ []) ≡ false
-ends-escape = refl
-
-blank-continuation : stand_before string_switches (codes " a") (continuation [] ∷ []) ≡ false
-blank-continuation = refl
-
-return-item : stand_before string_switches (codes "a") (plain_item 13 ∷ []) ≡ false
-return-item = refl
-
-return-second : stand_before string_switches (codes "a") (plain_item 97 ∷ plain_item 13 ∷ []) ≡ false
-return-second = refl
-
-plain-quote : is_plain string_switches 34 ≡ false
-plain-quote = refl
-
-plain-backslash : is_plain string_switches 92 ≡ false
-plain-backslash = refl
-
-plain-return : is_plain string_switches 13 ≡ false
-plain-return = refl
-
-plain-wide : is_plain byte_string_switches 128 ≡ false
-plain-wide = refl
-
-plain-nul : is_plain c_string_switches 0 ≡ false
-plain-nul = refl
+rows-invalid_suffix = (
+  refused_behind (plains "fox") (codes "\"peter\"") (at 1 kind.InvalidSuffix) refl refl refl refl,
+  refused_behind (plains "a") (codes "\"_") (at 1 kind.InvalidSuffix) refl refl refl refl,
+  refused_behind (escape_item (simple_escape 110) ∷ []) (codes "\"_") (at 1 kind.InvalidSuffix) refl refl refl refl,
+  refused_behind (plains "a") (codes "\"\u{80}") (at 1 kind.InvalidSuffix) refl refl refl refl,
+)

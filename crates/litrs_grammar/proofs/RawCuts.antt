@@ -62,7 +62,7 @@ hashes_before_quote (suc n) [] t = refl
 hashes_before_quote (suc n) (c ∷ cs) t = ap (λ v. (35 == c) && v) (hashes_before_quote n cs t)
 
 -- Before another closing a closing stands where it stood without that.
-closing_before_closing : (n c : ℕ) (cs t : List ℕ) → begins_with (raw_closing n) ((c ∷ cs) ++ (34 ∷ t)) ≡ begins_with (raw_closing n) (c ∷ cs)
+pub closing_before_closing : (n c : ℕ) (cs t : List ℕ) → begins_with (raw_closing n) ((c ∷ cs) ++ (34 ∷ t)) ≡ begins_with (raw_closing n) (c ∷ cs)
 closing_before_closing n c cs t = ap (λ v. (34 == c) && v) (hashes_before_quote n cs t)
 
 -- the first closing behind a body in which there is none

@@ -1,151 +1,154 @@
--- Each form of a raw literal and each row of its refusals, computed.
-use Rattle.std.specs.Prelude.{◌≡◌, ℕ, List, [], ◌∷◌, ◌++◌, Some, None, refl, codes}
-use Rattle.std.specs.Char.{encode_utf8}
-use Rattle.std.proofs.lemmas.Bool.{leb-true}
-use Rattle.litrs_grammar.specs.StringKind.{string_kind, byte_string_kind, c_string_kind}
-use Rattle.litrs_base.specs.declared.err.ParseErrorKind.TheVariants.{InvalidLiteral, TooManyHashes, CarriageReturn, NulByte, NonAsciiInByteLiteral, UnterminatedRawString, UnexpectedChar, InvalidSuffix}
-use Rattle.unicode_ident.proofs.Computing.{unicode_ident}
-use Rattle.litrs_base.specs.Refusal.{plain, over, at}
-use Rattle.litrs_grammar.specs.Suffix.{is_suffix}
-use Rattle.litrs_grammar.specs.Raw.{hashes, raw_value, RawParts, IsRawLiteral, raw_body_refusal, raw_refusal, raw_literal_refusal}
+-- Raw strings, byte strings and C strings by computation: forms, values, and each row of the table of refusals.
+use Prim.Native.String.{String}
+use Rattle.std.specs.Prelude.{◌≡◌, ℕ, List, [], ◌∷◌, ◌++◌, Some, None, refl, codes, true, false}
+use Rattle.litrs_base.specs.declared.err.ParseErrorKind.TheVariants as kind
+use Rattle.litrs_base.specs.Refusal.{Refusal, plain, over, at}
+use Rattle.litrs_grammar.specs.StringKind.{StringKind, string_kind, byte_string_kind, c_string_kind}
+use Rattle.litrs_grammar.specs.Raw.{hashes, raw_value, IsRawLiteral, raw_literal_refusal, is_raw_char, occurs, length_before}
+use Rattle.litrs_grammar.proofs.Computing.{computing, raw}
 
--- The forms. The parts are the number of hashes, the body and the suffix.
+-- the text is a raw string of the kind, with so many hashes, this body and this suffix
+abbrev Is : StringKind → List ℕ → ℕ → String → String → Type 0
+Is kind text hash_count body suffix =
+    IsRawLiteral kind text (record { hash_count = hash_count; body = codes body; suffix = codes suffix })
 
-abbrev parts : ℕ → List ℕ → List ℕ → RawParts
-parts hash_count body suffix = record { hash_count = hash_count; body = body; suffix = suffix }
+-- the text is refused as one
+abbrev Refused : StringKind → List ℕ → Refusal → Type 0
+Refused kind text refusal = raw_literal_refusal kind text ≡ Some refusal
 
-form-string : IsRawLiteral string_kind (codes "r##\"a\"#\"##") (parts 2 (codes "a\"#") [])
-unfolding is_suffix unicode_ident
-form-string = record {
-  spells = refl;
-  grammar = record { hash_count = leb-true 2 255 refl; body = record { allowed = refl; unclosed = refl }; suffix = refl };
-}
+-- it is not
+abbrev Accepted : StringKind → List ℕ → Type 0
+Accepted kind text = raw_literal_refusal kind text ≡ None
 
-form-string_three : IsRawLiteral string_kind (codes "r###\"\"##foo\"##bar'\"###") (parts 3 (codes "\"##foo\"##bar'") [])
-unfolding is_suffix unicode_ident
-form-string_three = record {
-  spells = refl;
-  grammar = record { hash_count = leb-true 3 255 refl; body = record { allowed = refl; unclosed = refl }; suffix = refl };
-}
+-- Literals and their parts
 
-form-byte_string : IsRawLiteral byte_string_kind (codes "br\"\\n\"") (parts 0 (codes "\\n") [])
-unfolding is_suffix unicode_ident
-form-byte_string = record {
-  spells = refl;
-  grammar = record { hash_count = leb-true 0 255 refl; body = record { allowed = refl; unclosed = refl }; suffix = refl };
-}
+literals :
+    Is string_kind (codes "r##\"a\"#\"##") 2 "a\"#" ""
+    × Is string_kind (codes "r###\"\"##foo\"##bar'\"###") 3 "\"##foo\"##bar'" ""
+    × Is byte_string_kind (codes "br\"\\n\"") 0 "\\n" ""
+    × Is byte_string_kind (codes "br" ++ (hashes 255 ++ (codes "\"peter\"" ++ hashes 255))) 255 "peter" ""
+    × Is c_string_kind (codes "cr#\"a\\x0cb\\\\\"#_jürgen") 1 "a\\x0cb\\\\" "_jürgen"
+    -- LF may stand in a body, and tab
+    × Is string_kind (codes "r\"a\nb\"") 0 "a\nb" ""
+    × Is byte_string_kind (codes "br#\"\t\n\"#x") 1 "\t\n" "x"
+    × Is string_kind (codes "r\"\0\"") 0 "\0" ""
+unfolding computing
+literals = (
+  raw refl refl refl refl refl,
+  raw refl refl refl refl refl,
+  raw refl refl refl refl refl,
+  raw refl refl refl refl refl,
+  raw refl refl refl refl refl,
+  raw refl refl refl refl refl,
+  raw refl refl refl refl refl,
+  raw refl refl refl refl refl,
+)
 
-form-most_hashes : IsRawLiteral byte_string_kind (codes "br" ++ (hashes 255 ++ (codes "\"peter\"" ++ hashes 255))) (parts 255 (codes "peter") [])
-unfolding is_suffix unicode_ident
-form-most_hashes = record {
-  spells = refl;
-  grammar = record { hash_count = leb-true 255 255 refl; body = record { allowed = refl; unclosed = refl }; suffix = refl };
-}
+-- Values
 
-form-c_string : IsRawLiteral c_string_kind (codes "cr#\"a\\x0cb\\\\\"#_jürgen") (parts 1 (codes "a\\x0cb\\\\") (codes "_jürgen"))
-unfolding is_suffix unicode_ident
-form-c_string = record {
-  spells = refl;
-  grammar = record { hash_count = leb-true 1 255 refl; body = record { allowed = refl; unclosed = refl }; suffix = refl };
-}
+values :
+    (raw_value (codes "\\n") ≡ 0x5c ∷ 0x6e ∷ [])
+    × (raw_value (codes "é") ≡ 0xc3 ∷ 0xa9 ∷ [])
+    × (raw_value (codes "a\n") ≡ 97 ∷ 10 ∷ [])
+unfolding computing
+values = (refl, refl, refl)
 
--- values
-value-backslash : raw_value (codes "\\n") ≡ 0x5c ∷ 0x6e ∷ []
-unfolding encode_utf8
-value-backslash = refl
+-- What the grammar allows, and what not
 
-value-wide : raw_value (codes "é") ≡ 0xc3 ∷ 0xa9 ∷ []
-unfolding encode_utf8
-value-wide = refl
+characters :
+    (is_raw_char true true 13 ≡ false)
+    × (is_raw_char true true 10 ≡ true)
+    × (is_raw_char true true 9 ≡ true)
+    × (is_raw_char true true 0 ≡ true)
+    × (is_raw_char true true 92 ≡ true)
+    × (is_raw_char true false 0 ≡ false)
+    × (is_raw_char true false 1 ≡ true)
+    × (is_raw_char true false 128 ≡ true)
+    × (is_raw_char false true 127 ≡ true)
+    × (is_raw_char false true 128 ≡ false)
+    × (is_raw_char false true 0 ≡ true)
+unfolding computing
+characters = (refl, refl, refl, refl, refl, refl, refl, refl, refl, refl, refl)
 
--- The rows, from the first on, and texts that no row fits.
+places :
+    (occurs (codes "\"#") (codes "a\"#") ≡ true)
+    × (occurs (codes "\"#") (codes "a\"") ≡ false)
+    × (occurs [] [] ≡ true)
+    × (length_before (codes "\"#") (codes "a\"\"#") ≡ 2)
+    × (length_before (codes "\"#") (codes "ab") ≡ 2)
+unfolding computing
+places = (refl, refl, refl, refl, refl)
 
-row-nothing : raw_literal_refusal string_kind (codes "r") ≡ Some (plain InvalidLiteral)
-unfolding raw_refusal raw_body_refusal is_suffix unicode_ident encode_utf8
-row-nothing = refl
+-- Texts that are not refused
 
-row-hashes_only : raw_literal_refusal string_kind (codes "r####") ≡ Some (plain InvalidLiteral)
-unfolding raw_refusal raw_body_refusal is_suffix unicode_ident encode_utf8
-row-hashes_only = refl
+accepted :
+    Accepted byte_string_kind (codes "br\"\0\"")
+    × Accepted string_kind (codes "r##\"a\"#\"##")
+    × Accepted byte_string_kind (codes "br" ++ (hashes 255 ++ (codes "\"peter\"" ++ hashes 255)))
+    × Accepted string_kind (codes "r\"\"")
+    × Accepted string_kind (codes "r\"a\nb\"")
+    × Accepted byte_string_kind (codes "br\"\n\"_x")
+    × Accepted c_string_kind (codes "cr\"\u{1}é\"")
+unfolding computing
+accepted = (refl, refl, refl, refl, refl, refl, refl)
 
-row-many_hashes_only : raw_literal_refusal string_kind (codes "r" ++ hashes 256) ≡ Some (plain InvalidLiteral)
-unfolding raw_refusal raw_body_refusal is_suffix unicode_ident encode_utf8
-row-many_hashes_only = refl
+-- Refused texts, by the rows of the table
 
-row-too_many_hashes : raw_literal_refusal byte_string_kind (codes "br" ++ (hashes 256 ++ (codes "\"peter\"" ++ hashes 256))) ≡ Some (over 2 258 TooManyHashes)
-unfolding raw_refusal raw_body_refusal is_suffix unicode_ident encode_utf8
-row-too_many_hashes = refl
+rows-invalid_literal :
+    Refused string_kind (codes "r") (plain kind.InvalidLiteral)
+    × Refused string_kind (codes "r####") (plain kind.InvalidLiteral)
+    -- before that the hashes are too many
+    × Refused string_kind (codes "r" ++ hashes 256) (plain kind.InvalidLiteral)
+    × Refused string_kind (codes "r####x") (plain kind.InvalidLiteral)
+unfolding computing
+rows-invalid_literal = (refl, refl, refl, refl)
 
-row-no_quote : raw_literal_refusal string_kind (codes "r####x") ≡ Some (plain InvalidLiteral)
-unfolding raw_refusal raw_body_refusal is_suffix unicode_ident encode_utf8
-row-no_quote = refl
+rows-too_many_hashes :
+    Refused byte_string_kind (codes "br" ++ (hashes 256 ++ (codes "\"peter\"" ++ hashes 256))) (over 2 258 kind.TooManyHashes)
+    -- before the quote that lacks
+    × Refused string_kind (codes "r" ++ (hashes 256 ++ codes "x")) (over 1 257 kind.TooManyHashes)
+unfolding computing
+rows-too_many_hashes = (refl, refl)
 
-row-carriage_return : raw_literal_refusal byte_string_kind (codes "br\"a\\" ++ (13 ∷ codes "\"")) ≡ Some (at 5 CarriageReturn)
-unfolding raw_refusal raw_body_refusal is_suffix unicode_ident encode_utf8
-row-carriage_return = refl
+rows-carriage_return :
+    Refused byte_string_kind (codes "br\"a\\\r\"") (at 5 kind.CarriageReturn)
+    × Refused c_string_kind (codes "cr\"\r\0\"") (at 3 kind.CarriageReturn)
+    × Refused string_kind (codes "r\"é\r") (at 4 kind.CarriageReturn)
+    × Refused string_kind (codes "r#\"a\r") (at 4 kind.CarriageReturn)
+unfolding computing
+rows-carriage_return = (refl, refl, refl, refl)
 
-row-nul : raw_literal_refusal c_string_kind (codes "cr\"a" ++ (0 ∷ codes "\"")) ≡ Some (at 4 NulByte)
-unfolding raw_refusal raw_body_refusal is_suffix unicode_ident encode_utf8
-row-nul = refl
+rows-nul_byte :
+    Refused c_string_kind (codes "cr\"a\0\"") (at 4 kind.NulByte)
+    -- the first of the two decides
+    × Refused c_string_kind (codes "cr\"\0\r\"") (at 3 kind.NulByte)
+unfolding computing
+rows-nul_byte = (refl, refl)
 
-row-not_ascii : raw_literal_refusal byte_string_kind (codes "br\"x🦊baz\"") ≡ Some (at 4 NonAsciiInByteLiteral)
-unfolding raw_refusal raw_body_refusal is_suffix unicode_ident encode_utf8
-row-not_ascii = refl
+rows-non_ascii_in_byte_literal :
+    Refused byte_string_kind (codes "br\"x🦊baz\"") (at 4 kind.NonAsciiInByteLiteral)
+    × Refused byte_string_kind (codes "br\"\u{80}\"") (at 3 kind.NonAsciiInByteLiteral)
+unfolding computing
+rows-non_ascii_in_byte_literal = (refl, refl)
 
-row-first_of_two : raw_literal_refusal c_string_kind (codes "cr\"" ++ (0 ∷ 13 ∷ codes "\"")) ≡ Some (at 3 NulByte)
-unfolding raw_refusal raw_body_refusal is_suffix unicode_ident encode_utf8
-row-first_of_two = refl
+rows-unterminated_raw_string :
+    Refused string_kind (codes "r####\"") (plain kind.UnterminatedRawString)
+    × Refused string_kind (codes "r##\"a\"#") (plain kind.UnterminatedRawString)
+unfolding computing
+rows-unterminated_raw_string = (refl, refl)
 
-row-first_of_two_other : raw_literal_refusal c_string_kind (codes "cr\"" ++ (13 ∷ 0 ∷ codes "\"")) ≡ Some (at 3 CarriageReturn)
-unfolding raw_refusal raw_body_refusal is_suffix unicode_ident encode_utf8
-row-first_of_two_other = refl
+rows-unexpected_char :
+    -- the first `"#` closes
+    Refused c_string_kind (codes "cr#\"foo \"# bar\"#") (at 10 kind.UnexpectedChar)
+    × Refused string_kind (codes "r\"a\"\r") (at 4 kind.UnexpectedChar)
+unfolding computing
+rows-unexpected_char = (refl, refl)
 
-row-refused_unclosed : raw_literal_refusal string_kind (codes "r\"é" ++ (13 ∷ [])) ≡ Some (at 4 CarriageReturn)
-unfolding raw_refusal raw_body_refusal is_suffix unicode_ident encode_utf8
-row-refused_unclosed = refl
-
-row-unclosed : raw_literal_refusal string_kind (codes "r####\"") ≡ Some (plain UnterminatedRawString)
-unfolding raw_refusal raw_body_refusal is_suffix unicode_ident encode_utf8
-row-unclosed = refl
-
-row-few_hashes_behind : raw_literal_refusal string_kind (codes "r##\"a\"#") ≡ Some (plain UnterminatedRawString)
-unfolding raw_refusal raw_body_refusal is_suffix unicode_ident encode_utf8
-row-few_hashes_behind = refl
-
-row-first_closing : raw_literal_refusal c_string_kind (codes "cr#\"foo \"# bar\"#") ≡ Some (at 10 UnexpectedChar)
-unfolding raw_refusal raw_body_refusal is_suffix unicode_ident encode_utf8
-row-first_closing = refl
-
-row-behind_closing : raw_literal_refusal string_kind (codes "r\"a\"" ++ (13 ∷ [])) ≡ Some (at 4 UnexpectedChar)
-unfolding raw_refusal raw_body_refusal is_suffix unicode_ident encode_utf8
-row-behind_closing = refl
-
-row-suffix : raw_literal_refusal string_kind (codes "r\"a\"_") ≡ Some (at 4 InvalidSuffix)
-unfolding raw_refusal raw_body_refusal is_suffix unicode_ident encode_utf8
-row-suffix = refl
-
-row-suffix_behind_wide : raw_literal_refusal string_kind (codes "r\"🦊\"🦊") ≡ Some (at 7 InvalidSuffix)
-unfolding raw_refusal raw_body_refusal is_suffix unicode_ident encode_utf8
-row-suffix_behind_wide = refl
-
-row-none-nul : raw_literal_refusal byte_string_kind (codes "br\"" ++ (0 ∷ codes "\"")) ≡ None
-unfolding raw_refusal raw_body_refusal is_suffix unicode_ident encode_utf8
-row-none-nul = refl
-
-row-none-hashes : raw_literal_refusal string_kind (codes "r##\"a\"#\"##") ≡ None
-unfolding raw_refusal raw_body_refusal is_suffix unicode_ident encode_utf8
-row-none-hashes = refl
-
-row-none-most_hashes : raw_literal_refusal byte_string_kind (codes "br" ++ (hashes 255 ++ (codes "\"peter\"" ++ hashes 255))) ≡ None
-unfolding raw_refusal raw_body_refusal is_suffix unicode_ident encode_utf8
-row-none-most_hashes = refl
-
--- A closing at the first place, and the order of the rows
-
-row-none-empty : raw_literal_refusal string_kind (codes "r\"\"") ≡ None
-unfolding raw_refusal raw_body_refusal is_suffix unicode_ident encode_utf8
-row-none-empty = refl
-
-row-too_many_before_quote : raw_literal_refusal string_kind (codes "r" ++ (hashes 256 ++ codes "x")) ≡ Some (over 1 257 TooManyHashes)
-unfolding raw_refusal raw_body_refusal is_suffix unicode_ident encode_utf8
-row-too_many_before_quote = refl
+rows-invalid_suffix :
+    Refused string_kind (codes "r\"a\"_") (at 4 kind.InvalidSuffix)
+    × Refused string_kind (codes "r\"🦊\"🦊") (at 7 kind.InvalidSuffix)
+    × Refused string_kind (codes "r\"\"\u{80}") (at 3 kind.InvalidSuffix)
+    -- a character that no body has, behind the closing
+    × Refused byte_string_kind (codes "br\"\"é\"") (at 4 kind.InvalidSuffix)
+unfolding computing
+rows-invalid_suffix = (refl, refl, refl, refl)

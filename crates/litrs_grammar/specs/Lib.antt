@@ -12,7 +12,6 @@ pub mod Literal
 pub mod LiteralRefusals
 pub mod Closing
 pub mod Refused
-pub mod Growth
 pub mod EscapeGoesOn
 pub mod QuotedGoesOn
 pub mod BoolGoesOn
@@ -24,6 +23,7 @@ pub mod FloatGoesOn
 pub mod RawGoesOn
 pub mod CharByteGoesOn
 pub mod GoesOn
+pub mod Allocation
 pub mod EscapeLaws
 pub mod QuotedLaws
 pub mod CharByteLaws
@@ -32,5 +32,8 @@ pub mod RawLaws
 pub mod RawScanLaws
 pub mod LiteralLaws
 pub mod ContinuationLaws
+pub mod ValueLaws
+pub mod AllocationLaws
 pub mod NumberLaws
+pub mod TextLaws
 pub mod NameLaws

@@ -6,8 +6,8 @@ use Rattle.litrs_grammar.specs.Bool.{IsBool}
 use Rattle.litrs_grammar.specs.Integer.{IntegerParts, IsIntegerOf}
 use Rattle.litrs_grammar.specs.Float.{FloatParts, IsFloatOf}
 use Rattle.litrs_grammar.specs.CharByte.{CharParts, char_kind, byte_kind, IsCharLiteral}
-use Rattle.litrs_grammar.specs.Quoted.{QuotedParts, IsQuotedLiteral}
-use Rattle.litrs_grammar.specs.Raw.{RawParts, IsRawLiteral}
+use Rattle.litrs_grammar.specs.Quoted.{QuotedParts, body_value, IsQuotedLiteral}
+use Rattle.litrs_grammar.specs.Raw.{RawParts, raw_value, IsRawLiteral}
 
 -- A string literal of each of its three kinds is quoted or raw.
 pub data StringParts : Type 0 where
@@ -23,6 +23,11 @@ IsString kind t (raw_parts d) = IsRawLiteral kind t d
 abbrev pub string_suffix : StringParts → List ℕ
 string_suffix (quoted_parts d) = d.suffix
 string_suffix (raw_parts d) = d.suffix
+
+-- its value: the bytes that its body stands for
+abbrev pub string_value : StringParts → List ℕ
+string_value (quoted_parts d) = body_value d.items
+string_value (raw_parts d) = raw_value d.body
 
 -- A derivation tells the kind of a literal and the parts that it is made of.
 pub data Derivation : Type 0 where

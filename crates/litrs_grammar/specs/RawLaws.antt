@@ -1,11 +1,11 @@
 -- What holds of all raw literals: raw strings, raw byte strings and raw C strings.
-use Rattle.std.specs.Prelude.{◌≡◌, ◌↔◌, ℕ, Bool, List, [], ◌∷◌, length, ◌++◌, Some, None, IsTrue, IsFalse}
-use Rattle.std.specs.List.{list_any}
+use Rattle.std.specs.Prelude.{◌≡◌, ◌↔◌, ◌<◌, ◌+◌, ℕ, Bool, List, [], ◌∷◌, length, drop, ◌++◌, Some, None, IsTrue, IsFalse}
+use Rattle.std.specs.List.{list_any, list_all}
 use Rattle.litrs_base.specs.Characters.{line_feed}
 use Rattle.litrs_grammar.specs.StringKind.{StringKind, c_string_kind}
 use Rattle.litrs_base.specs.Text.{byte_len, begins_with}
 use Rattle.litrs_base.specs.Refusal.{Refusal, IsInText}
-use Rattle.litrs_grammar.specs.Raw.{is_nul, raw_value, RawParts, IsRawOf, raw_front, IsRawLiteral, raw_refusal, raw_literal_refusal}
+use Rattle.litrs_grammar.specs.Raw.{is_nul, raw_closing, occurs, length_before, is_raw_char, IsRawBody, raw_value, RawParts, IsRawOf, raw_front, IsRawLiteral, raw_body_refusal, raw_refusal, raw_literal_refusal}
 
 -- a text has at most one derivation as a raw literal, over all three kinds together
 abbrev pub RawLiteralsAreUnique : Type 0
@@ -45,3 +45,29 @@ NoNulInRawCStrings = (t : List ℕ) (d : RawParts) → IsRawLiteral c_string_kin
 -- the value has as many bytes as the body
 abbrev pub RawValuesAreAsLongAsBodies : Type 0
 RawValuesAreAsLongAsBodies = (d : RawParts) → length (raw_value d.body) ≡ byte_len d.body
+
+-- A scan for the first closing goes along a text. It has passed a front where at no place of the
+-- front a closing begins.
+abbrev pub NoClosingIn : (n : ℕ) (front t : List ℕ) → Type 0
+NoClosingIn n front t = (i : ℕ) → i < length front →
+    IsFalse (begins_with (raw_closing n) (drop i (front ++ t)))
+
+-- What stands behind such a front decides where the first closing stands, and whether there is one.
+abbrev pub RawScansGoOn : Type 0
+RawScansGoOn = (n : ℕ) (front t : List ℕ) → NoClosingIn n front t →
+    (length_before (raw_closing n) (front ++ t) ≡ length front + length_before (raw_closing n) t)
+    × (occurs (raw_closing n) (front ++ t) ≡ occurs (raw_closing n) t)
+
+-- Where the characters of the front may stand in a body, what stands behind it has the refusal,
+-- further on by its bytes.
+abbrev pub RawRefusalsGoOn : Type 0
+RawRefusalsGoOn = (unicode allow_nul : Bool) (n start : ℕ) (front t : List ℕ) →
+    IsTrue (list_all (is_raw_char unicode allow_nul) front) → NoClosingIn n front t →
+    raw_body_refusal unicode allow_nul n start (front ++ t)
+    ≡ raw_body_refusal unicode allow_nul n (start + byte_len front) t
+
+-- Where a closing stands behind it, the front is a body.
+abbrev pub RawBodiesEndAtClosings : Type 0
+RawBodiesEndAtClosings = (unicode allow_nul : Bool) (n : ℕ) (front t : List ℕ) →
+    IsTrue (list_all (is_raw_char unicode allow_nul) front) →
+    NoClosingIn n front (raw_closing n ++ t) → IsRawBody unicode allow_nul n front

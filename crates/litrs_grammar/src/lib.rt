@@ -2,6 +2,7 @@
 //! function with an empty body.
 #![tactic(auto)]
 
+pub mod allocation;
 pub mod char_byte;
 pub mod continuation;
 pub mod escape;
@@ -11,3 +12,5 @@ pub mod name;
 pub mod number;
 pub mod quoted;
 pub mod raw;
+pub mod text;
+pub mod value;

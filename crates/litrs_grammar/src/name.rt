@@ -1,5 +1,5 @@
 //! Laws of texts that are compared, and of the names of types.
-ghost use Rattle.litrs_grammar.specs.NameLaws.{EqualityIsOfTexts, TypeNamesAreDistinct};
+ghost use Rattle.litrs_grammar.specs.NameLaws.{EqualityIsOfTexts, TypeNamesAreDistinct, FloatTypeNamesAreDistinct};
 
 /// Comparing literals compares their texts: they are equal exactly where their texts are.
 pub fn equality_is_of_texts()
@@ -9,4 +9,9 @@ pub fn equality_is_of_texts()
 /// No two integer types have one name, so that the name of a type leads back to it alone.
 pub fn type_names_are_distinct()
     ensures { TypeNamesAreDistinct }
+{}
+
+/// No two floating-point types have one name.
+pub fn float_type_names_are_distinct()
+    ensures { FloatTypeNamesAreDistinct }
 {}

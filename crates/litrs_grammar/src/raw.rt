@@ -1,5 +1,5 @@
 //! Laws of raw strings.
-ghost use Rattle.litrs_grammar.specs.RawLaws.{RawLiteralsAreUnique, RawLiteralsAreDecided, RawSpansLieInText, RawTextsAreUnique, RawTextsAreDecided, RawTextSpansLieInText, NoRawLiteralEndsWithLineFeed, NoNulInRawCStrings, RawValuesAreAsLongAsBodies};
+ghost use Rattle.litrs_grammar.specs.RawLaws.{RawLiteralsAreUnique, RawLiteralsAreDecided, RawSpansLieInText, RawTextsAreUnique, RawTextsAreDecided, RawTextSpansLieInText, NoRawLiteralEndsWithLineFeed, NoNulInRawCStrings, RawValuesAreAsLongAsBodies, RawScansGoOn, RawRefusalsGoOn, RawBodiesEndAtClosings};
 ghost use Rattle.litrs_grammar.specs.RawScanLaws.{HashCountsStay, FirstClosingsStay, StoppedBodiesAreRefused, FinalRawRefusalsStay, ClosingsBeginAtQuotes, ClosingsAreFound, QuotesArePassed};
 
 /// A text has at most one derivation as a raw literal, over all three kinds together.
@@ -83,4 +83,21 @@ pub fn closings_are_found()
 /// A `"` that fewer hashes follow is passed.
 pub fn quotes_are_passed()
     ensures { QuotesArePassed }
+{}
+
+/// Behind a front in which no closing begins, the rest decides where the first closing stands, and
+/// whether there is one.
+pub fn raw_scans_go_on()
+    ensures { RawScansGoOn }
+{}
+
+/// Behind such a front, whose characters a body may have, the rest has the refusal, further on by
+/// the bytes of the front.
+pub fn raw_refusals_go_on()
+    ensures { RawRefusalsGoOn }
+{}
+
+/// Such a front is a body where a closing stands behind it.
+pub fn raw_bodies_end_at_closings()
+    ensures { RawBodiesEndAtClosings }
 {}

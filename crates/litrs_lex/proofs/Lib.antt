@@ -1,4 +1,5 @@
-pub mod SuffixLemmas
-pub mod Firsts
-pub mod IntegerLemmas
+pub mod SuffixBytes
 pub mod NumeralLemmas
+pub mod IntegerBytes
+pub mod FloatBytes
+pub mod EscapeBytes

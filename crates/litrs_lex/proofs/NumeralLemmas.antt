@@ -12,7 +12,7 @@ use Rattle.std.specs.Str.{chars, IsUtf8, IsAscii, encode_utf8_all}
 use Rattle.std.proofs.lemmas.Str.{encodes-chars, encodes-IsAscii}
 use Rattle.std.proofs.lemmas.Str.Ascii.{IsAscii-nil, IsAscii-cons}
 use Rattle.litrs_base.proofs.Chars.{ascii_from_test}
-use Rattle.litrs_lex.proofs.IntegerLemmas.{digits_are_ascii}
+use Rattle.litrs_lex.proofs.IntegerBytes.{digits_are_ascii}
 use Rattle.std.proofs.lemmas.Bool.{ne_eqb, and_parts}
 use Rattle.std.proofs.lemmas.Bool.Decides.{nat_tests}
 use Rattle.litrs_base.specs.declared.integer.IntegerBase.{IntegerBase}

@@ -1,1 +1,4 @@
+pub mod Container
 pub mod IntegerCut
+pub mod FloatCut
+pub mod Unescaped

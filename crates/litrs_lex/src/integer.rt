@@ -1,17 +1,20 @@
 //! Where an integer is cut.
-ghost use Rattle.std.specs.Prelude.{◌≡◌, IsTrue, IfOk, OnErr, IfErr, Some};
+ghost use Rattle.std.specs.Prelude.{◌≡◌, IsTrue, IfOk, IfErr, option_map, Some};
 ghost use Rattle.std.specs.Char.{is_ascii_digit};
 ghost use Rattle.std.specs.List.{prefix_len, list_any};
 ghost use Rattle.std.specs.Str.{chars};
 ghost use Rattle.litrs_base.specs.Base.{is_digit, is_digit_or_underscore};
-ghost use Rattle.litrs_base.specs.Refusal.{IsInText};
-ghost use Rattle.litrs_base.specs.Derivations.{IsOnlyDerivation, HasNoDerivation};
+ghost use Rattle.litrs_base.specs.Refusal.{refusal};
+ghost use Rattle.litrs_base.specs.Derivations.{IsOnlyDerivation};
 ghost use Rattle.litrs_base.specs.Text.{first_passes};
-ghost use Rattle.litrs_grammar.specs.Integer.{IsIntegerOf, integer_refusal, cut_refusal, integer_cut, is_e, base_of};
+ghost use Rattle.litrs_grammar.specs.Integer.{IsIntegerOf, cut_refusal, integer_cut, is_e, base_of};
+ghost use Rattle.litrs_grammar.specs.Literal.{kind_parse, integer_literal};
+ghost use Rattle.litrs_grammar.specs.Refused.{IsRefused};
 ghost use Rattle.litrs_lex.specs.IntegerCut.{parts_at, IsWithin, IsDigitsCut};
 
 use crate::parse::check_suffix;
 use litrs_base::{IntegerBase, ParseError, ParseErrorKind};
+use std::ops::Range;
 
 /// Where an integer is cut: places in bytes.
 #[derive(Clone, Copy, Debug, PartialEq, Eq)]
@@ -37,16 +40,15 @@ pub struct IntegerCut {
 /// [ref]: https://doc.rust-lang.org/reference/tokens.html#integer-literals
 pub fn cut_integer(input: &str) -> Result<IntegerCut, ParseError>
     requires { IsTrue (first_passes is_ascii_digit input.now) }
-    ensures ok { IfOk result (λ cut. IsOnlyDerivation (IsIntegerOf (chars input.now)) (parts_at cut input.now)) }
+    ensures ok { IfOk result (λ cut.
+        IsOnlyDerivation (IsIntegerOf (chars input.now)) (parts_at cut input.now)) }
     ensures places { IfOk result (λ cut. IsWithin cut input.now) }
-    ensures none { OnErr result (HasNoDerivation (IsIntegerOf (chars input.now))) }
-    ensures refusal { IfErr result (λ e. integer_refusal (chars input.now) ≡ Some e) }
-    ensures span { IfErr result (IsInText (chars input.now)) }
+    ensures refused { IfErr result (IsRefused (kind_parse integer_literal) (chars input.now)) }
 {
     let cut = cut_digits(input);
     match cut_refusal(&cut, input) {
         None => Ok(cut),
-        Some(refusal) => Err(refusal),
+        Some((span, kind)) => Err(ParseError::in_text(input, Some(span), kind)),
     }
 }
 
@@ -65,10 +67,11 @@ fn cut_digits(input: &str) -> IntegerCut
     }
 }
 
-/// Why a text that is cut so is no integer, None where it is one.
-fn cut_refusal(cut: &IntegerCut, input: &str) -> Option<ParseError>
+/// Why a text that is cut so is no integer, and where; None where it is one.
+fn cut_refusal(cut: &IntegerCut, input: &str) -> Option<(Range<usize>, ParseErrorKind)>
     requires { IsDigitsCut cut.now input.now }
-    ensures { result ≡ cut_refusal (integer_cut (chars input.now)) }
+    ensures { option_map (λ r. refusal (Some r.0) r.1) result
+        ≡ cut_refusal (integer_cut (chars input.now)) }
 {
     let IntegerCut {
         start_main,
@@ -79,21 +82,21 @@ fn cut_refusal(cut: &IntegerCut, input: &str) -> Option<ParseError>
     let behind = suffix.as_bytes();
     if let Err(kind) = check_suffix(suffix) {
         return Some(if begins_with_digit(behind) {
-            ParseError::new(Some(end_main..end_main + 1), ParseErrorKind::InvalidDigit)
+            (end_main..end_main + 1, ParseErrorKind::InvalidDigit)
         } else {
-            ParseError::new(Some(end_main..input.len()), kind)
+            (end_main..input.len(), kind)
         });
     }
     if begins_with_e(behind) {
-        return Some(ParseError::new(
-            Some(end_main..end_main + 1),
+        return Some((
+            end_main..end_main + 1,
             ParseErrorKind::IntegerSuffixStartingWithE,
         ));
     }
     if has_digit(base, &number.as_bytes()[start_main..]) {
         None
     } else {
-        Some(ParseError::new(Some(start_main..end_main), ParseErrorKind::NoDigits))
+        Some((start_main..end_main, ParseErrorKind::NoDigits))
     }
 }
 

@@ -19,8 +19,10 @@ use Rattle.litrs_lines.specs.LinesLaws.{spelled, LinesSpellTheBytes, NoLineFeedI
 use Rattle.litrs_lines.specs.Devices.{AppendsBeginning, StopsWithin}
 use Rattle.std.proofs.Common.{eqb-true, ltb, cond, add-one, get_or, take-append-drop, drop-cons, length-take}
 use Rattle.std.proofs.lemmas.List.{get_or-take, take_rest, take_all}
-use Rattle.litrs_lines.specs.Report.{report_of}
-use Rattle.litrs_lines.specs.Lines.{is_line_feed, HasNoLineFeed, before_last_part, last_part, ended_parts, open_part, unless_empty, ended_lines, open_line, lines_of, reports_of}
+use Rattle.litrs_lines.specs.Reported.{report_of, reports_of}
+use Rattle.litrs_lines.specs.Reports.{AppendsReports}
+use Rattle.litrs_lines.proofs.ReportLemmas.{are_reports}
+use Rattle.litrs_lines.specs.Lines.{is_line_feed, HasNoLineFeed, before_last_part, last_part, ended_parts, open_part, unless_empty, ended_lines, open_line, lines_of}
 
 -- the first part of a split, and those behind it
 record Parts (parts : List (List ℕ)) : Type 0 where
@@ -353,6 +355,8 @@ module _ {left_old left contents_old contents : Option (List ℕ)} {line : List 
     takes = Consumes-kept left_old left left_new run.taken run.takes kept;
     lines = ended_lines run.taken;
     whole = inl refl;
+    out = reports_of (ended_lines run.taken);
+    reports = are_reports (ended_lines run.taken);
     writes = record { written = reports_of (ended_lines run.taken); appends = run.writes; begins = take_all (length (reports_of (ended_lines run.taken))) (reports_of (ended_lines run.taken)) (omega arith) };
   }
 
@@ -364,6 +368,8 @@ module _ {left_old left contents_old contents : Option (List ℕ)} {line : List 
     takes = Consumes-trans left_old left left_new run.taken piece run.takes takes;
     lines = ended_lines (run.taken ++ piece);
     whole = inl refl;
+    out = reports_of (ended_lines (run.taken ++ piece));
+    reports = are_reports (ended_lines (run.taken ++ piece));
     writes = writes_beginning contents_new _ _ writes (reports_on_piece piece);
   }
 
@@ -379,15 +385,20 @@ module _ {left_old left contents_old contents : Option (List ℕ)} {line : List 
     takes = consumes_end left_new piece takes none;
     lines = lines_of run.taken;
     whole = inr (at_end, refl);
+    out = reports_of (lines_of run.taken);
+    reports = are_reports (lines_of run.taken);
     writes = writes_beginning contents_new _ _ writes reports_on_all;
   }
 
   -- the end was reported on
   pub ends_run : (left_new contents_new : Option (List ℕ)) (piece : List ℕ) → Consumes left left_new piece → piece ≡ [] → IsAtEnd left_new
-      → Appends contents contents_new (reports_of (unless_empty line)) → IfSome left_old (λ bytes. Appends contents_old contents_new (reports_of (lines_of bytes)))
+      → Appends contents contents_new (reports_of (unless_empty line)) → IfSome left_old (λ bytes. AppendsReports (lines_of bytes) contents_old contents_new)
   ends_run left_new contents_new piece takes none at_end writes =
-      Consumes-whole left_old left_new run.taken (λ bytes. Appends contents_old contents_new (reports_of (lines_of bytes))) (consumes_end left_new piece takes none) at_end
-      (subst (Appends contents_old contents_new) (sym reports_on_all) (Appends-trans contents_old contents contents_new _ _ run.writes writes))
+      Consumes-whole left_old left_new run.taken (λ bytes. AppendsReports (lines_of bytes) contents_old contents_new) (consumes_end left_new piece takes none) at_end (record {
+        out = reports_of (lines_of run.taken);
+        reports = are_reports (lines_of run.taken);
+        appends = subst (Appends contents_old contents_new) (sym reports_on_all) (Appends-trans contents_old contents contents_new _ _ run.writes writes);
+      })
 
 pub false_unless : (b : Bool) → (b ≡ true → ⊥) → b ≡ false
 false_unless true h = absurd (h refl)

@@ -1,45 +1,33 @@
 -- Lines and the reports on them, by computation. What a number is printed as is left as it is.
-use Rattle.std.specs.Prelude.{◌≡◌, ◌++◌, [], ◌∷◌, codes, refl}
+use Rattle.std.specs.Prelude.{◌≡◌, ◌++◌, true, false, [], ◌∷◌, codes, refl}
+use Rattle.std.proofs.Common.{inl, inr}
 use Rattle.std.specs.Fmt.{decimal}
-use Rattle.litrs_grammar.specs.Integer.{integer_cut, integer_refusal}
+use Rattle.litrs_base.specs.declared.err.ParseErrorKind.TheVariants as kind
+use Rattle.litrs_base.specs.Refusal.{plain, at}
 use Rattle.litrs_base.specs.Numeral.{place_sum}
-use Rattle.litrs_grammar.specs.LiteralRefusals.{dispatch}
-use Rattle.litrs.specs.ReadLiteral.{read_refusal}
-use Rattle.litrs_lines.specs.Report.{value_text, text_report}
-use Rattle.litrs_lines.specs.Lines.{ended_lines, open_line, lines_of}
+use Rattle.litrs_grammar.specs.Integer.{integer_cut}
+use Rattle.litrs_grammar.specs.Literal.{a_bool, an_integer}
 use Rattle.litrs_grammar.proofs.Computing.{computing}
-
-unfoldable reports : Unit {0}
-unfolding computing dispatch read_refusal integer_cut integer_refusal place_sum
-reports = tt
+use Rattle.litrs_lines.specs.Report.{value_text, literal_report, IsTextReport}
+use Rattle.litrs_lines.specs.Lines.{ended_lines, open_line, lines_of}
 
 -- Texts
 
-bool-true : text_report (codes "true") ≡ codes "bool true"
-unfolding reports
-bool-true = refl
+bools : IsTextReport (codes "true") (codes "bool true") × IsTextReport (codes "false") (codes "bool false")
+bools = (inl (a_bool true, (refl, refl), refl), inl (a_bool false, (refl, refl), refl))
 
-bool-false : text_report (codes "false") ≡ codes "bool false"
-unfolding reports
-bool-false = refl
+integers : (literal_report (an_integer (integer_cut (codes "0xff80")))
+    ≡ codes "integer base=" ++ (decimal 16 ++ (codes " digits=ff80 suffix= value=")) ++ decimal 65408)
+    × (literal_report (an_integer (integer_cut (codes "1_000u32")))
+    ≡ codes "integer base=" ++ (decimal 10 ++ (codes " digits=1_000 suffix=u32 value=")) ++ decimal 1000)
+unfolding computing integer_cut place_sum
+integers = (refl, refl)
 
-integer-hexadecimal : text_report (codes "0xff80")
-    ≡ codes "integer base=" ++ (decimal 16 ++ (codes " digits=ff80 suffix= value=")) ++ decimal 65408
-unfolding reports
-integer-hexadecimal = refl
-
-integer-suffix : text_report (codes "1_000u32")
-    ≡ codes "integer base=" ++ (decimal 10 ++ (codes " digits=1_000 suffix=u32 value=")) ++ decimal 1000
-unfolding reports
-integer-suffix = refl
-
-refused-empty : text_report (codes "") ≡ codes "error input is empty"
-unfolding reports
-refused-empty = refl
-
-refused-symbol : text_report (codes "0;") ≡ codes "error unexpected character (at " ++ decimal 1 ++ codes ".." ++ decimal 2 ++ codes ")"
-unfolding reports
-refused-symbol = refl
+refusals : IsTextReport (codes "") (codes "error input is empty")
+    × IsTextReport (codes "0;") (codes "error unexpected character (at " ++ decimal 1 ++ codes ".." ++ decimal 2 ++ codes ")")
+    × IsTextReport (codes "foo") (codes "error invalid literal")
+unfolding computing
+refusals = (inr (plain kind.Empty, refl, refl), inr (at 1 kind.UnexpectedChar, refl, refl), inr (plain kind.InvalidLiteral, refl, refl))
 
 -- Values
 

@@ -1,21 +1,21 @@
--- The report of a text, by its derivation or its refusal.
-use Rattle.std.proofs.Common.{◌≡◌, ℕ, false, List, ◌++◌, Some, refl, sym, ap, ◌∙◌, append_assoc, Bool, true}
+-- The report of a text, by its derivation or its refusal: each line has one.
+use Rattle.std.proofs.Common.{◌≡◌, ◌⊎◌, inl, inr, ℕ, List, [], ◌∷◌, ◌++◌, refl, sym, ap, subst, ◌∙◌, append_assoc, Bool, true, false, Option, Some}
 use Rattle.std.specs.Prelude.{codes}
 use Rattle.std.specs.Str.{chars, is_utf8, IsUtf8, encode_utf8_all}
 use Rattle.std.proofs.lemmas.Str.{encodes-chars, is_utf8-from_IsUtf8, IsUtf8-from_is_utf8}
 use Rattle.std.proofs.lemmas.Bool.{false_from_ne_true}
-use Rattle.litrs_base.specs.declared.err.ParseError.{ParseError}
-use Rattle.litrs_base.specs.Text.{is_text}
-use Rattle.litrs_grammar.specs.Bool.{bool_text}
 use Rattle.litrs_base.specs.Base.{base_value}
-use Rattle.litrs_grammar.specs.Integer.{IntegerParts, IsIntegerOf}
-use Rattle.litrs_grammar.specs.Integer.{integer_value}
-use Rattle.litrs_grammar.specs.Literal.{Derivation, a_bool, an_integer}
-use Rattle.litrs.specs.ReadLiteral.{IsReadLiteral, read_refusal}
-use Rattle.litrs_lines.specs.Report.{value_text, integer_front, literal_report, refusal_report, derivation_of, text_report_by, text_report, report_of}
-use Rattle.litrs_grammar.proofs.IntegerLaws.{cut_of_text}
-use Rattle.litrs_grammar.proofs.LiteralLaws.{is_text-is, literals_are_unique}
-use Rattle.litrs.proofs.ReadLiteral.{read_refusal-free}
+use Rattle.litrs_base.specs.Refusal.{Refusal}
+use Rattle.litrs_grammar.specs.Integer.{IntegerParts, integer_value}
+use Rattle.litrs_grammar.specs.Float.{FloatParts}
+use Rattle.litrs_grammar.specs.Literal.{Derivation, an_integer, a_float}
+use Rattle.litrs_grammar.proofs.LiteralLaws.{literals_are_unique}
+use Rattle.litrs.specs.Parsed.{IsParsed, IsParsedRefusal}
+use Rattle.litrs.proofs.Parsed.{parsed_or_refused, parsed_not_refused, parsed_refusals_are_unique}
+use Rattle.litrs_lines.specs.Report.{value_text, integer_front, fraction_field, float_report, literal_report, refusal_report, IsTextReport, IsReport}
+use Rattle.litrs_lines.specs.Reports.{AreReports}
+use Rattle.litrs_lines.specs.Reported.{report_by, text_report, report_of, reports_of}
+use Rattle.litrs_lines.specs.ReportLaws.{LinesHaveReports, ReportsAreUnique}
 
 -- The bytes of a line
 
@@ -27,26 +27,78 @@ pub report_of-other : (line : List ℕ) → (IsUtf8 line → ⊥) → report_of 
 unfolding report_of
 report_of-other line none = rw (false_from_ne_true (is_utf8 line) (λ is. none (IsUtf8-from_is_utf8 line is))) refl
 
--- The derivation of a text
+-- The report of a text
 
-no_bool : (t : List ℕ) (b : Bool) (d : IntegerParts) → IsIntegerOf t d → is_text (bool_text b) t ≡ false
-no_bool t b d r = false_from_ne_true (is_text (bool_text b) t)
-    (λ is. let same : a_bool b ≡ an_integer d = literals_are_unique t (a_bool b) (an_integer d) (is_text-is (bool_text b) t is) r in cc)
+literal_by : (t : List ℕ) (found : ((d : Derivation) × IsParsed t d) ⊎ ((r : Refusal) × IsParsedRefusal t r)) (d : Derivation) → IsParsed t d →
+    report_by found ≡ literal_report d
+literal_by t (inl e) d r = ap literal_report (literals_are_unique t e.0 d e.1.0 r.0)
+literal_by t (inr e) d r = absurd (parsed_not_refused t d e.0 r e.1)
 
-derivation_of-bool : (b : Bool) → derivation_of (bool_text b) ≡ a_bool b
-derivation_of-bool false = refl
-derivation_of-bool true = refl
+refused_by : (t : List ℕ) (found : ((d : Derivation) × IsParsed t d) ⊎ ((r : Refusal) × IsParsedRefusal t r)) (r : Refusal) → IsParsedRefusal t r →
+    report_by found ≡ refusal_report r
+refused_by t (inl e) r table = absurd (parsed_not_refused t e.0 r e.1 table)
+refused_by t (inr e) r table = ap refusal_report (parsed_refusals_are_unique t e.0 r e.1 table)
 
-pub derivation_of-literal : (t : List ℕ) (d : Derivation) → IsReadLiteral t d → derivation_of t ≡ d
-derivation_of-literal t (a_bool b) r = ap derivation_of (sym r) ∙ derivation_of-bool b
-derivation_of-literal t (an_integer d) r = rw (no_bool t true d r, no_bool t false d r) (ap an_integer (cut_of_text t d r))
-derivation_of-literal t d r = absurd r
+pub text_report-literal : (t : List ℕ) (d : Derivation) → IsParsed t d → text_report t ≡ literal_report d
+unfolding text_report
+text_report-literal t d r = literal_by t (parsed_or_refused t) d r
 
-pub text_report-literal : (t : List ℕ) (d : Derivation) → IsReadLiteral t d → text_report t ≡ literal_report d
-text_report-literal t d r = ap (λ o. text_report_by o (derivation_of t)) (read_refusal-free t d r) ∙ ap literal_report (derivation_of-literal t d r)
+pub text_report-refused : (t : List ℕ) (r : Refusal) → IsParsedRefusal t r → text_report t ≡ refusal_report r
+unfolding text_report
+text_report-refused t r table = refused_by t (parsed_or_refused t) r table
 
-pub text_report-refused : (t : List ℕ) (e : ParseError) → read_refusal t ≡ Some e → text_report t ≡ refusal_report e
-text_report-refused t e refusal = ap (λ o. text_report_by o (derivation_of t)) refusal
+-- The relation
+
+text_has_report : (t : List ℕ) (found : ((d : Derivation) × IsParsed t d) ⊎ ((r : Refusal) × IsParsedRefusal t r)) → IsTextReport t (report_by found)
+text_has_report t (inl d) = inl (d.0, d.1, refl)
+text_has_report t (inr r) = inr (r.0, r.1, refl)
+
+report_is : (t : List ℕ) → IsTextReport t (text_report t)
+unfolding text_report
+report_is t = text_has_report t (parsed_or_refused t)
+
+line_has_report : (line : List ℕ) (v : Bool) → is_utf8 line ≡ v → IsReport line (report_of line)
+line_has_report line true is =
+    let u : IsUtf8 line = IsUtf8-from_is_utf8 line is in
+    inl (u, subst (IsTextReport (chars line)) (sym (report_of-text line u)) (report_is (chars line)))
+line_has_report line false is =
+    let none : IsUtf8 line → ⊥ = λ u. let both : true ≡ false = sym (is_utf8-from_IsUtf8 line u) ∙ is in cc in
+    inr (none, report_of-other line none)
+
+reports_of-next : (line : List ℕ) (lines : List (List ℕ)) → reports_of (line ∷ lines) ≡ (report_of line ++ 10 ∷ []) ++ reports_of lines
+unfolding reports_of
+reports_of-next line lines = refl
+
+reports_of-empty : reports_of [] ≡ []
+unfolding reports_of
+reports_of-empty = refl
+
+pub are_reports : (lines : List (List ℕ)) → AreReports lines (reports_of lines)
+are_reports [] = reports_of-empty
+are_reports (line ∷ lines) =
+    (report_of line, reports_of lines, line_has_report line (is_utf8 line) refl, are_reports lines, reports_of-next line lines)
+
+pub lines_have_reports : LinesHaveReports
+lines_have_reports lines = (reports_of lines, are_reports lines)
+
+one_text_report : (t r s : List ℕ) → IsTextReport t r → IsTextReport t s → r ≡ s
+one_text_report t r s (inl p) (inl q) = p.2 ∙ (ap literal_report (literals_are_unique t p.0 q.0 p.1.0 q.1.0) ∙ sym q.2)
+one_text_report t r s (inl p) (inr q) = absurd (parsed_not_refused t p.0 q.0 p.1 q.1)
+one_text_report t r s (inr p) (inl q) = absurd (parsed_not_refused t q.0 p.0 q.1 p.1)
+one_text_report t r s (inr p) (inr q) = p.2 ∙ (ap refusal_report (parsed_refusals_are_unique t p.0 q.0 p.1 q.1) ∙ sym q.2)
+
+one_report : (line r s : List ℕ) → IsReport line r → IsReport line s → r ≡ s
+one_report line r s (inl p) (inl q) = one_text_report (chars line) r s p.1 q.1
+one_report line r s (inl p) (inr q) = absurd (q.0 p.0)
+one_report line r s (inr p) (inl q) = absurd (p.0 q.0)
+one_report line r s (inr p) (inr q) = p.1 ∙ sym q.1
+
+pub reports_are_unique : ReportsAreUnique
+reports_are_unique [] out other p q = p ∙ sym q
+reports_are_unique (line ∷ lines) out other p q =
+    let r = one_report line p.0 q.0 p.2 q.2 in
+    let rest = reports_are_unique lines p.1 q.1 p.3 q.3 in
+    p.4 ∙ (ap (λ (x : List ℕ). (x ++ 10 ∷ []) ++ p.1) r ∙ (ap (λ (x : List ℕ). (q.0 ++ 10 ∷ []) ++ x) rest ∙ sym q.4))
 
 -- An integer, part by part
 
@@ -60,3 +112,17 @@ integer_report_made old front new digits suffix d digits_utf8 suffix_utf8 main r
     valued ∙ (ap (λ xs. xs ++ value) made ∙ (append_assoc old (integer_front (base_value d.base) digits suffix) value
     ∙ (ap (λ xs. old ++ (integer_front (base_value d.base) xs suffix ++ value)) digits_is
     ∙ ap (λ xs. old ++ (integer_front (base_value d.base) (encode_utf8_all d.main) xs ++ value)) suffix_is)))
+
+-- A float
+
+pub fraction_field-is : (digits : List ℕ) (fraction : Option (List ℕ)) → IsUtf8 digits → Some (chars digits) ≡ fraction → digits ≡ fraction_field fraction
+fraction_field-is digits fraction utf8 is = sym (encodes-chars digits utf8) ∙ ap fraction_field is
+
+pub float_report_made : (old new integer fraction exponent suffix : List ℕ) (d : FloatParts) → IsUtf8 integer → IsUtf8 exponent → IsUtf8 suffix →
+    chars integer ≡ d.integer → fraction ≡ fraction_field d.fraction → chars exponent ≡ d.exponent → chars suffix ≡ d.suffix →
+    new ≡ old ++ float_report integer fraction exponent suffix → new ≡ old ++ literal_report (a_float d)
+float_report_made old new integer fraction exponent suffix d integer_utf8 exponent_utf8 suffix_utf8 integer_is fraction_is exponent_is suffix_is made =
+    let i : integer ≡ encode_utf8_all d.integer = sym (encodes-chars integer integer_utf8) ∙ ap encode_utf8_all integer_is in
+    let e : exponent ≡ encode_utf8_all d.exponent = sym (encodes-chars exponent exponent_utf8) ∙ ap encode_utf8_all exponent_is in
+    let s : suffix ≡ encode_utf8_all d.suffix = sym (encodes-chars suffix suffix_utf8) ∙ ap encode_utf8_all suffix_is in
+    made ∙ (λ j. old ++ float_report (i j) (fraction_is j) (e j) (s j))

@@ -2,7 +2,8 @@
 use Rattle.std.specs.Prelude.{◌≡◌, ◌⊎◌, ℕ, Bool, true, List, Option, Result, MatchResult}
 use Rattle.std.specs.Io.{StartsWith}
 use Rattle.std.specs.Io.KnownBytes.{Appends, Consumes, IsAtEnd}
-use Rattle.litrs_lines.specs.Lines.{ended_lines, lines_of, reports_of}
+use Rattle.litrs_lines.specs.Lines.{ended_lines, lines_of}
+use Rattle.litrs_lines.specs.Reports.{AreReports}
 
 -- after a call that fails a device has failed, and after another it has if it had before
 abbrev pub RecordsFailure : {A E : Type 0} → Bool → Bool → Result A E → Type 0
@@ -24,4 +25,6 @@ pub record StopsWithin (left_old left_new contents_old contents_new : Option (Li
   pub takes : Consumes left_old left_new taken
   pub lines : List (List ℕ)
   pub whole : AreWholeLines left_new taken lines
-  pub writes : AppendsBeginning contents_old contents_new (reports_of lines)
+  pub out : List ℕ
+  pub reports : AreReports lines out
+  pub writes : AppendsBeginning contents_old contents_new out

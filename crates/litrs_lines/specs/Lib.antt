@@ -1,7 +1,11 @@
-pub mod Report
-pub mod ReportLaws
+-- lines and reports
 pub mod Lines
 pub mod LinesLaws
+pub mod Report
+pub mod Reports
+pub mod ReportLaws
+pub mod Reported
+-- devices
 pub mod Devices
 pub mod Calls
 pub mod MemInput

@@ -1,8 +1,7 @@
--- The lines of some bytes, and what is written on them.
-use Rattle.std.specs.Prelude.{◌≡◌, ◌==◌, ℕ, Bool, false, List, [], ◌∷◌, ◌++◌, All, flat_map}
+-- The lines of some bytes.
+use Rattle.std.specs.Prelude.{◌≡◌, ◌==◌, ℕ, Bool, false, List, [], ◌∷◌, ◌++◌, All}
 use Rattle.std.specs.List.{slice_split}
 use Rattle.litrs_base.specs.Characters.{line_feed}
-use Rattle.litrs_lines.specs.Report.{report_of}
 
 -- LF, which ends a line
 abbrev pub is_line_feed : ℕ → Bool
@@ -48,11 +47,3 @@ open_line bytes = open_part (slice_split is_line_feed bytes)
 -- the ended lines, and what stands behind the last LF where it is not empty
 unfoldable pub lines_of : List ℕ → List (List ℕ)
 lines_of bytes = ended_lines bytes ++ unless_empty (open_line bytes)
-
--- the report on each line, with an LF behind it
-unfoldable pub reports_of : List (List ℕ) → List ℕ
-reports_of lines = flat_map (λ line. report_of line ++ line_feed ∷ []) lines
-
--- what is written on some bytes as a whole
-abbrev pub output_of : List ℕ → List ℕ
-output_of bytes = reports_of (lines_of bytes)

@@ -1,10 +1,11 @@
 -- What holds of the lines of any bytes.
 use Rattle.std.specs.Prelude.{◌≡◌, ℕ, List, [], ◌∷◌, ◌++◌, All, flat_map}
+use Rattle.litrs_base.specs.Characters.{line_feed}
 use Rattle.litrs_lines.specs.Lines.{HasNoLineFeed, ended_lines, open_line}
 
 -- each line with an LF behind it, and then the last one
 abbrev pub spelled : List (List ℕ) → List ℕ → List ℕ
-spelled lines last = flat_map (λ line. line ++ 10 ∷ []) lines ++ last
+spelled lines last = flat_map (λ line. line ++ line_feed ∷ []) lines ++ last
 
 -- the ended lines and the open one spell the bytes
 abbrev pub LinesSpellTheBytes : Type 0

@@ -1,18 +1,15 @@
--- The report on a line, made from the derivation of the text or from its refusal.
-use Rattle.std.specs.Prelude.{ℕ, nat_le, List, [], ◌++◌, Option, Some, None, codes, if◌then◌else◌, true, false}
+-- The report on a line: of the derivation of its text, or of its refusal.
+use Rattle.std.specs.Prelude.{◌≡◌, ◌⊎◌, ℕ, nat_le, List, [], ◌++◌, Option, Some, None, codes, if◌then◌else◌}
 use Rattle.std.specs.Fmt.{decimal}
-use Rattle.std.specs.Str.{chars, is_utf8, encode_utf8_all}
+use Rattle.std.specs.Str.{chars, IsUtf8, encode_utf8_all}
 use Rattle.litrs_base.specs.declared.integer.IntegerType.TheVariants.{U128}
-use Rattle.litrs_base.specs.declared.err.ParseError.{ParseError}
-use Rattle.litrs_base.specs.Refusal.{refusal_text}
-use Rattle.litrs_base.specs.Text.{is_text}
-use Rattle.litrs_grammar.specs.Bool.{bool_text}
 use Rattle.litrs_base.specs.Base.{base_value}
-use Rattle.litrs_grammar.specs.Integer.{integer_cut}
 use Rattle.litrs_base.specs.Numeral.{greatest_of}
+use Rattle.litrs_base.specs.Refusal.{Refusal, refusal_text}
+use Rattle.litrs_grammar.specs.Bool.{bool_text}
 use Rattle.litrs_grammar.specs.Integer.{integer_value}
 use Rattle.litrs_grammar.specs.Literal.{Derivation, a_bool, an_integer, a_float, a_char, a_byte, a_string, a_byte_string, a_c_string}
-use Rattle.litrs.specs.ReadLiteral.{read_refusal}
+use Rattle.litrs.specs.Parsed.{IsParsed, IsParsedRefusal}
 
 -- a value in decimal, or `none` where 128 bits do not hold it
 abbrev pub value_text : ℕ → List ℕ
@@ -23,12 +20,24 @@ abbrev pub integer_front : ℕ → List ℕ → List ℕ → List ℕ
 integer_front base digits suffix =
     codes "integer base=" ++ (decimal base ++ (codes " digits=" ++ (digits ++ (codes " suffix=" ++ (suffix ++ codes " value=")))))
 
--- `bool true`; `integer base=16 digits=ff80 suffix= value=65408`; nothing of the kinds that are not read yet
+-- the fraction of a float, `-` where there is no period
+abbrev pub fraction_field : Option (List ℕ) → List ℕ
+fraction_field None = codes "-"
+fraction_field (Some digits) = encode_utf8_all digits
+
+-- a float, by the bytes of its parts
+abbrev pub float_report : (integer fraction exponent suffix : List ℕ) → List ℕ
+float_report integer fraction exponent suffix =
+    codes "float int=" ++ (integer ++ (codes " frac=" ++ (fraction ++ (codes " exp=" ++ (exponent ++ (codes " suffix=" ++ suffix))))))
+
+-- `bool true`; `integer base=16 digits=ff80 suffix= value=65408`; `float int=3 frac=14 exp= suffix=f33`;
+-- nothing of the kinds that are not read yet
 abbrev pub literal_report : Derivation → List ℕ
 literal_report (a_bool b) = codes "bool " ++ bool_text b
 literal_report (an_integer d) =
     integer_front (base_value d.base) (encode_utf8_all d.main) (encode_utf8_all d.suffix) ++ value_text (integer_value d)
-literal_report (a_float d) = []
+literal_report (a_float d) =
+    float_report (encode_utf8_all d.integer) (fraction_field d.fraction) (encode_utf8_all d.exponent) (encode_utf8_all d.suffix)
 literal_report (a_char d) = []
 literal_report (a_byte d) = []
 literal_report (a_string d) = []
@@ -36,22 +45,17 @@ literal_report (a_byte_string d) = []
 literal_report (a_c_string d) = []
 
 -- `error`, and what is printed of the refusal
-abbrev pub refusal_report : ParseError → List ℕ
+abbrev pub refusal_report : Refusal → List ℕ
 refusal_report e = codes "error " ++ refusal_text e
 
--- of a text that is a literal, its derivation
-abbrev pub derivation_of : List ℕ → Derivation
-derivation_of t = if is_text (bool_text true) t then a_bool true else if is_text (bool_text false) t then a_bool false else an_integer (integer_cut t)
+-- r is the report on a text: that of its derivation, or that of its refusal
+abbrev pub IsTextReport : List ℕ → List ℕ → Type 0
+IsTextReport t r =
+    ((d : Derivation) × IsParsed t d × (r ≡ literal_report d))
+    ⊎ ((e : Refusal) × IsParsedRefusal t e × (r ≡ refusal_report e))
 
--- the report of a text: of its refusal, or where there is none of its derivation
-abbrev pub text_report_by : Option ParseError → Derivation → List ℕ
-text_report_by None d = literal_report d
-text_report_by (Some e) d = refusal_report e
-
--- the report of a text
-abbrev pub text_report : List ℕ → List ℕ
-text_report t = text_report_by (read_refusal t) (derivation_of t)
-
--- the report of a line, whose bytes may be no text
-unfoldable pub report_of : List ℕ → List ℕ
-report_of line = if is_utf8 line then text_report (chars line) else codes "error input is not UTF-8"
+-- r is the report on a line, whose bytes may be no text
+abbrev pub IsReport : List ℕ → List ℕ → Type 0
+IsReport line r =
+    (IsUtf8 line × IsTextReport (chars line) r)
+    ⊎ ((IsUtf8 line → ⊥) × (r ≡ codes "error input is not UTF-8"))

@@ -15,7 +15,7 @@ pub trait Input {
     /// A call has failed.
     ghost has_failed: { Self → Bool };
 
-    /// Derives bytes into the front of `buffer` and answers their number.
+    /// Reads bytes into the front of `buffer` and answers their number.
     ///
     /// Of a known input these are the next bytes, and none only at its end or where `buffer` is
     /// empty. A call that fails takes none of them.

@@ -1,11 +1,13 @@
-//! Derives lines and writes a report on each.
+//! Reads lines and writes a report on each.
 #![tactic(auto)]
 
 ghost use Rattle.std.specs.Prelude.{◌≡◌, ◌≢◌, ◌↔◌, ◌∷◌, [], ◌++◌, true, false, Some, IsSome, IfSome, IsErrOf, OnOk, OnErr, position, string_bytes};
 ghost use Rattle.std.specs.Io.KnownBytes.{Appends, IsAtEnd};
+ghost use Rattle.litrs_base.specs.Characters.{line_feed};
 ghost use Rattle.litrs_lines.specs.Devices.{AppendsBeginning, StopsWithin};
-ghost use Rattle.litrs_lines.specs.Lines.{is_line_feed, HasNoLineFeed, ended_lines, open_line, unless_empty, reports_of, output_of};
-ghost use Rattle.litrs_lines.specs.Report.{report_of};
+ghost use Rattle.litrs_lines.specs.Lines.{is_line_feed, HasNoLineFeed, ended_lines, open_line, unless_empty, lines_of};
+ghost use Rattle.litrs_lines.specs.Reported.{report_of, reports_of};
+ghost use Rattle.litrs_lines.specs.Reports.{AppendsReports};
 
 pub use device::{Failed, Input, Output};
 pub use mem_input::MemInput;
@@ -79,7 +81,7 @@ fn line_end(bytes: &[u8]) -> Option<usize>
 fn report_line(line: &mut Vec<u8>, reports: &mut String, end: &[u8]) -> Result<(), AllocError>
     ensures line { OnOk result (line.new.items ≡ []) }
     ensures reports { OnOk result (string_bytes reports.new
-        ≡ string_bytes reports.old ++ (report_of (line.old.items ++ end.now) ++ 10 ∷ [])) }
+        ≡ string_bytes reports.old ++ (report_of (line.old.items ++ end.now) ++ line_feed ∷ [])) }
 {
     if line.is_empty() {
         push_report(reports, end)?;
@@ -188,7 +190,7 @@ fn finish<O: Output>(
     }
 }
 
-/// Derives to the end of the input, writes the report on each line and an LF behind it, and flushes
+/// Reads to the end of the input, writes the report on each line and an LF behind it, and flushes
 /// once at the end.
 ///
 /// A line is the bytes before an LF, without it, and what stands behind the last LF where that is
@@ -210,7 +212,7 @@ pub fn run<I: Input, O: Output>(
     // The whole input was read, and the reports on its lines were written and flushed.
     ensures end { OnOk result (IsAtEnd (I.remaining reader.new)) }
     ensures ok { OnOk result (IfSome (I.remaining reader.old) (λ bytes.
-        Appends (O.contents writer.old) (O.contents writer.new) (output_of bytes))) }
+        AppendsReports (lines_of bytes) (O.contents writer.old) (O.contents writer.new))) }
     ensures flushed { OnOk result (O.is_flushed writer.new ≡ true) }
 
     // An input whose bytes are known never runs out of reads.

@@ -3,11 +3,13 @@ ghost use Rattle.std.specs.Prelude.{◌≡◌, ◌++◌, OnOk, string_bytes, cod
 ghost use Rattle.std.specs.Str.{chars};
 ghost use Rattle.litrs.specs.LiteralDerivation.{derivation};
 ghost use Rattle.litrs_grammar.specs.Integer.{integer_value};
+ghost use Rattle.litrs.specs.FloatLiteral.{float_parts};
 ghost use Rattle.litrs.specs.IntegerLiteral.{integer_parts};
-ghost use Rattle.litrs_grammar.specs.Literal.{an_integer};
-ghost use Rattle.litrs_lines.specs.Report.{value_text, integer_front, literal_report, text_report, report_of};
+ghost use Rattle.litrs_grammar.specs.Literal.{an_integer, a_float};
+ghost use Rattle.litrs_lines.specs.Report.{value_text, integer_front, fraction_field, float_report, literal_report};
+ghost use Rattle.litrs_lines.specs.Reported.{text_report, report_of};
 
-use litrs::{Buffer, IntegerLit, Literal};
+use litrs::{Buffer, FloatLit, IntegerLit, Literal};
 use std::alloc::{AllocError, Global};
 use std::str;
 
@@ -46,6 +48,7 @@ fn push_literal_report<B: Buffer>(out: &mut String, lit: &Literal<B>) -> Result<
     match lit {
         Literal::Bool(lit) => write!(out, "bool {lit}"),
         Literal::Integer(lit) => push_integer_report(out, lit),
+        Literal::Float(lit) => push_float_report(out, lit),
     }
 }
 
@@ -80,4 +83,43 @@ fn push_value<B: Buffer>(out: &mut String, lit: &IntegerLit<B>) -> Result<(), Al
         Some(value) => write!(out, "{value}"),
         None => out.push_str("none"),
     }
+}
+
+/// Adds the report on a float.
+fn push_float_report<B: Buffer>(out: &mut String, lit: &FloatLit<B>) -> Result<(), AllocError>
+    ensures { OnOk result (string_bytes out.new ≡ string_bytes out.old ++ literal_report (a_float (float_parts lit.now))) }
+{
+    push_float_parts(
+        out,
+        lit.integer_part(),
+        fraction_field(lit),
+        lit.exponent_part(),
+        lit.suffix(),
+    )
+}
+
+/// The fraction, `-` where there is no period.
+fn fraction_field<B: Buffer>(lit: &FloatLit<B>) -> &str
+    ensures { result.now ≡ fraction_field (float_parts lit.now).fraction }
+{
+    match lit.fractional_part() {
+        Some(digits) => digits,
+        None => "-",
+    }
+}
+
+/// Adds the report on a float with these parts.
+fn push_float_parts(
+    out: &mut String,
+    integer: &str,
+    fraction: &str,
+    exponent: &str,
+    suffix: &str,
+) -> Result<(), AllocError>
+    ensures { OnOk result (string_bytes out.new ≡ string_bytes out.old ++ float_report integer.now fraction.now exponent.now suffix.now) }
+{
+    write!(
+        out,
+        "float int={integer} frac={fraction} exp={exponent} suffix={suffix}"
+    )
 }

@@ -19,11 +19,11 @@ loop-end-preserved c =
 pub returns-clause-line : goal.returns-clause-line
 returns-clause-line c =
     let inv = c.loop-end.invariant in
-    let last = goes_on c.loop-end.line.items c.loop-end.rest.now inv.held (sym c.in_derefusal.ensures) in
+    let last = goes_on c.loop-end.line.items c.loop-end.rest.now inv.held (sym c.in_default.ensures) in
     OnOk-appended c.extend_from_slice.result _ c.loop-end.line.items c.loop-end.rest.now _ c.extend_from_slice.ensures.items (inv.leaves ∙ last.leaves)
 
 pub returns-clause-reports : goal.returns-clause-reports
 returns-clause-reports c =
     let inv = c.loop-end.invariant in
-    let last = goes_on c.loop-end.line.items c.loop-end.rest.now inv.held (sym c.in_derefusal.ensures) in
+    let last = goes_on c.loop-end.line.items c.loop-end.rest.now inv.held (sym c.in_default.ensures) in
     OnOk-holds c.extend_from_slice.result (sym (inv.reports ∙ ap (λ xs. (string_bytes c.loop-end.reports) ++ xs) last.reports ∙ append-nil (string_bytes c.loop-end.reports)))

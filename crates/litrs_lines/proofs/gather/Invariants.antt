@@ -1,6 +1,7 @@
 use Rattle.std.specs.Prelude.{string_bytes}
 use Rattle.std.proofs.Common.{◌≡◌, ◌++◌, ◌≤◌, length}
-use Rattle.litrs_lines.specs.Lines.{HasNoLineFeed, ended_lines, open_line, reports_of}
+use Rattle.litrs_lines.specs.Lines.{HasNoLineFeed, ended_lines, open_line}
+use Rattle.litrs_lines.specs.Reported.{reports_of}
 use Rattle.litrs_lines.proofs.gather.Given as goal
 
 abbrev pub invariant-loop-end : goal.invariant-loop-end

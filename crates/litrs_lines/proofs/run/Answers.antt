@@ -33,8 +33,8 @@ returns-in-Err-take_piece-clause-err g c =
 pub loop-turn-preserved : goal.loop-turn-preserved
 loop-turn-preserved g c = record {
   reader_works = c.in-Ok.ensures.failed ∙ c.loop-turn.invariant.reader_works;
-  writer_works = false_unless _ (λ failed. ok_not_err (c.in_derefusal.ensures.write.1 failed));
-  runs = runs_more c.loop-turn.invariant.runs _ _ _ _ c.in-Ok.ensures.bytes.0 c.in_derefusal.ensures.line c.in_derefusal.ensures.ok (rw length-take (omega arith));
+  writer_works = false_unless _ (λ failed. ok_not_err (c.in_default.ensures.write.1 failed));
+  runs = runs_more c.loop-turn.invariant.runs _ _ _ _ c.in-Ok.ensures.bytes.0 c.in_default.ensures.line c.in_default.ensures.ok (rw length-take (omega arith));
 }
 
 pub returns-clause-err : goal.returns-clause-err

@@ -1,17 +1,12 @@
 //! Laws of the reports on lines.
-ghost use Rattle.litrs_lines.specs.ReportLaws.{ReportsFollowLiterals, ReportsFollowRefusals, ReportsTellNoText};
+ghost use Rattle.litrs_lines.specs.ReportLaws.{LinesHaveReports, ReportsAreUnique};
 
-/// The report on a text that is a literal is that of its derivation.
-pub fn reports_follow_literals()
-    ensures { ReportsFollowLiterals }
+/// Each list of lines has reports: every text has a derivation or a refusal.
+pub fn lines_have_reports()
+    ensures { LinesHaveReports }
 {}
 
-/// The report on a text that is refused is that of its refusal.
-pub fn reports_follow_refusals()
-    ensures { ReportsFollowRefusals }
-{}
-
-/// A line that is no text has a report of its own.
-pub fn reports_tell_no_text()
-    ensures { ReportsTellNoText }
+/// No list of lines has other reports: a text has one derivation or one refusal, and never both.
+pub fn reports_are_unique()
+    ensures { ReportsAreUnique }
 {}

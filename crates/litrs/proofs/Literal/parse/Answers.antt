@@ -1,46 +1,58 @@
 -- Each arm is the parse of its kind.
-use Rattle.std.proofs.Common.{◌≢◌, sym, ap, ◌∙◌, subst}
+use Rattle.std.proofs.Common.{refl, sym, ap, ◌∙◌}
 use Rattle.std.specs.Str.{chars}
 use Rattle.std.proofs.lemmas.Result.{err_from_is_err_and}
-use Rattle.litrs_grammar.specs.Integer.{integer_refusal}
+use Rattle.litrs_grammar.specs.Literal.{a_bool, an_integer, a_float, integer_literal, float_literal}
+use Rattle.litrs_grammar.proofs.BoolLaws.{chars-bool_text}
 use Rattle.litrs.specs.BoolLiteral.{bool_value}
-use Rattle.litrs.specs.ReadLiteral.{read_refusal}
-use Rattle.litrs_grammar.proofs.BoolLaws.{bool_text_from_chars}
-use Rattle.litrs.proofs.ReadLiteral.{no_literal, only_bool, only_integer_literal}
-use Rattle.litrs_base.specs.declared.err.ParseError.{ParseError}
-use Rattle.litrs_base.specs.declared.err.ParseErrorKind.TheVariants.{OutOfMemory}
-use Rattle.litrs_base.specs.Refusal.{kind_of}
-use Rattle.litrs_grammar.proofs.RefusalKinds.{integer_refusal_of_text}
-use Rattle.litrs.proofs.ReadSpans.{read_refusal_within, read_refusal_of_text}
+use Rattle.litrs.specs.IntegerLiteral.{integer_parts}
+use Rattle.litrs.specs.FloatLiteral.{float_parts}
+use Rattle.litrs.proofs.Parsed.{only_literal, kind_refused_at, unparsed_refused_at, row_refused_at, refusal_of_text}
 use Rattle.litrs.proofs.Literal.parse.Goals as goal
 
-pub returns-in_err-parse-in-Integer-clause-none : goal.returns-in_err-parse-in-Integer-clause-none
-returns-in_err-parse-in-Integer-clause-none g c =
-    let p = err_from_is_err_and c.from_residual.result c.from_residual.ensures.1 in
-    let same = ap chars (sym c.as_str.ensures) in
-    rw (p.1) (no_literal _ c.in_err-parse-in-Integer.field-0.0
-    (ap read_refusal same ∙ (c.in-Integer.ensures ∙ (ap integer_refusal (sym same) ∙ c.in_err-parse-in-Integer.ensures.refusal))))
+pub returns-in-Refused-clause-refused : goal.returns-in-Refused-clause-refused
+returns-in-Refused-clause-refused g c =
+    row_refused_at _ c.as_str.result.now c.in-Refused.e c.as_str.utf8 c.as_str.ensures c.in-Refused.ensures.row c.in-Refused.ensures.holds
 
-pub returns-in-Bool-clause-raw : goal.returns-in-Bool-clause-raw
-returns-in-Bool-clause-raw g c =
-    sym (bool_text_from_chars (bool_value c.in-Bool.lit) c.as_str.result.now c.as_str.utf8 c.in-Bool.ensures) ∙ c.as_str.ensures
+pub returns-in-Refused-clause-memory : goal.returns-in-Refused-clause-memory
+returns-in-Refused-clause-memory g c = refusal_of_text _ c.in-Refused.e (returns-in-Refused-clause-refused g c)
 
 pub returns-in-Bool-clause-ok : goal.returns-in-Bool-clause-ok
-returns-in-Bool-clause-ok g c = only_bool _ (bool_value c.in-Bool.lit) (c.in-Bool.ensures ∙ ap chars c.as_str.ensures)
+returns-in-Bool-clause-ok g c =
+    only_literal _ (a_bool (bool_value c.in-Bool.lit))
+    (sym (ap chars (sym c.as_str.ensures) ∙ (ap chars c.in-Bool.ensures.holds ∙ chars-bool_text (bool_value c.in-Bool.lit))))
 
-pub returns-in-Refused-clause-none : goal.returns-in-Refused-clause-none
-returns-in-Refused-clause-none g c = no_literal _ c.in-Refused.e (ap read_refusal (ap chars (sym c.as_str.ensures)) ∙ c.in-Refused.ensures)
+pub returns-in_err-parse-in-Integer-clause-refused : goal.returns-in_err-parse-in-Integer-clause-refused
+returns-in_err-parse-in-Integer-clause-refused g c =
+    let p = err_from_is_err_and c.from_residual.result c.from_residual.ensures.1 in
+    rw (p.1) (kind_refused_at integer_literal _ c.as_str.result.now c.in_err-parse-in-Integer.field-0.0 _ c.as_str.utf8 c.as_str.ensures
+    c.in-Integer.ensures.row refl p.2 c.in_err-parse-in-Integer.ensures.refused)
 
 pub returns-in_err-parse-in-Integer-clause-memory : goal.returns-in_err-parse-in-Integer-clause-memory
 returns-in_err-parse-in-Integer-clause-memory g c =
     let p = err_from_is_err_and c.from_residual.result c.from_residual.ensures.1 in
-    rw (p.1) (subst (λ (e : ParseError). kind_of e ≢ OutOfMemory) (sym p.2) (integer_refusal_of_text _ c.in_err-parse-in-Integer.field-0.0 c.in_err-parse-in-Integer.ensures.refusal))
-
-pub returns-in-Refused-clause-span : goal.returns-in-Refused-clause-span
-returns-in-Refused-clause-span g c = read_refusal_within _ c.in-Refused.e (ap read_refusal (ap chars (sym c.as_str.ensures)) ∙ c.in-Refused.ensures)
-
-pub returns-in-Refused-clause-memory : goal.returns-in-Refused-clause-memory
-returns-in-Refused-clause-memory g c = read_refusal_of_text _ c.in-Refused.e (ap read_refusal (ap chars (sym c.as_str.ensures)) ∙ c.in-Refused.ensures)
+    rw (p.1) (refusal_of_text _ _ (kind_refused_at integer_literal _ c.as_str.result.now c.in_err-parse-in-Integer.field-0.0 _ c.as_str.utf8 c.as_str.ensures
+    c.in-Integer.ensures.row refl p.2 c.in_err-parse-in-Integer.ensures.refused))
 
 pub returns-in_ok-parse-in-Integer-clause-ok : goal.returns-in_ok-parse-in-Integer-clause-ok
-returns-in_ok-parse-in-Integer-clause-ok g c = only_integer_literal _ _ c.in_ok-parse-in-Integer.ensures.ok.0
+returns-in_ok-parse-in-Integer-clause-ok g c = only_literal _ (an_integer (integer_parts c.in_ok-parse-in-Integer.field-0)) c.in_ok-parse-in-Integer.ensures.ok.0
+
+pub returns-in_err-parse-in-Float-clause-refused : goal.returns-in_err-parse-in-Float-clause-refused
+returns-in_err-parse-in-Float-clause-refused g c =
+    let p = err_from_is_err_and c.from_residual-in_err-parse-in-Float.result c.from_residual-in_err-parse-in-Float.ensures.1 in
+    rw (p.1) (kind_refused_at float_literal _ c.as_str.result.now c.in_err-parse-in-Float.field-0.0 _ c.as_str.utf8 c.as_str.ensures
+    c.in-Float.ensures.row refl p.2 c.in_err-parse-in-Float.ensures.refused)
+
+pub returns-in_err-parse-in-Float-clause-memory : goal.returns-in_err-parse-in-Float-clause-memory
+returns-in_err-parse-in-Float-clause-memory g c =
+    let p = err_from_is_err_and c.from_residual-in_err-parse-in-Float.result c.from_residual-in_err-parse-in-Float.ensures.1 in
+    rw (p.1) (refusal_of_text _ _ (kind_refused_at float_literal _ c.as_str.result.now c.in_err-parse-in-Float.field-0.0 _ c.as_str.utf8 c.as_str.ensures
+    c.in-Float.ensures.row refl p.2 c.in_err-parse-in-Float.ensures.refused))
+
+pub returns-in_ok-parse-in-Float-clause-ok : goal.returns-in_ok-parse-in-Float-clause-ok
+returns-in_ok-parse-in-Float-clause-ok g c = only_literal _ (a_float (float_parts c.in_ok-parse-in-Float.field-0)) c.in_ok-parse-in-Float.ensures.ok.0
+
+pub returns-in_default-clause-refused : goal.returns-in_default-clause-refused
+returns-in_default-clause-refused g c =
+    unparsed_refused_at _ c.as_str.result.now c.new.result c.dispatch.result c.as_str.utf8 c.as_str.ensures c.dispatch.ensures.row
+    c.in_default.not-Refused c.in_default.not-Bool c.in_default.not-Integer c.in_default.not-Float c.new.ensures.refusal

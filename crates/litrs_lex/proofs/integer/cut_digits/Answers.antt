@@ -1,6 +1,6 @@
 -- The prefix and the digits are cut on character boundaries.
 use Rattle.std.proofs.Common.{arith}
-use Rattle.litrs_lex.proofs.IntegerLemmas.{digits_cut_made}
+use Rattle.litrs_lex.proofs.IntegerBytes.{digits_cut_made}
 use Rattle.litrs_lex.proofs.integer.cut_digits.Goals as goal
 
 pub overflow_add-end_main : goal.overflow_add-end_main

@@ -1,7 +1,7 @@
 -- Each exit is a row of the refusals, by the tests on the bytes.
 use Rattle.std.proofs.Common.{arith}
 use Rattle.std.proofs.lemmas.Grind.{common_steps}
-use Rattle.litrs_lex.proofs.IntegerLemmas.{places_of_cut, refusal_of_cut}
+use Rattle.litrs_lex.proofs.IntegerBytes.{places_of_cut, refusal_of_cut}
 use Rattle.litrs_lex.proofs.integer.cut_refusal.Goals as goal
 
 pub split_at-requires : goal.split_at-requires

@@ -3,7 +3,7 @@ use Rattle.std.proofs.Common.{sym, ap, ◌∙◌, arith}
 use Rattle.std.proofs.lemmas.Bool.Decides.{nat_tests}
 use Rattle.litrs_grammar.specs.Suffix.{is_suffix}
 use Rattle.litrs_base.proofs.Chars.{chars_empty}
-use Rattle.litrs_lex.proofs.SuffixLemmas.{is_suffix-nil, is_suffix-cons}
+use Rattle.litrs_lex.proofs.SuffixBytes.{is_suffix-nil, is_suffix-cons}
 use Rattle.litrs_lex.proofs.parse.is_suffix.Goals as goal
 
 pub returns-in-None : goal.returns-in-None

@@ -3,7 +3,7 @@ use Rattle.std.proofs.Common.{◌++◌, ap, sym, ◌∙◌}
 use Rattle.std.proofs.lemmas.Result.{on_ok_weaker}
 use Rattle.std.specs.Prelude.{string_bytes}
 use Rattle.std.specs.Str.{chars}
-use Rattle.litrs_lines.specs.Report.{text_report}
+use Rattle.litrs_lines.specs.Reported.{text_report}
 use Rattle.litrs_lines.proofs.ReportLemmas.{report_of-text, report_of-other}
 use Rattle.litrs_lines.proofs.report.push_report.Goals as goal
 

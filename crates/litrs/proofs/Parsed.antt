@@ -1,0 +1,176 @@
+-- What refuses a text as a literal of its kind refuses it as a literal of the kinds that are parsed.
+use Rattle.std.proofs.Common.{◌≡◌, ◌≢◌, ◌⊎◌, inl, inr, ℕ, Bool, true, false, List, Option, None, Some, refl, sym, ap, subst, ◌∙◌}
+use Rattle.std.specs.Prelude.{IsTrue}
+use Rattle.std.specs.Str.{chars, IsUtf8}
+use Rattle.std.specs.declared.ops.Range.{Range}
+use Rattle.litrs_base.specs.declared.err.ParseError.{ParseError}
+use Rattle.litrs_base.specs.declared.err.ParseErrorKind.{ParseErrorKind}
+use Rattle.litrs_base.specs.declared.err.ParseErrorKind.TheVariants.{Empty, InvalidLiteral, OutOfMemory}
+use Rattle.litrs_base.specs.Refusal.{Refusal, refusal, refusal_of, kind_of, span_of, plain, IsInText, HasCharSpan}
+use Rattle.litrs_base.specs.Derivations.{IsOnlyDerivation}
+use Rattle.litrs_base.proofs.CharEnds.{no_span, char_span_points}
+use Rattle.litrs_grammar.specs.Literal.{Derivation, a_bool, an_integer, IsLiteral, LiteralKind, bool_literal, integer_literal, float_literal, char_literal, byte_literal, string_literal, byte_string_literal, c_string_literal, literal_kind, literal_parse, kind_parse}
+use Rattle.litrs_grammar.specs.LiteralRefusals.{IsKindRefusal, Dispatch, refused_as, parsed_as, dispatch, IsRefusalOfDispatch}
+use Rattle.litrs_grammar.specs.Refused.{IsRefused}
+use Rattle.litrs_grammar.proofs.LiteralLaws.{dispatch_literal, literals_are_unique, literals_are_not_refused, refusals_are_unique, texts_are_decided}
+use Rattle.litrs_grammar.proofs.RefusalKinds.{no_refusal_is_of_memory}
+use Rattle.litrs.specs.declared.bool.BoolLit.{BoolLit}
+use Rattle.litrs.specs.declared.parse.Dispatched.{Dispatched}
+use Rattle.litrs.specs.declared.parse.Dispatched.TheVariants as dispatched
+use Rattle.litrs.specs.Dispatched.{row_of}
+use Rattle.litrs.proofs.Dispatch.{dispatch-chars}
+use Rattle.litrs.specs.Parsed.{is_parsed, IsParsed, IsRefusalWhere, IsParsedRefusalOf, IsParsedRefusal, IsParseRefused}
+
+-- a literal is the only derivation of its text
+pub only_literal : (t : List ℕ) (d : Derivation) → IsLiteral t d → IsOnlyDerivation (IsLiteral t) d
+only_literal t d r = (r, λ e s. literals_are_unique t e d s r)
+
+-- The refusals of a kind that is parsed
+
+same_refusals : (t : List ℕ) (r : Refusal) (row : Dispatch) → dispatch t ≡ row → IsParsedRefusalOf row t r → IsParsedRefusal t r
+same_refusals t r row is table = subst (λ (o : Dispatch). IsParsedRefusalOf o t r) (sym is) table
+
+back : (t : List ℕ) (r : Refusal) (row : Dispatch) → dispatch t ≡ row → IsParsedRefusal t r → IsParsedRefusalOf row t r
+back t r row is table = subst (λ (o : Dispatch). IsParsedRefusalOf o t r) is table
+
+kind_is : (t : List ℕ) (kind : LiteralKind) (d : Derivation) → dispatch t ≡ parsed_as kind → IsLiteral t d → literal_kind d ≡ kind
+kind_is t kind d is r = let both : parsed_as (literal_kind d) ≡ parsed_as kind = sym (dispatch_literal t d r) ∙ is in cc
+
+pub kind_refused : (kind : LiteralKind) (t : List ℕ) (e : ParseError) → dispatch t ≡ parsed_as kind → is_parsed kind ≡ true →
+    IsRefused (kind_parse kind) t e → IsParseRefused t e
+kind_refused kind t e is there refused = record {
+  none = λ d r. refused.none d (kind_is t kind d is r.0, r.0);
+  table = same_refusals t _ (parsed_as kind) is (subst (λ (v : Bool). IsRefusalWhere v kind t (refusal_of e)) (sym there) refused.table);
+  only = λ r other. refused.only r (subst (λ (v : Bool). IsRefusalWhere v kind t r) there (back t r (parsed_as kind) is other));
+  span = refused.span;
+  char_span = refused.char_span;
+  char_ends = refused.char_ends;
+}
+
+-- A text that no kind begins like, or one that is not parsed
+
+plain_refused : (t : List ℕ) (e : ParseError) (kind : ParseErrorKind) → refusal_of e ≡ plain kind →
+    ((d : Derivation) → ¬ IsParsed t d) → ((r : Refusal) → IsParsedRefusal t r → r ≡ plain kind) → IsParsedRefusal t (plain kind) →
+    IsParseRefused t e
+plain_refused t e kind is none only table =
+    let ends : HasCharSpan t e = no_span t e kind is in
+    let inside : IsInText t (refusal_of e) = subst (IsInText t) (sym is) tt in
+    record {
+      none = none;
+      table = subst (IsParsedRefusal t) (sym is) table;
+      only = λ r other. only r other ∙ sym is;
+      span = inside;
+      char_span = ends;
+      char_ends = char_span_points t e inside ends;
+    }
+
+pub unparsed_refused : (kind : LiteralKind) (t : List ℕ) (e : ParseError) → dispatch t ≡ parsed_as kind → is_parsed kind ≡ false →
+    refusal_of e ≡ plain InvalidLiteral → IsParseRefused t e
+unparsed_refused kind t e is there same =
+    plain_refused t e InvalidLiteral same
+    (λ d r. let here : literal_kind d ≡ kind = kind_is t kind d is r.0 in
+    let parsed : IsTrue (is_parsed kind) = subst (λ (k : LiteralKind). IsTrue (is_parsed k)) here r.1 in cc)
+    (λ r other. sym (subst (λ (v : Bool). IsRefusalWhere v kind t r) there (back t r (parsed_as kind) is other)))
+    (same_refusals t _ (parsed_as kind) is (subst (λ (v : Bool). IsRefusalWhere v kind t (plain InvalidLiteral)) (sym there) refl))
+
+pub row_refused : (t : List ℕ) (e : ParseError) → dispatch t ≡ refused_as (refusal_of e) → span_of e ≡ None → IsParseRefused t e
+row_refused t e is span =
+    let same : refusal_of e ≡ plain (kind_of e) = ap (λ (s : Option (Range ℕ)). refusal s (kind_of e)) span in
+    plain_refused t e (kind_of e) same
+    (λ d r. let both : parsed_as (literal_kind d) ≡ refused_as (refusal_of e) = sym (dispatch_literal t d r.0) ∙ is in cc)
+    (λ r other. sym (back t r (refused_as (refusal_of e)) is other) ∙ same)
+    (same_refusals t _ (refused_as (refusal_of e)) is same)
+
+-- No refusal is for lack of memory
+
+of_text_where : (v : Bool) (kind : LiteralKind) (t : List ℕ) (r : Refusal) → IsRefusalWhere v kind t r → r.kind ≢ OutOfMemory
+of_text_where true kind t r table = no_refusal_is_of_memory (kind_parse kind) t r table
+of_text_where false kind t r table = subst (λ (s : Refusal). s.kind ≢ OutOfMemory) table (λ memory. cc)
+
+of_text_row : (row : Dispatch) (t : List ℕ) (r : Refusal) → dispatch t ≡ row → IsParsedRefusalOf row t r → r.kind ≢ OutOfMemory
+of_text_row (refused_as refusal) t r is table = no_refusal_is_of_memory literal_parse t r (subst (λ (o : Dispatch). IsRefusalOfDispatch o t r) (sym is) table)
+of_text_row (parsed_as kind) t r is table = of_text_where (is_parsed kind) kind t r table
+
+pub refusal_of_text : (t : List ℕ) (e : ParseError) → IsParseRefused t e → kind_of e ≢ OutOfMemory
+refusal_of_text t e refused = of_text_row (dispatch t) t (refusal_of e) refl refused.table
+
+-- The same by what the code's dispatch answers of the bytes
+
+row_at : (bytes text : List ℕ) (row : Dispatch) → IsUtf8 text → text ≡ bytes → row ≡ dispatch text → dispatch (chars bytes) ≡ row
+row_at bytes text row u same is = ap (λ (b : List ℕ). dispatch (chars b)) (sym same) ∙ (dispatch-chars text u ∙ sym is)
+
+pub kind_refused_at : (kind : LiteralKind) (bytes text : List ℕ) (e f : ParseError) → IsUtf8 text → text ≡ bytes → parsed_as kind ≡ dispatch text →
+    is_parsed kind ≡ true → f ≡ e → IsRefused (kind_parse kind) (chars bytes) e → IsParseRefused (chars bytes) f
+kind_refused_at kind bytes text e f u same is there copy refused =
+    subst (IsParseRefused (chars bytes)) (sym copy) (kind_refused kind (chars bytes) e (row_at bytes text (parsed_as kind) u same is) there refused)
+
+pub row_refused_at : (bytes text : List ℕ) (e : ParseError) → IsUtf8 text → text ≡ bytes → refused_as (refusal_of e) ≡ dispatch text →
+    span_of e ≡ None → IsParseRefused (chars bytes) e
+row_refused_at bytes text e u same is span = row_refused (chars bytes) e (row_at bytes text (refused_as (refusal_of e)) u same is) span
+
+-- a kind that is not parsed
+unparsed_kind : (d : Dispatched) → ((e : ParseError) → d ≡ dispatched.Refused e → ⊥) → ((b : BoolLit) → d ≡ dispatched.Bool b → ⊥) → (d ≡ dispatched.Integer → ⊥) → (d ≡ dispatched.Float → ⊥) →
+    (kind : LiteralKind) × (row_of d ≡ parsed_as kind) × (is_parsed kind ≡ false)
+unparsed_kind (dispatched.Refused e) refused bool integer float = absurd (refused e refl)
+unparsed_kind (dispatched.Bool b) refused bool integer float = absurd (bool b refl)
+unparsed_kind dispatched.Integer refused bool integer float = absurd (integer refl)
+unparsed_kind dispatched.Float refused bool integer float = absurd (float refl)
+unparsed_kind dispatched.Char refused bool integer float = (char_literal, refl, refl)
+unparsed_kind dispatched.Byte refused bool integer float = (byte_literal, refl, refl)
+unparsed_kind dispatched.String refused bool integer float = (string_literal, refl, refl)
+unparsed_kind dispatched.ByteString refused bool integer float = (byte_string_literal, refl, refl)
+unparsed_kind dispatched.CString refused bool integer float = (c_string_literal, refl, refl)
+
+pub unparsed_refused_at : (bytes text : List ℕ) (e : ParseError) (d : Dispatched) → IsUtf8 text → text ≡ bytes → row_of d ≡ dispatch text →
+    ((e : ParseError) → d ≡ dispatched.Refused e → ⊥) → ((b : BoolLit) → d ≡ dispatched.Bool b → ⊥) → (d ≡ dispatched.Integer → ⊥) → (d ≡ dispatched.Float → ⊥) →
+    refusal_of e ≡ plain InvalidLiteral → IsParseRefused (chars bytes) e
+unparsed_refused_at bytes text e d u same is refused bool integer float plain_one =
+    let k = unparsed_kind d refused bool integer float in
+    unparsed_refused k.0 (chars bytes) e (row_at bytes text (parsed_as k.0) u same (sym k.1 ∙ is)) k.2 plain_one
+
+-- Each text is a literal of a kind that is parsed, or refused: one of the two, and in one way.
+
+where_refused : (v : Bool) (kind : LiteralKind) (t : List ℕ) → is_parsed kind ≡ v → (v ≡ true → (r : Refusal) × IsKindRefusal kind t r) →
+    (r : Refusal) × IsRefusalWhere v kind t r
+where_refused true kind t there refused = refused refl
+where_refused false kind t there refused = (plain InvalidLiteral, refl)
+
+literal_parsed : (v : Bool) (t : List ℕ) (d : Derivation) → is_parsed (literal_kind d) ≡ v → IsLiteral t d →
+    ((e : Derivation) × IsParsed t e) ⊎ ((r : Refusal) × IsParsedRefusal t r)
+literal_parsed true t d there r = inl (d, (r, there))
+literal_parsed false t d there r =
+    inr (
+      plain InvalidLiteral,
+      same_refusals t _ (parsed_as (literal_kind d)) (dispatch_literal t d r)
+          (subst (λ (v : Bool). IsRefusalWhere v (literal_kind d) t (plain InvalidLiteral)) (sym there) refl),
+    )
+
+refused_parsed : (row : Dispatch) (t : List ℕ) (r : Refusal) → IsRefusalOfDispatch row t r → (s : Refusal) × IsParsedRefusalOf row t s
+refused_parsed (refused_as refusal) t r table = (r, table)
+refused_parsed (parsed_as kind) t r table = where_refused (is_parsed kind) kind t refl (λ there. (r, table))
+
+pub parsed_or_refused : (t : List ℕ) → ((d : Derivation) × IsParsed t d) ⊎ ((r : Refusal) × IsParsedRefusal t r)
+parsed_or_refused t = elim (texts_are_decided literal_parse t) [
+  | inl d ↦ literal_parsed (is_parsed (literal_kind d.0)) t d.0 refl d.1
+  | inr r ↦ inr (refused_parsed (dispatch t) t r.0 r.1)
+]
+
+not_where : (v : Bool) (kind : LiteralKind) (t : List ℕ) (d : Derivation) (r : Refusal) → v ≡ true → literal_kind d ≡ kind → IsLiteral t d → ¬ IsRefusalWhere v kind t r
+not_where true kind t d r there is literal table = literals_are_not_refused (kind_parse kind) t d r (is, literal) table
+not_where false kind t d r there is literal table = cc
+
+pub parsed_not_refused : (t : List ℕ) (d : Derivation) (r : Refusal) → IsParsed t d → ¬ IsParsedRefusal t r
+parsed_not_refused t d r literal table =
+    not_where (is_parsed (literal_kind d)) (literal_kind d) t d r literal.1 refl literal.0
+    (back t r (parsed_as (literal_kind d)) (dispatch_literal t d literal.0) table)
+
+one_where : (v : Bool) (kind : LiteralKind) (t : List ℕ) (r s : Refusal) → IsRefusalWhere v kind t r → IsRefusalWhere v kind t s → r ≡ s
+one_where true kind t r s a b = refusals_are_unique (kind_parse kind) t r s a b
+one_where false kind t r s a b = sym a ∙ b
+
+one_of_row : (row : Dispatch) (t : List ℕ) (r s : Refusal) → IsParsedRefusalOf row t r → IsParsedRefusalOf row t s → r ≡ s
+one_of_row (refused_as refusal) t r s a b = sym a ∙ b
+one_of_row (parsed_as kind) t r s a b = one_where (is_parsed kind) kind t r s a b
+
+pub parsed_refusals_are_unique : (t : List ℕ) (r s : Refusal) → IsParsedRefusal t r → IsParsedRefusal t s → r ≡ s
+parsed_refusals_are_unique t r s a b = one_of_row (dispatch t) t r s a b

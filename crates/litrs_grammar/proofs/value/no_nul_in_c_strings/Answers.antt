@@ -1,0 +1,5 @@
+use Rattle.litrs_grammar.proofs.ValueLaws.{no_nul_in_c_strings}
+use Rattle.litrs_grammar.proofs.value.no_nul_in_c_strings.Goals as goal
+
+pub returns : goal.returns
+returns c = no_nul_in_c_strings

@@ -1,0 +1,34 @@
+-- Which texts a parse may allocate memory for. The Rust Reference does not speak of it.
+use Rattle.std.specs.Prelude.{ℕ, Bool, true, false, ◌==◌, ◌&&◌, ◌||◌, List, codes}
+use Rattle.std.specs.List.{list_any}
+use Rattle.litrs_base.specs.Characters.{backslash}
+use Rattle.litrs_base.specs.Text.{begins_with}
+use Rattle.litrs_grammar.specs.Quoted.{body_text}
+use Rattle.litrs_grammar.specs.Literal.{StringParts, quoted_parts, raw_parts, Derivation, a_bool, an_integer, a_float, a_char, a_byte, a_string, a_byte_string, a_c_string}
+
+-- a backslash stands in the text
+abbrev pub has_backslash : List ℕ → Bool
+has_backslash t = list_any (λ c. c == backslash) t
+
+-- A parse may allocate for a quoted string or byte string with a backslash, whose value is then
+-- written anew, and for every C string, whose value ends with a zero byte.
+abbrev pub may_allocate : List ℕ → Bool
+may_allocate t =
+    (begins_with (codes "\"") t || begins_with (codes "b\"") t) && has_backslash t
+    || begins_with (codes "c\"") t || begins_with (codes "cr") t
+
+-- the body is quoted and has a backslash
+abbrev pub has_escapes : StringParts → Bool
+has_escapes (quoted_parts d) = has_backslash (body_text d.items)
+has_escapes (raw_parts d) = false
+
+-- the same of a literal, by its parts: it is a C string, or its body is quoted and has a backslash
+abbrev pub allocates : Derivation → Bool
+allocates (a_bool b) = false
+allocates (an_integer d) = false
+allocates (a_float d) = false
+allocates (a_char d) = false
+allocates (a_byte d) = false
+allocates (a_string d) = has_escapes d
+allocates (a_byte_string d) = has_escapes d
+allocates (a_c_string d) = true

@@ -1,0 +1,8 @@
+//! Laws of the texts that a parse may allocate memory for.
+ghost use Rattle.litrs_grammar.specs.AllocationLaws.{AllocationIsByParts};
+
+/// A parse may allocate for a literal if and only if it is a C string, or its body is quoted and
+/// has a backslash.
+pub fn allocation_is_by_parts()
+    ensures { AllocationIsByParts }
+{}

@@ -1,0 +1,49 @@
+//! The bytes of one load that a search looks for.
+ghost use Rattle.std.specs.Prelude.{◌≡◌, ◌+◌, ◌≤◌, length, map, if◌then◌else◌};
+ghost use Rattle.std.specs.Simd.Lanes.{mask_l, chunk};
+ghost use Rattle.litrs_base.specs.Characters.{double_quote, backslash, nul};
+ghost use Rattle.litrs_search.specs.Special.{is_special};
+
+use crate::Special;
+use std::simd::prelude::*;
+
+/// What lanes are compared with beside `"` and CR: two bytes, and a limit that none may pass.
+///
+/// A byte that is not searched for stands as `"`, and the limit as 255, which no byte passes.
+struct Sought {
+    second: u8,
+    third: u8,
+    limit: u8,
+}
+
+#[inline(always)]
+fn needles(what: Special) -> Sought
+    ensures second { result.second ≡ if what.backslash then backslash else double_quote }
+    ensures third { result.third ≡ if what.nul then nul else double_quote }
+    ensures limit { result.limit ≡ if what.non_ascii then 127 else 255 }
+{
+    Sought {
+        second: if what.backslash { b'\\' } else { b'"' },
+        third: if what.nul { 0 } else { b'"' },
+        limit: if what.non_ascii { 127 } else { 255 },
+    }
+}
+
+/// The special bytes among the N from `at` on: bit i is that of the byte at `at + i`.
+#[inline(always)]
+pub(crate) fn marks<const N: usize>(bytes: &[u8], at: usize, what: Special) -> u64
+    requires { (at + N ≤ length bytes.now) × (N ≤ 64) }
+    ensures { result ≡ mask_l (map (is_special what) (chunk at N bytes.now)) }
+{
+    let Sought {
+        second,
+        third,
+        limit,
+    } = needles(what);
+    let v = Simd::<u8, N>::from_slice(&bytes[at..]);
+    (v.simd_eq(Simd::splat(b'"'))
+        | v.simd_eq(Simd::splat(b'\r'))
+        | v.simd_eq(Simd::splat(second))
+        | v.simd_eq(Simd::splat(third))
+        | v.simd_gt(Simd::splat(limit))).to_bitmask()
+}
