@@ -9,6 +9,7 @@ pub mod RawCuts
 pub mod RawLaws
 pub mod RawSpans
 pub mod RawKinds
+pub mod RawClosings
 pub mod RawContinuation
 pub mod RawScans
 pub mod IntegerLaws

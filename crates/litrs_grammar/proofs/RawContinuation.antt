@@ -116,7 +116,8 @@ hash_allowed unicode allow_nul c bad = by (is_hash c) refl
     by false is = refl
     by true is = absurd (true≢false (sym (ap (is_raw_char unicode allow_nul) (eqb-true c 35 is) ∙ and_from _ _ refl (and_from _ _ (or_right unicode true refl) (or_right allow_nul true refl))) ∙ bad))
 
-stopped_at : (unicode allow_nul : Bool) (n start : ℕ) (front : List ℕ) (c : ℕ) (t : List ℕ) → IsRawBody unicode allow_nul n front → is_raw_char unicode allow_nul c ≡ false →
+-- the character behind a body that may not stand there is refused
+pub stopped_at : (unicode allow_nul : Bool) (n start : ℕ) (front : List ℕ) (c : ℕ) (t : List ℕ) → IsRawBody unicode allow_nul n front → is_raw_char unicode allow_nul c ≡ false →
     raw_body_refusal unicode allow_nul n start (front ++ c ∷ t) ≡ Some (at (start + byte_len front) (raw_char_refusal c))
 unfolding raw_body_refusal
 stopped_at unicode allow_nul n start front c t grammar bad =

@@ -29,6 +29,7 @@ pub mod QuotedLaws
 pub mod CharByteLaws
 pub mod FloatLaws
 pub mod RawLaws
+pub mod RawScanLaws
 pub mod LiteralLaws
 pub mod ContinuationLaws
 pub mod ValueLaws
