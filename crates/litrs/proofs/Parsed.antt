@@ -1,6 +1,7 @@
 -- What refuses a text as a literal of its kind refuses it as a literal of the kinds that are parsed.
-use Rattle.std.proofs.Common.{◌≡◌, ◌≢◌, ◌⊎◌, inl, inr, ℕ, Bool, true, false, List, Option, None, Some, refl, sym, ap, subst, ◌∙◌}
+use Rattle.std.proofs.Common.{◌≡◌, ◌≢◌, ◌⊎◌, inl, inr, ℕ, Bool, true, false, List, [], ◌∷◌, ◌++◌, Option, None, Some, refl, sym, ap, subst, ◌∙◌}
 use Rattle.std.specs.Prelude.{IsTrue}
+use Rattle.std.proofs.lemmas.Bool.{both_ways}
 use Rattle.std.specs.Str.{chars, IsUtf8}
 use Rattle.std.specs.declared.ops.Range.{Range}
 use Rattle.litrs_base.specs.declared.err.ParseError.{ParseError}
@@ -8,12 +9,18 @@ use Rattle.litrs_base.specs.declared.err.ParseErrorKind.{ParseErrorKind}
 use Rattle.litrs_base.specs.declared.err.ParseErrorKind.TheVariants.{Empty, InvalidLiteral, OutOfMemory}
 use Rattle.litrs_base.specs.Refusal.{Refusal, refusal, refusal_of, kind_of, span_of, plain, IsInText, HasCharSpan}
 use Rattle.litrs_base.specs.Derivations.{IsOnlyDerivation}
+use Rattle.litrs_base.specs.Finality.{is_final, is_open}
 use Rattle.litrs_base.proofs.CharEnds.{no_span, char_span_points}
-use Rattle.litrs_grammar.specs.Literal.{Derivation, a_bool, an_integer, IsLiteral, LiteralKind, bool_literal, integer_literal, float_literal, char_literal, byte_literal, string_literal, byte_string_literal, c_string_literal, literal_kind, literal_parse, kind_parse}
-use Rattle.litrs_grammar.specs.LiteralRefusals.{IsKindRefusal, Dispatch, refused_as, parsed_as, dispatch, IsRefusalOfDispatch}
+use Rattle.litrs_grammar.specs.Literal.{Derivation, a_bool, an_integer, IsLiteral, LiteralKind, bool_literal, integer_literal, float_literal, char_literal, byte_literal, string_literal, byte_string_literal, c_string_literal, literal_kind, literal_parse, kind_parse, IsLiteralOf}
+use Rattle.litrs_grammar.specs.LiteralRefusals.{IsKindRefusal, Dispatch, refused_as, parsed_as, dispatch, IsRefusalOfDispatch, IsRefusal}
+use Rattle.litrs_grammar.specs.Continuation.{BeginsBy, EndsBy}
+use Rattle.litrs_grammar.specs.UnnamedGoesOn.{unnamed_goes_on}
 use Rattle.litrs_grammar.specs.Refused.{IsRefused}
 use Rattle.litrs_grammar.proofs.LiteralLaws.{dispatch_literal, literals_are_unique, literals_are_not_refused, refusals_are_unique, texts_are_decided}
 use Rattle.litrs_grammar.proofs.RefusalKinds.{no_refusal_is_of_memory}
+use Rattle.litrs_grammar.proofs.LiteralSpans.{no_literal_ends_with_line_feed}
+use Rattle.litrs_grammar.proofs.DispatchContinuation.{unnamed_front, unnamed_line_end}
+use Rattle.litrs_grammar.proofs.LiteralContinuation.{chain, own_kind, unnamed_not_final, unnamed_not_open}
 use Rattle.litrs.specs.declared.bool.BoolLit.{BoolLit}
 use Rattle.litrs.specs.declared.parse.Dispatched.{Dispatched}
 use Rattle.litrs.specs.declared.parse.Dispatched.TheVariants as dispatched
@@ -45,16 +52,34 @@ kind_refused kind t e is there refused = record {
   span = refused.span;
   char_span = refused.char_span;
   char_ends = refused.char_ends;
+  final = λ final more d r. refused.final final more d (own more d r.0, r.0);
+  closes = λ shut. (let closed = refused.closes shut in
+      record {
+        kind = closed.kind;
+        parts = closed.parts;
+        literal = (closed.literal.1, ap is_parsed closed.literal.0 ∙ there);
+        no_suffix = closed.no_suffix;
+        body = closed.body;
+      });
+  line_end = λ line ends. chain (refused.line_end line ends) (
+    λ begins. (begins.0, begins.1, begins.2, (begins.3.1, ap is_parsed begins.3.0 ∙ there)),
+    λ begins. (begins.0, begins.1, begins.2, (own begins.0 begins.1 begins.3.0, begins.3.0)),
+  );
 }
+  where
+    own : (more : List ℕ) (d : Derivation) → IsLiteral (t ++ more) d → literal_kind d ≡ kind
+    own more d r = own_kind t more kind d (refusal_of e) is refused.table r
 
 -- A text that no kind begins like, or one that is not parsed
 
-plain_refused : (t : List ℕ) (e : ParseError) (kind : ParseErrorKind) → refusal_of e ≡ plain kind →
+plain_refused : (t : List ℕ) (e : ParseError) (kind : ParseErrorKind) → refusal_of e ≡ plain kind → is_final kind ≡ false → is_open kind ≡ false →
     ((d : Derivation) → ¬ IsParsed t d) → ((r : Refusal) → IsParsedRefusal t r → r ≡ plain kind) → IsParsedRefusal t (plain kind) →
-    IsParseRefused t e
-plain_refused t e kind is none only table =
+    ((line : List ℕ) → line ++ 10 ∷ [] ≡ t → ¬ BeginsBy IsParsed t) → IsParseRefused t e
+plain_refused t e kind is not_final not_open none only table ends_at_line =
     let ends : HasCharSpan t e = no_span t e kind is in
     let inside : IsInText t (refusal_of e) = subst (IsInText t) (sym is) tt in
+    let same : kind_of e ≡ kind = ap (λ (r : Refusal). r.kind) is in
+    let not_open_e : is_open (kind_of e) ≡ false = ap is_open same ∙ not_open in
     record {
       none = none;
       table = subst (IsParsedRefusal t) (sym is) table;
@@ -62,24 +87,38 @@ plain_refused t e kind is none only table =
       span = inside;
       char_span = ends;
       char_ends = char_span_points t e inside ends;
+      final = λ final. absurd (both_ways (is_final (kind_of e)) (ap is_final same ∙ not_final) final);
+      closes = λ shut. absurd (both_ways (is_open (kind_of e)) not_open_e shut);
+      line_end = λ line at_end. (λ shut. absurd (both_ways (is_open (kind_of e)) not_open_e shut), λ begins. absurd (ends_at_line line at_end begins));
     }
+
+-- what is dispatched to a kind that is not parsed, and ends with LF, begins no literal of those that are: it is no literal, and
+-- what its table refuses stays of its kind
+unparsed_line_end : (kind : LiteralKind) (t line : List ℕ) → dispatch t ≡ parsed_as kind → is_parsed kind ≡ false → line ++ 10 ∷ [] ≡ t →
+    ((d : Derivation) × IsLiteralOf (kind_parse kind) t d) ⊎ ((r : Refusal) × IsRefusal (kind_parse kind) t r) → EndsBy IsParsed t
+unparsed_line_end kind t line is there ends (inl (d, r)) more e parsed =
+    no_literal_ends_with_line_feed line d (subst (λ (l : List ℕ). IsLiteral l d) (sym ends) r.1)
+unparsed_line_end kind t line is there ends (inr (r, table)) more e parsed =
+    both_ways (is_parsed kind) there (subst (λ (k : LiteralKind). IsTrue (is_parsed k)) (own_kind t more kind e r is table parsed.0) parsed.1)
 
 pub unparsed_refused : (kind : LiteralKind) (t : List ℕ) (e : ParseError) → dispatch t ≡ parsed_as kind → is_parsed kind ≡ false →
     refusal_of e ≡ plain InvalidLiteral → IsParseRefused t e
 unparsed_refused kind t e is there same =
-    plain_refused t e InvalidLiteral same
+    plain_refused t e InvalidLiteral same refl refl
     (λ d r. let here : literal_kind d ≡ kind = kind_is t kind d is r.0 in
     let parsed : IsTrue (is_parsed kind) = subst (λ (k : LiteralKind). IsTrue (is_parsed k)) here r.1 in cc)
     (λ r other. sym (subst (λ (v : Bool). IsRefusalWhere v kind t r) there (back t r (parsed_as kind) is other)))
     (same_refusals t _ (parsed_as kind) is (subst (λ (v : Bool). IsRefusalWhere v kind t (plain InvalidLiteral)) (sym there) refl))
+    (λ line ends begins. unparsed_line_end kind t line is there ends (texts_are_decided (kind_parse kind) t) begins.0 begins.1 begins.3)
 
 pub row_refused : (t : List ℕ) (e : ParseError) → dispatch t ≡ refused_as (refusal_of e) → span_of e ≡ None → IsParseRefused t e
 row_refused t e is span =
     let same : refusal_of e ≡ plain (kind_of e) = ap (λ (s : Option (Range ℕ)). refusal s (kind_of e)) span in
-    plain_refused t e (kind_of e) same
+    plain_refused t e (kind_of e) same (unnamed_not_final t (refusal_of e) is) (unnamed_not_open t (refusal_of e) is)
     (λ d r. let both : parsed_as (literal_kind d) ≡ refused_as (refusal_of e) = sym (dispatch_literal t d r.0) ∙ is in cc)
     (λ r other. sym (back t r (refused_as (refusal_of e)) is other) ∙ same)
     (same_refusals t _ (refused_as (refusal_of e)) is same)
+    (λ line ends begins. unnamed_line_end line (subst (λ (l : List ℕ). unnamed_goes_on l ≡ true) (sym ends) (unnamed_front t begins.0 begins.1 (refusal_of e) is begins.3.0)))
 
 -- No refusal is for lack of memory
 

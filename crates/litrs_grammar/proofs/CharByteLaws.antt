@@ -54,7 +54,7 @@ no_char_ends_with_line_feed kind t d h =
     (append_assoc (char_front kind) (char_item_text d.item) (39 ∷ d.suffix) ∙ h.spells)
 
 -- the length of an escape, told from the text
-escape_length_is : (w : Switches) (e : Escape) (x : List ℕ) → is_escape w e ≡ true → escape_length (escape_text e ++ x) ≡ length (escape_text e)
+pub escape_length_is : (w : Switches) (e : Escape) (x : List ℕ) → is_escape w e ≡ true → escape_length (escape_text e ++ x) ≡ length (escape_text e)
 escape_length_is w (simple_escape c) x h =
     let simple = and_parts (is_simple c) _ h in
     by_simple (λ c. escape_length (92 ∷ c ∷ x) ≡ 2) c simple.0 refl refl refl refl refl refl refl
@@ -82,7 +82,7 @@ closing_read kind place (c ∷ t) h =
 abbrev behind_item : CharKind → List ℕ → ℕ → Option Refusal
 behind_item kind t n = closing_refusal kind (byte_len (take n t)) (drop n t)
 
-backslash_allowed : (kind : CharKind) → allows_char kind 92 ≡ true
+pub backslash_allowed : (kind : CharKind) → allows_char kind 92 ≡ true
 backslash_allowed char_kind = refl
 backslash_allowed byte_kind = refl
 

@@ -75,11 +75,11 @@ fraction_of-text : (f : Option (List ℕ)) (p x : List ℕ) → fraction_passes 
 fraction_of-text None p x passes front stop no_period = fraction_none p x front (no_period refl)
 fraction_of-text (Some f) p x passes front stop no_period = ap Some (take_while_front is_decimal_char f (p ++ x) passes (exponent_stops p x front stop))
 
-sign_len-append : (cs x : List ℕ) → (cs ≡ [] → first_passes is_sign x ≡ false) → sign_len (cs ++ x) ≡ sign_len cs
+pub sign_len-append : (cs x : List ℕ) → (cs ≡ [] → first_passes is_sign x ≡ false) → sign_len (cs ++ x) ≡ sign_len cs
 sign_len-append [] x no_sign = ap (λ v. cond v 1 0) (no_sign refl)
 sign_len-append (c ∷ cs) x no_sign = refl
 
-sign_len_le : (cs : List ℕ) → sign_len cs ≤ length cs
+pub sign_len_le : (cs : List ℕ) → sign_len cs ≤ length cs
 sign_len_le [] = omega arith
 sign_len_le (c ∷ cs) = elim (cases_Bool (is_sign c)) [
   | inl yes_sign ↦ (let e : sign_len (c ∷ cs) ≡ 1 = ap (λ v. cond v 1 0) yes_sign in omega arith)

@@ -77,7 +77,7 @@ letter_or (c ∷ cs) h =
     let parts : (is_e c ≡ true) × (is_exponent_number (drop (sign_len cs) cs) ≡ true) = and_parts _ _ h in
     and_from _ _ parts.0 (and_parts _ _ parts.1).0
 
-empty-true : (p : List ℕ) → is_empty p ≡ true → p ≡ []
+pub empty-true : (p : List ℕ) → is_empty p ≡ true → p ≡ []
 empty-true [] h = refl
 empty-true (c ∷ cs) h = absurd (false≢true h)
 
@@ -164,7 +164,7 @@ unfolding is_exponent
 no_wrong_fraction_without [] x h = absurd (false≢true h)
 no_wrong_fraction_without (c ∷ cs) x h = and_left (is_period c) _ (letter_period c (and_parts _ _ h).0)
 
-fraction_row : (f : Option (List ℕ)) (p x : List ℕ) → is_float_form f p x ≡ true → has_wrong_fraction (fraction_text f ++ (p ++ x)) ≡ false
+pub fraction_row : (f : Option (List ℕ)) (p x : List ℕ) → is_float_form f p x ≡ true → has_wrong_fraction (fraction_text f ++ (p ++ x)) ≡ false
 fraction_row None p x h = no_wrong_fraction_without p x h
 fraction_row (Some []) [] [] h = refl
 fraction_row (Some []) [] (y ∷ ys) h = absurd (false≢true h)

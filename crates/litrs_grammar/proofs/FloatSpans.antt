@@ -20,13 +20,13 @@ use Rattle.litrs_grammar.proofs.FloatLaws.{float_rows, cut_rows, refusal_of_cut,
 use Rattle.litrs_grammar.proofs.IntegerLaws.{number_rows}
 
 -- what stands in front of the suffix
-abbrev is_number_char : ℕ → Bool
+abbrev pub is_number_char : ℕ → Bool
 is_number_char c = is_decimal_char c || (is_period c || (is_e c || is_sign c))
 
 number_ascii : (c : ℕ) → is_number_char c ≡ true → is_ascii_char c ≡ true
 number_ascii c h = grind (arith, nat_tests)
 
-number_line_feed : (c : ℕ) → is_number_char c ≡ true → is_line_feed c ≡ false
+pub number_line_feed : (c : ℕ) → is_number_char c ≡ true → is_line_feed c ≡ false
 number_line_feed c h = grind (arith, nat_tests)
 
 letter_number : (c : ℕ) → is_e c ≡ true → is_number_char c ≡ true
@@ -61,6 +61,12 @@ number_part_ascii d cut = list_all-weaken is_number_char is_ascii_char number_as
 
 number_bytes : (t : List ℕ) → list_all is_number_char t ≡ true → byte_len t ≡ length t
 number_bytes t h = byte_len_ascii t (list_all-weaken is_number_char is_ascii_char number_ascii t h)
+
+-- all but the suffix
+pub number_part_chars : (d : FloatParts) → IsCut d → list_all is_number_char (number_part d) ≡ true
+number_part_chars d cut =
+    list_all-append is_number_char d.integer (fraction_text d.fraction ++ d.exponent) (decimals_number d.integer cut.integer)
+    (list_all-append is_number_char (fraction_text d.fraction) d.exponent (fraction_number d.fraction cut.fraction) (exponent_number d.exponent cut.exponent))
 
 -- each row
 

@@ -90,7 +90,7 @@ dispatch_byte : (t : List ℕ) (d : CharParts) → IsCharLiteral byte_kind t d �
 unfolding dispatch
 dispatch_byte t d r = ap dispatch (sym r.spells)
 
-abbrev string_literal_of : StringKind → LiteralKind
+abbrev pub string_literal_of : StringKind → LiteralKind
 string_literal_of string_kind = string_literal
 string_literal_of byte_string_kind = byte_string_literal
 string_literal_of c_string_kind = c_string_literal
@@ -153,20 +153,20 @@ dispatch_refusal P t e empty invalid =
 
 -- At most one derivation
 
-start_quoted : (kind : StringKind) (x : List ℕ) → string_start kind (quoted_front kind ++ x) ≡ quoted_start
+pub start_quoted : (kind : StringKind) (x : List ℕ) → string_start kind (quoted_front kind ++ x) ≡ quoted_start
 start_quoted string_kind x = refl
 start_quoted byte_string_kind x = refl
 start_quoted c_string_kind x = refl
 
-start_raw : (kind : StringKind) (x : List ℕ) → string_start kind (raw_front kind ++ x) ≡ raw_start
+pub start_raw : (kind : StringKind) (x : List ℕ) → string_start kind (raw_front kind ++ x) ≡ raw_start
 start_raw string_kind x = refl
 start_raw byte_string_kind x = refl
 start_raw c_string_kind x = refl
 
-quoted_starts : (kind : StringKind) (t : List ℕ) (d : QuotedParts) → IsQuotedLiteral kind t d → string_start kind t ≡ quoted_start
+pub quoted_starts : (kind : StringKind) (t : List ℕ) (d : QuotedParts) → IsQuotedLiteral kind t d → string_start kind t ≡ quoted_start
 quoted_starts kind t d r = ap (string_start kind) (sym r.spells) ∙ start_quoted kind _
 
-raw_starts : (kind : StringKind) (t : List ℕ) (d : RawParts) → IsRawLiteral kind t d → string_start kind t ≡ raw_start
+pub raw_starts : (kind : StringKind) (t : List ℕ) (d : RawParts) → IsRawLiteral kind t d → string_start kind t ≡ raw_start
 raw_starts kind t d r = ap (string_start kind) (sym r.spells) ∙ start_raw kind _
 
 no_quoted_is_raw : (kind : StringKind) (t : List ℕ) (d : QuotedParts) (e : RawParts) → IsQuotedLiteral kind t d → IsRawLiteral kind t e → ⊥

@@ -1,17 +1,19 @@
 -- A row of the table refuses the text.
-use Rattle.std.proofs.Common.{◌≡◌, ◌≤◌, ◌<◌, ℕ, List, ◌++◌, length, Option, Some, None, sym, ap, subst, arith}
-use Rattle.std.specs.Prelude.{IfSome, encode_utf8_all, option_map}
+use Rattle.std.proofs.Common.{◌≡◌, true, ◌≤◌, ◌<◌, ℕ, List, ◌++◌, length, Option, Some, None, sym, ap, subst, arith}
+use Rattle.std.specs.Prelude.{◌↔◌, IfSome, encode_utf8_all, option_map}
 use Rattle.std.specs.declared.ops.Range.{Range}
 use Rattle.litrs_base.specs.declared.err.ParseError.{ParseError}
 use Rattle.litrs_base.specs.Text.{PointsInto}
 use Rattle.litrs_base.specs.CharEnd.{IsCharEnd, PointsAtCharacters}
-use Rattle.litrs_base.specs.Refusal.{refusal_of, char_span_of, HasCharSpan}
+use Rattle.litrs_base.specs.Refusal.{refusal_of, kind_of, char_span_of, HasCharSpan}
+use Rattle.litrs_base.specs.Finality.{is_open}
 use Rattle.litrs_base.proofs.CharEnds.{char_span_points}
-use Rattle.litrs_grammar.specs.Literal.{Parse}
+use Rattle.litrs_grammar.specs.Literal.{Parse, Begins}
 use Rattle.litrs_grammar.specs.LiteralRefusals.{IsRefusal}
 use Rattle.litrs_grammar.specs.Refused.{IsRefused}
 use Rattle.litrs_grammar.proofs.LiteralLaws.{literals_are_not_refused, refusals_are_unique}
 use Rattle.litrs_grammar.proofs.LiteralSpans.{refusal_spans_lie_in_text}
+use Rattle.litrs_grammar.proofs.LiteralContinuation.{final_refusals_stay, open_refusals_close, line_ends_are_decided}
 
 pub is_refused : (parse : Parse) (t : List ℕ) (e : ParseError) → IsRefusal parse t (refusal_of e) → HasCharSpan t e → IsRefused parse t e
 is_refused parse t e table ends = record {
@@ -21,4 +23,8 @@ is_refused parse t e table ends = record {
   span = refusal_spans_lie_in_text parse t (refusal_of e) table;
   char_span = ends;
   char_ends = char_span_points t e (refusal_spans_lie_in_text parse t (refusal_of e) table) ends;
+  final = λ final. final_refusals_stay parse t (refusal_of e) table final;
+  closes = λ shut. open_refusals_close parse t (refusal_of e) table shut;
+  line_end = λ line is. subst (λ l. (is_open (kind_of e) ≡ true) ↔ Begins parse l) is
+      (line_ends_are_decided parse line (refusal_of e) (subst (λ l. IsRefusal parse l (refusal_of e)) (sym is) table));
 }

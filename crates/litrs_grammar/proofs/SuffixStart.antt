@@ -12,7 +12,7 @@ use Rattle.litrs_grammar.specs.Suffix.{is_suffix, starts_identifier}
 use Rattle.litrs_base.proofs.Runs.{last_passes, is_line_feed, last_passes-all}
 
 -- an ASCII character that begins an identifier is a letter or `_`
-starts_ascii : (c : ℕ) → c < 128 → starts_identifier c ≡ true → (is_ascii_alphabetic c || (c == 95)) ≡ true
+pub starts_ascii : (c : ℕ) → c < 128 → starts_identifier c ≡ true → (is_ascii_alphabetic c || (c == 95)) ≡ true
 starts_ascii c low starts =
     let e : is_xid_start c ≡ is_ascii_alphabetic c = is_xid_start-ascii c low in
     let s : ((c == 95) || is_ascii_alphabetic c) ≡ true = ap (λ v. (c == 95) || v) (sym e) ∙ starts in
@@ -28,7 +28,7 @@ suffix_begins_otherwise p low other (c ∷ cs) h = elim (cases_Bool (p c)) [
   | inl pass ↦ absurd (true≢false (sym (starts_ascii c (low c pass) (and_parts _ _ (and_parts _ _ h).0).0) ∙ other c pass))
 ]
 
-not_line_feed : (c : ℕ) → is_xid_continue c ≡ true → is_line_feed c ≡ false
+pub not_line_feed : (c : ℕ) → is_xid_continue c ≡ true → is_line_feed c ≡ false
 not_line_feed c h = elim (cases_lt c 128) [
   | inl low ↦ (let e : (is_ascii_alphanumeric c || (c == 95)) ≡ true = sym (is_xid_continue-ascii c low) ∙ h in grind (arith, nat_tests))
   | inr high ↦ grind (arith, nat_tests)

@@ -1,7 +1,7 @@
 -- Literals of all eight kinds. The Rust Reference, Tokens, Literals.
-use Rattle.std.specs.Prelude.{◌≡◌, ℕ, List, [], ◌++◌, Bool}
+use Rattle.std.specs.Prelude.{◌≡◌, ℕ, List, [], Bool}
 use Rattle.litrs_grammar.specs.StringKind.{StringKind, string_kind, byte_string_kind, c_string_kind}
-use Rattle.litrs_base.specs.Text.{IsText}
+use Rattle.litrs_grammar.specs.Continuation.{BeginsBy}
 use Rattle.litrs_grammar.specs.Bool.{IsBool}
 use Rattle.litrs_grammar.specs.Integer.{IntegerParts, IsIntegerOf}
 use Rattle.litrs_grammar.specs.Float.{FloatParts, IsFloatOf}
@@ -94,6 +94,6 @@ abbrev pub IsLiteralOf : Parse → List ℕ → Derivation → Type 0
 IsLiteralOf literal_parse t d = IsLiteral t d
 IsLiteralOf (kind_parse kind) t d = (literal_kind d ≡ kind) × IsLiteral t d
 
--- t begins a literal: with some text behind it, which may be empty, it is one
+-- t begins a literal of the parse: with some text behind it, which may be empty, it is one
 abbrev pub Begins : Parse → List ℕ → Type 0
-Begins parse t = (more : List ℕ) × (d : Derivation) × IsText more × IsLiteralOf parse (t ++ more) d
+Begins parse t = BeginsBy (IsLiteralOf parse) t

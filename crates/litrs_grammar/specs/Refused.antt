@@ -1,16 +1,25 @@
 -- What it means that a parse refuses a text.
-use Rattle.std.specs.Prelude.{◌≡◌, ℕ, List, IfSome}
+use Rattle.std.specs.Prelude.{◌≡◌, ◌↔◌, ℕ, List, [], ◌∷◌, ◌++◌, IfSome, IsTrue}
 use Rattle.litrs_base.specs.declared.err.ParseError.{ParseError}
 use Rattle.litrs_base.specs.CharEnd.{PointsAtCharacters}
 use Rattle.litrs_base.specs.Derivations.{HasNoDerivation}
-use Rattle.litrs_base.specs.Refusal.{Refusal, refusal_of, char_span_of, IsInText, HasCharSpan}
+use Rattle.litrs_base.specs.Characters.{line_feed}
+use Rattle.litrs_base.specs.Finality.{is_final, is_open}
+use Rattle.litrs_base.specs.Refusal.{Refusal, refusal_of, kind_of, char_span_of, IsInText, HasCharSpan}
+use Rattle.litrs_grammar.specs.Continuation.{BeginsBy, EndsBy}
+use Rattle.litrs_grammar.specs.Closing.{closing_of, IsClosedBy}
 use Rattle.litrs_grammar.specs.Literal.{Derivation, Parse, IsLiteralOf}
 use Rattle.litrs_grammar.specs.LiteralRefusals.{IsRefusal}
 
--- The text is refused with the error, by a parse that looks for these derivations and has this table of refusals:
--- no derivation exists; the table has the error's kind and span for the text, and no other pair; the span lies within the
--- text and starts on a character boundary; and the character span has as its end the least character boundary at or
--- after the end of the span, so that it begins and ends on character boundaries of the text.
+-- The text is refused with the error, by a parse that looks for these derivations and has this
+-- table of refusals: no derivation exists; the table has the error's kind and span for the text,
+-- and no other pair; the span lies within the text and starts on a character boundary; and the
+-- character span has as its end the least character boundary at or after the end of the span, so
+-- that it begins and ends on character boundaries of the text. As to what may follow: where the
+-- kind is final, no list behind the text gives one that has a derivation; where it is open, the
+-- closing text gives a string literal without suffix, with all of the text behind the opening as
+-- its body; and where the text ends with LF, some text behind it gives one that has a derivation
+-- exactly if the kind is open.
 pub record IsRefusedBy (Derives : List ℕ → Derivation → Type 0) (Table : List ℕ → Refusal → Type 0) (t : List ℕ) (e : ParseError) : Type 0 where
   pub none : HasNoDerivation (Derives t)
   pub table : Table t (refusal_of e)
@@ -18,6 +27,10 @@ pub record IsRefusedBy (Derives : List ℕ → Derivation → Type 0) (Table : L
   pub span : IsInText t (refusal_of e)
   pub char_span : HasCharSpan t e
   pub char_ends : IfSome (char_span_of e) (PointsAtCharacters t)
+  pub final : IsTrue (is_final (kind_of e)) → EndsBy Derives t
+  pub closes : IsTrue (is_open (kind_of e)) → IsClosedBy Derives t (closing_of t (refusal_of e))
+  pub line_end : (line : List ℕ) → line ++ line_feed ∷ [] ≡ t →
+      IsTrue (is_open (kind_of e)) ↔ BeginsBy Derives t
 
 -- the text is refused with the error by one of the nine parses
 abbrev pub IsRefused : Parse → List ℕ → ParseError → Type 0

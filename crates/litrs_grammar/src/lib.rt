@@ -4,6 +4,7 @@
 
 pub mod allocation;
 pub mod char_byte;
+pub mod continuation;
 pub mod escape;
 pub mod float;
 pub mod literal;

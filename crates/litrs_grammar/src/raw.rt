@@ -1,5 +1,6 @@
 //! Laws of raw strings.
 ghost use Rattle.litrs_grammar.specs.RawLaws.{RawLiteralsAreUnique, RawLiteralsAreDecided, RawSpansLieInText, RawTextsAreUnique, RawTextsAreDecided, RawTextSpansLieInText, NoRawLiteralEndsWithLineFeed, NoNulInRawCStrings, RawValuesAreAsLongAsBodies, RawScansGoOn, RawRefusalsGoOn, RawBodiesEndAtClosings};
+ghost use Rattle.litrs_grammar.specs.RawScanLaws.{HashCountsStay, FirstClosingsStay, StoppedBodiesAreRefused, FinalRawRefusalsStay, ClosingsBeginAtQuotes, ClosingsAreFound, QuotesArePassed};
 
 /// A text has at most one derivation as a raw literal, over all three kinds together.
 pub fn raw_literals_are_unique()
@@ -47,6 +48,41 @@ pub fn no_nul_in_raw_c_strings()
 /// The value of a raw literal has as many bytes as the body.
 pub fn raw_values_are_as_long_as_bodies()
     ensures { RawValuesAreAsLongAsBodies }
+{}
+
+/// The number of hashes stays that of every longer text, where any character stands behind them.
+pub fn hash_counts_stay()
+    ensures { HashCountsStay }
+{}
+
+/// The first closing stays that of every longer text.
+pub fn first_closings_stay()
+    ensures { FirstClosingsStay }
+{}
+
+/// The first character that may not stand in a body is refused, whatever follows.
+pub fn stopped_bodies_are_refused()
+    ensures { StoppedBodiesAreRefused }
+{}
+
+/// What is refused with a final kind is refused with the same kind and span whatever is appended.
+pub fn final_raw_refusals_stay()
+    ensures { FinalRawRefusalsStay }
+{}
+
+/// Characters that are no `"` are passed in the search for the first closing.
+pub fn closings_begin_at_quotes()
+    ensures { ClosingsBeginAtQuotes }
+{}
+
+/// At a `"` that as many hashes follow the first closing stands.
+pub fn closings_are_found()
+    ensures { ClosingsAreFound }
+{}
+
+/// A `"` that fewer hashes follow is passed.
+pub fn quotes_are_passed()
+    ensures { QuotesArePassed }
 {}
 
 /// Behind a front in which no closing begins, the rest decides where the first closing stands, and

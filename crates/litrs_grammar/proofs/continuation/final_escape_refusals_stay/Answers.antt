@@ -1,0 +1,5 @@
+use Rattle.litrs_grammar.proofs.EscapeContinuation.{final_escape_refusals_stay}
+use Rattle.litrs_grammar.proofs.continuation.final_escape_refusals_stay.Goals as goal
+
+pub returns : goal.returns
+returns c = final_escape_refusals_stay

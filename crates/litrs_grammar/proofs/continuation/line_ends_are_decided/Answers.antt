@@ -1,0 +1,5 @@
+use Rattle.litrs_grammar.proofs.LiteralContinuation.{line_ends_are_decided}
+use Rattle.litrs_grammar.proofs.continuation.line_ends_are_decided.Goals as goal
+
+pub returns : goal.returns
+returns c = line_ends_are_decided

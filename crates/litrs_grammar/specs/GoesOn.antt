@@ -1,0 +1,50 @@
+-- Which refused texts begin a literal, for the nine parses. The Rust Reference, Tokens, Literals;
+-- it does not speak of refusals.
+use Rattle.std.specs.Prelude.{ℕ, List, IsTrue, length, drop}
+use Rattle.litrs_grammar.specs.StringKind.{StringKind, string_kind, byte_string_kind, c_string_kind, switches_of}
+use Rattle.litrs_grammar.specs.Float.{float_cut}
+use Rattle.litrs_grammar.specs.CharByte.{char_kind, byte_kind}
+use Rattle.litrs_grammar.specs.Quoted.{quoted_front}
+use Rattle.litrs_grammar.specs.Raw.{raw_front, has_unicode, allows_nul}
+use Rattle.litrs_grammar.specs.Literal.{LiteralKind, bool_literal, integer_literal, float_literal, char_literal, byte_literal, string_literal, byte_string_literal, c_string_literal, Parse, literal_parse, kind_parse}
+use Rattle.litrs_grammar.specs.LiteralRefusals.{StringStart, refused_start, quoted_start, raw_start, string_start, Dispatch, refused_as, parsed_as, dispatch}
+use Rattle.litrs_grammar.specs.BoolGoesOn.{bool_goes_on}
+use Rattle.litrs_grammar.specs.IntegerGoesOn.{IntegerGoesOn}
+use Rattle.litrs_grammar.specs.FloatGoesOn.{FloatGoesOn}
+use Rattle.litrs_grammar.specs.CharByteGoesOn.{CharGoesOn}
+use Rattle.litrs_grammar.specs.QuotedGoesOn.{QuotedGoesOn}
+use Rattle.litrs_grammar.specs.RawGoesOn.{RawGoesOn}
+use Rattle.litrs_grammar.specs.StringGoesOn.{start_goes_on}
+use Rattle.litrs_grammar.specs.UnnamedGoesOn.{unnamed_goes_on}
+
+-- a text that starts so, as a string of the kind
+abbrev pub StartGoesOn : StringKind → StringStart → List ℕ → Type 0
+StartGoesOn kind (refused_start refusal) t = IsTrue (start_goes_on kind t)
+StartGoesOn kind quoted_start t = QuotedGoesOn (quoted_front kind) (switches_of kind) t
+StartGoesOn kind raw_start t =
+    RawGoesOn (has_unicode kind) (allows_nul kind) (drop (length (raw_front kind)) t)
+
+-- as a string of the kind
+abbrev pub StringGoesOn : StringKind → List ℕ → Type 0
+StringGoesOn kind t = StartGoesOn kind (string_start kind t) t
+
+-- as a literal of one kind
+abbrev pub KindGoesOn : LiteralKind → List ℕ → Type 0
+KindGoesOn bool_literal t = IsTrue (bool_goes_on t)
+KindGoesOn integer_literal t = IntegerGoesOn t
+KindGoesOn float_literal t = FloatGoesOn (float_cut t)
+KindGoesOn char_literal t = CharGoesOn char_kind t
+KindGoesOn byte_literal t = CharGoesOn byte_kind t
+KindGoesOn string_literal t = StringGoesOn string_kind t
+KindGoesOn byte_string_literal t = StringGoesOn byte_string_kind t
+KindGoesOn c_string_literal t = StringGoesOn c_string_kind t
+
+-- a text that is dispatched so, as a literal of any kind
+abbrev pub DispatchedGoesOn : Dispatch → List ℕ → Type 0
+DispatchedGoesOn (refused_as refusal) t = IsTrue (unnamed_goes_on t)
+DispatchedGoesOn (parsed_as kind) t = KindGoesOn kind t
+
+-- the text that the parse refuses goes on
+abbrev pub GoesOn : Parse → List ℕ → Type 0
+GoesOn literal_parse t = DispatchedGoesOn (dispatch t) t
+GoesOn (kind_parse kind) t = KindGoesOn kind t

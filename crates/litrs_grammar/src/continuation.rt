@@ -1,0 +1,67 @@
+//! Laws of refused texts with more behind them, and of the texts of literals.
+ghost use Rattle.litrs_grammar.specs.ContinuationLaws.{FinalRefusalsStay, OpenRefusalsClose, LineEndsAreDecided, RefusedTextsGoOn, OtherKindsMayGoOn, FinalEscapeRefusalsStay, RefusedEscapesGoOn, QuotedItemsStay, FinalQuotedRefusalsStay, LiteralsAreWritten, LiteralsParseBack, JoinedBodiesAreQuoted};
+
+/// After a final refusal the same parse refuses every longer text.
+pub fn final_refusals_stay()
+    ensures { FinalRefusalsStay }
+{}
+
+/// After an open refusal the closing text makes the text a string literal without suffix, whose
+/// body is all of the text behind the opening.
+pub fn open_refusals_close()
+    ensures { OpenRefusalsClose }
+{}
+
+/// A refused text that ends with LF begins a literal if and only if its refusal is open.
+pub fn line_ends_are_decided()
+    ensures { LineEndsAreDecided }
+{}
+
+/// A refused text begins a literal if and only if the parts that the table cuts out of it go on.
+pub fn refused_texts_go_on()
+    ensures { RefusedTextsGoOn }
+{}
+
+/// Each kind that is not final, `OutOfMemory` aside, refuses some text that begins a literal.
+pub fn other_kinds_may_go_on()
+    ensures { OtherKindsMayGoOn }
+{}
+
+/// An escape refused with a final kind is refused with the same kind and span whatever is
+/// appended.
+pub fn final_escape_refusals_stay()
+    ensures { FinalEscapeRefusalsStay }
+{}
+
+/// A refused escape begins one if and only if what stands behind the backslash goes on.
+pub fn refused_escapes_go_on()
+    ensures { RefusedEscapesGoOn }
+{}
+
+/// Items that do not end the text stay those of every longer text.
+pub fn quoted_items_stay()
+    ensures { QuotedItemsStay }
+{}
+
+/// A quoted text refused with a final kind is refused with the same kind and span whatever is
+/// appended.
+pub fn final_quoted_refusals_stay()
+    ensures { FinalQuotedRefusalsStay }
+{}
+
+/// A text is a literal with a derivation if and only if it is written so and the parts are those
+/// of a literal.
+pub fn literals_are_written()
+    ensures { LiteralsAreWritten }
+{}
+
+/// Parts that are those of a literal are the only ones that their text has.
+pub fn literals_parse_back()
+    ensures { LiteralsParseBack }
+{}
+
+/// Two bodies between a front and a quote with a suffix are a quoted literal with the items of
+/// both, unless the second begins with what a continuation at the end of the first would take.
+pub fn joined_bodies_are_quoted()
+    ensures { JoinedBodiesAreQuoted }
+{}
