@@ -1,7 +1,7 @@
 -- Refused chars and bytes under every appended text: which stay refused, and which some text completes.
-use Rattle.std.proofs.Common.{◌≡◌, ℕ, ◌+◌, Bool, true, false, not, ◌&&◌, ◌||◌, ◌⊎◌, inl, inr, List, [], ◌∷◌, ◌++◌, length, take, drop, Option, Some, None, refl, sym, ap, subst, ◌∙◌, arith}
+use Rattle.std.proofs.Common.{◌≡◌, ℕ, Bool, true, false, not, ◌&&◌, ◌||◌, ◌⊎◌, inl, inr, List, [], ◌∷◌, ◌++◌, length, take, drop, Option, Some, None, refl, sym, ap, subst, ◌∙◌}
 use Rattle.std.specs.Prelude.{◌==◌, ◌↔◌, if◌then◌else◌, option_map, is_some}
-use Rattle.std.specs.List.{list_all, list_any}
+use Rattle.std.specs.List.{list_all}
 use Rattle.std.proofs.lemmas.Bool.{and_parts, and_from, and_left, and_right, not-true, or_parts, true≢false}
 use Rattle.std.proofs.lemmas.List.{append_assoc, append-nil, append_cancel_left, drop_at, take_at}
 use Rattle.std.proofs.lemmas.List.Folds.{list_all-append as all-append}
@@ -9,15 +9,14 @@ use Rattle.litrs_base.specs.Characters.{is_scalar}
 use Rattle.litrs_base.specs.Derivations.{IsOnlyDerivation, HasNoDerivation}
 use Rattle.litrs_base.specs.Finality.{is_final, is_open}
 use Rattle.litrs_base.specs.Refusal.{Refusal, moved}
-use Rattle.litrs_base.specs.Text.{IsText, byte_len, first_passes, begins_with}
+use Rattle.litrs_base.specs.Text.{IsText, byte_len, begins_with}
 use Rattle.litrs_base.proofs.Begins.{begins_with-split, begins_with-append}
 use Rattle.litrs_base.proofs.ListTests.{if_true, if_false}
-use Rattle.litrs_base.proofs.Runs.{list_all-append, is_line_feed}
+use Rattle.litrs_base.proofs.Runs.{list_all-append}
 use Rattle.litrs_grammar.specs.Suffix.{is_suffix, starts_identifier}
 use Rattle.litrs_grammar.specs.Escape.{Switches, Escape, escape_text, is_escape, escape_refusal}
 use Rattle.litrs_grammar.specs.CharByte.{CharKind, char_kind, byte_kind, char_front, char_switches_of, CharItem, plain_char, escaped_char, char_item_text, is_special_whitespace, allows_char, is_char_item, CharParts, char_text, IsCharLiteral, unterminated_kind, empty_kind, overlong_kind, start_refusal, char_item_length, escape_length, closing_refusal, char_item_refusal, char_kind_refusal}
 use Rattle.litrs_grammar.specs.Continuation.{BeginsBy, EndsBy}
-use Rattle.litrs_grammar.specs.EscapeGoesOn.{BeginsEscape}
 use Rattle.litrs_grammar.specs.CharByteGoesOn.{CharRestGoesOn, CharGoesOn}
 use Rattle.litrs_grammar.proofs.SuffixContinuation.{front_of, suffix_freed, is_suffix-nil, underscore_x}
 use Rattle.litrs_grammar.proofs.OpenRows.{is_open_row, shut_if, shut_suffix, shut_escape}

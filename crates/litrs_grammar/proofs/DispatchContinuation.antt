@@ -1,19 +1,19 @@
 -- The dispatch of longer texts.
-use Rattle.std.proofs.Common.{◌≡◌, ℕ, Bool, true, false, not, ◌&&◌, ◌||◌, cond, List, [], ◌∷◌, ◌++◌, length, drop, Option, Some, None, refl, sym, ap, ◌∙◌, subst, arith, inl, inr, append_assoc}
+use Rattle.std.proofs.Common.{◌≡◌, ℕ, Bool, true, false, ◌||◌, List, [], ◌∷◌, ◌++◌, length, drop, Some, None, refl, sym, ap, ◌∙◌, subst, arith, inl, inr, append_assoc}
 use Rattle.std.specs.Prelude.{◌==◌, if◌then◌else◌, codes}
-use Rattle.std.specs.List.{list_all, list_any, prefix_len}
+use Rattle.std.specs.List.{list_all, list_any}
 use Rattle.std.specs.Char.{is_ascii_digit}
-use Rattle.std.proofs.lemmas.Bool.{and_parts, and_from, both_ways, false≢true, true≢false, eqb-true, or_left, or_cases}
+use Rattle.std.proofs.lemmas.Bool.{and_parts, false≢true, eqb-true, or_left, or_cases}
 use Rattle.std.proofs.lemmas.Bool.Decides.{nat_tests}
 use Rattle.std.proofs.lemmas.List.{append-nil, drop_at}
 use Rattle.litrs_base.proofs.ListTests.{if_true, if_false}
 use Rattle.litrs_base.specs.Refusal.{Refusal}
-use Rattle.litrs_base.specs.declared.err.ParseErrorKind.TheVariants.{Empty, InvalidLiteral}
+use Rattle.litrs_base.specs.declared.err.ParseErrorKind.TheVariants.{InvalidLiteral}
 use Rattle.litrs_base.specs.declared.integer.IntegerBase.TheVariants.{Decimal}
 use Rattle.litrs_base.specs.Refusal.{plain}
-use Rattle.litrs_base.specs.Text.{first_passes, begins_with, is_empty}
+use Rattle.litrs_base.specs.Text.{first_passes, begins_with}
 use Rattle.litrs_base.specs.Base.{is_digit_or_underscore}
-use Rattle.litrs_grammar.specs.Bool.{is_bool, bool_refusal}
+use Rattle.litrs_grammar.specs.Bool.{is_bool}
 use Rattle.litrs_grammar.specs.Integer.{integer_refusal, base_of, cut_refusal}
 use Rattle.litrs_grammar.specs.Literal.{LiteralKind, bool_literal, integer_literal, float_literal, char_literal, byte_literal, string_literal, byte_string_literal, c_string_literal}
 use Rattle.litrs_grammar.specs.LiteralRefusals.{Dispatch, refused_as, parsed_as, dispatch, is_float_mark, begins_float, IsKindRefusal}
@@ -22,9 +22,8 @@ use Rattle.litrs_grammar.proofs.IntegerLaws.{prefix_len_front, refusal_of_digit,
 use Rattle.litrs_grammar.proofs.IntegerContinuation.{cut_parts}
 use Rattle.litrs_grammar.proofs.LiteralLaws.{is_bool-digit, some_bool, dispatch_literal}
 use Rattle.std.specs.Prelude.{◌↔◌}
-use Rattle.litrs_grammar.specs.CharByte.{byte_kind, plain_char, IsCharLiteral}
+use Rattle.litrs_grammar.specs.CharByte.{plain_char}
 use Rattle.litrs_grammar.specs.Literal.{a_bool, a_byte, Derivation, IsLiteral, literal_kind, literal_parse, kind_parse, Begins}
-use Rattle.litrs_grammar.specs.Continuation.{EndsBy}
 use Rattle.litrs_grammar.specs.BoolGoesOn.{bool_goes_on}
 use Rattle.litrs_grammar.specs.UnnamedGoesOn.{unnamed_goes_on}
 use Rattle.litrs_grammar.proofs.SuffixContinuation.{is_suffix-nil}

@@ -1,26 +1,25 @@
 -- Refused integers under every appended text: which stay refused, and which some text completes.
-use Rattle.std.proofs.Common.{◌≡◌, ℕ, suc, ◌+◌, ◌<◌, Bool, true, false, not, ◌&&◌, ◌||◌, cond, List, [], ◌∷◌, ◌++◌, length, drop, Option, Some, None, refl, sym, ap, ◌∙◌, subst, arith, ◌⊎◌, inl, inr, append_assoc}
+use Rattle.std.proofs.Common.{◌≡◌, ℕ, Bool, true, false, not, List, [], ◌∷◌, ◌++◌, length, drop, Some, None, refl, sym, ap, ◌∙◌, subst, arith, inl, inr, append_assoc}
 use Rattle.std.specs.Prelude.{◌==◌, ◌↔◌, if◌then◌else◌}
-use Rattle.std.specs.List.{list_all, list_any, take_while, prefix_len}
+use Rattle.std.specs.List.{list_all, list_any, take_while}
 use Rattle.std.specs.Char.{is_ascii_digit}
-use Rattle.std.proofs.lemmas.Bool.{and_parts, and_from, both_ways, true≢false, false≢true, or_left, or_right, not-true, cases_Bool}
+use Rattle.std.proofs.lemmas.Bool.{and_from, both_ways, or_left, or_right}
 use Rattle.std.proofs.lemmas.Bool.Decides.{nat_tests}
 use Rattle.std.proofs.lemmas.List.{append-nil, drop_at}
 use Rattle.std.proofs.lemmas.List.Folds.{list_any-append, length-prefix_len}
 use Rattle.litrs_base.specs.Refusal.{Refusal}
-use Rattle.litrs_base.specs.declared.err.ParseErrorKind.TheVariants.{Empty, InvalidDigit, NoDigits, DoesNotStartWithDigit, InvalidSuffix}
+use Rattle.litrs_base.specs.declared.err.ParseErrorKind.TheVariants.{Empty, NoDigits}
 use Rattle.litrs_base.specs.declared.integer.IntegerBase.{IntegerBase}
 use Rattle.litrs_base.specs.declared.integer.IntegerBase.TheVariants.{Binary, Octal, Decimal, Hexadecimal}
-use Rattle.litrs_base.specs.Refusal.{at, over, plain}
+use Rattle.litrs_base.specs.Refusal.{over, plain}
 use Rattle.litrs_base.specs.Finality.{is_final}
 use Rattle.litrs_grammar.specs.Suffix.{is_suffix, suffix_refusal}
-use Rattle.litrs_base.specs.Text.{byte_len, first_passes, is_empty, begins_with}
-use Rattle.litrs_base.specs.Characters.{is_scalar}
+use Rattle.litrs_base.specs.Text.{byte_len, first_passes, is_empty}
 use Rattle.litrs_base.specs.Base.{prefix, is_digit, is_digit_or_underscore}
 use Rattle.litrs_grammar.specs.Integer.{IntegerParts, integer_text, is_e, base_of, integer_cut, cut_refusal, integer_refusal, IsIntegerOf}
 use Rattle.litrs_base.proofs.Runs.{list_all-append, list_all-weaken}
 use Rattle.litrs_grammar.proofs.LineFeeds.{is_other, suffix_other, no_line_feed}
-use Rattle.litrs_grammar.proofs.IntegerLaws.{take_while_front, list_all-take_while, first_passes-rest, not_empty_by_first, integer_rows-None, cut_with, integer_cut-is, cut-spells, derivable, integer_refusal-free, refusal_of_digit, starts_with_digit, first_passes-append}
+use Rattle.litrs_grammar.proofs.IntegerLaws.{take_while_front, list_all-take_while, first_passes-rest, integer_rows-None, cut_with, integer_cut-is, cut-spells, derivable, integer_refusal-free, refusal_of_digit, starts_with_digit}
 use Rattle.litrs_grammar.specs.Continuation.{BeginsBy, EndsBy}
 use Rattle.litrs_grammar.specs.IntegerGoesOn.{IntegerGoesOn}
 use Rattle.litrs_grammar.proofs.EscapeContinuation.{never}

@@ -1,32 +1,30 @@
 -- The refusals of the nine parses under every appended text.
-use Rattle.std.proofs.Common.{◌≡◌, ℕ, Bool, true, false, List, [], ◌∷◌, ◌++◌, ◌+◌, ◌⊎◌, length, drop, Option, Some, None, refl, sym, ap, ◌∙◌, subst, inl, inr, append_assoc}
+use Rattle.std.proofs.Common.{◌≡◌, ℕ, Bool, true, false, List, [], ◌∷◌, ◌++◌, ◌+◌, ◌⊎◌, length, drop, Some, None, refl, sym, ap, ◌∙◌, subst, inl, inr, append_assoc}
 use Rattle.std.specs.Prelude.{◌↔◌, if◌then◌else◌}
 use Rattle.std.specs.List.{list_all}
 use Rattle.std.proofs.lemmas.Bool.{both_ways}
 use Rattle.std.proofs.lemmas.List.{append-nil, append_cancel_left, append_cancel_right}
-use Rattle.litrs_base.specs.declared.err.ParseErrorKind.TheVariants.{Empty, InvalidLiteral}
-use Rattle.litrs_base.specs.Characters.{is_scalar}
+use Rattle.litrs_base.specs.declared.err.ParseErrorKind.TheVariants.{InvalidLiteral}
 use Rattle.litrs_base.specs.Finality.{is_final, is_open}
 use Rattle.litrs_base.specs.Refusal.{Refusal, plain}
 use Rattle.litrs_grammar.specs.StringKind.{StringKind, string_kind, byte_string_kind, c_string_kind, switches_of}
 use Rattle.litrs_grammar.specs.Bool.{is_bool, IsBool}
 use Rattle.litrs_grammar.specs.Integer.{IntegerParts, IsIntegerOf, integer_refusal}
-use Rattle.litrs_grammar.specs.Float.{FloatParts, IsFloatOf, float_refusal}
-use Rattle.litrs_grammar.specs.CharByte.{CharKind, char_kind, byte_kind, CharParts, IsCharLiteral, char_kind_refusal}
-use Rattle.litrs_grammar.specs.Quoted.{quoted_front, QuotedParts, IsQuotedLiteral, IsQuotedLiteralRefusal}
-use Rattle.litrs_grammar.specs.Raw.{raw_front, raw_closing, hashes, hash_len, RawParts, IsRawLiteral, IsRawOf, has_unicode, allows_nul, raw_literal_refusal, raw_refusal}
-use Rattle.litrs_grammar.specs.Literal.{StringParts, string_suffix, quoted_parts, raw_parts, IsString, Derivation, a_bool, an_integer, a_float, a_char, a_byte, a_string, a_byte_string, a_c_string, IsLiteral, LiteralKind, bool_literal, integer_literal, float_literal, char_literal, byte_literal, string_literal, byte_string_literal, c_string_literal, literal_kind, Parse, literal_parse, kind_parse, IsLiteralOf, Begins}
-use Rattle.litrs_grammar.specs.LiteralRefusals.{StringStart, refused_start, quoted_start, raw_start, string_start, IsRefusalOfStart, IsStringRefusal, IsKindRefusal, Dispatch, refused_as, parsed_as, dispatch, IsRefusalOfDispatch, IsRefusal}
-use Rattle.litrs_grammar.specs.Closing.{behind_raw_front, closing_text, closing_of, a_string_of, opening_text, written_body, IsClosedBy}
+use Rattle.litrs_grammar.specs.Float.{FloatParts, IsFloatOf}
+use Rattle.litrs_grammar.specs.CharByte.{char_kind, byte_kind, CharParts, IsCharLiteral}
+use Rattle.litrs_grammar.specs.Quoted.{quoted_front, IsQuotedLiteralRefusal}
+use Rattle.litrs_grammar.specs.Raw.{raw_front, raw_closing, hashes, hash_len, RawParts, IsRawLiteral, IsRawOf, has_unicode, allows_nul, raw_refusal}
+use Rattle.litrs_grammar.specs.Literal.{StringParts, string_suffix, quoted_parts, raw_parts, IsString, Derivation, a_bool, an_integer, a_float, a_char, a_byte, a_string, a_byte_string, a_c_string, IsLiteral, LiteralKind, bool_literal, integer_literal, float_literal, char_literal, byte_literal, string_literal, byte_string_literal, c_string_literal, literal_kind, literal_parse, kind_parse, IsLiteralOf, Begins}
+use Rattle.litrs_grammar.specs.LiteralRefusals.{StringStart, refused_start, quoted_start, raw_start, string_start, IsRefusalOfStart, IsStringRefusal, IsKindRefusal, Dispatch, refused_as, parsed_as, dispatch, IsRefusalOfDispatch}
+use Rattle.litrs_grammar.specs.Closing.{behind_raw_front, closing_text, closing_of, opening_text, written_body, IsClosedBy}
 use Rattle.litrs_grammar.specs.Continuation.{BeginsBy, EndsBy}
 use Rattle.litrs_grammar.specs.RawGoesOn.{raw_open_parts}
-use Rattle.litrs_grammar.specs.GoesOn.{StartGoesOn, StringGoesOn, KindGoesOn, DispatchedGoesOn, GoesOn}
+use Rattle.litrs_grammar.specs.GoesOn.{StartGoesOn, KindGoesOn, DispatchedGoesOn}
 use Rattle.litrs_grammar.specs.ContinuationLaws.{FinalRefusalsStay, OpenRefusalsClose, LineEndsAreDecided, RefusedTextsGoOn}
 use Rattle.litrs_base.proofs.Runs.{last_passes, is_line_feed, line_feed_last}
 use Rattle.litrs_grammar.proofs.OpenRows.{is_open_row, shut_if, shut_number, shut_suffix}
 use Rattle.litrs_grammar.proofs.LiteralLaws.{string_literal_of, dispatch_literal, dispatch_refusal}
 use Rattle.litrs_grammar.proofs.RawKinds.{behind_front}
-use Rattle.litrs_grammar.proofs.EscapeContinuation.{never}
 use Rattle.litrs_grammar.proofs.SuffixContinuation.{front_of}
 use Rattle.litrs_grammar.proofs.LineFeeds.{is_other, no_line_feed}
 use Rattle.litrs_grammar.proofs.BoolContinuation.{bool_begins, bool_line_end}
@@ -36,7 +34,7 @@ use Rattle.litrs_grammar.proofs.CharByteContinuation.{char_begins, char_finality
 use Rattle.litrs_grammar.proofs.QuotedContinuation.{quoted_finality, quoted_open, quoted_open_kind, quoted_begins, quoted_line_end}
 use Rattle.litrs_grammar.proofs.RawContinuation.{raw_finality, raw_begins, raw_open, raw_open_kind, raw_line_end}
 use Rattle.litrs_grammar.proofs.DispatchContinuation.{dispatch_stays, literal_begins, unnamed_begins, unnamed_line_end}
-use Rattle.litrs_grammar.proofs.StringContinuation.{behind_quoted, behind_raw, quoted_string_ends, quoted_string_begins, raw_string_ends, raw_string_begins, start_begins, start_line_end, start_not_open, start_final, raw_other}
+use Rattle.litrs_grammar.proofs.StringContinuation.{behind_raw, quoted_string_ends, quoted_string_begins, raw_string_ends, raw_string_begins, start_begins, start_line_end, start_not_open, start_final, raw_other}
 
 -- The parts of one kind
 

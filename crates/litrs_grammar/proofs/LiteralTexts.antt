@@ -1,11 +1,10 @@
 -- Literals are written as their parts are, and parts parse back.
-use Rattle.std.proofs.Common.{◌≡◌, ℕ, List, ◌++◌, ◌∷◌, refl, sym, ap, ◌∙◌, append_assoc}
+use Rattle.std.proofs.Common.{◌≡◌, ℕ, List, ◌++◌, ◌∷◌, refl, ap}
 use Rattle.std.specs.Prelude.{◌↔◌}
-use Rattle.litrs_grammar.specs.StringKind.{StringKind, string_kind, byte_string_kind, c_string_kind, switches_of}
+use Rattle.litrs_grammar.specs.StringKind.{StringKind, string_kind, byte_string_kind, c_string_kind}
 use Rattle.litrs_grammar.specs.CharByte.{CharKind, char_kind, byte_kind, CharParts, char_text, IsCharLiteral}
-use Rattle.litrs_grammar.specs.Quoted.{body_text}
-use Rattle.litrs_grammar.specs.Literal.{StringParts, quoted_parts, raw_parts, IsString, Derivation, a_bool, an_integer, a_float, a_char, a_byte, a_string, a_byte_string, a_c_string, IsLiteral}
-use Rattle.litrs_grammar.specs.LiteralText.{string_text, literal_text, AreCharParts, AreStringParts, AreParts}
+use Rattle.litrs_grammar.specs.Literal.{StringParts, quoted_parts, raw_parts, IsString, a_bool, an_integer, a_float, a_char, a_byte, a_string, a_byte_string, a_c_string, IsLiteral}
+use Rattle.litrs_grammar.specs.LiteralText.{string_text, literal_text, AreCharParts, AreStringParts}
 use Rattle.litrs_grammar.specs.ContinuationLaws.{LiteralsAreWritten, LiteralsParseBack, JoinedBodiesAreQuoted}
 use Rattle.litrs_grammar.proofs.LiteralLaws.{literals_are_unique}
 use Rattle.litrs_grammar.proofs.QuotedLaws.{quoted_bodies_join}

@@ -1,8 +1,8 @@
 -- Refused quoted literals under every appended text: which stay refused, which close, and which some text completes.
-use Rattle.std.proofs.Common.{◌≡◌, ℕ, ◌+◌, ◌<◌, Bool, true, false, not, ◌&&◌, ◌||◌, List, [], ◌∷◌, ◌++◌, Option, Some, None, refl, sym, ap, ◌∙◌, subst, arith, inl, inr, append_assoc, ◌⊎◌}
+use Rattle.std.proofs.Common.{◌≡◌, ℕ, Bool, true, false, not, ◌&&◌, List, [], ◌∷◌, ◌++◌, Option, Some, None, refl, sym, ap, ◌∙◌, subst, arith, inl, inr, append_assoc, ◌⊎◌}
 use Rattle.std.specs.Prelude.{◌==◌, if◌then◌else◌, ◌↔◌}
 use Rattle.std.specs.List.{list_all}
-use Rattle.std.proofs.lemmas.Bool.{and_parts, and_from, eqb-true, both_ways, false≢true, or_right, not-true}
+use Rattle.std.proofs.lemmas.Bool.{and_parts, and_from, eqb-true, both_ways, false≢true, or_right}
 use Rattle.std.proofs.lemmas.List.{append-nil}
 use Rattle.litrs_base.specs.Refusal.{Refusal, at, plain, moved}
 use Rattle.litrs_base.specs.declared.err.ParseErrorKind.TheVariants.{UnterminatedEscape, UnterminatedString, InvalidSuffix, UnexpectedChar, CarriageReturn, NulByte, NonAsciiInByteLiteral}
@@ -11,7 +11,7 @@ use Rattle.litrs_base.specs.Finality.{is_final, is_open}
 use Rattle.litrs_grammar.specs.Suffix.{is_suffix, suffix_refusal, is_ascii_symbol}
 use Rattle.litrs_base.specs.Text.{byte_len, first_passes}
 use Rattle.litrs_grammar.specs.Escape.{Switches, escape_refusal, allows_value, hex_refusal, unicode_refusal, inner_refusal, Escape, simple_escape, hex_escape, unicode_escape, escape_text, is_escape, is_simple, allows_byte, pair_value, is_hex_or_underscore}
-use Rattle.litrs_grammar.specs.Quoted.{Item, plain_item, escape_item, continuation, is_item, body_text, is_body, is_taken_before, stand_before, without_last, backslash_refusal, rest_refusal, QuotedParts, IsQuoted, IsQuotedRefusal, takes_all_blanks, IsBodyOf}
+use Rattle.litrs_grammar.specs.Quoted.{Item, plain_item, escape_item, continuation, is_item, body_text, is_body, is_taken_before, stand_before, without_last, backslash_refusal, rest_refusal, IsQuoted, IsQuotedRefusal, takes_all_blanks, IsBodyOf}
 use Rattle.litrs_grammar.proofs.QuotedItems.{without_last-append, last_of, escape_head}
 use Rattle.std.proofs.lemmas.Bool.Decides.{nat_tests}
 use Rattle.litrs_grammar.proofs.EscapeContinuation.{never, keep, escape_final}
@@ -20,7 +20,6 @@ use Rattle.litrs_base.proofs.ListTests.{if_true, if_false}
 use Rattle.litrs_grammar.proofs.QuotedLaws.{quoted_bodies_join, quoted_texts_are_not_refused}
 use Rattle.std.specs.Char.{is_ascii_hexdigit}
 use Rattle.std.proofs.lemmas.List.Folds.{list_all-append as all-append}
-use Rattle.unicode_ident.proofs.IdentLemmas.{is_xid_continue-ascii}
 use Rattle.litrs_base.proofs.Runs.{list_all-append, list_all-weaken, last_passes, is_line_feed, last_passes-append, line_feed_last}
 use Rattle.litrs_grammar.proofs.EscapeLaws.{inner_of, read_escape, refusal_escape, SomeEscape}
 use Rattle.litrs_grammar.specs.Continuation.{BeginsBy, EndsBy}

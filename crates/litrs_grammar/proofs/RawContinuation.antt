@@ -1,19 +1,18 @@
 -- Refused raw texts under every appended text: which stay refused, and which some text completes.
-use Rattle.std.proofs.Common.{◌≡◌, ℕ, zero, suc, ◌+◌, ◌≤◌, ◌<◌, ◌⊎◌, inl, inr, Bool, true, false, not, cond, ltb, ◌&&◌, ◌||◌, List, [], ◌∷◌, ◌++◌, length, take, drop, get_or, Option, Some, None, refl, sym, ap, subst, ◌∙◌, arith}
+use Rattle.std.proofs.Common.{◌≡◌, ℕ, zero, suc, ◌+◌, ◌≤◌, ◌⊎◌, inl, inr, Bool, true, false, not, cond, ltb, ◌&&◌, List, [], ◌∷◌, ◌++◌, length, take, drop, Option, Some, None, refl, sym, ap, subst, ◌∙◌, arith}
 use Rattle.std.specs.Prelude.{◌==◌, ◌↔◌, if◌then◌else◌}
 use Rattle.std.specs.List.{list_all, prefix_len, slice_index}
-use Rattle.std.proofs.lemmas.Bool.{and_parts, and_from, true≢false, false≢true, or_left, or_right, or_parts, or_cases, or_from, not-false, eqb-true, cases_Bool, le-ltb, lt-ltb, ltb-false}
+use Rattle.std.proofs.lemmas.Bool.{and_parts, and_from, true≢false, or_right, or_parts, eqb-true, le-ltb, lt-ltb, ltb-false}
 use Rattle.std.proofs.lemmas.Bool.Decides.{nat_tests}
-use Rattle.std.proofs.lemmas.List.{append_assoc, append-nil, append_cancel_left, length-append, take_at, drop_at}
+use Rattle.std.proofs.lemmas.List.{append_assoc, append-nil, length-append, take_at, drop_at}
 use Rattle.std.proofs.Math.Seq.{take-append-add, take-length, get_or-append_seam}
 use Rattle.std.proofs.lemmas.List.Folds.{list_all-append as all-append}
-use Rattle.litrs_base.specs.declared.err.ParseErrorKind.{ParseErrorKind}
 use Rattle.litrs_base.specs.declared.err.ParseErrorKind.TheVariants.{InvalidLiteral, TooManyHashes, UnterminatedRawString}
 use Rattle.litrs_base.specs.Finality.{is_final, is_open}
 use Rattle.litrs_base.specs.Characters.{is_scalar}
 use Rattle.litrs_base.specs.Refusal.{Refusal, plain, over, at}
-use Rattle.litrs_base.specs.Text.{IsText, byte_len, is_empty, first_passes, begins_with}
-use Rattle.litrs_base.proofs.Runs.{list_all-append, list_all-weaken, prefix_len_all, IsRun, run_of, last_passes, is_line_feed, last_passes-all, last_passes-append}
+use Rattle.litrs_base.specs.Text.{IsText, byte_len, first_passes, begins_with}
+use Rattle.litrs_base.proofs.Runs.{list_all-weaken, prefix_len_all, IsRun, run_of, last_passes, is_line_feed, last_passes-all, last_passes-append}
 use Rattle.litrs_base.specs.Derivations.{IsOnlyDerivation}
 use Rattle.litrs_grammar.specs.Suffix.{is_suffix, suffix_refusal}
 use Rattle.litrs_grammar.specs.Raw.{is_quote, is_hash, hashes, raw_closing, occurs, is_raw_char, IsRawBody, RawParts, raw_text, IsRaw, IsRawOf, hash_len, length_before, raw_char_refusal, raw_body_refusal, raw_refusal}
@@ -21,9 +20,9 @@ use Rattle.litrs_grammar.specs.RawGoesOn.{raw_open_parts, IsClosedRaw, RawRestGo
 use Rattle.litrs_grammar.specs.Continuation.{BeginsBy, EndsBy}
 use Rattle.litrs_grammar.proofs.IntegerLaws.{prefix_len_front}
 use Rattle.litrs_grammar.proofs.EscapeContinuation.{never, keep}
-use Rattle.litrs_grammar.proofs.SuffixContinuation.{suffix_freed, suffix_final, is_suffix-nil, underscore_x, front_of}
+use Rattle.litrs_grammar.proofs.SuffixContinuation.{suffix_freed, suffix_final, is_suffix-nil, underscore_x}
 use Rattle.litrs_grammar.proofs.OpenRows.{shut_kind_if, shut_suffix}
-use Rattle.litrs_grammar.proofs.RawCuts.{hashes_pass, length-hashes, hash_len-append, behind_hashes, HashCut, hash_cut, closing_cut, length_before-body}
+use Rattle.litrs_grammar.proofs.RawCuts.{hashes_pass, length-hashes, hash_len-append, behind_hashes, HashCut, hash_cut, closing_cut}
 use Rattle.litrs_grammar.proofs.RawLaws.{raw_body_rows, raw_rows, refusal_of_hashes, refusal_of_closed, refused, refusal_free, only_raw}
 
 -- Behind n hashes and the quote: what a text is up to its first closing, or to the first character that may not stand there.

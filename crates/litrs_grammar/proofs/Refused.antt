@@ -1,11 +1,8 @@
 -- A row of the table refuses the text.
-use Rattle.std.proofs.Common.{◌≡◌, true, ◌≤◌, ◌<◌, ℕ, List, ◌++◌, length, Option, Some, None, sym, ap, subst, arith}
-use Rattle.std.specs.Prelude.{◌↔◌, IfSome, encode_utf8_all, option_map}
-use Rattle.std.specs.declared.ops.Range.{Range}
+use Rattle.std.proofs.Common.{◌≡◌, true, ℕ, List, sym, subst}
+use Rattle.std.specs.Prelude.{◌↔◌}
 use Rattle.litrs_base.specs.declared.err.ParseError.{ParseError}
-use Rattle.litrs_base.specs.Text.{PointsInto}
-use Rattle.litrs_base.specs.CharEnd.{IsCharEnd, PointsAtCharacters}
-use Rattle.litrs_base.specs.Refusal.{refusal_of, kind_of, char_span_of, HasCharSpan}
+use Rattle.litrs_base.specs.Refusal.{refusal_of, kind_of, HasCharSpan}
 use Rattle.litrs_base.specs.Finality.{is_open}
 use Rattle.litrs_base.proofs.CharEnds.{char_span_points}
 use Rattle.litrs_grammar.specs.Literal.{Parse, Begins}

@@ -1,27 +1,25 @@
 -- How longer texts start as strings.
-use Rattle.std.proofs.Common.{◌≡◌, ℕ, ◌≤◌, Bool, true, false, ◌||◌, List, [], ◌∷◌, ◌++◌, length, drop, refl, sym, ap, ◌∙◌, subst, arith, ◌⊎◌, inl, inr, append_assoc}
+use Rattle.std.proofs.Common.{◌≡◌, ℕ, Bool, true, false, List, [], ◌∷◌, ◌++◌, length, drop, refl, sym, ap, ◌∙◌, subst, arith, ◌⊎◌, inl, inr, append_assoc}
 use Rattle.std.specs.Prelude.{◌↔◌, if◌then◌else◌}
 use Rattle.std.specs.List.{list_all}
 use Rattle.std.proofs.lemmas.Bool.{or_left, or_right, or_cases}
-use Rattle.std.proofs.lemmas.List.{append-nil}
-use Rattle.litrs_base.specs.declared.err.ParseErrorKind.TheVariants.{Empty, InvalidStringLiteralStart, InvalidByteStringLiteralStart, InvalidCStringLiteralStart}
+use Rattle.litrs_base.specs.declared.err.ParseErrorKind.TheVariants.{Empty}
 use Rattle.litrs_base.specs.Characters.{is_scalar}
 use Rattle.litrs_base.specs.Finality.{is_final, is_open}
-use Rattle.litrs_base.specs.Refusal.{Refusal, plain, at}
-use Rattle.litrs_base.specs.Text.{IsText, begins_with, is_empty}
+use Rattle.litrs_base.specs.Refusal.{Refusal, plain}
+use Rattle.litrs_base.specs.Text.{begins_with, is_empty}
 use Rattle.litrs_base.proofs.Begins.{begins_with-split, begins_with-append}
 use Rattle.litrs_base.proofs.Runs.{list_all-append}
-use Rattle.litrs_grammar.specs.StringKind.{StringKind, string_kind, byte_string_kind, c_string_kind, switches_of}
-use Rattle.litrs_grammar.specs.Quoted.{quoted_front, QuotedParts, IsQuoted, IsQuotedLiteral}
-use Rattle.litrs_grammar.specs.Raw.{raw_front, raw_text, RawParts, IsRawLiteral}
+use Rattle.litrs_grammar.specs.StringKind.{StringKind, string_kind, byte_string_kind, c_string_kind}
+use Rattle.litrs_grammar.specs.Quoted.{quoted_front, QuotedParts, IsQuotedLiteral}
+use Rattle.litrs_grammar.specs.Raw.{raw_front, RawParts, IsRawLiteral}
 use Rattle.litrs_grammar.specs.Literal.{StringParts, quoted_parts, raw_parts, IsString}
-use Rattle.litrs_grammar.specs.LiteralRefusals.{StringStart, refused_start, quoted_start, raw_start, string_start, string_start_refusal}
+use Rattle.litrs_grammar.specs.LiteralRefusals.{refused_start, quoted_start, raw_start, string_start, string_start_refusal}
 use Rattle.litrs_grammar.specs.Continuation.{BeginsBy, EndsBy}
 use Rattle.litrs_grammar.specs.StringGoesOn.{start_goes_on}
 use Rattle.litrs_grammar.proofs.LiteralLaws.{string_start_says, start_quoted, start_raw, quoted_starts, raw_starts}
 use Rattle.litrs_grammar.proofs.SuffixContinuation.{is_suffix-nil, front_of}
 use Rattle.litrs_grammar.proofs.BoolContinuation.{rest_is_text}
-use Rattle.litrs_grammar.proofs.EscapeContinuation.{never}
 use Rattle.litrs_grammar.proofs.LineFeeds.{is_other, no_line_feed}
 
 -- Quoted and raw starts
