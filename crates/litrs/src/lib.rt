@@ -28,6 +28,8 @@ use std::fmt;
 
 mod bool;
 mod c_string;
+#[cfg(test)]
+mod copy_tests;
 mod float;
 mod integer;
 mod parse;

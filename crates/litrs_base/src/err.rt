@@ -526,6 +526,34 @@ mod tests {
         Ok(())
     }
 
+    /// Spans whose numbers have from one to twenty digits, up to the greatest.
+    #[test]
+    fn large_spans_are_printed(rt: HostRuntime) -> Result<(), Fail> {
+        for (start, end, text) in [
+            (0, 0, "input is empty (at 0..0)"),
+            (65_535, 65_536, "input is empty (at 65535..65536)"),
+            (
+                4_294_967_295,
+                4_294_967_296,
+                "input is empty (at 4294967295..4294967296)",
+            ),
+            (
+                9_999_999_999_999_999_999,
+                10_000_000_000_000_000_000,
+                "input is empty (at 9999999999999999999..10000000000000000000)",
+            ),
+            (
+                18_446_744_073_709_551_614,
+                18_446_744_073_709_551_615,
+                "input is empty (at 18446744073709551614..18446744073709551615)",
+            ),
+        ] {
+            let refusal = ParseError::new(Some(start..end), Empty);
+            assert_eq!(rt; refusal.to_string(rt.alloc())?.as_str(), text);
+        }
+        Ok(())
+    }
+
     #[test]
     fn a_width_pads_the_description(rt: HostRuntime) -> Result<(), Fail> {
         let refusal = ParseError::new(Some(1..2), Empty);

@@ -75,3 +75,17 @@ fn values_are_owned_where_the_buffer_is(rt: HostRuntime) -> Result<(), Fail> {
     assert!(rt; matches!(<&str as Buffer>::byte_cow_from(bytes), CowSlice::Owned(_)));
     Ok(())
 }
+
+/// Texts from none to more than a mebibyte, with ample memory.
+#[test]
+fn large_texts_are_copied(rt: HostRuntime) -> Result<(), Fail> {
+    let mut text = String::new(rt.alloc());
+    for _ in 0..18 {
+        let copy = text.copy(rt.alloc())?;
+        assert!(rt; Text::as_str(&copy) == Text::as_str(&text));
+        text.push_str("0123456789")?;
+        text.push_str(copy.as_str())?;
+    }
+    assert_eq!(rt; text.len(), 2_621_430);
+    Ok(())
+}

@@ -133,6 +133,7 @@ mod tests {
     use super::EscapeContainer;
     use litrs_base::Unescape;
     use std::process::Abort;
+    use std::str;
     use std::test::Fail;
 
     /// What is put in turn, and the bytes that are taken then.
@@ -168,6 +169,40 @@ mod tests {
             bytes.as_slice(),
             b"\na\xC3\xA9\xF0\x9F\xA6\x8A\xFFpeter".as_slice()
         );
+        Ok(())
+    }
+
+    /// A text that doubles up to more than a mebibyte, with ample memory.
+    #[test]
+    fn large_texts_are_taken(rt: HostRuntime) -> Result<(), Fail> {
+        let mut text = <String as EscapeContainer>::new(rt.alloc());
+        let mut bytes = <Vec<u8> as EscapeContainer>::new(rt.alloc());
+        for _ in 0..18 {
+            EscapeContainer::push_str(&mut bytes, text.as_str())?;
+            EscapeContainer::push_str(&mut bytes, "0123456789")?;
+            text.clear();
+            EscapeContainer::push_str(&mut text, str::from_utf8(&bytes)?)?;
+        }
+        assert_eq!(rt; text.len(), 2_621_430);
+        EscapeContainer::reserve(&mut text, 1 << 21)?;
+        EscapeContainer::reserve(&mut bytes, 1 << 21)?;
+        Ok(())
+    }
+
+    /// More values than any capacity that growth begins with, one at a time.
+    #[test]
+    fn many_values_are_taken(rt: HostRuntime) -> Result<(), Fail> {
+        let mut text = <String as EscapeContainer>::new(rt.alloc());
+        let mut bytes = <Vec<u8> as EscapeContainer>::new(rt.alloc());
+        for byte in 0..128 {
+            for _ in 0..600 {
+                EscapeContainer::push(&mut text, Unescape::Byte(byte))?;
+                EscapeContainer::push(&mut bytes, Unescape::Byte(byte + 128))?;
+                EscapeContainer::push(&mut bytes, Unescape::Unicode('é'))?;
+            }
+        }
+        assert_eq!(rt; text.len(), 76_800);
+        assert_eq!(rt; bytes.len(), 230_400);
         Ok(())
     }
 

@@ -12,6 +12,7 @@ ghost use Rattle.litrs_lines.specs.Reports.{AppendsReports};
 pub use device::{Failed, Input, Output};
 pub use mem_input::MemInput;
 pub use mem_output::MemOutput;
+pub use program::run_program;
 use report::push_report;
 use std::alloc::{AllocError, Global};
 use std::error::Error;
@@ -21,9 +22,14 @@ pub use std_output::StdOutput;
 
 mod calls;
 mod device;
+#[cfg(test)]
+mod device_tests;
+#[cfg(test)]
+mod large_tests;
 pub mod laws;
 mod mem_input;
 mod mem_output;
+mod program;
 mod report;
 mod std_input;
 mod std_output;
@@ -40,7 +46,7 @@ pub enum RunError {
     Read,
     /// The output failed.
     Write,
-    /// A growth was refused.
+    /// An allocation failed.
     Memory,
 }
 
@@ -199,8 +205,11 @@ fn finish<O: Output>(
 /// # Errors
 ///
 /// `Read` where the reader failed, or gave no end in 2^64 - 1 reads. `Write` where the writer
-/// failed. `Memory` where a growth was refused. What was written is then a beginning of the reports
+/// failed. `Memory` where an allocation failed. What was written is then a beginning of the reports
 /// on the whole lines that were read.
+///
+/// A failed call is never made again, so an error of the kind `Interrupted` ends the run as well: see
+/// [`StdInput`] and [`StdOutput`].
 pub fn run<I: Input, O: Output>(
     alloc: Global,
     reader: &mut I,

@@ -1,5 +1,5 @@
-//! An input over memory, whose bytes contracts know.
-ghost use Rattle.std.specs.Prelude.{◌≡◌, ◌≤◌, ◌<◌, ◌^◌, ◌↔◌, min, false, Some, length, IsErr, IsTrue, IfOk};
+//! An input over memory, whose bytes are known.
+ghost use Rattle.std.specs.Prelude.{◌≡◌, ◌≤◌, ◌<◌, ◌^◌, ◌↔◌, min, false, Some, length, drop, IsErr, IsTrue, IfOk, OnErr};
 ghost use Rattle.std.specs.Io.KnownBytes.{ReadConsumes};
 ghost use Rattle.litrs_lines.specs.Devices.{RecordsFailure};
 ghost use Rattle.litrs_lines.specs.Calls.{fresh_calls, next_fails, after_call};
@@ -21,8 +21,9 @@ pub struct MemInput<'a> {
 impl<'a> MemInput<'a> {
     ghost use Rattle.litrs_lines.specs.MemInput.{left_of, piece_of, calls_of, failed_of};
 
-    /// An input that gives `bytes`, at most `piece` of them in a call, which is one at least. Its
-    /// calls fail from number `fail_at` on, counted from 0.
+    /// An input that gives `bytes`, at most `piece` of them in a call, and `piece` is at least 1. Its
+    /// calls fail from number `fail_at` on, counted from 0. A call leaves the buffer as it was behind
+    /// the bytes that it reads.
     pub fn new(bytes: &'a [u8], piece: usize, fail_at: Option<u64>) -> Self
         requires { 0 < piece }
         ensures bytes { left_of result ≡ bytes.now }
@@ -60,6 +61,10 @@ impl Input for MemInput<'_> {
             count ≡ min (min (length buffer.old) (piece_of self.old)) (length (left_of self.old))) }
         ensures calls { calls_of self.new ≡ after_call (calls_of self.old) }
         ensures piece { piece_of self.new ≡ piece_of self.old }
+
+        // What of the buffer stays.
+        ensures behind { IfOk result (λ count. drop count buffer.new ≡ drop count buffer.old) }
+        ensures kept { OnErr result (buffer.new ≡ buffer.old) }
     {
         if self.calls.make().is_err() {
             self.failed = true;

@@ -1,5 +1,5 @@
-//! An output into memory, whose bytes contracts know.
-ghost use Rattle.std.specs.Prelude.{◌≡◌, ◌-◌, ◌≤◌, ◌<◌, ◌↔◌, ◌⊎◌, min, true, false, Some, [], length, vec_len, vec_capacity, IsErr, IsTrue, IfOk, OnOk, OnErr};
+//! An output into memory, whose bytes are known.
+ghost use Rattle.std.specs.Prelude.{◌≡◌, ◌-◌, ◌≤◌, ◌<◌, ◌↔◌, ◌⊎◌, min, true, false, Some, [], length, vec_len, vec_capacity, IsOk, IsErr, IsTrue, IfOk, OnOk, OnErr};
 ghost use Rattle.std.specs.Io.KnownBytes.{Keeps, WriteAppends};
 ghost use Rattle.litrs_lines.specs.Devices.{RecordsFailure};
 ghost use Rattle.litrs_lines.specs.Calls.{fresh_calls, next_fails, after_call};
@@ -25,13 +25,13 @@ pub struct MemOutput {
 impl MemOutput {
     ghost use Rattle.litrs_lines.specs.MemOutput.{bytes_of, room_of, piece_of, calls_of, failed_of, flushed_of};
 
-    /// An output with memory for `room` bytes, which takes at most `piece` of them in a call, which
-    /// is one at least. Its calls fail from number `fail_at` on, writes and flushes counted together
+    /// An output with memory for `room` bytes, which takes at most `piece` of them in a call, and
+    /// `piece` is at least 1. Its calls fail from number `fail_at` on, writes and flushes counted together
     /// from 0. A write fails also where the room is full.
     ///
     /// # Errors
     ///
-    /// `AllocError` where there is no memory for the room.
+    /// `AllocError` where the allocation of the room failed. No room is not allocated.
     pub fn new(
         alloc: Global,
         room: usize,
@@ -45,6 +45,7 @@ impl MemOutput {
         ensures calls { IfOk result (λ output. calls_of output ≡ fresh_calls fail_at) }
         ensures failed { IfOk result (λ output. failed_of output ≡ false) }
         ensures flushed { IfOk result (λ output. flushed_of output ≡ true) }
+        ensures succeeds { room ≡ 0 → IsOk result }
     {
         Ok(MemOutput {
             bytes: Vec::with_capacity(alloc, room)?,

@@ -1,5 +1,5 @@
 //! The report on one line.
-ghost use Rattle.std.specs.Prelude.{◌≡◌, ◌++◌, OnOk, string_bytes, codes};
+ghost use Rattle.std.specs.Prelude.{◌≡◌, ◌+◌, ◌<◌, ◌++◌, OnOk, OnErr, string_bytes, string_len, string_capacity, codes};
 ghost use Rattle.std.specs.Str.{chars};
 ghost use Rattle.litrs.specs.LiteralDerivation.{derivation};
 ghost use Rattle.litrs_grammar.specs.Integer.{integer_value};
@@ -26,7 +26,8 @@ pub(crate) fn push_report(out: &mut String, line: &[u8]) -> Result<(), AllocErro
 
 /// Adds the report on a line that is no text.
 fn push_no_text_report(out: &mut String) -> Result<(), AllocError>
-    ensures { OnOk result (string_bytes out.new ≡ string_bytes out.old ++ codes "error input is not UTF-8") }
+    ensures ok { OnOk result (string_bytes out.new ≡ string_bytes out.old ++ codes "error input is not UTF-8") }
+    ensures err { OnErr result (string_capacity out.old < string_len out.old + 24) }
 {
     out.push_str("error input is not UTF-8")
 }

@@ -1,4 +1,4 @@
-//! An input over a reader of the standard library. Contracts know nothing of its bytes.
+//! An input over a reader of the standard library. Contracts do not know its bytes.
 ghost use Rattle.std.specs.Prelude.{◌≡◌, ◌≤◌, length, IfOk};
 ghost use Rattle.std.specs.Io.KnownBytes.{ReadConsumes};
 ghost use Rattle.litrs_lines.specs.Devices.{RecordsFailure};
@@ -7,6 +7,11 @@ use crate::device::{Failed, Input};
 use std::io::Read;
 
 /// An input over any reader. Each of the reader's errors is a failure.
+///
+/// This includes an error of the kind `Interrupted`, which the system gives where a signal handler
+/// ran during a read. The library's own `read_to_end` reads again then; `read` here does not. A
+/// program that has signal handlers installs them with `SA_RESTART`, so that the system continues
+/// the call, or passes a reader of its own that reads again after such an error.
 #[derive(Debug, Drop)]
 pub struct StdInput<R> {
     reader: R,

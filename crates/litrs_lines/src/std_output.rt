@@ -1,4 +1,4 @@
-//! An output over a writer of the standard library. Contracts know nothing of its bytes.
+//! An output over a writer of the standard library. Contracts do not know its bytes.
 ghost use Rattle.std.specs.Prelude.{◌≡◌, ◌≤◌, [], length, IfOk};
 ghost use Rattle.std.specs.Io.KnownBytes.{Keeps, WriteAppends};
 ghost use Rattle.litrs_lines.specs.Devices.{RecordsFailure};
@@ -8,6 +8,11 @@ use std::io::Write;
 
 /// An output over any writer. Each of the writer's errors is a failure, and so is a write that takes
 /// no byte of a piece that is not empty.
+///
+/// This includes an error of the kind `Interrupted`, which the system gives where a signal handler
+/// ran during a write. The library's own `write_all` writes again then; `write` here does not. A
+/// program that has signal handlers installs them with `SA_RESTART`, so that the system continues
+/// the call, or passes a writer of its own that writes again after such an error.
 #[derive(Debug, Drop)]
 pub struct StdOutput<W> {
     writer: W,

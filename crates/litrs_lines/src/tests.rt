@@ -118,13 +118,13 @@ fn nothing_is_read(rt: HostRuntime) -> Result<(), Fail> {
 #[test]
 fn calls_fail_from_a_number_on(rt: HostRuntime) -> Result<(), Fail> {
     let mut input = MemInput::new(b"abc", 2, Some(1));
-    let mut buffer = [0; 3];
+    let mut buffer = [7; 3];
     assert_eq!(rt; input.read(&mut buffer), Ok(2));
     assert!(rt; !input.failed());
     assert_eq!(rt; input.read(&mut buffer), Err(Failed));
     assert_eq!(rt; input.read(&mut buffer), Err(Failed));
     assert!(rt; input.failed());
-    assert_eq!(rt; buffer.as_slice(), b"ab\0".as_slice());
+    assert_eq!(rt; buffer.as_slice(), b"ab\x07".as_slice());
     Ok(())
 }
 

@@ -3,18 +3,14 @@
 //! The status is 0, or 1 with one line on standard error. Arguments are ignored.
 #![tactic(auto)]
 
-use litrs_lines::{StdInput, StdOutput, run};
+use litrs_lines::{StdInput, StdOutput, run_program};
 use std::io;
 use std::process::ExitCode;
 
 fn main(rt: HostRuntime) -> ExitCode {
     let mut reader = StdInput::new(rt.reader());
     let mut writer = StdOutput::new(io::writer(&rt));
-    match run(rt.alloc(), &mut reader, &mut writer) {
-        Ok(()) => ExitCode::SUCCESS,
-        Err(error) => {
-            let _ = eprintln!(rt; "litrs_lines: {error}");
-            ExitCode::FAILURE
-        }
-    }
+    let errors = rt.stderr();
+    let mut messages = io::writer(&errors);
+    run_program(rt.alloc(), &mut reader, &mut writer, &mut messages)
 }

@@ -18,4 +18,4 @@ pub returns-in-Err : goal.returns-in-Err
 returns-in-Err c =
     on_ok_weaker c.push_no_text_report.result
     (λ made. made ∙ ap (λ xs. string_bytes c.args.out.now ++ xs) (sym (report_of-other c.args.line.now c.in-Err.ensures.cases.0)))
-    c.push_no_text_report.ensures
+    c.push_no_text_report.ensures.ok

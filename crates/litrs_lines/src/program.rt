@@ -1,0 +1,47 @@
+//! A run with an exit status and a message, as a program has them.
+ghost use Rattle.std.specs.Prelude.{◌≡◌, ◌⊎◌, true, false, IfSome};
+ghost use Rattle.std.specs.Io.KnownBytes.{IsAtEnd, Keeps};
+ghost use Rattle.std.specs.Process.{exit_status};
+ghost use Rattle.litrs_lines.specs.Lines.{lines_of};
+ghost use Rattle.litrs_lines.specs.Reports.{AppendsReports};
+
+use crate::{Input, Output, run};
+use std::alloc::Global;
+use std::io::Write;
+use std::process::ExitCode;
+
+/// Does what the program `litrs_lines_cli` does over these devices: [`run`], whose result becomes
+/// an exit status. `Ok` is 0, and writes no message.
+///
+/// An error is 1, and `messages` is given one line, such as `litrs_lines: read failed`. Where that
+/// write fails, the error is ignored and the status is still 1.
+pub fn run_program<I: Input, O: Output, M: Write>(
+    alloc: Global,
+    reader: &mut I,
+    writer: &mut O,
+    messages: &mut M,
+) -> ExitCode
+    requires reader_works { I.has_failed reader.old ≡ false }
+    requires writer_works { O.has_failed writer.old ≡ false }
+    ensures status { (exit_status result ≡ 0) ⊎ (exit_status result ≡ 1) }
+
+    // On success the whole input was read, and the reports were written and flushed.
+    ensures end { exit_status result ≡ 0 → IsAtEnd (I.remaining reader.new) }
+    ensures reports { exit_status result ≡ 0 → IfSome (I.remaining reader.old) (λ bytes.
+        AppendsReports (lines_of bytes) (O.contents writer.old) (O.contents writer.new)) }
+    ensures flushed { exit_status result ≡ 0 → O.is_flushed writer.new ≡ true }
+    ensures silent { exit_status result ≡ 0
+        → Keeps (M.contents messages.old) (M.contents messages.new) }
+
+    // A device that failed is seen in the status.
+    ensures read_failed { I.has_failed reader.new ≡ true → exit_status result ≡ 1 }
+    ensures write_failed { O.has_failed writer.new ≡ true → exit_status result ≡ 1 }
+{
+    match run(alloc, reader, writer) {
+        Ok(()) => ExitCode::from(0),
+        Err(error) => {
+            let _ = writeln!(messages, "litrs_lines: {error}");
+            ExitCode::from(1)
+        }
+    }
+}
