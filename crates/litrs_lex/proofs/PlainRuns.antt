@@ -1,6 +1,6 @@
 -- Runs of plain characters, from a search in bytes. How many bytes pass a test that has one answer for all characters from
 -- 128 on is how many the characters have that pass.
-use Rattle.std.proofs.Common.{◌≡◌, ℕ, suc, ◌+◌, ◌<◌, ◌≤◌, Bool, true, false, cond, eqb, ltb, List, [], ◌∷◌, ◌++◌, length, drop, take, get_or, refl, sym, ap, subst, ◌∙◌, arith, inl, inr, append_assoc, length-append}
+use Rattle.std.proofs.Common.{◌≡◌, ℕ, zero, suc, ◌+◌, ◌<◌, ◌≤◌, Bool, true, false, cond, ltb, List, [], ◌∷◌, ◌++◌, length, drop, take, get_or, refl, sym, ap, subst, ◌∙◌, arith, inl, inr, append_assoc, length-append}
 use Rattle.std.specs.Prelude.{encode_utf8, encode_utf8_all}
 use Rattle.std.specs.List.{prefix_len, list_all, take_while}
 use Rattle.std.specs.Str.{chars, IsUtf8, IsCharBoundary}
@@ -11,7 +11,6 @@ use Rattle.std.proofs.Math.Seq.{drop-append_seam}
 use Rattle.litrs_search.specs.Special.{is_ordinary}
 use Rattle.litrs_lex.specs.QuotedItems.{IsPlainRun}
 use Rattle.litrs_lex.specs.Unescaped.{switches}
-use Rattle.std.proofs.lemmas.List.Folds.{prefix_len-append}
 use Rattle.std.proofs.lemmas.Str.{chars-nil, encode_ascii, inside_one, length-encode, len_utf8_bounds, encodes-chars, encodes-append, chars_from_encodes, IsUtf8-past_char, IsCharBoundary-from_drop, IsUtf8-drop}
 use Rattle.litrs_base.specs.Text.{byte_len, first_passes}
 use Rattle.litrs_base.proofs.Chars.{chars_ascii, chars_wide}
@@ -194,3 +193,16 @@ special_run u e n text bytes from end is place =
     let last : prefix_len (is_plain (switches u e n)) (drop from bytes) ≡ prefix_len (is_plain (switches u e n)) (drop from text) =
     ap (λ (l : List ℕ). prefix_len (is_plain (switches u e n)) (drop from l)) is in
     omega arith
+
+-- no plain character stands at a backslash
+slash_first : (w : Switches) (bytes : List ℕ) (n : ℕ) → n < length bytes → get_or bytes n 0 ≡ 92 → prefix_len (is_plain w) (drop n bytes) ≡ 0
+slash_first w [] n inside h = absurd (omega arith)
+slash_first w (b ∷ bytes) zero inside h = ap (λ c. prefix_len (is_plain w) (c ∷ bytes)) h
+slash_first w (b ∷ bytes) (suc n) inside h = slash_first w bytes n (omega arith) h
+
+pub empty_run : (w : Switches) (bytes seen : List ℕ) (from : ℕ) → IsUtf8 bytes → IsCharBoundary bytes from → seen ≡ bytes → from < length seen → get_or seen from 0 ≡ 92 →
+    IsPlainRun w bytes from from
+empty_run w bytes seen from u start same inside slash =
+    let size = ap length same in
+    let none : prefix_len (is_plain w) (drop from bytes) ≡ 0 = slash_first w bytes from (omega arith) (ap (λ (l : List ℕ). get_or l from 0) (sym same) ∙ slash) in
+    plain_run w bytes from from u start (omega arith)

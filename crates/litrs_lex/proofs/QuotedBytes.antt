@@ -1,11 +1,11 @@
 -- What stands at the front of the rest of a quoted body, by its bytes.
-use Rattle.std.proofs.Common.{◌≡◌, ℕ, ◌+◌, ◌≤◌, ◌<◌, Bool, true, false, not, ◌&&◌, ◌||◌, List, [], ◌∷◌, ◌++◌, ◌-◌, length, drop, take, get_or, refl, sym, ap, subst, ◌∙◌, append_assoc, length-append, arith, rules, suc, Some, None, Option, inl, inr, cond}
-use Rattle.std.specs.Prelude.{encode_utf8, encode_utf8_all, ◌==◌, IfSome, IsTrue, IsFalse}
-use Rattle.std.specs.List.{list_all, prefix_len, take_while}
+use Rattle.std.proofs.Common.{◌≡◌, ℕ, ◌+◌, ◌≤◌, ◌<◌, Bool, true, false, not, ◌||◌, List, [], ◌∷◌, ◌++◌, ◌-◌, length, drop, take, get_or, refl, sym, ap, subst, ◌∙◌, append_assoc, length-append, arith, suc, Some, None, Option, inl, inr}
+use Rattle.std.specs.Prelude.{encode_utf8, encode_utf8_all, ◌==◌, IfSome, IsTrue}
+use Rattle.std.specs.List.{list_all, prefix_len}
 use Rattle.std.specs.Option.{MatchOption}
 use Rattle.std.specs.Str.{chars, IsUtf8, IsCharBoundary}
 use Rattle.std.specs.declared.ops.Range.{Range}
-use Rattle.std.proofs.lemmas.Bool.{and_parts, and_from, not_from_false, not-true, not-false, ne_eqb, cases_lt, cases_eq, or_right, eqb-true, both_ways, false≢true, lt-ltb, le-ltb}
+use Rattle.std.proofs.lemmas.Bool.{and_parts, and_from, not_from_false, ne_eqb, cases_lt, cases_eq, or_right, eqb-true, both_ways, false≢true, lt-ltb, le-ltb}
 use Rattle.std.proofs.lemmas.List.{append-nil, take-append-drop, length-drop}
 use Rattle.std.proofs.lemmas.List.Sums.{prefix_len-le-length}
 use Rattle.std.proofs.lemmas.Str.{chars-nil, chars_from_encodes, encodes-chars, encodes-append, IsCharBoundary-from_drop}
@@ -31,7 +31,7 @@ use Rattle.litrs_grammar.proofs.QuotedLaws.{quoted_values_fit_bodies}
 use Rattle.litrs_lex.specs.QuotedItems.{IsItemAt, EndsItems, item_bytes}
 use Rattle.litrs_lex.specs.Container.{is_pushable}
 use Rattle.litrs_lex.specs.Unescaped.{IsUnescaped, IsEscapeRefused}
-use Rattle.litrs_lex.proofs.PlainRuns.{utf8_behind, list_all-take, plain_alike, AlikeFrom128, stops_at}
+use Rattle.litrs_lex.proofs.PlainRuns.{utf8_behind, list_all-take, plain_alike, stops_at}
 use Rattle.litrs_lex.proofs.QuotedScan.{length-take-within}
 
 -- a text is cut where its characters are
@@ -190,19 +190,19 @@ blanks_only bs u whole =
     let none : drop n (chars bs) ≡ [] = front.rest ∙ (ap (λ k. chars (drop k bs)) whole ∙ (ap chars (drop-length bs) ∙ chars-nil)) in
     ap (list_all is_blank) (sym (take-append-drop n (chars bs)) ∙ (ap (λ l. take n (chars bs) ++ l) none ∙ append-nil (take n (chars bs)))) ∙ blanks_all bs u
 
-blanks_told : (w : Switches) (t : List ℕ) → list_all is_blank t ≡ true → rest_refusal w (92 ∷ 10 ∷ t) ≡ Some (plain UnterminatedString)
+blanks_row : (w : Switches) (t : List ℕ) → list_all is_blank t ≡ true → rest_refusal w (92 ∷ 10 ∷ t) ≡ Some (plain UnterminatedString)
 unfolding rest_refusal
-blanks_told w t h = if_true (list_all is_blank t) _ _ h
+blanks_row w t h = if_true (list_all is_blank t) _ _ h
 
 pub blanks_refused : (w : Switches) (bytes bs : List ℕ) (k : ℕ) → bytes ≡ 92 ∷ 10 ∷ bs → IsUtf8 bytes → k ≡ prefix_len is_blank bs → 2 + k ≡ length bytes →
     rest_refusal w (chars bytes) ≡ Some (plain UnterminatedString)
 blanks_refused w bytes bs k is u count whole =
     let text = behind_two bs bytes is u in
-    ap (rest_refusal w) (ap chars is ∙ lf_chars bs) ∙ blanks_told w (chars bs) (blanks_only bs text (let size = ap length is in omega arith))
+    ap (rest_refusal w) (ap chars is ∙ lf_chars bs) ∙ blanks_row w (chars bs) (blanks_only bs text (let size = ap length is in omega arith))
 
-escape_told : (w : Switches) (t : List ℕ) (o : Option Refusal) → first_passes (λ c. c == 10) t ≡ false → escape_refusal w (without_last (92 ∷ t)) ≡ o → rest_refusal w (92 ∷ t) ≡ o
+escape_row : (w : Switches) (t : List ℕ) (o : Option Refusal) → first_passes (λ c. c == 10) t ≡ false → escape_refusal w (without_last (92 ∷ t)) ≡ o → rest_refusal w (92 ∷ t) ≡ o
 unfolding rest_refusal
-escape_told w t o h told = if_false (first_passes (λ c. c == 10) t) _ _ h ∙ told
+escape_row w t o h told = if_false (first_passes (λ c. c == 10) t) _ _ h ∙ told
 
 lf_ascii : OnlyAscii (λ c. c == 10)
 lf_ascii c high = ne_eqb c 10 (λ e. omega arith)
@@ -212,7 +212,7 @@ pub escape_refused : (w : Switches) (bytes bs cut : List ℕ) (e : ParseError) �
 escape_refused w bytes bs cut e is u other is_cut refused =
     let text = utf8_behind_ascii 92 bs (omega arith) (subst (λ (l : List ℕ). IsUtf8 l) is u) in
     let at = slash_chars bytes bs is in
-    ap (rest_refusal w) at ∙ escape_told w (chars bs) (Some (refusal_of e)) (first_passes-chars _ bs lf_ascii text ∙ other)
+    ap (rest_refusal w) at ∙ escape_row w (chars bs) (Some (refusal_of e)) (first_passes-chars _ bs lf_ascii text ∙ other)
     (ap (λ l. escape_refusal w (without_last l)) (sym at) ∙ (ap (escape_refusal w) (sym is_cut) ∙ refused.table))
 
 -- where one stands, nothing is refused
@@ -221,7 +221,7 @@ pub escape_free : (w : Switches) (bytes bs cut : List ℕ) (value : Unescape) (n
 escape_free w bytes bs cut value n is u other is_cut read =
     let text = utf8_behind_ascii 92 bs (omega arith) (subst (λ (l : List ℕ). IsUtf8 l) is u) in
     let at = slash_chars bytes bs is in
-    ap (rest_refusal w) at ∙ escape_told w (chars bs) None (first_passes-chars _ bs lf_ascii text ∙ other)
+    ap (rest_refusal w) at ∙ escape_row w (chars bs) None (first_passes-chars _ bs lf_ascii text ∙ other)
     (ap (λ l. escape_refusal w (without_last l)) (sym at) ∙ (ap (escape_refusal w) (sym is_cut ∙ sym read.spells) ∙ refusal_escape w read.escape read.rest read.grammar))
 
 -- the character span of its refusal is that in the text: of the empty text it passes the end
@@ -263,9 +263,9 @@ pub begins_cut : (bytes bs cut : List ℕ) → bytes ≡ 92 ∷ bs → cut ≡ w
 begins_cut bytes bs cut is is_cut =
     ap (λ l. is_empty l || first_passes (λ c. c == 92) l) (is_cut ∙ ap without_last (slash_chars bytes bs is)) ∙ cut_begins (chars bs)
 
-quote_told : (w : Switches) (t : List ℕ) → is_suffix t ≡ false → rest_refusal w (34 ∷ t) ≡ Some (at 1 (suffix_refusal t))
+quote_row : (w : Switches) (t : List ℕ) → is_suffix t ≡ false → rest_refusal w (34 ∷ t) ≡ Some (at 1 (suffix_refusal t))
 unfolding rest_refusal
-quote_told w t h =
+quote_row w t h =
     if_false (not (allows_value w 34)) _ _ (ap not (or_right w.allow_nul true refl))
     ∙ (if_false (not (is_ascii_unless w.unicode 34)) _ _ (ap not (or_right w.unicode true refl))
     ∙ if_true (not (is_suffix t)) _ _ (not_from_false _ h))
@@ -275,29 +275,29 @@ quote_chars bytes bs behind is same = ap (λ (l : List ℕ). 34 ∷ chars l) sam
 
 pub quote_refused : (w : Switches) (bytes bs behind : List ℕ) → bytes ≡ 34 ∷ bs → behind ≡ bs → is_suffix (chars behind) ≡ false →
     rest_refusal w (chars bytes) ≡ Some (at 1 (suffix_refusal (chars behind)))
-quote_refused w bytes bs behind is same other = ap (rest_refusal w) (sym (quote_chars bytes bs behind is same)) ∙ quote_told w (chars behind) other
+quote_refused w bytes bs behind is same other = ap (rest_refusal w) (sym (quote_chars bytes bs behind is same)) ∙ quote_row w (chars behind) other
 
-return_told : (w : Switches) (t : List ℕ) → rest_refusal w (13 ∷ t) ≡ Some (at 0 CarriageReturn)
+return_row : (w : Switches) (t : List ℕ) → rest_refusal w (13 ∷ t) ≡ Some (at 0 CarriageReturn)
 unfolding rest_refusal
-return_told w t = refl
+return_row w t = refl
 
 pub return_refused : (w : Switches) (bytes bs : List ℕ) → bytes ≡ 13 ∷ bs → rest_refusal w (chars bytes) ≡ Some (at 0 CarriageReturn)
-return_refused w bytes bs is = ap (rest_refusal w) (ap chars is ∙ chars_ascii 13 bs (omega arith)) ∙ return_told w (chars bs)
+return_refused w bytes bs is = ap (rest_refusal w) (ap chars is ∙ chars_ascii 13 bs (omega arith)) ∙ return_row w (chars bs)
 
-nul_told : (w : Switches) (t : List ℕ) (u n : Bool) → w.unicode ≡ u → w.allow_nul ≡ n → is_plain w 0 ≡ false → rest_refusal w (0 ∷ t) ≡ Some (at 0 NulByte)
+nul_row : (w : Switches) (t : List ℕ) (u n : Bool) → w.unicode ≡ u → w.allow_nul ≡ n → is_plain w 0 ≡ false → rest_refusal w (0 ∷ t) ≡ Some (at 0 NulByte)
 unfolding rest_refusal
-nul_told w t u false a b h = if_true (not (allows_value w 0)) _ _ (rw b refl)
-nul_told w t u true a b h = absurd (both_ways (is_plain w 0) h (and_from _ _ (or_right w.unicode true refl) (rw b refl)))
+nul_row w t u false a b h = if_true (not (allows_value w 0)) _ _ (rw b refl)
+nul_row w t u true a b h = absurd (both_ways (is_plain w 0) h (and_from _ _ (or_right w.unicode true refl) (rw b refl)))
 
 pub nul_refused : (w : Switches) (bytes bs : List ℕ) → bytes ≡ 0 ∷ bs → first_passes (is_plain w) (chars bytes) ≡ false → rest_refusal w (chars bytes) ≡ Some (at 0 NulByte)
 nul_refused w bytes bs is h =
     let at : chars bytes ≡ 0 ∷ chars bs = ap chars is ∙ chars_ascii 0 bs (omega arith) in
-    ap (rest_refusal w) at ∙ nul_told w (chars bs) w.unicode w.allow_nul refl refl (ap (first_passes (is_plain w)) (sym at) ∙ h)
+    ap (rest_refusal w) at ∙ nul_row w (chars bs) w.unicode w.allow_nul refl refl (ap (first_passes (is_plain w)) (sym at) ∙ h)
 
-wide_told : (w : Switches) (c : ℕ) (t : List ℕ) → (c == 92) ≡ false → (c == 13) ≡ false → (c == 0) ≡ false → is_ascii_unless w.unicode c ≡ false →
+wide_row : (w : Switches) (c : ℕ) (t : List ℕ) → (c == 92) ≡ false → (c == 13) ≡ false → (c == 0) ≡ false → is_ascii_unless w.unicode c ≡ false →
     rest_refusal w (c ∷ t) ≡ Some (at 0 NonAsciiInByteLiteral)
 unfolding rest_refusal
-wide_told w c t a b d e =
+wide_row w c t a b d e =
     if_false (c == 92) _ _ a ∙ (if_false (c == 13) _ _ b
     ∙ (if_false (not (allows_value w c)) _ _ (ap not (or_right w.allow_nul _ (not_from_false _ d)))
     ∙ if_true (not (is_ascii_unless w.unicode c)) _ _ (not_from_false _ e)))
@@ -318,7 +318,7 @@ wide_refused w bytes bs b is u q s r z h = elim (cases_lt b 128) [
       let wide = c.wide in
       let off : w.unicode ≡ false = sym (plain_alike w c.first wide) ∙ (ap (first_passes (is_plain w)) (sym at) ∙ h) in
       ap (rest_refusal w) at
-      ∙ wide_told w c.first c.rest (ne_eqb c.first 92 (λ e. omega arith)) (ne_eqb c.first 13 (λ e. omega arith)) (ne_eqb c.first 0 (λ e. omega arith))
+      ∙ wide_row w c.first c.rest (ne_eqb c.first 92 (λ e. omega arith)) (ne_eqb c.first 13 (λ e. omega arith)) (ne_eqb c.first 0 (λ e. omega arith))
       (rw off (le-ltb c.first 128 wide)))
 ]
 
@@ -369,9 +369,9 @@ stepped_back (b ∷ text) t None u v h = absurd (let none = h.0 in omega arith)
 stepped_back text t (Some c) u v h = last_cut text t c u h v
 
 -- a blank does not end the text behind a continuation
-blanks_free_told : (w : Switches) (t : List ℕ) → list_all is_blank t ≡ false → rest_refusal w (92 ∷ 10 ∷ t) ≡ None
+blanks_free_row : (w : Switches) (t : List ℕ) → list_all is_blank t ≡ false → rest_refusal w (92 ∷ 10 ∷ t) ≡ None
 unfolding rest_refusal
-blanks_free_told w t h = if_false (list_all is_blank t) _ _ h
+blanks_free_row w t h = if_false (list_all is_blank t) _ _ h
 
 not_all : (p : ℕ → Bool) (t : List ℕ) (b : Bool) → list_all p t ≡ b → prefix_len p t < length t → b ≡ false
 not_all p t false is less = refl
@@ -389,7 +389,7 @@ continuation_free w bytes bs k is u count other =
     let some : 0 < length (drop n bs) = omega (arith, length-drop n bs) in
     let behind : is_empty (chars (drop n bs)) ≡ false = not_empty (drop n bs) front.utf8 some in
     let longer : n < length (chars bs) = longer_of n (chars bs) (chars (drop n bs)) front.rest behind in
-    ap (rest_refusal w) (ap chars is ∙ lf_chars bs) ∙ blanks_free_told w (chars bs) (not_all is_blank (chars bs) _ refl (omega arith))
+    ap (rest_refusal w) (ap chars is ∙ lf_chars bs) ∙ blanks_free_row w (chars bs) (not_all is_blank (chars bs) _ refl (omega arith))
   where
     longer_of : (n : ℕ) (t x : List ℕ) → drop n t ≡ x → is_empty x ≡ false → n < length t
     longer_of n t [] is h = absurd (false≢true (sym h))
@@ -399,15 +399,15 @@ continuation_free w bytes bs k is u count other =
 pub quote_ends : (w : Switches) (bytes bs : List ℕ) → bytes ≡ 34 ∷ bs → EndsItems w (chars bytes)
 quote_ends w bytes bs is = inl (ap (λ l. first_passes (λ c. c == 34) (chars l)) is ∙ ap (first_passes (λ c. c == 34)) (chars_ascii 34 bs (omega arith)))
 
-free_told : (w : Switches) (t : List ℕ) → is_suffix t ≡ true → rest_refusal w (34 ∷ t) ≡ None
+free_row : (w : Switches) (t : List ℕ) → is_suffix t ≡ true → rest_refusal w (34 ∷ t) ≡ None
 unfolding rest_refusal
-free_told w t h =
+free_row w t h =
     if_false (not (allows_value w 34)) _ _ (ap not (or_right w.allow_nul true refl))
     ∙ (if_false (not (is_ascii_unless w.unicode 34)) _ _ (ap not (or_right w.unicode true refl))
     ∙ if_false (not (is_suffix t)) _ _ (ap not h))
 
 pub quote_free : (w : Switches) (bytes bs behind : List ℕ) → bytes ≡ 34 ∷ bs → behind ≡ bs → is_suffix (chars behind) ≡ true → rest_refusal w (chars bytes) ≡ None
-quote_free w bytes bs behind is same h = ap (rest_refusal w) (sym (quote_chars bytes bs behind is same)) ∙ free_told w (chars behind) h
+quote_free w bytes bs behind is same h = ap (rest_refusal w) (sym (quote_chars bytes bs behind is same)) ∙ free_row w (chars behind) h
 
 -- what is no plain character and no backslash ends the items
 pub others_end : (w : Switches) (bytes bs : List ℕ) (b : ℕ) → bytes ≡ b ∷ bs → IsUtf8 bytes → (b == 92) ≡ false → first_passes (is_plain w) (chars bytes) ≡ false →
@@ -426,7 +426,7 @@ others_end w bytes bs b is u s h = elim (cases_eq b 34) [
 -- the closing quote stands where the items end and nothing is refused
 told_suffix : (w : Switches) (s : List ℕ) (b : Bool) → is_suffix s ≡ b → rest_refusal w (34 ∷ s) ≡ None → b ≡ true
 told_suffix w s true is none = refl
-told_suffix w s false is none = let some = quote_told w s is in cc
+told_suffix w s false is none = let some = quote_row w s is in cc
 
 first_is : (t : List ℕ) → first_passes (λ c. c == 34) t ≡ true → 34 ∷ drop 1 t ≡ t
 first_is [] h = absurd (false≢true h)

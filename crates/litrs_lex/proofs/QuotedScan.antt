@@ -1,11 +1,11 @@
 -- The items of a quoted body that are read so far, and what stands behind them.
-use Rattle.std.proofs.Common.{◌≡◌, ℕ, ◌+◌, ◌-◌, ◌≤◌, ◌<◌, Bool, true, ◌&&◌, List, [], ◌∷◌, ◌++◌, length, drop, take, refl, sym, ap, subst, ◌∙◌, append_assoc, length-append, arith, Some, Option}
+use Rattle.std.proofs.Common.{◌≡◌, ℕ, ◌+◌, ◌-◌, ◌≤◌, true, List, [], ◌∷◌, ◌++◌, length, drop, take, refl, sym, ap, subst, ◌∙◌, append_assoc, length-append, arith, Option}
 use Rattle.std.specs.Prelude.{encode_utf8, encode_utf8_all}
 use Rattle.std.specs.List.{list_all}
 use Rattle.std.specs.Str.{chars, IsUtf8, IsCharBoundary}
 use Rattle.std.proofs.lemmas.Bool.{and_parts, and_from}
 use Rattle.std.proofs.lemmas.List.{append-nil, take-append-drop, length-take, drop-drop, length-drop}
-use Rattle.std.proofs.lemmas.Str.{chars-nil, chars_from_encodes, encodes-chars, encodes-append, IsUtf8-drop, IsUtf8-take, IsCharBoundary-from_drop}
+use Rattle.std.proofs.lemmas.Str.{chars_from_encodes, encodes-chars, encodes-append, IsUtf8-drop, IsUtf8-take, IsCharBoundary-from_drop}
 use Rattle.litrs_base.specs.declared.escape.Unescape.{Unescape}
 use Rattle.litrs_base.specs.Text.{byte_len}
 use Rattle.litrs_base.proofs.Spans.{byte_len-append}

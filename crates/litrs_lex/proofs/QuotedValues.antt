@@ -1,5 +1,5 @@
 -- The value of a quoted literal, copied item by item.
-use Rattle.std.proofs.Common.{◌≡◌, ℕ, ◌+◌, ◌-◌, ◌≤◌, Bool, true, false, not, ◌||◌, List, [], ◌∷◌, ◌++◌, length, drop, take, refl, sym, ap, subst, ◌∙◌, arith, Some, None, Option}
+use Rattle.std.proofs.Common.{◌≡◌, ℕ, ◌+◌, ◌-◌, ◌≤◌, Bool, true, false, not, ◌||◌, List, [], ◌++◌, drop, take, refl, sym, ap, subst, ◌∙◌, arith, Some, None, Option}
 use Rattle.std.specs.Prelude.{encode_utf8_all, IfSome, IsTrue}
 use Rattle.std.specs.Str.{chars, IsUtf8, IsCharBoundary}
 use Rattle.std.proofs.lemmas.Bool.{true≢false}

@@ -1,6 +1,6 @@
 -- Where a quoted string, byte string or C string is cut, in bytes. The Rust Reference, Tokens,
 -- Literals.
-use Rattle.std.specs.Prelude.{◌≡◌, ℕ, ◌+◌, ◌-◌, ◌<◌, ◌≢◌, List, Option, IfSome, IsTrue, IsFalse, is_some, length, take, drop, slice_range}
+use Rattle.std.specs.Prelude.{◌≡◌, ℕ, ◌+◌, ◌-◌, ◌≢◌, List, Option, IfSome, IsTrue, IsFalse, is_some, length, take, drop, slice_range}
 use Rattle.std.specs.Str.{chars, IsCharBoundary}
 use Rattle.litrs_base.specs.declared.err.ParseError.{ParseError}
 use Rattle.litrs_base.specs.declared.err.ParseErrorKind.TheVariants.{OutOfMemory}

@@ -121,7 +121,12 @@ pub(crate) fn plain_end(
         nul: !allow_nul,
         non_ascii: !unicode,
     };
-    next_special(input.as_bytes(), from, what)
+    let bytes = input.as_bytes();
+    match bytes.get(from) {
+        // One escape follows another.
+        Some(b'\\') => from,
+        _ => next_special(bytes, from, what),
+    }
 }
 
 /// An item that begins with a backslash.

@@ -174,4 +174,34 @@ mod tests {
         }
         Ok(())
     }
+
+    /// One allocation has room for the value, and for the closing zero where NUL is not allowed.
+    #[test]
+    fn room_of_one_allocation(rt: HostRuntime) -> Result<(), Fail> {
+        let text = "\"the fox jumps over the lazy dog\\n, the fox jumps\"_x";
+        if let Ok((Some(value), _)) = unescape_string::<String>(
+            rt.alloc(),
+            text,
+            1,
+            true,
+            false,
+            true,
+        ) {
+            assert_eq!(rt; value.len(), 47);
+            assert_eq!(rt; value.capacity(), 47);
+        }
+        let text = "c\"the fox jumps over the lazy dog\\n, the fox jumps\"";
+        if let Ok((Some(value), _)) = unescape_string::<Vec<u8>>(
+            rt.alloc(),
+            text,
+            2,
+            true,
+            true,
+            false,
+        ) {
+            assert_eq!(rt; value.len(), 47);
+            assert_eq!(rt; value.capacity(), 48);
+        }
+        Ok(())
+    }
 }

@@ -35,7 +35,8 @@ fn is_special(byte: u8, what: Special) -> bool {
     }
 }
 
-/// Compares with a plain search, which goes back from the end, at each start and under each setting.
+/// Compares with a plain search, which goes back from the end, at each start and under each
+/// setting.
 fn compare(rt: &impl Abort, bytes: &[u8]) -> Result<(), Fail> {
     for i in 0..8 {
         let what = setting(i);

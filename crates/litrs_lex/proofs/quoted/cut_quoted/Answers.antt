@@ -1,5 +1,5 @@
 -- The text is a literal if and only if the rest behind its items is not refused.
-use Rattle.std.proofs.Common.{◌≡◌, ℕ, List, ◌<◌, ◌^◌, length, arith, ◌∙◌, sym, ap, refl, subst, Some}
+use Rattle.std.proofs.Common.{ℕ, List, ◌<◌, ◌^◌, length, arith, ◌∙◌, sym, ap, refl, subst}
 use Rattle.std.specs.Str.{chars}
 use Rattle.litrs_base.specs.Refusal.{HasCharSpan}
 use Rattle.litrs_grammar.specs.Quoted.{rest_refusal}

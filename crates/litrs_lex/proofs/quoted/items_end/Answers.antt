@@ -1,5 +1,5 @@
 -- A run and an item are read in each turn.
-use Rattle.std.proofs.Common.{◌≡◌, ◌+◌, ◌-◌, ◌≤◌, arith, ◌∙◌, ap, refl, drop}
+use Rattle.std.proofs.Common.{arith, ◌∙◌, ap, refl, drop}
 use Rattle.std.proofs.lemmas.List.{drop-drop}
 use Rattle.litrs_lex.proofs.QuotedScan.{sizes_start, sizes_run, sizes_item, boundary_later, items_end}
 use Rattle.litrs_lex.proofs.quoted.items_end.Goals as goal

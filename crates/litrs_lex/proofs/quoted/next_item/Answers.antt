@@ -1,5 +1,5 @@
 -- Each arm by its lemma.
-use Rattle.std.proofs.Common.{◌≡◌, ℕ, List, ◌∷◌, get_or, drop, take, ◌-◌, length, refl, sym, ap, ◌∙◌, arith, inr}
+use Rattle.std.proofs.Common.{get_or, drop, take, ◌-◌, length, refl, sym, ap, ◌∙◌, arith, inr}
 use Rattle.std.specs.Prelude.{◌==◌}
 use Rattle.std.proofs.lemmas.Bool.{ne_eqb}
 use Rattle.litrs_base.specs.Text.{first_passes}

@@ -1,5 +1,5 @@
 -- A run and an item are copied in each turn.
-use Rattle.std.proofs.Common.{◌≡◌, ◌∙◌, ap, refl, drop}
+use Rattle.std.proofs.Common.{◌∙◌, ap, refl, drop}
 use Rattle.std.proofs.lemmas.List.{drop-drop}
 use Rattle.litrs_lex.proofs.QuotedScan.{boundary_later}
 use Rattle.litrs_lex.proofs.QuotedValues.{copy_start, copy_run, copy_item, whole_value, fits}
