@@ -5,8 +5,8 @@ use std::io::Cursor;
 use std::process::Abort;
 use std::test::Fail;
 
-/// More than one read, one held line or one report takes.
-const LARGE: usize = (1 << 20) + 1000;
+/// A mebibyte, and then more than three reads.
+const LARGE: usize = (1 << 20) + 30_000;
 
 /// More room than any report here takes.
 const ROOM: usize = 1 << 22;
