@@ -11,7 +11,10 @@ use std::time::Instant;
 /// The texts of a shape, and the bytes that they have at most, together.
 const TEXTS: usize = 4000;
 const BYTES: usize = 1 << 20;
-const ROUNDS: usize = 400;
+
+/// Rounds over a shape in a pass, and passes over all shapes.
+const ROUNDS: usize = 100;
+const PASSES: usize = 4;
 
 const REFUSED: u64 = 1 << 63;
 
@@ -19,31 +22,15 @@ mod ours {
     #[link(name = "litrs_bench", kind = "static")]
     #[link(name = "libc_c", kind = "static")]
     unsafe extern "C" {
-        fn litrs_bench_parse(text: *const u8, len: usize) -> u64;
-        fn litrs_bench_value(text: *const u8, len: usize) -> u64;
-        fn litrs_bench_parse_string(text: *const u8, len: usize) -> u64;
+        #[link_name = "litrs_bench_parse"]
+        pub fn parse(text: *const u8, len: usize) -> u64;
+        #[link_name = "litrs_bench_value"]
+        pub fn value(text: *const u8, len: usize) -> u64;
+        #[link_name = "litrs_bench_parse_string"]
+        pub fn parse_string(text: *const u8, len: usize) -> u64;
         #[cfg(upstream)]
-        fn litrs_bench_contents(text: *const u8, len: usize) -> u64;
-    }
-
-    #[inline(never)]
-    pub fn parse(text: &str) -> u64 {
-        unsafe { litrs_bench_parse(text.as_ptr(), text.len()) }
-    }
-
-    #[inline(never)]
-    pub fn value(text: &str) -> u64 {
-        unsafe { litrs_bench_value(text.as_ptr(), text.len()) }
-    }
-
-    #[inline(never)]
-    pub fn parse_string(text: &str) -> u64 {
-        unsafe { litrs_bench_parse_string(text.as_ptr(), text.len()) }
-    }
-
-    #[cfg(upstream)]
-    pub fn contents(text: &str) -> u64 {
-        unsafe { litrs_bench_contents(text.as_ptr(), text.len()) }
+        #[link_name = "litrs_bench_contents"]
+        pub fn contents(text: *const u8, len: usize) -> u64;
     }
 }
 
@@ -92,25 +79,28 @@ mod upstream {
         }
     }
 
-    #[inline(never)]
-    pub fn parse(text: &str) -> u64 {
-        match Literal::parse(text) {
+    /// The text of `len` bytes from this address.
+    #[inline(always)]
+    unsafe fn text<'a>(text: *const u8, len: usize) -> &'a str {
+        unsafe { str::from_utf8_unchecked(std::slice::from_raw_parts(text, len)) }
+    }
+
+    pub unsafe extern "C" fn parse(text: *const u8, len: usize) -> u64 {
+        match Literal::parse(unsafe { self::text(text, len) }) {
             Ok(lit) => parts(&lit),
             Err(e) => place(&e),
         }
     }
 
-    #[inline(never)]
-    pub fn parse_string(text: &str) -> u64 {
-        match Literal::parse(String::from(text)) {
+    pub unsafe extern "C" fn parse_string(text: *const u8, len: usize) -> u64 {
+        match Literal::parse(String::from(unsafe { self::text(text, len) })) {
             Ok(lit) => parts(&lit),
             Err(e) => place(&e),
         }
     }
 
-    #[inline(never)]
-    pub fn value(text: &str) -> u64 {
-        match Literal::parse(text) {
+    pub unsafe extern "C" fn value(text: *const u8, len: usize) -> u64 {
+        match Literal::parse(unsafe { self::text(text, len) }) {
             Ok(Literal::Bool(lit)) => u64::from(lit.value()),
             Ok(Literal::Integer(lit)) => match lit.value::<u128>() {
                 Some(number) => (number ^ (number >> 64)) as u64,
@@ -125,8 +115,8 @@ mod upstream {
         }
     }
 
-    pub fn contents(text: &str) -> u64 {
-        let lit = match Literal::parse(text) {
+    pub unsafe extern "C" fn contents(text: *const u8, len: usize) -> u64 {
+        let lit = match Literal::parse(unsafe { self::text(text, len) }) {
             Ok(lit) => lit,
             Err(e) => return place(&e),
         };
@@ -402,23 +392,32 @@ fn texts_of(place: usize) -> Vec<String> {
 fn compare(texts: &[&str], shape: Texts) {
     let refused = matches!(shape, Refused | RefusedElsewhere);
     for text in texts {
-        assert_eq!(ours::parse(text) & REFUSED != 0, refused, "whether {text} is refused");
-        assert_eq!(ours::parse(text), ours::parse_string(text), "{text} as a String");
+        let parsed = answer(ours::parse, text);
+        assert_eq!(parsed & REFUSED != 0, refused, "whether {text} is refused");
+        assert_eq!(parsed, answer(ours::parse_string, text), "{text} as a String");
         #[cfg(upstream)]
         {
-            assert_eq!(upstream::parse(text) & REFUSED != 0, refused, "whether upstream refuses {text}");
-            assert_eq!(upstream::parse(text), upstream::parse_string(text), "{text} as a String for upstream");
-            assert_eq!(ours::value(text), upstream::value(text), "the value of {text}");
+            let wanted = answer(upstream::parse, text);
+            assert_eq!(wanted & REFUSED != 0, refused, "whether upstream refuses {text}");
+            assert_eq!(wanted, answer(upstream::parse_string, text), "{text} as a String for upstream");
+            assert_eq!(answer(ours::value, text), answer(upstream::value, text), "the value of {text}");
             if shape != RefusedElsewhere {
-                assert_eq!(ours::parse(text), upstream::parse(text), "the parts or the place of {text}");
-                assert_eq!(ours::contents(text), upstream::contents(text), "the contents of {text}");
+                assert_eq!(parsed, wanted, "the parts or the place of {text}");
+                let contents = answer(upstream::contents, text);
+                assert_eq!(answer(ours::contents, text), contents, "the contents of {text}");
             }
         }
     }
 }
 
-/// A call that is timed.
-type Call = fn(&str) -> u64;
+/// A call that is timed: of a text, by its address and length.
+type Call = unsafe extern "C" fn(*const u8, usize) -> u64;
+
+/// What the call gives of the text.
+#[inline(always)]
+fn answer(call: Call, text: &str) -> u64 {
+    unsafe { call(text.as_ptr(), text.len()) }
+}
 
 #[cfg(upstream)]
 const CALLS: [Call; 6] = [
@@ -433,32 +432,32 @@ const CALLS: [Call; 6] = [
 #[cfg(not(upstream))]
 const CALLS: [Call; 3] = [ours::parse, ours::value, ours::parse_string];
 
-/// Nanoseconds a text of each call, the least of the rounds. The calls take turns, so that what else the
+/// Nanoseconds a text of each call.
+type Times = [f64; CALLS.len()];
+
+/// Makes the times the least of themselves and of these rounds. The calls take turns, so that what else the
 /// machine does meets all of them.
-fn time(texts: &[&str]) -> [f64; CALLS.len()] {
-    let mut least = [f64::INFINITY; CALLS.len()];
+fn time(texts: &[&str], least: &mut Times) {
     for _ in 0..ROUNDS {
         for (least, call) in least.iter_mut().zip(CALLS) {
             let start = Instant::now();
             let mut sum = 0u64;
             for text in texts {
-                sum = sum.wrapping_add(call(black_box(text)));
+                sum = sum.wrapping_add(answer(call, black_box(text)));
             }
             black_box(sum);
             *least = least.min(start.elapsed().as_nanos() as f64 / texts.len() as f64);
         }
     }
-    least
 }
 
 /// Prints the times of a shape, and gives those of its ratios that are above one.
-fn row(kind: &str, name: &str, shape: Texts, texts: &[&str]) -> Vec<(f64, String)> {
-    compare(texts, shape);
+fn row(kind: &str, name: &str, shape: Texts, texts: &[&str], times: &Times) -> Vec<(f64, String)> {
     let bytes = texts.iter().map(|text| text.len()).sum::<usize>() as f64 / texts.len() as f64;
     let each = CALLS.len() / 3;
     let mut slower = Vec::new();
     print!("{kind:<11}{name:<32}{bytes:>9.1}");
-    for (call, times) in ["parse", "parse and value", "parse a String"].iter().zip(time(texts).chunks(each)) {
+    for (call, times) in ["parse", "parse and value", "parse a String"].iter().zip(times.chunks(each)) {
         if *call == "parse and value" && shape == Parsed {
             print!("{:>1$}", "-", if each == 2 { 26 } else { 10 });
             continue;
@@ -494,7 +493,7 @@ fn head() {
 
 fn main() {
     let kinds: Vec<String> = std::env::args().skip(1).collect();
-    println!("Nanoseconds a text, the least of {ROUNDS} rounds over up to {TEXTS} texts a shape.");
+    println!("Nanoseconds a text, the least of {} rounds over up to {TEXTS} texts a shape.", PASSES * ROUNDS);
     if cfg!(all(upstream, check_suffix)) {
         println!("Upstream is built with its feature check_suffix.");
     } else if cfg!(upstream) {
@@ -502,20 +501,33 @@ fn main() {
         println!("it looks at the ASCII alone.");
     }
     println!("Kinds that are read: {}.\n", kinds.join(", "));
-    head();
-    let mut slower = Vec::new();
-    let mut all = Vec::new();
-    for (place, (kind, name, shape, _)) in SHAPES.iter().enumerate() {
-        if kind.is_empty() || kinds.iter().any(|read| read == kind) {
-            let texts = texts_of(place);
-            slower.extend(row(kind, name, *shape, &texts.iter().map(String::as_str).collect::<Vec<_>>()));
-            if *shape == Valued && texts.len() == TEXTS {
-                all.push(texts);
-            }
+    let read = |kind: &str| kind.is_empty() || kinds.iter().any(|read| read == kind);
+    let mut rows: Vec<(&str, &str, Texts, Vec<String>)> = (0..SHAPES.len())
+        .filter(|place| read(SHAPES[*place].0))
+        .map(|place| (SHAPES[place].0, SHAPES[place].1, SHAPES[place].2, texts_of(place)))
+        .collect();
+    let valued: Vec<&Vec<String>> =
+        rows.iter().filter(|row| row.2 == Valued && row.3.len() == TEXTS).map(|row| &row.3).collect();
+    let mixed = (0..TEXTS).map(|i| valued[i % valued.len()][i].clone()).collect();
+    rows.push(("", "those with a value in turn", Valued, mixed));
+    let rows: Vec<(&str, &str, Texts, Vec<&str>)> = rows
+        .iter()
+        .map(|(kind, name, shape, texts)| (*kind, *name, *shape, texts.iter().map(String::as_str).collect()))
+        .collect();
+    for (_, _, shape, texts) in &rows {
+        compare(texts, *shape);
+    }
+    let mut times = vec![[f64::INFINITY; CALLS.len()]; rows.len()];
+    for _ in 0..PASSES {
+        for (row, least) in rows.iter().zip(&mut times) {
+            time(&row.3, least);
         }
     }
-    let mixed: Vec<&str> = (0..TEXTS).map(|i| all[i % all.len()][i].as_str()).collect();
-    slower.extend(row("", "those with a value in turn", Valued, &mixed));
+    head();
+    let mut slower = Vec::new();
+    for ((kind, name, shape, texts), times) in rows.iter().zip(&times) {
+        slower.extend(row(kind, name, *shape, texts, times));
+    }
     if cfg!(upstream) {
         slower.sort_by(|(one, _), (other, _)| other.total_cmp(one));
         println!("\nSlower than upstream, the slowest first: {}", slower.len());
