@@ -1,14 +1,15 @@
 -- Chars and bytes: what their bytes say of the characters.
-use Rattle.std.proofs.Common.{◌≡◌, ℕ, zero, suc, ◌+◌, ◌-◌, ◌^◌, ◌<◌, ◌≤◌, Bool, true, false, not, ◌&&◌, ◌||◌, List, [], ◌∷◌, ◌++◌, length, take, drop, slice_range, get_or, Option, Some, None, refl, sym, ap, ◌∙◌, subst, arith, inl, inr, append_assoc, length-append, lit<}
+use Rattle.std.proofs.Common.{◌≡◌, ℕ, zero, suc, ◌+◌, ◌-◌, ◌^◌, ◌<◌, ◌≤◌, Bool, true, false, not, ◌&&◌, ◌||◌, List, [], ◌∷◌, ◌++◌, length, take, drop, slice_range, slice_get, append-nil, get_or, Option, Some, None, refl, sym, ap, ◌∙◌, subst, arith, inl, inr, append_assoc, length-append, lit<}
 use Rattle.std.specs.Prelude.{◌==◌, Result, Ok, Err, IfOk, IfErr, IfSome, encode_utf8, encode_utf8_all, if◌then◌else◌, option_map, is_some}
 use Rattle.std.specs.Option.{ForSome}
 use Rattle.std.specs.declared.ops.Range.{Range}
 use Rattle.std.specs.List.{list_any}
+use Rattle.std.specs.Char.{len_utf8}
 use Rattle.std.specs.Str.{chars, IsUtf8, IsCharBoundary}
 use Rattle.std.proofs.lemmas.Bool.{eq-eqb, lt-ltb, ltb-true, ltb-false, and_parts, and_from, and_left, not_from_false, not-true, ne_eqb, eqb-true, cases_lt, or_left, or_right, false≢true, true≢false}
 use Rattle.std.proofs.lemmas.Bool.Decides.{nat_tests}
 use Rattle.std.proofs.lemmas.List.{drop_at, take_at, take-append-drop, drop-drop, append_cancel_left}
-use Rattle.std.proofs.lemmas.Str.{chars-nil, chars_from_encodes, encodes-chars, encodes-append, encode_ascii, IsUtf8-take}
+use Rattle.std.proofs.lemmas.Str.{length-encode, chars-nil, chars_from_encodes, encodes-chars, encodes-append, encode_ascii, IsUtf8-take}
 use Rattle.litrs_base.specs.declared.err.ParseError.{ParseError}
 use Rattle.litrs_base.specs.declared.err.ParseErrorKind.{ParseErrorKind}
 use Rattle.litrs_base.specs.declared.err.ParseErrorKind.TheVariants.{UnescapedSingleQuote, UnescapedSpecialWhitespace, NonAsciiInByteLiteral}
@@ -20,7 +21,7 @@ use Rattle.litrs_base.specs.Refusal.{Refusal, refusal_of, char_span_of, IsInText
 use Rattle.litrs_base.specs.Text.{byte_len, first_passes, is_empty, begins_with, PointsInto}
 use Rattle.litrs_base.proofs.Begins.{begins_with-split, begins_with-append}
 use Rattle.litrs_base.proofs.ByteLen.{byte_len_one_ascii}
-use Rattle.litrs_base.proofs.CharEnds.{char_span_moved, no_span}
+use Rattle.litrs_base.proofs.CharEnds.{char_span_moved, moves_within, no_span}
 use Rattle.litrs_base.proofs.Chars.{OnlyAscii, chars_ascii, chars_wide, chars_empty, utf8_behind_ascii, first_passes-chars}
 use Rattle.litrs_base.proofs.ListTests.{if_true, if_false}
 use Rattle.litrs_base.proofs.Spans.{byte_len-append}
@@ -57,10 +58,19 @@ end_refused kind bs e none is = record {
 pub front_byte : (bs : List ℕ) (b : ℕ) → begins_with (b ∷ []) bs ≡ true → bs ≡ b ∷ drop 1 bs
 front_byte bs b begins = sym (begins_with-split (b ∷ []) bs begins)
 
-pub begins_byte : (bs seen : List ℕ) (b : ℕ) → seen ≡ bs → 0 < length seen → b ≡ get_or seen 0 0 → begins_with (b ∷ []) bs ≡ true
-begins_byte [] seen b same some is = absurd (let e = ap length same in omega arith)
-begins_byte (c ∷ bs) seen b same some is =
-    let first : b ≡ c = is ∙ ap (λ l. get_or l 0 0) same in and_from _ _ (eq-eqb b c first) refl
+pub begins_get : (bs seen : List ℕ) (b : ℕ) → seen ≡ bs → Some b ≡ slice_get seen 0 → begins_with (b ∷ []) bs ≡ true
+begins_get bs seen b same is = first bs (is ∙ ap (λ l. slice_get l 0) same)
+  where
+    first : (bs : List ℕ) → Some b ≡ slice_get bs 0 → begins_with (b ∷ []) bs ≡ true
+    first [] is = cc
+    first (c ∷ bs) is = let e : b ≡ c = cc in and_from _ _ (eq-eqb b c e) refl
+
+pub none_first : (bs seen : List ℕ) → seen ≡ bs → None ≡ slice_get seen 0 → length bs ≤ 0
+none_first bs seen same is = empty bs (is ∙ ap (λ l. slice_get l 0) same)
+  where
+    empty : (bs : List ℕ) → None ≡ slice_get bs 0 → length bs ≤ 0
+    empty [] is = omega arith
+    empty (c ∷ bs) is = cc
 
 front_chars : (bs : List ℕ) (b : ℕ) → b < 128 → bs ≡ b ∷ drop 1 bs → chars bs ≡ b ∷ chars (drop 1 bs)
 front_chars bs b low is = ap chars is ∙ chars_ascii b (drop 1 bs) low
@@ -332,26 +342,16 @@ front_row kind bs rest r f table =
     ap (drop (length (char_front kind))) f.characters ∙ drop_at (char_front kind) (chars rest) (length (char_front kind)) refl in
     if_true _ _ _ begins ∙ ap (option_map (moved (length (char_front kind)))) (ap (char_item_refusal kind) behind ∙ table)
 
-moves_by : (t rest : List ℕ) (n : ℕ) (o : Option (Range ℕ)) (place : ℕ) → IfSome (moved_span n o) (PointsInto t) → IfSome o (λ span. IsCharEnd rest span.end place) →
-    byte_len t ≡ n + byte_len rest → byte_len t < 2 ^ 64 → ForSome o (λ span. (span.start + n < 2 ^ 64) × (span.end + n < 2 ^ 64) × (place + n < 2 ^ 64))
-moves_by t rest n None place inside ends size small = λ x same. absurd (let never : None ≡ Some x = same in cc)
-moves_by t rest n (Some s) place inside ends size small = λ x same.
-    let e : s ≡ x = cc in
-    let order = inside.in_order in
-    let within = inside.within in
-    let fits : s.end ≤ byte_len rest = omega arith in
-    let end = (ends.boundary fits).0 in
-    subst (λ (y : Range ℕ). (y.start + n < 2 ^ 64) × (y.end + n < 2 ^ 64) × (place + n < 2 ^ 64)) e (omega arith, omega arith, omega arith)
-
 -- an error behind a front may be moved
 pub moves : (kind : CharKind) (bs rest : List ℕ) (e : ParseError) → IsUtf8 bs → IsFronted kind bs rest → IsItemRefused kind (chars rest) e → length bs < 2 ^ 64 →
     MovesWithin (length (char_front kind)) e
 moves kind bs rest e u f r small =
-    let inside = char_spans_lie_in_text kind (chars bs) (moved (length (char_front kind)) (refusal_of e)) (front_row kind bs rest (refusal_of e) f r.table) in
-    let size : byte_len (chars bs) ≡ length (char_front kind) + byte_len (chars rest) =
-    ap byte_len f.characters ∙ (byte_len-append (char_front kind) (chars rest) ∙ ap (λ n. n + byte_len (chars rest)) (front_size kind)) in
-    let all : byte_len (chars bs) < 2 ^ 64 = let same : byte_len (chars bs) ≡ length bs = ap length (encodes-chars bs u) in omega arith in
-    moves_by (chars bs) (chars rest) (length (char_front kind)) e.span e.char_end inside r.char_span size all
+    let front = char_front kind in
+    let table = front_row kind bs rest (refusal_of e) f r.table ∙ ap (λ n. Some (moved n (refusal_of e))) (sym (front_size kind)) in
+    let inside : IsInText (front ++ chars rest) (moved (byte_len front) (refusal_of e)) =
+    subst (λ (t : List ℕ). IsInText t (moved (byte_len front) (refusal_of e))) f.characters (char_spans_lie_in_text kind (chars bs) (moved (byte_len front) (refusal_of e)) table) in
+    let size : byte_len (front ++ chars rest) ≡ length bs = ap byte_len (sym f.characters) ∙ ap length (encodes-chars bs u) in
+    subst (λ (n : ℕ). MovesWithin n e) (front_size kind) (moves_within front (chars rest) e inside r.char_span (omega arith))
 
 abbrev pub literal_of : CharKind → LiteralKind
 literal_of char_kind = char_literal
@@ -461,3 +461,15 @@ pub err_escape : (is_byte : Bool) (bs : List ℕ) (r : Result (Unescape × ℕ) 
     IfErr r (IsItemRefused (kind_if is_byte) (chars bs))
 err_escape is_byte bs (Ok read) begins refused = tt
 err_escape is_byte bs (Err e) begins refused = escape_row (kind_if is_byte) bs e begins (subst (λ (w : Switches). IsEscapeRefused w (chars bs) e) (same_switches is_byte) refused)
+
+pub one_size : (c n : ℕ) → n ≡ len_utf8 c → n ≡ byte_len (c ∷ [])
+one_size c n is = is ∙ (sym (length-encode c) ∙ sym (ap length (append-nil (encode_utf8 c))))
+
+-- where the suffix starts lies within the text
+pub start_within : (kind : CharKind) (bs : List ℕ) (value : Unescape) (start : ℕ) → IsUtf8 bs → IsCutBehind kind bs value start → start ≤ length bs
+start_within kind bs value start u r =
+    let text = char_item_text r.item in
+    let all : byte_len (text ++ 39 ∷ r.suffix) ≡ length bs = ap byte_len r.spells ∙ ap length (encodes-chars bs u) in
+    let both = byte_len-append text (39 ∷ r.suffix) in
+    let one = byte_len_one_ascii 39 r.suffix (omega arith) in
+    let size = r.size in omega arith

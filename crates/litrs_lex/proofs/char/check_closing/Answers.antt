@@ -4,7 +4,7 @@ use Rattle.std.specs.Prelude.{◌==◌}
 use Rattle.std.specs.Str.{chars}
 use Rattle.std.specs.List.{list_any}
 use Rattle.std.proofs.lemmas.Str.{IsCharBoundary-after_ascii}
-use Rattle.litrs_base.specs.Refusal.{plain, at}
+use Rattle.litrs_base.specs.Refusal.{plain, at, over}
 use Rattle.litrs_base.specs.Text.{first_passes}
 use Rattle.litrs_grammar.specs.CharByte.{closing_refusal}
 use Rattle.litrs_grammar.specs.Suffix.{is_suffix, suffix_refusal}
@@ -51,4 +51,4 @@ returns-in-Err-clause-table c =
     (ap (first_passes (λ n. n == 39)) (sym c.as_bytes.ensures.value) ∙ sym c.if-not-begins_with_quote.ensures)
     (ap (λ l. is_suffix (chars l)) (sym c.range_from.ensures.value) ∙ sym c.in-Err.ensures.ok)
     ∙ (ap (λ l. Some (at (c.args.len + 1) (suffix_refusal (chars l)))) (sym c.range_from.ensures.value)
-    ∙ (ap (λ k. Some (at (c.args.len + 1) k)) (sym c.in-Err.ensures.err) ∙ ?)))
+    ∙ (ap (λ k. Some (at (c.args.len + 1) k)) (sym c.in-Err.ensures.err) ∙ (let two : c.args.len + 1 + 1 ≡ c.args.len + 2 = omega arith in ap Some (ap (λ n. over (c.args.len + 1) n c.in-Err.kind) two ∙ sym c.in_text.ensures.refusal)))))

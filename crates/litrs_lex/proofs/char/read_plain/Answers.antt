@@ -1,10 +1,11 @@
 -- Each exit by its row.
 use Rattle.std.proofs.Common.{◌≡◌, ◌+◌, ◌-◌, ◌<◌, ◌≤◌, ℕ, List, [], ◌∷◌, Bool, true, false, not, length, drop, take, get_or, refl, sym, ap, ◌∙◌, subst, arith, Some}
 use Rattle.litrs_grammar.specs.CharByte.{CharKind, byte_kind, char_kind, char_item_refusal}
+use Rattle.litrs_base.specs.declared.escape.Unescape.TheVariants.{Unicode}
 use Rattle.litrs_lex.specs.CharCut.{kind_if, IsItemRead}
 use Rattle.std.specs.Str.{chars}
 use Rattle.std.proofs.lemmas.Str.{length-encode}
-use Rattle.litrs_lex.proofs.CharByteBytes.{special_row, ascii_item, wide_row, wide_item, wide_some}
+use Rattle.litrs_lex.proofs.CharByteBytes.{special_row, ascii_item, wide_row, wide_item, wide_some, one_size}
 use Rattle.litrs_lex.proofs.char.read_plain.Goals as goal
 
 pub returns-then-is_special_whitespace-clause-refused : goal.returns-then-is_special_whitespace-clause-refused
@@ -29,5 +30,5 @@ unreachable-requires c = wide_some c.args.rest.now c.args.first c.utf8.rest c.re
 
 pub returns-clause-ok : goal.returns-clause-ok
 returns-clause-ok c =
-    subst (λ (v : Bool). IsItemRead (kind_if v) c.args.rest.now _ _) (sym c.if-is_byte.false)
-    (wide_item c.args.rest.now c.args.first c.in-Some.c _ c.len_utf8.result c.utf8.rest c.requires.begins c.if-first-lt128.false c.in-Some.ensures.parts ?)
+    subst (λ (v : Bool). IsItemRead (kind_if v) c.args.rest.now (Unicode c.in-Some.c) c.len_utf8.result) (sym c.if-is_byte.false)
+    (wide_item c.args.rest.now c.args.first c.in-Some.c _ c.len_utf8.result c.utf8.rest c.requires.begins c.if-first-lt128.false c.in-Some.ensures.parts (one_size c.in-Some.c c.len_utf8.result c.len_utf8.ensures.value))
