@@ -71,7 +71,7 @@ closing_none kind place s h = none_unless (is_suffix s) _ _ h refl
 abbrev ClosesChar : List ℕ → Type 0
 ClosesChar t = (s : List ℕ) × (39 ∷ s ≡ t) × (is_suffix s ≡ true)
 
-closing_read : (kind : CharKind) (place : ℕ) (t : List ℕ) → closing_refusal kind place t ≡ None → ClosesChar t
+pub closing_read : (kind : CharKind) (place : ℕ) (t : List ℕ) → closing_refusal kind place t ≡ None → ClosesChar t
 closing_read kind place [] h = cc
 closing_read kind place (c ∷ t) h =
     let a = unless_none (list_any (λ c. c == 39) (c ∷ t)) _ _ h in

@@ -427,7 +427,7 @@ list_any-encodes p only [] = refl
 list_any-encodes p only (c ∷ t) =
     list_any-append p (encode_utf8 c) (encode_utf8_all t) ∙ (ap (λ v. v || list_any p (encode_utf8_all t)) (list_any-encode p c only) ∙ ap (λ v. p c || v) (list_any-encodes p only t))
 
-list_any-chars : (p : ℕ → Bool) (bs : List ℕ) → OnlyAscii p → IsUtf8 bs → list_any p (chars bs) ≡ list_any p bs
+pub list_any-chars : (p : ℕ → Bool) (bs : List ℕ) → OnlyAscii p → IsUtf8 bs → list_any p (chars bs) ≡ list_any p bs
 list_any-chars p bs only u = sym (list_any-encodes p only (chars bs)) ∙ ap (list_any p) (encodes-chars bs u)
 
 -- as many bytes as pass such a test are characters

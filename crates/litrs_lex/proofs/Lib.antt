@@ -8,3 +8,4 @@ pub mod QuotedScan
 pub mod QuotedBytes
 pub mod QuotedCuts
 pub mod QuotedValues
+pub mod CharByteBytes

@@ -4,3 +4,4 @@ pub mod FloatCut
 pub mod Unescaped
 pub mod QuotedCut
 pub mod QuotedItems
+pub mod CharCut

@@ -1,6 +1,7 @@
 //! Reads the parts that literals are made of, and says where a text is cut.
 #![tactic(auto)]
 
+pub use char::{cut_byte, cut_char};
 pub use container::EscapeContainer;
 pub use escape::unescape;
 pub use float::{FloatCut, cut_float};
@@ -14,6 +15,7 @@ pub use parse::{check_suffix, end_dec_digits, first_byte_or_empty, hex_digit_val
 pub use quoted::{QuotedCut, cut_quoted};
 pub use string::unescape_string;
 
+pub mod char;
 pub mod container;
 pub mod escape;
 pub mod float;

@@ -50,7 +50,7 @@ pub fn first_byte_or_empty(s: &str) -> Result<u8, ParseError>
 }
 
 /// The first character of the text and what follows it, or None where there is none.
-fn split_first_char(s: &str) -> Option<(char, &str)>
+pub(crate) fn split_first_char(s: &str) -> Option<(char, &str)>
     ensures empty { IfNone result (chars s.now ≡ []) }
     ensures parts { IfSome result (λ parts. chars s.now ≡ parts.0 ∷ chars parts.1.now) }
     ensures rest { IfSome result (λ parts. IsUtf8 parts.1.now) }
