@@ -163,6 +163,7 @@ fn has_digit(bytes: &[u8]) -> bool
 #[cfg(test)]
 mod tests {
     use super::*;
+    use std::process::Abort;
 
     #[test]
     fn places_of_floats(rt: HostRuntime) {
@@ -188,26 +189,33 @@ mod tests {
         }
     }
 
-    #[test]
-    fn refused_floats(rt: HostRuntime) {
-        for (text, kind, span) in [
-            ("1.e4", ParseErrorKind::UnexpectedChar, Some(2..3)),
-            ("3.7+2", ParseErrorKind::UnexpectedChar, Some(3..5)),
-            ("55e3.1", ParseErrorKind::UnexpectedChar, Some(4..6)),
-            ("12345._987", ParseErrorKind::UnexpectedChar, Some(6..7)),
-            ("0eel", ParseErrorKind::NoExponentDigits, Some(1..2)),
-            ("23E___f32", ParseErrorKind::NoExponentDigits, Some(2..6)),
-            ("3.7e-+3", ParseErrorKind::NoExponentDigits, Some(3..5)),
-            ("0x44.5", ParseErrorKind::InvalidSuffix, Some(1..6)),
-            ("35_389", ParseErrorKind::UnexpectedIntegerLit, None),
-        ] {
-            match cut_float(text) {
-                Ok(_) => assert!(rt; false, "{text} is no float"),
-                Err(e) => {
-                    assert_eq!(rt; e.kind(), kind, "at {text}");
-                    assert_eq!(rt; e.span(), span, "at {text}");
-                }
+    /// The text is refused with this kind and span.
+    fn check_refused(
+        rt: &impl Abort,
+        answer: Result<FloatCut, ParseError>,
+        kind: ParseErrorKind,
+        span: Option<Range<usize>>,
+    ) {
+        match answer {
+            Ok(_) => assert!(rt; false, "no float"),
+            Err(e) => {
+                assert_eq!(rt; e.kind(), kind);
+                assert_eq!(rt; e.span(), span);
             }
         }
+    }
+
+    #[test]
+    fn refused_floats(rt: HostRuntime) {
+        use ParseErrorKind::*;
+        check_refused(&rt, cut_float("1.e4"), UnexpectedChar, Some(2..3));
+        check_refused(&rt, cut_float("3.7+2"), UnexpectedChar, Some(3..5));
+        check_refused(&rt, cut_float("55e3.1"), UnexpectedChar, Some(4..6));
+        check_refused(&rt, cut_float("12345._987"), UnexpectedChar, Some(6..7));
+        check_refused(&rt, cut_float("0eel"), NoExponentDigits, Some(1..2));
+        check_refused(&rt, cut_float("23E___f32"), NoExponentDigits, Some(2..6));
+        check_refused(&rt, cut_float("3.7e-+3"), NoExponentDigits, Some(3..5));
+        check_refused(&rt, cut_float("0x44.5"), InvalidSuffix, Some(1..6));
+        check_refused(&rt, cut_float("35_389"), UnexpectedIntegerLit, None);
     }
 }

@@ -262,6 +262,7 @@ fn without_last(text: &str) -> &str
 #[cfg(test)]
 mod tests {
     use super::{QuotedCut, cut_quoted};
+    use litrs_base::ParseError;
     use litrs_base::ParseErrorKind::{self, *};
     use std::ops::Range;
     use std::process::Abort;
@@ -453,12 +454,24 @@ mod tests {
         }
     }
 
+    /// The text cut from the offset, which is a character boundary.
+    fn cut_at(
+        text: &str,
+        offset: usize,
+        switches: (bool, bool, bool),
+    ) -> Option<Result<QuotedCut, ParseError>> {
+        if !text.is_char_boundary(offset) {
+            return None;
+        }
+        Some(cut_quoted(text, offset, switches.0, switches.1, switches.2))
+    }
+
     #[test]
     fn refusals(rt: HostRuntime) {
-        for (text, offset, (unicode, byte_escapes, allow_nul), kind, span, char_span) in REFUSALS {
-            match cut_quoted(text, offset, unicode, byte_escapes, allow_nul) {
-                Ok(_) => assert!(rt; false, "{text} is no literal"),
-                Err(e) => {
+        for (text, offset, switches, kind, span, char_span) in REFUSALS {
+            match cut_at(text, offset, switches) {
+                None | Some(Ok(_)) => assert!(rt; false, "{text} is no literal"),
+                Some(Err(e)) => {
                     assert_eq!(rt; e.kind(), kind, "of {text}");
                     assert_eq!(rt; e.span(), span, "of {text}");
                     assert_eq!(rt; e.char_span(), char_span, "of {text}");
