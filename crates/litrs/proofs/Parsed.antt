@@ -148,23 +148,23 @@ pub row_refused_at : (bytes text : List ℕ) (e : ParseError) → IsUtf8 text �
 row_refused_at bytes text e u same is span = row_refused (chars bytes) e (row_at bytes text (refused_as (refusal_of e)) u same is) span
 
 -- a kind that is not parsed
-unparsed_kind : (d : Dispatched) → ((e : ParseError) → d ≡ dispatched.Refused e → ⊥) → ((b : BoolLit) → d ≡ dispatched.Bool b → ⊥) → (d ≡ dispatched.Integer → ⊥) → (d ≡ dispatched.Float → ⊥) →
+unparsed_kind : (d : Dispatched) → ((e : ParseError) → d ≡ dispatched.Refused e → ⊥) → ((b : BoolLit) → d ≡ dispatched.Bool b → ⊥) → (d ≡ dispatched.Integer → ⊥) → (d ≡ dispatched.Float → ⊥) → (d ≡ dispatched.Char → ⊥) → (d ≡ dispatched.Byte → ⊥) →
     (kind : LiteralKind) × (row_of d ≡ parsed_as kind) × (is_parsed kind ≡ false)
-unparsed_kind (dispatched.Refused e) refused bool integer float = absurd (refused e refl)
-unparsed_kind (dispatched.Bool b) refused bool integer float = absurd (bool b refl)
-unparsed_kind dispatched.Integer refused bool integer float = absurd (integer refl)
-unparsed_kind dispatched.Float refused bool integer float = absurd (float refl)
-unparsed_kind dispatched.Char refused bool integer float = (char_literal, refl, refl)
-unparsed_kind dispatched.Byte refused bool integer float = (byte_literal, refl, refl)
-unparsed_kind dispatched.String refused bool integer float = (string_literal, refl, refl)
-unparsed_kind dispatched.ByteString refused bool integer float = (byte_string_literal, refl, refl)
-unparsed_kind dispatched.CString refused bool integer float = (c_string_literal, refl, refl)
+unparsed_kind (dispatched.Refused e) refused bool integer float char byte = absurd (refused e refl)
+unparsed_kind (dispatched.Bool b) refused bool integer float char byte = absurd (bool b refl)
+unparsed_kind dispatched.Integer refused bool integer float char byte = absurd (integer refl)
+unparsed_kind dispatched.Float refused bool integer float char byte = absurd (float refl)
+unparsed_kind dispatched.Char refused bool integer float char byte = absurd (char refl)
+unparsed_kind dispatched.Byte refused bool integer float char byte = absurd (byte refl)
+unparsed_kind dispatched.String refused bool integer float char byte = (string_literal, refl, refl)
+unparsed_kind dispatched.ByteString refused bool integer float char byte = (byte_string_literal, refl, refl)
+unparsed_kind dispatched.CString refused bool integer float char byte = (c_string_literal, refl, refl)
 
 pub unparsed_refused_at : (bytes text : List ℕ) (e : ParseError) (d : Dispatched) → IsUtf8 text → text ≡ bytes → row_of d ≡ dispatch text →
-    ((e : ParseError) → d ≡ dispatched.Refused e → ⊥) → ((b : BoolLit) → d ≡ dispatched.Bool b → ⊥) → (d ≡ dispatched.Integer → ⊥) → (d ≡ dispatched.Float → ⊥) →
+    ((e : ParseError) → d ≡ dispatched.Refused e → ⊥) → ((b : BoolLit) → d ≡ dispatched.Bool b → ⊥) → (d ≡ dispatched.Integer → ⊥) → (d ≡ dispatched.Float → ⊥) → (d ≡ dispatched.Char → ⊥) → (d ≡ dispatched.Byte → ⊥) →
     refusal_of e ≡ plain InvalidLiteral → IsParseRefused (chars bytes) e
-unparsed_refused_at bytes text e d u same is refused bool integer float plain_one =
-    let k = unparsed_kind d refused bool integer float in
+unparsed_refused_at bytes text e d u same is refused bool integer float char byte plain_one =
+    let k = unparsed_kind d refused bool integer float char byte in
     unparsed_refused k.0 (chars bytes) e (row_at bytes text (parsed_as k.0) u same (sym k.1 ∙ is)) k.2 plain_one
 
 -- Each text is a literal of a kind that is parsed, or refused: one of the two, and in one way.

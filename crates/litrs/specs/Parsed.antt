@@ -3,7 +3,7 @@ use Rattle.std.specs.Prelude.{◌≡◌, ℕ, Bool, true, false, List, IsTrue}
 use Rattle.litrs_base.specs.declared.err.ParseError.{ParseError}
 use Rattle.litrs_base.specs.declared.err.ParseErrorKind.TheVariants.{InvalidLiteral}
 use Rattle.litrs_base.specs.Refusal.{Refusal, plain}
-use Rattle.litrs_grammar.specs.Literal.{Derivation, IsLiteral, literal_kind, LiteralKind, bool_literal, integer_literal, float_literal}
+use Rattle.litrs_grammar.specs.Literal.{Derivation, IsLiteral, literal_kind, LiteralKind, bool_literal, integer_literal, float_literal, char_literal, byte_literal}
 use Rattle.litrs_grammar.specs.LiteralRefusals.{IsKindRefusal, Dispatch, refused_as, parsed_as, dispatch}
 use Rattle.litrs_grammar.specs.Refused.{IsRefusedBy}
 
@@ -12,6 +12,8 @@ abbrev pub is_parsed : LiteralKind → Bool
 is_parsed bool_literal = true
 is_parsed integer_literal = true
 is_parsed float_literal = true
+is_parsed char_literal = true
+is_parsed byte_literal = true
 is_parsed _ = false
 
 -- d is a derivation of t, and of such a kind

@@ -1,6 +1,6 @@
 //! Parsing and inspecting Rust literals.
 //!
-//! Each kind of literal has a type, [`BoolLit`], [`IntegerLit`] and [`FloatLit`], and [`Literal`] stands for them all.
+//! Each kind of literal has a type, [`BoolLit`], [`IntegerLit`], [`FloatLit`], [`CharLit`] and [`ByteLit`], and [`Literal`] stands for them all.
 //! Each has a `parse`, which reads a text that is one literal and nothing else.
 #![tactic(auto)]
 
@@ -15,7 +15,9 @@ ghost use Rattle.litrs.specs.Parsed.{IsParseRefused};
 ghost use Rattle.litrs.specs.LiteralDerivation.{literal_raw, derivation};
 
 pub use bool::BoolLit;
+pub use byte::ByteLit;
 pub use c_string::CString;
+pub use char::CharLit;
 pub use float::FloatLit;
 pub use integer::IntegerLit;
 pub use litrs_lex::{
@@ -27,7 +29,9 @@ use std::alloc::{AllocError, Global};
 use std::fmt;
 
 mod bool;
+mod byte;
 mod c_string;
+mod char;
 #[cfg(test)]
 mod copy_tests;
 mod float;
@@ -47,18 +51,22 @@ pub enum Literal<B: Text> {
     Integer(IntegerLit<B>),
     /// A number with a period or an exponent, as `3.14f33`.
     Float(FloatLit<B>),
+    /// A character, as `'a'`.
+    Char(CharLit<B>),
+    /// A byte, as `b'a'`.
+    Byte(ByteLit<B>),
 }
 
 impl<B: Text> Literal<B> {
     /// Reads a text that is one literal, of the kind that it begins like.
     ///
-    /// `true` is a bool, `1_000u32` an integer with the suffix `u32`. Bools, integers and floats
-    /// are read today.
+    /// `true` is a bool, `1_000u32` an integer with the suffix `u32`. Bools, integers, floats,
+    /// chars and bytes are read today.
     ///
     /// # Errors
     ///
     /// `Empty`; the refusal of the kind that the text begins like, as `UnexpectedChar` at 1..2 for `0 `;
-    /// else `InvalidLiteral`, also of a text that begins like a kind that is not read, as `'a'` or `"a"`.
+    /// else `InvalidLiteral`, also of a text that begins like a kind that is not read, as `"a"`.
     pub fn parse(_alloc: Global, input: B) -> Result<Literal<B>, ParseError>
         ensures raw { IfOk result (λ lit. literal_raw lit ≡ B.bytes input) }
         ensures ok { IfOk result (λ lit.
@@ -72,6 +80,8 @@ impl<B: Text> Literal<B> {
             Dispatched::Bool(lit) => Ok(Literal::Bool(lit)),
             Dispatched::Integer => Ok(Literal::Integer(IntegerLit::parse(input)?)),
             Dispatched::Float => Ok(Literal::Float(FloatLit::parse(input)?)),
+            Dispatched::Char => Ok(Literal::Char(CharLit::parse(input)?)),
+            Dispatched::Byte => Ok(Literal::Byte(ByteLit::parse(input)?)),
             _ => Err(ParseError::new(None, ParseErrorKind::InvalidLiteral)),
         }
     }
@@ -84,6 +94,8 @@ impl<B: Text> Literal<B> {
             Literal::Bool(_) => "",
             Literal::Integer(lit) => lit.suffix(),
             Literal::Float(lit) => lit.suffix(),
+            Literal::Char(lit) => lit.suffix(),
+            Literal::Byte(lit) => lit.suffix(),
         }
     }
 
@@ -96,6 +108,8 @@ impl<B: Text> Literal<B> {
             Literal::Bool(lit) => lit.as_str(),
             Literal::Integer(lit) => lit.raw_input(),
             Literal::Float(lit) => lit.raw_input(),
+            Literal::Char(lit) => lit.raw_input(),
+            Literal::Byte(lit) => lit.raw_input(),
         }
     }
 }
@@ -115,6 +129,8 @@ impl<B: Text> Literal<B> {
             Literal::Bool(lit) => Ok(Literal::Bool(*lit)),
             Literal::Integer(lit) => Ok(Literal::Integer(lit.clone(alloc)?)),
             Literal::Float(lit) => Ok(Literal::Float(lit.clone(alloc)?)),
+            Literal::Char(lit) => Ok(Literal::Char(lit.clone(alloc)?)),
+            Literal::Byte(lit) => Ok(Literal::Byte(lit.clone(alloc)?)),
         }
     }
 }
@@ -133,6 +149,8 @@ impl Literal<&str> {
             Literal::Bool(lit) => Ok(Literal::Bool(lit)),
             Literal::Integer(lit) => Ok(Literal::Integer(lit.to_owned(alloc)?)),
             Literal::Float(lit) => Ok(Literal::Float(lit.to_owned(alloc)?)),
+            Literal::Char(lit) => Ok(Literal::Char(lit.to_owned(alloc)?)),
+            Literal::Byte(lit) => Ok(Literal::Byte(lit.to_owned(alloc)?)),
         }
     }
 }
@@ -167,6 +185,26 @@ impl<B: Text> From<FloatLit<B>> for Literal<B> {
     }
 }
 
+impl<B: Text> From<CharLit<B>> for Literal<B> {
+    ghost use Rattle.litrs.specs.declared.Literal.TheVariants.{Char};
+
+    ghost from_gives = { λ lit literal. literal ≡ Char lit };
+
+    fn from(lit: CharLit<B>) -> Literal<B> {
+        Literal::Char(lit)
+    }
+}
+
+impl<B: Text> From<ByteLit<B>> for Literal<B> {
+    ghost use Rattle.litrs.specs.declared.Literal.TheVariants.{Byte};
+
+    ghost from_gives = { λ lit literal. literal ≡ Byte lit };
+
+    fn from(lit: ByteLit<B>) -> Literal<B> {
+        Literal::Byte(lit)
+    }
+}
+
 impl<B: Text> PartialEq for Literal<B> {
     ghost eq = { λ x y. pointwise nat_eq (literal_raw x) (literal_raw y) };
 
@@ -189,6 +227,8 @@ impl<B: Text> fmt::Display for Literal<B> {
             Literal::Bool(lit) => lit.fmt(f),
             Literal::Integer(lit) => lit.fmt(f),
             Literal::Float(lit) => lit.fmt(f),
+            Literal::Char(lit) => lit.fmt(f),
+            Literal::Byte(lit) => lit.fmt(f),
         }
     }
 }

@@ -12,7 +12,7 @@ use Rattle.std.proofs.lemmas.List.{drop_at, take_at, take-append-drop, drop-drop
 use Rattle.std.proofs.lemmas.Str.{length-encode, chars-nil, chars_from_encodes, encodes-chars, encodes-append, encode_ascii, IsUtf8-take}
 use Rattle.litrs_base.specs.declared.err.ParseError.{ParseError}
 use Rattle.litrs_base.specs.declared.err.ParseErrorKind.{ParseErrorKind}
-use Rattle.litrs_base.specs.declared.err.ParseErrorKind.TheVariants.{UnescapedSingleQuote, UnescapedSpecialWhitespace, NonAsciiInByteLiteral}
+use Rattle.litrs_base.specs.declared.err.ParseErrorKind.TheVariants.{Empty, DoesNotStartWithQuote, InvalidByteLiteralStart, UnescapedSingleQuote, UnescapedSpecialWhitespace, NonAsciiInByteLiteral}
 use Rattle.litrs_base.specs.declared.escape.Unescape.{Unescape}
 use Rattle.litrs_base.specs.declared.escape.Unescape.TheVariants.{Byte, Unicode}
 use Rattle.litrs_base.specs.Unescape.{unescaped_number}
@@ -22,12 +22,12 @@ use Rattle.litrs_base.specs.Text.{byte_len, first_passes, is_empty, begins_with,
 use Rattle.litrs_base.proofs.Begins.{begins_with-split, begins_with-append}
 use Rattle.litrs_base.proofs.ByteLen.{byte_len_one_ascii}
 use Rattle.litrs_base.proofs.CharEnds.{char_span_moved, moves_within, no_span}
-use Rattle.litrs_base.proofs.Chars.{OnlyAscii, chars_ascii, chars_wide, chars_empty, utf8_behind_ascii, first_passes-chars}
+use Rattle.litrs_base.proofs.Chars.{OnlyAscii, begins_with-chars, chars_ascii, chars_wide, chars_empty, utf8_behind_ascii, first_passes-chars}
 use Rattle.litrs_base.proofs.ListTests.{if_true, if_false}
 use Rattle.litrs_base.proofs.Spans.{byte_len-append}
 use Rattle.litrs_grammar.specs.Escape.{Switches, Escape, simple_escape, hex_escape, unicode_escape, is_escape, is_simple, escape_text, escape_value, escape_refusal}
 use Rattle.litrs_grammar.specs.Suffix.{is_suffix, suffix_refusal}
-use Rattle.litrs_grammar.specs.CharByte.{CharKind, char_kind, byte_kind, char_front, char_switches_of, CharItem, plain_char, escaped_char, char_item_text, char_value, is_special_whitespace, allows_char, is_char_item, CharParts, char_text, IsCharLiteral, unterminated_kind, empty_kind, overlong_kind, escape_length, char_item_length, closing_refusal, char_item_refusal, char_kind_refusal}
+use Rattle.litrs_grammar.specs.CharByte.{CharKind, char_kind, byte_kind, char_front, char_switches_of, CharItem, plain_char, escaped_char, char_item_text, char_value, is_special_whitespace, allows_char, is_char_item, CharParts, char_text, IsCharLiteral, unterminated_kind, empty_kind, overlong_kind, start_refusal, escape_length, char_item_length, closing_refusal, char_item_refusal, char_kind_refusal}
 use Rattle.litrs_grammar.specs.Literal.{kind_parse, LiteralKind, char_literal, byte_literal}
 use Rattle.litrs_grammar.specs.LiteralRefusals.{IsKindRefusal}
 use Rattle.litrs_grammar.specs.Refused.{IsRefused}
@@ -473,3 +473,40 @@ start_within kind bs value start u r =
     let both = byte_len-append text (39 ∷ r.suffix) in
     let one = byte_len_one_ascii 39 r.suffix (omega arith) in
     let size = r.size in omega arith
+
+-- A text that does not begin with the front
+
+pub empty_start : (kind : CharKind) (bs : List ℕ) → bs ≡ [] → char_kind_refusal kind (chars bs) ≡ Some (plain Empty)
+unfolding char_kind_refusal
+empty_start char_kind bs none = ap (λ l. char_kind_refusal char_kind (chars l)) none ∙ ap (char_kind_refusal char_kind) chars-nil
+empty_start byte_kind bs none = ap (λ l. char_kind_refusal byte_kind (chars l)) none ∙ ap (char_kind_refusal byte_kind) chars-nil
+
+other_start : (kind : CharKind) (bs : List ℕ) → IsUtf8 bs → begins_with (char_front kind) bs ≡ false → char_kind_refusal kind (chars bs) ≡ Some (start_refusal kind (chars bs))
+unfolding char_kind_refusal
+other_start char_kind bs u never = if_false _ _ _ (begins_with-chars (39 ∷ []) bs refl u ∙ never)
+other_start byte_kind bs u never = if_false _ _ _ (begins_with-chars (98 ∷ 39 ∷ []) bs refl u ∙ never)
+
+filled : (bs : List ℕ) (b : ℕ) → IsUtf8 bs → slice_get bs 0 ≡ Some b → is_empty (chars bs) ≡ false
+filled [] b u is = cc
+filled (c ∷ bs) b u is = chars_empty (c ∷ bs) u ∙ ne_eqb (suc (length bs)) 0 (λ e. omega arith)
+
+char_other : (t : List ℕ) → is_empty t ≡ false → start_refusal char_kind t ≡ at 0 DoesNotStartWithQuote
+char_other [] some = cc
+char_other (c ∷ t) some = refl
+
+byte_other : (t : List ℕ) → is_empty t ≡ false → start_refusal byte_kind t ≡ plain InvalidByteLiteralStart
+byte_other [] some = cc
+byte_other (c ∷ t) some = refl
+
+pub char_start : (bs : List ℕ) (b : ℕ) → IsUtf8 bs → slice_get bs 0 ≡ Some b → begins_with (39 ∷ []) bs ≡ false → char_kind_refusal char_kind (chars bs) ≡ Some (at 0 DoesNotStartWithQuote)
+char_start bs b u some never = other_start char_kind bs u never ∙ ap Some (char_other (chars bs) (filled bs b u some))
+
+pub byte_start : (bs : List ℕ) (b : ℕ) → IsUtf8 bs → slice_get bs 0 ≡ Some b → begins_with (98 ∷ 39 ∷ []) bs ≡ false → char_kind_refusal byte_kind (chars bs) ≡ Some (plain InvalidByteLiteralStart)
+byte_start bs b u some never = other_start byte_kind bs u never ∙ ap Some (byte_other (chars bs) (filled bs b u some))
+
+pub begins_get_at : (bs : List ℕ) (b k : ℕ) → slice_get bs 0 ≡ Some b → b ≡ k → begins_with (k ∷ []) bs ≡ true
+begins_get_at bs b k some is = begins_get bs bs k refl (ap Some (sym is) ∙ sym some)
+
+pub quote_not_first : (bs : List ℕ) (b : ℕ) → slice_get bs 0 ≡ Some b → (b ≡ 39 → ⊥) → begins_with (39 ∷ []) bs ≡ false
+quote_not_first [] b some other = cc
+quote_not_first (c ∷ bs) b some other = let same : c ≡ b = cc in and_left _ _ (ne_eqb 39 c (λ e. other (sym same ∙ sym e)))

@@ -2,11 +2,12 @@
 use Rattle.std.proofs.Common.{refl, sym, ap, ◌∙◌}
 use Rattle.std.specs.Str.{chars}
 use Rattle.std.proofs.lemmas.Result.{err_from_is_err_and}
-use Rattle.litrs_grammar.specs.Literal.{a_bool, an_integer, a_float, integer_literal, float_literal}
+use Rattle.litrs_grammar.specs.Literal.{a_bool, an_integer, a_float, a_char, a_byte, integer_literal, float_literal, char_literal, byte_literal}
 use Rattle.litrs_grammar.proofs.BoolLaws.{chars-bool_text}
 use Rattle.litrs.specs.BoolLiteral.{bool_value}
 use Rattle.litrs.specs.IntegerLiteral.{integer_parts}
 use Rattle.litrs.specs.FloatLiteral.{float_parts}
+use Rattle.litrs.specs.CharLiteral.{char_parts, byte_parts}
 use Rattle.litrs.proofs.Parsed.{only_literal, kind_refused_at, unparsed_refused_at, row_refused_at, refusal_of_text}
 use Rattle.litrs.proofs.Literal.parse.Goals as goal
 
@@ -52,7 +53,37 @@ returns-in_err-parse-in-Float-clause-memory g c =
 pub returns-in_ok-parse-in-Float-clause-ok : goal.returns-in_ok-parse-in-Float-clause-ok
 returns-in_ok-parse-in-Float-clause-ok g c = only_literal _ (a_float (float_parts c.in_ok-parse-in-Float.field-0)) c.in_ok-parse-in-Float.ensures.ok.0
 
+pub returns-in_err-parse-in-Char-clause-refused : goal.returns-in_err-parse-in-Char-clause-refused
+returns-in_err-parse-in-Char-clause-refused g c =
+    let p = err_from_is_err_and c.from_residual-in_err-parse-in-Char.result c.from_residual-in_err-parse-in-Char.ensures.1 in
+    rw (p.1) (kind_refused_at char_literal _ c.as_str.result.now c.in_err-parse-in-Char.field-0.0 _ c.as_str.utf8 c.as_str.ensures
+    c.in-Char.ensures.row refl p.2 c.in_err-parse-in-Char.ensures.refused)
+
+pub returns-in_err-parse-in-Char-clause-memory : goal.returns-in_err-parse-in-Char-clause-memory
+returns-in_err-parse-in-Char-clause-memory g c =
+    let p = err_from_is_err_and c.from_residual-in_err-parse-in-Char.result c.from_residual-in_err-parse-in-Char.ensures.1 in
+    rw (p.1) (refusal_of_text _ _ (kind_refused_at char_literal _ c.as_str.result.now c.in_err-parse-in-Char.field-0.0 _ c.as_str.utf8 c.as_str.ensures
+    c.in-Char.ensures.row refl p.2 c.in_err-parse-in-Char.ensures.refused))
+
+pub returns-in_ok-parse-in-Char-clause-ok : goal.returns-in_ok-parse-in-Char-clause-ok
+returns-in_ok-parse-in-Char-clause-ok g c = only_literal _ (a_char (char_parts c.in_ok-parse-in-Char.field-0)) c.in_ok-parse-in-Char.ensures.ok.0
+
+pub returns-in_err-parse-in-Byte-clause-refused : goal.returns-in_err-parse-in-Byte-clause-refused
+returns-in_err-parse-in-Byte-clause-refused g c =
+    let p = err_from_is_err_and c.from_residual-in_err-parse-in-Byte.result c.from_residual-in_err-parse-in-Byte.ensures.1 in
+    rw (p.1) (kind_refused_at byte_literal _ c.as_str.result.now c.in_err-parse-in-Byte.field-0.0 _ c.as_str.utf8 c.as_str.ensures
+    c.in-Byte.ensures.row refl p.2 c.in_err-parse-in-Byte.ensures.refused)
+
+pub returns-in_err-parse-in-Byte-clause-memory : goal.returns-in_err-parse-in-Byte-clause-memory
+returns-in_err-parse-in-Byte-clause-memory g c =
+    let p = err_from_is_err_and c.from_residual-in_err-parse-in-Byte.result c.from_residual-in_err-parse-in-Byte.ensures.1 in
+    rw (p.1) (refusal_of_text _ _ (kind_refused_at byte_literal _ c.as_str.result.now c.in_err-parse-in-Byte.field-0.0 _ c.as_str.utf8 c.as_str.ensures
+    c.in-Byte.ensures.row refl p.2 c.in_err-parse-in-Byte.ensures.refused))
+
+pub returns-in_ok-parse-in-Byte-clause-ok : goal.returns-in_ok-parse-in-Byte-clause-ok
+returns-in_ok-parse-in-Byte-clause-ok g c = only_literal _ (a_byte (byte_parts c.in_ok-parse-in-Byte.field-0)) c.in_ok-parse-in-Byte.ensures.ok.0
+
 pub returns-in_default-clause-refused : goal.returns-in_default-clause-refused
 returns-in_default-clause-refused g c =
     unparsed_refused_at _ c.as_str.result.now c.new.result c.dispatch.result c.as_str.utf8 c.as_str.ensures c.dispatch.ensures.row
-    c.in_default.not-Refused c.in_default.not-Bool c.in_default.not-Integer c.in_default.not-Float c.new.ensures.refusal
+    c.in_default.not-Refused c.in_default.not-Bool c.in_default.not-Integer c.in_default.not-Float c.in_default.not-Char c.in_default.not-Byte c.new.ensures.refusal
