@@ -7,12 +7,13 @@ use Rattle.std.proofs.lemmas.Bool.{false_from_ne_true}
 use Rattle.litrs_base.specs.Base.{base_value}
 use Rattle.litrs_base.specs.Refusal.{Refusal}
 use Rattle.litrs_grammar.specs.Integer.{IntegerParts, integer_value}
+use Rattle.litrs_grammar.specs.CharByte.{CharParts, char_value}
 use Rattle.litrs_grammar.specs.Float.{FloatParts}
-use Rattle.litrs_grammar.specs.Literal.{Derivation, an_integer, a_float}
+use Rattle.litrs_grammar.specs.Literal.{Derivation, an_integer, a_float, a_char, a_byte}
 use Rattle.litrs_grammar.proofs.LiteralLaws.{literals_are_unique}
 use Rattle.litrs.specs.Parsed.{IsParsed, IsParsedRefusal}
 use Rattle.litrs.proofs.Parsed.{parsed_or_refused, parsed_not_refused, parsed_refusals_are_unique}
-use Rattle.litrs_lines.specs.Report.{value_text, integer_front, fraction_field, float_report, literal_report, refusal_report, IsTextReport, IsReport}
+use Rattle.litrs_lines.specs.Report.{value_text, integer_front, fraction_field, float_report, char_report, literal_report, refusal_report, IsTextReport, IsReport}
 use Rattle.litrs_lines.specs.Reports.{AreReports}
 use Rattle.litrs_lines.specs.Reported.{report_by, text_report, report_of, reports_of}
 use Rattle.litrs_lines.specs.ReportLaws.{LinesHaveReports, ReportsAreUnique}
@@ -126,3 +127,11 @@ float_report_made old new integer fraction exponent suffix d integer_utf8 expone
     let e : exponent ≡ encode_utf8_all d.exponent = sym (encodes-chars exponent exponent_utf8) ∙ ap encode_utf8_all exponent_is in
     let s : suffix ≡ encode_utf8_all d.suffix = sym (encodes-chars suffix suffix_utf8) ∙ ap encode_utf8_all suffix_is in
     made ∙ (λ j. old ++ float_report (i j) (fraction_is j) (e j) (s j))
+
+-- A char or a byte
+
+pub char_report_made : (name old new suffix : List ℕ) (value : ℕ) (d : CharParts) → IsUtf8 suffix → value ≡ char_value d.item → chars suffix ≡ d.suffix →
+    new ≡ old ++ char_report name value suffix → new ≡ old ++ char_report name (char_value d.item) (encode_utf8_all d.suffix)
+char_report_made name old new suffix value d suffix_utf8 value_is suffix_is made =
+    let s : suffix ≡ encode_utf8_all d.suffix = sym (encodes-chars suffix suffix_utf8) ∙ ap encode_utf8_all suffix_is in
+    made ∙ (λ j. old ++ char_report name (value_is j) (s j))

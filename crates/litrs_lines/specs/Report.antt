@@ -1,12 +1,13 @@
 -- The report on a line: of the derivation of its text, or of its refusal.
-use Rattle.std.specs.Prelude.{◌≡◌, ◌⊎◌, ℕ, nat_le, List, [], ◌++◌, Option, Some, None, codes, if◌then◌else◌}
-use Rattle.std.specs.Fmt.{decimal}
+use Rattle.std.specs.Prelude.{◌≡◌, ◌⊎◌, ℕ, nat_le, false, List, [], ◌++◌, Option, Some, None, codes, if◌then◌else◌}
+use Rattle.std.specs.Fmt.{decimal, digits}
 use Rattle.std.specs.Str.{chars, IsUtf8, encode_utf8_all}
 use Rattle.litrs_base.specs.declared.integer.IntegerType.TheVariants.{U128}
 use Rattle.litrs_base.specs.Base.{base_value}
 use Rattle.litrs_base.specs.Numeral.{greatest_of}
 use Rattle.litrs_base.specs.Refusal.{Refusal, refusal_text}
 use Rattle.litrs_grammar.specs.Bool.{bool_text}
+use Rattle.litrs_grammar.specs.CharByte.{char_value}
 use Rattle.litrs_grammar.specs.Integer.{integer_value}
 use Rattle.litrs_grammar.specs.Literal.{Derivation, a_bool, an_integer, a_float, a_char, a_byte, a_string, a_byte_string, a_c_string}
 use Rattle.litrs.specs.Parsed.{IsParsed, IsParsedRefusal}
@@ -30,7 +31,16 @@ abbrev pub float_report : (integer fraction exponent suffix : List ℕ) → List
 float_report integer fraction exponent suffix =
     codes "float int=" ++ (integer ++ (codes " frac=" ++ (fraction ++ (codes " exp=" ++ (exponent ++ (codes " suffix=" ++ suffix))))))
 
+-- a number in hex, in lower case and with no leading zeros
+abbrev pub hex_text : ℕ → List ℕ
+hex_text n = digits 16 false n
+
+-- a char or a byte, by its value and the bytes of its suffix
+abbrev pub char_report : (name : List ℕ) → ℕ → (suffix : List ℕ) → List ℕ
+char_report name value suffix = name ++ (codes " value=" ++ (hex_text value ++ (codes " suffix=" ++ suffix)))
+
 -- `bool true`; `integer base=16 digits=ff80 suffix= value=65408`; `float int=3 frac=14 exp= suffix=f33`;
+-- `char value=1f98a suffix=`; `byte value=ff suffix=`;
 -- nothing of the kinds that are not read yet
 abbrev pub literal_report : Derivation → List ℕ
 literal_report (a_bool b) = codes "bool " ++ bool_text b
@@ -38,8 +48,8 @@ literal_report (an_integer d) =
     integer_front (base_value d.base) (encode_utf8_all d.main) (encode_utf8_all d.suffix) ++ value_text (integer_value d)
 literal_report (a_float d) =
     float_report (encode_utf8_all d.integer) (fraction_field d.fraction) (encode_utf8_all d.exponent) (encode_utf8_all d.suffix)
-literal_report (a_char d) = []
-literal_report (a_byte d) = []
+literal_report (a_char d) = char_report (codes "char") (char_value d.item) (encode_utf8_all d.suffix)
+literal_report (a_byte d) = char_report (codes "byte") (char_value d.item) (encode_utf8_all d.suffix)
 literal_report (a_string d) = []
 literal_report (a_byte_string d) = []
 literal_report (a_c_string d) = []

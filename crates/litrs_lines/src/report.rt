@@ -3,13 +3,14 @@ ghost use Rattle.std.specs.Prelude.{◌≡◌, ◌+◌, ◌<◌, ◌++◌, OnOk,
 ghost use Rattle.std.specs.Str.{chars};
 ghost use Rattle.litrs.specs.LiteralDerivation.{derivation};
 ghost use Rattle.litrs_grammar.specs.Integer.{integer_value};
+ghost use Rattle.litrs.specs.CharLiteral.{char_parts, byte_parts};
 ghost use Rattle.litrs.specs.FloatLiteral.{float_parts};
 ghost use Rattle.litrs.specs.IntegerLiteral.{integer_parts};
-ghost use Rattle.litrs_grammar.specs.Literal.{an_integer, a_float};
-ghost use Rattle.litrs_lines.specs.Report.{value_text, integer_front, fraction_field, float_report, literal_report};
+ghost use Rattle.litrs_grammar.specs.Literal.{an_integer, a_float, a_char, a_byte};
+ghost use Rattle.litrs_lines.specs.Report.{value_text, integer_front, fraction_field, float_report, char_report, literal_report};
 ghost use Rattle.litrs_lines.specs.Reported.{text_report, report_of};
 
-use litrs::{Buffer, FloatLit, IntegerLit, Literal};
+use litrs::{Buffer, ByteLit, CharLit, FloatLit, IntegerLit, Literal};
 use std::alloc::{AllocError, Global};
 use std::str;
 
@@ -50,6 +51,8 @@ fn push_literal_report<B: Buffer>(out: &mut String, lit: &Literal<B>) -> Result<
         Literal::Bool(lit) => write!(out, "bool {lit}"),
         Literal::Integer(lit) => push_integer_report(out, lit),
         Literal::Float(lit) => push_float_report(out, lit),
+        Literal::Char(lit) => push_char_report(out, lit),
+        Literal::Byte(lit) => push_byte_report(out, lit),
     }
 }
 
@@ -123,4 +126,25 @@ fn push_float_parts(
         out,
         "float int={integer} frac={fraction} exp={exponent} suffix={suffix}"
     )
+}
+
+/// Adds the report on a char.
+fn push_char_report<B: Buffer>(out: &mut String, lit: &CharLit<B>) -> Result<(), AllocError>
+    ensures { OnOk result (string_bytes out.new ≡ string_bytes out.old ++ literal_report (a_char (char_parts lit.now))) }
+{
+    push_char_parts(out, "char", u32::from(lit.value()), lit.suffix())
+}
+
+/// Adds the report on a byte.
+fn push_byte_report<B: Buffer>(out: &mut String, lit: &ByteLit<B>) -> Result<(), AllocError>
+    ensures { OnOk result (string_bytes out.new ≡ string_bytes out.old ++ literal_report (a_byte (byte_parts lit.now))) }
+{
+    push_char_parts(out, "byte", u32::from(lit.value()), lit.suffix())
+}
+
+/// Adds the report on a char or a byte with this value and suffix.
+fn push_char_parts(out: &mut String, name: &str, value: u32, suffix: &str) -> Result<(), AllocError>
+    ensures { OnOk result (string_bytes out.new ≡ string_bytes out.old ++ char_report name.now value suffix.now) }
+{
+    write!(out, "{name} value={value:x} suffix={suffix}")
 }

@@ -16,6 +16,8 @@ held_is_parsed : {B : Type 0} (t : List ℕ) (lit : Literal B) → IsLiteral t (
 held_is_parsed t (literal.Bool b) r = (r, refl)
 held_is_parsed t (literal.Integer lit) r = (r, refl)
 held_is_parsed t (literal.Float lit) r = (r, refl)
+held_is_parsed t (literal.Char lit) r = (r, refl)
+held_is_parsed t (literal.Byte lit) r = (r, refl)
 
 pub returns-in-Ok : goal.returns-in-Ok
 returns-in-Ok g c =
