@@ -71,6 +71,40 @@ fn check_float<B: Text>(rt: &impl Abort, lit: &FloatLit<B>, expected: &Float) {
     assert_eq!(rt; lit.suffix(), suffix, "in {text}");
 }
 
+/// Checks a float, and what copies of it are.
+fn check_copies<B: Text>(
+    rt: &impl Abort,
+    alloc: Global,
+    lit: FloatLit<B>,
+    expected: &Float,
+) -> Result<(), AllocError> {
+    check_float(rt, &lit, expected);
+    let copy = lit.clone(alloc)?;
+    assert!(rt; copy == lit);
+    check_float(rt, &copy, expected);
+    assert_eq!(rt; copy.to_string(alloc)?.as_str(), expected.0);
+    let raw = copy.into_raw_input();
+    assert_eq!(rt; raw.as_str(), expected.0);
+    Ok(())
+}
+
+/// Checks a literal that is a float, and what copies of it are.
+fn check_literal<B: Text>(
+    rt: &impl Abort,
+    alloc: Global,
+    literal: &Literal<B>,
+    expected: &Float,
+) -> Result<(), AllocError> {
+    match literal {
+        Literal::Float(lit) => check_float(rt, lit, expected),
+        _ => assert!(rt; false, "{} is a float", expected.0),
+    }
+    assert_eq!(rt; literal.raw_input(), expected.0);
+    assert_eq!(rt; literal.suffix(), expected.5);
+    assert!(rt; literal.clone(alloc)? == *literal);
+    Ok(())
+}
+
 /// Parses a text as a float and as a literal, and checks both, and what copies of them are.
 fn check_parsed<B: Text>(
     rt: &impl Abort,
@@ -80,26 +114,11 @@ fn check_parsed<B: Text>(
     expected: &Float,
 ) -> Result<(), AllocError> {
     match FloatLit::parse(text) {
-        Ok(lit) => {
-            check_float(rt, &lit, expected);
-            let copy = lit.clone(alloc)?;
-            assert!(rt; copy == lit);
-            check_float(rt, &copy, expected);
-            assert_eq!(rt; copy.to_string(alloc)?.as_str(), expected.0);
-            let raw = copy.into_raw_input();
-            assert_eq!(rt; raw.as_str(), expected.0);
-        }
+        Ok(lit) => check_copies(rt, alloc, lit, expected)?,
         Err(e) => assert!(rt; false, "{} is a float, but {e}", expected.0),
     }
     match Literal::parse(alloc, again) {
-        Ok(Literal::Float(lit)) => {
-            check_float(rt, &lit, expected);
-            let literal = Literal::from(lit);
-            assert_eq!(rt; literal.raw_input(), expected.0);
-            assert_eq!(rt; literal.suffix(), expected.5);
-            assert!(rt; literal.clone(alloc)? == literal);
-        }
-        Ok(_) => assert!(rt; false, "{} is a float", expected.0),
+        Ok(literal) => check_literal(rt, alloc, &literal, expected)?,
         Err(e) => assert!(rt; false, "{} is a literal, but {e}", expected.0),
     }
     Ok(())
