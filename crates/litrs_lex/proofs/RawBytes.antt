@@ -29,7 +29,8 @@ use Rattle.litrs_grammar.proofs.RawLaws.{raw_body_rows, raw_rows, refusal_of_clo
 use Rattle.litrs_grammar.proofs.RawScans.{raw_scans_go_on, raw_refusals_go_on}
 use Rattle.litrs_grammar.proofs.RawSpans.{raw_refusal_within}
 use Rattle.litrs_lex.specs.RawCut.{raw_parts_at, IsRawCut, IsRawRefused, raw_special, IsPassed, IsStop, IsBodyCut}
-use Rattle.litrs_lex.proofs.CharRuns.{AlikeFrom128, IsCharRun, char_run}
+use Rattle.litrs_lex.proofs.PlainRuns.{AlikeFrom128}
+use Rattle.litrs_lex.proofs.CharRuns.{IsCharRun, char_run}
 use Rattle.litrs_lex.proofs.FloatBytes.{chars_behind, utf8_behind}
 use Rattle.litrs_lex.proofs.SuffixBytes.{is_suffix-nil}
 
