@@ -15,20 +15,20 @@ use std::ops::Range;
 #[cfg(test)]
 mod tests;
 
-/// Cuts the rest of a raw literal, from behind its `r` on, which ends at `offset`: into hashes, body and
-/// suffix. It answers the number of hashes, at most 255, and where the suffix begins, in bytes of the
-/// whole text. The offset is a character boundary within the text.
+/// Cuts the rest of a raw literal, from behind its `r` on, into hashes, body and suffix.
 ///
-/// `unicode` allows characters beyond ASCII in the body, and `allow_nul` NUL. Of `r##"a"#b"##c` from 1 on
-/// the answer is `(2, 11)`. See [the reference][ref].
+/// The `r` ends at `offset`, a character boundary within the text. The answer is the number of
+/// hashes, at most 255, and where the suffix begins, in bytes of the whole text: `(2, 11)` for
+/// `r##"a"#b"##c` from 1 on. `unicode` allows characters beyond ASCII in the body, and `allow_nul`
+/// NUL. See [the reference][ref].
 ///
 /// # Errors
 ///
 /// `InvalidLiteral` where the hashes end the text, or something else than `"` is behind them;
-/// `TooManyHashes` where something is behind more than 255, over the hashes; at the first character that
-/// may not stand in the body `CarriageReturn`, `NulByte` or `NonAsciiInByteLiteral`;
-/// `UnterminatedRawString` where there is no closing; the refusal of [`check_suffix`] where what follows
-/// the closing is no suffix, at its first byte. All spans count from the start of the text.
+/// `TooManyHashes` where something is behind more than 255, over the hashes; `CarriageReturn`,
+/// `NulByte` or `NonAsciiInByteLiteral` at the first character that may not stand in the body;
+/// `UnterminatedRawString` where there is no closing; the refusal of [`check_suffix`] where what
+/// follows the closing is no suffix, at its first byte. All spans count from the start of the text.
 ///
 /// [ref]: https://doc.rust-lang.org/reference/tokens.html#raw-string-literals
 pub fn scan_raw_string(
@@ -57,7 +57,8 @@ fn cut_raw(
     requires { IsCharBoundary input.now offset }
     ensures ok { IfOk result (IsRawCut unicode allow_nul offset input.now) }
     ensures refused { IfErr result (λ r.
-        raw_refusal unicode allow_nul offset (chars (drop offset input.now)) ≡ Some (refusal r.0 r.1)) }
+        raw_refusal unicode allow_nul offset (chars (drop offset input.now))
+        ≡ Some (refusal r.0 r.1)) }
 {
     let bytes = input.as_bytes();
     let hashes = hash_len(&bytes[offset..]);
@@ -75,8 +76,8 @@ fn cut_raw(
     Ok((hashes as u8, place))
 }
 
-/// Where the suffix begins behind a body from `start` on and its closing with so many hashes; or why
-/// they end no raw literal, and where.
+/// Where the suffix begins behind a body from `start` on and its closing with so many hashes; or
+/// why they end no raw literal, and where.
 fn cut_body(
     input: &str,
     start: usize,
@@ -87,7 +88,8 @@ fn cut_body(
     requires { IsCharBoundary input.now start }
     ensures ok { IfOk result (IsBodyCut unicode allow_nul hashes start input.now) }
     ensures refused { IfErr result (λ r.
-        raw_body_refusal unicode allow_nul hashes start (chars (drop start input.now)) ≡ Some (refusal r.0 r.1)) }
+        raw_body_refusal unicode allow_nul hashes start (chars (drop start input.now))
+        ≡ Some (refusal r.0 r.1)) }
 {
     let bytes = input.as_bytes();
     let end = body_end(bytes, start, hashes, unicode, allow_nul);
@@ -106,8 +108,8 @@ fn cut_body(
     }
 }
 
-/// The first place from `start` on where the body is closed, or where a byte stands that may not stand in
-/// it; else the end of the text.
+/// The first place from `start` on where the body is closed, or where a byte stands that may not
+/// stand in it; else the end of the text.
 fn body_end(bytes: &[u8], start: usize, hashes: usize, unicode: bool, allow_nul: bool) -> usize
     requires { (start ≤ length bytes.now) × IsUtf8 (drop start bytes.now) }
     ensures stop { IsStop unicode allow_nul hashes start bytes.now result }
@@ -128,7 +130,8 @@ fn body_end(bytes: &[u8], start: usize, hashes: usize, unicode: bool, allow_nul:
 
 /// Whether `"` stands first, with fewer hashes behind it.
 fn is_inner_quote(bytes: &[u8], hashes: usize) -> bool
-    ensures { result ≡ (first_passes is_quote bytes.now && not (begins_with (raw_closing hashes) bytes.now)) }
+    ensures { result
+        ≡ (first_passes is_quote bytes.now && not (begins_with (raw_closing hashes) bytes.now)) }
 {
     match bytes {
         [b'"', behind @ ..] => !begins_with_hashes(behind, hashes),
