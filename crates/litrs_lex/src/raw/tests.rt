@@ -1,5 +1,6 @@
 //! Raw strings behind fronts of all lengths.
 use super::scan_raw_string;
+use crate::ParseError;
 use crate::ParseErrorKind::{self, *};
 use std::alloc::{AllocError, Global};
 use std::ops::Range;
@@ -62,10 +63,24 @@ const REFUSED: [Refused; 13] = [
     ("r\"a\"🦊", 1, true, true, InvalidSuffix, Some(4..5)),
 ];
 
+/// Scans from the offset, which is a character boundary.
+fn scan(
+    rt: &impl Abort,
+    text: &str,
+    offset: usize,
+    unicode: bool,
+    allow_nul: bool,
+) -> Result<(u8, usize), ParseError> {
+    if !text.is_char_boundary(offset) {
+        panic!(rt; "{offset} is no boundary");
+    }
+    scan_raw_string(text, offset, unicode, allow_nul)
+}
+
 #[test]
 fn raw_strings(rt: HostRuntime) {
     for (text, offset, unicode, allow_nul, hashes, suffix) in RAW {
-        match scan_raw_string(text, offset, unicode, allow_nul) {
+        match scan(&rt, text, offset, unicode, allow_nul) {
             Ok(cut) => assert_eq!(rt; cut, (hashes, suffix), "at {text}"),
             Err(e) => assert!(rt; false, "{text} is a raw string, but {e}"),
         }
@@ -81,7 +96,7 @@ fn check_refused(
     kind: ParseErrorKind,
     span: Option<Range<usize>>,
 ) {
-    match scan_raw_string(text, offset, allowed.0, allowed.1) {
+    match scan(rt, text, offset, allowed.0, allowed.1) {
         Ok(_) => assert!(rt; false, "{text} is no raw string"),
         Err(e) => {
             assert_eq!(rt; e.kind(), kind, "at {text}");
@@ -114,7 +129,7 @@ fn with_hashes(alloc: Global, before: usize, after: usize) -> Result<String, All
 fn many_hashes(rt: HostRuntime) -> Result<(), Fail> {
     let alloc = rt.alloc();
     let most = with_hashes(alloc, 255, 255)?;
-    match scan_raw_string(most.as_str(), 2, false, true) {
+    match scan(&rt, most.as_str(), 2, false, true) {
         Ok(cut) => assert_eq!(rt; cut, (255, 519)),
         Err(e) => assert!(rt; false, "255 hashes are allowed, but {e}"),
     }
