@@ -20,9 +20,9 @@ mod tests;
 
 /// A floating-point number as it is written in Rust: `3.14`, `9.`, `27e-3`, `147.3_33__E3f64`.
 ///
-/// It is made of the integer part, a fraction behind a period, an exponent, and a suffix. The period
-/// with the fraction or the exponent may be missing, but not both; the suffix may be empty. It has no
-/// sign. See [the reference][ref].
+/// It is made of the integer part, a fraction behind a period, an exponent, and a suffix. The
+/// period with the fraction or the exponent may be missing, but not both; the suffix may be empty.
+/// It has no sign. See [the reference][ref].
 ///
 /// [ref]: https://doc.rust-lang.org/reference/tokens.html#floating-point-literals
 pub struct FloatLit<B: Text> {
@@ -108,8 +108,8 @@ impl<B: Text> FloatLit<B> {
         &self.raw.as_str()[self.cut.end_number..]
     }
 
-    /// The text that was parsed. It is a float, with the parts that the accessors answer: its number
-    /// part, and behind it its suffix.
+    /// The text that was parsed. It is a float, with the parts that the accessors answer: its
+    /// number part, and behind it its suffix.
     pub fn raw_input(&self) -> &str
         ensures raw { result.now ≡ self.now.raw }
         ensures literal { IsFloatOf (chars result.now) (float_parts self.now) }

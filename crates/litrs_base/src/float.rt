@@ -16,9 +16,11 @@ pub enum FloatType {
 impl FloatType {
     ghost use Rattle.litrs_base.specs.FloatTypes.{float_type_name, NamesNoFloatType};
 
-    /// The type with this name, as `F32` for `f32`. None where the text names no floating-point type.
+    /// The type with this name, as `F32` for `f32`. None where the text names no floating-point
+    /// type.
     pub fn from_suffix(suffix: &str) -> Option<FloatType>
-        ensures { MatchOption result (NamesNoFloatType suffix.now) (λ t. float_type_name t ≡ suffix.now) }
+        ensures { MatchOption result (NamesNoFloatType suffix.now)
+            (λ t. float_type_name t ≡ suffix.now) }
     {
         match suffix {
             "f32" => Some(FloatType::F32),
@@ -44,7 +46,8 @@ impl FromStr for FloatType {
     ghost use Rattle.litrs_base.specs.FloatTypes.{float_type_name, NamesNoFloatType};
     ghost use Rattle.std.specs.Prelude.{MatchResult};
 
-    ghost from_str_gives = { λ s r. MatchResult r (λ t. float_type_name t ≡ s) (λ _. NamesNoFloatType s) };
+    ghost from_str_gives = { λ s r.
+        MatchResult r (λ t. float_type_name t ≡ s) (λ _. NamesNoFloatType s) };
 
     fn from_str(s: &str) -> Result<FloatType, ()> {
         FloatType::from_suffix(s).ok_or(())

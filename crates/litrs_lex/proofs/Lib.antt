@@ -9,3 +9,5 @@ pub mod QuotedBytes
 pub mod QuotedCuts
 pub mod QuotedValues
 pub mod CharByteBytes
+pub mod CharRuns
+pub mod RawBytes

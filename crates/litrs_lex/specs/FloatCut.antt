@@ -20,12 +20,14 @@ float_parts_at cut bytes = record {
   suffix = chars (drop cut.end_number bytes);
 }
 
--- the places stand in order within the text, on character boundaries, as does the one behind the period
+-- the places stand in order within the text, on character boundaries, as does the one behind the
+-- period
 pub record IsFloatWithin (cut : FloatCut) (bytes : List ℕ) : Type 0 where
   pub integer_first : cut.end_integer ≤ cut.end_fraction
   pub fraction_next : cut.end_fraction ≤ cut.end_number
   pub integer : IsCharBoundary bytes cut.end_integer
-  pub behind_period : cut.end_integer < cut.end_fraction → IsCharBoundary bytes (cut.end_integer + 1)
+  pub behind_period : cut.end_integer < cut.end_fraction →
+      IsCharBoundary bytes (cut.end_integer + 1)
   pub fraction : IsCharBoundary bytes cut.end_fraction
   pub number : IsCharBoundary bytes cut.end_number
 
@@ -34,9 +36,12 @@ pub record IsFloatAt (cut : FloatCut) (bytes : List ℕ) : Type 0 where
   pub places : IsFloatWithin cut bytes
   pub float : IsFloatOf (chars bytes) (float_parts_at cut bytes)
 
--- cut behind the integer part, the period with the fraction, and the exponent, each as far as it goes
+-- cut behind the integer part, the period with the fraction, and the exponent, each as far as it
+-- goes
 pub record IsPartsCut (cut : FloatCut) (bytes : List ℕ) : Type 0 where
   pub integer : cut.end_integer ≡ prefix_len is_decimal_char bytes
-  pub fraction : cut.end_fraction ≡ cut.end_integer + length (fraction_text (fraction_of (drop cut.end_integer bytes)))
-  pub exponent : cut.end_number ≡ cut.end_fraction + length (exponent_of (drop cut.end_fraction bytes))
+  pub fraction : cut.end_fraction
+      ≡ cut.end_integer + length (fraction_text (fraction_of (drop cut.end_integer bytes)))
+  pub exponent : cut.end_number
+      ≡ cut.end_fraction + length (exponent_of (drop cut.end_fraction bytes))
   pub within : cut.end_number ≤ length bytes

@@ -5,3 +5,4 @@ pub mod Unescaped
 pub mod QuotedCut
 pub mod QuotedItems
 pub mod CharCut
+pub mod RawCut

@@ -33,8 +33,8 @@ pub struct FloatCut {
 ///
 /// # Errors
 ///
-/// `UnexpectedChar` where something else than a decimal digit follows the period, at its first byte;
-/// `NoExponentDigits` where the exponent has no digit, over the exponent; the refusal of
+/// `UnexpectedChar` where something else than a decimal digit follows the period, at its first
+/// byte; `NoExponentDigits` where the exponent has no digit, over the exponent; the refusal of
 /// [`check_suffix`] where what follows is no suffix, from there to the end; `UnexpectedIntegerLit`
 /// where there is neither a period nor an exponent.
 ///

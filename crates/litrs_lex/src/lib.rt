@@ -13,6 +13,7 @@ pub use litrs_base::{
 pub use litrs_search::{Special, next_special};
 pub use parse::{check_suffix, end_dec_digits, first_byte_or_empty, hex_digit_value};
 pub use quoted::{QuotedCut, cut_quoted};
+pub use raw::scan_raw_string;
 pub use string::unescape_string;
 
 pub mod char;
@@ -22,4 +23,5 @@ pub mod float;
 pub mod integer;
 mod parse;
 pub mod quoted;
+pub mod raw;
 pub mod string;
