@@ -47,6 +47,7 @@ impl<B: Text> ByteLit<B> {
     ///
     /// `Empty`, `InvalidByteLiteralStart`, or as [`cut_byte`] refuses the text: `b''` is
     /// `EmptyByteLiteral`, and a character beyond ASCII is `NonAsciiInByteLiteral` at its first byte.
+    #[inline(always)]
     pub fn parse(input: B) -> Result<ByteLit<B>, ParseError>
         ensures buffer { IfOk result (λ lit. lit.buffer ≡ input) }
         ensures raw { IfOk result (λ lit. lit.raw ≡ B.bytes input) }

@@ -46,6 +46,7 @@ impl<B: Text> CharLit<B> {
     ///
     /// `Empty`, `DoesNotStartWithQuote` at the first byte, or as [`cut_char`] refuses the text: `''`
     /// is `EmptyCharLiteral`, and `'\x80'` is `NonAsciiXEscape` at 1..5.
+    #[inline(always)]
     pub fn parse(input: B) -> Result<CharLit<B>, ParseError>
         ensures buffer { IfOk result (λ lit. lit.buffer ≡ input) }
         ensures raw { IfOk result (λ lit. lit.raw ≡ B.bytes input) }

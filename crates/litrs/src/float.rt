@@ -49,6 +49,7 @@ impl<B: Text> FloatLit<B> {
     ///
     /// `Empty`, `DoesNotStartWithDigit` at the first byte, or as [`cut_float`] refuses the text:
     /// `1.e4` is `UnexpectedChar` at 2..3, and `27` is `UnexpectedIntegerLit`.
+    #[inline(always)]
     pub fn parse(input: B) -> Result<FloatLit<B>, ParseError>
         ensures buffer { IfOk result (λ lit. lit.buffer ≡ input) }
         ensures raw { IfOk result (λ lit. lit.raw ≡ B.bytes input) }
@@ -168,6 +169,7 @@ impl FloatLit<&str> {
 }
 
 /// Where the text is cut, if it is a float.
+#[inline(never)]
 fn cut(input: &str) -> Result<FloatCut, ParseError>
     ensures ok { IfOk result (λ cut.
         IsOnlyDerivation (IsFloatOf (chars input.now)) (float_parts_at cut input.now)) }

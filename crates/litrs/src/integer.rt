@@ -56,6 +56,7 @@ impl<B: Text> IntegerLit<B> {
     ///
     /// `Empty`, `DoesNotStartWithDigit` at the first byte, or as [`cut_integer`] refuses the text:
     /// `0b12` is `InvalidDigit` at 3..4.
+    #[inline(always)]
     pub fn parse(input: B) -> Result<IntegerLit<B>, ParseError>
         ensures buffer { IfOk result (λ lit. lit.buffer ≡ input) }
         ensures raw { IfOk result (λ lit. lit.raw ≡ B.bytes input) }
@@ -156,6 +157,7 @@ impl IntegerLit<&str> {
 }
 
 /// Where the text is cut, if it is an integer.
+#[inline(never)]
 fn cut(input: &str) -> Result<IntegerCut, ParseError>
     ensures ok { IfOk result (λ cut.
         IsOnlyDerivation (IsIntegerOf (chars input.now)) (parts_at cut input.now)) }

@@ -67,6 +67,7 @@ impl<B: Text> Literal<B> {
     ///
     /// `Empty`; the refusal of the kind that the text begins like, as `UnexpectedChar` at 1..2 for `0 `;
     /// else `InvalidLiteral`, also of a text that begins like a kind that is not read, as `"a"`.
+    #[inline(always)]
     pub fn parse(_alloc: Global, input: B) -> Result<Literal<B>, ParseError>
         ensures raw { IfOk result (λ lit. literal_raw lit ≡ B.bytes input) }
         ensures ok { IfOk result (λ lit.

@@ -1,6 +1,6 @@
 //! The dispatch over the kinds.
-ghost use Rattle.std.specs.Prelude.{◌≡◌, false, IsFalse};
-ghost use Rattle.litrs_base.specs.Text.{is_empty};
+ghost use Rattle.std.specs.Prelude.{◌≡◌, ◌==◌, ◌||◌, false, IsFalse, IsTrue};
+ghost use Rattle.litrs_base.specs.Text.{is_empty, first_passes};
 ghost use Rattle.litrs_grammar.specs.Bool.{is_bool};
 ghost use Rattle.litrs_grammar.specs.LiteralRefusals.{begins_float, dispatch};
 ghost use Rattle.litrs.specs.Dispatched.{row_of, HoldsOf};
@@ -27,20 +27,36 @@ pub(crate) enum Dispatched {
 
 /// What kind of literal a text is parsed as.
 #[tactic(auto, unfolding(litrs_grammar::specs::LiteralRefusals::dispatch))]
+#[inline(always)]
 pub(crate) fn dispatch(input: &str) -> Dispatched
     ensures row { row_of result ≡ dispatch input.now }
     ensures holds { HoldsOf result input.now }
 {
+    match input.as_bytes() {
+        [] => Dispatched::Refused(ParseError::new(None, ParseErrorKind::Empty)),
+        [b't' | b'f', ..] => by_word(input),
+        bytes => by_front(bytes),
+    }
+}
+
+/// The same for a text that begins with the first letter of a bool.
+#[tactic(auto, unfolding(litrs_grammar::specs::LiteralRefusals::dispatch))]
+#[inline(always)]
+fn by_word(input: &str) -> Dispatched
+    requires { IsTrue (first_passes (λ c. (c == 116) || (c == 102)) input.now) }
+    ensures row { row_of result ≡ dispatch input.now }
+    ensures holds { HoldsOf result input.now }
+{
     match input {
-        "" => Dispatched::Refused(ParseError::new(None, ParseErrorKind::Empty)),
         "true" => Dispatched::Bool(BoolLit::True),
         "false" => Dispatched::Bool(BoolLit::False),
-        _ => by_front(input.as_bytes()),
+        _ => Dispatched::Refused(ParseError::new(None, ParseErrorKind::InvalidLiteral)),
     }
 }
 
 /// The same for a text that is no bool, by its first bytes.
 #[tactic(auto, unfolding(litrs_grammar::specs::LiteralRefusals::dispatch))]
+#[inline(always)]
 fn by_front(bytes: &[u8]) -> Dispatched
     requires some { IsFalse (is_empty bytes.now) }
     requires no_bool { IsFalse (is_bool bytes.now) }

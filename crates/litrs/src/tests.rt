@@ -98,8 +98,8 @@ const NO_INTEGERS: [Refusal; 5] = [
 ];
 
 /// Texts that begin like no literal, or like one of a kind that is not read yet.
-const NO_LITERALS: [&str; 12] = [
-    "\"a\"", "'a'", "b'a'", "r", "b", "foo", ".5", "_3", "False", "fals", "a_123", " 0",
+const NO_LITERALS: [&str; 10] = [
+    "\"a\"", "r", "b", "foo", ".5", "_3", "False", "fals", "a_123", " 0",
 ];
 
 /// Checks a parsed integer, by each accessor.

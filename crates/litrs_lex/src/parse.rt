@@ -1,6 +1,6 @@
 //! Suffixes and digits.
-ghost use Rattle.std.specs.Prelude.{◌≡◌, ◌≤◌, length, [], ◌∷◌, is_ok, IsTrue, IfErr, IfSome, IfNone, MatchResult, slice_get};
-ghost use Rattle.std.specs.Char.{digit_value, is_ascii_hexdigit};
+ghost use Rattle.std.specs.Prelude.{◌≡◌, ◌≤◌, length, [], ◌∷◌, ◌||◌, ◌==◌, is_ok, IsTrue, IfErr, IfSome, IfNone, MatchResult, slice_get};
+ghost use Rattle.std.specs.Char.{digit_value, is_ascii_hexdigit, is_ascii_alphanumeric};
 ghost use Rattle.std.specs.List.{list_all, prefix_len};
 ghost use Rattle.std.specs.Option.{SomeIff};
 ghost use Rattle.std.specs.Str.{chars, IsUtf8};
@@ -61,7 +61,26 @@ pub(crate) fn split_first_char(s: &str) -> Option<(char, &str)>
 }
 
 /// Whether each character may continue an identifier.
+#[tactic(auto, using(crate::proofs::SuffixBytes::ascii_continues))]
 fn continues_identifier(rest: &str) -> bool
+    ensures { result ≡ list_all is_xid_continue (chars rest.now) }
+{
+    if continues_in_ascii(rest.as_bytes()) {
+        true
+    } else {
+        continues_in_unicode(rest)
+    }
+}
+
+/// Whether each byte is an ASCII letter, a digit or `_`.
+fn continues_in_ascii(rest: &[u8]) -> bool
+    ensures { result ≡ list_all (λ b. is_ascii_alphanumeric b || (b == 95)) rest.now }
+{
+    rest.iter().all(|b| b.is_ascii_alphanumeric() || *b == b'_')
+}
+
+/// The same of any characters.
+fn continues_in_unicode(rest: &str) -> bool
     ensures { result ≡ list_all is_xid_continue (chars rest.now) }
 {
     rest.chars().all(|c| unicode_ident::is_xid_continue(c))
@@ -113,7 +132,20 @@ fn suffix_refusal(s: &str) -> ParseErrorKind
 /// as `1x`; else `InvalidSuffix`, as `_`.
 ///
 /// [ref]: https://doc.rust-lang.org/reference/tokens.html#suffixes
+#[inline(always)]
 pub fn check_suffix(s: &str) -> Result<(), ParseErrorKind>
+    ensures ok { is_ok result ≡ is_suffix (chars s.now) }
+    ensures err { IfErr result (λ kind. kind ≡ suffix_refusal (chars s.now)) }
+{
+    match s {
+        "" => Ok(()),
+        _ => check_some_suffix(s),
+    }
+}
+
+/// [`check_suffix`] in one piece.
+#[inline(never)]
+fn check_some_suffix(s: &str) -> Result<(), ParseErrorKind>
     ensures ok { is_ok result ≡ is_suffix (chars s.now) }
     ensures err { IfErr result (λ kind. kind ≡ suffix_refusal (chars s.now)) }
 {
