@@ -39,7 +39,7 @@ impl BoolLit {
         }
     }
 
-    /// What it stands for.
+    /// What it stands for: `true` of `BoolLit::True`.
     pub fn value(self) -> bool
         ensures { result ≡ bool_value self }
     {
@@ -49,7 +49,7 @@ impl BoolLit {
         }
     }
 
-    /// Its text.
+    /// Its text: `"true"` of `BoolLit::True`.
     pub fn as_str(&self) -> &'static str
         ensures { result.now ≡ bool_text (bool_value self.now) }
     {

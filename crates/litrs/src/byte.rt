@@ -39,7 +39,7 @@ impl<B: Text> Model for ByteLit<B> {
 }
 
 impl<B: Text> ByteLit<B> {
-    /// Derives a text that is one byte. It takes no memory.
+    /// Reads a text that is one byte. It does not allocate.
     ///
     /// `b'\xff'u8` has the value 255 and the suffix `u8`.
     ///
@@ -87,7 +87,7 @@ impl<B: Text> ByteLit<B> {
         self.raw.as_str()
     }
 
-    /// The same literal again. Over `&str` it takes no memory and succeeds.
+    /// The same literal again. Over `&str` it does not allocate, and succeeds.
     ///
     /// # Errors
     ///
@@ -105,7 +105,8 @@ impl<B: Text> ByteLit<B> {
         })
     }
 
-    /// The text that was parsed, in its buffer.
+    /// The text that was parsed, in its buffer: of a literal over `String` the `String` with
+    /// `b'a'`.
     pub fn into_raw_input(self) -> B
         ensures buffer { result ≡ self.buffer }
         ensures text { B.bytes result ≡ self.raw }

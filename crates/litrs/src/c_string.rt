@@ -40,7 +40,7 @@ impl CString {
         Ok(CString { bytes })
     }
 
-    /// The bytes without the closing zero. None of them is zero.
+    /// The bytes without the closing zero: `b"ab"` of `c"ab"`. None of them is zero.
     pub fn to_bytes(&self) -> &[u8]
         ensures bytes { result.now ≡ self.now }
         ensures no_nul { IsFalse (has_nul result.now) }
@@ -48,7 +48,7 @@ impl CString {
         &self.bytes[..self.bytes.len() - 1]
     }
 
-    /// The bytes with the closing zero.
+    /// The bytes with the closing zero: `b"ab\0"` of `c"ab"`.
     pub fn as_bytes_with_nul(&self) -> &[u8]
         ensures { result.now ≡ self.now ++ nul ∷ [] }
     {

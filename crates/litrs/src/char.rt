@@ -38,7 +38,7 @@ impl<B: Text> Model for CharLit<B> {
 }
 
 impl<B: Text> CharLit<B> {
-    /// Derives a text that is one char. It takes no memory.
+    /// Reads a text that is one char. It does not allocate.
     ///
     /// `'\n'u8` has the value LF and the suffix `u8`.
     ///
@@ -86,7 +86,7 @@ impl<B: Text> CharLit<B> {
         self.raw.as_str()
     }
 
-    /// The same literal again. Over `&str` it takes no memory and succeeds.
+    /// The same literal again. Over `&str` it does not allocate, and succeeds.
     ///
     /// # Errors
     ///
@@ -104,7 +104,8 @@ impl<B: Text> CharLit<B> {
         })
     }
 
-    /// The text that was parsed, in its buffer.
+    /// The text that was parsed, in its buffer: of a literal over `String` the `String` with
+    /// `'a'`.
     pub fn into_raw_input(self) -> B
         ensures buffer { result ≡ self.buffer }
         ensures text { B.bytes result ≡ self.raw }

@@ -41,7 +41,7 @@ impl<B: Text> Model for FloatLit<B> {
 }
 
 impl<B: Text> FloatLit<B> {
-    /// Derives a text that is one float. It takes no memory.
+    /// Reads a text that is one float. It does not allocate.
     ///
     /// `3.14f33` has the integer part `3`, the fraction `14`, no exponent and the suffix `f33`.
     ///
@@ -120,7 +120,7 @@ impl<B: Text> FloatLit<B> {
         self.raw.as_str()
     }
 
-    /// The same literal again. Over `&str` it takes no memory and succeeds.
+    /// The same literal again. Over `&str` it does not allocate, and succeeds.
     ///
     /// # Errors
     ///
@@ -134,7 +134,8 @@ impl<B: Text> FloatLit<B> {
         Ok(FloatLit { raw, cut: self.cut })
     }
 
-    /// The text that was parsed, in its buffer.
+    /// The text that was parsed, in its buffer: of a literal over `String` the `String` with
+    /// `3.14f32`.
     pub fn into_raw_input(self) -> B
         ensures buffer { result ≡ self.buffer }
         ensures text { B.bytes result ≡ self.raw }

@@ -27,9 +27,9 @@ use std::marker::Model;
 
 /// A number as it is written in Rust: `1_000`, `0xFF_u8`, `0b1111_1111`.
 ///
-/// It is made of a prefix that tells the base (`0b`, `0o`, `0x`, or none for ten), the main part, which
-/// is digits and underscores, and a suffix, which may be empty. It has no sign. See [the
-/// reference][ref].
+/// It is made of a prefix that decides the base (`0b`, `0o`, `0x`, or none for ten), the main part, which
+/// is digits and underscores, and a suffix, which may be empty. It has no sign: in Rust a `-` is
+/// an operator. See [the reference][ref].
 ///
 /// [ref]: https://doc.rust-lang.org/reference/tokens.html#integer-literals
 pub struct IntegerLit<B: Text> {
@@ -48,7 +48,7 @@ impl<B: Text> Model for IntegerLit<B> {
 }
 
 impl<B: Text> IntegerLit<B> {
-    /// Reads a text that is one integer. It takes no memory.
+    /// Reads a text that is one integer. It does not allocate.
     ///
     /// `0xFF_u8` has the base 16, the main part `FF_` and the suffix `u8`.
     ///
@@ -71,7 +71,7 @@ impl<B: Text> IntegerLit<B> {
 
     /// The number that the digits of the main part stand for in their base, whatever the suffix.
     ///
-    /// None exactly where it is greater than the greatest number of `N`. It takes no memory.
+    /// None if and only if it is greater than the greatest number of `N`. It does not allocate.
     /// `0b1111_1111` is `Some(255)` as a `u8` and None as an `i8`; `128i8` is `Some(128)` as a `u8`.
     pub fn value<N: FromIntegerLiteral>(&self) -> Option<N>
         ensures { let number = integer_value (integer_parts self.now) in SomeIff result (number ≤ N.greatest) (N.of number) }
@@ -79,28 +79,31 @@ impl<B: Text> IntegerLit<B> {
         value_of(self.cut.base, self.raw_main_part().as_bytes())
     }
 
-    /// The base that the prefix tells.
+    /// The base that the prefix decides: `Hexadecimal` of `0xFF_u8`.
     pub fn base(&self) -> IntegerBase
         ensures { result ≡ (integer_parts self.now).base }
     {
         self.cut.base
     }
 
-    /// The main part: the digits and underscores, without the prefix: `FF_` of `0xFF_u8`.
+    /// The main part: the digits and underscores, without the prefix: `FF_` of `0xFF_u8`. By itself it
+    /// does not say in which base it is; see [`base`](IntegerLit::base).
     pub fn raw_main_part(&self) -> &str
         ensures { chars result.now ≡ (integer_parts self.now).main }
     {
         &self.raw.as_str()[self.cut.start_main..self.cut.end_main]
     }
 
-    /// The suffix, empty where there is none: `u8` of `0xFF_u8`.
+    /// The suffix, empty where there is none: `u8` of `0xFF_u8`. Which type it names, if any, answers
+    /// `IntegerType::from_suffix(lit.suffix())`.
     pub fn suffix(&self) -> &str
         ensures { chars result.now ≡ (integer_parts self.now).suffix }
     {
         &self.raw.as_str()[self.cut.end_main..]
     }
 
-    /// The text that was parsed. It is an integer, with the parts that the accessors answer.
+    /// The text that was parsed, as `0xFF_u8`. It is an integer, with the parts that the
+    /// accessors answer.
     pub fn raw_input(&self) -> &str
         ensures raw { result.now ≡ self.now.raw }
         ensures literal { IsIntegerOf (chars result.now) (integer_parts self.now) }
@@ -108,7 +111,7 @@ impl<B: Text> IntegerLit<B> {
         self.raw.as_str()
     }
 
-    /// The same literal again. Over `&str` it takes no memory and succeeds.
+    /// The same literal again. Over `&str` it does not allocate, and succeeds.
     ///
     /// # Errors
     ///
@@ -122,7 +125,8 @@ impl<B: Text> IntegerLit<B> {
         Ok(IntegerLit { raw, cut: self.cut })
     }
 
-    /// The text that was parsed, in its buffer.
+    /// The text that was parsed, in its buffer: of a literal over `String` the `String` with
+    /// `0xFF_u8`.
     pub fn into_raw_input(self) -> B
         ensures buffer { result ≡ self.buffer }
         ensures text { B.bytes result ≡ self.raw }

@@ -116,7 +116,7 @@ impl<B: Text> Literal<B> {
 }
 
 impl<B: Text> Literal<B> {
-    /// The same literal again. Over `&str` it takes no memory and succeeds.
+    /// The same literal again. Over `&str` it does not allocate, and succeeds.
     ///
     /// # Errors
     ///

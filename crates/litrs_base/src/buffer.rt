@@ -32,7 +32,7 @@ pub trait Text: sealed::Sealed + Drop {
     fn as_str(&self) -> &str
         ensures { result.now ≡ bytes self.now };
 
-    /// The same text again. For a `&str` it takes no memory and succeeds.
+    /// The same text again. For a `&str` it does not allocate, and succeeds.
     ///
     /// # Errors
     ///
@@ -41,7 +41,7 @@ pub trait Text: sealed::Sealed + Drop {
         ensures ok { IfOk result (λ copy. bytes copy ≡ bytes self.now) }
         ensures succeeds { owns ≡ false → IsOk result };
 
-    /// The part of the text from `range.start` to `range.end`, in bytes. It takes no memory.
+    /// The part of the text from `range.start` to `range.end`, in bytes. It does not allocate.
     ///
     /// Both are boundaries of characters within the text. Of `"ab"` the range `1..3` cuts `ab`.
     fn cut(self, range: Range<usize>) -> Self
@@ -74,12 +74,12 @@ pub trait Buffer: Text {
     /// A value that is bytes: `CowSlice<u8>` for `&str`, `Vec<u8>` for `String`.
     type ByteCow: Drop;
 
-    /// The text as a value, owned exactly where the buffer owns it. It takes no memory.
+    /// The text as a value, owned if and only if the buffer owns it. It does not allocate.
     fn into_cow(self) -> Self::Cow
         ensures text { cow_bytes result ≡ Self.bytes self }
         ensures owned { cow_owned result ↔ IsTrue Self.owns };
 
-    /// The bytes of the text as a value, owned exactly where the buffer owns it. It takes no memory.
+    /// The bytes of the text as a value, owned if and only if the buffer owns it. It does not allocate.
     fn into_byte_cow(self) -> Self::ByteCow
         ensures bytes { byte_cow_items result ≡ Self.bytes self }
         ensures owned { byte_cow_owned result ↔ IsTrue Self.owns };

@@ -21,7 +21,8 @@ impl ParseError {
     ghost use Rattle.litrs_base.specs.Refusal.{refusal, refusal_of, kind_of, span_of, char_span_of, HasCharSpan, moved, moved_span, MovesWithin};
     ghost use Rattle.litrs_base.specs.Finality.{is_final, is_open};
 
-    /// A refusal of this kind. The span counts bytes of the text, and is its own character span.
+    /// A refusal of this kind. The span counts bytes of the text, and is its own character span: of
+    /// `new(Some(3..4), InvalidDigit)` both spans are 3..4.
     pub fn new(span: Option<Range<usize>>, kind: ParseErrorKind) -> ParseError
         ensures refusal { refusal_of result ≡ refusal span kind }
         ensures char_span { char_span_of result ≡ span }
@@ -38,7 +39,7 @@ impl ParseError {
     }
 
     /// A refusal of this text. The span, whose start is at most its end, counts bytes of it; the end
-    /// may lie inside a character.
+    /// may lie inside a character. Of `in_text("é", Some(0..1), kind)` the character span is 0..2.
     pub fn in_text(text: &str, span: Option<Range<usize>>, kind: ParseErrorKind) -> ParseError
         requires { IfSome span (λ range. range.start ≤ range.end) }
         ensures refusal { refusal_of result ≡ refusal span kind }
@@ -80,7 +81,7 @@ impl ParseError {
         }
     }
 
-    /// What is wrong.
+    /// What is wrong: `InvalidDigit` of `0b12`.
     pub fn kind(&self) -> ParseErrorKind
         ensures { result ≡ kind_of self.now }
     {
@@ -131,7 +132,7 @@ impl ParseError {
         }
     }
 
-    /// The same refusal again. It does not allocate.
+    /// The same refusal again: of `0b12` the kind and both spans. It does not allocate.
     pub fn clone(&self) -> ParseError
         ensures { result ≡ self.now }
     {
@@ -258,7 +259,7 @@ pub enum ParseErrorKind {
     UnexpectedIntegerLit,
     /// The suffix of an integer begins with `e` or `E`.
     IntegerSuffixStartingWithE,
-    /// A growth was refused. It says nothing of the text.
+    /// An allocation failed. It says nothing of the text.
     OutOfMemory,
 }
 

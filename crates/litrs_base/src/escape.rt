@@ -12,7 +12,7 @@ pub enum Unescape {
 }
 
 impl Unescape {
-    /// The character: of a byte, which is ASCII, the one with this code.
+    /// The character: of a byte, which is ASCII, the one with this code, as `'A'` of `Byte(0x41)`.
     pub fn unwrap_char(self) -> char
         requires { IsTrue (is_unescaped_char self) }
         ensures { result ≡ unescaped_number self }
@@ -23,7 +23,7 @@ impl Unescape {
         }
     }
 
-    /// The byte, which it is.
+    /// The byte, which it is: 255 of `Byte(255)`.
     pub fn unwrap_byte(self) -> u8
         requires { IsTrue (is_unescaped_byte self) }
         ensures { result ≡ unescaped_number self }

@@ -35,7 +35,7 @@ impl IntegerBase {
         }
     }
 
-    /// How many digits the base has: 2, 8, 10 or 16.
+    /// How many digits the base has: 2, 8, 10 or 16; 16 of `Hexadecimal`.
     pub fn value(self) -> u8
         ensures { result ≡ base_value self }
     {

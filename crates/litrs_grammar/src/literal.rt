@@ -27,7 +27,7 @@ pub fn refusal_spans_lie_in_text()
     ensures { RefusalSpansLieInText }
 {}
 
-/// No text is refused for want of memory.
+/// No refusal of a text is `OutOfMemory`.
 pub fn no_refusal_is_of_memory()
     ensures { NoRefusalIsOfMemory }
 {}

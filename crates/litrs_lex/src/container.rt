@@ -22,7 +22,7 @@ pub trait EscapeContainer: Drop {
     /// Whether it takes bytes above 7F: false for `String`, true for `Vec<u8>`.
     const TAKES_BYTES: bool;
 
-    /// An empty one. It keeps the allocator and takes no memory.
+    /// An empty one. It keeps the allocator and does not allocate.
     fn new(alloc: Global) -> Self
         ensures { contents result ≡ [] };
 
