@@ -19,8 +19,8 @@ use Rattle.litrs_grammar.specs.Refused.{IsRefused}
 use Rattle.litrs_grammar.proofs.LiteralLaws.{dispatch_literal, literals_are_unique, literals_are_not_refused, refusals_are_unique, texts_are_decided}
 use Rattle.litrs_grammar.proofs.RefusalKinds.{no_refusal_is_of_memory}
 use Rattle.litrs_grammar.proofs.LiteralSpans.{no_literal_ends_with_line_feed}
-use Rattle.litrs_grammar.proofs.DispatchContinuation.{unnamed_front, unnamed_line_end}
-use Rattle.litrs_grammar.proofs.LiteralContinuation.{chain, own_kind, unnamed_not_final, unnamed_not_open}
+use Rattle.litrs_grammar.proofs.LongerTexts.Dispatch.{unnamed_front, unnamed_line_end}
+use Rattle.litrs_grammar.proofs.LongerTexts.Literal.{chain, own_kind, unnamed_not_final, unnamed_not_open}
 use Rattle.litrs.specs.declared.bool.BoolLit.{BoolLit}
 use Rattle.litrs.specs.declared.parse.Dispatched.{Dispatched}
 use Rattle.litrs.specs.declared.parse.Dispatched.TheVariants as dispatched

@@ -10,7 +10,7 @@ use Rattle.litrs_grammar.specs.LiteralRefusals.{IsRefusal}
 use Rattle.litrs_grammar.specs.Refused.{IsRefused}
 use Rattle.litrs_grammar.proofs.LiteralLaws.{literals_are_not_refused, refusals_are_unique}
 use Rattle.litrs_grammar.proofs.LiteralSpans.{refusal_spans_lie_in_text}
-use Rattle.litrs_grammar.proofs.LiteralContinuation.{final_refusals_stay, open_refusals_close, line_ends_are_decided}
+use Rattle.litrs_grammar.proofs.LongerTexts.Literal.{final_refusals_stay, open_refusals_close, line_ends_are_decided}
 
 pub is_refused : (parse : Parse) (t : List ℕ) (e : ParseError) → IsRefusal parse t (refusal_of e) → HasCharSpan t e → IsRefused parse t e
 is_refused parse t e table ends = record {

@@ -1,39 +1,44 @@
+-- the grammar: one file a topic, and below each rule how a text that breaks it is refused
 pub mod Suffix
 pub mod Escape
 pub mod StringKind
 pub mod Quoted
+pub mod Raw
 pub mod CharByte
 pub mod Integer
 pub mod Float
-pub mod Raw
 pub mod Bool
-pub mod Continuation
+-- all kinds together, and the nine parses
 pub mod Literal
 pub mod LiteralRefusals
+pub mod Allocation
+-- what a refusal means
+pub mod Continuation
 pub mod Closing
 pub mod Refused
+-- which refused texts some longer text completes, kind by kind
 pub mod EscapeGoesOn
 pub mod QuotedGoesOn
-pub mod BoolGoesOn
+pub mod RawGoesOn
 pub mod StringGoesOn
-pub mod UnnamedGoesOn
-pub mod LiteralText
+pub mod CharByteGoesOn
 pub mod IntegerGoesOn
 pub mod FloatGoesOn
-pub mod RawGoesOn
-pub mod CharByteGoesOn
+pub mod BoolGoesOn
+pub mod UnnamedGoesOn
+pub mod LiteralText
 pub mod GoesOn
-pub mod Allocation
+-- what the laws say
 pub mod EscapeLaws
 pub mod QuotedLaws
-pub mod CharByteLaws
-pub mod FloatLaws
 pub mod RawLaws
 pub mod RawScanLaws
+pub mod CharByteLaws
+pub mod FloatLaws
+pub mod NumberLaws
 pub mod LiteralLaws
-pub mod ContinuationLaws
 pub mod ValueLaws
 pub mod AllocationLaws
-pub mod NumberLaws
+pub mod ContinuationLaws
 pub mod TextLaws
 pub mod NameLaws

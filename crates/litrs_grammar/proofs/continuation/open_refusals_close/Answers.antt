@@ -1,4 +1,4 @@
-use Rattle.litrs_grammar.proofs.LiteralContinuation.{open_refusals_close}
+use Rattle.litrs_grammar.proofs.LongerTexts.Literal.{open_refusals_close}
 use Rattle.litrs_grammar.proofs.continuation.open_refusals_close.Goals as goal
 
 pub returns : goal.returns

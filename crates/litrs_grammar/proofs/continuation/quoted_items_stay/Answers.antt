@@ -1,4 +1,4 @@
-use Rattle.litrs_grammar.proofs.QuotedContinuation.{quoted_items_stay}
+use Rattle.litrs_grammar.proofs.LongerTexts.Quoted.{quoted_items_stay}
 use Rattle.litrs_grammar.proofs.continuation.quoted_items_stay.Goals as goal
 
 pub returns : goal.returns

@@ -1,4 +1,4 @@
-use Rattle.litrs_grammar.proofs.RawContinuation.{raw_final}
+use Rattle.litrs_grammar.proofs.LongerTexts.Raw.{raw_final}
 use Rattle.litrs_grammar.proofs.raw.final_raw_refusals_stay.Goals as goal
 
 pub returns : goal.returns

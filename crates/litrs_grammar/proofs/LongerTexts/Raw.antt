@@ -19,8 +19,8 @@ use Rattle.litrs_grammar.specs.Raw.{is_quote, is_hash, hashes, raw_closing, occu
 use Rattle.litrs_grammar.specs.RawGoesOn.{raw_open_parts, IsClosedRaw, RawRestGoesOn, RawGoesOn}
 use Rattle.litrs_grammar.specs.Continuation.{BeginsBy, EndsBy}
 use Rattle.litrs_grammar.proofs.IntegerLaws.{prefix_len_front}
-use Rattle.litrs_grammar.proofs.EscapeContinuation.{never, keep}
-use Rattle.litrs_grammar.proofs.SuffixContinuation.{suffix_freed, suffix_final, is_suffix-nil, underscore_x}
+use Rattle.litrs_grammar.proofs.LongerTexts.Escape.{never, keep}
+use Rattle.litrs_grammar.proofs.LongerTexts.Suffix.{suffix_freed, suffix_final, is_suffix-nil, underscore_x}
 use Rattle.litrs_grammar.proofs.OpenRows.{shut_kind_if, shut_suffix}
 use Rattle.litrs_grammar.proofs.RawCuts.{hashes_pass, length-hashes, hash_len-append, behind_hashes, HashCut, hash_cut, closing_cut}
 use Rattle.litrs_grammar.proofs.RawLaws.{raw_body_rows, raw_rows, refusal_of_hashes, refusal_of_closed, refused, refusal_free, only_raw}

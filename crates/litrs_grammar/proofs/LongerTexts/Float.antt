@@ -19,7 +19,7 @@ use Rattle.litrs_base.specs.Finality.{is_final, is_open}
 use Rattle.litrs_grammar.specs.Continuation.{BeginsBy, EndsBy}
 use Rattle.litrs_grammar.specs.FloatGoesOn.{FloatGoesOn}
 use Rattle.litrs_base.specs.Derivations.{IsOnlyDerivation, HasNoDerivation}
-use Rattle.litrs_grammar.proofs.SuffixContinuation.{suffix_freed, is_suffix-nil}
+use Rattle.litrs_grammar.proofs.LongerTexts.Suffix.{suffix_freed, is_suffix-nil}
 use Rattle.litrs_grammar.proofs.FloatCuts.{IsCut, is_exponent_front, fraction_passes, sign_len-append, sign_len_le, letter_decimal, CutOf, cut_of, cut_of_text, same_cut, behind_decimals, fraction_stops, number_part-suffix}
 use Rattle.litrs_grammar.proofs.FloatLaws.{float_is_cut, starts_digit, fraction_row, only_float, empty-true, refused, float_rows, cut_rows, refusal_of_cut}
 use Rattle.litrs_grammar.proofs.FloatSpans.{is_number_char, number_line_feed, number_part_chars}

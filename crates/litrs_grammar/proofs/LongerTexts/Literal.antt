@@ -25,16 +25,16 @@ use Rattle.litrs_base.proofs.Runs.{last_passes, is_line_feed, line_feed_last}
 use Rattle.litrs_grammar.proofs.OpenRows.{is_open_row, shut_if, shut_number, shut_suffix}
 use Rattle.litrs_grammar.proofs.LiteralLaws.{string_literal_of, dispatch_literal, dispatch_refusal}
 use Rattle.litrs_grammar.proofs.RawKinds.{behind_front}
-use Rattle.litrs_grammar.proofs.SuffixContinuation.{front_of}
+use Rattle.litrs_grammar.proofs.LongerTexts.Suffix.{front_of}
 use Rattle.litrs_grammar.proofs.LineFeeds.{is_other, no_line_feed}
-use Rattle.litrs_grammar.proofs.BoolContinuation.{bool_begins, bool_line_end}
-use Rattle.litrs_grammar.proofs.IntegerContinuation.{integer_finality, integer_goes_on, integer_line_end}
-use Rattle.litrs_grammar.proofs.FloatContinuation.{float_begins, float_finality, float_not_open, float_line_end}
-use Rattle.litrs_grammar.proofs.CharByteContinuation.{char_begins, char_finality, char_not_open, char_line_end}
-use Rattle.litrs_grammar.proofs.QuotedContinuation.{quoted_finality, quoted_open, quoted_open_kind, quoted_begins, quoted_line_end}
-use Rattle.litrs_grammar.proofs.RawContinuation.{raw_finality, raw_begins, raw_open, raw_open_kind, raw_line_end}
-use Rattle.litrs_grammar.proofs.DispatchContinuation.{dispatch_stays, literal_begins, unnamed_begins, unnamed_line_end}
-use Rattle.litrs_grammar.proofs.StringContinuation.{behind_raw, quoted_string_ends, quoted_string_begins, raw_string_ends, raw_string_begins, start_begins, start_line_end, start_not_open, start_final, raw_other}
+use Rattle.litrs_grammar.proofs.LongerTexts.Bool.{bool_begins, bool_line_end}
+use Rattle.litrs_grammar.proofs.LongerTexts.Integer.{integer_finality, integer_goes_on, integer_line_end}
+use Rattle.litrs_grammar.proofs.LongerTexts.Float.{float_begins, float_finality, float_not_open, float_line_end}
+use Rattle.litrs_grammar.proofs.LongerTexts.CharByte.{char_begins, char_finality, char_not_open, char_line_end}
+use Rattle.litrs_grammar.proofs.LongerTexts.Quoted.{quoted_finality, quoted_open, quoted_open_kind, quoted_begins, quoted_line_end}
+use Rattle.litrs_grammar.proofs.LongerTexts.Raw.{raw_finality, raw_begins, raw_open, raw_open_kind, raw_line_end}
+use Rattle.litrs_grammar.proofs.LongerTexts.Dispatch.{dispatch_stays, literal_begins, unnamed_begins, unnamed_line_end}
+use Rattle.litrs_grammar.proofs.LongerTexts.String.{behind_raw, quoted_string_ends, quoted_string_begins, raw_string_ends, raw_string_begins, start_begins, start_line_end, start_not_open, start_final, raw_other}
 
 -- The parts of one kind
 

@@ -22,8 +22,8 @@ use Rattle.litrs_grammar.proofs.LineFeeds.{is_other, suffix_other, no_line_feed}
 use Rattle.litrs_grammar.proofs.IntegerLaws.{take_while_front, list_all-take_while, first_passes-rest, integer_rows-None, cut_with, integer_cut-is, cut-spells, derivable, integer_refusal-free, refusal_of_digit, starts_with_digit}
 use Rattle.litrs_grammar.specs.Continuation.{BeginsBy, EndsBy}
 use Rattle.litrs_grammar.specs.IntegerGoesOn.{IntegerGoesOn}
-use Rattle.litrs_grammar.proofs.EscapeContinuation.{never}
-use Rattle.litrs_grammar.proofs.SuffixContinuation.{is_suffix-nil, suffix_freed}
+use Rattle.litrs_grammar.proofs.LongerTexts.Escape.{never}
+use Rattle.litrs_grammar.proofs.LongerTexts.Suffix.{is_suffix-nil, suffix_freed}
 
 -- the cut of parts
 pub cut_parts : (base : IntegerBase) (m x : List ℕ) → list_all (is_digit_or_underscore base) m ≡ true → first_passes (is_digit_or_underscore base) x ≡ false →

@@ -18,8 +18,8 @@ use Rattle.litrs_grammar.specs.LiteralRefusals.{refused_start, quoted_start, raw
 use Rattle.litrs_grammar.specs.Continuation.{BeginsBy, EndsBy}
 use Rattle.litrs_grammar.specs.StringGoesOn.{start_goes_on}
 use Rattle.litrs_grammar.proofs.LiteralLaws.{string_start_says, start_quoted, start_raw, quoted_starts, raw_starts}
-use Rattle.litrs_grammar.proofs.SuffixContinuation.{is_suffix-nil, front_of}
-use Rattle.litrs_grammar.proofs.BoolContinuation.{rest_is_text}
+use Rattle.litrs_grammar.proofs.LongerTexts.Suffix.{is_suffix-nil, front_of}
+use Rattle.litrs_grammar.proofs.LongerTexts.Bool.{rest_is_text}
 use Rattle.litrs_grammar.proofs.LineFeeds.{is_other, no_line_feed}
 
 -- Quoted and raw starts

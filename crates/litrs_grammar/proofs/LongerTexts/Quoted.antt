@@ -14,7 +14,7 @@ use Rattle.litrs_grammar.specs.Escape.{Switches, escape_refusal, allows_value, h
 use Rattle.litrs_grammar.specs.Quoted.{Item, plain_item, escape_item, continuation, is_item, body_text, is_body, is_taken_before, stand_before, without_last, backslash_refusal, rest_refusal, IsQuoted, IsQuotedRefusal, takes_all_blanks, IsBodyOf}
 use Rattle.litrs_grammar.proofs.QuotedItems.{without_last-append, last_of, escape_head}
 use Rattle.std.proofs.lemmas.Bool.Decides.{nat_tests}
-use Rattle.litrs_grammar.proofs.EscapeContinuation.{never, keep, escape_final}
+use Rattle.litrs_grammar.proofs.LongerTexts.Escape.{never, keep, escape_final}
 use Rattle.litrs_base.specs.declared.err.ParseErrorKind.{ParseErrorKind}
 use Rattle.litrs_base.proofs.ListTests.{if_true, if_false}
 use Rattle.litrs_grammar.proofs.QuotedLaws.{quoted_bodies_join, quoted_texts_are_not_refused}
@@ -27,7 +27,7 @@ use Rattle.litrs_grammar.proofs.LineFeeds.{is_other, escape_other, no_line_feed_
 use Rattle.litrs_grammar.specs.ContinuationLaws.{QuotedItemsStay, FinalQuotedRefusalsStay}
 use Rattle.litrs_grammar.specs.QuotedGoesOn.{IsOpenRest, RestGoesOn, IsClosedQuoted, QuotedGoesOn}
 use Rattle.litrs_grammar.specs.EscapeGoesOn.{BeginsEscape}
-use Rattle.litrs_grammar.proofs.SuffixContinuation.{is_suffix-nil, underscore_x, front_of, suffix_final, suffix_freed}
+use Rattle.litrs_grammar.proofs.LongerTexts.Suffix.{is_suffix-nil, underscore_x, front_of, suffix_final, suffix_freed}
 
 -- what is taken before a text is taken before a longer one
 taken_more : (a : Item) (b : List ℕ) (c : ℕ) (r x : List ℕ) → is_taken_before (b ++ c ∷ r) a ≡ true → is_taken_before (b ++ c ∷ (r ++ x)) a ≡ true
