@@ -25,7 +25,7 @@ use Rattle.litrs.specs.declared.bool.BoolLit.{BoolLit}
 use Rattle.litrs.specs.declared.parse.Dispatched.{Dispatched}
 use Rattle.litrs.specs.declared.parse.Dispatched.TheVariants as dispatched
 use Rattle.litrs.specs.Dispatched.{row_of}
-use Rattle.litrs.proofs.Dispatch.{dispatch-chars}
+use Rattle.litrs_lex.proofs.Dispatch.{dispatch-chars}
 use Rattle.litrs.specs.Parsed.{is_parsed, IsParsed, IsRefusalWhere, IsParsedRefusalOf, IsParsedRefusal, IsParseRefused}
 
 -- a literal is the only derivation of its text

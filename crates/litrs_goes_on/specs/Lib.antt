@@ -1,0 +1,3 @@
+pub mod Begins
+pub mod LacksDigits
+pub mod LastUnderscore
