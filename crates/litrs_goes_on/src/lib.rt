@@ -1,18 +1,18 @@
 //! Which texts begin a literal: with some text behind them, which may be empty, they are one.
 #![tactic(auto)]
 
-ghost use Rattle.std.specs.Prelude.{◌≡◌, ◌↔◌, IsTrue};
+ghost use Rattle.std.specs.Prelude.{◌↔◌, IsTrue};
 ghost use Rattle.std.specs.Str.{chars};
 ghost use Rattle.litrs_grammar.specs.Literal.{literal_parse, Begins};
-ghost use Rattle.litrs_grammar.specs.LiteralRefusals.{begins_float};
 
 use char::{byte_goes_on, char_goes_on};
-use litrs_lex::end_dec_digits;
+use dispatch::{Row, dispatch};
 use number::{float_goes_on, integer_goes_on};
 use string::{byte_string_goes_on, c_string_goes_on, string_goes_on};
 use word::word_goes_on;
 
 mod char;
+mod dispatch;
 mod escape;
 mod number;
 mod quoted;
@@ -34,22 +34,15 @@ mod word;
 pub fn goes_on(text: &str) -> bool
     ensures { IsTrue result ↔ Begins literal_parse (chars text.now) }
 {
-    let bytes = text.as_bytes();
-    match bytes {
-        [b'0'..=b'9', ..] if begins_float(bytes) => float_goes_on(text),
-        [b'0'..=b'9', ..] => integer_goes_on(text),
-        [b'\'', ..] => char_goes_on(text),
-        [b'"' | b'r', ..] => string_goes_on(text),
-        [b'b', b'\'', ..] => byte_goes_on(text),
-        [b'b', b'"' | b'r', ..] => byte_string_goes_on(text),
-        [b'c', ..] => c_string_goes_on(text),
-        _ => word_goes_on(bytes),
+    match dispatch(text) {
+        Row::Empty | Row::Bool => true,
+        Row::Integer => integer_goes_on(text),
+        Row::Float => float_goes_on(text),
+        Row::Char => char_goes_on(text),
+        Row::Byte => byte_goes_on(text),
+        Row::String => string_goes_on(text),
+        Row::ByteString => byte_string_goes_on(text),
+        Row::CString => c_string_goes_on(text),
+        Row::Unnamed => word_goes_on(text.as_bytes()),
     }
-}
-
-/// Whether a period, `e` or `E` stands behind the leading run of decimal digits and underscores.
-fn begins_float(bytes: &[u8]) -> bool
-    ensures { result ≡ begins_float bytes.now }
-{
-    matches!(&bytes[end_dec_digits(bytes)..], [b'.' | b'e' | b'E', ..])
 }

@@ -10,6 +10,7 @@ ghost use Rattle.litrs_goes_on.specs.Begins.{IsClosed};
 
 use crate::escape::escape_goes_on;
 use crate::suffix::suffix_goes_on;
+use crate::word::begins_with;
 use litrs_lex::quoted::items_end;
 
 /// Whether a text whose body begins at `offset` begins a quoted literal. The place and the switches
@@ -35,11 +36,15 @@ fn rest_goes_on(rest: &str, unicode: bool, byte_escapes: bool, allow_nul: bool) 
     ensures { IsTrue result ↔ (IsClosed (chars rest.now)
         ⊎ RestGoesOn (switches unicode byte_escapes allow_nul) (chars rest.now)) }
 {
-    match rest.as_bytes() {
-        // No item is a continuation that ends the text.
-        [] | [b'\\', b'\n', ..] => true,
-        [b'\\', ..] => escape_goes_on(rest, unicode, byte_escapes, allow_nul),
-        [b'"', ..] => suffix_goes_on(&rest[1..]),
-        _ => false,
+    let mut chars = rest.chars();
+    match chars.next() {
+        None => true,
+        Some('"') => suffix_goes_on(chars.as_str()),
+        // A continuation where the items end goes up to the end of the text.
+        Some('\\') => {
+            begins_with(b"\n", chars.as_str().as_bytes())
+                || escape_goes_on(rest, unicode, byte_escapes, allow_nul)
+        }
+        Some(_) => false,
     }
 }

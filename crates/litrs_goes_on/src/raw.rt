@@ -1,5 +1,5 @@
 //! Raw strings, byte strings and C strings.
-ghost use Rattle.std.specs.Prelude.{◌≡◌, ◌≤◌, ◌↔◌, ◌&&◌, nat_le, length, drop, IsTrue};
+ghost use Rattle.std.specs.Prelude.{◌≡◌, ◌↔◌, ◌&&◌, nat_le, length, drop, IsTrue};
 ghost use Rattle.std.specs.List.{list_all};
 ghost use Rattle.std.specs.Str.{chars, IsCharBoundary};
 ghost use Rattle.litrs_base.specs.Refusal.{refusal_of, span_of, IsInText};
@@ -31,7 +31,14 @@ pub(crate) fn raw_goes_on(text: &str, offset: usize, unicode: bool, allow_nul: b
 fn are_opening_hashes(bytes: &[u8]) -> bool
     ensures { result ≡ (nat_le (length bytes.now) 255 && list_all is_hash bytes.now) }
 {
-    bytes.len() <= 255 && bytes.iter().all(|b| *b == b'#')
+    bytes.len() <= 255 && are_hashes(bytes)
+}
+
+/// Whether all are hashes.
+fn are_hashes(bytes: &[u8]) -> bool
+    ensures { result ≡ list_all is_hash bytes.now }
+{
+    bytes.iter().all(|b| *b == b'#')
 }
 
 /// Whether the refusal points at an underscore that ends the text: a suffix that lacks its letters.
@@ -40,7 +47,7 @@ fn points_at_last_underscore(refusal: &ParseError, text: &str) -> bool
     ensures { result ≡ points_at_last_underscore (span_of refusal.now) text.now }
 {
     match refusal.span() {
-        Some(span) => matches!(&text.as_bytes()[span.start..], [b'_']),
+        Some(span) => matches!(&text[span.start..], "_"),
         None => false,
     }
 }

@@ -224,12 +224,13 @@ const LONG: [(&str, &str, bool); 24] = [
     ("br\"", "é", false),
 ];
 
-/// Each call on a text of a mebibyte returns.
+/// Each call on a text of a mebibyte or more returns.
 #[test]
 fn long_texts(rt: HostRuntime) -> Result<(), Fail> {
     let alloc = rt.alloc();
     for (front, part, expected) in LONG {
-        let text = repeated(alloc, front, part, 1_048_576 / part.len())?;
+        let many = repeated(alloc, "", part, 1024)?;
+        let text = repeated(alloc, front, many.as_str(), 1024)?;
         assert_eq!(rt;
             goes_on(text.as_str()),
             expected,

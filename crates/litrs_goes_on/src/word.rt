@@ -13,7 +13,7 @@ pub(crate) fn word_goes_on(word: &[u8]) -> bool
 
 /// Whether the bytes begin with the front.
 #[tactic(auto, using(crate::proofs::Words::starts_with_front))]
-fn begins_with(front: &[u8], bytes: &[u8]) -> bool
+pub(crate) fn begins_with(front: &[u8], bytes: &[u8]) -> bool
     ensures { result ≡ begins_with front.now bytes.now }
 {
     bytes.starts_with(front)

@@ -18,7 +18,7 @@ use Rattle.litrs_lex.proofs.IntegerBytes.{digits_are_ascii, digit-chars}
 marks_are_ascii : OnlyAscii is_float_mark
 marks_are_ascii c high = grind (arith, nat_tests)
 
-begins_float-chars : (bs : List ℕ) → IsUtf8 bs → begins_float (chars bs) ≡ begins_float bs
+pub begins_float-chars : (bs : List ℕ) → IsUtf8 bs → begins_float (chars bs) ≡ begins_float bs
 begins_float-chars bs u =
     let p = is_digit_or_underscore Decimal in
     let front = passing_front p bs (digits_are_ascii Decimal) u in

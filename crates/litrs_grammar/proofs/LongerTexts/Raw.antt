@@ -235,16 +235,16 @@ raw_finality unicode allow_nul start t r h final more d = refused unicode allow_
 -- Which begin a raw literal.
 
 -- what goes on, by the cut at the hashes
-abbrev CutGoesOn : (unicode allow_nul : Bool) (n : ℕ) → List ℕ → Type 0
+abbrev pub CutGoesOn : (unicode allow_nul : Bool) (n : ℕ) → List ℕ → Type 0
 CutGoesOn unicode allow_nul n rest = (n ≤ 255) × RawRestGoesOn unicode allow_nul n rest
 
-from_cut : (unicode allow_nul : Bool) (n : ℕ) (rest : List ℕ) → first_passes is_hash rest ≡ false → CutGoesOn unicode allow_nul n rest → RawGoesOn unicode allow_nul (hashes n ++ rest)
+pub from_cut : (unicode allow_nul : Bool) (n : ℕ) (rest : List ℕ) → first_passes is_hash rest ≡ false → CutGoesOn unicode allow_nul n rest → RawGoesOn unicode allow_nul (hashes n ++ rest)
 from_cut unicode allow_nul n rest stops goes_on =
     let count : hash_len (hashes n ++ rest) ≡ n = hash_len-append n rest stops in
     let behind : drop (hash_len (hashes n ++ rest)) (hashes n ++ rest) ≡ rest = ap (λ k. drop k (hashes n ++ rest)) count ∙ behind_hashes n rest in
     subst (λ l. CutGoesOn unicode allow_nul (hash_len (hashes n ++ rest)) l) (sym behind) (subst (λ k. CutGoesOn unicode allow_nul k rest) (sym count) goes_on)
 
-to_cut : (unicode allow_nul : Bool) (n : ℕ) (rest : List ℕ) → first_passes is_hash rest ≡ false → RawGoesOn unicode allow_nul (hashes n ++ rest) → CutGoesOn unicode allow_nul n rest
+pub to_cut : (unicode allow_nul : Bool) (n : ℕ) (rest : List ℕ) → first_passes is_hash rest ≡ false → RawGoesOn unicode allow_nul (hashes n ++ rest) → CutGoesOn unicode allow_nul n rest
 to_cut unicode allow_nul n rest stops goes_on =
     let count : hash_len (hashes n ++ rest) ≡ n = hash_len-append n rest stops in
     let behind : drop (hash_len (hashes n ++ rest)) (hashes n ++ rest) ≡ rest = ap (λ k. drop k (hashes n ++ rest)) count ∙ behind_hashes n rest in
