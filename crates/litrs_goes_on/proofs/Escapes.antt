@@ -65,7 +65,7 @@ hex_is_ascii c high = grind (arith, nat_tests)
 hex_or_underscore_is_ascii : OnlyAscii is_hex_or_underscore
 hex_or_underscore_is_ascii c high = grind (arith, nat_tests)
 
-all-chars : (p : ℕ → Bool) (bs : List ℕ) → OnlyAscii p → IsUtf8 bs → list_all p (chars bs) ≡ list_all p bs
+pub all-chars : (p : ℕ → Bool) (bs : List ℕ) → OnlyAscii p → IsUtf8 bs → list_all p (chars bs) ≡ list_all p bs
 all-chars p [] only u = ap (list_all p) chars-nil
 all-chars p (b ∷ bs) only u = elim (cases_lt b 128) [
   | inl low ↦ ap (list_all p) (chars_ascii b bs low) ∙ ap (λ v. p b && v) (all-chars p bs only (utf8_behind_ascii b bs low u))

@@ -6,3 +6,5 @@ pub mod Numbers
 pub mod Chars
 pub mod Escapes
 pub mod QuotedEnds
+pub mod RawEnds
+pub mod StringEnds

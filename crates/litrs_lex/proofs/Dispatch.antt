@@ -29,7 +29,7 @@ is_empty-chars : (bs : List ℕ) → IsUtf8 bs → is_empty (chars bs) ≡ is_em
 is_empty-chars [] u = ap is_empty chars-nil
 is_empty-chars (b ∷ bs) u = chars_empty (b ∷ bs) u ∙ ne_eqb (suc (length bs)) 0 (λ h. omega arith)
 
-is_bool-chars : (bs : List ℕ) → IsUtf8 bs → is_bool (chars bs) ≡ is_bool bs
+pub is_bool-chars : (bs : List ℕ) → IsUtf8 bs → is_bool (chars bs) ≡ is_bool bs
 is_bool-chars bs u = rw (is_text-chars (codes "true") bs refl u, is_text-chars (codes "false") bs refl u) refl
 
 pub dispatch-chars : (bs : List ℕ) → IsUtf8 bs → dispatch (chars bs) ≡ dispatch bs

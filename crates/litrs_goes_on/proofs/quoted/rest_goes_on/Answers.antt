@@ -41,4 +41,4 @@ pub returns-in-Some : goal.returns-in-Some
 returns-in-Some c =
     other_rest (switches c.args.unicode c.args.byte_escapes c.args.allow_nul) (chars c.args.rest.now) (chars c.next.new.self.rest.now) c.in-Some.field-0
     (chars_past_char c.args.rest.now c.next.new.self.rest.now c.in-Some.field-0 c.utf8.rest (sym c.chars-chars.ensures.rest ∙ c.in-Some.ensures.steps.0))
-    c.in-Some.field-0-test.1 c.in-Some.field-0-test.2
+    c.in-Some.field-0-test.0.1 c.in-Some.field-0-test.1

@@ -1,28 +1,31 @@
-use Rattle.std.proofs.Common.{rules, ◌≡◌, ◌↔◌, ◌&&◌, nat_le, length, drop, IsTrue, ℕ, ◌+◌, ◌-◌, ◌*◌, ◌<◌, ◌≤◌, ◌/◌, ◌%◌, Bool, true, false, nat_eq, nat_lt, List, [], ◌∷◌, ◌++◌, slice_index_or, slice_set, bit_and, bit_or, Fits, w8, w32, w64, Bor, MutBor}
-use Rattle.std.specs.List.{list_all}
-use Rattle.std.specs.Str.{chars, IsCharBoundary}
-use Rattle.litrs_base.specs.Refusal.{refusal_of, span_of, IsInText}
-use Rattle.litrs_grammar.specs.Continuation.{BeginsBy}
-use Rattle.litrs_grammar.specs.Raw.{is_hash, IsRawOf}
-use Rattle.litrs_goes_on.specs.LastUnderscore.{points_at_last_underscore}
+-- By the kind of the refusal.
+use Rattle.std.proofs.Common.{drop, sym, ◌∙◌}
+use Rattle.std.specs.Str.{chars}
+use Rattle.std.proofs.lemmas.Str.{IsUtf8-drop}
+use Rattle.litrs_base.specs.Refusal.{refusal_of}
+use Rattle.litrs_grammar.specs.Raw.{IsRawOf}
+use Rattle.litrs_goes_on.proofs.Begins.{yes, begins_now}
+use Rattle.litrs_goes_on.proofs.RawEnds.{unclosed_decided, hashes_decided, suffix_decided, other_decided}
 use Rattle.litrs_goes_on.proofs.raw.raw_goes_on.Goals as goal
 
--- src/raw.rt:14:1
 pub returns-in-Ok : goal.returns-in-Ok
-returns-in-Ok c = ?
+returns-in-Ok c = yes (begins_now (IsRawOf c.args.unicode c.args.allow_nul) (chars (drop c.args.offset c.args.text.now)) _ c.in-Ok.ensures.ok.only.0)
 
--- src/raw.rt:14:1
 pub returns-in-UnterminatedRawString : goal.returns-in-UnterminatedRawString
-returns-in-UnterminatedRawString c = ?
+returns-in-UnterminatedRawString c =
+    unclosed_decided c.args.unicode c.args.allow_nul c.args.offset (chars (drop c.args.offset c.args.text.now)) (refusal_of c.in-Err.e) c.in-Err.ensures.refused.table (sym c.in-UnterminatedRawString.ensures)
 
--- src/raw.rt:14:1
 pub returns-in-InvalidLiteral : goal.returns-in-InvalidLiteral
-returns-in-InvalidLiteral c = ?
+returns-in-InvalidLiteral c =
+    hashes_decided c.args.unicode c.args.allow_nul c.args.offset c.args.text.now c.args.offset c.as_bytes.result.now (refusal_of c.in-Err.e) c.are_opening_hashes.result
+    (IsUtf8-drop c.args.text.now c.args.offset c.utf8.text c.requires) c.as_bytes.ensures.value c.in-Err.ensures.refused.table (sym c.in-InvalidLiteral.ensures) c.are_opening_hashes.ensures
 
--- src/raw.rt:14:1
 pub returns-in-InvalidSuffix : goal.returns-in-InvalidSuffix
-returns-in-InvalidSuffix c = ?
+returns-in-InvalidSuffix c =
+    suffix_decided c.args.unicode c.args.allow_nul c.args.text.now c.args.offset c.in-Err.e c.points_at_last_underscore.result
+    (IsUtf8-drop c.args.text.now c.args.offset c.utf8.text c.requires) c.in-Err.ensures.refused.table (sym c.in-InvalidSuffix.ensures) c.points_at_last_underscore.ensures
 
--- src/raw.rt:14:1
 pub returns-in_default : goal.returns-in_default
-returns-in_default c = ?
+returns-in_default c =
+    other_decided c.args.unicode c.args.allow_nul c.args.offset (chars (drop c.args.offset c.args.text.now)) (refusal_of c.in-Err.e) c.in-Err.ensures.refused.table
+    (λ is. c.in_default.not-InvalidLiteral (c.kind.ensures ∙ is)) (λ is. c.in_default.not-UnterminatedRawString (c.kind.ensures ∙ is)) (λ is. c.in_default.not-InvalidSuffix (c.kind.ensures ∙ is))

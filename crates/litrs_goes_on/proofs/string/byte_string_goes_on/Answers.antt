@@ -1,21 +1,30 @@
-use Rattle.std.proofs.Common.{rules, ◌↔◌, ◌||◌, codes, IsTrue, ◌≡◌, ℕ, ◌+◌, ◌-◌, ◌*◌, ◌<◌, ◌≤◌, length, ◌/◌, ◌%◌, Bool, true, false, nat_eq, nat_lt, List, [], ◌∷◌, ◌++◌, slice_index_or, slice_set, bit_and, bit_or, Fits, w8, w32, w64, Bor, MutBor}
+-- By the front.
+use Rattle.std.proofs.Common.{refl, sym, ap, ◌∙◌}
+use Rattle.std.specs.Prelude.{codes}
 use Rattle.std.specs.Str.{chars}
 use Rattle.litrs_base.specs.Text.{begins_with}
-use Rattle.litrs_grammar.specs.Literal.{kind_parse, string_literal, byte_string_literal, c_string_literal, Begins}
+use Rattle.litrs_grammar.specs.StringKind.{byte_string_kind}
+use Rattle.litrs_grammar.specs.Literal.{byte_string_literal}
+use Rattle.litrs_grammar.proofs.LongerTexts.Literal.{chain, back, begins_kind}
+use Rattle.litrs_goes_on.proofs.Fronts.{front_ends}
+use Rattle.litrs_goes_on.proofs.StringEnds.{or_else, quoted_string, raw_string}
 use Rattle.litrs_goes_on.proofs.string.byte_string_goes_on.Goals as goal
 
--- src/string.rt:29:9
 pub quoted_goes_on-requires : goal.quoted_goes_on-requires
-quoted_goes_on-requires c = ?
+quoted_goes_on-requires c = front_ends (codes "b\"") c.args.text.now refl c.utf8.text (ap (begins_with (codes "b\"")) (sym c.as_bytes.ensures.value) ∙ sym c.if-begins_with.ensures)
 
--- src/string.rt:31:9
 pub raw_goes_on-requires : goal.raw_goes_on-requires
-raw_goes_on-requires c = ?
+raw_goes_on-requires c =
+    front_ends (codes "br") c.args.text.now refl c.utf8.text
+    (or_else (begins_with (codes "b\"") c.args.text.now) _ c.requires (ap (begins_with (codes "b\"")) (sym c.as_bytes.ensures.value) ∙ sym c.if-begins_with.ensures))
 
--- src/string.rt:24:1
 pub returns-then-begins_with : goal.returns-then-begins_with
-returns-then-begins_with c = ?
+returns-then-begins_with c =
+    chain (quoted_string byte_string_kind c.args.text.now c.quoted_goes_on.result c.utf8.text (ap (begins_with (codes "b\"")) (sym c.as_bytes.ensures.value) ∙ sym c.if-begins_with.ensures) c.quoted_goes_on.ensures)
+    (back (begins_kind byte_string_literal (chars c.args.text.now)))
 
--- src/string.rt:24:1
 pub returns-else-begins_with : goal.returns-else-begins_with
-returns-else-begins_with c = ?
+returns-else-begins_with c =
+    chain (raw_string byte_string_kind c.args.text.now c.raw_goes_on.result c.utf8.text
+    (or_else (begins_with (codes "b\"") c.args.text.now) _ c.requires (ap (begins_with (codes "b\"")) (sym c.as_bytes.ensures.value) ∙ sym c.if-begins_with.ensures)) c.raw_goes_on.ensures)
+    (back (begins_kind byte_string_literal (chars c.args.text.now)))
