@@ -5,10 +5,10 @@ use Rattle.std.specs.List.{list_all, starts_with}
 use Rattle.std.specs.Str.{chars, IsUtf8}
 use Rattle.std.proofs.lemmas.Bool.{and_parts, and_left, cases_lt, ltb-true, ne_eqb, false≢true}
 use Rattle.std.proofs.lemmas.Str.{chars-nil}
-use Rattle.litrs_base.specs.Refusal.{Refusal}
+use Rattle.litrs_base.specs.declared.err.ParseErrorKind.TheVariants.{Empty}
+use Rattle.litrs_base.specs.Refusal.{Refusal, plain}
 use Rattle.litrs_base.specs.Text.{is_empty, begins_with}
 use Rattle.litrs_base.proofs.Chars.{chars_ascii, chars_wide, utf8_behind_ascii}
-use Rattle.litrs_grammar.specs.Bool.{bool_text, is_bool}
 use Rattle.litrs_grammar.specs.Literal.{a_bool, literal_parse, IsLiteralOf, Begins}
 use Rattle.litrs_grammar.specs.LiteralRefusals.{refused_as, dispatch}
 use Rattle.litrs_grammar.specs.UnnamedGoesOn.{unnamed_goes_on}
@@ -16,6 +16,9 @@ use Rattle.litrs_grammar.proofs.LiteralLaws.{some_bool}
 use Rattle.litrs_grammar.proofs.LongerTexts.Dispatch.{unnamed_begins}
 use Rattle.litrs_grammar.proofs.LongerTexts.Literal.{back}
 use Rattle.litrs_lex.proofs.Dispatch.{dispatch-chars, is_bool-chars}
+use Rattle.litrs_goes_on.specs.Row.{row_of, begins_as}
+use Rattle.litrs_goes_on.specs.declared.dispatch.Row.{Row}
+use Rattle.litrs_goes_on.specs.declared.dispatch.Row.TheVariants as row
 use Rattle.litrs_goes_on.proofs.Begins.{yes, answer_is, begins_now}
 
 pub starts_with_front : (front bytes : List ℕ) → starts_with nat_eq bytes front ≡ begins_with front bytes
@@ -47,13 +50,13 @@ pub word_decided : (bs seen : List ℕ) (e : Refusal) (b : Bool) → IsUtf8 bs �
 word_decided bs seen e b u row same is =
     answer_is b (unnamed_goes_on (chars bs)) (is ∙ ap unnamed_goes_on same ∙ sym (unnamed-chars bs u)) (back (unnamed_begins (chars bs) e (dispatch-chars bs u ∙ sym row)))
 
--- the empty text begins a literal
-pub nothing_decided : (bs : List ℕ) (e : Refusal) → IsUtf8 bs → refused_as e ≡ dispatch bs → is_empty bs ≡ true → IsTrue true ↔ Begins literal_parse (chars bs)
-nothing_decided [] e u row none = word_decided [] [] e true u row refl refl
-nothing_decided (b ∷ bs) e u row none = cc
-
--- and a bool is one
-pub bool_decided : (bs : List ℕ) → IsUtf8 bs → is_bool bs ≡ true → IsTrue true ↔ Begins literal_parse (chars bs)
-bool_decided bs u is =
-    let found = some_bool (chars bs) (is_bool-chars bs u ∙ is) in
+-- the empty text begins a literal, and a bool is one
+pub whole_decided : (r : Row) (bs : List ℕ) → IsUtf8 bs → (r ≡ row.Empty) ⊎ (r ≡ row.Bool) → row_of r ≡ dispatch bs → begins_as r bs ≡ true → IsTrue true ↔ Begins literal_parse (chars bs)
+whole_decided r bs u (inl empty) is begins = nothing bs u (ap row_of (sym empty) ∙ is) (ap (λ (k : Row). begins_as k bs) (sym empty) ∙ begins)
+  where
+    nothing : (bs : List ℕ) → IsUtf8 bs → refused_as (plain Empty) ≡ dispatch bs → is_empty bs ≡ true → IsTrue true ↔ Begins literal_parse (chars bs)
+    nothing [] u same none = word_decided [] [] (plain Empty) true u same refl refl
+    nothing (b ∷ bs) u same none = cc
+whole_decided r bs u (inr bool) is begins =
+    let found = some_bool (chars bs) (is_bool-chars bs u ∙ ap (λ (k : Row). begins_as k bs) (sym bool) ∙ begins) in
     yes (begins_now (IsLiteralOf literal_parse) (chars bs) (a_bool found.0) found.1)

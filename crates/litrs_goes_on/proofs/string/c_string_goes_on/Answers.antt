@@ -1,25 +1,36 @@
-use Rattle.std.proofs.Common.{rules, ◌↔◌, ◌||◌, codes, IsTrue, ◌≡◌, ℕ, ◌+◌, ◌-◌, ◌*◌, ◌<◌, ◌≤◌, length, ◌/◌, ◌%◌, Bool, true, false, nat_eq, nat_lt, List, [], ◌∷◌, ◌++◌, slice_index_or, slice_set, bit_and, bit_or, Fits, w8, w32, w64, Bor, MutBor}
+-- By the front.
+use Rattle.std.proofs.Common.{length, refl, sym, ap, ◌∙◌}
+use Rattle.std.specs.Prelude.{codes}
 use Rattle.std.specs.Str.{chars}
 use Rattle.litrs_base.specs.Text.{begins_with}
-use Rattle.litrs_grammar.specs.Literal.{kind_parse, string_literal, byte_string_literal, c_string_literal, Begins}
+use Rattle.litrs_grammar.specs.StringKind.{c_string_kind}
+use Rattle.litrs_grammar.specs.Literal.{c_string_literal}
+use Rattle.litrs_grammar.proofs.LongerTexts.Literal.{chain, back, begins_kind}
+use Rattle.litrs_goes_on.proofs.Fronts.{front_ends}
+use Rattle.litrs_goes_on.proofs.StringEnds.{quoted_string, raw_string, lone_string}
 use Rattle.litrs_goes_on.proofs.string.c_string_goes_on.Goals as goal
 
--- src/string.rt:42:9
 pub quoted_goes_on-requires : goal.quoted_goes_on-requires
-quoted_goes_on-requires c = ?
+quoted_goes_on-requires c = front_ends (codes "c\"") c.args.text.now refl c.utf8.text (ap (begins_with (codes "c\"")) (sym c.as_bytes-bytes.ensures.value) ∙ sym c.if-begins_with.ensures)
 
--- src/string.rt:44:9
 pub raw_goes_on-requires : goal.raw_goes_on-requires
-raw_goes_on-requires c = ?
+raw_goes_on-requires c = front_ends (codes "cr") c.args.text.now refl c.utf8.text (ap (begins_with (codes "cr")) (sym c.as_bytes-bytes.ensures.value) ∙ sym c.if-begins_with-2.ensures)
 
--- src/string.rt:36:1
 pub returns-then-begins_with : goal.returns-then-begins_with
-returns-then-begins_with c = ?
+returns-then-begins_with c =
+    chain (quoted_string c_string_kind c.args.text.now c.quoted_goes_on.result c.utf8.text (ap (begins_with (codes "c\"")) (sym c.as_bytes-bytes.ensures.value) ∙ sym c.if-begins_with.ensures)
+    c.quoted_goes_on.ensures)
+    (back (begins_kind c_string_literal (chars c.args.text.now)))
 
--- src/string.rt:36:1
 pub returns-then-begins_with-2 : goal.returns-then-begins_with-2
-returns-then-begins_with-2 c = ?
+returns-then-begins_with-2 c =
+    chain (raw_string c_string_kind c.args.text.now c.raw_goes_on.result c.utf8.text (ap (begins_with (codes "cr")) (sym c.as_bytes-bytes.ensures.value) ∙ sym c.if-begins_with-2.ensures)
+    c.raw_goes_on.ensures)
+    (back (begins_kind c_string_literal (chars c.args.text.now)))
 
--- src/string.rt:36:1
 pub returns-else-begins_with-2 : goal.returns-else-begins_with-2
-returns-else-begins_with-2 c = ?
+returns-else-begins_with-2 c =
+    chain (lone_string c.args.text.now (length c.args.text.now) c.utf8.text c.requires
+    (ap (begins_with (codes "c\"")) (sym c.as_bytes-bytes.ensures.value) ∙ sym c.if-begins_with.ensures)
+    (ap (begins_with (codes "cr")) (sym c.as_bytes-bytes.ensures.value) ∙ sym c.if-begins_with-2.ensures) refl)
+    (back (begins_kind c_string_literal (chars c.args.text.now)))
