@@ -20,6 +20,7 @@ pub use c_string::CString;
 pub use char::CharLit;
 pub use float::FloatLit;
 pub use integer::IntegerLit;
+pub use litrs_goes_on::goes_on;
 pub use litrs_lex::{
     Buffer, FloatType, FromIntegerLiteral, IntegerBase, IntegerType, ParseError, ParseErrorKind,
     Text,
@@ -35,6 +36,8 @@ mod char;
 #[cfg(test)]
 mod copy_tests;
 mod float;
+#[cfg(test)]
+mod goes_on_tests;
 mod integer;
 mod parse;
 #[cfg(test)]
