@@ -1,7 +1,8 @@
 -- The characters of a text at its ASCII front and at its first character.
-use Rattle.std.proofs.Common.{◌≡◌, ℕ, true, ltb, List, [], ◌∷◌, ◌++◌, length, drop, take, refl, sym, ap, ◌∙◌, arith}
+use Rattle.std.proofs.Common.{◌≡◌, ℕ, true, ltb, ◌&&◌, List, [], ◌∷◌, ◌++◌, length, drop, take, refl, sym, ap, ◌∙◌, arith}
 use Rattle.std.specs.Str.{chars, IsUtf8, IsCharBoundary}
-use Rattle.std.specs.List.{list_all}
+use Rattle.std.specs.Prelude.{◌==◌, nat_eq}
+use Rattle.std.specs.List.{list_all, starts_with}
 use Rattle.std.proofs.lemmas.List.{take_at}
 use Rattle.std.proofs.lemmas.Str.{chars-nil, chars-IsAscii, IsCharBoundary-from_drop}
 use Rattle.litrs_base.specs.Text.{begins_with}
@@ -33,3 +34,10 @@ front_taken front bs low e =
 pub nothing_chars : (bs : List ℕ) → length bs ≡ 0 → chars bs ≡ []
 nothing_chars [] e = chars-nil
 nothing_chars (b ∷ bs) e = absurd (omega arith)
+
+-- what the code tests is that the text begins with the front
+pub starts_with_front : (front bytes : List ℕ) → starts_with nat_eq bytes front ≡ begins_with front
+    bytes
+starts_with_front [] bytes = refl
+starts_with_front (c ∷ front) [] = refl
+starts_with_front (c ∷ front) (d ∷ bytes) = ap (λ v. (c == d) && v) (starts_with_front front bytes)

@@ -1,7 +1,7 @@
--- Which words begin with a front, and which begin a literal.
+-- Which words begin a literal.
 use Rattle.std.proofs.Common.{◌≡◌, ◌⊎◌, inl, inr, ◌<◌, ℕ, Bool, true, ltb, ◌&&◌, List, [], ◌∷◌, refl, sym, ap, ◌∙◌, arith}
-use Rattle.std.specs.Prelude.{◌↔◌, ◌==◌, nat_eq, codes, IsTrue}
-use Rattle.std.specs.List.{list_all, starts_with}
+use Rattle.std.specs.Prelude.{◌↔◌, ◌==◌, codes, IsTrue}
+use Rattle.std.specs.List.{list_all}
 use Rattle.std.specs.Str.{chars, IsUtf8}
 use Rattle.std.proofs.lemmas.Bool.{and_parts, and_left, cases_lt, ltb-true, ne_eqb}
 use Rattle.std.proofs.lemmas.Str.{chars-nil}
@@ -20,12 +20,6 @@ use Rattle.litrs_goes_on.specs.Row.{row_of, begins_as}
 use Rattle.litrs_goes_on.specs.declared.dispatch.Row.{Row}
 use Rattle.litrs_goes_on.specs.declared.dispatch.Row.TheVariants as row
 use Rattle.litrs_goes_on.proofs.Begins.{yes, answer_is, begins_now}
-
-pub starts_with_front : (front bytes : List ℕ) → starts_with nat_eq bytes front ≡ begins_with front
-    bytes
-starts_with_front [] bytes = refl
-starts_with_front (c ∷ front) [] = refl
-starts_with_front (c ∷ front) (d ∷ bytes) = ap (λ v. (c == d) && v) (starts_with_front front bytes)
 
 -- an ASCII word begins with the bytes if and only if it begins with the characters
 fronts-chars : (word bs : List ℕ) → list_all (λ c. ltb c 128) word ≡ true → IsUtf8 bs →

@@ -14,6 +14,7 @@ use word::word_goes_on;
 mod char;
 mod dispatch;
 mod escape;
+mod front;
 mod number;
 mod quoted;
 mod raw;
@@ -25,10 +26,10 @@ mod word;
 
 /// Whether the text, or the text with some text behind it, is a literal of any kind.
 ///
-/// It is true of the empty text, `fals`, `12`, `1e+_`, `'a`, `"a"` and `"\u{d800`, and false of
-/// `cat`, `0xg`, `1e+x`, `'ab`, `"a" ` and `"\u{00d800`. What reads a literal while it is typed
-/// knows by it when no more input makes the text one. It does not allocate. See
-/// [the reference][ref].
+/// It is true of the empty text, `fals`, `12`, `1e+_`, `'a`, `"a"_` and `"\u{d800`, and false of
+/// `cat`, `0xg`, `1e+x`, `'ab`, `"\q` and `"\u{00d800`. Where it is false no further input makes
+/// the text a literal: so it is after each final refusal, and after no open one. It does not
+/// allocate. See [the reference][ref].
 ///
 /// [ref]: https://doc.rust-lang.org/reference/tokens.html#literals
 pub fn goes_on(text: &str) -> bool

@@ -9,8 +9,8 @@ ghost use Rattle.litrs_lex.specs.Unescaped.{switches};
 ghost use Rattle.litrs_goes_on.specs.Begins.{IsClosed};
 
 use crate::escape::escape_goes_on;
+use crate::front::begins_with;
 use crate::suffix::suffix_goes_on;
-use crate::word::begins_with;
 use litrs_lex::quoted::items_end;
 
 /// Whether a text whose body begins at `offset` begins a quoted literal. The place and the switches

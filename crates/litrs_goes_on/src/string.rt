@@ -4,9 +4,9 @@ ghost use Rattle.std.specs.Str.{chars};
 ghost use Rattle.litrs_base.specs.Text.{begins_with};
 ghost use Rattle.litrs_grammar.specs.Literal.{kind_parse, string_literal, byte_string_literal, c_string_literal, Begins};
 
+use crate::front::begins_with;
 use crate::quoted::quoted_goes_on;
 use crate::raw::raw_goes_on;
-use crate::word::begins_with;
 
 /// Whether a text that begins with `"` or `r` begins a string.
 pub(crate) fn string_goes_on(text: &str) -> bool
