@@ -53,8 +53,8 @@ no_closing c s other (more, suffix, text, same, is) = other (let first : c ≡ 3
 pub no_character : (t : List ℕ) → t ≡ [] → IsTrue true ↔ BeginsClosing t
 no_character t none = yes (subst BeginsClosing (sym none) closing_nothing)
 
-pub quote_first : (t s : List ℕ) (c : ℕ) (b : Bool) → t ≡ c ∷ s → c ≡ 39 → IsTrue b
-    ↔ BeginsSuffix s → IsTrue b ↔ BeginsClosing t
+pub quote_first : (t s : List ℕ) (c : ℕ) (b : Bool) → t ≡ c ∷ s → c ≡ 39 →
+    IsTrue b ↔ BeginsSuffix s → IsTrue b ↔ BeginsClosing t
 quote_first t s c b same quote is =
     chain is (subst (λ (l : List ℕ). BeginsSuffix s ↔ BeginsClosing l)
     (sym (same ∙ ap (λ n. n ∷ s) quote)) (closing_quote s))
@@ -108,8 +108,9 @@ no_item kind c x none other (more, d, text, lit) =
   where
     by : (a : CharItem) → is_char_item kind a ≡ true →
         c ∷ (x ++ more) ≡ char_item_text a ++ 39 ∷ d.suffix → ⊥
-    by (plain_char e) is same = let at : c ≡ e =
-        cc in both_ways (is_char_item kind (plain_char c)) none
+    by (plain_char e) is same =
+        let at : c ≡ e = cc in
+        both_ways (is_char_item kind (plain_char c)) none
         (ap (λ n. is_char_item kind (plain_char n)) at ∙ is)
     by (escaped_char e) is same =
         let head = escape_head e (39 ∷ d.suffix) in
@@ -130,8 +131,8 @@ refused_item kind t r refused =
 
     from : BeginsBy (IsCharLiteral kind) (char_front kind ++ 92 ∷ t) →
         BeginsEscape (char_switches_of kind) (92 ∷ t)
-    from (more, d, text, lit) = by d.item lit.item
-        (tails_of kind (92 ∷ t) more d.item d.suffix lit.spells)
+    from (more, d, text, lit) =
+        by d.item lit.item (tails_of kind (92 ∷ t) more d.item d.suffix lit.spells)
       where
         by : (a : CharItem) → is_char_item kind a ≡ true →
             (92 ∷ t) ++ more ≡ char_item_text a ++ 39 ∷ d.suffix →
@@ -155,8 +156,8 @@ refused_item kind t r refused =
 abbrev BeginsBehind : CharKind → List ℕ → Type 0
 BeginsBehind kind t = BeginsBy (IsCharLiteral kind) (char_front kind ++ t)
 
-pub nothing_behind : (kind : CharKind) (t : List ℕ) → t ≡ [] → IsTrue true
-    ↔ BeginsBy (IsCharLiteral kind) (char_front kind ++ t)
+pub nothing_behind : (kind : CharKind) (t : List ℕ) → t ≡ [] →
+    IsTrue true ↔ BeginsBy (IsCharLiteral kind) (char_front kind ++ t)
 nothing_behind kind t none = yes (subst (BeginsBehind kind) (sym none) (front_begins kind))
 
 pub plain_behind : (kind : CharKind) (t s : List ℕ) (c : ℕ) (b : Bool) → t ≡ c ∷ s →
@@ -176,8 +177,8 @@ other_behind kind t s c same none other =
 
 pub escape_behind : (is_byte : Bool) (bs rest : List ℕ) (value : Unescape) (len : ℕ) (b : Bool) →
     IsUnescaped (switches (not is_byte) is_byte true) bs value len → rest ≡ drop len bs →
-    IsTrue b ↔ BeginsClosing (chars rest) → IsTrue b ↔ BeginsBy (IsCharLiteral (kind_if is_byte))
-    (char_front (kind_if is_byte) ++ chars bs)
+    IsTrue b ↔ BeginsClosing (chars rest) →
+    IsTrue b ↔ BeginsBy (IsCharLiteral (kind_if is_byte)) (char_front (kind_if is_byte) ++ chars bs)
 escape_behind is_byte bs rest value len b read is_rest is =
     let kind = kind_if is_byte in
     let behind : chars rest ≡ read.rest = ap chars is_rest ∙ read.behind in
@@ -198,9 +199,9 @@ refused_behind is_byte bs e b u first refused is =
     let at = slash_chars bs u first in
     let t = chars (drop 1 bs) in
     let table : escape_refusal w (92 ∷ t) ≡ Some (refusal_of e) =
-    ap (escape_refusal w) (sym at) ∙ subst
-    (λ (w : Switches). escape_refusal w (chars bs) ≡ Some (refusal_of e)) (same_switches is_byte)
-    refused.table in
+    ap (escape_refusal w) (sym at)
+    ∙ subst (λ (w : Switches). escape_refusal w (chars bs) ≡ Some (refusal_of e))
+    (same_switches is_byte) refused.table in
     answer_is b (escape_goes_on w t)
     (is ∙ ap (λ (w : Switches). escape_goes_on w t) (same_switches is_byte))
     (subst (λ (l : List ℕ). (escape_goes_on w t ≡ true) ↔ BeginsBehind kind l) (sym at)
@@ -209,8 +210,8 @@ refused_behind is_byte bs e b u first refused is =
 -- the whole text
 
 pub char_decided : (bs rest : List ℕ) (b : Bool) → IsUtf8 bs → begins_with (codes "'") bs ≡ true →
-    rest ≡ drop 1 bs → IsTrue b ↔ BeginsBy (IsCharLiteral char_kind)
-    (char_front char_kind ++ chars rest) →
+    rest ≡ drop 1 bs →
+    IsTrue b ↔ BeginsBy (IsCharLiteral char_kind) (char_front char_kind ++ chars rest) →
     IsTrue b ↔ Begins (kind_parse char_literal) (chars bs)
 char_decided bs rest b u begins is_rest is =
     let whole : char_front char_kind ++ chars rest ≡ chars bs =
@@ -219,8 +220,8 @@ char_decided bs rest b u begins is_rest is =
     (back (begins_kind char_literal (chars bs)))
 
 pub byte_decided : (bs rest : List ℕ) (b : Bool) → IsUtf8 bs → begins_with (codes "b'") bs ≡ true →
-    rest ≡ drop 2 bs → IsTrue b ↔ BeginsBy (IsCharLiteral byte_kind)
-    (char_front byte_kind ++ chars rest) →
+    rest ≡ drop 2 bs →
+    IsTrue b ↔ BeginsBy (IsCharLiteral byte_kind) (char_front byte_kind ++ chars rest) →
     IsTrue b ↔ Begins (kind_parse byte_literal) (chars bs)
 byte_decided bs rest b u begins is_rest is =
     let whole : char_front byte_kind ++ chars rest ≡ chars bs =

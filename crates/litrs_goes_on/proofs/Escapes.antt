@@ -33,14 +33,15 @@ no_front (c ∷ a) b same = cc
 
 -- An escape begins another if and only if it is the whole text.
 pub whole_escape : (w : Switches) (bs : List ℕ) (value : Unescape) (len n : ℕ) (b : Bool) →
-    IsUnescaped w bs value len → n ≡ length bs → b ≡ (len == n) → IsTrue b
-    ↔ BeginsEscape w (chars bs)
+    IsUnescaped w bs value len → n ≡ length bs → b ≡ (len == n) →
+    IsTrue b ↔ BeginsEscape w (chars bs)
 whole_escape w bs value len n b read is_len is = answer_is b (len == n) is (to, from)
   where
     to : (len == n) ≡ true → BeginsEscape w (chars bs)
     to same =
         let all : length bs ≤ len = (let at = eqb-true len n same in omega arith) in
-        let none : read.rest ≡ [] = sym read.behind ∙ ap chars (drop_all len bs all) ∙ chars-nil in (
+        let none : read.rest ≡ [] =
+        sym read.behind ∙ ap chars (drop_all len bs all) ∙ chars-nil in (
           read.escape,
           [],
           append-nil (chars bs) ∙ sym read.spells
@@ -104,15 +105,15 @@ many_stop w t some many =
     (and_right _ _ (lt-leb (count_by is_ascii_hexdigit t) 5 (omega arith)))
     (and_left _ _ (and_left _ _ (and_right _ _ (lt-leb (count_by is_ascii_hexdigit t) 6 many))))))
 
-inner-chars : (w : Switches) (bs : List ℕ) → IsUtf8 bs → inner_goes_on w (chars bs) ≡ inner_goes_on
-    w bs
+inner-chars : (w : Switches) (bs : List ℕ) → IsUtf8 bs →
+    inner_goes_on w (chars bs) ≡ inner_goes_on w bs
 inner-chars w [] u = ap (inner_goes_on w) chars-nil
 inner-chars w (b ∷ bs) u = by (list_all is_hex_or_underscore (b ∷ bs)) refl
   where
-    by : (v : Bool) → list_all is_hex_or_underscore (b ∷ bs) ≡ v → inner_goes_on w
-        (chars (b ∷ bs)) ≡ inner_goes_on w (b ∷ bs)
-    by true all = ap (inner_goes_on w)
-        (chars-IsAscii (b ∷ bs) (ascii_by_test (b ∷ bs)
+    by : (v : Bool) → list_all is_hex_or_underscore (b ∷ bs) ≡ v →
+        inner_goes_on w (chars (b ∷ bs)) ≡ inner_goes_on w (b ∷ bs)
+    by true all =
+        ap (inner_goes_on w) (chars-IsAscii (b ∷ bs) (ascii_by_test (b ∷ bs)
         (all_ascii is_hex_or_underscore (b ∷ bs) hex_or_underscore_is_ascii all)))
     by false none =
         inner_stops w (chars (b ∷ bs)) (chars_empty (b ∷ bs) u
@@ -225,9 +226,10 @@ all_taken : (bs : List ℕ) (digits : HexDigits) → IsHexDigits bs digits →
 all_taken bs digits is short = by (drop digits.len bs) refl
   where
     by : (rest : List ℕ) → drop digits.len bs ≡ rest → (c : ℕ) × (r : List ℕ) × (rest ≡ c ∷ r)
-    by [] none = absurd (short (let within =
-        is.within in let size : length (drop digits.len bs) ≡ 0 =
-        ap length none in omega (arith, length-drop digits.len bs)))
+    by [] none =
+        let within = is.within in
+        let size : length (drop digits.len bs) ≡ 0 = ap length none in
+        absurd (short (omega (arith, length-drop digits.len bs)))
     by (c ∷ r) none = (c, r, refl)
 
 -- digits and underscores that do not go to the end go on in no way
@@ -248,14 +250,16 @@ digits_stop w bs digits is some short = by (is_hex_or_underscore c) refl
     spells = ap (λ l. t ++ l) (sym rest.2) ∙ take-append-drop digits.len bs
 
     by : (v : Bool) → is_hex_or_underscore c ≡ v → inner_goes_on w bs ≡ false
-    by false stranger = inner_stops w bs some
-        (ap (list_all is_hex_or_underscore) (sym spells) ∙ all-append is_hex_or_underscore t
-        (c ∷ rest.1) ∙ and_right (list_all is_hex_or_underscore t) _
+    by false stranger =
+        inner_stops w bs some
+        (ap (list_all is_hex_or_underscore) (sym spells)
+        ∙ all-append is_hex_or_underscore t (c ∷ rest.1)
+        ∙ and_right (list_all is_hex_or_underscore t) _
         (and_left (is_hex_or_underscore c) _ stranger))
     by true passes = many_stop w bs some (omega (arith, seventh))
       where
-        last : (first_passes is_ascii_hexdigit (drop digits.len bs) ≡ true) ×
-            (count_by is_ascii_hexdigit t ≡ 6)
+        last : (first_passes is_ascii_hexdigit (drop digits.len bs) ≡ true)
+            × (count_by is_ascii_hexdigit t ≡ 6)
         last = is.stops (ap (first_passes is_hex_or_underscore) rest.2 ∙ passes)
 
         hex : is_ascii_hexdigit c ≡ true
@@ -263,8 +267,8 @@ digits_stop w bs digits is some short = by (is_hex_or_underscore c) refl
 
         seventh : 7 ≤ count_by is_ascii_hexdigit bs
         seventh =
-            let sum : count_by is_ascii_hexdigit bs ≡ count_by is_ascii_hexdigit t + count_by
-            is_ascii_hexdigit (c ∷ rest.1) =
+            let sum : count_by is_ascii_hexdigit bs
+            ≡ count_by is_ascii_hexdigit t + count_by is_ascii_hexdigit (c ∷ rest.1) =
             ap (count_by is_ascii_hexdigit) (sym spells)
             ∙ sum_by-append (λ d. cond {A = ℕ} (is_ascii_hexdigit d) 1 0) t (c ∷ rest.1) in
             let one : cond {A = ℕ} (is_ascii_hexdigit c) 1 0 ≡ 1 =

@@ -26,8 +26,7 @@ use Rattle.litrs_grammar.proofs.IntegerLaws.{integer_rows, number_rows, integer_
 use Rattle.litrs_grammar.proofs.FloatCuts.{IsCut, CutOf, cut_of, cut_of_text, behind_decimals, fraction_stops, number_part-suffix}
 use Rattle.litrs_grammar.proofs.FloatLaws.{float_rows, cut_rows, refusal_of_cut}
 use Rattle.litrs_grammar.proofs.FloatSpans.{number_part_ascii}
-use Rattle.litrs_grammar.proofs.LongerTexts.Literal.{chain, back}
-use Rattle.litrs_grammar.proofs.LongerTexts.Literal.{refused_texts_go_on}
+use Rattle.litrs_grammar.proofs.LongerTexts.Literal.{chain, back, refused_texts_go_on}
 use Rattle.litrs_grammar.proofs.LongerTexts.Suffix.{is_suffix-nil}
 use Rattle.litrs_goes_on.specs.LacksDigits.{is_digits_kind, ends_at, lacks_digits}
 use Rattle.litrs_goes_on.proofs.Begins.{answer_is}
@@ -144,8 +143,8 @@ integer_goes t r digit h = chain lacks (λ none. inr (digit, none), from)
 pub integer_decided : (bs : List ℕ) (e : ParseError) (len : ℕ) (b : Bool) → IsUtf8 bs →
     first_passes is_ascii_digit (chars bs) ≡ true → IsRefused (kind_parse integer_literal)
     (chars bs) e →
-    len ≡ length bs → b ≡ lacks_digits (refusal_of e) len → IsTrue b
-    ↔ Begins (kind_parse integer_literal) (chars bs)
+    len ≡ length bs → b ≡ lacks_digits (refusal_of e) len →
+    IsTrue b ↔ Begins (kind_parse integer_literal) (chars bs)
 integer_decided bs e len b u digit refused is_len is =
     let t = chars bs in
     let size : len ≡ byte_len t = is_len ∙ ap length (sym (encodes-chars bs u)) in
@@ -221,37 +220,32 @@ no_mark d cut begins none = by d.fraction d.exponent refl refl none
             (ap (first_passes is_float_mark) (sym is) ∙ ap (first_passes is_float_mark) (sym rest)
             ∙ begins)
 
-number_len : (d : FloatParts) → IsCut d → byte_len (number_part d) ≡ length d.integer + length
-    (fraction_text d.fraction) + length d.exponent
+number_len : (d : FloatParts) → IsCut d →
+    byte_len (number_part d)
+    ≡ length d.integer + length (fraction_text d.fraction) + length d.exponent
 number_len d cut =
     byte_len_ascii (number_part d) (number_part_ascii d cut)
     ∙ omega (
       arith,
       length-append d.integer (fraction_text d.fraction ++ d.exponent),
-      length-append
-          (fraction_text d.fraction) d.exponent,
+      length-append (fraction_text d.fraction) d.exponent,
     )
 
-rows_of_digit : (d : FloatParts) → first_passes is_ascii_digit (float_text d) ≡ true → cut_rows d
-    ≡ float_rows (length d.integer) (length d.integer + length (fraction_text d.fraction))
+-- the rows of a text that begins with a digit
+abbrev digit_rows : FloatParts → Option Refusal
+digit_rows d =
+    float_rows (length d.integer) (length d.integer + length (fraction_text d.fraction))
     (length d.integer + length (fraction_text d.fraction) + length d.exponent)
     (byte_len (float_text d)) (suffix_refusal d.suffix)
     (has_wrong_fraction (fraction_text d.fraction ++ (d.exponent ++ d.suffix))) (is_some d.fraction)
-    (not (is_empty d.exponent))
-    (list_any is_ascii_digit d.exponent) (is_suffix d.suffix)
+    (not (is_empty d.exponent)) (list_any is_ascii_digit d.exponent) (is_suffix d.suffix)
+
+rows_of_digit : (d : FloatParts) → first_passes is_ascii_digit (float_text d) ≡ true →
+    cut_rows d ≡ digit_rows d
 rows_of_digit d digit = by (float_text d) digit
   where
-    o : Option Refusal
-    o =
-        float_rows (length d.integer) (length d.integer + length (fraction_text d.fraction))
-        (length d.integer + length (fraction_text d.fraction) + length d.exponent)
-        (byte_len (float_text d)) (suffix_refusal d.suffix)
-        (has_wrong_fraction (fraction_text d.fraction ++ (d.exponent ++ d.suffix)))
-        (is_some d.fraction) (not (is_empty d.exponent))
-        (list_any is_ascii_digit d.exponent) (is_suffix d.suffix)
-
     by : (t : List ℕ) → first_passes is_ascii_digit t ≡ true →
-        number_rows (is_empty t) (first_passes is_ascii_digit t) o ≡ o
+        number_rows (is_empty t) (first_passes is_ascii_digit t) (digit_rows d) ≡ digit_rows d
     by [] h = cc
     by (c ∷ t) h = rw h refl
 

@@ -20,10 +20,10 @@ use Rattle.litrs_grammar.proofs.QuotedItems.{escape_head}
 use Rattle.litrs_grammar.proofs.LongerTexts.Quoted.{stands_is_body, begins_rest, rest_begins}
 use Rattle.litrs_lex.specs.QuotedItems.{EndsItems, IsItemsEnd}
 use Rattle.litrs_lex.specs.declared.quoted.ItemsEnd.{ItemsEnd}
+use Rattle.litrs_grammar.proofs.LongerTexts.Literal.{chain}
 use Rattle.litrs_goes_on.specs.Begins.{BeginsSuffix, IsClosed}
 use Rattle.litrs_goes_on.proofs.Begins.{yes, no, begins_now}
 use Rattle.litrs_goes_on.proofs.Suffixes.{suffix_now, lone_begins, suffix_cases}
-use Rattle.litrs_grammar.proofs.LongerTexts.Literal.{chain}
 
 -- The rest that stands where the items end, by its first character
 
@@ -39,8 +39,8 @@ no_rest w t none = yes (inr (inl (inl none)))
 no_escape : (w : Switches) (c : ℕ) (s : List ℕ) → (c ≡ 92 → ⊥) → BeginsEscape w (c ∷ s) → ⊥
 no_escape w c s other (e, more, same, is) =
     let head = escape_head e [] in
-    let both : c ∷ (s ++ more) ≡ 92 ∷ head.0 ∷ head.1 = same ∙ sym (append-nil (escape_text e))
-    ∙ head.2 in
+    let both : c ∷ (s ++ more) ≡ 92 ∷ head.0 ∷ head.1 =
+    same ∙ sym (append-nil (escape_text e)) ∙ head.2 in
     let first : c ≡ 92 = cc in other first
 
 -- the closing quote
@@ -54,17 +54,17 @@ closing_rest w s = (to, from)
     ]
 
     from : Goes w (34 ∷ s) → BeginsSuffix s
-    from (inl (suffix, same, is)) = let tails : s ≡ suffix =
-        cc in suffix_now s (ap is_suffix tails ∙ is)
+    from (inl (suffix, same, is)) =
+        let tails : s ≡ suffix = cc in suffix_now s (ap is_suffix tails ∙ is)
     from (inr (inl (inl none))) = absurd (cc)
     from (inr (inl (inr (blanks, same, all)))) =
         absurd (let first : 34 ≡ 92 = cc in false≢true (ap (λ n. n == 92) first))
     from (inr (inr (inl begins))) = absurd (no_escape w 34 s (λ same. omega arith) begins)
-    from (inr (inr (inr lone))) = let tails : s ≡ 95 ∷ [] =
-        cc in subst BeginsSuffix (sym tails) lone_begins
+    from (inr (inr (inr lone))) =
+        let tails : s ≡ 95 ∷ [] = cc in subst BeginsSuffix (sym tails) lone_begins
 
-pub quote_rest : (w : Switches) (t s : List ℕ) (c : ℕ) (b : Bool) → t ≡ c ∷ s → c ≡ 34 → IsTrue b
-    ↔ BeginsSuffix s → IsTrue b ↔ Goes w t
+pub quote_rest : (w : Switches) (t s : List ℕ) (c : ℕ) (b : Bool) → t ≡ c ∷ s → c ≡ 34 →
+    IsTrue b ↔ BeginsSuffix s → IsTrue b ↔ Goes w t
 quote_rest w t s c b same quote is =
     chain is (subst (λ (l : List ℕ). BeginsSuffix s ↔ Goes w l) (sym (same ∙ ap (λ n. n ∷ s) quote))
     (closing_rest w s))
@@ -101,11 +101,11 @@ escape_rest w s other = (λ begins. inr (inr (inl begins)), from)
         absurd (let first : 92 ≡ 34 = cc in false≢true (ap (λ n. n == 34) first))
     from (inr (inl (inl none))) = absurd (cc)
     from (inr (inl (inr (blanks, same, all)))) =
-        absurd (let tails : s ≡ 10 ∷ blanks =
-        cc in both_ways _ other (ap (begins_with (10 ∷ [])) tails))
+        let tails : s ≡ 10 ∷ blanks = cc in
+        absurd (both_ways _ other (ap (begins_with (10 ∷ [])) tails))
     from (inr (inr (inl begins))) = begins
-    from (inr (inr (inr lone))) = absurd
-        (let first : 92 ≡ 34 = cc in false≢true (ap (λ n. n == 34) first))
+    from (inr (inr (inr lone))) =
+        absurd (let first : 92 ≡ 34 = cc in false≢true (ap (λ n. n == 34) first))
 
 pub slash_rest : (w : Switches) (t s : List ℕ) (c : ℕ) (b : Bool) → t ≡ c ∷ s → c ≡ 92 →
     begins_with (10 ∷ []) s ≡ false → IsTrue b ↔ BeginsEscape w t → IsTrue b ↔ Goes w t
@@ -143,8 +143,7 @@ rest_refused front w t items rest e spells taken told begins =
       cause = e;
       spells = spells;
       taken = taken;
-      told =
-          told;
+      told = told;
       placed = refl;
     } in
     begins_rest front w t (moved (byte_len (front ++ body_text items)) e) h begins
@@ -168,14 +167,14 @@ quoted_goes front w t items rest spells taken ends = (to, from rest spells taken
         stand_before w (34 ∷ s) items ≡ true → (b : Bool) → is_suffix s ≡ b →
         BeginsBy (IsQuoted front w) t → Goes w (34 ∷ s)
     by_suffix s spelled stands true is begins = inl (s, refl, is)
-    by_suffix s spelled stands false none begins = inr
-        (rest_refused front w t items (34 ∷ s) (at 1 (suffix_refusal s)) spelled stands
+    by_suffix s spelled stands false none begins =
+        inr (rest_refused front w t items (34 ∷ s) (at 1 (suffix_refusal s)) spelled stands
         (suffix_row w s none) begins)
 
     from : (r : List ℕ) → front ++ (body_text items ++ r) ≡ t → stand_before w r items ≡ true →
         EndsItems w r → BeginsBy (IsQuoted front w) t → Goes w r
-    from r spelled stands (inr (e, told)) begins = inr
-        (rest_refused front w t items r e spelled stands told begins)
+    from r spelled stands (inr (e, told)) begins =
+        inr (rest_refused front w t items r e spelled stands told begins)
     from [] spelled stands (inl quote) begins = cc
     from (c ∷ s) spelled stands (inl quote) begins =
         let first : c ≡ 34 = eqb-true c 34 quote in

@@ -37,8 +37,7 @@ use Rattle.litrs_goes_on.proofs.Begins.{yes, no, answer_is}
 use Rattle.litrs_goes_on.proofs.Escapes.{all-chars}
 
 -- The refusals of a text behind the front: its hashes end it; behind them stands something else
--- than a quote; a final one; the
--- body is not closed; or it is, and no suffix stands behind it.
+-- than a quote; a final one; the body is not closed; or it is, and no suffix stands behind it.
 data RawRow (unicode allow_nul : Bool) (start : ℕ) (t : List ℕ) (r : Refusal) : Type 0 where
   hashes_alone : (n : ℕ) → hashes n ≡ t → plain InvalidLiteral ≡ r →
       RawRow unicode allow_nul start t r
@@ -54,8 +53,8 @@ data RawRow (unicode allow_nul : Bool) (start : ℕ) (t : List ℕ) (r : Refusal
 char_final : (c : ℕ) → is_final (raw_char_refusal c) ≡ true
 char_final c = by (c == carriage_return) (is_nul c)
   where
-    by : (p q : Bool) → is_final (if p then CarriageReturn else if q then NulByte else
-        NonAsciiInByteLiteral) ≡ true
+    by : (p q : Bool) →
+        is_final (if p then CarriageReturn else if q then NulByte else NonAsciiInByteLiteral) ≡ true
     by true q = refl
     by false true = refl
     by false false = refl
@@ -75,8 +74,9 @@ raw_row unicode allow_nul start t r h = by cut.rest cut.spells cut.stops
 
     behind_body : (n : ℕ) (s behind : List ℕ) → n ≤ 255 → hashes n ++ 34 ∷ s ≡ t →
         (x : IsClosedRaw unicode allow_nul n s behind) (b : Bool) →
-        (if not b then Some (at (start + (n + 1) + (byte_len x.body + (1 + n)))
-        (suffix_refusal behind)) else None) ≡ Some r → RawRow unicode allow_nul start t r
+        (if not b
+        then Some (at (start + (n + 1) + (byte_len x.body + (1 + n))) (suffix_refusal behind))
+        else None) ≡ Some r → RawRow unicode allow_nul start t r
     behind_body n s behind few spells x true g = cc
     behind_body n s behind few spells x false g =
         closed_row n s behind few spells x
@@ -101,8 +101,8 @@ raw_row unicode allow_nul start t r h = by cut.rest cut.spells cut.stops
 
     rows : (n c : ℕ) (s : List ℕ) → hashes n ++ c ∷ s ≡ t → is_hash c ≡ false →
         (many quote : Bool) → ltb 255 n ≡ many → is_quote c ≡ quote →
-        raw_rows start n (raw_body_refusal unicode allow_nul n (start + (n + 1)) s) false many
-        quote ≡ Some r → RawRow unicode allow_nul start t r
+        raw_rows start n (raw_body_refusal unicode allow_nul n (start + (n + 1)) s) false many quote
+        ≡ Some r → RawRow unicode allow_nul start t r
     rows n c s spells stops true quote is_many is_q g =
         final_at unicode allow_nul start t (over start (start + n) TooManyHashes) r refl g
     rows n c s spells stops false false is_many is_q g =
@@ -142,8 +142,7 @@ not_invalid {A} t = by (first_passes is_ascii_symbol t)
 -- something else than a quote behind the hashes
 no_quote_ends : (unicode allow_nul : Bool) (start n c : ℕ) (s t : List ℕ) (r : Refusal) →
     raw_refusal unicode allow_nul start t ≡ Some r → hashes n ++ c ∷ s ≡ t → is_hash c ≡ false →
-    is_quote c ≡ false →
-    BeginsBy (IsRawOf unicode allow_nul) t → ⊥
+    is_quote c ≡ false → BeginsBy (IsRawOf unicode allow_nul) t → ⊥
 no_quote_ends unicode allow_nul start n c s t r h spells stops quote begins =
     let goes = to_cut unicode allow_nul n (c ∷ s) stops
     (subst (RawGoesOn unicode allow_nul) (sym spells)
@@ -161,8 +160,7 @@ unclosed_decided unicode allow_nul start t r h is =
       raw_closing (hash_len t),
       raw_open_parts t,
       closing_is_text (hash_len t),
-      raw_open unicode
-          allow_nul start t r (ap is_open is) h,
+      raw_open unicode allow_nul start t r (ap is_open is) h,
     )
 
 -- No quote behind the hashes
@@ -181,8 +179,8 @@ pub hashes_decided : (unicode allow_nul : Bool) (start : ℕ) (text : List ℕ) 
     (seen : List ℕ) (r : Refusal) (b : Bool) → IsUtf8 (drop offset text) → seen ≡ text →
     raw_refusal unicode allow_nul start (chars (drop offset text)) ≡ Some r →
     r.kind ≡ InvalidLiteral →
-    b ≡ (nat_le (length (take (length seen - offset) (drop offset seen))) 255 && list_all is_hash
-    (take (length seen - offset) (drop offset seen))) →
+    b ≡ (nat_le (length (take (length seen - offset) (drop offset seen))) 255
+    && list_all is_hash (take (length seen - offset) (drop offset seen))) →
     IsTrue b ↔ BeginsBy (IsRawOf unicode allow_nul) (chars (drop offset text))
 hashes_decided unicode allow_nul start text offset seen r b u same h kind is =
     by (raw_row unicode allow_nul start t r h)
@@ -233,9 +231,10 @@ hashes_decided unicode allow_nul start text offset seen r b u same h kind is =
     by : RawRow unicode allow_nul start t r → IsTrue b ↔ BeginsBy (IsRawOf unicode allow_nul) t
     by (hashes_alone n spells at_row) = alone n spells
     by (no_quote n c s spells stops quote at_row) =
-        let none : list_all is_hash bs ≡ false = sym all_same ∙ ap (list_all is_hash) (sym spells)
-        ∙ all-append is_hash (hashes n) (c ∷ s) ∙ and_right (list_all is_hash (hashes n)) _
-        (and_left (is_hash c) _ stops) in
+        let none : list_all is_hash bs ≡ false =
+        sym all_same ∙ ap (list_all is_hash) (sym spells)
+        ∙ all-append is_hash (hashes n) (c ∷ s)
+        ∙ and_right (list_all is_hash (hashes n)) _ (and_left (is_hash c) _ stops) in
         answer_is b false (answer ∙ and_right (nat_le (length bs) 255) _ none)
         (no (λ begins. no_quote_ends unicode allow_nul start n c s t r h spells stops quote begins))
     by (final_row final) = not_kind InvalidLiteral r refl kind final
@@ -307,10 +306,10 @@ suffix_decided unicode allow_nul text offset e b u h kind is =
 
     lone : (n : ℕ) (s behind : List ℕ) → n ≤ 255 → hashes n ++ 34 ∷ s ≡ t →
         (x : IsClosedRaw unicode allow_nul n s behind) →
-        at (offset + (n + 1) + (byte_len x.body + (1 + n))) (suffix_refusal behind) ≡ r → IsTrue b
-        ↔ BeginsBy (IsRawOf unicode allow_nul) t
-    lone n s behind few spells x at_row = answer_is b (is_text (95 ∷ []) behind) (is ∙ pointed)
-        (to, from)
+        at (offset + (n + 1) + (byte_len x.body + (1 + n))) (suffix_refusal behind) ≡ r →
+        IsTrue b ↔ BeginsBy (IsRawOf unicode allow_nul) t
+    lone n s behind few spells x at_row =
+        answer_is b (is_text (95 ∷ []) behind) (is ∙ pointed) (to, from)
       where
         place : ℕ
         place = offset + (n + 1) + (byte_len x.body + (1 + n))
@@ -370,11 +369,11 @@ other_decided unicode allow_nul start t r h no_literal no_open no_suffix =
     by (raw_row unicode allow_nul start t r h)
   where
     ends : is_final r.kind ≡ true → IsTrue false ↔ BeginsBy (IsRawOf unicode allow_nul) t
-    ends final = no (λ begins. raw_finality unicode allow_nul start t r h final begins.0 begins.1
-        begins.3)
+    ends final =
+        no (λ begins. raw_finality unicode allow_nul start t r h final begins.0 begins.1 begins.3)
 
-    suffix : (b : Bool) → (if b then UnexpectedChar else InvalidSuffix) ≡ r.kind → IsTrue false
-        ↔ BeginsBy (IsRawOf unicode allow_nul) t
+    suffix : (b : Bool) → (if b then UnexpectedChar else InvalidSuffix) ≡ r.kind →
+        IsTrue false ↔ BeginsBy (IsRawOf unicode allow_nul) t
     suffix true same = ends (ap is_final (sym same))
     suffix false same = absurd (no_suffix (sym same))
 

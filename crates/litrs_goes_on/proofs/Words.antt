@@ -51,8 +51,8 @@ unnamed-chars bs u = rw (
 ) refl
 
 pub word_decided : (bs seen : List ℕ) (e : Refusal) (b : Bool) → IsUtf8 bs →
-    refused_as e ≡ dispatch bs → seen ≡ bs → b ≡ unnamed_goes_on seen → IsTrue b
-    ↔ Begins literal_parse (chars bs)
+    refused_as e ≡ dispatch bs → seen ≡ bs → b ≡ unnamed_goes_on seen →
+    IsTrue b ↔ Begins literal_parse (chars bs)
 word_decided bs seen e b u row same is =
     answer_is b (unnamed_goes_on (chars bs))
     (is ∙ ap unnamed_goes_on same ∙ sym (unnamed-chars bs u))
