@@ -23,7 +23,7 @@ impl BoolLit {
     ghost use Rattle.litrs.specs.BoolLiteral.{bool_value};
     ghost use Rattle.litrs_grammar.specs.Bool.{IsBool, bool_text};
 
-    /// Reads a text that is exactly `true` or `false`.
+    /// Parses a text that is exactly `true` or `false`.
     ///
     /// # Errors
     ///

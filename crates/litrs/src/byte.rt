@@ -39,7 +39,7 @@ impl<B: Text> Model for ByteLit<B> {
 }
 
 impl<B: Text> ByteLit<B> {
-    /// Reads a text that is one byte. It does not allocate.
+    /// Parses a text that is one byte. It does not allocate.
     ///
     /// `b'\xff'u8` has the value 255 and the suffix `u8`.
     ///

@@ -38,7 +38,7 @@ impl<B: Text> Model for CharLit<B> {
 }
 
 impl<B: Text> CharLit<B> {
-    /// Reads a text that is one char. It does not allocate.
+    /// Parses a text that is one char. It does not allocate.
     ///
     /// `'\n'u8` has the value LF and the suffix `u8`.
     ///

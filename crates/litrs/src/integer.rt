@@ -48,7 +48,7 @@ impl<B: Text> Model for IntegerLit<B> {
 }
 
 impl<B: Text> IntegerLit<B> {
-    /// Reads a text that is one integer. It does not allocate.
+    /// Parses a text that is one integer. It does not allocate.
     ///
     /// `0xFF_u8` has the base 16, the main part `FF_` and the suffix `u8`.
     ///

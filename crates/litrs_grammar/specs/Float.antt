@@ -34,7 +34,7 @@ number_part d = d.integer ++ (fraction_text d.fraction ++ d.exponent)
 abbrev pub float_text : FloatParts → List ℕ
 float_text d = d.integer ++ (fraction_text d.fraction ++ (d.exponent ++ d.suffix))
 
--- what may stand behind the first digit: a decimal digit or `_`
+-- what may follow the first digit: a decimal digit or `_`
 abbrev pub is_decimal_char : ℕ → Bool
 is_decimal_char c = is_digit_or_underscore Decimal c
 
@@ -87,23 +87,23 @@ pub record IsFloatOf (t : List ℕ) (d : FloatParts) : Type 0 where
 
 -- Refusals. A text that begins with a digit is cut into the parts that a float would have, whether it is one or not.
 
--- the fraction, by what stands behind the integer part: where that is a period, the digits and `_` behind it
+-- the fraction, by what follows the integer part: where that is a period, the digits and `_` behind it
 abbrev pub fraction_of : List ℕ → Option (List ℕ)
 fraction_of [] = None
 fraction_of (c ∷ cs) = if is_period c then Some (take_while is_decimal_char cs) else None
 
--- the exponent, by what stands behind the fraction: where that is `e` or `E`, the letter, a sign that follows, and the
+-- the exponent, by what follows the fraction: where that is `e` or `E`, the letter, a sign that follows, and the
 -- digits and `_` behind them
 abbrev pub exponent_of : List ℕ → List ℕ
 exponent_of [] = []
 exponent_of (c ∷ cs) =
     if is_e c then c ∷ (take (sign_len cs) cs ++ take_while is_decimal_char (drop (sign_len cs) cs)) else []
 
--- what stands behind the front of a text
+-- what follows the front of a text
 abbrev pub behind : List ℕ → List ℕ → List ℕ
 behind front t = drop (length front) t
 
--- the integer part is the digits and `_` that the text begins with, and the suffix what stands behind the other parts
+-- the integer part is the digits and `_` that the text begins with, and the suffix what follows the other parts
 unfoldable pub float_cut : List ℕ → FloatParts
 float_cut t =
     let integer = take_while is_decimal_char t in

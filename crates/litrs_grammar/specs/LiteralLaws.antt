@@ -29,7 +29,7 @@ RefusalsAreUnique = (parse : Parse) (t : List ℕ) (e f : Refusal) →
 abbrev pub RefusalSpansLieInText : Type 0
 RefusalSpansLieInText = (parse : Parse) (t : List ℕ) (e : Refusal) → IsRefusal parse t e → IsInText t e
 
--- no text is refused for want of memory
+-- no refusal of a text is an allocation failure
 abbrev pub NoRefusalIsOfMemory : Type 0
 NoRefusalIsOfMemory = (parse : Parse) (t : List ℕ) (e : Refusal) → IsRefusal parse t e → e.kind ≢ OutOfMemory
 

@@ -57,7 +57,7 @@ abbrev pub body_value : List Item → List ℕ
 body_value [] = []
 body_value (item ∷ items) = item_value item ++ body_value items
 
--- behind a continuation stands no space, tab or LF: it has them all
+-- no space, tab or LF follows a continuation: it has them all
 abbrev pub takes_all_blanks : Item → List ℕ → Bool
 takes_all_blanks (plain_item c) behind = true
 takes_all_blanks (escape_item e) behind = true
@@ -92,16 +92,16 @@ pub record IsQuoted (front : List ℕ) (w : Switches) (t : List ℕ) (q : Quoted
 abbrev pub IsQuotedLiteral : StringKind → List ℕ → QuotedParts → Type 0
 IsQuotedLiteral kind = IsQuoted (quoted_front kind) (switches_of kind)
 
--- Why a text is no quoted literal. It is the front, the text of a list of items, and a rest which alone tells why.
+-- Why a text is no quoted literal. It is the front, the text of a list of items, and a rest which alone decides why.
 
--- An item is taken into the list by what stands behind it. A continuation has all spaces, tabs and LFs; and neither a
+-- An item is taken into the list by what follows it. A continuation has all spaces, tabs and LFs; and neither a
 -- continuation nor an escape is taken that ends the text: it belongs to the rest.
 abbrev pub is_taken_before : List ℕ → Item → Bool
 is_taken_before behind (plain_item c) = true
 is_taken_before behind (escape_item e) = not (is_empty behind)
 is_taken_before behind (continuation blanks) = not (is_empty behind) && not (first_passes is_blank behind)
 
--- the items are taken into the list, where the rest stands behind them
+-- the items are taken into the list, where the rest follows them
 abbrev pub stand_before : Switches → List ℕ → List Item → Bool
 stand_before w rest [] = true
 stand_before w rest (item ∷ items) =
@@ -114,7 +114,7 @@ without_last (c ∷ []) = []
 without_last (c ∷ d ∷ t) = c ∷ without_last (d ∷ t)
 
 -- The rest begins with a backslash: LF and only spaces, tabs and LFs follow it to the end of the text; or no LF follows,
--- and no escape stands there, which is read without the last character of the text.
+-- and no escape stands there. The escape is parsed without the last character of the text.
 abbrev pub backslash_refusal : Switches → List ℕ → Option Refusal
 backslash_refusal w t =
     if first_passes (λ c. c == line_feed) t
@@ -133,7 +133,7 @@ rest_refusal w (c ∷ t) =
     else if (c == double_quote) && not (is_suffix t) then Some (at 1 (suffix_refusal t))
     else None
 
--- The text is refused as a quoted literal behind this front, as the rest tells. The span moves by the bytes before the
+-- The text is refused as a quoted literal behind this front, as the rest decides. The span moves by the bytes before the
 -- rest.
 pub record IsQuotedRefusal (front : List ℕ) (w : Switches) (t : List ℕ) (e : Refusal) : Type 0 where
   pub items : List Item

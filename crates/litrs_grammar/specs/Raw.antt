@@ -66,7 +66,7 @@ pub record IsRaw (unicode allow_nul : Bool) (d : RawParts) : Type 0 where
   pub body : IsRawBody unicode allow_nul d.hash_count d.body
   pub suffix : IsTrue (is_suffix d.suffix)
 
--- what stands behind the front is a raw literal with these parts
+-- what follows the front is a raw literal with these parts
 pub record IsRawOf (unicode allow_nul : Bool) (t : List ℕ) (d : RawParts) : Type 0 where
   pub spells : raw_text d ≡ t
   pub grammar : IsRaw unicode allow_nul d
@@ -89,7 +89,7 @@ pub record IsRawLiteral (kind : StringKind) (t : List ℕ) (d : RawParts) : Type
   pub spells : raw_front kind ++ raw_text d ≡ t
   pub grammar : IsRaw (has_unicode kind) (allows_nul kind) d
 
--- Refusals. They are told by the hashes behind the front, and by what stands before the first closing.
+-- Refusals. They are decided by the hashes behind the front, and by what stands before the first closing.
 
 -- how many hashes the text begins with
 abbrev pub hash_len : List ℕ → ℕ
@@ -104,7 +104,7 @@ length_before part (c ∷ cs) = if begins_with part (c ∷ cs) then 0 else 1 + l
 abbrev pub raw_char_refusal : ℕ → ParseErrorKind
 raw_char_refusal c = if c == carriage_return then CarriageReturn else if is_nul c then NulByte else NonAsciiInByteLiteral
 
--- Why what stands behind n hashes and the quote, from the place start on, ends no raw literal: None where it does. The body
+-- Why what follows n hashes and the quote, from the place start on, ends no raw literal: None where it does. The body
 -- goes up to the first closing, and the first row that fits decides.
 unfoldable pub raw_body_refusal : (unicode allow_nul : Bool) (n start : ℕ) → List ℕ → Option Refusal
 raw_body_refusal unicode allow_nul n start t =
@@ -116,7 +116,7 @@ raw_body_refusal unicode allow_nul n start t =
     else if not (is_suffix suffix) then Some (at (start + (byte_len body + (1 + n))) (suffix_refusal suffix))
     else None
 
--- Why what stands behind a front, from the place start on, is no raw literal: None where it is one. The first row that fits
+-- Why what follows a front, from the place start on, is no raw literal: None where it is one. The first row that fits
 -- decides.
 unfoldable pub raw_refusal : (unicode allow_nul : Bool) (start : ℕ) → List ℕ → Option Refusal
 raw_refusal unicode allow_nul start t =

@@ -21,7 +21,7 @@ RawLiteralsAreDecided = (kind : StringKind) (t : List ℕ) → IsTrue (begins_wi
 abbrev pub RawSpansLieInText : Type 0
 RawSpansLieInText = (kind : StringKind) (t : List ℕ) → IsTrue (begins_with (raw_front kind) t) → (e : Refusal) → raw_literal_refusal kind t ≡ Some e → IsInText t e
 
--- The same of what stands behind any front, under any switches.
+-- The same of what follows any front, under any switches.
 
 abbrev pub RawTextsAreUnique : Type 0
 RawTextsAreUnique = (unicode allow_nul : Bool) (t : List ℕ) (d e : RawParts) → IsRawOf unicode allow_nul t d → IsRawOf unicode allow_nul t e → d ≡ e
@@ -52,13 +52,13 @@ abbrev pub NoClosingIn : (n : ℕ) (front t : List ℕ) → Type 0
 NoClosingIn n front t = (i : ℕ) → i < length front →
     IsFalse (begins_with (raw_closing n) (drop i (front ++ t)))
 
--- What stands behind such a front decides where the first closing stands, and whether there is one.
+-- What follows such a front decides where the first closing stands, and whether there is one.
 abbrev pub RawScansGoOn : Type 0
 RawScansGoOn = (n : ℕ) (front t : List ℕ) → NoClosingIn n front t →
     (length_before (raw_closing n) (front ++ t) ≡ length front + length_before (raw_closing n) t)
     × (occurs (raw_closing n) (front ++ t) ≡ occurs (raw_closing n) t)
 
--- Where the characters of the front may stand in a body, what stands behind it has the refusal,
+-- Where the characters of the front may stand in a body, what follows it has the refusal,
 -- further on by its bytes.
 abbrev pub RawRefusalsGoOn : Type 0
 RawRefusalsGoOn = (unicode allow_nul : Bool) (n start : ℕ) (front t : List ℕ) →
@@ -66,7 +66,7 @@ RawRefusalsGoOn = (unicode allow_nul : Bool) (n start : ℕ) (front t : List ℕ
     raw_body_refusal unicode allow_nul n start (front ++ t)
     ≡ raw_body_refusal unicode allow_nul n (start + byte_len front) t
 
--- Where a closing stands behind it, the front is a body.
+-- Where a closing follows it, the front is a body.
 abbrev pub RawBodiesEndAtClosings : Type 0
 RawBodiesEndAtClosings = (unicode allow_nul : Bool) (n : ℕ) (front t : List ℕ) →
     IsTrue (list_all (is_raw_char unicode allow_nul) front) →

@@ -8,7 +8,7 @@ use Rattle.litrs_base.specs.Refusal.{Refusal, at}
 use Rattle.litrs_base.specs.Text.{is_empty, byte_len, begins_with}
 use Rattle.litrs_grammar.specs.Raw.{is_quote, hashes, raw_closing, occurs, is_raw_char, IsRawBody, hash_len, length_before, raw_char_refusal, raw_body_refusal, raw_refusal}
 
--- the number of hashes stays, where any character stands behind them
+-- the number of hashes stays, where any character follows them
 abbrev pub HashCountsStay : Type 0
 HashCountsStay = (t more : List ℕ) → IsFalse (is_empty (drop (hash_len t) t)) → hash_len (t ++ more) ≡ hash_len t
 

@@ -60,7 +60,7 @@ pub record IsItemRead (kind : CharKind) (bytes : List ℕ) (value : Unescape) (l
   pub size : byte_len (char_item_text item) ≡ len
   pub boundary : IsCharBoundary bytes len
 
--- the table refuses what stands behind the front
+-- the table refuses what follows the front
 pub record IsItemRefused (kind : CharKind) (t : List ℕ) (e : ParseError) : Type 0 where
   pub table : char_item_refusal kind t ≡ Some (refusal_of e)
   pub char_span : HasCharSpan t e

@@ -70,7 +70,7 @@ pub fn cut_byte(input: &str) -> Result<(u8, usize), ParseError>
     }
 }
 
-/// What stands behind the front: the value, and where the suffix starts.
+/// What follows the front: the value, and where the suffix starts.
 fn cut_behind(rest: &str, is_byte: bool) -> Result<(Unescape, usize), ParseError>
     ensures ok { IfOk result (λ cut. IsCutBehind (kind_if is_byte) rest.now cut.0 cut.1) }
     ensures refused { IfErr result (IsItemRefused (kind_if is_byte) (chars rest.now)) }

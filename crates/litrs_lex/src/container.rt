@@ -189,7 +189,7 @@ mod tests {
         Ok(())
     }
 
-    /// More values than any capacity that growth begins with, one at a time.
+    /// More values than any first allocation holds, one at a time.
     #[test]
     fn many_values_are_taken(rt: HostRuntime) -> Result<(), Fail> {
         let mut text = <String as EscapeContainer>::new(rt.alloc());

@@ -12,7 +12,7 @@ ghost use Rattle.litrs_lex.specs.Unescaped.{switches, IsUnescaped, IsEscapeRefus
 use crate::parse::hex_digit_value;
 use litrs_base::{ParseError, ParseErrorKind, Unescape};
 
-/// Reads the escape at the front of a text that is empty or begins with a backslash: what it stands
+/// Parses the escape at the front of a text that is empty or begins with a backslash: what it stands
 /// for, and its length in bytes. Of `\n12` that is the byte 10, with length 2. See
 /// [the reference][ref].
 ///
@@ -175,7 +175,7 @@ fn unescape_unicode(input: &str, allow_nul: bool) -> Result<(Unescape, usize), P
     }
 }
 
-/// Whether `{` stands behind the first two bytes.
+/// Whether `{` follows the first two bytes.
 fn opens_brace(bytes: &[u8]) -> bool
     ensures { result ≡ first_passes (λ c. c == open_brace) (drop 2 bytes.now) }
 {

@@ -23,7 +23,7 @@ pub struct IntegerCut {
     pub start_main: usize,
     /// Where the main part ends and the suffix begins.
     pub end_main: usize,
-    /// What the prefix tells.
+    /// What the prefix decides.
     pub base: IntegerBase,
 }
 
@@ -120,7 +120,7 @@ fn begins_with_e(bytes: &[u8]) -> bool
     }
 }
 
-/// The base that the front of a text tells: `0b`, `0o` and `0x` are always the prefix, and
+/// The base, by the front of a text: `0b`, `0o` and `0x` are always the prefix, and
 /// everything else is decimal.
 fn base_of(bytes: &[u8]) -> IntegerBase
     ensures { result ≡ base_of bytes.now }

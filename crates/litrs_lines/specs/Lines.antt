@@ -40,10 +40,10 @@ unless_empty (b ∷ bs) = (b ∷ bs) ∷ []
 unfoldable pub ended_lines : List ℕ → List (List ℕ)
 ended_lines bytes = ended_parts (slice_split is_line_feed bytes)
 
--- what stands behind the last LF
+-- what follows the last LF
 unfoldable pub open_line : List ℕ → List ℕ
 open_line bytes = open_part (slice_split is_line_feed bytes)
 
--- the ended lines, and what stands behind the last LF where it is not empty
+-- the ended lines, and what follows the last LF where it is not empty
 unfoldable pub lines_of : List ℕ → List (List ℕ)
 lines_of bytes = ended_lines bytes ++ unless_empty (open_line bytes)

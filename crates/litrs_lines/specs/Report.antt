@@ -41,7 +41,7 @@ char_report name value suffix = name ++ (codes " value=" ++ (hex_text value ++ (
 
 -- `bool true`; `integer base=16 digits=ff80 suffix= value=65408`; `float int=3 frac=14 exp= suffix=f33`;
 -- `char value=1f98a suffix=`; `byte value=ff suffix=`;
--- nothing of the kinds that are not read yet
+-- empty for the kinds that are not parsed yet
 abbrev pub literal_report : Derivation → List ℕ
 literal_report (a_bool b) = codes "bool " ++ bool_text b
 literal_report (an_integer d) =

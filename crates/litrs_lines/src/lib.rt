@@ -199,7 +199,7 @@ fn finish<O: Output>(
 /// Reads to the end of the input, writes the report on each line and an LF behind it, and flushes
 /// once at the end.
 ///
-/// A line is the bytes before an LF, without it, and what stands behind the last LF where that is
+/// A line is the bytes before an LF, without it, and what follows the last LF where that is
 /// not empty. One line is held at a time, so memory is taken in proportion to the longest.
 ///
 /// # Errors
