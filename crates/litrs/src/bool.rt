@@ -10,7 +10,8 @@ use std::fmt;
 
 /// One of the two words `true` and `false`. See [the reference][ref].
 ///
-/// [ref]: https://doc.rust-lang.org/reference/expressions/literal-expr.html#boolean-literal-expressions
+/// [ref]:
+/// https://doc.rust-lang.org/reference/expressions/literal-expr.html#boolean-literal-expressions
 #[derive(Clone, Copy, Debug, PartialEq, Eq)]
 pub enum BoolLit {
     /// `false`.

@@ -46,7 +46,8 @@ impl<B: Text> ByteLit<B> {
     /// # Errors
     ///
     /// `Empty`, `InvalidByteLiteralStart`, or as [`cut_byte`] refuses the text: `b''` is
-    /// `EmptyByteLiteral`, and a character beyond ASCII is `NonAsciiInByteLiteral` at its first byte.
+    /// `EmptyByteLiteral`, and a character beyond ASCII is `NonAsciiInByteLiteral` at its first
+    /// byte.
     #[inline(always)]
     pub fn parse(input: B) -> Result<ByteLit<B>, ParseError>
         ensures buffer { IfOk result (λ lit. lit.buffer ≡ input) }

@@ -17,8 +17,8 @@ use std::marker::Model;
 
 /// A character as it is written in Rust: `'a'`, `'\n'`, `'\u{1f98a}'`.
 ///
-/// It is made of a character or an escape between two single quotes, and a suffix, which may be empty.
-/// See [the reference][ref].
+/// It is made of a character or an escape between two single quotes, and a suffix, which may be
+/// empty. See [the reference][ref].
 ///
 /// [ref]: https://doc.rust-lang.org/reference/tokens.html#character-literals
 pub struct CharLit<B: Text> {
@@ -44,8 +44,8 @@ impl<B: Text> CharLit<B> {
     ///
     /// # Errors
     ///
-    /// `Empty`, `DoesNotStartWithQuote` at the first byte, or as [`cut_char`] refuses the text: `''`
-    /// is `EmptyCharLiteral`, and `'\x80'` is `NonAsciiXEscape` at 1..5.
+    /// `Empty`, `DoesNotStartWithQuote` at the first byte, or as [`cut_char`] refuses the text:
+    /// `''` is `EmptyCharLiteral`, and `'\x80'` is `NonAsciiXEscape` at 1..5.
     #[inline(always)]
     pub fn parse(input: B) -> Result<CharLit<B>, ParseError>
         ensures buffer { IfOk result (λ lit. lit.buffer ≡ input) }

@@ -1,4 +1,4 @@
--- Refusals: a kind, and where there is one a span in the text, in bytes. The Rust Reference has none.
+-- Refusals: a kind, and perhaps a span in the text, in bytes. The Rust Reference has none.
 use Rattle.std.specs.Prelude.{ℕ, ◌+◌, ◌<◌, ◌^◌, List, [], ◌++◌, Option, Some, None, IfSome, option_map, codes}
 use Rattle.std.specs.Option.{ForSome}
 use Rattle.std.specs.Fmt.{decimal}

@@ -49,7 +49,7 @@ abbrev pub allows_char : CharKind → ℕ → Bool
 allows_char char_kind c = true
 allows_char byte_kind c = is_ascii c
 
--- A character stands for itself that is no `'`, no backslash, no LF, tab or CR; in a byte it is ASCII.
+-- A character stands for itself that is no `'`, backslash, LF, tab or CR; in a byte it is ASCII.
 abbrev pub is_char_item : CharKind → CharItem → Bool
 is_char_item kind (plain_char c) =
     not (c == single_quote) && not (c == backslash) && not (is_special_whitespace c) && allows_char kind c
@@ -70,8 +70,8 @@ pub record IsCharLiteral (kind : CharKind) (t : List ℕ) (d : CharParts) : Type
   pub item : IsTrue (is_char_item kind d.item)
   pub suffix : IsTrue (is_suffix d.suffix)
 
--- Why a text is no char or no byte. Of the rows of each function the first that fits decides, and where none fits the
--- text is a literal.
+-- Why a text is no char or no byte. Of the rows of each function the first that fits decides, and
+-- where none fits the text is a literal.
 
 -- the three refusals that each kind has of its own
 abbrev pub unterminated_kind : CharKind → ParseErrorKind

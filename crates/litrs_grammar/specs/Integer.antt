@@ -32,8 +32,9 @@ is_e c = (c == letter_e) || (c == capital_e)
 abbrev pub has_prefix : List ℕ → Bool
 has_prefix t = begins_with (prefix Binary) t || begins_with (prefix Octal) t || begins_with (prefix Hexadecimal) t
 
--- The main part has digits of the base and underscores, at least one digit, and takes all of them that follow.
--- The suffix does not begin with `e` or `E`. A decimal integer begins with a digit, and not with the prefix of another base.
+-- The main part has digits of the base and underscores, at least one digit, and takes all of them
+-- that follow. The suffix does not begin with `e` or `E`. A decimal integer begins with a digit,
+-- and not with the prefix of another base.
 pub record IsInteger (d : IntegerParts) : Type 0 where
   pub digits : IsTrue (list_all (is_digit_or_underscore d.base) d.main)
   pub some_digit : IsTrue (list_any (is_digit d.base) d.main)
@@ -54,7 +55,8 @@ integer_value d = numeral (base_value d.base) d.main
 
 -- The refusals
 
--- The base, by the front of a text: `0b`, `0o` and `0x` are always the prefix, and everything else is decimal.
+-- The base, by the front of a text: `0b`, `0o` and `0x` are always the prefix, and everything else
+-- is decimal.
 abbrev pub base_of : List ℕ → IntegerBase
 base_of t = if begins_with (prefix Binary) t then Binary
     else if begins_with (prefix Octal) t then Octal
@@ -77,7 +79,8 @@ behind_main t = drop (length (main_of t)) (behind_prefix t)
 unfoldable pub integer_cut : List ℕ → IntegerParts
 integer_cut t = record { base = base_of t; main = main_of t; suffix = behind_main t }
 
--- A text that begins with a decimal digit, by its main part and by what follows; the first row that fits decides.
+-- A text that begins with a decimal digit, by its main part and by what follows; the first row that
+-- fits decides.
 abbrev pub cut_refusal : IntegerParts → Option Refusal
 cut_refusal d =
     let start = byte_len (prefix d.base) in

@@ -6,7 +6,7 @@ use Rattle.litrs_base.specs.Characters.{line_feed}
 use Rattle.litrs_grammar.specs.Literal.{Derivation, IsLiteral, Parse, IsLiteralOf}
 use Rattle.litrs_grammar.specs.LiteralRefusals.{IsRefusal}
 
--- a text has at most one derivation, over all eight kinds together; so no text is a literal of two kinds
+-- a text has at most one derivation, over all kinds together; so no text is a literal of two kinds
 abbrev pub LiteralsAreUnique : Type 0
 LiteralsAreUnique = (t : List ℕ) (d e : Derivation) → IsLiteral t d → IsLiteral t e → d ≡ e
 

@@ -1,5 +1,5 @@
--- The refusals of the nine parses. The Rust Reference says which texts are literals, and not why another is none: the
--- tables here and in the files of the kinds do.
+-- The refusals of the nine parses. The Rust Reference says which texts are literals, and not why
+-- another is none: the tables here and in the files of the kinds do.
 use Rattle.std.specs.Prelude.{◌≡◌, ℕ, ◌==◌, ◌||◌, Bool, List, drop, Some, codes, if◌then◌else◌}
 use Rattle.std.specs.Char.{is_ascii_digit}
 use Rattle.std.specs.List.{prefix_len}
@@ -26,7 +26,8 @@ string_start_refusal string_kind = at 0 InvalidStringLiteralStart
 string_start_refusal byte_string_kind = plain InvalidByteStringLiteralStart
 string_start_refusal c_string_kind = plain InvalidCStringLiteralStart
 
--- How a text starts: it is refused without looking further, or the table of quoted or of raw literals gives its refusal.
+-- How a text starts: it is refused without looking further, or the table of quoted or of raw
+-- literals gives its refusal.
 pub data StringStart : Type 0 where
   refused_start : Refusal → StringStart
   quoted_start : StringStart
@@ -72,8 +73,8 @@ is_float_mark c = (c == period) || is_e c
 abbrev pub begins_float : List ℕ → Bool
 begins_float t = first_passes is_float_mark (drop (prefix_len (is_digit_or_underscore Decimal) t) t)
 
--- How a text begins decides as which kind it is parsed, and the table of that kind gives its refusal.
--- Where no kind begins so, it is refused without looking further.
+-- How a text begins decides as which kind it is parsed, and the table of that kind gives its
+-- refusal. Where no kind begins so, it is refused without looking further.
 pub data Dispatch : Type 0 where
   refused_as : Refusal → Dispatch
   parsed_as : LiteralKind → Dispatch
@@ -91,7 +92,7 @@ dispatch t =
     else if begins_with (codes "c") t then parsed_as c_string_literal
     else refused_as (plain InvalidLiteral)
 
--- the refusals of a text that is dispatched so; one that is parsed as a bool is a bool, and has none
+-- the refusals of a text dispatched so; one that is parsed as a bool is a bool, and has none
 abbrev pub IsRefusalOfDispatch : Dispatch → List ℕ → Refusal → Type 0
 IsRefusalOfDispatch (refused_as refusal) t e = refusal ≡ e
 IsRefusalOfDispatch (parsed_as kind) t e = IsKindRefusal kind t e

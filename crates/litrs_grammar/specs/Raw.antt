@@ -1,6 +1,7 @@
--- Raw strings. The Rust Reference, Tokens, Literals: "Raw string literals", "Raw byte string literals" and
--- "Raw C string literals". The grammar stands first, the refusals below it.
--- Two switches tell the kinds apart: in a byte string `unicode` is off, in a C string NUL is not allowed.
+-- Raw strings. The Rust Reference, Tokens, Literals: "Raw string literals",
+-- "Raw byte string literals" and "Raw C string literals". The grammar stands first, the refusals
+-- below it. Two switches tell the kinds apart: in a byte string `unicode` is off, in a C string NUL
+-- is not allowed.
 use Rattle.std.specs.Prelude.{◌≡◌, ℕ, ◌+◌, ◌≤◌, ◌==◌, ◌&&◌, ◌||◌, nat_lt, Bool, not, List, [], ◌∷◌, ◌++◌, length, take, drop, replicate, Option, Some, None, IsTrue, IsFalse, if◌then◌else◌, encode_utf8_all, codes}
 use Rattle.std.specs.List.{list_all, prefix_len, slice_index}
 use Rattle.litrs_base.specs.declared.err.ParseErrorKind.{ParseErrorKind}
@@ -36,12 +37,13 @@ abbrev pub occurs : List ℕ → List ℕ → Bool
 occurs part [] = is_empty part
 occurs part (c ∷ cs) = begins_with part (c ∷ cs) || occurs part cs
 
--- No CR stands in a raw body, only ASCII in that of a byte string, and no NUL in that of a C string.
--- A backslash means nothing.
+-- No CR stands in a raw body, only ASCII in that of a byte string, and no NUL in that of a C
+-- string. A backslash means nothing.
 abbrev pub is_raw_char : (unicode allow_nul : Bool) → ℕ → Bool
 is_raw_char unicode allow_nul c = not (c == carriage_return) && (is_ascii_unless unicode c && is_no_nul_unless allow_nul c)
 
--- a raw body between n hashes: its characters may stand there, and what would close it does not occur in it
+-- a raw body between n hashes: its characters may stand there, and what would close it does not
+-- occur in it
 pub record IsRawBody (unicode allow_nul : Bool) (n : ℕ) (body : List ℕ) : Type 0 where
   pub allowed : IsTrue (list_all (is_raw_char unicode allow_nul) body)
   pub unclosed : IsFalse (occurs (raw_closing n) body)
@@ -89,13 +91,13 @@ pub record IsRawLiteral (kind : StringKind) (t : List ℕ) (d : RawParts) : Type
   pub spells : raw_front kind ++ raw_text d ≡ t
   pub grammar : IsRaw (has_unicode kind) (allows_nul kind) d
 
--- Refusals. They are decided by the hashes behind the front, and by what stands before the first closing.
+-- Refusals: decided by the hashes behind the front, and by what stands before the first closing.
 
 -- how many hashes the text begins with
 abbrev pub hash_len : List ℕ → ℕ
 hash_len t = prefix_len is_hash t
 
--- how many characters stand before the first place where the part stands, in all where it stands nowhere
+-- how many characters stand before the part, where it first stands; all where it stands nowhere
 abbrev pub length_before : List ℕ → List ℕ → ℕ
 length_before part [] = 0
 length_before part (c ∷ cs) = if begins_with part (c ∷ cs) then 0 else 1 + length_before part cs
@@ -104,8 +106,8 @@ length_before part (c ∷ cs) = if begins_with part (c ∷ cs) then 0 else 1 + l
 abbrev pub raw_char_refusal : ℕ → ParseErrorKind
 raw_char_refusal c = if c == carriage_return then CarriageReturn else if is_nul c then NulByte else NonAsciiInByteLiteral
 
--- Why what follows n hashes and the quote, from the place start on, ends no raw literal: None where it does. The body
--- goes up to the first closing, and the first row that fits decides.
+-- Why what follows n hashes and the quote, from the place start on, ends no raw literal: None where
+-- it does. The body goes up to the first closing, and the first row that fits decides.
 unfoldable pub raw_body_refusal : (unicode allow_nul : Bool) (n start : ℕ) → List ℕ → Option Refusal
 raw_body_refusal unicode allow_nul n start t =
     let body = take (length_before (raw_closing n) t) t in
@@ -116,8 +118,8 @@ raw_body_refusal unicode allow_nul n start t =
     else if not (is_suffix suffix) then Some (at (start + (byte_len body + (1 + n))) (suffix_refusal suffix))
     else None
 
--- Why what follows a front, from the place start on, is no raw literal: None where it is one. The first row that fits
--- decides.
+-- Why what follows a front, from the place start on, is no raw literal: None where it is one. The
+-- first row that fits decides.
 unfoldable pub raw_refusal : (unicode allow_nul : Bool) (start : ℕ) → List ℕ → Option Refusal
 raw_refusal unicode allow_nul start t =
     let n = hash_len t in

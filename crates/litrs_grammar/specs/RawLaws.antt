@@ -11,8 +11,8 @@ use Rattle.litrs_grammar.specs.Raw.{is_nul, raw_closing, occurs, length_before, 
 abbrev pub RawLiteralsAreUnique : Type 0
 RawLiteralsAreUnique = (t : List ℕ) (k l : StringKind) (d e : RawParts) → IsRawLiteral k t d → IsRawLiteral l t e → (k ≡ l) × (d ≡ e)
 
--- A text that begins with the front of a kind is a raw literal of the kind, or the table refuses it: one of the two,
--- and never both.
+-- A text that begins with the front of a kind is a raw literal of the kind, or the table refuses
+-- it: one of the two, and never both.
 abbrev pub RawLiteralsAreDecided : Type 0
 RawLiteralsAreDecided = (kind : StringKind) (t : List ℕ) → IsTrue (begins_with (raw_front kind) t) →
     (raw_literal_refusal kind t ≡ None) ↔ ((d : RawParts) × IsRawLiteral kind t d)

@@ -1,5 +1,5 @@
--- How the parts of a raw literal are found in a text: the hashes, the first closing, and the first character that may not stand
--- in the body. What is found stays so in every longer text.
+-- How the parts of a raw literal are found in a text: the hashes, the first closing, and the first
+-- character that may not stand in the body. What is found stays so in every longer text.
 use Rattle.std.specs.Prelude.{◌≡◌, ℕ, ◌+◌, Bool, List, ◌∷◌, ◌++◌, length, drop, Some, IsTrue, IsFalse}
 use Rattle.std.specs.List.{list_any}
 use Rattle.litrs_base.specs.Characters.{double_quote}
@@ -17,7 +17,8 @@ abbrev pub FirstClosingsStay : Type 0
 FirstClosingsStay = (n : ℕ) (t more : List ℕ) → IsTrue (occurs (raw_closing n) t) →
     length_before (raw_closing n) (t ++ more) ≡ length_before (raw_closing n) t
 
--- the first character that may not stand in a body, behind characters that are one, is refused, whatever follows
+-- the first character that may not stand in a body, behind characters that are one, is refused,
+-- whatever follows
 abbrev pub StoppedBodiesAreRefused : Type 0
 StoppedBodiesAreRefused = (unicode allow_nul : Bool) (n start : ℕ) (front : List ℕ) (c : ℕ) (t : List ℕ) →
     IsRawBody unicode allow_nul n front → IsFalse (is_raw_char unicode allow_nul c) →

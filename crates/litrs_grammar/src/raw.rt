@@ -7,8 +7,8 @@ pub fn raw_literals_are_unique()
     ensures { RawLiteralsAreUnique }
 {}
 
-/// A text that begins with the front of a kind is a raw literal of the kind, or the table refuses it:
-/// one of the two, and never both.
+/// A text that begins with the front of a kind is a raw literal of the kind, or the table refuses
+/// it: one of the two, and never both.
 pub fn raw_literals_are_decided()
     ensures { RawLiteralsAreDecided }
 {}

@@ -1,4 +1,5 @@
--- Where a char or a byte is cut, in bytes. The Rust Reference, Tokens, Literals: "Character literals" and "Byte literals".
+-- Where a char or a byte is cut, in bytes. The Rust Reference, Tokens, Literals:
+-- "Character literals" and "Byte literals".
 use Rattle.std.specs.Prelude.{◌≡◌, ℕ, ◌+◌, ◌-◌, ◌≤◌, ◌==◌, Bool, true, false, List, ◌∷◌, ◌++◌, length, take, drop, slice_index, slice_range, Some, IsTrue, if◌then◌else◌}
 use Rattle.std.specs.Str.{chars, IsCharBoundary}
 use Rattle.litrs_base.specs.declared.err.ParseError.{ParseError}
@@ -24,7 +25,8 @@ abbrev pub item_written : List ℕ → CharItem
 item_written t =
     if slice_index t 0 == backslash then escaped_char (escape_written t) else plain_char (slice_index t 0)
 
--- the parts of a literal whose suffix starts at the place: the item stands between the front and the closing quote
+-- the parts of a literal whose suffix starts at the place: the item stands between the front and
+-- the closing quote
 abbrev pub char_parts_at : CharKind → ℕ → List ℕ → CharParts
 char_parts_at kind start bytes = record {
   item = item_written (chars (slice_range bytes (length (char_front kind)) (start - 1)));

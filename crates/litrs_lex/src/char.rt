@@ -20,7 +20,8 @@ use litrs_base::{ParseError, ParseErrorKind, Unescape};
 ///
 /// # Errors
 ///
-/// - `UnterminatedCharLiteral` where nothing follows the first quote, or no quote closes the literal.
+/// - `UnterminatedCharLiteral` where nothing follows the first quote, or no quote closes the
+///   literal.
 /// - `UnescapedSingleQuote` for `'''`, at 1..2, and `EmptyCharLiteral` for another `''`.
 /// - `UnescapedSpecialWhitespace` for LF, tab or CR, at 1..2.
 /// - As [`unescape`] refuses an escape, with both spans one byte further on.
@@ -47,7 +48,8 @@ pub fn cut_char(input: &str) -> Result<(char, usize), ParseError>
 ///
 /// # Errors
 ///
-/// - `UnterminatedByteLiteral` where nothing follows the first quote, or no quote closes the literal.
+/// - `UnterminatedByteLiteral` where nothing follows the first quote, or no quote closes the
+///   literal.
 /// - `UnescapedSingleQuote` for `b'''`, at 2..3, and `EmptyByteLiteral` for another `b''`.
 /// - `UnescapedSpecialWhitespace` for LF, tab or CR, and `NonAsciiInByteLiteral` for a character
 ///   that is not ASCII, at its first byte.

@@ -12,8 +12,8 @@ ghost use Rattle.litrs_lex.specs.Unescaped.{switches, IsUnescaped, IsEscapeRefus
 use crate::parse::hex_digit_value;
 use litrs_base::{ParseError, ParseErrorKind, Unescape};
 
-/// Parses the escape at the front of a text that is empty or begins with a backslash: what it stands
-/// for, and its length in bytes. Of `\n12` that is the byte 10, with length 2. See
+/// Parses the escape at the front of a text that is empty or begins with a backslash: what it
+/// stands for, and its length in bytes. Of `\n12` that is the byte 10, with length 2. See
 /// [the reference][ref].
 ///
 /// `unicode` allows `\u{..}`, `byte_escapes` allows `\x80` to `\xff`, and `allow_nul` allows an
@@ -25,12 +25,12 @@ use litrs_base::{ParseError, ParseErrorKind, Unescape};
 /// - `UnterminatedEscape` where the text has fewer than two characters, at 0..1, which passes the
 ///   empty text; and where no character ends behind the two bytes that follow `\x`, over the text.
 /// - `DisallowedNulEscape` for a value of 0 where it is not allowed, over the escape.
-/// - `InvalidXEscape` where `\x` is not followed by two hex digits, and `NonAsciiXEscape` where they
-///   pass 7F and may not, both at 0..4.
-/// - `UnicodeEscapeInByteLiteral` where `\u` is not allowed, and `UnicodeEscapeWithoutBrace` where no
-///   `{` follows it, both at 0..2.
-/// - `UnterminatedUnicodeEscape` where no `}` follows, over the text; then for what stands before the
-///   first `}`: `InvalidStartOfUnicodeEscape` where that is empty or begins with `_`, at 3..4;
+/// - `InvalidXEscape` where `\x` is not followed by two hex digits, and `NonAsciiXEscape` where
+///   they pass 7F and may not, both at 0..4.
+/// - `UnicodeEscapeInByteLiteral` where `\u` is not allowed, and `UnicodeEscapeWithoutBrace` where
+///   no `{` follows it, both at 0..2.
+/// - `UnterminatedUnicodeEscape` where no `}` follows, over the text; then for what stands before
+///   the first `}`: `InvalidStartOfUnicodeEscape` where that is empty or begins with `_`, at 3..4;
 ///   `NonHexDigitInUnicodeEscape` at the first character that is neither a hex digit nor `_`, and
 ///   `TooManyDigitInUnicodeEscape` at the seventh digit, whichever is first, over its first byte;
 ///   `InvalidUnicodeEscapeChar` where the value is no character, over the escape.

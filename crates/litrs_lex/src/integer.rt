@@ -33,9 +33,9 @@ pub struct IntegerCut {
 /// # Errors
 ///
 /// `InvalidDigit` where a decimal digit follows the main part, at that digit; the refusal of
-/// [`check_suffix`] where what follows is no suffix, from there to the end; `IntegerSuffixStartingWithE`
-/// where the suffix begins with `e` or `E`, at its first byte; `NoDigits` where the main part has no
-/// digit, over the main part.
+/// [`check_suffix`] where what follows is no suffix, from there to the end;
+/// `IntegerSuffixStartingWithE` where the suffix begins with `e` or `E`, at its first byte;
+/// `NoDigits` where the main part has no digit, over the main part.
 ///
 /// [ref]: https://doc.rust-lang.org/reference/tokens.html#integer-literals
 pub fn cut_integer(input: &str) -> Result<IntegerCut, ParseError>

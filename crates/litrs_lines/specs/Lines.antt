@@ -36,7 +36,7 @@ abbrev pub unless_empty : List ℕ → List (List ℕ)
 unless_empty [] = []
 unless_empty (b ∷ bs) = (b ∷ bs) ∷ []
 
--- The LFs split the bytes into parts. Each part but the last has an LF behind it, and is an ended line.
+-- The LFs split the bytes into parts. Each but the last has an LF behind it, and is an ended line.
 unfoldable pub ended_lines : List ℕ → List (List ℕ)
 ended_lines bytes = ended_parts (slice_split is_line_feed bytes)
 

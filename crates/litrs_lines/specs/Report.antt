@@ -39,8 +39,8 @@ hex_text n = digits 16 false n
 abbrev pub char_report : (name : List ℕ) → ℕ → (suffix : List ℕ) → List ℕ
 char_report name value suffix = name ++ (codes " value=" ++ (hex_text value ++ (codes " suffix=" ++ suffix)))
 
--- `bool true`; `integer base=16 digits=ff80 suffix= value=65408`; `float int=3 frac=14 exp= suffix=f33`;
--- `char value=1f98a suffix=`; `byte value=ff suffix=`;
+-- `bool true`; `integer base=16 digits=ff80 suffix= value=65408`;
+-- `float int=3 frac=14 exp= suffix=f33`; `char value=1f98a suffix=`; `byte value=ff suffix=`;
 -- empty for the kinds that are not parsed yet
 abbrev pub literal_report : Derivation → List ℕ
 literal_report (a_bool b) = codes "bool " ++ bool_text b

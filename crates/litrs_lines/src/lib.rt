@@ -208,8 +208,8 @@ fn finish<O: Output>(
 /// failed. `Memory` where an allocation failed. What was written is then a beginning of the reports
 /// on the whole lines that were read.
 ///
-/// A failed call is never made again, so an error of the kind `Interrupted` ends the run as well: see
-/// [`StdInput`] and [`StdOutput`].
+/// A failed call is never made again, so an error of the kind `Interrupted` ends the run as well:
+/// see [`StdInput`] and [`StdOutput`].
 pub fn run<I: Input, O: Output>(
     alloc: Global,
     reader: &mut I,

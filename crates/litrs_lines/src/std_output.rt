@@ -6,8 +6,8 @@ ghost use Rattle.litrs_lines.specs.Devices.{RecordsFailure};
 use crate::device::{Failed, Output};
 use std::io::Write;
 
-/// An output over any writer. Each of the writer's errors is a failure, and so is a write that takes
-/// no byte of a piece that is not empty.
+/// An output over any writer. Each of the writer's errors is a failure, and so is a write that
+/// takes no byte of a piece that is not empty.
 ///
 /// This includes an error of the kind `Interrupted`, which the system gives where a signal handler
 /// ran during a write. The library's own `write_all` writes again then; `write` here does not. A
