@@ -30,9 +30,15 @@ pub struct CharLit<B: Text> {
 impl<B: Text> Model for CharLit<B> {
     ghost Value = { CharLiteral B };
 
-    ghost view = { λ s. record { buffer = s.raw; raw = B.bytes s.raw; value = s.value; start_suffix = s.start_suffix } };
+    ghost view = { λ s. record {
+      buffer = s.raw;
+      raw = B.bytes s.raw;
+      value = s.value;
+      start_suffix = s.start_suffix;
+    } };
 
-    ghost inverse = { λ lit. record { raw = lit.buffer; value = lit.value; start_suffix = lit.start_suffix } };
+    ghost inverse = { λ lit.
+        record { raw = lit.buffer; value = lit.value; start_suffix = lit.start_suffix } };
 
     ghost invariant = { λ s. IsCharAt char_kind s.value s.start_suffix (B.bytes s.raw) };
 }
@@ -146,8 +152,10 @@ impl CharLit<&str> {
 /// The value, and where the suffix starts, if the text is a char.
 fn cut(input: &str) -> Result<(char, usize), ParseError>
     ensures ok { IfOk result (λ cut.
-        IsOnlyDerivation (IsCharLiteral char_kind (chars input.now)) (char_parts_at char_kind cut.1 input.now)) }
-    ensures value { IfOk result (λ cut. char_value (char_parts_at char_kind cut.1 input.now).item ≡ cut.0) }
+        IsOnlyDerivation (IsCharLiteral char_kind (chars input.now))
+        (char_parts_at char_kind cut.1 input.now)) }
+    ensures value { IfOk result (λ cut.
+        char_value (char_parts_at char_kind cut.1 input.now).item ≡ cut.0) }
     ensures place { IfOk result (λ cut. IsCharBoundary input.now cut.1) }
     ensures refused { IfErr result (IsRefused (kind_parse char_literal) (chars input.now)) }
 {

@@ -75,7 +75,8 @@ impl<B: Text> IntegerLit<B> {
     /// `0b1111_1111` is `Some(255)` as a `u8` and None as an `i8`; `128i8` is `Some(128)` as a
     /// `u8`.
     pub fn value<N: FromIntegerLiteral>(&self) -> Option<N>
-        ensures { let number = integer_value (integer_parts self.now) in SomeIff result (number ≤ N.greatest) (N.of number) }
+        ensures { let number = integer_value (integer_parts self.now) in
+            SomeIff result (number ≤ N.greatest) (N.of number) }
     {
         value_of(self.cut.base, self.raw_main_part().as_bytes())
     }
@@ -180,7 +181,8 @@ fn cut(input: &str) -> Result<IntegerCut, ParseError>
 /// The number that digits and underscores of the base stand for, None where `N` does not have it.
 fn value_of<N: FromIntegerLiteral>(base: IntegerBase, main: &[u8]) -> Option<N>
     requires { IsTrue (list_all (is_digit_or_underscore base) main.now) }
-    ensures { let number = numeral (base_value base) main.now in SomeIff result (number ≤ N.greatest) (N.of number) }
+    ensures { let number = numeral (base_value base) main.now in
+        SomeIff result (number ≤ N.greatest) (N.of number) }
 {
     let radix = N::from_small_number(base.value());
     let mut number = N::from_small_number(0);

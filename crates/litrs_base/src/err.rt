@@ -39,7 +39,8 @@ impl ParseError {
     }
 
     /// A refusal of this text. The span, whose start is at most its end, counts bytes of it; the
-    /// end may lie inside a character. `in_text("é", Some(0..1), kind)` has the character span 0..2.
+    /// end may lie inside a character. Of `in_text("é", Some(0..1), kind)` the character span is
+    /// 0..2.
     pub fn in_text(text: &str, span: Option<Range<usize>>, kind: ParseErrorKind) -> ParseError
         requires { IfSome span (λ range. range.start ≤ range.end) }
         ensures refusal { refusal_of result ≡ refusal span kind }

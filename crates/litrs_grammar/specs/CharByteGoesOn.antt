@@ -12,10 +12,12 @@ abbrev pub CharRestGoesOn : CharKind → List ℕ → Type 0
 CharRestGoesOn kind rest =
     BeginsEscape (char_switches_of kind) rest
     ⊎ (((c : ℕ) × IsTrue (is_char_item kind (plain_char c)) × (rest ≡ c ∷ []))
-    ⊎ ((item : CharItem) × IsTrue (is_char_item kind item) × (rest ≡ char_item_text item ++ (single_quote ∷ underscore ∷ []))))
+    ⊎ ((item : CharItem) × IsTrue (is_char_item kind item)
+    × (rest ≡ char_item_text item ++ (single_quote ∷ underscore ∷ []))))
 
 -- The text is the front, a part of the front from its start, or nothing, or it is the front and
 -- behind it a text that goes on.
 abbrev pub CharGoesOn : CharKind → List ℕ → Type 0
 CharGoesOn kind t =
-    IsTrue (begins_with t (char_front kind)) ⊎ ((rest : List ℕ) × (char_front kind ++ rest ≡ t) × CharRestGoesOn kind rest)
+    IsTrue (begins_with t (char_front kind))
+    ⊎ ((rest : List ℕ) × (char_front kind ++ rest ≡ t) × CharRestGoesOn kind rest)

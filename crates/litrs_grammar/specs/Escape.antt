@@ -50,8 +50,8 @@ escape_text (unicode_escape inner) = backslash ∷ letter_u ∷ open_brace ∷ (
 -- the characters that a backslash alone makes an escape: `'`, `"`, `n`, `r`, `t`, `\` and `0`
 abbrev pub is_simple : ℕ → Bool
 is_simple c =
-    (c == single_quote) || (c == double_quote) || (c == letter_n) || (c == letter_r) || (c == letter_t)
-    || (c == backslash) || (c == digit_zero)
+    (c == single_quote) || (c == double_quote) || (c == letter_n) || (c == letter_r)
+    || (c == letter_t) || (c == backslash) || (c == digit_zero)
 
 -- `\n`, `\r`, `\t` and `\0` stand for LF, CR, tab and NUL, and the others for the character itself
 abbrev pub simple_value : ℕ → ℕ
@@ -127,7 +127,8 @@ hex_refusal w t =
     let high = slice_index t 0 in
     let low = slice_index t 1 in
     if not (has_two_bytes t) then Some (over 0 (2 + byte_len t) UnterminatedEscape)
-    else if not (is_ascii_hexdigit high && is_ascii_hexdigit low) then Some (over 0 4 InvalidXEscape)
+    else if not (is_ascii_hexdigit high && is_ascii_hexdigit low)
+    then Some (over 0 4 InvalidXEscape)
     else if not (allows_byte w (pair_value high low)) then Some (over 0 4 NonAsciiXEscape)
     else if not (allows_value w (pair_value high low)) then Some (over 0 4 DisallowedNulEscape)
     else None
@@ -142,21 +143,26 @@ place_behind (suc n) p (c ∷ t) = 1 + place_behind (if p c then n else suc n) p
 abbrev pub inner_refusal : Switches → List ℕ → Option Refusal
 inner_refusal w inner =
     let digits = take_while is_hex_or_underscore inner in
-    if is_empty inner || first_passes (λ c. c == underscore) inner then Some (at 3 InvalidStartOfUnicodeEscape)
+    if is_empty inner || first_passes (λ c. c == underscore) inner
+    then Some (at 3 InvalidStartOfUnicodeEscape)
     else if nat_lt (length digits) (length inner) && nat_le (count_by is_ascii_hexdigit digits) 6
     then Some (at (3 + length digits) NonHexDigitInUnicodeEscape)
     else if nat_lt 6 (count_by is_ascii_hexdigit inner)
     then Some (at (3 + place_behind 6 is_ascii_hexdigit inner) TooManyDigitInUnicodeEscape)
-    else if not (allows_value w (hex_value inner)) then Some (over 0 (4 + length inner) DisallowedNulEscape)
-    else if not (is_scalar (hex_value inner)) then Some (over 0 (4 + length inner) InvalidUnicodeEscapeChar)
+    else if not (allows_value w (hex_value inner))
+    then Some (over 0 (4 + length inner) DisallowedNulEscape)
+    else if not (is_scalar (hex_value inner))
+    then Some (over 0 (4 + length inner) InvalidUnicodeEscapeChar)
     else None
 
 -- by what follows `\u`
 abbrev pub unicode_refusal : Switches → List ℕ → Option Refusal
 unicode_refusal w t =
     if not w.unicode then Some (over 0 2 UnicodeEscapeInByteLiteral)
-    else if not (first_passes (λ c. c == open_brace) t) then Some (over 0 2 UnicodeEscapeWithoutBrace)
-    else if not (list_any (λ c. c == close_brace) t) then Some (over 0 (2 + byte_len t) UnterminatedUnicodeEscape)
+    else if not (first_passes (λ c. c == open_brace) t)
+    then Some (over 0 2 UnicodeEscapeWithoutBrace)
+    else if not (list_any (λ c. c == close_brace) t)
+    then Some (over 0 (2 + byte_len t) UnterminatedUnicodeEscape)
     else inner_refusal w (before_first (λ c. c == close_brace) (drop 1 t))
 
 -- by what follows the backslash

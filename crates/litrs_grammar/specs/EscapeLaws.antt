@@ -21,4 +21,5 @@ EscapesAreDecided = (w : Switches) (t : List ℕ) →
 
 -- the span of each refusal lies within the text and starts on a character boundary
 abbrev pub EscapeSpansLieInText : Type 0
-EscapeSpansLieInText = (w : Switches) (t : List ℕ) (e : Refusal) → escape_refusal w (backslash ∷ t) ≡ Some e → IsInText (backslash ∷ t) e
+EscapeSpansLieInText = (w : Switches) (t : List ℕ) (e : Refusal) →
+    escape_refusal w (backslash ∷ t) ≡ Some e → IsInText (backslash ∷ t) e

@@ -70,7 +70,8 @@ is_exponent (c ∷ cs) = is_e c && is_exponent_number (drop (sign_len cs) cs)
 -- optional exponent and a suffix; an exponent and a suffix.
 abbrev pub is_float_form : Option (List ℕ) → List ℕ → List ℕ → Bool
 is_float_form (Some []) exponent suffix = is_empty exponent && is_empty suffix
-is_float_form (Some (c ∷ cs)) exponent suffix = is_decimal_literal (c ∷ cs) && (is_empty exponent || is_exponent exponent)
+is_float_form (Some (c ∷ cs)) exponent suffix =
+    is_decimal_literal (c ∷ cs) && (is_empty exponent || is_exponent exponent)
 is_float_form None exponent suffix = is_exponent exponent
 
 -- The parts are those of a float. The suffix does not begin with `_`, nor with `e` or `E` but
@@ -100,7 +101,9 @@ fraction_of (c ∷ cs) = if is_period c then Some (take_while is_decimal_char cs
 abbrev pub exponent_of : List ℕ → List ℕ
 exponent_of [] = []
 exponent_of (c ∷ cs) =
-    if is_e c then c ∷ (take (sign_len cs) cs ++ take_while is_decimal_char (drop (sign_len cs) cs)) else []
+    if is_e c
+    then c ∷ (take (sign_len cs) cs ++ take_while is_decimal_char (drop (sign_len cs) cs))
+    else []
 
 -- what follows the front of a text
 abbrev pub behind : List ℕ → List ℕ → List ℕ
@@ -123,7 +126,8 @@ float_cut t =
 -- a period, and behind it something that is no decimal digit
 abbrev pub has_wrong_fraction : List ℕ → Bool
 has_wrong_fraction [] = false
-has_wrong_fraction (c ∷ cs) = is_period c && (not (is_empty cs) && not (first_passes is_ascii_digit cs))
+has_wrong_fraction (c ∷ cs) =
+    is_period c && (not (is_empty cs) && not (first_passes is_ascii_digit cs))
 
 -- A text that begins with a digit, by its parts; the first row that fits decides. All before the
 -- suffix is ASCII, one byte a character.
@@ -133,9 +137,12 @@ float_cut_refusal d =
     let exponent = fraction + length (fraction_text d.fraction) in
     let suffix = exponent + length d.exponent in
     let has_exponent = not (is_empty d.exponent) in
-    if has_wrong_fraction (fraction_text d.fraction ++ (d.exponent ++ d.suffix)) then Some (at (fraction + 1) UnexpectedChar)
-    else if has_exponent && not (list_any is_ascii_digit d.exponent) then Some (over exponent suffix NoExponentDigits)
-    else if not (is_suffix d.suffix) then Some (over suffix (byte_len (float_text d)) (suffix_refusal d.suffix))
+    if has_wrong_fraction (fraction_text d.fraction ++ (d.exponent ++ d.suffix))
+    then Some (at (fraction + 1) UnexpectedChar)
+    else if has_exponent && not (list_any is_ascii_digit d.exponent)
+    then Some (over exponent suffix NoExponentDigits)
+    else if not (is_suffix d.suffix)
+    then Some (over suffix (byte_len (float_text d)) (suffix_refusal d.suffix))
     else if not (is_some d.fraction || has_exponent) then Some (plain UnexpectedIntegerLit)
     else None
 

@@ -30,7 +30,9 @@ is_e c = (c == letter_e) || (c == capital_e)
 
 -- `0b`, `0o` or `0x` stands at the start
 abbrev pub has_prefix : List ℕ → Bool
-has_prefix t = begins_with (prefix Binary) t || begins_with (prefix Octal) t || begins_with (prefix Hexadecimal) t
+has_prefix t =
+    begins_with (prefix Binary) t || begins_with (prefix Octal) t
+    || begins_with (prefix Hexadecimal) t
 
 -- The main part has digits of the base and underscores, at least one digit, and takes all of them
 -- that follow. The suffix does not begin with `e` or `E`. A decimal integer begins with a digit,

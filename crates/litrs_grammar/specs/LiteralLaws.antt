@@ -27,11 +27,13 @@ RefusalsAreUnique = (parse : Parse) (t : List ℕ) (e f : Refusal) →
 
 -- the span of each refusal lies within the text and starts on a character boundary
 abbrev pub RefusalSpansLieInText : Type 0
-RefusalSpansLieInText = (parse : Parse) (t : List ℕ) (e : Refusal) → IsRefusal parse t e → IsInText t e
+RefusalSpansLieInText = (parse : Parse) (t : List ℕ) (e : Refusal) →
+    IsRefusal parse t e → IsInText t e
 
 -- no refusal of a text is an allocation failure
 abbrev pub NoRefusalIsOfMemory : Type 0
-NoRefusalIsOfMemory = (parse : Parse) (t : List ℕ) (e : Refusal) → IsRefusal parse t e → e.kind ≢ OutOfMemory
+NoRefusalIsOfMemory = (parse : Parse) (t : List ℕ) (e : Refusal) →
+    IsRefusal parse t e → e.kind ≢ OutOfMemory
 
 -- no literal ends with LF
 abbrev pub NoLiteralEndsWithLineFeed : Type 0

@@ -84,11 +84,13 @@ unfoldable pub dispatch : List ℕ → Dispatch
 dispatch t =
     if is_empty t then refused_as (plain Empty)
     else if is_bool t then parsed_as bool_literal
-    else if first_passes is_ascii_digit t then (if begins_float t then parsed_as float_literal else parsed_as integer_literal)
+    else if first_passes is_ascii_digit t
+    then (if begins_float t then parsed_as float_literal else parsed_as integer_literal)
     else if begins_with (codes "'") t then parsed_as char_literal
     else if begins_with (codes "\"") t || begins_with (codes "r") t then parsed_as string_literal
     else if begins_with (codes "b'") t then parsed_as byte_literal
-    else if begins_with (codes "b\"") t || begins_with (codes "br") t then parsed_as byte_string_literal
+    else if begins_with (codes "b\"") t || begins_with (codes "br") t
+    then parsed_as byte_string_literal
     else if begins_with (codes "c") t then parsed_as c_string_literal
     else refused_as (plain InvalidLiteral)
 

@@ -68,7 +68,8 @@ takes_all_blanks (continuation blanks) behind = not (first_passes is_blank behin
 -- continuation.
 abbrev pub is_body : Switches → List Item → Bool
 is_body w [] = true
-is_body w (item ∷ items) = is_item w item && takes_all_blanks item (body_text items) && is_body w items
+is_body w (item ∷ items) =
+    is_item w item && takes_all_blanks item (body_text items) && is_body w items
 
 -- the text is that of a body, with these items
 pub record IsBodyOf (w : Switches) (t : List ℕ) (items : List Item) : Type 0 where
@@ -102,7 +103,8 @@ IsQuotedLiteral kind = IsQuoted (quoted_front kind) (switches_of kind)
 abbrev pub is_taken_before : List ℕ → Item → Bool
 is_taken_before behind (plain_item c) = true
 is_taken_before behind (escape_item e) = not (is_empty behind)
-is_taken_before behind (continuation blanks) = not (is_empty behind) && not (first_passes is_blank behind)
+is_taken_before behind (continuation blanks) =
+    not (is_empty behind) && not (first_passes is_blank behind)
 
 -- the items are taken into the list, where the rest follows them
 abbrev pub stand_before : Switches → List ℕ → List Item → Bool

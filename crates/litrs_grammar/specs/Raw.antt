@@ -40,7 +40,8 @@ occurs part (c ∷ cs) = begins_with part (c ∷ cs) || occurs part cs
 -- No CR stands in a raw body, only ASCII in that of a byte string, and no NUL in that of a C
 -- string. A backslash means nothing.
 abbrev pub is_raw_char : (unicode allow_nul : Bool) → ℕ → Bool
-is_raw_char unicode allow_nul c = not (c == carriage_return) && (is_ascii_unless unicode c && is_no_nul_unless allow_nul c)
+is_raw_char unicode allow_nul c =
+    not (c == carriage_return) && (is_ascii_unless unicode c && is_no_nul_unless allow_nul c)
 
 -- a raw body between n hashes: its characters may stand there, and what would close it does not
 -- occur in it
@@ -60,7 +61,8 @@ pub record RawParts : Type 0 where
 
 -- the text with these parts behind its front: hashes, `"`, body, `"`, as many hashes, suffix
 abbrev pub raw_text : RawParts → List ℕ
-raw_text d = hashes d.hash_count ++ (double_quote ∷ (d.body ++ (raw_closing d.hash_count ++ d.suffix)))
+raw_text d =
+    hashes d.hash_count ++ (double_quote ∷ (d.body ++ (raw_closing d.hash_count ++ d.suffix)))
 
 -- the parts are those of a raw literal, which has at most 255 hashes
 pub record IsRaw (unicode allow_nul : Bool) (d : RawParts) : Type 0 where
@@ -104,7 +106,10 @@ length_before part (c ∷ cs) = if begins_with part (c ∷ cs) then 0 else 1 + l
 
 -- why a character may not stand in a raw body
 abbrev pub raw_char_refusal : ℕ → ParseErrorKind
-raw_char_refusal c = if c == carriage_return then CarriageReturn else if is_nul c then NulByte else NonAsciiInByteLiteral
+raw_char_refusal c =
+    if c == carriage_return then CarriageReturn
+    else if is_nul c then NulByte
+    else NonAsciiInByteLiteral
 
 -- Why what follows n hashes and the quote, from the place start on, ends no raw literal: None where
 -- it does. The body goes up to the first closing, and the first row that fits decides.
@@ -113,9 +118,11 @@ raw_body_refusal unicode allow_nul n start t =
     let body = take (length_before (raw_closing n) t) t in
     let allowed = prefix_len (is_raw_char unicode allow_nul) body in
     let suffix = drop (length body + (1 + n)) t in
-    if nat_lt allowed (length body) then Some (at (start + byte_len (take allowed t)) (raw_char_refusal (slice_index t allowed)))
+    if nat_lt allowed (length body)
+    then Some (at (start + byte_len (take allowed t)) (raw_char_refusal (slice_index t allowed)))
     else if not (occurs (raw_closing n) t) then Some (plain UnterminatedRawString)
-    else if not (is_suffix suffix) then Some (at (start + (byte_len body + (1 + n))) (suffix_refusal suffix))
+    else if not (is_suffix suffix)
+    then Some (at (start + (byte_len body + (1 + n))) (suffix_refusal suffix))
     else None
 
 -- Why what follows a front, from the place start on, is no raw literal: None where it is one. The
@@ -131,4 +138,6 @@ raw_refusal unicode allow_nul start t =
 
 -- why a text that begins with the front of the kind is no raw literal of the kind
 abbrev pub raw_literal_refusal : StringKind → List ℕ → Option Refusal
-raw_literal_refusal kind t = raw_refusal (has_unicode kind) (allows_nul kind) (length (raw_front kind)) (drop (length (raw_front kind)) t)
+raw_literal_refusal kind t =
+    raw_refusal (has_unicode kind) (allows_nul kind) (length (raw_front kind))
+    (drop (length (raw_front kind)) t)

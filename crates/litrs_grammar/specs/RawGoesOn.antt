@@ -16,11 +16,13 @@ pub record IsClosedRaw (unicode allow_nul : Bool) (n : ℕ) (t behind : List ℕ
 abbrev pub RawRestGoesOn : (unicode allow_nul : Bool) (n : ℕ) → List ℕ → Type 0
 RawRestGoesOn unicode allow_nul n [] = Unit {0}
 RawRestGoesOn unicode allow_nul n (c ∷ t) =
-    (c ≡ double_quote) × (IsRawBody unicode allow_nul n t ⊎ IsClosedRaw unicode allow_nul n t (underscore ∷ []))
+    (c ≡ double_quote)
+    × (IsRawBody unicode allow_nul n t ⊎ IsClosedRaw unicode allow_nul n t (underscore ∷ []))
 
 -- behind the front: at most 255 hashes, and what may go on behind so many
 abbrev pub RawGoesOn : (unicode allow_nul : Bool) → List ℕ → Type 0
-RawGoesOn unicode allow_nul t = (hash_len t ≤ 255) × RawRestGoesOn unicode allow_nul (hash_len t) (drop (hash_len t) t)
+RawGoesOn unicode allow_nul t =
+    (hash_len t ≤ 255) × RawRestGoesOn unicode allow_nul (hash_len t) (drop (hash_len t) t)
 
 -- The parts that its closing text gives an open text, behind the front: as many hashes as it begins
 -- with, all behind the opening quote as the body, and no suffix.

@@ -10,7 +10,8 @@ use Rattle.litrs_grammar.specs.Raw.{is_quote, hashes, raw_closing, occurs, is_ra
 
 -- the number of hashes stays, where any character follows them
 abbrev pub HashCountsStay : Type 0
-HashCountsStay = (t more : List ℕ) → IsFalse (is_empty (drop (hash_len t) t)) → hash_len (t ++ more) ≡ hash_len t
+HashCountsStay = (t more : List ℕ) →
+    IsFalse (is_empty (drop (hash_len t) t)) → hash_len (t ++ more) ≡ hash_len t
 
 -- the first closing stays
 abbrev pub FirstClosingsStay : Type 0
@@ -20,9 +21,11 @@ FirstClosingsStay = (n : ℕ) (t more : List ℕ) → IsTrue (occurs (raw_closin
 -- the first character that may not stand in a body, behind characters that are one, is refused,
 -- whatever follows
 abbrev pub StoppedBodiesAreRefused : Type 0
-StoppedBodiesAreRefused = (unicode allow_nul : Bool) (n start : ℕ) (front : List ℕ) (c : ℕ) (t : List ℕ) →
+StoppedBodiesAreRefused =
+    (unicode allow_nul : Bool) (n start : ℕ) (front : List ℕ) (c : ℕ) (t : List ℕ) →
     IsRawBody unicode allow_nul n front → IsFalse (is_raw_char unicode allow_nul c) →
-    raw_body_refusal unicode allow_nul n start (front ++ c ∷ t) ≡ Some (at (start + byte_len front) (raw_char_refusal c))
+    raw_body_refusal unicode allow_nul n start (front ++ c ∷ t)
+    ≡ Some (at (start + byte_len front) (raw_char_refusal c))
 
 -- a final refusal stays, with its kind and span
 abbrev pub FinalRawRefusalsStay : Type 0
@@ -39,7 +42,8 @@ ClosingsBeginAtQuotes = (n : ℕ) (front t : List ℕ) → IsFalse (list_any is_
 -- at a `"` the first closing stands, if as many hashes follow,
 abbrev pub ClosingsAreFound : Type 0
 ClosingsAreFound = (n : ℕ) (t : List ℕ) → IsTrue (begins_with (hashes n) t) →
-    IsTrue (occurs (raw_closing n) (double_quote ∷ t)) × (length_before (raw_closing n) (double_quote ∷ t) ≡ 0)
+    IsTrue (occurs (raw_closing n) (double_quote ∷ t))
+    × (length_before (raw_closing n) (double_quote ∷ t) ≡ 0)
 
 -- and else it is passed too.
 abbrev pub QuotesArePassed : Type 0

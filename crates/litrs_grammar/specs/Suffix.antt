@@ -16,7 +16,8 @@ starts_identifier c = (c == underscore) || is_xid_start c
 -- The lone `_` is no suffix.
 unfoldable pub is_suffix : List ℕ → Bool
 is_suffix [] = true
-is_suffix (c ∷ cs) = starts_identifier c && list_all is_xid_continue cs && not ((c == underscore) && is_empty cs)
+is_suffix (c ∷ cs) =
+    starts_identifier c && list_all is_xid_continue cs && not ((c == underscore) && is_empty cs)
 
 -- ASCII, and neither a letter nor `_`
 abbrev pub is_ascii_symbol : ℕ → Bool

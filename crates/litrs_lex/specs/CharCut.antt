@@ -23,7 +23,8 @@ escape_written t =
 -- the character or the escape that is written so
 abbrev pub item_written : List ℕ → CharItem
 item_written t =
-    if slice_index t 0 == backslash then escaped_char (escape_written t) else plain_char (slice_index t 0)
+    if slice_index t 0 == backslash then escaped_char (escape_written t)
+    else plain_char (slice_index t 0)
 
 -- the parts of a literal whose suffix starts at the place: the item stands between the front and
 -- the closing quote
@@ -68,7 +69,8 @@ pub record IsItemRefused (kind : CharKind) (t : List ℕ) (e : ParseError) : Typ
   pub char_span : HasCharSpan t e
 
 -- an item, the closing quote and a suffix, which starts at the place
-pub record IsCutBehind (kind : CharKind) (bytes : List ℕ) (value : Unescape) (start : ℕ) : Type 0 where
+pub record IsCutBehind (kind : CharKind) (bytes : List ℕ) (value : Unescape) (start : ℕ)
+    : Type 0 where
   pub item : CharItem
   pub suffix : List ℕ
   pub spells : char_item_text item ++ single_quote ∷ suffix ≡ chars bytes

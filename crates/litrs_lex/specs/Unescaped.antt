@@ -25,7 +25,8 @@ pub record IsUnescaped (w : Switches) (bytes : List ℕ) (value : Unescape) (len
   pub rest : List ℕ
   pub spells : escape_text escape ++ rest ≡ chars bytes
   pub grammar : IsEscape w escape
-  pub only : (e : Escape) (r : List ℕ) → escape_text e ++ r ≡ chars bytes → IsEscape w e → e ≡ escape
+  pub only : (e : Escape) (r : List ℕ) →
+      escape_text e ++ r ≡ chars bytes → IsEscape w e → e ≡ escape
   pub is_value : escape_value escape ≡ value
   pub size : byte_len (escape_text escape) ≡ len
   pub within : len ≤ length bytes
@@ -51,4 +52,5 @@ pub record IsHexDigits (bytes : List ℕ) (digits : HexDigits) : Type 0 where
   pub few : count_by is_ascii_hexdigit (take digits.len bytes) ≤ 6
   pub value : hex_value (take digits.len bytes) ≡ digits.value
   pub stops : IsTrue (first_passes is_hex_or_underscore (drop digits.len bytes)) →
-      IsTrue (first_passes is_ascii_hexdigit (drop digits.len bytes)) × (count_by is_ascii_hexdigit (take digits.len bytes) ≡ 6)
+      IsTrue (first_passes is_ascii_hexdigit (drop digits.len bytes))
+      × (count_by is_ascii_hexdigit (take digits.len bytes) ≡ 6)

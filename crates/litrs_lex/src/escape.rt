@@ -43,9 +43,12 @@ pub fn unescape(
     byte_escapes: bool,
     allow_nul: bool,
 ) -> Result<(Unescape, usize), ParseError>
-    requires { IsTrue (is_empty (chars input.now) || first_passes (λ c. c == backslash) (chars input.now)) }
-    ensures ok { IfOk result (λ read. IsUnescaped (switches unicode byte_escapes allow_nul) input.now read.0 read.1) }
-    ensures refused { IfErr result (IsEscapeRefused (switches unicode byte_escapes allow_nul) (chars input.now)) }
+    requires { IsTrue (is_empty (chars input.now)
+        || first_passes (λ c. c == backslash) (chars input.now)) }
+    ensures ok { IfOk result (λ read.
+        IsUnescaped (switches unicode byte_escapes allow_nul) input.now read.0 read.1) }
+    ensures refused { IfErr result
+        (IsEscapeRefused (switches unicode byte_escapes allow_nul) (chars input.now)) }
 {
     let Some(letter) = input.as_bytes().get(1) else {
         return Err(ParseError::in_text(input, Some(0..1), ParseErrorKind::UnterminatedEscape));
@@ -146,7 +149,8 @@ fn allows_value(allow_nul: bool, value: u32) -> bool
 
 /// The value of two hex digits, or None where one of the two is none.
 fn pair_value(high: u8, low: u8) -> Option<u8>
-    ensures { SomeIff result (IsTrue (is_ascii_hexdigit high && is_ascii_hexdigit low)) (pair_value high low) }
+    ensures { SomeIff result (IsTrue (is_ascii_hexdigit high && is_ascii_hexdigit low))
+        (pair_value high low) }
 {
     let high = hex_digit_value(high)?;
     let low = hex_digit_value(low)?;

@@ -41,7 +41,8 @@ impl<W: Write> Output for StdOutput<W> {
     fn write(&mut self, piece: &[u8]) -> Result<usize, Failed>
         ensures bound { IfOk result (λ count. count ≤ length piece.now) }
         ensures some { IfOk result (λ count. count ≡ 0 → piece.now ≡ []) }
-        ensures bytes { WriteAppends (W.contents (writer_of self.old)) (W.contents (writer_of self.new))
+        ensures bytes { WriteAppends
+            (W.contents (writer_of self.old)) (W.contents (writer_of self.new))
             result piece.now }
         ensures failed { RecordsFailure (failed_of self.old) (failed_of self.new) result }
     {
