@@ -1,4 +1,5 @@
--- C strings: bytes without a zero, and a closing zero. The Rust Reference, Tokens, Literals: "C string literals".
+-- C strings: bytes without a zero, and a closing zero. The Rust Reference, Tokens, Literals:
+-- "C string literals".
 use Rattle.std.specs.Prelude.{◌≡◌, ℕ, ◌-◌, ◌==◌, Bool, List, [], ◌∷◌, ◌++◌, length, take, IsFalse}
 use Rattle.std.specs.List.{list_any}
 use Rattle.litrs_base.specs.Characters.{nul}

@@ -20,7 +20,8 @@ is_parsed _ = false
 abbrev pub IsParsed : List ℕ → Derivation → Type 0
 IsParsed t d = IsLiteral t d × IsTrue (is_parsed (literal_kind d))
 
--- the refusals of a text as a literal of the kind: by its table, or where it is not parsed `InvalidLiteral`
+-- the refusals of a text as a literal of the kind: by its table, or where it is not parsed
+-- `InvalidLiteral`
 abbrev pub IsRefusalWhere : Bool → LiteralKind → List ℕ → Refusal → Type 0
 IsRefusalWhere true kind t r = IsKindRefusal kind t r
 IsRefusalWhere false kind t r = plain InvalidLiteral ≡ r

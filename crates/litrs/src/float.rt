@@ -41,7 +41,7 @@ impl<B: Text> Model for FloatLit<B> {
 }
 
 impl<B: Text> FloatLit<B> {
-    /// Reads a text that is one float. It does not allocate.
+    /// Parses a text that is one float. It does not allocate.
     ///
     /// `3.14f33` has the integer part `3`, the fraction `14`, no exponent and the suffix `f33`.
     ///

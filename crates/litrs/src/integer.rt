@@ -27,9 +27,9 @@ use std::marker::Model;
 
 /// A number as it is written in Rust: `1_000`, `0xFF_u8`, `0b1111_1111`.
 ///
-/// It is made of a prefix that decides the base (`0b`, `0o`, `0x`, or none for ten), the main part, which
-/// is digits and underscores, and a suffix, which may be empty. It has no sign: in Rust a `-` is
-/// an operator. See [the reference][ref].
+/// It is made of a prefix that decides the base (`0b`, `0o`, `0x`, or none for ten), the main part,
+/// which is digits and underscores, and a suffix, which may be empty. It has no sign: in Rust a `-`
+/// is an operator. See [the reference][ref].
 ///
 /// [ref]: https://doc.rust-lang.org/reference/tokens.html#integer-literals
 pub struct IntegerLit<B: Text> {
@@ -48,7 +48,7 @@ impl<B: Text> Model for IntegerLit<B> {
 }
 
 impl<B: Text> IntegerLit<B> {
-    /// Reads a text that is one integer. It does not allocate.
+    /// Parses a text that is one integer. It does not allocate.
     ///
     /// `0xFF_u8` has the base 16, the main part `FF_` and the suffix `u8`.
     ///
@@ -72,9 +72,11 @@ impl<B: Text> IntegerLit<B> {
     /// The number that the digits of the main part stand for in their base, whatever the suffix.
     ///
     /// None if and only if it is greater than the greatest number of `N`. It does not allocate.
-    /// `0b1111_1111` is `Some(255)` as a `u8` and None as an `i8`; `128i8` is `Some(128)` as a `u8`.
+    /// `0b1111_1111` is `Some(255)` as a `u8` and None as an `i8`; `128i8` is `Some(128)` as a
+    /// `u8`.
     pub fn value<N: FromIntegerLiteral>(&self) -> Option<N>
-        ensures { let number = integer_value (integer_parts self.now) in SomeIff result (number ≤ N.greatest) (N.of number) }
+        ensures { let number = integer_value (integer_parts self.now) in
+            SomeIff result (number ≤ N.greatest) (N.of number) }
     {
         value_of(self.cut.base, self.raw_main_part().as_bytes())
     }
@@ -86,16 +88,16 @@ impl<B: Text> IntegerLit<B> {
         self.cut.base
     }
 
-    /// The main part: the digits and underscores, without the prefix: `FF_` of `0xFF_u8`. By itself it
-    /// does not say in which base it is; see [`base`](IntegerLit::base).
+    /// The main part: the digits and underscores, without the prefix: `FF_` of `0xFF_u8`. By itself
+    /// it does not say in which base it is; see [`base`](IntegerLit::base).
     pub fn raw_main_part(&self) -> &str
         ensures { chars result.now ≡ (integer_parts self.now).main }
     {
         &self.raw.as_str()[self.cut.start_main..self.cut.end_main]
     }
 
-    /// The suffix, empty where there is none: `u8` of `0xFF_u8`. Which type it names, if any, answers
-    /// `IntegerType::from_suffix(lit.suffix())`.
+    /// The suffix, empty where there is none: `u8` of `0xFF_u8`. Which type it names, if any,
+    /// answers `IntegerType::from_suffix(lit.suffix())`.
     pub fn suffix(&self) -> &str
         ensures { chars result.now ≡ (integer_parts self.now).suffix }
     {
@@ -176,10 +178,11 @@ fn cut(input: &str) -> Result<IntegerCut, ParseError>
     }
 }
 
-/// The number that digits of the base and underscores stand for, or None where `N` does not have it.
+/// The number that digits and underscores of the base stand for, None where `N` does not have it.
 fn value_of<N: FromIntegerLiteral>(base: IntegerBase, main: &[u8]) -> Option<N>
     requires { IsTrue (list_all (is_digit_or_underscore base) main.now) }
-    ensures { let number = numeral (base_value base) main.now in SomeIff result (number ≤ N.greatest) (N.of number) }
+    ensures { let number = numeral (base_value base) main.now in
+        SomeIff result (number ≤ N.greatest) (N.of number) }
 {
     let radix = N::from_small_number(base.value());
     let mut number = N::from_small_number(0);

@@ -1,7 +1,8 @@
 //! Parsing and inspecting Rust literals.
 //!
-//! Each kind of literal has a type, [`BoolLit`], [`IntegerLit`], [`FloatLit`], [`CharLit`] and [`ByteLit`], and [`Literal`] stands for them all.
-//! Each has a `parse`, which reads a text that is one literal and nothing else.
+//! Each kind of literal has a type, [`BoolLit`], [`IntegerLit`], [`FloatLit`], [`CharLit`] and
+//! [`ByteLit`], and [`Literal`] stands for them all. Each has a `parse`, which takes a text that is
+//! one literal and nothing else.
 #![tactic(auto)]
 
 ghost use Rattle.std.specs.Prelude.{◌≡◌, ◌≢◌, false, nat_eq, IsOk, IfOk, OnErr, IfErr, Some};
@@ -40,7 +41,7 @@ mod parse;
 #[cfg(test)]
 mod tests;
 
-/// A literal of any kind that is read. See [the reference][ref].
+/// A literal of any kind that is parsed. See [the reference][ref].
 ///
 /// [ref]: https://doc.rust-lang.org/reference/tokens.html#literals
 #[derive(Drop)]
@@ -58,15 +59,16 @@ pub enum Literal<B: Text> {
 }
 
 impl<B: Text> Literal<B> {
-    /// Reads a text that is one literal, of the kind that it begins like.
+    /// Parses a text that is one literal, of the kind that it begins like.
     ///
     /// `true` is a bool, `1_000u32` an integer with the suffix `u32`. Bools, integers, floats,
-    /// chars and bytes are read today.
+    /// chars and bytes are parsed today.
     ///
     /// # Errors
     ///
-    /// `Empty`; the refusal of the kind that the text begins like, as `UnexpectedChar` at 1..2 for `0 `;
-    /// else `InvalidLiteral`, also of a text that begins like a kind that is not read, as `"a"`.
+    /// `Empty`; the refusal of the kind that the text begins like, as `UnexpectedChar` at 1..2 for
+    /// `0 `; else `InvalidLiteral`, also of a text that begins like a kind that is not parsed, as
+    /// `"a"`.
     #[inline(always)]
     pub fn parse(_alloc: Global, input: B) -> Result<Literal<B>, ParseError>
         ensures raw { IfOk result (λ lit. literal_raw lit ≡ B.bytes input) }
@@ -100,7 +102,7 @@ impl<B: Text> Literal<B> {
         }
     }
 
-    /// The text that was parsed. It is a literal, of the kind and with the parts that the accessors answer.
+    /// The text that was parsed: a literal of the kind and with the parts of the accessors.
     pub fn raw_input(&self) -> &str
         ensures raw { result.now ≡ literal_raw self.now }
         ensures literal { IsLiteral (chars result.now) (derivation self.now) }

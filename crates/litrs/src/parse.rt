@@ -75,7 +75,7 @@ fn by_front(bytes: &[u8]) -> Dispatched
     }
 }
 
-/// Whether a period, `e` or `E` stands behind the leading run of decimal digits and underscores.
+/// Whether a period, `e` or `E` follows the leading run of decimal digits and underscores.
 fn begins_float(bytes: &[u8]) -> bool
     ensures { result ≡ begins_float bytes.now }
 {

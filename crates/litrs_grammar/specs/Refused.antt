@@ -20,7 +20,9 @@ use Rattle.litrs_grammar.specs.LiteralRefusals.{IsRefusal}
 -- closing text gives a string literal without suffix, with all of the text behind the opening as
 -- its body; and where the text ends with LF, some text behind it gives one that has a derivation
 -- exactly if the kind is open.
-pub record IsRefusedBy (Derives : List ℕ → Derivation → Type 0) (Table : List ℕ → Refusal → Type 0) (t : List ℕ) (e : ParseError) : Type 0 where
+pub record IsRefusedBy
+    (Derives : List ℕ → Derivation → Type 0) (Table : List ℕ → Refusal → Type 0)
+    (t : List ℕ) (e : ParseError) : Type 0 where
   pub none : HasNoDerivation (Derives t)
   pub table : Table t (refusal_of e)
   pub only : (r : Refusal) → Table t r → r ≡ refusal_of e

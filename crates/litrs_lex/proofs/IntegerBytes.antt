@@ -34,7 +34,7 @@ prefix_is_ascii Octal = refl
 prefix_is_ascii Decimal = refl
 prefix_is_ascii Hexadecimal = refl
 
--- the base is told by the first bytes
+-- the base is decided by the first bytes
 pub base_of-chars : (bs : List ℕ) → IsUtf8 bs → base_of (chars bs) ≡ base_of bs
 base_of-chars bs u = rw (begins_with-chars (prefix Binary) bs refl u, begins_with-chars (prefix Octal) bs refl u, begins_with-chars (prefix Hexadecimal) bs refl u) refl
 

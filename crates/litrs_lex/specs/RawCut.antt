@@ -21,7 +21,7 @@ raw_parts_at offset bytes cut = record {
   suffix = chars (drop cut.1 bytes);
 }
 
--- What stands behind the offset is a raw literal, with these parts alone. The places stand in
+-- What follows the offset is a raw literal, with these parts alone. The places stand in
 -- order within the text, on character boundaries.
 pub record IsRawCut (unicode allow_nul : Bool) (offset : ℕ) (bytes : List ℕ) (cut : ℕ × ℕ) :
     Type 0 where
@@ -32,7 +32,7 @@ pub record IsRawCut (unicode allow_nul : Bool) (offset : ℕ) (bytes : List ℕ)
   pub end : IsCharBoundary bytes (cut.1 - (cut.0 + 1))
   pub suffix : IsCharBoundary bytes cut.1
 
--- What stands behind the offset is refused with the error: no derivation exists, and the table has
+-- What follows the offset is refused with the error: no derivation exists, and the table has
 -- the error's kind and span. Both spans count from the start of the whole text and lie within it,
 -- and the character span begins and ends on character boundaries.
 pub record IsRawRefused (unicode allow_nul : Bool) (offset : ℕ) (bytes : List ℕ) (e : ParseError) :

@@ -12,8 +12,8 @@ ghost use Rattle.litrs_lex.specs.Unescaped.{switches, IsUnescaped, IsEscapeRefus
 use crate::parse::hex_digit_value;
 use litrs_base::{ParseError, ParseErrorKind, Unescape};
 
-/// Reads the escape at the front of a text that is empty or begins with a backslash: what it stands
-/// for, and its length in bytes. Of `\n12` that is the byte 10, with length 2. See
+/// Parses the escape at the front of a text that is empty or begins with a backslash: what it
+/// stands for, and its length in bytes. Of `\n12` that is the byte 10, with length 2. See
 /// [the reference][ref].
 ///
 /// `unicode` allows `\u{..}`, `byte_escapes` allows `\x80` to `\xff`, and `allow_nul` allows an
@@ -25,12 +25,12 @@ use litrs_base::{ParseError, ParseErrorKind, Unescape};
 /// - `UnterminatedEscape` where the text has fewer than two characters, at 0..1, which passes the
 ///   empty text; and where no character ends behind the two bytes that follow `\x`, over the text.
 /// - `DisallowedNulEscape` for a value of 0 where it is not allowed, over the escape.
-/// - `InvalidXEscape` where `\x` is not followed by two hex digits, and `NonAsciiXEscape` where they
-///   pass 7F and may not, both at 0..4.
-/// - `UnicodeEscapeInByteLiteral` where `\u` is not allowed, and `UnicodeEscapeWithoutBrace` where no
-///   `{` follows it, both at 0..2.
-/// - `UnterminatedUnicodeEscape` where no `}` follows, over the text; then for what stands before the
-///   first `}`: `InvalidStartOfUnicodeEscape` where that is empty or begins with `_`, at 3..4;
+/// - `InvalidXEscape` where `\x` is not followed by two hex digits, and `NonAsciiXEscape` where
+///   they pass 7F and may not, both at 0..4.
+/// - `UnicodeEscapeInByteLiteral` where `\u` is not allowed, and `UnicodeEscapeWithoutBrace` where
+///   no `{` follows it, both at 0..2.
+/// - `UnterminatedUnicodeEscape` where no `}` follows, over the text; then for what stands before
+///   the first `}`: `InvalidStartOfUnicodeEscape` where that is empty or begins with `_`, at 3..4;
 ///   `NonHexDigitInUnicodeEscape` at the first character that is neither a hex digit nor `_`, and
 ///   `TooManyDigitInUnicodeEscape` at the seventh digit, whichever is first, over its first byte;
 ///   `InvalidUnicodeEscapeChar` where the value is no character, over the escape.
@@ -43,9 +43,12 @@ pub fn unescape(
     byte_escapes: bool,
     allow_nul: bool,
 ) -> Result<(Unescape, usize), ParseError>
-    requires { IsTrue (is_empty (chars input.now) || first_passes (λ c. c == backslash) (chars input.now)) }
-    ensures ok { IfOk result (λ read. IsUnescaped (switches unicode byte_escapes allow_nul) input.now read.0 read.1) }
-    ensures refused { IfErr result (IsEscapeRefused (switches unicode byte_escapes allow_nul) (chars input.now)) }
+    requires { IsTrue (is_empty (chars input.now)
+        || first_passes (λ c. c == backslash) (chars input.now)) }
+    ensures ok { IfOk result (λ read.
+        IsUnescaped (switches unicode byte_escapes allow_nul) input.now read.0 read.1) }
+    ensures refused { IfErr result
+        (IsEscapeRefused (switches unicode byte_escapes allow_nul) (chars input.now)) }
 {
     let Some(letter) = input.as_bytes().get(1) else {
         return Err(ParseError::in_text(input, Some(0..1), ParseErrorKind::UnterminatedEscape));
@@ -146,7 +149,8 @@ fn allows_value(allow_nul: bool, value: u32) -> bool
 
 /// The value of two hex digits, or None where one of the two is none.
 fn pair_value(high: u8, low: u8) -> Option<u8>
-    ensures { SomeIff result (IsTrue (is_ascii_hexdigit high && is_ascii_hexdigit low)) (pair_value high low) }
+    ensures { SomeIff result (IsTrue (is_ascii_hexdigit high && is_ascii_hexdigit low))
+        (pair_value high low) }
 {
     let high = hex_digit_value(high)?;
     let low = hex_digit_value(low)?;
@@ -175,7 +179,7 @@ fn unescape_unicode(input: &str, allow_nul: bool) -> Result<(Unescape, usize), P
     }
 }
 
-/// Whether `{` stands behind the first two bytes.
+/// Whether `{` follows the first two bytes.
 fn opens_brace(bytes: &[u8]) -> bool
     ensures { result ≡ first_passes (λ c. c == open_brace) (drop 2 bytes.now) }
 {

@@ -23,7 +23,7 @@ pub struct IntegerCut {
     pub start_main: usize,
     /// Where the main part ends and the suffix begins.
     pub end_main: usize,
-    /// What the prefix tells.
+    /// What the prefix decides.
     pub base: IntegerBase,
 }
 
@@ -33,9 +33,9 @@ pub struct IntegerCut {
 /// # Errors
 ///
 /// `InvalidDigit` where a decimal digit follows the main part, at that digit; the refusal of
-/// [`check_suffix`] where what follows is no suffix, from there to the end; `IntegerSuffixStartingWithE`
-/// where the suffix begins with `e` or `E`, at its first byte; `NoDigits` where the main part has no
-/// digit, over the main part.
+/// [`check_suffix`] where what follows is no suffix, from there to the end;
+/// `IntegerSuffixStartingWithE` where the suffix begins with `e` or `E`, at its first byte;
+/// `NoDigits` where the main part has no digit, over the main part.
 ///
 /// [ref]: https://doc.rust-lang.org/reference/tokens.html#integer-literals
 pub fn cut_integer(input: &str) -> Result<IntegerCut, ParseError>
@@ -120,7 +120,7 @@ fn begins_with_e(bytes: &[u8]) -> bool
     }
 }
 
-/// The base that the front of a text tells: `0b`, `0o` and `0x` are always the prefix, and
+/// The base, by the front of a text: `0b`, `0o` and `0x` are always the prefix, and
 /// everything else is decimal.
 fn base_of(bytes: &[u8]) -> IntegerBase
     ensures { result ≡ base_of bytes.now }

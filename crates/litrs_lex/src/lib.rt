@@ -1,4 +1,4 @@
-//! Reads the parts that literals are made of, and says where a text is cut.
+//! Parses the parts that literals are made of, and says where a text is cut.
 #![tactic(auto)]
 
 pub use char::{cut_byte, cut_char};

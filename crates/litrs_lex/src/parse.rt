@@ -123,8 +123,9 @@ fn suffix_refusal(s: &str) -> ParseErrorKind
     }
 }
 
-/// Whether a literal may end with this suffix: it is empty, or an identifier other than the lone `_`.
-/// The empty text, `u8` and `_x` are suffixes; `_` and `1x` are none. See [the reference][ref].
+/// Whether a literal may end with this suffix: it is empty, or an identifier other than the lone
+/// `_`. The empty text, `u8` and `_x` are suffixes; `_` and `1x` are none. See
+/// [the reference][ref].
 ///
 /// # Errors
 ///

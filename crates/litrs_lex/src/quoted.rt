@@ -37,7 +37,7 @@ pub struct QuotedCut {
 ///
 /// The first that stands in the text, from `offset` on:
 /// - the refusal of [`unescape`] where a backslash begins neither an escape nor a continuation; the
-///   escape is read without the last character of the text;
+///   escape is parsed without the last character of the text;
 /// - `CarriageReturn` at a CR, `NulByte` at a NUL that is not allowed, and `NonAsciiInByteLiteral`
 ///   at a character beyond ASCII that is not allowed, over its first byte;
 /// - `UnterminatedString`, with no span, where the text ends before a closing quote;

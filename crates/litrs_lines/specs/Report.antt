@@ -19,7 +19,9 @@ value_text n = if nat_le n (greatest_of U128) then decimal n else codes "none"
 -- an integer up to its value, by the bytes of its main part and suffix
 abbrev pub integer_front : ℕ → List ℕ → List ℕ → List ℕ
 integer_front base digits suffix =
-    codes "integer base=" ++ (decimal base ++ (codes " digits=" ++ (digits ++ (codes " suffix=" ++ (suffix ++ codes " value=")))))
+    codes "integer base=" ++ (decimal base
+    ++ (codes " digits=" ++ (digits
+    ++ (codes " suffix=" ++ (suffix ++ codes " value=")))))
 
 -- the fraction of a float, `-` where there is no period
 abbrev pub fraction_field : Option (List ℕ) → List ℕ
@@ -29,7 +31,8 @@ fraction_field (Some digits) = encode_utf8_all digits
 -- a float, by the bytes of its parts
 abbrev pub float_report : (integer fraction exponent suffix : List ℕ) → List ℕ
 float_report integer fraction exponent suffix =
-    codes "float int=" ++ (integer ++ (codes " frac=" ++ (fraction ++ (codes " exp=" ++ (exponent ++ (codes " suffix=" ++ suffix))))))
+    codes "float int=" ++ (integer ++ (codes " frac=" ++ (fraction
+    ++ (codes " exp=" ++ (exponent ++ (codes " suffix=" ++ suffix))))))
 
 -- a number in hex, in lower case and with no leading zeros
 abbrev pub hex_text : ℕ → List ℕ
@@ -37,19 +40,24 @@ hex_text n = digits 16 false n
 
 -- a char or a byte, by its value and the bytes of its suffix
 abbrev pub char_report : (name : List ℕ) → ℕ → (suffix : List ℕ) → List ℕ
-char_report name value suffix = name ++ (codes " value=" ++ (hex_text value ++ (codes " suffix=" ++ suffix)))
+char_report name value suffix =
+    name ++ (codes " value=" ++ (hex_text value ++ (codes " suffix=" ++ suffix)))
 
--- `bool true`; `integer base=16 digits=ff80 suffix= value=65408`; `float int=3 frac=14 exp= suffix=f33`;
--- `char value=1f98a suffix=`; `byte value=ff suffix=`;
--- nothing of the kinds that are not read yet
+-- `bool true`; `integer base=16 digits=ff80 suffix= value=65408`;
+-- `float int=3 frac=14 exp= suffix=f33`; `char value=1f98a suffix=`; `byte value=ff suffix=`;
+-- empty for the kinds that are not parsed yet
 abbrev pub literal_report : Derivation → List ℕ
 literal_report (a_bool b) = codes "bool " ++ bool_text b
 literal_report (an_integer d) =
-    integer_front (base_value d.base) (encode_utf8_all d.main) (encode_utf8_all d.suffix) ++ value_text (integer_value d)
+    integer_front (base_value d.base) (encode_utf8_all d.main) (encode_utf8_all d.suffix)
+    ++ value_text (integer_value d)
 literal_report (a_float d) =
-    float_report (encode_utf8_all d.integer) (fraction_field d.fraction) (encode_utf8_all d.exponent) (encode_utf8_all d.suffix)
-literal_report (a_char d) = char_report (codes "char") (char_value d.item) (encode_utf8_all d.suffix)
-literal_report (a_byte d) = char_report (codes "byte") (char_value d.item) (encode_utf8_all d.suffix)
+    float_report (encode_utf8_all d.integer) (fraction_field d.fraction)
+    (encode_utf8_all d.exponent) (encode_utf8_all d.suffix)
+literal_report (a_char d) =
+    char_report (codes "char") (char_value d.item) (encode_utf8_all d.suffix)
+literal_report (a_byte d) =
+    char_report (codes "byte") (char_value d.item) (encode_utf8_all d.suffix)
 literal_report (a_string d) = []
 literal_report (a_byte_string d) = []
 literal_report (a_c_string d) = []

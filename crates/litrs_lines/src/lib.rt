@@ -199,7 +199,7 @@ fn finish<O: Output>(
 /// Reads to the end of the input, writes the report on each line and an LF behind it, and flushes
 /// once at the end.
 ///
-/// A line is the bytes before an LF, without it, and what stands behind the last LF where that is
+/// A line is the bytes before an LF, without it, and what follows the last LF where that is
 /// not empty. One line is held at a time, so memory is taken in proportion to the longest.
 ///
 /// # Errors
@@ -208,8 +208,8 @@ fn finish<O: Output>(
 /// failed. `Memory` where an allocation failed. What was written is then a beginning of the reports
 /// on the whole lines that were read.
 ///
-/// A failed call is never made again, so an error of the kind `Interrupted` ends the run as well: see
-/// [`StdInput`] and [`StdOutput`].
+/// A failed call is never made again, so an error of the kind `Interrupted` ends the run as well:
+/// see [`StdInput`] and [`StdOutput`].
 pub fn run<I: Input, O: Output>(
     alloc: Global,
     reader: &mut I,

@@ -27,7 +27,8 @@ pub(crate) fn push_report(out: &mut String, line: &[u8]) -> Result<(), AllocErro
 
 /// Adds the report on a line that is no text.
 fn push_no_text_report(out: &mut String) -> Result<(), AllocError>
-    ensures ok { OnOk result (string_bytes out.new ≡ string_bytes out.old ++ codes "error input is not UTF-8") }
+    ensures ok { OnOk result (
+        string_bytes out.new ≡ string_bytes out.old ++ codes "error input is not UTF-8") }
     ensures err { OnErr result (string_capacity out.old < string_len out.old + 24) }
 {
     out.push_str("error input is not UTF-8")
@@ -35,7 +36,8 @@ fn push_no_text_report(out: &mut String) -> Result<(), AllocError>
 
 /// Adds the report on a text.
 fn push_text_report<B: Buffer>(alloc: Global, out: &mut String, text: B) -> Result<(), AllocError>
-    ensures { OnOk result (string_bytes out.new ≡ string_bytes out.old ++ text_report (chars (B.bytes text))) }
+    ensures { OnOk result (
+        string_bytes out.new ≡ string_bytes out.old ++ text_report (chars (B.bytes text))) }
 {
     match Literal::parse(alloc, text) {
         Ok(lit) => push_literal_report(out, &lit),
@@ -45,7 +47,8 @@ fn push_text_report<B: Buffer>(alloc: Global, out: &mut String, text: B) -> Resu
 
 /// Adds the report on a literal.
 fn push_literal_report<B: Buffer>(out: &mut String, lit: &Literal<B>) -> Result<(), AllocError>
-    ensures { OnOk result (string_bytes out.new ≡ string_bytes out.old ++ literal_report (derivation lit.now)) }
+    ensures { OnOk result (
+        string_bytes out.new ≡ string_bytes out.old ++ literal_report (derivation lit.now)) }
 {
     match lit {
         Literal::Bool(lit) => write!(out, "bool {lit}"),
@@ -58,7 +61,9 @@ fn push_literal_report<B: Buffer>(out: &mut String, lit: &Literal<B>) -> Result<
 
 /// Adds the report on an integer.
 fn push_integer_report<B: Buffer>(out: &mut String, lit: &IntegerLit<B>) -> Result<(), AllocError>
-    ensures { OnOk result (string_bytes out.new ≡ string_bytes out.old ++ literal_report (an_integer (integer_parts lit.now))) }
+    ensures { OnOk result (
+        string_bytes out.new
+        ≡ string_bytes out.old ++ literal_report (an_integer (integer_parts lit.now))) }
 {
     push_integer_front(out, lit.base().value(), lit.raw_main_part(), lit.suffix())?;
     push_value(out, lit)
@@ -71,7 +76,8 @@ fn push_integer_front(
     digits: &str,
     suffix: &str,
 ) -> Result<(), AllocError>
-    ensures { OnOk result (string_bytes out.new ≡ string_bytes out.old ++ integer_front base digits.now suffix.now) }
+    ensures { OnOk result (
+        string_bytes out.new ≡ string_bytes out.old ++ integer_front base digits.now suffix.now) }
 {
     write!(
         out,
@@ -81,7 +87,9 @@ fn push_integer_front(
 
 /// Adds the value of an integer in decimal, or `none`.
 fn push_value<B: Buffer>(out: &mut String, lit: &IntegerLit<B>) -> Result<(), AllocError>
-    ensures { OnOk result (string_bytes out.new ≡ string_bytes out.old ++ value_text (integer_value (integer_parts lit.now))) }
+    ensures { OnOk result (
+        string_bytes out.new
+        ≡ string_bytes out.old ++ value_text (integer_value (integer_parts lit.now))) }
 {
     match lit.value::<u128>() {
         Some(value) => write!(out, "{value}"),
@@ -91,7 +99,9 @@ fn push_value<B: Buffer>(out: &mut String, lit: &IntegerLit<B>) -> Result<(), Al
 
 /// Adds the report on a float.
 fn push_float_report<B: Buffer>(out: &mut String, lit: &FloatLit<B>) -> Result<(), AllocError>
-    ensures { OnOk result (string_bytes out.new ≡ string_bytes out.old ++ literal_report (a_float (float_parts lit.now))) }
+    ensures { OnOk result (
+        string_bytes out.new
+        ≡ string_bytes out.old ++ literal_report (a_float (float_parts lit.now))) }
 {
     push_float_parts(
         out,
@@ -120,7 +130,9 @@ fn push_float_parts(
     exponent: &str,
     suffix: &str,
 ) -> Result<(), AllocError>
-    ensures { OnOk result (string_bytes out.new ≡ string_bytes out.old ++ float_report integer.now fraction.now exponent.now suffix.now) }
+    ensures { OnOk result (
+        string_bytes out.new
+        ≡ string_bytes out.old ++ float_report integer.now fraction.now exponent.now suffix.now) }
 {
     write!(
         out,
@@ -130,21 +142,26 @@ fn push_float_parts(
 
 /// Adds the report on a char.
 fn push_char_report<B: Buffer>(out: &mut String, lit: &CharLit<B>) -> Result<(), AllocError>
-    ensures { OnOk result (string_bytes out.new ≡ string_bytes out.old ++ literal_report (a_char (char_parts lit.now))) }
+    ensures { OnOk result (
+        string_bytes out.new
+        ≡ string_bytes out.old ++ literal_report (a_char (char_parts lit.now))) }
 {
     push_char_parts(out, "char", u32::from(lit.value()), lit.suffix())
 }
 
 /// Adds the report on a byte.
 fn push_byte_report<B: Buffer>(out: &mut String, lit: &ByteLit<B>) -> Result<(), AllocError>
-    ensures { OnOk result (string_bytes out.new ≡ string_bytes out.old ++ literal_report (a_byte (byte_parts lit.now))) }
+    ensures { OnOk result (
+        string_bytes out.new
+        ≡ string_bytes out.old ++ literal_report (a_byte (byte_parts lit.now))) }
 {
     push_char_parts(out, "byte", u32::from(lit.value()), lit.suffix())
 }
 
 /// Adds the report on a char or a byte with this value and suffix.
 fn push_char_parts(out: &mut String, name: &str, value: u32, suffix: &str) -> Result<(), AllocError>
-    ensures { OnOk result (string_bytes out.new ≡ string_bytes out.old ++ char_report name.now value suffix.now) }
+    ensures { OnOk result (
+        string_bytes out.new ≡ string_bytes out.old ++ char_report name.now value suffix.now) }
 {
     write!(out, "{name} value={value:x} suffix={suffix}")
 }

@@ -1,4 +1,4 @@
--- What stands behind the front, moved by it.
+-- What follows the front, moved by it.
 use Rattle.std.proofs.Common.{◌≡◌, ◌+◌, ◌-◌, ◌<◌, ◌^◌, ◌≤◌, ℕ, List, [], ◌∷◌, Bool, true, false, not, length, drop, take, get_or, refl, sym, ap, ◌∙◌, subst, arith, Some}
 use Rattle.litrs_grammar.specs.CharByte.{char_kind}
 use Rattle.litrs_lex.proofs.CharByteBytes.{IsFronted, fronted, char_read, char_refused, moves, front_boundary, start_within}
