@@ -1,17 +1,17 @@
 -- What refuses a text as a literal of its kind refuses it as a literal of the kinds that are parsed.
-use Rattle.std.proofs.Common.{◌≡◌, ◌≢◌, ◌⊎◌, inl, inr, ℕ, Bool, true, false, List, [], ◌∷◌, ◌++◌, Option, None, Some, refl, sym, ap, subst, ◌∙◌}
+use Rattle.std.proofs.Common.{◌≡◌, ◌≢◌, ◌⊎◌, inl, inr, ℕ, Bool, true, false, List, [], ◌∷◌, ◌++◌, Option, None, refl, sym, ap, subst, ◌∙◌}
 use Rattle.std.specs.Prelude.{IsTrue}
 use Rattle.std.proofs.lemmas.Bool.{both_ways}
 use Rattle.std.specs.Str.{chars, IsUtf8}
 use Rattle.std.specs.declared.ops.Range.{Range}
 use Rattle.litrs_base.specs.declared.err.ParseError.{ParseError}
 use Rattle.litrs_base.specs.declared.err.ParseErrorKind.{ParseErrorKind}
-use Rattle.litrs_base.specs.declared.err.ParseErrorKind.TheVariants.{Empty, InvalidLiteral, OutOfMemory}
+use Rattle.litrs_base.specs.declared.err.ParseErrorKind.TheVariants.{InvalidLiteral, OutOfMemory}
 use Rattle.litrs_base.specs.Refusal.{Refusal, refusal, refusal_of, kind_of, span_of, plain, IsInText, HasCharSpan}
 use Rattle.litrs_base.specs.Derivations.{IsOnlyDerivation}
 use Rattle.litrs_base.specs.Finality.{is_final, is_open}
 use Rattle.litrs_base.proofs.CharEnds.{no_span, char_span_points}
-use Rattle.litrs_grammar.specs.Literal.{Derivation, a_bool, an_integer, IsLiteral, LiteralKind, bool_literal, integer_literal, float_literal, char_literal, byte_literal, string_literal, byte_string_literal, c_string_literal, literal_kind, literal_parse, kind_parse, IsLiteralOf}
+use Rattle.litrs_grammar.specs.Literal.{Derivation, IsLiteral, LiteralKind, string_literal, byte_string_literal, c_string_literal, literal_kind, literal_parse, kind_parse, IsLiteralOf}
 use Rattle.litrs_grammar.specs.LiteralRefusals.{IsKindRefusal, Dispatch, refused_as, parsed_as, dispatch, IsRefusalOfDispatch, IsRefusal}
 use Rattle.litrs_grammar.specs.Continuation.{BeginsBy, EndsBy}
 use Rattle.litrs_grammar.specs.UnnamedGoesOn.{unnamed_goes_on}

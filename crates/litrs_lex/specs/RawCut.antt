@@ -6,11 +6,11 @@ use Rattle.litrs_base.specs.declared.err.ParseError.{ParseError}
 use Rattle.litrs_base.specs.CharEnd.{PointsAtCharacters}
 use Rattle.litrs_base.specs.Derivations.{IsOnlyDerivation, HasNoDerivation}
 use Rattle.litrs_base.specs.Refusal.{refusal_of, char_span_of, IsInText, HasCharSpan}
-use Rattle.litrs_base.specs.Text.{first_passes, begins_with}
+use Rattle.litrs_base.specs.Text.{first_passes}
 use Rattle.litrs_search.specs.declared.search.Special.{Special}
 use Rattle.litrs_search.specs.Special.{is_ordinary}
 use Rattle.litrs_grammar.specs.RawLaws.{NoClosingIn}
-use Rattle.litrs_grammar.specs.Raw.{RawParts, IsRawOf, is_quote, is_raw_char, raw_closing, length_before, raw_refusal, raw_body_refusal}
+use Rattle.litrs_grammar.specs.Raw.{RawParts, IsRawOf, is_raw_char, raw_closing, length_before, raw_refusal, raw_body_refusal}
 
 -- the parts that a cut names: of the text with these bytes, behind the offset, by the number of
 -- hashes and the start of the suffix

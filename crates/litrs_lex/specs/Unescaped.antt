@@ -1,6 +1,6 @@
 -- What `unescape` answers: the escape at the front of a text, or why none stands there. The Rust
 -- Reference, Tokens, Literals: the tables of escapes.
-use Rattle.std.specs.Prelude.{◌≡◌, ◌≤◌, ◌<◌, ℕ, Bool, List, ◌++◌, Some, IfSome, IsTrue, IsFalse, length, take, drop, count_by}
+use Rattle.std.specs.Prelude.{◌≡◌, ◌≤◌, ℕ, Bool, List, ◌++◌, Some, IfSome, IsTrue, IsFalse, length, take, drop, count_by}
 use Rattle.std.specs.Char.{is_ascii_hexdigit}
 use Rattle.std.specs.List.{list_all}
 use Rattle.std.specs.Str.{chars, IsUtf8, IsCharBoundary}

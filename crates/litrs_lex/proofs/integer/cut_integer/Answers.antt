@@ -1,9 +1,8 @@
 -- The text has no refusal if and only if the cut is its only derivation.
 use Rattle.std.proofs.Common.{◌≡◌, Some, ap, sym, ◌∙◌, subst, None}
-use Rattle.std.specs.Prelude.{option_map}
 use Rattle.std.specs.Str.{chars}
 use Rattle.litrs_base.specs.Derivations.{IsOnlyDerivation}
-use Rattle.litrs_base.specs.Refusal.{Refusal, refusal, refusal_of}
+use Rattle.litrs_base.specs.Refusal.{refusal}
 use Rattle.litrs_grammar.specs.Integer.{IntegerParts, IsIntegerOf, integer_refusal}
 use Rattle.litrs_grammar.specs.Literal.{kind_parse, integer_literal}
 use Rattle.litrs_grammar.proofs.IntegerLaws.{only_cut, refusal_of_digit}
