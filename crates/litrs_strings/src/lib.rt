@@ -8,7 +8,7 @@ pub use byte_string::ByteStringLit;
 pub use c_string::{CString, CStringLit};
 pub use string::StringLit;
 
-pub mod byte_string;
-pub mod c_string;
-pub mod cut;
-pub mod string;
+mod byte_string;
+mod c_string;
+mod cut;
+mod string;
