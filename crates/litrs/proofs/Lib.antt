@@ -1,2 +1,2 @@
-pub mod Parsed
 pub mod Dispatch
+pub mod KindErrors

@@ -1,0 +1,3 @@
+pub mod StringReads
+pub mod StringRefusals
+pub mod CStringReads
