@@ -1,6 +1,6 @@
 -- The report of a text, by its derivation or its refusal: each line has one.
 use Rattle.std.proofs.Common.{◌≡◌, ◌⊎◌, inl, inr, ℕ, List, [], ◌∷◌, ◌++◌, refl, sym, ap, subst, ◌∙◌, append_assoc, Bool, true, false, Option, Some}
-use Rattle.std.specs.Prelude.{codes}
+use Rattle.std.specs.Prelude.{codes, decimal, Result, Ok, Err, OnOk, is_ok, if◌then◌else◌}
 use Rattle.std.specs.Str.{chars, is_utf8, IsUtf8, encode_utf8_all}
 use Rattle.std.proofs.lemmas.Str.{encodes-chars, is_utf8-from_IsUtf8, IsUtf8-from_is_utf8}
 use Rattle.std.proofs.lemmas.Bool.{false_from_ne_true}
@@ -135,3 +135,35 @@ pub char_report_made : (name old new suffix : List ℕ) (value : ℕ) (d : CharP
 char_report_made name old new suffix value d suffix_utf8 value_is suffix_is made =
     let s : suffix ≡ encode_utf8_all d.suffix = sym (encodes-chars suffix suffix_utf8) ∙ ap encode_utf8_all suffix_is in
     made ∙ (λ j. old ++ char_report name (value_is j) (s j))
+
+-- pieces written one behind the other
+pub appended :
+    (a p q b c : List ℕ) → b ≡ a ++ p → c ≡ b ++ q → c ≡ a ++ (p ++ q)
+appended a p q b c first second = second ∙ ap (λ t. t ++ q) first ∙ append_assoc a p q
+
+pub appended_four :
+    (a p q r s b c d e : List ℕ) → b ≡ a ++ p → c ≡ b ++ q → d ≡ c ++ r → e ≡ d ++ s →
+    e ≡ a ++ (p ++ (q ++ (r ++ s)))
+appended_four a p q r s b c d e one two three four =
+    appended a p (q ++ (r ++ s)) b e one (appended b q (r ++ s) c e two (appended c r s d e three four))
+
+-- what a call leaves where it succeeds
+pub left_by :
+    {T E : Type 0} (r : Result T E) (left there before : List ℕ) →
+    left ≡ (if is_ok r then there else before) → OnOk r (left ≡ there)
+left_by (Ok _) left there before made = made
+left_by (Err _) left there before made = tt
+
+-- the front of an integer, field by field
+pub integer_front_made :
+    (base : ℕ) (digits suffix a b c d e : List ℕ) → b ≡ a ++ (codes "integer base=" ++ decimal base) →
+    c ≡ b ++ (codes " digits=" ++ digits) → d ≡ c ++ (codes " suffix=" ++ suffix) →
+    e ≡ d ++ codes " value=" → e ≡ a ++ integer_front base digits suffix
+integer_front_made base digits suffix a b c d e one two three four =
+    appended_four a (codes "integer base=" ++ decimal base) (codes " digits=" ++ digits)
+    (codes " suffix=" ++ suffix) (codes " value=") b c d e one two three four
+    ∙ ap (λ t. a ++ t)
+    (append_assoc (codes "integer base=") (decimal base) ((codes " digits=" ++ digits) ++ ((codes " suffix=" ++ suffix) ++ codes " value="))
+    ∙ ap (λ t. codes "integer base=" ++ (decimal base ++ t))
+    (append_assoc (codes " digits=") digits ((codes " suffix=" ++ suffix) ++ codes " value=")
+    ∙ ap (λ t. codes " digits=" ++ (digits ++ t)) (append_assoc (codes " suffix=") suffix (codes " value="))))

@@ -12,6 +12,7 @@ ghost use Rattle.litrs_lines.specs.Reports.{AppendsReports};
 pub use device::{Failed, Input, Output};
 pub use mem_input::MemInput;
 pub use mem_output::MemOutput;
+use memchr::memchr;
 pub use program::run_program;
 use report::push_report;
 use std::alloc::{AllocError, Global};
@@ -77,10 +78,11 @@ impl From<AllocError> for RunError {
 }
 
 /// Where the first line ends, in bytes.
+#[tactic(auto, using(crate::proofs::LineEnds::first_byte_is_position))]
 fn line_end(bytes: &[u8]) -> Option<usize>
     ensures { result ≡ position is_line_feed bytes.now }
 {
-    bytes.iter().position(|b| *b == b'\n')
+    memchr(b'\n', bytes)
 }
 
 /// Reports on the line that `end` ends, and goes on with an empty one.

@@ -79,10 +79,18 @@ fn push_integer_front(
     ensures { OnOk result (
         string_bytes out.new ≡ string_bytes out.old ++ integer_front base digits.now suffix.now) }
 {
-    write!(
-        out,
-        "integer base={base} digits={digits} suffix={suffix} value="
-    )
+    push_field(out, "integer base=", itoa::Buffer::new().format(base))?;
+    push_field(out, " digits=", digits)?;
+    push_field(out, " suffix=", suffix)?;
+    out.push_str(" value=")
+}
+
+/// Adds the name of a field and its value.
+fn push_field(out: &mut String, name: &str, value: &str) -> Result<(), AllocError>
+    ensures { OnOk result (string_bytes out.new ≡ string_bytes out.old ++ (name.now ++ value.now)) }
+{
+    out.push_str(name)?;
+    out.push_str(value)
 }
 
 /// Adds the value of an integer in decimal, or `none`.
@@ -92,7 +100,7 @@ fn push_value<B: Buffer>(out: &mut String, lit: &IntegerLit<B>) -> Result<(), Al
         ≡ string_bytes out.old ++ value_text (integer_value (integer_parts lit.now))) }
 {
     match lit.value::<u128>() {
-        Some(value) => write!(out, "{value}"),
+        Some(value) => out.push_str(itoa::Buffer::new().format(value)),
         None => out.push_str("none"),
     }
 }
