@@ -208,3 +208,6 @@ fn overlong_kind(is_byte: bool) -> ParseErrorKind
         ParseErrorKind::OverlongCharLiteral
     }
 }
+
+#[cfg(test)]
+mod tests;

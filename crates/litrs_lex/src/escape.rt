@@ -302,3 +302,6 @@ fn has_close_brace(bytes: &[u8]) -> bool
 {
     bytes.iter().any(|b| *b == b'}')
 }
+
+#[cfg(test)]
+mod tests;
