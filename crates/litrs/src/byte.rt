@@ -213,3 +213,6 @@ impl<B: Text> fmt::Display for ByteLit<B> {
         f.pad(self.raw.as_str())
     }
 }
+
+#[cfg(test)]
+mod tests;

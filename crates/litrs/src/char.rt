@@ -204,3 +204,6 @@ impl<B: Text> fmt::Display for CharLit<B> {
         f.pad(self.raw.as_str())
     }
 }
+
+#[cfg(test)]
+mod tests;

@@ -215,3 +215,6 @@ fn overlong_kind(is_byte: bool) -> ParseErrorKind
         ParseErrorKind::OverlongCharLiteral
     }
 }
+
+#[cfg(test)]
+mod tests;

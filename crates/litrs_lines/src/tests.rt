@@ -22,6 +22,32 @@ error integer literal contains a digit invalid for its base (at 3..4)
 error input is empty
 ";
 
+/// Chars and bytes, and texts that begin like them.
+const CHARS_AND_BYTES: &str = "'a'
+'🦊'good_boy
+'\\0'
+'\\u{10FFFF}'
+b'\\xFF'
+b'\\n'u8
+'\\x80'
+'\\é'
+'''
+b'犬'
+";
+
+/// What is written on `CHARS_AND_BYTES`.
+const CHAR_AND_BYTE_REPORTS: &str = "char value=61 suffix=
+char value=1f98a suffix=good_boy
+char value=0 suffix=
+char value=10ffff suffix=
+byte value=ff suffix=
+byte value=a suffix=u8
+error `\\x` escape in char/string literal exceed ASCII range (at 1..5)
+error unknown escape (at 1..3)
+error character literal contains unescaped ' character (at 1..2)
+error non ASCII character in byte (string) literal (at 2..3)
+";
+
 /// More room than any report here takes.
 const ROOM: usize = 4096;
 
@@ -112,6 +138,15 @@ fn nothing_is_read(rt: HostRuntime) -> Result<(), Fail> {
     assert_eq!(rt; run(rt.alloc(), &mut input, &mut output), Ok(()));
     assert!(rt; output.bytes().is_empty());
     assert!(rt; !input.failed());
+    Ok(())
+}
+
+#[test]
+fn chars_and_bytes(rt: HostRuntime) -> Result<(), Fail> {
+    let mut input = MemInput::new(CHARS_AND_BYTES.as_bytes(), 4096, NEVER);
+    let mut output = MemOutput::new(rt.alloc(), ROOM, 4096, NEVER)?;
+    assert_eq!(rt; run(rt.alloc(), &mut input, &mut output), Ok(()));
+    assert_eq!(rt; output.bytes(), CHAR_AND_BYTE_REPORTS.as_bytes());
     Ok(())
 }
 
