@@ -1,7 +1,5 @@
 -- what literals hold
 pub mod BoolLiteral
-pub mod IntegerLiteral
-pub mod FloatLiteral
 pub mod CharLiteral
 pub mod LiteralDerivation
 -- the dispatch

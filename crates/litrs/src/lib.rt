@@ -18,12 +18,11 @@ ghost use Rattle.litrs.specs.LiteralDerivation.{literal_raw, derivation};
 pub use bool::BoolLit;
 pub use byte::ByteLit;
 pub use char::CharLit;
-pub use float::FloatLit;
-pub use integer::IntegerLit;
 pub use litrs_lex::{
     Buffer, FloatType, FromIntegerLiteral, IntegerBase, IntegerType, ParseError, ParseErrorKind,
     Text,
 };
+pub use litrs_numbers::{FloatLit, IntegerLit};
 pub use litrs_strings::{ByteStringLit, CString, CStringLit, StringLit};
 use parse::Dispatched;
 use std::alloc::{AllocError, Global};
@@ -34,8 +33,8 @@ mod byte;
 mod char;
 #[cfg(test)]
 mod copy_tests;
-mod float;
-mod integer;
+#[cfg(test)]
+mod float_tests;
 mod parse;
 #[cfg(test)]
 mod tests;

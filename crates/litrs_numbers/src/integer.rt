@@ -7,7 +7,7 @@ ghost use Rattle.std.specs.List.{prefix_len, list_all, list_any};
 ghost use Rattle.std.specs.Option.{SomeIff};
 ghost use Rattle.std.specs.Str.{chars};
 ghost use Rattle.litrs_base.specs.Base.{base_value, is_digit_or_underscore};
-ghost use Rattle.litrs.specs.IntegerLiteral.{IntegerLiteral, integer_parts};
+ghost use Rattle.litrs_numbers.specs.IntegerLiteral.{IntegerLiteral, integer_parts};
 ghost use Rattle.litrs_base.specs.Numeral.{numeral};
 ghost use Rattle.litrs_grammar.specs.Integer.{integer_value};
 ghost use Rattle.litrs_base.specs.Derivations.{IsOnlyDerivation};

@@ -8,15 +8,12 @@ ghost use Rattle.litrs_grammar.specs.Float.{IsFloatOf, number_part};
 ghost use Rattle.litrs_grammar.specs.Literal.{kind_parse, float_literal};
 ghost use Rattle.litrs_grammar.specs.Refused.{IsRefused};
 ghost use Rattle.litrs_lex.specs.FloatCut.{float_parts_at, IsFloatWithin, IsFloatAt};
-ghost use Rattle.litrs.specs.FloatLiteral.{FloatLiteral, float_parts};
+ghost use Rattle.litrs_numbers.specs.FloatLiteral.{FloatLiteral, float_parts};
 
 use litrs_lex::{FloatCut, ParseError, ParseErrorKind, Text, cut_float, first_byte_or_empty};
 use std::alloc::{AllocError, Global};
 use std::fmt;
 use std::marker::Model;
-
-#[cfg(test)]
-mod tests;
 
 /// A floating-point number as it is written in Rust: `3.14`, `9.`, `27e-3`, `147.3_33__E3f64`.
 ///

@@ -1,9 +1,9 @@
 -- The bytes up to the suffix are the number part.
 use Rattle.std.proofs.Common.{ap, ◌∙◌}
 use Rattle.litrs_grammar.specs.Float.{number_part}
-use Rattle.litrs.specs.FloatLiteral.{FloatLiteral, float_parts}
+use Rattle.litrs_numbers.specs.FloatLiteral.{FloatLiteral, float_parts}
 use Rattle.litrs_lex.proofs.FloatBytes.{number_part_at}
-use Rattle.litrs.proofs.float.FloatLit.number_part.Goals as goal
+use Rattle.litrs_numbers.proofs.float.FloatLit.number_part.Goals as goal
 
 pub returns : goal.returns
 returns g c =

@@ -4,10 +4,10 @@ use Rattle.std.specs.Option.{SomeIff}
 use Rattle.std.specs.List.{list_all}
 use Rattle.litrs_base.specs.declared.integer.IntegerBase.{IntegerBase}
 use Rattle.litrs_base.specs.Base.{base_value, is_digit_or_underscore}
-use Rattle.litrs.specs.IntegerLiteral.{IntegerLiteral, integer_parts}
+use Rattle.litrs_numbers.specs.IntegerLiteral.{IntegerLiteral, integer_parts}
 use Rattle.litrs_base.specs.Numeral.{numeral}
 use Rattle.litrs_lex.proofs.NumeralLemmas.{bytes_of_digits}
-use Rattle.litrs.proofs.integer.IntegerLit.value.Goals as goal
+use Rattle.litrs_numbers.proofs.integer.IntegerLit.value.Goals as goal
 
 pub value_of-requires : goal.value_of-requires
 value_of-requires g c =

@@ -9,7 +9,7 @@ use Rattle.litrs_grammar.specs.Literal.{kind_parse, float_literal}
 use Rattle.litrs_grammar.proofs.Refused.{is_refused}
 use Rattle.litrs_lex.proofs.SuffixBytes.{first_passes_at}
 use Rattle.litrs_lex.proofs.FloatBytes.{refusal-empty, refusal-no_digit}
-use Rattle.litrs.proofs.float.cut.Goals as goal
+use Rattle.litrs_numbers.proofs.float.cut.Goals as goal
 
 pub returns-in_err-first-clause-refused : goal.returns-in_err-first-clause-refused
 returns-in_err-first-clause-refused c =

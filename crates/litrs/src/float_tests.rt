@@ -1,7 +1,6 @@
 //! Floats over both buffers, as floats and as literals of any kind.
-use super::FloatLit;
 use crate::ParseErrorKind::{self, *};
-use crate::{Literal, ParseError, Text};
+use crate::{FloatLit, Literal, ParseError, Text};
 use std::alloc::{AllocError, Global};
 use std::ops::Range;
 use std::process::Abort;

@@ -4,7 +4,7 @@ use Rattle.std.specs.Char.{digit_value}
 use Rattle.litrs_base.specs.Base.{base_value}
 use Rattle.litrs_base.specs.Numeral.{numeral}
 use Rattle.litrs_lex.proofs.NumeralLemmas.{numeral-nil, numeral_take, numeral_digit, positive_base}
-use Rattle.litrs.proofs.integer.value_of.Goals as goal
+use Rattle.litrs_numbers.proofs.integer.value_of.Goals as goal
 
 pub loop-byte-init : goal.loop-byte-init
 loop-byte-init g c = record {
