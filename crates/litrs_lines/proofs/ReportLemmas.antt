@@ -9,7 +9,7 @@ use Rattle.litrs_base.specs.Refusal.{Refusal}
 use Rattle.litrs_grammar.specs.Integer.{IntegerParts, integer_value}
 use Rattle.litrs_grammar.specs.CharByte.{CharParts, char_value}
 use Rattle.litrs_grammar.specs.Float.{FloatParts}
-use Rattle.litrs_grammar.specs.Literal.{Derivation, an_integer, a_float, a_char, a_byte}
+use Rattle.litrs_grammar.specs.Literal.{Derivation, an_integer, a_float}
 use Rattle.litrs_grammar.proofs.LiteralLaws.{literals_are_unique}
 use Rattle.litrs.specs.Parsed.{IsParsed, IsParsedRefusal}
 use Rattle.litrs.proofs.Parsed.{parsed_or_refused, parsed_not_refused, parsed_refusals_are_unique}
