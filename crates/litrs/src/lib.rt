@@ -1,8 +1,8 @@
 //! Parsing and inspecting Rust literals.
 //!
-//! Each kind of literal has a type, [`BoolLit`], [`IntegerLit`], [`FloatLit`], [`CharLit`], [`StringLit`],
-//! [`ByteLit`], [`ByteStringLit`] and [`CStringLit`], and [`Literal`] stands for them all. Each has a
-//! `parse`, which takes a text that is one literal and nothing else.
+//! Each kind of literal has a type, [`BoolLit`], [`IntegerLit`], [`FloatLit`], [`CharLit`],
+//! [`StringLit`], [`ByteLit`], [`ByteStringLit`] and [`CStringLit`], and [`Literal`] stands for
+//! them all. Each has a `parse`, which takes a text that is one literal and nothing else.
 #![tactic(auto)]
 
 ghost use Rattle.std.specs.Prelude.{◌≡◌, false, nat_eq, IsOk, IfOk, OnErr, IfErr, Some};
@@ -65,15 +65,15 @@ pub enum Literal<B: Text> {
 impl<B: Text> Literal<B> {
     /// Parses a text that is one literal, of the kind that it begins like.
     ///
-    /// `true` is a bool, `1_000u32` an integer with the suffix `u32`. There is one allocation for the
-    /// value of a C string, and of a quoted string or byte string whose body has a backslash; else
-    /// none.
+    /// `true` is a bool, `1_000u32` an integer with the suffix `u32`. There is one allocation for
+    /// the value of a C string, and of a quoted string or byte string whose body has a backslash;
+    /// else none.
     ///
     /// # Errors
     ///
-    /// `Empty`; the refusal of the kind that the text begins like, as `UnexpectedChar` at 1..2 for `0 `;
-    /// `InvalidLiteral` where no kind begins so. `OutOfMemory`, with no span, where the text is a
-    /// literal and there is no memory for its value.
+    /// `Empty`; the refusal of the kind that the text begins like, as `UnexpectedChar` at 1..2 for
+    /// `0 `; `InvalidLiteral` where no kind begins so. `OutOfMemory`, with no span, where the text
+    /// is a literal and there is no memory for its value.
     #[inline(always)]
     pub fn parse(alloc: Global, input: B) -> Result<Literal<B>, ParseError>
         ensures raw { IfOk result (λ lit. literal_raw lit ≡ B.bytes input) }
@@ -130,8 +130,8 @@ impl<B: Text> Literal<B> {
 }
 
 impl<B: Text> Literal<B> {
-    /// The same literal again. Over `&str` it does not allocate, and succeeds, unless the literal is a
-    /// C string or has a quoted body with a backslash, whose value is copied.
+    /// The same literal again. Over `&str` it does not allocate, and succeeds, unless the literal
+    /// is a C string or has a quoted body with a backslash, whose value is copied.
     ///
     /// # Errors
     ///

@@ -186,7 +186,8 @@ fn push_char_parts(out: &mut String, name: &str, value: u32, suffix: &str) -> Re
 
 /// Adds the report on a string.
 fn push_string_report<B: Buffer>(out: &mut String, lit: &StringLit<B>) -> Result<(), AllocError>
-    ensures { OnOk result (string_bytes out.new ≡ string_bytes out.old ++ literal_report (a_string lit.now.parts)) }
+    ensures { OnOk result (
+        string_bytes out.new ≡ string_bytes out.old ++ literal_report (a_string lit.now.parts)) }
 {
     push_string_front(out, "string", raw_field(lit.is_raw_string()), lit.suffix())?;
     push_hex(out, lit.value().as_bytes())
@@ -197,7 +198,9 @@ fn push_byte_string_report<B: Buffer>(
     out: &mut String,
     lit: &ByteStringLit<B>,
 ) -> Result<(), AllocError>
-    ensures { OnOk result (string_bytes out.new ≡ string_bytes out.old ++ literal_report (a_byte_string lit.now.parts)) }
+    ensures { OnOk result (
+        string_bytes out.new
+        ≡ string_bytes out.old ++ literal_report (a_byte_string lit.now.parts)) }
 {
     push_string_front(
         out,
@@ -210,7 +213,8 @@ fn push_byte_string_report<B: Buffer>(
 
 /// Adds the report on a C string.
 fn push_c_string_report<B: Buffer>(out: &mut String, lit: &CStringLit<B>) -> Result<(), AllocError>
-    ensures { OnOk result (string_bytes out.new ≡ string_bytes out.old ++ literal_report (a_c_string lit.now.parts)) }
+    ensures { OnOk result (
+        string_bytes out.new ≡ string_bytes out.old ++ literal_report (a_c_string lit.now.parts)) }
 {
     push_string_front(
         out,
@@ -228,7 +232,8 @@ fn push_string_front(
     raw: &str,
     suffix: &str,
 ) -> Result<(), AllocError>
-    ensures { OnOk result (string_bytes out.new ≡ string_bytes out.old ++ string_front name.now raw.now suffix.now) }
+    ensures { OnOk result (
+        string_bytes out.new ≡ string_bytes out.old ++ string_front name.now raw.now suffix.now) }
 {
     write!(out, "{name} raw={raw} suffix={suffix} value=")
 }

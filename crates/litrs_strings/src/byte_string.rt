@@ -38,22 +38,23 @@ impl<B: Text> Model for ByteStringLit<B> {
 
     ghost view = { λ s. record { buffer = s.raw; raw = B.bytes s.raw; parts = s.derived.0 } };
 
-    ghost invariant = { λ s. IsStringAt s.cut (option_map vec_items s.value) (B.bytes s.raw) s.derived.0 };
+    ghost invariant = { λ s.
+        IsStringAt s.cut (option_map vec_items s.value) (B.bytes s.raw) s.derived.0 };
 }
 
 impl<B: Text> ByteStringLit<B> {
     /// Reads a text that is one byte string.
     ///
-    /// `b"a\xff"u8` has the suffix `u8`, and its value is the byte of `a` and the byte FF. There is one
-    /// allocation, for the value, where the body is quoted and has a backslash; else none.
+    /// `b"a\xff"u8` has the suffix `u8`, and its value is the byte of `a` and the byte FF. There is
+    /// one allocation, for the value, where the body is quoted and has a backslash; else none.
     ///
     /// # Errors
     ///
-    /// `Empty`; `InvalidByteStringLiteralStart` where the text begins with neither `b"` nor `br`; or as
-    /// [`cut_quoted`](litrs_lex::cut_quoted) and [`scan_raw_string`](litrs_lex::scan_raw_string)
-    /// refuse the text: `b"ab` is `UnterminatedString`, and `b"é"` is `NonAsciiInByteLiteral` at 2..3.
-    /// `OutOfMemory`, with no span, where the text is a byte string and there is no memory for its
-    /// value.
+    /// `Empty`; `InvalidByteStringLiteralStart` where the text begins with neither `b"` nor `br`;
+    /// or as [`cut_quoted`](litrs_lex::cut_quoted) and
+    /// [`scan_raw_string`](litrs_lex::scan_raw_string) refuse the text: `b"ab` is
+    /// `UnterminatedString`, and `b"é"` is `NonAsciiInByteLiteral` at 2..3. `OutOfMemory`, with no
+    /// span, where the text is a byte string and there is no memory for its value.
     #[inline(always)]
     pub fn parse(alloc: Global, input: B) -> Result<ByteStringLit<B>, ParseError>
         ensures buffer { IfOk result (λ lit. lit.buffer ≡ input) }
@@ -104,8 +105,8 @@ impl<B: Text> ByteStringLit<B> {
         self.raw.as_str()
     }
 
-    /// The same literal again. Over `&str` it does not allocate, and succeeds, where the body is raw
-    /// or has no backslash.
+    /// The same literal again. Over `&str` it does not allocate, and succeeds, where the body is
+    /// raw or has no backslash.
     ///
     /// # Errors
     ///
@@ -140,11 +141,13 @@ impl<B: Text> ByteStringLit<B> {
 }
 
 impl<B: Buffer> ByteStringLit<B> {
-    /// The bytes that the literal stands for, taken out of the literal. Over `&str` they are borrowed
-    /// from the text where the body is raw or has no backslash, else owned. It does not allocate.
+    /// The bytes that the literal stands for, taken out of the literal. Over `&str` they are
+    /// borrowed from the text where the body is raw or has no backslash, else owned. It does not
+    /// allocate.
     pub fn into_value(self) -> B::ByteCow
         ensures bytes { B.byte_cow_items result ≡ string_value self.parts }
-        ensures owned { B.byte_cow_owned result ↔ (IsTrue B.owns ⊎ IsTrue (has_escapes self.parts)) }
+        ensures owned { B.byte_cow_owned result
+            ↔ (IsTrue B.owns ⊎ IsTrue (has_escapes self.parts)) }
     {
         let ByteStringLit { raw, value, cut } = self;
         match value {

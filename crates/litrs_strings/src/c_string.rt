@@ -117,21 +117,23 @@ impl<B: Text> Model for CStringLit<B> {
 
     ghost view = { λ s. record { buffer = s.raw; raw = B.bytes s.raw; parts = s.derived.0 } };
 
-    ghost invariant = { λ s. IsCStringAt s.start_suffix s.is_raw s.value (B.bytes s.raw) s.derived.0 };
+    ghost invariant = { λ s.
+        IsCStringAt s.start_suffix s.is_raw s.value (B.bytes s.raw) s.derived.0 };
 }
 
 impl<B: Text> CStringLit<B> {
     /// Reads a text that is one C string.
     ///
-    /// `c"a\xff"u8` has the suffix `u8`, and its value is the byte of `a` and the byte FF. There is one
-    /// allocation, for the value and its closing zero.
+    /// `c"a\xff"u8` has the suffix `u8`, and its value is the byte of `a` and the byte FF. There is
+    /// one allocation, for the value and its closing zero.
     ///
     /// # Errors
     ///
-    /// `Empty`; `InvalidCStringLiteralStart` where the text begins with neither `c"` nor `cr`; or as
-    /// [`cut_quoted`](litrs_lex::cut_quoted) and [`scan_raw_string`](litrs_lex::scan_raw_string)
-    /// refuse the text: `c"ab` is `UnterminatedString`, and `c"\0"` is `DisallowedNulEscape` at 2..4.
-    /// `OutOfMemory`, with no span, where the text is a C string and there is no memory for its value.
+    /// `Empty`; `InvalidCStringLiteralStart` where the text begins with neither `c"` nor `cr`; or
+    /// as [`cut_quoted`](litrs_lex::cut_quoted) and [`scan_raw_string`](litrs_lex::scan_raw_string)
+    /// refuse the text: `c"ab` is `UnterminatedString`, and `c"\0"` is `DisallowedNulEscape` at
+    /// 2..4. `OutOfMemory`, with no span, where the text is a C string and there is no memory for
+    /// its value.
     #[inline(always)]
     pub fn parse(alloc: Global, input: B) -> Result<CStringLit<B>, ParseError>
         ensures buffer { IfOk result (λ lit. lit.buffer ≡ input) }
@@ -270,8 +272,8 @@ fn read(alloc: Global, input: &str) -> Result<(CString, StringCut), ParseError>
     }
 }
 
-/// The value without its closing zero, where the body has a backslash, and where the text is cut, if
-/// it is a C string.
+/// The value without its closing zero, where the body has a backslash, and where the text is cut,
+/// if it is a C string.
 fn read_body(alloc: Global, input: &str) -> Result<(Option<Vec<u8>>, StringCut), ParseError>
     ensures ok { IfOk result (λ read.
         IsStringRead c_string_kind input.now (option_map vec_items read.0) read.1) }

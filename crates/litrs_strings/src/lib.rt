@@ -1,7 +1,7 @@
 //! Strings, byte strings and C strings, quoted and raw.
 //!
-//! [`StringLit`], [`ByteStringLit`] and [`CStringLit`] each have a `parse`, which reads a text that is
-//! one literal and nothing else.
+//! [`StringLit`], [`ByteStringLit`] and [`CStringLit`] each have a `parse`, which reads a text that
+//! is one literal and nothing else.
 #![tactic(auto)]
 
 pub use byte_string::ByteStringLit;

@@ -37,21 +37,23 @@ impl<B: Text> Model for StringLit<B> {
 
     ghost view = { λ s. record { buffer = s.raw; raw = B.bytes s.raw; parts = s.derived.0 } };
 
-    ghost invariant = { λ s. IsStringAt s.cut (option_map string_bytes s.value) (B.bytes s.raw) s.derived.0 };
+    ghost invariant = { λ s.
+        IsStringAt s.cut (option_map string_bytes s.value) (B.bytes s.raw) s.derived.0 };
 }
 
 impl<B: Text> StringLit<B> {
     /// Reads a text that is one string.
     ///
-    /// `"a\nb"u8` has the suffix `u8`, and its value is `a`, LF and `b`. There is one allocation, for
-    /// the value, where the body is quoted and has a backslash; else none.
+    /// `"a\nb"u8` has the suffix `u8`, and its value is `a`, LF and `b`. There is one allocation,
+    /// for the value, where the body is quoted and has a backslash; else none.
     ///
     /// # Errors
     ///
-    /// `Empty`; `InvalidStringLiteralStart` at the first byte where that is neither `"` nor `r`; or as
-    /// [`cut_quoted`](litrs_lex::cut_quoted) and [`scan_raw_string`](litrs_lex::scan_raw_string)
+    /// `Empty`; `InvalidStringLiteralStart` at the first byte where that is neither `"` nor `r`; or
+    /// as [`cut_quoted`](litrs_lex::cut_quoted) and [`scan_raw_string`](litrs_lex::scan_raw_string)
     /// refuse the text: `"ab` is `UnterminatedString`, and `"\x80"` is `NonAsciiXEscape` at 1..5.
-    /// `OutOfMemory`, with no span, where the text is a string and there is no memory for its value.
+    /// `OutOfMemory`, with no span, where the text is a string and there is no memory for its
+    /// value.
     #[inline(always)]
     pub fn parse(alloc: Global, input: B) -> Result<StringLit<B>, ParseError>
         ensures buffer { IfOk result (λ lit. lit.buffer ≡ input) }
@@ -101,8 +103,8 @@ impl<B: Text> StringLit<B> {
         self.raw.as_str()
     }
 
-    /// The same literal again. Over `&str` it does not allocate, and succeeds, where the body is raw
-    /// or has no backslash.
+    /// The same literal again. Over `&str` it does not allocate, and succeeds, where the body is
+    /// raw or has no backslash.
     ///
     /// # Errors
     ///
