@@ -38,6 +38,8 @@ mod float;
 mod integer;
 mod parse;
 #[cfg(test)]
+mod string_tests;
+#[cfg(test)]
 mod tests;
 
 /// A literal of any kind. See [the reference][ref].
