@@ -37,6 +37,8 @@ mod copy_tests;
 mod float_tests;
 mod parse;
 #[cfg(test)]
+mod string_tests;
+#[cfg(test)]
 mod tests;
 
 /// A literal of any kind. See [the reference][ref].

@@ -593,8 +593,7 @@ fn long_numbers(rt: HostRuntime) -> Result<(), Fail> {
 
 /// The sample of the README: the value of an integer, where it fits 16 bits.
 fn mask(alloc: Global, text: &str) -> Result<Option<u16>, ParseError> {
-    let lit = Literal::parse(alloc, text)?;
-    match &lit {
+    match &Literal::parse(alloc, text)? {
         Literal::Integer(lit) => Ok(lit.value::<u16>()),
         _ => Ok(None),
     }

@@ -96,8 +96,7 @@ impl<B: Text> ByteStringLit<B> {
         &self.raw.as_str()[self.cut.start_suffix..]
     }
 
-    /// The text that was parsed. It is a byte string, with the parts that the accessors
-    /// answer.
+    /// The text that was parsed. It is a byte string, with the parts that the accessors answer.
     pub fn raw_input(&self) -> &str
         ensures raw { result.now ≡ self.now.raw }
         ensures literal { IsString byte_string_kind (chars result.now) self.now.parts }
@@ -173,8 +172,7 @@ impl ByteStringLit<&str> {
     }
 }
 
-/// The value, where the body has a backslash, and where the text is cut, if it is a byte
-/// string.
+/// The value, where the body has a backslash, and where the text is cut, if it is a byte string.
 fn read(alloc: Global, input: &str) -> Result<(Option<Vec<u8>>, StringCut), ParseError>
     ensures ok { IfOk result (λ read.
         IsStringRead byte_string_kind input.now (option_map vec_items read.0) read.1) }

@@ -152,11 +152,24 @@ impl<B: Text> CStringLit<B> {
         })
     }
 
-    /// The bytes that the literal stands for: `a` and FF, and a closing zero, for `c"a\xff"`.
+    /// The bytes that the literal stands for, with a closing zero: `a` and FF for `c"a\xff"`.
     pub fn value(&self) -> &CString
         ensures { result.now ≡ string_value self.now.parts }
     {
         &self.value
+    }
+
+    /// The bytes that the literal stands for, taken out of the literal. It does not allocate.
+    pub fn into_value(self) -> CString
+        ensures { result ≡ string_value self.parts }
+    {
+        let CStringLit {
+            raw: _,
+            value,
+            start_suffix: _,
+            is_raw: _,
+        } = self;
+        value
     }
 
     /// Whether the literal is raw, as `cr"foo"` and `cr#"foo"#` are.
@@ -173,8 +186,7 @@ impl<B: Text> CStringLit<B> {
         &self.raw.as_str()[self.start_suffix..]
     }
 
-    /// The text that was parsed. It is a C string, with the parts that the accessors
-    /// answer.
+    /// The text that was parsed. It is a C string, with the parts that the accessors answer.
     pub fn raw_input(&self) -> &str
         ensures raw { result.now ≡ self.now.raw }
         ensures literal { IsString c_string_kind (chars result.now) self.now.parts }
@@ -214,21 +226,6 @@ impl<B: Text> CStringLit<B> {
             is_raw: _,
         } = self;
         raw
-    }
-}
-
-impl<B: Text> CStringLit<B> {
-    /// The bytes that the literal stands for, taken out of the literal. It does not allocate.
-    pub fn into_value(self) -> CString
-        ensures { result ≡ string_value self.parts }
-    {
-        let CStringLit {
-            raw: _,
-            value,
-            start_suffix: _,
-            is_raw: _,
-        } = self;
-        value
     }
 }
 
