@@ -470,8 +470,8 @@ fn long_bodies(rt: HostRuntime) -> Result<(), Fail> {
     Ok(())
 }
 
-/// Where the allocation of a value is refused, the error is `OutOfMemory`. A text without such a value,
-/// and one that is no literal, have their answers whether there is memory or not.
+/// Where the allocation of a value is refused, the error is `OutOfMemory`. A text without such a
+/// value, and one that is no literal, have their answers whether there is memory or not.
 #[test]
 fn out_of_memory(rt: HostRuntime) {
     let alloc = rt.alloc();
