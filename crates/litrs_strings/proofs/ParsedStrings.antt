@@ -18,7 +18,7 @@ use Rattle.litrs_grammar.proofs.LiteralLaws.{only_string}
 use Rattle.litrs_lex.specs.RawCut.{IsRawCut, raw_parts_at}
 use Rattle.litrs_strings.specs.declared.cut.StringCut.{StringCut}
 use Rattle.litrs_strings.specs.StringLiteral.{IsStringAt, IsCStringAt}
-use Rattle.litrs_strings.specs.StringReads.{IsQuotedRead, IsRawRead, IsStringRead}
+use Rattle.litrs_strings.specs.ParsedStrings.{IsParsedQuoted, IsParsedRaw, IsParsedString}
 
 -- The fronts are ASCII, so that a text may be cut behind them.
 
@@ -71,33 +71,33 @@ raw_behind kind bs u begins = (begins_front (raw_front kind) bs (raw_low kind) b
 
 -- A quoted or a raw string is a string of its kind.
 
-pub quoted_read : (kind : StringKind) (bs : List ℕ) (value : Option (List ℕ)) (cut : StringCut) → IsUtf8 bs →
-    begins_with (quoted_front kind) bs ≡ true → IsQuotedRead (switches_of kind) bs (length (quoted_front kind)) value cut →
-    IsStringRead kind bs value cut
-quoted_read kind bs value cut u begins read = record {
-  parts = quoted_parts read.parts;
-  derives = subst (λ (front : List ℕ). IsQuoted front (switches_of kind) (chars bs) read.parts) (quoted_before kind bs u begins) read.derives;
-  at = read.at;
+pub parsed_quoted : (kind : StringKind) (bs : List ℕ) (value : Option (List ℕ)) (cut : StringCut) → IsUtf8 bs →
+    begins_with (quoted_front kind) bs ≡ true → IsParsedQuoted (switches_of kind) bs (length (quoted_front kind)) value cut →
+    IsParsedString kind bs value cut
+parsed_quoted kind bs value cut u begins parsed = record {
+  parts = quoted_parts parsed.parts;
+  derives = subst (λ (front : List ℕ). IsQuoted front (switches_of kind) (chars bs) parsed.parts) (quoted_before kind bs u begins) parsed.derives;
+  at = parsed.at;
 }
 
-pub raw_read : (kind : StringKind) (bs : List ℕ) (cut : StringCut) → IsUtf8 bs → begins_with (raw_front kind) bs ≡ true →
-    IsRawRead (has_unicode kind) (allows_nul kind) (length (raw_front kind)) bs cut → IsStringRead kind bs None cut
-raw_read kind bs cut u begins read = record {
-  parts = raw_parts read.parts;
+pub parsed_raw : (kind : StringKind) (bs : List ℕ) (cut : StringCut) → IsUtf8 bs → begins_with (raw_front kind) bs ≡ true →
+    IsParsedRaw (has_unicode kind) (allows_nul kind) (length (raw_front kind)) bs cut → IsParsedString kind bs None cut
+parsed_raw kind bs cut u begins parsed = record {
+  parts = raw_parts parsed.parts;
   derives = record {
-    spells = ap (λ (t : List ℕ). raw_front kind ++ t) (read.derives.spells ∙ sym (raw_behind kind bs u begins))
+    spells = ap (λ (t : List ℕ). raw_front kind ++ t) (parsed.derives.spells ∙ sym (raw_behind kind bs u begins))
         ∙ begins_with-split (raw_front kind) (chars bs) (raw_begins kind bs u ∙ begins);
-    grammar = read.derives.grammar;
+    grammar = parsed.derives.grammar;
   };
-  at = read.at;
+  at = parsed.at;
 }
 
 -- the body of a raw string is its value
-pub raw_cut_read : (unicode allow_nul : Bool) (offset : ℕ) (bs : List ℕ) (hashes start_suffix : ℕ) → IsUtf8 bs →
+pub parsed_raw_cut : (unicode allow_nul : Bool) (offset : ℕ) (bs : List ℕ) (hashes start_suffix : ℕ) → IsUtf8 bs →
     IsRawCut unicode allow_nul offset bs (hashes, start_suffix) →
-    IsRawRead unicode allow_nul offset bs
+    IsParsedRaw unicode allow_nul offset bs
     (record { start_body = offset + (hashes + 1); end_body = start_suffix - (hashes + 1); start_suffix = start_suffix; is_raw = true })
-raw_cut_read unicode allow_nul offset bs hashes start_suffix u cut = record {
+parsed_raw_cut unicode allow_nul offset bs hashes start_suffix u cut = record {
   parts = raw_parts_at offset bs (hashes, start_suffix);
   derives = cut.only.0;
   at = record {
@@ -112,7 +112,7 @@ raw_cut_read unicode allow_nul offset bs hashes start_suffix u cut = record {
   };
 }
 
--- The derivation of a literal is the one that was read.
+-- The derivation of a literal is the one that was parsed.
 
 pub only_derivation : (kind : StringKind) (t : List ℕ) (d : StringDerivation kind t) → IsOnlyDerivation (IsString kind t) d.0
 only_derivation kind t d = (d.1, λ e r. only_string kind t e d.0 r d.1)

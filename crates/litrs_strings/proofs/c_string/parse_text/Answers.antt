@@ -1,7 +1,7 @@
 -- The value is that of the derivation, whichever way it was made.
 use Rattle.std.proofs.Common.{inr}
-use Rattle.litrs_strings.proofs.CStringReads.{no_nul, c_out_of_memory}
-use Rattle.litrs_strings.proofs.c_string.read.Goals as goal
+use Rattle.litrs_strings.proofs.ParsedCStrings.{no_nul, c_out_of_memory}
+use Rattle.litrs_strings.proofs.c_string.parse_text.Goals as goal
 
 pub close_body-requires : goal.close_body-requires
 close_body-requires c =

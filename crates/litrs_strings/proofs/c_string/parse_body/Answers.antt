@@ -7,17 +7,17 @@ use Rattle.litrs_base.proofs.CharEnds.{no_span}
 use Rattle.litrs_grammar.specs.StringKind.{c_string_kind}
 use Rattle.litrs_grammar.specs.Quoted.{quoted_front}
 use Rattle.litrs_grammar.specs.Raw.{raw_front}
-use Rattle.litrs_strings.proofs.StringReads.{quoted_boundary, raw_boundary, quoted_read, raw_read}
+use Rattle.litrs_strings.proofs.ParsedStrings.{quoted_boundary, raw_boundary, parsed_quoted, parsed_raw}
 use Rattle.litrs_strings.proofs.StringRefusals.{empty_start, other_start, quoted_error, raw_error}
-use Rattle.litrs_strings.proofs.c_string.read_body.Goals as goal
+use Rattle.litrs_strings.proofs.c_string.parse_body.Goals as goal
 
 pub returns-in_err-first_byte_or_empty-clause-refused : goal.returns-in_err-first_byte_or_empty-clause-refused
 returns-in_err-first_byte_or_empty-clause-refused c =
     let p = err_from_is_err_and c.from_residual.result c.from_residual.ensures.1 in
     rw (p.1) (empty_start c_string_kind c.args.input.now _ c.in_err-first_byte_or_empty.ensures.0 (ap refusal_of p.2 ∙ c.in_err-first_byte_or_empty.ensures.1))
 
-pub read_quoted-requires-clause-at : goal.read_quoted-requires-clause-at
-read_quoted-requires-clause-at c =
+pub parse_quoted-requires-clause-at : goal.parse_quoted-requires-clause-at
+parse_quoted-requires-clause-at c =
     quoted_boundary c_string_kind c.args.input.now c.utf8.input
     (ap (begins_with (quoted_front c_string_kind)) (sym c.as_bytes.ensures.value) ∙ sym c.if-begins_quoted.ensures)
 
@@ -35,21 +35,21 @@ returns-in_err-cut-clause-refused c =
 
 pub returns-then-begins_quoted-clause-ok : goal.returns-then-begins_quoted-clause-ok
 returns-then-begins_quoted-clause-ok c =
-    IfOk-weaker c.read_quoted.result _ _
-    (λ read is. quoted_read c_string_kind c.args.input.now _ read.1 c.utf8.input
+    IfOk-weaker c.parse_quoted.result _ _
+    (λ parsed is. parsed_quoted c_string_kind c.args.input.now _ parsed.1 c.utf8.input
     (ap (begins_with (quoted_front c_string_kind)) (sym c.as_bytes.ensures.value) ∙ sym c.if-begins_quoted.ensures) is)
-    c.read_quoted.ensures.ok
+    c.parse_quoted.ensures.ok
 
 pub returns-then-begins_quoted-clause-refused : goal.returns-then-begins_quoted-clause-refused
 returns-then-begins_quoted-clause-refused c =
-    IfErr-weaker c.read_quoted.result _ _
+    IfErr-weaker c.parse_quoted.result _ _
     (λ e is. quoted_error c_string_kind c.args.input.now e c.utf8.input
     (ap (begins_with (quoted_front c_string_kind)) (sym c.as_bytes.ensures.value) ∙ sym c.if-begins_quoted.ensures) is)
-    c.read_quoted.ensures.refused
+    c.parse_quoted.ensures.refused
 
 pub returns-in_ok-cut-clause-ok : goal.returns-in_ok-cut-clause-ok
 returns-in_ok-cut-clause-ok c =
-    raw_read c_string_kind c.args.input.now c.in_ok-cut.cut c.utf8.input
+    parsed_raw c_string_kind c.args.input.now c.in_ok-cut.cut c.utf8.input
     (ap (begins_with (raw_front c_string_kind)) (sym c.as_bytes-else-begins_quoted.ensures.value) ∙ sym c.if-begins_raw.ensures)
     c.in_ok-cut.ensures.ok
 
