@@ -17,7 +17,7 @@ use Rattle.litrs_lex.proofs.IntegerBytes.{digits_are_ascii, digit-chars}
 marks_are_ascii : OnlyAscii is_float_mark
 marks_are_ascii c high = grind (arith, nat_tests)
 
-begins_float-chars : (bs : List ℕ) → IsUtf8 bs → begins_float (chars bs) ≡ begins_float bs
+pub begins_float-chars : (bs : List ℕ) → IsUtf8 bs → begins_float (chars bs) ≡ begins_float bs
 begins_float-chars bs u =
     let p = is_digit_or_underscore Decimal in
     let front = passing_front p bs (digits_are_ascii Decimal) u in
@@ -28,7 +28,7 @@ is_empty-chars : (bs : List ℕ) → IsUtf8 bs → is_empty (chars bs) ≡ is_em
 is_empty-chars [] u = ap is_empty chars-nil
 is_empty-chars (b ∷ bs) u = chars_empty (b ∷ bs) u ∙ ne_eqb (suc (length bs)) 0 (λ h. omega arith)
 
-is_bool-chars : (bs : List ℕ) → IsUtf8 bs → is_bool (chars bs) ≡ is_bool bs
+pub is_bool-chars : (bs : List ℕ) → IsUtf8 bs → is_bool (chars bs) ≡ is_bool bs
 is_bool-chars bs u = rw (is_text-chars (codes "true") bs refl u, is_text-chars (codes "false") bs refl u) refl
 
 pub dispatch-chars : (bs : List ℕ) → IsUtf8 bs → dispatch (chars bs) ≡ dispatch bs
