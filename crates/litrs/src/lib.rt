@@ -18,6 +18,7 @@ ghost use Rattle.litrs.specs.LiteralDerivation.{literal_raw, derivation};
 pub use bool::BoolLit;
 pub use byte::ByteLit;
 pub use char::CharLit;
+pub use litrs_goes_on::goes_on;
 pub use litrs_lex::{
     Buffer, FloatType, FromIntegerLiteral, IntegerBase, IntegerType, ParseError, ParseErrorKind,
     Text,

@@ -22,7 +22,7 @@ not_plain_char kind c h at =
     false≢true p
 
 -- the item before a closing quote
-same_char_item : (kind : CharKind) (a b : CharItem) (x y : List ℕ) → is_char_item kind a ≡ true → is_char_item kind b ≡ true →
+pub same_char_item : (kind : CharKind) (a b : CharItem) (x y : List ℕ) → is_char_item kind a ≡ true → is_char_item kind b ≡ true →
     char_item_text a ++ x ≡ char_item_text b ++ y → (a ≡ b) × (x ≡ y)
 same_char_item kind (plain_char c) (plain_char d) x y h g same = (cc, cc)
 same_char_item kind (plain_char c) (escaped_char e) x y h g same =

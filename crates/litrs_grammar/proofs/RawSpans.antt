@@ -43,10 +43,10 @@ rows_hold P start n body_refusal false false true a b c = c refl
 hash_ascii : (c : ℕ) → is_hash c ≡ true → is_ascii_char c ≡ true
 hash_ascii c h = rw (eqb-true c 35 h) refl
 
-hashes_bytes : (n : ℕ) → byte_len (hashes n) ≡ n
+pub hashes_bytes : (n : ℕ) → byte_len (hashes n) ≡ n
 hashes_bytes n = byte_len_ascii (hashes n) (list_all-weaken is_hash is_ascii_char hash_ascii (hashes n) (hashes_pass n)) ∙ length-hashes n
 
-quoted_bytes : (n : ℕ) → byte_len (raw_closing n) ≡ 1 + n
+pub quoted_bytes : (n : ℕ) → byte_len (raw_closing n) ≡ 1 + n
 quoted_bytes n = byte_len-append (34 ∷ []) (hashes n) ∙ omega (arith, hashes_bytes n, byte_len_ascii (34 ∷ []) refl)
 
 -- a character in the text

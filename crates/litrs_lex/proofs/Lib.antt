@@ -1,6 +1,7 @@
 pub mod SuffixBytes
 pub mod NumeralLemmas
 pub mod IntegerBytes
+pub mod Dispatch
 pub mod FloatBytes
 pub mod EscapeBytes
 pub mod PlainRuns

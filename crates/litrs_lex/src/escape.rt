@@ -206,16 +206,17 @@ fn begins_with_hex_digit(bytes: &[u8]) -> bool
 }
 
 /// Hex digits, at most six, and underscores.
-#[derive(Clone, Copy)]
-struct HexDigits {
+#[derive(Clone, Copy, Debug, PartialEq, Eq)]
+pub struct HexDigits {
     /// How many bytes they have.
-    len: usize,
+    pub len: usize,
     /// The number that they write.
-    value: u32,
+    pub value: u32,
 }
 
-/// The hex digits and underscores at the front, without the seventh digit and what follows it.
-fn hex_digits(bytes: &[u8]) -> HexDigits
+/// The hex digits and underscores at the front, without the seventh digit and what follows it: of
+/// `1_F6}` 4 bytes and the number 502.
+pub fn hex_digits(bytes: &[u8]) -> HexDigits
     ensures { IsHexDigits bytes.now result }
 {
     let mut count: usize = 0;

@@ -71,16 +71,19 @@ pub fn cut_quoted(
 }
 
 /// Where the items of a quoted body end: at its closing quote, or where the text is refused.
-#[derive(Clone, Copy)]
-pub(crate) struct ItemsEnd {
-    /// The place.
-    pub(crate) place: usize,
+#[derive(Clone, Copy, Debug, PartialEq, Eq)]
+pub struct ItemsEnd {
+    /// The place, in bytes.
+    pub place: usize,
     /// How many bytes the items before it stand for.
-    pub(crate) value_len: usize,
+    pub value_len: usize,
 }
 
-/// Where the items of a body end that begins at `offset`.
-pub(crate) fn items_end(
+/// Where the items of a quoted body end that begins at `offset`: of `"a\n"u8` from 1 at 4, and the
+/// items stand for 2 bytes. An escape or a continuation that ends the text is not among them.
+///
+/// The place and the switches are those of [`cut_quoted`].
+pub fn items_end(
     input: &str,
     offset: usize,
     unicode: bool,

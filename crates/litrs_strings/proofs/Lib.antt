@@ -1,3 +1,3 @@
-pub mod StringReads
+pub mod ParsedStrings
 pub mod StringRefusals
-pub mod CStringReads
+pub mod ParsedCStrings

@@ -2,4 +2,4 @@
 pub mod CString
 pub mod StringLiteral
 -- how a text is cut
-pub mod StringReads
+pub mod ParsedStrings

@@ -12,9 +12,9 @@ ghost use Rattle.litrs_grammar.specs.Strings.{StringDerivation, is_raw};
 ghost use Rattle.litrs_grammar.specs.Refused.{IsRefusedOrOutOfMemory};
 ghost use Rattle.litrs_grammar.proofs.StringDerivations.{string_derivation-prop};
 ghost use Rattle.litrs_strings.specs.StringLiteral.{StringLiteral, IsStringAt};
-ghost use Rattle.litrs_strings.specs.StringReads.{IsStringRead};
+ghost use Rattle.litrs_strings.specs.ParsedStrings.{IsParsedString};
 
-use crate::cut::{StringCut, cut_raw, read_quoted};
+use crate::cut::{StringCut, cut_raw, parse_quoted};
 use litrs_lex::{Buffer, ParseError, ParseErrorKind, Text, first_byte_or_empty};
 use std::alloc::{AllocError, Global};
 use std::fmt;
@@ -43,7 +43,7 @@ impl<B: Text> Model for ByteStringLit<B> {
 }
 
 impl<B: Text> ByteStringLit<B> {
-    /// Reads a text that is one byte string.
+    /// Parses a text that is one byte string.
     ///
     /// `b"a\xff"u8` has the suffix `u8`, and its value is the byte of `a` and the byte FF. There is
     /// one allocation, for the value, where the body is quoted and has a backslash; else none.
@@ -64,7 +64,7 @@ impl<B: Text> ByteStringLit<B> {
         ensures refused { IfErr result
             (IsRefusedOrOutOfMemory (kind_parse byte_string_literal) (chars (B.bytes input))) }
     {
-        let (value, cut) = read(alloc, input.as_str())?;
+        let (value, cut) = parse_text(alloc, input.as_str())?;
         Ok(ByteStringLit {
             raw: input,
             value,
@@ -173,15 +173,15 @@ impl ByteStringLit<&str> {
 }
 
 /// The value, where the body has a backslash, and where the text is cut, if it is a byte string.
-fn read(alloc: Global, input: &str) -> Result<(Option<Vec<u8>>, StringCut), ParseError>
-    ensures ok { IfOk result (λ read.
-        IsStringRead byte_string_kind input.now (option_map vec_items read.0) read.1) }
+fn parse_text(alloc: Global, input: &str) -> Result<(Option<Vec<u8>>, StringCut), ParseError>
+    ensures ok { IfOk result (λ parsed.
+        IsParsedString byte_string_kind input.now (option_map vec_items parsed.0) parsed.1) }
     ensures refused { IfErr result
         (IsRefusedOrOutOfMemory (kind_parse byte_string_literal) (chars input.now)) }
 {
     first_byte_or_empty(input)?;
     if begins_quoted(input.as_bytes()) {
-        read_quoted(alloc, input, 2, false, true, true)
+        parse_quoted(alloc, input, 2, false, true, true)
     } else if begins_raw(input.as_bytes()) {
         let cut = cut_raw(input, 2, false, true)?;
         Ok((None, cut))

@@ -14,9 +14,9 @@ ghost use Rattle.litrs_grammar.specs.Refused.{IsRefusedOrOutOfMemory};
 ghost use Rattle.litrs_grammar.proofs.StringDerivations.{string_derivation-prop};
 ghost use Rattle.litrs_strings.specs.CString.{before_zero, has_nul, IsClosed};
 ghost use Rattle.litrs_strings.specs.StringLiteral.{StringLiteral, IsCStringAt};
-ghost use Rattle.litrs_strings.specs.StringReads.{IsStringRead, IsCStringRead};
+ghost use Rattle.litrs_strings.specs.ParsedStrings.{IsParsedString, IsParsedCString};
 
-use crate::cut::{StringCut, cut_raw, read_quoted};
+use crate::cut::{StringCut, cut_raw, parse_quoted};
 use litrs_lex::{ParseError, ParseErrorKind, Text, first_byte_or_empty};
 use std::alloc::{AllocError, Global};
 use std::fmt;
@@ -122,7 +122,7 @@ impl<B: Text> Model for CStringLit<B> {
 }
 
 impl<B: Text> CStringLit<B> {
-    /// Reads a text that is one C string.
+    /// Parses a text that is one C string.
     ///
     /// `c"a\xff"u8` has the suffix `u8`, and its value is the byte of `a` and the byte FF. There is
     /// one allocation, for the value and its closing zero.
@@ -143,7 +143,7 @@ impl<B: Text> CStringLit<B> {
         ensures refused { IfErr result
             (IsRefusedOrOutOfMemory (kind_parse c_string_literal) (chars (B.bytes input))) }
     {
-        let (value, cut) = read(alloc, input.as_str())?;
+        let (value, cut) = parse_text(alloc, input.as_str())?;
         Ok(CStringLit {
             raw: input,
             value,
@@ -256,12 +256,12 @@ impl CStringLit<&str> {
 }
 
 /// The value, and where the text is cut, if it is a C string.
-fn read(alloc: Global, input: &str) -> Result<(CString, StringCut), ParseError>
-    ensures ok { IfOk result (λ read. IsCStringRead input.now read.0 read.1) }
+fn parse_text(alloc: Global, input: &str) -> Result<(CString, StringCut), ParseError>
+    ensures ok { IfOk result (λ parsed. IsParsedCString input.now parsed.0 parsed.1) }
     ensures refused { IfErr result
         (IsRefusedOrOutOfMemory (kind_parse c_string_literal) (chars input.now)) }
 {
-    let (unescaped, cut) = read_body(alloc, input)?;
+    let (unescaped, cut) = parse_body(alloc, input)?;
     let body = &input.as_bytes()[cut.start_body..cut.end_body];
     match close_body(alloc, unescaped, body) {
         Ok(value) => Ok((value, cut)),
@@ -271,15 +271,15 @@ fn read(alloc: Global, input: &str) -> Result<(CString, StringCut), ParseError>
 
 /// The value without its closing zero, where the body has a backslash, and where the text is cut,
 /// if it is a C string.
-fn read_body(alloc: Global, input: &str) -> Result<(Option<Vec<u8>>, StringCut), ParseError>
-    ensures ok { IfOk result (λ read.
-        IsStringRead c_string_kind input.now (option_map vec_items read.0) read.1) }
+fn parse_body(alloc: Global, input: &str) -> Result<(Option<Vec<u8>>, StringCut), ParseError>
+    ensures ok { IfOk result (λ parsed.
+        IsParsedString c_string_kind input.now (option_map vec_items parsed.0) parsed.1) }
     ensures refused { IfErr result
         (IsRefusedOrOutOfMemory (kind_parse c_string_literal) (chars input.now)) }
 {
     first_byte_or_empty(input)?;
     if begins_quoted(input.as_bytes()) {
-        read_quoted(alloc, input, 2, true, true, false)
+        parse_quoted(alloc, input, 2, true, true, false)
     } else if begins_raw(input.as_bytes()) {
         let cut = cut_raw(input, 2, true, false)?;
         Ok((None, cut))

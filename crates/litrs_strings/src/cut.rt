@@ -4,7 +4,7 @@ ghost use Rattle.std.specs.Str.{IsCharBoundary};
 ghost use Rattle.litrs_lex.specs.QuotedCut.{IsQuotedRefused, IsQuotedOutOfMemory};
 ghost use Rattle.litrs_lex.specs.RawCut.{IsRawRefused};
 ghost use Rattle.litrs_lex.specs.Unescaped.{switches};
-ghost use Rattle.litrs_strings.specs.StringReads.{IsQuotedRead, IsRawRead};
+ghost use Rattle.litrs_strings.specs.ParsedStrings.{IsParsedQuoted, IsParsedRaw};
 
 use litrs_lex::{EscapeContainer, ParseError, scan_raw_string, unescape_string};
 use std::alloc::Global;
@@ -22,9 +22,9 @@ pub struct StringCut {
     pub is_raw: bool,
 }
 
-/// Reads a quoted string whose body begins at `offset`: the value, where the body has a backslash,
+/// Parses a quoted string whose body begins at `offset`: the value, where the body has a backslash,
 /// and where the string is cut. `offset` and the switches are those of [`unescape_string`].
-pub(crate) fn read_quoted<C: EscapeContainer>(
+pub(crate) fn parse_quoted<C: EscapeContainer>(
     alloc: Global,
     input: &str,
     offset: usize,
@@ -34,9 +34,9 @@ pub(crate) fn read_quoted<C: EscapeContainer>(
 ) -> Result<(Option<C>, StringCut), ParseError>
     requires at { IsCharBoundary input.now offset }
     requires fits { IsTrue (not byte_escapes || C.TAKES_BYTES) }
-    ensures ok { IfOk result (λ read.
-        IsQuotedRead (switches unicode byte_escapes allow_nul) input.now offset
-        (option_map C.contents read.0) read.1) }
+    ensures ok { IfOk result (λ parsed.
+        IsParsedQuoted (switches unicode byte_escapes allow_nul) input.now offset
+        (option_map C.contents parsed.0) parsed.1) }
     ensures refused { IfErr result (λ e.
         IsQuotedRefused (switches unicode byte_escapes allow_nul) input.now offset e
         ⊎ IsQuotedOutOfMemory (switches unicode byte_escapes allow_nul) input.now offset e) }
@@ -67,7 +67,7 @@ pub(crate) fn cut_raw(
     allow_nul: bool,
 ) -> Result<StringCut, ParseError>
     requires { IsCharBoundary input.now offset }
-    ensures ok { IfOk result (IsRawRead unicode allow_nul offset input.now) }
+    ensures ok { IfOk result (IsParsedRaw unicode allow_nul offset input.now) }
     ensures refused { IfErr result (IsRawRefused unicode allow_nul offset input.now) }
 {
     let (hashes, start_suffix) = scan_raw_string(input, offset, unicode, allow_nul)?;

@@ -1,6 +1,6 @@
 //! Strings, byte strings and C strings, quoted and raw.
 //!
-//! [`StringLit`], [`ByteStringLit`] and [`CStringLit`] each have a `parse`, which reads a text that
+//! [`StringLit`], [`ByteStringLit`] and [`CStringLit`] each have a `parse`, which takes a text that
 //! is one literal and nothing else.
 #![tactic(auto)]
 

@@ -11,9 +11,9 @@ ghost use Rattle.litrs_grammar.specs.Strings.{StringDerivation, is_raw};
 ghost use Rattle.litrs_grammar.specs.Refused.{IsRefusedOrOutOfMemory};
 ghost use Rattle.litrs_grammar.proofs.StringDerivations.{string_derivation-prop};
 ghost use Rattle.litrs_strings.specs.StringLiteral.{StringLiteral, IsStringAt};
-ghost use Rattle.litrs_strings.specs.StringReads.{IsStringRead};
+ghost use Rattle.litrs_strings.specs.ParsedStrings.{IsParsedString};
 
-use crate::cut::{StringCut, cut_raw, read_quoted};
+use crate::cut::{StringCut, cut_raw, parse_quoted};
 use litrs_lex::{Buffer, ParseError, ParseErrorKind, Text, first_byte_or_empty};
 use std::alloc::{AllocError, Global};
 use std::fmt;
@@ -42,7 +42,7 @@ impl<B: Text> Model for StringLit<B> {
 }
 
 impl<B: Text> StringLit<B> {
-    /// Reads a text that is one string.
+    /// Parses a text that is one string.
     ///
     /// `"a\nb"u8` has the suffix `u8`, and its value is `a`, LF and `b`. There is one allocation,
     /// for the value, where the body is quoted and has a backslash; else none.
@@ -63,7 +63,7 @@ impl<B: Text> StringLit<B> {
         ensures refused { IfErr result
             (IsRefusedOrOutOfMemory (kind_parse string_literal) (chars (B.bytes input))) }
     {
-        let (value, cut) = read(alloc, input.as_str())?;
+        let (value, cut) = parse_text(alloc, input.as_str())?;
         Ok(StringLit {
             raw: input,
             value,
@@ -170,15 +170,15 @@ impl StringLit<&str> {
 }
 
 /// The value, where the body has a backslash, and where the text is cut, if it is a string.
-fn read(alloc: Global, input: &str) -> Result<(Option<String>, StringCut), ParseError>
-    ensures ok { IfOk result (λ read.
-        IsStringRead string_kind input.now (option_map string_bytes read.0) read.1) }
+fn parse_text(alloc: Global, input: &str) -> Result<(Option<String>, StringCut), ParseError>
+    ensures ok { IfOk result (λ parsed.
+        IsParsedString string_kind input.now (option_map string_bytes parsed.0) parsed.1) }
     ensures refused { IfErr result
         (IsRefusedOrOutOfMemory (kind_parse string_literal) (chars input.now)) }
 {
     let first = first_byte_or_empty(input)?;
     if first == b'"' {
-        read_quoted(alloc, input, 1, true, false, true)
+        parse_quoted(alloc, input, 1, true, false, true)
     } else if first == b'r' {
         let cut = cut_raw(input, 1, true, true)?;
         Ok((None, cut))

@@ -79,7 +79,7 @@ a_fits : (kind : CharKind) → is_char_item kind (plain_char 97) ≡ true
 a_fits char_kind = refl
 a_fits byte_kind = refl
 
-completed : (kind : CharKind) (rest t more : List ℕ) (item : CharItem) (suffix : List ℕ) → char_front kind ++ rest ≡ t → IsText more → is_char_item kind item ≡ true → is_suffix suffix ≡ true →
+pub completed : (kind : CharKind) (rest t more : List ℕ) (item : CharItem) (suffix : List ℕ) → char_front kind ++ rest ≡ t → IsText more → is_char_item kind item ≡ true → is_suffix suffix ≡ true →
     rest ++ more ≡ char_item_text item ++ 39 ∷ suffix → BeginsBy (IsCharLiteral kind) t
 completed kind rest t more item suffix spells text is is_end same = (
   more,
@@ -117,7 +117,7 @@ front_completed kind t begins =
       },
     )
 
-char_completed : (kind : CharKind) (t : List ℕ) → CharGoesOn kind t → BeginsBy (IsCharLiteral kind) t
+pub char_completed : (kind : CharKind) (t : List ℕ) → CharGoesOn kind t → BeginsBy (IsCharLiteral kind) t
 char_completed kind t (inl begins) = front_completed kind t begins
 char_completed kind t (inr (rest, spells, goes_on)) = rest_completed kind rest t spells goes_on
 

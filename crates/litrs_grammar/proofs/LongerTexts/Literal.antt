@@ -38,7 +38,7 @@ use Rattle.litrs_grammar.proofs.LongerTexts.String.{behind_raw, quoted_string_en
 
 -- The parts of one kind
 
-abbrev Parts : LiteralKind → Type 0
+abbrev pub Parts : LiteralKind → Type 0
 Parts bool_literal = Bool
 Parts integer_literal = IntegerParts
 Parts float_literal = FloatParts
@@ -48,7 +48,7 @@ Parts string_literal = StringParts
 Parts byte_string_literal = StringParts
 Parts c_string_literal = StringParts
 
-abbrev HasParts : (kind : LiteralKind) → List ℕ → Parts kind → Type 0
+abbrev pub HasParts : (kind : LiteralKind) → List ℕ → Parts kind → Type 0
 HasParts bool_literal t d = IsBool t d
 HasParts integer_literal t d = IsIntegerOf t d
 HasParts float_literal t d = IsFloatOf t d
@@ -84,7 +84,7 @@ literal_of_parts c_string_literal t p r = (a_c_string p, (refl, r))
 ends_kind : (kind : LiteralKind) (t : List ℕ) → EndsBy (HasParts kind) t → EndsBy (IsLiteralOf (kind_parse kind)) t
 ends_kind kind t none x d lit = let p = parts_of_kind kind (t ++ x) d lit in none x p.0 p.1
 
-begins_kind : (kind : LiteralKind) (t : List ℕ) → Begins (kind_parse kind) t ↔ BeginsBy (HasParts kind) t
+pub begins_kind : (kind : LiteralKind) (t : List ℕ) → Begins (kind_parse kind) t ↔ BeginsBy (HasParts kind) t
 begins_kind kind t = (
   λ begins. let p = parts_of_kind kind (t ++ begins.0) begins.1 begins.3 in (begins.0, p.0, begins.2, p.1),
   λ begins. let d = literal_of_parts kind (t ++ begins.0) begins.1 begins.3 in (begins.0, d.0, begins.2, d.1),
@@ -109,7 +109,7 @@ raw_literal kind u x d r = record { spells = ap (λ l. raw_front kind ++ l) r.sp
 raw_behind : (kind : StringKind) (u x : List ℕ) (d : RawParts) → IsRawLiteral kind ((raw_front kind ++ u) ++ x) d → IsRawOf (has_unicode kind) (allows_nul kind) (u ++ x) d
 raw_behind kind u x d r = behind_front kind (u ++ x) ((raw_front kind ++ u) ++ x) d (sym (append_assoc (raw_front kind) u x)) r
 
-raw_begins_behind : (kind : StringKind) (u : List ℕ) → BeginsBy (IsRawLiteral kind) (raw_front kind ++ u) ↔ BeginsBy (IsRawOf (has_unicode kind) (allows_nul kind)) u
+pub raw_begins_behind : (kind : StringKind) (u : List ℕ) → BeginsBy (IsRawLiteral kind) (raw_front kind ++ u) ↔ BeginsBy (IsRawOf (has_unicode kind) (allows_nul kind)) u
 raw_begins_behind kind u = (
   λ begins. (begins.0, begins.1, begins.2, raw_behind kind u begins.0 begins.1 begins.3),
   λ begins. (begins.0, begins.1, begins.2, raw_literal kind u begins.0 begins.1 begins.3),

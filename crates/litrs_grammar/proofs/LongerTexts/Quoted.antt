@@ -330,7 +330,7 @@ rest_freed w c t x e h none = go (c == 92) refl h none
         let d = gone (not (is_ascii_unless w.unicode c)) _ _ _ e b.0 b.1 in
         inr (inr (quote_freed (c == 34) (is_suffix t) (is_suffix (t ++ x)) c t x e refl refl refl d.0 d.1))
 
-begins_rest : (front : List ℕ) (w : Switches) (t : List ℕ) (e : Refusal) (h : IsQuotedRefusal front w t e) → BeginsBy (IsQuoted front w) t → RestGoesOn w h.rest
+pub begins_rest : (front : List ℕ) (w : Switches) (t : List ℕ) (e : Refusal) (h : IsQuotedRefusal front w t e) → BeginsBy (IsQuoted front w) t → RestGoesOn w h.rest
 begins_rest front w t e h (x, q, text, quoted) = go h.rest h.spells h.taken h.told
   where
     go : (rest : List ℕ) → front ++ (body_text h.items ++ rest) ≡ t → stand_before w rest h.items ≡ true → rest_refusal w rest ≡ Some h.cause → RestGoesOn w rest
@@ -341,7 +341,7 @@ begins_rest front w t e h (x, q, text, quoted) = go h.rest h.spells h.taken h.to
         by (Some e') more = absurd (quoted_texts_are_not_refused front w (t ++ x) q _ quoted (refused_more front w t x h.items c r e' spells taken more))
         by None more = rest_freed w c r x h.cause told more
 
-rest_begins : (front : List ℕ) (w : Switches) (t : List ℕ) (items : List Item) (rest : List ℕ) → front ++ (body_text items ++ rest) ≡ t → stand_before w rest items ≡ true → RestGoesOn w rest → BeginsBy (IsQuoted front w) t
+pub rest_begins : (front : List ℕ) (w : Switches) (t : List ℕ) (items : List Item) (rest : List ℕ) → front ++ (body_text items ++ rest) ≡ t → stand_before w rest items ≡ true → RestGoesOn w rest → BeginsBy (IsQuoted front w) t
 rest_begins front w t items rest spelled taken (inl shape) = let closed = closes front w t items rest spelled taken shape in (34 ∷ [], record { items = closed.items; suffix = [] }, refl, closed.literal)
 rest_begins front w t items rest spelled taken (inr (inl (esc, x, spells, grammar))) =
     let last : IsBodyOf w (escape_text esc) (escape_item esc ∷ []) = record { spells = append-nil (escape_text esc); body = and_from _ _ (and_from _ _ grammar refl) refl } in

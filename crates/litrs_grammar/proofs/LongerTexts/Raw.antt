@@ -28,21 +28,21 @@ use Rattle.litrs_grammar.proofs.RawLaws.{raw_body_rows, raw_rows, refusal_of_has
 -- Behind n hashes and the quote: what a text is up to its first closing, or to the first character that may not stand there.
 
 -- a raw body, and a character that may not stand in one
-record IsStopped (unicode allow_nul : Bool) (n : ℕ) (t : List ℕ) : Type 0 where
-  front : List ℕ
-  character : ℕ
-  behind : List ℕ
-  spells : front ++ character ∷ behind ≡ t
-  grammar : IsRawBody unicode allow_nul n front
-  disallowed : is_raw_char unicode allow_nul character ≡ false
+pub record IsStopped (unicode allow_nul : Bool) (n : ℕ) (t : List ℕ) : Type 0 where
+  pub front : List ℕ
+  pub character : ℕ
+  pub behind : List ℕ
+  pub spells : front ++ character ∷ behind ≡ t
+  pub grammar : IsRawBody unicode allow_nul n front
+  pub disallowed : is_raw_char unicode allow_nul character ≡ false
 
-data RawScan (unicode allow_nul : Bool) (n : ℕ) (t : List ℕ) : Type 0 where
+pub data RawScan (unicode allow_nul : Bool) (n : ℕ) (t : List ℕ) : Type 0 where
   stopped : IsStopped unicode allow_nul n t → RawScan unicode allow_nul n t
   closed : (behind : List ℕ) → IsClosedRaw unicode allow_nul n t behind → RawScan unicode allow_nul n t
   unclosed : IsRawBody unicode allow_nul n t → RawScan unicode allow_nul n t
 
 -- every text is one of the three
-raw_scan : (unicode allow_nul : Bool) (n : ℕ) (t : List ℕ) → RawScan unicode allow_nul n t
+pub raw_scan : (unicode allow_nul : Bool) (n : ℕ) (t : List ℕ) → RawScan unicode allow_nul n t
 raw_scan unicode allow_nul n t = by (occurs (raw_closing n) run.front) refl
   where
     ok : ℕ → Bool
@@ -132,12 +132,12 @@ stopped_at unicode allow_nul n start front c t grammar bad =
     let character : slice_index r (length front) ≡ c = get_or-append_seam front c t 0 in
     rw (body, allowed, short, taken, character) refl
 
-stopped_refusal : (unicode allow_nul : Bool) (n start : ℕ) (t : List ℕ) (x : IsStopped unicode allow_nul n t) →
+pub stopped_refusal : (unicode allow_nul : Bool) (n start : ℕ) (t : List ℕ) (x : IsStopped unicode allow_nul n t) →
     raw_body_refusal unicode allow_nul n start t ≡ Some (at (start + byte_len x.front) (raw_char_refusal x.character))
 stopped_refusal unicode allow_nul n start t x =
     ap (raw_body_refusal unicode allow_nul n start) (sym x.spells) ∙ stopped_at unicode allow_nul n start x.front x.character x.behind x.grammar x.disallowed
 
-closed_refusal : (unicode allow_nul : Bool) (n start : ℕ) (t behind : List ℕ) (x : IsClosedRaw unicode allow_nul n t behind) →
+pub closed_refusal : (unicode allow_nul : Bool) (n start : ℕ) (t behind : List ℕ) (x : IsClosedRaw unicode allow_nul n t behind) →
     raw_body_refusal unicode allow_nul n start t ≡ (if not (is_suffix behind) then Some (at (start + (byte_len x.body + (1 + n))) (suffix_refusal behind)) else None)
 closed_refusal unicode allow_nul n start t behind x =
     let ok = is_raw_char unicode allow_nul in
@@ -153,7 +153,7 @@ length_before_all n (c ∷ t) none =
     let parts : (begins_with (raw_closing n) (c ∷ t) ≡ false) × (occurs (raw_closing n) t ≡ false) = or_parts _ _ none in
     ap (λ v. cond v 0 (1 + length_before (raw_closing n) t)) parts.0 ∙ omega (arith, length_before_all n t parts.1)
 
-unclosed_refusal : (unicode allow_nul : Bool) (n start : ℕ) (t : List ℕ) → IsRawBody unicode allow_nul n t → raw_body_refusal unicode allow_nul n start t ≡ Some (plain UnterminatedRawString)
+pub unclosed_refusal : (unicode allow_nul : Bool) (n start : ℕ) (t : List ℕ) → IsRawBody unicode allow_nul n t → raw_body_refusal unicode allow_nul n start t ≡ Some (plain UnterminatedRawString)
 unfolding raw_body_refusal
 unclosed_refusal unicode allow_nul n start t grammar =
     let ok = is_raw_char unicode allow_nul in
@@ -203,11 +203,11 @@ body_final unicode allow_nul n start t more r final h = by (raw_scan unicode all
     by (unclosed grammar) = never (plain UnterminatedRawString) r refl final (sym (unclosed_refusal unicode allow_nul n start t grammar) ∙ h)
 
 -- the table for a text of n hashes and another character
-rows_of : (unicode allow_nul : Bool) (start n c : ℕ) (t : List ℕ) → is_hash c ≡ false →
+pub rows_of : (unicode allow_nul : Bool) (start n c : ℕ) (t : List ℕ) → is_hash c ≡ false →
     raw_refusal unicode allow_nul start (hashes n ++ c ∷ t) ≡ raw_rows start n (raw_body_refusal unicode allow_nul n (start + (n + 1)) t) false (ltb 255 n) (is_quote c)
 rows_of unicode allow_nul start n c t stops = refusal_of_hashes unicode allow_nul start n (c ∷ t) stops
 
-rows_of_nothing : (unicode allow_nul : Bool) (start n : ℕ) → raw_refusal unicode allow_nul start (hashes n ++ []) ≡ Some (plain InvalidLiteral)
+pub rows_of_nothing : (unicode allow_nul : Bool) (start n : ℕ) → raw_refusal unicode allow_nul start (hashes n ++ []) ≡ Some (plain InvalidLiteral)
 rows_of_nothing unicode allow_nul start n = refusal_of_hashes unicode allow_nul start n [] refl
 
 -- a raw text refused with a final kind is refused alike whatever is appended
@@ -235,16 +235,16 @@ raw_finality unicode allow_nul start t r h final more d = refused unicode allow_
 -- Which begin a raw literal.
 
 -- what goes on, by the cut at the hashes
-abbrev CutGoesOn : (unicode allow_nul : Bool) (n : ℕ) → List ℕ → Type 0
+abbrev pub CutGoesOn : (unicode allow_nul : Bool) (n : ℕ) → List ℕ → Type 0
 CutGoesOn unicode allow_nul n rest = (n ≤ 255) × RawRestGoesOn unicode allow_nul n rest
 
-from_cut : (unicode allow_nul : Bool) (n : ℕ) (rest : List ℕ) → first_passes is_hash rest ≡ false → CutGoesOn unicode allow_nul n rest → RawGoesOn unicode allow_nul (hashes n ++ rest)
+pub from_cut : (unicode allow_nul : Bool) (n : ℕ) (rest : List ℕ) → first_passes is_hash rest ≡ false → CutGoesOn unicode allow_nul n rest → RawGoesOn unicode allow_nul (hashes n ++ rest)
 from_cut unicode allow_nul n rest stops goes_on =
     let count : hash_len (hashes n ++ rest) ≡ n = hash_len-append n rest stops in
     let behind : drop (hash_len (hashes n ++ rest)) (hashes n ++ rest) ≡ rest = ap (λ k. drop k (hashes n ++ rest)) count ∙ behind_hashes n rest in
     subst (λ l. CutGoesOn unicode allow_nul (hash_len (hashes n ++ rest)) l) (sym behind) (subst (λ k. CutGoesOn unicode allow_nul k rest) (sym count) goes_on)
 
-to_cut : (unicode allow_nul : Bool) (n : ℕ) (rest : List ℕ) → first_passes is_hash rest ≡ false → RawGoesOn unicode allow_nul (hashes n ++ rest) → CutGoesOn unicode allow_nul n rest
+pub to_cut : (unicode allow_nul : Bool) (n : ℕ) (rest : List ℕ) → first_passes is_hash rest ≡ false → RawGoesOn unicode allow_nul (hashes n ++ rest) → CutGoesOn unicode allow_nul n rest
 to_cut unicode allow_nul n rest stops goes_on =
     let count : hash_len (hashes n ++ rest) ≡ n = hash_len-append n rest stops in
     let behind : drop (hash_len (hashes n ++ rest)) (hashes n ++ rest) ≡ rest = ap (λ k. drop k (hashes n ++ rest)) count ∙ behind_hashes n rest in

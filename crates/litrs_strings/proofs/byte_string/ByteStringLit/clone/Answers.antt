@@ -2,7 +2,7 @@
 use Rattle.std.proofs.Common.{ap, ◌∙◌}
 use Rattle.litrs_grammar.specs.StringKind.{byte_string_kind}
 use Rattle.litrs_strings.specs.StringLiteral.{StringLiteral}
-use Rattle.litrs_strings.proofs.StringReads.{at_copy, same_parts}
+use Rattle.litrs_strings.proofs.ParsedStrings.{at_copy, same_parts}
 use Rattle.litrs_strings.proofs.byte_string.ByteStringLit.clone.Goals as goal
 
 pub invariant_of-result-2 : goal.invariant_of-result-2

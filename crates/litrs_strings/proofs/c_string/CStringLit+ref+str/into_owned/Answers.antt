@@ -1,7 +1,7 @@
 -- The text is the same, and so the derivation.
 use Rattle.std.proofs.Common.{refl}
 use Rattle.litrs_grammar.specs.StringKind.{c_string_kind}
-use Rattle.litrs_strings.proofs.StringReads.{c_at_copy, same_parts}
+use Rattle.litrs_strings.proofs.ParsedStrings.{c_at_copy, same_parts}
 use Rattle.litrs_strings.proofs.c_string.CStringLit+ref+str.into_owned.Goals as goal
 
 pub invariant_of-result-2 : goal.invariant_of-result-2

@@ -1,7 +1,7 @@
 -- The text is the same, and so the derivation.
 use Rattle.std.proofs.Common.{refl}
 use Rattle.litrs_grammar.specs.StringKind.{string_kind}
-use Rattle.litrs_strings.proofs.StringReads.{at_copy, same_parts}
+use Rattle.litrs_strings.proofs.ParsedStrings.{at_copy, same_parts}
 use Rattle.litrs_strings.proofs.string.StringLit+ref+str.into_owned.Goals as goal
 
 pub invariant_of-result-2 : goal.invariant_of-result-2

@@ -1,0 +1,10 @@
+pub mod Words
+pub mod Begins
+pub mod Suffixes
+pub mod Fronts
+pub mod Numbers
+pub mod Chars
+pub mod Escapes
+pub mod QuotedEnds
+pub mod RawEnds
+pub mod StringEnds

@@ -1,0 +1,4 @@
+pub mod Row
+pub mod Begins
+pub mod LacksDigits
+pub mod LastUnderscore

@@ -1,0 +1,67 @@
+//! The dispatch over the kinds.
+ghost use Rattle.std.specs.Prelude.{◌≡◌, IsFalse, IsTrue};
+ghost use Rattle.litrs_base.specs.Text.{is_empty};
+ghost use Rattle.litrs_grammar.specs.Bool.{is_bool};
+ghost use Rattle.litrs_grammar.specs.LiteralRefusals.{begins_float, dispatch};
+ghost use Rattle.litrs_goes_on.specs.Row.{row_of, begins_as};
+
+use litrs_lex::end_dec_digits;
+
+/// What a text is parsed as, by how it begins.
+#[derive(Clone, Copy)]
+pub(crate) enum Row {
+    /// The empty text.
+    Empty,
+    /// A bool, which is the whole text.
+    Bool,
+    /// An integer, if it is a literal at all; so are the other kinds.
+    Integer,
+    Float,
+    Char,
+    Byte,
+    String,
+    ByteString,
+    CString,
+    /// No kind begins so.
+    Unnamed,
+}
+
+/// What a text is parsed as.
+#[tactic(auto, unfolding(litrs_grammar::specs::LiteralRefusals::dispatch))]
+pub(crate) fn dispatch(text: &str) -> Row
+    ensures row { row_of result ≡ dispatch text.now }
+    ensures front { IsTrue (begins_as result text.now) }
+{
+    match text {
+        "" => Row::Empty,
+        "true" | "false" => Row::Bool,
+        _ => by_front(text.as_bytes()),
+    }
+}
+
+/// The same of a text that is neither empty nor a bool, by its first bytes.
+#[tactic(auto, unfolding(litrs_grammar::specs::LiteralRefusals::dispatch))]
+fn by_front(bytes: &[u8]) -> Row
+    requires some { IsFalse (is_empty bytes.now) }
+    requires no_bool { IsFalse (is_bool bytes.now) }
+    ensures row { row_of result ≡ dispatch bytes.now }
+    ensures front { IsTrue (begins_as result bytes.now) }
+{
+    match bytes {
+        [b'0'..=b'9', ..] if begins_float(bytes) => Row::Float,
+        [b'0'..=b'9', ..] => Row::Integer,
+        [b'\'', ..] => Row::Char,
+        [b'"' | b'r', ..] => Row::String,
+        [b'b', b'\'', ..] => Row::Byte,
+        [b'b', b'"' | b'r', ..] => Row::ByteString,
+        [b'c', ..] => Row::CString,
+        _ => Row::Unnamed,
+    }
+}
+
+/// Whether a period, `e` or `E` stands behind the leading run of decimal digits and underscores.
+fn begins_float(bytes: &[u8]) -> bool
+    ensures { result ≡ begins_float bytes.now }
+{
+    matches!(&bytes[end_dec_digits(bytes)..], [b'.' | b'e' | b'E', ..])
+}
