@@ -36,6 +36,8 @@ mod char;
 mod copy_tests;
 #[cfg(test)]
 mod float_tests;
+#[cfg(test)]
+mod goes_on_tests;
 mod parse;
 #[cfg(test)]
 mod string_tests;

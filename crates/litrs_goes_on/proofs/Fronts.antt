@@ -1,5 +1,5 @@
 -- The characters of a text at its ASCII front and at its first character.
-use Rattle.std.proofs.Common.{◌≡◌, ◌<◌, ◌≤◌, ℕ, Bool, true, false, ltb, List, [], ◌∷◌, ◌++◌, length, drop, take, refl, sym, ap, ◌∙◌, subst, arith}
+use Rattle.std.proofs.Common.{◌≡◌, ℕ, true, ltb, List, [], ◌∷◌, ◌++◌, length, drop, take, refl, sym, ap, ◌∙◌, arith}
 use Rattle.std.specs.Str.{chars, IsUtf8, IsCharBoundary}
 use Rattle.std.specs.List.{list_all}
 use Rattle.std.proofs.lemmas.List.{take_at}
@@ -9,18 +9,24 @@ use Rattle.litrs_base.proofs.Begins.{begins_with-split}
 use Rattle.litrs_base.proofs.Chars.{begins_front, begins_with-chars, ascii_by_test}
 
 -- the front, and the characters behind it
-pub front_chars : (front bs : List ℕ) → list_all (λ c. ltb c 128) front ≡ true → IsUtf8 bs → begins_with front bs ≡ true → front ++ chars (drop (length front) bs) ≡ chars bs
+pub front_chars : (front bs : List ℕ) → list_all (λ c. ltb c 128) front ≡ true → IsUtf8 bs →
+    begins_with front bs ≡ true → front ++ chars (drop (length front) bs) ≡ chars bs
 front_chars front bs low u e =
-    ap (λ l. front ++ l) (sym (begins_front front bs low e u).rest) ∙ begins_with-split front (chars bs) (begins_with-chars front bs low u ∙ e)
+    ap (λ l. front ++ l) (sym (begins_front front bs low e u).rest)
+    ∙ begins_with-split front (chars bs) (begins_with-chars front bs low u ∙ e)
 
 -- a text may be cut behind it
-pub front_ends : (front bs : List ℕ) → list_all (λ c. ltb c 128) front ≡ true → IsUtf8 bs → begins_with front bs ≡ true → IsCharBoundary bs (length front)
-front_ends front bs low u e = let f = begins_front front bs low e u in IsCharBoundary-from_drop bs (length front) f.within f.utf8
+pub front_ends : (front bs : List ℕ) → list_all (λ c. ltb c 128) front ≡ true → IsUtf8 bs →
+    begins_with front bs ≡ true → IsCharBoundary bs (length front)
+front_ends front bs low u e = let f = begins_front front bs low e u in IsCharBoundary-from_drop bs
+    (length front) f.within f.utf8
 
 -- the front is what stands before the cut
-pub front_taken : (front bs : List ℕ) → list_all (λ c. ltb c 128) front ≡ true → begins_with front bs ≡ true → chars (take (length front) bs) ≡ front
+pub front_taken : (front bs : List ℕ) → list_all (λ c. ltb c 128) front ≡ true →
+    begins_with front bs ≡ true → chars (take (length front) bs) ≡ front
 front_taken front bs low e =
-    ap chars (ap (take (length front)) (sym (begins_with-split front bs e)) ∙ take_at front (drop (length front) bs) (length front) refl)
+    ap chars (ap (take (length front)) (sym (begins_with-split front bs e))
+    ∙ take_at front (drop (length front) bs) (length front) refl)
     ∙ chars-IsAscii front (ascii_by_test front low)
 
 -- the text without a byte

@@ -2,11 +2,9 @@
 use Rattle.std.proofs.Common.{◌≡◌, ◌⊎◌, inl, inr, ℕ, Bool, true, false, List, [], ◌∷◌, ◌++◌, refl, sym, ap, ◌∙◌, subst, arith}
 use Rattle.std.specs.Prelude.{◌↔◌, IsTrue, codes}
 use Rattle.std.specs.Str.{chars, IsUtf8}
-use Rattle.std.proofs.lemmas.Bool.{both_ways}
 use Rattle.std.proofs.lemmas.List.{append-nil}
 use Rattle.std.proofs.lemmas.Str.{encodes-chars, encode_ascii}
 use Rattle.std.specs.Prelude.{encode_utf8_all}
-use Rattle.litrs_base.specs.Text.{IsText}
 use Rattle.litrs_base.proofs.Chars.{chars_ascii}
 use Rattle.std.proofs.lemmas.Str.{chars-nil}
 use Rattle.litrs_grammar.specs.Suffix.{is_suffix}
@@ -38,12 +36,14 @@ pub lone_text : (bs : List ℕ) → bs ≡ codes "_" → IsTrue true ↔ BeginsS
 lone_text bs is = yes (subst BeginsSuffix (sym (ap chars is ∙ lone_chars)) lone_begins)
 
 -- every other text
-pub other_text : (bs : List ℕ) (b : Bool) → IsUtf8 bs → (bs ≡ codes "_" → ⊥) → b ≡ is_suffix (chars bs) → IsTrue b ↔ BeginsSuffix (chars bs)
+pub other_text : (bs : List ℕ) (b : Bool) → IsUtf8 bs → (bs ≡ codes "_" → ⊥) →
+    b ≡ is_suffix (chars bs) → IsTrue b ↔ BeginsSuffix (chars bs)
 other_text bs b u other is =
     answer_is b (is_suffix (chars bs)) is (
       suffix_now (chars bs),
       λ begins. elim (suffix_cases (chars bs) begins) [
         | inl suffix ↦ suffix
-        | inr lone ↦ absurd (other (sym (encodes-chars bs u) ∙ ap encode_utf8_all lone ∙ ap (λ l. l ++ []) (encode_ascii 95 (omega arith))))
+        | inr lone ↦ absurd (other (sym (encodes-chars bs u) ∙ ap encode_utf8_all lone
+            ∙ ap (λ l. l ++ []) (encode_ascii 95 (omega arith))))
       ],
     )

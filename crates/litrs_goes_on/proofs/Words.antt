@@ -1,9 +1,9 @@
 -- Which words begin with a front, and which begin a literal.
-use Rattle.std.proofs.Common.{◌≡◌, ◌⊎◌, inl, inr, ◌<◌, ℕ, Bool, true, false, ltb, ◌&&◌, ◌||◌, List, [], ◌∷◌, refl, sym, ap, ◌∙◌, subst, arith}
+use Rattle.std.proofs.Common.{◌≡◌, ◌⊎◌, inl, inr, ◌<◌, ℕ, Bool, true, ltb, ◌&&◌, List, [], ◌∷◌, refl, sym, ap, ◌∙◌, arith}
 use Rattle.std.specs.Prelude.{◌↔◌, ◌==◌, nat_eq, codes, IsTrue}
 use Rattle.std.specs.List.{list_all, starts_with}
 use Rattle.std.specs.Str.{chars, IsUtf8}
-use Rattle.std.proofs.lemmas.Bool.{and_parts, and_left, cases_lt, ltb-true, ne_eqb, false≢true}
+use Rattle.std.proofs.lemmas.Bool.{and_parts, and_left, cases_lt, ltb-true, ne_eqb}
 use Rattle.std.proofs.lemmas.Str.{chars-nil}
 use Rattle.litrs_base.specs.declared.err.ParseErrorKind.TheVariants.{Empty}
 use Rattle.litrs_base.specs.Refusal.{Refusal, plain}
@@ -21,13 +21,15 @@ use Rattle.litrs_goes_on.specs.declared.dispatch.Row.{Row}
 use Rattle.litrs_goes_on.specs.declared.dispatch.Row.TheVariants as row
 use Rattle.litrs_goes_on.proofs.Begins.{yes, answer_is, begins_now}
 
-pub starts_with_front : (front bytes : List ℕ) → starts_with nat_eq bytes front ≡ begins_with front bytes
+pub starts_with_front : (front bytes : List ℕ) → starts_with nat_eq bytes front ≡ begins_with front
+    bytes
 starts_with_front [] bytes = refl
 starts_with_front (c ∷ front) [] = refl
 starts_with_front (c ∷ front) (d ∷ bytes) = ap (λ v. (c == d) && v) (starts_with_front front bytes)
 
 -- an ASCII word begins with the bytes if and only if it begins with the characters
-fronts-chars : (word bs : List ℕ) → list_all (λ c. ltb c 128) word ≡ true → IsUtf8 bs → begins_with (chars bs) word ≡ begins_with bs word
+fronts-chars : (word bs : List ℕ) → list_all (λ c. ltb c 128) word ≡ true → IsUtf8 bs →
+    begins_with (chars bs) word ≡ begins_with bs word
 fronts-chars word [] low u = ap (λ t. begins_with t word) chars-nil
 fronts-chars [] (b ∷ bs) low u = elim (cases_lt b 128) [
   | inl low_b ↦ ap (λ t. begins_with t []) (chars_ascii b bs low_b)
@@ -37,26 +39,43 @@ fronts-chars (c ∷ word) (b ∷ bs) low u =
     let parts = and_parts (ltb c 128) (list_all (λ d. ltb d 128) word) low in
     let small : c < 128 = ltb-true c 128 parts.0 in
     elim (cases_lt b 128) [
-      | inl low_b ↦ ap (λ t. begins_with t (c ∷ word)) (chars_ascii b bs low_b) ∙ ap (λ v. (b == c) && v) (fronts-chars word bs parts.1 (utf8_behind_ascii b bs low_b u))
+      | inl low_b ↦ ap (λ t. begins_with t (c ∷ word)) (chars_ascii b bs low_b)
+          ∙ ap (λ v. (b == c) && v) (fronts-chars word bs parts.1 (utf8_behind_ascii b bs low_b u))
       | inr high ↦ (let wide = chars_wide b bs high u in
           let above = wide.wide in
-          ap (λ t. begins_with t (c ∷ word)) wide.is ∙ and_left (wide.first == c) _ (ne_eqb wide.first c (λ same. omega arith)) ∙ sym (and_left (b == c) _ (ne_eqb b c (λ same. omega arith))))
+          ap (λ t. begins_with t (c ∷ word)) wide.is
+          ∙ and_left (wide.first == c) _ (ne_eqb wide.first c (λ same. omega arith))
+          ∙ sym (and_left (b == c) _ (ne_eqb b c (λ same. omega arith))))
     ]
 
 unnamed-chars : (bs : List ℕ) → IsUtf8 bs → unnamed_goes_on (chars bs) ≡ unnamed_goes_on bs
-unnamed-chars bs u = rw (fronts-chars (codes "true") bs refl u, fronts-chars (codes "false") bs refl u, fronts-chars (codes "b") bs refl u) refl
+unnamed-chars bs u = rw (
+  fronts-chars (codes "true") bs refl u,
+  fronts-chars (codes "false")
+      bs refl u,
+  fronts-chars (codes "b") bs refl u,
+) refl
 
-pub word_decided : (bs seen : List ℕ) (e : Refusal) (b : Bool) → IsUtf8 bs → refused_as e ≡ dispatch bs → seen ≡ bs → b ≡ unnamed_goes_on seen → IsTrue b ↔ Begins literal_parse (chars bs)
+pub word_decided : (bs seen : List ℕ) (e : Refusal) (b : Bool) → IsUtf8 bs →
+    refused_as e ≡ dispatch bs → seen ≡ bs → b ≡ unnamed_goes_on seen → IsTrue b
+    ↔ Begins literal_parse (chars bs)
 word_decided bs seen e b u row same is =
-    answer_is b (unnamed_goes_on (chars bs)) (is ∙ ap unnamed_goes_on same ∙ sym (unnamed-chars bs u)) (back (unnamed_begins (chars bs) e (dispatch-chars bs u ∙ sym row)))
+    answer_is b (unnamed_goes_on (chars bs))
+    (is ∙ ap unnamed_goes_on same ∙ sym (unnamed-chars bs u))
+    (back (unnamed_begins (chars bs) e (dispatch-chars bs u ∙ sym row)))
 
 -- the empty text begins a literal, and a bool is one
-pub whole_decided : (r : Row) (bs : List ℕ) → IsUtf8 bs → (r ≡ row.Empty) ⊎ (r ≡ row.Bool) → row_of r ≡ dispatch bs → begins_as r bs ≡ true → IsTrue true ↔ Begins literal_parse (chars bs)
-whole_decided r bs u (inl empty) is begins = nothing bs u (ap row_of (sym empty) ∙ is) (ap (λ (k : Row). begins_as k bs) (sym empty) ∙ begins)
+pub whole_decided : (r : Row) (bs : List ℕ) → IsUtf8 bs → (r ≡ row.Empty) ⊎ (r ≡ row.Bool) →
+    row_of r ≡ dispatch bs → begins_as r bs ≡ true → IsTrue true ↔ Begins literal_parse (chars bs)
+whole_decided r bs u (inl empty) is begins =
+    nothing bs u (ap row_of (sym empty) ∙ is)
+    (ap (λ (k : Row). begins_as k bs) (sym empty) ∙ begins)
   where
-    nothing : (bs : List ℕ) → IsUtf8 bs → refused_as (plain Empty) ≡ dispatch bs → is_empty bs ≡ true → IsTrue true ↔ Begins literal_parse (chars bs)
+    nothing : (bs : List ℕ) → IsUtf8 bs → refused_as (plain Empty) ≡ dispatch bs →
+        is_empty bs ≡ true → IsTrue true ↔ Begins literal_parse (chars bs)
     nothing [] u same none = word_decided [] [] (plain Empty) true u same refl refl
     nothing (b ∷ bs) u same none = cc
 whole_decided r bs u (inr bool) is begins =
-    let found = some_bool (chars bs) (is_bool-chars bs u ∙ ap (λ (k : Row). begins_as k bs) (sym bool) ∙ begins) in
+    let found = some_bool (chars bs)
+    (is_bool-chars bs u ∙ ap (λ (k : Row). begins_as k bs) (sym bool) ∙ begins) in
     yes (begins_now (IsLiteralOf literal_parse) (chars bs) (a_bool found.0) found.1)

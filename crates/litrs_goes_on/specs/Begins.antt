@@ -1,4 +1,5 @@
--- Which texts begin the end of a literal: with some text behind them, which may be empty, they are it. The Rust Reference,
+-- Which texts begin the end of a literal: with some text behind them, which may be empty, they are
+-- it. The Rust Reference,
 -- Tokens, Literals, and Tokens, Suffixes.
 use Rattle.std.specs.Prelude.{◌≡◌, ℕ, List, ◌∷◌, ◌++◌, IsTrue}
 use Rattle.litrs_base.specs.Characters.{single_quote, double_quote}
@@ -11,7 +12,8 @@ BeginsSuffix t = (more : List ℕ) × IsText more × IsTrue (is_suffix (t ++ mor
 
 -- t begins the closing quote of a char or a byte with a suffix behind it
 abbrev pub BeginsClosing : List ℕ → Type 0
-BeginsClosing t = (more suffix : List ℕ) × IsText more × (t ++ more ≡ single_quote ∷ suffix) × IsTrue (is_suffix suffix)
+BeginsClosing t = (more suffix : List ℕ) × IsText more × (t ++ more ≡ single_quote ∷ suffix)
+    × IsTrue (is_suffix suffix)
 
 -- t is the closing quote of a quoted string with a suffix behind it
 abbrev pub IsClosed : List ℕ → Type 0

@@ -124,42 +124,59 @@ fn other_texts(rt: HostRuntime) {
     }
 }
 
-/// The literals of each kind, each of whose fronts begins it.
-const LITERALS: [&str; 30] = [
+/// Literals of each kind.
+const LITERALS: [&str; 47] = [
     "true",
     "false",
-    "1_000u32",
+    "12",
+    "0x1",
+    "0xff80",
     "0xFF_u8",
+    "0_b1",
+    "128i8",
+    "1_000u32",
     "0b1111_1111",
     "0o400",
+    "123hackerman",
     "0x5abcdefgh",
+    "1_x",
+    "55f32",
+    "35_389",
+    "340282366920938463463374607431768211456",
+    "3e2e5",
+    "9.",
+    "3.14f33",
     "8.2e-_04_9",
     "23e2_banana",
     "147.3_33__E3f64",
-    "9.",
-    "3e2e5",
-    "'🦊'good_boy",
-    "'\\u{1_F6_02_____}'",
+    "1_.5é",
+    "'a'",
     "'\\''",
-    "'\\x7f'",
-    "b'\\xFF'u8",
-    "b'\\''",
-    "\"a\\u{e9}\\\n b\"x",
+    "'\\u{1_F6_02_____}'",
+    "'🦊'good_boy",
+    "'\0'",
+    "b'\\xFF'",
+    "b'\\''u8",
+    "\"ab\"",
+    "\"a\"_x",
+    "\"a\\tb\"x",
+    "\"foo\\\n\t\n \n\tbar\"",
     "\"foo\\\n\u{85}bar\"",
-    "\"a\\nb\"_jürgen",
-    "\"🦊\\\\\\\"\"",
+    "\"\0\"",
+    "\"\\u{10ffff}\\u{0}\"",
     "b\"\\xFFa\\t\"",
-    "c\"é\\xFF\\u{0_1}\"",
+    "c\"é\\xFF\"",
     "c\"a\\x0cb\\\\\"_jürgen",
+    "c\"\\u{0_1}\\x01\"",
     "r##\"a\"#\"##",
     "r###\"\"##foo\"##bar'\"###",
+    "r\"🦊\"good_boy",
     "br\"\\n\"",
     "cr#\"a\\x0cb\\\\\"#_jürgen",
-    "r\"🦊\"good_boy",
 ];
 
 #[test]
-fn fronts_of_literals(rt: HostRuntime) {
+fn beginnings_of_literals(rt: HostRuntime) {
     for text in LITERALS {
         for (place, _) in text.char_indices() {
             assert!(rt;
@@ -168,6 +185,89 @@ fn fronts_of_literals(rt: HostRuntime) {
             );
         }
         assert!(rt; goes_on(text), "{text} is a literal");
+    }
+}
+
+/// Texts that are no literals, and the size in bytes of the least beginning that begins none, where
+/// there is one.
+const REFUSED: [(&str, Option<usize>); 64] = [
+    ("0x", None),
+    ("0b12", Some(4)),
+    ("0b1e3", Some(4)),
+    ("0x44.5", Some(5)),
+    ("0xg", Some(3)),
+    ("0 ", Some(2)),
+    ("0;", Some(2)),
+    ("0eel", Some(3)),
+    ("1.e4", Some(3)),
+    ("23E___f32", Some(7)),
+    ("3.7e-+3", Some(6)),
+    ("3.7+2", Some(4)),
+    ("55e3.1", Some(5)),
+    ("12345._987", Some(7)),
+    ("'\\u{a0_b  '", Some(9)),
+    ("'\\u{_}'", Some(5)),
+    ("'\\u{3b_x}'", Some(8)),
+    ("'\\u{1_23_4_56_7}'", Some(13)),
+    ("'\\u{110000}'", Some(10)),
+    ("'\\x🦊'", Some(7)),
+    ("'\\é'", Some(4)),
+    ("'''", Some(2)),
+    ("''", Some(2)),
+    ("'ab'", Some(3)),
+    ("'\n'", Some(2)),
+    ("b'\\x'", Some(5)),
+    ("b'\\x1'", Some(6)),
+    ("b'\\u{0}'", Some(4)),
+    ("b''", Some(3)),
+    ("b'''", Some(3)),
+    ("b'a _'", Some(4)),
+    ("b'犬'", Some(5)),
+    ("b' ''", Some(5)),
+    ("\"ab", None),
+    ("\"\\n", None),
+    ("\"\\n\n", None),
+    ("\"\\u{41}", None),
+    ("\"a\"_", None),
+    ("\"\\x80\"", Some(4)),
+    ("\"నక్క\\xB0\"", Some(16)),
+    ("\"\\u{12\"", Some(7)),
+    ("\"fox\"peter\"", Some(11)),
+    ("\"🦊\\u{}a\"", Some(9)),
+    ("\"నక్క\\u{1234567}🦊\"", Some(22)),
+    ("b\"a\\\r\"", Some(5)),
+    ("b\"\\nJosé", Some(9)),
+    ("c\"\\u{0}🦊\"", Some(7)),
+    ("c\" \\u{00}\"", Some(9)),
+    ("c\"лиса\\u{0__}\"", Some(17)),
+    ("c\"\0\"", Some(3)),
+    ("r####", None),
+    ("r####\"", None),
+    ("r####x", Some(6)),
+    ("r##\"a\"#", None),
+    ("br\"a\\\r\"", Some(6)),
+    ("br\"x🦊baz\"", Some(8)),
+    ("cr#\"foo \"# bar\"#", Some(11)),
+    ("cat", Some(2)),
+    ("foo", Some(2)),
+    ("fals", None),
+    ("False", Some(1)),
+    (".5", Some(1)),
+    ("_3", Some(1)),
+    (" 0", Some(1)),
+];
+
+#[test]
+fn beginnings_of_other_texts(rt: HostRuntime) {
+    for (text, end) in REFUSED {
+        for (place, c) in text.char_indices() {
+            let len = place + c.len_utf8();
+            let expected = match end {
+                Some(end) => len < end,
+                None => true,
+            };
+            assert_eq!(rt; goes_on(&text[..len]), expected, "{text} up to {len}");
+        }
     }
 }
 

@@ -11,29 +11,45 @@ use Rattle.litrs_goes_on.proofs.Words.{whole_decided, word_decided}
 use Rattle.litrs_goes_on.proofs.goes_on.Goals as goal
 
 pub returns-in-Empty : goal.returns-in-Empty
-returns-in-Empty c = whole_decided c.dispatch.result c.args.text.now c.utf8.text c.in-Empty.is c.dispatch.ensures.row c.dispatch.ensures.front
+returns-in-Empty c = whole_decided c.dispatch.result c.args.text.now c.utf8.text c.in-Empty.is
+    c.dispatch.ensures.row c.dispatch.ensures.front
 
 pub returns-in-Integer : goal.returns-in-Integer
-returns-in-Integer c = chain c.integer_goes_on.ensures (begins_parsed (chars c.args.text.now) integer_literal (dispatch-chars c.args.text.now c.utf8.text ∙ sym c.in-Integer.ensures.row))
+returns-in-Integer c = chain c.integer_goes_on.ensures
+    (begins_parsed (chars c.args.text.now) integer_literal
+    (dispatch-chars c.args.text.now c.utf8.text ∙ sym c.in-Integer.ensures.row))
 
 pub returns-in-Float : goal.returns-in-Float
-returns-in-Float c = chain c.float_goes_on.ensures (begins_parsed (chars c.args.text.now) float_literal (dispatch-chars c.args.text.now c.utf8.text ∙ sym c.in-Float.ensures.row))
+returns-in-Float c = chain c.float_goes_on.ensures
+    (begins_parsed (chars c.args.text.now) float_literal
+    (dispatch-chars c.args.text.now c.utf8.text ∙ sym c.in-Float.ensures.row))
 
 pub returns-in-Char : goal.returns-in-Char
-returns-in-Char c = chain c.char_goes_on.ensures (begins_parsed (chars c.args.text.now) char_literal (dispatch-chars c.args.text.now c.utf8.text ∙ sym c.in-Char.ensures.row))
+returns-in-Char c = chain c.char_goes_on.ensures
+    (begins_parsed (chars c.args.text.now) char_literal
+    (dispatch-chars c.args.text.now c.utf8.text ∙ sym c.in-Char.ensures.row))
 
 pub returns-in-Byte : goal.returns-in-Byte
-returns-in-Byte c = chain c.byte_goes_on.ensures (begins_parsed (chars c.args.text.now) byte_literal (dispatch-chars c.args.text.now c.utf8.text ∙ sym c.in-Byte.ensures.row))
+returns-in-Byte c = chain c.byte_goes_on.ensures
+    (begins_parsed (chars c.args.text.now) byte_literal
+    (dispatch-chars c.args.text.now c.utf8.text ∙ sym c.in-Byte.ensures.row))
 
 pub returns-in-String : goal.returns-in-String
-returns-in-String c = chain c.string_goes_on.ensures (begins_parsed (chars c.args.text.now) string_literal (dispatch-chars c.args.text.now c.utf8.text ∙ sym c.in-String.ensures.row))
+returns-in-String c = chain c.string_goes_on.ensures
+    (begins_parsed (chars c.args.text.now) string_literal
+    (dispatch-chars c.args.text.now c.utf8.text ∙ sym c.in-String.ensures.row))
 
 pub returns-in-ByteString : goal.returns-in-ByteString
-returns-in-ByteString c = chain c.byte_string_goes_on.ensures (begins_parsed (chars c.args.text.now) byte_string_literal (dispatch-chars c.args.text.now c.utf8.text ∙ sym c.in-ByteString.ensures.row))
+returns-in-ByteString c = chain c.byte_string_goes_on.ensures
+    (begins_parsed (chars c.args.text.now) byte_string_literal
+    (dispatch-chars c.args.text.now c.utf8.text ∙ sym c.in-ByteString.ensures.row))
 
 pub returns-in-CString : goal.returns-in-CString
-returns-in-CString c = chain c.c_string_goes_on.ensures (begins_parsed (chars c.args.text.now) c_string_literal (dispatch-chars c.args.text.now c.utf8.text ∙ sym c.in-CString.ensures.row))
+returns-in-CString c = chain c.c_string_goes_on.ensures
+    (begins_parsed (chars c.args.text.now) c_string_literal
+    (dispatch-chars c.args.text.now c.utf8.text ∙ sym c.in-CString.ensures.row))
 
 pub returns-in-Unnamed : goal.returns-in-Unnamed
 returns-in-Unnamed c =
-    word_decided c.args.text.now c.as_bytes.result.now (plain InvalidLiteral) c.word_goes_on.result c.utf8.text c.in-Unnamed.ensures.row c.as_bytes.ensures.value c.word_goes_on.ensures
+    word_decided c.args.text.now c.as_bytes.result.now (plain InvalidLiteral) c.word_goes_on.result
+    c.utf8.text c.in-Unnamed.ensures.row c.as_bytes.ensures.value c.word_goes_on.ensures

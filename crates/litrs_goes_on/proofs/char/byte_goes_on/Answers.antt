@@ -9,4 +9,5 @@ pub range_from-requires : goal.range_from-requires
 range_from-requires c = λ _. front_ends (codes "b'") c.args.text.now refl c.utf8.text c.requires
 
 pub returns : goal.returns
-returns c = byte_decided c.args.text.now c.range_from.result.now c.item_goes_on.result c.utf8.text c.requires c.range_from.ensures.value c.item_goes_on.ensures
+returns c = byte_decided c.args.text.now c.range_from.result.now c.item_goes_on.result c.utf8.text
+    c.requires c.range_from.ensures.value c.item_goes_on.ensures

@@ -8,8 +8,11 @@ use Rattle.litrs_goes_on.proofs.Numbers.{integer_decided}
 use Rattle.litrs_goes_on.proofs.number.integer_goes_on.Goals as goal
 
 pub returns-in-Ok : goal.returns-in-Ok
-returns-in-Ok c = yes (begins_now (IsLiteralOf (kind_parse integer_literal)) (chars c.args.text.now) (an_integer _) (refl, c.in-Ok.ensures.ok.0))
+returns-in-Ok c = yes (begins_now (IsLiteralOf (kind_parse integer_literal)) (chars c.args.text.now)
+    (an_integer _) (refl, c.in-Ok.ensures.ok.0))
 
 pub returns-in-Err : goal.returns-in-Err
 returns-in-Err c =
-    integer_decided c.args.text.now c.in-Err.e (length c.args.text.now) c.lacks_digits.result c.utf8.text (digit-chars c.args.text.now c.utf8.text ∙ c.requires) c.in-Err.ensures.refused refl c.lacks_digits.ensures
+    integer_decided c.args.text.now c.in-Err.e (length c.args.text.now) c.lacks_digits.result
+    c.utf8.text (digit-chars c.args.text.now c.utf8.text ∙ c.requires) c.in-Err.ensures.refused refl
+    c.lacks_digits.ensures

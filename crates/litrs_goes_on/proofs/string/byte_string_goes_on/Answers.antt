@@ -11,20 +11,26 @@ use Rattle.litrs_goes_on.proofs.StringEnds.{or_else, quoted_string, raw_string}
 use Rattle.litrs_goes_on.proofs.string.byte_string_goes_on.Goals as goal
 
 pub quoted_goes_on-requires : goal.quoted_goes_on-requires
-quoted_goes_on-requires c = front_ends (codes "b\"") c.args.text.now refl c.utf8.text (ap (begins_with (codes "b\"")) (sym c.as_bytes.ensures.value) ∙ sym c.if-begins_with.ensures)
+quoted_goes_on-requires c = front_ends (codes "b\"") c.args.text.now refl c.utf8.text
+    (ap (begins_with (codes "b\"")) (sym c.as_bytes.ensures.value) ∙ sym c.if-begins_with.ensures)
 
 pub raw_goes_on-requires : goal.raw_goes_on-requires
 raw_goes_on-requires c =
     front_ends (codes "br") c.args.text.now refl c.utf8.text
-    (or_else (begins_with (codes "b\"") c.args.text.now) _ c.requires (ap (begins_with (codes "b\"")) (sym c.as_bytes.ensures.value) ∙ sym c.if-begins_with.ensures))
+    (or_else (begins_with (codes "b\"") c.args.text.now) _ c.requires
+    (ap (begins_with (codes "b\"")) (sym c.as_bytes.ensures.value) ∙ sym c.if-begins_with.ensures))
 
 pub returns-then-begins_with : goal.returns-then-begins_with
 returns-then-begins_with c =
-    chain (quoted_string byte_string_kind c.args.text.now c.quoted_goes_on.result c.utf8.text (ap (begins_with (codes "b\"")) (sym c.as_bytes.ensures.value) ∙ sym c.if-begins_with.ensures) c.quoted_goes_on.ensures)
+    chain (quoted_string byte_string_kind c.args.text.now c.quoted_goes_on.result c.utf8.text
+    (ap (begins_with (codes "b\"")) (sym c.as_bytes.ensures.value) ∙ sym c.if-begins_with.ensures)
+    c.quoted_goes_on.ensures)
     (back (begins_kind byte_string_literal (chars c.args.text.now)))
 
 pub returns-else-begins_with : goal.returns-else-begins_with
 returns-else-begins_with c =
     chain (raw_string byte_string_kind c.args.text.now c.raw_goes_on.result c.utf8.text
-    (or_else (begins_with (codes "b\"") c.args.text.now) _ c.requires (ap (begins_with (codes "b\"")) (sym c.as_bytes.ensures.value) ∙ sym c.if-begins_with.ensures)) c.raw_goes_on.ensures)
+    (or_else (begins_with (codes "b\"") c.args.text.now) _ c.requires
+    (ap (begins_with (codes "b\"")) (sym c.as_bytes.ensures.value) ∙ sym c.if-begins_with.ensures))
+    c.raw_goes_on.ensures)
     (back (begins_kind byte_string_literal (chars c.args.text.now)))

@@ -7,4 +7,5 @@ pub returns-in-text : goal.returns-in-text
 returns-in-text c = lone_text c.args.suffix.now c.in-text.is
 
 pub returns-in_default : goal.returns-in_default
-returns-in_default c = other_text c.args.suffix.now c.is_ok.result c.utf8.suffix c.in_default.not-text (c.is_ok.ensures.value ∙ c.check_suffix.ensures.ok)
+returns-in_default c = other_text c.args.suffix.now c.is_ok.result c.utf8.suffix
+    c.in_default.not-text (c.is_ok.ensures.value ∙ c.check_suffix.ensures.ok)
