@@ -1,6 +1,6 @@
 -- What refuses a text as a literal of its kind refuses it as a literal of the kinds that are parsed.
 use Rattle.std.proofs.Common.{◌≡◌, ◌≢◌, ◌⊎◌, inl, inr, ℕ, Bool, true, false, List, [], ◌∷◌, ◌++◌, Option, None, Some, refl, sym, ap, subst, ◌∙◌}
-use Rattle.std.specs.Prelude.{IsTrue}
+use Rattle.std.specs.Prelude.{IsTrue, if◌then◌else◌}
 use Rattle.std.proofs.lemmas.Bool.{both_ways}
 use Rattle.std.specs.Str.{chars, IsUtf8}
 use Rattle.std.specs.declared.ops.Range.{Range}
@@ -12,7 +12,7 @@ use Rattle.litrs_base.specs.Derivations.{IsOnlyDerivation}
 use Rattle.litrs_base.specs.Finality.{is_final, is_open}
 use Rattle.litrs_base.proofs.CharEnds.{no_span, char_span_points}
 use Rattle.litrs_grammar.specs.Literal.{Derivation, a_bool, an_integer, IsLiteral, LiteralKind, bool_literal, integer_literal, float_literal, char_literal, byte_literal, string_literal, byte_string_literal, c_string_literal, literal_kind, literal_parse, kind_parse, IsLiteralOf}
-use Rattle.litrs_grammar.specs.LiteralRefusals.{IsKindRefusal, Dispatch, refused_as, parsed_as, dispatch, IsRefusalOfDispatch, IsRefusal}
+use Rattle.litrs_grammar.specs.LiteralRefusals.{IsKindRefusal, Dispatch, refused_as, parsed_as, begins_float, dispatch, IsRefusalOfDispatch, IsRefusal}
 use Rattle.litrs_grammar.specs.Continuation.{BeginsBy, EndsBy}
 use Rattle.litrs_grammar.specs.UnnamedGoesOn.{unnamed_goes_on}
 use Rattle.litrs_grammar.specs.Refused.{IsRefused}
@@ -21,6 +21,8 @@ use Rattle.litrs_grammar.proofs.RefusalKinds.{no_refusal_is_of_memory}
 use Rattle.litrs_grammar.proofs.LiteralSpans.{no_literal_ends_with_line_feed}
 use Rattle.litrs_grammar.proofs.LongerTexts.Dispatch.{unnamed_front, unnamed_line_end}
 use Rattle.litrs_grammar.proofs.LongerTexts.Literal.{chain, own_kind, unnamed_not_final, unnamed_not_open}
+use Rattle.litrs_lex.specs.NumberCut.{number_kind}
+use Rattle.litrs_lex.proofs.NumberBytes.{kind_by_bytes}
 use Rattle.litrs.specs.declared.bool.BoolLit.{BoolLit}
 use Rattle.litrs.specs.declared.parse.Dispatched.{Dispatched}
 use Rattle.litrs.specs.declared.parse.Dispatched.TheVariants as dispatched
@@ -147,24 +149,42 @@ pub row_refused_at : (bytes text : List ℕ) (e : ParseError) → IsUtf8 text �
     span_of e ≡ None → IsParseRefused (chars bytes) e
 row_refused_at bytes text e u same is span = row_refused (chars bytes) e (row_at bytes text (refused_as (refusal_of e)) u same is) span
 
--- a kind that is not parsed
-unparsed_kind : (d : Dispatched) → ((e : ParseError) → d ≡ dispatched.Refused e → ⊥) → ((b : BoolLit) → d ≡ dispatched.Bool b → ⊥) → (d ≡ dispatched.Integer → ⊥) → (d ≡ dispatched.Float → ⊥) → (d ≡ dispatched.Char → ⊥) → (d ≡ dispatched.Byte → ⊥) →
-    (kind : LiteralKind) × (row_of d ≡ parsed_as kind) × (is_parsed kind ≡ false)
-unparsed_kind (dispatched.Refused e) refused bool integer float char byte = absurd (refused e refl)
-unparsed_kind (dispatched.Bool b) refused bool integer float char byte = absurd (bool b refl)
-unparsed_kind dispatched.Integer refused bool integer float char byte = absurd (integer refl)
-unparsed_kind dispatched.Float refused bool integer float char byte = absurd (float refl)
-unparsed_kind dispatched.Char refused bool integer float char byte = absurd (char refl)
-unparsed_kind dispatched.Byte refused bool integer float char byte = absurd (byte refl)
-unparsed_kind dispatched.String refused bool integer float char byte = (string_literal, refl, refl)
-unparsed_kind dispatched.ByteString refused bool integer float char byte = (byte_string_literal, refl, refl)
-unparsed_kind dispatched.CString refused bool integer float char byte = (c_string_literal, refl, refl)
+-- a number, as the kind that it begins like
+is_parsed_number : (v : Bool) → is_parsed (if v then float_literal else integer_literal) ≡ true
+is_parsed_number true = refl
+is_parsed_number false = refl
 
-pub unparsed_refused_at : (bytes text : List ℕ) (e : ParseError) (d : Dispatched) → IsUtf8 text → text ≡ bytes → row_of d ≡ dispatch text →
-    ((e : ParseError) → d ≡ dispatched.Refused e → ⊥) → ((b : BoolLit) → d ≡ dispatched.Bool b → ⊥) → (d ≡ dispatched.Integer → ⊥) → (d ≡ dispatched.Float → ⊥) → (d ≡ dispatched.Char → ⊥) → (d ≡ dispatched.Byte → ⊥) →
+number_row : (bs : List ℕ) (v : Bool) → IsUtf8 bs → begins_float bs ≡ v → (if v then parsed_as float_literal else parsed_as integer_literal) ≡ parsed_as (number_kind (chars bs))
+number_row bs true u is = ap parsed_as (sym (kind_by_bytes bs true u is))
+number_row bs false u is = ap parsed_as (sym (kind_by_bytes bs false u is))
+
+pub number_refused_at : (bytes text number : List ℕ) (e f : ParseError) → IsUtf8 text → text ≡ bytes → number ≡ bytes →
+    (if begins_float text then parsed_as float_literal else parsed_as integer_literal) ≡ dispatch text →
+    f ≡ e → IsRefused (kind_parse (number_kind (chars number))) (chars number) e → IsParseRefused (chars bytes) f
+number_refused_at bytes text number e f u same again is copy refused =
+    let kind = number_kind (chars text) in
+    let there : is_parsed kind ≡ true = ap is_parsed (kind_by_bytes text (begins_float text) u refl) ∙ is_parsed_number (begins_float text) in
+    kind_refused_at kind bytes text e f u same (sym (number_row text (begins_float text) u refl) ∙ is) there copy
+    (subst (λ (bs : List ℕ). IsRefused (kind_parse kind) (chars bs) e) same
+    (subst (λ (bs : List ℕ). IsRefused (kind_parse (number_kind (chars bs))) (chars bs) e) (again ∙ sym same) refused))
+
+-- a kind that is not parsed
+unparsed_kind : (d : Dispatched) (text : List ℕ) → ((e : ParseError) → d ≡ dispatched.Refused e → ⊥) → ((b : BoolLit) → d ≡ dispatched.Bool b → ⊥) → (d ≡ dispatched.Number → ⊥) → (d ≡ dispatched.Char → ⊥) → (d ≡ dispatched.Byte → ⊥) →
+    (kind : LiteralKind) × (row_of d text ≡ parsed_as kind) × (is_parsed kind ≡ false)
+unparsed_kind (dispatched.Refused e) text refused bool number char byte = absurd (refused e refl)
+unparsed_kind (dispatched.Bool b) text refused bool number char byte = absurd (bool b refl)
+unparsed_kind dispatched.Number text refused bool number char byte = absurd (number refl)
+unparsed_kind dispatched.Char text refused bool number char byte = absurd (char refl)
+unparsed_kind dispatched.Byte text refused bool number char byte = absurd (byte refl)
+unparsed_kind dispatched.String text refused bool number char byte = (string_literal, refl, refl)
+unparsed_kind dispatched.ByteString text refused bool number char byte = (byte_string_literal, refl, refl)
+unparsed_kind dispatched.CString text refused bool number char byte = (c_string_literal, refl, refl)
+
+pub unparsed_refused_at : (bytes text : List ℕ) (e : ParseError) (d : Dispatched) → IsUtf8 text → text ≡ bytes → row_of d text ≡ dispatch text →
+    ((e : ParseError) → d ≡ dispatched.Refused e → ⊥) → ((b : BoolLit) → d ≡ dispatched.Bool b → ⊥) → (d ≡ dispatched.Number → ⊥) → (d ≡ dispatched.Char → ⊥) → (d ≡ dispatched.Byte → ⊥) →
     refusal_of e ≡ plain InvalidLiteral → IsParseRefused (chars bytes) e
-unparsed_refused_at bytes text e d u same is refused bool integer float char byte plain_one =
-    let k = unparsed_kind d refused bool integer float char byte in
+unparsed_refused_at bytes text e d u same is refused bool number char byte plain_one =
+    let k = unparsed_kind d text refused bool number char byte in
     unparsed_refused k.0 (chars bytes) e (row_at bytes text (parsed_as k.0) u same (sym k.1 ∙ is)) k.2 plain_one
 
 -- Each text is a literal of a kind that is parsed, or refused: one of the two, and in one way.

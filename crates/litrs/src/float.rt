@@ -41,6 +41,16 @@ impl<B: Text> Model for FloatLit<B> {
 }
 
 impl<B: Text> FloatLit<B> {
+    /// The literal whose text is cut so.
+    #[inline(always)]
+    pub(crate) fn new(raw: B, cut: FloatCut) -> FloatLit<B>
+        requires { IsFloatAt cut (B.bytes raw) }
+        ensures raw { result.raw ≡ B.bytes raw }
+        ensures literal { IsFloatOf (chars result.raw) (float_parts result) }
+    {
+        FloatLit { raw, cut }
+    }
+
     /// Parses a text that is one float. It does not allocate.
     ///
     /// `3.14f33` has the integer part `3`, the fraction `14`, no exponent and the suffix `f33`.

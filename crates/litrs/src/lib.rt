@@ -5,13 +5,17 @@
 //! one literal and nothing else.
 #![tactic(auto)]
 
-ghost use Rattle.std.specs.Prelude.{◌≡◌, ◌≢◌, false, nat_eq, IsOk, IfOk, OnErr, IfErr, Some};
+ghost use Rattle.std.specs.Prelude.{◌≡◌, ◌≢◌, false, nat_eq, IsTrue, IsOk, IfOk, OnErr, IfErr, Some};
 ghost use Rattle.std.specs.Cmp.{on_per, on_equiv, partial_equiv_from_equiv};
 ghost use Rattle.std.specs.Cmp.Lexicographic.{pointwise, nat_list_eq_equiv};
+ghost use Rattle.std.specs.Char.{is_ascii_digit};
 ghost use Rattle.std.specs.Str.{chars};
 ghost use Rattle.litrs_base.specs.Refusal.{kind_of};
 ghost use Rattle.litrs_base.specs.Derivations.{IsOnlyDerivation};
-ghost use Rattle.litrs_grammar.specs.Literal.{IsLiteral, suffix_of};
+ghost use Rattle.litrs_base.specs.Text.{first_passes};
+ghost use Rattle.litrs_grammar.specs.Literal.{IsLiteral, suffix_of, kind_parse};
+ghost use Rattle.litrs_grammar.specs.Refused.{IsRefused};
+ghost use Rattle.litrs_lex.specs.NumberCut.{number_kind};
 ghost use Rattle.litrs.specs.Parsed.{IsParseRefused};
 ghost use Rattle.litrs.specs.LiteralDerivation.{literal_raw, derivation};
 
@@ -25,6 +29,7 @@ pub use litrs_lex::{
     Buffer, FloatType, FromIntegerLiteral, IntegerBase, IntegerType, ParseError, ParseErrorKind,
     Text,
 };
+use litrs_lex::{NumberCut, cut_number};
 use parse::Dispatched;
 use std::alloc::{AllocError, Global};
 use std::fmt;
@@ -81,11 +86,26 @@ impl<B: Text> Literal<B> {
         match parse::dispatch(input.as_str()) {
             Dispatched::Refused(e) => Err(e),
             Dispatched::Bool(lit) => Ok(Literal::Bool(lit)),
-            Dispatched::Integer => Ok(Literal::Integer(IntegerLit::parse(input)?)),
-            Dispatched::Float => Ok(Literal::Float(FloatLit::parse(input)?)),
+            Dispatched::Number => Ok(Literal::parse_number(input)?),
             Dispatched::Char => Ok(Literal::Char(CharLit::parse(input)?)),
             Dispatched::Byte => Ok(Literal::Byte(ByteLit::parse(input)?)),
             _ => Err(ParseError::new(None, ParseErrorKind::InvalidLiteral)),
+        }
+    }
+
+    /// The same for a text that begins with a digit.
+    #[inline(always)]
+    fn parse_number(input: B) -> Result<Literal<B>, ParseError>
+        requires { IsTrue (first_passes is_ascii_digit (B.bytes input)) }
+        ensures raw { IfOk result (λ lit. literal_raw lit ≡ B.bytes input) }
+        ensures literal { IfOk result (λ lit. IsLiteral (chars (B.bytes input)) (derivation lit)) }
+        ensures refused { IfErr result
+            (IsRefused (kind_parse (number_kind (chars (B.bytes input)))) (chars (B.bytes input))) }
+    {
+        match cut_number(input.as_str()) {
+            Ok(NumberCut::Integer(cut)) => Ok(Literal::Integer(IntegerLit::new(input, cut))),
+            Ok(NumberCut::Float(cut)) => Ok(Literal::Float(FloatLit::new(input, cut))),
+            Err(e) => Err(e),
         }
     }
 

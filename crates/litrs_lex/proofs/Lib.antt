@@ -2,6 +2,7 @@ pub mod SuffixBytes
 pub mod NumeralLemmas
 pub mod IntegerBytes
 pub mod FloatBytes
+pub mod NumberBytes
 pub mod EscapeBytes
 pub mod PlainRuns
 pub mod QuotedScan

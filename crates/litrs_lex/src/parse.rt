@@ -21,10 +21,7 @@ pub fn end_dec_digits(input: &[u8]) -> usize
     run_end(input, Run::Digits(IntegerBase::Decimal))
 }
 
-/// What [`HEX_VALUES`] has of a byte that is no hex digit.
-const NO_HEX_DIGIT: u8 = 16;
-
-/// The value of each byte as a hex digit.
+/// The value of each byte as a hex digit, 16 where it is none.
 static HEX_VALUES: [u8; 256] = *b"\
     \x10\x10\x10\x10\x10\x10\x10\x10\x10\x10\x10\x10\x10\x10\x10\x10\
     \x10\x10\x10\x10\x10\x10\x10\x10\x10\x10\x10\x10\x10\x10\x10\x10\
@@ -47,10 +44,8 @@ static HEX_VALUES: [u8; 256] = *b"\
 pub fn hex_digit_value(digit: u8) -> Option<u8>
     ensures { SomeIff result (IsTrue (is_ascii_hexdigit digit)) (digit_value digit) }
 {
-    match HEX_VALUES[digit as usize] {
-        NO_HEX_DIGIT => None,
-        value => Some(value),
-    }
+    let value = HEX_VALUES[digit as usize];
+    if value < 16 { Some(value) } else { None }
 }
 
 /// The first byte of the text: `0xC3` of `é`.
