@@ -5,14 +5,17 @@
 //! them all. Each has a `parse`, which takes a text that is one literal and nothing else.
 #![tactic(auto)]
 
-ghost use Rattle.std.specs.Prelude.{◌≡◌, false, nat_eq, IsOk, IfOk, OnErr, IfErr, Some};
+ghost use Rattle.std.specs.Prelude.{◌≡◌, false, nat_eq, IsTrue, IsOk, IfOk, OnErr, IfErr, Some};
 ghost use Rattle.std.specs.Cmp.{on_per, on_equiv, partial_equiv_from_equiv};
 ghost use Rattle.std.specs.Cmp.Lexicographic.{pointwise, nat_list_eq_equiv};
+ghost use Rattle.std.specs.Char.{is_ascii_digit};
 ghost use Rattle.std.specs.Str.{chars};
 ghost use Rattle.litrs_base.specs.Derivations.{IsOnlyDerivation};
-ghost use Rattle.litrs_grammar.specs.Literal.{IsLiteral, suffix_of, literal_parse};
+ghost use Rattle.litrs_base.specs.Text.{first_passes};
+ghost use Rattle.litrs_grammar.specs.Literal.{IsLiteral, suffix_of, literal_parse, kind_parse};
 ghost use Rattle.litrs_grammar.specs.Allocation.{allocates};
-ghost use Rattle.litrs_grammar.specs.Refused.{IsRefusedOrOutOfMemory};
+ghost use Rattle.litrs_grammar.specs.Refused.{IsRefused, IsRefusedOrOutOfMemory};
+ghost use Rattle.litrs_lex.specs.NumberCut.{number_kind};
 ghost use Rattle.litrs.specs.LiteralDerivation.{literal_raw, derivation};
 
 pub use bool::BoolLit;
@@ -23,6 +26,7 @@ pub use litrs_lex::{
     Buffer, FloatType, FromIntegerLiteral, IntegerBase, IntegerType, ParseError, ParseErrorKind,
     Text,
 };
+use litrs_lex::{NumberCut, cut_number};
 pub use litrs_numbers::{FloatLit, IntegerLit};
 pub use litrs_strings::{ByteStringLit, CString, CStringLit, StringLit};
 use parse::Dispatched;
@@ -90,13 +94,28 @@ impl<B: Text> Literal<B> {
         match parse::dispatch(input.as_str()) {
             Dispatched::Refused(e) => Err(e),
             Dispatched::Bool(lit) => Ok(Literal::Bool(lit)),
-            Dispatched::Integer => Ok(Literal::Integer(IntegerLit::parse(input)?)),
-            Dispatched::Float => Ok(Literal::Float(FloatLit::parse(input)?)),
+            Dispatched::Number => Ok(Literal::parse_number(input)?),
             Dispatched::Char => Ok(Literal::Char(CharLit::parse(input)?)),
             Dispatched::String => Ok(Literal::String(StringLit::parse(alloc, input)?)),
             Dispatched::Byte => Ok(Literal::Byte(ByteLit::parse(input)?)),
             Dispatched::ByteString => Ok(Literal::ByteString(ByteStringLit::parse(alloc, input)?)),
             Dispatched::CString => Ok(Literal::CString(CStringLit::parse(alloc, input)?)),
+        }
+    }
+
+    /// The same for a text that begins with a digit.
+    #[inline(always)]
+    fn parse_number(input: B) -> Result<Literal<B>, ParseError>
+        requires { IsTrue (first_passes is_ascii_digit (B.bytes input)) }
+        ensures raw { IfOk result (λ lit. literal_raw lit ≡ B.bytes input) }
+        ensures literal { IfOk result (λ lit. IsLiteral (chars (B.bytes input)) (derivation lit)) }
+        ensures refused { IfErr result
+            (IsRefused (kind_parse (number_kind (chars (B.bytes input)))) (chars (B.bytes input))) }
+    {
+        match cut_number(input.as_str()) {
+            Ok(NumberCut::Integer(cut)) => Ok(Literal::Integer(IntegerLit::new(input, cut))),
+            Ok(NumberCut::Float(cut)) => Ok(Literal::Float(FloatLit::new(input, cut))),
+            Err(e) => Err(e),
         }
     }
 

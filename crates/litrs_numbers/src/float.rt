@@ -38,6 +38,17 @@ impl<B: Text> Model for FloatLit<B> {
 }
 
 impl<B: Text> FloatLit<B> {
+    /// The literal whose text is cut so. The cut is one that [`cut_float`](litrs_lex::cut_float) or
+    /// [`cut_number`](litrs_lex::cut_number) answers of this text.
+    #[inline(always)]
+    pub fn new(raw: B, cut: FloatCut) -> FloatLit<B>
+        requires { IsFloatAt cut (B.bytes raw) }
+        ensures raw { result.raw ≡ B.bytes raw }
+        ensures literal { IsFloatOf (chars result.raw) (float_parts result) }
+    {
+        FloatLit { raw, cut }
+    }
+
     /// Parses a text that is one float. It does not allocate.
     ///
     /// `3.14f33` has the integer part `3`, the fraction `14`, no exponent and the suffix `f33`.

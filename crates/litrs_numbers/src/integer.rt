@@ -48,6 +48,17 @@ impl<B: Text> Model for IntegerLit<B> {
 }
 
 impl<B: Text> IntegerLit<B> {
+    /// The literal whose text is cut so. The cut is one that [`cut_integer`](litrs_lex::cut_integer) or
+    /// [`cut_number`](litrs_lex::cut_number) answers of this text.
+    #[inline(always)]
+    pub fn new(raw: B, cut: IntegerCut) -> IntegerLit<B>
+        requires { IsIntegerAt cut (B.bytes raw) }
+        ensures raw { result.raw ≡ B.bytes raw }
+        ensures literal { IsIntegerOf (chars result.raw) (integer_parts result) }
+    {
+        IntegerLit { raw, cut }
+    }
+
     /// Parses a text that is one integer. It does not allocate.
     ///
     /// `0xFF_u8` has the base 16, the main part `FF_` and the suffix `u8`.

@@ -1,14 +1,13 @@
 -- Each arm is the parse of its kind.
-use Rattle.std.proofs.Common.{inl, sym, ap, ◌∙◌}
+use Rattle.std.proofs.Common.{inl, refl, sym, ap, ◌∙◌}
 use Rattle.std.specs.Str.{chars}
 use Rattle.std.proofs.lemmas.Result.{err_from_is_err_and}
-use Rattle.litrs_grammar.specs.Literal.{a_bool, an_integer, a_float, a_char, a_byte, a_string, a_byte_string, a_c_string, integer_literal, float_literal, char_literal, byte_literal, string_literal, byte_string_literal, c_string_literal}
+use Rattle.litrs_grammar.specs.Literal.{a_bool, a_char, a_byte, a_string, a_byte_string, a_c_string, char_literal, byte_literal, string_literal, byte_string_literal, c_string_literal}
 use Rattle.litrs_grammar.proofs.BoolLaws.{chars-bool_text}
 use Rattle.litrs.specs.BoolLiteral.{bool_value}
-use Rattle.litrs_numbers.specs.IntegerLiteral.{integer_parts}
-use Rattle.litrs_numbers.specs.FloatLiteral.{float_parts}
 use Rattle.litrs.specs.CharLiteral.{char_parts, byte_parts}
-use Rattle.litrs.proofs.KindErrors.{only_literal, kind_error_at, start_error_at}
+use Rattle.litrs.specs.LiteralDerivation.{derivation}
+use Rattle.litrs.proofs.KindErrors.{only_literal, kind_error_at, number_error_at, start_error_at}
 use Rattle.litrs.proofs.Literal.parse.Goals as goal
 
 pub returns-in-Refused-clause-refused : goal.returns-in-Refused-clause-refused
@@ -20,23 +19,14 @@ returns-in-Bool-clause-ok g c =
     only_literal _ (a_bool (bool_value c.in-Bool.lit))
     (sym (ap chars (sym c.as_str.ensures) ∙ (ap chars c.in-Bool.ensures.holds ∙ chars-bool_text (bool_value c.in-Bool.lit))))
 
-pub returns-in_err-parse-in-Integer-clause-refused : goal.returns-in_err-parse-in-Integer-clause-refused
-returns-in_err-parse-in-Integer-clause-refused g c =
+pub returns-in_err-parse_number-in-Number-clause-refused : goal.returns-in_err-parse_number-in-Number-clause-refused
+returns-in_err-parse_number-in-Number-clause-refused g c =
     let p = err_from_is_err_and c.from_residual.result c.from_residual.ensures.1 in
-    rw (p.1) (kind_error_at integer_literal _ c.as_str.result.now c.in_err-parse-in-Integer.field-0.0 _ c.as_str.utf8 c.as_str.ensures
-    c.in-Integer.ensures.row p.2 (inl c.in_err-parse-in-Integer.ensures.refused))
+    rw (p.1) (number_error_at _ c.as_str.result.now _ c.in_err-parse_number-in-Number.field-0.0 _ c.as_str.utf8 c.as_str.ensures refl
+    c.in-Number.ensures.row p.2 c.in_err-parse_number-in-Number.ensures.refused)
 
-pub returns-in_ok-parse-in-Integer-clause-ok : goal.returns-in_ok-parse-in-Integer-clause-ok
-returns-in_ok-parse-in-Integer-clause-ok g c = only_literal _ (an_integer (integer_parts c.in_ok-parse-in-Integer.field-0)) c.in_ok-parse-in-Integer.ensures.ok.0
-
-pub returns-in_err-parse-in-Float-clause-refused : goal.returns-in_err-parse-in-Float-clause-refused
-returns-in_err-parse-in-Float-clause-refused g c =
-    let p = err_from_is_err_and c.from_residual-in_err-parse-in-Float.result c.from_residual-in_err-parse-in-Float.ensures.1 in
-    rw (p.1) (kind_error_at float_literal _ c.as_str.result.now c.in_err-parse-in-Float.field-0.0 _ c.as_str.utf8 c.as_str.ensures
-    c.in-Float.ensures.row p.2 (inl c.in_err-parse-in-Float.ensures.refused))
-
-pub returns-in_ok-parse-in-Float-clause-ok : goal.returns-in_ok-parse-in-Float-clause-ok
-returns-in_ok-parse-in-Float-clause-ok g c = only_literal _ (a_float (float_parts c.in_ok-parse-in-Float.field-0)) c.in_ok-parse-in-Float.ensures.ok.0
+pub returns-in_ok-parse_number-in-Number-clause-ok : goal.returns-in_ok-parse_number-in-Number-clause-ok
+returns-in_ok-parse_number-in-Number-clause-ok g c = only_literal _ (derivation c.in_ok-parse_number-in-Number.field-0) c.in_ok-parse_number-in-Number.ensures.literal
 
 pub returns-in_err-parse-in-Char-clause-refused : goal.returns-in_err-parse-in-Char-clause-refused
 returns-in_err-parse-in-Char-clause-refused g c =

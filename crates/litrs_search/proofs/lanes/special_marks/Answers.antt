@@ -2,7 +2,7 @@ use Rattle.std.proofs.Common.{w8, arith}
 use Rattle.std.proofs.lemmas.Simd.{length-chunk, chunk-fits}
 use lib.Lanes.{chunk}
 use Rattle.litrs_search.proofs.Needles.{marks_special}
-use Rattle.litrs_search.proofs.lanes.marks.Goals as goal
+use Rattle.litrs_search.proofs.lanes.special_marks.Goals as goal
 
 pub returns : goal.returns
 returns g c =
