@@ -3,15 +3,20 @@
 
 Outside tests an `AllocError` comes from the library alone, and so does a `fmt::Error`. Only
 `fn from(_: AllocError)` and the lines of `MAPPED` may make `OutOfMemory` or `RunError::Memory` of an
-`AllocError`: elsewhere these stand in patterns and in the declarations of their enums.
+`AllocError`, or an `AllocError` of `OutOfMemory`: elsewhere these stand in patterns and in the
+declarations of their enums.
 """
 import pathlib
 import re
 import sys
 
-# The lines that map an `AllocError`, each of which stands once in its file.
+# The lines that map one of these to another, each of which stands once in its file.
 OUT_OF_MEMORY = "Err(_) => Err(ParseError::new(None, ParseErrorKind::OutOfMemory)),"
-MAPPED = {("crates/litrs_lex/src/string.rt", OUT_OF_MEMORY)}
+MAPPED = {
+    ("crates/litrs_lex/src/string.rt", OUT_OF_MEMORY),
+    ("crates/litrs_strings/src/c_string.rt", OUT_OF_MEMORY),
+    ("crates/litrs_lines/src/report.rt", "ParseErrorKind::OutOfMemory => Err(AllocError),"),
+}
 
 # Where the names may stand: types, imports, clauses and patterns.
 ALLOWED = [

@@ -8,6 +8,9 @@
 use std::hint::black_box;
 use std::time::Instant;
 
+mod allocations;
+mod lines;
+
 /// The texts of a shape, and the bytes that they have at most, together.
 const TEXTS: usize = 4000;
 const BYTES: usize = 1 << 20;
@@ -31,6 +34,11 @@ mod ours {
         #[cfg(upstream)]
         #[link_name = "litrs_bench_contents"]
         pub fn contents(text: *const u8, len: usize) -> u64;
+        #[link_name = "litrs_bench_run"]
+        pub fn run(text: *const u8, len: usize) -> u64;
+        #[cfg(upstream)]
+        #[link_name = "litrs_bench_reports"]
+        pub fn reports(text: *const u8, len: usize) -> u64;
     }
 }
 
@@ -44,7 +52,7 @@ mod upstream {
         number.rotate_left(13) ^ (part as u64)
     }
 
-    fn with_bytes(number: u64, bytes: &[u8]) -> u64 {
+    pub fn with_bytes(number: u64, bytes: &[u8]) -> u64 {
         let number = with(number, bytes.len());
         bytes.iter().fold(number, |number, byte| number.rotate_left(7) ^ u64::from(*byte))
     }
@@ -81,7 +89,7 @@ mod upstream {
 
     /// The text of `len` bytes from this address.
     #[inline(always)]
-    unsafe fn text<'a>(text: *const u8, len: usize) -> &'a str {
+    pub unsafe fn text<'a>(text: *const u8, len: usize) -> &'a str {
         unsafe { str::from_utf8_unchecked(std::slice::from_raw_parts(text, len)) }
     }
 
@@ -535,4 +543,7 @@ fn main() {
             println!("{line}");
         }
     }
+    lines::main(&read);
+    println!();
+    allocations::main(&rows.iter().map(|(kind, name, _, texts)| (*kind, *name, &texts[..])).collect::<Vec<_>>());
 }

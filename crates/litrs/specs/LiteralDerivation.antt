@@ -1,13 +1,13 @@
 -- What a literal of any kind holds.
 use Rattle.std.specs.Prelude.{ℕ, List}
 use Rattle.litrs.specs.declared.Literal.{Literal}
-use Rattle.litrs.specs.declared.Literal.TheVariants.{Bool, Integer, Float, Char, Byte}
+use Rattle.litrs.specs.declared.Literal.TheVariants.{Bool, Integer, Float, Char, String, Byte, ByteString, CString}
 use Rattle.litrs_grammar.specs.Bool.{bool_text}
 use Rattle.litrs.specs.BoolLiteral.{bool_value}
-use Rattle.litrs.specs.IntegerLiteral.{integer_parts}
-use Rattle.litrs.specs.FloatLiteral.{float_parts}
+use Rattle.litrs_numbers.specs.IntegerLiteral.{integer_parts}
+use Rattle.litrs_numbers.specs.FloatLiteral.{float_parts}
 use Rattle.litrs.specs.CharLiteral.{char_parts, byte_parts}
-use Rattle.litrs_grammar.specs.Literal.{Derivation, a_bool, an_integer, a_float, a_char, a_byte}
+use Rattle.litrs_grammar.specs.Literal.{Derivation, a_bool, an_integer, a_float, a_char, a_byte, a_string, a_byte_string, a_c_string}
 
 -- the bytes of its text
 abbrev pub literal_raw : {B : Type 0} → Literal B → List ℕ
@@ -15,7 +15,10 @@ literal_raw (Bool b) = bool_text (bool_value b)
 literal_raw (Integer lit) = lit.raw
 literal_raw (Float lit) = lit.raw
 literal_raw (Char lit) = lit.raw
+literal_raw (String lit) = lit.raw
 literal_raw (Byte lit) = lit.raw
+literal_raw (ByteString lit) = lit.raw
+literal_raw (CString lit) = lit.raw
 
 -- its derivation
 abbrev pub derivation : {B : Type 0} → Literal B → Derivation
@@ -23,4 +26,7 @@ derivation (Bool b) = a_bool (bool_value b)
 derivation (Integer lit) = an_integer (integer_parts lit)
 derivation (Float lit) = a_float (float_parts lit)
 derivation (Char lit) = a_char (char_parts lit)
+derivation (String lit) = a_string lit.parts
 derivation (Byte lit) = a_byte (byte_parts lit)
+derivation (ByteString lit) = a_byte_string lit.parts
+derivation (CString lit) = a_c_string lit.parts

@@ -10,7 +10,8 @@ use std::fmt;
 
 /// One of the two words `true` and `false`. See [the reference][ref].
 ///
-/// [ref]: https://doc.rust-lang.org/reference/expressions/literal-expr.html#boolean-literal-expressions
+/// [ref]:
+/// https://doc.rust-lang.org/reference/expressions/literal-expr.html#boolean-literal-expressions
 #[derive(Clone, Copy, Debug, PartialEq, Eq)]
 pub enum BoolLit {
     /// `false`.
@@ -23,7 +24,7 @@ impl BoolLit {
     ghost use Rattle.litrs.specs.BoolLiteral.{bool_value};
     ghost use Rattle.litrs_grammar.specs.Bool.{IsBool, bool_text};
 
-    /// Reads a text that is exactly `true` or `false`.
+    /// Parses a text that is exactly `true` or `false`.
     ///
     /// # Errors
     ///

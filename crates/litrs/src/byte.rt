@@ -31,22 +31,29 @@ pub struct ByteLit<B: Text> {
 impl<B: Text> Model for ByteLit<B> {
     ghost Value = { CharLiteral B };
 
-    ghost view = { λ s. record { buffer = s.raw; raw = B.bytes s.raw; value = s.value; start_suffix = s.start_suffix } };
+    ghost view = { λ s. record {
+      buffer = s.raw;
+      raw = B.bytes s.raw;
+      value = s.value;
+      start_suffix = s.start_suffix;
+    } };
 
-    ghost inverse = { λ lit. record { raw = lit.buffer; value = lit.value; start_suffix = lit.start_suffix } };
+    ghost inverse = { λ lit.
+        record { raw = lit.buffer; value = lit.value; start_suffix = lit.start_suffix } };
 
     ghost invariant = { λ s. IsCharAt byte_kind s.value s.start_suffix (B.bytes s.raw) };
 }
 
 impl<B: Text> ByteLit<B> {
-    /// Reads a text that is one byte. It does not allocate.
+    /// Parses a text that is one byte. It does not allocate.
     ///
     /// `b'\xff'u8` has the value 255 and the suffix `u8`.
     ///
     /// # Errors
     ///
     /// `Empty`, `InvalidByteLiteralStart`, or as [`cut_byte`] refuses the text: `b''` is
-    /// `EmptyByteLiteral`, and a character beyond ASCII is `NonAsciiInByteLiteral` at its first byte.
+    /// `EmptyByteLiteral`, and a character beyond ASCII is `NonAsciiInByteLiteral` at its first
+    /// byte.
     #[inline(always)]
     pub fn parse(input: B) -> Result<ByteLit<B>, ParseError>
         ensures buffer { IfOk result (λ lit. lit.buffer ≡ input) }
@@ -147,8 +154,10 @@ impl ByteLit<&str> {
 /// The value, and where the suffix starts, if the text is a byte.
 fn cut(input: &str) -> Result<(u8, usize), ParseError>
     ensures ok { IfOk result (λ cut.
-        IsOnlyDerivation (IsCharLiteral byte_kind (chars input.now)) (char_parts_at byte_kind cut.1 input.now)) }
-    ensures value { IfOk result (λ cut. char_value (char_parts_at byte_kind cut.1 input.now).item ≡ cut.0) }
+        IsOnlyDerivation (IsCharLiteral byte_kind (chars input.now))
+        (char_parts_at byte_kind cut.1 input.now)) }
+    ensures value { IfOk result (λ cut.
+        char_value (char_parts_at byte_kind cut.1 input.now).item ≡ cut.0) }
     ensures place { IfOk result (λ cut. IsCharBoundary input.now cut.1) }
     ensures refused { IfErr result (IsRefused (kind_parse byte_literal) (chars input.now)) }
 {
@@ -204,3 +213,6 @@ impl<B: Text> fmt::Display for ByteLit<B> {
         f.pad(self.raw.as_str())
     }
 }
+
+#[cfg(test)]
+mod tests;

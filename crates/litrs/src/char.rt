@@ -17,8 +17,8 @@ use std::marker::Model;
 
 /// A character as it is written in Rust: `'a'`, `'\n'`, `'\u{1f98a}'`.
 ///
-/// It is made of a character or an escape between two single quotes, and a suffix, which may be empty.
-/// See [the reference][ref].
+/// It is made of a character or an escape between two single quotes, and a suffix, which may be
+/// empty. See [the reference][ref].
 ///
 /// [ref]: https://doc.rust-lang.org/reference/tokens.html#character-literals
 pub struct CharLit<B: Text> {
@@ -30,22 +30,28 @@ pub struct CharLit<B: Text> {
 impl<B: Text> Model for CharLit<B> {
     ghost Value = { CharLiteral B };
 
-    ghost view = { λ s. record { buffer = s.raw; raw = B.bytes s.raw; value = s.value; start_suffix = s.start_suffix } };
+    ghost view = { λ s. record {
+      buffer = s.raw;
+      raw = B.bytes s.raw;
+      value = s.value;
+      start_suffix = s.start_suffix;
+    } };
 
-    ghost inverse = { λ lit. record { raw = lit.buffer; value = lit.value; start_suffix = lit.start_suffix } };
+    ghost inverse = { λ lit.
+        record { raw = lit.buffer; value = lit.value; start_suffix = lit.start_suffix } };
 
     ghost invariant = { λ s. IsCharAt char_kind s.value s.start_suffix (B.bytes s.raw) };
 }
 
 impl<B: Text> CharLit<B> {
-    /// Reads a text that is one char. It does not allocate.
+    /// Parses a text that is one char. It does not allocate.
     ///
     /// `'\n'u8` has the value LF and the suffix `u8`.
     ///
     /// # Errors
     ///
-    /// `Empty`, `DoesNotStartWithQuote` at the first byte, or as [`cut_char`] refuses the text: `''`
-    /// is `EmptyCharLiteral`, and `'\x80'` is `NonAsciiXEscape` at 1..5.
+    /// `Empty`, `DoesNotStartWithQuote` at the first byte, or as [`cut_char`] refuses the text:
+    /// `''` is `EmptyCharLiteral`, and `'\x80'` is `NonAsciiXEscape` at 1..5.
     #[inline(always)]
     pub fn parse(input: B) -> Result<CharLit<B>, ParseError>
         ensures buffer { IfOk result (λ lit. lit.buffer ≡ input) }
@@ -146,8 +152,10 @@ impl CharLit<&str> {
 /// The value, and where the suffix starts, if the text is a char.
 fn cut(input: &str) -> Result<(char, usize), ParseError>
     ensures ok { IfOk result (λ cut.
-        IsOnlyDerivation (IsCharLiteral char_kind (chars input.now)) (char_parts_at char_kind cut.1 input.now)) }
-    ensures value { IfOk result (λ cut. char_value (char_parts_at char_kind cut.1 input.now).item ≡ cut.0) }
+        IsOnlyDerivation (IsCharLiteral char_kind (chars input.now))
+        (char_parts_at char_kind cut.1 input.now)) }
+    ensures value { IfOk result (λ cut.
+        char_value (char_parts_at char_kind cut.1 input.now).item ≡ cut.0) }
     ensures place { IfOk result (λ cut. IsCharBoundary input.now cut.1) }
     ensures refused { IfErr result (IsRefused (kind_parse char_literal) (chars input.now)) }
 {
@@ -196,3 +204,6 @@ impl<B: Text> fmt::Display for CharLit<B> {
         f.pad(self.raw.as_str())
     }
 }
+
+#[cfg(test)]
+mod tests;

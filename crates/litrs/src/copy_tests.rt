@@ -1,5 +1,5 @@
 //! Copies of large literals, with ample memory.
-use crate::{FloatLit, IntegerLit, Literal};
+use crate::{ByteLit, CharLit, FloatLit, IntegerLit, Literal};
 use std::alloc::{AllocError, Global};
 use std::test::Fail;
 
@@ -51,5 +51,27 @@ fn large_float_literals_are_copied(rt: HostRuntime) -> Result<(), Fail> {
     let owned = lit.into_owned(rt.alloc())?;
     let copy = owned.clone(rt.alloc())?;
     assert!(rt; copy.raw_input() == text.as_str());
+    Ok(())
+}
+
+#[test]
+fn chars_with_large_suffixes_are_copied(rt: HostRuntime) -> Result<(), Fail> {
+    let text = large_text(rt.alloc(), "'a'", "abcdefghij")?;
+    let lit = CharLit::parse(text.as_str())?;
+    let owned = lit.to_owned(rt.alloc())?;
+    let copy = owned.clone(rt.alloc())?;
+    assert!(rt; copy.raw_input() == text.as_str());
+    assert_eq!(rt; copy.suffix().len(), 1_100_000);
+    Ok(())
+}
+
+#[test]
+fn bytes_with_large_suffixes_are_copied(rt: HostRuntime) -> Result<(), Fail> {
+    let text = large_text(rt.alloc(), "b'a'", "abcdefghij")?;
+    let lit = ByteLit::parse(text.as_str())?;
+    let owned = lit.to_owned(rt.alloc())?;
+    let copy = owned.clone(rt.alloc())?;
+    assert!(rt; copy.raw_input() == text.as_str());
+    assert_eq!(rt; copy.suffix().len(), 1_100_000);
     Ok(())
 }

@@ -1,49 +1,54 @@
 //! Parsing and inspecting Rust literals.
 //!
-//! Each kind of literal has a type, [`BoolLit`], [`IntegerLit`], [`FloatLit`], [`CharLit`] and [`ByteLit`], and [`Literal`] stands for them all.
-//! Each has a `parse`, which reads a text that is one literal and nothing else.
+//! Each kind of literal has a type, [`BoolLit`], [`IntegerLit`], [`FloatLit`], [`CharLit`],
+//! [`StringLit`], [`ByteLit`], [`ByteStringLit`] and [`CStringLit`], and [`Literal`] stands for
+//! them all. Each has a `parse`, which takes a text that is one literal and nothing else.
 #![tactic(auto)]
 
-ghost use Rattle.std.specs.Prelude.{◌≡◌, ◌≢◌, false, nat_eq, IsOk, IfOk, OnErr, IfErr, Some};
+ghost use Rattle.std.specs.Prelude.{◌≡◌, false, nat_eq, IsTrue, IsOk, IfOk, OnErr, IfErr, Some};
 ghost use Rattle.std.specs.Cmp.{on_per, on_equiv, partial_equiv_from_equiv};
 ghost use Rattle.std.specs.Cmp.Lexicographic.{pointwise, nat_list_eq_equiv};
+ghost use Rattle.std.specs.Char.{is_ascii_digit};
 ghost use Rattle.std.specs.Str.{chars};
-ghost use Rattle.litrs_base.specs.Refusal.{kind_of};
 ghost use Rattle.litrs_base.specs.Derivations.{IsOnlyDerivation};
-ghost use Rattle.litrs_grammar.specs.Literal.{IsLiteral, suffix_of};
-ghost use Rattle.litrs.specs.Parsed.{IsParseRefused};
+ghost use Rattle.litrs_base.specs.Text.{first_passes};
+ghost use Rattle.litrs_grammar.specs.Literal.{IsLiteral, suffix_of, literal_parse, kind_parse};
+ghost use Rattle.litrs_grammar.specs.Allocation.{allocates};
+ghost use Rattle.litrs_grammar.specs.Refused.{IsRefused, IsRefusedOrOutOfMemory};
+ghost use Rattle.litrs_lex.specs.NumberCut.{number_kind};
 ghost use Rattle.litrs.specs.LiteralDerivation.{literal_raw, derivation};
 
 pub use bool::BoolLit;
 pub use byte::ByteLit;
-pub use c_string::CString;
 pub use char::CharLit;
-pub use float::FloatLit;
-pub use integer::IntegerLit;
 pub use litrs_goes_on::goes_on;
 pub use litrs_lex::{
     Buffer, FloatType, FromIntegerLiteral, IntegerBase, IntegerType, ParseError, ParseErrorKind,
     Text,
 };
+use litrs_lex::{NumberCut, cut_number};
+pub use litrs_numbers::{FloatLit, IntegerLit};
+pub use litrs_strings::{ByteStringLit, CString, CStringLit, StringLit};
 use parse::Dispatched;
 use std::alloc::{AllocError, Global};
 use std::fmt;
 
 mod bool;
 mod byte;
-mod c_string;
 mod char;
 #[cfg(test)]
 mod copy_tests;
-mod float;
+#[cfg(test)]
+mod float_tests;
 #[cfg(test)]
 mod goes_on_tests;
-mod integer;
 mod parse;
+#[cfg(test)]
+mod string_tests;
 #[cfg(test)]
 mod tests;
 
-/// A literal of any kind that is read. See [the reference][ref].
+/// A literal of any kind. See [the reference][ref].
 ///
 /// [ref]: https://doc.rust-lang.org/reference/tokens.html#literals
 #[derive(Drop)]
@@ -56,37 +61,61 @@ pub enum Literal<B: Text> {
     Float(FloatLit<B>),
     /// A character, as `'a'`.
     Char(CharLit<B>),
+    /// A string, as `"foo"` and `r"foo"`.
+    String(StringLit<B>),
     /// A byte, as `b'a'`.
     Byte(ByteLit<B>),
+    /// A byte string, as `b"foo"` and `br"foo"`.
+    ByteString(ByteStringLit<B>),
+    /// A C string, as `c"foo"` and `cr"foo"`.
+    CString(CStringLit<B>),
 }
 
 impl<B: Text> Literal<B> {
-    /// Reads a text that is one literal, of the kind that it begins like.
+    /// Parses a text that is one literal, of the kind that it begins like.
     ///
-    /// `true` is a bool, `1_000u32` an integer with the suffix `u32`. Bools, integers, floats,
-    /// chars and bytes are read today.
+    /// `true` is a bool, `1_000u32` an integer with the suffix `u32`. There is one allocation for
+    /// the value of a C string, and of a quoted string or byte string whose body has a backslash;
+    /// else none.
     ///
     /// # Errors
     ///
-    /// `Empty`; the refusal of the kind that the text begins like, as `UnexpectedChar` at 1..2 for `0 `;
-    /// else `InvalidLiteral`, also of a text that begins like a kind that is not read, as `"a"`.
+    /// `Empty`; the refusal of the kind that the text begins like, as `UnexpectedChar` at 1..2 for
+    /// `0 `; `InvalidLiteral` where no kind begins so. `OutOfMemory`, with no span, where the text
+    /// is a literal and there is no memory for its value.
     #[inline(always)]
-    pub fn parse(_alloc: Global, input: B) -> Result<Literal<B>, ParseError>
+    pub fn parse(alloc: Global, input: B) -> Result<Literal<B>, ParseError>
         ensures raw { IfOk result (λ lit. literal_raw lit ≡ B.bytes input) }
         ensures ok { IfOk result (λ lit.
             IsOnlyDerivation (IsLiteral (chars (B.bytes input))) (derivation lit)) }
-        ensures refused { IfErr result (IsParseRefused (chars (B.bytes input))) }
-        // No text of these kinds allocates.
-        ensures memory { IfErr result (λ e. kind_of e ≢ ParseErrorKind.OutOfMemory) }
+        ensures refused { IfErr result
+            (IsRefusedOrOutOfMemory literal_parse (chars (B.bytes input))) }
     {
         match parse::dispatch(input.as_str()) {
             Dispatched::Refused(e) => Err(e),
             Dispatched::Bool(lit) => Ok(Literal::Bool(lit)),
-            Dispatched::Integer => Ok(Literal::Integer(IntegerLit::parse(input)?)),
-            Dispatched::Float => Ok(Literal::Float(FloatLit::parse(input)?)),
+            Dispatched::Number => Ok(Literal::parse_number(input)?),
             Dispatched::Char => Ok(Literal::Char(CharLit::parse(input)?)),
+            Dispatched::String => Ok(Literal::String(StringLit::parse(alloc, input)?)),
             Dispatched::Byte => Ok(Literal::Byte(ByteLit::parse(input)?)),
-            _ => Err(ParseError::new(None, ParseErrorKind::InvalidLiteral)),
+            Dispatched::ByteString => Ok(Literal::ByteString(ByteStringLit::parse(alloc, input)?)),
+            Dispatched::CString => Ok(Literal::CString(CStringLit::parse(alloc, input)?)),
+        }
+    }
+
+    /// The same for a text that begins with a digit.
+    #[inline(always)]
+    fn parse_number(input: B) -> Result<Literal<B>, ParseError>
+        requires { IsTrue (first_passes is_ascii_digit (B.bytes input)) }
+        ensures raw { IfOk result (λ lit. literal_raw lit ≡ B.bytes input) }
+        ensures literal { IfOk result (λ lit. IsLiteral (chars (B.bytes input)) (derivation lit)) }
+        ensures refused { IfErr result
+            (IsRefused (kind_parse (number_kind (chars (B.bytes input)))) (chars (B.bytes input))) }
+    {
+        match cut_number(input.as_str()) {
+            Ok(NumberCut::Integer(cut)) => Ok(Literal::Integer(IntegerLit::new(input, cut))),
+            Ok(NumberCut::Float(cut)) => Ok(Literal::Float(FloatLit::new(input, cut))),
+            Err(e) => Err(e),
         }
     }
 
@@ -99,11 +128,14 @@ impl<B: Text> Literal<B> {
             Literal::Integer(lit) => lit.suffix(),
             Literal::Float(lit) => lit.suffix(),
             Literal::Char(lit) => lit.suffix(),
+            Literal::String(lit) => lit.suffix(),
             Literal::Byte(lit) => lit.suffix(),
+            Literal::ByteString(lit) => lit.suffix(),
+            Literal::CString(lit) => lit.suffix(),
         }
     }
 
-    /// The text that was parsed. It is a literal, of the kind and with the parts that the accessors answer.
+    /// The text that was parsed: a literal of the kind and with the parts of the accessors.
     pub fn raw_input(&self) -> &str
         ensures raw { result.now ≡ literal_raw self.now }
         ensures literal { IsLiteral (chars result.now) (derivation self.now) }
@@ -113,28 +145,35 @@ impl<B: Text> Literal<B> {
             Literal::Integer(lit) => lit.raw_input(),
             Literal::Float(lit) => lit.raw_input(),
             Literal::Char(lit) => lit.raw_input(),
+            Literal::String(lit) => lit.raw_input(),
             Literal::Byte(lit) => lit.raw_input(),
+            Literal::ByteString(lit) => lit.raw_input(),
+            Literal::CString(lit) => lit.raw_input(),
         }
     }
 }
 
 impl<B: Text> Literal<B> {
-    /// The same literal again. Over `&str` it does not allocate, and succeeds.
+    /// The same literal again. Over `&str` it does not allocate, and succeeds, unless the literal
+    /// is a C string or has a quoted body with a backslash, whose value is copied.
     ///
     /// # Errors
     ///
-    /// `AllocError` where there is no memory for the text. Nothing has changed then.
+    /// `AllocError` where there is no memory for the text or the value. Nothing has changed then.
     pub fn clone(&self, alloc: Global) -> Result<Literal<B>, AllocError>
         ensures raw { IfOk result (λ copy. literal_raw copy ≡ literal_raw self.now) }
         ensures parts { IfOk result (λ copy. derivation copy ≡ derivation self.now) }
-        ensures succeeds { B.owns ≡ false → IsOk result }
+        ensures succeeds { B.owns ≡ false → allocates (derivation self.now) ≡ false → IsOk result }
     {
         match self {
             Literal::Bool(lit) => Ok(Literal::Bool(*lit)),
             Literal::Integer(lit) => Ok(Literal::Integer(lit.clone(alloc)?)),
             Literal::Float(lit) => Ok(Literal::Float(lit.clone(alloc)?)),
             Literal::Char(lit) => Ok(Literal::Char(lit.clone(alloc)?)),
+            Literal::String(lit) => Ok(Literal::String(lit.clone(alloc)?)),
             Literal::Byte(lit) => Ok(Literal::Byte(lit.clone(alloc)?)),
+            Literal::ByteString(lit) => Ok(Literal::ByteString(lit.clone(alloc)?)),
+            Literal::CString(lit) => Ok(Literal::CString(lit.clone(alloc)?)),
         }
     }
 }
@@ -154,7 +193,10 @@ impl Literal<&str> {
             Literal::Integer(lit) => Ok(Literal::Integer(lit.to_owned(alloc)?)),
             Literal::Float(lit) => Ok(Literal::Float(lit.to_owned(alloc)?)),
             Literal::Char(lit) => Ok(Literal::Char(lit.to_owned(alloc)?)),
+            Literal::String(lit) => Ok(Literal::String(lit.into_owned(alloc)?)),
             Literal::Byte(lit) => Ok(Literal::Byte(lit.to_owned(alloc)?)),
+            Literal::ByteString(lit) => Ok(Literal::ByteString(lit.into_owned(alloc)?)),
+            Literal::CString(lit) => Ok(Literal::CString(lit.into_owned(alloc)?)),
         }
     }
 }
@@ -199,6 +241,16 @@ impl<B: Text> From<CharLit<B>> for Literal<B> {
     }
 }
 
+impl<B: Text> From<StringLit<B>> for Literal<B> {
+    ghost use Rattle.litrs.specs.declared.Literal.TheVariants.{String};
+
+    ghost from_gives = { λ lit literal. literal ≡ String lit };
+
+    fn from(lit: StringLit<B>) -> Literal<B> {
+        Literal::String(lit)
+    }
+}
+
 impl<B: Text> From<ByteLit<B>> for Literal<B> {
     ghost use Rattle.litrs.specs.declared.Literal.TheVariants.{Byte};
 
@@ -206,6 +258,26 @@ impl<B: Text> From<ByteLit<B>> for Literal<B> {
 
     fn from(lit: ByteLit<B>) -> Literal<B> {
         Literal::Byte(lit)
+    }
+}
+
+impl<B: Text> From<ByteStringLit<B>> for Literal<B> {
+    ghost use Rattle.litrs.specs.declared.Literal.TheVariants.{ByteString};
+
+    ghost from_gives = { λ lit literal. literal ≡ ByteString lit };
+
+    fn from(lit: ByteStringLit<B>) -> Literal<B> {
+        Literal::ByteString(lit)
+    }
+}
+
+impl<B: Text> From<CStringLit<B>> for Literal<B> {
+    ghost use Rattle.litrs.specs.declared.Literal.TheVariants.{CString};
+
+    ghost from_gives = { λ lit literal. literal ≡ CString lit };
+
+    fn from(lit: CStringLit<B>) -> Literal<B> {
+        Literal::CString(lit)
     }
 }
 
@@ -232,7 +304,10 @@ impl<B: Text> fmt::Display for Literal<B> {
             Literal::Integer(lit) => lit.fmt(f),
             Literal::Float(lit) => lit.fmt(f),
             Literal::Char(lit) => lit.fmt(f),
+            Literal::String(lit) => lit.fmt(f),
             Literal::Byte(lit) => lit.fmt(f),
+            Literal::ByteString(lit) => lit.fmt(f),
+            Literal::CString(lit) => lit.fmt(f),
         }
     }
 }

@@ -2,11 +2,11 @@
 ghost use Rattle.std.specs.Prelude.{◌≡◌, ◌==◌, ◌||◌, false, IsFalse, IsTrue};
 ghost use Rattle.litrs_base.specs.Text.{is_empty, first_passes};
 ghost use Rattle.litrs_grammar.specs.Bool.{is_bool};
-ghost use Rattle.litrs_grammar.specs.LiteralRefusals.{begins_float, dispatch};
+ghost use Rattle.litrs_grammar.specs.LiteralRefusals.{dispatch};
 ghost use Rattle.litrs.specs.Dispatched.{row_of, HoldsOf};
 
 use crate::bool::BoolLit;
-use litrs_lex::{ParseError, ParseErrorKind, end_dec_digits};
+use litrs_lex::{ParseError, ParseErrorKind};
 
 /// What a text is parsed as, by how it begins.
 #[derive(Drop)]
@@ -15,9 +15,8 @@ pub(crate) enum Dispatched {
     Refused(ParseError),
     /// A bool, which is the whole text.
     Bool(BoolLit),
-    /// An integer, if it is a literal at all; so are the other kinds.
-    Integer,
-    Float,
+    /// An integer or a float, if it is a literal at all; so are the other kinds.
+    Number,
     Char,
     Byte,
     String,
@@ -29,7 +28,7 @@ pub(crate) enum Dispatched {
 #[tactic(auto, unfolding(litrs_grammar::specs::LiteralRefusals::dispatch))]
 #[inline(always)]
 pub(crate) fn dispatch(input: &str) -> Dispatched
-    ensures row { row_of result ≡ dispatch input.now }
+    ensures row { row_of result input.now ≡ dispatch input.now }
     ensures holds { HoldsOf result input.now }
 {
     match input.as_bytes() {
@@ -44,7 +43,7 @@ pub(crate) fn dispatch(input: &str) -> Dispatched
 #[inline(always)]
 fn by_word(input: &str) -> Dispatched
     requires { IsTrue (first_passes (λ c. (c == 116) || (c == 102)) input.now) }
-    ensures row { row_of result ≡ dispatch input.now }
+    ensures row { row_of result input.now ≡ dispatch input.now }
     ensures holds { HoldsOf result input.now }
 {
     match input {
@@ -60,12 +59,11 @@ fn by_word(input: &str) -> Dispatched
 fn by_front(bytes: &[u8]) -> Dispatched
     requires some { IsFalse (is_empty bytes.now) }
     requires no_bool { IsFalse (is_bool bytes.now) }
-    ensures row { row_of result ≡ dispatch bytes.now }
+    ensures row { row_of result bytes.now ≡ dispatch bytes.now }
     ensures holds { HoldsOf result bytes.now }
 {
     match bytes {
-        [b'0'..=b'9', ..] if begins_float(bytes) => Dispatched::Float,
-        [b'0'..=b'9', ..] => Dispatched::Integer,
+        [b'0'..=b'9', ..] => Dispatched::Number,
         [b'\'', ..] => Dispatched::Char,
         [b'"' | b'r', ..] => Dispatched::String,
         [b'b', b'\'', ..] => Dispatched::Byte,
@@ -73,11 +71,4 @@ fn by_front(bytes: &[u8]) -> Dispatched
         [b'c', ..] => Dispatched::CString,
         _ => Dispatched::Refused(ParseError::new(None, ParseErrorKind::InvalidLiteral)),
     }
-}
-
-/// Whether a period, `e` or `E` stands behind the leading run of decimal digits and underscores.
-fn begins_float(bytes: &[u8]) -> bool
-    ensures { result ≡ begins_float bytes.now }
-{
-    matches!(&bytes[end_dec_digits(bytes)..], [b'.' | b'e' | b'E', ..])
 }

@@ -83,7 +83,7 @@ moved_end front t (Some s) p a b same ends is =
     let b_is : b ≡ a + byte_len front = ap end_or (ap (ending_at b) (sym same) ∙ ends) in
     rw same (subst (λ (n : ℕ). IsCharEnd (front ++ t) (s.end + byte_len front) n) (sym b_is) (char_end_moved front t s.end a is))
 
--- a refusal of what stands behind a front, moved by it
+-- a refusal of what follows a front, moved by it
 pub char_span_moved : (front t : List ℕ) (e f : ParseError) → refusal_of f ≡ moved (byte_len front) (refusal_of e) →
     char_span_of f ≡ moved_span (byte_len front) (char_span_of e) → HasCharSpan t e → HasCharSpan (front ++ t) f
 char_span_moved front t e f same ends is = moved_end front t e.span f.span e.char_end f.char_end (ap (λ (r : Refusal). r.span) same) ends is
@@ -163,7 +163,7 @@ char_span_on t x e = on e.span e.char_end
     on None place inside is = tt
     on (Some span) place inside is = char_end_on t x span.end place inside.within is
 
--- the refusal of what stands behind a front may be moved by it, where the text is not too long
+-- the refusal of what follows a front may be moved by it, where the text is not too long
 pub moves_within : (front t : List ℕ) (e : ParseError) → IsInText (front ++ t) (moved (byte_len front) (refusal_of e)) → HasCharSpan t e → byte_len (front ++ t) < 2 ^ 64 →
     MovesWithin (byte_len front) e
 moves_within front t e inside is small = within e.span e.char_end inside is

@@ -27,7 +27,7 @@ if_true b x y h = rw h refl
 pub if_false : {A : Type 0} (b : Bool) (x y : A) → b ≡ false → (if b then x else y) ≡ y
 if_false b x y h = rw h refl
 
--- an element that passes stands behind some that do not
+-- an element that passes follows some that do not
 pub record Split (p : ℕ → Bool) (t xs : List ℕ) (c : ℕ) (ys : List ℕ) : Type 0 where
   pub spells : xs ++ c ∷ ys ≡ t
   pub before : list_all (λ x. not (p x)) xs ≡ true

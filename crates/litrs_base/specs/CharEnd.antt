@@ -8,7 +8,8 @@ use Rattle.litrs_base.specs.Text.{byte_len}
 abbrev pub IsBoundaryOf : List ℕ → ℕ → Type 0
 IsBoundaryOf t place = IsCharBoundary (encode_utf8_all t) place
 
--- The least character boundary of the text at or after the end; or the end itself where it lies past the text.
+-- The least character boundary of the text at or after the end; or the end itself where it lies
+-- past the text.
 pub record IsCharEnd (t : List ℕ) (end place : ℕ) : Type 0 where
   pub at_or_after : end ≤ place
   pub boundary : end ≤ byte_len t → IsBoundaryOf t place

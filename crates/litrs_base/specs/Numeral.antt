@@ -1,4 +1,5 @@
--- The number that digits stand for. The Rust Reference, Literal expressions, Integer literal expressions.
+-- The number that digits stand for. The Rust Reference, Literal expressions, Integer literal
+-- expressions.
 use Rattle.std.specs.Prelude.{ℕ, Bool, ◌+◌, ◌*◌, ◌^◌, ◌-◌, not, ◌==◌, List, [], ◌∷◌, length, filter}
 use Rattle.std.specs.Char.{digit_value}
 use Rattle.litrs_base.specs.Characters.{underscore}
@@ -14,8 +15,8 @@ place_sum base (c ∷ cs) = digit_value c * base ^ length cs + place_sum base cs
 abbrev pub is_no_underscore : ℕ → Bool
 is_no_underscore c = not (c == underscore)
 
--- The value of digits of a base and underscores: underscores dropped, the sum of each digit times the base to the power of
--- the number of digits behind it. It has no bound.
+-- The value of digits of a base and underscores: underscores dropped, the sum of each digit times
+-- the base to the power of the number of digits behind it. It has no bound.
 abbrev pub numeral : ℕ → List ℕ → ℕ
 numeral base t = place_sum base (filter is_no_underscore t)
 

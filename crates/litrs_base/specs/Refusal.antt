@@ -1,4 +1,4 @@
--- Refusals: a kind, and where there is one a span in the text, in bytes. The Rust Reference has none.
+-- Refusals: a kind, and perhaps a span in the text, in bytes. The Rust Reference has none.
 use Rattle.std.specs.Prelude.{ℕ, ◌+◌, ◌<◌, ◌^◌, List, [], ◌++◌, Option, Some, None, IfSome, option_map, codes}
 use Rattle.std.specs.Option.{ForSome}
 use Rattle.std.specs.Fmt.{decimal}
@@ -33,7 +33,8 @@ at place kind = over place (place + 1) kind
 -- both ends of a span moved
 abbrev pub moved_span : ℕ → Option (Range ℕ) → Option (Range ℕ)
 moved_span offset None = None
-moved_span offset (Some span) = Some (record { start = span.start + offset; end = span.end + offset })
+moved_span offset (Some span) =
+    Some (record { start = span.start + offset; end = span.end + offset })
 
 -- the same refusal of a text that stands `offset` bytes further on
 abbrev pub moved : ℕ → Refusal → Refusal
@@ -46,7 +47,8 @@ IsInText t r = IfSome r.span (PointsInto t)
 -- what is printed of a span
 abbrev pub span_text : Option (Range ℕ) → List ℕ
 span_text None = []
-span_text (Some span) = codes " (at " ++ decimal span.start ++ codes ".." ++ decimal span.end ++ codes ")"
+span_text (Some span) =
+    codes " (at " ++ decimal span.start ++ codes ".." ++ decimal span.end ++ codes ")"
 
 -- what is printed of a refusal: the description, and the span where there is one
 abbrev pub refusal_text : Refusal → List ℕ

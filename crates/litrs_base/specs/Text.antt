@@ -1,5 +1,5 @@
--- A text is a list of characters, Unicode scalar values. The Rust Reference, Input format. Places and lengths count the
--- bytes of its UTF-8.
+-- A text is a list of characters, Unicode scalar values. The Rust Reference, Input format. Places
+-- and lengths count the bytes of its UTF-8.
 use Rattle.std.specs.Prelude.{◌≡◌, ◌≤◌, ◌++◌, ℕ, Bool, true, false, ◌==◌, ◌&&◌, List, [], ◌∷◌, length, IsTrue}
 use Rattle.std.specs.List.{list_all}
 use Rattle.std.specs.Str.{encode_utf8_all}
@@ -37,7 +37,8 @@ is_text [] (d ∷ ds) = false
 is_text (c ∷ cs) [] = false
 is_text (c ∷ cs) (d ∷ ds) = (c == d) && is_text cs ds
 
--- The span begins on a character boundary of the text, behind some of its characters, and ends within the text.
+-- The span begins on a character boundary of the text, behind some of its characters, and ends
+-- within the text.
 pub record PointsInto (t : List ℕ) (span : Range ℕ) : Type 0 where
   pub front : List ℕ
   pub rest : List ℕ

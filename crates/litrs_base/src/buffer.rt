@@ -79,7 +79,7 @@ pub trait Buffer: Text {
         ensures text { cow_bytes result ≡ Self.bytes self }
         ensures owned { cow_owned result ↔ IsTrue Self.owns };
 
-    /// The bytes of the text as a value, owned if and only if the buffer owns it. It does not allocate.
+    /// The bytes of the text, owned if and only if the buffer owns it. It does not allocate.
     fn into_byte_cow(self) -> Self::ByteCow
         ensures bytes { byte_cow_items result ≡ Self.bytes self }
         ensures owned { byte_cow_owned result ↔ IsTrue Self.owns };

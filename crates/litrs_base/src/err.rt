@@ -38,8 +38,9 @@ impl ParseError {
         }
     }
 
-    /// A refusal of this text. The span, whose start is at most its end, counts bytes of it; the end
-    /// may lie inside a character. Of `in_text("é", Some(0..1), kind)` the character span is 0..2.
+    /// A refusal of this text. The span, whose start is at most its end, counts bytes of it; the
+    /// end may lie inside a character. Of `in_text("é", Some(0..1), kind)` the character span is
+    /// 0..2.
     pub fn in_text(text: &str, span: Option<Range<usize>>, kind: ParseErrorKind) -> ParseError
         requires { IfSome span (λ range. range.start ≤ range.end) }
         ensures refusal { refusal_of result ≡ refusal span kind }
@@ -59,8 +60,8 @@ impl ParseError {
     /// The part of the text that the refusal points at, in bytes, if it points at one: 3..4 of
     /// `0b12`.
     ///
-    /// The start is a character boundary. The end may lie inside a character: `é` is no integer, and
-    /// refused at 0..1.
+    /// The start is a character boundary. The end may lie inside a character: `é` is no integer,
+    /// and refused at 0..1.
     pub fn span(&self) -> Option<Range<usize>>
         ensures { result ≡ span_of self.now }
     {
@@ -70,8 +71,8 @@ impl ParseError {
         }
     }
 
-    /// The same part in whole characters: the end is the least character boundary at or after that of
-    /// [`span`](ParseError::span), as 0..2 of `é`. Where that lies past the text it is kept.
+    /// The same part in whole characters: the end is the least character boundary at or after that
+    /// of [`span`](ParseError::span), as 0..2 of `é`. Where that lies past the text it is kept.
     pub fn char_span(&self) -> Option<Range<usize>>
         ensures { result ≡ char_span_of self.now }
     {
@@ -144,7 +145,7 @@ impl ParseError {
     }
 }
 
-/// The least character boundary at or after the place, or the place itself where it is past the text.
+/// The least character boundary at or after the place, or the place where it is past the text.
 fn char_end_of(text: &str, end: usize) -> usize
     ensures { IsCharEnd (chars text.now) end result }
 {

@@ -30,11 +30,13 @@ pub trait FromIntegerLiteral: sealed::Sealed + Copy {
 
     /// The sum, or None where it is greater than the greatest number.
     fn checked_add(self, rhs: Self) -> Option<Self>
-        ensures { (m n : ℕ) → self ≡ of m → rhs ≡ of n → SomeIff result (m + n ≤ greatest) (of (m + n)) };
+        ensures { (m n : ℕ) → self ≡ of m → rhs ≡ of n →
+            SomeIff result (m + n ≤ greatest) (of (m + n)) };
 
     /// The product, or None where it is greater than the greatest number.
     fn checked_mul(self, rhs: Self) -> Option<Self>
-        ensures { (m n : ℕ) → self ≡ of m → rhs ≡ of n → SomeIff result (m * n ≤ greatest) (of (m * n)) };
+        ensures { (m n : ℕ) → self ≡ of m → rhs ≡ of n →
+            SomeIff result (m * n ≤ greatest) (of (m * n)) };
 
     /// Which type it is.
     fn ty() -> IntegerType

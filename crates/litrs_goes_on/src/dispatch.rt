@@ -7,7 +7,7 @@ ghost use Rattle.litrs_goes_on.specs.Row.{row_of, begins_as};
 
 use litrs_lex::end_dec_digits;
 
-/// What a text is read as, by how it begins.
+/// What a text is parsed as, by how it begins.
 #[derive(Clone, Copy)]
 pub(crate) enum Row {
     /// The empty text.
@@ -26,7 +26,7 @@ pub(crate) enum Row {
     Unnamed,
 }
 
-/// What a text is read as.
+/// What a text is parsed as.
 #[tactic(auto, unfolding(litrs_grammar::specs::LiteralRefusals::dispatch))]
 pub(crate) fn dispatch(text: &str) -> Row
     ensures row { row_of result ≡ dispatch text.now }

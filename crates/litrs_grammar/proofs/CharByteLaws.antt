@@ -53,7 +53,7 @@ no_char_ends_with_line_feed kind t d h =
     closed_before_line_feed (char_front kind ++ char_item_text d.item) 39 d.suffix t refl h.suffix
     (append_assoc (char_front kind) (char_item_text d.item) (39 ∷ d.suffix) ∙ h.spells)
 
--- the length of an escape, told from the text
+-- the length of an escape, by the text
 pub escape_length_is : (w : Switches) (e : Escape) (x : List ℕ) → is_escape w e ≡ true → escape_length (escape_text e ++ x) ≡ length (escape_text e)
 escape_length_is w (simple_escape c) x h =
     let simple = and_parts (is_simple c) _ h in

@@ -1,22 +1,17 @@
 -- The spans of refused chars and bytes lie within the text.
-use Rattle.std.proofs.Common.{◌≡◌, ℕ, ◌+◌, ◌<◌, Bool, true, false, not, ◌&&◌, List, [], ◌∷◌, ◌++◌, length, take, drop, Option, Some, None, refl, sym, ap, ◌∙◌, subst, arith, lit<, append_assoc, take-append-drop}
-use Rattle.std.specs.Prelude.{◌==◌, if◌then◌else◌, option_map, is_some}
-use Rattle.std.specs.List.{list_all, list_any}
+use Rattle.std.proofs.Common.{◌≡◌, ℕ, ◌+◌, ◌<◌, true, false, ◌&&◌, List, [], ◌∷◌, ◌++◌, length, take, drop, Option, Some, None, sym, ap, ◌∙◌, subst, arith, lit<, append_assoc, take-append-drop}
+use Rattle.std.specs.Prelude.{◌==◌, option_map, is_some}
+use Rattle.std.specs.List.{list_any}
 use Rattle.std.proofs.lemmas.Bool.{and_parts, eqb-true}
-use Rattle.litrs_base.specs.Refusal.{Refusal, plain, moved, IsInText}
-use Rattle.litrs_base.specs.declared.err.ParseErrorKind.TheVariants.{UnterminatedString}
-use Rattle.litrs_base.specs.Characters.{is_blank, is_ascii_unless}
+use Rattle.litrs_base.specs.Refusal.{Refusal, moved, IsInText}
 use Rattle.litrs_grammar.specs.Suffix.{is_suffix}
 use Rattle.litrs_base.specs.Text.{byte_len, first_passes, begins_with}
-use Rattle.litrs_grammar.specs.Escape.{Switches, escape_refusal, allows_value}
-use Rattle.litrs_grammar.specs.Quoted.{body_text, without_last, backslash_refusal, rest_refusal}
-use Rattle.litrs_grammar.specs.QuotedLaws.{QuotedSpansLieInText}
+use Rattle.litrs_grammar.specs.Escape.{escape_refusal}
 use Rattle.litrs_grammar.specs.CharByte.{CharKind, char_kind, byte_kind, char_front, char_switches_of, is_special_whitespace, allows_char, char_item_length, closing_refusal, char_item_refusal, start_refusal, char_kind_refusal}
 use Rattle.litrs_grammar.specs.CharByteLaws.{CharSpansLieInText}
 use Rattle.litrs_base.proofs.Spans.{byte_len-append}
-use Rattle.litrs_base.proofs.ByteLen.{byte_len_one_ascii, length-le-byte_len}
-use Rattle.litrs_grammar.proofs.EscapeSpans.{Marks, AllFit, marks_start, marks_byte, fit_if, fit_unless, fit_either, fit_some, fit_on, fit_later, escape_fits}
-use Rattle.litrs_grammar.proofs.QuotedItems.{last_of}
+use Rattle.litrs_base.proofs.ByteLen.{byte_len_one_ascii}
+use Rattle.litrs_grammar.proofs.EscapeSpans.{Marks, AllFit, marks_byte, fit_if, fit_unless, fit_either, fit_some, fit_later, escape_fits}
 use Rattle.litrs_base.proofs.Begins.{begins_with-split}
 use Rattle.litrs_grammar.proofs.QuotedSpans.{first_byte, some_no_suffix}
 

@@ -61,7 +61,7 @@ marks_later front t start end m =
       within = omega (arith, byte_len-append front t);
     }
 
--- what stands behind a part of a text is text
+-- what follows a part of a text is text
 behind_scalars : (xs ys : List ℕ) → scalars (xs ++ ys) ≡ true → scalars ys ≡ true
 behind_scalars [] ys h = h
 behind_scalars (x ∷ xs) ys h = let both = and_parts _ (scalars (xs ++ ys)) h in behind_scalars xs ys both.1

@@ -54,7 +54,7 @@ pub fraction_stops : (f : Option (List ℕ)) (p x : List ℕ) → is_exponent_fr
 fraction_stops None p x front stop = exponent_stops p x front stop
 fraction_stops (Some f) p x front stop = refl
 
--- what stands behind the digits and `_` in front
+-- what follows the digits and `_` in front
 pub behind_decimals : (d : FloatParts) → IsCut d →
     drop (prefix_len is_decimal_char (float_text d)) (float_text d) ≡ fraction_text d.fraction ++ (d.exponent ++ d.suffix)
 behind_decimals d cut =

@@ -28,6 +28,7 @@ pub mod RawSpans
 -- all kinds together
 pub mod LiteralTexts
 pub mod LiteralLaws
+pub mod StringDerivations
 pub mod LiteralSpans
 pub mod ValueLaws
 pub mod AllocationLaws

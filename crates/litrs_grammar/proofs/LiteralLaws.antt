@@ -172,7 +172,7 @@ raw_starts kind t d r = ap (string_start kind) (sym r.spells) ∙ start_raw kind
 no_quoted_is_raw : (kind : StringKind) (t : List ℕ) (d : QuotedParts) (e : RawParts) → IsQuotedLiteral kind t d → IsRawLiteral kind t e → ⊥
 no_quoted_is_raw kind t d e r s = let both : quoted_start ≡ raw_start = sym (quoted_starts kind t d r) ∙ raw_starts kind t e s in cc
 
-only_string : (kind : StringKind) (t : List ℕ) (d e : StringParts) → IsString kind t d → IsString kind t e → d ≡ e
+pub only_string : (kind : StringKind) (t : List ℕ) (d e : StringParts) → IsString kind t d → IsString kind t e → d ≡ e
 only_string kind t (quoted_parts d) (quoted_parts e) r s = ap quoted_parts (quoted_literals_are_unique t kind kind d e r s).1
 only_string kind t (quoted_parts d) (raw_parts e) r s = absurd (no_quoted_is_raw kind t d e r s)
 only_string kind t (raw_parts d) (quoted_parts e) r s = absurd (no_quoted_is_raw kind t e d s r)

@@ -14,7 +14,7 @@ use Rattle.litrs_base.proofs.Begins.{begins_with-split}
 use Rattle.litrs_grammar.proofs.RawLaws.{only_raw, derivable, refusal_free}
 use Rattle.litrs_grammar.proofs.RawSpans.{raw_refusal_within, raw_last, raw_no_nul}
 
--- The first character of a raw literal tells its kind.
+-- The first character of a raw literal decides its kind.
 
 first_char : StringKind → ℕ
 first_char kind = get_or (raw_front kind) 0 0
@@ -40,7 +40,7 @@ same_first c_string_kind byte_string_kind e = absurd (omega arith)
 same_kind : (k l : StringKind) (s t : List ℕ) → raw_front k ++ s ≡ raw_front l ++ t → k ≡ l
 same_kind k l s t e = same_first k l (sym (front_first k s) ∙ (ap (λ x. get_or x 0 0) e ∙ front_first l t))
 
--- what stands behind the front
+-- what follows the front
 pub behind_front : (kind : StringKind) (s t : List ℕ) (d : RawParts) → raw_front kind ++ s ≡ t → IsRawLiteral kind t d → IsRawOf (has_unicode kind) (allows_nul kind) s d
 behind_front kind s t d spells r = record { spells = append_cancel_left (raw_front kind) (raw_text d) s (r.spells ∙ sym spells); grammar = r.grammar }
 

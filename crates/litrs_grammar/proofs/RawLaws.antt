@@ -16,7 +16,7 @@ use Rattle.litrs_base.proofs.Spans.{none_from}
 use Rattle.litrs_grammar.proofs.RawCuts.{length-hashes, hash_len-append, behind_hashes, hash_cut, length_before-body, occurs-body, ClosingCut, closing_cut}
 
 -- The rows behind the opening quote, by what is known of the text: a character that may not stand in the body stands before
--- the first closing; there is a closing; a suffix stands behind it.
+-- the first closing; there is a closing; a suffix follows it.
 abbrev pub raw_body_rows : (place suffix_place : ℕ) (kind suffix_kind : ParseErrorKind) (refused closed suffix : Bool) → Option Refusal
 raw_body_rows place suffix_place kind suffix_kind refused closed suffix =
     if refused then Some (at place kind)
@@ -164,7 +164,7 @@ behind_opening d =
     ap (λ k. drop (suc k) (raw_text d)) count
     ∙ (ap (drop (suc n)) (sym (append_assoc (hashes n) (34 ∷ []) r)) ∙ drop_at (hashes n ++ (34 ∷ [])) r (suc n) (length-append (hashes n) (34 ∷ []) ∙ omega (arith, length-hashes n)))
 
--- the parts that a text tells
+-- the parts, by the text
 abbrev pub parts_of : List ℕ → RawParts
 parts_of t =
     let n = hash_len t in

@@ -57,7 +57,7 @@ char_span t front r start k kind spells at_start inside =
     (append_assoc front (take k r) (get_or r k 0 ∷ drop (k + 1) r) ∙ (ap (λ s. front ++ s) split ∙ spells))
     (byte_len-append front (take k r) ∙ ap (λ m. m + byte_len (take k r)) at_start)
 
--- what stands behind a closing, where that is not empty
+-- what follows a closing, where that is not empty
 suffix_span : (t front x : List ℕ) (place : ℕ) (kind : ParseErrorKind) → front ++ x ≡ t → byte_len front ≡ place → is_suffix x ≡ false → IsInText t (at place kind)
 unfolding is_suffix
 suffix_span t front [] place kind spells at_place h = absurd (true≢false h)

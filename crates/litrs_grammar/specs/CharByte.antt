@@ -49,10 +49,11 @@ abbrev pub allows_char : CharKind → ℕ → Bool
 allows_char char_kind c = true
 allows_char byte_kind c = is_ascii c
 
--- A character stands for itself that is no `'`, no backslash, no LF, tab or CR; in a byte it is ASCII.
+-- A character stands for itself that is no `'`, backslash, LF, tab or CR; in a byte it is ASCII.
 abbrev pub is_char_item : CharKind → CharItem → Bool
 is_char_item kind (plain_char c) =
-    not (c == single_quote) && not (c == backslash) && not (is_special_whitespace c) && allows_char kind c
+    not (c == single_quote) && not (c == backslash) && not (is_special_whitespace c)
+    && allows_char kind c
 is_char_item kind (escaped_char e) = is_escape (char_switches_of kind) e
 
 -- A char or a byte: the front, one item, `'` and a suffix.
@@ -70,8 +71,8 @@ pub record IsCharLiteral (kind : CharKind) (t : List ℕ) (d : CharParts) : Type
   pub item : IsTrue (is_char_item kind d.item)
   pub suffix : IsTrue (is_suffix d.suffix)
 
--- Why a text is no char or no byte. Of the rows of each function the first that fits decides, and where none fits the
--- text is a literal.
+-- Why a text is no char or no byte. Of the rows of each function the first that fits decides, and
+-- where none fits the text is a literal.
 
 -- the three refusals that each kind has of its own
 abbrev pub unterminated_kind : CharKind → ParseErrorKind
@@ -116,7 +117,8 @@ abbrev pub char_item_refusal : CharKind → List ℕ → Option Refusal
 char_item_refusal kind [] = Some (plain (unterminated_kind kind))
 char_item_refusal kind (c ∷ t) =
     let n = char_item_length c (c ∷ t) in
-    if (c == single_quote) && first_passes (λ d. d == single_quote) t then Some (at 0 UnescapedSingleQuote)
+    if (c == single_quote) && first_passes (λ d. d == single_quote) t
+    then Some (at 0 UnescapedSingleQuote)
     else if c == single_quote then Some (plain (empty_kind kind))
     else if is_special_whitespace c then Some (at 0 UnescapedSpecialWhitespace)
     else if (c == backslash) && is_some (escape_refusal (char_switches_of kind) (c ∷ t))
@@ -128,7 +130,8 @@ char_item_refusal kind (c ∷ t) =
 unfoldable pub char_kind_refusal : CharKind → List ℕ → Option Refusal
 char_kind_refusal kind t =
     let place = length (char_front kind) in
-    if begins_with (char_front kind) t then option_map (moved place) (char_item_refusal kind (drop place t))
+    if begins_with (char_front kind) t
+    then option_map (moved place) (char_item_refusal kind (drop place t))
     else Some (start_refusal kind t)
 
 -- why a text is no char

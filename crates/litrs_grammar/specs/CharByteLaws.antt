@@ -6,16 +6,20 @@ use Rattle.litrs_grammar.specs.CharByte.{CharKind, CharParts, IsCharLiteral, cha
 
 -- a text has at most one derivation as a char or a byte, over both kinds together
 abbrev pub CharsAreUnique : Type 0
-CharsAreUnique = (t : List ℕ) (k l : CharKind) (d e : CharParts) → IsCharLiteral k t d → IsCharLiteral l t e → (k ≡ l) × (d ≡ e)
+CharsAreUnique = (t : List ℕ) (k l : CharKind) (d e : CharParts) →
+    IsCharLiteral k t d → IsCharLiteral l t e → (k ≡ l) × (d ≡ e)
 
 -- a text is a literal of the kind, or the table refuses it: one of the two, and never both
 abbrev pub CharsAreDecided : Type 0
-CharsAreDecided = (kind : CharKind) (t : List ℕ) → (char_kind_refusal kind t ≡ None) ↔ ((d : CharParts) × IsCharLiteral kind t d)
+CharsAreDecided = (kind : CharKind) (t : List ℕ) →
+    (char_kind_refusal kind t ≡ None) ↔ ((d : CharParts) × IsCharLiteral kind t d)
 
 -- the span of each refusal lies within the text and starts on a character boundary
 abbrev pub CharSpansLieInText : Type 0
-CharSpansLieInText = (kind : CharKind) (t : List ℕ) (e : Refusal) → char_kind_refusal kind t ≡ Some e → IsInText t e
+CharSpansLieInText = (kind : CharKind) (t : List ℕ) (e : Refusal) →
+    char_kind_refusal kind t ≡ Some e → IsInText t e
 
 -- no char and no byte ends with LF
 abbrev pub NoCharEndsWithLineFeed : Type 0
-NoCharEndsWithLineFeed = (kind : CharKind) (t : List ℕ) (d : CharParts) → ¬ IsCharLiteral kind (t ++ line_feed ∷ []) d
+NoCharEndsWithLineFeed = (kind : CharKind) (t : List ℕ) (d : CharParts) →
+    ¬ IsCharLiteral kind (t ++ line_feed ∷ []) d

@@ -58,7 +58,7 @@ abbrev pub FinalEscapeRefusalsStay : Type 0
 FinalEscapeRefusalsStay = (w : Switches) (t more : List ℕ) (r : Refusal) →
     escape_refusal w t ≡ Some r → IsTrue (is_final r.kind) → escape_refusal w (t ++ more) ≡ Some r
 
--- a refused escape begins one if and only if what stands behind the backslash goes on
+-- a refused escape begins one if and only if what follows the backslash goes on
 abbrev pub RefusedEscapesGoOn : Type 0
 RefusedEscapesGoOn = (w : Switches) (t : List ℕ) (r : Refusal) →
     escape_refusal w (backslash ∷ t) ≡ Some r →

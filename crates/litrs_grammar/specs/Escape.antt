@@ -1,6 +1,6 @@
--- Escapes. The Rust Reference, Tokens, Literals: the tables "Quote escapes", "ASCII escapes", "Byte escapes" and
--- "Unicode escapes", and which of them each literal has, under "Character escapes", "Byte literals",
--- "Byte string literals" and "C string literals".
+-- Escapes. The Rust Reference, Tokens, Literals: the tables "Quote escapes", "ASCII escapes",
+-- "Byte escapes" and "Unicode escapes", and which of them each literal has, under
+-- "Character escapes", "Byte literals", "Byte string literals" and "C string literals".
 use Rattle.std.specs.Prelude.{ℕ, ◌+◌, ◌*◌, Bool, true, false, not, ◌==◌, ◌&&◌, ◌||◌, nat_lt, nat_le, if◌then◌else◌, List, [], ◌∷◌, ◌++◌, Option, Some, None, IsTrue, length, slice_index, drop, zero, suc, count_by, take_while, encode_utf8}
 use Rattle.std.specs.Char.{is_ascii_hexdigit, digit_value}
 use Rattle.std.specs.List.{list_all, list_any, before_first}
@@ -12,7 +12,8 @@ use Rattle.litrs_base.specs.Characters.{line_feed, tab, carriage_return, nul, si
 use Rattle.litrs_base.specs.Numeral.{numeral}
 use Rattle.litrs_base.specs.Text.{is_empty, byte_len, first_passes}
 
--- What a literal allows in its escapes: `\u{..}`; `\x` above 7F; the value 0. Below is what each kind allows.
+-- What a literal allows in its escapes: `\u{..}`; `\x` above 7F; the value 0. Below is what each
+-- kind allows.
 pub record Switches : Type 0 where
   pub unicode : Bool
   pub byte_escapes : Bool
@@ -33,7 +34,8 @@ byte_string_switches = record { unicode = false; byte_escapes = true; allow_nul 
 abbrev pub c_string_switches : Switches
 c_string_switches = record { unicode = true; byte_escapes = true; allow_nul = false }
 
--- An escape: a backslash and one character, `\x` and two digits, or `\u{..}` by what stands between the braces.
+-- An escape: a backslash and one character, `\x` and two digits, or `\u{..}` by what stands between
+-- the braces.
 pub data Escape : Type 0 where
   simple_escape : ℕ → Escape
   hex_escape : ℕ → ℕ → Escape
@@ -48,8 +50,8 @@ escape_text (unicode_escape inner) = backslash ∷ letter_u ∷ open_brace ∷ (
 -- the characters that a backslash alone makes an escape: `'`, `"`, `n`, `r`, `t`, `\` and `0`
 abbrev pub is_simple : ℕ → Bool
 is_simple c =
-    (c == single_quote) || (c == double_quote) || (c == letter_n) || (c == letter_r) || (c == letter_t)
-    || (c == backslash) || (c == digit_zero)
+    (c == single_quote) || (c == double_quote) || (c == letter_n) || (c == letter_r)
+    || (c == letter_t) || (c == backslash) || (c == digit_zero)
 
 -- `\n`, `\r`, `\t` and `\0` stand for LF, CR, tab and NUL, and the others for the character itself
 abbrev pub simple_value : ℕ → ℕ
@@ -91,8 +93,9 @@ allows_value w value = is_no_nul_unless w.allow_nul value
 abbrev pub allows_byte : Switches → ℕ → Bool
 allows_byte w value = w.byte_escapes || is_ascii value
 
--- An escape is a simple one; or `\x` and two hex digits; or, where Unicode escapes are on, `\u{..}` with a hex digit
--- first, one to six hex digits in all, underscores anywhere behind the first, and a Unicode scalar value.
+-- An escape is a simple one; or `\x` and two hex digits; or, where Unicode escapes are on, `\u{..}`
+-- with a hex digit first, one to six hex digits in all, underscores anywhere behind the first, and
+-- a Unicode scalar value.
 abbrev pub is_escape : Switches → Escape → Bool
 is_escape w (simple_escape c) = is_simple c && allows_value w (simple_value c)
 is_escape w (hex_escape high low) =
@@ -107,11 +110,12 @@ is_escape w (unicode_escape inner) =
 abbrev pub IsEscape : Switches → Escape → Type 0
 IsEscape w e = IsTrue (is_escape w e)
 
--- Why a text has no escape at its front. The text is empty or begins with the backslash, from which the spans count; of the
--- rows of each function the first that fits decides, and where none fits an escape stands there.
+-- Why a text has no escape at its front. The text is empty or begins with the backslash, from which
+-- the spans count; of the rows of each function the first that fits decides, and where none fits an
+-- escape stands there.
 
--- a character ends behind the first two bytes, as it does where the first one has two, or the first two have: otherwise the
--- two bytes behind `\x` are not there, or they end inside a character
+-- a character ends behind the first two bytes, as it does where the first one has two, or the first
+-- two have: otherwise the two bytes behind `\x` are not there, or they end inside a character
 abbrev pub has_two_bytes : List ℕ → Bool
 has_two_bytes [] = false
 has_two_bytes (c ∷ []) = byte_len (c ∷ []) == 2
@@ -123,7 +127,8 @@ hex_refusal w t =
     let high = slice_index t 0 in
     let low = slice_index t 1 in
     if not (has_two_bytes t) then Some (over 0 (2 + byte_len t) UnterminatedEscape)
-    else if not (is_ascii_hexdigit high && is_ascii_hexdigit low) then Some (over 0 4 InvalidXEscape)
+    else if not (is_ascii_hexdigit high && is_ascii_hexdigit low)
+    then Some (over 0 4 InvalidXEscape)
     else if not (allows_byte w (pair_value high low)) then Some (over 0 4 NonAsciiXEscape)
     else if not (allows_value w (pair_value high low)) then Some (over 0 4 DisallowedNulEscape)
     else None
@@ -138,21 +143,26 @@ place_behind (suc n) p (c ∷ t) = 1 + place_behind (if p c then n else suc n) p
 abbrev pub inner_refusal : Switches → List ℕ → Option Refusal
 inner_refusal w inner =
     let digits = take_while is_hex_or_underscore inner in
-    if is_empty inner || first_passes (λ c. c == underscore) inner then Some (at 3 InvalidStartOfUnicodeEscape)
+    if is_empty inner || first_passes (λ c. c == underscore) inner
+    then Some (at 3 InvalidStartOfUnicodeEscape)
     else if nat_lt (length digits) (length inner) && nat_le (count_by is_ascii_hexdigit digits) 6
     then Some (at (3 + length digits) NonHexDigitInUnicodeEscape)
     else if nat_lt 6 (count_by is_ascii_hexdigit inner)
     then Some (at (3 + place_behind 6 is_ascii_hexdigit inner) TooManyDigitInUnicodeEscape)
-    else if not (allows_value w (hex_value inner)) then Some (over 0 (4 + length inner) DisallowedNulEscape)
-    else if not (is_scalar (hex_value inner)) then Some (over 0 (4 + length inner) InvalidUnicodeEscapeChar)
+    else if not (allows_value w (hex_value inner))
+    then Some (over 0 (4 + length inner) DisallowedNulEscape)
+    else if not (is_scalar (hex_value inner))
+    then Some (over 0 (4 + length inner) InvalidUnicodeEscapeChar)
     else None
 
 -- by what follows `\u`
 abbrev pub unicode_refusal : Switches → List ℕ → Option Refusal
 unicode_refusal w t =
     if not w.unicode then Some (over 0 2 UnicodeEscapeInByteLiteral)
-    else if not (first_passes (λ c. c == open_brace) t) then Some (over 0 2 UnicodeEscapeWithoutBrace)
-    else if not (list_any (λ c. c == close_brace) t) then Some (over 0 (2 + byte_len t) UnterminatedUnicodeEscape)
+    else if not (first_passes (λ c. c == open_brace) t)
+    then Some (over 0 2 UnicodeEscapeWithoutBrace)
+    else if not (list_any (λ c. c == close_brace) t)
+    then Some (over 0 (2 + byte_len t) UnterminatedUnicodeEscape)
     else inner_refusal w (before_first (λ c. c == close_brace) (drop 1 t))
 
 -- by what follows the backslash

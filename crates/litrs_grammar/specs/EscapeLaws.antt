@@ -13,12 +13,13 @@ EscapesAreUnique = (w : Switches) (e f : Escape) (x y : List ℕ) →
 abbrev pub BeginsWithEscape : Switches → List ℕ → Type 0
 BeginsWithEscape w t = (e : Escape) × (rest : List ℕ) × (escape_text e ++ rest ≡ t) × IsEscape w e
 
--- an escape stands at the front of a text that begins with a backslash, or the table refuses it: one of the two, and
--- never both
+-- an escape stands at the front of a text that begins with a backslash, or the table refuses it:
+-- one of the two, and never both
 abbrev pub EscapesAreDecided : Type 0
 EscapesAreDecided = (w : Switches) (t : List ℕ) →
     (escape_refusal w (backslash ∷ t) ≡ None) ↔ BeginsWithEscape w (backslash ∷ t)
 
 -- the span of each refusal lies within the text and starts on a character boundary
 abbrev pub EscapeSpansLieInText : Type 0
-EscapeSpansLieInText = (w : Switches) (t : List ℕ) (e : Refusal) → escape_refusal w (backslash ∷ t) ≡ Some e → IsInText (backslash ∷ t) e
+EscapeSpansLieInText = (w : Switches) (t : List ℕ) (e : Refusal) →
+    escape_refusal w (backslash ∷ t) ≡ Some e → IsInText (backslash ∷ t) e

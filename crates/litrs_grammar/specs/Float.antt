@@ -12,9 +12,10 @@ use Rattle.litrs_base.specs.declared.integer.IntegerBase.TheVariants.{Decimal}
 use Rattle.litrs_base.specs.Base.{is_digit_or_underscore}
 use Rattle.litrs_grammar.specs.Integer.{is_e}
 
--- The parts of a float: `147.3_33__E3f64` has the integer part `147`, the fraction `3_33__`, the exponent `E3`
--- and the suffix `f64`. The fraction is None where there is no period, and empty where nothing is behind it.
--- The exponent begins with its letter, and is empty where there is none.
+-- The parts of a float: `147.3_33__E3f64` has the integer part `147`, the fraction `3_33__`, the
+-- exponent `E3` and the suffix `f64`. The fraction is None where there is no period, and empty
+-- where nothing is behind it. The exponent begins with its letter, and is empty where there is
+-- none.
 pub record FloatParts : Type 0 where
   pub integer : List ℕ
   pub fraction : Option (List ℕ)
@@ -34,7 +35,7 @@ number_part d = d.integer ++ (fraction_text d.fraction ++ d.exponent)
 abbrev pub float_text : FloatParts → List ℕ
 float_text d = d.integer ++ (fraction_text d.fraction ++ (d.exponent ++ d.suffix))
 
--- what may stand behind the first digit: a decimal digit or `_`
+-- what may follow the first digit: a decimal digit or `_`
 abbrev pub is_decimal_char : ℕ → Bool
 is_decimal_char c = is_digit_or_underscore Decimal c
 
@@ -65,14 +66,16 @@ unfoldable pub is_exponent : List ℕ → Bool
 is_exponent [] = false
 is_exponent (c ∷ cs) = is_e c && is_exponent_number (drop (sign_len cs) cs)
 
--- The three forms behind the integer part: a period that ends the text; a period, a fraction, an optional
--- exponent and a suffix; an exponent and a suffix.
+-- The three forms behind the integer part: a period that ends the text; a period, a fraction, an
+-- optional exponent and a suffix; an exponent and a suffix.
 abbrev pub is_float_form : Option (List ℕ) → List ℕ → List ℕ → Bool
 is_float_form (Some []) exponent suffix = is_empty exponent && is_empty suffix
-is_float_form (Some (c ∷ cs)) exponent suffix = is_decimal_literal (c ∷ cs) && (is_empty exponent || is_exponent exponent)
+is_float_form (Some (c ∷ cs)) exponent suffix =
+    is_decimal_literal (c ∷ cs) && (is_empty exponent || is_exponent exponent)
 is_float_form None exponent suffix = is_exponent exponent
 
--- The parts are those of a float. The suffix does not begin with `_`, nor with `e` or `E` but behind an exponent.
+-- The parts are those of a float. The suffix does not begin with `_`, nor with `e` or `E` but
+-- behind an exponent.
 pub record IsFloat (d : FloatParts) : Type 0 where
   pub integer : IsTrue (is_decimal_literal d.integer)
   pub form : IsTrue (is_float_form d.fraction d.exponent d.suffix)
@@ -85,25 +88,29 @@ pub record IsFloatOf (t : List ℕ) (d : FloatParts) : Type 0 where
   pub spells : float_text d ≡ t
   pub grammar : IsFloat d
 
--- Refusals. A text that begins with a digit is cut into the parts that a float would have, whether it is one or not.
+-- Refusals. A text that begins with a digit is cut into the parts that a float would have, whether
+-- it is one or not.
 
--- the fraction, by what stands behind the integer part: where that is a period, the digits and `_` behind it
+-- the fraction, by what follows the integer part: after a period, the digits and `_` behind it
 abbrev pub fraction_of : List ℕ → Option (List ℕ)
 fraction_of [] = None
 fraction_of (c ∷ cs) = if is_period c then Some (take_while is_decimal_char cs) else None
 
--- the exponent, by what stands behind the fraction: where that is `e` or `E`, the letter, a sign that follows, and the
--- digits and `_` behind them
+-- the exponent, by what follows the fraction: where that is `e` or `E`, the letter, a sign that
+-- follows, and the digits and `_` behind them
 abbrev pub exponent_of : List ℕ → List ℕ
 exponent_of [] = []
 exponent_of (c ∷ cs) =
-    if is_e c then c ∷ (take (sign_len cs) cs ++ take_while is_decimal_char (drop (sign_len cs) cs)) else []
+    if is_e c
+    then c ∷ (take (sign_len cs) cs ++ take_while is_decimal_char (drop (sign_len cs) cs))
+    else []
 
--- what stands behind the front of a text
+-- what follows the front of a text
 abbrev pub behind : List ℕ → List ℕ → List ℕ
 behind front t = drop (length front) t
 
--- the integer part is the digits and `_` that the text begins with, and the suffix what stands behind the other parts
+-- the integer part is the digits and `_` that the text begins with, and the suffix what follows the
+-- other parts
 unfoldable pub float_cut : List ℕ → FloatParts
 float_cut t =
     let integer = take_while is_decimal_char t in
@@ -119,19 +126,23 @@ float_cut t =
 -- a period, and behind it something that is no decimal digit
 abbrev pub has_wrong_fraction : List ℕ → Bool
 has_wrong_fraction [] = false
-has_wrong_fraction (c ∷ cs) = is_period c && (not (is_empty cs) && not (first_passes is_ascii_digit cs))
+has_wrong_fraction (c ∷ cs) =
+    is_period c && (not (is_empty cs) && not (first_passes is_ascii_digit cs))
 
--- A text that begins with a digit, by its parts; the first row that fits decides. All before the suffix is ASCII, one byte a
--- character.
+-- A text that begins with a digit, by its parts; the first row that fits decides. All before the
+-- suffix is ASCII, one byte a character.
 abbrev pub float_cut_refusal : FloatParts → Option Refusal
 float_cut_refusal d =
     let fraction = length d.integer in
     let exponent = fraction + length (fraction_text d.fraction) in
     let suffix = exponent + length d.exponent in
     let has_exponent = not (is_empty d.exponent) in
-    if has_wrong_fraction (fraction_text d.fraction ++ (d.exponent ++ d.suffix)) then Some (at (fraction + 1) UnexpectedChar)
-    else if has_exponent && not (list_any is_ascii_digit d.exponent) then Some (over exponent suffix NoExponentDigits)
-    else if not (is_suffix d.suffix) then Some (over suffix (byte_len (float_text d)) (suffix_refusal d.suffix))
+    if has_wrong_fraction (fraction_text d.fraction ++ (d.exponent ++ d.suffix))
+    then Some (at (fraction + 1) UnexpectedChar)
+    else if has_exponent && not (list_any is_ascii_digit d.exponent)
+    then Some (over exponent suffix NoExponentDigits)
+    else if not (is_suffix d.suffix)
+    then Some (over suffix (byte_len (float_text d)) (suffix_refusal d.suffix))
     else if not (is_some d.fraction || has_exponent) then Some (plain UnexpectedIntegerLit)
     else None
 

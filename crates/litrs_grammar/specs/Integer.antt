@@ -14,7 +14,7 @@ use Rattle.litrs_base.specs.Numeral.{numeral}
 
 -- The grammar
 
--- what an integer is made of: a prefix that tells the base, the main part, and the suffix
+-- what an integer is made of: a prefix that decides the base, the main part, and the suffix
 pub record IntegerParts : Type 0 where
   pub base : IntegerBase
   pub main : List ℕ
@@ -30,10 +30,13 @@ is_e c = (c == letter_e) || (c == capital_e)
 
 -- `0b`, `0o` or `0x` stands at the start
 abbrev pub has_prefix : List ℕ → Bool
-has_prefix t = begins_with (prefix Binary) t || begins_with (prefix Octal) t || begins_with (prefix Hexadecimal) t
+has_prefix t =
+    begins_with (prefix Binary) t || begins_with (prefix Octal) t
+    || begins_with (prefix Hexadecimal) t
 
--- The main part has digits of the base and underscores, at least one digit, and takes all of them that follow.
--- The suffix does not begin with `e` or `E`. A decimal integer begins with a digit, and not with the prefix of another base.
+-- The main part has digits of the base and underscores, at least one digit, and takes all of them
+-- that follow. The suffix does not begin with `e` or `E`. A decimal integer begins with a digit,
+-- and not with the prefix of another base.
 pub record IsInteger (d : IntegerParts) : Type 0 where
   pub digits : IsTrue (list_all (is_digit_or_underscore d.base) d.main)
   pub some_digit : IsTrue (list_any (is_digit d.base) d.main)
@@ -54,14 +57,15 @@ integer_value d = numeral (base_value d.base) d.main
 
 -- The refusals
 
--- The base that the front of a text tells: `0b`, `0o` and `0x` are always the prefix, and everything else is decimal.
+-- The base, by the front of a text: `0b`, `0o` and `0x` are always the prefix, and everything else
+-- is decimal.
 abbrev pub base_of : List ℕ → IntegerBase
 base_of t = if begins_with (prefix Binary) t then Binary
     else if begins_with (prefix Octal) t then Octal
     else if begins_with (prefix Hexadecimal) t then Hexadecimal
     else Decimal
 
--- what stands behind the prefix
+-- what follows the prefix
 abbrev pub behind_prefix : List ℕ → List ℕ
 behind_prefix t = drop (length (prefix (base_of t))) t
 
@@ -69,7 +73,7 @@ behind_prefix t = drop (length (prefix (base_of t))) t
 abbrev pub main_of : List ℕ → List ℕ
 main_of t = take_while (is_digit_or_underscore (base_of t)) (behind_prefix t)
 
--- what stands behind the main part
+-- what follows the main part
 abbrev pub behind_main : List ℕ → List ℕ
 behind_main t = drop (length (main_of t)) (behind_prefix t)
 
@@ -77,7 +81,8 @@ behind_main t = drop (length (main_of t)) (behind_prefix t)
 unfoldable pub integer_cut : List ℕ → IntegerParts
 integer_cut t = record { base = base_of t; main = main_of t; suffix = behind_main t }
 
--- A text that begins with a decimal digit, by its main part and by what stands behind; the first row that fits decides.
+-- A text that begins with a decimal digit, by its main part and by what follows; the first row that
+-- fits decides.
 abbrev pub cut_refusal : IntegerParts → Option Refusal
 cut_refusal d =
     let start = byte_len (prefix d.base) in

@@ -5,7 +5,7 @@ use Rattle.std.specs.Char.{is_ascii_digit}
 use Rattle.litrs_base.specs.Text.{first_passes}
 use Rattle.litrs_grammar.specs.Integer.{integer_cut}
 
--- The text is empty, or it begins with a decimal digit and nothing stands behind its main part:
+-- The text is empty, or it begins with a decimal digit and nothing follows its main part:
 -- there is no digit yet behind the prefix, and one more makes it an integer.
 abbrev pub IntegerGoesOn : List ℕ → Type 0
 IntegerGoesOn t =

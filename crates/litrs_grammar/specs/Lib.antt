@@ -10,6 +10,7 @@ pub mod Float
 pub mod Bool
 -- all kinds together, and the nine parses
 pub mod Literal
+pub mod Strings
 pub mod LiteralRefusals
 pub mod Allocation
 -- what a refusal means

@@ -29,7 +29,7 @@ abbrev pub string_value : StringParts → List ℕ
 string_value (quoted_parts d) = body_value d.items
 string_value (raw_parts d) = raw_value d.body
 
--- A derivation tells the kind of a literal and the parts that it is made of.
+-- A derivation is the kind of a literal and the parts that it is made of.
 pub data Derivation : Type 0 where
   a_bool : Bool → Derivation
   an_integer : IntegerParts → Derivation

@@ -6,7 +6,7 @@ use Rattle.litrs_base.specs.Characters.{line_feed}
 use Rattle.litrs_grammar.specs.Literal.{Derivation, IsLiteral, Parse, IsLiteralOf}
 use Rattle.litrs_grammar.specs.LiteralRefusals.{IsRefusal}
 
--- a text has at most one derivation, over all eight kinds together; so no text is a literal of two kinds
+-- a text has at most one derivation, over all kinds together; so no text is a literal of two kinds
 abbrev pub LiteralsAreUnique : Type 0
 LiteralsAreUnique = (t : List ℕ) (d e : Derivation) → IsLiteral t d → IsLiteral t e → d ≡ e
 
@@ -27,11 +27,13 @@ RefusalsAreUnique = (parse : Parse) (t : List ℕ) (e f : Refusal) →
 
 -- the span of each refusal lies within the text and starts on a character boundary
 abbrev pub RefusalSpansLieInText : Type 0
-RefusalSpansLieInText = (parse : Parse) (t : List ℕ) (e : Refusal) → IsRefusal parse t e → IsInText t e
+RefusalSpansLieInText = (parse : Parse) (t : List ℕ) (e : Refusal) →
+    IsRefusal parse t e → IsInText t e
 
--- no text is refused for want of memory
+-- no refusal of a text is an allocation failure
 abbrev pub NoRefusalIsOfMemory : Type 0
-NoRefusalIsOfMemory = (parse : Parse) (t : List ℕ) (e : Refusal) → IsRefusal parse t e → e.kind ≢ OutOfMemory
+NoRefusalIsOfMemory = (parse : Parse) (t : List ℕ) (e : Refusal) →
+    IsRefusal parse t e → e.kind ≢ OutOfMemory
 
 -- no literal ends with LF
 abbrev pub NoLiteralEndsWithLineFeed : Type 0

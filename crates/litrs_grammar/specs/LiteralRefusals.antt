@@ -1,5 +1,5 @@
--- The refusals of the nine parses. The Rust Reference tells which texts are literals, and not why another is none: the
--- tables here and in the files of the kinds do.
+-- The refusals of the nine parses. The Rust Reference says which texts are literals, and not why
+-- another is none: the tables here and in the files of the kinds do.
 use Rattle.std.specs.Prelude.{◌≡◌, ℕ, ◌==◌, ◌||◌, Bool, List, drop, Some, codes, if◌then◌else◌}
 use Rattle.std.specs.Char.{is_ascii_digit}
 use Rattle.std.specs.List.{prefix_len}
@@ -26,7 +26,8 @@ string_start_refusal string_kind = at 0 InvalidStringLiteralStart
 string_start_refusal byte_string_kind = plain InvalidByteStringLiteralStart
 string_start_refusal c_string_kind = plain InvalidCStringLiteralStart
 
--- How a text starts: it is refused at once, or the table of quoted or of raw literals tells its refusal.
+-- How a text starts: it is refused without looking further, or the table of quoted or of raw
+-- literals gives its refusal.
 pub data StringStart : Type 0 where
   refused_start : Refusal → StringStart
   quoted_start : StringStart
@@ -68,12 +69,12 @@ IsKindRefusal c_string_literal t e = IsStringRefusal c_string_kind t e
 abbrev pub is_float_mark : ℕ → Bool
 is_float_mark c = (c == period) || is_e c
 
--- behind the leading run of decimal digits and underscores stands such a mark
+-- such a mark follows the leading run of decimal digits and underscores
 abbrev pub begins_float : List ℕ → Bool
 begins_float t = first_passes is_float_mark (drop (prefix_len (is_digit_or_underscore Decimal) t) t)
 
--- By how a text begins it is read as a literal of one kind, whose table tells its refusal, or no kind begins so and it
--- is refused at once.
+-- How a text begins decides as which kind it is parsed, and the table of that kind gives its
+-- refusal. Where no kind begins so, it is refused without looking further.
 pub data Dispatch : Type 0 where
   refused_as : Refusal → Dispatch
   parsed_as : LiteralKind → Dispatch
@@ -83,15 +84,17 @@ unfoldable pub dispatch : List ℕ → Dispatch
 dispatch t =
     if is_empty t then refused_as (plain Empty)
     else if is_bool t then parsed_as bool_literal
-    else if first_passes is_ascii_digit t then (if begins_float t then parsed_as float_literal else parsed_as integer_literal)
+    else if first_passes is_ascii_digit t
+    then (if begins_float t then parsed_as float_literal else parsed_as integer_literal)
     else if begins_with (codes "'") t then parsed_as char_literal
     else if begins_with (codes "\"") t || begins_with (codes "r") t then parsed_as string_literal
     else if begins_with (codes "b'") t then parsed_as byte_literal
-    else if begins_with (codes "b\"") t || begins_with (codes "br") t then parsed_as byte_string_literal
+    else if begins_with (codes "b\"") t || begins_with (codes "br") t
+    then parsed_as byte_string_literal
     else if begins_with (codes "c") t then parsed_as c_string_literal
     else refused_as (plain InvalidLiteral)
 
--- the refusals of a text that is dispatched so; one that is read as a bool is a bool, and has none
+-- the refusals of a text dispatched so; one that is parsed as a bool is a bool, and has none
 abbrev pub IsRefusalOfDispatch : Dispatch → List ℕ → Refusal → Type 0
 IsRefusalOfDispatch (refused_as refusal) t e = refusal ≡ e
 IsRefusalOfDispatch (parsed_as kind) t e = IsKindRefusal kind t e

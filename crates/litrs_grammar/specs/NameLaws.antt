@@ -6,7 +6,7 @@ use Rattle.litrs_base.specs.declared.float.FloatType.{FloatType}
 use Rattle.litrs_base.specs.IntegerTypes.{type_name}
 use Rattle.litrs_base.specs.FloatTypes.{float_type_name}
 
--- Comparing literals compares their texts, byte by byte: they are equal exactly where their texts are.
+-- Comparing literals compares their texts, byte by byte: equal if and only if their texts are.
 abbrev pub EqualityIsOfTexts : Type 0
 EqualityIsOfTexts = (a b : List ℕ) → IsTrue (pointwise nat_eq a b) ↔ (a ≡ b)
 

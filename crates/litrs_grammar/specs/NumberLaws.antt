@@ -10,8 +10,10 @@ FloatsBeginAsFloats = (t : List ℕ) (d : FloatParts) → IsFloatOf t d → IsTr
 
 -- behind that of an integer stands none of them
 abbrev pub NoIntegerBeginsAsFloat : Type 0
-NoIntegerBeginsAsFloat = (t : List ℕ) (d : IntegerParts) → IsIntegerOf t d → IsFalse (begins_float t)
+NoIntegerBeginsAsFloat = (t : List ℕ) (d : IntegerParts) →
+    IsIntegerOf t d → IsFalse (begins_float t)
 
 -- no text is both a float and an integer
 abbrev pub NoFloatIsInteger : Type 0
-NoFloatIsInteger = (t : List ℕ) (d : FloatParts) (e : IntegerParts) → IsFloatOf t d → ¬ IsIntegerOf t e
+NoFloatIsInteger = (t : List ℕ) (d : FloatParts) (e : IntegerParts) →
+    IsFloatOf t d → ¬ IsIntegerOf t e

@@ -1,5 +1,6 @@
--- Quoted strings, byte strings and C strings. The Rust Reference, Tokens, Literals: "String literals", "Byte
--- string literals" and "C string literals"; Literal expressions: "String continuation escapes".
+-- Quoted strings, byte strings and C strings. The Rust Reference, Tokens, Literals:
+-- "String literals", "Byte string literals" and "C string literals"; Literal expressions:
+-- "String continuation escapes".
 use Rattle.std.specs.Prelude.{◌≡◌, ℕ, Bool, true, not, ◌==◌, ◌&&◌, if◌then◌else◌, List, [], ◌∷◌, ◌++◌, Option, Some, None, IsTrue, encode_utf8}
 use Rattle.std.specs.List.{list_all}
 use Rattle.litrs_base.specs.Refusal.{Refusal, plain, at, moved}
@@ -16,8 +17,8 @@ quoted_front string_kind = double_quote ∷ []
 quoted_front byte_string_kind = letter_b ∷ double_quote ∷ []
 quoted_front c_string_kind = letter_c ∷ double_quote ∷ []
 
--- An item of a body: a character that stands for itself, an escape, or a continuation, which is a backslash, LF and all
--- spaces, tabs and LFs behind it.
+-- An item of a body: a character that stands for itself, an escape, or a continuation, which is a
+-- backslash, LF and all spaces, tabs and LFs behind it.
 pub data Item : Type 0 where
   plain_item : ℕ → Item
   escape_item : Escape → Item
@@ -35,8 +36,8 @@ item_value (plain_item c) = encode_utf8 c
 item_value (escape_item e) = value_bytes (escape_value e)
 item_value (continuation blanks) = []
 
--- A character stands for itself that is no `"`, no backslash and no CR; in a byte string it is ASCII, and in a C string
--- it is not NUL.
+-- A character stands for itself that is no `"`, no backslash and no CR; in a byte string it is
+-- ASCII, and in a C string it is not NUL.
 abbrev pub is_plain : Switches → ℕ → Bool
 is_plain w c =
     not (c == double_quote) && not (c == backslash) && not (c == carriage_return)
@@ -57,16 +58,18 @@ abbrev pub body_value : List Item → List ℕ
 body_value [] = []
 body_value (item ∷ items) = item_value item ++ body_value items
 
--- behind a continuation stands no space, tab or LF: it has them all
+-- no space, tab or LF follows a continuation: it has them all
 abbrev pub takes_all_blanks : Item → List ℕ → Bool
 takes_all_blanks (plain_item c) behind = true
 takes_all_blanks (escape_item e) behind = true
 takes_all_blanks (continuation blanks) behind = not (first_passes is_blank behind)
 
--- A quoted body is a list of items in which none that begins with space, tab or LF follows a continuation.
+-- A quoted body is a list of items. No item that begins with space, tab or LF follows a
+-- continuation.
 abbrev pub is_body : Switches → List Item → Bool
 is_body w [] = true
-is_body w (item ∷ items) = is_item w item && takes_all_blanks item (body_text items) && is_body w items
+is_body w (item ∷ items) =
+    is_item w item && takes_all_blanks item (body_text items) && is_body w items
 
 -- the text is that of a body, with these items
 pub record IsBodyOf (w : Switches) (t : List ℕ) (items : List Item) : Type 0 where
@@ -92,16 +95,18 @@ pub record IsQuoted (front : List ℕ) (w : Switches) (t : List ℕ) (q : Quoted
 abbrev pub IsQuotedLiteral : StringKind → List ℕ → QuotedParts → Type 0
 IsQuotedLiteral kind = IsQuoted (quoted_front kind) (switches_of kind)
 
--- Why a text is no quoted literal. It is the front, the text of a list of items, and a rest which alone tells why.
+-- Why a text is no quoted literal. It is the front, the text of a list of items, and a rest which
+-- alone decides why.
 
--- An item is taken into the list by what stands behind it. A continuation has all spaces, tabs and LFs; and neither a
--- continuation nor an escape is taken that ends the text: it belongs to the rest.
+-- An item is taken into the list by what follows it. A continuation has all spaces, tabs and LFs;
+-- and neither a continuation nor an escape is taken that ends the text: it belongs to the rest.
 abbrev pub is_taken_before : List ℕ → Item → Bool
 is_taken_before behind (plain_item c) = true
 is_taken_before behind (escape_item e) = not (is_empty behind)
-is_taken_before behind (continuation blanks) = not (is_empty behind) && not (first_passes is_blank behind)
+is_taken_before behind (continuation blanks) =
+    not (is_empty behind) && not (first_passes is_blank behind)
 
--- the items are taken into the list, where the rest stands behind them
+-- the items are taken into the list, where the rest follows them
 abbrev pub stand_before : Switches → List ℕ → List Item → Bool
 stand_before w rest [] = true
 stand_before w rest (item ∷ items) =
@@ -113,16 +118,17 @@ without_last [] = []
 without_last (c ∷ []) = []
 without_last (c ∷ d ∷ t) = c ∷ without_last (d ∷ t)
 
--- The rest begins with a backslash: LF and only spaces, tabs and LFs follow it to the end of the text; or no LF follows,
--- and no escape stands there, which is read without the last character of the text.
+-- The rest begins with a backslash: LF and only spaces, tabs and LFs follow it to the end of the
+-- text; or no LF follows, and no escape stands there. The escape is parsed without the last
+-- character of the text.
 abbrev pub backslash_refusal : Switches → List ℕ → Option Refusal
 backslash_refusal w t =
     if first_passes (λ c. c == line_feed) t
     then (if list_all is_blank t then Some (plain UnterminatedString) else None)
     else escape_refusal w (without_last (backslash ∷ t))
 
--- Why nothing of the literal stands at the front of the rest; spans count from there. At its end the closing quote
--- lacks. None: an item or the closing quote with a suffix stands there.
+-- Why nothing of the literal stands at the front of the rest; spans count from there. At its end
+-- the closing quote lacks. None: an item or the closing quote with a suffix stands there.
 unfoldable pub rest_refusal : Switches → List ℕ → Option Refusal
 rest_refusal w [] = Some (plain UnterminatedString)
 rest_refusal w (c ∷ t) =
@@ -133,8 +139,8 @@ rest_refusal w (c ∷ t) =
     else if (c == double_quote) && not (is_suffix t) then Some (at 1 (suffix_refusal t))
     else None
 
--- The text is refused as a quoted literal behind this front, as the rest tells. The span moves by the bytes before the
--- rest.
+-- The text is refused as a quoted literal behind this front, as the rest decides. The span moves by
+-- the bytes before the rest.
 pub record IsQuotedRefusal (front : List ℕ) (w : Switches) (t : List ℕ) (e : Refusal) : Type 0 where
   pub items : List Item
   pub rest : List ℕ

@@ -21,7 +21,7 @@ abbrev pub RestGoesOn : Switches → List ℕ → Type 0
 RestGoesOn w rest =
     IsOpenRest rest ⊎ (BeginsEscape w rest ⊎ (rest ≡ double_quote ∷ underscore ∷ []))
 
--- The closing quote makes the text a literal without suffix, whose body is all that stands behind
+-- The closing quote makes the text a literal without suffix, whose body is all that follows
 -- the front.
 pub record IsClosedQuoted (front : List ℕ) (w : Switches) (t : List ℕ) : Type 0 where
   pub items : List Item

@@ -28,16 +28,19 @@ QuotedRefusalsAreUnique = (front : List ℕ) (w : Switches) (t : List ℕ) (e f 
 -- a text that begins with the front is a literal or refused
 abbrev pub QuotedTextsAreDecided : Type 0
 QuotedTextsAreDecided = (front : List ℕ) (w : Switches) (t : List ℕ) →
-    ((q : QuotedParts) × IsQuoted front w (front ++ t) q) ⊎ ((e : Refusal) × IsQuotedRefusal front w (front ++ t) e)
+    ((q : QuotedParts) × IsQuoted front w (front ++ t) q)
+    ⊎ ((e : Refusal) × IsQuotedRefusal front w (front ++ t) e)
 
 -- and never both
 abbrev pub QuotedTextsAreNotRefused : Type 0
-QuotedTextsAreNotRefused = (front : List ℕ) (w : Switches) (t : List ℕ) (q : QuotedParts) (e : Refusal) →
+QuotedTextsAreNotRefused =
+    (front : List ℕ) (w : Switches) (t : List ℕ) (q : QuotedParts) (e : Refusal) →
     IsQuoted front w t q → ¬ IsQuotedRefusal front w t e
 
 -- the span of each refusal lies within the text and starts on a character boundary
 abbrev pub QuotedSpansLieInText : Type 0
-QuotedSpansLieInText = (front : List ℕ) (w : Switches) (t : List ℕ) (e : Refusal) → IsQuotedRefusal front w t e → IsInText t e
+QuotedSpansLieInText = (front : List ℕ) (w : Switches) (t : List ℕ) (e : Refusal) →
+    IsQuotedRefusal front w t e → IsInText t e
 
 -- no quoted literal ends with LF
 abbrev pub NoQuotedTextEndsWithLineFeed : Type 0
@@ -55,7 +58,8 @@ QuotedBodiesAreUnique = (w : Switches) (t : List ℕ) (items others : List Item)
 abbrev pub QuotedBodiesJoin : Type 0
 QuotedBodiesJoin = (w : Switches) (a b : List ℕ) (items others : List Item) →
     IsBodyOf w a items → IsBodyOf w b others → IsFalse (first_passes is_blank b) →
-    IsBodyOf w (a ++ b) (items ++ others) × (body_value (items ++ others) ≡ body_value items ++ body_value others)
+    IsBodyOf w (a ++ b) (items ++ others)
+    × (body_value (items ++ others) ≡ body_value items ++ body_value others)
 
 -- a value has no more bytes than its body, and as many exactly where the body has no backslash
 abbrev pub QuotedValuesFitBodies : Type 0
@@ -65,5 +69,6 @@ QuotedValuesFitBodies = (w : Switches) (t : List ℕ) (items : List Item) → Is
 
 -- where NUL is not allowed, as in C strings, no byte of a value is zero
 abbrev pub NoNulInQuotedCStrings : Type 0
-NoNulInQuotedCStrings = (w : Switches) (t : List ℕ) (items : List Item) → IsFalse w.allow_nul → IsBodyOf w t items →
+NoNulInQuotedCStrings = (w : Switches) (t : List ℕ) (items : List Item) →
+    IsFalse w.allow_nul → IsBodyOf w t items →
     IsFalse (list_any (λ b. b == nul) (body_value items))

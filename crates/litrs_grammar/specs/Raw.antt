@@ -1,6 +1,7 @@
--- Raw strings. The Rust Reference, Tokens, Literals: "Raw string literals", "Raw byte string literals" and
--- "Raw C string literals". The grammar stands first, the refusals below it.
--- Two switches tell the kinds apart: in a byte string `unicode` is off, in a C string NUL is not allowed.
+-- Raw strings. The Rust Reference, Tokens, Literals: "Raw string literals",
+-- "Raw byte string literals" and "Raw C string literals". The grammar stands first, the refusals
+-- below it. Two switches tell the kinds apart: in a byte string `unicode` is off, in a C string NUL
+-- is not allowed.
 use Rattle.std.specs.Prelude.{◌≡◌, ℕ, ◌+◌, ◌≤◌, ◌==◌, ◌&&◌, ◌||◌, nat_lt, Bool, not, List, [], ◌∷◌, ◌++◌, length, take, drop, replicate, Option, Some, None, IsTrue, IsFalse, if◌then◌else◌, encode_utf8_all, codes}
 use Rattle.std.specs.List.{list_all, prefix_len, slice_index}
 use Rattle.litrs_base.specs.declared.err.ParseErrorKind.{ParseErrorKind}
@@ -36,12 +37,14 @@ abbrev pub occurs : List ℕ → List ℕ → Bool
 occurs part [] = is_empty part
 occurs part (c ∷ cs) = begins_with part (c ∷ cs) || occurs part cs
 
--- No CR stands in a raw body, only ASCII in that of a byte string, and no NUL in that of a C string.
--- A backslash means nothing.
+-- No CR stands in a raw body, only ASCII in that of a byte string, and no NUL in that of a C
+-- string. A backslash means nothing.
 abbrev pub is_raw_char : (unicode allow_nul : Bool) → ℕ → Bool
-is_raw_char unicode allow_nul c = not (c == carriage_return) && (is_ascii_unless unicode c && is_no_nul_unless allow_nul c)
+is_raw_char unicode allow_nul c =
+    not (c == carriage_return) && (is_ascii_unless unicode c && is_no_nul_unless allow_nul c)
 
--- a raw body between n hashes: its characters may stand there, and what would close it does not occur in it
+-- a raw body between n hashes: its characters may stand there, and what would close it does not
+-- occur in it
 pub record IsRawBody (unicode allow_nul : Bool) (n : ℕ) (body : List ℕ) : Type 0 where
   pub allowed : IsTrue (list_all (is_raw_char unicode allow_nul) body)
   pub unclosed : IsFalse (occurs (raw_closing n) body)
@@ -58,7 +61,8 @@ pub record RawParts : Type 0 where
 
 -- the text with these parts behind its front: hashes, `"`, body, `"`, as many hashes, suffix
 abbrev pub raw_text : RawParts → List ℕ
-raw_text d = hashes d.hash_count ++ (double_quote ∷ (d.body ++ (raw_closing d.hash_count ++ d.suffix)))
+raw_text d =
+    hashes d.hash_count ++ (double_quote ∷ (d.body ++ (raw_closing d.hash_count ++ d.suffix)))
 
 -- the parts are those of a raw literal, which has at most 255 hashes
 pub record IsRaw (unicode allow_nul : Bool) (d : RawParts) : Type 0 where
@@ -66,7 +70,7 @@ pub record IsRaw (unicode allow_nul : Bool) (d : RawParts) : Type 0 where
   pub body : IsRawBody unicode allow_nul d.hash_count d.body
   pub suffix : IsTrue (is_suffix d.suffix)
 
--- what stands behind the front is a raw literal with these parts
+-- what follows the front is a raw literal with these parts
 pub record IsRawOf (unicode allow_nul : Bool) (t : List ℕ) (d : RawParts) : Type 0 where
   pub spells : raw_text d ≡ t
   pub grammar : IsRaw unicode allow_nul d
@@ -89,35 +93,40 @@ pub record IsRawLiteral (kind : StringKind) (t : List ℕ) (d : RawParts) : Type
   pub spells : raw_front kind ++ raw_text d ≡ t
   pub grammar : IsRaw (has_unicode kind) (allows_nul kind) d
 
--- Refusals. They are told by the hashes behind the front, and by what stands before the first closing.
+-- Refusals: decided by the hashes behind the front, and by what stands before the first closing.
 
 -- how many hashes the text begins with
 abbrev pub hash_len : List ℕ → ℕ
 hash_len t = prefix_len is_hash t
 
--- how many characters stand before the first place where the part stands, in all where it stands nowhere
+-- how many characters stand before the part, where it first stands; all where it stands nowhere
 abbrev pub length_before : List ℕ → List ℕ → ℕ
 length_before part [] = 0
 length_before part (c ∷ cs) = if begins_with part (c ∷ cs) then 0 else 1 + length_before part cs
 
 -- why a character may not stand in a raw body
 abbrev pub raw_char_refusal : ℕ → ParseErrorKind
-raw_char_refusal c = if c == carriage_return then CarriageReturn else if is_nul c then NulByte else NonAsciiInByteLiteral
+raw_char_refusal c =
+    if c == carriage_return then CarriageReturn
+    else if is_nul c then NulByte
+    else NonAsciiInByteLiteral
 
--- Why what stands behind n hashes and the quote, from the place start on, ends no raw literal: None where it does. The body
--- goes up to the first closing, and the first row that fits decides.
+-- Why what follows n hashes and the quote, from the place start on, ends no raw literal: None where
+-- it does. The body goes up to the first closing, and the first row that fits decides.
 unfoldable pub raw_body_refusal : (unicode allow_nul : Bool) (n start : ℕ) → List ℕ → Option Refusal
 raw_body_refusal unicode allow_nul n start t =
     let body = take (length_before (raw_closing n) t) t in
     let allowed = prefix_len (is_raw_char unicode allow_nul) body in
     let suffix = drop (length body + (1 + n)) t in
-    if nat_lt allowed (length body) then Some (at (start + byte_len (take allowed t)) (raw_char_refusal (slice_index t allowed)))
+    if nat_lt allowed (length body)
+    then Some (at (start + byte_len (take allowed t)) (raw_char_refusal (slice_index t allowed)))
     else if not (occurs (raw_closing n) t) then Some (plain UnterminatedRawString)
-    else if not (is_suffix suffix) then Some (at (start + (byte_len body + (1 + n))) (suffix_refusal suffix))
+    else if not (is_suffix suffix)
+    then Some (at (start + (byte_len body + (1 + n))) (suffix_refusal suffix))
     else None
 
--- Why what stands behind a front, from the place start on, is no raw literal: None where it is one. The first row that fits
--- decides.
+-- Why what follows a front, from the place start on, is no raw literal: None where it is one. The
+-- first row that fits decides.
 unfoldable pub raw_refusal : (unicode allow_nul : Bool) (start : ℕ) → List ℕ → Option Refusal
 raw_refusal unicode allow_nul start t =
     let n = hash_len t in
@@ -129,4 +138,6 @@ raw_refusal unicode allow_nul start t =
 
 -- why a text that begins with the front of the kind is no raw literal of the kind
 abbrev pub raw_literal_refusal : StringKind → List ℕ → Option Refusal
-raw_literal_refusal kind t = raw_refusal (has_unicode kind) (allows_nul kind) (length (raw_front kind)) (drop (length (raw_front kind)) t)
+raw_literal_refusal kind t =
+    raw_refusal (has_unicode kind) (allows_nul kind) (length (raw_front kind))
+    (drop (length (raw_front kind)) t)

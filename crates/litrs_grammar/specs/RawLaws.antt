@@ -9,26 +9,31 @@ use Rattle.litrs_grammar.specs.Raw.{is_nul, raw_closing, occurs, length_before, 
 
 -- a text has at most one derivation as a raw literal, over all three kinds together
 abbrev pub RawLiteralsAreUnique : Type 0
-RawLiteralsAreUnique = (t : List ℕ) (k l : StringKind) (d e : RawParts) → IsRawLiteral k t d → IsRawLiteral l t e → (k ≡ l) × (d ≡ e)
+RawLiteralsAreUnique = (t : List ℕ) (k l : StringKind) (d e : RawParts) →
+    IsRawLiteral k t d → IsRawLiteral l t e → (k ≡ l) × (d ≡ e)
 
--- A text that begins with the front of a kind is a raw literal of the kind, or the table refuses it: one of the two,
--- and never both.
+-- A text that begins with the front of a kind is a raw literal of the kind, or the table refuses
+-- it: one of the two, and never both.
 abbrev pub RawLiteralsAreDecided : Type 0
 RawLiteralsAreDecided = (kind : StringKind) (t : List ℕ) → IsTrue (begins_with (raw_front kind) t) →
     (raw_literal_refusal kind t ≡ None) ↔ ((d : RawParts) × IsRawLiteral kind t d)
 
 -- the span of each refusal lies within the text and starts on a character boundary
 abbrev pub RawSpansLieInText : Type 0
-RawSpansLieInText = (kind : StringKind) (t : List ℕ) → IsTrue (begins_with (raw_front kind) t) → (e : Refusal) → raw_literal_refusal kind t ≡ Some e → IsInText t e
+RawSpansLieInText = (kind : StringKind) (t : List ℕ) →
+    IsTrue (begins_with (raw_front kind) t) → (e : Refusal) →
+    raw_literal_refusal kind t ≡ Some e → IsInText t e
 
--- The same of what stands behind any front, under any switches.
+-- The same of what follows any front, under any switches.
 
 abbrev pub RawTextsAreUnique : Type 0
-RawTextsAreUnique = (unicode allow_nul : Bool) (t : List ℕ) (d e : RawParts) → IsRawOf unicode allow_nul t d → IsRawOf unicode allow_nul t e → d ≡ e
+RawTextsAreUnique = (unicode allow_nul : Bool) (t : List ℕ) (d e : RawParts) →
+    IsRawOf unicode allow_nul t d → IsRawOf unicode allow_nul t e → d ≡ e
 
 abbrev pub RawTextsAreDecided : Type 0
 RawTextsAreDecided = (unicode allow_nul : Bool) (start : ℕ) (t : List ℕ) →
-    (raw_refusal unicode allow_nul start t ≡ None) ↔ ((d : RawParts) × IsRawOf unicode allow_nul t d)
+    (raw_refusal unicode allow_nul start t ≡ None)
+    ↔ ((d : RawParts) × IsRawOf unicode allow_nul t d)
 
 abbrev pub RawTextSpansLieInText : Type 0
 RawTextSpansLieInText = (unicode allow_nul : Bool) (front t : List ℕ) (e : Refusal) →
@@ -36,11 +41,13 @@ RawTextSpansLieInText = (unicode allow_nul : Bool) (front t : List ℕ) (e : Ref
 
 -- no raw literal ends with LF
 abbrev pub NoRawLiteralEndsWithLineFeed : Type 0
-NoRawLiteralEndsWithLineFeed = (kind : StringKind) (t : List ℕ) (d : RawParts) → ¬ IsRawLiteral kind (t ++ line_feed ∷ []) d
+NoRawLiteralEndsWithLineFeed = (kind : StringKind) (t : List ℕ) (d : RawParts) →
+    ¬ IsRawLiteral kind (t ++ line_feed ∷ []) d
 
 -- no byte of a raw C string's value is zero
 abbrev pub NoNulInRawCStrings : Type 0
-NoNulInRawCStrings = (t : List ℕ) (d : RawParts) → IsRawLiteral c_string_kind t d → IsFalse (list_any is_nul (raw_value d.body))
+NoNulInRawCStrings = (t : List ℕ) (d : RawParts) →
+    IsRawLiteral c_string_kind t d → IsFalse (list_any is_nul (raw_value d.body))
 
 -- the value has as many bytes as the body
 abbrev pub RawValuesAreAsLongAsBodies : Type 0
@@ -52,13 +59,13 @@ abbrev pub NoClosingIn : (n : ℕ) (front t : List ℕ) → Type 0
 NoClosingIn n front t = (i : ℕ) → i < length front →
     IsFalse (begins_with (raw_closing n) (drop i (front ++ t)))
 
--- What stands behind such a front decides where the first closing stands, and whether there is one.
+-- What follows such a front decides where the first closing stands, and whether there is one.
 abbrev pub RawScansGoOn : Type 0
 RawScansGoOn = (n : ℕ) (front t : List ℕ) → NoClosingIn n front t →
     (length_before (raw_closing n) (front ++ t) ≡ length front + length_before (raw_closing n) t)
     × (occurs (raw_closing n) (front ++ t) ≡ occurs (raw_closing n) t)
 
--- Where the characters of the front may stand in a body, what stands behind it has the refusal,
+-- Where the characters of the front may stand in a body, what follows it has the refusal,
 -- further on by its bytes.
 abbrev pub RawRefusalsGoOn : Type 0
 RawRefusalsGoOn = (unicode allow_nul : Bool) (n start : ℕ) (front t : List ℕ) →
@@ -66,7 +73,7 @@ RawRefusalsGoOn = (unicode allow_nul : Bool) (n start : ℕ) (front t : List ℕ
     raw_body_refusal unicode allow_nul n start (front ++ t)
     ≡ raw_body_refusal unicode allow_nul n (start + byte_len front) t
 
--- Where a closing stands behind it, the front is a body.
+-- Where a closing follows it, the front is a body.
 abbrev pub RawBodiesEndAtClosings : Type 0
 RawBodiesEndAtClosings = (unicode allow_nul : Bool) (n : ℕ) (front t : List ℕ) →
     IsTrue (list_all (is_raw_char unicode allow_nul) front) →

@@ -1,5 +1,5 @@
--- How the parts of a raw literal are found in a text: the hashes, the first closing, and the first character that may not stand
--- in the body. What is found stays so in every longer text.
+-- How the parts of a raw literal are found in a text: the hashes, the first closing, and the first
+-- character that may not stand in the body. What is found stays so in every longer text.
 use Rattle.std.specs.Prelude.{◌≡◌, ℕ, ◌+◌, Bool, List, ◌∷◌, ◌++◌, length, drop, Some, IsTrue, IsFalse}
 use Rattle.std.specs.List.{list_any}
 use Rattle.litrs_base.specs.Characters.{double_quote}
@@ -8,20 +8,24 @@ use Rattle.litrs_base.specs.Refusal.{Refusal, at}
 use Rattle.litrs_base.specs.Text.{is_empty, byte_len, begins_with}
 use Rattle.litrs_grammar.specs.Raw.{is_quote, hashes, raw_closing, occurs, is_raw_char, IsRawBody, hash_len, length_before, raw_char_refusal, raw_body_refusal, raw_refusal}
 
--- the number of hashes stays, where any character stands behind them
+-- the number of hashes stays, where any character follows them
 abbrev pub HashCountsStay : Type 0
-HashCountsStay = (t more : List ℕ) → IsFalse (is_empty (drop (hash_len t) t)) → hash_len (t ++ more) ≡ hash_len t
+HashCountsStay = (t more : List ℕ) →
+    IsFalse (is_empty (drop (hash_len t) t)) → hash_len (t ++ more) ≡ hash_len t
 
 -- the first closing stays
 abbrev pub FirstClosingsStay : Type 0
 FirstClosingsStay = (n : ℕ) (t more : List ℕ) → IsTrue (occurs (raw_closing n) t) →
     length_before (raw_closing n) (t ++ more) ≡ length_before (raw_closing n) t
 
--- the first character that may not stand in a body, behind characters that are one, is refused, whatever follows
+-- the first character that may not stand in a body, behind characters that are one, is refused,
+-- whatever follows
 abbrev pub StoppedBodiesAreRefused : Type 0
-StoppedBodiesAreRefused = (unicode allow_nul : Bool) (n start : ℕ) (front : List ℕ) (c : ℕ) (t : List ℕ) →
+StoppedBodiesAreRefused =
+    (unicode allow_nul : Bool) (n start : ℕ) (front : List ℕ) (c : ℕ) (t : List ℕ) →
     IsRawBody unicode allow_nul n front → IsFalse (is_raw_char unicode allow_nul c) →
-    raw_body_refusal unicode allow_nul n start (front ++ c ∷ t) ≡ Some (at (start + byte_len front) (raw_char_refusal c))
+    raw_body_refusal unicode allow_nul n start (front ++ c ∷ t)
+    ≡ Some (at (start + byte_len front) (raw_char_refusal c))
 
 -- a final refusal stays, with its kind and span
 abbrev pub FinalRawRefusalsStay : Type 0
@@ -38,7 +42,8 @@ ClosingsBeginAtQuotes = (n : ℕ) (front t : List ℕ) → IsFalse (list_any is_
 -- at a `"` the first closing stands, if as many hashes follow,
 abbrev pub ClosingsAreFound : Type 0
 ClosingsAreFound = (n : ℕ) (t : List ℕ) → IsTrue (begins_with (hashes n) t) →
-    IsTrue (occurs (raw_closing n) (double_quote ∷ t)) × (length_before (raw_closing n) (double_quote ∷ t) ≡ 0)
+    IsTrue (occurs (raw_closing n) (double_quote ∷ t))
+    × (length_before (raw_closing n) (double_quote ∷ t) ≡ 0)
 
 -- and else it is passed too.
 abbrev pub QuotesArePassed : Type 0

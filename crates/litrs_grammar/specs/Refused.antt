@@ -1,15 +1,17 @@
 -- What it means that a parse refuses a text.
-use Rattle.std.specs.Prelude.{◌≡◌, ◌↔◌, ℕ, List, [], ◌∷◌, ◌++◌, IfSome, IsTrue}
+use Rattle.std.specs.Prelude.{◌≡◌, ◌↔◌, ◌⊎◌, ℕ, List, [], ◌∷◌, ◌++◌, IfSome, IsTrue}
 use Rattle.litrs_base.specs.declared.err.ParseError.{ParseError}
+use Rattle.litrs_base.specs.declared.err.ParseErrorKind.TheVariants.{OutOfMemory}
 use Rattle.litrs_base.specs.CharEnd.{PointsAtCharacters}
 use Rattle.litrs_base.specs.Derivations.{HasNoDerivation}
 use Rattle.litrs_base.specs.Characters.{line_feed}
 use Rattle.litrs_base.specs.Finality.{is_final, is_open}
-use Rattle.litrs_base.specs.Refusal.{Refusal, refusal_of, kind_of, char_span_of, IsInText, HasCharSpan}
+use Rattle.litrs_base.specs.Refusal.{Refusal, plain, refusal_of, kind_of, char_span_of, IsInText, HasCharSpan}
 use Rattle.litrs_grammar.specs.Continuation.{BeginsBy, EndsBy}
 use Rattle.litrs_grammar.specs.Closing.{closing_of, IsClosedBy}
 use Rattle.litrs_grammar.specs.Literal.{Derivation, Parse, IsLiteralOf}
 use Rattle.litrs_grammar.specs.LiteralRefusals.{IsRefusal}
+use Rattle.litrs_grammar.specs.Allocation.{allocates}
 
 -- The text is refused with the error, by a parse that looks for these derivations and has this
 -- table of refusals: no derivation exists; the table has the error's kind and span for the text,
@@ -20,7 +22,9 @@ use Rattle.litrs_grammar.specs.LiteralRefusals.{IsRefusal}
 -- closing text gives a string literal without suffix, with all of the text behind the opening as
 -- its body; and where the text ends with LF, some text behind it gives one that has a derivation
 -- exactly if the kind is open.
-pub record IsRefusedBy (Derives : List ℕ → Derivation → Type 0) (Table : List ℕ → Refusal → Type 0) (t : List ℕ) (e : ParseError) : Type 0 where
+pub record IsRefusedBy
+    (Derives : List ℕ → Derivation → Type 0) (Table : List ℕ → Refusal → Type 0)
+    (t : List ℕ) (e : ParseError) : Type 0 where
   pub none : HasNoDerivation (Derives t)
   pub table : Table t (refusal_of e)
   pub only : (r : Refusal) → Table t r → r ≡ refusal_of e
@@ -35,3 +39,15 @@ pub record IsRefusedBy (Derives : List ℕ → Derivation → Type 0) (Table : L
 -- the text is refused with the error by one of the nine parses
 abbrev pub IsRefused : Parse → List ℕ → ParseError → Type 0
 IsRefused parse t e = IsRefusedBy (IsLiteralOf parse) (IsRefusal parse) t e
+
+-- The text is a literal of the parse whose value has to be allocated, and the error says that
+-- there was no memory for it.
+pub record IsOutOfMemory (parse : Parse) (t : List ℕ) (e : ParseError) : Type 0 where
+  pub derivation : Derivation
+  pub literal : IsLiteralOf parse t derivation
+  pub allocated : IsTrue (allocates derivation)
+  pub error : refusal_of e ≡ plain OutOfMemory
+
+-- the error of a parse that may allocate
+abbrev pub IsRefusedOrOutOfMemory : Parse → List ℕ → ParseError → Type 0
+IsRefusedOrOutOfMemory parse t e = IsRefused parse t e ⊎ IsOutOfMemory parse t e

@@ -1,8 +1,9 @@
--- The kinds of string literals. The Rust Reference, Tokens, Literals: "String literals", "Byte string literals" and
--- "C string literals", each with its raw form.
+-- The kinds of string literals. The Rust Reference, Tokens, Literals: "String literals",
+-- "Byte string literals" and "C string literals", each with its raw form.
 use Rattle.litrs_grammar.specs.Escape.{Switches, string_switches, byte_string_switches, c_string_switches}
 
--- The three kinds. Where only switches are given, unicode off is read as byte string, and NUL not allowed as C string.
+-- The three kinds. Where only switches are given, unicode off is taken as byte string, and NUL not
+-- allowed as C string.
 pub data StringKind : Type 0 where
   string_kind : StringKind
   byte_string_kind : StringKind

@@ -16,13 +16,14 @@ starts_identifier c = (c == underscore) || is_xid_start c
 -- The lone `_` is no suffix.
 unfoldable pub is_suffix : List ℕ → Bool
 is_suffix [] = true
-is_suffix (c ∷ cs) = starts_identifier c && list_all is_xid_continue cs && not ((c == underscore) && is_empty cs)
+is_suffix (c ∷ cs) =
+    starts_identifier c && list_all is_xid_continue cs && not ((c == underscore) && is_empty cs)
 
 -- ASCII, and neither a letter nor `_`
 abbrev pub is_ascii_symbol : ℕ → Bool
 is_ascii_symbol c = is_ascii c && not (is_ascii_alphabetic c || (c == underscore))
 
--- Of a text that is no suffix, why: it begins with an ASCII character that is neither a letter nor `_`,
--- or it is not an identifier for another reason.
+-- Of a text that is no suffix, why: it begins with an ASCII character that is neither a letter nor
+-- `_`, or it is not an identifier for another reason.
 abbrev pub suffix_refusal : List ℕ → ParseErrorKind
 suffix_refusal t = if first_passes is_ascii_symbol t then UnexpectedChar else InvalidSuffix

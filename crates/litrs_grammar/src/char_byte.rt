@@ -6,7 +6,7 @@ pub fn chars_are_unique()
     ensures { CharsAreUnique }
 {}
 
-/// A text is a char, or a byte, or the table of the kind refuses it: one of the two, and never both.
+/// A text is a char, or a byte, or the table of the kind refuses it: one of the two, never both.
 pub fn chars_are_decided()
     ensures { CharsAreDecided }
 {}

@@ -33,7 +33,7 @@ pub fn final_escape_refusals_stay()
     ensures { FinalEscapeRefusalsStay }
 {}
 
-/// A refused escape begins one if and only if what stands behind the backslash goes on.
+/// A refused escape begins one if and only if what follows the backslash goes on.
 pub fn refused_escapes_go_on()
     ensures { RefusedEscapesGoOn }
 {}

@@ -1,5 +1,5 @@
-//! The grammar of Rust literals: its definitions stand in `specs`, and its laws here, each the contract of a
-//! function with an empty body.
+//! The grammar of Rust literals: its definitions stand in `specs`, and its laws here, each the
+//! contract of a function with an empty body.
 #![tactic(auto)]
 
 pub mod allocation;

@@ -7,8 +7,8 @@ pub fn raw_literals_are_unique()
     ensures { RawLiteralsAreUnique }
 {}
 
-/// A text that begins with the front of a kind is a raw literal of the kind, or the table refuses it:
-/// one of the two, and never both.
+/// A text that begins with the front of a kind is a raw literal of the kind, or the table refuses
+/// it: one of the two, and never both.
 pub fn raw_literals_are_decided()
     ensures { RawLiteralsAreDecided }
 {}
@@ -18,12 +18,12 @@ pub fn raw_spans_lie_in_text()
     ensures { RawSpansLieInText }
 {}
 
-/// What stands behind a front has at most one derivation under the same switches.
+/// What follows a front has at most one derivation under the same switches.
 pub fn raw_texts_are_unique()
     ensures { RawTextsAreUnique }
 {}
 
-/// What stands behind a front is a raw literal under the switches, or the table refuses it: one of
+/// What follows a front is a raw literal under the switches, or the table refuses it: one of
 /// the two, and never both.
 pub fn raw_texts_are_decided()
     ensures { RawTextsAreDecided }
@@ -50,7 +50,7 @@ pub fn raw_values_are_as_long_as_bodies()
     ensures { RawValuesAreAsLongAsBodies }
 {}
 
-/// The number of hashes stays that of every longer text, where any character stands behind them.
+/// The number of hashes stays that of every longer text, where any character follows them.
 pub fn hash_counts_stay()
     ensures { HashCountsStay }
 {}
@@ -97,7 +97,7 @@ pub fn raw_refusals_go_on()
     ensures { RawRefusalsGoOn }
 {}
 
-/// Such a front is a body where a closing stands behind it.
+/// Such a front is a body where a closing follows it.
 pub fn raw_bodies_end_at_closings()
     ensures { RawBodiesEndAtClosings }
 {}

@@ -1,24 +1,20 @@
 -- Chars and bytes: what their bytes say of the characters.
-use Rattle.std.proofs.Common.{◌≡◌, ℕ, zero, suc, ◌+◌, ◌-◌, ◌^◌, ◌<◌, ◌≤◌, Bool, true, false, not, ◌&&◌, ◌||◌, List, [], ◌∷◌, ◌++◌, length, take, drop, slice_range, slice_get, append-nil, get_or, Option, Some, None, refl, sym, ap, ◌∙◌, subst, arith, inl, inr, append_assoc, length-append, lit<}
-use Rattle.std.specs.Prelude.{◌==◌, Result, Ok, Err, IfOk, IfErr, IfSome, encode_utf8, encode_utf8_all, if◌then◌else◌, option_map, is_some}
-use Rattle.std.specs.Option.{ForSome}
-use Rattle.std.specs.declared.ops.Range.{Range}
+use Rattle.std.proofs.Common.{◌≡◌, ℕ, suc, ◌+◌, ◌-◌, ◌^◌, ◌<◌, ◌≤◌, Bool, true, false, not, ◌||◌, List, [], ◌∷◌, ◌++◌, length, take, drop, slice_range, slice_get, append-nil, Option, Some, None, refl, sym, ap, ◌∙◌, subst, arith, append_assoc, length-append}
+use Rattle.std.specs.Prelude.{◌==◌, Result, Ok, Err, IfOk, IfErr, encode_utf8, encode_utf8_all, option_map, is_some}
 use Rattle.std.specs.List.{list_any}
 use Rattle.std.specs.Char.{len_utf8}
 use Rattle.std.specs.Str.{chars, IsUtf8, IsCharBoundary}
-use Rattle.std.proofs.lemmas.Bool.{eq-eqb, lt-ltb, ltb-true, ltb-false, and_parts, and_from, and_left, not_from_false, not-true, ne_eqb, eqb-true, cases_lt, or_left, or_right, false≢true, true≢false}
+use Rattle.std.proofs.lemmas.Bool.{eq-eqb, lt-ltb, and_parts, and_from, and_left, not_from_false, not-true, ne_eqb, eqb-true}
 use Rattle.std.proofs.lemmas.Bool.Decides.{nat_tests}
-use Rattle.std.proofs.lemmas.List.{drop_at, take_at, take-append-drop, drop-drop, append_cancel_left}
-use Rattle.std.proofs.lemmas.Str.{length-encode, chars-nil, chars_from_encodes, encodes-chars, encodes-append, encode_ascii, IsUtf8-take}
+use Rattle.std.proofs.lemmas.List.{drop_at, take_at}
+use Rattle.std.proofs.lemmas.Str.{length-encode, chars-nil, chars_from_encodes, encodes-chars, encodes-append, IsUtf8-take}
 use Rattle.litrs_base.specs.declared.err.ParseError.{ParseError}
-use Rattle.litrs_base.specs.declared.err.ParseErrorKind.{ParseErrorKind}
 use Rattle.litrs_base.specs.declared.err.ParseErrorKind.TheVariants.{Empty, DoesNotStartWithQuote, InvalidByteLiteralStart, UnescapedSingleQuote, UnescapedSpecialWhitespace, NonAsciiInByteLiteral}
 use Rattle.litrs_base.specs.declared.escape.Unescape.{Unescape}
 use Rattle.litrs_base.specs.declared.escape.Unescape.TheVariants.{Byte, Unicode}
 use Rattle.litrs_base.specs.Unescape.{unescaped_number}
-use Rattle.litrs_base.specs.CharEnd.{IsCharEnd}
 use Rattle.litrs_base.specs.Refusal.{Refusal, refusal_of, char_span_of, IsInText, HasCharSpan, MovesWithin, at, plain, moved, moved_span}
-use Rattle.litrs_base.specs.Text.{byte_len, first_passes, is_empty, begins_with, PointsInto}
+use Rattle.litrs_base.specs.Text.{byte_len, first_passes, is_empty, begins_with}
 use Rattle.litrs_base.proofs.Begins.{begins_with-split, begins_with-append}
 use Rattle.litrs_base.proofs.ByteLen.{byte_len_one_ascii}
 use Rattle.litrs_base.proofs.CharEnds.{char_span_moved, moves_within, no_span}
@@ -27,7 +23,7 @@ use Rattle.litrs_base.proofs.ListTests.{if_true, if_false}
 use Rattle.litrs_base.proofs.Spans.{byte_len-append}
 use Rattle.litrs_grammar.specs.Escape.{Switches, Escape, simple_escape, hex_escape, unicode_escape, is_escape, is_simple, escape_text, escape_value, escape_refusal}
 use Rattle.litrs_grammar.specs.Suffix.{is_suffix, suffix_refusal}
-use Rattle.litrs_grammar.specs.CharByte.{CharKind, char_kind, byte_kind, char_front, char_switches_of, CharItem, plain_char, escaped_char, char_item_text, char_value, is_special_whitespace, allows_char, is_char_item, CharParts, char_text, IsCharLiteral, unterminated_kind, empty_kind, overlong_kind, start_refusal, escape_length, char_item_length, closing_refusal, char_item_refusal, char_kind_refusal}
+use Rattle.litrs_grammar.specs.CharByte.{CharKind, char_kind, byte_kind, char_front, char_switches_of, CharItem, plain_char, escaped_char, char_item_text, char_value, is_special_whitespace, allows_char, is_char_item, CharParts, IsCharLiteral, unterminated_kind, empty_kind, overlong_kind, start_refusal, escape_length, char_item_length, closing_refusal, char_item_refusal, char_kind_refusal}
 use Rattle.litrs_grammar.specs.Literal.{kind_parse, LiteralKind, char_literal, byte_literal}
 use Rattle.litrs_grammar.specs.LiteralRefusals.{IsKindRefusal}
 use Rattle.litrs_grammar.specs.Refused.{IsRefused}
@@ -39,7 +35,7 @@ use Rattle.litrs_grammar.proofs.QuotedItems.{escape_head}
 use Rattle.litrs_grammar.proofs.Refused.{is_refused}
 use Rattle.litrs_lex.specs.CharCut.{escape_written, item_written, char_parts_at, kind_if, unwraps_as, IsItemRead, IsItemRefused, IsCutBehind}
 use Rattle.litrs_lex.specs.Unescaped.{switches, IsUnescaped, IsEscapeRefused}
-use Rattle.litrs_lex.proofs.EscapeBytes.{IsCut, cut_at, only_char, list_any-chars}
+use Rattle.litrs_lex.proofs.EscapeBytes.{cut_at, only_char, list_any-chars}
 
 -- Behind the front
 

@@ -1,29 +1,19 @@
 -- The dispatch over the kinds is that of the bytes of the text.
-use Rattle.std.proofs.Common.{◌≡◌, ℕ, suc, length, Bool, false, ◌||◌, List, [], ◌∷◌, drop, refl, ap, ◌∙◌, arith}
+use Rattle.std.proofs.Common.{◌≡◌, ℕ, suc, length, List, [], ◌∷◌, drop, refl, ap, ◌∙◌, arith}
 use Rattle.std.specs.Prelude.{codes}
 use Rattle.std.specs.Str.{chars, IsUtf8}
-use Rattle.std.specs.Char.{is_ascii_digit}
 use Rattle.std.specs.List.{prefix_len}
 use Rattle.std.proofs.lemmas.Str.{chars-nil}
 use Rattle.std.proofs.lemmas.Bool.{ne_eqb}
 use Rattle.std.proofs.lemmas.Bool.Decides.{nat_tests}
 use Rattle.litrs_base.specs.declared.integer.IntegerBase.TheVariants.{Decimal}
-use Rattle.litrs_base.specs.Text.{is_empty, is_text, first_passes, begins_with}
+use Rattle.litrs_base.specs.Text.{is_empty, first_passes}
 use Rattle.litrs_base.specs.Base.{is_digit_or_underscore}
 use Rattle.litrs_base.proofs.Chars.{chars_empty, OnlyAscii, prefix_len-chars, passing_front, first_passes-chars, begins_with-chars, is_text-chars}
 use Rattle.litrs_grammar.specs.Bool.{bool_text, is_bool}
-use Rattle.litrs_grammar.specs.LiteralRefusals.{is_float_mark, begins_float, dispatch}
-use Rattle.litrs_lex.proofs.IntegerBytes.{digits_are_ascii, digit-chars}
-
-marks_are_ascii : OnlyAscii is_float_mark
-marks_are_ascii c high = grind (arith, nat_tests)
-
-pub begins_float-chars : (bs : List ℕ) → IsUtf8 bs → begins_float (chars bs) ≡ begins_float bs
-begins_float-chars bs u =
-    let p = is_digit_or_underscore Decimal in
-    let front = passing_front p bs (digits_are_ascii Decimal) u in
-    ap (λ n. first_passes is_float_mark (drop n (chars bs))) (prefix_len-chars p bs (digits_are_ascii Decimal) u)
-    ∙ (ap (first_passes is_float_mark) front.rest ∙ first_passes-chars is_float_mark (drop (prefix_len p bs) bs) marks_are_ascii front.utf8)
+use Rattle.litrs_grammar.specs.LiteralRefusals.{begins_float, dispatch}
+use Rattle.litrs_lex.proofs.IntegerBytes.{digit-chars}
+use Rattle.litrs_lex.proofs.NumberBytes.{begins_float-chars}
 
 is_empty-chars : (bs : List ℕ) → IsUtf8 bs → is_empty (chars bs) ≡ is_empty bs
 is_empty-chars [] u = ap is_empty chars-nil

@@ -1,36 +1,35 @@
 -- Escapes: what their bytes say of the characters.
-use Rattle.std.proofs.Common.{◌≡◌, ℕ, zero, suc, ◌+◌, ◌-◌, ◌*◌, ◌^◌, ◌<◌, ◌≤◌, Bool, true, false, not, ◌&&◌, ◌||◌, cond, leb, ltb, eqb, List, [], ◌∷◌, ◌++◌, length, take, drop, slice_get, get_or, Option, Some, None, refl, sym, ap, ◌∙◌, subst, arith, inl, inr, append_assoc, length-append, take-append-drop}
-use Rattle.std.specs.Prelude.{◌==◌, IfSome, count_by, take_while, encode_utf8, encode_utf8_all, if◌then◌else◌}
+use Rattle.std.proofs.Common.{◌≡◌, ℕ, zero, suc, ◌+◌, ◌-◌, ◌^◌, ◌<◌, ◌≤◌, Bool, true, false, not, ◌&&◌, ◌||◌, cond, leb, ltb, List, [], ◌∷◌, ◌++◌, length, take, drop, get_or, Some, None, refl, sym, ap, ◌∙◌, subst, arith, inl, inr, append_assoc, length-append, take-append-drop}
+use Rattle.std.specs.Prelude.{◌==◌, count_by, take_while, encode_utf8, encode_utf8_all, if◌then◌else◌}
 use Rattle.std.proofs.Math.Nat.{pow-le-pow_right}
 use Rattle.std.specs.Char.{IsScalar, is_ascii_hexdigit, digit_value}
-use Rattle.std.specs.List.{list_all, list_any, before_first, prefix_len}
+use Rattle.std.specs.List.{list_all, list_any, before_first}
 use Rattle.std.specs.Str.{chars, IsUtf8, IsCharBoundary}
-use Rattle.std.proofs.lemmas.Bool.{eq-eqb, ltb-true, ltb-false, not-false, and_parts, and_from, not_from_false, not-true, ne_eqb, eqb-true, cases_lt, or_cases, or_left, both_ways, false≢true, true≢false, lt-ltb, le-ltb, leb-true, le-leb, and_cases, and_left, or_right}
+use Rattle.std.proofs.lemmas.Bool.{eq-eqb, not-false, and_parts, and_from, not-true, ne_eqb, eqb-true, cases_lt, or_cases, or_left, false≢true, true≢false, lt-ltb, le-ltb, leb-true, le-leb, and_left, or_right}
 use Rattle.std.proofs.lemmas.Bool.Decides.{nat_tests}
-use Rattle.std.proofs.lemmas.List.{take_more, take_rest, append-nil, drop-drop, length-drop}
+use Rattle.std.proofs.lemmas.List.{take_more, take_rest, append-nil, drop-drop}
 use Rattle.std.proofs.lemmas.List.Folds.{list_any-append}
 use Rattle.std.proofs.lemmas.List.Recursion.{or_from_places}
 use Rattle.std.proofs.lemmas.List.Sums.{take_while-cons, sum_by-cons, sum_by-append}
 use Rattle.std.proofs.lemmas.Str.{inside_one, chars-nil, chars_from_encodes, encodes-chars, encodes-append, encode_ascii, IsCharBoundary-from_drop, IsUtf8-past_char, IsUtf8-drop, IsUtf8-take}
 use Rattle.std.proofs.Math.Seq.{drop-append_seam}
 use Rattle.litrs_base.specs.declared.err.ParseError.{ParseError}
-use Rattle.litrs_base.specs.declared.err.ParseErrorKind.{ParseErrorKind}
 use Rattle.litrs_base.specs.declared.err.ParseErrorKind.TheVariants.{UnterminatedEscape, DisallowedNulEscape, InvalidXEscape, NonAsciiXEscape, UnicodeEscapeInByteLiteral, UnicodeEscapeWithoutBrace, UnterminatedUnicodeEscape, InvalidStartOfUnicodeEscape, NonHexDigitInUnicodeEscape, TooManyDigitInUnicodeEscape, InvalidUnicodeEscapeChar, UnknownEscape}
 use Rattle.litrs_base.specs.declared.escape.Unescape.{Unescape}
 use Rattle.litrs_base.specs.declared.escape.Unescape.TheVariants.{Byte, Unicode}
 use Rattle.litrs_base.specs.Characters.{is_scalar}
-use Rattle.litrs_base.specs.Refusal.{Refusal, refusal_of, char_span_of, IsInText, HasCharSpan, at, over}
+use Rattle.litrs_base.specs.Refusal.{refusal_of, IsInText, HasCharSpan, at, over}
 use Rattle.litrs_base.specs.Text.{byte_len, first_passes, is_empty, begins_with}
 use Rattle.litrs_base.proofs.Begins.{begins_with-split}
 use Rattle.litrs_base.proofs.ByteLen.{byte_len_one_ascii, byte_len_all_ascii, length-le-byte_len}
 use Rattle.litrs_base.proofs.CharEnds.{char_span_points}
 use Rattle.litrs_base.proofs.Chars.{OnlyAscii, IsAsciiFront, front_zero, front_suc, chars_ascii, chars_wide, chars_empty, utf8_behind_ascii, ascii_from_test, first_passes-chars}
-use Rattle.litrs_base.proofs.ListTests.{if_true, if_false, Split, Splits, split_first, before_first-split, list_any-split, none_if, none_unless, take_while_all}
+use Rattle.litrs_base.proofs.ListTests.{if_true, if_false, Split, split_first, before_first-split, list_any-split}
 use Rattle.litrs_base.proofs.Runs.{list_all-append, list_all-weaken}
 use Rattle.litrs_base.proofs.Spans.{byte_len-append}
-use Rattle.litrs_grammar.specs.Escape.{Switches, Escape, simple_escape, hex_escape, unicode_escape, IsEscape, is_escape, escape_text, escape_value, escape_refusal, hex_refusal, unicode_refusal, inner_refusal, is_simple, simple_value, pair_value, hex_value, is_hex_or_underscore, allows_value, allows_byte, has_two_bytes, place_behind}
+use Rattle.litrs_grammar.specs.Escape.{Switches, Escape, simple_escape, hex_escape, unicode_escape, is_escape, escape_text, escape_value, escape_refusal, hex_refusal, unicode_refusal, inner_refusal, is_simple, simple_value, pair_value, hex_value, is_hex_or_underscore, allows_value, allows_byte, has_two_bytes, place_behind}
 use Rattle.litrs_grammar.specs.EscapeLaws.{BeginsWithEscape}
-use Rattle.litrs_grammar.proofs.EscapeLaws.{same_escape, refusal_escape, by_simple, hex_or_underscore_ascii, hexdigit_ascii, not_brace, hexdigit_no_underscore, two_bytes, starts_inner, no_stranger, has_stranger}
+use Rattle.litrs_grammar.proofs.EscapeLaws.{same_escape, refusal_escape, by_simple, hex_or_underscore_ascii, hexdigit_ascii, not_brace, two_bytes, starts_inner, no_stranger, has_stranger}
 use Rattle.litrs_grammar.proofs.EscapeSpans.{escape_spans_lie_in_text}
 use Rattle.litrs_lex.specs.declared.escape.HexDigits.{HexDigits}
 use Rattle.litrs_lex.specs.Unescaped.{switches, IsUnescaped, IsEscapeRefused, IsHexDigits}

@@ -128,7 +128,7 @@ places_of cut bs c h =
     let exponent : exponent_of (drop cut.end_fraction bs) ≡ d.exponent = ap (λ n. exponent_of (drop n bs)) (sym front) ∙ exponent_is bs d same in
     record { integer = integer; fraction = end; exponent = ap (λ p. cut.end_fraction + length p) (sym exponent) ∙ sym h.exponent }
 
--- The parts of the text, in front of what stands behind each
+-- The parts of the text, in front of what follows each
 
 record Fronts (bs : List ℕ) (d : FloatParts) : Type 0 where
   integer : d.integer ++ (fraction_text d.fraction ++ (d.exponent ++ d.suffix)) ≡ bs

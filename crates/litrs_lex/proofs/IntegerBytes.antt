@@ -1,12 +1,12 @@
 -- Integers: what the cut of the bytes says of the characters.
-use Rattle.std.proofs.Common.{◌≡◌, ℕ, suc, ◌+◌, ◌-◌, ◌≤◌, Bool, true, false, cond, ltb, List, [], ◌∷◌, ◌++◌, length, take, drop, slice_range, slice_get, Some, refl, sym, ap, ◌∙◌, arith}
+use Rattle.std.proofs.Common.{◌≡◌, ℕ, suc, ◌+◌, ◌-◌, ◌≤◌, Bool, true, false, not, cond, ltb, eqb, ◌||◌, List, [], ◌∷◌, ◌++◌, length, take, drop, slice_range, slice_get, Some, refl, sym, ap, ◌∙◌, arith}
 use Rattle.std.specs.Str.{chars, IsUtf8, IsAscii, encode_utf8_all}
 use Rattle.std.specs.Char.{is_ascii_digit}
 use Rattle.std.specs.List.{prefix_len, list_all, list_any, take_while}
 use Rattle.std.proofs.lemmas.List.{drop-drop, length-append, take_rest}
 use Rattle.std.proofs.lemmas.List.Folds.{length-prefix_len}
 use Rattle.std.proofs.lemmas.Str.{chars-nil, encodes-chars, encodes-IsAscii, chars-IsAscii, IsAscii-append, IsCharBoundary-from_drop}
-use Rattle.std.proofs.lemmas.Bool.{ne_eqb}
+use Rattle.std.proofs.lemmas.Bool.{ne_eqb, and_parts}
 use Rattle.std.proofs.lemmas.Bool.Decides.{nat_tests}
 use Rattle.litrs_lex.specs.declared.integer.IntegerCut.{IntegerCut}
 use Rattle.litrs_base.specs.declared.integer.IntegerBase.{IntegerBase}
@@ -16,10 +16,11 @@ use Rattle.litrs_base.specs.Refusal.{plain, at}
 use Rattle.litrs_base.specs.Text.{is_empty, byte_len, first_passes, begins_with}
 use Rattle.litrs_grammar.specs.Suffix.{is_suffix, suffix_refusal}
 use Rattle.litrs_base.specs.Base.{prefix, is_digit, is_digit_or_underscore}
+use Rattle.litrs_base.specs.Numeral.{is_no_underscore}
 use Rattle.litrs_grammar.specs.Integer.{integer_text, is_e, base_of, integer_cut, cut_refusal, integer_refusal}
 use Rattle.litrs_lex.specs.IntegerCut.{parts_at, IsWithin, IsDigitsCut}
 use Rattle.litrs_base.proofs.Chars.{chars_empty, OnlyAscii, IsAsciiFront, front_zero, front_front, begins_front, passing_front, prefix_len-chars, first_passes-chars, begins_with-chars, ascii_by_test}
-use Rattle.litrs_grammar.proofs.IntegerLaws.{cut_with, integer_cut-is, cut-spells, integer_rows}
+use Rattle.litrs_grammar.proofs.IntegerLaws.{cut_with, integer_cut-is, cut-spells, integer_rows, list_all-take_while}
 
 -- only ASCII characters are digits or underscores
 pub digits_are_ascii : (base : IntegerBase) → OnlyAscii (is_digit_or_underscore base)
@@ -34,7 +35,7 @@ prefix_is_ascii Octal = refl
 prefix_is_ascii Decimal = refl
 prefix_is_ascii Hexadecimal = refl
 
--- the base is told by the first bytes
+-- the base is decided by the first bytes
 pub base_of-chars : (bs : List ℕ) → IsUtf8 bs → base_of (chars bs) ≡ base_of bs
 base_of-chars bs u = rw (begins_with-chars (prefix Binary) bs refl u, begins_with-chars (prefix Octal) bs refl u, begins_with-chars (prefix Hexadecimal) bs refl u) refl
 
@@ -154,6 +155,41 @@ refusal_of_cut cut bs u h =
     let is = cut_bytes_is cut bs h in
     let run : start_of bs + run_of bs - start_of bs ≡ run_of bs = omega arith in
     rw (is.0, is.1, h.base, run) (refusal_of_bytes bs u)
+
+-- among digits and underscores a digit is whatever is no underscore
+no_underscore : (base : IntegerBase) (c : ℕ) → is_digit base c ≡ true → eqb c 95 ≡ false
+no_underscore Binary c is = grind (arith, nat_tests)
+no_underscore Octal c is = grind (arith, nat_tests)
+no_underscore Decimal c is = grind (arith, nat_tests)
+no_underscore Hexadecimal c is = grind (arith, nat_tests)
+
+one_of_two : (digit underscore : Bool) → (digit || underscore) ≡ true → (digit ≡ true → underscore ≡ false) → digit ≡ not underscore
+one_of_two true underscore some apart = sym (ap not (apart refl))
+one_of_two false underscore some apart = sym (ap not some)
+
+pub any_digit : (base : IntegerBase) (t : List ℕ) → list_all (is_digit_or_underscore base) t ≡ true → list_any (is_digit base) t ≡ list_any is_no_underscore t
+any_digit base [] all = refl
+any_digit base (c ∷ t) all =
+    let parts = and_parts (is_digit_or_underscore base c) (list_all (is_digit_or_underscore base) t) all in
+    let first : is_digit base c ≡ is_no_underscore c = one_of_two (is_digit base c) (eqb c 95) parts.0 (no_underscore base c) in
+    λ i. first i || any_digit base t parts.1 i
+
+-- the same with the test that the code makes of the main part
+pub refusal_of_main : (cut : IntegerCut) (bs : List ℕ) → IsUtf8 bs → IsDigitsCut cut bs → cut_refusal (integer_cut (chars bs)) ≡
+    integer_rows cut.start_main cut.end_main (length bs)
+    (is_suffix (chars (drop cut.end_main bs))) (first_passes is_ascii_digit (drop cut.end_main bs))
+    (suffix_refusal (chars (drop cut.end_main bs))) (first_passes is_e (drop cut.end_main bs))
+    (list_any is_no_underscore (slice_range bs cut.start_main cut.end_main))
+refusal_of_main cut bs u h =
+    let p = is_digit_or_underscore cut.base in
+    let len : cut.end_main - cut.start_main ≡ prefix_len p (drop cut.start_main bs) = let end = h.end in omega arith in
+    let all : list_all p (slice_range bs cut.start_main cut.end_main) ≡ true =
+    ap (λ n. list_all p (take n (drop cut.start_main bs))) len ∙ list_all-take_while p (drop cut.start_main bs) in
+    refusal_of_cut cut bs u h
+    ∙ ap (integer_rows cut.start_main cut.end_main (length bs)
+    (is_suffix (chars (drop cut.end_main bs))) (first_passes is_ascii_digit (drop cut.end_main bs))
+    (suffix_refusal (chars (drop cut.end_main bs))) (first_passes is_e (drop cut.end_main bs)))
+    (any_digit cut.base (slice_range bs cut.start_main cut.end_main) all)
 
 -- the parts that the cut names are those of the characters
 pub parts_of_cut : (cut : IntegerCut) (bs : List ℕ) → IsUtf8 bs → IsDigitsCut cut bs → integer_cut (chars bs) ≡ parts_at cut bs

@@ -3,6 +3,7 @@ pub mod NumeralLemmas
 pub mod IntegerBytes
 pub mod Dispatch
 pub mod FloatBytes
+pub mod NumberBytes
 pub mod EscapeBytes
 pub mod PlainRuns
 pub mod QuotedScan

@@ -109,7 +109,7 @@ escape_pushable w (unicode_escape inner) h = refl
 slash_chars : (bytes bs : List ℕ) → bytes ≡ 92 ∷ bs → chars bytes ≡ 92 ∷ chars bs
 slash_chars bytes bs is = ap chars is ∙ chars_ascii 92 bs (omega arith)
 
--- an escape that is read without the last character
+-- an escape that is parsed without the last character
 more : (x : List ℕ) (d : ℕ) → not (is_empty (x ++ d ∷ [])) ≡ true
 more [] d = refl
 more (c ∷ x) d = refl

@@ -1,4 +1,4 @@
--- The items of a quoted body that are read so far, and what stands behind them.
+-- The items of a quoted body that are parsed so far, and what follows them.
 use Rattle.std.proofs.Common.{◌≡◌, ℕ, ◌+◌, ◌-◌, ◌≤◌, true, List, [], ◌∷◌, ◌++◌, length, drop, take, refl, sym, ap, subst, ◌∙◌, append_assoc, length-append, arith, Option}
 use Rattle.std.specs.Prelude.{encode_utf8, encode_utf8_all}
 use Rattle.std.specs.List.{list_all}
@@ -162,7 +162,7 @@ sizes_item w front t bytes rest behind at len end value_len more sum v item is b
       size = omega (arith, length-append read.value (item_bytes v));
     }
 
--- a boundary of what stands behind a place
+-- a boundary of what follows a place
 pub boundary_later : (bytes rest : List ℕ) (n m : ℕ) → IsUtf8 bytes → IsCharBoundary bytes n → rest ≡ drop n bytes → IsCharBoundary rest m → IsCharBoundary bytes (n + m)
 boundary_later bytes rest n m u start is at =
     let behind : IsCharBoundary (drop n bytes) m = subst (λ (l : List ℕ). IsCharBoundary l m) is at in

@@ -1,5 +1,6 @@
--- Where a char or a byte is cut, in bytes. The Rust Reference, Tokens, Literals: "Character literals" and "Byte literals".
-use Rattle.std.specs.Prelude.{◌≡◌, ℕ, ◌+◌, ◌-◌, ◌≤◌, ◌==◌, Bool, true, false, List, ◌∷◌, ◌++◌, length, take, drop, slice_index, slice_range, Some, IsTrue, if◌then◌else◌}
+-- Where a char or a byte is cut, in bytes. The Rust Reference, Tokens, Literals:
+-- "Character literals" and "Byte literals".
+use Rattle.std.specs.Prelude.{◌≡◌, ℕ, ◌+◌, ◌-◌, ◌==◌, Bool, true, false, List, ◌∷◌, ◌++◌, length, take, drop, slice_index, slice_range, Some, IsTrue, if◌then◌else◌}
 use Rattle.std.specs.Str.{chars, IsCharBoundary}
 use Rattle.litrs_base.specs.declared.err.ParseError.{ParseError}
 use Rattle.litrs_base.specs.declared.escape.Unescape.{Unescape}
@@ -22,9 +23,11 @@ escape_written t =
 -- the character or the escape that is written so
 abbrev pub item_written : List ℕ → CharItem
 item_written t =
-    if slice_index t 0 == backslash then escaped_char (escape_written t) else plain_char (slice_index t 0)
+    if slice_index t 0 == backslash then escaped_char (escape_written t)
+    else plain_char (slice_index t 0)
 
--- the parts of a literal whose suffix starts at the place: the item stands between the front and the closing quote
+-- the parts of a literal whose suffix starts at the place: the item stands between the front and
+-- the closing quote
 abbrev pub char_parts_at : CharKind → ℕ → List ℕ → CharParts
 char_parts_at kind start bytes = record {
   item = item_written (chars (slice_range bytes (length (char_front kind)) (start - 1)));
@@ -60,13 +63,14 @@ pub record IsItemRead (kind : CharKind) (bytes : List ℕ) (value : Unescape) (l
   pub size : byte_len (char_item_text item) ≡ len
   pub boundary : IsCharBoundary bytes len
 
--- the table refuses what stands behind the front
+-- the table refuses what follows the front
 pub record IsItemRefused (kind : CharKind) (t : List ℕ) (e : ParseError) : Type 0 where
   pub table : char_item_refusal kind t ≡ Some (refusal_of e)
   pub char_span : HasCharSpan t e
 
 -- an item, the closing quote and a suffix, which starts at the place
-pub record IsCutBehind (kind : CharKind) (bytes : List ℕ) (value : Unescape) (start : ℕ) : Type 0 where
+pub record IsCutBehind (kind : CharKind) (bytes : List ℕ) (value : Unescape) (start : ℕ)
+    : Type 0 where
   pub item : CharItem
   pub suffix : List ℕ
   pub spells : char_item_text item ++ single_quote ∷ suffix ≡ chars bytes

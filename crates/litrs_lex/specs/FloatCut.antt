@@ -5,7 +5,7 @@ use Rattle.std.specs.Str.{chars, IsCharBoundary}
 use Rattle.litrs_lex.specs.declared.float.FloatCut.{FloatCut}
 use Rattle.litrs_grammar.specs.Float.{FloatParts, IsFloatOf, fraction_text, fraction_of, exponent_of, is_decimal_char}
 
--- the fraction that a cut names: None where there is no period, else what stands behind it
+-- the fraction that a cut names: None where there is no period, else what follows it
 abbrev pub fraction_at : FloatCut → List ℕ → Option (List ℕ)
 fraction_at cut bytes =
     if cut.end_integer == cut.end_fraction then None

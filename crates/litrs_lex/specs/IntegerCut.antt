@@ -29,5 +29,6 @@ pub record IsIntegerAt (cut : IntegerCut) (bytes : List ℕ) : Type 0 where
 pub record IsDigitsCut (cut : IntegerCut) (bytes : List ℕ) : Type 0 where
   pub base : cut.base ≡ base_of bytes
   pub start : cut.start_main ≡ length (prefix cut.base)
-  pub end : cut.end_main ≡ cut.start_main + prefix_len (is_digit_or_underscore cut.base) (drop cut.start_main bytes)
+  pub end : cut.end_main
+      ≡ cut.start_main + prefix_len (is_digit_or_underscore cut.base) (drop cut.start_main bytes)
   pub within : cut.end_main ≤ length bytes

@@ -4,6 +4,7 @@ pub mod Container
 -- the parts that stand at the places of a cut
 pub mod IntegerCut
 pub mod FloatCut
+pub mod NumberCut
 pub mod CharCut
 pub mod QuotedItems
 pub mod QuotedCut

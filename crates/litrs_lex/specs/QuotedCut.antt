@@ -31,7 +31,7 @@ pub record IsQuotedCut (w : Switches) (bytes : List ℕ) (offset : ℕ) (cut : Q
       slice_range bytes offset (cut.start_suffix - 1) ≡ body_value parts.items
 
 -- The text of these bytes is no quoted literal whose body begins at the place. The table has the
--- error's kind and span for it and no other pair, and never that memory was refused; the span
+-- error's kind and span for it and no other pair, and never that of an allocation failure; the span
 -- lies within the text and starts on a character boundary, and the character span ends on one.
 pub record IsQuotedRefused (w : Switches) (bytes : List ℕ) (offset : ℕ) (e : ParseError)
     : Type 0 where

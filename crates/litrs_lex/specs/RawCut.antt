@@ -6,11 +6,11 @@ use Rattle.litrs_base.specs.declared.err.ParseError.{ParseError}
 use Rattle.litrs_base.specs.CharEnd.{PointsAtCharacters}
 use Rattle.litrs_base.specs.Derivations.{IsOnlyDerivation, HasNoDerivation}
 use Rattle.litrs_base.specs.Refusal.{refusal_of, char_span_of, IsInText, HasCharSpan}
-use Rattle.litrs_base.specs.Text.{first_passes, begins_with}
+use Rattle.litrs_base.specs.Text.{first_passes}
 use Rattle.litrs_search.specs.declared.search.Special.{Special}
 use Rattle.litrs_search.specs.Special.{is_ordinary}
 use Rattle.litrs_grammar.specs.RawLaws.{NoClosingIn}
-use Rattle.litrs_grammar.specs.Raw.{RawParts, IsRawOf, is_quote, is_raw_char, raw_closing, length_before, raw_refusal, raw_body_refusal}
+use Rattle.litrs_grammar.specs.Raw.{RawParts, IsRawOf, is_raw_char, raw_closing, length_before, raw_refusal, raw_body_refusal}
 
 -- the parts that a cut names: of the text with these bytes, behind the offset, by the number of
 -- hashes and the start of the suffix
@@ -21,7 +21,7 @@ raw_parts_at offset bytes cut = record {
   suffix = chars (drop cut.1 bytes);
 }
 
--- What stands behind the offset is a raw literal, with these parts alone. The places stand in
+-- What follows the offset is a raw literal, with these parts alone. The places stand in
 -- order within the text, on character boundaries.
 pub record IsRawCut (unicode allow_nul : Bool) (offset : ℕ) (bytes : List ℕ) (cut : ℕ × ℕ) :
     Type 0 where
@@ -32,7 +32,7 @@ pub record IsRawCut (unicode allow_nul : Bool) (offset : ℕ) (bytes : List ℕ)
   pub end : IsCharBoundary bytes (cut.1 - (cut.0 + 1))
   pub suffix : IsCharBoundary bytes cut.1
 
--- What stands behind the offset is refused with the error: no derivation exists, and the table has
+-- What follows the offset is refused with the error: no derivation exists, and the table has
 -- the error's kind and span. Both spans count from the start of the whole text and lie within it,
 -- and the character span begins and ends on character boundaries.
 pub record IsRawRefused (unicode allow_nul : Bool) (offset : ℕ) (bytes : List ℕ) (e : ParseError) :

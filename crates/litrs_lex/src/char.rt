@@ -20,7 +20,8 @@ use litrs_base::{ParseError, ParseErrorKind, Unescape};
 ///
 /// # Errors
 ///
-/// - `UnterminatedCharLiteral` where nothing follows the first quote, or no quote closes the literal.
+/// - `UnterminatedCharLiteral` where nothing follows the first quote, or no quote closes the
+///   literal.
 /// - `UnescapedSingleQuote` for `'''`, at 1..2, and `EmptyCharLiteral` for another `''`.
 /// - `UnescapedSpecialWhitespace` for LF, tab or CR, at 1..2.
 /// - As [`unescape`] refuses an escape, with both spans one byte further on.
@@ -31,8 +32,10 @@ use litrs_base::{ParseError, ParseErrorKind, Unescape};
 pub fn cut_char(input: &str) -> Result<(char, usize), ParseError>
     requires { IsTrue (begins_with (codes "'") input.now) }
     ensures ok { IfOk result (λ cut.
-        IsOnlyDerivation (IsCharLiteral char_kind (chars input.now)) (char_parts_at char_kind cut.1 input.now)) }
-    ensures value { IfOk result (λ cut. char_value (char_parts_at char_kind cut.1 input.now).item ≡ cut.0) }
+        IsOnlyDerivation (IsCharLiteral char_kind (chars input.now))
+        (char_parts_at char_kind cut.1 input.now)) }
+    ensures value { IfOk result (λ cut.
+        char_value (char_parts_at char_kind cut.1 input.now).item ≡ cut.0) }
     ensures place { IfOk result (λ cut. IsCharBoundary input.now cut.1) }
     ensures refused { IfErr result (IsRefused (kind_parse char_literal) (chars input.now)) }
 {
@@ -47,7 +50,8 @@ pub fn cut_char(input: &str) -> Result<(char, usize), ParseError>
 ///
 /// # Errors
 ///
-/// - `UnterminatedByteLiteral` where nothing follows the first quote, or no quote closes the literal.
+/// - `UnterminatedByteLiteral` where nothing follows the first quote, or no quote closes the
+///   literal.
 /// - `UnescapedSingleQuote` for `b'''`, at 2..3, and `EmptyByteLiteral` for another `b''`.
 /// - `UnescapedSpecialWhitespace` for LF, tab or CR, and `NonAsciiInByteLiteral` for a character
 ///   that is not ASCII, at its first byte.
@@ -59,8 +63,10 @@ pub fn cut_char(input: &str) -> Result<(char, usize), ParseError>
 pub fn cut_byte(input: &str) -> Result<(u8, usize), ParseError>
     requires { IsTrue (begins_with (codes "b'") input.now) }
     ensures ok { IfOk result (λ cut.
-        IsOnlyDerivation (IsCharLiteral byte_kind (chars input.now)) (char_parts_at byte_kind cut.1 input.now)) }
-    ensures value { IfOk result (λ cut. char_value (char_parts_at byte_kind cut.1 input.now).item ≡ cut.0) }
+        IsOnlyDerivation (IsCharLiteral byte_kind (chars input.now))
+        (char_parts_at byte_kind cut.1 input.now)) }
+    ensures value { IfOk result (λ cut.
+        char_value (char_parts_at byte_kind cut.1 input.now).item ≡ cut.0) }
     ensures place { IfOk result (λ cut. IsCharBoundary input.now cut.1) }
     ensures refused { IfErr result (IsRefused (kind_parse byte_literal) (chars input.now)) }
 {
@@ -70,7 +76,7 @@ pub fn cut_byte(input: &str) -> Result<(u8, usize), ParseError>
     }
 }
 
-/// What stands behind the front: the value, and where the suffix starts.
+/// What follows the front: the value, and where the suffix starts.
 fn cut_behind(rest: &str, is_byte: bool) -> Result<(Unescape, usize), ParseError>
     ensures ok { IfOk result (λ cut. IsCutBehind (kind_if is_byte) rest.now cut.0 cut.1) }
     ensures refused { IfErr result (IsItemRefused (kind_if is_byte) (chars rest.now)) }
@@ -135,7 +141,8 @@ fn read_plain(rest: &str, first: u8, is_byte: bool) -> Result<(Unescape, usize),
 fn check_closing(rest: &str, len: usize, is_byte: bool) -> Result<usize, ParseError>
     requires { IsCharBoundary rest.now len }
     ensures ok { IfOk result (λ start.
-        (closing_refusal (kind_if is_byte) len (chars (drop len rest.now)) ≡ None) × (start ≡ len + 1)) }
+        (closing_refusal (kind_if is_byte) len (chars (drop len rest.now)) ≡ None)
+        × (start ≡ len + 1)) }
     ensures table { IfErr result (λ e.
         closing_refusal (kind_if is_byte) len (chars (drop len rest.now)) ≡ Some (refusal_of e)) }
     ensures char_span { IfErr result (HasCharSpan (chars rest.now)) }
@@ -208,3 +215,6 @@ fn overlong_kind(is_byte: bool) -> ParseErrorKind
         ParseErrorKind::OverlongCharLiteral
     }
 }
+
+#[cfg(test)]
+mod tests;

@@ -38,7 +38,8 @@ pub trait EscapeContainer: Drop {
         ensures ok { IfOk result (λ _. contents self.new ≡ contents self.old ++ value_bytes value) }
         ensures err { OnErr result (contents self.new ≡ contents self.old) }
         ensures kept { capacity self.old ≤ capacity self.new }
-        ensures succeeds { length (contents self.old) + length (value_bytes value) ≤ capacity self.old → IsOk result };
+        ensures succeeds { length (contents self.old) + length (value_bytes value)
+            ≤ capacity self.old → IsOk result };
 
     /// Adds a text.
     ///
@@ -49,7 +50,8 @@ pub trait EscapeContainer: Drop {
         ensures ok { IfOk result (λ _. contents self.new ≡ contents self.old ++ text.now) }
         ensures err { OnErr result (contents self.new ≡ contents self.old) }
         ensures kept { capacity self.old ≤ capacity self.new }
-        ensures succeeds { length (contents self.old) + length text.now ≤ capacity self.old → IsOk result };
+        ensures succeeds { length (contents self.old) + length text.now
+            ≤ capacity self.old → IsOk result };
 
     /// Makes room for this many more bytes.
     ///
@@ -60,7 +62,8 @@ pub trait EscapeContainer: Drop {
         ensures contents { contents self.new ≡ contents self.old }
         ensures room { OnOk result (length (contents self.new) + additional ≤ capacity self.new) }
         ensures kept { capacity self.old ≤ capacity self.new }
-        ensures succeeds { length (contents self.old) + additional ≤ capacity self.old → IsOk result };
+        ensures succeeds { length (contents self.old) + additional
+            ≤ capacity self.old → IsOk result };
 }
 
 impl EscapeContainer for String {
@@ -189,7 +192,7 @@ mod tests {
         Ok(())
     }
 
-    /// More values than any capacity that growth begins with, one at a time.
+    /// More values than any first allocation holds, one at a time.
     #[test]
     fn many_values_are_taken(rt: HostRuntime) -> Result<(), Fail> {
         let mut text = <String as EscapeContainer>::new(rt.alloc());

@@ -12,8 +12,8 @@ ghost use Rattle.litrs_lex.specs.Unescaped.{switches, IsUnescaped, IsEscapeRefus
 use crate::parse::hex_digit_value;
 use litrs_base::{ParseError, ParseErrorKind, Unescape};
 
-/// Reads the escape at the front of a text that is empty or begins with a backslash: what it stands
-/// for, and its length in bytes. Of `\n12` that is the byte 10, with length 2. See
+/// Parses the escape at the front of a text that is empty or begins with a backslash: what it
+/// stands for, and its length in bytes. Of `\n12` that is the byte 10, with length 2. See
 /// [the reference][ref].
 ///
 /// `unicode` allows `\u{..}`, `byte_escapes` allows `\x80` to `\xff`, and `allow_nul` allows an
@@ -25,27 +25,31 @@ use litrs_base::{ParseError, ParseErrorKind, Unescape};
 /// - `UnterminatedEscape` where the text has fewer than two characters, at 0..1, which passes the
 ///   empty text; and where no character ends behind the two bytes that follow `\x`, over the text.
 /// - `DisallowedNulEscape` for a value of 0 where it is not allowed, over the escape.
-/// - `InvalidXEscape` where `\x` is not followed by two hex digits, and `NonAsciiXEscape` where they
-///   pass 7F and may not, both at 0..4.
-/// - `UnicodeEscapeInByteLiteral` where `\u` is not allowed, and `UnicodeEscapeWithoutBrace` where no
-///   `{` follows it, both at 0..2.
-/// - `UnterminatedUnicodeEscape` where no `}` follows, over the text; then for what stands before the
-///   first `}`: `InvalidStartOfUnicodeEscape` where that is empty or begins with `_`, at 3..4;
+/// - `InvalidXEscape` where `\x` is not followed by two hex digits, and `NonAsciiXEscape` where
+///   they pass 7F and may not, both at 0..4.
+/// - `UnicodeEscapeInByteLiteral` where `\u` is not allowed, and `UnicodeEscapeWithoutBrace` where
+///   no `{` follows it, both at 0..2.
+/// - `UnterminatedUnicodeEscape` where no `}` follows, over the text; then for what stands before
+///   the first `}`: `InvalidStartOfUnicodeEscape` where that is empty or begins with `_`, at 3..4;
 ///   `NonHexDigitInUnicodeEscape` at the first character that is neither a hex digit nor `_`, and
 ///   `TooManyDigitInUnicodeEscape` at the seventh digit, whichever is first, over its first byte;
 ///   `InvalidUnicodeEscapeChar` where the value is no character, over the escape.
 /// - `UnknownEscape` where any other character follows the backslash, at 0..2.
 ///
 /// [ref]: https://doc.rust-lang.org/reference/tokens.html#character-escapes
+#[inline(always)]
 pub fn unescape(
     input: &str,
     unicode: bool,
     byte_escapes: bool,
     allow_nul: bool,
 ) -> Result<(Unescape, usize), ParseError>
-    requires { IsTrue (is_empty (chars input.now) || first_passes (λ c. c == backslash) (chars input.now)) }
-    ensures ok { IfOk result (λ read. IsUnescaped (switches unicode byte_escapes allow_nul) input.now read.0 read.1) }
-    ensures refused { IfErr result (IsEscapeRefused (switches unicode byte_escapes allow_nul) (chars input.now)) }
+    requires { IsTrue (is_empty (chars input.now)
+        || first_passes (λ c. c == backslash) (chars input.now)) }
+    ensures ok { IfOk result (λ read.
+        IsUnescaped (switches unicode byte_escapes allow_nul) input.now read.0 read.1) }
+    ensures refused { IfErr result
+        (IsEscapeRefused (switches unicode byte_escapes allow_nul) (chars input.now)) }
 {
     let Some(letter) = input.as_bytes().get(1) else {
         return Err(ParseError::in_text(input, Some(0..1), ParseErrorKind::UnterminatedEscape));
@@ -63,6 +67,7 @@ pub fn unescape(
 }
 
 /// The escape of a text that begins with a backslash and this letter, neither `x` nor `u`.
+#[inline(always)]
 fn unescape_simple(
     input: &str,
     letter: u8,
@@ -85,23 +90,36 @@ fn unescape_simple(
     Ok((Unescape::Byte(value), 2))
 }
 
+/// What a backslash and each letter stand for, 255 where they are no escape.
+static SIMPLE_VALUES: [u8; 256] = *b"\
+    \xff\xff\xff\xff\xff\xff\xff\xff\xff\xff\xff\xff\xff\xff\xff\xff\
+    \xff\xff\xff\xff\xff\xff\xff\xff\xff\xff\xff\xff\xff\xff\xff\xff\
+    \xff\xff\x22\xff\xff\xff\xff\x27\xff\xff\xff\xff\xff\xff\xff\xff\
+    \x00\xff\xff\xff\xff\xff\xff\xff\xff\xff\xff\xff\xff\xff\xff\xff\
+    \xff\xff\xff\xff\xff\xff\xff\xff\xff\xff\xff\xff\xff\xff\xff\xff\
+    \xff\xff\xff\xff\xff\xff\xff\xff\xff\xff\xff\xff\x5c\xff\xff\xff\
+    \xff\xff\xff\xff\xff\xff\xff\xff\xff\xff\xff\xff\xff\xff\x0a\xff\
+    \xff\xff\x0d\xff\x09\xff\xff\xff\xff\xff\xff\xff\xff\xff\xff\xff\
+    \xff\xff\xff\xff\xff\xff\xff\xff\xff\xff\xff\xff\xff\xff\xff\xff\
+    \xff\xff\xff\xff\xff\xff\xff\xff\xff\xff\xff\xff\xff\xff\xff\xff\
+    \xff\xff\xff\xff\xff\xff\xff\xff\xff\xff\xff\xff\xff\xff\xff\xff\
+    \xff\xff\xff\xff\xff\xff\xff\xff\xff\xff\xff\xff\xff\xff\xff\xff\
+    \xff\xff\xff\xff\xff\xff\xff\xff\xff\xff\xff\xff\xff\xff\xff\xff\
+    \xff\xff\xff\xff\xff\xff\xff\xff\xff\xff\xff\xff\xff\xff\xff\xff\
+    \xff\xff\xff\xff\xff\xff\xff\xff\xff\xff\xff\xff\xff\xff\xff\xff\
+    \xff\xff\xff\xff\xff\xff\xff\xff\xff\xff\xff\xff\xff\xff\xff\xff";
+
 /// What a backslash and this letter stand for, or None where they are no escape.
+#[inline(always)]
 fn simple_value(letter: u8) -> Option<u8>
     ensures { SomeIff result (IsTrue (is_simple letter)) (simple_value letter) }
 {
-    match letter {
-        b'n' => Some(b'\n'),
-        b'r' => Some(b'\r'),
-        b't' => Some(b'\t'),
-        b'\\' => Some(b'\\'),
-        b'0' => Some(b'\0'),
-        b'\'' => Some(b'\''),
-        b'"' => Some(b'"'),
-        _ => None,
-    }
+    let value = SIMPLE_VALUES[letter as usize];
+    if value < 128 { Some(value) } else { None }
 }
 
 /// The escape of a text that begins with `\x`.
+#[inline(always)]
 fn unescape_hex(
     input: &str,
     byte_escapes: bool,
@@ -131,6 +149,7 @@ fn unescape_hex(
 }
 
 /// Whether `\x` may have this value.
+#[inline(always)]
 fn allows_byte(byte_escapes: bool, value: u8) -> bool
     ensures { result ≡ (byte_escapes || is_ascii value) }
 {
@@ -138,6 +157,7 @@ fn allows_byte(byte_escapes: bool, value: u8) -> bool
 }
 
 /// Whether an escape may have this value.
+#[inline(always)]
 fn allows_value(allow_nul: bool, value: u32) -> bool
     ensures { result ≡ is_no_nul_unless allow_nul value }
 {
@@ -145,8 +165,10 @@ fn allows_value(allow_nul: bool, value: u32) -> bool
 }
 
 /// The value of two hex digits, or None where one of the two is none.
+#[inline(always)]
 fn pair_value(high: u8, low: u8) -> Option<u8>
-    ensures { SomeIff result (IsTrue (is_ascii_hexdigit high && is_ascii_hexdigit low)) (pair_value high low) }
+    ensures { SomeIff result (IsTrue (is_ascii_hexdigit high && is_ascii_hexdigit low))
+        (pair_value high low) }
 {
     let high = hex_digit_value(high)?;
     let low = hex_digit_value(low)?;
@@ -154,6 +176,7 @@ fn pair_value(high: u8, low: u8) -> Option<u8>
 }
 
 /// The escape of a text that begins with `\u`, where such escapes are allowed.
+#[inline(always)]
 fn unescape_unicode(input: &str, allow_nul: bool) -> Result<(Unescape, usize), ParseError>
     requires { IsTrue (begins_with (codes "\\u") input.now) }
     ensures ok { (byte_escapes : Bool) → IfOk result (λ read.
@@ -175,7 +198,8 @@ fn unescape_unicode(input: &str, allow_nul: bool) -> Result<(Unescape, usize), P
     }
 }
 
-/// Whether `{` stands behind the first two bytes.
+/// Whether `{` follows the first two bytes.
+#[inline(always)]
 fn opens_brace(bytes: &[u8]) -> bool
     ensures { result ≡ first_passes (λ c. c == open_brace) (drop 2 bytes.now) }
 {
@@ -183,6 +207,7 @@ fn opens_brace(bytes: &[u8]) -> bool
 }
 
 /// Whether a hex digit stands first, and `}` behind the digits.
+#[inline(always)]
 fn is_closed(inner: &[u8], digits: HexDigits) -> bool
     requires { digits.len ≤ length inner.now }
     ensures { result ≡ (first_passes is_ascii_hexdigit inner.now
@@ -212,6 +237,7 @@ pub struct HexDigits {
 
 /// The hex digits and underscores at the front, without the seventh digit and what follows it: of
 /// `1_F6}` 4 bytes and the number 502.
+#[inline(always)]
 pub fn hex_digits(bytes: &[u8]) -> HexDigits
     ensures { IsHexDigits bytes.now result }
 {
@@ -236,6 +262,7 @@ pub fn hex_digits(bytes: &[u8]) -> HexDigits
 }
 
 /// The escape of a text that begins with `\u{`, hex digits and `}`.
+#[inline(always)]
 fn unescape_digits(
     input: &str,
     digits: HexDigits,
@@ -303,3 +330,6 @@ fn has_close_brace(bytes: &[u8]) -> bool
 {
     bytes.iter().any(|b| *b == b'}')
 }
+
+#[cfg(test)]
+mod tests;

@@ -1,12 +1,12 @@
 //! Where a float is cut.
 ghost use Rattle.std.specs.Prelude.{◌≡◌, ◌≤◌, ◌&&◌, not, length, IsTrue, IfOk, IfErr, option_map, Some};
 ghost use Rattle.std.specs.Char.{is_ascii_digit};
-ghost use Rattle.std.specs.List.{list_any};
+ghost use Rattle.std.specs.List.{prefix_len, list_any};
 ghost use Rattle.std.specs.Str.{chars};
 ghost use Rattle.litrs_base.specs.Refusal.{refusal};
 ghost use Rattle.litrs_base.specs.Derivations.{IsOnlyDerivation};
 ghost use Rattle.litrs_base.specs.Text.{first_passes, is_empty};
-ghost use Rattle.litrs_grammar.specs.Float.{IsFloatOf, fraction_text, fraction_of, exponent_of, sign_len, has_wrong_fraction, float_cut, float_cut_refusal};
+ghost use Rattle.litrs_grammar.specs.Float.{IsFloatOf, fraction_text, fraction_of, exponent_of, sign_len, is_decimal_char, has_wrong_fraction, float_cut, float_cut_refusal};
 ghost use Rattle.litrs_grammar.specs.Literal.{kind_parse, float_literal};
 ghost use Rattle.litrs_grammar.specs.Refused.{IsRefused};
 ghost use Rattle.litrs_lex.specs.FloatCut.{float_parts_at, IsFloatWithin, IsPartsCut};
@@ -46,19 +46,35 @@ pub fn cut_float(input: &str) -> Result<FloatCut, ParseError>
     ensures places { IfOk result (λ cut. IsFloatWithin cut input.now) }
     ensures refused { IfErr result (IsRefused (kind_parse float_literal) (chars input.now)) }
 {
-    let cut = cut_parts(input);
+    cut_float_at(input, end_dec_digits(input.as_bytes()))
+}
+
+/// [`cut_float`] of a text whose integer part ends here.
+#[inline(always)]
+pub(crate) fn cut_float_at(input: &str, end_integer: usize) -> Result<FloatCut, ParseError>
+    requires digit { IsTrue (first_passes is_ascii_digit input.now) }
+    requires integer { end_integer ≡ prefix_len is_decimal_char input.now }
+    requires within { end_integer ≤ length input.now }
+    ensures ok { IfOk result (λ cut.
+        IsOnlyDerivation (IsFloatOf (chars input.now)) (float_parts_at cut input.now)) }
+    ensures places { IfOk result (λ cut. IsFloatWithin cut input.now) }
+    ensures refused { IfErr result (IsRefused (kind_parse float_literal) (chars input.now)) }
+{
+    let cut = cut_parts(input, end_integer);
     match cut_refusal(&cut, input) {
         None => Ok(cut),
         Some((span, kind)) => Err(ParseError::in_text(input, span, kind)),
     }
 }
 
-/// The text cut behind the integer part, the fraction and the exponent, each as far as it goes.
-fn cut_parts(input: &str) -> FloatCut
+/// The text cut behind the integer part, which ends here, the fraction and the exponent, each as far
+/// as it goes.
+fn cut_parts(input: &str, end_integer: usize) -> FloatCut
+    requires integer { end_integer ≡ prefix_len is_decimal_char input.now }
+    requires within { end_integer ≤ length input.now }
     ensures { IsPartsCut result input.now }
 {
     let bytes = input.as_bytes();
-    let end_integer = end_dec_digits(bytes);
     let end_fraction = end_integer + fraction_len(&bytes[end_integer..]);
     let end_number = end_fraction + exponent_len(&bytes[end_fraction..]);
     FloatCut {

@@ -3,7 +3,8 @@ ghost use Rattle.std.specs.Prelude.{◌≡◌, IsTrue, IfOk, IfErr, option_map, 
 ghost use Rattle.std.specs.Char.{is_ascii_digit};
 ghost use Rattle.std.specs.List.{prefix_len, list_any};
 ghost use Rattle.std.specs.Str.{chars};
-ghost use Rattle.litrs_base.specs.Base.{is_digit, is_digit_or_underscore};
+ghost use Rattle.litrs_base.specs.Base.{is_digit_or_underscore};
+ghost use Rattle.litrs_base.specs.Numeral.{is_no_underscore};
 ghost use Rattle.litrs_base.specs.Refusal.{refusal};
 ghost use Rattle.litrs_base.specs.Derivations.{IsOnlyDerivation};
 ghost use Rattle.litrs_base.specs.Text.{first_passes};
@@ -14,6 +15,7 @@ ghost use Rattle.litrs_lex.specs.IntegerCut.{parts_at, IsWithin, IsDigitsCut};
 
 use crate::parse::check_suffix;
 use litrs_base::{IntegerBase, ParseError, ParseErrorKind};
+use litrs_search::{Run, run_end};
 use std::ops::Range;
 
 /// Where an integer is cut: places in bytes.
@@ -23,7 +25,7 @@ pub struct IntegerCut {
     pub start_main: usize,
     /// Where the main part ends and the suffix begins.
     pub end_main: usize,
-    /// What the prefix tells.
+    /// What the prefix decides.
     pub base: IntegerBase,
 }
 
@@ -33,9 +35,9 @@ pub struct IntegerCut {
 /// # Errors
 ///
 /// `InvalidDigit` where a decimal digit follows the main part, at that digit; the refusal of
-/// [`check_suffix`] where what follows is no suffix, from there to the end; `IntegerSuffixStartingWithE`
-/// where the suffix begins with `e` or `E`, at its first byte; `NoDigits` where the main part has no
-/// digit, over the main part.
+/// [`check_suffix`] where what follows is no suffix, from there to the end;
+/// `IntegerSuffixStartingWithE` where the suffix begins with `e` or `E`, at its first byte;
+/// `NoDigits` where the main part has no digit, over the main part.
 ///
 /// [ref]: https://doc.rust-lang.org/reference/tokens.html#integer-literals
 pub fn cut_integer(input: &str) -> Result<IntegerCut, ParseError>
@@ -45,7 +47,19 @@ pub fn cut_integer(input: &str) -> Result<IntegerCut, ParseError>
     ensures places { IfOk result (λ cut. IsWithin cut input.now) }
     ensures refused { IfErr result (IsRefused (kind_parse integer_literal) (chars input.now)) }
 {
-    let cut = cut_digits(input);
+    cut_integer_at(input, cut_digits(input))
+}
+
+/// [`cut_integer`] of a text that is cut so already.
+#[inline(always)]
+pub(crate) fn cut_integer_at(input: &str, cut: IntegerCut) -> Result<IntegerCut, ParseError>
+    requires digit { IsTrue (first_passes is_ascii_digit input.now) }
+    requires cut { IsDigitsCut cut input.now }
+    ensures ok { IfOk result (λ cut.
+        IsOnlyDerivation (IsIntegerOf (chars input.now)) (parts_at cut input.now)) }
+    ensures places { IfOk result (λ cut. IsWithin cut input.now) }
+    ensures refused { IfErr result (IsRefused (kind_parse integer_literal) (chars input.now)) }
+{
     match cut_refusal(&cut, input) {
         None => Ok(cut),
         Some((span, kind)) => Err(ParseError::in_text(input, Some(span), kind)),
@@ -53,7 +67,7 @@ pub fn cut_integer(input: &str) -> Result<IntegerCut, ParseError>
 }
 
 /// The text cut behind the prefix and behind all digits of the base and underscores.
-fn cut_digits(input: &str) -> IntegerCut
+pub(crate) fn cut_digits(input: &str) -> IntegerCut
     ensures { IsDigitsCut result input.now }
 {
     let bytes = input.as_bytes();
@@ -76,7 +90,7 @@ fn cut_refusal(cut: &IntegerCut, input: &str) -> Option<(Range<usize>, ParseErro
     let IntegerCut {
         start_main,
         end_main,
-        base,
+        ..
     } = *cut;
     let (number, suffix) = input.split_at(end_main);
     let behind = suffix.as_bytes();
@@ -93,7 +107,7 @@ fn cut_refusal(cut: &IntegerCut, input: &str) -> Option<(Range<usize>, ParseErro
             ParseErrorKind::IntegerSuffixStartingWithE,
         ));
     }
-    if has_digit(base, &number.as_bytes()[start_main..]) {
+    if has_digit(&number.as_bytes()[start_main..]) {
         None
     } else {
         Some((start_main..end_main, ParseErrorKind::NoDigits))
@@ -120,7 +134,7 @@ fn begins_with_e(bytes: &[u8]) -> bool
     }
 }
 
-/// The base that the front of a text tells: `0b`, `0o` and `0x` are always the prefix, and
+/// The base, by the front of a text: `0b`, `0o` and `0x` are always the prefix, and
 /// everything else is decimal.
 fn base_of(bytes: &[u8]) -> IntegerBase
     ensures { result ≡ base_of bytes.now }
@@ -133,31 +147,17 @@ fn base_of(bytes: &[u8]) -> IntegerBase
     }
 }
 
-/// Whether the byte is a digit of this base.
-fn is_digit(base: IntegerBase, byte: u8) -> bool
-    ensures { result ≡ is_digit base byte }
-{
-    match base {
-        IntegerBase::Binary => matches!(byte, b'0' | b'1'),
-        IntegerBase::Octal => matches!(byte, b'0'..=b'7'),
-        IntegerBase::Decimal => matches!(byte, b'0'..=b'9'),
-        IntegerBase::Hexadecimal => matches!(byte, b'0'..=b'9' | b'a'..=b'f' | b'A'..=b'F'),
-    }
-}
-
 /// How many digits of this base and underscores stand at the front, in bytes.
+#[inline(never)]
 fn digits_len(base: IntegerBase, bytes: &[u8]) -> usize
     ensures { result ≡ prefix_len (is_digit_or_underscore base) bytes.now }
 {
-    bytes
-        .iter()
-        .take_while(|b| is_digit(base, **b) || **b == b'_')
-        .count()
+    run_end(bytes, Run::Digits(base))
 }
 
-/// Whether a digit of this base is among the bytes.
-fn has_digit(base: IntegerBase, bytes: &[u8]) -> bool
-    ensures { result ≡ list_any (is_digit base) bytes.now }
+/// Whether one of these digits and underscores is a digit.
+fn has_digit(bytes: &[u8]) -> bool
+    ensures { result ≡ list_any is_no_underscore bytes.now }
 {
-    bytes.iter().any(|b| is_digit(base, *b))
+    bytes.iter().any(|b| *b != b'_')
 }

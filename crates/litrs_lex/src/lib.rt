@@ -1,4 +1,4 @@
-//! Reads the parts that literals are made of, and says where a text is cut.
+//! Parses the parts that literals are made of, and says where a text is cut.
 #![tactic(auto)]
 
 pub use char::{cut_byte, cut_char};
@@ -11,6 +11,7 @@ pub use litrs_base::{
     Text, Unescape,
 };
 pub use litrs_search::{Special, next_special};
+pub use number::{NumberCut, cut_number};
 pub use parse::{check_suffix, end_dec_digits, first_byte_or_empty, hex_digit_value};
 pub use quoted::{QuotedCut, cut_quoted};
 pub use raw::scan_raw_string;
@@ -21,6 +22,7 @@ pub mod container;
 pub mod escape;
 pub mod float;
 pub mod integer;
+pub mod number;
 mod parse;
 pub mod quoted;
 pub mod raw;

@@ -10,28 +10,42 @@ ghost use Rattle.litrs_base.specs.Refusal.{refusal_of, plain};
 ghost use Rattle.litrs_grammar.specs.Suffix.{starts_identifier, is_suffix, is_ascii_symbol, suffix_refusal};
 
 use litrs_base::{IntegerBase, ParseError, ParseErrorKind};
+use litrs_search::{Run, run_end};
 
 /// How many decimal digits and underscores stand at the front, in bytes: 4 of `1_0_a2`.
+#[inline(never)]
 pub fn end_dec_digits(input: &[u8]) -> usize
     ensures run { result ≡ prefix_len (is_digit_or_underscore IntegerBase.Decimal) input.now }
     ensures within { result ≤ length input.now }
 {
-    input
-        .iter()
-        .take_while(|b| matches!(**b, b'0'..=b'9' | b'_'))
-        .count()
+    run_end(input, Run::Digits(IntegerBase::Decimal))
 }
+
+/// The value of each byte as a hex digit, 16 where it is none.
+static HEX_VALUES: [u8; 256] = *b"\
+    \x10\x10\x10\x10\x10\x10\x10\x10\x10\x10\x10\x10\x10\x10\x10\x10\
+    \x10\x10\x10\x10\x10\x10\x10\x10\x10\x10\x10\x10\x10\x10\x10\x10\
+    \x10\x10\x10\x10\x10\x10\x10\x10\x10\x10\x10\x10\x10\x10\x10\x10\
+    \x00\x01\x02\x03\x04\x05\x06\x07\x08\x09\x10\x10\x10\x10\x10\x10\
+    \x10\x0a\x0b\x0c\x0d\x0e\x0f\x10\x10\x10\x10\x10\x10\x10\x10\x10\
+    \x10\x10\x10\x10\x10\x10\x10\x10\x10\x10\x10\x10\x10\x10\x10\x10\
+    \x10\x0a\x0b\x0c\x0d\x0e\x0f\x10\x10\x10\x10\x10\x10\x10\x10\x10\
+    \x10\x10\x10\x10\x10\x10\x10\x10\x10\x10\x10\x10\x10\x10\x10\x10\
+    \x10\x10\x10\x10\x10\x10\x10\x10\x10\x10\x10\x10\x10\x10\x10\x10\
+    \x10\x10\x10\x10\x10\x10\x10\x10\x10\x10\x10\x10\x10\x10\x10\x10\
+    \x10\x10\x10\x10\x10\x10\x10\x10\x10\x10\x10\x10\x10\x10\x10\x10\
+    \x10\x10\x10\x10\x10\x10\x10\x10\x10\x10\x10\x10\x10\x10\x10\x10\
+    \x10\x10\x10\x10\x10\x10\x10\x10\x10\x10\x10\x10\x10\x10\x10\x10\
+    \x10\x10\x10\x10\x10\x10\x10\x10\x10\x10\x10\x10\x10\x10\x10\x10\
+    \x10\x10\x10\x10\x10\x10\x10\x10\x10\x10\x10\x10\x10\x10\x10\x10\
+    \x10\x10\x10\x10\x10\x10\x10\x10\x10\x10\x10\x10\x10\x10\x10\x10";
 
 /// The value of a hex digit of either case, 0 to 15, or None: `Some(10)` for `a`, None for `g`.
 pub fn hex_digit_value(digit: u8) -> Option<u8>
     ensures { SomeIff result (IsTrue (is_ascii_hexdigit digit)) (digit_value digit) }
 {
-    match digit {
-        b'0'..=b'9' => Some(digit - b'0'),
-        b'a'..=b'f' => Some(digit - b'a' + 10),
-        b'A'..=b'F' => Some(digit - b'A' + 10),
-        _ => None,
-    }
+    let value = HEX_VALUES[digit as usize];
+    if value < 16 { Some(value) } else { None }
 }
 
 /// The first byte of the text: `0xC3` of `é`.
@@ -60,23 +74,16 @@ pub(crate) fn split_first_char(s: &str) -> Option<(char, &str)>
     Some((first, chars.as_str()))
 }
 
-/// Whether each character may continue an identifier.
-#[tactic(auto, using(crate::proofs::SuffixBytes::ascii_continues))]
+/// Whether each character may continue an identifier: by bytes as far as it is ASCII.
 fn continues_identifier(rest: &str) -> bool
     ensures { result ≡ list_all is_xid_continue (chars rest.now) }
 {
-    if continues_in_ascii(rest.as_bytes()) {
-        true
-    } else {
-        continues_in_unicode(rest)
+    let bytes = rest.as_bytes();
+    let end = run_end(bytes, Run::Identifier);
+    match bytes.get(end) {
+        None => true,
+        Some(next) => !next.is_ascii() && continues_in_unicode(&rest[end..]),
     }
-}
-
-/// Whether each byte is an ASCII letter, a digit or `_`.
-fn continues_in_ascii(rest: &[u8]) -> bool
-    ensures { result ≡ list_all (λ b. is_ascii_alphanumeric b || (b == 95)) rest.now }
-{
-    rest.iter().all(|b| b.is_ascii_alphanumeric() || *b == b'_')
 }
 
 /// The same of any characters.
@@ -123,8 +130,9 @@ fn suffix_refusal(s: &str) -> ParseErrorKind
     }
 }
 
-/// Whether a literal may end with this suffix: it is empty, or an identifier other than the lone `_`.
-/// The empty text, `u8` and `_x` are suffixes; `_` and `1x` are none. See [the reference][ref].
+/// Whether a literal may end with this suffix: it is empty, or an identifier other than the lone
+/// `_`. The empty text, `u8` and `_x` are suffixes; `_` and `1x` are none. See
+/// [the reference][ref].
 ///
 /// # Errors
 ///

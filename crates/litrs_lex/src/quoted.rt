@@ -37,7 +37,7 @@ pub struct QuotedCut {
 ///
 /// The first that stands in the text, from `offset` on:
 /// - the refusal of [`unescape`] where a backslash begins neither an escape nor a continuation; the
-///   escape is read without the last character of the text;
+///   escape is parsed without the last character of the text;
 /// - `CarriageReturn` at a CR, `NulByte` at a NUL that is not allowed, and `NonAsciiInByteLiteral`
 ///   at a character beyond ASCII that is not allowed, over its first byte;
 /// - `UnterminatedString`, with no span, where the text ends before a closing quote;
@@ -109,6 +109,7 @@ pub fn items_end(
 }
 
 /// Where the plain characters end that stand from `from` on.
+#[inline(always)]
 pub(crate) fn plain_end(
     input: &str,
     from: usize,
@@ -143,6 +144,7 @@ pub(crate) struct Escaped {
 
 impl Escaped {
     /// How many bytes it stands for.
+    #[inline(always)]
     fn value_len(&self) -> usize
         ensures { result ≡ length (item_bytes self.now.value) }
     {
@@ -156,6 +158,7 @@ impl Escaped {
 
 /// The escape or the continuation at the front of a text that begins with no plain character; None
 /// where the items of the body end.
+#[inline(always)]
 pub(crate) fn next_item(
     rest: &str,
     unicode: bool,
@@ -236,6 +239,7 @@ fn rest_refusal(
 }
 
 /// Whether LF stands first.
+#[inline(always)]
 fn begins_with_line_feed(bytes: &[u8]) -> bool
     ensures { result ≡ first_passes (λ c. c == line_feed) bytes.now }
 {
@@ -254,6 +258,7 @@ fn blanks_len(bytes: &[u8]) -> usize
 }
 
 /// The text without its last character.
+#[inline(always)]
 fn without_last(text: &str) -> &str
     ensures { chars result.now ≡ without_last (chars text.now) }
 {

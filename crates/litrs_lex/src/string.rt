@@ -94,6 +94,7 @@ fn copy_value<C: EscapeContainer>(
 }
 
 /// Adds the value of an escape; nothing where there is none, as for a continuation.
+#[inline(always)]
 fn push_value<C: EscapeContainer>(
     container: &mut C,
     value: Option<Unescape>,

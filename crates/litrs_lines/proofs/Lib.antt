@@ -1,3 +1,4 @@
 pub mod ReportLemmas
 pub mod LinesLemmas
 pub mod ReportExamples
+pub mod LineEnds

@@ -6,7 +6,9 @@ use Rattle.litrs_base.specs.declared.err.ParseErrorKind.TheVariants as kind
 use Rattle.litrs_base.specs.Refusal.{plain, at}
 use Rattle.litrs_base.specs.Numeral.{place_sum}
 use Rattle.litrs_grammar.specs.Integer.{integer_cut}
-use Rattle.litrs_grammar.specs.Literal.{a_bool, an_integer}
+use Rattle.litrs_grammar.specs.Escape.{simple_escape, hex_escape}
+use Rattle.litrs_grammar.specs.Quoted.{plain_item, escape_item}
+use Rattle.litrs_grammar.specs.Literal.{quoted_parts, raw_parts, a_bool, an_integer, a_string, a_byte_string, a_c_string}
 use Rattle.litrs_grammar.proofs.Computing.{computing}
 use Rattle.litrs_lines.specs.Report.{value_text, literal_report, IsTextReport}
 use Rattle.litrs_lines.specs.Lines.{ended_lines, open_line, lines_of}
@@ -14,7 +16,7 @@ use Rattle.litrs_lines.specs.Lines.{ended_lines, open_line, lines_of}
 -- Texts
 
 bools : IsTextReport (codes "true") (codes "bool true") × IsTextReport (codes "false") (codes "bool false")
-bools = (inl (a_bool true, (refl, refl), refl), inl (a_bool false, (refl, refl), refl))
+bools = (inl (a_bool true, refl, refl), inl (a_bool false, refl, refl))
 
 integers : (literal_report (an_integer (integer_cut (codes "0xff80")))
     ≡ codes "integer base=" ++ (decimal 16 ++ (codes " digits=ff80 suffix= value=")) ++ decimal 65408)
@@ -22,6 +24,15 @@ integers : (literal_report (an_integer (integer_cut (codes "0xff80")))
     ≡ codes "integer base=" ++ (decimal 10 ++ (codes " digits=1_000 suffix=u32 value=")) ++ decimal 1000)
 unfolding computing integer_cut place_sum
 integers = (refl, refl)
+
+strings : (literal_report (a_string (quoted_parts (record { items = plain_item 97 ∷ escape_item (simple_escape 116) ∷ plain_item 98 ∷ []; suffix = codes "x" })))
+    ≡ codes "string raw=no suffix=x value=610962")
+    × (literal_report (a_byte_string (raw_parts (record { hash_count = 0; body = codes "\\n"; suffix = [] })))
+    ≡ codes "bytestring raw=yes suffix= value=5c6e")
+    × (literal_report (a_c_string (quoted_parts (record { items = plain_item 233 ∷ escape_item (hex_escape 70 70) ∷ []; suffix = [] })))
+    ≡ codes "cstring raw=no suffix= value=c3a9ff")
+unfolding computing
+strings = (refl, refl, refl)
 
 refusals : IsTextReport (codes "") (codes "error input is empty")
     × IsTextReport (codes "0;") (codes "error unexpected character (at " ++ decimal 1 ++ codes ".." ++ decimal 2 ++ codes ")")

@@ -1,19 +1,21 @@
 -- The report of a text, by its derivation or its refusal: each line has one.
-use Rattle.std.proofs.Common.{◌≡◌, ◌⊎◌, inl, inr, ℕ, List, [], ◌∷◌, ◌++◌, refl, sym, ap, subst, ◌∙◌, append_assoc, Bool, true, false, Option, Some}
-use Rattle.std.specs.Prelude.{codes}
+use Rattle.std.proofs.Common.{◌≡◌, ◌⊎◌, inl, inr, ℕ, ◌+◌, ◌<◌, length, get_or, take, List, [], ◌∷◌, ◌++◌, refl, sym, ap, subst, ◌∙◌, append_assoc, Bool, true, false, Option, Some}
+use Rattle.std.specs.Prelude.{codes, decimal, Result, Ok, Err, OnOk, is_ok, if◌then◌else◌}
 use Rattle.std.specs.Str.{chars, is_utf8, IsUtf8, encode_utf8_all}
 use Rattle.std.proofs.lemmas.Str.{encodes-chars, is_utf8-from_IsUtf8, IsUtf8-from_is_utf8}
+use Rattle.std.proofs.lemmas.Grind.{flat_map-append}
+use Rattle.std.proofs.lemmas.List.{take_more}
 use Rattle.std.proofs.lemmas.Bool.{false_from_ne_true}
 use Rattle.litrs_base.specs.Base.{base_value}
 use Rattle.litrs_base.specs.Refusal.{Refusal}
 use Rattle.litrs_grammar.specs.Integer.{IntegerParts, integer_value}
 use Rattle.litrs_grammar.specs.CharByte.{CharParts, char_value}
 use Rattle.litrs_grammar.specs.Float.{FloatParts}
-use Rattle.litrs_grammar.specs.Literal.{Derivation, an_integer, a_float, a_char, a_byte}
-use Rattle.litrs_grammar.proofs.LiteralLaws.{literals_are_unique}
-use Rattle.litrs.specs.Parsed.{IsParsed, IsParsedRefusal}
-use Rattle.litrs.proofs.Parsed.{parsed_or_refused, parsed_not_refused, parsed_refusals_are_unique}
-use Rattle.litrs_lines.specs.Report.{value_text, integer_front, fraction_field, float_report, char_report, literal_report, refusal_report, IsTextReport, IsReport}
+use Rattle.litrs_grammar.specs.Literal.{StringParts, string_suffix, string_value, Derivation, an_integer, a_float, a_char, a_byte, IsLiteral, literal_parse}
+use Rattle.litrs_grammar.specs.LiteralRefusals.{IsRefusal}
+use Rattle.litrs_grammar.specs.Strings.{is_raw}
+use Rattle.litrs_grammar.proofs.LiteralLaws.{literals_are_unique, literals_are_not_refused, refusals_are_unique, texts_are_decided}
+use Rattle.litrs_lines.specs.Report.{value_text, integer_front, fraction_field, float_report, char_report, raw_field, hex_byte, hex_bytes, string_front, string_report, literal_report, refusal_report, IsTextReport, IsReport}
 use Rattle.litrs_lines.specs.Reports.{AreReports}
 use Rattle.litrs_lines.specs.Reported.{report_by, text_report, report_of, reports_of}
 use Rattle.litrs_lines.specs.ReportLaws.{LinesHaveReports, ReportsAreUnique}
@@ -30,33 +32,33 @@ report_of-other line none = rw (false_from_ne_true (is_utf8 line) (λ is. none (
 
 -- The report of a text
 
-literal_by : (t : List ℕ) (found : ((d : Derivation) × IsParsed t d) ⊎ ((r : Refusal) × IsParsedRefusal t r)) (d : Derivation) → IsParsed t d →
+literal_by : (t : List ℕ) (found : ((d : Derivation) × IsLiteral t d) ⊎ ((r : Refusal) × IsRefusal literal_parse t r)) (d : Derivation) → IsLiteral t d →
     report_by found ≡ literal_report d
-literal_by t (inl e) d r = ap literal_report (literals_are_unique t e.0 d e.1.0 r.0)
-literal_by t (inr e) d r = absurd (parsed_not_refused t d e.0 r e.1)
+literal_by t (inl e) d r = ap literal_report (literals_are_unique t e.0 d e.1 r)
+literal_by t (inr e) d r = absurd (literals_are_not_refused literal_parse t d e.0 r e.1)
 
-refused_by : (t : List ℕ) (found : ((d : Derivation) × IsParsed t d) ⊎ ((r : Refusal) × IsParsedRefusal t r)) (r : Refusal) → IsParsedRefusal t r →
+refused_by : (t : List ℕ) (found : ((d : Derivation) × IsLiteral t d) ⊎ ((r : Refusal) × IsRefusal literal_parse t r)) (r : Refusal) → IsRefusal literal_parse t r →
     report_by found ≡ refusal_report r
-refused_by t (inl e) r table = absurd (parsed_not_refused t e.0 r e.1 table)
-refused_by t (inr e) r table = ap refusal_report (parsed_refusals_are_unique t e.0 r e.1 table)
+refused_by t (inl e) r table = absurd (literals_are_not_refused literal_parse t e.0 r e.1 table)
+refused_by t (inr e) r table = ap refusal_report (refusals_are_unique literal_parse t e.0 r e.1 table)
 
-pub text_report-literal : (t : List ℕ) (d : Derivation) → IsParsed t d → text_report t ≡ literal_report d
+pub text_report-literal : (t : List ℕ) (d : Derivation) → IsLiteral t d → text_report t ≡ literal_report d
 unfolding text_report
-text_report-literal t d r = literal_by t (parsed_or_refused t) d r
+text_report-literal t d r = literal_by t (texts_are_decided literal_parse t) d r
 
-pub text_report-refused : (t : List ℕ) (r : Refusal) → IsParsedRefusal t r → text_report t ≡ refusal_report r
+pub text_report-refused : (t : List ℕ) (r : Refusal) → IsRefusal literal_parse t r → text_report t ≡ refusal_report r
 unfolding text_report
-text_report-refused t r table = refused_by t (parsed_or_refused t) r table
+text_report-refused t r table = refused_by t (texts_are_decided literal_parse t) r table
 
 -- The relation
 
-text_has_report : (t : List ℕ) (found : ((d : Derivation) × IsParsed t d) ⊎ ((r : Refusal) × IsParsedRefusal t r)) → IsTextReport t (report_by found)
+text_has_report : (t : List ℕ) (found : ((d : Derivation) × IsLiteral t d) ⊎ ((r : Refusal) × IsRefusal literal_parse t r)) → IsTextReport t (report_by found)
 text_has_report t (inl d) = inl (d.0, d.1, refl)
 text_has_report t (inr r) = inr (r.0, r.1, refl)
 
 report_is : (t : List ℕ) → IsTextReport t (text_report t)
 unfolding text_report
-report_is t = text_has_report t (parsed_or_refused t)
+report_is t = text_has_report t (texts_are_decided literal_parse t)
 
 line_has_report : (line : List ℕ) (v : Bool) → is_utf8 line ≡ v → IsReport line (report_of line)
 line_has_report line true is =
@@ -83,10 +85,10 @@ pub lines_have_reports : LinesHaveReports
 lines_have_reports lines = (reports_of lines, are_reports lines)
 
 one_text_report : (t r s : List ℕ) → IsTextReport t r → IsTextReport t s → r ≡ s
-one_text_report t r s (inl p) (inl q) = p.2 ∙ (ap literal_report (literals_are_unique t p.0 q.0 p.1.0 q.1.0) ∙ sym q.2)
-one_text_report t r s (inl p) (inr q) = absurd (parsed_not_refused t p.0 q.0 p.1 q.1)
-one_text_report t r s (inr p) (inl q) = absurd (parsed_not_refused t q.0 p.0 q.1 p.1)
-one_text_report t r s (inr p) (inr q) = p.2 ∙ (ap refusal_report (parsed_refusals_are_unique t p.0 q.0 p.1 q.1) ∙ sym q.2)
+one_text_report t r s (inl p) (inl q) = p.2 ∙ (ap literal_report (literals_are_unique t p.0 q.0 p.1 q.1) ∙ sym q.2)
+one_text_report t r s (inl p) (inr q) = absurd (literals_are_not_refused literal_parse t p.0 q.0 p.1 q.1)
+one_text_report t r s (inr p) (inl q) = absurd (literals_are_not_refused literal_parse t q.0 p.0 q.1 p.1)
+one_text_report t r s (inr p) (inr q) = p.2 ∙ (ap refusal_report (refusals_are_unique literal_parse t p.0 q.0 p.1 q.1) ∙ sym q.2)
 
 one_report : (line r s : List ℕ) → IsReport line r → IsReport line s → r ≡ s
 one_report line r s (inl p) (inl q) = one_text_report (chars line) r s p.1 q.1
@@ -135,3 +137,54 @@ pub char_report_made : (name old new suffix : List ℕ) (value : ℕ) (d : CharP
 char_report_made name old new suffix value d suffix_utf8 value_is suffix_is made =
     let s : suffix ≡ encode_utf8_all d.suffix = sym (encodes-chars suffix suffix_utf8) ∙ ap encode_utf8_all suffix_is in
     made ∙ (λ j. old ++ char_report name (value_is j) (s j))
+
+-- pieces written one behind the other
+pub appended :
+    (a p q b c : List ℕ) → b ≡ a ++ p → c ≡ b ++ q → c ≡ a ++ (p ++ q)
+appended a p q b c first second = second ∙ ap (λ t. t ++ q) first ∙ append_assoc a p q
+
+pub appended_four :
+    (a p q r s b c d e : List ℕ) → b ≡ a ++ p → c ≡ b ++ q → d ≡ c ++ r → e ≡ d ++ s →
+    e ≡ a ++ (p ++ (q ++ (r ++ s)))
+appended_four a p q r s b c d e one two three four =
+    appended a p (q ++ (r ++ s)) b e one (appended b q (r ++ s) c e two (appended c r s d e three four))
+
+-- what a call leaves where it succeeds
+pub left_by :
+    {T E : Type 0} (r : Result T E) (left there before : List ℕ) →
+    left ≡ (if is_ok r then there else before) → OnOk r (left ≡ there)
+left_by (Ok _) left there before made = made
+left_by (Err _) left there before made = tt
+
+-- the front of an integer, field by field
+pub integer_front_made :
+    (base : ℕ) (digits suffix a b c d e : List ℕ) → b ≡ a ++ (codes "integer base=" ++ decimal base) →
+    c ≡ b ++ (codes " digits=" ++ digits) → d ≡ c ++ (codes " suffix=" ++ suffix) →
+    e ≡ d ++ codes " value=" → e ≡ a ++ integer_front base digits suffix
+integer_front_made base digits suffix a b c d e one two three four =
+    appended_four a (codes "integer base=" ++ decimal base) (codes " digits=" ++ digits)
+    (codes " suffix=" ++ suffix) (codes " value=") b c d e one two three four
+    ∙ ap (λ t. a ++ t)
+    (append_assoc (codes "integer base=") (decimal base) ((codes " digits=" ++ digits) ++ ((codes " suffix=" ++ suffix) ++ codes " value="))
+    ∙ ap (λ t. codes "integer base=" ++ (decimal base ++ t))
+    (append_assoc (codes " digits=") digits ((codes " suffix=" ++ suffix) ++ codes " value=")
+    ∙ ap (λ t. codes " digits=" ++ (digits ++ t)) (append_assoc (codes " suffix=") suffix (codes " value="))))
+
+-- A string of one of the three kinds
+
+pub string_report_made : (name old front new raw suffix value : List ℕ) (d : StringParts) → IsUtf8 suffix → raw ≡ raw_field (is_raw d) →
+    chars suffix ≡ string_suffix d → value ≡ string_value d → front ≡ old ++ string_front name raw suffix → new ≡ front ++ hex_bytes value →
+    new ≡ old ++ string_report name d
+string_report_made name old front new raw suffix value d suffix_utf8 raw_is suffix_is value_is made valued =
+    let s : suffix ≡ encode_utf8_all (string_suffix d) = sym (encodes-chars suffix suffix_utf8) ∙ ap encode_utf8_all suffix_is in
+    valued ∙ (ap (λ (xs : List ℕ). xs ++ hex_bytes value) made ∙ (append_assoc old (string_front name raw suffix) (hex_bytes value)
+    ∙ (λ j. old ++ (string_front name (raw_is j) (s j) ++ hex_bytes (value_is j)))))
+
+-- one more byte of a value
+pub hex_step : (old now next bytes : List ℕ) (i : ℕ) → i < length bytes → now ≡ old ++ hex_bytes (take i bytes) →
+    next ≡ now ++ hex_byte (get_or bytes i 0) → next ≡ old ++ hex_bytes (take (i + 1) bytes)
+hex_step old now next bytes i below so_far more =
+    let front = hex_bytes (take i bytes) in
+    let last = hex_byte (get_or bytes i 0) in
+    more ∙ (ap (λ (xs : List ℕ). xs ++ last) so_far ∙ (append_assoc old front last
+    ∙ ap (λ (xs : List ℕ). old ++ xs) (sym (ap hex_bytes (take_more bytes i 0 below) ∙ flat_map-append hex_byte (take i bytes) (get_or bytes i 0 ∷ [])))))

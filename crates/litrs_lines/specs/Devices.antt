@@ -15,12 +15,15 @@ pub record AppendsBeginning (old new : Option (List ℕ)) (bytes : List ℕ) : T
   pub appends : Appends old new written
   pub begins : StartsWith bytes written
 
--- these are the ended lines of what was taken from an input, or where the input is at its end all of them
+-- these are the ended lines of what was taken from an input, or where the input is at its end all
+-- of them
 abbrev pub AreWholeLines : Option (List ℕ) → List ℕ → List (List ℕ) → Type 0
-AreWholeLines left taken lines = (lines ≡ ended_lines taken) ⊎ (IsAtEnd left × (lines ≡ lines_of taken))
+AreWholeLines left taken lines =
+    (lines ≡ ended_lines taken) ⊎ (IsAtEnd left × (lines ≡ lines_of taken))
 
 -- what was written is a beginning of the reports on the whole lines that were taken
-pub record StopsWithin (left_old left_new contents_old contents_new : Option (List ℕ)) : Type 0 where
+pub record StopsWithin (left_old left_new contents_old contents_new : Option (List ℕ))
+    : Type 0 where
   pub taken : List ℕ
   pub takes : Consumes left_old left_new taken
   pub lines : List (List ℕ)

@@ -36,14 +36,14 @@ abbrev pub unless_empty : List ℕ → List (List ℕ)
 unless_empty [] = []
 unless_empty (b ∷ bs) = (b ∷ bs) ∷ []
 
--- The LFs split the bytes into parts. Each part but the last has an LF behind it, and is an ended line.
+-- The LFs split the bytes into parts. Each but the last has an LF behind it, and is an ended line.
 unfoldable pub ended_lines : List ℕ → List (List ℕ)
 ended_lines bytes = ended_parts (slice_split is_line_feed bytes)
 
--- what stands behind the last LF
+-- what follows the last LF
 unfoldable pub open_line : List ℕ → List ℕ
 open_line bytes = open_part (slice_split is_line_feed bytes)
 
--- the ended lines, and what stands behind the last LF where it is not empty
+-- the ended lines, and what follows the last LF where it is not empty
 unfoldable pub lines_of : List ℕ → List (List ℕ)
 lines_of bytes = ended_lines bytes ++ unless_empty (open_line bytes)

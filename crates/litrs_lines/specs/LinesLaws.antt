@@ -13,9 +13,11 @@ LinesSpellTheBytes = (bytes : List ℕ) → spelled (ended_lines bytes) (open_li
 
 -- no LF stands in any of them
 abbrev pub NoLineFeedInLines : Type 0
-NoLineFeedInLines = (bytes : List ℕ) → All HasNoLineFeed (ended_lines bytes) × HasNoLineFeed (open_line bytes)
+NoLineFeedInLines = (bytes : List ℕ) →
+    All HasNoLineFeed (ended_lines bytes) × HasNoLineFeed (open_line bytes)
 
 -- and no other lines without LF spell the bytes
 abbrev pub LinesAreUnique : Type 0
-LinesAreUnique = (lines : List (List ℕ)) (last : List ℕ) → All HasNoLineFeed lines → HasNoLineFeed last →
+LinesAreUnique = (lines : List (List ℕ)) (last : List ℕ) →
+    All HasNoLineFeed lines → HasNoLineFeed last →
     (ended_lines (spelled lines last) ≡ lines) × (open_line (spelled lines last) ≡ last)

@@ -1,5 +1,6 @@
 -- The report on a line: of the derivation of its text, or of its refusal.
-use Rattle.std.specs.Prelude.{◌≡◌, ◌⊎◌, ℕ, nat_le, false, List, [], ◌++◌, Option, Some, None, codes, if◌then◌else◌}
+use Rattle.std.specs.Prelude.{◌≡◌, ◌⊎◌, ℕ, ◌/◌, ◌%◌, nat_le, Bool, true, false, List, [], ◌∷◌, ◌++◌, flat_map, Option, Some, None, codes, if◌then◌else◌}
+use Rattle.std.specs.Char.{digit_char}
 use Rattle.std.specs.Fmt.{decimal, digits}
 use Rattle.std.specs.Str.{chars, IsUtf8, encode_utf8_all}
 use Rattle.litrs_base.specs.declared.integer.IntegerType.TheVariants.{U128}
@@ -9,8 +10,9 @@ use Rattle.litrs_base.specs.Refusal.{Refusal, refusal_text}
 use Rattle.litrs_grammar.specs.Bool.{bool_text}
 use Rattle.litrs_grammar.specs.CharByte.{char_value}
 use Rattle.litrs_grammar.specs.Integer.{integer_value}
-use Rattle.litrs_grammar.specs.Literal.{Derivation, a_bool, an_integer, a_float, a_char, a_byte, a_string, a_byte_string, a_c_string}
-use Rattle.litrs.specs.Parsed.{IsParsed, IsParsedRefusal}
+use Rattle.litrs_grammar.specs.Literal.{StringParts, string_suffix, string_value, Derivation, a_bool, an_integer, a_float, a_char, a_byte, a_string, a_byte_string, a_c_string, IsLiteral, literal_parse}
+use Rattle.litrs_grammar.specs.LiteralRefusals.{IsRefusal}
+use Rattle.litrs_grammar.specs.Strings.{is_raw}
 
 -- a value in decimal, or `none` where 128 bits do not hold it
 abbrev pub value_text : ℕ → List ℕ
@@ -19,7 +21,9 @@ value_text n = if nat_le n (greatest_of U128) then decimal n else codes "none"
 -- an integer up to its value, by the bytes of its main part and suffix
 abbrev pub integer_front : ℕ → List ℕ → List ℕ → List ℕ
 integer_front base digits suffix =
-    codes "integer base=" ++ (decimal base ++ (codes " digits=" ++ (digits ++ (codes " suffix=" ++ (suffix ++ codes " value=")))))
+    codes "integer base=" ++ (decimal base
+    ++ (codes " digits=" ++ (digits
+    ++ (codes " suffix=" ++ (suffix ++ codes " value=")))))
 
 -- the fraction of a float, `-` where there is no period
 abbrev pub fraction_field : Option (List ℕ) → List ℕ
@@ -29,7 +33,8 @@ fraction_field (Some digits) = encode_utf8_all digits
 -- a float, by the bytes of its parts
 abbrev pub float_report : (integer fraction exponent suffix : List ℕ) → List ℕ
 float_report integer fraction exponent suffix =
-    codes "float int=" ++ (integer ++ (codes " frac=" ++ (fraction ++ (codes " exp=" ++ (exponent ++ (codes " suffix=" ++ suffix))))))
+    codes "float int=" ++ (integer ++ (codes " frac=" ++ (fraction
+    ++ (codes " exp=" ++ (exponent ++ (codes " suffix=" ++ suffix))))))
 
 -- a number in hex, in lower case and with no leading zeros
 abbrev pub hex_text : ℕ → List ℕ
@@ -37,22 +42,52 @@ hex_text n = digits 16 false n
 
 -- a char or a byte, by its value and the bytes of its suffix
 abbrev pub char_report : (name : List ℕ) → ℕ → (suffix : List ℕ) → List ℕ
-char_report name value suffix = name ++ (codes " value=" ++ (hex_text value ++ (codes " suffix=" ++ suffix)))
+char_report name value suffix =
+    name ++ (codes " value=" ++ (hex_text value ++ (codes " suffix=" ++ suffix)))
 
--- `bool true`; `integer base=16 digits=ff80 suffix= value=65408`; `float int=3 frac=14 exp= suffix=f33`;
--- `char value=1f98a suffix=`; `byte value=ff suffix=`;
--- nothing of the kinds that are not read yet
+-- whether a string is raw
+abbrev pub raw_field : Bool → List ℕ
+raw_field true = codes "yes"
+raw_field false = codes "no"
+
+-- a byte in hex, in lower case and with two digits
+abbrev pub hex_byte : ℕ → List ℕ
+hex_byte b = digit_char (b / 16) ∷ digit_char (b % 16) ∷ []
+
+-- bytes in hex, one behind the other
+abbrev pub hex_bytes : List ℕ → List ℕ
+hex_bytes bytes = flat_map hex_byte bytes
+
+-- a string up to its value, by the bytes of its suffix
+abbrev pub string_front : (name raw suffix : List ℕ) → List ℕ
+string_front name raw suffix =
+    name ++ (codes " raw=" ++ (raw ++ (codes " suffix=" ++ (suffix ++ codes " value="))))
+
+-- a string of one of the three kinds; the value of a C string is written without its closing zero
+abbrev pub string_report : (name : List ℕ) → StringParts → List ℕ
+string_report name d =
+    string_front name (raw_field (is_raw d)) (encode_utf8_all (string_suffix d))
+    ++ hex_bytes (string_value d)
+
+-- `bool true`; `integer base=16 digits=ff80 suffix= value=65408`;
+-- `float int=3 frac=14 exp= suffix=f33`; `char value=1f98a suffix=`; `byte value=ff suffix=`;
+-- `string raw=no suffix=x value=610962`;
+-- `bytestring raw=yes suffix= value=5c6e`; `cstring raw=no suffix= value=c3a9ff`
 abbrev pub literal_report : Derivation → List ℕ
 literal_report (a_bool b) = codes "bool " ++ bool_text b
 literal_report (an_integer d) =
-    integer_front (base_value d.base) (encode_utf8_all d.main) (encode_utf8_all d.suffix) ++ value_text (integer_value d)
+    integer_front (base_value d.base) (encode_utf8_all d.main) (encode_utf8_all d.suffix)
+    ++ value_text (integer_value d)
 literal_report (a_float d) =
-    float_report (encode_utf8_all d.integer) (fraction_field d.fraction) (encode_utf8_all d.exponent) (encode_utf8_all d.suffix)
-literal_report (a_char d) = char_report (codes "char") (char_value d.item) (encode_utf8_all d.suffix)
-literal_report (a_byte d) = char_report (codes "byte") (char_value d.item) (encode_utf8_all d.suffix)
-literal_report (a_string d) = []
-literal_report (a_byte_string d) = []
-literal_report (a_c_string d) = []
+    float_report (encode_utf8_all d.integer) (fraction_field d.fraction)
+    (encode_utf8_all d.exponent) (encode_utf8_all d.suffix)
+literal_report (a_char d) =
+    char_report (codes "char") (char_value d.item) (encode_utf8_all d.suffix)
+literal_report (a_byte d) =
+    char_report (codes "byte") (char_value d.item) (encode_utf8_all d.suffix)
+literal_report (a_string d) = string_report (codes "string") d
+literal_report (a_byte_string d) = string_report (codes "bytestring") d
+literal_report (a_c_string d) = string_report (codes "cstring") d
 
 -- `error`, and what is printed of the refusal
 abbrev pub refusal_report : Refusal → List ℕ
@@ -61,8 +96,8 @@ refusal_report e = codes "error " ++ refusal_text e
 -- r is the report on a text: that of its derivation, or that of its refusal
 abbrev pub IsTextReport : List ℕ → List ℕ → Type 0
 IsTextReport t r =
-    ((d : Derivation) × IsParsed t d × (r ≡ literal_report d))
-    ⊎ ((e : Refusal) × IsParsedRefusal t e × (r ≡ refusal_report e))
+    ((d : Derivation) × IsLiteral t d × (r ≡ literal_report d))
+    ⊎ ((e : Refusal) × IsRefusal literal_parse t e × (r ≡ refusal_report e))
 
 -- r is the report on a line, whose bytes may be no text
 abbrev pub IsReport : List ℕ → List ℕ → Type 0

@@ -4,20 +4,20 @@ use Rattle.std.proofs.Common.{inl, inr}
 use Rattle.std.specs.Str.{chars, is_utf8}
 use Rattle.litrs_base.specs.Characters.{line_feed}
 use Rattle.litrs_base.specs.Refusal.{Refusal}
-use Rattle.litrs_grammar.specs.Literal.{Derivation}
-use Rattle.litrs.specs.Parsed.{IsParsed, IsParsedRefusal}
-use Rattle.litrs.proofs.Parsed.{parsed_or_refused}
+use Rattle.litrs_grammar.specs.Literal.{Derivation, IsLiteral, literal_parse}
+use Rattle.litrs_grammar.specs.LiteralRefusals.{IsRefusal}
+use Rattle.litrs_grammar.proofs.LiteralLaws.{texts_are_decided}
 use Rattle.litrs_lines.specs.Report.{literal_report, refusal_report}
 
 -- the report by the derivation or the refusal
 abbrev pub report_by : {t : List ℕ} →
-    ((d : Derivation) × IsParsed t d) ⊎ ((r : Refusal) × IsParsedRefusal t r) → List ℕ
+    ((d : Derivation) × IsLiteral t d) ⊎ ((r : Refusal) × IsRefusal literal_parse t r) → List ℕ
 report_by (inl d) = literal_report d.0
 report_by (inr r) = refusal_report r.0
 
 -- the report on a text
 unfoldable pub text_report : List ℕ → List ℕ
-text_report t = report_by (parsed_or_refused t)
+text_report t = report_by (texts_are_decided literal_parse t)
 
 -- the report on a line
 unfoldable pub report_of : List ℕ → List ℕ

@@ -12,6 +12,7 @@ ghost use Rattle.litrs_lines.specs.Reports.{AppendsReports};
 pub use device::{Failed, Input, Output};
 pub use mem_input::MemInput;
 pub use mem_output::MemOutput;
+use memchr::memchr;
 pub use program::run_program;
 use report::push_report;
 use std::alloc::{AllocError, Global};
@@ -77,10 +78,11 @@ impl From<AllocError> for RunError {
 }
 
 /// Where the first line ends, in bytes.
+#[tactic(auto, using(crate::proofs::LineEnds::first_byte_is_position))]
 fn line_end(bytes: &[u8]) -> Option<usize>
     ensures { result ≡ position is_line_feed bytes.now }
 {
-    bytes.iter().position(|b| *b == b'\n')
+    memchr(b'\n', bytes)
 }
 
 /// Reports on the line that `end` ends, and goes on with an empty one.
@@ -199,7 +201,7 @@ fn finish<O: Output>(
 /// Reads to the end of the input, writes the report on each line and an LF behind it, and flushes
 /// once at the end.
 ///
-/// A line is the bytes before an LF, without it, and what stands behind the last LF where that is
+/// A line is the bytes before an LF, without it, and what follows the last LF where that is
 /// not empty. One line is held at a time, so memory is taken in proportion to the longest.
 ///
 /// # Errors
@@ -208,8 +210,8 @@ fn finish<O: Output>(
 /// failed. `Memory` where an allocation failed. What was written is then a beginning of the reports
 /// on the whole lines that were read.
 ///
-/// A failed call is never made again, so an error of the kind `Interrupted` ends the run as well: see
-/// [`StdInput`] and [`StdOutput`].
+/// A failed call is never made again, so an error of the kind `Interrupted` ends the run as well:
+/// see [`StdInput`] and [`StdOutput`].
 pub fn run<I: Input, O: Output>(
     alloc: Global,
     reader: &mut I,

@@ -21,9 +21,9 @@ pub struct MemInput<'a> {
 impl<'a> MemInput<'a> {
     ghost use Rattle.litrs_lines.specs.MemInput.{left_of, piece_of, calls_of, failed_of};
 
-    /// An input that gives `bytes`, at most `piece` of them in a call, and `piece` is at least 1. Its
-    /// calls fail from number `fail_at` on, counted from 0. A call leaves the buffer as it was behind
-    /// the bytes that it reads.
+    /// An input that gives `bytes`, at most `piece` of them in a call, and `piece` is at least 1.
+    /// Its calls fail from number `fail_at` on, counted from 0. A call leaves the buffer as it was
+    /// behind the bytes that it reads.
     pub fn new(bytes: &'a [u8], piece: usize, fail_at: Option<u64>) -> Self
         requires { 0 < piece }
         ensures bytes { left_of result ≡ bytes.now }

@@ -26,8 +26,8 @@ impl MemOutput {
     ghost use Rattle.litrs_lines.specs.MemOutput.{bytes_of, room_of, piece_of, calls_of, failed_of, flushed_of};
 
     /// An output with memory for `room` bytes, which takes at most `piece` of them in a call, and
-    /// `piece` is at least 1. Its calls fail from number `fail_at` on, writes and flushes counted together
-    /// from 0. A write fails also where the room is full.
+    /// `piece` is at least 1. Its calls fail from number `fail_at` on, writes and flushes counted
+    /// together from 0. A write fails also where the room is full.
     ///
     /// # Errors
     ///

@@ -1,16 +1,20 @@
 //! The report on one line.
 ghost use Rattle.std.specs.Prelude.{◌≡◌, ◌+◌, ◌<◌, ◌++◌, OnOk, OnErr, string_bytes, string_len, string_capacity, codes};
+ghost use Rattle.std.specs.Char.{digit_char};
 ghost use Rattle.std.specs.Str.{chars};
 ghost use Rattle.litrs.specs.LiteralDerivation.{derivation};
 ghost use Rattle.litrs_grammar.specs.Integer.{integer_value};
 ghost use Rattle.litrs.specs.CharLiteral.{char_parts, byte_parts};
-ghost use Rattle.litrs.specs.FloatLiteral.{float_parts};
-ghost use Rattle.litrs.specs.IntegerLiteral.{integer_parts};
-ghost use Rattle.litrs_grammar.specs.Literal.{an_integer, a_float, a_char, a_byte};
-ghost use Rattle.litrs_lines.specs.Report.{value_text, integer_front, fraction_field, float_report, char_report, literal_report};
+ghost use Rattle.litrs_numbers.specs.FloatLiteral.{float_parts};
+ghost use Rattle.litrs_numbers.specs.IntegerLiteral.{integer_parts};
+ghost use Rattle.litrs_grammar.specs.Literal.{an_integer, a_float, a_char, a_byte, a_string, a_byte_string, a_c_string};
+ghost use Rattle.litrs_lines.specs.Report.{value_text, integer_front, fraction_field, float_report, char_report, raw_field, hex_byte, hex_bytes, string_front, literal_report};
 ghost use Rattle.litrs_lines.specs.Reported.{text_report, report_of};
 
-use litrs::{Buffer, ByteLit, CharLit, FloatLit, IntegerLit, Literal};
+use litrs::{
+    Buffer, ByteLit, ByteStringLit, CStringLit, CharLit, FloatLit, IntegerLit, Literal,
+    ParseErrorKind, StringLit,
+};
 use std::alloc::{AllocError, Global};
 use std::str;
 
@@ -27,38 +31,49 @@ pub(crate) fn push_report(out: &mut String, line: &[u8]) -> Result<(), AllocErro
 
 /// Adds the report on a line that is no text.
 fn push_no_text_report(out: &mut String) -> Result<(), AllocError>
-    ensures ok { OnOk result (string_bytes out.new ≡ string_bytes out.old ++ codes "error input is not UTF-8") }
+    ensures ok { OnOk result (
+        string_bytes out.new ≡ string_bytes out.old ++ codes "error input is not UTF-8") }
     ensures err { OnErr result (string_capacity out.old < string_len out.old + 24) }
 {
     out.push_str("error input is not UTF-8")
 }
 
-/// Adds the report on a text.
+/// Adds the report on a text. There is none where there is no memory for its value.
 fn push_text_report<B: Buffer>(alloc: Global, out: &mut String, text: B) -> Result<(), AllocError>
-    ensures { OnOk result (string_bytes out.new ≡ string_bytes out.old ++ text_report (chars (B.bytes text))) }
+    ensures { OnOk result (
+        string_bytes out.new ≡ string_bytes out.old ++ text_report (chars (B.bytes text))) }
 {
     match Literal::parse(alloc, text) {
         Ok(lit) => push_literal_report(out, &lit),
-        Err(e) => write!(out, "error {e}"),
+        Err(e) => match e.kind() {
+            ParseErrorKind::OutOfMemory => Err(AllocError),
+            _ => write!(out, "error {e}"),
+        },
     }
 }
 
 /// Adds the report on a literal.
 fn push_literal_report<B: Buffer>(out: &mut String, lit: &Literal<B>) -> Result<(), AllocError>
-    ensures { OnOk result (string_bytes out.new ≡ string_bytes out.old ++ literal_report (derivation lit.now)) }
+    ensures { OnOk result (
+        string_bytes out.new ≡ string_bytes out.old ++ literal_report (derivation lit.now)) }
 {
     match lit {
         Literal::Bool(lit) => write!(out, "bool {lit}"),
         Literal::Integer(lit) => push_integer_report(out, lit),
         Literal::Float(lit) => push_float_report(out, lit),
         Literal::Char(lit) => push_char_report(out, lit),
+        Literal::String(lit) => push_string_report(out, lit),
         Literal::Byte(lit) => push_byte_report(out, lit),
+        Literal::ByteString(lit) => push_byte_string_report(out, lit),
+        Literal::CString(lit) => push_c_string_report(out, lit),
     }
 }
 
 /// Adds the report on an integer.
 fn push_integer_report<B: Buffer>(out: &mut String, lit: &IntegerLit<B>) -> Result<(), AllocError>
-    ensures { OnOk result (string_bytes out.new ≡ string_bytes out.old ++ literal_report (an_integer (integer_parts lit.now))) }
+    ensures { OnOk result (
+        string_bytes out.new
+        ≡ string_bytes out.old ++ literal_report (an_integer (integer_parts lit.now))) }
 {
     push_integer_front(out, lit.base().value(), lit.raw_main_part(), lit.suffix())?;
     push_value(out, lit)
@@ -71,27 +86,40 @@ fn push_integer_front(
     digits: &str,
     suffix: &str,
 ) -> Result<(), AllocError>
-    ensures { OnOk result (string_bytes out.new ≡ string_bytes out.old ++ integer_front base digits.now suffix.now) }
+    ensures { OnOk result (
+        string_bytes out.new ≡ string_bytes out.old ++ integer_front base digits.now suffix.now) }
 {
-    write!(
-        out,
-        "integer base={base} digits={digits} suffix={suffix} value="
-    )
+    push_field(out, "integer base=", itoa::Buffer::new().format(base))?;
+    push_field(out, " digits=", digits)?;
+    push_field(out, " suffix=", suffix)?;
+    out.push_str(" value=")
+}
+
+/// Adds the name of a field and its value.
+fn push_field(out: &mut String, name: &str, value: &str) -> Result<(), AllocError>
+    ensures { OnOk result (string_bytes out.new ≡ string_bytes out.old ++ (name.now ++ value.now)) }
+{
+    out.push_str(name)?;
+    out.push_str(value)
 }
 
 /// Adds the value of an integer in decimal, or `none`.
 fn push_value<B: Buffer>(out: &mut String, lit: &IntegerLit<B>) -> Result<(), AllocError>
-    ensures { OnOk result (string_bytes out.new ≡ string_bytes out.old ++ value_text (integer_value (integer_parts lit.now))) }
+    ensures { OnOk result (
+        string_bytes out.new
+        ≡ string_bytes out.old ++ value_text (integer_value (integer_parts lit.now))) }
 {
     match lit.value::<u128>() {
-        Some(value) => write!(out, "{value}"),
+        Some(value) => out.push_str(itoa::Buffer::new().format(value)),
         None => out.push_str("none"),
     }
 }
 
 /// Adds the report on a float.
 fn push_float_report<B: Buffer>(out: &mut String, lit: &FloatLit<B>) -> Result<(), AllocError>
-    ensures { OnOk result (string_bytes out.new ≡ string_bytes out.old ++ literal_report (a_float (float_parts lit.now))) }
+    ensures { OnOk result (
+        string_bytes out.new
+        ≡ string_bytes out.old ++ literal_report (a_float (float_parts lit.now))) }
 {
     push_float_parts(
         out,
@@ -120,7 +148,9 @@ fn push_float_parts(
     exponent: &str,
     suffix: &str,
 ) -> Result<(), AllocError>
-    ensures { OnOk result (string_bytes out.new ≡ string_bytes out.old ++ float_report integer.now fraction.now exponent.now suffix.now) }
+    ensures { OnOk result (
+        string_bytes out.new
+        ≡ string_bytes out.old ++ float_report integer.now fraction.now exponent.now suffix.now) }
 {
     write!(
         out,
@@ -130,21 +160,117 @@ fn push_float_parts(
 
 /// Adds the report on a char.
 fn push_char_report<B: Buffer>(out: &mut String, lit: &CharLit<B>) -> Result<(), AllocError>
-    ensures { OnOk result (string_bytes out.new ≡ string_bytes out.old ++ literal_report (a_char (char_parts lit.now))) }
+    ensures { OnOk result (
+        string_bytes out.new
+        ≡ string_bytes out.old ++ literal_report (a_char (char_parts lit.now))) }
 {
     push_char_parts(out, "char", u32::from(lit.value()), lit.suffix())
 }
 
 /// Adds the report on a byte.
 fn push_byte_report<B: Buffer>(out: &mut String, lit: &ByteLit<B>) -> Result<(), AllocError>
-    ensures { OnOk result (string_bytes out.new ≡ string_bytes out.old ++ literal_report (a_byte (byte_parts lit.now))) }
+    ensures { OnOk result (
+        string_bytes out.new
+        ≡ string_bytes out.old ++ literal_report (a_byte (byte_parts lit.now))) }
 {
     push_char_parts(out, "byte", u32::from(lit.value()), lit.suffix())
 }
 
 /// Adds the report on a char or a byte with this value and suffix.
 fn push_char_parts(out: &mut String, name: &str, value: u32, suffix: &str) -> Result<(), AllocError>
-    ensures { OnOk result (string_bytes out.new ≡ string_bytes out.old ++ char_report name.now value suffix.now) }
+    ensures { OnOk result (
+        string_bytes out.new ≡ string_bytes out.old ++ char_report name.now value suffix.now) }
 {
     write!(out, "{name} value={value:x} suffix={suffix}")
+}
+
+/// Adds the report on a string.
+fn push_string_report<B: Buffer>(out: &mut String, lit: &StringLit<B>) -> Result<(), AllocError>
+    ensures { OnOk result (
+        string_bytes out.new ≡ string_bytes out.old ++ literal_report (a_string lit.now.parts)) }
+{
+    push_string_front(out, "string", raw_field(lit.is_raw_string()), lit.suffix())?;
+    push_hex(out, lit.value().as_bytes())
+}
+
+/// Adds the report on a byte string.
+fn push_byte_string_report<B: Buffer>(
+    out: &mut String,
+    lit: &ByteStringLit<B>,
+) -> Result<(), AllocError>
+    ensures { OnOk result (
+        string_bytes out.new
+        ≡ string_bytes out.old ++ literal_report (a_byte_string lit.now.parts)) }
+{
+    push_string_front(
+        out,
+        "bytestring",
+        raw_field(lit.is_raw_byte_string()),
+        lit.suffix(),
+    )?;
+    push_hex(out, lit.value())
+}
+
+/// Adds the report on a C string.
+fn push_c_string_report<B: Buffer>(out: &mut String, lit: &CStringLit<B>) -> Result<(), AllocError>
+    ensures { OnOk result (
+        string_bytes out.new ≡ string_bytes out.old ++ literal_report (a_c_string lit.now.parts)) }
+{
+    push_string_front(
+        out,
+        "cstring",
+        raw_field(lit.is_raw_c_string()),
+        lit.suffix(),
+    )?;
+    push_hex(out, lit.value().to_bytes())
+}
+
+/// Adds the report on a string of one of the three kinds up to its value.
+fn push_string_front(
+    out: &mut String,
+    name: &str,
+    raw: &str,
+    suffix: &str,
+) -> Result<(), AllocError>
+    ensures { OnOk result (
+        string_bytes out.new ≡ string_bytes out.old ++ string_front name.now raw.now suffix.now) }
+{
+    write!(out, "{name} raw={raw} suffix={suffix} value=")
+}
+
+/// Whether a string is raw.
+fn raw_field(is_raw: bool) -> &'static str
+    ensures { result.now ≡ raw_field is_raw }
+{
+    if is_raw { "yes" } else { "no" }
+}
+
+/// Adds bytes in hex, in lower case, with two digits each.
+fn push_hex(out: &mut String, bytes: &[u8]) -> Result<(), AllocError>
+    ensures { OnOk result (string_bytes out.new ≡ string_bytes out.old ++ hex_bytes bytes.now) }
+{
+    for byte in bytes {
+        push_hex_byte(out, *byte)?;
+    }
+    Ok(())
+}
+
+/// Adds a byte in hex.
+fn push_hex_byte(out: &mut String, byte: u8) -> Result<(), AllocError>
+    ensures { OnOk result (string_bytes out.new ≡ string_bytes out.old ++ hex_byte byte) }
+{
+    out.push(hex_digit(byte / 16))?;
+    out.push(hex_digit(byte % 16))
+}
+
+/// The hex digit, in lower case.
+fn hex_digit(value: u8) -> char
+    requires { value < 16 }
+    ensures { result ≡ digit_char value }
+{
+    if value < 10 {
+        (b'0' + value) as char
+    } else {
+        (b'a' - 10 + value) as char
+    }
 }

@@ -41,7 +41,8 @@ impl<R: Read> Input for StdInput<R> {
 
     fn read(&mut self, buffer: &mut [u8]) -> Result<usize, Failed>
         ensures bound { IfOk result (λ count. count ≤ length buffer.new) }
-        ensures bytes { ReadConsumes (R.remaining (reader_of self.old)) (R.remaining (reader_of self.new))
+        ensures bytes { ReadConsumes
+            (R.remaining (reader_of self.old)) (R.remaining (reader_of self.new))
             result buffer.new }
         ensures failed { RecordsFailure (failed_of self.old) (failed_of self.new) result }
     {

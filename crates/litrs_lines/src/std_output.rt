@@ -6,8 +6,8 @@ ghost use Rattle.litrs_lines.specs.Devices.{RecordsFailure};
 use crate::device::{Failed, Output};
 use std::io::Write;
 
-/// An output over any writer. Each of the writer's errors is a failure, and so is a write that takes
-/// no byte of a piece that is not empty.
+/// An output over any writer. Each of the writer's errors is a failure, and so is a write that
+/// takes no byte of a piece that is not empty.
 ///
 /// This includes an error of the kind `Interrupted`, which the system gives where a signal handler
 /// ran during a write. The library's own `write_all` writes again then; `write` here does not. A
@@ -41,7 +41,8 @@ impl<W: Write> Output for StdOutput<W> {
     fn write(&mut self, piece: &[u8]) -> Result<usize, Failed>
         ensures bound { IfOk result (λ count. count ≤ length piece.now) }
         ensures some { IfOk result (λ count. count ≡ 0 → piece.now ≡ []) }
-        ensures bytes { WriteAppends (W.contents (writer_of self.old)) (W.contents (writer_of self.new))
+        ensures bytes { WriteAppends
+            (W.contents (writer_of self.old)) (W.contents (writer_of self.new))
             result piece.now }
         ensures failed { RecordsFailure (failed_of self.old) (failed_of self.new) result }
     {

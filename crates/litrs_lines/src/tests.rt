@@ -5,21 +5,63 @@ use std::io::Cursor;
 use std::test::Fail;
 
 /// Lines that are literals and lines that are not, an empty one, and a last one without an end.
-const LINES: &str = "true\n1_000u32\n0b12\n\nfalse";
+const LINES: &str = "0xff80\n'a'\n\n\"a\\tb\"x\n0;";
 
 /// What is written on `LINES`.
-const REPORTS: &str = "bool true
-integer base=10 digits=1_000 suffix=u32 value=1000
-error integer literal contains a digit invalid for its base (at 3..4)
+const REPORTS: &str = "integer base=16 digits=ff80 suffix= value=65408
+char value=61 suffix=
 error input is empty
-bool false
+string raw=no suffix=x value=610962
+error unexpected character (at 1..2)
 ";
 
 /// What is written on the lines of `LINES` that an LF ends.
-const ENDED_REPORTS: &str = "bool true
-integer base=10 digits=1_000 suffix=u32 value=1000
-error integer literal contains a digit invalid for its base (at 3..4)
+const ENDED_REPORTS: &str = "integer base=16 digits=ff80 suffix= value=65408
+char value=61 suffix=
 error input is empty
+string raw=no suffix=x value=610962
+";
+
+/// Strings, byte strings and C strings, a byte and a float.
+const OTHER_LINES: &str = "c\"é\\xFF\"
+b\"\\xFFa\\t\"
+br\"\\n\"
+b'\\xFF'
+3.14f33
+";
+
+/// What is written on `OTHER_LINES`.
+const OTHER_REPORTS: &str = "cstring raw=no suffix= value=c3a9ff
+bytestring raw=no suffix= value=ff6109
+bytestring raw=yes suffix= value=5c6e
+byte value=ff suffix=
+float int=3 frac=14 exp= suffix=f33
+";
+
+/// Chars and bytes, and texts that begin like them.
+const CHARS_AND_BYTES: &str = "'a'
+'🦊'good_boy
+'\\0'
+'\\u{10FFFF}'
+b'\\xFF'
+b'\\n'u8
+'\\x80'
+'\\é'
+'''
+b'犬'
+";
+
+/// What is written on `CHARS_AND_BYTES`.
+const CHAR_AND_BYTE_REPORTS: &str = "char value=61 suffix=
+char value=1f98a suffix=good_boy
+char value=0 suffix=
+char value=10ffff suffix=
+byte value=ff suffix=
+byte value=a suffix=u8
+error `\\x` escape in char/string literal exceed ASCII range (at 1..5)
+error unknown escape (at 1..3)
+error character literal contains unescaped ' character (at 1..2)
+error non ASCII character in byte (string) literal (at 2..3)
 ";
 
 /// More room than any report here takes.
@@ -48,6 +90,19 @@ fn pieces_of_any_size_give_the_same(rt: HostRuntime) -> Result<(), Fail> {
             assert_eq!(rt; result, Ok(()));
             assert_eq!(rt; output.bytes(), REPORTS.as_bytes());
             assert!(rt; !output.failed());
+        }
+    }
+    Ok(())
+}
+
+#[test]
+fn other_kinds_in_pieces_of_any_size(rt: HostRuntime) -> Result<(), Fail> {
+    for read in [1, 3, 4096] {
+        for write in [1, 3, 4096] {
+            let mut input = MemInput::new(OTHER_LINES.as_bytes(), read.max(1), NEVER);
+            let mut output = MemOutput::new(rt.alloc(), ROOM, write.max(1), NEVER)?;
+            assert_eq!(rt; run(rt.alloc(), &mut input, &mut output), Ok(()));
+            assert_eq!(rt; output.bytes(), OTHER_REPORTS.as_bytes());
         }
     }
     Ok(())
@@ -112,6 +167,15 @@ fn nothing_is_read(rt: HostRuntime) -> Result<(), Fail> {
     assert_eq!(rt; run(rt.alloc(), &mut input, &mut output), Ok(()));
     assert!(rt; output.bytes().is_empty());
     assert!(rt; !input.failed());
+    Ok(())
+}
+
+#[test]
+fn chars_and_bytes(rt: HostRuntime) -> Result<(), Fail> {
+    let mut input = MemInput::new(CHARS_AND_BYTES.as_bytes(), 4096, NEVER);
+    let mut output = MemOutput::new(rt.alloc(), ROOM, 4096, NEVER)?;
+    assert_eq!(rt; run(rt.alloc(), &mut input, &mut output), Ok(()));
+    assert_eq!(rt; output.bytes(), CHAR_AND_BYTE_REPORTS.as_bytes());
     Ok(())
 }
 

@@ -1,10 +1,12 @@
 //! The bytes of one load that a search looks for.
-ghost use Rattle.std.specs.Prelude.{◌≡◌, ◌+◌, ◌≤◌, length, map, if◌then◌else◌};
+ghost use Rattle.std.specs.Prelude.{◌≡◌, ◌+◌, ◌≤◌, length, map, not, if◌then◌else◌};
 ghost use Rattle.std.specs.Simd.Lanes.{mask_l, chunk};
 ghost use Rattle.litrs_base.specs.Characters.{double_quote, backslash, nul};
 ghost use Rattle.litrs_search.specs.Special.{is_special};
+ghost use Rattle.litrs_search.specs.Run.{is_in_run, last_digit, last_letter};
 
-use crate::Special;
+use crate::{Run, Special};
+use litrs_base::IntegerBase;
 use std::simd::prelude::*;
 
 /// What lanes are compared with beside `"` and CR: two bytes, and a limit that none may pass.
@@ -31,7 +33,7 @@ fn needles(what: Special) -> Sought
 
 /// The special bytes among the N from `at` on: bit i is that of the byte at `at + i`.
 #[inline(always)]
-pub(crate) fn marks<const N: usize>(bytes: &[u8], at: usize, what: Special) -> u64
+pub(crate) fn special_marks<const N: usize>(bytes: &[u8], at: usize, what: Special) -> u64
     requires { (at + N ≤ length bytes.now) × (N ≤ 64) }
     ensures { result ≡ mask_l (map (is_special what) (chunk at N bytes.now)) }
 {
@@ -46,4 +48,43 @@ pub(crate) fn marks<const N: usize>(bytes: &[u8], at: usize, what: Special) -> u
         | v.simd_eq(Simd::splat(second))
         | v.simd_eq(Simd::splat(third))
         | v.simd_gt(Simd::splat(limit))).to_bitmask()
+}
+
+/// The digits of a run end here.
+#[inline(always)]
+fn last_digit(run: Run) -> u8
+    ensures { result ≡ last_digit run }
+{
+    match run {
+        Run::Digits(IntegerBase::Binary) => b'1',
+        Run::Digits(IntegerBase::Octal) => b'7',
+        _ => b'9',
+    }
+}
+
+/// The small letters of a run end here: at the backquote, which stands before `a`, where it has no letter.
+#[inline(always)]
+fn last_letter(run: Run) -> u8
+    ensures { result ≡ last_letter run }
+{
+    match run {
+        Run::Digits(IntegerBase::Hexadecimal) => b'f',
+        Run::Digits(_) => b'`',
+        Run::Identifier => b'z',
+    }
+}
+
+/// The bytes outside the run among the N from `at` on, in the same way.
+///
+/// Letters are compared as small ones: 20 is the bit that a capital one lacks.
+#[inline(always)]
+pub(crate) fn outside_marks<const N: usize>(bytes: &[u8], at: usize, run: Run) -> u64
+    requires { (at + N ≤ length bytes.now) × (N ≤ 64) }
+    ensures { result ≡ mask_l (map (λ b. not (is_in_run run b)) (chunk at N bytes.now)) }
+{
+    let v = Simd::<u8, N>::from_slice(&bytes[at..]);
+    let small = v | Simd::splat(0x20);
+    ((v.simd_lt(Simd::splat(b'0')) | v.simd_gt(Simd::splat(last_digit(run))))
+        & (small.simd_lt(Simd::splat(b'a')) | small.simd_gt(Simd::splat(last_letter(run))))
+        & v.simd_ne(Simd::splat(b'_'))).to_bitmask()
 }

@@ -1,7 +1,7 @@
-//! Searches bytes for the next one that ends a run of plain characters in a quoted literal.
+//! Searches bytes for the end of a run: of plain characters in a quoted literal, of digits, or of an identifier.
 #![tactic(auto)]
 
-pub use search::{Special, next_special};
+pub use search::{Run, Special, next_special, run_end};
 
 mod lanes;
 pub mod search;

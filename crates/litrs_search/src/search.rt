@@ -1,10 +1,15 @@
-//! The search for the next special byte of a quoted body.
-ghost use Rattle.std.specs.Prelude.{◌≡◌, ◌==◌, ◌+◌, ◌≤◌, ◌<◌, length, drop, if◌then◌else◌};
+//! The search for the next special byte of a quoted body, and for the end of a run.
+ghost use Rattle.std.specs.Prelude.{◌≡◌, ◌==◌, ◌+◌, ◌≤◌, ◌<◌, length, drop, map, if◌then◌else◌};
 ghost use Rattle.std.specs.List.{prefix_len};
 ghost use Rattle.std.specs.Int.{w64, trailing_zeros};
+ghost use Rattle.std.specs.Simd.Lanes.{mask_l, chunk};
+ghost use Rattle.litrs_base.specs.Base.{is_digit};
 ghost use Rattle.litrs_search.specs.Special.{is_special, is_ordinary};
+ghost use Rattle.litrs_search.specs.Run.{is_in_run};
+ghost use Rattle.litrs_search.specs.Target.{is_target, is_passed};
 
-use crate::lanes::marks;
+use crate::lanes::{outside_marks, special_marks};
+use litrs_base::IntegerBase;
 
 /// Which bytes are special beside `"` and CR, which always are.
 #[derive(Clone, Copy, Debug, PartialEq, Eq)]
@@ -15,6 +20,24 @@ pub struct Special {
     pub nul: bool,
     /// The bytes above 7F, of which characters beyond ASCII are made in UTF-8.
     pub non_ascii: bool,
+}
+
+/// What a run is made of.
+#[derive(Clone, Copy, Debug, PartialEq, Eq)]
+pub enum Run {
+    /// Digits of the base, and underscores.
+    Digits(IntegerBase),
+    /// ASCII letters, decimal digits and underscores.
+    Identifier,
+}
+
+/// The bytes that a search looks for.
+#[derive(Clone, Copy)]
+enum Target {
+    /// The special bytes.
+    Special(Special),
+    /// Those outside of the run.
+    Outside(Run),
 }
 
 #[inline(always)]
@@ -28,18 +51,63 @@ fn is_special(byte: u8, what: Special) -> bool
         || what.non_ascii && !byte.is_ascii()
 }
 
+/// Whether the byte is a digit of this base.
+#[inline(always)]
+fn is_digit(byte: u8, base: IntegerBase) -> bool
+    ensures { result ≡ is_digit base byte }
+{
+    match base {
+        IntegerBase::Binary => matches!(byte, b'0' | b'1'),
+        IntegerBase::Octal => matches!(byte, b'0'..=b'7'),
+        IntegerBase::Decimal => byte.is_ascii_digit(),
+        IntegerBase::Hexadecimal => byte.is_ascii_hexdigit(),
+    }
+}
+
+#[inline(always)]
+fn is_in_run(byte: u8, run: Run) -> bool
+    ensures { result ≡ is_in_run run byte }
+{
+    match run {
+        Run::Digits(base) => is_digit(byte, base) || byte == b'_',
+        Run::Identifier => byte.is_ascii_alphanumeric() || byte == b'_',
+    }
+}
+
+#[inline(always)]
+fn is_target(byte: u8, target: Target) -> bool
+    ensures { result ≡ is_target target byte }
+{
+    match target {
+        Target::Special(what) => is_special(byte, what),
+        Target::Outside(run) => !is_in_run(byte, run),
+    }
+}
+
 /// The search by single bytes.
 #[inline(always)]
-fn by_bytes(bytes: &[u8], from: usize, what: Special) -> usize
+fn by_bytes(bytes: &[u8], from: usize, target: Target) -> usize
     requires { from ≤ length bytes.now }
-    ensures place { result ≡ from + prefix_len (is_ordinary what) (drop from bytes.now) }
+    ensures place { result ≡ from + prefix_len (is_passed target) (drop from bytes.now) }
     ensures within { result ≤ length bytes.now }
 {
     let mut i = from;
-    while i < bytes.len() && !is_special(bytes[i], what) {
+    while i < bytes.len() && !is_target(bytes[i], target) {
         i += 1;
     }
     i
+}
+
+/// The targets among the N bytes from `at` on: bit i is that of the byte at `at + i`.
+#[inline(always)]
+fn marks<const N: usize>(bytes: &[u8], at: usize, target: Target) -> u64
+    requires { (at + N ≤ length bytes.now) × (N ≤ 64) }
+    ensures { result ≡ mask_l (map (is_target target) (chunk at N bytes.now)) }
+{
+    match target {
+        Target::Special(what) => special_marks::<N>(bytes, at, what),
+        Target::Outside(run) => outside_marks::<N>(bytes, at, run),
+    }
 }
 
 /// The place of the lowest mark, where bit 0 is the mark of the place `from`; `end` where there is
@@ -59,21 +127,38 @@ fn first_marked(marks: u64, from: usize, end: usize) -> usize
 /// The search by N bytes a step. The last load is of the last N bytes, and its marks of the places
 /// before what is left are shifted out.
 #[inline(always)]
-fn by_lanes<const N: usize>(bytes: &[u8], from: usize, what: Special) -> usize
+fn by_lanes<const N: usize>(bytes: &[u8], from: usize, target: Target) -> usize
     requires { (from ≤ length bytes.now) × (N ≤ length bytes.now) × (0 < N) × (N < 64) }
-    ensures place { result ≡ from + prefix_len (is_ordinary what) (drop from bytes.now) }
+    ensures place { result ≡ from + prefix_len (is_passed target) (drop from bytes.now) }
 {
     let len = bytes.len();
     let mut i = from;
     while len - i >= N {
-        let found = marks::<N>(bytes, i, what);
+        let found = marks::<N>(bytes, i, target);
         if found != 0 {
             return i + found.trailing_zeros() as usize;
         }
         i += N;
     }
-    let left = marks::<N>(bytes, len - N, what) >> (N - (len - i));
+    let left = marks::<N>(bytes, len - N, target) >> (N - (len - i));
     first_marked(left, i, len)
+}
+
+/// The least place at or after `from` whose byte is a target; the length where there is none.
+#[inline(always)]
+#[tactic(auto, using(crate::proofs::MarkedRuns::run_bound))]
+fn next_target(bytes: &[u8], from: usize, target: Target) -> usize
+    requires { from ≤ length bytes.now }
+    ensures place { result ≡ from + prefix_len (is_passed target) (drop from bytes.now) }
+    ensures within { result ≤ length bytes.now }
+{
+    match bytes.len() {
+        0..=3 => by_bytes(bytes, from, target),
+        4..=7 => by_lanes::<4>(bytes, from, target),
+        8..=15 => by_lanes::<8>(bytes, from, target),
+        16..=31 => by_lanes::<16>(bytes, from, target),
+        _ => by_lanes::<32>(bytes, from, target),
+    }
 }
 
 /// The least place at or after `from` whose byte is special: `"`, CR, or another of `what`; the
@@ -90,16 +175,27 @@ fn by_lanes<const N: usize>(bytes: &[u8], from: usize, what: Special) -> usize
 ///
 /// The Rust Reference, Tokens, String literals: the characters that end a run of plain ones.
 #[inline(always)]
-#[tactic(auto, using(crate::proofs::MarkedRuns::run_bound))]
 pub fn next_special(bytes: &[u8], from: usize, what: Special) -> usize
     requires { from ≤ length bytes.now }
     ensures place { result ≡ from + prefix_len (is_ordinary what) (drop from bytes.now) }
     ensures within { result ≤ length bytes.now }
 {
-    match bytes.len() {
-        0..=7 => by_bytes(bytes, from, what),
-        8..=15 => by_lanes::<8>(bytes, from, what),
-        16..=31 => by_lanes::<16>(bytes, from, what),
-        _ => by_lanes::<32>(bytes, from, what),
-    }
+    next_target(bytes, from, Target::Special(what))
+}
+
+/// How many bytes at the front are of the run.
+///
+/// ```
+/// assert_eq!(run_end(b"1_0a2", Run::Digits(IntegerBase::Decimal)), 3);
+/// assert_eq!(run_end(b"1_0a2", Run::Digits(IntegerBase::Hexadecimal)), 5);
+/// assert_eq!(run_end("größe".as_bytes(), Run::Identifier), 2);
+/// ```
+///
+/// The Rust Reference, Tokens, Integer literals, and Identifiers.
+#[inline(always)]
+pub fn run_end(bytes: &[u8], run: Run) -> usize
+    ensures run { result ≡ prefix_len (is_in_run run) bytes.now }
+    ensures within { result ≤ length bytes.now }
+{
+    next_target(bytes, 0, Target::Outside(run))
 }

@@ -1,5 +1,6 @@
-//! The search against a plain one, over every length that the widths tell apart.
-use crate::{Special, next_special};
+//! The searches against plain ones, over every length that the widths tell apart.
+use crate::{Run, Special, next_special, run_end};
+use litrs_base::IntegerBase;
 use std::process::Abort;
 use std::test::Fail;
 
@@ -95,5 +96,90 @@ fn worked_places(rt: HostRuntime) -> Result<(), Fail> {
     assert_eq!(rt; next_special(b"\\", 0, ALL), 0);
     assert_eq!(rt; next_special(b"\\", 0, NONE), 1);
     assert_eq!(rt; next_special(b"", 0, ALL), 0);
+    Ok(())
+}
+
+/// Each run.
+const RUNS: [Run; 5] = [
+    Run::Digits(IntegerBase::Binary),
+    Run::Digits(IntegerBase::Octal),
+    Run::Digits(IntegerBase::Decimal),
+    Run::Digits(IntegerBase::Hexadecimal),
+    Run::Identifier,
+];
+
+/// Whether the byte is of the run.
+fn is_in_run(byte: u8, run: Run) -> bool {
+    match byte {
+        b'_' | b'0' | b'1' => true,
+        b'2'..=b'7' => run != Run::Digits(IntegerBase::Binary),
+        b'8' | b'9' => run != Run::Digits(IntegerBase::Binary)
+            && run != Run::Digits(IntegerBase::Octal),
+        b'a'..=b'f' | b'A'..=b'F' => run == Run::Digits(IntegerBase::Hexadecimal)
+            || run == Run::Identifier,
+        b'g'..=b'z' | b'G'..=b'Z' => run == Run::Identifier,
+        _ => false,
+    }
+}
+
+/// Compares with a plain search, which goes back from the end, for each run.
+fn compare_runs(rt: &impl Abort, bytes: &[u8]) -> Result<(), Fail> {
+    for run in RUNS {
+        let mut wanted = bytes.len();
+        for i in (0..bytes.len()).rev() {
+            if !is_in_run(bytes[i], run) {
+                wanted = i;
+            }
+        }
+        assert_eq!(rt; run_end(bytes, run), wanted);
+    }
+    Ok(())
+}
+
+#[test]
+fn ends_runs_at_each_byte(rt: HostRuntime) -> Result<(), Fail> {
+    for byte in 0..=255 {
+        for len in [1, 3, 4, 7, 8, 15, 16, 31, 32, 33, 40] {
+            for place in [0, len / 2, len - 1] {
+                let mut bytes = [b'0'; 40];
+                if let Some(at) = bytes.get_mut(place) {
+                    *at = byte;
+                }
+                let (bytes, _) = bytes.split_at(len.min(40));
+                compare_runs(&rt, bytes)?;
+            }
+        }
+    }
+    Ok(())
+}
+
+#[test]
+fn ends_runs_at_each_place(rt: HostRuntime) -> Result<(), Fail> {
+    for len in 0..=100 {
+        for place in 0..=len {
+            let mut bytes = [b'_'; 100];
+            if let Some(at) = bytes.get_mut(place) {
+                *at = b'.';
+            }
+            let (bytes, _) = bytes.split_at(len.min(100));
+            compare_runs(&rt, bytes)?;
+        }
+    }
+    Ok(())
+}
+
+#[test]
+fn worked_runs(rt: HostRuntime) -> Result<(), Fail> {
+    let decimal = Run::Digits(IntegerBase::Decimal);
+    let hexadecimal = Run::Digits(IntegerBase::Hexadecimal);
+    assert_eq!(rt; run_end(b"", decimal), 0);
+    assert_eq!(rt; run_end(b"1_0a2", decimal), 3);
+    assert_eq!(rt; run_end(b"1_0a2", hexadecimal), 5);
+    assert_eq!(rt; run_end(b"FF_u8", hexadecimal), 3);
+    assert_eq!(rt;
+        run_end(b"0123456789_0123456789_0123456789_0123456789.5", decimal),
+        43
+    );
+    assert_eq!(rt; run_end("größe".as_bytes(), Run::Identifier), 2);
     Ok(())
 }

@@ -84,7 +84,7 @@ decimal_literals = (refl, refl, refl, refl)
 
 tails :
     (is_float_form (Some []) [] [] ≡ true)
-    -- nothing stands behind a period at the end
+    -- nothing follows a period at the end
     × (is_float_form (Some []) [] (codes "x") ≡ false)
     × (is_float_form (Some []) (codes "e5") [] ≡ false)
     × (is_float_form (Some (codes "5")) [] (codes "x") ≡ true)

@@ -115,7 +115,7 @@ escape_final w (c ∷ d ∷ t) x e f h =
     (keep (d == 120) _ _ _ _ e (hex_final w t x e f)
     (keep (d == 117) _ _ _ _ e (unicode_final w t x e f) (λ r. r))) h
 
--- `\u{` and what stands behind it, where no `}` follows
+-- `\u{` and what follows it, where no `}` follows
 
 abbrev digits : List ℕ → ℕ
 digits t = count_by is_ascii_hexdigit t
@@ -306,7 +306,7 @@ goes_on_inner w (c ∷ t) shut (unicode_escape inner, x, spells, h) =
     let z = before_first_of (λ c. c == 125) 125 (c ∷ t) inner x [] refl shut tails in
     inner_of_begun w c t z.0 (subst (λ l. IsInner w l) z.1 (inner_of w inner h))
 
--- what stands behind an opening brace, and no closing one: whether an escape begins so
+-- what follows an opening brace, and no closing one: whether an escape begins so
 pub inner_goes_on_decides : (w : Switches) (t : List ℕ) → list_all (λ c. not (c == 125)) t ≡ true → (inner_goes_on w t ≡ true) ↔ BeginsEscape w (92 ∷ 117 ∷ 123 ∷ t)
 inner_goes_on_decides w t shut = (inner_begins w t, goes_on_inner w t shut)
 

@@ -69,7 +69,7 @@ longer_text d c s more is =
     ap (λ l. d.integer ++ (f ++ l)) (ap (λ l. d.exponent ++ (l ++ more)) (sym is) ∙ sym (append_assoc d.exponent d.suffix more))
     ∙ ap (λ l. d.integer ++ l) (sym (append_assoc f (d.exponent ++ d.suffix) more)) ∙ sym (append_assoc d.integer (f ++ (d.exponent ++ d.suffix)) more)
 
--- ... and so nothing stands behind the number in a text that begins a float
+-- ... and so nothing follows the number in a text that begins a float
 nothing_behind : (d e : FloatParts) (more : List ℕ) → IsCut d → ¬ IsFloat d → IsFloat e → float_text d ++ more ≡ float_text e → d.suffix ≡ []
 nothing_behind d e more cut none float same = by d.suffix refl
   where
@@ -85,7 +85,7 @@ nothing_behind d e more cut none float same = by d.suffix refl
 period_stops : (c : ℕ) → is_period c ≡ true → is_decimal_char c ≡ false
 period_stops c h = grind (arith, nat_tests)
 
--- what stands behind the digits and `_` in front
+-- what follows the digits and `_` in front
 abbrev behind_digits : List ℕ → List ℕ
 behind_digits t = drop (prefix_len is_decimal_char t) t
 

@@ -101,7 +101,7 @@ back f = (f.1, f.0)
 neither : {A : Type 0} (b : Bool) → b ≡ false → (A → ⊥) → (b ≡ true) ↔ A
 neither b shut none = (λ h. absurd (both_ways b shut h), λ a. absurd (none a))
 
--- Raw literals, by what stands behind their front
+-- Raw literals, by what follows their front
 
 raw_literal : (kind : StringKind) (u x : List ℕ) (d : RawParts) → IsRawOf (has_unicode kind) (allows_nul kind) (u ++ x) d → IsRawLiteral kind ((raw_front kind ++ u) ++ x) d
 raw_literal kind u x d r = record { spells = ap (λ l. raw_front kind ++ l) r.spells ∙ sym (append_assoc (raw_front kind) u x); grammar = r.grammar }
@@ -115,7 +115,7 @@ raw_begins_behind kind u = (
   λ begins. (begins.0, begins.1, begins.2, raw_literal kind u begins.0 begins.1 begins.3),
 )
 
--- LF ends what stands behind the front
+-- LF ends what follows the front
 behind_line : (kind : StringKind) (u t : List ℕ) → raw_front kind ++ u ≡ t ++ 10 ∷ [] → (z : List ℕ) × (u ≡ z ++ 10 ∷ [])
 behind_line kind u t same = elim (front_of t (raw_front kind) (10 ∷ []) u (sym same)) [
   | inl (z, s) ↦ (z, append_cancel_left (raw_front kind) _ _ (same ∙ ap (λ l. l ++ 10 ∷ []) s ∙ append_assoc (raw_front kind) z (10 ∷ [])))

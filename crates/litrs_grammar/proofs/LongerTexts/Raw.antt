@@ -90,7 +90,7 @@ hashes_before zero s c t other = refl
 hashes_before (suc n) [] c t other = ap (λ v. v && begins_with (hashes n) t) (other_than_hash c other)
 hashes_before (suc n) (d ∷ s) c t other = ap (λ v. (35 == d) && v) (hashes_before n s c t other)
 
--- Nor does a closing: the first one stands behind it, where none stands before it.
+-- Nor does a closing: the first one follows it, where none stands before it.
 length_before_past : (n : ℕ) (front : List ℕ) (c : ℕ) (t : List ℕ) → occurs (raw_closing n) front ≡ false → is_quote c ≡ false → is_hash c ≡ false →
     length_before (raw_closing n) (front ++ c ∷ t) ≡ length front + suc (length_before (raw_closing n) t)
 length_before_past n [] c t none quote other =
@@ -352,7 +352,7 @@ completed unicode allow_nul n (c ∷ rest) t spells (few, (quote, inr x)) = (
       ∙ ap (λ l. l ++ 120 ∷ []) (ap (λ q. hashes n ++ q ∷ rest) (sym quote) ∙ spells)),
 )
 
--- what stands behind a front, and is refused, begins a raw literal if and only if it goes on
+-- what follows a front, and is refused, begins a raw literal if and only if it goes on
 pub raw_begins : (unicode allow_nul : Bool) (start : ℕ) (t : List ℕ) (r : Refusal) → raw_refusal unicode allow_nul start t ≡ Some r →
     BeginsBy (IsRawOf unicode allow_nul) t ↔ RawGoesOn unicode allow_nul t
 raw_begins unicode allow_nul start t r h = (
@@ -388,7 +388,7 @@ rows_open start n true quote o r is h = not_open (over start (start + n) TooMany
 rows_open start n false false o r is h = not_open (plain InvalidLiteral) r refl is h
 rows_open start n false true o r is h = (refl, refl, h)
 
--- what stands behind the hashes and the quote of an open text is a raw body
+-- what follows the hashes and the quote of an open text is a raw body
 record IsOpenRaw (unicode allow_nul : Bool) (t : List ℕ) : Type 0 where
   hash_count : ℕ
   body : List ℕ

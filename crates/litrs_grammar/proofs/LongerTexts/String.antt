@@ -24,7 +24,7 @@ use Rattle.litrs_grammar.proofs.LineFeeds.{is_other, no_line_feed}
 
 -- Quoted and raw starts
 
--- what stands behind the front that a text begins with
+-- what follows the front that a text begins with
 pub behind_quoted : (kind : StringKind) (t : List ℕ) → string_start kind t ≡ quoted_start → quoted_front kind ++ drop (length (quoted_front kind)) t ≡ t
 behind_quoted kind t is = begins_with-split (quoted_front kind) t ((string_start_says kind t).0 is)
 

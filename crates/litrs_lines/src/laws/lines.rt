@@ -1,7 +1,7 @@
 //! Laws of lines.
 ghost use Rattle.litrs_lines.specs.LinesLaws.{LinesSpellTheBytes, NoLineFeedInLines, LinesAreUnique};
 
-/// The ended lines, with an LF behind each, and what stands behind the last LF spell the bytes.
+/// The ended lines, with an LF behind each, and what follows the last LF spell the bytes.
 pub fn lines_spell_the_bytes()
     ensures { LinesSpellTheBytes }
 {}

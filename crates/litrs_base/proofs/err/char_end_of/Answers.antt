@@ -1,5 +1,5 @@
 -- std's boundary in the bytes is that of the text.
-use Rattle.std.proofs.Common.{◌≡◌, ◌≤◌, ◌<◌, length, arith}
+use Rattle.std.proofs.Common.{◌≤◌, ◌<◌, length, arith}
 use Rattle.litrs_base.proofs.CharEnds.{char_end_within, char_end_past}
 use Rattle.litrs_base.proofs.err.char_end_of.Goals as goal
 

@@ -2,7 +2,7 @@
 use Rattle.std.proofs.Common.{length, refl, ◌∙◌}
 use Rattle.std.specs.Str.{chars}
 use Rattle.litrs_grammar.specs.Literal.{a_float, float_literal, kind_parse, IsLiteralOf}
-use Rattle.litrs_lex.proofs.Dispatch.{begins_float-chars}
+use Rattle.litrs_lex.proofs.NumberBytes.{begins_float-chars}
 use Rattle.litrs_lex.proofs.IntegerBytes.{digit-chars}
 use Rattle.litrs_goes_on.proofs.Begins.{yes, begins_now}
 use Rattle.litrs_goes_on.proofs.Numbers.{float_decided}

@@ -1,5 +1,5 @@
--- What stands behind the front, moved by it.
-use Rattle.std.proofs.Common.{◌≡◌, ◌+◌, ◌-◌, ◌<◌, ◌^◌, ◌≤◌, ℕ, List, [], ◌∷◌, Bool, true, false, not, length, drop, take, get_or, refl, sym, ap, ◌∙◌, subst, arith, Some}
+-- What follows the front, moved by it.
+use Rattle.std.proofs.Common.{◌<◌, ◌^◌, ℕ, List, length, sym, ◌∙◌, subst, arith}
 use Rattle.litrs_grammar.specs.CharByte.{byte_kind}
 use Rattle.litrs_lex.proofs.CharByteBytes.{IsFronted, fronted, char_read, char_refused, moves, front_boundary, start_within}
 use Rattle.litrs_lex.proofs.char.cut_byte.Goals as goal

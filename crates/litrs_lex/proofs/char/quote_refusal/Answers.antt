@@ -1,5 +1,5 @@
 -- Two quotes, or one.
-use Rattle.std.proofs.Common.{◌≡◌, ◌+◌, ◌-◌, ◌<◌, ◌≤◌, ℕ, List, [], ◌∷◌, Bool, true, false, not, length, drop, take, get_or, refl, sym, ap, ◌∙◌, subst, arith, Some}
+use Rattle.std.proofs.Common.{sym, ap, ◌∙◌, Some}
 use Rattle.std.specs.Prelude.{◌==◌}
 use Rattle.litrs_base.specs.Text.{first_passes}
 use Rattle.litrs_base.proofs.CharEnds.{no_span}

@@ -1,5 +1,5 @@
 -- Each arm by its row.
-use Rattle.std.proofs.Common.{◌≡◌, ◌+◌, ◌-◌, ◌<◌, ◌≤◌, ℕ, List, [], ◌∷◌, Bool, true, false, not, length, drop, take, get_or, refl, sym, ap, ◌∙◌, subst, arith, Some}
+use Rattle.std.proofs.Common.{sym, ap, ◌∙◌, Some}
 use Rattle.litrs_base.specs.Refusal.{plain}
 use Rattle.litrs_lex.specs.CharCut.{kind_if}
 use Rattle.litrs_lex.proofs.CharByteBytes.{end_refused, begins_get, none_first, slash_begins, ok_escape, err_escape}

@@ -1,10 +1,9 @@
 -- Each exit by its row.
-use Rattle.std.proofs.Common.{◌≡◌, ◌+◌, ◌-◌, ◌<◌, ◌≤◌, ℕ, List, [], ◌∷◌, Bool, true, false, not, length, drop, take, get_or, refl, sym, ap, ◌∙◌, subst, arith, Some}
-use Rattle.litrs_grammar.specs.CharByte.{CharKind, byte_kind, char_kind, char_item_refusal}
+use Rattle.std.proofs.Common.{Bool, sym, ap, ◌∙◌, subst, Some}
+use Rattle.litrs_grammar.specs.CharByte.{char_item_refusal}
 use Rattle.litrs_base.specs.declared.escape.Unescape.TheVariants.{Unicode}
 use Rattle.litrs_lex.specs.CharCut.{kind_if, IsItemRead}
 use Rattle.std.specs.Str.{chars}
-use Rattle.std.proofs.lemmas.Str.{length-encode}
 use Rattle.litrs_lex.proofs.CharByteBytes.{special_row, ascii_item, wide_row, wide_item, wide_some, one_size}
 use Rattle.litrs_lex.proofs.char.read_plain.Goals as goal
 

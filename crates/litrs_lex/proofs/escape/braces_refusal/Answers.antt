@@ -1,5 +1,5 @@
 -- Each exit by its row.
-use Rattle.std.proofs.Common.{◌≡◌, ◌+◌, ℕ, List, Bool, ap, ◌∙◌, sym, arith, Some, subst, refl, false, true, drop, take, length}
+use Rattle.std.proofs.Common.{◌≡◌, ◌+◌, ap, ◌∙◌, sym, Some, false, true, drop}
 use Rattle.std.specs.Prelude.{◌==◌}
 use Rattle.std.specs.Char.{is_ascii_hexdigit}
 use Rattle.std.specs.List.{list_any}

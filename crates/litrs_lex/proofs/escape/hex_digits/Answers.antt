@@ -1,10 +1,10 @@
 -- One more byte: an underscore, or a digit.
-use Rattle.std.proofs.Common.{◌≡◌, ◌+◌, ◌*◌, ◌^◌, ◌<◌, ◌≤◌, ℕ, List, Bool, cond, take, get_or, sym, ap, ◌∙◌, arith, refl}
-use Rattle.std.specs.Char.{is_ascii_hexdigit, digit_value}
+use Rattle.std.proofs.Common.{◌≡◌, ℕ, cond, get_or, ap, arith, refl}
+use Rattle.std.specs.Char.{is_ascii_hexdigit}
 use Rattle.std.proofs.lemmas.Grind.{pow_more}
 use Rattle.std.proofs.lemmas.Bool.{or_left}
 use Rattle.litrs_grammar.specs.Escape.{is_hex_or_underscore}
-use Rattle.litrs_lex.proofs.NumeralLemmas.{numeral-nil, numeral_digit, numeral_underscore}
+use Rattle.litrs_lex.proofs.NumeralLemmas.{numeral-nil, numeral_digit}
 use Rattle.litrs_lex.proofs.EscapeBytes.{six_digits, digit_small, all_more, count_one}
 use Rattle.litrs_lex.proofs.escape.hex_digits.Goals as goal
 

@@ -1,7 +1,7 @@
 -- Each exit by its row.
-use Rattle.std.proofs.Common.{◌≡◌, ℕ, List, ◌∷◌, drop, Bool, ap, ◌∙◌, sym, arith, Some, subst, refl}
+use Rattle.std.proofs.Common.{◌∷◌, drop, ap, ◌∙◌, sym, arith, Some}
 use Rattle.litrs_lex.proofs.EscapeBytes.{escape_is_refused, letter_bytes, letter_chars, begins_letter, end_row, few_bytes, unicode_off_row}
-use Rattle.litrs_lex.specs.Unescaped.{switches, IsEscapeRefused}
+use Rattle.litrs_lex.specs.Unescaped.{switches}
 use Rattle.litrs_grammar.specs.Escape.{escape_refusal}
 use Rattle.std.specs.Str.{chars}
 use Rattle.litrs_lex.proofs.escape.unescape.Goals as goal

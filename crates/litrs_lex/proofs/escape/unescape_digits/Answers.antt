@@ -1,5 +1,5 @@
 -- The value.
-use Rattle.std.proofs.Common.{◌≡◌, ◌+◌, ℕ, List, Bool, ap, ◌∙◌, sym, arith, Some, subst, refl, false, true, drop, take, length}
+use Rattle.std.proofs.Common.{◌≡◌, ◌+◌, ap, ◌∙◌, sym, Some, drop}
 use Rattle.litrs_base.specs.Characters.{is_no_nul_unless, is_scalar}
 use Rattle.litrs_base.specs.Refusal.{over}
 use Rattle.litrs_base.specs.declared.err.ParseErrorKind.TheVariants.{DisallowedNulEscape, InvalidUnicodeEscapeChar}

@@ -1,5 +1,5 @@
 -- Each exit by its row.
-use Rattle.std.proofs.Common.{◌≡◌, ℕ, List, Bool, ◌||◌, ◌&&◌, get_or, ap, ◌∙◌, sym, arith, Some, subst, refl}
+use Rattle.std.proofs.Common.{◌&&◌, get_or, ap, ◌∙◌, sym, Some, refl}
 use Rattle.std.proofs.lemmas.Bool.{false≢true}
 use Rattle.std.specs.Char.{is_ascii_hexdigit}
 use Rattle.litrs_base.specs.Characters.{is_no_nul_unless}

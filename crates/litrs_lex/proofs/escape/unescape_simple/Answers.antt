@@ -1,5 +1,5 @@
 -- Each exit by its row.
-use Rattle.std.proofs.Common.{◌≡◌, ℕ, List, Bool, ap, ◌∙◌, sym, arith, Some, subst, refl}
+use Rattle.std.proofs.Common.{ap, ◌∙◌, sym, Some}
 use Rattle.litrs_base.specs.Characters.{is_no_nul_unless}
 use Rattle.litrs_lex.proofs.EscapeBytes.{escape_is_refused, letter_of, unknown_row, simple_read, simple_nul_row, first_slash, fails}
 use Rattle.litrs_lex.proofs.escape.unescape_simple.Goals as goal

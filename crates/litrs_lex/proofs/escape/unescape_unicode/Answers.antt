@@ -1,5 +1,5 @@
 -- The braces.
-use Rattle.std.proofs.Common.{◌≡◌, ℕ, List, Bool, ap, ◌∙◌, sym, arith, Some, subst, refl, false}
+use Rattle.std.proofs.Common.{ap, ◌∙◌, sym, Some}
 use Rattle.std.specs.Prelude.{◌==◌}
 use Rattle.std.proofs.Common.{drop}
 use Rattle.litrs_base.specs.Text.{first_passes}

@@ -1,4 +1,4 @@
--- The first character and the others tell whether a text is a suffix.
+-- The first character and the others decide whether a text is a suffix.
 use Rattle.std.proofs.Common.{sym, ap, ◌∙◌, arith}
 use Rattle.std.proofs.lemmas.Bool.Decides.{nat_tests}
 use Rattle.litrs_grammar.specs.Suffix.{is_suffix}

@@ -1,4 +1,4 @@
--- The first byte tells whether the first character is an ASCII symbol.
+-- The first byte decides whether the first character is an ASCII symbol.
 use Rattle.std.proofs.Common.{◌≡◌, Some, None, sym, ap, ◌∙◌, slice_get}
 use Rattle.std.specs.Option.{option_copied}
 use Rattle.litrs_grammar.specs.Suffix.{is_ascii_symbol}

@@ -1,4 +1,4 @@
--- A run and an item are read in each turn.
+-- A run and an item are parsed in each turn.
 use Rattle.std.proofs.Common.{arith, ◌∙◌, ap, refl, drop}
 use Rattle.std.proofs.lemmas.List.{drop-drop}
 use Rattle.litrs_lex.proofs.QuotedScan.{sizes_start, sizes_run, sizes_item, boundary_later, items_end}

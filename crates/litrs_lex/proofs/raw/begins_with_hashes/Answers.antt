@@ -1,5 +1,5 @@
 -- So many bytes at the front are hashes.
-use Rattle.std.proofs.Common.{◌≡◌, ◌≤◌, ◌<◌, leb, inl, inr, length, sym, ◌∙◌, arith}
+use Rattle.std.proofs.Common.{◌≤◌, ◌<◌, leb, inl, inr, length, sym, ◌∙◌, arith}
 use Rattle.std.proofs.lemmas.Bool.{cases_Bool, leb-true}
 use Rattle.litrs_lex.proofs.RawBytes.{hashes_front, hashes_longer}
 use Rattle.litrs_lex.proofs.raw.begins_with_hashes.Goals as goal

@@ -1,11 +1,11 @@
 -- Each exit is a row of the refusals of a body.
-use Rattle.std.proofs.Common.{◌≡◌, ◌+◌, ◌≤◌, ◌<◌, ℕ, true, false, drop, get_or, length, List, Some, refl, sym, ap, subst, ◌∙◌, arith}
+use Rattle.std.proofs.Common.{◌≡◌, ◌+◌, ◌≤◌, ℕ, drop, get_or, length, List, Some, refl, sym, ap, subst, ◌∙◌, arith}
 use Rattle.std.specs.Str.{chars, IsUtf8}
 use Rattle.std.proofs.lemmas.Bool.{ne_eqb}
 use Rattle.std.proofs.lemmas.Str.{IsUtf8-drop, IsCharBoundary-from_drop}
 use Rattle.litrs_base.specs.Refusal.{at}
 use Rattle.litrs_grammar.specs.Suffix.{is_suffix, suffix_refusal}
-use Rattle.litrs_lex.proofs.RawBytes.{stop_of, closing_of, open_body, refused_body, suffix_refused, suffix_within, body_cut, none_at, cons_at}
+use Rattle.litrs_lex.proofs.RawBytes.{stop_of, closing_of, open_body, refused_body, suffix_refused, body_cut, none_at, cons_at}
 use Rattle.litrs_lex.proofs.raw.cut_body.Goals as goal
 
 pub returns-then-end-bytes-clause-refused : goal.returns-then-end-bytes-clause-refused

@@ -1,5 +1,5 @@
 -- The digits behind the period are the fraction.
-use Rattle.litrs.specs.FloatLiteral.{float_parts}
+use Rattle.litrs_numbers.specs.FloatLiteral.{float_parts}
 use Rattle.litrs_lines.proofs.ReportLemmas.{fraction_field-is}
 use Rattle.litrs_lines.proofs.report.fraction_field.Goals as goal
 

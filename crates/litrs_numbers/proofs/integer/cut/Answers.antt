@@ -1,0 +1,29 @@
+-- The empty text and one that does not begin with a digit come before the cut.
+use Rattle.std.proofs.Common.{ap, sym, ◌∙◌, Some}
+use Rattle.std.specs.Str.{chars}
+use Rattle.std.specs.Char.{is_ascii_digit}
+use Rattle.std.proofs.lemmas.Result.{err_from_is_err_and}
+use Rattle.litrs_base.specs.Text.{first_passes}
+use Rattle.litrs_base.specs.Refusal.{refusal_of}
+use Rattle.litrs_base.proofs.CharEnds.{no_span}
+use Rattle.litrs_grammar.specs.Literal.{kind_parse, integer_literal}
+use Rattle.litrs_grammar.proofs.Refused.{is_refused}
+use Rattle.litrs_lex.proofs.IntegerBytes.{refusal-empty, refusal-no_digit}
+use Rattle.litrs_numbers.proofs.integer.cut.Goals as goal
+
+pub returns-in_err-first_byte_or_empty-clause-refused : goal.returns-in_err-first_byte_or_empty-clause-refused
+returns-in_err-first_byte_or_empty-clause-refused c =
+    let p = err_from_is_err_and c.from_residual.result c.from_residual.ensures.1 in
+    let same = ap refusal_of p.2 ∙ c.in_err-first_byte_or_empty.ensures.1 in
+    rw (p.1) (is_refused (kind_parse integer_literal) (chars c.args.input.now) _
+    (refusal-empty c.args.input.now c.in_err-first_byte_or_empty.ensures.0 ∙ ap Some (sym same)) (no_span _ _ _ same))
+
+pub cut_integer-requires : goal.cut_integer-requires
+cut_integer-requires c = ap (first_passes is_ascii_digit) (sym c.as_bytes.ensures.value) ∙ sym c.if-begins_with_digit.ensures
+
+pub returns-else-begins_with_digit-clause-refused : goal.returns-else-begins_with_digit-clause-refused
+returns-else-begins_with_digit-clause-refused c =
+    is_refused (kind_parse integer_literal) (chars c.args.input.now) c.in_text.result
+    (refusal-no_digit c.args.input.now c.in_ok-first_byte_or_empty.field-0 c.utf8.input c.in_ok-first_byte_or_empty.ensures
+    (ap (first_passes is_ascii_digit) (sym c.as_bytes.ensures.value) ∙ sym c.if-begins_with_digit.ensures)
+    ∙ ap Some (sym c.in_text.ensures.refusal)) c.in_text.ensures.char_span

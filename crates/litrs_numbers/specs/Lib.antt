@@ -1,0 +1,3 @@
+-- what the literals hold
+pub mod IntegerLiteral
+pub mod FloatLiteral

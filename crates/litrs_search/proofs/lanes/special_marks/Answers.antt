@@ -1,0 +1,12 @@
+use Rattle.std.proofs.Common.{w8, arith}
+use Rattle.std.proofs.lemmas.Simd.{length-chunk, chunk-fits}
+use lib.Lanes.{chunk}
+use Rattle.litrs_search.proofs.Needles.{marks_special}
+use Rattle.litrs_search.proofs.lanes.special_marks.Goals as goal
+
+pub returns : goal.returns
+returns g c =
+    let bytes = c.args.bytes.now in
+    let found = c.needles-second.ensures in
+    marks_special c.args.what (chunk c.args.at g.row.N bytes) g.row.N _ _ _ (length-chunk c.args.at g.row.N bytes c.requires.0) (omega arith)
+    (chunk-fits w8 c.args.at g.row.N bytes c.type_inv.bytes) found.second found.third found.limit

@@ -1,0 +1,3 @@
+pub mod ParsedStrings
+pub mod StringRefusals
+pub mod ParsedCStrings

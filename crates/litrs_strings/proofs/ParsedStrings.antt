@@ -1,0 +1,138 @@
+-- Where a string is cut, by its only derivation.
+use Rattle.std.proofs.Common.{◌≡◌, ℕ, ◌+◌, ◌-◌, ◌≤◌, Bool, true, List, [], ◌∷◌, ◌++◌, length, take, drop, slice_range, Option, None, refl, sym, ap, ◌∙◌, subst}
+use Rattle.std.specs.List.{list_all}
+use Rattle.std.specs.Prelude.{nat_lt}
+use Rattle.std.specs.Str.{chars, IsUtf8, IsCharBoundary}
+use Rattle.std.proofs.Math.Seq.{take-append_seam}
+use Rattle.std.proofs.lemmas.Str.{chars-IsAscii, encodes-chars, IsUtf8-between, IsCharBoundary-from_drop}
+use Rattle.litrs_base.specs.Derivations.{IsOnlyDerivation}
+use Rattle.litrs_base.specs.Text.{begins_with}
+use Rattle.litrs_base.proofs.Begins.{begins_with-split}
+use Rattle.litrs_base.proofs.Chars.{IsAsciiFront, begins_front, begins_with-chars}
+use Rattle.litrs_grammar.specs.StringKind.{StringKind, string_kind, byte_string_kind, c_string_kind, switches_of}
+use Rattle.litrs_grammar.specs.Quoted.{quoted_front, IsQuoted}
+use Rattle.litrs_grammar.specs.Raw.{raw_front, has_unicode, allows_nul, raw_text, IsRawOf}
+use Rattle.litrs_grammar.specs.Literal.{StringParts, quoted_parts, raw_parts, IsString}
+use Rattle.litrs_grammar.specs.Strings.{StringDerivation}
+use Rattle.litrs_grammar.proofs.LiteralLaws.{only_string}
+use Rattle.litrs_lex.specs.RawCut.{IsRawCut, raw_parts_at}
+use Rattle.litrs_strings.specs.declared.cut.StringCut.{StringCut}
+use Rattle.litrs_strings.specs.StringLiteral.{IsStringAt, IsCStringAt}
+use Rattle.litrs_strings.specs.ParsedStrings.{IsParsedQuoted, IsParsedRaw, IsParsedString}
+
+-- The fronts are ASCII, so that a text may be cut behind them.
+
+abbrev is_low : List ℕ → Bool
+is_low t = list_all (λ c. nat_lt c 128) t
+
+quoted_low : (kind : StringKind) → is_low (quoted_front kind) ≡ true
+quoted_low string_kind = refl
+quoted_low byte_string_kind = refl
+quoted_low c_string_kind = refl
+
+raw_low : (kind : StringKind) → is_low (raw_front kind) ≡ true
+raw_low string_kind = refl
+raw_low byte_string_kind = refl
+raw_low c_string_kind = refl
+
+pub quoted_begins : (kind : StringKind) (bs : List ℕ) → IsUtf8 bs →
+    begins_with (quoted_front kind) (chars bs) ≡ begins_with (quoted_front kind) bs
+quoted_begins kind bs u = begins_with-chars (quoted_front kind) bs (quoted_low kind) u
+
+pub raw_begins : (kind : StringKind) (bs : List ℕ) → IsUtf8 bs →
+    begins_with (raw_front kind) (chars bs) ≡ begins_with (raw_front kind) bs
+raw_begins kind bs u = begins_with-chars (raw_front kind) bs (raw_low kind) u
+
+front_boundary : (front bs : List ℕ) → is_low front ≡ true → IsUtf8 bs → begins_with front bs ≡ true → IsCharBoundary bs (length front)
+front_boundary front bs low u begins =
+    let f = begins_front front bs low begins u in IsCharBoundary-from_drop bs (length front) f.within f.utf8
+
+pub quoted_boundary : (kind : StringKind) (bs : List ℕ) → IsUtf8 bs → begins_with (quoted_front kind) bs ≡ true →
+    IsCharBoundary bs (length (quoted_front kind))
+quoted_boundary kind bs u begins = front_boundary (quoted_front kind) bs (quoted_low kind) u begins
+
+pub raw_boundary : (kind : StringKind) (bs : List ℕ) → IsUtf8 bs → begins_with (raw_front kind) bs ≡ true →
+    IsCharBoundary bs (length (raw_front kind))
+raw_boundary kind bs u begins = front_boundary (raw_front kind) bs (raw_low kind) u begins
+
+-- what stands before the body of a quoted string
+pub quoted_before : (kind : StringKind) (bs : List ℕ) → IsUtf8 bs → begins_with (quoted_front kind) bs ≡ true →
+    chars (take (length (quoted_front kind)) bs) ≡ quoted_front kind
+quoted_before kind bs u begins =
+    let front = quoted_front kind in
+    let f = begins_front front bs (quoted_low kind) begins u in
+    chars-IsAscii (take (length front) bs) f.ascii
+    ∙ (ap (take (length front)) (sym (begins_with-split front bs begins)) ∙ take-append_seam front (drop (length front) bs))
+
+-- what stands behind the front of a raw one
+pub raw_behind : (kind : StringKind) (bs : List ℕ) → IsUtf8 bs → begins_with (raw_front kind) bs ≡ true →
+    drop (length (raw_front kind)) (chars bs) ≡ chars (drop (length (raw_front kind)) bs)
+raw_behind kind bs u begins = (begins_front (raw_front kind) bs (raw_low kind) begins u).rest
+
+-- A quoted or a raw string is a string of its kind.
+
+pub parsed_quoted : (kind : StringKind) (bs : List ℕ) (value : Option (List ℕ)) (cut : StringCut) → IsUtf8 bs →
+    begins_with (quoted_front kind) bs ≡ true → IsParsedQuoted (switches_of kind) bs (length (quoted_front kind)) value cut →
+    IsParsedString kind bs value cut
+parsed_quoted kind bs value cut u begins parsed = record {
+  parts = quoted_parts parsed.parts;
+  derives = subst (λ (front : List ℕ). IsQuoted front (switches_of kind) (chars bs) parsed.parts) (quoted_before kind bs u begins) parsed.derives;
+  at = parsed.at;
+}
+
+pub parsed_raw : (kind : StringKind) (bs : List ℕ) (cut : StringCut) → IsUtf8 bs → begins_with (raw_front kind) bs ≡ true →
+    IsParsedRaw (has_unicode kind) (allows_nul kind) (length (raw_front kind)) bs cut → IsParsedString kind bs None cut
+parsed_raw kind bs cut u begins parsed = record {
+  parts = raw_parts parsed.parts;
+  derives = record {
+    spells = ap (λ (t : List ℕ). raw_front kind ++ t) (parsed.derives.spells ∙ sym (raw_behind kind bs u begins))
+        ∙ begins_with-split (raw_front kind) (chars bs) (raw_begins kind bs u ∙ begins);
+    grammar = parsed.derives.grammar;
+  };
+  at = parsed.at;
+}
+
+-- the body of a raw string is its value
+pub parsed_raw_cut : (unicode allow_nul : Bool) (offset : ℕ) (bs : List ℕ) (hashes start_suffix : ℕ) → IsUtf8 bs →
+    IsRawCut unicode allow_nul offset bs (hashes, start_suffix) →
+    IsParsedRaw unicode allow_nul offset bs
+    (record { start_body = offset + (hashes + 1); end_body = start_suffix - (hashes + 1); start_suffix = start_suffix; is_raw = true })
+parsed_raw_cut unicode allow_nul offset bs hashes start_suffix u cut = record {
+  parts = raw_parts_at offset bs (hashes, start_suffix);
+  derives = cut.only.0;
+  at = record {
+    in_order = cut.in_order;
+    start = cut.start;
+    end = cut.end;
+    suffix_place = cut.suffix;
+    suffix = refl;
+    raw = refl;
+    kept = refl;
+    is_value = sym (encodes-chars _ (IsUtf8-between bs (offset + (hashes + 1)) (start_suffix - (hashes + 1)) u cut.in_order cut.start cut.end));
+  };
+}
+
+-- The derivation of a literal is the one that was parsed.
+
+pub only_derivation : (kind : StringKind) (t : List ℕ) (d : StringDerivation kind t) → IsOnlyDerivation (IsString kind t) d.0
+only_derivation kind t d = (d.1, λ e r. only_string kind t e d.0 r d.1)
+
+-- the derivations of two literals of one text
+pub same_parts : (kind : StringKind) (bytes b : List ℕ) (d e : StringParts) → b ≡ bytes → IsString kind (chars bytes) d → IsString kind (chars b) e → e ≡ d
+same_parts kind bytes b d e same r s = only_string kind (chars b) e d s (subst (λ (t : List ℕ). IsString kind (chars t) d) (sym same) r)
+
+-- what is said of a text and its derivation, of a copy of the text
+transported : (kind : StringKind) (P : List ℕ → StringParts → Type 0) (bytes b : List ℕ) (d e : StringParts) → b ≡ bytes →
+    IsString kind (chars bytes) d → IsString kind (chars b) e → P bytes d → P b e
+transported kind P bytes b d e same r s p =
+    subst (λ (parts : StringParts). P b parts) (sym (same_parts kind bytes b d e same r s)) (subst (λ (t : List ℕ). P t d) (sym same) p)
+
+pub at_copy : (kind : StringKind) (cut : StringCut) (value v : Option (List ℕ)) (bytes b : List ℕ) (d e : StringParts) → b ≡ bytes → v ≡ value →
+    IsString kind (chars bytes) d → IsString kind (chars b) e → IsStringAt cut value bytes d → IsStringAt cut v b e
+at_copy kind cut value v bytes b d e same also r s at =
+    transported kind (IsStringAt cut v) bytes b d e same r s (subst (λ (o : Option (List ℕ)). IsStringAt cut o bytes d) (sym also) at)
+
+pub c_at_copy : (start : ℕ) (raw : Bool) (value v bytes b : List ℕ) (d e : StringParts) → b ≡ bytes → v ≡ value →
+    IsString c_string_kind (chars bytes) d → IsString c_string_kind (chars b) e → IsCStringAt start raw value bytes d → IsCStringAt start raw v b e
+c_at_copy start raw value v bytes b d e same also r s at =
+    transported c_string_kind (IsCStringAt start raw v) bytes b d e same r s (subst (λ (o : List ℕ). IsCStringAt start raw o bytes d) (sym also) at)

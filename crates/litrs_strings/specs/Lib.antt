@@ -1,0 +1,5 @@
+-- what the literals hold
+pub mod CString
+pub mod StringLiteral
+-- how a text is cut
+pub mod ParsedStrings

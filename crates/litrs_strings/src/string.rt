@@ -1,0 +1,223 @@
+//! String literals.
+ghost use Rattle.std.specs.Prelude.{◌≡◌, ◌↔◌, ◌⊎◌, false, IsTrue, IsOk, IfOk, IfErr, Some, nat_eq, option_map, string_bytes, is_some};
+ghost use Rattle.std.specs.Cmp.{on_per, on_equiv, partial_equiv_from_equiv};
+ghost use Rattle.std.specs.Cmp.Lexicographic.{pointwise, nat_list_eq_equiv};
+ghost use Rattle.std.specs.Str.{chars};
+ghost use Rattle.litrs_base.specs.Derivations.{IsOnlyDerivation};
+ghost use Rattle.litrs_grammar.specs.StringKind.{string_kind};
+ghost use Rattle.litrs_grammar.specs.Literal.{IsString, string_suffix, string_value, kind_parse, string_literal};
+ghost use Rattle.litrs_grammar.specs.Allocation.{has_escapes};
+ghost use Rattle.litrs_grammar.specs.Strings.{StringDerivation, is_raw};
+ghost use Rattle.litrs_grammar.specs.Refused.{IsRefusedOrOutOfMemory};
+ghost use Rattle.litrs_grammar.proofs.StringDerivations.{string_derivation-prop};
+ghost use Rattle.litrs_strings.specs.StringLiteral.{StringLiteral, IsStringAt};
+ghost use Rattle.litrs_strings.specs.ParsedStrings.{IsParsedString};
+
+use crate::cut::{StringCut, cut_raw, parse_quoted};
+use litrs_lex::{Buffer, ParseError, ParseErrorKind, Text, first_byte_or_empty};
+use std::alloc::{AllocError, Global};
+use std::fmt;
+use std::marker::Model;
+
+/// A string as it is written in Rust: `"foo"`, `"a\nb"`, `r#"foo"#`.
+///
+/// It is made of a quoted or a raw body and a suffix, which may be empty. See [the reference][ref].
+///
+/// [ref]: https://doc.rust-lang.org/reference/tokens.html#string-literals
+#[derive(Drop)]
+pub struct StringLit<B: Text> {
+    raw: B,
+    value: Option<String>,
+    cut: StringCut,
+    ghost derived: { StringDerivation string_kind (chars (B.bytes raw)) } by { string_derivation-prop string_kind (chars (B.bytes raw)) },
+}
+
+impl<B: Text> Model for StringLit<B> {
+    ghost Value = { StringLiteral B };
+
+    ghost view = { λ s. record { buffer = s.raw; raw = B.bytes s.raw; parts = s.derived.0 } };
+
+    ghost invariant = { λ s.
+        IsStringAt s.cut (option_map string_bytes s.value) (B.bytes s.raw) s.derived.0 };
+}
+
+impl<B: Text> StringLit<B> {
+    /// Parses a text that is one string.
+    ///
+    /// `"a\nb"u8` has the suffix `u8`, and its value is `a`, LF and `b`. There is one allocation,
+    /// for the value, where the body is quoted and has a backslash; else none.
+    ///
+    /// # Errors
+    ///
+    /// `Empty`; `InvalidStringLiteralStart` at the first byte where that is neither `"` nor `r`; or
+    /// as [`cut_quoted`](litrs_lex::cut_quoted) and [`scan_raw_string`](litrs_lex::scan_raw_string)
+    /// refuse the text: `"ab` is `UnterminatedString`, and `"\x80"` is `NonAsciiXEscape` at 1..5.
+    /// `OutOfMemory`, with no span, where the text is a string and there is no memory for its
+    /// value.
+    #[inline(always)]
+    pub fn parse(alloc: Global, input: B) -> Result<StringLit<B>, ParseError>
+        ensures buffer { IfOk result (λ lit. lit.buffer ≡ input) }
+        ensures raw { IfOk result (λ lit. lit.raw ≡ B.bytes input) }
+        ensures ok { IfOk result (λ lit.
+            IsOnlyDerivation (IsString string_kind (chars (B.bytes input))) lit.parts) }
+        ensures refused { IfErr result
+            (IsRefusedOrOutOfMemory (kind_parse string_literal) (chars (B.bytes input))) }
+    {
+        let (value, cut) = parse_text(alloc, input.as_str())?;
+        Ok(StringLit {
+            raw: input,
+            value,
+            cut,
+        })
+    }
+
+    /// The text that the literal stands for: `a`, LF and `b` for `"a\nb"`.
+    pub fn value(&self) -> &str
+        ensures { result.now ≡ string_value self.now.parts }
+    {
+        match &self.value {
+            Some(value) => value.as_str(),
+            None => &self.raw.as_str()[self.cut.start_body..self.cut.end_body],
+        }
+    }
+
+    /// Whether the literal is raw, as `r"foo"` and `r#"foo"#` are.
+    pub fn is_raw_string(&self) -> bool
+        ensures { result ≡ is_raw self.now.parts }
+    {
+        self.cut.is_raw
+    }
+
+    /// The suffix, empty where there is none: `u8` of `"foo"u8`.
+    pub fn suffix(&self) -> &str
+        ensures { chars result.now ≡ string_suffix self.now.parts }
+    {
+        &self.raw.as_str()[self.cut.start_suffix..]
+    }
+
+    /// The text that was parsed. It is a string, with the parts that the accessors answer.
+    pub fn raw_input(&self) -> &str
+        ensures raw { result.now ≡ self.now.raw }
+        ensures literal { IsString string_kind (chars result.now) self.now.parts }
+    {
+        self.raw.as_str()
+    }
+
+    /// The same literal again. Over `&str` it does not allocate, and succeeds, where the body is
+    /// raw or has no backslash.
+    ///
+    /// # Errors
+    ///
+    /// `AllocError` where there is no memory for the text or the value.
+    pub fn clone(&self, alloc: Global) -> Result<StringLit<B>, AllocError>
+        ensures raw { IfOk result (λ copy. copy.raw ≡ self.now.raw) }
+        ensures parts { IfOk result (λ copy. copy.parts ≡ self.now.parts) }
+        ensures succeeds { B.owns ≡ false → has_escapes self.now.parts ≡ false → IsOk result }
+    {
+        let value = copy_value(alloc, &self.value)?;
+        let raw = self.raw.copy(alloc)?;
+        Ok(StringLit {
+            raw,
+            value,
+            cut: self.cut,
+        })
+    }
+
+    /// The text that was parsed, in its buffer: of a literal over `String` the `String` with
+    /// `"foo"`.
+    pub fn into_raw_input(self) -> B
+        ensures buffer { result ≡ self.buffer }
+        ensures text { B.bytes result ≡ self.raw }
+    {
+        let StringLit {
+            raw,
+            value: _,
+            cut: _,
+        } = self;
+        raw
+    }
+}
+
+impl<B: Buffer> StringLit<B> {
+    /// The text that the literal stands for, taken out of the literal. Over `&str` it is borrowed
+    /// from the text where the body is raw or has no backslash, else owned. It does not allocate.
+    pub fn into_value(self) -> B::Cow
+        ensures text { B.cow_bytes result ≡ string_value self.parts }
+        ensures owned { B.cow_owned result ↔ (IsTrue B.owns ⊎ IsTrue (has_escapes self.parts)) }
+    {
+        let StringLit { raw, value, cut } = self;
+        match value {
+            Some(value) => B::cow_from(value),
+            None => raw.cut(cut.start_body..cut.end_body).into_cow(),
+        }
+    }
+}
+
+impl StringLit<&str> {
+    /// The same literal with a text of its own.
+    ///
+    /// # Errors
+    ///
+    /// `AllocError` where there is no memory for the text. The literal is dropped then.
+    pub fn into_owned(self, alloc: Global) -> Result<StringLit<String>, AllocError>
+        ensures raw { IfOk result (λ owned. owned.raw ≡ self.entry.raw) }
+        ensures parts { IfOk result (λ owned. owned.parts ≡ self.entry.parts) }
+    {
+        let StringLit { raw, value, cut } = self;
+        let raw = String::from_str(alloc, raw)?;
+        Ok(StringLit { raw, value, cut })
+    }
+}
+
+/// The value, where the body has a backslash, and where the text is cut, if it is a string.
+fn parse_text(alloc: Global, input: &str) -> Result<(Option<String>, StringCut), ParseError>
+    ensures ok { IfOk result (λ parsed.
+        IsParsedString string_kind input.now (option_map string_bytes parsed.0) parsed.1) }
+    ensures refused { IfErr result
+        (IsRefusedOrOutOfMemory (kind_parse string_literal) (chars input.now)) }
+{
+    let first = first_byte_or_empty(input)?;
+    if first == b'"' {
+        parse_quoted(alloc, input, 1, true, false, true)
+    } else if first == b'r' {
+        let cut = cut_raw(input, 1, true, true)?;
+        Ok((None, cut))
+    } else {
+        let span = Some(0..1);
+        Err(ParseError::in_text(input, span, ParseErrorKind::InvalidStringLiteralStart))
+    }
+}
+
+/// The same value again.
+fn copy_value(alloc: Global, value: &Option<String>) -> Result<Option<String>, AllocError>
+    ensures bytes { IfOk result (λ copy.
+        option_map string_bytes copy ≡ option_map string_bytes value.now) }
+    ensures succeeds { is_some value.now ≡ false → IsOk result }
+{
+    match value {
+        Some(value) => Ok(Some(String::from_str(alloc, value.as_str())?)),
+        None => Ok(None),
+    }
+}
+
+impl<B: Text> PartialEq for StringLit<B> {
+    ghost eq = { λ x y. pointwise nat_eq x.raw y.raw };
+
+    ghost laws = { on_per (λ lit. lit.raw) (partial_equiv_from_equiv nat_list_eq_equiv) };
+
+    fn eq(&self, other: &StringLit<B>) -> bool {
+        self.raw.as_str() == other.raw.as_str()
+    }
+}
+
+impl<B: Text> Eq for StringLit<B> {
+    ghost laws = { on_equiv (λ lit. lit.raw) nat_list_eq_equiv };
+}
+
+impl<B: Text> fmt::Display for StringLit<B> {
+    ghost output = { λ lit. Some lit.raw };
+
+    fn fmt<W: fmt::Write>(&self, f: &mut fmt::Formatter<W>) -> fmt::Result {
+        f.pad(self.raw.as_str())
+    }
+}
