@@ -19,8 +19,8 @@ use Rattle.litrs_grammar.specs.Integer.{IntegerParts, is_e, integer_text, intege
 use Rattle.litrs_grammar.specs.Float.{FloatParts, number_part, fraction_text, float_text, is_period, is_decimal_char, has_wrong_fraction, float_cut, float_refusal}
 use Rattle.litrs_grammar.specs.FloatGoesOn.{FloatGoesOn}
 use Rattle.litrs_grammar.specs.IntegerGoesOn.{IntegerGoesOn}
-use Rattle.litrs_grammar.specs.Literal.{integer_literal, float_literal, kind_parse, Begins}
-use Rattle.litrs_grammar.specs.LiteralRefusals.{is_float_mark, begins_float}
+use Rattle.litrs_grammar.specs.Literal.{LiteralKind, an_integer, a_float, integer_literal, float_literal, kind_parse, IsLiteralOf, Begins}
+use Rattle.litrs_grammar.specs.LiteralRefusals.{is_float_mark, begins_float, parsed_as, dispatch}
 use Rattle.litrs_grammar.specs.Refused.{IsRefused}
 use Rattle.litrs_grammar.proofs.IntegerLaws.{integer_rows, number_rows, integer_cut-is, cut-spells, refusal_of_digit}
 use Rattle.litrs_grammar.proofs.FloatCuts.{IsCut, CutOf, cut_of, cut_of_text, behind_decimals, fraction_stops, number_part-suffix}
@@ -28,8 +28,17 @@ use Rattle.litrs_grammar.proofs.FloatLaws.{float_rows, cut_rows, refusal_of_cut}
 use Rattle.litrs_grammar.proofs.FloatSpans.{number_part_ascii}
 use Rattle.litrs_grammar.proofs.LongerTexts.Literal.{chain, back, refused_texts_go_on}
 use Rattle.litrs_grammar.proofs.LongerTexts.Suffix.{is_suffix-nil}
+use Rattle.litrs_grammar.proofs.NumberLaws.{float_begins, integer_begins}
+use Rattle.litrs_lex.specs.declared.number.NumberCut.{NumberCut}
+use Rattle.litrs_lex.specs.declared.number.NumberCut.TheVariants as number
+use Rattle.litrs_lex.specs.NumberCut.{number_kind, IsNumberCut}
+use Rattle.litrs_lex.proofs.Dispatch.{dispatch-chars}
+use Rattle.litrs_lex.proofs.IntegerBytes.{digit-chars}
+use Rattle.litrs_lex.proofs.NumberBytes.{begins_float-chars}
 use Rattle.litrs_goes_on.specs.LacksDigits.{is_digits_kind, ends_at, lacks_digits}
-use Rattle.litrs_goes_on.proofs.Begins.{answer_is}
+use Rattle.litrs_goes_on.specs.Row.{row_of}
+use Rattle.litrs_goes_on.specs.declared.dispatch.Row.TheVariants as row
+use Rattle.litrs_goes_on.proofs.Begins.{answer_is, begins_now}
 
 -- nothing stands behind a front that is as long as the text
 nothing_behind : (a b : List ℕ) → byte_len a ≡ byte_len (a ++ b) → b ≡ []
@@ -122,8 +131,8 @@ integer_lacks d r h = (to, from)
         (suffix_refusal d.suffix)
         (sym (ap (first_passes is_e) none) j) (list_any (is_digit d.base) d.main)) ∙ h) whole
 
-integer_goes : (t : List ℕ) (r : Refusal) → first_passes is_ascii_digit t ≡ true → integer_refusal
-    t ≡ Some r → (lacks_digits r (byte_len t) ≡ true) ↔ IntegerGoesOn t
+integer_goes : (t : List ℕ) (r : Refusal) → first_passes is_ascii_digit t ≡ true →
+    integer_refusal t ≡ Some r → (lacks_digits r (byte_len t) ≡ true) ↔ IntegerGoesOn t
 integer_goes t r digit h = chain lacks (λ none. inr (digit, none), from)
   where
     d : IntegerParts
@@ -140,7 +149,7 @@ integer_goes t r digit h = chain lacks (λ none. inr (digit, none), from)
     from (inl empty) = absurd (false≢true (ap (first_passes is_ascii_digit) (sym empty) ∙ digit))
     from (inr goes) = goes.1
 
-pub integer_decided : (bs : List ℕ) (e : ParseError) (len : ℕ) (b : Bool) → IsUtf8 bs →
+integer_decided : (bs : List ℕ) (e : ParseError) (len : ℕ) (b : Bool) → IsUtf8 bs →
     first_passes is_ascii_digit (chars bs) ≡ true → IsRefused (kind_parse integer_literal)
     (chars bs) e →
     len ≡ length bs → b ≡ lacks_digits (refusal_of e) len →
@@ -271,12 +280,13 @@ float_lacks d r cut digit begins h = (to, from)
     wrong = has_wrong_fraction (fraction_text d.fraction ++ (d.exponent ++ d.suffix))
 
     rows : float_rows i f n len (suffix_refusal d.suffix) wrong (is_some d.fraction)
-        (not (is_empty d.exponent)) (list_any is_ascii_digit d.exponent) (is_suffix d.suffix) ≡ Some
-        r
+        (not (is_empty d.exponent)) (list_any is_ascii_digit d.exponent) (is_suffix d.suffix)
+        ≡ Some r
     rows = sym (rows_of_digit d digit) ∙ h
 
-    alone : d.suffix ≡ [] → fraction_text d.fraction ++ (d.exponent ++ d.suffix) ≡ fraction_text
-        d.fraction ++ d.exponent
+    alone : d.suffix ≡ [] →
+        fraction_text d.fraction ++ (d.exponent ++ d.suffix)
+        ≡ fraction_text d.fraction ++ d.exponent
     alone none = ap (λ l. fraction_text d.fraction ++ (d.exponent ++ l)) none
         ∙ ap (λ l. fraction_text d.fraction ++ l) (append-nil d.exponent)
 
@@ -309,8 +319,8 @@ float_lacks d r cut digit begins h = (to, from)
         ∙ rows) whole
 
 float_goes : (t : List ℕ) (r : Refusal) → first_passes is_ascii_digit t ≡ true →
-    begins_float t ≡ true → float_refusal t ≡ Some r → (lacks_digits r (byte_len t) ≡ true)
-    ↔ FloatGoesOn (float_cut t)
+    begins_float t ≡ true → float_refusal t ≡ Some r →
+    (lacks_digits r (byte_len t) ≡ true) ↔ FloatGoesOn (float_cut t)
 float_goes t r digit begins h =
     subst (λ (d : FloatParts). (lacks_digits r (byte_len t) ≡ true) ↔ FloatGoesOn d) (sym cut_is)
     here
@@ -328,7 +338,7 @@ float_goes t r digit begins h =
         (ap begins_float c.spells ∙ begins)
         (sym (refusal_of_cut c.parts c.cut) ∙ ap float_refusal c.spells ∙ h))
 
-pub float_decided : (bs : List ℕ) (e : ParseError) (len : ℕ) (b : Bool) → IsUtf8 bs →
+float_decided : (bs : List ℕ) (e : ParseError) (len : ℕ) (b : Bool) → IsUtf8 bs →
     first_passes is_ascii_digit (chars bs) ≡ true → begins_float (chars bs) ≡ true →
     IsRefused (kind_parse float_literal) (chars bs) e → len ≡ length bs →
     b ≡ lacks_digits (refusal_of e) len → IsTrue b ↔ Begins (kind_parse float_literal) (chars bs)
@@ -339,3 +349,52 @@ float_decided bs e len b u digit begins refused is_len is =
     (is ∙ ap (lacks_digits (refusal_of e)) size)
     (chain (float_goes t (refusal_of e) digit begins refused.table)
     (back (refused_texts_go_on (kind_parse float_literal) t (refusal_of e) refused.table)))
+
+-- Both kinds
+
+abbrev kind_of : Bool → LiteralKind
+kind_of float = if float then float_literal else integer_literal
+
+-- a number is parsed as its kind
+pub number_named : (bs : List ℕ) → IsUtf8 bs → row_of row.Number bs ≡ dispatch bs →
+    dispatch (chars bs) ≡ parsed_as (number_kind (chars bs))
+number_named bs u is = dispatch-chars bs u ∙ sym is ∙ inside (begins_float bs)
+    ∙ (λ j. parsed_as (kind_of (sym (begins_float-chars bs u) j)))
+  where
+    inside : (v : Bool) → (if v then parsed_as float_literal else parsed_as integer_literal)
+        ≡ parsed_as (kind_of v)
+    inside true = refl
+    inside false = refl
+
+pub number_decided : (bs : List ℕ) (e : ParseError) (len : ℕ) (b : Bool) → IsUtf8 bs →
+    first_passes is_ascii_digit bs ≡ true →
+    IsRefused (kind_parse (number_kind (chars bs))) (chars bs) e → len ≡ length bs →
+    b ≡ lacks_digits (refusal_of e) len →
+    IsTrue b ↔ Begins (kind_parse (number_kind (chars bs))) (chars bs)
+number_decided bs e len b u digit refused is_len is = by (begins_float (chars bs)) refl
+  where
+    front : first_passes is_ascii_digit (chars bs) ≡ true
+    front = digit-chars bs u ∙ digit
+
+    by : (v : Bool) → begins_float (chars bs) ≡ v →
+        IsTrue b ↔ Begins (kind_parse (number_kind (chars bs))) (chars bs)
+    by true float = rw (float) (float_decided bs e len b u front float
+        (subst (λ (v : Bool). IsRefused (kind_parse (kind_of v)) (chars bs) e) float refused)
+        is_len is)
+    by false integer = rw (integer) (integer_decided bs e len b u front
+        (subst (λ (v : Bool). IsRefused (kind_parse (kind_of v)) (chars bs) e) integer refused)
+        is_len is)
+
+-- a cut of either kind is a literal of the kind that the text is parsed as
+pub number_found : (cut : NumberCut) (bs : List ℕ) → IsNumberCut cut bs →
+    Begins (kind_parse (number_kind (chars bs))) (chars bs)
+number_found (number.Integer cut) bs found =
+    subst (λ (k : LiteralKind). Begins (kind_parse k) (chars bs))
+    (sym (ap kind_of (integer_begins (chars bs) _ found.0.0)))
+    (begins_now (IsLiteralOf (kind_parse integer_literal)) (chars bs) (an_integer _)
+    (refl, found.0.0))
+number_found (number.Float cut) bs found =
+    subst (λ (k : LiteralKind). Begins (kind_parse k) (chars bs))
+    (sym (ap kind_of (float_begins (chars bs) _ found.0.0)))
+    (begins_now (IsLiteralOf (kind_parse float_literal)) (chars bs) (a_float _)
+    (refl, found.0.0))

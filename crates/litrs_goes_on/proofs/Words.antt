@@ -60,9 +60,9 @@ word_decided bs seen e b u row same is =
 
 -- the empty text begins a literal, and a bool is one
 pub whole_decided : (r : Row) (bs : List ℕ) → IsUtf8 bs → (r ≡ row.Empty) ⊎ (r ≡ row.Bool) →
-    row_of r ≡ dispatch bs → begins_as r bs ≡ true → IsTrue true ↔ Begins literal_parse (chars bs)
+    row_of r bs ≡ dispatch bs → begins_as r bs ≡ true → IsTrue true ↔ Begins literal_parse (chars bs)
 whole_decided r bs u (inl empty) is begins =
-    nothing bs u (ap row_of (sym empty) ∙ is)
+    nothing bs u (ap (λ (k : Row). row_of k bs) (sym empty) ∙ is)
     (ap (λ (k : Row). begins_as k bs) (sym empty) ∙ begins)
   where
     nothing : (bs : List ℕ) → IsUtf8 bs → refused_as (plain Empty) ≡ dispatch bs →

@@ -29,7 +29,7 @@ pub(crate) fn byte_goes_on(text: &str) -> bool
     item_goes_on(&text[2..], true)
 }
 
-/// Whether the front of a char or of a byte, with this behind it, begins one.
+/// Whether the front of a char or of a byte, followed by this, begins one.
 fn item_goes_on(rest: &str, is_byte: bool) -> bool
     ensures { IsTrue result ↔ BeginsBy (IsCharLiteral (kind_if is_byte))
         (char_front (kind_if is_byte) ++ chars rest.now) }
@@ -61,7 +61,7 @@ fn is_plain(c: char, is_byte: bool) -> bool
     !matches!(c, '\'' | '\\' | '\n' | '\t' | '\r') && (!is_byte || c.is_ascii())
 }
 
-/// Whether what stands behind the character begins the closing quote and a suffix.
+/// Whether what follows the character begins the closing quote and a suffix.
 fn closing_goes_on(behind: &str) -> bool
     ensures { IsTrue result ↔ BeginsClosing (chars behind.now) }
 {

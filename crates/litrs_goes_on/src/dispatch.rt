@@ -2,10 +2,8 @@
 ghost use Rattle.std.specs.Prelude.{◌≡◌, IsFalse, IsTrue};
 ghost use Rattle.litrs_base.specs.Text.{is_empty};
 ghost use Rattle.litrs_grammar.specs.Bool.{is_bool};
-ghost use Rattle.litrs_grammar.specs.LiteralRefusals.{begins_float, dispatch};
+ghost use Rattle.litrs_grammar.specs.LiteralRefusals.{dispatch};
 ghost use Rattle.litrs_goes_on.specs.Row.{row_of, begins_as};
-
-use litrs_lex::end_dec_digits;
 
 /// What a text is parsed as, by how it begins.
 #[derive(Clone, Copy)]
@@ -14,9 +12,8 @@ pub(crate) enum Row {
     Empty,
     /// A bool, which is the whole text.
     Bool,
-    /// An integer, if it is a literal at all; so are the other kinds.
-    Integer,
-    Float,
+    /// An integer or a float, if it is a literal at all; so are the other kinds.
+    Number,
     Char,
     Byte,
     String,
@@ -29,7 +26,7 @@ pub(crate) enum Row {
 /// What a text is parsed as.
 #[tactic(auto, unfolding(litrs_grammar::specs::LiteralRefusals::dispatch))]
 pub(crate) fn dispatch(text: &str) -> Row
-    ensures row { row_of result ≡ dispatch text.now }
+    ensures row { row_of result text.now ≡ dispatch text.now }
     ensures front { IsTrue (begins_as result text.now) }
 {
     match text {
@@ -44,12 +41,11 @@ pub(crate) fn dispatch(text: &str) -> Row
 fn by_front(bytes: &[u8]) -> Row
     requires some { IsFalse (is_empty bytes.now) }
     requires no_bool { IsFalse (is_bool bytes.now) }
-    ensures row { row_of result ≡ dispatch bytes.now }
+    ensures row { row_of result bytes.now ≡ dispatch bytes.now }
     ensures front { IsTrue (begins_as result bytes.now) }
 {
     match bytes {
-        [b'0'..=b'9', ..] if begins_float(bytes) => Row::Float,
-        [b'0'..=b'9', ..] => Row::Integer,
+        [b'0'..=b'9', ..] => Row::Number,
         [b'\'', ..] => Row::Char,
         [b'"' | b'r', ..] => Row::String,
         [b'b', b'\'', ..] => Row::Byte,
@@ -57,11 +53,4 @@ fn by_front(bytes: &[u8]) -> Row
         [b'c', ..] => Row::CString,
         _ => Row::Unnamed,
     }
-}
-
-/// Whether a period, `e` or `E` stands behind the leading run of decimal digits and underscores.
-fn begins_float(bytes: &[u8]) -> bool
-    ensures { result ≡ begins_float bytes.now }
-{
-    matches!(&bytes[end_dec_digits(bytes)..], [b'.' | b'e' | b'E', ..])
 }

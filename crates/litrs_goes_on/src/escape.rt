@@ -26,7 +26,7 @@ pub(crate) fn escape_goes_on(text: &str, unicode: bool, byte_escapes: bool, allo
     }
 }
 
-/// Whether a refused escape becomes one, by what stands behind the backslash.
+/// Whether a refused escape becomes one, by what follows the backslash.
 pub(crate) fn refused_escape_goes_on(
     behind: &[u8],
     unicode: bool,
@@ -43,7 +43,7 @@ pub(crate) fn refused_escape_goes_on(
     }
 }
 
-/// The same by what stands behind `\x`: nothing, or one hex digit, with which `1` is allowed.
+/// The same by what follows `\x`: nothing, or one hex digit, with which `1` is allowed.
 fn hex_goes_on(digits: &[u8], byte_escapes: bool) -> bool
     ensures { (unicode allow_nul : Bool) →
         result ≡ hex_goes_on (switches unicode byte_escapes allow_nul) digits.now }
@@ -58,7 +58,7 @@ fn hex_goes_on(digits: &[u8], byte_escapes: bool) -> bool
     }
 }
 
-/// The same by what stands behind `\u`, where such escapes are allowed.
+/// The same by what follows `\u`, where such escapes are allowed.
 fn braces_go_on(braces: &[u8], allow_nul: bool) -> bool
     ensures { (byte_escapes : Bool) →
         result ≡ braces_go_on (switches true byte_escapes allow_nul) braces.now }
@@ -70,7 +70,7 @@ fn braces_go_on(braces: &[u8], allow_nul: bool) -> bool
     }
 }
 
-/// The same by what stands behind `\u{`: nothing, or hex digits and underscores, a digit first. A
+/// The same by what follows `\u{`: nothing, or hex digits and underscores, a digit first. A
 /// digit or a brace mends at most five digits, and a brace alone the value of six.
 fn inner_goes_on(inner: &[u8], allow_nul: bool) -> bool
     ensures { (byte_escapes : Bool) →

@@ -1,4 +1,4 @@
-//! Which texts begin a literal: with some text behind them, which may be empty, they are one.
+//! Which texts begin a literal: they are one, or become one with some text appended.
 #![tactic(auto)]
 
 ghost use Rattle.std.specs.Prelude.{◌↔◌, IsTrue};
@@ -7,7 +7,7 @@ ghost use Rattle.litrs_grammar.specs.Literal.{literal_parse, Begins};
 
 use char::{byte_goes_on, char_goes_on};
 use dispatch::{Row, dispatch};
-use number::{float_goes_on, integer_goes_on};
+use number::number_goes_on;
 use string::{byte_string_goes_on, c_string_goes_on, string_goes_on};
 use word::word_goes_on;
 
@@ -24,7 +24,7 @@ mod suffix;
 mod tests;
 mod word;
 
-/// Whether the text, or the text with some text behind it, is a literal of any kind.
+/// Whether the text, or the text with some text appended, is a literal of any kind.
 ///
 /// It is true of the empty text, `fals`, `12`, `1e+_`, `'a`, `"a"_` and `"\u{d800`, and false of
 /// `cat`, `0xg`, `1e+x`, `'ab`, `"\q` and `"\u{00d800`. Where it is false no further input makes
@@ -37,8 +37,7 @@ pub fn goes_on(text: &str) -> bool
 {
     match dispatch(text) {
         Row::Empty | Row::Bool => true,
-        Row::Integer => integer_goes_on(text),
-        Row::Float => float_goes_on(text),
+        Row::Number => number_goes_on(text),
         Row::Char => char_goes_on(text),
         Row::Byte => byte_goes_on(text),
         Row::String => string_goes_on(text),

@@ -4,31 +4,19 @@ ghost use Rattle.std.specs.Char.{is_ascii_digit};
 ghost use Rattle.std.specs.Str.{chars};
 ghost use Rattle.litrs_base.specs.Refusal.{refusal_of};
 ghost use Rattle.litrs_base.specs.Text.{first_passes};
-ghost use Rattle.litrs_grammar.specs.Literal.{kind_parse, integer_literal, float_literal, Begins};
-ghost use Rattle.litrs_grammar.specs.LiteralRefusals.{begins_float};
+ghost use Rattle.litrs_grammar.specs.Literal.{kind_parse, Begins};
+ghost use Rattle.litrs_lex.specs.NumberCut.{number_kind};
 ghost use Rattle.litrs_goes_on.specs.LacksDigits.{lacks_digits};
 
-use litrs_lex::{ParseError, ParseErrorKind, cut_float, cut_integer};
+use litrs_lex::{ParseError, ParseErrorKind, cut_number};
 
-/// Whether a text that begins with a decimal digit begins an integer.
-pub(crate) fn integer_goes_on(text: &str) -> bool
+/// Whether a text that begins with a decimal digit begins a number of the kind that it is parsed as.
+pub(crate) fn number_goes_on(text: &str) -> bool
     requires { IsTrue (first_passes is_ascii_digit text.now) }
-    ensures { IsTrue result ↔ Begins (kind_parse integer_literal) (chars text.now) }
+    ensures { IsTrue result
+        ↔ Begins (kind_parse (number_kind (chars text.now))) (chars text.now) }
 {
-    match cut_integer(text) {
-        Ok(_) => true,
-        Err(e) => lacks_digits(&e, text.len()),
-    }
-}
-
-/// Whether a text that begins with a decimal digit, and has a period or an exponent behind its
-/// leading digits, begins a float.
-pub(crate) fn float_goes_on(text: &str) -> bool
-    requires digit { IsTrue (first_passes is_ascii_digit text.now) }
-    requires mark { IsTrue (begins_float text.now) }
-    ensures { IsTrue result ↔ Begins (kind_parse float_literal) (chars text.now) }
-{
-    match cut_float(text) {
+    match cut_number(text) {
         Ok(_) => true,
         Err(e) => lacks_digits(&e, text.len()),
     }

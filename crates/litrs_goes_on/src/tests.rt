@@ -3,7 +3,7 @@ use crate::goes_on;
 use std::alloc::{AllocError, Global};
 use std::test::Fail;
 
-/// Texts that are no literals, and that some text behind them completes.
+/// Texts that are no literals, and become one with some text appended.
 const BEGUN: [&str; 45] = [
     "",
     "t",
@@ -271,7 +271,7 @@ fn beginnings_of_other_texts(rt: HostRuntime) {
     }
 }
 
-/// A text that begins with the front and has so many copies of the part behind it.
+/// The front, followed by so many copies of the part.
 fn repeated(alloc: Global, front: &str, part: &str, count: usize) -> Result<String, AllocError> {
     let mut text = String::from_str(alloc, front)?;
     for _ in 0..count {
@@ -296,7 +296,7 @@ fn hashes_up_to_255(rt: HostRuntime) -> Result<(), Fail> {
     Ok(())
 }
 
-/// A front, a part that is repeated behind it, and whether that begins a literal.
+/// A front, a part that is repeated after it, and whether that begins a literal.
 const LONG: [(&str, &str, bool); 24] = [
     ("", "\\", false),
     ("", "\"", false),

@@ -3,10 +3,12 @@ use Rattle.std.proofs.Common.{sym, ◌∙◌}
 use Rattle.std.specs.Str.{chars}
 use Rattle.litrs_base.specs.declared.err.ParseErrorKind.TheVariants.{InvalidLiteral}
 use Rattle.litrs_base.specs.Refusal.{plain}
-use Rattle.litrs_grammar.specs.Literal.{integer_literal, float_literal, char_literal, byte_literal, string_literal, byte_string_literal, c_string_literal}
+use Rattle.litrs_grammar.specs.Literal.{char_literal, byte_literal, string_literal, byte_string_literal, c_string_literal}
 use Rattle.litrs_grammar.proofs.LongerTexts.Literal.{chain}
+use Rattle.litrs_lex.specs.NumberCut.{number_kind}
 use Rattle.litrs_lex.proofs.Dispatch.{dispatch-chars}
 use Rattle.litrs_goes_on.proofs.Begins.{begins_parsed}
+use Rattle.litrs_goes_on.proofs.Numbers.{number_named}
 use Rattle.litrs_goes_on.proofs.Words.{whole_decided, word_decided}
 use Rattle.litrs_goes_on.proofs.goes_on.Goals as goal
 
@@ -14,15 +16,10 @@ pub returns-in-Empty : goal.returns-in-Empty
 returns-in-Empty c = whole_decided c.dispatch.result c.args.text.now c.utf8.text c.in-Empty.is
     c.dispatch.ensures.row c.dispatch.ensures.front
 
-pub returns-in-Integer : goal.returns-in-Integer
-returns-in-Integer c = chain c.integer_goes_on.ensures
-    (begins_parsed (chars c.args.text.now) integer_literal
-    (dispatch-chars c.args.text.now c.utf8.text ∙ sym c.in-Integer.ensures.row))
-
-pub returns-in-Float : goal.returns-in-Float
-returns-in-Float c = chain c.float_goes_on.ensures
-    (begins_parsed (chars c.args.text.now) float_literal
-    (dispatch-chars c.args.text.now c.utf8.text ∙ sym c.in-Float.ensures.row))
+pub returns-in-Number : goal.returns-in-Number
+returns-in-Number c = chain c.number_goes_on.ensures
+    (begins_parsed (chars c.args.text.now) (number_kind (chars c.args.text.now))
+    (number_named c.args.text.now c.utf8.text c.in-Number.ensures.row))
 
 pub returns-in-Char : goal.returns-in-Char
 returns-in-Char c = chain c.char_goes_on.ensures
