@@ -13,7 +13,7 @@ ghost use Rattle.litrs_grammar.specs.Literal.{kind_parse, integer_literal};
 ghost use Rattle.litrs_grammar.specs.Refused.{IsRefused};
 ghost use Rattle.litrs_lex.specs.IntegerCut.{parts_at, IsWithin, IsDigitsCut};
 
-use crate::parse::check_suffix;
+use crate::parse::{check_suffix, end_dec_digits};
 use litrs_base::{IntegerBase, ParseError, ParseErrorKind};
 use litrs_search::{Run, run_end};
 use std::ops::Range;
@@ -148,11 +148,27 @@ fn base_of(bytes: &[u8]) -> IntegerBase
 }
 
 /// How many digits of this base and underscores stand at the front, in bytes.
-#[inline(never)]
+#[inline(always)]
 fn digits_len(base: IntegerBase, bytes: &[u8]) -> usize
     ensures { result ≡ prefix_len (is_digit_or_underscore base) bytes.now }
 {
-    run_end(bytes, Run::Digits(base))
+    match base {
+        IntegerBase::Decimal => end_dec_digits(bytes),
+        _ => end_digits(base, bytes),
+    }
+}
+
+/// The same by a search for each base.
+#[inline(never)]
+fn end_digits(base: IntegerBase, bytes: &[u8]) -> usize
+    ensures { result ≡ prefix_len (is_digit_or_underscore base) bytes.now }
+{
+    match base {
+        IntegerBase::Binary => run_end(bytes, Run::Digits(IntegerBase::Binary)),
+        IntegerBase::Octal => run_end(bytes, Run::Digits(IntegerBase::Octal)),
+        IntegerBase::Decimal => end_dec_digits(bytes),
+        IntegerBase::Hexadecimal => run_end(bytes, Run::Digits(IntegerBase::Hexadecimal)),
+    }
 }
 
 /// Whether one of these digits and underscores is a digit.
