@@ -28,6 +28,10 @@ pub trait FromIntegerLiteral: sealed::Sealed + Copy {
         requires { n ≤ 16 }
         ensures { result ≡ of n };
 
+    /// The value of a number, or None where it is greater than the greatest number.
+    fn from_number(n: u64) -> Option<Self>
+        ensures { SomeIff result (n ≤ greatest) (of n) };
+
     /// The sum, or None where it is greater than the greatest number.
     fn checked_add(self, rhs: Self) -> Option<Self>
         ensures { (m n : ℕ) → self ≡ of m → rhs ≡ of n →
@@ -66,6 +70,10 @@ impl FromIntegerLiteral for u8 {
         n
     }
 
+    fn from_number(n: u64) -> Option<u8> {
+        u8::try_from(n).ok()
+    }
+
     fn checked_add(self, rhs: u8) -> Option<u8> {
         self.checked_add(rhs)
     }
@@ -94,6 +102,10 @@ impl FromIntegerLiteral for u16 {
 
     fn from_small_number(n: u8) -> u16 {
         u16::from(n)
+    }
+
+    fn from_number(n: u64) -> Option<u16> {
+        u16::try_from(n).ok()
     }
 
     fn checked_add(self, rhs: u16) -> Option<u16> {
@@ -126,6 +138,10 @@ impl FromIntegerLiteral for u32 {
         u32::from(n)
     }
 
+    fn from_number(n: u64) -> Option<u32> {
+        u32::try_from(n).ok()
+    }
+
     fn checked_add(self, rhs: u32) -> Option<u32> {
         self.checked_add(rhs)
     }
@@ -154,6 +170,10 @@ impl FromIntegerLiteral for u64 {
 
     fn from_small_number(n: u8) -> u64 {
         u64::from(n)
+    }
+
+    fn from_number(n: u64) -> Option<u64> {
+        Some(n)
     }
 
     fn checked_add(self, rhs: u64) -> Option<u64> {
@@ -186,6 +206,10 @@ impl FromIntegerLiteral for u128 {
         u128::from(n)
     }
 
+    fn from_number(n: u64) -> Option<u128> {
+        Some(u128::from(n))
+    }
+
     fn checked_add(self, rhs: u128) -> Option<u128> {
         self.checked_add(rhs)
     }
@@ -214,6 +238,10 @@ impl FromIntegerLiteral for usize {
 
     fn from_small_number(n: u8) -> usize {
         usize::from(n)
+    }
+
+    fn from_number(n: u64) -> Option<usize> {
+        usize::try_from(n).ok()
     }
 
     fn checked_add(self, rhs: usize) -> Option<usize> {
@@ -246,6 +274,10 @@ impl FromIntegerLiteral for i8 {
         n as i8
     }
 
+    fn from_number(n: u64) -> Option<i8> {
+        i8::try_from(n).ok()
+    }
+
     fn checked_add(self, rhs: i8) -> Option<i8> {
         self.checked_add(rhs)
     }
@@ -274,6 +306,10 @@ impl FromIntegerLiteral for i16 {
 
     fn from_small_number(n: u8) -> i16 {
         i16::from(n)
+    }
+
+    fn from_number(n: u64) -> Option<i16> {
+        i16::try_from(n).ok()
     }
 
     fn checked_add(self, rhs: i16) -> Option<i16> {
@@ -306,6 +342,10 @@ impl FromIntegerLiteral for i32 {
         i32::from(n)
     }
 
+    fn from_number(n: u64) -> Option<i32> {
+        i32::try_from(n).ok()
+    }
+
     fn checked_add(self, rhs: i32) -> Option<i32> {
         self.checked_add(rhs)
     }
@@ -334,6 +374,10 @@ impl FromIntegerLiteral for i64 {
 
     fn from_small_number(n: u8) -> i64 {
         i64::from(n)
+    }
+
+    fn from_number(n: u64) -> Option<i64> {
+        i64::try_from(n).ok()
     }
 
     fn checked_add(self, rhs: i64) -> Option<i64> {
@@ -366,6 +410,10 @@ impl FromIntegerLiteral for i128 {
         i128::from(n)
     }
 
+    fn from_number(n: u64) -> Option<i128> {
+        Some(i128::from(n))
+    }
+
     fn checked_add(self, rhs: i128) -> Option<i128> {
         self.checked_add(rhs)
     }
@@ -394,6 +442,10 @@ impl FromIntegerLiteral for isize {
 
     fn from_small_number(n: u8) -> isize {
         isize::from(n)
+    }
+
+    fn from_number(n: u64) -> Option<isize> {
+        isize::try_from(n).ok()
     }
 
     fn checked_add(self, rhs: isize) -> Option<isize> {

@@ -4,7 +4,7 @@ use Rattle.std.specs.Prelude.{if◌then◌else◌, IfSome}
 use Rattle.std.specs.declared.ops.Range.{Range}
 use Rattle.std.specs.Str.{chars, IsUtf8, IsCharBoundary}
 use Rattle.std.specs.Char.{is_ascii_digit}
-use Rattle.std.specs.List.{list_all, list_any, take_while}
+use Rattle.std.specs.List.{list_all, list_any, prefix_len, take_while}
 use Rattle.std.specs.Option.{is_some}
 use Rattle.std.proofs.lemmas.Bool.{and_parts, ltb-true, ne_eqb, cases_lt, false≢true}
 use Rattle.std.proofs.lemmas.Bool.Decides.{nat_tests}
@@ -326,6 +326,26 @@ refusal_of_cut cut bs u h =
     let none = no_parts d.fraction d.exponent cut.end_integer cut.end_fraction cut.end_number p.fraction p.exponent in
     ap float_cut_refusal (float_cut-chars bs c u)
     ∙ (λ j. rows_by (p.integer j) (fraction j) (number j) (len j) (suffix_refusal (suffix j)) (wrong j) (digit j) (is_suffix (suffix j)) (none j))
+
+-- the first row needs no more than the fraction
+wrong_row : (d : FloatParts) → has_wrong_fraction (fraction_text d.fraction ++ (d.exponent ++ d.suffix)) ≡ true →
+    float_cut_refusal d ≡ Some (at (length d.integer + 1) UnexpectedChar)
+wrong_row d wrong =
+    row_wrong_fraction (length d.integer) (length d.integer + length (fraction_text d.fraction)) (length d.integer + length (fraction_text d.fraction) + length d.exponent)
+    (byte_len (float_text d)) (suffix_refusal d.suffix) (has_wrong_fraction (fraction_text d.fraction ++ (d.exponent ++ d.suffix)))
+    (not (is_empty d.exponent) && not (list_any is_ascii_digit d.exponent)) (is_suffix d.suffix) (not (is_some d.fraction || not (is_empty d.exponent))) wrong
+
+pub refusal_of_fraction : (bs : List ℕ) (n : ℕ) → IsUtf8 bs → n ≡ prefix_len is_decimal_char bs → has_wrong_fraction (drop n bs) ≡ true →
+    float_cut_refusal (float_cut (chars bs)) ≡ Some (at (n + 1) UnexpectedChar)
+refusal_of_fraction bs n u is wrong =
+    let c = cut_of bs in
+    let d = c.parts in
+    let same : float_cut bs ≡ d = ap float_cut (sym c.spells) ∙ cut_of_text d c.cut in
+    let integer : length d.integer ≡ n = ap length (sym (integer_is bs d same)) ∙ (length-prefix_len is_decimal_char bs ∙ sym is) in
+    let cut : FloatCut = record { end_integer = n; end_fraction = n + length (fraction_text d.fraction); end_number = n + length (fraction_text d.fraction) + length d.exponent } in
+    let places : Places cut d = record { integer = integer; fraction = refl; exponent = refl } in
+    ap float_cut_refusal (float_cut-chars bs c u)
+    ∙ (wrong_row (with_chars d) (wrong_fraction_at cut bs d u (fronts_of bs c) places ∙ wrong) ∙ ap (λ k. Some (at (k + 1) UnexpectedChar)) integer)
 
 -- something wrong behind the period is at least one byte
 pub wrong_fraction_within : (t : List ℕ) → has_wrong_fraction t ≡ true → 2 ≤ length t

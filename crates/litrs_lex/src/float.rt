@@ -1,5 +1,5 @@
 //! Where a float is cut.
-ghost use Rattle.std.specs.Prelude.{◌≡◌, ◌≤◌, ◌&&◌, not, length, IsTrue, IfOk, IfErr, option_map, Some};
+ghost use Rattle.std.specs.Prelude.{◌≡◌, ◌≤◌, ◌&&◌, not, drop, length, IsTrue, IsFalse, IfOk, IfErr, option_map, Some};
 ghost use Rattle.std.specs.Char.{is_ascii_digit};
 ghost use Rattle.std.specs.List.{prefix_len, list_any};
 ghost use Rattle.std.specs.Str.{chars};
@@ -60,6 +60,11 @@ pub(crate) fn cut_float_at(input: &str, end_integer: usize) -> Result<FloatCut, 
     ensures places { IfOk result (λ cut. IsFloatWithin cut input.now) }
     ensures refused { IfErr result (IsRefused (kind_parse float_literal) (chars input.now)) }
 {
+    if has_wrong_fraction(&input.as_bytes()[end_integer..]) {
+        let place = end_integer + 1;
+        let kind = ParseErrorKind::UnexpectedChar;
+        return Err(ParseError::in_text(input, Some(place..place + 1), kind));
+    }
     let cut = cut_parts(input, end_integer);
     match cut_refusal(&cut, input) {
         None => Ok(cut),
@@ -84,9 +89,11 @@ fn cut_parts(input: &str, end_integer: usize) -> FloatCut
     }
 }
 
-/// Why a text that is cut so is no float, and where; None where it is one.
+/// Why a text that is cut so, with a digit or nothing behind the period, is no float, and where; None
+/// where it is one.
 fn cut_refusal(cut: &FloatCut, input: &str) -> Option<(Option<Range<usize>>, ParseErrorKind)>
-    requires { IsPartsCut cut.now input.now }
+    requires parts { IsPartsCut cut.now input.now }
+    requires fraction { IsFalse (has_wrong_fraction (drop cut.now.end_integer input.now)) }
     ensures { option_map (λ r. refusal r.0 r.1) result
         ≡ float_cut_refusal (float_cut (chars input.now)) }
 {
@@ -95,12 +102,7 @@ fn cut_refusal(cut: &FloatCut, input: &str) -> Option<(Option<Range<usize>>, Par
         end_fraction,
         end_number,
     } = *cut;
-    let bytes = input.as_bytes();
-    if has_wrong_fraction(&bytes[end_integer..]) {
-        let place = end_integer + 1;
-        return Some((Some(place..place + 1), ParseErrorKind::UnexpectedChar));
-    }
-    if lacks_digits(&bytes[end_fraction..end_number]) {
+    if lacks_digits(&input.as_bytes()[end_fraction..end_number]) {
         return Some((
             Some(end_fraction..end_number),
             ParseErrorKind::NoExponentDigits,

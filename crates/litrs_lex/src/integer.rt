@@ -1,8 +1,9 @@
 //! Where an integer is cut.
-ghost use Rattle.std.specs.Prelude.{◌≡◌, IsTrue, IfOk, IfErr, option_map, Some};
+ghost use Rattle.std.specs.Prelude.{◌≡◌, ◌∷◌, [], IsTrue, IfOk, IfErr, option_map, Some};
 ghost use Rattle.std.specs.Char.{is_ascii_digit};
 ghost use Rattle.std.specs.List.{prefix_len, list_any};
 ghost use Rattle.std.specs.Str.{chars};
+ghost use Rattle.litrs_base.specs.Characters.{digit_zero};
 ghost use Rattle.litrs_base.specs.Base.{is_digit_or_underscore};
 ghost use Rattle.litrs_base.specs.Numeral.{is_no_underscore};
 ghost use Rattle.litrs_base.specs.Refusal.{refusal};
@@ -13,7 +14,8 @@ ghost use Rattle.litrs_grammar.specs.Literal.{kind_parse, integer_literal};
 ghost use Rattle.litrs_grammar.specs.Refused.{IsRefused};
 ghost use Rattle.litrs_lex.specs.IntegerCut.{parts_at, IsWithin, IsDigitsCut};
 
-use crate::parse::check_suffix;
+use crate::parse::{check_suffix, end_dec_digits};
+use litrs_base::IntegerBase::{Binary, Decimal, Hexadecimal, Octal};
 use litrs_base::{IntegerBase, ParseError, ParseErrorKind};
 use litrs_search::{Run, run_end};
 use std::ops::Range;
@@ -134,22 +136,68 @@ fn begins_with_e(bytes: &[u8]) -> bool
     }
 }
 
+/// What the letter behind a `0` indicates, from `b` on.
+static BASES: [IntegerBase; 23] = [
+    Binary,
+    Decimal,
+    Decimal,
+    Decimal,
+    Decimal,
+    Decimal,
+    Decimal,
+    Decimal,
+    Decimal,
+    Decimal,
+    Decimal,
+    Decimal,
+    Decimal,
+    Octal,
+    Decimal,
+    Decimal,
+    Decimal,
+    Decimal,
+    Decimal,
+    Decimal,
+    Decimal,
+    Decimal,
+    Hexadecimal,
+];
+
 /// The base, by the front of a text: `0b`, `0o` and `0x` are always the prefix, and
 /// everything else is decimal.
 fn base_of(bytes: &[u8]) -> IntegerBase
     ensures { result ≡ base_of bytes.now }
 {
     match bytes {
-        [b'0', b'b', ..] => IntegerBase::Binary,
-        [b'0', b'o', ..] => IntegerBase::Octal,
-        [b'0', b'x', ..] => IntegerBase::Hexadecimal,
-        _ => IntegerBase::Decimal,
+        [b'0', letter, ..] => base_of_letter(*letter),
+        _ => Decimal,
+    }
+}
+
+/// The same for a text that begins with `0` and this byte. The table makes it one test for all bases.
+fn base_of_letter(letter: u8) -> IntegerBase
+    ensures { result ≡ base_of (digit_zero ∷ letter ∷ []) }
+{
+    match letter {
+        b'b'..=b'x' => BASES[(letter - b'b') as usize],
+        _ => Decimal,
     }
 }
 
 /// How many digits of this base and underscores stand at the front, in bytes.
-#[inline(never)]
+#[inline(always)]
 fn digits_len(base: IntegerBase, bytes: &[u8]) -> usize
+    ensures { result ≡ prefix_len (is_digit_or_underscore base) bytes.now }
+{
+    match base {
+        IntegerBase::Decimal => end_dec_digits(bytes),
+        _ => end_digits(base, bytes),
+    }
+}
+
+/// The same by one search for all bases.
+#[inline(never)]
+fn end_digits(base: IntegerBase, bytes: &[u8]) -> usize
     ensures { result ≡ prefix_len (is_digit_or_underscore base) bytes.now }
 {
     run_end(bytes, Run::Digits(base))

@@ -1,5 +1,5 @@
 //! Integer literals.
-ghost use Rattle.std.specs.Prelude.{◌≡◌, ◌≤◌, ℕ, length, Bool, false, IsTrue, MatchOption, slice_index, IsOk, IfOk, IfErr, Some, nat_eq, ⊤};
+ghost use Rattle.std.specs.Prelude.{◌≡◌, ◌≤◌, ℕ, length, take, Bool, false, IsTrue, MatchOption, slice_index, IsOk, IfOk, IfErr, Some, nat_eq, ⊤};
 ghost use Rattle.std.specs.Char.{is_ascii_digit};
 ghost use Rattle.std.specs.Cmp.{on_per, on_equiv, partial_equiv_from_equiv};
 ghost use Rattle.std.specs.Cmp.Lexicographic.{pointwise, nat_list_eq_equiv};
@@ -190,18 +190,51 @@ fn cut(input: &str) -> Result<IntegerCut, ParseError>
 }
 
 /// The number that digits and underscores of the base stand for, None where `N` does not have it.
+/// It is counted in `u64` as long as that has one more digit, and then in `N`.
 fn value_of<N: FromIntegerLiteral>(base: IntegerBase, main: &[u8]) -> Option<N>
     requires { IsTrue (list_all (is_digit_or_underscore base) main.now) }
     ensures { let number = numeral (base_value base) main.now in
         SomeIff result (number ≤ N.greatest) (N.of number) }
 {
-    let radix = N::from_small_number(base.value());
-    let mut number = N::from_small_number(0);
-    for byte in main {
+    let radix = u64::from(base.value());
+    let mut number: u64 = 0;
+    for (i, byte) in main.iter().enumerate() {
         if *byte == b'_' {
             continue;
         }
+        if number >= 1 << 60 {
+            return value_from(base, main, i, N::from_number(number)?);
+        }
         let Some(digit) = hex_digit_value(*byte) else {
+            unreachable!();
+        };
+        number = number * radix + u64::from(digit);
+    }
+    N::from_number(number)
+}
+
+/// The same from this place on: the bytes before it stand for the number `front`.
+fn value_from<N: FromIntegerLiteral>(
+    base: IntegerBase,
+    main: &[u8],
+    start: usize,
+    front: N,
+) -> Option<N>
+    requires digits { IsTrue (list_all (is_digit_or_underscore base) main.now) }
+    requires within { start ≤ length main.now }
+    requires front { front ≡ N.of (numeral (base_value base) (take start main.now)) }
+    requires fits { numeral (base_value base) (take start main.now) ≤ N.greatest }
+    ensures { let number = numeral (base_value base) main.now in
+        SomeIff result (number ≤ N.greatest) (N.of number) }
+{
+    let radix = N::from_small_number(base.value());
+    let mut number = front;
+    for i in start..main.len() {
+        let byte = main[i];
+        if byte == b'_' {
+            continue;
+        }
+        let Some(digit) = hex_digit_value(byte) else {
             unreachable!();
         };
         number = number.checked_mul(radix)?;

@@ -27,3 +27,11 @@ last_letter (Digits Octal) = 96
 last_letter (Digits Decimal) = 96
 last_letter (Digits Hexadecimal) = 102
 last_letter Identifier = 122
+
+-- the bits of the table of classes that a byte of the run has one of
+abbrev pub classes : Run → ℕ
+classes (Digits Binary) = 0x21
+classes (Digits Octal) = 0x22
+classes (Digits Decimal) = 0x24
+classes (Digits Hexadecimal) = 0x28
+classes Identifier = 0x34

@@ -3,9 +3,8 @@ ghost use Rattle.std.specs.Prelude.{◌≡◌, ◌==◌, ◌+◌, ◌≤◌, ◌
 ghost use Rattle.std.specs.List.{prefix_len};
 ghost use Rattle.std.specs.Int.{w64, trailing_zeros};
 ghost use Rattle.std.specs.Simd.Lanes.{mask_l, chunk};
-ghost use Rattle.litrs_base.specs.Base.{is_digit};
 ghost use Rattle.litrs_search.specs.Special.{is_special, is_ordinary};
-ghost use Rattle.litrs_search.specs.Run.{is_in_run};
+ghost use Rattle.litrs_search.specs.Run.{classes, is_in_run};
 ghost use Rattle.litrs_search.specs.Target.{is_target, is_passed};
 
 use crate::lanes::{outside_marks, special_marks};
@@ -51,16 +50,36 @@ fn is_special(byte: u8, what: Special) -> bool
         || what.non_ascii && !byte.is_ascii()
 }
 
-/// Whether the byte is a digit of this base.
+/// What each byte is, one bit each: a digit of base 2, 8, 10 or 16, an ASCII letter, an underscore.
+static CLASSES: [u8; 256] = *b"\
+    \x00\x00\x00\x00\x00\x00\x00\x00\x00\x00\x00\x00\x00\x00\x00\x00\
+    \x00\x00\x00\x00\x00\x00\x00\x00\x00\x00\x00\x00\x00\x00\x00\x00\
+    \x00\x00\x00\x00\x00\x00\x00\x00\x00\x00\x00\x00\x00\x00\x00\x00\
+    \x0f\x0f\x0e\x0e\x0e\x0e\x0e\x0e\x0c\x0c\x00\x00\x00\x00\x00\x00\
+    \x00\x18\x18\x18\x18\x18\x18\x10\x10\x10\x10\x10\x10\x10\x10\x10\
+    \x10\x10\x10\x10\x10\x10\x10\x10\x10\x10\x10\x00\x00\x00\x00\x20\
+    \x00\x18\x18\x18\x18\x18\x18\x10\x10\x10\x10\x10\x10\x10\x10\x10\
+    \x10\x10\x10\x10\x10\x10\x10\x10\x10\x10\x10\x00\x00\x00\x00\x00\
+    \x00\x00\x00\x00\x00\x00\x00\x00\x00\x00\x00\x00\x00\x00\x00\x00\
+    \x00\x00\x00\x00\x00\x00\x00\x00\x00\x00\x00\x00\x00\x00\x00\x00\
+    \x00\x00\x00\x00\x00\x00\x00\x00\x00\x00\x00\x00\x00\x00\x00\x00\
+    \x00\x00\x00\x00\x00\x00\x00\x00\x00\x00\x00\x00\x00\x00\x00\x00\
+    \x00\x00\x00\x00\x00\x00\x00\x00\x00\x00\x00\x00\x00\x00\x00\x00\
+    \x00\x00\x00\x00\x00\x00\x00\x00\x00\x00\x00\x00\x00\x00\x00\x00\
+    \x00\x00\x00\x00\x00\x00\x00\x00\x00\x00\x00\x00\x00\x00\x00\x00\
+    \x00\x00\x00\x00\x00\x00\x00\x00\x00\x00\x00\x00\x00\x00\x00\x00";
+
+/// The bits of [`CLASSES`] that the bytes of the run have, at least one of them.
 #[inline(always)]
-fn is_digit(byte: u8, base: IntegerBase) -> bool
-    ensures { result ≡ is_digit base byte }
+fn classes(run: Run) -> u8
+    ensures { result ≡ classes run }
 {
-    match base {
-        IntegerBase::Binary => matches!(byte, b'0' | b'1'),
-        IntegerBase::Octal => matches!(byte, b'0'..=b'7'),
-        IntegerBase::Decimal => byte.is_ascii_digit(),
-        IntegerBase::Hexadecimal => byte.is_ascii_hexdigit(),
+    match run {
+        Run::Digits(IntegerBase::Binary) => 0x21,
+        Run::Digits(IntegerBase::Octal) => 0x22,
+        Run::Digits(IntegerBase::Decimal) => 0x24,
+        Run::Digits(IntegerBase::Hexadecimal) => 0x28,
+        Run::Identifier => 0x34,
     }
 }
 
@@ -68,10 +87,7 @@ fn is_digit(byte: u8, base: IntegerBase) -> bool
 fn is_in_run(byte: u8, run: Run) -> bool
     ensures { result ≡ is_in_run run byte }
 {
-    match run {
-        Run::Digits(base) => is_digit(byte, base) || byte == b'_',
-        Run::Identifier => byte.is_ascii_alphanumeric() || byte == b'_',
-    }
+    CLASSES[byte as usize] & classes(run) != 0
 }
 
 #[inline(always)]

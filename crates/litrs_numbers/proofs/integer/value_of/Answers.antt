@@ -1,47 +1,22 @@
 -- One more byte: an underscore, or a digit.
-use Rattle.std.proofs.Common.{◌+◌, ◌*◌, take, get_or, sym, ap, ◌∙◌, arith}
+use Rattle.std.proofs.Common.{◌≡◌, ◌+◌, ◌*◌, get_or, sym, ◌∙◌, arith}
 use Rattle.std.specs.Char.{digit_value}
 use Rattle.litrs_base.specs.Base.{base_value}
-use Rattle.litrs_base.specs.Numeral.{numeral}
 use Rattle.litrs_lex.proofs.NumeralLemmas.{numeral-nil, numeral_take, numeral_digit, positive_base}
 use Rattle.litrs_numbers.proofs.integer.value_of.Goals as goal
 
-pub loop-byte-init : goal.loop-byte-init
-loop-byte-init g c = record {
-  value = c.from_small_number-number.ensures ∙ ap g.N.FromIntegerLiteral.of (sym (numeral-nil (base_value c.args.base)));
-  fits = omega (arith, numeral-nil (base_value c.args.base));
-}
+pub loop-i-init : goal.loop-i-init
+loop-i-init g c = sym (numeral-nil (base_value c.args.base))
 
-pub returns-in_err-number : goal.returns-in_err-number
-returns-in_err-number g c =
-    let base = base_value c.args.base in
-    let main = c.args.main.now in
-    let i = c.loop-byte.byte-index in
-    let digit = numeral_digit base main i c.loop-byte-test.true c.if-byte-eq95.false in
-    let front = numeral_take base main (i + 1) (positive_base c.args.base) in
-    let over = c.in_err-number.ensures (numeral base (take i main)) base c.loop-byte.invariant.value (c.from_small_number-radix.ensures ∙ ap g.N.FromIntegerLiteral.of c.value.ensures) in
-    rw (c.from_residual.ensures) (λ fits. over (omega arith))
+pub returns-in_err-from_number : goal.returns-in_err-from_number
+returns-in_err-from_number g c =
+    let front = numeral_take (base_value c.args.base) c.args.main.now c.loop-i.i (positive_base c.args.base) in
+    rw (c.from_residual.ensures) (λ fits. c.in_err-from_number.ensures (omega arith))
 
-pub returns-in_err-number-2 : goal.returns-in_err-number-2
-returns-in_err-number-2 g c =
-    let base = base_value c.args.base in
+pub loop-i-preserved : goal.loop-i-preserved
+loop-i-preserved g c =
     let main = c.args.main.now in
-    let i = c.loop-byte.byte-index in
-    let digit = numeral_digit base main i c.loop-byte-test.true c.if-byte-eq95.false in
-    let front = numeral_take base main (i + 1) (positive_base c.args.base) in
-    let product = c.in_ok-number.ensures (numeral base (take i main)) base c.loop-byte.invariant.value (c.from_small_number-radix.ensures ∙ ap g.N.FromIntegerLiteral.of c.value.ensures) in
-    let over = c.in_err-number-2.ensures (numeral base (take i main) * base) (digit_value (get_or main i 0)) product.1 (c.from_small_number.ensures ∙ ap g.N.FromIntegerLiteral.of c.in-Some.ensures.1) in
-    rw (c.from_residual-in_err-number-2.ensures) (λ fits. over (omega arith))
-
-pub loop-byte-preserved : goal.loop-byte-preserved
-loop-byte-preserved g c =
-    let base = base_value c.args.base in
-    let main = c.args.main.now in
-    let i = c.loop-byte.byte-index in
-    let digit = numeral_digit base main i c.loop-byte-test.true c.if-byte-eq95.false in
-    let product = c.in_ok-number.ensures (numeral base (take i main)) base c.loop-byte.invariant.value (c.from_small_number-radix.ensures ∙ ap g.N.FromIntegerLiteral.of c.value.ensures) in
-    let total = c.in_ok-number-2.ensures (numeral base (take i main) * base) (digit_value (get_or main i 0)) product.1 (c.from_small_number.ensures ∙ ap g.N.FromIntegerLiteral.of c.in-Some.ensures.1) in
-    record {
-      value = total.1 ∙ ap g.N.FromIntegerLiteral.of (sym digit);
-      fits = let fits = total.0 in omega arith;
-    }
+    let i = c.loop-i.i in
+    let radix : c.from-radix.result ≡ base_value c.args.base = c.from-radix.ensures ∙ c.value.ensures in
+    let digit : c.from.result ≡ digit_value (get_or main i 0) = c.from.ensures ∙ c.in-Some.ensures.1 in
+    (λ k. c.loop-i.invariant k * radix k + digit k) ∙ sym (numeral_digit (base_value c.args.base) main i c.loop-i-test.true c.if-byte-eq95.false)
