@@ -4,7 +4,7 @@ use Rattle.std.specs.Char.{digit_value}
 use Rattle.litrs_base.specs.Base.{base_value}
 use Rattle.litrs_base.specs.Numeral.{numeral}
 use Rattle.litrs_lex.proofs.NumeralLemmas.{numeral-nil, numeral_take, numeral_digit, positive_base}
-use Rattle.litrs.proofs.integer.value_from.Goals as goal
+use Rattle.litrs_numbers.proofs.integer.value_from.Goals as goal
 
 pub loop-i-init : goal.loop-i-init
 loop-i-init g c = record { value = c.requires.front; fits = c.requires.fits }

@@ -2,7 +2,7 @@
 use Rattle.std.proofs.Common.{◌≡◌, ◌≤◌, take}
 use Rattle.litrs_base.specs.Base.{base_value}
 use Rattle.litrs_base.specs.Numeral.{numeral}
-use Rattle.litrs.proofs.integer.value_from.Given as goal
+use Rattle.litrs_numbers.proofs.integer.value_from.Given as goal
 
 abbrev pub invariant-loop-i : goal.invariant-loop-i
 invariant-loop-i g l = record {
