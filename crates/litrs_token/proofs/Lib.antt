@@ -1,0 +1,4 @@
+pub mod Idents
+pub mod KindsOfTexts
+pub mod WrittenStrings
+pub mod Conversions
