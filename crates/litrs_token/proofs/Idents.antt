@@ -2,15 +2,15 @@
 use Rattle.std.proofs.Common.{◌≡◌, ℕ, Bool, true, false, not, ◌&&◌, eqb, List, [], ◌∷◌, refl, sym, ap, ◌∙◌}
 use Rattle.std.specs.List.{list_all}
 use Rattle.std.specs.Str.{chars, IsUtf8, encode_utf8_all}
-use Rattle.std.specs.Prelude.{codes}
+use Rattle.std.specs.Prelude.{codes, nat_lt}
 use Rattle.std.proofs.lemmas.Bool.{and_parts, eqb-true, false_from_ne_true}
 use Rattle.std.proofs.lemmas.Str.{encodes-chars, encodes-IsAscii, chars-nil}
 use Rattle.unicode_ident.specs.Ident.{is_xid_continue}
+use Rattle.unicode_ident.proofs.Computing.{unicode_ident}
 use Rattle.litrs_base.specs.Text.{is_empty}
 use Rattle.litrs_base.proofs.Chars.{ascii_by_test}
-use Rattle.litrs_grammar.specs.Suffix.{starts_identifier, is_suffix}
-use Rattle.unicode_ident.proofs.Computing.{unicode_ident}
 use Rattle.litrs_grammar.specs.Bool.{bool_text}
+use Rattle.litrs_grammar.specs.Suffix.{starts_identifier, is_suffix}
 use Rattle.litrs_token.specs.Tokens.{is_ident}
 
 no_element : (t : List ℕ) → is_empty t ≡ true → t ≡ []
@@ -41,11 +41,17 @@ pub empty_is_no_ident : (bs : List ℕ) → bs ≡ [] → is_ident (chars bs) �
 unfolding is_ident
 empty_is_no_ident bs e = ap (λ l. is_ident (chars l)) e ∙ ap is_ident chars-nil
 
-pub ident_by_suffix : (bs : List ℕ) → IsUtf8 bs → (bs ≡ [] → ⊥) → (bs ≡ codes "_" → ⊥) → is_suffix (chars bs) ≡ is_ident (chars bs)
+-- a text whose characters are ASCII is their bytes
+bytes_of : (bs t : List ℕ) → IsUtf8 bs → list_all (λ c. nat_lt c 128) t ≡ true → chars bs ≡ t →
+    bs ≡ t
+bytes_of bs t u low e =
+    sym (encodes-chars bs u) ∙ (ap encode_utf8_all e ∙ encodes-IsAscii t (ascii_by_test t low))
+
+pub ident_by_suffix : (bs : List ℕ) → IsUtf8 bs → (bs ≡ [] → ⊥) → (bs ≡ codes "_" → ⊥) →
+    is_suffix (chars bs) ≡ is_ident (chars bs)
 ident_by_suffix bs u some other =
     suffix_is_ident (chars bs)
-    (λ e. some (sym (encodes-chars bs u) ∙ (ap encode_utf8_all e ∙ encodes-IsAscii [] (ascii_by_test [] refl))))
-    (λ e. other (sym (encodes-chars bs u) ∙ (ap encode_utf8_all e ∙ encodes-IsAscii (codes "_") (ascii_by_test (codes "_") refl))))
+    (λ e. some (bytes_of bs [] u refl e)) (λ e. other (bytes_of bs (codes "_") u refl e))
 
 -- The words that are written as identifiers
 

@@ -1,4 +1,10 @@
+-- identifiers
 pub mod Idents
-pub mod KindsOfTexts
+-- of which kind a text is
+pub mod TokenTexts
+pub mod StringTests
+pub mod NoTokens
+-- strings that are written as tokens
 pub mod WrittenStrings
+-- answers of conversions
 pub mod Conversions

@@ -9,6 +9,7 @@ use Rattle.litrs_token.specs.declared.kind.TokenKind.TheVariants as token
 use Rattle.litrs_token.specs.declared.tree.TokenTree.{TokenTree}
 use Rattle.litrs_token.specs.declared.tree.TokenTree.TheOpen as tree
 use Rattle.litrs_token.specs.Errors.{mismatch}
+use Rattle.litrs_token.specs.LiteralToken.{LiteralToken}
 use Rattle.litrs_token.specs.Tree.{Shape, shape_of, tree_span}
 
 -- a literal of this kind is wanted: it is the wanted kind, or any literal is
@@ -41,9 +42,16 @@ text_of (tree.Ident i) = i.text
 text_of (tree.Punct p) = []
 text_of (tree.Literal l) = l.text
 
+-- what is wrong with a literal or a tree that is not the wanted one
+abbrev pub literal_mismatch : (wanted : TokenKind) → LiteralToken → InvalidToken
+literal_mismatch wanted l = mismatch wanted l.kind l.span
+
+abbrev pub tree_mismatch : (wanted : TokenKind) → TokenTree → InvalidToken
+tree_mismatch wanted t = mismatch wanted (actual_kind (shape_of t)) (tree_span t)
+
 -- what is answered where a bool is wanted: that of the identifier, or the mismatch
 abbrev pub IsBoolAnswer : TokenTree → Result BoolLit InvalidToken → Type 0
 IsBoolAnswer t result = MatchResult result
-    (λ b. IsTrue (is_bool_ident (shape_of t)) × (text_of (shape_of t) ≡ bool_text (bool_value b)))
-    (λ e. IsFalse (is_bool_ident (shape_of t))
-    × (e ≡ mismatch token.BoolLit (actual_kind (shape_of t)) (tree_span t)))
+    (λ b. IsTrue (is_bool_ident (shape_of t))
+    × (text_of (shape_of t) ≡ bool_text (bool_value b)))
+    (λ e. IsFalse (is_bool_ident (shape_of t)) × (e ≡ tree_mismatch token.BoolLit t))

@@ -23,9 +23,15 @@ literal_error_text literal.Memory = codes "out of memory"
 abbrev pub mismatch : (expected actual : TokenKind) → Place → InvalidToken
 mismatch expected actual span = record { expected = expected; actual = actual; span = span }
 
+-- where the token stands
+abbrev pub invalid_span : InvalidToken → Place
+invalid_span e = e.span
+
 -- both kinds are named
 abbrev pub invalid_text : InvalidToken → List ℕ
-invalid_text e = codes "expected " ++ description e.expected ++ codes ", but found " ++ description e.actual
+invalid_text e =
+    codes "expected " ++ description e.expected
+    ++ codes ", but found " ++ description e.actual
 
 abbrev pub token_error_text : TokenError → List ℕ
 token_error_text (error.Invalid e) = invalid_text e

@@ -28,9 +28,11 @@ string_literal_of c_string_kind = c_string_literal
 
 -- the test says whether the text is a string of the kind
 abbrev pub IsStringTest : StringKind → List ℕ → Bool → Type 0
-IsStringTest kind t test = MatchBool test (StringDerivation kind t) (HasNoDerivation (IsString kind t))
+IsStringTest kind t test =
+    MatchBool test (StringDerivation kind t) (HasNoDerivation (IsString kind t))
 
--- a literal begins so that is no bool: with a digit, or with what stands before a character or a body
+-- a literal begins so that is no bool: with a digit, or with what stands before a character or a
+-- body
 abbrev pub begins_literal : List ℕ → Bool
 begins_literal t =
     first_passes is_ascii_digit t

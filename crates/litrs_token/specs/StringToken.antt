@@ -1,4 +1,5 @@
--- Strings as tokens: how a text is written between quotes. The Rust Reference, Tokens, Literals: "String literals".
+-- Strings as tokens: how a text is written between quotes. The Rust Reference, Tokens, Literals:
+-- "String literals".
 use Rattle.std.specs.Prelude.{◌≡◌, ℕ, ◌==◌, List, [], ◌∷◌, ◌++◌, codes, if◌then◌else◌}
 use Rattle.std.specs.List.{flat_map}
 use Rattle.litrs_base.specs.Characters.{double_quote, backslash, line_feed, carriage_return, tab, nul}
@@ -6,7 +7,8 @@ use Rattle.litrs_base.specs.Derivations.{IsOnlyDerivation}
 use Rattle.litrs_grammar.specs.Literal.{IsLiteral, a_string, quoted_parts}
 use Rattle.litrs_grammar.specs.Quoted.{QuotedParts, body_value}
 
--- a character between the quotes: `"`, backslash, LF, CR, tab and NUL as escapes, and every other one as it is
+-- a character between the quotes: `"`, backslash, LF, CR, tab and NUL as escapes, and every other
+-- one as it is
 abbrev pub escaped : ℕ → List ℕ
 escaped c =
     if c == double_quote then codes "\\\""

@@ -6,8 +6,8 @@ use Rattle.litrs_grammar.specs.Suffix.{starts_identifier}
 use Rattle.litrs_token.specs.declared.punctuation.Spacing.{Spacing}
 use Rattle.litrs_token.specs.Place.{Place}
 
--- An identifier is `_` or an XID_Start character, and then XID_Continue characters. The lone `_` is one, and so are `true`
--- and `false`.
+-- An identifier is `_` or an XID_Start character, and then XID_Continue characters. The lone `_` is
+-- one, and so are `true` and `false`.
 unfoldable pub is_ident : List ℕ → Bool
 is_ident [] = false
 is_ident (c ∷ cs) = starts_identifier c && list_all is_xid_continue cs

@@ -44,7 +44,8 @@ tree_span t = shape_span (shape_of t)
 
 -- the two are alike but for where they stand; the trees inside a group stand where they stood
 abbrev pub AreAlike : Shape → Shape → Type 0
-AreAlike (tree.Group g) (tree.Group h) = (group_delimiter g ≡ group_delimiter h) × (group_stream g ≡ group_stream h)
+AreAlike (tree.Group g) (tree.Group h) =
+    (group_delimiter g ≡ group_delimiter h) × (group_stream g ≡ group_stream h)
 AreAlike (tree.Ident i) (tree.Ident j) = i.text ≡ j.text
 AreAlike (tree.Punct p) (tree.Punct q) = (p.character ≡ q.character) × (p.spacing ≡ q.spacing)
 AreAlike (tree.Literal l) (tree.Literal m) = (l.text ≡ m.text) × (l.kind ≡ m.kind)

@@ -2,7 +2,7 @@
 ghost use Rattle.std.specs.Prelude.{◌≡◌, IfOk};
 ghost use Rattle.litrs_token.specs.CompileError.{IsMessageGroup, IsCompileError};
 ghost use Rattle.litrs_token.specs.Description.{description};
-ghost use Rattle.litrs_token.specs.Errors.{mismatch};
+ghost use Rattle.litrs_token.specs.Errors.{mismatch, invalid_span};
 
 use crate::kind::TokenKind;
 use crate::literal_token::Literal;
@@ -36,12 +36,13 @@ impl InvalidToken {
 
     /// Where the token stands.
     pub fn span(&self) -> Span
-        ensures { result ≡ self.now.span }
+        ensures { result ≡ invalid_span self.now }
     {
         self.span
     }
 
-    /// The trees of `compile_error! { "message" }`, where the message is what is printed of this error.
+    /// The trees of `compile_error! { "message" }`, where the message is what is printed of this
+    /// error.
     ///
     /// They stand where an item, a statement or an expression may. The identifier, the `!` and the
     /// group have the span of the token, and the string inside the call-site span.

@@ -13,23 +13,29 @@ use litrs_lex::{cut_byte, cut_char, cut_float, cut_integer, cut_quoted, scan_raw
 /// What a token is, and of a literal which kind.
 #[derive(Clone, Copy, Debug, PartialEq, Eq)]
 pub enum TokenKind {
-    /// Punctuation.
+    /// Punctuation, as `+`.
     Punct,
-    /// An identifier.
+    /// An identifier, as `x`.
     Ident,
-    /// A group.
+    /// A group, as `(a, b)`.
     Group,
     /// A literal of any kind.
     Literal,
-    /// A bool, which is an identifier where it is a token.
+    /// `true` or `false`. A bool is expected, and never found: as a token it is an identifier.
     BoolLit,
-    /// A byte, as `b'r'`; and so on.
+    /// As `b'r'`.
     ByteLit,
+    /// As `b"fox"`.
     ByteStringLit,
+    /// As `'P'`.
     CharLit,
+    /// As `3.14`.
     FloatLit,
+    /// As `27`.
     IntegerLit,
+    /// As `"Ferris"`.
     StringLit,
+    /// As `c"Ferris"`.
     CStringLit,
 }
 
@@ -61,7 +67,8 @@ enum Front {
     Other,
 }
 
-/// The kind of literal that a text is. None where it is no literal, or a bool. It does not allocate.
+/// The kind of literal that a text is. None where it is no literal, or a bool. It does not
+/// allocate.
 pub(crate) fn literal_kind(text: &str) -> Option<TokenKind>
     ensures some { IfSome result (IsLiteralToken (chars text.now)) }
     ensures none { IfNone result (IsNoLiteralToken (chars text.now)) }

@@ -1,7 +1,7 @@
 //! Tokens that are literals.
 ghost use Rattle.std.specs.Prelude.{◌≡◌, ◌↔◌, IfOk, IsOk, IfErr, OnOk, IsErrOf, string_bytes, ◌++◌};
 ghost use Rattle.std.specs.Str.{chars, encode_utf8_all};
-ghost use Rattle.litrs_token.specs.Errors.{mismatch};
+ghost use Rattle.litrs_token.specs.Conversion.{literal_mismatch};
 ghost use Rattle.litrs_token.specs.LiteralToken.{IsLiteralToken, IsNoLiteralToken};
 ghost use Rattle.litrs_token.specs.Place.{call_site};
 ghost use Rattle.litrs_token.specs.StringToken.{escaped, string_token, IsStringOf};
@@ -48,8 +48,8 @@ impl Literal {
     ///
     /// # Errors
     ///
-    /// `NotALiteral` where the text is no literal, as `-1`, or a bool, before anything is allocated; else
-    /// `Memory` where there is no memory for the text.
+    /// `NotALiteral` where the text is no literal, as `-1`, or a bool, before anything is
+    /// allocated; else `Memory` where there is no memory for the text.
     pub fn from_text(alloc: Global, text: &str) -> Result<Literal, LiteralError>
         ensures text { IfOk result (λ literal. literal.text ≡ text.now) }
         ensures kind { IfOk result (λ literal. IsLiteralToken (chars text.now) literal.kind) }
@@ -65,14 +65,18 @@ impl Literal {
 
     /// A string of this value, with the call-site span.
     ///
-    /// It is written between quotes: `"`, backslash, LF, CR, tab and NUL as `\"`, `\\`, `\n`, `\r`, `\t`
-    /// and `\0`, and every other character as it is.
+    /// It is written between quotes: `"`, backslash, LF, CR, tab and NUL as `\"`, `\\`, `\n`, `\r`,
+    /// `\t` and `\0`, and every other character as it is. That is a quoted string of this value,
+    /// without a suffix, and nothing else. See [the reference][ref].
     ///
     /// # Errors
     ///
     /// `AllocError` where there is no memory for the text.
+    ///
+    /// [ref]: https://doc.rust-lang.org/reference/tokens.html#string-literals
     pub fn string(alloc: Global, value: &str) -> Result<Literal, AllocError>
-        ensures text { IfOk result (λ literal. chars literal.text ≡ string_token (chars value.now)) }
+        ensures text { IfOk result (λ literal.
+            chars literal.text ≡ string_token (chars value.now)) }
         ensures value { IfOk result (λ literal. IsStringOf (chars literal.text) value.now) }
         ensures kind { IfOk result (λ literal. literal.kind ≡ TokenKind.StringLit) }
         ensures span { IfOk result (λ literal. literal.span ≡ call_site) }
@@ -139,7 +143,7 @@ impl Literal {
     pub(crate) fn check_kind(&self, expected: TokenKind) -> Result<(), InvalidToken>
         ensures ok { IsOk result ↔ (self.now.kind ≡ expected) }
         ensures literal { OnOk result (IsLiteralToken (chars self.now.text) expected) }
-        ensures err { IfErr result (λ e. e ≡ mismatch expected self.now.kind self.now.span) }
+        ensures err { IfErr result (λ e. e ≡ literal_mismatch expected self.now) }
     {
         if self.kind == expected {
             Ok(())

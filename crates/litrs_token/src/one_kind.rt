@@ -1,13 +1,15 @@
 //! Literals of one kind, from their texts.
 ghost use Rattle.std.specs.Prelude.{◌≡◌, ◌≢◌, ℕ, List, IfOk, IfErr, string_bytes};
 ghost use Rattle.std.specs.Str.{chars};
+ghost use Rattle.litrs_base.specs.Refusal.{kind_of};
 ghost use Rattle.litrs_token.specs.LiteralToken.{IsLiteralToken};
 ghost use Rattle.litrs_token.specs.declared.kind.TokenKind.{TokenKind};
 
 use crate::err::TokenError;
 use crate::kind::TokenKind;
 use litrs::{
-    ByteLit, ByteStringLit, CStringLit, CharLit, FloatLit, IntegerLit, ParseErrorKind, StringLit,
+    ByteLit, ByteStringLit, CStringLit, CharLit, FloatLit, IntegerLit, ParseError, ParseErrorKind,
+    StringLit,
 };
 use std::alloc::Global;
 
@@ -121,8 +123,7 @@ impl OneKind for StringLit<String> {
     fn parse(alloc: Global, text: String) -> Result<StringLit<String>, TokenError> {
         match StringLit::parse(alloc, text) {
             Ok(lit) => Ok(lit),
-            Err(e) if e.kind() == ParseErrorKind::OutOfMemory => Err(TokenError::Memory),
-            Err(_) => unreachable!(),
+            Err(e) => Err(memory_error(&e)),
         }
     }
 }
@@ -141,8 +142,7 @@ impl OneKind for ByteStringLit<String> {
     fn parse(alloc: Global, text: String) -> Result<ByteStringLit<String>, TokenError> {
         match ByteStringLit::parse(alloc, text) {
             Ok(lit) => Ok(lit),
-            Err(e) if e.kind() == ParseErrorKind::OutOfMemory => Err(TokenError::Memory),
-            Err(_) => unreachable!(),
+            Err(e) => Err(memory_error(&e)),
         }
     }
 }
@@ -161,8 +161,18 @@ impl OneKind for CStringLit<String> {
     fn parse(alloc: Global, text: String) -> Result<CStringLit<String>, TokenError> {
         match CStringLit::parse(alloc, text) {
             Ok(lit) => Ok(lit),
-            Err(e) if e.kind() == ParseErrorKind::OutOfMemory => Err(TokenError::Memory),
-            Err(_) => unreachable!(),
+            Err(e) => Err(memory_error(&e)),
         }
+    }
+}
+
+/// That there was no memory, as the error of a parse says.
+fn memory_error(e: &ParseError) -> TokenError
+    requires { kind_of e.now ≡ ParseErrorKind.OutOfMemory }
+    ensures { result ≡ TokenError.Memory }
+{
+    match e.kind() {
+        ParseErrorKind::OutOfMemory => TokenError::Memory,
+        _ => unreachable!(),
     }
 }

@@ -1,7 +1,6 @@
 //! Trees of tokens.
 ghost use Rattle.std.specs.Prelude.{◌≡◌, IfOk, IfErr, OnErr};
-ghost use Rattle.litrs_token.specs.Conversion.{actual_kind};
-ghost use Rattle.litrs_token.specs.Errors.{mismatch};
+ghost use Rattle.litrs_token.specs.Conversion.{actual_kind, tree_mismatch};
 ghost use Rattle.litrs_token.specs.Place.{call_site};
 ghost use Rattle.litrs_token.specs.Tree.{group_delimiter, group_stream, group_span, shape_of, tree_span, AreAlike, a_literal, IsNoLiteral};
 
@@ -141,7 +140,7 @@ impl TokenTree {
     pub(crate) fn as_literal(&self, expected: TokenKind) -> Result<&Literal, InvalidToken>
         ensures ok { IfOk result (λ literal. shape_of self.now ≡ a_literal literal.now) }
         ensures none { OnErr result (IsNoLiteral (shape_of self.now)) }
-        ensures err { IfErr result (λ e. e ≡ mismatch expected (actual_kind (shape_of self.now)) (tree_span self.now)) }
+        ensures err { IfErr result (λ e. e ≡ tree_mismatch expected self.now) }
     {
         match self {
             TokenTree::Literal(literal) => Ok(literal),
@@ -157,7 +156,7 @@ impl TokenTree {
     pub(crate) fn into_literal(self, expected: TokenKind) -> Result<Literal, InvalidToken>
         ensures ok { IfOk result (λ literal. shape_of self ≡ a_literal literal) }
         ensures none { OnErr result (IsNoLiteral (shape_of self)) }
-        ensures err { IfErr result (λ e. e ≡ mismatch expected (actual_kind (shape_of self)) (tree_span self)) }
+        ensures err { IfErr result (λ e. e ≡ tree_mismatch expected self) }
     {
         match self {
             TokenTree::Literal(literal) => Ok(literal),
@@ -175,7 +174,7 @@ impl TokenTree {
 
     /// That it is another token than the expected one.
     pub(crate) fn mismatch(&self, expected: TokenKind) -> InvalidToken
-        ensures { result ≡ mismatch expected (actual_kind (shape_of self.now)) (tree_span self.now) }
+        ensures { result ≡ tree_mismatch expected self.now }
     {
         InvalidToken::new(expected, self.kind(), self.span())
     }

@@ -11,4 +11,5 @@ returns-in-empty c = sym (empty_is_no_ident _ c.in-empty.is)
 
 pub returns-in_default : goal.returns-in_default
 returns-in_default c =
-    c.is_ok.ensures.value ∙ (c.check_suffix.ensures.ok ∙ ident_by_suffix _ c.utf8.text c.in_default.not-empty c.in_default.not-text)
+    c.is_ok.ensures.value ∙ (c.check_suffix.ensures.ok
+    ∙ ident_by_suffix _ c.utf8.text c.in_default.not-empty c.in_default.not-text)

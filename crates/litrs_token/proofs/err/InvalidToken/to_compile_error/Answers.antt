@@ -12,7 +12,8 @@ returns c = record {
   name = c.in_ok-name.name;
   mark = c.set_span.new.self;
   group = c.in_ok-group.group;
-  are = pushed _ _ _ _ _ _ _ c.new-trees.ensures.items c.in_ok-push.ensures.items c.in_ok-push-2.ensures.items c.in_ok-push-3.ensures.items;
+  are = pushed _ _ _ _ _ _ _ c.new-trees.ensures.items c.in_ok-push.ensures.items
+      c.in_ok-push-2.ensures.items c.in_ok-push-3.ensures.items;
   is_name = c.in_ok-name.ensures.text;
   name_span = c.in_ok-name.ensures.span;
   is_mark = search rules;
