@@ -1,5 +1,5 @@
 //! Conversions of tokens to literals.
-ghost use Rattle.std.specs.Prelude.{◌≡◌, ℕ, List, Some, IfOk, IfErr, IfSome, IsErrOf, is_some, string_bytes};
+ghost use Rattle.std.specs.Prelude.{◌≡◌, ℕ, List, Some, IfOk, IfErr, IfSome, IsErrOf, OnOk, is_some, string_bytes};
 ghost use Rattle.std.specs.Result.{IsErrAnd};
 ghost use Rattle.std.specs.Str.{chars};
 ghost use Rattle.litrs_grammar.specs.Bool.{bool_text};
@@ -50,7 +50,8 @@ pub trait FromToken: Drop {
     /// That the token is of another kind, with both kinds and its span; else that there is no
     /// memory for the literal. The token is dropped then.
     fn from_literal(alloc: Global, literal: Literal) -> Result<Self, Self::Error>
-        ensures ok { IfOk result (λ lit. raw lit ≡ literal.text) }
+        ensures raw { IfOk result (λ lit. raw lit ≡ literal.text) }
+        ensures wanted { OnOk result (IsWantedKind wanted literal.kind) }
         ensures memory { IsWantedKind wanted literal.kind
             → IfErr result (λ e. as_token_error e ≡ TokenError.Memory) }
         ensures invalid { ¬ IsWantedKind wanted literal.kind
@@ -63,7 +64,8 @@ pub trait FromToken: Drop {
     ///
     /// As [`from_literal`](FromToken::from_literal).
     fn from_literal_ref(alloc: Global, literal: &Literal) -> Result<Self, Self::Error>
-        ensures ok { IfOk result (λ lit. raw lit ≡ literal.now.text) }
+        ensures raw { IfOk result (λ lit. raw lit ≡ literal.now.text) }
+        ensures wanted { OnOk result (IsWantedKind wanted literal.now.kind) }
         ensures memory { IsWantedKind wanted literal.now.kind
             → IfErr result (λ e. as_token_error e ≡ TokenError.Memory) }
         ensures invalid { ¬ IsWantedKind wanted literal.now.kind
@@ -79,7 +81,8 @@ pub trait FromToken: Drop {
     /// that wants an integer. Else `Memory` where there is no memory for the literal. The tree is
     /// dropped then.
     fn from_tree(alloc: Global, tree: TokenTree) -> Result<Self, TokenError>
-        ensures ok { IfOk result (λ lit. raw lit ≡ text_of (shape_of tree)) }
+        ensures raw { IfOk result (λ lit. raw lit ≡ text_of (shape_of tree)) }
+        ensures wanted { OnOk result (IsWanted wanted (shape_of tree)) }
         ensures memory { IsWanted wanted (shape_of tree)
             → IfErr result (λ e. e ≡ TokenError.Memory) }
         ensures invalid { ¬ IsWanted wanted (shape_of tree)
@@ -91,7 +94,8 @@ pub trait FromToken: Drop {
     ///
     /// As [`from_tree`](FromToken::from_tree).
     fn from_tree_ref(alloc: Global, tree: &TokenTree) -> Result<Self, TokenError>
-        ensures ok { IfOk result (λ lit. raw lit ≡ text_of (shape_of tree.now)) }
+        ensures raw { IfOk result (λ lit. raw lit ≡ text_of (shape_of tree.now)) }
+        ensures wanted { OnOk result (IsWanted wanted (shape_of tree.now)) }
         ensures memory { IsWanted wanted (shape_of tree.now)
             → IfErr result (λ e. e ≡ TokenError.Memory) }
         ensures invalid { ¬ IsWanted wanted (shape_of tree.now)

@@ -1,4 +1,9 @@
 //! Tokens by their texts, and conversions both ways.
+ghost use Rattle.std.specs.Prelude.{◌≡◌, ◌↔◌, IfOk, IfErr, IsTrue};
+ghost use Rattle.litrs_token.specs.Conversion.{IsWanted};
+ghost use Rattle.litrs_token.specs.Tree.{shape_of};
+
+use crate::kind::TokenKind;
 use crate::{
     Delimiter, FromToken, Group, Ident, IdentError, IntoIdent, IntoToken, InvalidToken, Literal,
     LiteralError, Punct, Spacing, Span, TokenError, TokenTree,
@@ -415,6 +420,28 @@ fn read_limit(alloc: Global, value: &TokenTree) -> Result<Limit, TokenError> {
         Err(TokenError::Invalid(invalid)) => Ok(Limit::Wrong(invalid.to_compile_error(alloc)?)),
         Err(TokenError::Memory) => Err(TokenError::Memory),
     }
+}
+
+/// Whether a tree is an integer. That it is follows from the contract of the conversion.
+fn is_integer(alloc: Global, tree: &TokenTree) -> Result<bool, TokenError>
+    ensures integer { IfOk result (λ is. IsTrue is
+        ↔ IsWanted TokenKind.IntegerLit (shape_of tree.now)) }
+    ensures memory { IfErr result (λ e. e ≡ TokenError.Memory) }
+{
+    match IntegerLit::from_tree_ref(alloc, tree) {
+        Ok(_lit) => Ok(true),
+        Err(TokenError::Invalid(_)) => Ok(false),
+        Err(TokenError::Memory) => Err(TokenError::Memory),
+    }
+}
+
+#[test]
+fn integers(rt: HostRuntime) -> Result<(), Fail> {
+    let alloc = rt.alloc();
+    assert!(rt; is_integer(alloc, &literal(alloc, "0b1")?)?);
+    assert!(rt; !is_integer(alloc, &literal(alloc, "1e1")?)?);
+    assert!(rt; !is_integer(alloc, &minus())?);
+    Ok(())
 }
 
 #[test]
