@@ -1,0 +1,31 @@
+-- Strings as tokens: how a text is written between quotes. The Rust Reference, Tokens, Literals:
+-- "String literals".
+use Rattle.std.specs.Prelude.{◌≡◌, ℕ, ◌==◌, List, [], ◌∷◌, ◌++◌, codes, if◌then◌else◌}
+use Rattle.std.specs.List.{flat_map}
+use Rattle.litrs_base.specs.Characters.{double_quote, backslash, line_feed, carriage_return, tab, nul}
+use Rattle.litrs_base.specs.Derivations.{IsOnlyDerivation}
+use Rattle.litrs_grammar.specs.Literal.{IsLiteral, a_string, quoted_parts}
+use Rattle.litrs_grammar.specs.Quoted.{QuotedParts, body_value}
+
+-- a character between the quotes: `"`, backslash, LF, CR, tab and NUL as escapes, and every other
+-- one as it is
+abbrev pub escaped : ℕ → List ℕ
+escaped c =
+    if c == double_quote then codes "\\\""
+    else if c == backslash then codes "\\\\"
+    else if c == line_feed then codes "\\n"
+    else if c == carriage_return then codes "\\r"
+    else if c == tab then codes "\\t"
+    else if c == nul then codes "\\0"
+    else c ∷ []
+
+-- the text between quotes
+abbrev pub string_token : List ℕ → List ℕ
+string_token t = double_quote ∷ (flat_map escaped t ++ double_quote ∷ [])
+
+-- The text is a quoted string and nothing else: its only derivation has this value and no suffix.
+pub record IsStringOf (t value : List ℕ) : Type 0 where
+  pub parts : QuotedParts
+  pub only : IsOnlyDerivation (IsLiteral t) (a_string (quoted_parts parts))
+  pub is_value : body_value parts.items ≡ value
+  pub no_suffix : parts.suffix ≡ []

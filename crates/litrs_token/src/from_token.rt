@@ -1,0 +1,244 @@
+//! Conversions of tokens to literals.
+ghost use Rattle.std.specs.Prelude.{◌≡◌, ℕ, List, Some, IfOk, IfErr, IfSome, IsErrOf, OnOk, is_some, string_bytes};
+ghost use Rattle.std.specs.Result.{IsErrAnd};
+ghost use Rattle.std.specs.Str.{chars};
+ghost use Rattle.litrs_grammar.specs.Bool.{bool_text};
+ghost use Rattle.litrs.specs.BoolLiteral.{bool_value};
+ghost use Rattle.litrs.specs.LiteralDerivation.{literal_raw};
+ghost use Rattle.litrs_token.specs.Conversion.{IsWantedKind, IsWanted, text_of, is_bool_ident, literal_mismatch, tree_mismatch};
+ghost use Rattle.litrs_token.specs.LiteralToken.{SomeLiteral};
+ghost use Rattle.litrs_token.specs.Tree.{shape_of};
+ghost use Rattle.litrs_token.specs.declared.err.TokenError.{TokenError};
+ghost use Rattle.litrs_token.specs.declared.kind.TokenKind.{TokenKind};
+
+use crate::err::{InvalidToken, TokenError};
+use crate::kind::TokenKind;
+use crate::literal_token::Literal;
+use crate::one_kind::OneKind;
+use crate::tree::TokenTree;
+use litrs::{BoolLit, ParseErrorKind};
+use std::alloc::{AllocError, Global};
+
+/// A literal that is read from a token.
+///
+/// [`IntegerLit`](litrs::IntegerLit), [`FloatLit`](litrs::FloatLit), [`CharLit`](litrs::CharLit),
+/// [`StringLit`](litrs::StringLit), [`ByteLit`](litrs::ByteLit),
+/// [`ByteStringLit`](litrs::ByteStringLit) and [`CStringLit`](litrs::CStringLit) want a literal of
+/// their kind. [`litrs::Literal`] wants a literal of any kind, and as a tree also the identifier
+/// `true` or `false`. All keep the text of the token.
+///
+/// Whether a token is the wanted one is decided before anything is allocated. The text of a token
+/// is never refused, since it is a literal.
+pub trait FromToken: Drop {
+    /// The kind that is wanted.
+    ghost wanted: { TokenKind };
+
+    /// The bytes of a literal's text.
+    ghost raw: { Self → List ℕ };
+
+    /// An error of the calls on literals, as that of the calls on trees.
+    ghost as_token_error: { Self.Error → TokenError };
+
+    /// The error of the calls on literals: [`TokenError`], or `AllocError` where any literal is
+    /// wanted.
+    type Error;
+
+    /// The literal that a token is: of `27` an integer.
+    ///
+    /// # Errors
+    ///
+    /// That the token is of another kind, with both kinds and its span; else that there is no
+    /// memory for the literal. The token is dropped then.
+    fn from_literal(alloc: Global, literal: Literal) -> Result<Self, Self::Error>
+        ensures raw { IfOk result (λ lit. raw lit ≡ literal.text) }
+        ensures wanted { OnOk result (IsWantedKind wanted literal.kind) }
+        ensures memory { IsWantedKind wanted literal.kind
+            → IfErr result (λ e. as_token_error e ≡ TokenError.Memory) }
+        ensures invalid { ¬ IsWantedKind wanted literal.kind
+            → IsErrAnd result (λ e. as_token_error e
+            ≡ TokenError.Invalid (literal_mismatch wanted literal)) };
+
+    /// The same, of a token that is kept.
+    ///
+    /// # Errors
+    ///
+    /// As [`from_literal`](FromToken::from_literal).
+    fn from_literal_ref(alloc: Global, literal: &Literal) -> Result<Self, Self::Error>
+        ensures raw { IfOk result (λ lit. raw lit ≡ literal.now.text) }
+        ensures wanted { OnOk result (IsWantedKind wanted literal.now.kind) }
+        ensures memory { IsWantedKind wanted literal.now.kind
+            → IfErr result (λ e. as_token_error e ≡ TokenError.Memory) }
+        ensures invalid { ¬ IsWantedKind wanted literal.now.kind
+            → IsErrAnd result (λ e. as_token_error e
+            ≡ TokenError.Invalid (literal_mismatch wanted literal.now)) };
+
+    /// The literal that a tree is.
+    ///
+    /// # Errors
+    ///
+    /// `Invalid` where the tree is not the wanted one, with the span of the tree and what it is: a
+    /// literal by its kind, and everything else by its shape, as `true` is an identifier for a call
+    /// that wants an integer. Else `Memory` where there is no memory for the literal. The tree is
+    /// dropped then.
+    fn from_tree(alloc: Global, tree: TokenTree) -> Result<Self, TokenError>
+        ensures raw { IfOk result (λ lit. raw lit ≡ text_of (shape_of tree)) }
+        ensures wanted { OnOk result (IsWanted wanted (shape_of tree)) }
+        ensures memory { IsWanted wanted (shape_of tree)
+            → IfErr result (λ e. e ≡ TokenError.Memory) }
+        ensures invalid { ¬ IsWanted wanted (shape_of tree)
+            → IsErrOf result (TokenError.Invalid (tree_mismatch wanted tree)) };
+
+    /// The same, of a tree that is kept.
+    ///
+    /// # Errors
+    ///
+    /// As [`from_tree`](FromToken::from_tree).
+    fn from_tree_ref(alloc: Global, tree: &TokenTree) -> Result<Self, TokenError>
+        ensures raw { IfOk result (λ lit. raw lit ≡ text_of (shape_of tree.now)) }
+        ensures wanted { OnOk result (IsWanted wanted (shape_of tree.now)) }
+        ensures memory { IsWanted wanted (shape_of tree.now)
+            → IfErr result (λ e. e ≡ TokenError.Memory) }
+        ensures invalid { ¬ IsWanted wanted (shape_of tree.now)
+            → IsErrOf result (TokenError.Invalid (tree_mismatch wanted tree.now)) };
+}
+
+impl<T: OneKind> FromToken for T {
+    ghost wanted = { T.kind };
+
+    ghost raw = { T.raw };
+
+    ghost as_token_error = { λ e. e };
+
+    type Error = TokenError;
+
+    fn from_literal(alloc: Global, literal: Literal) -> Result<T, TokenError> {
+        literal.check_kind(T::kind())?;
+        T::parse(alloc, literal.into_text())
+    }
+
+    fn from_literal_ref(alloc: Global, literal: &Literal) -> Result<T, TokenError> {
+        literal.check_kind(T::kind())?;
+        let text = String::from_str(alloc, literal.text())?;
+        T::parse(alloc, text)
+    }
+
+    fn from_tree(alloc: Global, tree: TokenTree) -> Result<T, TokenError> {
+        let literal = tree.into_literal(T::kind())?;
+        T::from_literal(alloc, literal)
+    }
+
+    fn from_tree_ref(alloc: Global, tree: &TokenTree) -> Result<T, TokenError> {
+        let literal = tree.as_literal(T::kind())?;
+        T::from_literal_ref(alloc, literal)
+    }
+}
+
+impl FromToken for litrs::Literal<String> {
+    ghost use Rattle.litrs_token.specs.declared.kind.TokenKind.TheVariants as token;
+    ghost use Rattle.litrs.specs.LiteralDerivation.{literal_raw};
+    ghost use Rattle.litrs_token.specs.declared.err.TokenError.TheVariants.{Memory};
+
+    ghost wanted = { token.Literal };
+
+    ghost raw = { literal_raw };
+
+    ghost as_token_error = { λ e. Memory };
+
+    type Error = AllocError;
+
+    fn from_literal(alloc: Global, literal: Literal) -> Result<litrs::Literal<String>, AllocError> {
+        any_literal(alloc, literal.into_text())
+    }
+
+    fn from_literal_ref(
+        alloc: Global,
+        literal: &Literal,
+    ) -> Result<litrs::Literal<String>, AllocError> {
+        let text = String::from_str(alloc, literal.text())?;
+        any_literal(alloc, text)
+    }
+
+    fn from_tree(alloc: Global, tree: TokenTree) -> Result<litrs::Literal<String>, TokenError> {
+        if let Some(lit) = bool_of(&tree) {
+            return Ok(litrs::Literal::Bool(lit));
+        }
+        let literal = tree.into_literal(TokenKind::Literal)?;
+        Ok(any_literal(alloc, literal.into_text())?)
+    }
+
+    fn from_tree_ref(
+        alloc: Global,
+        tree: &TokenTree,
+    ) -> Result<litrs::Literal<String>, TokenError> {
+        if let Some(lit) = bool_of(tree) {
+            return Ok(litrs::Literal::Bool(lit));
+        }
+        let literal = tree.as_literal(TokenKind::Literal)?;
+        let text = String::from_str(alloc, literal.text())?;
+        Ok(any_literal(alloc, text)?)
+    }
+}
+
+/// The literal of a text that is one.
+///
+/// # Errors
+///
+/// `AllocError` where there is no memory for its value. The text is dropped then.
+fn any_literal(alloc: Global, text: String) -> Result<litrs::Literal<String>, AllocError>
+    requires { SomeLiteral (chars (string_bytes text)) }
+    ensures { IfOk result (λ lit. literal_raw lit ≡ string_bytes text) }
+{
+    match litrs::Literal::parse(alloc, text) {
+        Ok(lit) => Ok(lit),
+        Err(e) => match e.kind() {
+            ParseErrorKind::OutOfMemory => Err(AllocError),
+            _ => unreachable!(),
+        },
+    }
+}
+
+/// The bool that a tree is: the identifier `true` or `false`.
+fn bool_of(tree: &TokenTree) -> Option<BoolLit>
+    ensures some { IfSome result (λ lit.
+        text_of (shape_of tree.now) ≡ bool_text (bool_value lit)) }
+    ensures which { is_some result ≡ is_bool_ident (shape_of tree.now) }
+{
+    match tree {
+        TokenTree::Ident(ident) => match ident.text() {
+            "true" => Some(BoolLit::True),
+            "false" => Some(BoolLit::False),
+            _ => None,
+        },
+        _ => None,
+    }
+}
+
+impl TryFrom<TokenTree> for BoolLit {
+    ghost use Rattle.litrs_token.specs.Conversion.{IsBoolAnswer};
+
+    ghost try_from_gives = { IsBoolAnswer };
+
+    type Error = InvalidToken;
+
+    fn try_from(tree: TokenTree) -> Result<BoolLit, InvalidToken> {
+        match bool_of(&tree) {
+            Some(lit) => Ok(lit),
+            None => Err(tree.mismatch(TokenKind::BoolLit)),
+        }
+    }
+}
+
+impl TryFrom<&TokenTree> for BoolLit {
+    ghost use Rattle.litrs_token.specs.Conversion.{IsBoolAnswer};
+
+    ghost try_from_gives = { λ tree result. IsBoolAnswer tree.now result };
+
+    type Error = InvalidToken;
+
+    fn try_from(tree: &TokenTree) -> Result<BoolLit, InvalidToken> {
+        match bool_of(tree) {
+            Some(lit) => Ok(lit),
+            None => Err(tree.mismatch(TokenKind::BoolLit)),
+        }
+    }
+}
