@@ -2,6 +2,7 @@
 -- "String literals".
 use Rattle.std.specs.Prelude.{◌≡◌, ℕ, ◌==◌, List, [], ◌∷◌, ◌++◌, codes, if◌then◌else◌}
 use Rattle.std.specs.List.{flat_map}
+use Rattle.std.specs.Str.{encode_utf8_all}
 use Rattle.litrs_base.specs.Characters.{double_quote, backslash, line_feed, carriage_return, tab, nul}
 use Rattle.litrs_base.specs.Derivations.{IsOnlyDerivation}
 use Rattle.litrs_grammar.specs.Literal.{IsLiteral, a_string, quoted_parts}
@@ -29,3 +30,7 @@ pub record IsStringOf (t value : List ℕ) : Type 0 where
   pub only : IsOnlyDerivation (IsLiteral t) (a_string (quoted_parts parts))
   pub is_value : body_value parts.items ≡ value
   pub no_suffix : parts.suffix ≡ []
+
+-- a text that is written so is a string whose value is the UTF-8 of the text
+abbrev pub WrittenTextsAreStrings : Type 0
+WrittenTextsAreStrings = (t : List ℕ) → IsStringOf (string_token t) (encode_utf8_all t)

@@ -52,6 +52,7 @@ mod err;
 mod from_token;
 mod into_token;
 mod kind;
+pub mod laws;
 mod literal_token;
 mod name;
 mod one_kind;
