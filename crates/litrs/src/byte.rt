@@ -85,8 +85,8 @@ impl<B: Text> ByteLit<B> {
         &self.raw.as_str()[self.start_suffix..]
     }
 
-    /// The text that was parsed. It is a byte, of the value and with the suffix that the
-    /// accessors answer.
+    /// The text that was parsed, as `b'a'u8`. It is a byte, of the value and with the suffix that
+    /// the accessors answer.
     pub fn raw_input(&self) -> &str
         ensures raw { result.now ≡ self.now.raw }
         ensures literal { IsCharLiteral byte_kind (chars result.now) (byte_parts self.now) }

@@ -83,8 +83,8 @@ impl<B: Text> CharLit<B> {
         &self.raw.as_str()[self.start_suffix..]
     }
 
-    /// The text that was parsed. It is a char, of the value and with the suffix that the
-    /// accessors answer.
+    /// The text that was parsed, as `'a'u8`. It is a char, of the value and with the suffix that
+    /// the accessors answer.
     pub fn raw_input(&self) -> &str
         ensures raw { result.now ≡ self.now.raw }
         ensures literal { IsCharLiteral char_kind (chars result.now) (char_parts self.now) }

@@ -10,7 +10,8 @@ ghost use Rattle.litrs_goes_on.specs.LacksDigits.{lacks_digits};
 
 use litrs_lex::{ParseError, ParseErrorKind, cut_number};
 
-/// Whether a text that begins with a decimal digit begins a number of the kind that it is parsed as.
+/// Whether a text that begins with a decimal digit begins a number of the kind that it is parsed
+/// as.
 pub(crate) fn number_goes_on(text: &str) -> bool
     requires { IsTrue (first_passes is_ascii_digit text.now) }
     ensures { IsTrue result

@@ -72,8 +72,8 @@ pub(crate) fn cut_float_at(input: &str, end_integer: usize) -> Result<FloatCut, 
     }
 }
 
-/// The text cut behind the integer part, which ends here, the fraction and the exponent, each as far
-/// as it goes.
+/// The text cut behind the integer part, which ends here, the fraction and the exponent, each as
+/// far as it goes.
 fn cut_parts(input: &str, end_integer: usize) -> FloatCut
     requires integer { end_integer ≡ prefix_len is_decimal_char input.now }
     requires within { end_integer ≤ length input.now }
@@ -89,8 +89,8 @@ fn cut_parts(input: &str, end_integer: usize) -> FloatCut
     }
 }
 
-/// Why a text that is cut so, with a digit or nothing behind the period, is no float, and where; None
-/// where it is one.
+/// Why a text that is cut so, with a digit or nothing behind the period, is no float, and where;
+/// None where it is one.
 fn cut_refusal(cut: &FloatCut, input: &str) -> Option<(Option<Range<usize>>, ParseErrorKind)>
     requires parts { IsPartsCut cut.now input.now }
     requires fraction { IsFalse (has_wrong_fraction (drop cut.now.end_integer input.now)) }

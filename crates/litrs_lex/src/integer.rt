@@ -174,7 +174,8 @@ fn base_of(bytes: &[u8]) -> IntegerBase
     }
 }
 
-/// The same for a text that begins with `0` and this byte. The table makes it one test for all bases.
+/// The same for a text that begins with `0` and this byte. The table makes it one test for all
+/// bases.
 fn base_of_letter(letter: u8) -> IntegerBase
     ensures { result ≡ base_of (digit_zero ∷ letter ∷ []) }
 {

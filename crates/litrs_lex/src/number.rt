@@ -23,8 +23,8 @@ pub enum NumberCut {
 }
 
 /// Cuts a number, a text that begins with a decimal digit: as a float where a period, `e` or `E`
-/// follows the decimal digits and underscores that it begins with, else as an integer. Of `1e3` that
-/// is a float, of `0b1` an integer. See [the reference][ref].
+/// follows the decimal digits and underscores that it begins with, else as an integer. Of `1e3`
+/// that is a float, of `0b1` an integer. See [the reference][ref].
 ///
 /// # Errors
 ///

@@ -117,8 +117,8 @@ impl<B: Text> FloatLit<B> {
         &self.raw.as_str()[self.cut.end_number..]
     }
 
-    /// The text that was parsed. It is a float, with the parts that the accessors answer: its
-    /// number part, and behind it its suffix.
+    /// The text that was parsed, as `3.14f33`. It is a float, with the parts that the accessors
+    /// answer: its number part, and behind it its suffix.
     pub fn raw_input(&self) -> &str
         ensures raw { result.now ≡ self.now.raw }
         ensures literal { IsFloatOf (chars result.now) (float_parts self.now) }

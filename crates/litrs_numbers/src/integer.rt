@@ -48,8 +48,9 @@ impl<B: Text> Model for IntegerLit<B> {
 }
 
 impl<B: Text> IntegerLit<B> {
-    /// The literal whose text is cut so. The cut is one that [`cut_integer`](litrs_lex::cut_integer) or
-    /// [`cut_number`](litrs_lex::cut_number) answers of this text.
+    /// The literal whose text is cut so. The cut is one that
+    /// [`cut_integer`](litrs_lex::cut_integer) or [`cut_number`](litrs_lex::cut_number) answers of
+    /// this text.
     #[inline(always)]
     pub fn new(raw: B, cut: IntegerCut) -> IntegerLit<B>
         requires { IsIntegerAt cut (B.bytes raw) }

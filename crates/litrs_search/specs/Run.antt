@@ -1,4 +1,5 @@
--- The runs that numbers and suffixes are made of. The Rust Reference, Tokens: "Integer literals", "Suffixes"; Identifiers.
+-- The runs that numbers and suffixes are made of. The Rust Reference, Tokens: "Integer literals",
+-- "Suffixes"; Identifiers.
 use Rattle.std.specs.Prelude.{ℕ, Bool, ◌==◌, ◌||◌}
 use Rattle.std.specs.Char.{is_ascii_alphanumeric}
 use Rattle.litrs_base.specs.Characters.{underscore}

@@ -62,7 +62,8 @@ fn last_digit(run: Run) -> u8
     }
 }
 
-/// The small letters of a run end here: at the backquote, which stands before `a`, where it has no letter.
+/// The small letters of a run end here: at the backquote, which stands before `a`, where it has no
+/// letter.
 #[inline(always)]
 fn last_letter(run: Run) -> u8
     ensures { result ≡ last_letter run }
