@@ -135,7 +135,8 @@ impl<B: Text> Literal<B> {
         }
     }
 
-    /// The text that was parsed: a literal of the kind and with the parts of the accessors.
+    /// The text that was parsed, as `0xFF_u8`: a literal of the kind and with the parts of the
+    /// accessors.
     pub fn raw_input(&self) -> &str
         ensures raw { result.now ≡ literal_raw self.now }
         ensures literal { IsLiteral (chars result.now) (derivation self.now) }

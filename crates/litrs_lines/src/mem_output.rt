@@ -57,7 +57,7 @@ impl MemOutput {
         })
     }
 
-    /// What was written.
+    /// What was written: `bool true` and an LF after a run over `true`.
     pub fn bytes(&self) -> &[u8]
         ensures { result.now ≡ bytes_of self.now }
     {

@@ -96,7 +96,8 @@ impl<B: Text> ByteStringLit<B> {
         &self.raw.as_str()[self.cut.start_suffix..]
     }
 
-    /// The text that was parsed. It is a byte string, with the parts that the accessors answer.
+    /// The text that was parsed, as `b"foo"u8`. It is a byte string, with the parts that the
+    /// accessors answer.
     pub fn raw_input(&self) -> &str
         ensures raw { result.now ≡ self.now.raw }
         ensures literal { IsString byte_string_kind (chars result.now) self.now.parts }

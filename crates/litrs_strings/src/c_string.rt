@@ -186,7 +186,8 @@ impl<B: Text> CStringLit<B> {
         &self.raw.as_str()[self.start_suffix..]
     }
 
-    /// The text that was parsed. It is a C string, with the parts that the accessors answer.
+    /// The text that was parsed, as `c"foo"u8`. It is a C string, with the parts that the accessors
+    /// answer.
     pub fn raw_input(&self) -> &str
         ensures raw { result.now ≡ self.now.raw }
         ensures literal { IsString c_string_kind (chars result.now) self.now.parts }

@@ -95,7 +95,8 @@ impl<B: Text> StringLit<B> {
         &self.raw.as_str()[self.cut.start_suffix..]
     }
 
-    /// The text that was parsed. It is a string, with the parts that the accessors answer.
+    /// The text that was parsed, as `"foo"u8`. It is a string, with the parts that the accessors
+    /// answer.
     pub fn raw_input(&self) -> &str
         ensures raw { result.now ≡ self.now.raw }
         ensures literal { IsString string_kind (chars result.now) self.now.parts }
