@@ -2,8 +2,8 @@
 """Fails where code makes an allocation failure or a formatting failure of its own.
 
 Outside tests an `AllocError` comes from the library alone, and so does a `fmt::Error`. Only
-`fn from(_: AllocError)` and the lines of `MAPPED` may make `OutOfMemory` or the `Memory` of an error
-of an `AllocError`, or one of these of `OutOfMemory`: elsewhere these stand in patterns and in the
+`fn from(_: AllocError)` and the lines of `MAPPED` may make `OutOfMemory` or `RunError::Memory` of an
+`AllocError`, or an `AllocError` of `OutOfMemory`: elsewhere these stand in patterns and in the
 declarations of their enums.
 """
 import pathlib
@@ -16,8 +16,6 @@ MAPPED = {
     ("crates/litrs_lex/src/string.rt", OUT_OF_MEMORY),
     ("crates/litrs_strings/src/c_string.rt", OUT_OF_MEMORY),
     ("crates/litrs_lines/src/report.rt", "ParseErrorKind::OutOfMemory => Err(AllocError),"),
-    ("crates/litrs_token/src/from_token.rt", "ParseErrorKind::OutOfMemory => Err(AllocError),"),
-    ("crates/litrs_token/src/one_kind.rt", "ParseErrorKind::OutOfMemory => TokenError::Memory,"),
 }
 
 # Where the names may stand: types, imports, clauses and patterns.
@@ -26,13 +24,12 @@ ALLOWED = [
     r"^\s*(pub )?use [^;]*\bAllocError\b(?! as)[^;]*;",
     r"Result<.*, AllocError>",
     r"From<AllocError>",
-    r"type Error = AllocError;",
     r"\.OutOfMemory\b",
     r"\|?\s*[\w:]*\bOutOfMemory( =>| \||$)",
     r"\| [\w:]*\bOutOfMemory\b",
-    r"\b(\w+Error|Self)::Memory =>",
+    r"\b(RunError|Self)::Memory =>",
 ]
-MADE = r"\bAllocError\b|\bOutOfMemory\b|\b(\w+Error|Self)::Memory\b|\bfmt::(\{[^}]*\b)?Error\b"
+MADE = r"\bAllocError\b|\bOutOfMemory\b|\b(RunError|Self)::Memory\b|\bfmt::(\{[^}]*\b)?Error\b"
 # What is skipped as a whole, from a line up to the closing brace under its first column.
 SKIPPED = r"\s*(pub enum ParseErrorKind \{|fn from\(_: AllocError\) -> Self \{)$"
 
