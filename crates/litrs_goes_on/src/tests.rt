@@ -1,6 +1,7 @@
 //! Texts that begin a literal, and texts that begin none.
 use crate::goes_on;
 use std::alloc::{AllocError, Global};
+use std::process::Abort;
 use std::test::Fail;
 
 /// Texts that are no literals, and become one with some text appended.
@@ -257,17 +258,30 @@ const REFUSED: [(&str, Option<usize>); 64] = [
     (" 0", Some(1)),
 ];
 
+/// Whether the place is before the end, where there is one.
+fn is_before(place: usize, end: Option<usize>) -> bool {
+    match end {
+        Some(end) => place < end,
+        None => true,
+    }
+}
+
+/// Those beginnings of the text begin a literal that are shorter than the end.
+fn check_beginnings(rt: &impl Abort, text: &str, end: Option<usize>) {
+    for (place, _) in text.char_indices() {
+        assert_eq!(rt;
+            goes_on(&text[..place]),
+            is_before(place, end),
+            "{text} up to {place}"
+        );
+    }
+    assert_eq!(rt; goes_on(text), is_before(text.len(), end), "{text}");
+}
+
 #[test]
 fn beginnings_of_other_texts(rt: HostRuntime) {
     for (text, end) in REFUSED {
-        for (place, c) in text.char_indices() {
-            let len = place + c.len_utf8();
-            let expected = match end {
-                Some(end) => len < end,
-                None => true,
-            };
-            assert_eq!(rt; goes_on(&text[..len]), expected, "{text} up to {len}");
-        }
+        check_beginnings(&rt, text, end);
     }
 }
 
