@@ -9,6 +9,7 @@ use std::hint::black_box;
 use std::time::Instant;
 
 mod allocations;
+mod going_on;
 mod lines;
 
 /// The texts of a shape, and the bytes that they have at most, together.
@@ -34,6 +35,8 @@ mod ours {
         #[cfg(upstream)]
         #[link_name = "litrs_bench_contents"]
         pub fn contents(text: *const u8, len: usize) -> u64;
+        #[link_name = "litrs_bench_goes_on"]
+        pub fn goes_on(text: *const u8, len: usize) -> u64;
         #[link_name = "litrs_bench_run"]
         pub fn run(text: *const u8, len: usize) -> u64;
         #[cfg(upstream)]
@@ -544,6 +547,7 @@ fn main() {
         }
     }
     lines::main(&read);
+    going_on::main(&rows.iter().map(|(kind, name, _, texts)| (*kind, *name, &texts[..])).collect::<Vec<_>>());
     println!();
     allocations::main(&rows.iter().map(|(kind, name, _, texts)| (*kind, *name, &texts[..])).collect::<Vec<_>>());
 }
