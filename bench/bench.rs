@@ -352,6 +352,10 @@ const SHAPES: &[Shape] = &[
         let len = n.below(32) as usize;
         format!("r#\"{}\"#", n.many(len, Numbers::plain))
     }),
+    ("String", "raw, 10,000 bytes", Valued, |n| format!("r\"{}\"", n.many(10_000, Numbers::plain))),
+    ("String", "raw, 10,000 bytes, quote each 100", Valued, |n| {
+        format!("r##\"{}\"##", n.many(100, |n| format!("{}\" ", n.many(98, Numbers::plain))))
+    }),
     ("String", "refused: no closing quote", Refused, |n| {
         let len = n.below(32) as usize;
         format!("\"{}", n.many(len, Numbers::plain))
