@@ -13,7 +13,7 @@ import sys
 # The lines that map one of these to another, each of which stands once in its file.
 OUT_OF_MEMORY = "Err(_) => Err(ParseError::new(None, ParseErrorKind::OutOfMemory)),"
 MAPPED = {
-    ("crates/litrs_lex/src/string.rt", OUT_OF_MEMORY),
+    ("crates/litrs_bodies/src/string.rt", OUT_OF_MEMORY),
     ("crates/litrs_strings/src/c_string.rt", OUT_OF_MEMORY),
     ("crates/litrs_lines/src/report.rt", "ParseErrorKind::OutOfMemory => Err(AllocError),"),
     ("crates/litrs_token/src/from_token.rt", "ParseErrorKind::OutOfMemory => Err(AllocError),"),

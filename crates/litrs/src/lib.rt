@@ -40,8 +40,6 @@ mod char;
 mod copy_tests;
 #[cfg(test)]
 mod float_tests;
-#[cfg(test)]
-mod goes_on_tests;
 mod parse;
 #[cfg(test)]
 mod string_tests;

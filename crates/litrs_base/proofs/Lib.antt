@@ -6,3 +6,4 @@ pub mod Spans
 pub mod ListTests
 pub mod ByteLen
 pub mod CharEnds
+pub mod Examples

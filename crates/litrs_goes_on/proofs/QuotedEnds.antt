@@ -18,8 +18,8 @@ use Rattle.litrs_grammar.specs.QuotedGoesOn.{RestGoesOn}
 use Rattle.litrs_grammar.specs.Continuation.{BeginsBy}
 use Rattle.litrs_grammar.proofs.QuotedItems.{escape_head}
 use Rattle.litrs_grammar.proofs.LongerTexts.Quoted.{stands_is_body, begins_rest, rest_begins}
-use Rattle.litrs_lex.specs.QuotedItems.{EndsItems, IsItemsEnd}
-use Rattle.litrs_lex.specs.declared.quoted.ItemsEnd.{ItemsEnd}
+use Rattle.litrs_bodies.specs.QuotedItems.{EndsItems, IsItemsEnd}
+use Rattle.litrs_bodies.specs.declared.quoted.ItemsEnd.{ItemsEnd}
 use Rattle.litrs_grammar.proofs.LongerTexts.Literal.{chain}
 use Rattle.litrs_goes_on.specs.Begins.{BeginsSuffix, IsClosed}
 use Rattle.litrs_goes_on.proofs.Begins.{yes, no, begins_now}

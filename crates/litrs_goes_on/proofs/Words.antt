@@ -1,13 +1,13 @@
 -- Which words begin a literal.
-use Rattle.std.proofs.Common.{◌≡◌, ◌⊎◌, inl, inr, ◌<◌, ℕ, Bool, true, ltb, ◌&&◌, List, [], ◌∷◌, refl, sym, ap, ◌∙◌, arith}
-use Rattle.std.specs.Prelude.{◌↔◌, ◌==◌, codes, IsTrue}
+use Rattle.std.proofs.Common.{◌≡◌, ◌⊎◌, inl, inr, ◌<◌, ℕ, Bool, true, false, ltb, ◌&&◌, List, [], ◌∷◌, refl, sym, ap, ◌∙◌, arith}
+use Rattle.std.specs.Prelude.{◌↔◌, ◌==◌, ◌||◌, codes, IsTrue}
 use Rattle.std.specs.List.{list_all}
 use Rattle.std.specs.Str.{chars, IsUtf8}
 use Rattle.std.proofs.lemmas.Bool.{and_parts, and_left, cases_lt, ltb-true, ne_eqb}
 use Rattle.std.proofs.lemmas.Str.{chars-nil}
 use Rattle.litrs_base.specs.declared.err.ParseErrorKind.TheVariants.{Empty}
 use Rattle.litrs_base.specs.Refusal.{Refusal, plain}
-use Rattle.litrs_base.specs.Text.{is_empty, begins_with}
+use Rattle.litrs_base.specs.Text.{is_empty, first_passes, begins_with}
 use Rattle.litrs_base.proofs.Chars.{chars_ascii, chars_wide, utf8_behind_ascii}
 use Rattle.litrs_grammar.specs.Literal.{a_bool, literal_parse, IsLiteralOf, Begins}
 use Rattle.litrs_grammar.specs.LiteralRefusals.{refused_as, dispatch}
@@ -57,6 +57,17 @@ word_decided bs seen e b u row same is =
     answer_is b (unnamed_goes_on (chars bs))
     (is ∙ ap unnamed_goes_on same ∙ sym (unnamed-chars bs u))
     (back (unnamed_begins (chars bs) e (dispatch-chars bs u ∙ sym row)))
+
+-- a word that begins with no letter of `true`, `false` and `b` begins none of them
+other_letter : (a b d x y z : Bool) → a || (b || d) ≡ false → ((a && x) || (b && y)) || (d && z) ≡ false
+other_letter false false false x y z none = refl
+other_letter true b d x y z none = cc
+other_letter false true d x y z none = cc
+other_letter false false true x y z none = cc
+
+pub other_word : (word : List ℕ) → is_empty word || first_passes (λ c. (c == 116) || ((c == 102) || (c == 98))) word ≡ false → unnamed_goes_on word ≡ false
+other_word [] none = cc
+other_word (c ∷ cs) none = other_letter (c == 116) (c == 102) (c == 98) _ _ _ none
 
 -- the empty text begins a literal, and a bool is one
 pub whole_decided : (r : Row) (bs : List ℕ) → IsUtf8 bs → (r ≡ row.Empty) ⊎ (r ≡ row.Bool) →

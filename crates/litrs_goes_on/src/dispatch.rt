@@ -1,6 +1,6 @@
 //! The dispatch over the kinds.
-ghost use Rattle.std.specs.Prelude.{◌≡◌, IsFalse, IsTrue};
-ghost use Rattle.litrs_base.specs.Text.{is_empty};
+ghost use Rattle.std.specs.Prelude.{◌≡◌, ◌==◌, ◌||◌, IsFalse, IsTrue};
+ghost use Rattle.litrs_base.specs.Text.{is_empty, first_passes};
 ghost use Rattle.litrs_grammar.specs.Bool.{is_bool};
 ghost use Rattle.litrs_grammar.specs.LiteralRefusals.{dispatch};
 ghost use Rattle.litrs_goes_on.specs.Row.{row_of, begins_as};
@@ -25,19 +25,35 @@ pub(crate) enum Row {
 
 /// What a text is parsed as.
 #[tactic(auto, unfolding(litrs_grammar::specs::LiteralRefusals::dispatch))]
+#[inline(always)]
 pub(crate) fn dispatch(text: &str) -> Row
     ensures row { row_of result text.now ≡ dispatch text.now }
     ensures front { IsTrue (begins_as result text.now) }
 {
+    match text.as_bytes() {
+        [] => Row::Empty,
+        [b't' | b'f', ..] => by_word(text),
+        bytes => by_front(bytes),
+    }
+}
+
+/// The same of a text that begins with the first letter of a bool.
+#[tactic(auto, unfolding(litrs_grammar::specs::LiteralRefusals::dispatch))]
+#[inline(always)]
+fn by_word(text: &str) -> Row
+    requires { IsTrue (first_passes (λ c. (c == 116) || (c == 102)) text.now) }
+    ensures row { row_of result text.now ≡ dispatch text.now }
+    ensures front { IsTrue (begins_as result text.now) }
+{
     match text {
-        "" => Row::Empty,
         "true" | "false" => Row::Bool,
-        _ => by_front(text.as_bytes()),
+        _ => Row::Unnamed,
     }
 }
 
 /// The same of a text that is neither empty nor a bool, by its first bytes.
 #[tactic(auto, unfolding(litrs_grammar::specs::LiteralRefusals::dispatch))]
+#[inline(always)]
 fn by_front(bytes: &[u8]) -> Row
     requires some { IsFalse (is_empty bytes.now) }
     requires no_bool { IsFalse (is_bool bytes.now) }

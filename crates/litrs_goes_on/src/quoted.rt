@@ -4,17 +4,17 @@ ghost use Rattle.std.specs.Str.{chars, IsCharBoundary};
 ghost use Rattle.litrs_grammar.specs.Continuation.{BeginsBy};
 ghost use Rattle.litrs_grammar.specs.Quoted.{IsQuoted};
 ghost use Rattle.litrs_grammar.specs.QuotedGoesOn.{RestGoesOn};
-ghost use Rattle.litrs_lex.specs.QuotedItems.{EndsItems};
+ghost use Rattle.litrs_bodies.specs.QuotedItems.{EndsItems};
 ghost use Rattle.litrs_lex.specs.Unescaped.{switches};
 ghost use Rattle.litrs_goes_on.specs.Begins.{IsClosed};
 
 use crate::escape::escape_goes_on;
 use crate::front::begins_with;
 use crate::suffix::suffix_goes_on;
-use litrs_lex::quoted::items_end;
+use litrs_bodies::quoted::items_end;
 
 /// Whether a text whose body begins at `offset` begins a quoted literal. The place and the switches
-/// are those of [`cut_quoted`](litrs_lex::cut_quoted).
+/// are those of [`cut_quoted`](litrs_bodies::cut_quoted).
 pub(crate) fn quoted_goes_on(
     text: &str,
     offset: usize,

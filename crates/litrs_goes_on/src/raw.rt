@@ -7,7 +7,8 @@ ghost use Rattle.litrs_grammar.specs.Continuation.{BeginsBy};
 ghost use Rattle.litrs_grammar.specs.Raw.{is_hash, IsRawOf};
 ghost use Rattle.litrs_goes_on.specs.LastUnderscore.{points_at_last_underscore};
 
-use litrs_lex::{ParseError, ParseErrorKind, scan_raw_string};
+use litrs_bodies::scan_raw_string;
+use litrs_lex::{ParseError, ParseErrorKind};
 
 /// Whether a text begins a raw literal whose `r` ends at `offset`. The place and the switches are
 /// those of [`scan_raw_string`].

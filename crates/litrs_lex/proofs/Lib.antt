@@ -5,11 +5,4 @@ pub mod Dispatch
 pub mod FloatBytes
 pub mod NumberBytes
 pub mod EscapeBytes
-pub mod PlainRuns
-pub mod QuotedScan
-pub mod QuotedBytes
-pub mod QuotedCuts
-pub mod QuotedValues
 pub mod CharByteBytes
-pub mod CharRuns
-pub mod RawBytes

@@ -1,11 +1,7 @@
--- what an escape or a container holds
+-- what an escape holds
 pub mod Unescaped
-pub mod Container
 -- the parts that stand at the places of a cut
 pub mod IntegerCut
 pub mod FloatCut
 pub mod NumberCut
 pub mod CharCut
-pub mod QuotedItems
-pub mod QuotedCut
-pub mod RawCut

@@ -1,8 +1,7 @@
-//! Parses the parts that literals are made of, and says where a text is cut.
+//! Parses the parts that literals are made of, and says where a number, a char or a byte is cut.
 #![tactic(auto)]
 
 pub use char::{cut_byte, cut_char};
-pub use container::EscapeContainer;
 pub use escape::unescape;
 pub use float::{FloatCut, cut_float};
 pub use integer::{IntegerCut, cut_integer};
@@ -10,20 +9,12 @@ pub use litrs_base::{
     Buffer, FloatType, FromIntegerLiteral, IntegerBase, IntegerType, ParseError, ParseErrorKind,
     Text, Unescape,
 };
-pub use litrs_search::{Special, next_special};
 pub use number::{NumberCut, cut_number};
 pub use parse::{check_suffix, end_dec_digits, first_byte_or_empty, hex_digit_value};
-pub use quoted::{QuotedCut, cut_quoted};
-pub use raw::scan_raw_string;
-pub use string::unescape_string;
 
 pub mod char;
-pub mod container;
 pub mod escape;
 pub mod float;
 pub mod integer;
 pub mod number;
 mod parse;
-pub mod quoted;
-pub mod raw;
-pub mod string;

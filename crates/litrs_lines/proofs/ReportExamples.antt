@@ -11,7 +11,7 @@ use Rattle.litrs_grammar.specs.Quoted.{plain_item, escape_item}
 use Rattle.litrs_grammar.specs.Literal.{quoted_parts, raw_parts, a_bool, an_integer, a_string, a_byte_string, a_c_string}
 use Rattle.litrs_grammar.proofs.Computing.{computing}
 use Rattle.litrs_lines.specs.Report.{value_text, literal_report, IsTextReport}
-use Rattle.litrs_lines.specs.Lines.{ended_lines, open_line, lines_of}
+use Rattle.litrs_lines.specs.Lines.{ended_parts, open_part, ended_lines, open_line, lines_of}
 
 -- Texts
 
@@ -49,6 +49,10 @@ value-none : value_text 340282366920938463463374607431768211456 ≡ codes "none"
 value-none = refl
 
 -- Lines
+
+-- of no part none is ended, and none is open
+parts-none : (ended_parts [] ≡ []) × (open_part [] ≡ [])
+parts-none = (refl, refl)
 
 lines-ended : ended_lines (codes "a\n\nb") ≡ codes "a" ∷ [] ∷ []
 unfolding ended_lines

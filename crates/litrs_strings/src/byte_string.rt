@@ -51,8 +51,8 @@ impl<B: Text> ByteStringLit<B> {
     /// # Errors
     ///
     /// `Empty`; `InvalidByteStringLiteralStart` where the text begins with neither `b"` nor `br`;
-    /// or as [`cut_quoted`](litrs_lex::cut_quoted) and
-    /// [`scan_raw_string`](litrs_lex::scan_raw_string) refuse the text: `b"ab` is
+    /// or as [`cut_quoted`](litrs_bodies::cut_quoted) and
+    /// [`scan_raw_string`](litrs_bodies::scan_raw_string) refuse the text: `b"ab` is
     /// `UnterminatedString`, and `b"é"` is `NonAsciiInByteLiteral` at 2..3. `OutOfMemory`, with no
     /// span, where the text is a byte string and there is no memory for its value.
     #[inline(always)]
@@ -174,6 +174,7 @@ impl ByteStringLit<&str> {
 }
 
 /// The value, where the body has a backslash, and where the text is cut, if it is a byte string.
+#[inline(always)]
 fn parse_text(alloc: Global, input: &str) -> Result<(Option<Vec<u8>>, StringCut), ParseError>
     ensures ok { IfOk result (λ parsed.
         IsParsedString byte_string_kind input.now (option_map vec_items parsed.0) parsed.1) }

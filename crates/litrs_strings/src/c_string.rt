@@ -130,10 +130,10 @@ impl<B: Text> CStringLit<B> {
     /// # Errors
     ///
     /// `Empty`; `InvalidCStringLiteralStart` where the text begins with neither `c"` nor `cr`; or
-    /// as [`cut_quoted`](litrs_lex::cut_quoted) and [`scan_raw_string`](litrs_lex::scan_raw_string)
-    /// refuse the text: `c"ab` is `UnterminatedString`, and `c"\0"` is `DisallowedNulEscape` at
-    /// 2..4. `OutOfMemory`, with no span, where the text is a C string and there is no memory for
-    /// its value.
+    /// as [`cut_quoted`](litrs_bodies::cut_quoted) and
+    /// [`scan_raw_string`](litrs_bodies::scan_raw_string) refuse the text: `c"ab` is
+    /// `UnterminatedString`, and `c"\0"` is `DisallowedNulEscape` at 2..4. `OutOfMemory`, with no
+    /// span, where the text is a C string and there is no memory for its value.
     #[inline(always)]
     pub fn parse(alloc: Global, input: B) -> Result<CStringLit<B>, ParseError>
         ensures buffer { IfOk result (λ lit. lit.buffer ≡ input) }
@@ -257,6 +257,7 @@ impl CStringLit<&str> {
 }
 
 /// The value, and where the text is cut, if it is a C string.
+#[inline(always)]
 fn parse_text(alloc: Global, input: &str) -> Result<(CString, StringCut), ParseError>
     ensures ok { IfOk result (λ parsed. IsParsedCString input.now parsed.0 parsed.1) }
     ensures refused { IfErr result
@@ -272,6 +273,7 @@ fn parse_text(alloc: Global, input: &str) -> Result<(CString, StringCut), ParseE
 
 /// The value without its closing zero, where the body has a backslash, and where the text is cut,
 /// if it is a C string.
+#[inline(always)]
 fn parse_body(alloc: Global, input: &str) -> Result<(Option<Vec<u8>>, StringCut), ParseError>
     ensures ok { IfOk result (λ parsed.
         IsParsedString c_string_kind input.now (option_map vec_items parsed.0) parsed.1) }

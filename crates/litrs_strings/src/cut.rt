@@ -1,12 +1,13 @@
 //! Where strings of the three kinds are cut.
 ghost use Rattle.std.specs.Prelude.{◌⊎◌, ◌||◌, not, option_map, IfOk, IfErr, IsTrue};
 ghost use Rattle.std.specs.Str.{IsCharBoundary};
-ghost use Rattle.litrs_lex.specs.QuotedCut.{IsQuotedRefused, IsQuotedOutOfMemory};
-ghost use Rattle.litrs_lex.specs.RawCut.{IsRawRefused};
+ghost use Rattle.litrs_bodies.specs.QuotedCut.{IsQuotedRefused, IsQuotedOutOfMemory};
+ghost use Rattle.litrs_bodies.specs.RawCut.{IsRawRefused};
 ghost use Rattle.litrs_lex.specs.Unescaped.{switches};
 ghost use Rattle.litrs_strings.specs.ParsedStrings.{IsParsedQuoted, IsParsedRaw};
 
-use litrs_lex::{EscapeContainer, ParseError, scan_raw_string, unescape_string};
+use litrs_bodies::{EscapeContainer, scan_raw_string, unescape_string};
+use litrs_lex::ParseError;
 use std::alloc::Global;
 
 /// Where a string is cut, in bytes.
@@ -24,6 +25,7 @@ pub struct StringCut {
 
 /// Parses a quoted string whose body begins at `offset`: the value, where the body has a backslash,
 /// and where the string is cut. `offset` and the switches are those of [`unescape_string`].
+#[inline(always)]
 pub(crate) fn parse_quoted<C: EscapeContainer>(
     alloc: Global,
     input: &str,
@@ -60,6 +62,7 @@ pub(crate) fn parse_quoted<C: EscapeContainer>(
 
 /// Cuts a raw string whose `r` ends at `offset`. `offset` and the switches are those of
 /// [`scan_raw_string`].
+#[inline(never)]
 pub(crate) fn cut_raw(
     input: &str,
     offset: usize,

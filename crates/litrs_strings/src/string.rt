@@ -50,10 +50,10 @@ impl<B: Text> StringLit<B> {
     /// # Errors
     ///
     /// `Empty`; `InvalidStringLiteralStart` at the first byte where that is neither `"` nor `r`; or
-    /// as [`cut_quoted`](litrs_lex::cut_quoted) and [`scan_raw_string`](litrs_lex::scan_raw_string)
-    /// refuse the text: `"ab` is `UnterminatedString`, and `"\x80"` is `NonAsciiXEscape` at 1..5.
-    /// `OutOfMemory`, with no span, where the text is a string and there is no memory for its
-    /// value.
+    /// as [`cut_quoted`](litrs_bodies::cut_quoted) and
+    /// [`scan_raw_string`](litrs_bodies::scan_raw_string) refuse the text: `"ab` is
+    /// `UnterminatedString`, and `"\x80"` is `NonAsciiXEscape` at 1..5. `OutOfMemory`, with no
+    /// span, where the text is a string and there is no memory for its value.
     #[inline(always)]
     pub fn parse(alloc: Global, input: B) -> Result<StringLit<B>, ParseError>
         ensures buffer { IfOk result (λ lit. lit.buffer ≡ input) }
@@ -171,6 +171,7 @@ impl StringLit<&str> {
 }
 
 /// The value, where the body has a backslash, and where the text is cut, if it is a string.
+#[inline(always)]
 fn parse_text(alloc: Global, input: &str) -> Result<(Option<String>, StringCut), ParseError>
     ensures ok { IfOk result (λ parsed.
         IsParsedString string_kind input.now (option_map string_bytes parsed.0) parsed.1) }

@@ -1,11 +1,11 @@
 -- The answers of conversions.
 use Rattle.std.proofs.Common.{◌≡◌, List, [], ◌∷◌, ◌++◌, Result, Ok, Err, ap, refl}
 use Rattle.std.specs.Result.{IsErrAnd}
-use Rattle.litrs_token.specs.declared.kind.TokenKind.{TokenKind}
-use Rattle.litrs_token.specs.declared.kind.TokenKind.TheVariants as token
-use Rattle.litrs_token.specs.declared.tree.TokenTree.TheOpen as tree
+use Rattle.litrs_trees.specs.declared.kind.TokenKind.{TokenKind}
+use Rattle.litrs_trees.specs.declared.kind.TokenKind.TheVariants as token
+use Rattle.litrs_trees.specs.declared.tree.TokenTree.TheOpen as tree
 use Rattle.litrs_token.specs.Conversion.{IsWanted}
-use Rattle.litrs_token.specs.Tree.{Shape, IsNoLiteral}
+use Rattle.litrs_trees.specs.Tree.{Shape, IsNoLiteral}
 
 -- an error that is this one
 pub err_of : {T E : Type 0} (r : Result T E) (e : E) → IsErrAnd r (λ x. x ≡ e) → r ≡ Err e
@@ -19,9 +19,3 @@ no_literal_wanted wanted (tree.Group g) one none is = is
 no_literal_wanted wanted (tree.Ident i) one none is = one is.0
 no_literal_wanted wanted (tree.Punct p) one none is = is
 no_literal_wanted wanted (tree.Literal l) one none is = none l refl
-
--- what three pushes leave
-pub pushed : {T : Type 0} (before one two three : List T) (x y z : T) → before ≡ [] →
-    one ≡ before ++ x ∷ [] → two ≡ one ++ y ∷ [] → three ≡ two ++ z ∷ [] →
-    three ≡ x ∷ y ∷ z ∷ []
-pushed before one two three x y z none first second third = rw (third, second, first, none) refl

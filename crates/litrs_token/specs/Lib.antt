@@ -1,13 +1,2 @@
--- where tokens stand, and what they are
-pub mod Place
-pub mod Tokens
-pub mod LiteralToken
-pub mod Front
-pub mod StringToken
-pub mod Tree
--- what is printed of errors
-pub mod Description
-pub mod Errors
-pub mod CompileError
--- what conversions answer
+-- what conversions want
 pub mod Conversion

@@ -1,22 +1,19 @@
 //! Conversions of tokens to literals.
-ghost use Rattle.std.specs.Prelude.{◌≡◌, ℕ, List, Some, IfOk, IfErr, IfSome, IsErrOf, OnOk, is_some, string_bytes};
+ghost use Rattle.std.specs.Prelude.{◌≡◌, ℕ, List, IfOk, IfErr, IsErrOf, OnOk, string_bytes};
 ghost use Rattle.std.specs.Result.{IsErrAnd};
 ghost use Rattle.std.specs.Str.{chars};
-ghost use Rattle.litrs_grammar.specs.Bool.{bool_text};
-ghost use Rattle.litrs.specs.BoolLiteral.{bool_value};
 ghost use Rattle.litrs.specs.LiteralDerivation.{literal_raw};
-ghost use Rattle.litrs_token.specs.Conversion.{IsWantedKind, IsWanted, text_of, is_bool_ident, literal_mismatch, tree_mismatch};
-ghost use Rattle.litrs_token.specs.LiteralToken.{SomeLiteral};
-ghost use Rattle.litrs_token.specs.Tree.{shape_of};
-ghost use Rattle.litrs_token.specs.declared.err.TokenError.{TokenError};
-ghost use Rattle.litrs_token.specs.declared.kind.TokenKind.{TokenKind};
+ghost use Rattle.litrs_token.specs.Conversion.{IsWantedKind, IsWanted};
+ghost use Rattle.litrs_trees.specs.BoolTree.{text_of};
+ghost use Rattle.litrs_trees.specs.LiteralToken.{SomeLiteral};
+ghost use Rattle.litrs_trees.specs.Mismatch.{literal_mismatch, tree_mismatch};
+ghost use Rattle.litrs_trees.specs.Tree.{shape_of};
+ghost use Rattle.litrs_trees.specs.declared.err.TokenError.{TokenError};
+ghost use Rattle.litrs_trees.specs.declared.kind.TokenKind.{TokenKind};
 
-use crate::err::{InvalidToken, TokenError};
-use crate::kind::TokenKind;
-use crate::literal_token::Literal;
 use crate::one_kind::OneKind;
-use crate::tree::TokenTree;
-use litrs::{BoolLit, ParseErrorKind};
+use litrs::ParseErrorKind;
+use litrs_trees::{Literal, TokenError, TokenKind, TokenTree, bool_of};
 use std::alloc::{AllocError, Global};
 
 /// A literal that is read from a token.
@@ -134,9 +131,9 @@ impl<T: OneKind> FromToken for T {
 }
 
 impl FromToken for litrs::Literal<String> {
-    ghost use Rattle.litrs_token.specs.declared.kind.TokenKind.TheVariants as token;
+    ghost use Rattle.litrs_trees.specs.declared.kind.TokenKind.TheVariants as token;
     ghost use Rattle.litrs.specs.LiteralDerivation.{literal_raw};
-    ghost use Rattle.litrs_token.specs.declared.err.TokenError.TheVariants.{Memory};
+    ghost use Rattle.litrs_trees.specs.declared.err.TokenError.TheVariants.{Memory};
 
     ghost wanted = { token.Literal };
 
@@ -194,51 +191,5 @@ fn any_literal(alloc: Global, text: String) -> Result<litrs::Literal<String>, Al
             ParseErrorKind::OutOfMemory => Err(AllocError),
             _ => unreachable!(),
         },
-    }
-}
-
-/// The bool that a tree is: the identifier `true` or `false`.
-fn bool_of(tree: &TokenTree) -> Option<BoolLit>
-    ensures some { IfSome result (λ lit.
-        text_of (shape_of tree.now) ≡ bool_text (bool_value lit)) }
-    ensures which { is_some result ≡ is_bool_ident (shape_of tree.now) }
-{
-    match tree {
-        TokenTree::Ident(ident) => match ident.text() {
-            "true" => Some(BoolLit::True),
-            "false" => Some(BoolLit::False),
-            _ => None,
-        },
-        _ => None,
-    }
-}
-
-impl TryFrom<TokenTree> for BoolLit {
-    ghost use Rattle.litrs_token.specs.Conversion.{IsBoolAnswer};
-
-    ghost try_from_gives = { IsBoolAnswer };
-
-    type Error = InvalidToken;
-
-    fn try_from(tree: TokenTree) -> Result<BoolLit, InvalidToken> {
-        match bool_of(&tree) {
-            Some(lit) => Ok(lit),
-            None => Err(tree.mismatch(TokenKind::BoolLit)),
-        }
-    }
-}
-
-impl TryFrom<&TokenTree> for BoolLit {
-    ghost use Rattle.litrs_token.specs.Conversion.{IsBoolAnswer};
-
-    ghost try_from_gives = { λ tree result. IsBoolAnswer tree.now result };
-
-    type Error = InvalidToken;
-
-    fn try_from(tree: &TokenTree) -> Result<BoolLit, InvalidToken> {
-        match bool_of(tree) {
-            Some(lit) => Ok(lit),
-            None => Err(tree.mismatch(TokenKind::BoolLit)),
-        }
     }
 }

@@ -1,15 +1,12 @@
 //! Conversions of literals to tokens.
 ghost use Rattle.std.specs.Prelude.{◌≡◌, ℕ, List, IfOk};
-ghost use Rattle.litrs_token.specs.Place.{call_site};
-ghost use Rattle.litrs_token.specs.declared.kind.TokenKind.{TokenKind};
+ghost use Rattle.litrs_trees.specs.Place.{call_site};
+ghost use Rattle.litrs_trees.specs.declared.kind.TokenKind.{TokenKind};
 
-use crate::kind::TokenKind;
-use crate::literal_token::Literal;
-use crate::name::Ident;
-use crate::place::Span;
 use litrs::{
     BoolLit, ByteLit, ByteStringLit, CStringLit, CharLit, FloatLit, IntegerLit, StringLit, Text,
 };
+use litrs_trees::{Ident, Literal, Span, TokenKind};
 use std::alloc::{AllocError, Global};
 
 /// A literal that is written as a token.
@@ -32,7 +29,7 @@ pub trait IntoToken: Drop {
 }
 
 impl<B: Text> IntoToken for IntegerLit<B> {
-    ghost use Rattle.litrs_token.specs.declared.kind.TokenKind.TheVariants as token;
+    ghost use Rattle.litrs_trees.specs.declared.kind.TokenKind.TheVariants as token;
 
     ghost raw = { λ lit. lit.raw };
 
@@ -44,7 +41,7 @@ impl<B: Text> IntoToken for IntegerLit<B> {
 }
 
 impl<B: Text> IntoToken for FloatLit<B> {
-    ghost use Rattle.litrs_token.specs.declared.kind.TokenKind.TheVariants as token;
+    ghost use Rattle.litrs_trees.specs.declared.kind.TokenKind.TheVariants as token;
 
     ghost raw = { λ lit. lit.raw };
 
@@ -56,7 +53,7 @@ impl<B: Text> IntoToken for FloatLit<B> {
 }
 
 impl<B: Text> IntoToken for CharLit<B> {
-    ghost use Rattle.litrs_token.specs.declared.kind.TokenKind.TheVariants as token;
+    ghost use Rattle.litrs_trees.specs.declared.kind.TokenKind.TheVariants as token;
 
     ghost raw = { λ lit. lit.raw };
 
@@ -68,7 +65,7 @@ impl<B: Text> IntoToken for CharLit<B> {
 }
 
 impl<B: Text> IntoToken for ByteLit<B> {
-    ghost use Rattle.litrs_token.specs.declared.kind.TokenKind.TheVariants as token;
+    ghost use Rattle.litrs_trees.specs.declared.kind.TokenKind.TheVariants as token;
 
     ghost raw = { λ lit. lit.raw };
 
@@ -80,7 +77,7 @@ impl<B: Text> IntoToken for ByteLit<B> {
 }
 
 impl<B: Text> IntoToken for StringLit<B> {
-    ghost use Rattle.litrs_token.specs.declared.kind.TokenKind.TheVariants as token;
+    ghost use Rattle.litrs_trees.specs.declared.kind.TokenKind.TheVariants as token;
 
     ghost raw = { λ lit. lit.raw };
 
@@ -92,7 +89,7 @@ impl<B: Text> IntoToken for StringLit<B> {
 }
 
 impl<B: Text> IntoToken for ByteStringLit<B> {
-    ghost use Rattle.litrs_token.specs.declared.kind.TokenKind.TheVariants as token;
+    ghost use Rattle.litrs_trees.specs.declared.kind.TokenKind.TheVariants as token;
 
     ghost raw = { λ lit. lit.raw };
 
@@ -104,7 +101,7 @@ impl<B: Text> IntoToken for ByteStringLit<B> {
 }
 
 impl<B: Text> IntoToken for CStringLit<B> {
-    ghost use Rattle.litrs_token.specs.declared.kind.TokenKind.TheVariants as token;
+    ghost use Rattle.litrs_trees.specs.declared.kind.TokenKind.TheVariants as token;
 
     ghost raw = { λ lit. lit.raw };
 

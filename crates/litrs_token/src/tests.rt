@@ -1,12 +1,11 @@
-//! Tokens by their texts, and conversions both ways.
+//! Tokens, and conversions of tokens to literals.
 ghost use Rattle.std.specs.Prelude.{◌≡◌, ◌↔◌, IfOk, IfErr, IsTrue};
 ghost use Rattle.litrs_token.specs.Conversion.{IsWanted};
-ghost use Rattle.litrs_token.specs.Tree.{shape_of};
+ghost use Rattle.litrs_trees.specs.Tree.{shape_of};
 
-use crate::kind::TokenKind;
 use crate::{
-    Delimiter, FromToken, Group, Ident, IdentError, IntoIdent, IntoToken, InvalidToken, Literal,
-    LiteralError, Punct, Spacing, Span, TokenError, TokenTree,
+    Delimiter, FromToken, Group, Ident, IdentError, IntoIdent, InvalidToken, Literal, LiteralError,
+    Punct, Spacing, Span, TokenError, TokenKind, TokenTree,
 };
 use litrs::{
     BoolLit, ByteLit, ByteStringLit, CStringLit, CharLit, FloatLit, IntegerLit, StringLit,
@@ -25,58 +24,6 @@ const LITERALS: [(&str, &str); 7] = [
     ("b\"fox\"", "a byte string literal (e.g. `b\"fox\"`)"),
     ("c\"Ferris\"", "a C string literal (e.g. c\"Ferris\")"),
 ];
-
-#[test]
-fn texts_of_literals(rt: HostRuntime) -> Result<(), Fail> {
-    let texts = [
-        "27",
-        "0xFF_u8",
-        "3e2e5",
-        "9.",
-        "'\\u{1F98A}'x",
-        "b'\\xff'",
-        "\"a\\n\\\n  b\"_x",
-        "r##\"a\"#\"##",
-        "b\"\\xff\"",
-        "br\"\\\"",
-        "c\"\\xff\"",
-        "cr#\"a\"#",
-    ];
-    for text in texts {
-        let literal = Literal::from_text(rt.alloc(), text)?;
-        assert_eq!(rt; literal.text(), text);
-        assert_eq!(rt; literal.span(), Span::call_site());
-    }
-    Ok(())
-}
-
-#[test]
-fn texts_of_no_literals(rt: HostRuntime) {
-    let texts = [
-        "true",
-        "false",
-        "-1",
-        "1 ",
-        "",
-        "x",
-        "0b12",
-        "1.e4",
-        "'ab'",
-        "b'\\u{41}'",
-        "\"a",
-        "r#\"a\"",
-        "b\"é\"",
-        "br",
-        "c",
-        "cat",
-        "c\"\\0\"",
-        "cr\"\0\"",
-    ];
-    for text in texts {
-        let error = Literal::from_text(rt.alloc(), text).err();
-        assert_eq!(rt; error, Some(LiteralError::NotALiteral), "of {text}");
-    }
-}
 
 #[test]
 fn strings(rt: HostRuntime) -> Result<(), Fail> {
@@ -248,66 +195,6 @@ fn bools(rt: HostRuntime) -> Result<(), Fail> {
     let ident = BoolLit::False.into_ident(alloc)?;
     assert_eq!(rt; ident.text(), "false");
     assert_eq!(rt; ident.span(), Span::call_site());
-    Ok(())
-}
-
-/// The text of a literal that is read from a token and written as one, in each of the four ways.
-fn round_trip<T: FromToken<Error = TokenError> + IntoToken>(
-    alloc: Global,
-    text: &str,
-) -> Result<String, Fail> {
-    let token = Literal::from_text(alloc, text)?;
-    let token = T::from_literal_ref(alloc, &token)?.into_token(alloc)?;
-    let token = T::from_literal(alloc, token)?.into_token(alloc)?;
-    let tree = TokenTree::from(token);
-    let token = T::from_tree_ref(alloc, &tree)?.into_token(alloc)?;
-    let token = T::from_tree(alloc, TokenTree::from(token))?.into_token(alloc)?;
-    Ok(String::from_str(alloc, token.text())?)
-}
-
-#[test]
-fn round_trips(rt: HostRuntime) -> Result<(), Fail> {
-    let alloc = rt.alloc();
-    assert_eq!(rt;
-        round_trip::<IntegerLit<String>>(alloc, "0xFF_u8")?.as_str(),
-        "0xFF_u8"
-    );
-    assert_eq!(rt;
-        round_trip::<FloatLit<String>>(alloc, "3e2e5")?.as_str(),
-        "3e2e5"
-    );
-    assert_eq!(rt;
-        round_trip::<CharLit<String>>(alloc, "'\\n'")?.as_str(),
-        "'\\n'"
-    );
-    assert_eq!(rt;
-        round_trip::<ByteLit<String>>(alloc, "b'\\xff'")?.as_str(),
-        "b'\\xff'"
-    );
-    assert_eq!(rt;
-        round_trip::<StringLit<String>>(alloc, "\"\\n\"x")?.as_str(),
-        "\"\\n\"x"
-    );
-    assert_eq!(rt;
-        round_trip::<ByteStringLit<String>>(alloc, "br\"a\"")?.as_str(),
-        "br\"a\""
-    );
-    assert_eq!(rt;
-        round_trip::<CStringLit<String>>(alloc, "c\"a\"")?.as_str(),
-        "c\"a\""
-    );
-    Ok(())
-}
-
-#[test]
-fn literals_of_any_kind(rt: HostRuntime) -> Result<(), Fail> {
-    for (text, _) in LITERALS {
-        let literal = Literal::from_text(rt.alloc(), text)?;
-        let lit = litrs::Literal::from_literal_ref(rt.alloc(), &literal)?;
-        assert_eq!(rt; lit.raw_input(), text);
-        let lit = litrs::Literal::from_literal(rt.alloc(), literal)?;
-        assert_eq!(rt; lit.raw_input(), text);
-    }
     Ok(())
 }
 

@@ -1,0 +1,33 @@
+-- The names of types, and what escapes stand for, by computation.
+use Rattle.std.specs.Prelude.{◌≡◌, refl, true, false}
+use Rattle.litrs_base.specs.declared.integer.IntegerType.{IntegerType}
+use Rattle.litrs_base.specs.declared.float.FloatType.{FloatType}
+use Rattle.litrs_base.specs.declared.escape.Unescape.TheVariants.{Byte, Unicode}
+use Rattle.litrs_base.specs.IntegerTypes.{type_name, NamesNoType}
+use Rattle.litrs_base.specs.FloatTypes.{float_type_name, NamesNoFloatType}
+use Rattle.litrs_base.specs.Unescape.{unescaped_number, is_unescaped_char, is_unescaped_byte}
+
+-- Names
+
+-- the name of each type names a type
+type_names : (t : IntegerType) → ¬ NamesNoType (type_name t)
+type_names t none = none t refl
+
+float_type_names : (t : FloatType) → ¬ NamesNoFloatType (float_type_name t)
+float_type_names t none = none t refl
+
+-- Escapes
+
+numbers :
+    (unescaped_number (Byte 255) ≡ 255)
+    × (unescaped_number (Unicode 0x1F602) ≡ 0x1F602)
+numbers = (refl, refl)
+
+-- a byte above 7F is no character, and no character is a byte
+unescaped :
+    (is_unescaped_char (Byte 127) ≡ true)
+    × (is_unescaped_char (Byte 128) ≡ false)
+    × (is_unescaped_char (Unicode 128) ≡ true)
+    × (is_unescaped_byte (Byte 255) ≡ true)
+    × (is_unescaped_byte (Unicode 65) ≡ false)
+unescaped = (refl, refl, refl, refl, refl)

@@ -1,0 +1,7 @@
+-- what takes a value
+pub mod Container
+-- quoted bodies
+pub mod QuotedItems
+pub mod QuotedCut
+-- raw bodies
+pub mod RawCut

@@ -1,0 +1,598 @@
+//! Where a quoted string, byte string or C string is cut.
+ghost use Rattle.std.specs.Prelude.{◌≡◌, ◌≤◌, ◌==◌, true, false, length, IfOk, IfErr, IfSome, IfNone, Some, None, IsTrue, IsFalse};
+ghost use Rattle.std.specs.List.{prefix_len};
+ghost use Rattle.std.specs.Str.{chars, IsCharBoundary};
+ghost use Rattle.litrs_base.specs.Characters.{line_feed, is_blank};
+ghost use Rattle.litrs_base.specs.Refusal.{refusal_of, HasCharSpan};
+ghost use Rattle.litrs_base.specs.Text.{first_passes};
+ghost use Rattle.litrs_grammar.specs.Quoted.{is_plain, without_last, rest_refusal};
+ghost use Rattle.litrs_bodies.specs.QuotedCut.{IsQuotedCut, IsQuotedRefused};
+ghost use Rattle.litrs_bodies.specs.QuotedItems.{IsPlainRun, IsItemAt, IsItemsEnd, EndsItems, item_bytes};
+ghost use Rattle.litrs_lex.specs.Unescaped.{switches};
+
+use litrs_base::{ParseError, ParseErrorKind, Unescape};
+use litrs_lex::{check_suffix, unescape};
+use litrs_search::{Special, next_special};
+
+/// Where a quoted literal is cut: sizes and places in bytes.
+#[derive(Clone, Copy, Debug, PartialEq, Eq)]
+pub struct QuotedCut {
+    /// How many bytes the value has, without the closing zero of a C string.
+    pub value_len: usize,
+    /// Whether the body has a backslash.
+    pub has_escape: bool,
+    /// Where the suffix begins, behind the closing quote.
+    pub start_suffix: usize,
+}
+
+/// Cuts a quoted literal whose body begins at `offset`. Of `"a\nb"u8` from 1 the value has 3 bytes,
+/// the body has an escape, and the suffix begins at 6. See [the reference][ref].
+///
+/// The place stands within the text, on a character boundary. `unicode` allows `\u{..}` and
+/// characters beyond ASCII, `byte_escapes` allows `\x80` to `\xff`, and `allow_nul` allows NUL and
+/// an escape of value 0.
+///
+/// # Errors
+///
+/// The first that stands in the text, from `offset` on:
+/// - the refusal of [`unescape`] where a backslash begins neither an escape nor a continuation; the
+///   escape is parsed without the last character of the text;
+/// - `CarriageReturn` at a CR, `NulByte` at a NUL that is not allowed, and `NonAsciiInByteLiteral`
+///   at a character beyond ASCII that is not allowed, over its first byte;
+/// - `UnterminatedString`, with no span, where the text ends before a closing quote;
+/// - the refusal of [`check_suffix`] where what follows the closing quote is no suffix, over its
+///   first byte.
+///
+/// [ref]: https://doc.rust-lang.org/reference/tokens.html#string-literals
+#[inline(always)]
+pub fn cut_quoted(
+    input: &str,
+    offset: usize,
+    unicode: bool,
+    byte_escapes: bool,
+    allow_nul: bool,
+) -> Result<QuotedCut, ParseError>
+    requires { IsCharBoundary input.now offset }
+    ensures ok { IfOk result
+        (IsQuotedCut (switches unicode byte_escapes allow_nul) input.now offset) }
+    ensures refused { IfErr result
+        (IsQuotedRefused (switches unicode byte_escapes allow_nul) input.now offset) }
+{
+    let end = items_end(input, offset, unicode, byte_escapes, allow_nul);
+    match end_refusal(&input[end.place..], unicode, byte_escapes, allow_nul) {
+        // A value is shorter than its body where the body has a backslash.
+        None => Ok(QuotedCut {
+            value_len: end.value_len,
+            has_escape: end.value_len != end.place - offset,
+            start_suffix: end.place + 1,
+        }),
+        Some(e) => Err(e.offset_span(end.place)),
+    }
+}
+
+/// Where the items of a quoted body end: at its closing quote, or where the text is refused.
+#[derive(Clone, Copy, Debug, PartialEq, Eq)]
+pub struct ItemsEnd {
+    /// The place, in bytes.
+    pub place: usize,
+    /// How many bytes the items before it stand for.
+    pub value_len: usize,
+}
+
+/// Where the items of a quoted body end that begins at `offset`: of `"a\n"u8` from 1 at 4, and the
+/// items stand for 2 bytes. An escape or a continuation that ends the text is not among them.
+///
+/// The place and the switches are those of [`cut_quoted`].
+#[inline(always)]
+pub fn items_end(
+    input: &str,
+    offset: usize,
+    unicode: bool,
+    byte_escapes: bool,
+    allow_nul: bool,
+) -> ItemsEnd
+    requires { IsCharBoundary input.now offset }
+    ensures { IsItemsEnd (switches unicode byte_escapes allow_nul) input.now offset result }
+{
+    let place = first_plain_end(input, offset, unicode, byte_escapes, allow_nul);
+    if ends_items(&input[place..], unicode, byte_escapes, allow_nul) {
+        ItemsEnd {
+            place,
+            value_len: place - offset,
+        }
+    } else {
+        more_items_end(input, offset, place, unicode, byte_escapes, allow_nul)
+    }
+}
+
+/// [`plain_end`] in one piece for each kind of literal, so that callers stay small and the search
+/// has no switch to test.
+#[inline(always)]
+fn first_plain_end(
+    input: &str,
+    from: usize,
+    unicode: bool,
+    byte_escapes: bool,
+    allow_nul: bool,
+) -> usize
+    requires { IsCharBoundary input.now from }
+    ensures { IsPlainRun (switches unicode byte_escapes allow_nul) input.now from result }
+{
+    if !unicode {
+        byte_plain_end(input, from, byte_escapes, allow_nul)
+    } else if allow_nul {
+        string_plain_end(input, from, byte_escapes)
+    } else {
+        c_plain_end(input, from, byte_escapes)
+    }
+}
+
+/// [`plain_end`] in a string.
+#[inline(never)]
+fn string_plain_end(input: &str, from: usize, byte_escapes: bool) -> usize
+    requires { IsCharBoundary input.now from }
+    ensures { IsPlainRun (switches true byte_escapes true) input.now from result }
+{
+    plain_end(input, from, true, byte_escapes, true)
+}
+
+/// [`plain_end`] in a byte string.
+#[inline(never)]
+fn byte_plain_end(input: &str, from: usize, byte_escapes: bool, allow_nul: bool) -> usize
+    requires { IsCharBoundary input.now from }
+    ensures { IsPlainRun (switches false byte_escapes allow_nul) input.now from result }
+{
+    plain_end(input, from, false, byte_escapes, allow_nul)
+}
+
+/// [`plain_end`] in a C string.
+#[inline(never)]
+fn c_plain_end(input: &str, from: usize, byte_escapes: bool) -> usize
+    requires { IsCharBoundary input.now from }
+    ensures { IsPlainRun (switches true byte_escapes false) input.now from result }
+{
+    plain_end(input, from, true, byte_escapes, false)
+}
+
+/// Whether no backslash begins a text that begins with no plain character: then no item does.
+#[inline(always)]
+fn ends_items(rest: &str, unicode: bool, byte_escapes: bool, allow_nul: bool) -> bool
+    requires { IsFalse
+        (first_passes (is_plain (switches unicode byte_escapes allow_nul)) (chars rest.now)) }
+    ensures { IsTrue result →
+        EndsItems (switches unicode byte_escapes allow_nul) (chars rest.now) }
+{
+    let [first, ..] = rest.as_bytes() else {
+        return true;
+    };
+    *first != b'\\'
+}
+
+/// [`items_end`] of a body whose plain characters at its front end at `from`.
+#[inline(never)]
+fn more_items_end(
+    input: &str,
+    offset: usize,
+    from: usize,
+    unicode: bool,
+    byte_escapes: bool,
+    allow_nul: bool,
+) -> ItemsEnd
+    requires at { IsCharBoundary input.now offset }
+    requires run { IsPlainRun (switches unicode byte_escapes allow_nul) input.now offset from }
+    ensures { IsItemsEnd (switches unicode byte_escapes allow_nul) input.now offset result }
+{
+    let mut at = from;
+    let mut value_len = from - offset;
+    loop {
+        let place = plain_end(input, at, unicode, byte_escapes, allow_nul);
+        value_len += place - at;
+        match next_item(&input[place..], unicode, byte_escapes, allow_nul) {
+            Some(item) => {
+                at = place + item.len;
+                value_len += item.value_len();
+            }
+            None => return ItemsEnd { place, value_len },
+        }
+    }
+}
+
+/// Where the plain characters end that stand from `from` on.
+#[inline(always)]
+pub(crate) fn plain_end(
+    input: &str,
+    from: usize,
+    unicode: bool,
+    byte_escapes: bool,
+    allow_nul: bool,
+) -> usize
+    requires { IsCharBoundary input.now from }
+    ensures { IsPlainRun (switches unicode byte_escapes allow_nul) input.now from result }
+{
+    let what = Special {
+        backslash: true,
+        nul: !allow_nul,
+        non_ascii: !unicode,
+    };
+    let bytes = input.as_bytes();
+    match bytes.get(from) {
+        // One escape follows another.
+        Some(b'\\') => from,
+        _ => next_special(bytes, from, what),
+    }
+}
+
+/// An item that begins with a backslash.
+#[derive(Clone, Copy)]
+pub(crate) struct Escaped {
+    /// Its length in bytes.
+    pub(crate) len: usize,
+    /// What an escape stands for; None for a continuation.
+    pub(crate) value: Option<Unescape>,
+}
+
+impl Escaped {
+    /// How many bytes it stands for.
+    #[inline(always)]
+    fn value_len(&self) -> usize
+        ensures { result ≡ length (item_bytes self.now.value) }
+    {
+        match self.value {
+            None => 0,
+            Some(Unescape::Byte(_)) => 1,
+            Some(Unescape::Unicode(c)) => c.len_utf8(),
+        }
+    }
+}
+
+/// The escape or the continuation at the front of a text that begins with no plain character; None
+/// where the items of the body end.
+#[inline(always)]
+pub(crate) fn next_item(
+    rest: &str,
+    unicode: bool,
+    byte_escapes: bool,
+    allow_nul: bool,
+) -> Option<Escaped>
+    requires { IsFalse
+        (first_passes (is_plain (switches unicode byte_escapes allow_nul)) (chars rest.now)) }
+    ensures item { IfSome result (λ item.
+        IsItemAt (switches unicode byte_escapes allow_nul) rest.now item.len item.value) }
+    ensures none { IfNone result
+        (EndsItems (switches unicode byte_escapes allow_nul) (chars rest.now)) }
+{
+    let [first, behind @ ..] = rest.as_bytes() else {
+        return None;
+    };
+    match *first {
+        b'\\' if begins_with_line_feed(behind) => {
+            let len = 2 + blanks_len(&behind[1..]);
+            if len == rest.len() {
+                None
+            } else {
+                Some(Escaped { len, value: None })
+            }
+        }
+        b'\\' => match unescape(without_last(rest), unicode, byte_escapes, allow_nul) {
+            Ok((value, len)) => Some(Escaped {
+                len,
+                value: Some(value),
+            }),
+            Err(_) => None,
+        },
+        _ => None,
+    }
+}
+
+/// [`rest_refusal`], and nothing else to be read where the closing quote ends the text.
+#[inline(always)]
+fn end_refusal(rest: &str, unicode: bool, byte_escapes: bool, allow_nul: bool) -> Option<ParseError>
+    requires { IsFalse
+        (first_passes (is_plain (switches unicode byte_escapes allow_nul)) (chars rest.now)) }
+    ensures none { IfNone result
+        (rest_refusal (switches unicode byte_escapes allow_nul) (chars rest.now) ≡ None) }
+    ensures refusal { IfSome result (λ e.
+        rest_refusal (switches unicode byte_escapes allow_nul) (chars rest.now)
+        ≡ Some (refusal_of e)) }
+    ensures char_span { IfSome result (HasCharSpan (chars rest.now)) }
+{
+    match rest {
+        "\"" => None,
+        _ => rest_refusal(rest, unicode, byte_escapes, allow_nul),
+    }
+}
+
+/// Why no item and no closing quote with a suffix stands at the front of a text that begins with no
+/// plain character; None where one does.
+#[inline(never)]
+fn rest_refusal(
+    rest: &str,
+    unicode: bool,
+    byte_escapes: bool,
+    allow_nul: bool,
+) -> Option<ParseError>
+    requires { IsFalse
+        (first_passes (is_plain (switches unicode byte_escapes allow_nul)) (chars rest.now)) }
+    ensures none { IfNone result
+        (rest_refusal (switches unicode byte_escapes allow_nul) (chars rest.now) ≡ None) }
+    ensures refusal { IfSome result (λ e.
+        rest_refusal (switches unicode byte_escapes allow_nul) (chars rest.now)
+        ≡ Some (refusal_of e)) }
+    ensures char_span { IfSome result (HasCharSpan (chars rest.now)) }
+{
+    let [first, behind @ ..] = rest.as_bytes() else {
+        return Some(ParseError::new(None, ParseErrorKind::UnterminatedString));
+    };
+    match *first {
+        b'"' => match check_suffix(&rest[1..]) {
+            Ok(()) => None,
+            Err(kind) => Some(ParseError::in_text(rest, Some(1..2), kind)),
+        },
+        b'\\' if begins_with_line_feed(behind) => {
+            let len = 2 + blanks_len(&behind[1..]);
+            if len == rest.len() {
+                Some(ParseError::new(None, ParseErrorKind::UnterminatedString))
+            } else {
+                None
+            }
+        }
+        b'\\' => match unescape(without_last(rest), unicode, byte_escapes, allow_nul) {
+            Ok(_) => None,
+            Err(e) => Some(e),
+        },
+        b'\r' => Some(ParseError::in_text(rest, Some(0..1), ParseErrorKind::CarriageReturn)),
+        0 => Some(ParseError::in_text(rest, Some(0..1), ParseErrorKind::NulByte)),
+        _ => Some(ParseError::in_text(rest, Some(0..1), ParseErrorKind::NonAsciiInByteLiteral)),
+    }
+}
+
+/// Whether LF stands first.
+#[inline(always)]
+fn begins_with_line_feed(bytes: &[u8]) -> bool
+    ensures { result ≡ first_passes (λ c. c == line_feed) bytes.now }
+{
+    matches!(bytes, [b'\n', ..])
+}
+
+/// How many spaces, tabs and LFs stand at the front.
+fn blanks_len(bytes: &[u8]) -> usize
+    ensures count { result ≡ prefix_len is_blank bytes.now }
+    ensures within { result ≤ length bytes.now }
+{
+    bytes
+        .iter()
+        .take_while(|b| matches!(**b, b' ' | b'\t' | b'\n'))
+        .count()
+}
+
+/// The text without its last character.
+#[inline(always)]
+fn without_last(text: &str) -> &str
+    ensures { chars result.now ≡ without_last (chars text.now) }
+{
+    let mut chars = text.chars();
+    chars.next_back();
+    chars.as_str()
+}
+
+#[cfg(test)]
+mod tests {
+    use super::{QuotedCut, cut_quoted};
+    use litrs_base::ParseError;
+    use litrs_base::ParseErrorKind::{self, *};
+    use std::ops::Range;
+    use std::process::Abort;
+
+    /// What the escapes of a kind of literal may be, by the switches of `cut_quoted`.
+    type Switches = (bool, bool, bool);
+
+    const STRING: Switches = (true, false, true);
+
+    const BYTE_STRING: Switches = (false, true, true);
+
+    const C_STRING: Switches = (true, true, false);
+
+    /// A text, where its body begins, the switches; then the length of the value, whether the body
+    /// has a backslash, and the place of the suffix.
+    const CUTS: [(&str, usize, Switches, (usize, bool, usize)); 15] = [
+        ("\"a\\u{e9}\\\n b\"x", 1, STRING, (4, true, 13)),
+        ("\"a\\\n \\\n\tb\"", 1, STRING, (2, true, 10)),
+        ("\"foo\\\n\u{85}bar\"", 1, STRING, (8, true, 12)),
+        ("\"a\\nb\"u8", 1, STRING, (3, true, 6)),
+        ("\"\"", 1, STRING, (0, false, 2)),
+        ("\"\0\"", 1, STRING, (1, false, 3)),
+        ("\"é🦊\"", 1, STRING, (6, false, 8)),
+        ("\"\\\\\"", 1, STRING, (1, true, 4)),
+        ("\"\\\"\"", 1, STRING, (1, true, 4)),
+        ("b\"\\xFF\\0\"", 2, BYTE_STRING, (2, true, 9)),
+        ("b\"peter\"", 2, BYTE_STRING, (5, false, 8)),
+        ("c\"\"", 2, C_STRING, (0, false, 3)),
+        ("c\"\\xFF\\u{e9}\"", 2, C_STRING, (3, true, 13)),
+        ("c\"a\\x0cb\\\\\"_jürgen", 2, C_STRING, (4, true, 11)),
+        (
+            "\"the fox jumps over the lazy dog\\n, the fox jumps\"_x",
+            1,
+            STRING,
+            (47, true, 50),
+        ),
+    ];
+
+    /// A text, where its body begins, the switches; then the kind, the span and the character span.
+    type Refusal = (
+        &'static str,
+        usize,
+        Switches,
+        ParseErrorKind,
+        Option<Range<usize>>,
+        Option<Range<usize>>,
+    );
+
+    const REFUSALS: [Refusal; 24] = [
+        ("\"", 1, STRING, UnterminatedString, None, None),
+        (
+            "\"a\\n",
+            1,
+            STRING,
+            UnterminatedEscape,
+            Some(2..3),
+            Some(2..3),
+        ),
+        (
+            "\"a\\",
+            1,
+            STRING,
+            UnterminatedEscape,
+            Some(2..3),
+            Some(2..3),
+        ),
+        ("\"a\\nb", 1, STRING, UnterminatedString, None, None),
+        ("\"a\\\n ", 1, STRING, UnterminatedString, None, None),
+        ("\"a\r\"", 1, STRING, CarriageReturn, Some(2..3), Some(2..3)),
+        (
+            "\"\\x80\"",
+            1,
+            STRING,
+            NonAsciiXEscape,
+            Some(1..5),
+            Some(1..5),
+        ),
+        (
+            "\"నక్క\\xB0\"",
+            1,
+            STRING,
+            NonAsciiXEscape,
+            Some(13..17),
+            Some(13..17),
+        ),
+        (
+            "\"\\u{12\"",
+            1,
+            STRING,
+            UnterminatedUnicodeEscape,
+            Some(1..6),
+            Some(1..6),
+        ),
+        (
+            "\"🦊\\u{}a\"",
+            1,
+            STRING,
+            InvalidStartOfUnicodeEscape,
+            Some(8..9),
+            Some(8..9),
+        ),
+        (
+            "\"నక్క\\u{1234567}🦊\"",
+            1,
+            STRING,
+            TooManyDigitInUnicodeEscape,
+            Some(22..23),
+            Some(22..23),
+        ),
+        ("\"a\\é\"", 1, STRING, UnknownEscape, Some(2..4), Some(2..5)),
+        (
+            "\"fox\"peter\"",
+            1,
+            STRING,
+            InvalidSuffix,
+            Some(5..6),
+            Some(5..6),
+        ),
+        ("\"fox\"🦊", 1, STRING, InvalidSuffix, Some(5..6), Some(5..9)),
+        ("\"a\"_", 1, STRING, InvalidSuffix, Some(3..4), Some(3..4)),
+        ("\"a\"1x", 1, STRING, UnexpectedChar, Some(3..4), Some(3..4)),
+        (
+            "b\"a\\\r\"",
+            2,
+            BYTE_STRING,
+            UnknownEscape,
+            Some(3..5),
+            Some(3..5),
+        ),
+        (
+            "b\"\\xFFé\"",
+            2,
+            BYTE_STRING,
+            NonAsciiInByteLiteral,
+            Some(6..7),
+            Some(6..8),
+        ),
+        (
+            "b\"\\u{0}\"",
+            2,
+            BYTE_STRING,
+            UnicodeEscapeInByteLiteral,
+            Some(2..4),
+            Some(2..4),
+        ),
+        ("c\"\0\"", 2, C_STRING, NulByte, Some(2..3), Some(2..3)),
+        ("c\"a", 2, C_STRING, UnterminatedString, None, None),
+        (
+            "c\"\\u{0}🦊\"",
+            2,
+            C_STRING,
+            DisallowedNulEscape,
+            Some(2..7),
+            Some(2..7),
+        ),
+        (
+            "c\" \\u{00}\"",
+            2,
+            C_STRING,
+            DisallowedNulEscape,
+            Some(3..9),
+            Some(3..9),
+        ),
+        (
+            "\"a text of more than thirty-two bytes, then\r\"",
+            1,
+            STRING,
+            CarriageReturn,
+            Some(43..44),
+            Some(43..44),
+        ),
+    ];
+
+    #[test]
+    fn cuts(rt: HostRuntime) {
+        for (text, offset, (unicode, byte_escapes, allow_nul), expected) in CUTS {
+            match cut_quoted(text, offset, unicode, byte_escapes, allow_nul) {
+                Ok(cut) => {
+                    let (value_len, has_escape, start_suffix) = expected;
+                    let expected = QuotedCut {
+                        value_len,
+                        has_escape,
+                        start_suffix,
+                    };
+                    assert_eq!(rt; cut, expected, "of {text}");
+                }
+                Err(e) => assert!(rt; false, "{text} is a literal, but {e}"),
+            }
+        }
+    }
+
+    /// The text cut from the offset, which is a character boundary.
+    fn cut_at(
+        text: &str,
+        offset: usize,
+        switches: (bool, bool, bool),
+    ) -> Option<Result<QuotedCut, ParseError>> {
+        if !text.is_char_boundary(offset) {
+            return None;
+        }
+        Some(cut_quoted(text, offset, switches.0, switches.1, switches.2))
+    }
+
+    #[test]
+    fn refusals(rt: HostRuntime) {
+        for (text, offset, switches, kind, span, char_span) in REFUSALS {
+            match cut_at(text, offset, switches) {
+                None | Some(Ok(_)) => assert!(rt; false, "{text} is no literal"),
+                Some(Err(e)) => {
+                    assert_eq!(rt; e.kind(), kind, "of {text}");
+                    assert_eq!(rt; e.span(), span, "of {text}");
+                    assert_eq!(rt; e.char_span(), char_span, "of {text}");
+                }
+            }
+        }
+    }
+}

@@ -1,0 +1,223 @@
+//! The values of quoted strings, byte strings and C strings.
+ghost use Rattle.std.specs.Prelude.{◌≡◌, ◌≤◌, ◌⊎◌, ◌||◌, ◌++◌, not, length, take, option_map, IfOk, IfErr, IfSome, IsTrue};
+ghost use Rattle.std.specs.Str.{chars, IsCharBoundary};
+ghost use Rattle.litrs_grammar.specs.Quoted.{QuotedParts, IsQuoted, body_value};
+ghost use Rattle.litrs_bodies.specs.Container.{is_pushable};
+ghost use Rattle.litrs_bodies.specs.QuotedItems.{item_bytes};
+ghost use Rattle.litrs_bodies.specs.QuotedCut.{IsQuotedRefused, IsQuotedValue, IsQuotedOutOfMemory};
+ghost use Rattle.litrs_lex.specs.Unescaped.{switches};
+
+use crate::container::EscapeContainer;
+use crate::quoted::{cut_quoted, next_item, plain_end};
+use litrs_base::{ParseError, ParseErrorKind, Unescape};
+use std::alloc::{AllocError, Global};
+
+/// Unescapes a quoted literal whose body begins at `offset`: the value, where the body has a
+/// backslash, and the place in bytes where the suffix begins. Without a backslash the value is the
+/// body itself, and none is given. Of `"a\nb"u8` from 1 the value is `a`, LF and `b`, and the place
+/// 6. See [the reference][ref].
+///
+/// `offset` and the switches are those of [`cut_quoted`]; `byte_escapes` is set only where the
+/// container takes bytes. There is one allocation, of the value's length, and of one byte more
+/// where NUL is not allowed, for the closing zero of a C string.
+///
+/// # Errors
+///
+/// The refusal of [`cut_quoted`]; `OutOfMemory`, with no span, where the text is a literal whose
+/// body has a backslash, and there is no memory for its value.
+///
+/// [ref]: https://doc.rust-lang.org/reference/tokens.html#string-literals
+#[inline(always)]
+pub fn unescape_string<C: EscapeContainer>(
+    alloc: Global,
+    input: &str,
+    offset: usize,
+    unicode: bool,
+    byte_escapes: bool,
+    allow_nul: bool,
+) -> Result<(Option<C>, usize), ParseError>
+    requires at { IsCharBoundary input.now offset }
+    requires fits { IsTrue (not byte_escapes || C.TAKES_BYTES) }
+    ensures ok { IfOk result (λ read.
+        IsQuotedValue (switches unicode byte_escapes allow_nul) input.now offset
+        (option_map C.contents read.0) read.1) }
+    ensures refused { IfErr result (λ e.
+        IsQuotedRefused (switches unicode byte_escapes allow_nul) input.now offset e
+        ⊎ IsQuotedOutOfMemory (switches unicode byte_escapes allow_nul) input.now offset e) }
+{
+    let cut = cut_quoted(input, offset, unicode, byte_escapes, allow_nul)?;
+    if !cut.has_escape {
+        return Ok((None, cut.start_suffix));
+    }
+    let room = if allow_nul {
+        cut.value_len
+    } else {
+        cut.value_len + 1
+    };
+    match copy_value(alloc, input, offset, room, unicode, byte_escapes, allow_nul) {
+        Ok(value) => Ok((Some(value), cut.start_suffix)),
+        Err(_) => Err(ParseError::new(None, ParseErrorKind::OutOfMemory)),
+    }
+}
+
+/// The value of the quoted literal whose body begins at `offset`, in a container with room for this
+/// many bytes.
+#[inline(never)]
+fn copy_value<C: EscapeContainer>(
+    alloc: Global,
+    input: &str,
+    offset: usize,
+    room: usize,
+    unicode: bool,
+    byte_escapes: bool,
+    allow_nul: bool,
+) -> Result<C, AllocError>
+    requires at { IsCharBoundary input.now offset }
+    requires fits { IsTrue (not byte_escapes || C.TAKES_BYTES) }
+    ensures { IfOk result (λ value. (q : QuotedParts) →
+        IsQuoted (chars (take offset input.now)) (switches unicode byte_escapes allow_nul)
+        (chars input.now) q →
+        C.contents value ≡ body_value q.items) }
+{
+    let mut value = C::new(alloc);
+    value.reserve(room)?;
+    let mut at = offset;
+    loop {
+        let end = plain_end(input, at, unicode, byte_escapes, allow_nul);
+        push_run(&mut value, &input[at..end])?;
+        match next_item(&input[end..], unicode, byte_escapes, allow_nul) {
+            Some(item) => {
+                push_value(&mut value, item.value)?;
+                at = end + item.len;
+            }
+            None => return Ok(value),
+        }
+    }
+}
+
+/// Adds a run of plain characters. One that is empty, as between two escapes, costs no copy.
+#[inline(always)]
+fn push_run<C: EscapeContainer>(container: &mut C, run: &str) -> Result<(), AllocError>
+    ensures { IfOk result (λ _.
+        C.contents container.new ≡ C.contents container.old ++ run.now) }
+{
+    match run {
+        "" => Ok(()),
+        _ => container.push_str(run),
+    }
+}
+
+/// Adds the value of an escape; nothing where there is none, as for a continuation.
+#[inline(always)]
+fn push_value<C: EscapeContainer>(
+    container: &mut C,
+    value: Option<Unescape>,
+) -> Result<(), AllocError>
+    requires { IfSome value (λ v. IsTrue (is_pushable C.TAKES_BYTES v)) }
+    ensures { IfOk result (λ _.
+        C.contents container.new ≡ C.contents container.old ++ item_bytes value) }
+{
+    match value {
+        Some(value) => container.push(value),
+        None => Ok(()),
+    }
+}
+
+#[cfg(test)]
+mod tests {
+    use super::unescape_string;
+    use litrs_base::ParseErrorKind;
+    use std::process::Abort;
+    use std::test::Fail;
+
+    /// A text, the value where the body has a backslash, and the place of the suffix.
+    const STRINGS: [(&str, Option<&str>, usize); 7] = [
+        ("\"a\\\n \\\n\tb\"", Some("ab"), 10),
+        ("\"foo\\\n\u{85}bar\"", Some("foo\u{85}bar"), 12),
+        ("\"a\\nb\"", Some("a\nb"), 6),
+        ("\"a\\u{e9}\\\n b\"x", Some("aéb"), 13),
+        ("\"peter\"u8", None, 7),
+        ("\"\"", None, 2),
+        ("\"\\\\\\\"\\'\\0\\t\\r\\x41\"", Some("\\\"'\0\t\rA"), 18),
+    ];
+
+    #[test]
+    fn strings(rt: HostRuntime) -> Result<(), Fail> {
+        for (text, expected, place) in STRINGS {
+            match unescape_string::<String>(rt.alloc(), text, 1, true, false, true) {
+                Ok((value, start_suffix)) => {
+                    match (&value, expected) {
+                        (Some(value), Some(expected)) => assert_eq!(rt; value.as_str(), expected),
+                        (None, None) => {}
+                        _ => assert!(rt; false, "{text} is borrowed or owned wrongly"),
+                    }
+                    assert_eq!(rt; start_suffix, place, "of {text}");
+                }
+                Err(e) => assert_eq!(rt; e.kind(), ParseErrorKind::OutOfMemory, "of {text}"),
+            }
+        }
+        Ok(())
+    }
+
+    #[test]
+    fn bytes(rt: HostRuntime) -> Result<(), Fail> {
+        let text = "c\"\\xFF\\u{e9}\"";
+        match unescape_string::<Vec<u8>>(rt.alloc(), text, 2, true, true, false) {
+            Ok((value, start_suffix)) => {
+                match &value {
+                    Some(value) => assert_eq!(rt; value.as_slice(), b"\xFF\xC3\xA9".as_slice()),
+                    None => assert!(rt; false, "the body has a backslash"),
+                }
+                assert_eq!(rt; start_suffix, 13);
+            }
+            Err(e) => assert_eq!(rt; e.kind(), ParseErrorKind::OutOfMemory),
+        }
+        Ok(())
+    }
+
+    /// What is no literal is refused so whether there is memory or not.
+    #[test]
+    fn refused_without_memory(rt: HostRuntime) -> Result<(), Fail> {
+        for (text, kind) in [
+            ("\"a\\n", ParseErrorKind::UnterminatedEscape),
+            ("\"a\\nb", ParseErrorKind::UnterminatedString),
+            ("\"a\\nb\"_", ParseErrorKind::InvalidSuffix),
+        ] {
+            match unescape_string::<String>(rt.alloc(), text, 1, true, false, true) {
+                Ok(_) => assert!(rt; false, "{text} is no literal"),
+                Err(e) => assert_eq!(rt; e.kind(), kind, "of {text}"),
+            }
+        }
+        Ok(())
+    }
+
+    /// One allocation has room for the value, and for the closing zero where NUL is not allowed.
+    #[test]
+    fn room_of_one_allocation(rt: HostRuntime) -> Result<(), Fail> {
+        let text = "\"the fox jumps over the lazy dog\\n, the fox jumps\"_x";
+        if let Ok((Some(value), _)) = unescape_string::<String>(
+            rt.alloc(),
+            text,
+            1,
+            true,
+            false,
+            true,
+        ) {
+            assert_eq!(rt; value.len(), 47);
+            assert_eq!(rt; value.capacity(), 47);
+        }
+        let text = "c\"the fox jumps over the lazy dog\\n, the fox jumps\"";
+        if let Ok((Some(value), _)) = unescape_string::<Vec<u8>>(
+            rt.alloc(),
+            text,
+            2,
+            true,
+            true,
+            false,
+        ) {
+            assert_eq!(rt; value.len(), 47);
+            assert_eq!(rt; value.capacity(), 48);
+        }
+        Ok(())
+    }
+}

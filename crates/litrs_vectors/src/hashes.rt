@@ -1,0 +1,90 @@
+//! Raw strings between as many hashes as there may be, and one more.
+use crate::parses::parse_by;
+use crate::tables::Parse;
+use litrs::{Literal, ParseErrorKind, Text};
+use std::alloc::{AllocError, Global};
+use std::ops::Range;
+use std::process::Abort;
+use std::test::Fail;
+
+/// The three raw forms, the parses of their kinds, and where 256 hashes stand.
+const FRONTS: [(&str, Parse, Range<usize>); 3] = [
+    ("r", Parse::String, 1..257),
+    ("br", Parse::ByteString, 2..258),
+    ("cr", Parse::CString, 2..258),
+];
+
+/// The front, so many hashes, `"peter"` and as many hashes.
+fn between_hashes(alloc: Global, front: &str, count: usize) -> Result<String, AllocError> {
+    let mut hashes = String::new(alloc);
+    for _ in 0..count {
+        hashes.push('#')?;
+    }
+    format!(in alloc; "{front}{hashes}\"peter\"{hashes}")
+}
+
+/// The bytes of the value of a raw string of one of the three kinds.
+fn raw_value<B: Text>(lit: &Literal<B>) -> Option<&[u8]> {
+    match lit {
+        Literal::String(lit) if lit.is_raw_string() => Some(lit.value().as_bytes()),
+        Literal::ByteString(lit) if lit.is_raw_byte_string() => Some(lit.value()),
+        Literal::CString(lit) if lit.is_raw_c_string() => Some(lit.value().to_bytes()),
+        _ => None,
+    }
+}
+
+fn check_peter<B: Text>(rt: &impl Abort, alloc: Global, parse: Parse, text: B) {
+    match parse_by(alloc, parse, text) {
+        Ok(lit) => assert_eq!(rt; raw_value(&lit), Some(b"peter".as_slice())),
+        Err(e) => assert!(rt; false, "255 hashes, but {e}"),
+    }
+}
+
+#[test]
+fn at_most_255_hashes(rt: HostRuntime) -> Result<(), Fail> {
+    let alloc = rt.alloc();
+    for (front, parse, _) in &FRONTS {
+        let text = between_hashes(alloc, front, 255)?;
+        check_peter(&rt, alloc, Parse::Literal, text.as_str());
+        check_peter(&rt, alloc, *parse, text.as_str());
+        check_peter(&rt, alloc, *parse, String::from_str(alloc, text.as_str())?);
+        check_peter(&rt, alloc, Parse::Literal, text);
+    }
+    Ok(())
+}
+
+/// Checks that there are too many hashes, which stand here.
+fn check_too_many<B: Text>(
+    rt: &impl Abort,
+    alloc: Global,
+    parse: Parse,
+    text: B,
+    span: &Range<usize>,
+) {
+    match parse_by(alloc, parse, text) {
+        Ok(_) => assert!(rt; false, "256 hashes"),
+        Err(e) => {
+            assert_eq!(rt; e.kind(), ParseErrorKind::TooManyHashes);
+            assert_eq!(rt; e.span(), Some(span.start..span.end));
+        }
+    }
+}
+
+#[test]
+fn no_more_than_255_hashes(rt: HostRuntime) -> Result<(), Fail> {
+    let alloc = rt.alloc();
+    for (front, parse, span) in &FRONTS {
+        let text = between_hashes(alloc, front, 256)?;
+        check_too_many(&rt, alloc, Parse::Literal, text.as_str(), span);
+        check_too_many(&rt, alloc, *parse, text.as_str(), span);
+        check_too_many(
+            &rt,
+            alloc,
+            *parse,
+            String::from_str(alloc, text.as_str())?,
+            span,
+        );
+        check_too_many(&rt, alloc, Parse::Literal, text, span);
+    }
+    Ok(())
+}

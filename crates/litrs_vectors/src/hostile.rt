@@ -1,0 +1,433 @@
+//! Hostile texts of a mebibyte, by all nine parses.
+use crate::beginnings::check_place;
+use crate::parses::{PARSES, parse_by};
+use crate::tables::Parse;
+use Answer::*;
+use litrs::ParseErrorKind::{self, *};
+use litrs::{StringLit, goes_on};
+use std::alloc::{AllocError, Global};
+use std::process::Abort;
+use std::test::Fail;
+
+/// How many bytes the copies of a part take.
+const MEBIBYTE: usize = 1 << 20;
+
+/// What a parse answers.
+#[derive(Clone, Copy, Drop)]
+enum Answer {
+    /// A literal.
+    Taken,
+    /// A refusal without a span.
+    Refused(ParseErrorKind),
+    /// A refusal at the bytes from the one place to the other.
+    At(ParseErrorKind, usize, usize),
+}
+
+/// A front, the part that is repeated behind it, and the end.
+type Shape = [&'static str; 3];
+
+/// What `Literal`, `IntegerLit` and `FloatLit` answer, and whether the text begins a literal. The
+/// other parses refuse how it begins.
+type Number = (Shape, [Answer; 3], bool);
+
+/// What the parse of one kind and `Literal` answer, and whether the text begins a literal. The
+/// other parses refuse how it begins.
+type Quoted = (Shape, Answer, bool);
+
+/// What each parse answers to a text that begins like none of its literals.
+const OTHER_STARTS: &[(&str, Answer)] = &[
+    ("Literal", Refused(InvalidLiteral)),
+    ("BoolLit", Refused(InvalidLiteral)),
+    ("IntegerLit", At(DoesNotStartWithDigit, 0, 1)),
+    ("FloatLit", At(DoesNotStartWithDigit, 0, 1)),
+    ("CharLit", At(DoesNotStartWithQuote, 0, 1)),
+    ("StringLit", At(InvalidStringLiteralStart, 0, 1)),
+    ("ByteLit", Refused(InvalidByteLiteralStart)),
+    ("ByteStringLit", Refused(InvalidByteStringLiteralStart)),
+    ("CStringLit", Refused(InvalidCStringLiteralStart)),
+];
+
+/// Texts that begin like no literal.
+const NO_LITERALS: &[&str] = &["\\", "#", "_", "{", "}", "é", "🦊"];
+
+const NUMBERS: &[Number] = &[
+    (
+        ["1", "_", ""],
+        [Taken, Taken, Refused(UnexpectedIntegerLit)],
+        true,
+    ),
+    (
+        ["1", "é", ""],
+        [Taken, Taken, Refused(UnexpectedIntegerLit)],
+        true,
+    ),
+    (
+        ["1.", "1", ""],
+        [Taken, At(UnexpectedChar, 1, 2 + MEBIBYTE), Taken],
+        true,
+    ),
+    (
+        ["1", "🦊", ""],
+        [At(InvalidSuffix, 1, 1 + MEBIBYTE); 3],
+        false,
+    ),
+    (
+        ["1", "{", ""],
+        [At(UnexpectedChar, 1, 1 + MEBIBYTE); 3],
+        false,
+    ),
+    (
+        ["0x", "_", ""],
+        [
+            At(NoDigits, 2, 2 + MEBIBYTE),
+            At(NoDigits, 2, 2 + MEBIBYTE),
+            Refused(UnexpectedIntegerLit),
+        ],
+        true,
+    ),
+    (
+        ["1e", "_", ""],
+        [
+            At(NoExponentDigits, 1, 2 + MEBIBYTE),
+            At(IntegerSuffixStartingWithE, 1, 2),
+            At(NoExponentDigits, 1, 2 + MEBIBYTE),
+        ],
+        true,
+    ),
+    (
+        ["0b", "1", "2"],
+        [
+            At(InvalidDigit, 2 + MEBIBYTE, 3 + MEBIBYTE),
+            At(InvalidDigit, 2 + MEBIBYTE, 3 + MEBIBYTE),
+            Refused(UnexpectedIntegerLit),
+        ],
+        false,
+    ),
+];
+
+const CHARS: &[Quoted] = &[
+    (["'", "'", ""], At(UnescapedSingleQuote, 1, 2), false),
+    (["'", "\\", ""], Refused(UnterminatedCharLiteral), false),
+    (["'", "{", ""], Refused(UnterminatedCharLiteral), false),
+    (["'", "🦊", "'"], Refused(OverlongCharLiteral), false),
+    (
+        ["'\\u{1", "_", ""],
+        At(UnterminatedUnicodeEscape, 1, 5 + MEBIBYTE),
+        true,
+    ),
+    (["'\\u{1", "_", "}'"], Taken, true),
+    (
+        ["'\\x", "🦊", "'"],
+        At(UnterminatedEscape, 1, 4 + MEBIBYTE),
+        false,
+    ),
+    (["'a'", "_", ""], Taken, true),
+];
+
+const BYTES: &[Quoted] = &[
+    (["b'", "'", ""], At(UnescapedSingleQuote, 2, 3), false),
+    (["b'", "\\", ""], Refused(UnterminatedByteLiteral), false),
+    (["b'", "#", "'"], Refused(OverlongByteLiteral), false),
+    (["b'", "🦊", "'"], At(NonAsciiInByteLiteral, 2, 3), false),
+    (
+        ["b'\\u", "{", "'"],
+        At(UnicodeEscapeInByteLiteral, 2, 4),
+        false,
+    ),
+];
+
+const STRINGS: &[Quoted] = &[
+    (["\"", "\"", ""], At(UnexpectedChar, 2, 3), false),
+    (
+        ["\"\\u{1", "_", ""],
+        At(UnterminatedUnicodeEscape, 1, 4 + MEBIBYTE),
+        true,
+    ),
+    (
+        ["\"\\u", "{", ""],
+        At(UnterminatedUnicodeEscape, 1, 2 + MEBIBYTE),
+        false,
+    ),
+    (["\"\\\n", " ", ""], Refused(UnterminatedString), true),
+    (["\"a\"", "_", ""], Taken, true),
+    (["\"a\"", "🦊", ""], At(InvalidSuffix, 3, 4), false),
+];
+
+const ESCAPES: &[Quoted] = &[
+    (
+        ["\"", "\\", ""],
+        At(UnterminatedEscape, MEBIBYTE - 1, MEBIBYTE),
+        true,
+    ),
+    (["\"", "aaaaaaaaaaaaaa\\n", "\""], Taken, true),
+];
+
+/// Characters of four bytes, and an escape that ends inside of one.
+const FOXES: &[Quoted] = &[
+    (["\"", "🦊", ""], Refused(UnterminatedString), true),
+    (
+        ["\"", "🦊", "\\"],
+        At(UnterminatedEscape, 1 + MEBIBYTE, 2 + MEBIBYTE),
+        true,
+    ),
+    (
+        ["\"", "🦊", "\\x🦊"],
+        At(UnterminatedEscape, 1 + MEBIBYTE, 3 + MEBIBYTE),
+        false,
+    ),
+    (
+        ["\"", "🦊", "\\🦊\""],
+        At(UnknownEscape, 1 + MEBIBYTE, 3 + MEBIBYTE),
+        false,
+    ),
+];
+
+const RAW_STRINGS: &[Quoted] = &[
+    (["r", "#", ""], Refused(InvalidLiteral), false),
+    (["r", "#", "x"], At(TooManyHashes, 1, 1 + MEBIBYTE), false),
+    (["r#\"", "\"", ""], Refused(UnterminatedRawString), true),
+    (["r#\"", "\"#", ""], At(UnexpectedChar, 5, 6), false),
+];
+
+const BYTE_STRINGS: &[Quoted] = &[
+    (["b\"", "aaaaaaaaaaaa\\xFF", "\""], Taken, true),
+    (
+        ["b\"", "a", "é"],
+        At(NonAsciiInByteLiteral, 2 + MEBIBYTE, 3 + MEBIBYTE),
+        false,
+    ),
+    (["br", "#", "\""], At(TooManyHashes, 2, 2 + MEBIBYTE), false),
+];
+
+const C_STRINGS: &[Quoted] = &[
+    (
+        ["c\"", "\\", ""],
+        At(UnterminatedEscape, MEBIBYTE, 1 + MEBIBYTE),
+        true,
+    ),
+    (
+        ["c\"", "🦊", "\\u{0"],
+        At(UnterminatedUnicodeEscape, 2 + MEBIBYTE, 5 + MEBIBYTE),
+        true,
+    ),
+    (["cr\"", "\\", ""], Refused(UnterminatedRawString), true),
+];
+
+/// So many copies of the part that they take 1,024 bytes.
+fn short_copies(alloc: Global, part: &str) -> Result<String, AllocError> {
+    let mut copies = String::new(alloc);
+    for _ in 0..1024 {
+        if copies.len() < 1024 {
+            copies.push_str(part)?;
+        }
+    }
+    Ok(copies)
+}
+
+/// The front, so many copies of the part that they take a mebibyte, and the end.
+fn long_text(alloc: Global, shape: &[&str; 3]) -> Result<String, AllocError> {
+    let [front, part, end] = *shape;
+    let copies = short_copies(alloc, part)?;
+    let mut text = String::from_str(alloc, front)?;
+    for _ in 0..1024 {
+        text.push_str(copies.as_str())?;
+    }
+    text.push_str(end)?;
+    Ok(text)
+}
+
+/// What a parse answers to a text that begins like none of its literals.
+fn other_start(name: &str) -> Answer {
+    for (parse, answer) in OTHER_STARTS {
+        if *parse == name {
+            return *answer;
+        }
+    }
+    Taken
+}
+
+/// Checks what this parse answers to the text.
+fn check_parse(
+    rt: &impl Abort,
+    alloc: Global,
+    parse: Parse,
+    name: &str,
+    text: &str,
+    expected: Answer,
+) {
+    match (parse_by(alloc, parse, text), expected) {
+        (Ok(lit), Taken) => assert!(rt; lit.raw_input() == text, "{name} keeps the text"),
+        (Ok(_), _) => assert!(rt; false, "{name} takes the text"),
+        (Err(e), Taken) => assert!(rt; false, "{name}: {e}"),
+        (Err(e), Refused(kind)) => {
+            assert_eq!(rt; e.kind(), kind, "{name}");
+            assert_eq!(rt; e.span(), None, "{name}");
+        }
+        (Err(e), At(kind, start, end)) => {
+            assert_eq!(rt; e.kind(), kind, "{name}");
+            assert_eq!(rt; e.span(), Some(start..end), "{name}");
+            check_place(rt, name, text, &e);
+        }
+    }
+}
+
+#[test]
+fn no_literals(rt: HostRuntime) -> Result<(), Fail> {
+    let alloc = rt.alloc();
+    for part in NO_LITERALS {
+        let text = long_text(alloc, &["", part, ""])?;
+        for (parse, name) in PARSES {
+            check_parse(&rt, alloc, *parse, name, text.as_str(), other_start(name));
+        }
+        assert!(rt; !goes_on(text.as_str()), "many {part}");
+    }
+    Ok(())
+}
+
+/// What the parse of this name answers to a text that begins with a digit.
+fn number_answer(answers: [Answer; 3], name: &str) -> Answer {
+    let [literal, integer, float] = answers;
+    match name {
+        "Literal" => literal,
+        "IntegerLit" => integer,
+        "FloatLit" => float,
+        _ => other_start(name),
+    }
+}
+
+fn check_number(rt: &impl Abort, alloc: Global, row: &Number) -> Result<(), AllocError> {
+    let (shape, answers, begins) = *row;
+    let text = long_text(alloc, &shape)?;
+    for (parse, name) in PARSES {
+        let expected = number_answer(answers, name);
+        check_parse(rt, alloc, *parse, name, text.as_str(), expected);
+    }
+    let [front, part, _] = shape;
+    assert_eq!(rt; goes_on(text.as_str()), begins, "{front} and many {part}");
+    Ok(())
+}
+
+#[test]
+fn numbers(rt: HostRuntime) -> Result<(), Fail> {
+    for row in NUMBERS {
+        check_number(&rt, rt.alloc(), row)?;
+    }
+    Ok(())
+}
+
+/// Checks a text that is read as a literal of the kind `own`.
+fn check_quoted(rt: &impl Abort, alloc: Global, own: &str, row: &Quoted) -> Result<(), AllocError> {
+    let (shape, answer, begins) = *row;
+    let text = long_text(alloc, &shape)?;
+    for (parse, name) in PARSES {
+        let expected = if *name == "Literal" || *name == own {
+            answer
+        } else {
+            other_start(name)
+        };
+        check_parse(rt, alloc, *parse, name, text.as_str(), expected);
+    }
+    let [front, part, _] = shape;
+    assert_eq!(rt; goes_on(text.as_str()), begins, "{front} and many {part}");
+    Ok(())
+}
+
+#[test]
+fn chars(rt: HostRuntime) -> Result<(), Fail> {
+    for row in CHARS {
+        check_quoted(&rt, rt.alloc(), "CharLit", row)?;
+    }
+    Ok(())
+}
+
+#[test]
+fn bytes(rt: HostRuntime) -> Result<(), Fail> {
+    for row in BYTES {
+        check_quoted(&rt, rt.alloc(), "ByteLit", row)?;
+    }
+    Ok(())
+}
+
+#[test]
+fn strings(rt: HostRuntime) -> Result<(), Fail> {
+    for row in STRINGS {
+        check_quoted(&rt, rt.alloc(), "StringLit", row)?;
+    }
+    Ok(())
+}
+
+#[test]
+fn escapes(rt: HostRuntime) -> Result<(), Fail> {
+    for row in ESCAPES {
+        check_quoted(&rt, rt.alloc(), "StringLit", row)?;
+    }
+    Ok(())
+}
+
+#[test]
+fn foxes(rt: HostRuntime) -> Result<(), Fail> {
+    for row in FOXES {
+        check_quoted(&rt, rt.alloc(), "StringLit", row)?;
+    }
+    Ok(())
+}
+
+#[test]
+fn raw_strings(rt: HostRuntime) -> Result<(), Fail> {
+    for row in RAW_STRINGS {
+        check_quoted(&rt, rt.alloc(), "StringLit", row)?;
+    }
+    Ok(())
+}
+
+#[test]
+fn byte_strings(rt: HostRuntime) -> Result<(), Fail> {
+    for row in BYTE_STRINGS {
+        check_quoted(&rt, rt.alloc(), "ByteStringLit", row)?;
+    }
+    Ok(())
+}
+
+#[test]
+fn c_strings(rt: HostRuntime) -> Result<(), Fail> {
+    for row in C_STRINGS {
+        check_quoted(&rt, rt.alloc(), "CStringLit", row)?;
+    }
+    Ok(())
+}
+
+/// The text, and so many hashes behind it.
+fn with_hashes(alloc: Global, text: &str, count: usize) -> Result<String, AllocError> {
+    let mut longer = String::from_str(alloc, text)?;
+    for _ in 0..count {
+        longer.push('#')?;
+    }
+    Ok(longer)
+}
+
+/// 255 hashes, and a body that holds a quote with one hash less.
+#[test]
+fn hashes_that_close(rt: HostRuntime) -> Result<(), Fail> {
+    let alloc = rt.alloc();
+    let mut front = with_hashes(alloc, "r", 255)?;
+    front.push_str("\"a\"")?;
+    let mut text = with_hashes(alloc, front.as_str(), 254)?;
+    for (parse, name) in PARSES {
+        let expected = match *name {
+            "Literal" | "StringLit" => Refused(UnterminatedRawString),
+            _ => other_start(name),
+        };
+        check_parse(&rt, alloc, *parse, name, text.as_str(), expected);
+    }
+    assert!(rt; goes_on(text.as_str()));
+    let closed = with_hashes(alloc, text.as_str(), 1)?;
+    let lit = StringLit::parse(alloc, closed.as_str()).map_err(|_| "255 hashes")?;
+    assert_eq!(rt; lit.value(), "a");
+    text.push('"')?;
+    let closed = with_hashes(alloc, text.as_str(), 255)?;
+    let lit = StringLit::parse(alloc, closed.as_str()).map_err(|_| "the closing text")?;
+    let value = with_hashes(alloc, "a\"", 254)?;
+    assert_eq!(rt; value.len(), 256);
+    assert_eq!(rt; lit.value(), value.as_str());
+    Ok(())
+}

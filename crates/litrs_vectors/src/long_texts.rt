@@ -1,0 +1,136 @@
+//! Texts of 100,000 characters and more.
+use crate::parses::parse_by;
+use crate::tables::Parse;
+use litrs::ParseErrorKind::{self, *};
+use litrs::{Literal, StringLit, Text};
+use std::alloc::{AllocError, Global};
+use std::borrow::CowStr;
+use std::ops::Range;
+use std::process::Abort;
+use std::test::Fail;
+
+/// The front, 100,000 copies of the part, and the end.
+fn long_text(alloc: Global, front: &str, part: &str, end: &str) -> Result<String, AllocError> {
+    let mut text = String::from_str(alloc, front)?;
+    for _ in 0..100_000 {
+        text.push_str(part)?;
+    }
+    text.push_str(end)?;
+    Ok(text)
+}
+
+/// Checks that the text is an integer of this value, where eight bits hold it.
+fn check_number<B: Text>(
+    rt: &impl Abort,
+    alloc: Global,
+    parse: Parse,
+    text: B,
+    value: Option<u8>,
+) -> Result<(), Fail> {
+    match &parse_by(alloc, parse, text)? {
+        Literal::Integer(lit) => {
+            assert_eq!(rt; lit.value::<u8>(), value);
+            assert_eq!(rt; lit.value::<u128>(), value.map(|value| value as u128));
+        }
+        _ => assert!(rt; false, "a long integer"),
+    }
+    Ok(())
+}
+
+#[test]
+fn long_numbers(rt: HostRuntime) -> Result<(), Fail> {
+    let alloc = rt.alloc();
+    for (part, end, value) in [("1", "", None), ("0", "7", Some(7))] {
+        let text = long_text(alloc, "", part, end)?;
+        check_number(&rt, alloc, Parse::Integer, text.as_str(), value)?;
+        check_number(&rt, alloc, Parse::Literal, text.as_str(), value)?;
+        check_number(&rt, alloc, Parse::Integer, text.copy(alloc)?, value)?;
+        check_number(&rt, alloc, Parse::Literal, text, value)?;
+    }
+    Ok(())
+}
+
+/// The number of bytes of the value of a string of one of the three kinds.
+fn value_len<B: Text>(lit: &Literal<B>) -> Option<usize> {
+    match lit {
+        Literal::String(lit) => Some(lit.value().len()),
+        Literal::ByteString(lit) => Some(lit.value().len()),
+        Literal::CString(lit) => Some(lit.value().to_bytes().len()),
+        _ => None,
+    }
+}
+
+fn check_body<B: Text>(
+    rt: &impl Abort,
+    alloc: Global,
+    parse: Parse,
+    text: B,
+    len: usize,
+) -> Result<(), Fail> {
+    let lit = parse_by(alloc, parse, text)?;
+    assert_eq!(rt; value_len(&lit), Some(len));
+    Ok(())
+}
+
+/// What is before and after 100,000 letters, the parse of the kind, and the bytes of the value.
+const BODIES: &[(&str, &str, Parse, usize)] = &[
+    ("\"", "\"", Parse::String, 100_000),
+    ("\"", "\\n\"", Parse::String, 100_001),
+    ("b\"", "\\n\"", Parse::ByteString, 100_001),
+    ("c\"", "\\n\"", Parse::CString, 100_001),
+];
+
+#[test]
+fn long_bodies(rt: HostRuntime) -> Result<(), Fail> {
+    let alloc = rt.alloc();
+    for (front, end, parse, len) in BODIES {
+        let text = long_text(alloc, front, "a", end)?;
+        check_body(&rt, alloc, *parse, text.as_str(), *len)?;
+        check_body(&rt, alloc, Parse::Literal, text.as_str(), *len)?;
+        check_body(&rt, alloc, *parse, text.copy(alloc)?, *len)?;
+        check_body(&rt, alloc, Parse::Literal, text, *len)?;
+    }
+    Ok(())
+}
+
+#[test]
+fn long_borrowed_value(rt: HostRuntime) -> Result<(), Fail> {
+    let text = long_text(rt.alloc(), "\"", "a", "\"")?;
+    let value = StringLit::parse(rt.alloc(), text.as_str())?.into_value();
+    assert!(rt; matches!(value, CowStr::Borrowed(_)));
+    Ok(())
+}
+
+/// Checks that the parse refuses a text.
+fn check_refused<B: Text>(
+    rt: &impl Abort,
+    alloc: Global,
+    parse: Parse,
+    text: B,
+    kind: ParseErrorKind,
+    span: &Option<Range<usize>>,
+) {
+    match parse_by(alloc, parse, text) {
+        Ok(_) => assert!(rt; false, "hashes alone"),
+        Err(e) => {
+            assert_eq!(rt; e.kind(), kind);
+            assert!(rt; e.span() == *span);
+        }
+    }
+}
+
+#[test]
+fn long_hashes(rt: HostRuntime) -> Result<(), Fail> {
+    let alloc = rt.alloc();
+    for (end, kind, span) in [
+        ("", InvalidLiteral, None),
+        ("x", TooManyHashes, Some(1..100_001)),
+    ] {
+        let text = long_text(alloc, "r", "#", end)?;
+        check_refused(&rt, alloc, Parse::String, text.as_str(), kind, &span);
+        check_refused(&rt, alloc, Parse::Literal, text.as_str(), kind, &span);
+        check_refused(&rt, alloc, Parse::String, text.copy(alloc)?, kind, &span);
+        check_refused(&rt, alloc, Parse::Literal, text, kind, &span);
+    }
+    Ok(())
+}

@@ -1,0 +1,253 @@
+//! What the parses answer where allocations are refused.
+use crate::parses::{parse_by, string_value};
+use crate::tables::{Body, LITERALS, Parse, Parts, REFUSED, Refusal, Row};
+use litrs::ParseErrorKind::OutOfMemory;
+use litrs::{Literal, Text};
+use std::alloc::{AllocError, Global};
+use std::process::Abort;
+use std::test::Fail;
+
+/// A mebibyte.
+const MEBIBYTE: usize = 1 << 20;
+
+/// More blocks of a mebibyte and more than all memory is split into.
+const MOST_LARGE: usize = 1 << 20;
+
+/// More smaller blocks of one size than are left between those.
+const MOST_SMALL: usize = 1000;
+
+/// Takes all blocks of this size. False where there are more of them.
+fn take_blocks(
+    alloc: Global,
+    held: &mut Vec<Vec<u8>>,
+    size: usize,
+    most: usize,
+) -> Result<bool, AllocError> {
+    for _turn in 0..most {
+        match Vec::with_capacity(alloc, size) {
+            Ok(block) => held.push(block)?,
+            Err(_) => return Ok(true),
+        }
+    }
+    Ok(false)
+}
+
+/// Takes all memory: until the blocks are dropped, every allocation is refused. None where the
+/// allocator keeps memory in reserve, as one does that finds faults.
+fn take_all(alloc: Global) -> Result<Option<Vec<Vec<u8>>>, AllocError> {
+    let mut held = Vec::with_capacity(alloc, MOST_LARGE)?;
+    let mut size = 1usize << 46;
+    for _turn in 0..47 {
+        let most = if size < MEBIBYTE {
+            MOST_SMALL
+        } else {
+            MOST_LARGE
+        };
+        if !take_blocks(alloc, &mut held, size, most)? {
+            return Ok(None);
+        }
+        size /= 2;
+    }
+    Ok(Some(held))
+}
+
+/// The bytes that are allocated for the value of a literal: of a C string, and of a quoted string
+/// or byte string with a backslash.
+fn allocated(parts: &Parts) -> Option<usize> {
+    match parts {
+        Parts::String(Body::Escaped, value) | Parts::ByteString(Body::Escaped, value) => {
+            Some(value.len())
+        }
+        Parts::CString(_, value) => Some(value.len() + 1),
+        _ => None,
+    }
+}
+
+/// Checks a literal where every allocation is refused.
+fn check_literal<B: Text>(rt: &impl Abort, alloc: Global, text: B, row: &Row) {
+    let (name, _, parts) = row;
+    match (Literal::parse(alloc, text), allocated(parts)) {
+        (Ok(_), None) => {}
+        (Err(e), Some(_)) => {
+            assert_eq!(rt; e.kind(), OutOfMemory, "{name}");
+            assert_eq!(rt; e.span(), None, "{name}");
+        }
+        (Ok(_), Some(_)) => assert!(rt; false, "{name} has a value of its own"),
+        (Err(e), None) => assert!(rt; false, "{name} has no value of its own, but {e}"),
+    }
+}
+
+/// Checks a refused text where every allocation is refused.
+fn check_refusal<B: Text>(
+    rt: &impl Abort,
+    alloc: Global,
+    parse: Parse,
+    text: B,
+    refusal: &Refusal,
+) {
+    let (name, kind, place) = refusal;
+    match (parse_by(alloc, parse, text), place) {
+        (Ok(_), _) => assert!(rt; false, "{name} is no literal"),
+        (Err(e), Some((span, _))) => {
+            assert_eq!(rt; e.kind(), *kind, "{name}");
+            assert_eq!(rt; e.span(), Some(span.start..span.end), "{name}");
+        }
+        (Err(e), None) => {
+            assert_eq!(rt; e.kind(), *kind, "{name}");
+            assert_eq!(rt; e.span(), None, "{name}");
+        }
+    }
+}
+
+/// Where every allocation is refused, the error is `OutOfMemory` if and only if the text is a
+/// literal whose value is allocated. A text that is no literal has its refusal.
+#[test]
+fn without_memory(rt: HostRuntime) -> Result<(), Fail> {
+    let alloc = rt.alloc();
+    let Some(held) = take_all(alloc)? else {
+        return Ok(());
+    };
+    for row in LITERALS {
+        check_literal(&rt, alloc, row.0, row);
+    }
+    for (parse, refusals) in REFUSED {
+        for refusal in *refusals {
+            check_refusal(&rt, alloc, *parse, refusal.0, refusal);
+            check_refusal(&rt, alloc, Parse::Literal, refusal.0, refusal);
+        }
+    }
+    drop(held);
+    assert!(rt; Literal::parse(alloc, "\"a\\nb\"").is_ok());
+    Ok(())
+}
+
+/// Takes what a text over `String` has given back.
+fn take_text(alloc: Global, held: &mut Vec<Vec<u8>>) -> Result<(), AllocError> {
+    for size in [256, 128, 64, 32, 1] {
+        take_blocks(alloc, held, size, MOST_SMALL)?;
+    }
+    Ok(())
+}
+
+#[test]
+fn literals_over_strings_without_memory(rt: HostRuntime) -> Result<(), Fail> {
+    let alloc = rt.alloc();
+    let mut texts = Vec::new(alloc);
+    for row in LITERALS {
+        texts.push((row, String::from_str(alloc, row.0)?))?;
+    }
+    let Some(mut held) = take_all(alloc)? else {
+        return Ok(());
+    };
+    for (row, text) in texts {
+        check_literal(&rt, alloc, text, row);
+        take_text(alloc, &mut held)?;
+    }
+    Ok(())
+}
+
+#[test]
+fn refusals_over_strings_without_memory(rt: HostRuntime) -> Result<(), Fail> {
+    let alloc = rt.alloc();
+    let mut texts = Vec::new(alloc);
+    for (parse, refusals) in REFUSED {
+        for refusal in *refusals {
+            texts.push((*parse, refusal, String::from_str(alloc, refusal.0)?))?;
+        }
+    }
+    let Some(mut held) = take_all(alloc)? else {
+        return Ok(());
+    };
+    for (parse, refusal, text) in texts {
+        check_refusal(&rt, alloc, parse, text, refusal);
+        take_text(alloc, &mut held)?;
+    }
+    Ok(())
+}
+
+/// The bytes of the value of a string of one of the three kinds.
+fn value_of<B: Text>(lit: &Literal<B>) -> Option<&[u8]> {
+    match lit {
+        Literal::String(lit) => Some(lit.value().as_bytes()),
+        Literal::ByteString(lit) => Some(lit.value()),
+        Literal::CString(lit) => Some(lit.value().to_bytes()),
+        _ => None,
+    }
+}
+
+/// Checks a literal where there is memory for one block of this size: it takes that block, and
+/// gives it back.
+fn check_one_block(
+    rt: &impl Abort,
+    alloc: Global,
+    held: &mut Vec<Vec<u8>>,
+    size: usize,
+    text: &str,
+    value: Option<&[u8]>,
+) -> Result<(), AllocError> {
+    match Literal::parse(alloc, text) {
+        Ok(lit) => {
+            assert_eq!(rt; value_of(&lit), value);
+            assert!(rt;
+                take_blocks(alloc, held, size, 1)?,
+                "one allocation is asked"
+            );
+        }
+        Err(e) => assert!(rt; false, "one allocation is enough, but {e}"),
+    }
+    assert!(rt;
+        !take_blocks(alloc, held, size, 1)?,
+        "the block is free again"
+    );
+    assert!(rt; take_blocks(alloc, held, size, 1)?, "there was no other");
+    Ok(())
+}
+
+/// A value is one allocation of its length.
+#[test]
+fn one_allocation_each(rt: HostRuntime) -> Result<(), Fail> {
+    let alloc = rt.alloc();
+    let mut blocks = Vec::new(alloc);
+    for row in LITERALS {
+        if let Some(size) = allocated(&row.2) {
+            let block: Vec<u8> = Vec::with_capacity(alloc, size)?;
+            blocks.push((row, size, block))?;
+        }
+    }
+    let Some(mut held) = take_all(alloc)? else {
+        return Ok(());
+    };
+    for (row, size, block) in blocks {
+        drop(block);
+        check_one_block(&rt, alloc, &mut held, size, row.0, string_value(&row.2))?;
+    }
+    Ok(())
+}
+
+/// The front, 100,000 letters, and the end.
+fn letters(alloc: Global, front: &str, end: &str) -> Result<String, AllocError> {
+    let mut text = String::from_str(alloc, front)?;
+    for _ in 0..100_000 {
+        text.push('a')?;
+    }
+    text.push_str(end)?;
+    Ok(text)
+}
+
+/// The same for a long value.
+#[test]
+fn one_allocation_of_a_long_value(rt: HostRuntime) -> Result<(), Fail> {
+    let alloc = rt.alloc();
+    let value = letters(alloc, "", "\n")?;
+    for (front, size) in [("\"", 100_001), ("b\"", 100_001), ("c\"", 100_002)] {
+        let text = letters(alloc, front, "\\n\"")?;
+        let block: Vec<u8> = Vec::with_capacity(alloc, size)?;
+        let Some(mut held) = take_all(alloc)? else {
+            return Ok(());
+        };
+        drop(block);
+        let value = Some(value.as_bytes());
+        check_one_block(&rt, alloc, &mut held, size, text.as_str(), value)?;
+    }
+    Ok(())
+}

@@ -1,0 +1,83 @@
+//! The nine parses as one call, and the texts of all tables.
+use crate::tables::{LITERALS, Parse, Parts, REFUSED, REFUSED_BY_ONE};
+use litrs::{
+    BoolLit, ByteLit, ByteStringLit, CStringLit, CharLit, FloatLit, IntegerLit, Literal,
+    ParseError, StringLit, Text,
+};
+use std::alloc::{AllocError, Global};
+
+/// Each parse with the type that has it.
+pub(crate) const PARSES: &[(Parse, &str)] = &[
+    (Parse::Literal, "Literal"),
+    (Parse::Bool, "BoolLit"),
+    (Parse::Integer, "IntegerLit"),
+    (Parse::Float, "FloatLit"),
+    (Parse::Char, "CharLit"),
+    (Parse::String, "StringLit"),
+    (Parse::Byte, "ByteLit"),
+    (Parse::ByteString, "ByteStringLit"),
+    (Parse::CString, "CStringLit"),
+];
+
+/// What this parse makes of the text.
+pub(crate) fn parse_by<B: Text>(
+    alloc: Global,
+    parse: Parse,
+    text: B,
+) -> Result<Literal<B>, ParseError> {
+    match parse {
+        Parse::Literal => Literal::parse(alloc, text),
+        Parse::Bool => Ok(Literal::from(BoolLit::parse(text.as_str())?)),
+        Parse::Integer => Ok(Literal::from(IntegerLit::parse(text)?)),
+        Parse::Float => Ok(Literal::from(FloatLit::parse(text)?)),
+        Parse::Char => Ok(Literal::from(CharLit::parse(text)?)),
+        Parse::String => Ok(Literal::from(StringLit::parse(alloc, text)?)),
+        Parse::Byte => Ok(Literal::from(ByteLit::parse(text)?)),
+        Parse::ByteString => Ok(Literal::from(ByteStringLit::parse(alloc, text)?)),
+        Parse::CString => Ok(Literal::from(CStringLit::parse(alloc, text)?)),
+    }
+}
+
+/// The parse of the kind that has these parts.
+pub(crate) fn parse_of(parts: &Parts) -> Parse {
+    match parts {
+        Parts::Bool(_) => Parse::Bool,
+        Parts::Integer(_, _, _) => Parse::Integer,
+        Parts::Float(_, _, _, _) => Parse::Float,
+        Parts::Char(_) => Parse::Char,
+        Parts::Byte(_) => Parse::Byte,
+        Parts::String(_, _) => Parse::String,
+        Parts::ByteString(_, _) => Parse::ByteString,
+        Parts::CString(_, _) => Parse::CString,
+    }
+}
+
+/// The texts of all tables, literals and others.
+pub(crate) fn all_texts(alloc: Global) -> Result<Vec<&'static str>, AllocError> {
+    let mut texts = refused_texts(alloc)?;
+    for (text, _, _) in LITERALS {
+        texts.push(*text)?;
+    }
+    Ok(texts)
+}
+
+/// The texts that some parse refuses.
+pub(crate) fn refused_texts(alloc: Global) -> Result<Vec<&'static str>, AllocError> {
+    let mut texts = Vec::new(alloc);
+    for (_, rows) in REFUSED.iter().chain(REFUSED_BY_ONE) {
+        for (text, _, _) in *rows {
+            texts.push(*text)?;
+        }
+    }
+    Ok(texts)
+}
+
+/// The value of a string of one of the three kinds.
+pub(crate) fn string_value(parts: &Parts) -> Option<&'static [u8]> {
+    match parts {
+        Parts::String(_, value) | Parts::ByteString(_, value) | Parts::CString(_, value) => {
+            Some(*value)
+        }
+        _ => None,
+    }
+}
