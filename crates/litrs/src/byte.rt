@@ -213,6 +213,3 @@ impl<B: Text> fmt::Display for ByteLit<B> {
         f.pad(self.raw.as_str())
     }
 }
-
-#[cfg(test)]
-mod tests;

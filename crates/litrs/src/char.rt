@@ -204,6 +204,3 @@ impl<B: Text> fmt::Display for CharLit<B> {
         f.pad(self.raw.as_str())
     }
 }
-
-#[cfg(test)]
-mod tests;

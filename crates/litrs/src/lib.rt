@@ -23,11 +23,10 @@ pub use byte::ByteLit;
 pub use char::CharLit;
 pub use litrs_goes_on::goes_on;
 pub use litrs_lex::{
-    Buffer, FloatType, FromIntegerLiteral, IntegerBase, IntegerType, ParseError, ParseErrorKind,
-    Text,
+    Buffer, FloatType, IntegerBase, IntegerType, ParseError, ParseErrorKind, Text,
 };
 use litrs_lex::{NumberCut, cut_number};
-pub use litrs_numbers::{FloatLit, IntegerLit};
+pub use litrs_numbers::{FloatLit, FromIntegerLiteral, IntegerLit};
 pub use litrs_strings::{ByteStringLit, CString, CStringLit, StringLit};
 use parse::Dispatched;
 use std::alloc::{AllocError, Global};
@@ -36,15 +35,7 @@ use std::fmt;
 mod bool;
 mod byte;
 mod char;
-#[cfg(test)]
-mod copy_tests;
-#[cfg(test)]
-mod float_tests;
 mod parse;
-#[cfg(test)]
-mod string_tests;
-#[cfg(test)]
-mod tests;
 
 /// A literal of any kind. See [the reference][ref].
 ///

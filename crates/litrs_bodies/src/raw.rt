@@ -12,9 +12,6 @@ use litrs_lex::check_suffix;
 use litrs_search::{Special, next_special};
 use std::ops::Range;
 
-#[cfg(test)]
-mod tests;
-
 /// Cuts the rest of a raw literal, from behind its `r` on, into hashes, body and suffix.
 ///
 /// The `r` ends at `offset`, a character boundary within the text. The answer is the number of

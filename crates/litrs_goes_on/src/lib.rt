@@ -20,8 +20,6 @@ mod quoted;
 mod raw;
 mod string;
 mod suffix;
-#[cfg(test)]
-mod tests;
 mod word;
 
 /// Whether the text, or the text with some text appended, is a literal of any kind.

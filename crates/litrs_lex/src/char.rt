@@ -215,6 +215,3 @@ fn overlong_kind(is_byte: bool) -> ParseErrorKind
         ParseErrorKind::OverlongCharLiteral
     }
 }
-
-#[cfg(test)]
-mod tests;

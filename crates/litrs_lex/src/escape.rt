@@ -330,6 +330,3 @@ fn has_close_brace(bytes: &[u8]) -> bool
 {
     bytes.iter().any(|b| *b == b'}')
 }
-
-#[cfg(test)]
-mod tests;

@@ -6,8 +6,7 @@ pub use escape::unescape;
 pub use float::{FloatCut, cut_float};
 pub use integer::{IntegerCut, cut_integer};
 pub use litrs_base::{
-    Buffer, FloatType, FromIntegerLiteral, IntegerBase, IntegerType, ParseError, ParseErrorKind,
-    Text, Unescape,
+    Buffer, FloatType, IntegerBase, IntegerType, ParseError, ParseErrorKind, Text, Unescape,
 };
 pub use number::{NumberCut, cut_number};
 pub use parse::{check_suffix, end_dec_digits, first_byte_or_empty, hex_digit_value};

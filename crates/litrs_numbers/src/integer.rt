@@ -17,9 +17,10 @@ ghost use Rattle.litrs_base.specs.Text.{first_passes};
 ghost use Rattle.litrs_lex.specs.IntegerCut.{parts_at, IsWithin, IsIntegerAt, IsDigitsCut};
 ghost use Rattle.litrs_grammar.specs.Integer.{IsIntegerOf};
 
+use litrs_integers::FromIntegerLiteral;
 use litrs_lex::{
-    FromIntegerLiteral, IntegerBase, IntegerCut, ParseError, ParseErrorKind, Text, cut_integer,
-    first_byte_or_empty, hex_digit_value,
+    IntegerBase, IntegerCut, ParseError, ParseErrorKind, Text, cut_integer, first_byte_or_empty,
+    hex_digit_value,
 };
 use std::alloc::{AllocError, Global};
 use std::fmt;

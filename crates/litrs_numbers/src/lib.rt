@@ -6,6 +6,7 @@
 
 pub use float::FloatLit;
 pub use integer::IntegerLit;
+pub use litrs_integers::FromIntegerLiteral;
 
 mod float;
 mod integer;

@@ -49,5 +49,3 @@ pub use litrs_trees::{
 mod from_token;
 mod into_token;
 mod one_kind;
-#[cfg(test)]
-mod tests;

@@ -1,6 +1,6 @@
 //! Every beginning of every text, by all nine parses.
 use crate::parses::{PARSES, all_texts, parse_by};
-use crate::tables::LITERALS;
+use crate::tables::literals;
 use litrs::ParseErrorKind::OutOfMemory;
 use litrs::{Literal, ParseError, goes_on};
 use std::alloc::Global;
@@ -11,15 +11,12 @@ use std::test::Fail;
 pub(crate) fn check_place(rt: &impl Abort, name: &str, text: &str, error: &ParseError) {
     match (error.span(), error.char_span()) {
         (Some(span), Some(chars)) => {
-            assert!(rt; span.start <= span.end, "{name} of {text}");
-            assert!(rt; span.end <= text.len(), "{name} of {text}");
-            assert!(rt; text.is_char_boundary(span.start), "{name} of {text}");
-            assert_eq!(rt; chars.start, span.start, "{name} of {text}");
-            assert!(rt; chars.end >= span.end, "{name} of {text}");
-            assert!(rt; text.is_char_boundary(chars.end), "{name} of {text}");
-            for place in span.end..chars.end {
-                assert!(rt; !text.is_char_boundary(place), "{name} of {text}");
-            }
+            let is_within = span.start <= span.end && span.end <= text.len();
+            let is_longer = chars.start == span.start && chars.end >= span.end;
+            assert!(rt; is_within && is_longer, "{name} of {text}");
+            let is_whole = text.is_char_boundary(span.start) && text.is_char_boundary(chars.end);
+            let ends_next = (span.end..chars.end).all(|place| !text.is_char_boundary(place));
+            assert!(rt; is_whole && ends_next, "{name} of {text}");
         }
         (None, None) => {}
         _ => assert!(rt; false, "{name} of {text} has one span of two"),
@@ -58,7 +55,7 @@ fn beginnings_of_all_texts(rt: HostRuntime) -> Result<(), Fail> {
 
 #[test]
 fn beginnings_of_literals(rt: HostRuntime) {
-    for (text, _, _) in LITERALS {
+    for (text, _, _) in literals() {
         for (place, _) in text.char_indices() {
             assert!(rt; goes_on(&text[..place]), "{text} up to {place}");
         }

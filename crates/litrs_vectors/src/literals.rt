@@ -1,6 +1,6 @@
 //! Literals over both buffers, by each accessor.
 use crate::parses::{parse_by, parse_of};
-use crate::tables::{Body, LITERALS, Parse, Parts, Row};
+use crate::tables::{Body, Parse, Parts, Row, literals};
 use litrs::{Buffer, FloatLit, IntegerBase, IntegerLit, Literal, Text};
 use std::alloc::Global;
 use std::borrow::{CowSlice, CowStr};
@@ -14,9 +14,8 @@ fn check_integer<B: Text>(
     main: &str,
     value: Option<u128>,
 ) {
-    assert_eq!(rt; lit.base(), base, "of {lit}");
-    assert_eq!(rt; lit.raw_main_part(), main, "of {lit}");
-    assert_eq!(rt; lit.value::<u128>(), value, "of {lit}");
+    assert!(rt; lit.base() == base && lit.raw_main_part() == main, "{lit}");
+    assert!(rt; lit.value::<u128>() == value, "{lit}");
 }
 
 fn check_float<B: Text>(
@@ -27,16 +26,13 @@ fn check_float<B: Text>(
     fraction: Option<&str>,
     exponent: &str,
 ) {
-    assert_eq!(rt; lit.number_part(), number, "of {lit}");
-    assert_eq!(rt; lit.integer_part(), integer, "of {lit}");
-    assert_eq!(rt; lit.fractional_part(), fraction, "of {lit}");
-    assert_eq!(rt; lit.exponent_part(), exponent, "of {lit}");
+    assert!(rt; lit.number_part() == number && lit.integer_part() == integer, "{lit}");
+    assert!(rt; lit.fractional_part() == fraction && lit.exponent_part() == exponent, "{lit}");
 }
 
 /// Checks what a string of one of the three kinds answers.
 fn check_string(rt: &impl Abort, text: &str, found: (bool, &[u8]), body: Body, value: &[u8]) {
-    assert_eq!(rt; found.0, body == Body::Raw, "of {text}");
-    assert_eq!(rt; found.1, value, "of {text}");
+    assert!(rt; found == (body == Body::Raw, value), "{text}");
 }
 
 /// Checks the value of a C string with its closing zero.
@@ -170,7 +166,7 @@ fn check_owned(rt: &impl Abort, alloc: Global, row: &Row) -> Result<(), Fail> {
 #[test]
 fn literals_over_both_buffers(rt: HostRuntime) -> Result<(), Fail> {
     let alloc = rt.alloc();
-    for row in LITERALS {
+    for row in literals() {
         check_parsed(&rt, alloc, row.0, row)?;
         check_parsed(&rt, alloc, String::from_str(alloc, row.0)?, row)?;
         check_owned(&rt, alloc, row)?;
@@ -191,7 +187,7 @@ fn is_owned(lit: Literal<&str>) -> bool {
 #[test]
 fn borrowed_and_owned_values(rt: HostRuntime) -> Result<(), Fail> {
     let alloc = rt.alloc();
-    for (text, _, parts) in LITERALS {
+    for (text, _, parts) in literals() {
         let text: &'static str = text;
         match parts {
             Parts::String(body, _) | Parts::ByteString(body, _) => {

@@ -1,6 +1,6 @@
 //! What the parses answer where allocations are refused.
 use crate::parses::{parse_by, string_value};
-use crate::tables::{Body, LITERALS, Parse, Parts, REFUSED, Refusal, Row};
+use crate::tables::{Body, Parse, Parts, Refusal, Row, literals, refused};
 use litrs::ParseErrorKind::OutOfMemory;
 use litrs::{Literal, Text};
 use std::alloc::{AllocError, Global};
@@ -66,14 +66,13 @@ fn allocated(parts: &Parts) -> Option<usize> {
 /// Checks a literal where every allocation is refused.
 fn check_literal<B: Text>(rt: &impl Abort, alloc: Global, text: B, row: &Row) {
     let (name, _, parts) = row;
-    match (Literal::parse(alloc, text), allocated(parts)) {
-        (Ok(_), None) => {}
-        (Err(e), Some(_)) => {
-            assert_eq!(rt; e.kind(), OutOfMemory, "{name}");
-            assert_eq!(rt; e.span(), None, "{name}");
+    let has_value = allocated(parts).is_some();
+    match Literal::parse(alloc, text) {
+        Ok(_) => assert!(rt; !has_value, "{name} has a value of its own"),
+        Err(e) => {
+            let is_so = has_value && e.kind() == OutOfMemory && e.span().is_none();
+            assert!(rt; is_so, "{name}: {e}");
         }
-        (Ok(_), Some(_)) => assert!(rt; false, "{name} has a value of its own"),
-        (Err(e), None) => assert!(rt; false, "{name} has no value of its own, but {e}"),
     }
 }
 
@@ -86,16 +85,13 @@ fn check_refusal<B: Text>(
     refusal: &Refusal,
 ) {
     let (name, kind, place) = refusal;
-    match (parse_by(alloc, parse, text), place) {
-        (Ok(_), _) => assert!(rt; false, "{name} is no literal"),
-        (Err(e), Some((span, _))) => {
-            assert_eq!(rt; e.kind(), *kind, "{name}");
-            assert_eq!(rt; e.span(), Some(span.start..span.end), "{name}");
-        }
-        (Err(e), None) => {
-            assert_eq!(rt; e.kind(), *kind, "{name}");
-            assert_eq!(rt; e.span(), None, "{name}");
-        }
+    let expected = match place {
+        Some((span, _)) => Some(span.start..span.end),
+        None => None,
+    };
+    match parse_by(alloc, parse, text) {
+        Ok(_) => assert!(rt; false, "{name} is no literal"),
+        Err(e) => assert!(rt; e.kind() == *kind && e.span() == expected, "{name}: {e}"),
     }
 }
 
@@ -107,10 +103,10 @@ fn without_memory(rt: HostRuntime) -> Result<(), Fail> {
     let Some(held) = take_all(alloc)? else {
         return Ok(());
     };
-    for row in LITERALS {
+    for row in literals() {
         check_literal(&rt, alloc, row.0, row);
     }
-    for (parse, refusals) in REFUSED {
+    for (parse, refusals) in refused() {
         for refusal in *refusals {
             check_refusal(&rt, alloc, *parse, refusal.0, refusal);
             check_refusal(&rt, alloc, Parse::Literal, refusal.0, refusal);
@@ -133,7 +129,7 @@ fn take_text(alloc: Global, held: &mut Vec<Vec<u8>>) -> Result<(), AllocError> {
 fn literals_over_strings_without_memory(rt: HostRuntime) -> Result<(), Fail> {
     let alloc = rt.alloc();
     let mut texts = Vec::new(alloc);
-    for row in LITERALS {
+    for row in literals() {
         texts.push((row, String::from_str(alloc, row.0)?))?;
     }
     let Some(mut held) = take_all(alloc)? else {
@@ -150,7 +146,7 @@ fn literals_over_strings_without_memory(rt: HostRuntime) -> Result<(), Fail> {
 fn refusals_over_strings_without_memory(rt: HostRuntime) -> Result<(), Fail> {
     let alloc = rt.alloc();
     let mut texts = Vec::new(alloc);
-    for (parse, refusals) in REFUSED {
+    for (parse, refusals) in refused() {
         for refusal in *refusals {
             texts.push((*parse, refusal, String::from_str(alloc, refusal.0)?))?;
         }
@@ -208,7 +204,7 @@ fn check_one_block(
 fn one_allocation_each(rt: HostRuntime) -> Result<(), Fail> {
     let alloc = rt.alloc();
     let mut blocks = Vec::new(alloc);
-    for row in LITERALS {
+    for row in literals() {
         if let Some(size) = allocated(&row.2) {
             let block: Vec<u8> = Vec::with_capacity(alloc, size)?;
             blocks.push((row, size, block))?;

@@ -1,5 +1,5 @@
 //! The nine parses as one call, and the texts of all tables.
-use crate::tables::{LITERALS, Parse, Parts, REFUSED, REFUSED_BY_ONE};
+use crate::tables::{Parse, Parts, literals, refused, refused_by_one};
 use litrs::{
     BoolLit, ByteLit, ByteStringLit, CStringLit, CharLit, FloatLit, IntegerLit, Literal,
     ParseError, StringLit, Text,
@@ -55,7 +55,7 @@ pub(crate) fn parse_of(parts: &Parts) -> Parse {
 /// The texts of all tables, literals and others.
 pub(crate) fn all_texts(alloc: Global) -> Result<Vec<&'static str>, AllocError> {
     let mut texts = refused_texts(alloc)?;
-    for (text, _, _) in LITERALS {
+    for (text, _, _) in literals() {
         texts.push(*text)?;
     }
     Ok(texts)
@@ -64,7 +64,7 @@ pub(crate) fn all_texts(alloc: Global) -> Result<Vec<&'static str>, AllocError> 
 /// The texts that some parse refuses.
 pub(crate) fn refused_texts(alloc: Global) -> Result<Vec<&'static str>, AllocError> {
     let mut texts = Vec::new(alloc);
-    for (_, rows) in REFUSED.iter().chain(REFUSED_BY_ONE) {
+    for (_, rows) in refused().iter().chain(refused_by_one()) {
         for (text, _, _) in *rows {
             texts.push(*text)?;
         }

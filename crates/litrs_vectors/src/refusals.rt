@@ -1,6 +1,6 @@
 //! Refused texts over both buffers.
 use crate::parses::parse_by;
-use crate::tables::{Parse, REFUSED, REFUSED_BY_ONE, Refusal};
+use crate::tables::{Parse, Refusal, refused, refused_by_one};
 use litrs::ParseErrorKind::{self, *};
 use litrs::{ParseError, Text};
 use litrs_token::LiteralError;
@@ -40,21 +40,15 @@ const FINAL: &[ParseErrorKind] = &[
 /// Checks what a parse says of a text that it refuses.
 fn check_refusal(rt: &impl Abort, error: &ParseError, refusal: &Refusal) {
     let (text, kind, place) = refusal;
-    assert_eq!(rt; error.kind(), *kind, "of {text}");
     let is_final = FINAL.iter().any(|known| known == kind);
-    assert_eq!(rt; error.is_final(), is_final, "of {text}");
     let is_open = matches!(*kind, UnterminatedString | UnterminatedRawString);
-    assert_eq!(rt; error.is_open(), is_open, "of {text}");
-    match place {
-        Some((span, char_end)) => {
-            assert_eq!(rt; error.span(), Some(span.start..span.end), "of {text}");
-            assert_eq!(rt; error.char_span(), Some(span.start..*char_end), "of {text}");
-        }
-        None => {
-            assert_eq!(rt; error.span(), None, "of {text}");
-            assert_eq!(rt; error.char_span(), None, "of {text}");
-        }
-    }
+    assert!(rt; error.kind() == *kind && error.is_final() == is_final, "{text}: {error}");
+    let spans = match place {
+        Some((span, char_end)) => (Some(span.start..span.end), Some(span.start..*char_end)),
+        None => (None, None),
+    };
+    let found = (error.span(), error.char_span());
+    assert!(rt; error.is_open() == is_open && found == spans, "{text}: {error}");
 }
 
 /// Checks that this parse refuses a text.
@@ -102,7 +96,7 @@ fn check_alike(
 
 #[test]
 fn refused_by_literal_and_by_the_kind(rt: HostRuntime) -> Result<(), Fail> {
-    for (parse, refusals) in REFUSED {
+    for (parse, refusals) in refused() {
         check_alike(&rt, rt.alloc(), *parse, refusals)?;
     }
     Ok(())
@@ -123,7 +117,7 @@ fn check_alone(
 
 #[test]
 fn refused_by_one_kind(rt: HostRuntime) -> Result<(), Fail> {
-    for (parse, refusals) in REFUSED_BY_ONE {
+    for (parse, refusals) in refused_by_one() {
         check_alone(&rt, rt.alloc(), *parse, refusals)?;
     }
     Ok(())

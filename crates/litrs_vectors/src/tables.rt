@@ -68,7 +68,11 @@ pub type Row = (&'static str, &'static str, Parts);
 pub type Refusal = (&'static str, ParseErrorKind, Option<(Range<usize>, usize)>);
 
 /// Literals of each kind.
-pub const LITERALS: &[Row] = &[
+pub fn literals() -> &'static [Row] {
+    LITERALS
+}
+
+const LITERALS: &[Row] = &[
     ("true", "", Bool(true)),
     ("false", "", Bool(false)),
     ("0xFF_u8", "u8", Integer(Hexadecimal, "FF_", Some(255))),
@@ -216,7 +220,11 @@ pub const LITERALS: &[Row] = &[
 
 /// Texts that `Literal::parse` refuses, by the parse of the kind that they begin like, which
 /// refuses them in the same way.
-pub const REFUSED: &[(Parse, &[Refusal])] = &[
+pub fn refused() -> &'static [(Parse, &'static [Refusal])] {
+    REFUSED
+}
+
+const REFUSED: &[(Parse, &[Refusal])] = &[
     (
         Parse::Literal,
         &[
@@ -390,7 +398,11 @@ pub const REFUSED: &[(Parse, &[Refusal])] = &[
 ];
 
 /// Texts that the parse of one kind refuses, and `Literal::parse` takes or refuses otherwise.
-pub const REFUSED_BY_ONE: &[(Parse, &[Refusal])] = &[
+pub fn refused_by_one() -> &'static [(Parse, &'static [Refusal])] {
+    REFUSED_BY_ONE
+}
+
+const REFUSED_BY_ONE: &[(Parse, &[Refusal])] = &[
     (
         Parse::Bool,
         &[

@@ -1,7 +1,7 @@
 //! Raw strings behind fronts of all lengths.
-use super::scan_raw_string;
-use litrs_base::ParseError;
-use litrs_base::ParseErrorKind::{self, *};
+use litrs_bodies::scan_raw_string;
+use litrs_lex::ParseError;
+use litrs_lex::ParseErrorKind::{self, *};
 use std::alloc::{AllocError, Global};
 use std::ops::Range;
 use std::process::Abort;
@@ -21,7 +21,7 @@ type Refused = (
     Option<Range<usize>>,
 );
 
-const RAW: [Raw; 9] = [
+const RAW: &[Raw] = &[
     (r#"r"\n""#, 1, true, true, 0, 5),
     (r#"br"\n""#, 2, false, true, 0, 6),
     ("r##\"a\"#\"##", 1, true, true, 2, 10),
@@ -33,7 +33,7 @@ const RAW: [Raw; 9] = [
     ("é\"\"", 2, false, false, 0, 4),
 ];
 
-const REFUSED: [Refused; 13] = [
+const REFUSED: &[Refused] = &[
     ("r####", 1, true, true, InvalidLiteral, None),
     ("r", 1, true, true, InvalidLiteral, None),
     ("r####x", 1, true, true, InvalidLiteral, None),
@@ -80,8 +80,8 @@ fn scan(
 #[test]
 fn raw_strings(rt: HostRuntime) {
     for (text, offset, unicode, allow_nul, hashes, suffix) in RAW {
-        match scan(&rt, text, offset, unicode, allow_nul) {
-            Ok(cut) => assert_eq!(rt; cut, (hashes, suffix), "at {text}"),
+        match scan(&rt, text, *offset, *unicode, *allow_nul) {
+            Ok(cut) => assert_eq!(rt; cut, (*hashes, *suffix), "at {text}"),
             Err(e) => assert!(rt; false, "{text} is a raw string, but {e}"),
         }
     }
@@ -94,21 +94,18 @@ fn check_refused(
     offset: usize,
     allowed: (bool, bool),
     kind: ParseErrorKind,
-    span: Option<Range<usize>>,
+    span: &Option<Range<usize>>,
 ) {
     match scan(rt, text, offset, allowed.0, allowed.1) {
         Ok(_) => assert!(rt; false, "{text} is no raw string"),
-        Err(e) => {
-            assert_eq!(rt; e.kind(), kind, "at {text}");
-            assert_eq!(rt; e.span(), span, "at {text}");
-        }
+        Err(e) => assert!(rt; e.kind() == kind && e.span() == *span, "{text}: {e}"),
     }
 }
 
 #[test]
 fn refused_raw_strings(rt: HostRuntime) {
     for (text, offset, unicode, allow_nul, kind, span) in REFUSED {
-        check_refused(&rt, text, offset, (unicode, allow_nul), kind, span);
+        check_refused(&rt, text, *offset, (*unicode, *allow_nul), *kind, span);
     }
 }
 
@@ -140,7 +137,7 @@ fn many_hashes(rt: HostRuntime) -> Result<(), Fail> {
         2,
         (false, true),
         UnterminatedRawString,
-        None,
+        &None,
     );
     let over = with_hashes(alloc, 256, 256)?;
     check_refused(
@@ -149,7 +146,7 @@ fn many_hashes(rt: HostRuntime) -> Result<(), Fail> {
         2,
         (false, true),
         TooManyHashes,
-        Some(2..258),
+        &Some(2..258),
     );
     Ok(())
 }

@@ -6,7 +6,7 @@ ghost use Rattle.litrs_base.specs.declared.integer.IntegerType.{IntegerType};
 ghost use Rattle.litrs_base.specs.declared.integer.IntegerType.TheVariants.{U8, U16, U32, U64, U128, Usize, I8, I16, I32, I64, I128, Isize};
 ghost use Rattle.litrs_base.specs.Numeral.{greatest_of};
 
-use crate::integer::IntegerType;
+use litrs_base::IntegerType;
 
 mod sealed {
     pub trait Sealed {}

@@ -1,7 +1,6 @@
 //! Where chars and bytes are cut, and how other texts are refused.
-use super::{cut_byte, cut_char};
-use litrs_base::ParseError;
-use litrs_base::ParseErrorKind::{self, *};
+use litrs_lex::ParseErrorKind::{self, *};
+use litrs_lex::{ParseError, cut_byte, cut_char};
 use std::alloc::{AllocError, Global};
 use std::ops::Range;
 use std::process::Abort;
@@ -15,7 +14,7 @@ type Refusal = (
 );
 
 /// A char, its value, and where its suffix starts.
-const CHARS: [(&str, char, usize); 22] = [
+const CHARS: &[(&str, char, usize)] = &[
     ("'a'", 'a', 3),
     ("' '", ' ', 3),
     ("'\"'", '"', 3),
@@ -41,7 +40,7 @@ const CHARS: [(&str, char, usize); 22] = [
 ];
 
 /// A byte, its value, and where its suffix starts.
-const BYTES: [(&str, u8, usize); 17] = [
+const BYTES: &[(&str, u8, usize)] = &[
     ("b'a'", 97, 4),
     ("b' '", 32, 4),
     ("b'\"'", 34, 4),
@@ -61,7 +60,7 @@ const BYTES: [(&str, u8, usize); 17] = [
     ("b'\\xFF'_x", 255, 7),
 ];
 
-const REFUSED_CHARS: [Refusal; 23] = [
+const REFUSED_CHARS: &[Refusal] = &[
     ("'", UnterminatedCharLiteral, None),
     ("'a", UnterminatedCharLiteral, None),
     ("'🦊", UnterminatedCharLiteral, None),
@@ -88,7 +87,7 @@ const REFUSED_CHARS: [Refusal; 23] = [
 ];
 
 /// Chars whose escape is refused, or is not closed.
-const REFUSED_ESCAPES: [Refusal; 22] = [
+const REFUSED_ESCAPES: &[Refusal] = &[
     ("'\\", UnterminatedEscape, Some((1..2, 1..2))),
     ("'\\x", UnterminatedEscape, Some((1..3, 1..3))),
     ("'\\x'", UnterminatedEscape, Some((1..4, 1..4))),
@@ -129,7 +128,7 @@ const REFUSED_ESCAPES: [Refusal; 22] = [
     ("'\\na'", OverlongCharLiteral, None),
 ];
 
-const REFUSED_BYTES: [Refusal; 28] = [
+const REFUSED_BYTES: &[Refusal] = &[
     ("b'", UnterminatedByteLiteral, None),
     ("b'a", UnterminatedByteLiteral, None),
     ("b'\\n", UnterminatedByteLiteral, None),
@@ -180,7 +179,7 @@ fn byte_of(rt: &impl Abort, text: &str) -> Result<(u8, usize), ParseError> {
 fn chars(rt: HostRuntime) {
     for (text, value, start_suffix) in CHARS {
         match char_of(&rt, text) {
-            Ok(cut) => assert_eq!(rt; cut, (value, start_suffix), "of {text}"),
+            Ok(cut) => assert_eq!(rt; cut, (*value, *start_suffix), "of {text}"),
             Err(e) => assert!(rt; false, "{text} is a char, but {e}"),
         }
     }
@@ -190,7 +189,7 @@ fn chars(rt: HostRuntime) {
 fn bytes(rt: HostRuntime) {
     for (text, value, start_suffix) in BYTES {
         match byte_of(&rt, text) {
-            Ok(cut) => assert_eq!(rt; cut, (value, start_suffix), "of {text}"),
+            Ok(cut) => assert_eq!(rt; cut, (*value, *start_suffix), "of {text}"),
             Err(e) => assert!(rt; false, "{text} is a byte, but {e}"),
         }
     }
@@ -202,19 +201,15 @@ fn check_refusal(
     error: &ParseError,
     text: &str,
     kind: ParseErrorKind,
-    spans: Option<(Range<usize>, Range<usize>)>,
+    spans: &Option<(Range<usize>, Range<usize>)>,
 ) {
-    assert_eq!(rt; error.kind(), kind, "of {text}");
-    match spans {
+    let is_there = match spans {
         Some((span, char_span)) => {
-            assert_eq!(rt; error.span(), Some(span), "of {text}");
-            assert_eq!(rt; error.char_span(), Some(char_span), "of {text}");
+            error.span().as_ref() == Some(span) && error.char_span().as_ref() == Some(char_span)
         }
-        None => {
-            assert_eq!(rt; error.span(), None, "of {text}");
-            assert_eq!(rt; error.char_span(), None, "of {text}");
-        }
-    }
+        None => error.span().is_none() && error.char_span().is_none(),
+    };
+    assert!(rt; error.kind() == kind && is_there, "{text}: {error}");
 }
 
 /// Checks that a text is refused as a char.
@@ -222,7 +217,7 @@ fn check_no_char(
     rt: &impl Abort,
     text: &str,
     kind: ParseErrorKind,
-    spans: Option<(Range<usize>, Range<usize>)>,
+    spans: &Option<(Range<usize>, Range<usize>)>,
 ) {
     match char_of(rt, text) {
         Ok(_) => assert!(rt; false, "{text} is no char"),
@@ -235,7 +230,7 @@ fn check_no_byte(
     rt: &impl Abort,
     text: &str,
     kind: ParseErrorKind,
-    spans: Option<(Range<usize>, Range<usize>)>,
+    spans: &Option<(Range<usize>, Range<usize>)>,
 ) {
     match byte_of(rt, text) {
         Ok(_) => assert!(rt; false, "{text} is no byte"),
@@ -246,21 +241,21 @@ fn check_no_byte(
 #[test]
 fn refused_chars(rt: HostRuntime) {
     for (text, kind, spans) in REFUSED_CHARS {
-        check_no_char(&rt, text, kind, spans);
+        check_no_char(&rt, text, *kind, spans);
     }
 }
 
 #[test]
 fn refused_escapes(rt: HostRuntime) {
     for (text, kind, spans) in REFUSED_ESCAPES {
-        check_no_char(&rt, text, kind, spans);
+        check_no_char(&rt, text, *kind, spans);
     }
 }
 
 #[test]
 fn refused_bytes(rt: HostRuntime) {
     for (text, kind, spans) in REFUSED_BYTES {
-        check_no_byte(&rt, text, kind, spans);
+        check_no_byte(&rt, text, *kind, spans);
     }
 }
 
@@ -281,25 +276,25 @@ fn ascii_between_quotes(rt: HostRuntime) -> Result<(), Fail> {
         let byte_text = quoted(rt.alloc(), "b'", value)?;
         match code {
             b'\'' => {
-                check_no_char(&rt, &char_text, UnescapedSingleQuote, Some((1..2, 1..2)));
-                check_no_byte(&rt, &byte_text, UnescapedSingleQuote, Some((2..3, 2..3)));
+                check_no_char(&rt, &char_text, UnescapedSingleQuote, &Some((1..2, 1..2)));
+                check_no_byte(&rt, &byte_text, UnescapedSingleQuote, &Some((2..3, 2..3)));
             }
             b'\\' => {
-                check_no_char(&rt, &char_text, UnterminatedCharLiteral, None);
-                check_no_byte(&rt, &byte_text, UnterminatedByteLiteral, None);
+                check_no_char(&rt, &char_text, UnterminatedCharLiteral, &None);
+                check_no_byte(&rt, &byte_text, UnterminatedByteLiteral, &None);
             }
             9 | 10 | 13 => {
                 check_no_char(
                     &rt,
                     &char_text,
                     UnescapedSpecialWhitespace,
-                    Some((1..2, 1..2)),
+                    &Some((1..2, 1..2)),
                 );
                 check_no_byte(
                     &rt,
                     &byte_text,
                     UnescapedSpecialWhitespace,
-                    Some((2..3, 2..3)),
+                    &Some((2..3, 2..3)),
                 );
             }
             _ => {
@@ -329,7 +324,7 @@ fn other_characters_between_quotes(rt: HostRuntime) -> Result<(), Fail> {
                 "{text}"
             );
             let text = quoted(rt.alloc(), "b'", value)?;
-            check_no_byte(&rt, &text, NonAsciiInByteLiteral, Some((2..3, 2..2 + len)));
+            check_no_byte(&rt, &text, NonAsciiInByteLiteral, &Some((2..3, 2..2 + len)));
         }
     }
     Ok(())

@@ -3,7 +3,7 @@ ghost use Rattle.std.specs.Prelude.{◌≡◌, ◌↔◌, IfOk, IfErr, IsTrue};
 ghost use Rattle.litrs_token.specs.Conversion.{IsWanted};
 ghost use Rattle.litrs_trees.specs.Tree.{shape_of};
 
-use crate::{
+use litrs_token::{
     Delimiter, FromToken, Group, Ident, IdentError, IntoIdent, InvalidToken, Literal, LiteralError,
     Punct, Spacing, Span, TokenError, TokenKind, TokenTree,
 };

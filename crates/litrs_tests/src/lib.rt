@@ -1,0 +1,30 @@
+//! Tests of public calls: of the parts that literals are made of, of the literal types, and of
+//! tokens. The crate `litrs_vectors` compares all parses over one list of texts.
+#![tactic(auto)]
+
+#[cfg(test)]
+mod chars;
+#[cfg(test)]
+mod containers;
+#[cfg(test)]
+mod copies;
+#[cfg(test)]
+mod escapes;
+#[cfg(test)]
+mod floats;
+#[cfg(test)]
+mod goes_on;
+#[cfg(test)]
+mod integers;
+#[cfg(test)]
+mod names;
+#[cfg(test)]
+mod printing;
+#[cfg(test)]
+mod quoted;
+#[cfg(test)]
+mod raw;
+#[cfg(test)]
+mod strings;
+#[cfg(test)]
+mod tokens;
