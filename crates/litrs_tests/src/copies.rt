@@ -88,7 +88,15 @@ fn copies_are_equal(rt: HostRuntime) -> Result<(), Fail> {
 #[test]
 fn equal_if_and_only_if_the_texts_are(rt: HostRuntime) -> Result<(), Fail> {
     let texts = [
-        "'a'", "'\\x61'", "'\\u{61}'", "'\\u{61_}'", "'a'u8", "b'j'", "b'\\x6a'", "b'\\x6A'", "b'j'u8",
+        "'a'",
+        "'\\x61'",
+        "'\\u{61}'",
+        "'\\u{61_}'",
+        "'a'u8",
+        "b'j'",
+        "b'\\x6a'",
+        "b'\\x6A'",
+        "b'j'u8",
     ];
     for (i, a) in texts.iter().enumerate() {
         for (j, b) in texts.iter().enumerate() {

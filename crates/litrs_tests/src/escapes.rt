@@ -227,7 +227,10 @@ fn check_refused(
         Err(e) => {
             let spans = (e.span(), e.char_span());
             let is_there = spans.0.as_ref() == Some(span) && spans.1.as_ref() == Some(char_span);
-            assert!(rt; e.kind() == kind && is_there, "{text} under {switches:?}: {e}");
+            assert!(rt;
+                e.kind() == kind && is_there,
+                "{text} under {switches:?}: {e}"
+            );
         }
     }
 }
@@ -307,7 +310,14 @@ fn all_bytes_that_begin_other_characters(rt: HostRuntime) -> Result<(), Fail> {
         if let Some(character) = char::from_u32(code) {
             let text = escaped(rt.alloc(), character)?;
             for switches in ALL {
-                check_refused(&rt, &text, switches, UnknownEscape, &(0..2), &(0..text.len()));
+                check_refused(
+                    &rt,
+                    &text,
+                    switches,
+                    UnknownEscape,
+                    &(0..2),
+                    &(0..text.len()),
+                );
             }
         }
     }

@@ -9,7 +9,10 @@ use std::test::Fail;
 
 #[test]
 fn bools(rt: HostRuntime) {
-    for (text, lit, value) in [("true", BoolLit::True, true), ("false", BoolLit::False, false)] {
+    for (text, lit, value) in [
+        ("true", BoolLit::True, true),
+        ("false", BoolLit::False, false),
+    ] {
         assert!(rt; BoolLit::parse(text).ok() == Some(lit), "{text}");
         assert!(rt; lit.value() == value && lit.as_str() == text, "{text}");
     }

@@ -37,7 +37,10 @@ fn check_name<D: Display>(
 fn types_by_their_names(rt: HostRuntime) -> Result<(), Fail> {
     for (ty, name) in TYPES {
         check_name(&rt, rt.alloc(), ty, name)?;
-        assert!(rt; ty.suffix() == *name && name.parse::<IntegerType>() == Ok(*ty), "{name}");
+        assert!(rt;
+            ty.suffix() == *name && name.parse::<IntegerType>() == Ok(*ty),
+            "{name}"
+        );
         assert!(rt; IntegerType::from_suffix(name) == Some(*ty), "{name}");
     }
     let printed = "u128|   u128|u128   | u128  |u128|";
@@ -57,7 +60,10 @@ fn names_of_no_type(rt: HostRuntime) {
 fn float_types_by_their_names(rt: HostRuntime) -> Result<(), Fail> {
     for (ty, name) in [(FloatType::F32, "f32"), (FloatType::F64, "f64")] {
         check_name(&rt, rt.alloc(), &ty, name)?;
-        assert!(rt; ty.suffix() == name && name.parse::<FloatType>() == Ok(ty), "{name}");
+        assert!(rt;
+            ty.suffix() == name && name.parse::<FloatType>() == Ok(ty),
+            "{name}"
+        );
         assert!(rt; FloatType::from_suffix(name) == Some(ty), "{name}");
     }
     let printed = "f64|    f64|f64    |  f64  |f64|";

@@ -21,7 +21,10 @@ fn strings(rt: HostRuntime) -> Result<(), Fail> {
         match unescape_string::<String>(rt.alloc(), text, 1, true, false, true) {
             Ok((value, start_suffix)) => {
                 let value = value.as_ref().map(String::as_str);
-                assert!(rt; value == *expected && start_suffix == *place, "{text}: {value:?}");
+                assert!(rt;
+                    value == *expected && start_suffix == *place,
+                    "{text}: {value:?}"
+                );
             }
             Err(e) => assert_eq!(rt; e.kind(), ParseErrorKind::OutOfMemory, "of {text}"),
         }

@@ -3,12 +3,12 @@ ghost use Rattle.std.specs.Prelude.{◌≡◌, ◌↔◌, IfOk, IfErr, IsTrue};
 ghost use Rattle.litrs_token.specs.Conversion.{IsWanted};
 ghost use Rattle.litrs_trees.specs.Tree.{shape_of};
 
+use litrs::{
+    BoolLit, ByteLit, ByteStringLit, CStringLit, CharLit, FloatLit, IntegerLit, StringLit,
+};
 use litrs_token::{
     Delimiter, FromToken, Group, Ident, IdentError, IntoIdent, InvalidToken, Literal, LiteralError,
     Punct, Spacing, Span, TokenError, TokenKind, TokenTree,
-};
-use litrs::{
-    BoolLit, ByteLit, ByteStringLit, CStringLit, CharLit, FloatLit, IntegerLit, StringLit,
 };
 use std::alloc::{AllocError, Global};
 use std::process::Abort;

@@ -95,7 +95,10 @@ fn check_parts(
 ) {
     let text = closed.text;
     let is_expected_raw = closed.front.contains('r');
-    assert!(rt; raw_input == text && suffix.is_empty() && is_raw == is_expected_raw, "{text}");
+    assert!(rt;
+        raw_input == text && suffix.is_empty() && is_raw == is_expected_raw,
+        "{text}"
+    );
     if is_raw {
         assert!(rt; value == closed.body.as_bytes(), "{text}");
     } else {

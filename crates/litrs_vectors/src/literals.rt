@@ -26,8 +26,14 @@ fn check_float<B: Text>(
     fraction: Option<&str>,
     exponent: &str,
 ) {
-    assert!(rt; lit.number_part() == number && lit.integer_part() == integer, "{lit}");
-    assert!(rt; lit.fractional_part() == fraction && lit.exponent_part() == exponent, "{lit}");
+    assert!(rt;
+        lit.number_part() == number && lit.integer_part() == integer,
+        "{lit}"
+    );
+    assert!(rt;
+        lit.fractional_part() == fraction && lit.exponent_part() == exponent,
+        "{lit}"
+    );
 }
 
 /// Checks what a string of one of the three kinds answers.

@@ -42,13 +42,19 @@ fn check_refusal(rt: &impl Abort, error: &ParseError, refusal: &Refusal) {
     let (text, kind, place) = refusal;
     let is_final = FINAL.iter().any(|known| known == kind);
     let is_open = matches!(*kind, UnterminatedString | UnterminatedRawString);
-    assert!(rt; error.kind() == *kind && error.is_final() == is_final, "{text}: {error}");
+    assert!(rt;
+        error.kind() == *kind && error.is_final() == is_final,
+        "{text}: {error}"
+    );
     let spans = match place {
         Some((span, char_end)) => (Some(span.start..span.end), Some(span.start..*char_end)),
         None => (None, None),
     };
     let found = (error.span(), error.char_span());
-    assert!(rt; error.is_open() == is_open && found == spans, "{text}: {error}");
+    assert!(rt;
+        error.is_open() == is_open && found == spans,
+        "{text}: {error}"
+    );
 }
 
 /// Checks that this parse refuses a text.
