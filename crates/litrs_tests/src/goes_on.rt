@@ -125,6 +125,28 @@ fn other_texts(rt: HostRuntime) {
     }
 }
 
+/// Literals of several kinds.
+const LITERALS: &[&str] = &[
+    "'\\''",
+    "b'\\xFF'",
+    "b'\\''u8",
+    "\"\\u{10ffff}\\u{0}\"",
+    "c\"\\u{0_1}\\x01\"",
+    "c\"\\x61\"",
+    "r\"🦊\"good_boy",
+    "br#\"\\n\"#",
+];
+
+#[test]
+fn beginnings_of_literals(rt: HostRuntime) {
+    for text in LITERALS {
+        for (place, _) in text.char_indices() {
+            assert!(rt; goes_on(&text[..place]), "{text} up to {place}");
+        }
+        assert!(rt; goes_on(text), "{text} is a literal");
+    }
+}
+
 /// Texts that are no literals, and the size in bytes of the least beginning that begins none, where
 /// there is one.
 const REFUSED: &[(&str, Option<usize>)] = &[
