@@ -1,5 +1,5 @@
 //! Bool literals.
-ghost use Rattle.std.specs.Prelude.{◌≡◌, IfOk, IfErr};
+ghost use Rattle.std.specs.Prelude.{◌≡◌, ◌≢◌, ◌≤◌, length, IfOk, IfErr, IfSome, IfNone, IsTrue, IsFalse};
 ghost use Rattle.std.specs.Str.{chars};
 ghost use Rattle.litrs_base.specs.Derivations.{IsOnlyDerivation};
 ghost use Rattle.litrs_grammar.specs.Literal.{kind_parse, bool_literal};
@@ -22,7 +22,7 @@ pub enum BoolLit {
 
 impl BoolLit {
     ghost use Rattle.litrs.specs.BoolLiteral.{bool_value};
-    ghost use Rattle.litrs_grammar.specs.Bool.{IsBool, bool_text};
+    ghost use Rattle.litrs_grammar.specs.Bool.{IsBool, is_bool, bool_text};
 
     /// Parses a text that is exactly `true` or `false`.
     ///
@@ -33,10 +33,26 @@ impl BoolLit {
         ensures ok { IfOk result (λ lit. IsOnlyDerivation (IsBool (chars s.now)) (bool_value lit)) }
         ensures refused { IfErr result (IsRefused (kind_parse bool_literal) (chars s.now)) }
     {
-        match s {
-            "false" => Ok(BoolLit::False),
-            "true" => Ok(BoolLit::True),
-            _ => Err(ParseError::new(None, ParseErrorKind::InvalidLiteral)),
+        match BoolLit::from_bytes(s.as_bytes()) {
+            Some(lit) => Ok(lit),
+            None => Err(ParseError::new(None, ParseErrorKind::InvalidLiteral)),
+        }
+    }
+
+    /// The bool that the bytes are, if they are one.
+    #[inline(always)]
+    pub(crate) fn from_bytes(bytes: &[u8]) -> Option<BoolLit>
+        ensures some { IfSome result (λ lit. bytes.now ≡ bool_text (bool_value lit)) }
+        ensures none { IfNone result (IsFalse (is_bool bytes.now)) }
+    {
+        let lit = match bytes {
+            [b't', ..] => BoolLit::True,
+            _ => BoolLit::False,
+        };
+        if is_word(bytes, lit.as_str().as_bytes()) {
+            Some(lit)
+        } else {
+            None
         }
     }
 
@@ -59,6 +75,22 @@ impl BoolLit {
             BoolLit::True => "true",
         }
     }
+}
+
+/// Whether the bytes are this word of four or five bytes. No branch tells the two lengths apart, as
+/// either may come.
+#[inline(always)]
+fn is_word(bytes: &[u8], word: &[u8]) -> bool
+    requires least { 4 ≤ length word.now }
+    requires most { length word.now ≤ 5 }
+    ensures same { IsTrue result → bytes.now ≡ word.now }
+    ensures other { IsFalse result → bytes.now ≢ word.now }
+{
+    if bytes.is_empty() || bytes[0] != word[0] || bytes.len() != word.len() {
+        return false;
+    }
+    let last = word.len() - 1;
+    bytes[1] == word[1] && bytes[2] == word[2] && bytes[3] == word[3] && bytes[last] == word[last]
 }
 
 impl fmt::Display for BoolLit {

@@ -29,6 +29,7 @@ use litrs_base::{ParseError, ParseErrorKind, Unescape};
 /// - As [`check_suffix`] refuses the suffix, at its first byte.
 ///
 /// [ref]: https://doc.rust-lang.org/reference/tokens.html#character-literals
+#[inline(never)]
 pub fn cut_char(input: &str) -> Result<(char, usize), ParseError>
     requires { IsTrue (begins_with (codes "'") input.now) }
     ensures ok { IfOk result (λ cut.
@@ -60,6 +61,7 @@ pub fn cut_char(input: &str) -> Result<(char, usize), ParseError>
 /// - As [`check_suffix`] refuses the suffix, at its first byte.
 ///
 /// [ref]: https://doc.rust-lang.org/reference/tokens.html#byte-literals
+#[inline(never)]
 pub fn cut_byte(input: &str) -> Result<(u8, usize), ParseError>
     requires { IsTrue (begins_with (codes "b'") input.now) }
     ensures ok { IfOk result (λ cut.
@@ -77,6 +79,7 @@ pub fn cut_byte(input: &str) -> Result<(u8, usize), ParseError>
 }
 
 /// What follows the front: the value, and where the suffix starts.
+#[inline(always)]
 fn cut_behind(rest: &str, is_byte: bool) -> Result<(Unescape, usize), ParseError>
     ensures ok { IfOk result (λ cut. IsCutBehind (kind_if is_byte) rest.now cut.0 cut.1) }
     ensures refused { IfErr result (IsItemRefused (kind_if is_byte) (chars rest.now)) }
@@ -87,6 +90,7 @@ fn cut_behind(rest: &str, is_byte: bool) -> Result<(Unescape, usize), ParseError
 }
 
 /// The character or the escape that stands first, and its length in bytes.
+#[inline(always)]
 fn read_item(rest: &str, is_byte: bool) -> Result<(Unescape, usize), ParseError>
     ensures ok { IfOk result (λ read. IsItemRead (kind_if is_byte) rest.now read.0 read.1) }
     ensures refused { IfErr result (IsItemRefused (kind_if is_byte) (chars rest.now)) }
@@ -138,6 +142,7 @@ fn read_plain(rest: &str, first: u8, is_byte: bool) -> Result<(Unescape, usize),
 }
 
 /// Where the suffix starts, if the closing quote and a suffix follow these bytes.
+#[inline(always)]
 fn check_closing(rest: &str, len: usize, is_byte: bool) -> Result<usize, ParseError>
     requires { IsCharBoundary rest.now len }
     ensures ok { IfOk result (λ start.
