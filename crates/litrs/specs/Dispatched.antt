@@ -8,7 +8,7 @@ use Rattle.litrs_grammar.specs.Literal.{bool_literal, integer_literal, float_lit
 use Rattle.litrs_grammar.specs.LiteralRefusals.{Dispatch, refused_as, parsed_as, begins_float}
 use Rattle.litrs.specs.declared.parse.Dispatched.{Dispatched}
 use Rattle.litrs.specs.declared.parse.Dispatched.TheVariants as dispatched
-use Rattle.litrs.specs.BoolLiteral.{bool_value}
+use Rattle.litrs_scalars.specs.BoolLiteral.{bool_value}
 
 -- the row of the dispatch that fits the text with these bytes
 abbrev pub row_of : Dispatched → List ℕ → Dispatch

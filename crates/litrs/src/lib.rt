@@ -18,23 +18,18 @@ ghost use Rattle.litrs_grammar.specs.Refused.{IsRefused, IsRefusedOrOutOfMemory}
 ghost use Rattle.litrs_lex.specs.NumberCut.{number_kind};
 ghost use Rattle.litrs.specs.LiteralDerivation.{literal_raw, derivation};
 
-pub use bool::BoolLit;
-pub use byte::ByteLit;
-pub use char::CharLit;
 pub use litrs_goes_on::goes_on;
 pub use litrs_lex::{
     Buffer, FloatType, IntegerBase, IntegerType, ParseError, ParseErrorKind, Text,
 };
 use litrs_lex::{NumberCut, cut_number};
 pub use litrs_numbers::{FloatLit, FromIntegerLiteral, IntegerLit};
+pub use litrs_scalars::{BoolLit, ByteLit, CharLit};
 pub use litrs_strings::{ByteStringLit, CString, CStringLit, StringLit};
 use parse::Dispatched;
 use std::alloc::{AllocError, Global};
 use std::fmt;
 
-mod bool;
-mod byte;
-mod char;
 mod parse;
 
 /// A literal of any kind. See [the reference][ref].

@@ -1,3 +1,4 @@
+pub mod StringFronts
 pub mod PlainRuns
 pub mod QuotedScan
 pub mod QuotedBytes

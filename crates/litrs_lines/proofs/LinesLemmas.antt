@@ -16,7 +16,7 @@ use Rattle.std.proofs.lemmas.Bool.{ltb-false}
 use Rattle.std.proofs.Common.{Option, Result, Ok, Err, OnOk, OnErr, IfSome, length-append}
 use Rattle.std.specs.Prelude.{is_ok, if◌then◌else◌}
 use Rattle.litrs_lines.specs.LinesLaws.{spelled, LinesSpellTheBytes, NoLineFeedInLines, LinesAreUnique}
-use Rattle.litrs_lines.specs.Devices.{AppendsBeginning, StopsWithin}
+use Rattle.litrs_lines.specs.Stopped.{AppendsBeginning, StopsWithin}
 use Rattle.std.proofs.Common.{eqb-true, ltb, cond, add-one, get_or, take-append-drop, drop-cons, length-take}
 use Rattle.std.proofs.lemmas.List.{get_or-take, take_rest, take_all}
 use Rattle.litrs_lines.specs.Reported.{report_of, reports_of}

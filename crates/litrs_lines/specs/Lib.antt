@@ -5,11 +5,6 @@ pub mod Report
 pub mod Reports
 pub mod ReportLaws
 pub mod Reported
--- devices
-pub mod Devices
-pub mod Calls
-pub mod MemInput
-pub mod MemOutput
-pub mod StdInput
-pub mod StdOutput
+-- how a run ends
+pub mod Stopped
 pub mod RunError

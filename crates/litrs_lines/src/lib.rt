@@ -4,38 +4,22 @@
 ghost use Rattle.std.specs.Prelude.{◌≡◌, ◌≢◌, ◌↔◌, ◌∷◌, [], ◌++◌, true, false, Some, IsSome, IfSome, IsErrOf, OnOk, OnErr, position, string_bytes};
 ghost use Rattle.std.specs.Io.KnownBytes.{Appends, IsAtEnd};
 ghost use Rattle.litrs_base.specs.Characters.{line_feed};
-ghost use Rattle.litrs_lines.specs.Devices.{AppendsBeginning, StopsWithin};
+ghost use Rattle.litrs_lines.specs.Stopped.{AppendsBeginning, StopsWithin};
 ghost use Rattle.litrs_lines.specs.Lines.{is_line_feed, HasNoLineFeed, ended_lines, open_line, unless_empty, lines_of};
 ghost use Rattle.litrs_lines.specs.Reported.{report_of, reports_of};
 ghost use Rattle.litrs_lines.specs.Reports.{AppendsReports};
 
-pub use device::{Failed, Input, Output};
-pub use mem_input::MemInput;
-pub use mem_output::MemOutput;
+pub use litrs_devices::{Failed, Input, MemInput, MemOutput, Output, StdInput, StdOutput};
 use memchr::memchr;
 pub use program::run_program;
 use report::push_report;
 use std::alloc::{AllocError, Global};
 use std::error::Error;
 use std::fmt;
-pub use std_input::StdInput;
-pub use std_output::StdOutput;
 
-mod calls;
-mod device;
-#[cfg(test)]
-mod device_tests;
-#[cfg(test)]
-mod large_tests;
 pub mod laws;
-mod mem_input;
-mod mem_output;
 mod program;
 mod report;
-mod std_input;
-mod std_output;
-#[cfg(test)]
-mod tests;
 
 /// The bytes that are read at a time.
 const BUFFER_LEN: usize = 8192;

@@ -4,7 +4,7 @@ ghost use Rattle.std.specs.Char.{digit_char};
 ghost use Rattle.std.specs.Str.{chars};
 ghost use Rattle.litrs.specs.LiteralDerivation.{derivation};
 ghost use Rattle.litrs_grammar.specs.Integer.{integer_value};
-ghost use Rattle.litrs.specs.CharLiteral.{char_parts, byte_parts};
+ghost use Rattle.litrs_scalars.specs.CharLiteral.{char_parts, byte_parts};
 ghost use Rattle.litrs_numbers.specs.FloatLiteral.{float_parts};
 ghost use Rattle.litrs_numbers.specs.IntegerLiteral.{integer_parts};
 ghost use Rattle.litrs_grammar.specs.Literal.{an_integer, a_float, a_char, a_byte, a_string, a_byte_string, a_c_string};

@@ -15,59 +15,11 @@ use Rattle.litrs_grammar.specs.Raw.{raw_front, has_unicode, allows_nul, raw_text
 use Rattle.litrs_grammar.specs.Literal.{StringParts, quoted_parts, raw_parts, IsString}
 use Rattle.litrs_grammar.specs.Strings.{StringDerivation}
 use Rattle.litrs_grammar.proofs.LiteralLaws.{only_string}
+use Rattle.litrs_bodies.proofs.StringFronts.{raw_begins, quoted_before, raw_behind}
 use Rattle.litrs_bodies.specs.RawCut.{IsRawCut, raw_parts_at}
 use Rattle.litrs_strings.specs.declared.cut.StringCut.{StringCut}
 use Rattle.litrs_strings.specs.StringLiteral.{IsStringAt, IsCStringAt}
 use Rattle.litrs_strings.specs.ParsedStrings.{IsParsedQuoted, IsParsedRaw, IsParsedString}
-
--- The fronts are ASCII, so that a text may be cut behind them.
-
-abbrev is_low : List ℕ → Bool
-is_low t = list_all (λ c. nat_lt c 128) t
-
-quoted_low : (kind : StringKind) → is_low (quoted_front kind) ≡ true
-quoted_low string_kind = refl
-quoted_low byte_string_kind = refl
-quoted_low c_string_kind = refl
-
-raw_low : (kind : StringKind) → is_low (raw_front kind) ≡ true
-raw_low string_kind = refl
-raw_low byte_string_kind = refl
-raw_low c_string_kind = refl
-
-pub quoted_begins : (kind : StringKind) (bs : List ℕ) → IsUtf8 bs →
-    begins_with (quoted_front kind) (chars bs) ≡ begins_with (quoted_front kind) bs
-quoted_begins kind bs u = begins_with-chars (quoted_front kind) bs (quoted_low kind) u
-
-pub raw_begins : (kind : StringKind) (bs : List ℕ) → IsUtf8 bs →
-    begins_with (raw_front kind) (chars bs) ≡ begins_with (raw_front kind) bs
-raw_begins kind bs u = begins_with-chars (raw_front kind) bs (raw_low kind) u
-
-front_boundary : (front bs : List ℕ) → is_low front ≡ true → IsUtf8 bs → begins_with front bs ≡ true → IsCharBoundary bs (length front)
-front_boundary front bs low u begins =
-    let f = begins_front front bs low begins u in IsCharBoundary-from_drop bs (length front) f.within f.utf8
-
-pub quoted_boundary : (kind : StringKind) (bs : List ℕ) → IsUtf8 bs → begins_with (quoted_front kind) bs ≡ true →
-    IsCharBoundary bs (length (quoted_front kind))
-quoted_boundary kind bs u begins = front_boundary (quoted_front kind) bs (quoted_low kind) u begins
-
-pub raw_boundary : (kind : StringKind) (bs : List ℕ) → IsUtf8 bs → begins_with (raw_front kind) bs ≡ true →
-    IsCharBoundary bs (length (raw_front kind))
-raw_boundary kind bs u begins = front_boundary (raw_front kind) bs (raw_low kind) u begins
-
--- what stands before the body of a quoted string
-pub quoted_before : (kind : StringKind) (bs : List ℕ) → IsUtf8 bs → begins_with (quoted_front kind) bs ≡ true →
-    chars (take (length (quoted_front kind)) bs) ≡ quoted_front kind
-quoted_before kind bs u begins =
-    let front = quoted_front kind in
-    let f = begins_front front bs (quoted_low kind) begins u in
-    chars-IsAscii (take (length front) bs) f.ascii
-    ∙ (ap (take (length front)) (sym (begins_with-split front bs begins)) ∙ take-append_seam front (drop (length front) bs))
-
--- what stands behind the front of a raw one
-pub raw_behind : (kind : StringKind) (bs : List ℕ) → IsUtf8 bs → begins_with (raw_front kind) bs ≡ true →
-    drop (length (raw_front kind)) (chars bs) ≡ chars (drop (length (raw_front kind)) bs)
-raw_behind kind bs u begins = (begins_front (raw_front kind) bs (raw_low kind) begins u).rest
 
 -- A quoted or a raw string is a string of its kind.
 

@@ -18,7 +18,7 @@ use Rattle.litrs_grammar.proofs.RawKinds.{literal_refusal_free}
 use Rattle.litrs_bodies.specs.declared.quoted.QuotedCut.{QuotedCut}
 use Rattle.litrs_bodies.specs.QuotedCut.{IsQuotedCut, IsQuotedRefused}
 use Rattle.litrs_bodies.specs.RawCut.{IsRawCut, IsRawRefused, raw_parts_at}
-use Rattle.litrs_strings.proofs.ParsedStrings.{quoted_begins, raw_begins, quoted_before, raw_behind}
+use Rattle.litrs_bodies.proofs.StringFronts.{quoted_begins, raw_begins, quoted_before, raw_behind}
 use Rattle.litrs_trees.specs.Front.{IsStringTest}
 
 -- A text that begins so, cut behind its front

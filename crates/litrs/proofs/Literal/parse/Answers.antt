@@ -4,8 +4,8 @@ use Rattle.std.specs.Str.{chars}
 use Rattle.std.proofs.lemmas.Result.{err_from_is_err_and}
 use Rattle.litrs_grammar.specs.Literal.{a_bool, a_char, a_byte, a_string, a_byte_string, a_c_string, char_literal, byte_literal, string_literal, byte_string_literal, c_string_literal}
 use Rattle.litrs_grammar.proofs.BoolLaws.{chars-bool_text}
-use Rattle.litrs.specs.BoolLiteral.{bool_value}
-use Rattle.litrs.specs.CharLiteral.{char_parts, byte_parts}
+use Rattle.litrs_scalars.specs.BoolLiteral.{bool_value}
+use Rattle.litrs_scalars.specs.CharLiteral.{char_parts, byte_parts}
 use Rattle.litrs.specs.LiteralDerivation.{derivation}
 use Rattle.litrs.proofs.KindErrors.{only_literal, kind_error_at, number_error_at, start_error_at}
 use Rattle.litrs.proofs.Literal.parse.Goals as goal

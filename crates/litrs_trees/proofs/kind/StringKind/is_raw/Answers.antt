@@ -1,6 +1,6 @@
 -- The cut decides, kind by kind.
 use Rattle.litrs_grammar.specs.StringKind.{string_kind, byte_string_kind, c_string_kind}
-use Rattle.litrs_strings.proofs.ParsedStrings.{raw_boundary}
+use Rattle.litrs_bodies.proofs.StringFronts.{raw_boundary}
 use Rattle.litrs_trees.proofs.StringTests.{raw_test}
 use Rattle.litrs_trees.proofs.kind.StringKind.is_raw.Goals as goal
 

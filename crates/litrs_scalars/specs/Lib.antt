@@ -1,0 +1,3 @@
+-- what literals hold
+pub mod BoolLiteral
+pub mod CharLiteral
