@@ -4,7 +4,7 @@ use Rattle.std.specs.Prelude.{if◌then◌else◌}
 use Rattle.std.specs.Str.{chars, IsUtf8}
 use Rattle.std.specs.declared.ops.Range.{Range}
 use Rattle.litrs_base.specs.declared.err.ParseError.{ParseError}
-use Rattle.litrs_base.specs.Refusal.{refusal, refusal_of, kind_of, span_of, plain}
+use Rattle.litrs_base.specs.Refusal.{refusal, refusal_of, kind_of, span_of}
 use Rattle.litrs_base.specs.Derivations.{IsOnlyDerivation}
 use Rattle.litrs_base.proofs.CharEnds.{no_span}
 use Rattle.litrs_grammar.specs.Literal.{Derivation, IsLiteral, LiteralKind, integer_literal, float_literal, literal_parse, kind_parse}

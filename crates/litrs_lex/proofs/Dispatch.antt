@@ -1,17 +1,13 @@
 -- The dispatch over the kinds is that of the bytes of the text.
-use Rattle.std.proofs.Common.{◌≡◌, ℕ, suc, length, List, [], ◌∷◌, drop, refl, ap, ◌∙◌, arith}
+use Rattle.std.proofs.Common.{◌≡◌, ℕ, suc, length, List, [], ◌∷◌, refl, ap, ◌∙◌, arith}
 use Rattle.std.specs.Prelude.{codes}
 use Rattle.std.specs.Str.{chars, IsUtf8}
-use Rattle.std.specs.List.{prefix_len}
 use Rattle.std.proofs.lemmas.Str.{chars-nil}
 use Rattle.std.proofs.lemmas.Bool.{ne_eqb}
-use Rattle.std.proofs.lemmas.Bool.Decides.{nat_tests}
-use Rattle.litrs_base.specs.declared.integer.IntegerBase.TheVariants.{Decimal}
-use Rattle.litrs_base.specs.Text.{is_empty, first_passes}
-use Rattle.litrs_base.specs.Base.{is_digit_or_underscore}
-use Rattle.litrs_base.proofs.Chars.{chars_empty, OnlyAscii, prefix_len-chars, passing_front, first_passes-chars, begins_with-chars, is_text-chars}
-use Rattle.litrs_grammar.specs.Bool.{bool_text, is_bool}
-use Rattle.litrs_grammar.specs.LiteralRefusals.{begins_float, dispatch}
+use Rattle.litrs_base.specs.Text.{is_empty}
+use Rattle.litrs_base.proofs.Chars.{chars_empty, begins_with-chars, is_text-chars}
+use Rattle.litrs_grammar.specs.Bool.{is_bool}
+use Rattle.litrs_grammar.specs.LiteralRefusals.{dispatch}
 use Rattle.litrs_lex.proofs.IntegerBytes.{digit-chars}
 use Rattle.litrs_lex.proofs.NumberBytes.{begins_float-chars}
 

@@ -11,7 +11,7 @@ use Rattle.litrs_base.specs.Refusal.{Refusal}
 use Rattle.litrs_grammar.specs.Integer.{IntegerParts, integer_value}
 use Rattle.litrs_grammar.specs.CharByte.{CharParts, char_value}
 use Rattle.litrs_grammar.specs.Float.{FloatParts}
-use Rattle.litrs_grammar.specs.Literal.{StringParts, string_suffix, string_value, Derivation, an_integer, a_float, a_char, a_byte, IsLiteral, literal_parse}
+use Rattle.litrs_grammar.specs.Literal.{StringParts, string_suffix, string_value, Derivation, an_integer, a_float, IsLiteral, literal_parse}
 use Rattle.litrs_grammar.specs.LiteralRefusals.{IsRefusal}
 use Rattle.litrs_grammar.specs.Strings.{is_raw}
 use Rattle.litrs_grammar.proofs.LiteralLaws.{literals_are_unique, literals_are_not_refused, refusals_are_unique, texts_are_decided}

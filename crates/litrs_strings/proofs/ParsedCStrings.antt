@@ -1,5 +1,5 @@
 -- The value of a C string is what was unescaped, or the body itself.
-use Rattle.std.proofs.Common.{◌≡◌, ℕ, List, slice_range, Option, None, Some, refl, sym, ap, ◌∙◌, subst}
+use Rattle.std.proofs.Common.{◌≡◌, ℕ, List, slice_range, Option, None, Some, refl, ap, ◌∙◌}
 use Rattle.std.specs.Prelude.{MatchOption, IsFalse}
 use Rattle.std.specs.Option.{unwrap_or}
 use Rattle.std.specs.List.{list_any}

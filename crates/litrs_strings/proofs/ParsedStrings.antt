@@ -1,17 +1,13 @@
 -- Where a string is cut, by its only derivation.
-use Rattle.std.proofs.Common.{◌≡◌, ℕ, ◌+◌, ◌-◌, ◌≤◌, Bool, true, List, [], ◌∷◌, ◌++◌, length, take, drop, slice_range, Option, None, refl, sym, ap, ◌∙◌, subst}
-use Rattle.std.specs.List.{list_all}
-use Rattle.std.specs.Prelude.{nat_lt}
-use Rattle.std.specs.Str.{chars, IsUtf8, IsCharBoundary}
-use Rattle.std.proofs.Math.Seq.{take-append_seam}
-use Rattle.std.proofs.lemmas.Str.{chars-IsAscii, encodes-chars, IsUtf8-between, IsCharBoundary-from_drop}
+use Rattle.std.proofs.Common.{◌≡◌, ℕ, ◌+◌, ◌-◌, Bool, true, List, ◌++◌, length, Option, None, refl, sym, ap, ◌∙◌, subst}
+use Rattle.std.specs.Str.{chars, IsUtf8}
+use Rattle.std.proofs.lemmas.Str.{encodes-chars, IsUtf8-between}
 use Rattle.litrs_base.specs.Derivations.{IsOnlyDerivation}
 use Rattle.litrs_base.specs.Text.{begins_with}
 use Rattle.litrs_base.proofs.Begins.{begins_with-split}
-use Rattle.litrs_base.proofs.Chars.{IsAsciiFront, begins_front, begins_with-chars}
-use Rattle.litrs_grammar.specs.StringKind.{StringKind, string_kind, byte_string_kind, c_string_kind, switches_of}
+use Rattle.litrs_grammar.specs.StringKind.{StringKind, c_string_kind, switches_of}
 use Rattle.litrs_grammar.specs.Quoted.{quoted_front, IsQuoted}
-use Rattle.litrs_grammar.specs.Raw.{raw_front, has_unicode, allows_nul, raw_text, IsRawOf}
+use Rattle.litrs_grammar.specs.Raw.{raw_front, has_unicode, allows_nul}
 use Rattle.litrs_grammar.specs.Literal.{StringParts, quoted_parts, raw_parts, IsString}
 use Rattle.litrs_grammar.specs.Strings.{StringDerivation}
 use Rattle.litrs_grammar.proofs.LiteralLaws.{only_string}

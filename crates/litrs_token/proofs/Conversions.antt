@@ -1,5 +1,5 @@
 -- The answers of conversions.
-use Rattle.std.proofs.Common.{◌≡◌, List, [], ◌∷◌, ◌++◌, Result, Ok, Err, ap, refl}
+use Rattle.std.proofs.Common.{◌≡◌, Result, Ok, Err, ap, refl}
 use Rattle.std.specs.Result.{IsErrAnd}
 use Rattle.litrs_trees.specs.declared.kind.TokenKind.{TokenKind}
 use Rattle.litrs_trees.specs.declared.kind.TokenKind.TheVariants as token

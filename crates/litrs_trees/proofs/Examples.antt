@@ -2,7 +2,6 @@
 use Rattle.std.specs.Prelude.{◌≡◌, ℕ, ◌+◌, List, [], ◌∷◌, IsTrue, IsFalse, Ok, Err, codes, refl}
 use Rattle.std.specs.Str.{chars}
 use Rattle.std.proofs.Common.{arith}
-use Rattle.litrs_scalars.specs.declared.bool.BoolLit.{BoolLit}
 use Rattle.litrs_scalars.specs.declared.bool.BoolLit.TheVariants.{False, True}
 use Rattle.litrs_trees.specs.declared.err.InvalidToken.{InvalidToken}
 use Rattle.litrs_trees.specs.declared.kind.TokenKind.{TokenKind}
@@ -20,7 +19,6 @@ use Rattle.litrs_trees.specs.Errors.{invalid_span, invalid_text}
 use Rattle.litrs_trees.specs.Mismatch.{tree_mismatch}
 use Rattle.litrs_trees.specs.Place.{Place, call_site}
 use Rattle.litrs_trees.specs.StringToken.{string_token, IsStringOf}
-use Rattle.litrs_trees.specs.Tokens.{IdentToken, PunctToken}
 use Rattle.litrs_trees.specs.Tree.{Shape, shape_of, AreAlike, group_delimiter, group_stream, group_span}
 
 -- Tokens at a place

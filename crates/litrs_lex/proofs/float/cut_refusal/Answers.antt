@@ -7,7 +7,6 @@ use Rattle.std.proofs.lemmas.Bool.{ne_eqb}
 use Rattle.litrs_base.specs.Refusal.{over}
 use Rattle.litrs_base.specs.Text.{is_empty}
 use Rattle.litrs_grammar.specs.Suffix.{is_suffix, suffix_refusal}
-use Rattle.litrs_grammar.specs.Float.{has_wrong_fraction}
 use Rattle.litrs_lex.proofs.FloatBytes.{places_of_cut, refusal_of_cut, row_no_digit, row_suffix, row_integer, row_none}
 use Rattle.litrs_lex.proofs.float.cut_refusal.Goals as goal
 

@@ -1,9 +1,9 @@
 -- The fields are written one behind the other.
-use Rattle.std.proofs.Common.{◌++◌, append_assoc, ap, ◌∙◌}
+use Rattle.std.proofs.Common.{◌++◌, ap, ◌∙◌}
 use Rattle.std.specs.Prelude.{string_bytes, codes}
 use Rattle.std.specs.Fmt.{decimal}
 use Rattle.std.proofs.lemmas.Result.{on_ok_weaker}
-use Rattle.litrs_lines.proofs.ReportLemmas.{appended_four, left_by, integer_front_made}
+use Rattle.litrs_lines.proofs.ReportLemmas.{left_by, integer_front_made}
 use Rattle.litrs_lines.proofs.report.push_integer_front.Goals as goal
 
 pub returns : goal.returns

@@ -1,5 +1,4 @@
 -- The empty text and another start come before the scans of quoted and of raw strings.
-use Rattle.std.specs.Str.{chars}
 use Rattle.std.proofs.lemmas.Result.{err_from_is_err_and, IfOk-weaker, IfErr-weaker}
 use Rattle.std.proofs.Common.{ap, ◌∙◌}
 use Rattle.litrs_base.specs.Refusal.{refusal_of}
