@@ -1,6 +1,6 @@
 //! Counts the calls of the C library that allocate, which both crates end in.
 
-use crate::{Call, SHAPES, answer, ours};
+use crate::{Call, REFUSED, SHAPES, answer, ours};
 use std::hint::black_box;
 use std::sync::atomic::{AtomicU64, Ordering};
 
@@ -23,22 +23,38 @@ std::arch::global_asm!(
     options(att_syntax)
 );
 
+/// How often memory was asked for so far.
+fn asked() -> u64 {
+    LITRS_BENCH_ALLOCATIONS.load(Ordering::Relaxed)
+}
+
+/// Stops where a parse over `&str` does not make just the allocations that it has to: one where the text is a
+/// C string, or a quoted string or byte string with a backslash, and none where it is another literal or refused.
+fn check(text: &str) {
+    let before = asked();
+    let refused = answer(ours::parse, text) & REFUSED != 0;
+    let made = asked() - before;
+    let is_quoted = text.starts_with('"') || text.starts_with("b\"");
+    let has_value = text.starts_with('c') || is_quoted && text.contains('\\');
+    assert_eq!(made, u64::from(has_value && !refused), "allocations of {text:?}");
+}
+
 /// How many allocations a text the call makes of these texts, all together.
 fn count(call: Call, texts: &[&str]) -> f64 {
-    let before = LITRS_BENCH_ALLOCATIONS.load(Ordering::Relaxed);
+    let before = asked();
     let mut sum = 0u64;
     for text in texts {
         sum = sum.wrapping_add(answer(call, text));
     }
     black_box(sum);
-    let after = LITRS_BENCH_ALLOCATIONS.load(Ordering::Relaxed);
-    (after - before) as f64 / texts.len() as f64
+    (asked() - before) as f64 / texts.len() as f64
 }
 
-/// Prints of each shape that allocates how often, over `&str`.
+/// Checks the allocations of each text, and prints of each shape that has any how often, over `&str`.
 pub fn main(rows: &[(&str, &str, &[&str])]) {
     println!("Allocations a text of `parse`, of the shapes that have any; of {} shapes.", SHAPES.len());
     for (kind, name, texts) in rows {
+        texts.iter().for_each(|text| check(text));
         let ours = count(ours::parse, texts);
         #[cfg(upstream)]
         let upstream = count(crate::upstream::parse, texts);
