@@ -39,7 +39,7 @@ impl BoolLit {
         }
     }
 
-    /// The bool that the bytes are, if they are one.
+    /// The bool that the bytes are, if they are one: `BoolLit::True` of `true`, None of `True`.
     #[inline(always)]
     pub fn from_bytes(bytes: &[u8]) -> Option<BoolLit>
         ensures some { IfSome result (λ lit. bytes.now ≡ bool_text (bool_value lit)) }
@@ -77,8 +77,8 @@ impl BoolLit {
     }
 }
 
-/// Whether the bytes are this word of four or five bytes. No branch tells the two lengths apart, as
-/// either may come.
+/// Whether the bytes are this word of four or five bytes. It is the equality of slices, without a
+/// call, and without a branch on which of the two lengths the word has.
 #[inline(always)]
 fn is_word(bytes: &[u8], word: &[u8]) -> bool
     requires least { 4 ≤ length word.now }

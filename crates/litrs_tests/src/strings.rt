@@ -26,7 +26,7 @@ fn strings(rt: HostRuntime) -> Result<(), Fail> {
                     "{text}: {value:?}"
                 );
             }
-            Err(e) => assert_eq!(rt; e.kind(), ParseErrorKind::OutOfMemory, "of {text}"),
+            Err(e) => assert!(rt; false, "{text}: {e}"),
         }
     }
     Ok(())
@@ -43,7 +43,7 @@ fn bytes(rt: HostRuntime) -> Result<(), Fail> {
             }
             assert_eq!(rt; start_suffix, 13);
         }
-        Err(e) => assert_eq!(rt; e.kind(), ParseErrorKind::OutOfMemory),
+        Err(e) => assert!(rt; false, "{e}"),
     }
     Ok(())
 }
