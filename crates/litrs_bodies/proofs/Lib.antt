@@ -4,5 +4,6 @@ pub mod QuotedScan
 pub mod QuotedBytes
 pub mod QuotedCuts
 pub mod QuotedValues
+pub mod ShortValues
 pub mod CharRuns
 pub mod RawBytes

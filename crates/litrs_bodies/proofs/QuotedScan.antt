@@ -22,12 +22,6 @@ pub record ReadsSome (w : Switches) (front t rest : List ℕ) (at : ℕ) (value 
   pub place : at ≡ byte_len (front ++ body_text items)
   pub is_value : value ≡ body_value items
 
--- The same where only the length of the value is known.
-pub record ReadsSize (w : Switches) (front t rest : List ℕ) (at value_len : ℕ) : Type 0 where
-  pub value : List ℕ
-  pub reads : ReadsSome w front t rest at value
-  pub size : value_len ≡ length value
-
 reads_none : (w : Switches) (front t rest : List ℕ) → front ++ rest ≡ t → ReadsSome w front t rest (byte_len front) []
 reads_none w front t rest spells = record {
   items = [];
@@ -138,30 +132,6 @@ reads_item w front t bytes rest behind value at len end v item is behind_is on r
     (ap chars (sym is) ∙ (item.split ∙ ap (λ l. item_text item.item ++ l) tail))
     (append-nil (item_text item.item)) (ap (λ n. at + n) item.size ∙ on) (append-nil (item_value item.item) ∙ item.is_value) stand
 
--- the same with the sizes of values alone
-pub sizes_start : (w : Switches) (bytes : List ℕ) (n : ℕ) → IsUtf8 bytes → IsCharBoundary bytes n →
-    ReadsSize w (chars (take n bytes)) (chars bytes) (chars (drop n bytes)) n 0
-sizes_start w bytes n u at = record { value = []; reads = reads_start w bytes n u at; size = refl }
-
-pub sizes_run : (w : Switches) (front t bytes : List ℕ) (at end value_len sum : ℕ) → IsPlainRun w bytes at end → value_len + (end - at) ≡ sum →
-    ReadsSize w front t (chars (drop at bytes)) at value_len → ReadsSize w front t (chars (drop end bytes)) end sum
-sizes_run w front t bytes at end value_len sum run is read =
-    let size = run.size in let before = read.size in record {
-      value = read.value ++ encode_utf8_all run.run;
-      reads = reads_run w front t bytes read.value at end run read.reads;
-      size = omega (arith, length-append read.value (encode_utf8_all run.run));
-    }
-
-pub sizes_item : (w : Switches) (front t bytes rest behind : List ℕ) (at len end value_len more sum : ℕ) (v : Option Unescape) → IsItemAt w rest len v → rest ≡ drop at bytes →
-    drop len rest ≡ behind → at + len ≡ end → more ≡ length (item_bytes v) → value_len + more ≡ sum →
-    ReadsSize w front t (chars (drop at bytes)) at value_len → ReadsSize w front t (chars behind) end sum
-sizes_item w front t bytes rest behind at len end value_len more sum v item is behind_is on size total read =
-    let before = read.size in record {
-      value = read.value ++ item_bytes v;
-      reads = reads_item w front t bytes rest behind read.value at len end v item is behind_is on read.reads;
-      size = omega (arith, length-append read.value (item_bytes v));
-    }
-
 -- a boundary of what follows a place
 pub boundary_later : (bytes rest : List ℕ) (n m : ℕ) → IsUtf8 bytes → IsCharBoundary bytes n → rest ≡ drop n bytes → IsCharBoundary rest m → IsCharBoundary bytes (n + m)
 boundary_later bytes rest n m u start is at =
@@ -171,16 +141,16 @@ boundary_later bytes rest n m u start is at =
     IsCharBoundary-from_drop bytes (n + m) (omega (arith, behind.0, start.0, length-drop n bytes)) text
 
 -- behind a last run stands what ends the items
-pub items_end : (w : Switches) (bytes rest : List ℕ) (offset at place value_len : ℕ) → IsPlainRun w bytes at place →
-    ReadsSize w (chars (take offset bytes)) (chars bytes) (chars (drop at bytes)) at value_len → rest ≡ drop place bytes → EndsItems w (chars rest) →
+pub items_end : (w : Switches) (bytes rest value : List ℕ) (offset at place value_len : ℕ) → IsPlainRun w bytes at place →
+    ReadsSome w (chars (take offset bytes)) (chars bytes) (chars (drop at bytes)) at value → value_len ≡ length value → rest ≡ drop place bytes → EndsItems w (chars rest) →
     IsItemsEnd w bytes offset (record { place = place; value_len = value_len + (place - at) })
-items_end w bytes rest offset at place value_len run before is ends =
-    let read = sizes_run w (chars (take offset bytes)) (chars bytes) bytes at place value_len (value_len + (place - at)) run refl before in record {
-      items = read.reads.items;
-      spells = read.reads.spells;
-      taken = read.reads.taken;
-      place = read.reads.place;
-      value_len = read.size ∙ ap length read.reads.is_value;
+items_end w bytes rest value offset at place value_len run before is_len is ends =
+    let read = reads_run w (chars (take offset bytes)) (chars bytes) bytes value at place run before in let size = run.size in record {
+      items = read.items;
+      spells = read.spells;
+      taken = read.taken;
+      place = read.place;
+      value_len = omega (arith, length-append value (encode_utf8_all run.run)) ∙ ap length read.is_value;
       boundary = run.boundary;
       stops = run.stops;
       ends = subst (λ (l : List ℕ). EndsItems w (chars l)) is ends;
@@ -191,4 +161,5 @@ pub plain_items_end : (w : Switches) (bytes rest : List ℕ) (offset place : ℕ
     rest ≡ drop place bytes → EndsItems w (chars rest) → IsItemsEnd w bytes offset (record { place = place; value_len = place - offset })
 plain_items_end w bytes rest offset place u at run is ends =
     let none : 0 + (place - offset) ≡ place - offset = omega arith in
-    subst (λ (n : ℕ). IsItemsEnd w bytes offset (record { place = place; value_len = n })) none (items_end w bytes rest offset offset place 0 run (sizes_start w bytes offset u at) is ends)
+    subst (λ (n : ℕ). IsItemsEnd w bytes offset (record { place = place; value_len = n })) none
+    (items_end w bytes rest [] offset offset place 0 run (reads_start w bytes offset u at) refl is ends)

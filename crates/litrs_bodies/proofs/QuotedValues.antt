@@ -24,14 +24,19 @@ pub copy_start : (w : Switches) (bytes value : List ℕ) (n : ℕ) → IsUtf8 by
 copy_start w bytes value n u at none =
     subst (λ (l : List ℕ). ReadsSome w (chars (take n bytes)) (chars bytes) (chars (drop n bytes)) n l) (sym none) (reads_start w bytes n u at)
 
+-- the bytes of a run of plain characters
+pub run_bytes : (w : Switches) (bytes pushed : List ℕ) (at end : ℕ) → IsUtf8 bytes → IsCharBoundary bytes at → (run : IsPlainRun w bytes at end) →
+    pushed ≡ take (end - at) (drop at bytes) → encode_utf8_all run.run ≡ pushed
+run_bytes w bytes pushed at end u start run is =
+    let slice = slice_of bytes run.run (chars (drop end bytes)) at u start run.split in
+    let size = run.size in
+    sym slice.is_bytes ∙ (ap (λ n. take n (drop at bytes)) (let e : byte_len run.run ≡ end - at = omega arith in e) ∙ sym is)
+
 pub copy_run : (w : Switches) (front t bytes value pushed new : List ℕ) (at end : ℕ) → IsUtf8 bytes → IsCharBoundary bytes at → IsPlainRun w bytes at end →
     pushed ≡ take (end - at) (drop at bytes) → new ≡ value ++ pushed → ReadsSome w front t (chars (drop at bytes)) at value → ReadsSome w front t (chars (drop end bytes)) end new
 copy_run w front t bytes value pushed new at end u start run is grown read =
-    let slice = slice_of bytes run.run (chars (drop end bytes)) at u start run.split in
-    let size = run.size in
-    let same : encode_utf8_all run.run ≡ pushed =
-    sym slice.is_bytes ∙ (ap (λ n. take n (drop at bytes)) (let e : byte_len run.run ≡ end - at = omega arith in e) ∙ sym is) in
-    subst (λ (l : List ℕ). ReadsSome w front t (chars (drop end bytes)) end l) (ap (λ l. value ++ l) same ∙ sym grown) (reads_run w front t bytes value at end run read)
+    subst (λ (l : List ℕ). ReadsSome w front t (chars (drop end bytes)) end l) (ap (λ l. value ++ l) (run_bytes w bytes pushed at end u start run is) ∙ sym grown)
+    (reads_run w front t bytes value at end run read)
 
 pub copy_item : (w : Switches) (front t bytes rest behind value new : List ℕ) (at len end : ℕ) (v : Option Unescape) → IsItemAt w rest len v → rest ≡ drop at bytes →
     drop len rest ≡ behind → at + len ≡ end → new ≡ value ++ item_bytes v → ReadsSome w front t (chars (drop at bytes)) at value → ReadsSome w front t (chars behind) end new

@@ -2,6 +2,7 @@
 pub mod Container
 -- quoted bodies
 pub mod QuotedItems
+pub mod ShortValue
 pub mod QuotedCut
 -- raw bodies
 pub mod RawCut

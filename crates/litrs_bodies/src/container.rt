@@ -1,5 +1,6 @@
 //! What unescaped values are put into.
-ghost use Rattle.std.specs.Prelude.{◌≡◌, ◌+◌, ◌≤◌, ℕ, Bool, true, false, List, [], ◌++◌, length, string_bytes, string_capacity, vec_capacity, IsTrue, IsOk, IfOk, OnOk, OnErr};
+ghost use Rattle.std.specs.Prelude.{◌≡◌, ◌+◌, ◌≤◌, ℕ, Bool, true, false, List, [], ◌++◌, length, string_bytes, string_capacity, vec_capacity, IsTrue, IsFalse, IsOk, IfOk, OnOk, OnErr};
+ghost use Rattle.std.specs.Str.{IsUtf8};
 ghost use Rattle.litrs_grammar.specs.Escape.{value_bytes};
 ghost use Rattle.litrs_bodies.specs.Container.{is_pushable};
 
@@ -53,6 +54,19 @@ pub trait EscapeContainer: Drop {
         ensures succeeds { length (contents self.old) + length text.now
             ≤ capacity self.old → IsOk result };
 
+    /// Adds bytes, which are UTF-8 where it takes no others.
+    ///
+    /// # Errors
+    ///
+    /// `AllocError` where there is no memory for them.
+    fn push_bytes(&mut self, bytes: &[u8]) -> Result<(), AllocError>
+        requires { IsFalse TAKES_BYTES → IsUtf8 bytes.now }
+        ensures ok { IfOk result (λ _. contents self.new ≡ contents self.old ++ bytes.now) }
+        ensures err { OnErr result (contents self.new ≡ contents self.old) }
+        ensures kept { capacity self.old ≤ capacity self.new }
+        ensures succeeds { length (contents self.old) + length bytes.now
+            ≤ capacity self.old → IsOk result };
+
     /// Makes room for this many more bytes.
     ///
     /// # Errors
@@ -90,6 +104,10 @@ impl EscapeContainer for String {
         String::push_str(self, text)
     }
 
+    fn push_bytes(&mut self, bytes: &[u8]) -> Result<(), AllocError> {
+        String::push_str(self, unsafe { str::from_utf8_unchecked(bytes) })
+    }
+
     fn reserve(&mut self, additional: usize) -> Result<(), AllocError> {
         String::reserve(self, additional)
     }
@@ -124,6 +142,10 @@ impl EscapeContainer for Vec<u8> {
 
     fn push_str(&mut self, text: &str) -> Result<(), AllocError> {
         self.extend_from_slice(text.as_bytes())
+    }
+
+    fn push_bytes(&mut self, bytes: &[u8]) -> Result<(), AllocError> {
+        self.extend_from_slice(bytes)
     }
 
     fn reserve(&mut self, additional: usize) -> Result<(), AllocError> {

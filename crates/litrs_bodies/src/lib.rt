@@ -9,4 +9,5 @@ pub use string::unescape_string;
 pub mod container;
 pub mod quoted;
 pub mod raw;
+mod short_value;
 pub mod string;

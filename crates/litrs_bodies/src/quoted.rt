@@ -1,15 +1,16 @@
 //! Where a quoted string, byte string or C string is cut.
-ghost use Rattle.std.specs.Prelude.{◌≡◌, ◌≤◌, ◌==◌, true, false, length, IfOk, IfErr, IfSome, IfNone, Some, None, IsTrue, IsFalse};
+ghost use Rattle.std.specs.Prelude.{not, ◌-◌, [], take, ◌≡◌, ◌≤◌, ◌==◌, true, false, length, IfOk, IfErr, IfSome, IfNone, Some, None, IsTrue, IsFalse};
 ghost use Rattle.std.specs.List.{prefix_len};
 ghost use Rattle.std.specs.Str.{chars, IsCharBoundary};
 ghost use Rattle.litrs_base.specs.Characters.{line_feed, is_blank};
 ghost use Rattle.litrs_base.specs.Refusal.{refusal_of, HasCharSpan};
 ghost use Rattle.litrs_base.specs.Text.{first_passes};
-ghost use Rattle.litrs_grammar.specs.Quoted.{is_plain, without_last, rest_refusal};
+ghost use Rattle.litrs_grammar.specs.Quoted.{QuotedParts, IsQuoted, body_value, is_plain, without_last, rest_refusal};
 ghost use Rattle.litrs_bodies.specs.QuotedCut.{IsQuotedCut, IsQuotedRefused};
 ghost use Rattle.litrs_bodies.specs.QuotedItems.{IsPlainRun, IsItemAt, IsItemsEnd, EndsItems, item_bytes};
 ghost use Rattle.litrs_lex.specs.Unescaped.{switches};
 
+use crate::short_value::ShortValue;
 use litrs_base::{ParseError, ParseErrorKind, Unescape};
 use litrs_lex::{check_suffix, unescape};
 use litrs_search::{Special, next_special};
@@ -59,6 +60,28 @@ pub fn cut_quoted(
         (IsQuotedRefused (switches unicode byte_escapes allow_nul) input.now offset) }
 {
     let end = items_end(input, offset, unicode, byte_escapes, allow_nul);
+    cut_at_end(input, offset, end, unicode, byte_escapes, allow_nul)
+}
+
+/// [`cut_quoted`] where the items of the body end there.
+#[inline(always)]
+pub(crate) fn cut_at_end(
+    input: &str,
+    offset: usize,
+    end: ItemsEnd,
+    unicode: bool,
+    byte_escapes: bool,
+    allow_nul: bool,
+) -> Result<QuotedCut, ParseError>
+    requires at { IsCharBoundary input.now offset }
+    requires end { IsItemsEnd (switches unicode byte_escapes allow_nul) input.now offset end }
+    ensures ok { IfOk result
+        (IsQuotedCut (switches unicode byte_escapes allow_nul) input.now offset) }
+    ensures refused { IfErr result
+        (IsQuotedRefused (switches unicode byte_escapes allow_nul) input.now offset) }
+    ensures has_escape { IfOk result (λ cut.
+        cut.has_escape ≡ not (end.value_len == end.place - offset)) }
+{
     match end_refusal(&input[end.place..], unicode, byte_escapes, allow_nul) {
         // A value is shorter than its body where the body has a backslash.
         None => Ok(QuotedCut {
@@ -101,14 +124,23 @@ pub fn items_end(
             value_len: place - offset,
         }
     } else {
-        more_items_end(input, offset, place, unicode, byte_escapes, allow_nul)
+        let mut value = ShortValue::unused();
+        more_items_end(
+            input,
+            offset,
+            place,
+            unicode,
+            byte_escapes,
+            allow_nul,
+            &mut value,
+        )
     }
 }
 
 /// [`plain_end`] in one piece for each kind of literal, so that callers stay small and the search
 /// has no switch to test.
 #[inline(always)]
-fn first_plain_end(
+pub(crate) fn first_plain_end(
     input: &str,
     from: usize,
     unicode: bool,
@@ -156,7 +188,7 @@ fn c_plain_end(input: &str, from: usize, byte_escapes: bool) -> usize
 
 /// Whether no backslash begins a text that begins with no plain character: then no item does.
 #[inline(always)]
-fn ends_items(rest: &str, unicode: bool, byte_escapes: bool, allow_nul: bool) -> bool
+pub(crate) fn ends_items(rest: &str, unicode: bool, byte_escapes: bool, allow_nul: bool) -> bool
     requires { IsFalse
         (first_passes (is_plain (switches unicode byte_escapes allow_nul)) (chars rest.now)) }
     ensures { IsTrue result →
@@ -168,29 +200,39 @@ fn ends_items(rest: &str, unicode: bool, byte_escapes: bool, allow_nul: bool) ->
     *first != b'\\'
 }
 
-/// [`items_end`] of a body whose plain characters at its front end at `from`.
+/// [`items_end`] of a body whose plain characters at its front end at `from`. The value, empty
+/// before, takes the bytes of the items.
 #[inline(never)]
-fn more_items_end(
+pub(crate) fn more_items_end(
     input: &str,
     offset: usize,
     from: usize,
     unicode: bool,
     byte_escapes: bool,
     allow_nul: bool,
+    value: &mut ShortValue,
 ) -> ItemsEnd
     requires at { IsCharBoundary input.now offset }
     requires run { IsPlainRun (switches unicode byte_escapes allow_nul) input.now offset from }
-    ensures { IsItemsEnd (switches unicode byte_escapes allow_nul) input.now offset result }
+    requires empty { IsTrue value.old.is_whole → value.old.bytes.items ≡ [] }
+    ensures end { IsItemsEnd (switches unicode byte_escapes allow_nul) input.now offset result }
+    ensures value { IsTrue value.new.is_whole → (q : QuotedParts) →
+        IsQuoted (chars (take offset input.now)) (switches unicode byte_escapes allow_nul)
+        (chars input.now) q →
+        value.new.bytes.items ≡ body_value q.items }
 {
-    let mut at = from;
-    let mut value_len = from - offset;
+    let mut at = offset;
+    let mut place = from;
+    let mut value_len = 0;
     loop {
-        let place = plain_end(input, at, unicode, byte_escapes, allow_nul);
+        value.push_bytes(&input.as_bytes()[at..place]);
         value_len += place - at;
         match next_item(&input[place..], unicode, byte_escapes, allow_nul) {
             Some(item) => {
-                at = place + item.len;
+                value.push(item.value);
                 value_len += item.value_len();
+                at = place + item.len;
+                place = plain_end(input, at, unicode, byte_escapes, allow_nul);
             }
             None => return ItemsEnd { place, value_len },
         }

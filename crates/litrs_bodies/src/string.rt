@@ -1,14 +1,17 @@
 //! The values of quoted strings, byte strings and C strings.
-ghost use Rattle.std.specs.Prelude.{◌≡◌, ◌≤◌, ◌⊎◌, ◌||◌, ◌++◌, not, length, take, option_map, IfOk, IfErr, IfSome, IsTrue};
-ghost use Rattle.std.specs.Str.{chars, IsCharBoundary};
+ghost use Rattle.std.specs.Prelude.{◌≡◌, ◌≤◌, ◌⊎◌, ◌||◌, ◌++◌, not, length, take, option_map, IfOk, IfErr, IfSome, IsTrue, IsFalse};
+ghost use Rattle.std.specs.Str.{chars, IsUtf8, IsCharBoundary};
 ghost use Rattle.litrs_grammar.specs.Quoted.{QuotedParts, IsQuoted, body_value};
 ghost use Rattle.litrs_bodies.specs.Container.{is_pushable};
-ghost use Rattle.litrs_bodies.specs.QuotedItems.{item_bytes};
+ghost use Rattle.litrs_bodies.specs.QuotedItems.{IsPlainRun, item_bytes};
 ghost use Rattle.litrs_bodies.specs.QuotedCut.{IsQuotedRefused, IsQuotedValue, IsQuotedOutOfMemory};
 ghost use Rattle.litrs_lex.specs.Unescaped.{switches};
 
 use crate::container::EscapeContainer;
-use crate::quoted::{cut_quoted, next_item, plain_end};
+use crate::quoted::{
+    ItemsEnd, cut_at_end, ends_items, first_plain_end, more_items_end, next_item, plain_end,
+};
+use crate::short_value::ShortValue;
 use litrs_base::{ParseError, ParseErrorKind, Unescape};
 use std::alloc::{AllocError, Global};
 
@@ -45,7 +48,57 @@ pub fn unescape_string<C: EscapeContainer>(
         IsQuotedRefused (switches unicode byte_escapes allow_nul) input.now offset e
         ⊎ IsQuotedOutOfMemory (switches unicode byte_escapes allow_nul) input.now offset e) }
 {
-    let cut = cut_quoted(input, offset, unicode, byte_escapes, allow_nul)?;
+    let place = first_plain_end(input, offset, unicode, byte_escapes, allow_nul);
+    if ends_items(&input[place..], unicode, byte_escapes, allow_nul) {
+        let value_len = place - offset;
+        let end = ItemsEnd { place, value_len };
+        let plain = cut_at_end(input, offset, end, unicode, byte_escapes, allow_nul)?;
+        Ok((None, plain.start_suffix))
+    } else {
+        unescape_more(
+            alloc,
+            input,
+            offset,
+            place,
+            unicode,
+            byte_escapes,
+            allow_nul,
+        )
+    }
+}
+
+/// [`unescape_string`] of a body whose plain characters at its front end at `from`.
+#[inline(never)]
+fn unescape_more<C: EscapeContainer>(
+    alloc: Global,
+    input: &str,
+    offset: usize,
+    from: usize,
+    unicode: bool,
+    byte_escapes: bool,
+    allow_nul: bool,
+) -> Result<(Option<C>, usize), ParseError>
+    requires at { IsCharBoundary input.now offset }
+    requires run { IsPlainRun (switches unicode byte_escapes allow_nul) input.now offset from }
+    requires fits { IsTrue (not byte_escapes || C.TAKES_BYTES) }
+    ensures ok { IfOk result (λ read.
+        IsQuotedValue (switches unicode byte_escapes allow_nul) input.now offset
+        (option_map C.contents read.0) read.1) }
+    ensures refused { IfErr result (λ e.
+        IsQuotedRefused (switches unicode byte_escapes allow_nul) input.now offset e
+        ⊎ IsQuotedOutOfMemory (switches unicode byte_escapes allow_nul) input.now offset e) }
+{
+    let mut short = ShortValue::new();
+    let end = more_items_end(
+        input,
+        offset,
+        from,
+        unicode,
+        byte_escapes,
+        allow_nul,
+        &mut short,
+    );
+    let cut = cut_at_end(input, offset, end, unicode, byte_escapes, allow_nul)?;
     if !cut.has_escape {
         return Ok((None, cut.start_suffix));
     }
@@ -54,10 +107,26 @@ pub fn unescape_string<C: EscapeContainer>(
     } else {
         cut.value_len + 1
     };
-    match copy_value(alloc, input, offset, room, unicode, byte_escapes, allow_nul) {
+    let copied = if short.is_whole {
+        copy_short(alloc, &short.bytes, room)
+    } else {
+        copy_value(alloc, input, offset, room, unicode, byte_escapes, allow_nul)
+    };
+    match copied {
         Ok(value) => Ok((Some(value), cut.start_suffix)),
         Err(_) => Err(ParseError::new(None, ParseErrorKind::OutOfMemory)),
     }
+}
+
+/// A container with room for this many bytes, which has these.
+fn copy_short<C: EscapeContainer>(alloc: Global, bytes: &[u8], room: usize) -> Result<C, AllocError>
+    requires { IsFalse C.TAKES_BYTES → IsUtf8 bytes.now }
+    ensures { IfOk result (λ value. C.contents value ≡ bytes.now) }
+{
+    let mut value = C::new(alloc);
+    value.reserve(room)?;
+    value.push_bytes(bytes)?;
+    Ok(value)
 }
 
 /// The value of the quoted literal whose body begins at `offset`, in a container with room for this

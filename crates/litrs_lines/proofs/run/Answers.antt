@@ -1,4 +1,4 @@
-use Rattle.std.proofs.Common.{arith, ◌∙◌, length-take}
+use Rattle.std.proofs.Common.{arith, ◌∙◌, length-take, rules}
 use Rattle.std.proofs.KnownBytes.{Keeps-refl}
 use Rattle.litrs_lines.proofs.LinesLemmas.{runs_none, line_held, runs_more, stops_at_read, stops_in_piece, stops_at_end, ends_run, OnOk-map, OnErr-map, false_unless, ok_not_err, take_none}
 use Rattle.litrs_lines.proofs.run.Goals as goal
@@ -39,3 +39,9 @@ loop-turn-preserved g c = record {
 
 pub returns-clause-err : goal.returns-clause-err
 returns-clause-err g c = stops_at_read c.loop-turn.invariant.runs _ (Keeps-refl _)
+
+pub returns-in-Err-take_piece-clause-read : goal.returns-in-Err-take_piece-clause-read
+returns-in-Err-take_piece-clause-read g c = search rules
+
+pub returns-in-Err-take_piece-clause-write : goal.returns-in-Err-take_piece-clause-write
+returns-in-Err-take_piece-clause-write g c = search rules

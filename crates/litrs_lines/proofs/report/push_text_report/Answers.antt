@@ -1,5 +1,5 @@
 -- The report of a literal is that of its derivation, and the report of a refused text that of its refusal.
-use Rattle.std.proofs.Common.{◌++◌, inl, inr, ap, sym, ◌∙◌}
+use Rattle.std.proofs.Common.{◌++◌, inl, inr, ap, sym, ◌∙◌, rules}
 use Rattle.std.proofs.lemmas.Result.{on_ok_weaker}
 use Rattle.std.specs.Prelude.{string_bytes}
 use Rattle.litrs_base.specs.Refusal.{Refusal, refusal_of}
@@ -15,3 +15,6 @@ returns-in_default g c = elim (c.in-Err.ensures.refused) [
   | inl refused ↦ on_ok_weaker c.write.result (λ made. made ∙ ap (λ xs. string_bytes c.args.out.now ++ xs) (sym (text_report-refused _ (refusal_of c.in-Err.e) refused.table))) c.write.ensures.bytes
   | inr lack ↦ absurd (c.in_default.not-OutOfMemory (c.kind.ensures ∙ ap (λ (r : Refusal). r.kind) lack.error))
 ]
+
+pub returns-in-OutOfMemory : goal.returns-in-OutOfMemory
+returns-in-OutOfMemory g c = search rules

@@ -1,4 +1,5 @@
 -- One more byte: an underscore, or a digit.
+use Rattle.std.proofs.lemmas.Grind.{common_steps}
 use Rattle.std.proofs.Common.{◌≡◌, ◌+◌, ◌*◌, get_or, sym, ◌∙◌, arith}
 use Rattle.std.specs.Char.{digit_value}
 use Rattle.litrs_base.specs.Base.{base_value}
@@ -20,3 +21,6 @@ loop-i-preserved g c =
     let radix : c.from-radix.result ≡ base_value c.args.base = c.from-radix.ensures ∙ c.value.ensures in
     let digit : c.from.result ≡ digit_value (get_or main i 0) = c.from.ensures ∙ c.in-Some.ensures.1 in
     (λ k. c.loop-i.invariant k * radix k + digit k) ∙ sym (numeral_digit (base_value c.args.base) main i c.loop-i-test.true c.if-byte-eq95.false)
+
+pub loop-i-preserved-then-byte-eq95 : goal.loop-i-preserved-then-byte-eq95
+loop-i-preserved-then-byte-eq95 g c = grind (arith, common_steps)

@@ -1,0 +1,8 @@
+use Rattle.std.proofs.Common.{rules}
+use Rattle.litrs_scalars.proofs.byte.ByteLit.parse.Goals as goal
+
+pub returns-in_err-value-clause-refused : goal.returns-in_err-value-clause-refused
+returns-in_err-value-clause-refused g c = search rules
+
+pub invariant_of-result : goal.invariant_of-result
+invariant_of-result g c = search rules
