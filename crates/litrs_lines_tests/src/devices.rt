@@ -1,8 +1,8 @@
 //! Runs over a reader and a writer that count their calls, one of which fails once.
 use litrs_lines::{Failed, Input, Output, RunError, StdInput, StdOutput, run, run_program};
+use std::alloc::Global;
 use std::io::{self, ErrorKind, Read, Write};
-use std::process::ExitCode;
-use std::test::Fail;
+use std::process::{Abort, ExitCode};
 
 /// Two lines, which nine reads of two bytes give; the tenth is the end.
 const LINES: &[u8] = b"true\n0b1_____2\nfoo";
@@ -88,9 +88,9 @@ fn make_reader(fail_at: u64) -> Reader {
     }
 }
 
-fn make_writer(rt: &HostRuntime, fail_at: u64) -> Writer {
+fn make_writer(alloc: Global, fail_at: u64) -> Writer {
     Writer {
-        bytes: Vec::new(rt.alloc()),
+        bytes: Vec::new(alloc),
         fail_at,
         calls: 0,
         flushes: 0,
@@ -99,48 +99,58 @@ fn make_writer(rt: &HostRuntime, fail_at: u64) -> Writer {
 }
 
 /// Runs over both.
-fn run_over(rt: &HostRuntime, reader: &mut Reader, writer: &mut Writer) -> Result<(), RunError> {
+fn run_over(alloc: Global, reader: &mut Reader, writer: &mut Writer) -> Result<(), RunError> {
     let mut input = StdInput::new(reader);
     let mut output = StdOutput::new(writer);
-    run(rt.alloc(), &mut input, &mut output)
+    run(alloc, &mut input, &mut output)
 }
 
 #[test]
 fn a_run_flushes_once_at_the_end(rt: HostRuntime) {
     let mut reader = make_reader(NEVER);
-    let mut writer = make_writer(&rt, NEVER);
-    assert_eq!(rt; run_over(&rt, &mut reader, &mut writer), Ok(()));
-    assert_eq!(rt; reader.calls, READS);
-    assert_eq!(rt; writer.bytes.as_slice(), REPORTS.as_bytes());
-    assert_eq!(rt; writer.flushes, 1);
-    assert!(rt; writer.flushed);
+    let mut writer = make_writer(rt.alloc(), NEVER);
+    let result = run_over(rt.alloc(), &mut reader, &mut writer);
+    assert!(rt; result.is_ok() && reader.calls == READS);
+    assert!(rt; writer.flushes == 1 && writer.flushed);
+    assert!(rt; writer.bytes.as_slice() == REPORTS.as_bytes());
+}
+
+/// Whether the read of this number, which fails, is the last call.
+fn ends_at_read(alloc: Global, number: u64) -> bool {
+    let mut reader = make_reader(number);
+    let mut writer = make_writer(alloc, NEVER);
+    let result = run_over(alloc, &mut reader, &mut writer);
+    matches!(result, Err(RunError::Read))
+        && reader.calls == number.saturating_add(1)
+        && writer.flushes == 0
+        && REPORTS.as_bytes().starts_with(&writer.bytes)
 }
 
 #[test]
 fn a_failed_read_is_the_last_call(rt: HostRuntime) {
     for number in 0..READS {
-        let mut reader = make_reader(number);
-        let mut writer = make_writer(&rt, NEVER);
-        let result = run_over(&rt, &mut reader, &mut writer);
-        assert_eq!(rt; result, Err(RunError::Read));
-        assert_eq!(rt; reader.calls, number + 1);
-        assert_eq!(rt; writer.flushes, 0);
-        assert!(rt; REPORTS.as_bytes().starts_with(&writer.bytes));
+        assert!(rt; ends_at_read(rt.alloc(), number), "read {number}");
     }
+}
+
+/// Whether the call of this number, a write or the flush, fails as the last call.
+fn ends_at_write(alloc: Global, number: u64, flushes: u64) -> bool {
+    let mut reader = make_reader(NEVER);
+    let mut writer = make_writer(alloc, number);
+    let result = run_over(alloc, &mut reader, &mut writer);
+    matches!(result, Err(RunError::Write))
+        && writer.calls == number.saturating_add(1)
+        && writer.flushes == flushes
+        && REPORTS.as_bytes().starts_with(&writer.bytes)
 }
 
 #[test]
 fn a_failed_write_is_the_last_call(rt: HostRuntime) {
     // The writes are of eight bytes: two, nine and three of the lines; then comes the flush.
-    for number in 0..15 {
-        let mut reader = make_reader(NEVER);
-        let mut writer = make_writer(&rt, number);
-        let result = run_over(&rt, &mut reader, &mut writer);
-        assert_eq!(rt; result, Err(RunError::Write));
-        assert_eq!(rt; writer.calls, number + 1);
-        assert_eq!(rt; writer.flushes, if number == 14 { 1 } else { 0 });
-        assert!(rt; REPORTS.as_bytes().starts_with(&writer.bytes));
+    for number in 0..14 {
+        assert!(rt; ends_at_write(rt.alloc(), number, 0), "write {number}");
     }
+    assert!(rt; ends_at_write(rt.alloc(), 14, 1));
 }
 
 #[test]
@@ -148,52 +158,60 @@ fn an_input_calls_its_reader_once(rt: HostRuntime) {
     let mut reader = make_reader(1);
     let mut buffer = [7; 4];
     let mut input = StdInput::new(&mut reader);
-    assert_eq!(rt; input.read(&mut buffer), Ok(2));
-    assert_eq!(rt; buffer.as_slice(), b"tr\x07\x07".as_slice());
-    assert_eq!(rt; input.read(&mut buffer), Err(Failed));
-    assert!(rt; input.failed());
-    assert_eq!(rt; input.read(&mut buffer), Ok(2));
-    assert!(rt; input.failed());
-    assert_eq!(rt; buffer.as_slice(), b"ue\x07\x07".as_slice());
-    assert_eq!(rt; reader.calls, 3);
+    assert!(rt; matches!(input.read(&mut buffer), Ok(2)));
+    assert!(rt; buffer == *b"tr\x07\x07");
+    assert!(rt; matches!(input.read(&mut buffer), Err(Failed)) && input.failed());
+    assert!(rt; matches!(input.read(&mut buffer), Ok(2)) && input.failed());
+    assert!(rt; buffer == *b"ue\x07\x07" && reader.calls == 3);
 }
 
 #[test]
 fn an_output_calls_its_writer_once(rt: HostRuntime) {
-    let mut writer = make_writer(&rt, 1);
+    let mut writer = make_writer(rt.alloc(), 1);
     let mut output = StdOutput::new(&mut writer);
-    assert_eq!(rt; output.write(b"ab"), Ok(2));
-    assert_eq!(rt; output.write(b"cd"), Err(Failed));
-    assert!(rt; output.failed());
-    assert_eq!(rt; output.write(b"cd"), Ok(2));
-    assert_eq!(rt; output.flush(), Ok(()));
-    assert_eq!(rt; writer.calls, 4);
-    assert_eq!(rt; writer.flushes, 1);
-    assert_eq!(rt; writer.bytes.as_slice(), b"abcd".as_slice());
+    assert!(rt; matches!(output.write(b"ab"), Ok(2)));
+    assert!(rt; matches!(output.write(b"cd"), Err(Failed)) && output.failed());
+    assert!(rt; matches!(output.write(b"cd"), Ok(2)));
+    assert!(rt; output.flush().is_ok());
+    assert!(rt; writer.calls == 4 && writer.flushes == 1);
+    assert!(rt; writer.bytes.as_slice() == b"abcd".as_slice());
 }
 
 #[test]
 fn a_failed_flush_is_a_failure(rt: HostRuntime) {
-    let mut writer = make_writer(&rt, 0);
+    let mut writer = make_writer(rt.alloc(), 0);
     let mut output = StdOutput::new(&mut writer);
-    assert_eq!(rt; output.flush(), Err(Failed));
-    assert!(rt; output.failed());
-    assert_eq!(rt; writer.calls, 1);
+    assert!(rt; matches!(output.flush(), Err(Failed)) && output.failed());
+    assert!(rt; writer.calls == 1);
+}
+
+/// Checks the status and the message of a program over devices that fail at these calls.
+fn check_program(
+    rt: &impl Abort,
+    alloc: Global,
+    fails: (u64, u64),
+    status: ExitCode,
+    message: &str,
+) {
+    let mut input = StdInput::new(make_reader(fails.0));
+    let mut output = StdOutput::new(make_writer(alloc, fails.1));
+    let mut messages = Vec::new(alloc);
+    let result = run_program(alloc, &mut input, &mut output, &mut messages);
+    let holds = result == status && messages.as_slice() == message.as_bytes();
+    assert!(rt; holds, "{message}");
 }
 
 #[test]
-fn a_program_has_a_status_and_a_message(rt: HostRuntime) -> Result<(), Fail> {
-    for (read, write, status, message) in [
-        (NEVER, NEVER, ExitCode::SUCCESS, ""),
-        (3, NEVER, ExitCode::FAILURE, "litrs_lines: read failed\n"),
-        (NEVER, 3, ExitCode::FAILURE, "litrs_lines: write failed\n"),
-    ] {
-        let mut input = StdInput::new(make_reader(read));
-        let mut output = StdOutput::new(make_writer(&rt, write));
-        let mut messages = Vec::new(rt.alloc());
-        let result = run_program(rt.alloc(), &mut input, &mut output, &mut messages);
-        assert_eq!(rt; result, status);
-        assert_eq!(rt; messages.as_slice(), message.as_bytes());
-    }
-    Ok(())
+fn a_program_has_a_status_and_a_message(rt: HostRuntime) {
+    let alloc = rt.alloc();
+    let failed = ExitCode::FAILURE;
+    check_program(&rt, alloc, (NEVER, NEVER), ExitCode::SUCCESS, "");
+    check_program(&rt, alloc, (3, NEVER), failed, "litrs_lines: read failed\n");
+    check_program(
+        &rt,
+        alloc,
+        (NEVER, 3),
+        failed,
+        "litrs_lines: write failed\n",
+    );
 }

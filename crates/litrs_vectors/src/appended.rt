@@ -1,8 +1,8 @@
 //! What the parses answer where something is appended to a refused text.
 use crate::parses::{PARSES, all_texts, parse_by, refused_texts, string_value};
 use crate::tables::{Parse, literals};
+use litrs::Literal;
 use litrs::ParseErrorKind::{self, *};
-use litrs::{ByteStringLit, CStringLit, Literal, StringLit};
 use std::alloc::{AllocError, Global};
 use std::process::Abort;
 use std::test::Fail;
@@ -17,6 +17,12 @@ fn followed(alloc: Global, text: &str, end: &str) -> Result<String, AllocError> 
     Ok(longer)
 }
 
+/// Whether the parse refuses the text with this appended.
+fn is_refused(alloc: Global, parse: Parse, text: &str, end: &str) -> Result<bool, AllocError> {
+    let longer = followed(alloc, text, end)?;
+    Ok(parse_by(alloc, parse, longer.as_str()).is_err())
+}
+
 /// Checks that the parse refuses the text with anything appended.
 fn check_longer(
     rt: &impl Abort,
@@ -26,19 +32,27 @@ fn check_longer(
     text: &str,
 ) -> Result<(), AllocError> {
     for end in APPENDED {
-        let longer = followed(alloc, text, end)?;
-        let refused = parse_by(alloc, parse, longer.as_str()).is_err();
-        assert!(rt; refused, "{name} of {longer}");
+        assert!(rt;
+            is_refused(alloc, parse, text, end)?,
+            "{name} of {text}{end}"
+        );
     }
     Ok(())
+}
+
+/// Whether the parse refuses the text with a final kind.
+fn is_final(alloc: Global, parse: Parse, text: &str) -> bool {
+    match &parse_by(alloc, parse, text) {
+        Ok(_) => false,
+        Err(e) => e.is_final(),
+    }
 }
 
 /// After a final kind the same parse refuses each longer text.
 fn check_final(rt: &impl Abort, alloc: Global, text: &str) -> Result<(), AllocError> {
     for (parse, name) in PARSES {
-        match parse_by(alloc, *parse, text) {
-            Err(e) if e.is_final() => check_longer(rt, alloc, *parse, name, text)?,
-            _ => {}
+        if is_final(alloc, *parse, text) {
+            check_longer(rt, alloc, *parse, name, text)?;
         }
     }
     Ok(())
@@ -83,73 +97,60 @@ struct Closed<'a> {
     whole: Option<&'a [u8]>,
 }
 
-/// Checks a string of one of the three kinds. It has no suffix, and its body is all that stood
-/// behind the opening quote.
-fn check_parts(
-    rt: &impl Abort,
-    raw_input: &str,
-    is_raw: bool,
-    suffix: &str,
-    value: &[u8],
-    closed: &Closed,
-) {
-    let text = closed.text;
-    let is_expected_raw = closed.front.contains('r');
-    assert!(rt;
-        raw_input == text && suffix.is_empty() && is_raw == is_expected_raw,
-        "{text}"
-    );
-    if is_raw {
-        assert!(rt; value == closed.body.as_bytes(), "{text}");
+/// Whether a string of one of the three kinds has no suffix, and its body is all that stood behind
+/// the opening quote.
+fn has_parts(raw_input: &str, is_raw: bool, suffix: &str, value: &[u8], closed: &Closed) -> bool {
+    let has_value = if is_raw {
+        value == closed.body.as_bytes()
     } else {
-        check_quoted_value(rt, value, closed);
+        has_quoted_value(value, closed)
+    };
+    has_value
+        && raw_input == closed.text
+        && suffix.is_empty()
+        && is_raw == closed.front.contains('r')
+}
+
+/// Whether the value is that of a quoted string: up to a backslash it is the body.
+fn has_quoted_value(value: &[u8], closed: &Closed) -> bool {
+    let begins_like_body = match closed.body.split_once('\\') {
+        Some((plain, _)) => value.starts_with(plain.as_bytes()),
+        None => value == closed.body.as_bytes(),
+    };
+    match closed.whole {
+        Some(whole) => begins_like_body && whole.starts_with(value),
+        None => begins_like_body,
     }
 }
 
-/// Checks the value of a quoted string: up to a backslash it is the body.
-fn check_quoted_value(rt: &impl Abort, value: &[u8], closed: &Closed) {
-    let text = closed.text;
-    match closed.body.split_once('\\') {
-        Some((plain, _)) => assert!(rt; value.starts_with(plain.as_bytes()), "{text}"),
-        None => assert!(rt; value == closed.body.as_bytes(), "{text}"),
-    }
-    if let Some(whole) = closed.whole {
-        assert!(rt; whole.starts_with(value), "{text}");
-    }
-}
-
-fn check_string(rt: &impl Abort, lit: &StringLit<&str>, closed: &Closed) {
-    let (text, suffix) = (lit.raw_input(), lit.suffix());
-    let value = lit.value().as_bytes();
-    check_parts(rt, text, lit.is_raw_string(), suffix, value, closed);
-}
-
-fn check_byte_string(rt: &impl Abort, lit: &ByteStringLit<&str>, closed: &Closed) {
-    let (text, suffix) = (lit.raw_input(), lit.suffix());
-    check_parts(
-        rt,
-        text,
-        lit.is_raw_byte_string(),
-        suffix,
-        lit.value(),
-        closed,
-    );
-}
-
-fn check_c_string(rt: &impl Abort, lit: &CStringLit<&str>, closed: &Closed) {
-    let (text, suffix) = (lit.raw_input(), lit.suffix());
-    let value = lit.value().to_bytes();
-    check_parts(rt, text, lit.is_raw_c_string(), suffix, value, closed);
-}
-
-/// Checks that the parse takes the closed text.
-fn check_closed(rt: &impl Abort, alloc: Global, parse: Parse, closed: &Closed) {
-    match parse_by(alloc, parse, closed.text) {
-        Ok(Literal::String(lit)) => check_string(rt, &lit, closed),
-        Ok(Literal::ByteString(lit)) => check_byte_string(rt, &lit, closed),
-        Ok(Literal::CString(lit)) => check_c_string(rt, &lit, closed),
-        Ok(lit) => assert!(rt; false, "{lit} is no string"),
-        Err(e) => assert!(rt; false, "{} is a string, but {e}", closed.text),
+/// Whether the parse takes the closed text.
+fn is_taken(alloc: Global, parse: Parse, closed: &Closed) -> bool {
+    match &parse_by(alloc, parse, closed.text) {
+        Ok(Literal::String(lit)) => {
+            let value = lit.value().as_bytes();
+            has_parts(
+                lit.raw_input(),
+                lit.is_raw_string(),
+                lit.suffix(),
+                value,
+                closed,
+            )
+        }
+        Ok(Literal::ByteString(lit)) => {
+            let is_raw = lit.is_raw_byte_string();
+            has_parts(lit.raw_input(), is_raw, lit.suffix(), lit.value(), closed)
+        }
+        Ok(Literal::CString(lit)) => {
+            let value = lit.value().to_bytes();
+            has_parts(
+                lit.raw_input(),
+                lit.is_raw_c_string(),
+                lit.suffix(),
+                value,
+                closed,
+            )
+        }
+        _ => false,
     }
 }
 
@@ -166,6 +167,37 @@ fn closing(alloc: Global, kind: ParseErrorKind, front: &str) -> Result<String, A
     Ok(end)
 }
 
+/// The open kind with which the parse refuses the text, where it does.
+fn open_kind(alloc: Global, parse: Parse, text: &str) -> Option<ParseErrorKind> {
+    match &parse_by(alloc, parse, text) {
+        Err(e) if e.is_open() => Some(e.kind()),
+        _ => None,
+    }
+}
+
+/// Whether the parse takes the text with the closing text behind it.
+fn is_closed(
+    alloc: Global,
+    parse: Parse,
+    kind: ParseErrorKind,
+    text: &str,
+    whole: Option<&[u8]>,
+) -> Result<bool, AllocError> {
+    let Some((front, body)) = text.split_once('"') else {
+        return Ok(false);
+    };
+    let end = closing(alloc, kind, front)?;
+    let text = followed(alloc, text, end.as_str())?;
+    let text = text.as_str();
+    let closed = Closed {
+        text,
+        front,
+        body,
+        whole,
+    };
+    Ok(is_taken(alloc, parse, &closed))
+}
+
 /// After an open kind the closing text makes the text a literal, by the same parse.
 fn check_open(
     rt: &impl Abort,
@@ -174,25 +206,9 @@ fn check_open(
     whole: Option<&[u8]>,
 ) -> Result<(), AllocError> {
     for (parse, name) in PARSES {
-        match (parse_by(alloc, *parse, text), text.split_once('"')) {
-            (Err(e), Some((front, body))) if e.is_open() => {
-                let end = closing(alloc, e.kind(), front)?;
-                let text = followed(alloc, text, end.as_str())?;
-                let text = text.as_str();
-                check_closed(
-                    rt,
-                    alloc,
-                    *parse,
-                    &Closed {
-                        text,
-                        front,
-                        body,
-                        whole,
-                    },
-                );
-            }
-            (Err(e), None) => assert!(rt; !e.is_open(), "{name} of {text}"),
-            _ => {}
+        if let Some(kind) = open_kind(alloc, *parse, text) {
+            let holds = is_closed(alloc, *parse, kind, text, whole)?;
+            assert!(rt; holds, "{name} of {text}");
         }
     }
     Ok(())

@@ -1,42 +1,63 @@
 //! Every beginning of every text, by all nine parses.
 use crate::parses::{PARSES, all_texts, parse_by};
-use crate::tables::literals;
+use crate::tables::{Parse, literals};
 use litrs::ParseErrorKind::OutOfMemory;
 use litrs::{Literal, ParseError, goes_on};
 use std::alloc::Global;
 use std::process::Abort;
 use std::test::Fail;
 
-/// Checks where a refusal of the text points.
-pub(crate) fn check_place(rt: &impl Abort, name: &str, text: &str, error: &ParseError) {
+/// Whether no character of the text begins from the one place up to the other.
+fn is_within_character(text: &str, start: usize, end: usize) -> bool {
+    for place in start..end {
+        if text.is_char_boundary(place) {
+            return false;
+        }
+    }
+    true
+}
+
+/// Whether a refusal of the text has no span or two, which lie in the text.
+pub(crate) fn has_place(text: &str, error: &ParseError) -> bool {
     match (error.span(), error.char_span()) {
         (Some(span), Some(chars)) => {
-            let is_within = span.start <= span.end && span.end <= text.len();
-            let is_longer = chars.start == span.start && chars.end >= span.end;
-            assert!(rt; is_within && is_longer, "{name} of {text}");
-            let is_whole = text.is_char_boundary(span.start) && text.is_char_boundary(chars.end);
-            let ends_next = (span.end..chars.end).all(|place| !text.is_char_boundary(place));
-            assert!(rt; is_whole && ends_next, "{name} of {text}");
+            span.start <= span.end
+                && span.end <= text.len()
+                && chars.start == span.start
+                && chars.end >= span.end
+                && text.is_char_boundary(span.start)
+                && text.is_char_boundary(chars.end)
+                && is_within_character(text, span.end, chars.end)
         }
-        (None, None) => {}
-        _ => assert!(rt; false, "{name} of {text} has one span of two"),
+        (None, None) => true,
+        _ => false,
+    }
+}
+
+/// Whether this parse takes the text, or refuses it at a place in it.
+fn has_answer(alloc: Global, parse: Parse, text: &str) -> bool {
+    match &parse_by(alloc, parse, text) {
+        Ok(_) => true,
+        Err(e) => e.kind() != OutOfMemory && has_place(text, e),
+    }
+}
+
+/// Whether `goes_on` agrees with what `Literal::parse` says of the text.
+fn agrees(alloc: Global, text: &str) -> bool {
+    match &Literal::parse(alloc, text) {
+        Ok(_) => goes_on(text),
+        Err(e) if e.is_final() => !goes_on(text),
+        Err(e) if e.is_open() => goes_on(text),
+        Err(_) => true,
     }
 }
 
 /// Checks a text by all nine parses, and by `goes_on`.
 fn check_text(rt: &impl Abort, alloc: Global, text: &str) {
     for (parse, name) in PARSES {
-        if let Err(e) = parse_by(alloc, *parse, text) {
-            assert!(rt; e.kind() != OutOfMemory, "{name} of {text}");
-            check_place(rt, name, text, &e);
-        }
+        assert!(rt; has_answer(alloc, *parse, text), "{name} of {text}");
     }
-    match Literal::parse(alloc, text) {
-        Ok(_) => assert!(rt; goes_on(text), "{text} is a literal"),
-        Err(e) if e.is_final() => assert!(rt; !goes_on(text), "{text} begins no literal"),
-        Err(e) if e.is_open() => assert!(rt; goes_on(text), "{text} lacks its end"),
-        Err(_) => {}
-    }
+    assert!(rt; agrees(alloc, text), "{text}");
 }
 
 /// Spans lie in the text, begin between characters, and end there too in whole characters. After a

@@ -34,10 +34,11 @@ fn raw_value<B: Text>(lit: &Literal<B>) -> Option<&[u8]> {
 }
 
 fn check_peter<B: Text>(rt: &impl Abort, alloc: Global, parse: Parse, text: B) {
-    match parse_by(alloc, parse, text) {
-        Ok(lit) => assert_eq!(rt; raw_value(&lit), Some(b"peter".as_slice())),
-        Err(e) => assert!(rt; false, "255 hashes, but {e}"),
-    }
+    let holds = match &parse_by(alloc, parse, text) {
+        Ok(lit) => raw_value(lit) == Some(b"peter".as_slice()),
+        Err(_) => false,
+    };
+    assert!(rt; holds);
 }
 
 #[test]
@@ -61,13 +62,14 @@ fn check_too_many<B: Text>(
     text: B,
     span: &Range<usize>,
 ) {
-    match parse_by(alloc, parse, text) {
-        Ok(_) => assert!(rt; false, "256 hashes"),
+    let holds = match &parse_by(alloc, parse, text) {
+        Ok(_) => false,
         Err(e) => {
-            assert_eq!(rt; e.kind(), ParseErrorKind::TooManyHashes);
-            assert_eq!(rt; e.span(), Some(span.start..span.end));
+            let is_there = e.span().as_ref() == Some(span);
+            is_there && e.kind() == ParseErrorKind::TooManyHashes
         }
-    }
+    };
+    assert!(rt; holds);
 }
 
 #[test]

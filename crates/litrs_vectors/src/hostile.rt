@@ -1,10 +1,10 @@
 //! Hostile texts of a mebibyte, by all nine parses.
-use crate::beginnings::check_place;
+use crate::beginnings::has_place;
 use crate::parses::{PARSES, parse_by};
 use crate::tables::Parse;
 use Answer::*;
 use litrs::ParseErrorKind::{self, *};
-use litrs::{StringLit, goes_on};
+use litrs::{ParseError, StringLit, goes_on};
 use std::alloc::{AllocError, Global};
 use std::process::Abort;
 use std::test::Fail;
@@ -246,28 +246,21 @@ fn other_start(name: &str) -> Answer {
     Taken
 }
 
-/// Checks what this parse answers to the text.
-fn check_parse(
-    rt: &impl Abort,
-    alloc: Global,
-    parse: Parse,
-    name: &str,
-    text: &str,
-    expected: Answer,
-) {
-    match (parse_by(alloc, parse, text), expected) {
-        (Ok(lit), Taken) => assert!(rt; lit.raw_input() == text, "{name} keeps the text"),
-        (Ok(_), _) => assert!(rt; false, "{name} takes the text"),
-        (Err(e), Taken) => assert!(rt; false, "{name}: {e}"),
-        (Err(e), Refused(kind)) => {
-            assert_eq!(rt; e.kind(), kind, "{name}");
-            assert_eq!(rt; e.span(), None, "{name}");
-        }
-        (Err(e), At(kind, start, end)) => {
-            assert_eq!(rt; e.kind(), kind, "{name}");
-            assert_eq!(rt; e.span(), Some(start..end), "{name}");
-            check_place(rt, name, text, &e);
-        }
+/// Whether the error is a refusal of this kind at this place.
+fn is_at(error: &ParseError, kind: ParseErrorKind, start: usize, end: usize) -> bool {
+    match error.span() {
+        Some(span) => error.kind() == kind && span.start == start && span.end == end,
+        None => false,
+    }
+}
+
+/// Whether this parse answers so to the text.
+fn answers(alloc: Global, parse: Parse, text: &str, expected: Answer) -> bool {
+    match (&parse_by(alloc, parse, text), expected) {
+        (Ok(lit), Taken) => lit.raw_input() == text,
+        (Err(e), Refused(kind)) => e.kind() == kind && e.span().is_none(),
+        (Err(e), At(kind, start, end)) => is_at(e, kind, start, end) && has_place(text, e),
+        _ => false,
     }
 }
 
@@ -277,7 +270,8 @@ fn no_literals(rt: HostRuntime) -> Result<(), Fail> {
     for part in NO_LITERALS {
         let text = long_text(alloc, &["", part, ""])?;
         for (parse, name) in PARSES {
-            check_parse(&rt, alloc, *parse, name, text.as_str(), other_start(name));
+            let holds = answers(alloc, *parse, text.as_str(), other_start(name));
+            assert!(rt; holds, "{name} of many {part}");
         }
         assert!(rt; !goes_on(text.as_str()), "many {part}");
     }
@@ -296,14 +290,16 @@ fn number_answer(answers: [Answer; 3], name: &str) -> Answer {
 }
 
 fn check_number(rt: &impl Abort, alloc: Global, row: &Number) -> Result<(), AllocError> {
-    let (shape, answers, begins) = *row;
+    let (shape, expected, begins) = *row;
+    let [front, part, _] = shape;
     let text = long_text(alloc, &shape)?;
     for (parse, name) in PARSES {
-        let expected = number_answer(answers, name);
-        check_parse(rt, alloc, *parse, name, text.as_str(), expected);
+        let expected = number_answer(expected, name);
+        let holds = answers(alloc, *parse, text.as_str(), expected);
+        assert!(rt; holds, "{name} of {front} and many {part}");
     }
-    let [front, part, _] = shape;
-    assert_eq!(rt; goes_on(text.as_str()), begins, "{front} and many {part}");
+    let holds = goes_on(text.as_str()) == begins;
+    assert!(rt; holds, "{front} and many {part}");
     Ok(())
 }
 
@@ -318,6 +314,7 @@ fn numbers(rt: HostRuntime) -> Result<(), Fail> {
 /// Checks a text that is read as a literal of the kind `own`.
 fn check_quoted(rt: &impl Abort, alloc: Global, own: &str, row: &Quoted) -> Result<(), AllocError> {
     let (shape, answer, begins) = *row;
+    let [front, part, _] = shape;
     let text = long_text(alloc, &shape)?;
     for (parse, name) in PARSES {
         let expected = if *name == "Literal" || *name == own {
@@ -325,75 +322,64 @@ fn check_quoted(rt: &impl Abort, alloc: Global, own: &str, row: &Quoted) -> Resu
         } else {
             other_start(name)
         };
-        check_parse(rt, alloc, *parse, name, text.as_str(), expected);
+        let holds = answers(alloc, *parse, text.as_str(), expected);
+        assert!(rt; holds, "{name} of {front} and many {part}");
     }
-    let [front, part, _] = shape;
-    assert_eq!(rt; goes_on(text.as_str()), begins, "{front} and many {part}");
+    let holds = goes_on(text.as_str()) == begins;
+    assert!(rt; holds, "{front} and many {part}");
     Ok(())
 }
 
-#[test]
-fn chars(rt: HostRuntime) -> Result<(), Fail> {
-    for row in CHARS {
-        check_quoted(&rt, rt.alloc(), "CharLit", row)?;
-    }
-    Ok(())
-}
-
-#[test]
-fn bytes(rt: HostRuntime) -> Result<(), Fail> {
-    for row in BYTES {
-        check_quoted(&rt, rt.alloc(), "ByteLit", row)?;
-    }
-    Ok(())
-}
-
-#[test]
-fn strings(rt: HostRuntime) -> Result<(), Fail> {
-    for row in STRINGS {
-        check_quoted(&rt, rt.alloc(), "StringLit", row)?;
+fn check_rows(
+    rt: &impl Abort,
+    alloc: Global,
+    own: &str,
+    rows: &[Quoted],
+) -> Result<(), AllocError> {
+    for row in rows {
+        check_quoted(rt, alloc, own, row)?;
     }
     Ok(())
 }
 
 #[test]
-fn escapes(rt: HostRuntime) -> Result<(), Fail> {
-    for row in ESCAPES {
-        check_quoted(&rt, rt.alloc(), "StringLit", row)?;
-    }
-    Ok(())
+fn chars(rt: HostRuntime) -> Result<(), AllocError> {
+    check_rows(&rt, rt.alloc(), "CharLit", CHARS)
 }
 
 #[test]
-fn foxes(rt: HostRuntime) -> Result<(), Fail> {
-    for row in FOXES {
-        check_quoted(&rt, rt.alloc(), "StringLit", row)?;
-    }
-    Ok(())
+fn bytes(rt: HostRuntime) -> Result<(), AllocError> {
+    check_rows(&rt, rt.alloc(), "ByteLit", BYTES)
 }
 
 #[test]
-fn raw_strings(rt: HostRuntime) -> Result<(), Fail> {
-    for row in RAW_STRINGS {
-        check_quoted(&rt, rt.alloc(), "StringLit", row)?;
-    }
-    Ok(())
+fn strings(rt: HostRuntime) -> Result<(), AllocError> {
+    check_rows(&rt, rt.alloc(), "StringLit", STRINGS)
 }
 
 #[test]
-fn byte_strings(rt: HostRuntime) -> Result<(), Fail> {
-    for row in BYTE_STRINGS {
-        check_quoted(&rt, rt.alloc(), "ByteStringLit", row)?;
-    }
-    Ok(())
+fn escapes(rt: HostRuntime) -> Result<(), AllocError> {
+    check_rows(&rt, rt.alloc(), "StringLit", ESCAPES)
 }
 
 #[test]
-fn c_strings(rt: HostRuntime) -> Result<(), Fail> {
-    for row in C_STRINGS {
-        check_quoted(&rt, rt.alloc(), "CStringLit", row)?;
-    }
-    Ok(())
+fn foxes(rt: HostRuntime) -> Result<(), AllocError> {
+    check_rows(&rt, rt.alloc(), "StringLit", FOXES)
+}
+
+#[test]
+fn raw_strings(rt: HostRuntime) -> Result<(), AllocError> {
+    check_rows(&rt, rt.alloc(), "StringLit", RAW_STRINGS)
+}
+
+#[test]
+fn byte_strings(rt: HostRuntime) -> Result<(), AllocError> {
+    check_rows(&rt, rt.alloc(), "ByteStringLit", BYTE_STRINGS)
+}
+
+#[test]
+fn c_strings(rt: HostRuntime) -> Result<(), AllocError> {
+    check_rows(&rt, rt.alloc(), "CStringLit", C_STRINGS)
 }
 
 /// The text, and so many hashes behind it.
@@ -403,6 +389,14 @@ fn with_hashes(alloc: Global, text: &str, count: usize) -> Result<String, AllocE
         longer.push('#')?;
     }
     Ok(longer)
+}
+
+/// Whether the text is a string of this value.
+fn is_string(alloc: Global, text: &str, value: &str) -> bool {
+    match &StringLit::parse(alloc, text) {
+        Ok(lit) => lit.value() == value,
+        Err(_) => false,
+    }
 }
 
 /// 255 hashes, and a body that holds a quote with one hash less.
@@ -417,17 +411,14 @@ fn hashes_that_close(rt: HostRuntime) -> Result<(), Fail> {
             "Literal" | "StringLit" => Refused(UnterminatedRawString),
             _ => other_start(name),
         };
-        check_parse(&rt, alloc, *parse, name, text.as_str(), expected);
+        assert!(rt; answers(alloc, *parse, text.as_str(), expected), "{name}");
     }
     assert!(rt; goes_on(text.as_str()));
     let closed = with_hashes(alloc, text.as_str(), 1)?;
-    let lit = StringLit::parse(alloc, closed.as_str()).map_err(|_| "255 hashes")?;
-    assert_eq!(rt; lit.value(), "a");
+    assert!(rt; is_string(alloc, closed.as_str(), "a"));
     text.push('"')?;
     let closed = with_hashes(alloc, text.as_str(), 255)?;
-    let lit = StringLit::parse(alloc, closed.as_str()).map_err(|_| "the closing text")?;
     let value = with_hashes(alloc, "a\"", 254)?;
-    assert_eq!(rt; value.len(), 256);
-    assert_eq!(rt; lit.value(), value.as_str());
+    assert!(rt; value.len() == 256 && is_string(alloc, closed.as_str(), value.as_str()));
     Ok(())
 }

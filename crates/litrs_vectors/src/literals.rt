@@ -1,99 +1,68 @@
 //! Literals over both buffers, by each accessor.
 use crate::parses::{parse_by, parse_of};
-use crate::tables::{Body, Parse, Parts, Row, literals};
-use litrs::{Buffer, FloatLit, IntegerBase, IntegerLit, Literal, Text};
-use std::alloc::Global;
+use crate::tables::{Body, Parts, Row, literals};
+use litrs::{Buffer, FloatLit, Literal, Text};
+use std::alloc::{AllocError, Global};
 use std::borrow::{CowSlice, CowStr};
 use std::process::Abort;
-use std::test::Fail;
 
-fn check_integer<B: Text>(
-    rt: &impl Abort,
-    lit: &IntegerLit<B>,
-    base: IntegerBase,
-    main: &str,
-    value: Option<u128>,
-) {
-    assert!(rt; lit.base() == base && lit.raw_main_part() == main, "{lit}");
-    assert!(rt; lit.value::<u128>() == value, "{lit}");
+fn is_float<B: Text>(lit: &FloatLit<B>, expected: (&str, &str, Option<&str>, &str)) -> bool {
+    let (number, integer, fraction, exponent) = expected;
+    lit.number_part() == number
+        && lit.integer_part() == integer
+        && lit.fractional_part() == fraction
+        && lit.exponent_part() == exponent
 }
 
-fn check_float<B: Text>(
-    rt: &impl Abort,
-    lit: &FloatLit<B>,
-    number: &str,
-    integer: &str,
-    fraction: Option<&str>,
-    exponent: &str,
-) {
-    assert!(rt;
-        lit.number_part() == number && lit.integer_part() == integer,
-        "{lit}"
-    );
-    assert!(rt;
-        lit.fractional_part() == fraction && lit.exponent_part() == exponent,
-        "{lit}"
-    );
-}
-
-/// Checks what a string of one of the three kinds answers.
-fn check_string(rt: &impl Abort, text: &str, found: (bool, &[u8]), body: Body, value: &[u8]) {
-    assert!(rt; found == (body == Body::Raw, value), "{text}");
-}
-
-/// Checks the value of a C string with its closing zero.
-fn check_closed(rt: &impl Abort, closed: &[u8], value: &[u8]) {
-    assert_eq!(rt; closed.split_last(), Some((&0, value)));
-}
-
-/// Checks that a literal is of the wanted kind, and what each accessor of the kind answers.
-fn check_parts<B: Text>(rt: &impl Abort, lit: &Literal<B>, parts: &Parts) {
-    match (lit, parts) {
-        (Literal::Bool(lit), Parts::Bool(value)) => assert_eq!(rt; lit.value(), *value),
-        (Literal::Integer(lit), Parts::Integer(base, main, value)) => {
-            check_integer(rt, lit, *base, main, *value);
-        }
-        (Literal::Float(lit), Parts::Float(number, integer, fraction, exponent)) => {
-            check_float(rt, lit, number, integer, *fraction, exponent);
-        }
-        (Literal::Char(lit), Parts::Char(value)) => assert_eq!(rt; lit.value(), *value),
-        (Literal::Byte(lit), Parts::Byte(value)) => assert_eq!(rt; lit.value(), *value),
-        (Literal::String(lit), Parts::String(body, value)) => {
-            let found = (lit.is_raw_string(), lit.value().as_bytes());
-            check_string(rt, lit.raw_input(), found, *body, value);
-        }
-        (Literal::ByteString(lit), Parts::ByteString(body, value)) => {
-            let found = (lit.is_raw_byte_string(), lit.value());
-            check_string(rt, lit.raw_input(), found, *body, value);
-        }
-        (Literal::CString(lit), Parts::CString(body, value)) => {
-            let found = (lit.is_raw_c_string(), lit.value().to_bytes());
-            check_string(rt, lit.raw_input(), found, *body, value);
-            check_closed(rt, lit.value().as_bytes_with_nul(), value);
-        }
-        _ => assert!(rt; false, "{lit} is of another kind"),
+/// Whether the value of a C string with its closing zero is this and a zero.
+fn is_closed(closed: &[u8], value: &[u8]) -> bool {
+    match closed.split_last() {
+        Some((last, rest)) => *last == 0 && rest == value,
+        None => false,
     }
 }
 
-/// Checks a literal by each accessor, and what is printed of it.
-fn check_literal<B: Text>(
-    rt: &impl Abort,
-    alloc: Global,
-    lit: &Literal<B>,
-    row: &Row,
-) -> Result<(), Fail> {
-    let (text, suffix, parts) = row;
-    assert_eq!(rt; lit.raw_input(), *text);
-    assert_eq!(rt; lit.suffix(), *suffix, "of {text}");
-    assert_eq!(rt; lit.to_string(alloc)?.as_str(), *text);
-    check_parts(rt, lit, parts);
-    Ok(())
+/// Whether a literal is of the wanted kind, and what each accessor of the kind answers.
+fn has_parts<B: Text>(lit: &Literal<B>, parts: &Parts) -> bool {
+    match (lit, parts) {
+        (Literal::Bool(lit), Parts::Bool(value)) => lit.value() == *value,
+        (Literal::Integer(lit), Parts::Integer(base, main, value)) => {
+            lit.base() == *base && lit.raw_main_part() == *main && lit.value::<u128>() == *value
+        }
+        (Literal::Float(lit), Parts::Float(number, integer, fraction, exponent)) => {
+            is_float(lit, (number, integer, *fraction, exponent))
+        }
+        (Literal::Char(lit), Parts::Char(value)) => lit.value() == *value,
+        (Literal::Byte(lit), Parts::Byte(value)) => lit.value() == *value,
+        (Literal::String(lit), Parts::String(body, value)) => {
+            lit.is_raw_string() == (*body == Body::Raw) && lit.value().as_bytes() == *value
+        }
+        (Literal::ByteString(lit), Parts::ByteString(body, value)) => {
+            lit.is_raw_byte_string() == (*body == Body::Raw) && lit.value() == *value
+        }
+        (Literal::CString(lit), Parts::CString(body, value)) => {
+            lit.is_raw_c_string() == (*body == Body::Raw)
+                && lit.value().to_bytes() == *value
+                && is_closed(lit.value().as_bytes_with_nul(), value)
+        }
+        _ => false,
+    }
 }
 
-/// Checks the buffer that a literal gives back.
-fn check_buffer<B: Text>(rt: &impl Abort, lit: Literal<B>, text: &str) {
+/// Whether a literal is that of the row by each accessor, and by what is printed of it.
+fn is_literal<B: Text>(alloc: Global, lit: &Literal<B>, row: &Row) -> bool {
+    let (text, suffix, parts) = row;
+    let is_printed = match lit.to_string(alloc) {
+        Ok(printed) => printed.as_str() == *text,
+        Err(_) => false,
+    };
+    is_printed && lit.raw_input() == *text && lit.suffix() == *suffix && has_parts(lit, parts)
+}
+
+/// Whether a literal gives this buffer back. A bool has none.
+fn has_buffer<B: Text>(lit: Literal<B>, text: &str) -> bool {
     let buffer = match lit {
-        Literal::Bool(_) => return,
+        Literal::Bool(_) => return true,
         Literal::Integer(lit) => lit.into_raw_input(),
         Literal::Float(lit) => lit.into_raw_input(),
         Literal::Char(lit) => lit.into_raw_input(),
@@ -102,106 +71,109 @@ fn check_buffer<B: Text>(rt: &impl Abort, lit: Literal<B>, text: &str) {
         Literal::ByteString(lit) => lit.into_raw_input(),
         Literal::CString(lit) => lit.into_raw_input(),
     };
-    assert_eq!(rt; buffer.as_str(), text);
+    buffer.as_str() == text
 }
 
-/// Checks the value that is taken out of a string of one of the three kinds.
-fn check_into_value<B: Buffer>(rt: &impl Abort, lit: Literal<B>, parts: &Parts) {
+/// Whether this value is taken out of a string of one of the three kinds.
+fn has_value<B: Buffer>(lit: Literal<B>, parts: &Parts) -> bool {
     match (lit, parts) {
         (Literal::String(lit), Parts::String(_, value)) => {
-            assert_eq!(rt; B::cow_text(&lit.into_value()).as_bytes(), *value);
+            B::cow_text(&lit.into_value()).as_bytes() == *value
         }
         (Literal::ByteString(lit), Parts::ByteString(_, value)) => {
-            assert_eq!(rt; B::byte_cow_bytes(&lit.into_value()), *value);
+            B::byte_cow_bytes(&lit.into_value()) == *value
         }
         (Literal::CString(lit), Parts::CString(_, value)) => {
-            assert_eq!(rt; lit.into_value().to_bytes(), *value);
+            lit.into_value().to_bytes() == *value
         }
-        _ => {}
+        _ => true,
     }
 }
 
-/// What this parse makes of a text, which is a literal.
-fn check_by<B: Text>(
-    rt: &impl Abort,
-    alloc: Global,
-    parse: Parse,
-    text: B,
-    row: &Row,
-) -> Result<Literal<B>, Fail> {
-    let lit = parse_by(alloc, parse, text).map_err(|_| row.0)?;
-    check_literal(rt, alloc, &lit, row)?;
-    Ok(lit)
+/// Whether what both parses made of a text, and a copy of it, are the literal of the row.
+fn are_literals<B: Text>(alloc: Global, own: &Literal<B>, lit: &Literal<B>, row: &Row) -> bool {
+    match &lit.clone(alloc) {
+        Ok(copy) => {
+            is_literal(alloc, own, row)
+                && is_literal(alloc, lit, row)
+                && is_literal(alloc, copy, row)
+                && own == lit
+                && copy == lit
+        }
+        Err(_) => false,
+    }
 }
 
-/// Checks a copy of a literal.
-fn check_copy<B: Text>(
-    rt: &impl Abort,
-    alloc: Global,
-    lit: &Literal<B>,
-    row: &Row,
-) -> Result<(), Fail> {
-    let copy = lit.clone(alloc)?;
-    check_literal(rt, alloc, &copy, row)?;
-    assert!(rt; copy == *lit, "{lit} is the same as its copy");
-    Ok(())
+/// Whether the parse of the kind and `Literal::parse` make the literal of the row of a text and a
+/// copy of it, and what is taken out of it is the row's.
+fn are_parsed<B: Buffer>(alloc: Global, text: B, copy: B, row: &Row) -> bool {
+    let Ok(own) = parse_by(alloc, parse_of(&row.2), copy) else {
+        return false;
+    };
+    let Ok(lit) = Literal::parse(alloc, text) else {
+        return false;
+    };
+    let are_literals = are_literals(alloc, &own, &lit, row);
+    let has_buffer = has_buffer(lit, row.0);
+    let has_value = has_value(own, &row.2);
+    are_literals && has_buffer && has_value
 }
 
-/// Checks what the parse of the kind and `Literal::parse` make of a text, a copy of it, and what is
-/// taken out of it.
-fn check_parsed<B: Buffer>(rt: &impl Abort, alloc: Global, text: B, row: &Row) -> Result<(), Fail> {
-    let own = check_by(rt, alloc, parse_of(&row.2), text.copy(alloc)?, row)?;
-    let lit = check_by(rt, alloc, Parse::Literal, text, row)?;
-    assert!(rt; own == lit, "{lit} is the same by both parses");
-    check_copy(rt, alloc, &lit, row)?;
-    check_buffer(rt, lit, row.0);
-    check_into_value(rt, own, &row.2);
-    Ok(())
+fn is_parsed<B: Buffer>(alloc: Global, text: B, row: &Row) -> bool {
+    match text.copy(alloc) {
+        Ok(copy) => are_parsed(alloc, text, copy, row),
+        Err(_) => false,
+    }
 }
 
-/// Checks that a literal that is made to own its text is the one over `String`.
-fn check_owned(rt: &impl Abort, alloc: Global, row: &Row) -> Result<(), Fail> {
-    let lit = Literal::parse(alloc, row.0).map_err(|_| row.0)?;
-    let owned = lit.into_owned(alloc)?;
-    check_literal(rt, alloc, &owned, row)?;
-    let text = String::from_str(alloc, row.0)?;
-    assert!(rt; owned == check_by(rt, alloc, Parse::Literal, text, row)?);
-    Ok(())
+/// Whether the literal of a text is this one, and that of the row.
+fn is_parsed_as<B: Buffer>(alloc: Global, text: B, expected: &Literal<B>, row: &Row) -> bool {
+    match &Literal::parse(alloc, text) {
+        Ok(lit) => lit == expected && is_literal(alloc, expected, row),
+        Err(_) => false,
+    }
+}
+
+/// Whether a literal that is made to own its text is the one over `String`.
+fn is_owned_literal(alloc: Global, text: String, row: &Row) -> bool {
+    let Ok(lit) = Literal::parse(alloc, row.0) else {
+        return false;
+    };
+    match &lit.into_owned(alloc) {
+        Ok(owned) => is_parsed_as(alloc, text, owned, row),
+        Err(_) => false,
+    }
 }
 
 #[test]
-fn literals_over_both_buffers(rt: HostRuntime) -> Result<(), Fail> {
+fn literals_over_both_buffers(rt: HostRuntime) -> Result<(), AllocError> {
     let alloc = rt.alloc();
     for row in literals() {
-        check_parsed(&rt, alloc, row.0, row)?;
-        check_parsed(&rt, alloc, String::from_str(alloc, row.0)?, row)?;
-        check_owned(&rt, alloc, row)?;
+        assert!(rt; is_parsed(alloc, row.0, row), "{}", row.0);
+        let text = String::from_str(alloc, row.0)?;
+        assert!(rt; is_parsed(alloc, text, row), "{} over String", row.0);
+        let text = String::from_str(alloc, row.0)?;
+        assert!(rt; is_owned_literal(alloc, text, row), "{} made to own", row.0);
     }
     Ok(())
 }
 
-/// Whether the value that is taken out of a string or a byte string is owned.
-fn is_owned(lit: Literal<&str>) -> bool {
-    match lit {
-        Literal::String(lit) => matches!(lit.into_value(), CowStr::Owned(_)),
-        Literal::ByteString(lit) => matches!(lit.into_value(), CowSlice::Owned(_)),
-        _ => true,
+/// Whether the value that is taken out of a string or a byte string is owned, where it is one.
+fn is_owned(alloc: Global, text: &str) -> Option<bool> {
+    match Literal::parse(alloc, text) {
+        Ok(Literal::String(lit)) => Some(matches!(lit.into_value(), CowStr::Owned(_))),
+        Ok(Literal::ByteString(lit)) => Some(matches!(lit.into_value(), CowSlice::Owned(_))),
+        _ => None,
     }
 }
 
 /// A value over `&str` is owned if and only if it is not the slice of the text between the quotes.
 #[test]
-fn borrowed_and_owned_values(rt: HostRuntime) -> Result<(), Fail> {
-    let alloc = rt.alloc();
+fn borrowed_and_owned_values(rt: HostRuntime) {
     for (text, _, parts) in literals() {
-        let text: &'static str = text;
-        match parts {
-            Parts::String(body, _) | Parts::ByteString(body, _) => {
-                let lit = Literal::parse(alloc, text).map_err(|_| text)?;
-                assert_eq!(rt; is_owned(lit), *body == Body::Escaped, "of {text}");
-            }
-            _ => {}
+        if let Parts::String(body, _) | Parts::ByteString(body, _) = parts {
+            let expected = Some(*body == Body::Escaped);
+            assert!(rt; is_owned(rt.alloc(), text) == expected, "{text}");
         }
     }
-    Ok(())
 }

@@ -20,32 +20,30 @@ fn long_text(alloc: Global, front: &str, part: &str, end: &str) -> Result<String
 }
 
 /// Checks that the text is an integer of this value, where eight bits hold it.
-fn check_number<B: Text>(
-    rt: &impl Abort,
-    alloc: Global,
-    parse: Parse,
-    text: B,
-    value: Option<u8>,
-) -> Result<(), Fail> {
-    match &parse_by(alloc, parse, text)? {
-        Literal::Integer(lit) => {
-            assert_eq!(rt; lit.value::<u8>(), value);
-            assert_eq!(rt; lit.value::<u128>(), value.map(|value| value as u128));
-        }
-        _ => assert!(rt; false, "a long integer"),
-    }
-    Ok(())
+fn check_number<B: Text>(rt: &impl Abort, alloc: Global, parse: Parse, text: B, value: Option<u8>) {
+    let wide = match value {
+        Some(value) => Some(u128::from(value)),
+        None => None,
+    };
+    let holds = match &parse_by(alloc, parse, text) {
+        Ok(Literal::Integer(lit)) => lit.value::<u8>() == value && lit.value::<u128>() == wide,
+        _ => false,
+    };
+    assert!(rt; holds);
 }
+
+/// A digit, what is behind 100,000 of it, and the value.
+const NUMBERS: &[(&str, &str, Option<u8>)] = &[("1", "", None), ("0", "7", Some(7))];
 
 #[test]
 fn long_numbers(rt: HostRuntime) -> Result<(), Fail> {
     let alloc = rt.alloc();
-    for (part, end, value) in [("1", "", None), ("0", "7", Some(7))] {
+    for (part, end, value) in NUMBERS {
         let text = long_text(alloc, "", part, end)?;
-        check_number(&rt, alloc, Parse::Integer, text.as_str(), value)?;
-        check_number(&rt, alloc, Parse::Literal, text.as_str(), value)?;
-        check_number(&rt, alloc, Parse::Integer, text.copy(alloc)?, value)?;
-        check_number(&rt, alloc, Parse::Literal, text, value)?;
+        check_number(&rt, alloc, Parse::Integer, text.as_str(), *value);
+        check_number(&rt, alloc, Parse::Literal, text.as_str(), *value);
+        check_number(&rt, alloc, Parse::Integer, text.copy(alloc)?, *value);
+        check_number(&rt, alloc, Parse::Literal, text, *value);
     }
     Ok(())
 }
@@ -60,16 +58,12 @@ fn value_len<B: Text>(lit: &Literal<B>) -> Option<usize> {
     }
 }
 
-fn check_body<B: Text>(
-    rt: &impl Abort,
-    alloc: Global,
-    parse: Parse,
-    text: B,
-    len: usize,
-) -> Result<(), Fail> {
-    let lit = parse_by(alloc, parse, text)?;
-    assert_eq!(rt; value_len(&lit), Some(len));
-    Ok(())
+fn check_body<B: Text>(rt: &impl Abort, alloc: Global, parse: Parse, text: B, len: usize) {
+    let found = match &parse_by(alloc, parse, text) {
+        Ok(lit) => value_len(lit),
+        Err(_) => None,
+    };
+    assert!(rt; found == Some(len));
 }
 
 /// What is before and after 100,000 letters, the parse of the kind, and the bytes of the value.
@@ -85,10 +79,10 @@ fn long_bodies(rt: HostRuntime) -> Result<(), Fail> {
     let alloc = rt.alloc();
     for (front, end, parse, len) in BODIES {
         let text = long_text(alloc, front, "a", end)?;
-        check_body(&rt, alloc, *parse, text.as_str(), *len)?;
-        check_body(&rt, alloc, Parse::Literal, text.as_str(), *len)?;
-        check_body(&rt, alloc, *parse, text.copy(alloc)?, *len)?;
-        check_body(&rt, alloc, Parse::Literal, text, *len)?;
+        check_body(&rt, alloc, *parse, text.as_str(), *len);
+        check_body(&rt, alloc, Parse::Literal, text.as_str(), *len);
+        check_body(&rt, alloc, *parse, text.copy(alloc)?, *len);
+        check_body(&rt, alloc, Parse::Literal, text, *len);
     }
     Ok(())
 }
@@ -110,27 +104,28 @@ fn check_refused<B: Text>(
     kind: ParseErrorKind,
     span: &Option<Range<usize>>,
 ) {
-    match parse_by(alloc, parse, text) {
-        Ok(_) => assert!(rt; false, "hashes alone"),
-        Err(e) => {
-            assert_eq!(rt; e.kind(), kind);
-            assert!(rt; e.span() == *span);
-        }
-    }
+    let holds = match &parse_by(alloc, parse, text) {
+        Ok(_) => false,
+        Err(e) => e.kind() == kind && e.span() == *span,
+    };
+    assert!(rt; holds);
 }
+
+/// What is behind `r` and 100,000 hashes, and the refusal.
+const HASHES: &[(&str, ParseErrorKind, Option<Range<usize>>)] = &[
+    ("", InvalidLiteral, None),
+    ("x", TooManyHashes, Some(1..100_001)),
+];
 
 #[test]
 fn long_hashes(rt: HostRuntime) -> Result<(), Fail> {
     let alloc = rt.alloc();
-    for (end, kind, span) in [
-        ("", InvalidLiteral, None),
-        ("x", TooManyHashes, Some(1..100_001)),
-    ] {
+    for (end, kind, span) in HASHES {
         let text = long_text(alloc, "r", "#", end)?;
-        check_refused(&rt, alloc, Parse::String, text.as_str(), kind, &span);
-        check_refused(&rt, alloc, Parse::Literal, text.as_str(), kind, &span);
-        check_refused(&rt, alloc, Parse::String, text.copy(alloc)?, kind, &span);
-        check_refused(&rt, alloc, Parse::Literal, text, kind, &span);
+        check_refused(&rt, alloc, Parse::String, text.as_str(), *kind, span);
+        check_refused(&rt, alloc, Parse::Literal, text.as_str(), *kind, span);
+        check_refused(&rt, alloc, Parse::String, text.copy(alloc)?, *kind, span);
+        check_refused(&rt, alloc, Parse::Literal, text, *kind, span);
     }
     Ok(())
 }

@@ -2,8 +2,9 @@
 use crate::parses::{parse_by, string_value};
 use crate::tables::{Body, Parse, Parts, Refusal, Row, literals, refused};
 use litrs::ParseErrorKind::OutOfMemory;
-use litrs::{Literal, Text};
+use litrs::{Literal, ParseError, Text};
 use std::alloc::{AllocError, Global};
+use std::ops::Range;
 use std::process::Abort;
 use std::test::Fail;
 
@@ -63,35 +64,39 @@ fn allocated(parts: &Parts) -> Option<usize> {
     }
 }
 
-/// Checks a literal where every allocation is refused.
-fn check_literal<B: Text>(rt: &impl Abort, alloc: Global, text: B, row: &Row) {
-    let (name, _, parts) = row;
-    let has_value = allocated(parts).is_some();
-    match Literal::parse(alloc, text) {
-        Ok(_) => assert!(rt; !has_value, "{name} has a value of its own"),
-        Err(e) => {
-            let is_so = has_value && e.kind() == OutOfMemory && e.span().is_none();
-            assert!(rt; is_so, "{name}: {e}");
-        }
+/// Whether a literal, where every allocation is refused, has no value of its own, or is refused.
+fn is_literal<B: Text>(alloc: Global, text: B, row: &Row) -> bool {
+    let has_value = allocated(&row.2).is_some();
+    match &Literal::parse(alloc, text) {
+        Ok(_) => !has_value,
+        Err(e) => has_value && e.kind() == OutOfMemory && e.span().is_none(),
     }
 }
 
-/// Checks a refused text where every allocation is refused.
-fn check_refusal<B: Text>(
-    rt: &impl Abort,
-    alloc: Global,
-    parse: Parse,
-    text: B,
-    refusal: &Refusal,
-) {
-    let (name, kind, place) = refusal;
-    let expected = match place {
-        Some((span, _)) => Some(span.start..span.end),
-        None => None,
-    };
-    match parse_by(alloc, parse, text) {
-        Ok(_) => assert!(rt; false, "{name} is no literal"),
-        Err(e) => assert!(rt; e.kind() == *kind && e.span() == expected, "{name}: {e}"),
+/// Whether the error points at these bytes.
+fn is_at(error: &ParseError, place: &Option<(Range<usize>, usize)>) -> bool {
+    match (error.span(), place) {
+        (Some(found), Some((span, _))) => found == *span,
+        (None, None) => true,
+        _ => false,
+    }
+}
+
+/// Whether a text, where every allocation is refused, has its refusal.
+fn is_refused<B: Text>(alloc: Global, parse: Parse, text: B, refusal: &Refusal) -> bool {
+    let (_, kind, place) = refusal;
+    match &parse_by(alloc, parse, text) {
+        Ok(_) => false,
+        Err(e) => e.kind() == *kind && is_at(e, place),
+    }
+}
+
+/// Checks refused texts of one kind where every allocation is refused.
+fn check_refusals(rt: &impl Abort, alloc: Global, parse: Parse, refusals: &[Refusal]) {
+    for refusal in refusals {
+        let holds = is_refused(alloc, parse, refusal.0, refusal)
+            && is_refused(alloc, Parse::Literal, refusal.0, refusal);
+        assert!(rt; holds, "{}", refusal.0);
     }
 }
 
@@ -104,13 +109,10 @@ fn without_memory(rt: HostRuntime) -> Result<(), Fail> {
         return Ok(());
     };
     for row in literals() {
-        check_literal(&rt, alloc, row.0, row);
+        assert!(rt; is_literal(alloc, row.0, row), "{}", row.0);
     }
     for (parse, refusals) in refused() {
-        for refusal in *refusals {
-            check_refusal(&rt, alloc, *parse, refusal.0, refusal);
-            check_refusal(&rt, alloc, Parse::Literal, refusal.0, refusal);
-        }
+        check_refusals(&rt, alloc, *parse, refusals);
     }
     drop(held);
     assert!(rt; Literal::parse(alloc, "\"a\\nb\"").is_ok());
@@ -136,7 +138,7 @@ fn literals_over_strings_without_memory(rt: HostRuntime) -> Result<(), Fail> {
         return Ok(());
     };
     for (row, text) in texts {
-        check_literal(&rt, alloc, text, row);
+        assert!(rt; is_literal(alloc, text, row), "{}", row.0);
         take_text(alloc, &mut held)?;
     }
     Ok(())
@@ -155,7 +157,7 @@ fn refusals_over_strings_without_memory(rt: HostRuntime) -> Result<(), Fail> {
         return Ok(());
     };
     for (parse, refusal, text) in texts {
-        check_refusal(&rt, alloc, parse, text, refusal);
+        assert!(rt; is_refused(alloc, parse, text, refusal), "{}", refusal.0);
         take_text(alloc, &mut held)?;
     }
     Ok(())
@@ -171,6 +173,20 @@ fn value_of<B: Text>(lit: &Literal<B>) -> Option<&[u8]> {
     }
 }
 
+/// Whether a literal of this value takes the only free block, which has this size.
+fn takes_block(
+    alloc: Global,
+    held: &mut Vec<Vec<u8>>,
+    size: usize,
+    text: &str,
+    value: Option<&[u8]>,
+) -> Result<bool, AllocError> {
+    match &Literal::parse(alloc, text) {
+        Ok(lit) => Ok(value_of(lit) == value && take_blocks(alloc, held, size, 1)?),
+        Err(_) => Ok(false),
+    }
+}
+
 /// Checks a literal where there is memory for one block of this size: it takes that block, and
 /// gives it back.
 fn check_one_block(
@@ -181,16 +197,10 @@ fn check_one_block(
     text: &str,
     value: Option<&[u8]>,
 ) -> Result<(), AllocError> {
-    match Literal::parse(alloc, text) {
-        Ok(lit) => {
-            assert_eq!(rt; value_of(&lit), value);
-            assert!(rt;
-                take_blocks(alloc, held, size, 1)?,
-                "one allocation is asked"
-            );
-        }
-        Err(e) => assert!(rt; false, "one allocation is enough, but {e}"),
-    }
+    assert!(rt;
+        takes_block(alloc, held, size, text, value)?,
+        "one allocation is asked, and is enough"
+    );
     assert!(rt;
         !take_blocks(alloc, held, size, 1)?,
         "the block is free again"

@@ -19,6 +19,14 @@ pub(crate) const PARSES: &[(Parse, &str)] = &[
     (Parse::CString, "CStringLit"),
 ];
 
+/// What a parse of one kind answers, as what the parse of all kinds would.
+pub(crate) fn any<L: Into<Literal<B>>, B: Text, E>(answer: Result<L, E>) -> Result<Literal<B>, E> {
+    match answer {
+        Ok(lit) => Ok(lit.into()),
+        Err(e) => Err(e),
+    }
+}
+
 /// What this parse makes of the text.
 pub(crate) fn parse_by<B: Text>(
     alloc: Global,
@@ -27,14 +35,14 @@ pub(crate) fn parse_by<B: Text>(
 ) -> Result<Literal<B>, ParseError> {
     match parse {
         Parse::Literal => Literal::parse(alloc, text),
-        Parse::Bool => Ok(Literal::from(BoolLit::parse(text.as_str())?)),
-        Parse::Integer => Ok(Literal::from(IntegerLit::parse(text)?)),
-        Parse::Float => Ok(Literal::from(FloatLit::parse(text)?)),
-        Parse::Char => Ok(Literal::from(CharLit::parse(text)?)),
-        Parse::String => Ok(Literal::from(StringLit::parse(alloc, text)?)),
-        Parse::Byte => Ok(Literal::from(ByteLit::parse(text)?)),
-        Parse::ByteString => Ok(Literal::from(ByteStringLit::parse(alloc, text)?)),
-        Parse::CString => Ok(Literal::from(CStringLit::parse(alloc, text)?)),
+        Parse::Bool => any(BoolLit::parse(text.as_str())),
+        Parse::Integer => any(IntegerLit::parse(text)),
+        Parse::Float => any(FloatLit::parse(text)),
+        Parse::Char => any(CharLit::parse(text)),
+        Parse::String => any(StringLit::parse(alloc, text)),
+        Parse::Byte => any(ByteLit::parse(text)),
+        Parse::ByteString => any(ByteStringLit::parse(alloc, text)),
+        Parse::CString => any(CStringLit::parse(alloc, text)),
     }
 }
 

@@ -5,6 +5,7 @@ use litrs::ParseErrorKind::{self, *};
 use litrs::{ParseError, Text};
 use litrs_token::LiteralError;
 use std::alloc::{AllocError, Global};
+use std::ops::Range;
 use std::process::Abort;
 use std::test::Fail;
 
@@ -37,37 +38,30 @@ const FINAL: &[ParseErrorKind] = &[
     IntegerSuffixStartingWithE,
 ];
 
-/// Checks what a parse says of a text that it refuses.
-fn check_refusal(rt: &impl Abort, error: &ParseError, refusal: &Refusal) {
-    let (text, kind, place) = refusal;
-    let is_final = FINAL.iter().any(|known| known == kind);
-    let is_open = matches!(*kind, UnterminatedString | UnterminatedRawString);
-    assert!(rt;
-        error.kind() == *kind && error.is_final() == is_final,
-        "{text}: {error}"
-    );
-    let spans = match place {
-        Some((span, char_end)) => (Some(span.start..span.end), Some(span.start..*char_end)),
-        None => (None, None),
-    };
-    let found = (error.span(), error.char_span());
-    assert!(rt;
-        error.is_open() == is_open && found == spans,
-        "{text}: {error}"
-    );
+/// Whether the error points at this place.
+fn is_at(error: &ParseError, place: &Option<(Range<usize>, usize)>) -> bool {
+    match (error.span(), error.char_span(), place) {
+        (Some(found), Some(chars), Some((span, char_end))) => {
+            found == *span && chars.start == span.start && chars.end == *char_end
+        }
+        (None, None, None) => true,
+        _ => false,
+    }
 }
 
-/// Checks that this parse refuses a text.
-fn check_refused<B: Text>(
-    rt: &impl Abort,
-    alloc: Global,
-    parse: Parse,
-    text: B,
-    refusal: &Refusal,
-) {
-    match parse_by(alloc, parse, text) {
-        Ok(lit) => assert!(rt; false, "{lit} is a literal"),
-        Err(e) => check_refusal(rt, &e, refusal),
+/// Whether this parse refuses a text, and what it says of it.
+fn is_refused<B: Text>(alloc: Global, parse: Parse, text: B, refusal: &Refusal) -> bool {
+    let (_, kind, place) = refusal;
+    let is_final = FINAL.contains(kind);
+    let is_open = matches!(*kind, UnterminatedString | UnterminatedRawString);
+    match &parse_by(alloc, parse, text) {
+        Ok(_) => false,
+        Err(e) => {
+            e.kind() == *kind
+                && e.is_final() == is_final
+                && e.is_open() == is_open
+                && is_at(e, place)
+        }
     }
 }
 
@@ -78,10 +72,19 @@ fn check_over_both(
     parse: Parse,
     refusal: &Refusal,
 ) -> Result<(), AllocError> {
-    check_refused(rt, alloc, parse, refusal.0, refusal);
     let text = String::from_str(alloc, refusal.0)?;
-    check_refused(rt, alloc, parse, text, refusal);
+    let holds = is_refused(alloc, parse, refusal.0, refusal)
+        && is_refused(alloc, parse, text, refusal);
+    assert!(rt; holds, "{}", refusal.0);
     Ok(())
+}
+
+/// Whether no token has the text.
+fn is_no_token(alloc: Global, text: &str) -> bool {
+    match litrs_token::Literal::from_text(alloc, text) {
+        Ok(_) => false,
+        Err(e) => e == LiteralError::NotALiteral,
+    }
 }
 
 /// Checks texts that this parse and `Literal::parse` refuse, and that are no tokens.
@@ -94,8 +97,7 @@ fn check_alike(
     for refusal in refusals {
         check_over_both(rt, alloc, parse, refusal)?;
         check_over_both(rt, alloc, Parse::Literal, refusal)?;
-        let error = litrs_token::Literal::from_text(alloc, refusal.0).err();
-        assert_eq!(rt; error, Some(LiteralError::NotALiteral), "of {}", refusal.0);
+        assert!(rt; is_no_token(alloc, refusal.0), "{}", refusal.0);
     }
     Ok(())
 }
@@ -129,36 +131,43 @@ fn refused_by_one_kind(rt: HostRuntime) -> Result<(), Fail> {
     Ok(())
 }
 
-/// What is printed of a refusal, with its span in bytes.
+/// A parse, a text that it refuses, and what is printed of that, with its span in bytes.
+const PRINTED: &[(Parse, &str, &str)] = &[
+    (
+        Parse::Literal,
+        "'\\u{110000}'",
+        "value specified in `\\u{...}` escape is not a valid char (at 1..11)",
+    ),
+    (Parse::Char, "'\\é'", "unknown escape (at 1..3)"),
+    (
+        Parse::Char,
+        "'ab'",
+        "character literal contains more than one character",
+    ),
+    (
+        Parse::Byte,
+        "b'犬'",
+        "non ASCII character in byte (string) literal (at 2..3)",
+    ),
+    (
+        Parse::Byte,
+        "b'ab'",
+        "byte literal contains more than one byte",
+    ),
+];
+
+/// Whether this is printed of the refusal.
+fn is_printed(alloc: Global, parse: Parse, text: &str, printed: &str) -> Result<bool, AllocError> {
+    match &parse_by(alloc, parse, text) {
+        Ok(_) => Ok(false),
+        Err(e) => Ok(e.to_string(alloc)?.as_str() == printed),
+    }
+}
+
 #[test]
 fn printed_refusals(rt: HostRuntime) -> Result<(), Fail> {
-    for (parse, text, printed) in [
-        (
-            Parse::Literal,
-            "'\\u{110000}'",
-            "value specified in `\\u{...}` escape is not a valid char (at 1..11)",
-        ),
-        (Parse::Char, "'\\é'", "unknown escape (at 1..3)"),
-        (
-            Parse::Char,
-            "'ab'",
-            "character literal contains more than one character",
-        ),
-        (
-            Parse::Byte,
-            "b'犬'",
-            "non ASCII character in byte (string) literal (at 2..3)",
-        ),
-        (
-            Parse::Byte,
-            "b'ab'",
-            "byte literal contains more than one byte",
-        ),
-    ] {
-        match parse_by(rt.alloc(), parse, text) {
-            Ok(lit) => assert!(rt; false, "{lit} is a literal"),
-            Err(e) => assert_eq!(rt; e.to_string(rt.alloc())?.as_str(), printed),
-        }
+    for (parse, text, printed) in PRINTED {
+        assert!(rt; is_printed(rt.alloc(), *parse, text, printed)?, "{text}");
     }
     Ok(())
 }

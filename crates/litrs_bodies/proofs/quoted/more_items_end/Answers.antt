@@ -33,8 +33,8 @@ returns-in-None c =
     let read = c.loop-item.invariant.2 in
     let run = c.loop-item.invariant.3 in
     let last = short_run _ _ _ c.args.input.now _ _ _ _ _ _ _ c.utf8.input c.loop-item.invariant.0 run
-        (ap (λ (l : List ℕ). take (c.loop-item.place - c.loop-item.at) (drop c.loop-item.at l)) c.as_bytes.ensures.value)
-        c.push_bytes.ensures refl read in record {
+    (ap (λ (l : List ℕ). take (c.loop-item.place - c.loop-item.at) (drop c.loop-item.at l)) c.as_bytes.ensures.value)
+    c.push_bytes.ensures refl read in record {
       end = items_end _ c.args.input.now _ read.value _ _ _ _ run read.reads read.size c.range_from.ensures.value c.in-None.ensures.none;
       value = λ whole q is. whole_short _ _ _ c.args.input.now _ _ _ _ q last c.range_from.ensures.value c.in-None.ensures.none whole is;
     }

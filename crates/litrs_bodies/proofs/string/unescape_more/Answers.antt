@@ -24,7 +24,7 @@ returns-in-Ok-clause-ok g c = record {
   place = refl;
   given = true_by c.in_ok-cut.cut.has_escape c.if-not-cut.false;
   is_value = elim c.if-short.branch [
-      then-short w ↦
+    | then-short w ↦
         IfOk-at_ok _ (sym w.copied-is ∙ c.in-Ok.is) w.copy_short-copied.ensures
         ∙ (w.deref.ensures.0 ∙ c.more_items_end-end.ensures.value w.if-short.true c.in_ok-cut.ensures.ok.parts c.in_ok-cut.ensures.ok.only.0)
     | else-short w ↦
