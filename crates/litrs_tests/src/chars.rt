@@ -1,17 +1,13 @@
 //! Where chars and bytes are cut, and how other texts are refused.
+use crate::refusals::{Place, is_refusal};
 use litrs_lex::ParseErrorKind::{self, *};
 use litrs_lex::{ParseError, cut_byte, cut_char};
 use std::alloc::{AllocError, Global};
-use std::ops::Range;
 use std::process::Abort;
 use std::test::Fail;
 
-/// A text, the kind, and where it has them the span and the character span.
-type Refusal = (
-    &'static str,
-    ParseErrorKind,
-    Option<(Range<usize>, Range<usize>)>,
-);
+/// A text, the kind, the span and the character span.
+type Refusal = (&'static str, ParseErrorKind, Place, Place);
 
 /// A char, its value, and where its suffix starts.
 const CHARS: &[(&str, char, usize)] = &[
@@ -61,201 +57,208 @@ const BYTES: &[(&str, u8, usize)] = &[
 ];
 
 const REFUSED_CHARS: &[Refusal] = &[
-    ("'", UnterminatedCharLiteral, None),
-    ("'a", UnterminatedCharLiteral, None),
-    ("'🦊", UnterminatedCharLiteral, None),
-    ("'ab", UnterminatedCharLiteral, None),
-    ("'\0", UnterminatedCharLiteral, None),
-    ("'a\n", UnterminatedCharLiteral, None),
-    ("''", EmptyCharLiteral, None),
-    ("''a'", EmptyCharLiteral, None),
-    ("'''", UnescapedSingleQuote, Some((1..2, 1..2))),
-    ("''''", UnescapedSingleQuote, Some((1..2, 1..2))),
-    ("'''é", UnescapedSingleQuote, Some((1..2, 1..2))),
-    ("'\n'", UnescapedSpecialWhitespace, Some((1..2, 1..2))),
-    ("'\t'", UnescapedSpecialWhitespace, Some((1..2, 1..2))),
-    ("'\r'", UnescapedSpecialWhitespace, Some((1..2, 1..2))),
-    ("'\n", UnescapedSpecialWhitespace, Some((1..2, 1..2))),
-    ("'ab'", OverlongCharLiteral, None),
-    ("'é犬'", OverlongCharLiteral, None),
-    ("'a\\''", OverlongCharLiteral, None),
-    ("'a '_", OverlongCharLiteral, None),
-    ("'a'_", InvalidSuffix, Some((3..4, 3..4))),
-    ("'é'🦊", InvalidSuffix, Some((4..5, 4..8))),
-    ("'a'1", UnexpectedChar, Some((3..4, 3..4))),
-    ("'a''", UnexpectedChar, Some((3..4, 3..4))),
+    ("'", UnterminatedCharLiteral, None, None),
+    ("'a", UnterminatedCharLiteral, None, None),
+    ("'🦊", UnterminatedCharLiteral, None, None),
+    ("'ab", UnterminatedCharLiteral, None, None),
+    ("'\0", UnterminatedCharLiteral, None, None),
+    ("'a\n", UnterminatedCharLiteral, None, None),
+    ("''", EmptyCharLiteral, None, None),
+    ("''a'", EmptyCharLiteral, None, None),
+    ("'''", UnescapedSingleQuote, Some(1..2), Some(1..2)),
+    ("''''", UnescapedSingleQuote, Some(1..2), Some(1..2)),
+    ("'''é", UnescapedSingleQuote, Some(1..2), Some(1..2)),
+    ("'\n'", UnescapedSpecialWhitespace, Some(1..2), Some(1..2)),
+    ("'\t'", UnescapedSpecialWhitespace, Some(1..2), Some(1..2)),
+    ("'\r'", UnescapedSpecialWhitespace, Some(1..2), Some(1..2)),
+    ("'\n", UnescapedSpecialWhitespace, Some(1..2), Some(1..2)),
+    ("'ab'", OverlongCharLiteral, None, None),
+    ("'é犬'", OverlongCharLiteral, None, None),
+    ("'a\\''", OverlongCharLiteral, None, None),
+    ("'a '_", OverlongCharLiteral, None, None),
+    ("'a'_", InvalidSuffix, Some(3..4), Some(3..4)),
+    ("'é'🦊", InvalidSuffix, Some(4..5), Some(4..8)),
+    ("'a'1", UnexpectedChar, Some(3..4), Some(3..4)),
+    ("'a''", UnexpectedChar, Some(3..4), Some(3..4)),
 ];
 
 /// Chars whose escape is refused, or is not closed.
 const REFUSED_ESCAPES: &[Refusal] = &[
-    ("'\\", UnterminatedEscape, Some((1..2, 1..2))),
-    ("'\\x", UnterminatedEscape, Some((1..3, 1..3))),
-    ("'\\x'", UnterminatedEscape, Some((1..4, 1..4))),
-    ("'\\x🦊", UnterminatedEscape, Some((1..7, 1..7))),
-    ("'\\x🦊'", UnterminatedEscape, Some((1..8, 1..8))),
-    ("'\\é'", UnknownEscape, Some((1..3, 1..4))),
-    ("'\\q", UnknownEscape, Some((1..3, 1..3))),
-    ("'\\\n'", UnknownEscape, Some((1..3, 1..3))),
-    ("'\\xg1'", InvalidXEscape, Some((1..5, 1..5))),
-    ("'\\x80'", NonAsciiXEscape, Some((1..5, 1..5))),
-    ("'\\u", UnicodeEscapeWithoutBrace, Some((1..3, 1..3))),
+    ("'\\", UnterminatedEscape, Some(1..2), Some(1..2)),
+    ("'\\x", UnterminatedEscape, Some(1..3), Some(1..3)),
+    ("'\\x'", UnterminatedEscape, Some(1..4), Some(1..4)),
+    ("'\\x🦊", UnterminatedEscape, Some(1..7), Some(1..7)),
+    ("'\\x🦊'", UnterminatedEscape, Some(1..8), Some(1..8)),
+    ("'\\é'", UnknownEscape, Some(1..3), Some(1..4)),
+    ("'\\q", UnknownEscape, Some(1..3), Some(1..3)),
+    ("'\\\n'", UnknownEscape, Some(1..3), Some(1..3)),
+    ("'\\xg1'", InvalidXEscape, Some(1..5), Some(1..5)),
+    ("'\\x80'", NonAsciiXEscape, Some(1..5), Some(1..5)),
+    ("'\\u", UnicodeEscapeWithoutBrace, Some(1..3), Some(1..3)),
     (
         "'\\u{a0_b  '",
         UnterminatedUnicodeEscape,
-        Some((1..11, 1..11)),
+        Some(1..11),
+        Some(1..11),
     ),
-    ("'\\u{_}'", InvalidStartOfUnicodeEscape, Some((4..5, 4..5))),
+    (
+        "'\\u{_}'",
+        InvalidStartOfUnicodeEscape,
+        Some(4..5),
+        Some(4..5),
+    ),
     (
         "'\\u{3b_x}'",
         NonHexDigitInUnicodeEscape,
-        Some((7..8, 7..8)),
+        Some(7..8),
+        Some(7..8),
     ),
-    ("'\\u{é}'", NonHexDigitInUnicodeEscape, Some((4..5, 4..6))),
+    (
+        "'\\u{é}'",
+        NonHexDigitInUnicodeEscape,
+        Some(4..5),
+        Some(4..6),
+    ),
     (
         "'\\u{1234567}'",
         TooManyDigitInUnicodeEscape,
-        Some((10..11, 10..11)),
+        Some(10..11),
+        Some(10..11),
     ),
-    ("'\\u{d800}'", InvalidUnicodeEscapeChar, Some((1..9, 1..9))),
+    (
+        "'\\u{d800}'",
+        InvalidUnicodeEscapeChar,
+        Some(1..9),
+        Some(1..9),
+    ),
     (
         "'\\u{110000}'",
         InvalidUnicodeEscapeChar,
-        Some((1..11, 1..11)),
+        Some(1..11),
+        Some(1..11),
     ),
-    ("'\\n", UnterminatedCharLiteral, None),
-    ("'\\'", UnterminatedCharLiteral, None),
-    ("'\\u{41}", UnterminatedCharLiteral, None),
-    ("'\\na'", OverlongCharLiteral, None),
+    ("'\\n", UnterminatedCharLiteral, None, None),
+    ("'\\'", UnterminatedCharLiteral, None, None),
+    ("'\\u{41}", UnterminatedCharLiteral, None, None),
+    ("'\\na'", OverlongCharLiteral, None, None),
 ];
 
 const REFUSED_BYTES: &[Refusal] = &[
-    ("b'", UnterminatedByteLiteral, None),
-    ("b'a", UnterminatedByteLiteral, None),
-    ("b'\\n", UnterminatedByteLiteral, None),
-    ("b'\\'", UnterminatedByteLiteral, None),
-    ("b''", EmptyByteLiteral, None),
-    ("b''a'", EmptyByteLiteral, None),
-    ("b'''", UnescapedSingleQuote, Some((2..3, 2..3))),
-    ("b''''", UnescapedSingleQuote, Some((2..3, 2..3))),
-    ("b'\n'", UnescapedSpecialWhitespace, Some((2..3, 2..3))),
-    ("b'\t'", UnescapedSpecialWhitespace, Some((2..3, 2..3))),
-    ("b'\r'", UnescapedSpecialWhitespace, Some((2..3, 2..3))),
-    ("b'犬'", NonAsciiInByteLiteral, Some((2..3, 2..5))),
-    ("b'\u{80}'", NonAsciiInByteLiteral, Some((2..3, 2..4))),
-    ("b'é", NonAsciiInByteLiteral, Some((2..3, 2..4))),
-    ("b'a _'", OverlongByteLiteral, None),
-    ("b'aé'", OverlongByteLiteral, None),
-    ("b'\\na'", OverlongByteLiteral, None),
-    ("b'\\", UnterminatedEscape, Some((2..3, 2..3))),
-    ("b'\\x'", UnterminatedEscape, Some((2..5, 2..5))),
-    ("b'\\x🦊'", UnterminatedEscape, Some((2..9, 2..9))),
-    ("b'\\x1'", InvalidXEscape, Some((2..6, 2..6))),
-    ("b'\\é'", UnknownEscape, Some((2..4, 2..5))),
-    ("b'\\u{0}'", UnicodeEscapeInByteLiteral, Some((2..4, 2..4))),
-    ("b'\\u", UnicodeEscapeInByteLiteral, Some((2..4, 2..4))),
-    ("b'a'_", InvalidSuffix, Some((4..5, 4..5))),
-    ("b'a'🦊", InvalidSuffix, Some((4..5, 4..8))),
-    ("b'a'1", UnexpectedChar, Some((4..5, 4..5))),
-    ("b'a''", UnexpectedChar, Some((4..5, 4..5))),
+    ("b'", UnterminatedByteLiteral, None, None),
+    ("b'a", UnterminatedByteLiteral, None, None),
+    ("b'\\n", UnterminatedByteLiteral, None, None),
+    ("b'\\'", UnterminatedByteLiteral, None, None),
+    ("b''", EmptyByteLiteral, None, None),
+    ("b''a'", EmptyByteLiteral, None, None),
+    ("b'''", UnescapedSingleQuote, Some(2..3), Some(2..3)),
+    ("b''''", UnescapedSingleQuote, Some(2..3), Some(2..3)),
+    ("b'\n'", UnescapedSpecialWhitespace, Some(2..3), Some(2..3)),
+    ("b'\t'", UnescapedSpecialWhitespace, Some(2..3), Some(2..3)),
+    ("b'\r'", UnescapedSpecialWhitespace, Some(2..3), Some(2..3)),
+    ("b'犬'", NonAsciiInByteLiteral, Some(2..3), Some(2..5)),
+    ("b'\u{80}'", NonAsciiInByteLiteral, Some(2..3), Some(2..4)),
+    ("b'é", NonAsciiInByteLiteral, Some(2..3), Some(2..4)),
+    ("b'a _'", OverlongByteLiteral, None, None),
+    ("b'aé'", OverlongByteLiteral, None, None),
+    ("b'\\na'", OverlongByteLiteral, None, None),
+    ("b'\\", UnterminatedEscape, Some(2..3), Some(2..3)),
+    ("b'\\x'", UnterminatedEscape, Some(2..5), Some(2..5)),
+    ("b'\\x🦊'", UnterminatedEscape, Some(2..9), Some(2..9)),
+    ("b'\\x1'", InvalidXEscape, Some(2..6), Some(2..6)),
+    ("b'\\é'", UnknownEscape, Some(2..4), Some(2..5)),
+    (
+        "b'\\u{0}'",
+        UnicodeEscapeInByteLiteral,
+        Some(2..4),
+        Some(2..4),
+    ),
+    ("b'\\u", UnicodeEscapeInByteLiteral, Some(2..4), Some(2..4)),
+    ("b'a'_", InvalidSuffix, Some(4..5), Some(4..5)),
+    ("b'a'🦊", InvalidSuffix, Some(4..5), Some(4..8)),
+    ("b'a'1", UnexpectedChar, Some(4..5), Some(4..5)),
+    ("b'a''", UnexpectedChar, Some(4..5), Some(4..5)),
 ];
 
-/// Cuts a text that begins with `'`.
-fn char_of(rt: &impl Abort, text: &str) -> Result<(char, usize), ParseError> {
+/// Cuts a text that begins with `'`, as each one here does.
+fn char_of(text: &str) -> Option<Result<(char, usize), ParseError>> {
     match text.as_bytes() {
-        [b'\'', ..] => cut_char(text),
-        _ => panic!(rt; "{text} does not begin like a char"),
+        [b'\'', ..] => Some(cut_char(text)),
+        _ => None,
     }
 }
 
-/// Cuts a text that begins with `b'`.
-fn byte_of(rt: &impl Abort, text: &str) -> Result<(u8, usize), ParseError> {
+/// Cuts a text that begins with `b'`, as each one here does.
+fn byte_of(text: &str) -> Option<Result<(u8, usize), ParseError>> {
     match text.as_bytes() {
-        [b'b', b'\'', ..] => cut_byte(text),
-        _ => panic!(rt; "{text} does not begin like a byte"),
+        [b'b', b'\'', ..] => Some(cut_byte(text)),
+        _ => None,
+    }
+}
+
+/// Whether the text is cut into this char and a suffix from this place on.
+fn is_char(text: &str, value: char, start_suffix: usize) -> bool {
+    match char_of(text) {
+        Some(Ok((found, place))) => found == value && place == start_suffix,
+        _ => false,
+    }
+}
+
+/// Whether the text is cut into this byte and a suffix from this place on.
+fn is_byte(text: &str, value: u8, start_suffix: usize) -> bool {
+    match byte_of(text) {
+        Some(Ok((found, place))) => found == value && place == start_suffix,
+        _ => false,
+    }
+}
+
+/// Whether the text is refused so as a char.
+fn is_no_char(text: &str, kind: ParseErrorKind, span: &Place, char_span: &Place) -> bool {
+    match char_of(text) {
+        Some(Err(e)) => is_refusal(&e, kind, span, char_span),
+        _ => false,
+    }
+}
+
+/// Whether the text is refused so as a byte.
+fn is_no_byte(text: &str, kind: ParseErrorKind, span: &Place, char_span: &Place) -> bool {
+    match byte_of(text) {
+        Some(Err(e)) => is_refusal(&e, kind, span, char_span),
+        _ => false,
     }
 }
 
 #[test]
 fn chars(rt: HostRuntime) {
     for (text, value, start_suffix) in CHARS {
-        match char_of(&rt, text) {
-            Ok(cut) => assert_eq!(rt; cut, (*value, *start_suffix), "of {text}"),
-            Err(e) => assert!(rt; false, "{text} is a char, but {e}"),
-        }
+        assert!(rt; is_char(text, *value, *start_suffix), "{text}");
     }
 }
 
 #[test]
 fn bytes(rt: HostRuntime) {
     for (text, value, start_suffix) in BYTES {
-        match byte_of(&rt, text) {
-            Ok(cut) => assert_eq!(rt; cut, (*value, *start_suffix), "of {text}"),
-            Err(e) => assert!(rt; false, "{text} is a byte, but {e}"),
-        }
-    }
-}
-
-/// Checks a refusal, by its kind and both spans.
-fn check_refusal(
-    rt: &impl Abort,
-    error: &ParseError,
-    text: &str,
-    kind: ParseErrorKind,
-    spans: &Option<(Range<usize>, Range<usize>)>,
-) {
-    let is_there = match spans {
-        Some((span, char_span)) => {
-            error.span().as_ref() == Some(span) && error.char_span().as_ref() == Some(char_span)
-        }
-        None => error.span().is_none() && error.char_span().is_none(),
-    };
-    assert!(rt; error.kind() == kind && is_there, "{text}: {error}");
-}
-
-/// Checks that a text is refused as a char.
-fn check_no_char(
-    rt: &impl Abort,
-    text: &str,
-    kind: ParseErrorKind,
-    spans: &Option<(Range<usize>, Range<usize>)>,
-) {
-    match char_of(rt, text) {
-        Ok(_) => assert!(rt; false, "{text} is no char"),
-        Err(e) => check_refusal(rt, &e, text, kind, spans),
-    }
-}
-
-/// Checks that a text is refused as a byte.
-fn check_no_byte(
-    rt: &impl Abort,
-    text: &str,
-    kind: ParseErrorKind,
-    spans: &Option<(Range<usize>, Range<usize>)>,
-) {
-    match byte_of(rt, text) {
-        Ok(_) => assert!(rt; false, "{text} is no byte"),
-        Err(e) => check_refusal(rt, &e, text, kind, spans),
+        assert!(rt; is_byte(text, *value, *start_suffix), "{text}");
     }
 }
 
 #[test]
 fn refused_chars(rt: HostRuntime) {
-    for (text, kind, spans) in REFUSED_CHARS {
-        check_no_char(&rt, text, *kind, spans);
+    for (text, kind, span, char_span) in REFUSED_CHARS {
+        assert!(rt; is_no_char(text, *kind, span, char_span), "{text}");
     }
 }
 
 #[test]
 fn refused_escapes(rt: HostRuntime) {
-    for (text, kind, spans) in REFUSED_ESCAPES {
-        check_no_char(&rt, text, *kind, spans);
+    for (text, kind, span, char_span) in REFUSED_ESCAPES {
+        assert!(rt; is_no_char(text, *kind, span, char_span), "{text}");
     }
 }
 
 #[test]
 fn refused_bytes(rt: HostRuntime) {
-    for (text, kind, spans) in REFUSED_BYTES {
-        check_no_byte(&rt, text, *kind, spans);
+    for (text, kind, span, char_span) in REFUSED_BYTES {
+        assert!(rt; is_no_byte(text, *kind, span, char_span), "{text}");
     }
 }
 
@@ -267,49 +270,52 @@ fn quoted(alloc: Global, front: &str, character: char) -> Result<String, AllocEr
     Ok(text)
 }
 
-/// Each ASCII character as a char and as a byte. A quote makes it `'''`, and a backslash opens it.
+/// Whether an ASCII character between quotes is cut as a char is. A quote makes it `'''`, and a
+/// backslash opens it.
+fn is_ascii_char(text: &str, code: u8) -> bool {
+    let place = Some(1..2);
+    match code {
+        b'\'' => is_no_char(text, UnescapedSingleQuote, &place, &place),
+        b'\\' => is_no_char(text, UnterminatedCharLiteral, &None, &None),
+        9 | 10 | 13 => is_no_char(text, UnescapedSpecialWhitespace, &place, &place),
+        _ => is_char(text, char::from(code), 3),
+    }
+}
+
+/// The same as a byte.
+fn is_ascii_byte(text: &str, code: u8) -> bool {
+    let place = Some(2..3);
+    match code {
+        b'\'' => is_no_byte(text, UnescapedSingleQuote, &place, &place),
+        b'\\' => is_no_byte(text, UnterminatedByteLiteral, &None, &None),
+        9 | 10 | 13 => is_no_byte(text, UnescapedSpecialWhitespace, &place, &place),
+        _ => is_byte(text, code, 4),
+    }
+}
+
+/// Each ASCII character as a char and as a byte.
 #[test]
 fn ascii_between_quotes(rt: HostRuntime) -> Result<(), Fail> {
     for code in 0..128 {
-        let value = char::from(code);
-        let char_text = quoted(rt.alloc(), "'", value)?;
-        let byte_text = quoted(rt.alloc(), "b'", value)?;
-        match code {
-            b'\'' => {
-                check_no_char(&rt, &char_text, UnescapedSingleQuote, &Some((1..2, 1..2)));
-                check_no_byte(&rt, &byte_text, UnescapedSingleQuote, &Some((2..3, 2..3)));
-            }
-            b'\\' => {
-                check_no_char(&rt, &char_text, UnterminatedCharLiteral, &None);
-                check_no_byte(&rt, &byte_text, UnterminatedByteLiteral, &None);
-            }
-            9 | 10 | 13 => {
-                check_no_char(
-                    &rt,
-                    &char_text,
-                    UnescapedSpecialWhitespace,
-                    &Some((1..2, 1..2)),
-                );
-                check_no_byte(
-                    &rt,
-                    &byte_text,
-                    UnescapedSpecialWhitespace,
-                    &Some((2..3, 2..3)),
-                );
-            }
-            _ => {
-                assert!(rt;
-                    char_of(&rt, &char_text).ok() == Some((value, 3)),
-                    "{char_text}"
-                );
-                assert!(rt;
-                    byte_of(&rt, &byte_text).ok() == Some((code, 4)),
-                    "{byte_text}"
-                );
-            }
-        }
+        let text = quoted(rt.alloc(), "'", char::from(code))?;
+        assert!(rt; is_ascii_char(&text, code), "{text}");
+        let text = quoted(rt.alloc(), "b'", char::from(code))?;
+        assert!(rt; is_ascii_byte(&text, code), "{text}");
     }
     Ok(())
+}
+
+/// Whether a character beyond ASCII is cut as a char and refused as a byte.
+fn is_char_alone(alloc: Global, value: char) -> Result<bool, AllocError> {
+    let len = value.len_utf8();
+    let place = Some(2..3);
+    let char_place = Some(2..2 + len);
+    let text = quoted(alloc, "'", value)?;
+    let byte = quoted(alloc, "b'", value)?;
+    Ok(
+        is_char(&text, value, 2 + len)
+            && is_no_byte(&byte, NonAsciiInByteLiteral, &place, &char_place),
+    )
 }
 
 /// Each character beyond ASCII whose code is a multiple of 64, so that all first bytes are met.
@@ -317,14 +323,7 @@ fn ascii_between_quotes(rt: HostRuntime) -> Result<(), Fail> {
 fn other_characters_between_quotes(rt: HostRuntime) -> Result<(), Fail> {
     for code in (128..=0x10FFFF).step_by(64) {
         if let Some(value) = char::from_u32(code) {
-            let len = value.len_utf8();
-            let text = quoted(rt.alloc(), "'", value)?;
-            assert!(rt;
-                char_of(&rt, &text).ok() == Some((value, 2 + len)),
-                "{text}"
-            );
-            let text = quoted(rt.alloc(), "b'", value)?;
-            check_no_byte(&rt, &text, NonAsciiInByteLiteral, &Some((2..3, 2..2 + len)));
+            assert!(rt; is_char_alone(rt.alloc(), value)?, "{value}");
         }
     }
     Ok(())

@@ -196,70 +196,74 @@ const REFUSED_IN_BRACES: &[Refusal] = &[
     ("\\u{ffffff}é", CHAR, InvalidUnicodeEscapeChar, 0..10, 0..10),
 ];
 
-/// The escape at the front of a text that is empty or begins with a backslash.
-fn read(rt: &impl Abort, text: &str, switches: Switches) -> Result<(Unescape, usize), ParseError> {
+/// The escape at the front of a text that is empty or begins with a backslash, as each here does.
+fn read(text: &str, switches: Switches) -> Option<Result<(Unescape, usize), ParseError>> {
     let (unicode, byte_escapes, allow_nul) = switches;
     match text.chars().next() {
-        None | Some('\\') => unescape(text, unicode, byte_escapes, allow_nul),
-        Some(_) => panic!(rt; "{text} begins with no backslash"),
+        None | Some('\\') => Some(unescape(text, unicode, byte_escapes, allow_nul)),
+        Some(_) => None,
     }
 }
 
-/// Checks that this escape stands at the front of the text.
-fn check_escape(rt: &impl Abort, text: &str, switches: Switches, value: Unescape, len: usize) {
-    match read(rt, text, switches) {
-        Ok(escape) => assert_eq!(rt; escape, (value, len), "of {text} under {switches:?}"),
-        Err(e) => assert!(rt; false, "{text} is an escape under {switches:?}, but {e}"),
+/// Whether this escape stands at the front of the text.
+fn is_escape(text: &str, switches: Switches, value: Unescape, len: usize) -> bool {
+    match read(text, switches) {
+        Some(Ok((found, found_len))) => found == value && found_len == len,
+        _ => false,
     }
 }
 
-/// Checks that the text is refused so.
-fn check_refused(
-    rt: &impl Abort,
+/// Whether the text is refused so.
+fn is_refused(
     text: &str,
     switches: Switches,
     kind: ParseErrorKind,
     span: &Range<usize>,
     char_span: &Range<usize>,
-) {
-    match read(rt, text, switches) {
-        Ok(_) => assert!(rt; false, "{text} is no escape under {switches:?}"),
-        Err(e) => {
-            let spans = (e.span(), e.char_span());
-            let is_there = spans.0.as_ref() == Some(span) && spans.1.as_ref() == Some(char_span);
-            assert!(rt;
-                e.kind() == kind && is_there,
-                "{text} under {switches:?}: {e}"
-            );
-        }
+) -> bool {
+    let Some(Err(e)) = read(text, switches) else {
+        return false;
+    };
+    match (e.span(), e.char_span()) {
+        (Some(bytes), Some(chars)) => e.kind() == kind && bytes == *span && chars == *char_span,
+        _ => false,
     }
+}
+
+/// Fails where an escape is not read as expected.
+fn check(rt: &impl Abort, holds: bool, text: &str, switches: Switches) {
+    assert!(rt; holds, "{text} under {switches:?}");
 }
 
 #[test]
 fn escapes(rt: HostRuntime) {
     for (text, switches, value, len) in ESCAPES {
-        check_escape(&rt, text, *switches, *value, *len);
+        let holds = is_escape(text, *switches, *value, *len);
+        check(&rt, holds, text, *switches);
     }
 }
 
 #[test]
 fn unicode_escapes(rt: HostRuntime) {
     for (text, switches, value, len) in UNICODE_ESCAPES {
-        check_escape(&rt, text, *switches, *value, *len);
+        let holds = is_escape(text, *switches, *value, *len);
+        check(&rt, holds, text, *switches);
     }
 }
 
 #[test]
 fn refused_escapes(rt: HostRuntime) {
     for (text, switches, kind, span, char_span) in REFUSED {
-        check_refused(&rt, text, *switches, *kind, span, char_span);
+        let holds = is_refused(text, *switches, *kind, span, char_span);
+        check(&rt, holds, text, *switches);
     }
 }
 
 #[test]
 fn refused_unicode_escapes(rt: HostRuntime) {
     for (text, switches, kind, span, char_span) in REFUSED_IN_BRACES {
-        check_refused(&rt, text, *switches, *kind, span, char_span);
+        let holds = is_refused(text, *switches, *kind, span, char_span);
+        check(&rt, holds, text, *switches);
     }
 }
 
@@ -288,19 +292,33 @@ fn escaped(alloc: Global, character: char) -> Result<String, AllocError> {
     Ok(text)
 }
 
+/// Checks a text of a backslash and this ASCII character.
+fn check_letter(rt: &impl Abort, text: &str, letter: u8) {
+    for switches in &ALL {
+        let holds = match of_letter(letter, *switches) {
+            Ok(value) => is_escape(text, *switches, Unescape::Byte(value), 2),
+            Err(kind) => is_refused(text, *switches, kind, &(0..2), &(0..2)),
+        };
+        check(rt, holds, text, *switches);
+    }
+}
+
 /// Each ASCII character behind a backslash.
 #[test]
 fn all_letters(rt: HostRuntime) -> Result<(), Fail> {
     for letter in 0..128 {
         let text = escaped(rt.alloc(), char::from(letter))?;
-        for switches in ALL {
-            match of_letter(letter, switches) {
-                Ok(value) => check_escape(&rt, &text, switches, Unescape::Byte(value), 2),
-                Err(kind) => check_refused(&rt, &text, switches, kind, &(0..2), &(0..2)),
-            }
-        }
+        check_letter(&rt, &text, letter);
     }
     Ok(())
+}
+
+/// Checks a text of a backslash and one other character.
+fn check_unknown(rt: &impl Abort, text: &str) {
+    for switches in &ALL {
+        let holds = is_refused(text, *switches, UnknownEscape, &(0..2), &(0..text.len()));
+        check(rt, holds, text, *switches);
+    }
 }
 
 /// Each byte from 128 on that begins a character, behind a backslash, whatever follows it.
@@ -308,69 +326,69 @@ fn all_letters(rt: HostRuntime) -> Result<(), Fail> {
 fn all_bytes_that_begin_other_characters(rt: HostRuntime) -> Result<(), Fail> {
     for code in (128..=0x10FFFF).step_by(64) {
         if let Some(character) = char::from_u32(code) {
-            let text = escaped(rt.alloc(), character)?;
-            for switches in ALL {
-                check_refused(
-                    &rt,
-                    &text,
-                    switches,
-                    UnknownEscape,
-                    &(0..2),
-                    &(0..text.len()),
-                );
-            }
+            check_unknown(&rt, escaped(rt.alloc(), character)?.as_str());
         }
     }
     Ok(())
+}
+
+/// Checks a text of `\x` and this value.
+fn check_hex(rt: &impl Abort, text: &str, value: u8) {
+    for switches in &ALL {
+        let (_, byte_escapes, allow_nul) = *switches;
+        let holds = if value >= 128 && !byte_escapes {
+            is_refused(text, *switches, NonAsciiXEscape, &(0..4), &(0..4))
+        } else if value == 0 && !allow_nul {
+            is_refused(text, *switches, DisallowedNulEscape, &(0..4), &(0..4))
+        } else {
+            is_escape(text, *switches, Unescape::Byte(value), 4)
+        };
+        check(rt, holds, text, *switches);
+    }
 }
 
 /// Each value of `\x`.
 #[test]
 fn all_bytes_in_hex(rt: HostRuntime) -> Result<(), Fail> {
     for value in 0..=255 {
-        let lower = format!(in rt.alloc(); "\\x{value:02x}")?;
-        let upper = format!(in rt.alloc(); "\\x{value:02X}")?;
-        for switches in ALL {
-            let (_, byte_escapes, allow_nul) = switches;
-            for text in [&lower, &upper] {
-                if value >= 128 && !byte_escapes {
-                    check_refused(&rt, text, switches, NonAsciiXEscape, &(0..4), &(0..4));
-                } else if value == 0 && !allow_nul {
-                    check_refused(&rt, text, switches, DisallowedNulEscape, &(0..4), &(0..4));
-                } else {
-                    check_escape(&rt, text, switches, Unescape::Byte(value), 4);
-                }
-            }
-        }
+        check_hex(
+            &rt,
+            format!(in rt.alloc(); "\\x{value:02x}")?.as_str(),
+            value,
+        );
+        check_hex(
+            &rt,
+            format!(in rt.alloc(); "\\x{value:02X}")?.as_str(),
+            value,
+        );
     }
     Ok(())
 }
 
-/// An underscore at each place of `\u{1f602}`.
+/// An underscore at each place of `\u{1f602}`, and the length where that is an escape.
+const UNDERSCORES: &[(&str, usize)] = &[
+    ("\\u{1_f602}", 10),
+    ("\\u{1f_602}", 10),
+    ("\\u{1f6_02}", 10),
+    ("\\u{1f60_2}", 10),
+    ("\\u{1f602_}", 10),
+    ("\\u{1f602}_", 9),
+];
+
+/// The same where it is none, with the kind and the span.
+const REFUSED_UNDERSCORES: &[(&str, ParseErrorKind, Range<usize>)] = &[
+    ("\\_u{1f602}", UnknownEscape, 0..2),
+    ("\\u_{1f602}", UnicodeEscapeWithoutBrace, 0..2),
+    ("\\u{_1f602}", InvalidStartOfUnicodeEscape, 3..4),
+];
+
 #[test]
 fn underscores(rt: HostRuntime) {
     let value = Unescape::Unicode('\u{1f602}');
-    check_refused(&rt, "\\_u{1f602}", CHAR, UnknownEscape, &(0..2), &(0..2));
-    check_refused(
-        &rt,
-        "\\u_{1f602}",
-        CHAR,
-        UnicodeEscapeWithoutBrace,
-        &(0..2),
-        &(0..2),
-    );
-    check_refused(
-        &rt,
-        "\\u{_1f602}",
-        CHAR,
-        InvalidStartOfUnicodeEscape,
-        &(3..4),
-        &(3..4),
-    );
-    check_escape(&rt, "\\u{1_f602}", CHAR, value, 10);
-    check_escape(&rt, "\\u{1f_602}", CHAR, value, 10);
-    check_escape(&rt, "\\u{1f6_02}", CHAR, value, 10);
-    check_escape(&rt, "\\u{1f60_2}", CHAR, value, 10);
-    check_escape(&rt, "\\u{1f602_}", CHAR, value, 10);
-    check_escape(&rt, "\\u{1f602}_", CHAR, value, 9);
+    for (text, kind, span) in REFUSED_UNDERSCORES {
+        assert!(rt; is_refused(text, CHAR, *kind, span, span), "{text}");
+    }
+    for (text, len) in UNDERSCORES {
+        assert!(rt; is_escape(text, CHAR, value, *len), "{text}");
+    }
 }

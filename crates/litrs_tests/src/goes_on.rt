@@ -140,10 +140,7 @@ const LITERALS: &[&str] = &[
 #[test]
 fn beginnings_of_literals(rt: HostRuntime) {
     for text in LITERALS {
-        for (place, _) in text.char_indices() {
-            assert!(rt; goes_on(&text[..place]), "{text} up to {place}");
-        }
-        assert!(rt; goes_on(text), "{text} is a literal");
+        check_beginnings(&rt, text, None);
     }
 }
 
@@ -249,18 +246,30 @@ fn repeated(alloc: Global, front: &str, part: &str, count: usize) -> Result<Stri
     Ok(text)
 }
 
+/// Whether so many hashes behind the front, and a quote behind them, both have this answer.
+fn have_answer(
+    alloc: Global,
+    front: &str,
+    count: usize,
+    expected: bool,
+) -> Result<bool, AllocError> {
+    let mut text = repeated(alloc, front, "#", count)?;
+    let begins = goes_on(text.as_str());
+    text.push('"')?;
+    Ok(begins == expected && goes_on(text.as_str()) == expected)
+}
+
+/// Whether up to 255 hashes behind the front begin a literal.
+fn takes_255(alloc: Global, front: &str) -> Result<bool, AllocError> {
+    Ok(have_answer(alloc, front, 255, true)? && have_answer(alloc, front, 256, false)?)
+}
+
+const RAW_FRONTS: &[&str] = &["r", "br", "cr"];
+
 #[test]
 fn hashes_up_to_255(rt: HostRuntime) -> Result<(), Fail> {
-    let alloc = rt.alloc();
-    for front in ["r", "br", "cr"] {
-        let mut text = repeated(alloc, front, "#", 255)?;
-        assert!(rt; goes_on(text.as_str()));
-        text.push('"')?;
-        assert!(rt; goes_on(text.as_str()));
-        let mut text = repeated(alloc, front, "#", 256)?;
-        assert!(rt; !goes_on(text.as_str()));
-        text.push('"')?;
-        assert!(rt; !goes_on(text.as_str()));
+    for front in RAW_FRONTS {
+        assert!(rt; takes_255(rt.alloc(), front)?, "{front}");
     }
     Ok(())
 }

@@ -25,6 +25,10 @@ mod quoted;
 #[cfg(test)]
 mod raw;
 #[cfg(test)]
+mod refusals;
+#[cfg(test)]
+mod short_values;
+#[cfg(test)]
 mod strings;
 #[cfg(test)]
 mod tokens;

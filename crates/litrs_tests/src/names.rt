@@ -1,10 +1,9 @@
 //! The types of numbers, by their names.
-use crate::printing::check_printed;
+use crate::printing::is_printed;
 use litrs::{FloatType, FromIntegerLiteral, IntegerType};
-use std::alloc::{AllocError, Global};
+use std::alloc::Global;
 use std::fmt::Display;
 use std::process::Abort;
-use std::test::Fail;
 
 /// Each type with its name.
 const TYPES: &[(IntegerType, &str)] = &[
@@ -22,60 +21,61 @@ const TYPES: &[(IntegerType, &str)] = &[
     (IntegerType::Isize, "isize"),
 ];
 
-/// Checks what is printed of a type.
-fn check_name<D: Display>(
-    rt: &impl Abort,
-    alloc: Global,
-    ty: &D,
-    name: &str,
-) -> Result<(), AllocError> {
-    assert_eq!(rt; ty.to_string(alloc)?.as_str(), name);
-    Ok(())
+/// Whether this is printed of a value.
+pub(crate) fn says<D: Display>(alloc: Global, value: &D, message: &str) -> bool {
+    match value.to_string(alloc) {
+        Ok(text) => text.as_str() == message,
+        Err(_) => false,
+    }
+}
+
+/// Whether the type is printed so, and found by the name.
+fn is_named(alloc: Global, ty: IntegerType, name: &str) -> bool {
+    let is_found = IntegerType::from_suffix(name) == Some(ty)
+        && name.parse::<IntegerType>() == Ok(ty);
+    is_found && ty.suffix() == name && says(alloc, &ty, name)
 }
 
 #[test]
-fn types_by_their_names(rt: HostRuntime) -> Result<(), Fail> {
+fn types_by_their_names(rt: HostRuntime) {
     for (ty, name) in TYPES {
-        check_name(&rt, rt.alloc(), ty, name)?;
-        assert!(rt;
-            ty.suffix() == *name && name.parse::<IntegerType>() == Ok(*ty),
-            "{name}"
-        );
-        assert!(rt; IntegerType::from_suffix(name) == Some(*ty), "{name}");
+        assert!(rt; is_named(rt.alloc(), *ty, name), "{name}");
     }
     let printed = "u128|   u128|u128   | u128  |u128|";
-    check_printed(&rt, rt.alloc(), &IntegerType::U128, printed)?;
-    Ok(())
+    assert!(rt; is_printed(rt.alloc(), &IntegerType::U128, printed));
 }
+
+const NO_TYPES: &[&str] = &["", "u", "f32", "U8", "u8 "];
 
 #[test]
 fn names_of_no_type(rt: HostRuntime) {
-    for name in ["", "u", "f32", "U8", "u8 "] {
-        assert_eq!(rt; IntegerType::from_suffix(name), None);
-        assert_eq!(rt; name.parse::<IntegerType>(), Err(()));
+    for name in NO_TYPES {
+        let none = IntegerType::from_suffix(name).is_none();
+        assert!(rt; none && name.parse::<IntegerType>() == Err(()), "{name}");
     }
 }
 
-#[test]
-fn float_types_by_their_names(rt: HostRuntime) -> Result<(), Fail> {
-    for (ty, name) in [(FloatType::F32, "f32"), (FloatType::F64, "f64")] {
-        check_name(&rt, rt.alloc(), &ty, name)?;
-        assert!(rt;
-            ty.suffix() == name && name.parse::<FloatType>() == Ok(ty),
-            "{name}"
-        );
-        assert!(rt; FloatType::from_suffix(name) == Some(ty), "{name}");
-    }
-    let printed = "f64|    f64|f64    |  f64  |f64|";
-    check_printed(&rt, rt.alloc(), &FloatType::F64, printed)?;
-    Ok(())
+/// The same of a type of floats.
+fn is_float_named(alloc: Global, ty: FloatType, name: &str) -> bool {
+    let is_found = FloatType::from_suffix(name) == Some(ty) && name.parse::<FloatType>() == Ok(ty);
+    is_found && ty.suffix() == name && says(alloc, &ty, name)
 }
+
+#[test]
+fn float_types_by_their_names(rt: HostRuntime) {
+    assert!(rt; is_float_named(rt.alloc(), FloatType::F32, "f32"));
+    assert!(rt; is_float_named(rt.alloc(), FloatType::F64, "f64"));
+    let printed = "f64|    f64|f64    |  f64  |f64|";
+    assert!(rt; is_printed(rt.alloc(), &FloatType::F64, printed));
+}
+
+const NO_FLOAT_TYPES: &[&str] = &["", "f", "u32", "F32", "f16", "f128", "f64 "];
 
 #[test]
 fn names_of_no_float_type(rt: HostRuntime) {
-    for name in ["", "f", "u32", "F32", "f16", "f128", "f64 "] {
-        assert!(rt; FloatType::from_suffix(name).is_none(), "{name}");
-        assert!(rt; name.parse::<FloatType>() == Err(()), "{name}");
+    for name in NO_FLOAT_TYPES {
+        let none = FloatType::from_suffix(name).is_none();
+        assert!(rt; none && name.parse::<FloatType>() == Err(()), "{name}");
     }
 }
 
@@ -95,7 +95,7 @@ fn each_type_names_itself(rt: HostRuntime) {
         i128::ty(),
         isize::ty(),
     ];
-    for (found, (ty, _)) in own.iter().zip(TYPES) {
-        assert_eq!(rt; found, ty);
+    for (found, (ty, name)) in own.iter().zip(TYPES) {
+        assert!(rt; found == ty, "{name}");
     }
 }

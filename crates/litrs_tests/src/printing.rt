@@ -3,7 +3,6 @@ use litrs::{Buffer, Literal};
 use std::alloc::{AllocError, Global};
 use std::fmt::Display;
 use std::process::Abort;
-use std::test::Fail;
 
 /// A literal, and what is printed of it without a width, to the right, to the left and in the
 /// middle of 7 columns, and at a width of 2. Numbers ignore a width.
@@ -18,46 +17,46 @@ const PRINTED: &[(&str, &str)] = &[
     ("c\"é\"x", "c\"é\"x|  c\"é\"x|c\"é\"x  | c\"é\"x |c\"é\"x|"),
 ];
 
-/// Checks what is printed at each width.
-pub fn check_printed<D: Display>(
-    rt: &impl Abort,
-    alloc: Global,
-    value: &D,
-    expected: &str,
-) -> Result<(), AllocError> {
-    let printed = format!(in alloc; "{value}|{value:>7}|{value:<7}|{value:^7}|{value:2}|")?;
-    assert_eq!(rt; printed.as_str(), expected);
-    Ok(())
+/// Whether this is printed at each width.
+pub(crate) fn is_printed<D: Display>(alloc: Global, value: &D, expected: &str) -> bool {
+    match format!(in alloc; "{value}|{value:>7}|{value:<7}|{value:^7}|{value:2}|") {
+        Ok(printed) => printed.as_str() == expected,
+        Err(_) => false,
+    }
 }
 
-/// Checks what is printed of a literal, and of the literal of its kind.
-fn check_literal<B: Buffer>(
-    rt: &impl Abort,
-    alloc: Global,
-    literal: &Literal<B>,
-    expected: &str,
-) -> Result<(), AllocError> {
-    check_printed(rt, alloc, literal, expected)?;
+/// Whether this is printed of the literal of its kind.
+fn is_kind_printed<B: Buffer>(alloc: Global, literal: &Literal<B>, expected: &str) -> bool {
     match literal {
-        Literal::Bool(lit) => check_printed(rt, alloc, lit, expected),
-        Literal::Integer(lit) => check_printed(rt, alloc, lit, expected),
-        Literal::Float(lit) => check_printed(rt, alloc, lit, expected),
-        Literal::Char(lit) => check_printed(rt, alloc, lit, expected),
-        Literal::String(lit) => check_printed(rt, alloc, lit, expected),
-        Literal::Byte(lit) => check_printed(rt, alloc, lit, expected),
-        Literal::ByteString(lit) => check_printed(rt, alloc, lit, expected),
-        Literal::CString(lit) => check_printed(rt, alloc, lit, expected),
+        Literal::Bool(lit) => is_printed(alloc, lit, expected),
+        Literal::Integer(lit) => is_printed(alloc, lit, expected),
+        Literal::Float(lit) => is_printed(alloc, lit, expected),
+        Literal::Char(lit) => is_printed(alloc, lit, expected),
+        Literal::String(lit) => is_printed(alloc, lit, expected),
+        Literal::Byte(lit) => is_printed(alloc, lit, expected),
+        Literal::ByteString(lit) => is_printed(alloc, lit, expected),
+        Literal::CString(lit) => is_printed(alloc, lit, expected),
+    }
+}
+
+/// Whether this is printed of the literal of a text, and of the literal of its kind.
+fn is_text_printed<B: Buffer>(alloc: Global, text: B, expected: &str) -> bool {
+    match &Literal::parse(alloc, text) {
+        Ok(lit) => is_printed(alloc, lit, expected) && is_kind_printed(alloc, lit, expected),
+        Err(_) => false,
     }
 }
 
 #[test]
-fn printed_literals(rt: HostRuntime) -> Result<(), Fail> {
+fn printed_literals(rt: HostRuntime) -> Result<(), AllocError> {
     let alloc = rt.alloc();
     for (text, expected) in PRINTED {
-        let text: &'static str = text;
-        check_literal(&rt, alloc, &Literal::parse(alloc, text)?, expected)?;
-        let owned = Literal::parse(alloc, String::from_str(alloc, text)?)?;
-        check_literal(&rt, alloc, &owned, expected)?;
+        assert!(rt; is_text_printed(alloc, *text, expected), "{text}");
+        let owned = String::from_str(alloc, text)?;
+        assert!(rt;
+            is_text_printed(alloc, owned, expected),
+            "{text} over String"
+        );
     }
     Ok(())
 }

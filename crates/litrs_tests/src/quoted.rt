@@ -1,8 +1,8 @@
 //! Where quoted strings are cut.
+use crate::refusals::{Place, is_refusal};
 use litrs_bodies::{QuotedCut, cut_quoted};
 use litrs_lex::ParseError;
 use litrs_lex::ParseErrorKind::{self, *};
-use std::ops::Range;
 use std::process::Abort;
 
 /// What the escapes of a kind of literal may be, by the switches of `cut_quoted`.
@@ -40,14 +40,7 @@ const CUTS: &[(&str, usize, Switches, (usize, bool, usize))] = &[
 ];
 
 /// A text, where its body begins, the switches; then the kind, the span and the character span.
-type Refusal = (
-    &'static str,
-    usize,
-    Switches,
-    ParseErrorKind,
-    Option<Range<usize>>,
-    Option<Range<usize>>,
-);
+type Refusal = (&'static str, usize, Switches, ParseErrorKind, Place, Place);
 
 const REFUSALS: &[Refusal] = &[
     ("\"", 1, STRING, UnterminatedString, None, None),
@@ -174,40 +167,46 @@ const REFUSALS: &[Refusal] = &[
     ),
 ];
 
-/// The text cut from the offset, which is a character boundary.
-fn cut_at(
-    text: &str,
-    offset: usize,
-    switches: (bool, bool, bool),
-) -> Option<Result<QuotedCut, ParseError>> {
+/// The text cut from the offset, which is a character boundary in each text here.
+fn cut_at(text: &str, offset: usize, switches: Switches) -> Option<Result<QuotedCut, ParseError>> {
     if !text.is_char_boundary(offset) {
         return None;
     }
     Some(cut_quoted(text, offset, switches.0, switches.1, switches.2))
 }
 
+/// Whether the text is cut so.
+fn is_cut(text: &str, offset: usize, switches: Switches, expected: (usize, bool, usize)) -> bool {
+    let (value_len, has_escape, start_suffix) = expected;
+    match cut_at(text, offset, switches) {
+        Some(Ok(cut)) => {
+            cut.value_len == value_len
+                && cut.has_escape == has_escape
+                && cut.start_suffix == start_suffix
+        }
+        _ => false,
+    }
+}
+
 #[test]
 fn cuts(rt: HostRuntime) {
     for (text, offset, switches, expected) in CUTS {
-        match cut_at(text, *offset, *switches) {
-            Some(Ok(cut)) => {
-                let cut = (cut.value_len, cut.has_escape, cut.start_suffix);
-                assert!(rt; cut == *expected, "{text} is cut at {cut:?}");
-            }
-            _ => assert!(rt; false, "{text} is a literal"),
-        }
+        assert!(rt; is_cut(text, *offset, *switches, *expected), "{text}");
+    }
+}
+
+/// Whether the text is refused as the row says.
+fn is_refused(row: &Refusal) -> bool {
+    let (text, offset, switches, kind, span, char_span) = row;
+    match cut_at(text, *offset, *switches) {
+        Some(Err(e)) => is_refusal(&e, *kind, span, char_span),
+        _ => false,
     }
 }
 
 #[test]
 fn refusals(rt: HostRuntime) {
-    for (text, offset, switches, kind, span, char_span) in REFUSALS {
-        match cut_at(text, *offset, *switches) {
-            Some(Err(e)) => {
-                let is_so = e.kind() == *kind && e.span() == *span;
-                assert!(rt; is_so && e.char_span() == *char_span, "{text}: {e}");
-            }
-            _ => assert!(rt; false, "{text} is no literal"),
-        }
+    for row in REFUSALS {
+        assert!(rt; is_refused(row), "{}", row.0);
     }
 }

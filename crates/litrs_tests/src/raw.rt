@@ -1,25 +1,17 @@
 //! Raw strings behind fronts of all lengths.
+use crate::refusals::{Place, is_at};
 use litrs_bodies::scan_raw_string;
 use litrs_lex::ParseError;
 use litrs_lex::ParseErrorKind::{self, *};
 use std::alloc::{AllocError, Global};
-use std::ops::Range;
 use std::process::Abort;
-use std::test::Fail;
 
 /// A text, the offset behind its `r`, what is allowed (characters beyond ASCII, NUL), the number of
 /// hashes, and where the suffix begins.
 type Raw = (&'static str, usize, bool, bool, u8, usize);
 
 /// A text, the offset, what is allowed, and the refusal.
-type Refused = (
-    &'static str,
-    usize,
-    bool,
-    bool,
-    ParseErrorKind,
-    Option<Range<usize>>,
-);
+type Refused = (&'static str, usize, bool, bool, ParseErrorKind, Place);
 
 const RAW: &[Raw] = &[
     (r#"r"\n""#, 1, true, true, 0, 5),
@@ -63,90 +55,91 @@ const REFUSED: &[Refused] = &[
     ("r\"a\"🦊", 1, true, true, InvalidSuffix, Some(4..5)),
 ];
 
-/// Scans from the offset, which is a character boundary.
+/// Scans from the offset, which is a character boundary in each text here.
 fn scan(
-    rt: &impl Abort,
     text: &str,
     offset: usize,
     unicode: bool,
     allow_nul: bool,
-) -> Result<(u8, usize), ParseError> {
+) -> Option<Result<(u8, usize), ParseError>> {
     if !text.is_char_boundary(offset) {
-        panic!(rt; "{offset} is no boundary");
+        return None;
     }
-    scan_raw_string(text, offset, unicode, allow_nul)
+    Some(scan_raw_string(text, offset, unicode, allow_nul))
+}
+
+/// Whether the text is a raw string as the row says.
+fn is_raw(row: &Raw) -> bool {
+    let (text, offset, unicode, allow_nul, hashes, suffix) = *row;
+    match scan(text, offset, unicode, allow_nul) {
+        Some(Ok((count, place))) => count == hashes && place == suffix,
+        _ => false,
+    }
 }
 
 #[test]
 fn raw_strings(rt: HostRuntime) {
-    for (text, offset, unicode, allow_nul, hashes, suffix) in RAW {
-        match scan(&rt, text, *offset, *unicode, *allow_nul) {
-            Ok(cut) => assert_eq!(rt; cut, (*hashes, *suffix), "at {text}"),
-            Err(e) => assert!(rt; false, "{text} is a raw string, but {e}"),
-        }
+    for row in RAW {
+        assert!(rt; is_raw(row), "{}", row.0);
     }
 }
 
-/// Checks that the text is refused so behind the offset.
-fn check_refused(
-    rt: &impl Abort,
-    text: &str,
-    offset: usize,
-    allowed: (bool, bool),
-    kind: ParseErrorKind,
-    span: &Option<Range<usize>>,
-) {
-    match scan(rt, text, offset, allowed.0, allowed.1) {
-        Ok(_) => assert!(rt; false, "{text} is no raw string"),
-        Err(e) => assert!(rt; e.kind() == kind && e.span() == *span, "{text}: {e}"),
+/// Whether the text is refused as the row says.
+fn is_refused(row: &Refused) -> bool {
+    let (text, offset, unicode, allow_nul, kind, span) = row;
+    match scan(text, *offset, *unicode, *allow_nul) {
+        Some(Err(e)) => is_at(&e, *kind, span),
+        _ => false,
     }
 }
 
 #[test]
 fn refused_raw_strings(rt: HostRuntime) {
-    for (text, offset, unicode, allow_nul, kind, span) in REFUSED {
-        check_refused(&rt, text, *offset, (*unicode, *allow_nul), *kind, span);
+    for row in REFUSED {
+        assert!(rt; is_refused(row), "{}", row.0);
     }
+}
+
+fn push_hashes(text: &mut String, count: usize) -> Result<(), AllocError> {
+    for _ in 0..count {
+        text.push('#')?;
+    }
+    Ok(())
 }
 
 /// A raw byte string with so many hashes at each end.
 fn with_hashes(alloc: Global, before: usize, after: usize) -> Result<String, AllocError> {
     let mut text = String::from_str(alloc, "br")?;
-    for _ in 0..before {
-        text.push('#')?;
-    }
+    push_hashes(&mut text, before)?;
     text.push_str("\"peter\"")?;
-    for _ in 0..after {
-        text.push('#')?;
-    }
+    push_hashes(&mut text, after)?;
     Ok(text)
 }
 
-#[test]
-fn many_hashes(rt: HostRuntime) -> Result<(), Fail> {
-    let alloc = rt.alloc();
-    let most = with_hashes(alloc, 255, 255)?;
-    match scan(&rt, most.as_str(), 2, false, true) {
-        Ok(cut) => assert_eq!(rt; cut, (255, 519)),
-        Err(e) => assert!(rt; false, "255 hashes are allowed, but {e}"),
+/// What a scan of such a byte string answers.
+fn scan_hashes(
+    alloc: Global,
+    before: usize,
+    after: usize,
+) -> Option<Result<(u8, usize), ParseError>> {
+    match &with_hashes(alloc, before, after) {
+        Ok(text) => scan(text, 2, false, true),
+        Err(_) => None,
     }
-    let open = with_hashes(alloc, 255, 254)?;
-    check_refused(
-        &rt,
-        open.as_str(),
-        2,
-        (false, true),
-        UnterminatedRawString,
-        &None,
-    );
-    let over = with_hashes(alloc, 256, 256)?;
-    check_refused(
-        &rt,
-        over.as_str(),
-        2,
-        (false, true),
-        TooManyHashes,
-        &Some(2..258),
-    );
-    Ok(())
+}
+
+#[test]
+fn many_hashes(rt: HostRuntime) {
+    match scan_hashes(rt.alloc(), 255, 255) {
+        Some(Ok(cut)) => assert!(rt; cut.0 == 255 && cut.1 == 519),
+        _ => panic!(rt; "255 hashes are allowed"),
+    }
+    match scan_hashes(rt.alloc(), 255, 254) {
+        Some(Err(e)) => assert!(rt; is_at(&e, UnterminatedRawString, &None)),
+        _ => panic!(rt; "the end lacks a hash"),
+    }
+    match scan_hashes(rt.alloc(), 256, 256) {
+        Some(Err(e)) => assert!(rt; is_at(&e, TooManyHashes, &Some(2..258))),
+        _ => panic!(rt; "256 hashes are too many"),
+    }
 }

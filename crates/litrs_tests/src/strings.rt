@@ -1,8 +1,8 @@
 //! Values of quoted strings.
 use litrs_bodies::unescape_string;
 use litrs_lex::ParseErrorKind;
+use std::alloc::Global;
 use std::process::Abort;
-use std::test::Fail;
 
 /// A text, the value where the body has a backslash, and the place of the suffix.
 const STRINGS: &[(&str, Option<&str>, usize)] = &[
@@ -15,60 +15,78 @@ const STRINGS: &[(&str, Option<&str>, usize)] = &[
     ("\"\\\\\\\"\\'\\0\\t\\r\\x41\"", Some("\\\"'\0\t\rA"), 18),
 ];
 
-#[test]
-fn strings(rt: HostRuntime) -> Result<(), Fail> {
-    for (text, expected, place) in STRINGS {
-        match unescape_string::<String>(rt.alloc(), text, 1, true, false, true) {
-            Ok((value, start_suffix)) => {
-                let value = value.as_ref().map(String::as_str);
-                assert!(rt;
-                    value == *expected && start_suffix == *place,
-                    "{text}: {value:?}"
-                );
-            }
-            Err(e) => assert!(rt; false, "{text}: {e}"),
-        }
+/// What a string that begins with a quote, as each one here does, is unescaped to.
+fn unescaped(alloc: Global, text: &str) -> Result<(Option<String>, usize), ParseErrorKind> {
+    if !text.is_char_boundary(1) {
+        return Err(ParseErrorKind::InvalidStringLiteralStart);
     }
-    Ok(())
+    match unescape_string::<String>(alloc, text, 1, true, false, true) {
+        Ok(read) => Ok(read),
+        Err(e) => Err(e.kind()),
+    }
+}
+
+/// Whether the text has this value and this place of the suffix.
+fn is_string(alloc: Global, text: &str, expected: Option<&str>, place: usize) -> bool {
+    match &unescaped(alloc, text) {
+        Ok((value, found)) => {
+            let value = match value {
+                Some(value) => Some(value.as_str()),
+                None => None,
+            };
+            *found == place && value == expected
+        }
+        Err(_) => false,
+    }
 }
 
 #[test]
-fn bytes(rt: HostRuntime) -> Result<(), Fail> {
-    let text = "c\"\\xFF\\u{e9}\"";
-    match unescape_string::<Vec<u8>>(rt.alloc(), text, 2, true, true, false) {
-        Ok((value, start_suffix)) => {
-            match &value {
-                Some(value) => assert_eq!(rt; value.as_slice(), b"\xFF\xC3\xA9".as_slice()),
-                None => assert!(rt; false, "the body has a backslash"),
-            }
-            assert_eq!(rt; start_suffix, 13);
-        }
-        Err(e) => assert!(rt; false, "{e}"),
+fn strings(rt: HostRuntime) {
+    for (text, expected, place) in STRINGS {
+        assert!(rt; is_string(rt.alloc(), text, *expected, *place), "{text}");
     }
-    Ok(())
+}
+
+#[test]
+fn bytes(rt: HostRuntime) {
+    let text = "c\"\\xFF\\u{e9}\"";
+    match &unescape_string::<Vec<u8>>(rt.alloc(), text, 2, true, true, false) {
+        Ok((Some(value), start_suffix)) => {
+            assert!(rt; value.as_slice() == b"\xFF\xC3\xA9".as_slice());
+            assert!(rt; *start_suffix == 13);
+        }
+        _ => panic!(rt; "a literal whose body has a backslash"),
+    }
+}
+
+/// Texts that are no literals, and why.
+const REFUSED: &[(&str, ParseErrorKind)] = &[
+    ("\"a\\n", ParseErrorKind::UnterminatedEscape),
+    ("\"a\\nb", ParseErrorKind::UnterminatedString),
+    ("\"a\\nb\"_", ParseErrorKind::InvalidSuffix),
+];
+
+/// Whether the text is refused so.
+fn is_refused(alloc: Global, text: &str, kind: ParseErrorKind) -> bool {
+    match &unescaped(alloc, text) {
+        Ok(_) => false,
+        Err(found) => *found == kind,
+    }
 }
 
 /// What is no literal is refused so whether there is memory or not.
 #[test]
-fn refused_without_memory(rt: HostRuntime) -> Result<(), Fail> {
-    for (text, kind) in [
-        ("\"a\\n", ParseErrorKind::UnterminatedEscape),
-        ("\"a\\nb", ParseErrorKind::UnterminatedString),
-        ("\"a\\nb\"_", ParseErrorKind::InvalidSuffix),
-    ] {
-        match unescape_string::<String>(rt.alloc(), text, 1, true, false, true) {
-            Ok(_) => assert!(rt; false, "{text} is no literal"),
-            Err(e) => assert_eq!(rt; e.kind(), kind, "of {text}"),
-        }
+fn refused_without_memory(rt: HostRuntime) {
+    for (text, kind) in REFUSED {
+        assert!(rt; is_refused(rt.alloc(), text, *kind), "{text}");
     }
-    Ok(())
 }
 
 /// One allocation has room for the value, and for the closing zero where NUL is not allowed.
 #[test]
-fn room_of_one_allocation(rt: HostRuntime) -> Result<(), Fail> {
+fn room_of_one_allocation(rt: HostRuntime) {
     let text = "\"the fox jumps over the lazy dog\\n, the fox jumps\"_x";
-    if let Ok((Some(value), _)) = unescape_string::<String>(
+    if let Ok((Some(value), _)) = &unescape_string::<String>(
         rt.alloc(),
         text,
         1,
@@ -76,11 +94,10 @@ fn room_of_one_allocation(rt: HostRuntime) -> Result<(), Fail> {
         false,
         true,
     ) {
-        assert_eq!(rt; value.len(), 47);
-        assert_eq!(rt; value.capacity(), 47);
+        assert!(rt; value.len() == 47 && value.capacity() == 47);
     }
     let text = "c\"the fox jumps over the lazy dog\\n, the fox jumps\"";
-    if let Ok((Some(value), _)) = unescape_string::<Vec<u8>>(
+    if let Ok((Some(value), _)) = &unescape_string::<Vec<u8>>(
         rt.alloc(),
         text,
         2,
@@ -88,8 +105,6 @@ fn room_of_one_allocation(rt: HostRuntime) -> Result<(), Fail> {
         true,
         false,
     ) {
-        assert_eq!(rt; value.len(), 47);
-        assert_eq!(rt; value.capacity(), 48);
+        assert!(rt; value.len() == 47 && value.capacity() == 48);
     }
-    Ok(())
 }
