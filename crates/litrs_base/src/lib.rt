@@ -12,5 +12,3 @@ pub mod err;
 pub mod escape;
 pub mod float;
 pub mod integer;
-#[cfg(test)]
-mod tests;

@@ -1,5 +1,5 @@
 -- Values that are put together without an allocation, item by item.
-use Rattle.std.proofs.Common.{◌≡◌, ℕ, ◌+◌, ◌-◌, Bool, true, false, not, ◌||◌, List, [], ◌∷◌, ◌++◌, length, drop, take, refl, sym, ap, subst, ◌∙◌, arith, length-append, Option}
+use Rattle.std.proofs.Common.{◌≡◌, ◌≤◌, ℕ, ◌+◌, ◌-◌, Bool, true, false, not, ◌||◌, List, [], ◌∷◌, ◌++◌, length, drop, take, refl, sym, ap, subst, ◌∙◌, arith, length-append, Option}
 use Rattle.std.specs.Prelude.{encode_utf8_all, IsTrue}
 use Rattle.std.specs.List.{list_all}
 use Rattle.std.specs.Str.{chars, IsUtf8, IsCharBoundary}
@@ -7,6 +7,8 @@ use Rattle.std.proofs.Math.Utf8.{scalars}
 use Rattle.std.proofs.lemmas.Bool.{and_parts, and_from, true≢false}
 use Rattle.std.proofs.lemmas.Str.{scalars-chars}
 use Rattle.litrs_base.specs.Characters.{is_scalar}
+use Rattle.std.proofs.lemmas.List.{take-take, length-take-le, length-drop}
+use Rattle.std.proofs.Math.Seq.{take-append-add}
 use Rattle.std.proofs.lemmas.List.Folds.{list_all-append}
 use Rattle.litrs_base.specs.declared.escape.Unescape.{Unescape}
 use Rattle.litrs_grammar.specs.Escape.{Switches}
@@ -14,21 +16,20 @@ use Rattle.litrs_grammar.specs.Quoted.{QuotedParts, IsQuoted, body_text, body_va
 use Rattle.litrs_grammar.proofs.ValueLaws.{values_without_byte_escapes_are_utf8}
 use Rattle.litrs_bodies.specs.declared.quoted.QuotedCut.{QuotedCut}
 use Rattle.litrs_bodies.specs.QuotedCut.{IsQuotedCut}
-use Rattle.litrs_bodies.specs.declared.short_value.ShortValue.{ShortValue}
 use Rattle.litrs_bodies.specs.QuotedItems.{IsPlainRun, IsItemAt, EndsItems, item_bytes}
-use Rattle.litrs_bodies.specs.ShortValue.{Takes}
+use Rattle.litrs_bodies.specs.ShortValue.{Short, Takes}
 use Rattle.litrs_bodies.proofs.QuotedScan.{ReadsSome, reads_start, reads_run, reads_item}
 use Rattle.litrs_bodies.proofs.QuotedValues.{run_bytes, whole_value}
 
 -- Behind the front stand some items, which stand for so many bytes; and the value has these, where
 -- it is whole.
-pub record ReadsShort (w : Switches) (front t rest : List ℕ) (at value_len : ℕ) (short : ShortValue) : Type 0 where
+pub record ReadsShort (w : Switches) (front t rest : List ℕ) (at value_len : ℕ) (short : Short) : Type 0 where
   pub value : List ℕ
   pub reads : ReadsSome w front t rest at value
   pub size : value_len ≡ length value
-  pub held : IsTrue short.is_whole → short.bytes.items ≡ value
+  pub held : IsTrue short.is_whole → short.bytes ≡ value
 
-pub short_start : (w : Switches) (bytes : List ℕ) (n : ℕ) (short : ShortValue) → IsUtf8 bytes → IsCharBoundary bytes n → (IsTrue short.is_whole → short.bytes.items ≡ []) →
+pub short_start : (w : Switches) (bytes : List ℕ) (n : ℕ) (short : Short) → IsUtf8 bytes → IsCharBoundary bytes n → (IsTrue short.is_whole → short.bytes ≡ []) →
     ReadsShort w (chars (take n bytes)) (chars bytes) (chars (drop n bytes)) n 0 short
 short_start w bytes n short u at none = record {
   value = [];
@@ -37,7 +38,7 @@ short_start w bytes n short u at none = record {
   held = none;
 }
 
-pub short_run : (w : Switches) (front t bytes pushed : List ℕ) (at end value_len sum : ℕ) (old new : ShortValue) → IsUtf8 bytes → IsCharBoundary bytes at → IsPlainRun w bytes at end →
+pub short_run : (w : Switches) (front t bytes pushed : List ℕ) (at end value_len sum : ℕ) (old new : Short) → IsUtf8 bytes → IsCharBoundary bytes at → IsPlainRun w bytes at end →
     pushed ≡ take (end - at) (drop at bytes) → Takes old new pushed → value_len + (end - at) ≡ sum → ReadsShort w front t (chars (drop at bytes)) at value_len old →
     ReadsShort w front t (chars (drop end bytes)) end sum new
 short_run w front t bytes pushed at end value_len sum old new u start run is took total read =
@@ -50,7 +51,7 @@ short_run w front t bytes pushed at end value_len sum old new u start run is too
           ∙ ap (λ l. read.value ++ l) (sym (run_bytes w bytes pushed at end u start run is)));
     }
 
-pub short_item : (w : Switches) (front t bytes rest behind : List ℕ) (at len end value_len more sum : ℕ) (v : Option Unescape) (old new : ShortValue) → IsItemAt w rest len v →
+pub short_item : (w : Switches) (front t bytes rest behind : List ℕ) (at len end value_len more sum : ℕ) (v : Option Unescape) (old new : Short) → IsItemAt w rest len v →
     rest ≡ drop at bytes → drop len rest ≡ behind → at + len ≡ end → more ≡ length (item_bytes v) → value_len + more ≡ sum → Takes old new (item_bytes v) →
     ReadsShort w front t (chars (drop at bytes)) at value_len old → ReadsShort w front t (chars behind) end sum new
 short_item w front t bytes rest behind at len end value_len more sum v old new item is behind_is on size total took read =
@@ -62,11 +63,20 @@ short_item w front t bytes rest behind at len end value_len more sum v old new i
     }
 
 -- where the items of a literal end, its whole value has been put together
-pub whole_short : (w : Switches) (front t bytes rest : List ℕ) (at value_len : ℕ) (short : ShortValue) (q : QuotedParts) →
+pub whole_short : (w : Switches) (front t bytes rest : List ℕ) (at value_len : ℕ) (short : Short) (q : QuotedParts) →
     ReadsShort w front t (chars (drop at bytes)) at value_len short → rest ≡ drop at bytes → EndsItems w (chars rest) → IsTrue short.is_whole → IsQuoted front w t q →
-    short.bytes.items ≡ body_value q.items
+    short.bytes ≡ body_value q.items
 whole_short w front t bytes rest at value_len short q read is ends whole quoted =
     read.held whole ∙ whole_value w front t bytes rest read.value at q read.reads is ends quoted
+
+-- where more bytes are copied than are added, those behind them are no part of the value
+pub run_moved : (room before text piece : List ℕ) (len start count moved : ℕ) → piece ≡ take moved (drop start text) → count ≤ moved → moved ≤ length text - start → length before ≡ len →
+    take (len + length piece) room ≡ before ++ piece → take (len + count) room ≡ before ++ take count (drop start text)
+run_moved room before text piece len start count moved is fits within size copied =
+    let whole : length piece ≡ moved = ap length is ∙ length-take-le moved (drop start text) (omega (arith, length-drop start text)) in
+    sym (take-take (len + count) (len + length piece) room (omega arith)) ∙ (ap (take (len + count)) copied
+    ∙ (ap (λ n. take (n + count) (before ++ piece)) (sym size) ∙ (take-append-add before piece count
+    ∙ ap (λ l. before ++ l) (ap (take count) is ∙ take-take count moved (drop start text) fits))))
 
 -- What is UTF-8
 

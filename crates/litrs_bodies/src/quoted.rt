@@ -202,7 +202,9 @@ pub(crate) fn ends_items(rest: &str, unicode: bool, byte_escapes: bool, allow_nu
 
 /// [`items_end`] of a body whose plain characters at its front end at `from`. The value, empty
 /// before, takes the bytes of the items.
-#[inline(never)]
+///
+/// There is one piece for each kind of literal, as of [`first_plain_end`].
+#[inline(always)]
 pub(crate) fn more_items_end(
     input: &str,
     offset: usize,
@@ -214,25 +216,51 @@ pub(crate) fn more_items_end(
 ) -> ItemsEnd
     requires at { IsCharBoundary input.now offset }
     requires run { IsPlainRun (switches unicode byte_escapes allow_nul) input.now offset from }
-    requires empty { IsTrue value.old.is_whole → value.old.bytes.items ≡ [] }
+    requires empty { IsTrue value.old.is_whole → value.old.bytes ≡ [] }
     ensures end { IsItemsEnd (switches unicode byte_escapes allow_nul) input.now offset result }
     ensures value { IsTrue value.new.is_whole → (q : QuotedParts) →
         IsQuoted (chars (take offset input.now)) (switches unicode byte_escapes allow_nul)
         (chars input.now) q →
-        value.new.bytes.items ≡ body_value q.items }
+        value.new.bytes ≡ body_value q.items }
+{
+    match (unicode, allow_nul) {
+        (true, true) => read_items::<true, true>(input, offset, from, byte_escapes, value),
+        (true, false) => read_items::<true, false>(input, offset, from, byte_escapes, value),
+        (false, true) => read_items::<false, true>(input, offset, from, byte_escapes, value),
+        (false, false) => read_items::<false, false>(input, offset, from, byte_escapes, value),
+    }
+}
+
+/// [`more_items_end`], from item to item.
+#[inline(never)]
+fn read_items<const UNICODE: bool, const ALLOW_NUL: bool>(
+    input: &str,
+    offset: usize,
+    from: usize,
+    byte_escapes: bool,
+    value: &mut ShortValue,
+) -> ItemsEnd
+    requires at { IsCharBoundary input.now offset }
+    requires run { IsPlainRun (switches UNICODE byte_escapes ALLOW_NUL) input.now offset from }
+    requires empty { IsTrue value.old.is_whole → value.old.bytes ≡ [] }
+    ensures end { IsItemsEnd (switches UNICODE byte_escapes ALLOW_NUL) input.now offset result }
+    ensures value { IsTrue value.new.is_whole → (q : QuotedParts) →
+        IsQuoted (chars (take offset input.now)) (switches UNICODE byte_escapes ALLOW_NUL)
+        (chars input.now) q →
+        value.new.bytes ≡ body_value q.items }
 {
     let mut at = offset;
     let mut place = from;
     let mut value_len = 0;
     loop {
-        value.push_bytes(&input.as_bytes()[at..place]);
+        value.push_run(input.as_bytes(), at, place);
         value_len += place - at;
-        match next_item(&input[place..], unicode, byte_escapes, allow_nul) {
+        match next_item(&input[place..], UNICODE, byte_escapes, ALLOW_NUL) {
             Some(item) => {
                 value.push(item.value);
                 value_len += item.value_len();
                 at = place + item.len;
-                place = plain_end(input, at, unicode, byte_escapes, allow_nul);
+                place = plain_end(input, at, UNICODE, byte_escapes, ALLOW_NUL);
             }
             None => return ItemsEnd { place, value_len },
         }

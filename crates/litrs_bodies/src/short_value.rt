@@ -1,28 +1,46 @@
 //! Values that are put together without an allocation.
-ghost use Rattle.std.specs.Prelude.{◌≡◌, [], IsFalse};
+ghost use Rattle.std.specs.Prelude.{◌≡◌, ◌≤◌, ◌+◌, ◌-◌, ◌++◌, [], length, take, drop, IsFalse};
 ghost use Rattle.litrs_bodies.specs.QuotedItems.{item_bytes};
-ghost use Rattle.litrs_bodies.specs.ShortValue.{Takes};
+ghost use Rattle.litrs_bodies.specs.ShortValue.{Short, Takes};
+ghost use Rattle.litrs_bodies.specs.declared.short_value.TheConstants.{ROOM};
 
-use arrayvec::ArrayVec;
 use litrs_base::Unescape;
+use std::marker::Model;
+
+/// How many bytes there is room for.
+const ROOM: usize = 80;
+
+/// How many bytes are moved at once where a run has no more.
+const MOVED: usize = 16;
 
 /// The bytes of a value, put together without an allocation while there is room for them.
 #[derive(Drop)]
 pub(crate) struct ShortValue {
-    /// The bytes.
-    pub(crate) bytes: ArrayVec<u8, 64>,
+    /// The bytes, and behind them what may be written over.
+    room: [u8; ROOM],
+    /// How many bytes there are.
+    len: usize,
     /// Whether there was room for all that were added.
-    pub(crate) is_whole: bool,
+    is_whole: bool,
+}
+
+impl Model for ShortValue {
+    ghost Value = { Short };
+
+    ghost view = { λ s. record { bytes = take s.len s.room; is_whole = s.is_whole } };
+
+    ghost invariant = { λ s. s.len ≤ ROOM };
 }
 
 impl ShortValue {
     /// An empty one.
     #[inline(always)]
     pub(crate) fn new() -> ShortValue
-        ensures { result.bytes.items ≡ [] }
+        ensures { result.bytes ≡ [] }
     {
         ShortValue {
-            bytes: ArrayVec::new(),
+            room: [0; ROOM],
+            len: 0,
             is_whole: true,
         }
     }
@@ -33,21 +51,57 @@ impl ShortValue {
         ensures { IsFalse result.is_whole }
     {
         ShortValue {
-            bytes: ArrayVec::new(),
+            room: [0; ROOM],
+            len: 0,
             is_whole: false,
+        }
+    }
+
+    /// Whether there was room for all that were added.
+    #[inline(always)]
+    pub(crate) fn is_whole(&self) -> bool
+        ensures { result ≡ self.now.is_whole }
+    {
+        self.is_whole
+    }
+
+    /// The bytes.
+    #[inline(always)]
+    pub(crate) fn as_bytes(&self) -> &[u8]
+        ensures { result.now ≡ self.now.bytes }
+    {
+        &self.room[..self.len]
+    }
+
+    /// Adds the bytes of a text from one place up to another.
+    #[inline(always)]
+    pub(crate) fn push_run(&mut self, text: &[u8], start: usize, end: usize)
+        requires { (start ≤ end) × (end ≤ length text.now) }
+        ensures { Takes self.old self.new (take (end - start) (drop start text.now)) }
+    {
+        let count = end - start;
+        if count <= MOVED && text.len() - start >= MOVED && self.len <= ROOM - MOVED {
+            // A move of a fixed length costs less than one of as many bytes as there are.
+            copy_at(&mut self.room, self.len, &text[start..start + MOVED]);
+            self.len += count;
+        } else {
+            self.push_bytes(&text[start..end]);
         }
     }
 
     /// Adds bytes.
     #[inline(always)]
-    pub(crate) fn push_bytes(&mut self, bytes: &[u8])
+    fn push_bytes(&mut self, bytes: &[u8])
         ensures { Takes self.old self.new bytes.now }
     {
         // None stand between two escapes: no copy then.
         if bytes.is_empty() {
             return;
         }
-        if self.is_whole && self.bytes.try_extend_from_slice(bytes).is_err() {
+        if bytes.len() <= ROOM - self.len {
+            copy_at(&mut self.room, self.len, bytes);
+            self.len += bytes.len();
+        } else {
             self.is_whole = false;
         }
     }
@@ -59,11 +113,7 @@ impl ShortValue {
     {
         match value {
             None => {}
-            Some(Unescape::Byte(byte)) => {
-                if self.is_whole && self.bytes.try_push(byte).is_err() {
-                    self.is_whole = false;
-                }
-            }
+            Some(Unescape::Byte(byte)) => self.push_bytes(&[byte]),
             Some(Unescape::Unicode(character)) => {
                 let mut buffer = [0; 4];
                 let text = character.encode_utf8(&mut buffer);
@@ -71,4 +121,13 @@ impl ShortValue {
             }
         }
     }
+}
+
+/// Copies bytes over those from a place on.
+#[inline(always)]
+fn copy_at(room: &mut [u8; ROOM], place: usize, bytes: &[u8])
+    requires { place + length bytes.now ≤ ROOM }
+    ensures { take (place + length bytes.now) room.new ≡ take place room.old ++ bytes.now }
+{
+    room[place..place + bytes.len()].copy_from_slice(bytes);
 }

@@ -107,8 +107,8 @@ fn unescape_more<C: EscapeContainer>(
     } else {
         cut.value_len + 1
     };
-    let copied = if short.is_whole {
-        copy_short(alloc, &short.bytes, room)
+    let copied = if short.is_whole() {
+        copy_short(alloc, short.as_bytes(), room)
     } else {
         copy_value(alloc, input, offset, room, unicode, byte_escapes, allow_nul)
     };

@@ -6,5 +6,3 @@ pub use search::{Run, Special, next_special, run_end};
 
 mod lanes;
 pub mod search;
-#[cfg(test)]
-mod tests;

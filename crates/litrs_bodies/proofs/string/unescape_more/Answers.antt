@@ -5,7 +5,7 @@ use Rattle.std.proofs.lemmas.Result.{IfOk-at_ok}
 use Rattle.litrs_bodies.proofs.QuotedValues.{room_fits, true_by}
 use Rattle.litrs_bodies.proofs.ShortValues.{short_is_utf8}
 use Rattle.litrs_bodies.proofs.string.unescape_more.Goals as goal
-use Rattle.litrs_bodies.proofs.string.unescape_more.Goals.{then-short, else-short}
+use Rattle.litrs_bodies.proofs.string.unescape_more.Goals.{then-is_whole, else-is_whole}
 
 pub overflow_add-room : goal.overflow_add-room
 overflow_add-room g c =
@@ -14,8 +14,8 @@ overflow_add-room g c =
 
 pub copy_short-copied-requires : goal.copy_short-copied-requires
 copy_short-copied-requires g c = λ none.
-    subst IsUtf8 (sym c.deref.ensures.0)
-    (short_is_utf8 _ c.args.input.now _ _ _ g.C.EscapeContainer.TAKES_BYTES c.utf8.input c.in_ok-cut.ensures.ok (c.more_items_end-end.ensures.value c.if-short.true) c.requires.fits none)
+    subst IsUtf8 (sym c.as_bytes.ensures)
+    (short_is_utf8 _ c.args.input.now _ _ _ g.C.EscapeContainer.TAKES_BYTES c.utf8.input c.in_ok-cut.ensures.ok (c.more_items_end-end.ensures.value (sym c.is_whole.ensures ∙ c.if-is_whole.true)) c.requires.fits none)
 
 pub returns-in-Ok-clause-ok : goal.returns-in-Ok-clause-ok
 returns-in-Ok-clause-ok g c = record {
@@ -23,11 +23,11 @@ returns-in-Ok-clause-ok g c = record {
   is_cut = c.in_ok-cut.ensures.ok;
   place = refl;
   given = true_by c.in_ok-cut.cut.has_escape c.if-not-cut.false;
-  is_value = elim c.if-short.branch [
-    | then-short w ↦
+  is_value = elim c.if-is_whole.branch [
+    | then-is_whole w ↦
         IfOk-at_ok _ (sym w.copied-is ∙ c.in-Ok.is) w.copy_short-copied.ensures
-        ∙ (w.deref.ensures.0 ∙ c.more_items_end-end.ensures.value w.if-short.true c.in_ok-cut.ensures.ok.parts c.in_ok-cut.ensures.ok.only.0)
-    | else-short w ↦
+        ∙ (w.as_bytes.ensures ∙ c.more_items_end-end.ensures.value (sym c.is_whole.ensures ∙ w.if-is_whole.true) c.in_ok-cut.ensures.ok.parts c.in_ok-cut.ensures.ok.only.0)
+    | else-is_whole w ↦
         IfOk-at_ok _ (sym w.copied-is ∙ c.in-Ok.is) w.copy_value-copied.ensures c.in_ok-cut.ensures.ok.parts c.in_ok-cut.ensures.ok.only.0
   ];
 }

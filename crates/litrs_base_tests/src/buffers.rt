@@ -1,5 +1,5 @@
 //! Buffers: copies, parts and values.
-use crate::{Buffer, Text};
+use litrs_base::{Buffer, Text};
 use std::alloc::Global;
 use std::borrow::{CowSlice, CowStr};
 use std::process::Abort;

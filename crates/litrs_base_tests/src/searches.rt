@@ -1,6 +1,6 @@
 //! The searches against plain ones, over every length that the widths tell apart.
-use crate::{Run, Special, next_special, run_end};
 use litrs_base::IntegerBase;
+use litrs_search::{Run, Special, next_special, run_end};
 use std::process::Abort;
 use std::test::Fail;
 
