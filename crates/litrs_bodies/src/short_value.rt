@@ -10,7 +10,7 @@ use std::marker::Model;
 /// How many bytes there is room for.
 const ROOM: usize = 80;
 
-/// How many bytes are moved at once where a run has no more.
+/// The length in bytes of the one copy that serves for each run of at most so many bytes.
 const MOVED: usize = 16;
 
 /// The bytes of a value, put together without an allocation while there is room for them.
@@ -45,7 +45,7 @@ impl ShortValue {
         }
     }
 
-    /// One that has no room, where the bytes are not asked for.
+    /// One that is not whole, where the bytes are not asked for.
     #[inline(always)]
     pub(crate) fn unused() -> ShortValue
         ensures { IsFalse result.is_whole }
