@@ -13,7 +13,7 @@ std::arch::global_asm!(
     ".macro counted name",
     ".globl __wrap_\\name",
     "__wrap_\\name:",
-    "lock incq LITRS_BENCH_ALLOCATIONS(%rip)",
+    "incq LITRS_BENCH_ALLOCATIONS(%rip)",
     "jmp __real_\\name",
     ".endm",
     "counted malloc",

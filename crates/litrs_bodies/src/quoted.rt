@@ -1,5 +1,5 @@
 //! Where a quoted string, byte string or C string is cut.
-ghost use Rattle.std.specs.Prelude.{not, ◌-◌, [], take, ◌≡◌, ◌≤◌, ◌==◌, true, false, length, IfOk, IfErr, IfSome, IfNone, Some, None, IsTrue, IsFalse};
+ghost use Rattle.std.specs.Prelude.{not, ◌-◌, [], take, codes, ◌≡◌, ◌≤◌, ◌==◌, true, false, length, IfOk, IfErr, IfSome, IfNone, Some, None, IsTrue, IsFalse};
 ghost use Rattle.std.specs.List.{prefix_len};
 ghost use Rattle.std.specs.Str.{chars, IsCharBoundary};
 ghost use Rattle.litrs_base.specs.Characters.{line_feed, is_blank};
@@ -366,10 +366,19 @@ fn end_refusal(rest: &str, unicode: bool, byte_escapes: bool, allow_nul: bool) -
         ≡ Some (refusal_of e)) }
     ensures char_span { IfSome result (HasCharSpan (chars rest.now)) }
 {
-    match rest {
-        "\"" => None,
-        _ => rest_refusal(rest, unicode, byte_escapes, allow_nul),
+    if is_quote(rest.as_bytes()) {
+        None
+    } else {
+        rest_refusal(rest, unicode, byte_escapes, allow_nul)
     }
+}
+
+/// Whether a quote is all there is. It is the equality of texts, without a call.
+#[inline(always)]
+fn is_quote(bytes: &[u8]) -> bool
+    ensures { IsTrue result → bytes.now ≡ codes "\"" }
+{
+    matches!(bytes, [b'"'])
 }
 
 /// Why no item and no closing quote with a suffix stands at the front of a text that begins with no

@@ -45,6 +45,10 @@ impl BoolLit {
         ensures some { IfSome result (λ lit. bytes.now ≡ bool_text (bool_value lit)) }
         ensures none { IfNone result (IsFalse (is_bool bytes.now)) }
     {
+        // A range of letters that both words begin in, as one comparison tells most other texts.
+        let [b'f'..=b't', ..] = bytes else {
+            return None;
+        };
         let lit = match bytes {
             [b't', ..] => BoolLit::True,
             _ => BoolLit::False,

@@ -46,6 +46,8 @@ impl CString {
     /// # Errors
     ///
     /// `AllocError` where there is no memory for the zero. The bytes are dropped then.
+    // A call of its own, as `copy_of` is.
+    #[inline(never)]
     fn close(mut bytes: Vec<u8>) -> Result<CString, AllocError>
         requires { IsFalse (has_nul bytes.items) }
         ensures bytes { IfOk result (λ s. s ≡ bytes.items) }
@@ -60,13 +62,16 @@ impl CString {
     /// # Errors
     ///
     /// `AllocError` where there is no memory for them.
+    // A call of its own, so that the copy passes through memory once on its way into the literal.
+    #[inline(never)]
     fn copy_of(alloc: Global, bytes: &[u8]) -> Result<CString, AllocError>
         requires { IsFalse (has_nul bytes.now) }
         ensures { IfOk result (λ s. s ≡ bytes.now) }
     {
         let mut copy = Vec::with_capacity(alloc, bytes.len() + 1)?;
         copy.extend_from_slice(bytes)?;
-        CString::close(copy)
+        copy.push_reserved(0);
+        Ok(CString { bytes: copy })
     }
 
     /// The bytes without the closing zero: `b"ab"` of `c"ab"`. None of them is zero.
@@ -292,6 +297,7 @@ fn parse_body(alloc: Global, input: &str) -> Result<(Option<Vec<u8>>, StringCut)
 }
 
 /// The value with its closing zero: what was unescaped, or else the body itself.
+#[inline(always)]
 fn close_body(alloc: Global, unescaped: Option<Vec<u8>>, body: &[u8]) -> Result<CString, AllocError>
     requires { IsFalse (has_nul (unwrap_or (option_map vec_items unescaped) body.now)) }
     ensures { IfOk result (λ value.
