@@ -1,5 +1,5 @@
 //! What the parses answer where something is appended to a refused text.
-use crate::parses::{PARSES, all_texts, parse_by, refused_texts, string_value};
+use crate::parses::{PARSES, all_texts, parse_by, refusal_of, refused_texts, string_value};
 use crate::tables::{Parse, literals};
 use litrs::Literal;
 use litrs::ParseErrorKind::{self, *};
@@ -20,7 +20,7 @@ fn followed(alloc: Global, text: &str, end: &str) -> Result<String, AllocError> 
 /// Whether the parse refuses the text with this appended.
 fn is_refused(alloc: Global, parse: Parse, text: &str, end: &str) -> Result<bool, AllocError> {
     let longer = followed(alloc, text, end)?;
-    Ok(parse_by(alloc, parse, longer.as_str()).is_err())
+    Ok(refusal_of(alloc, parse, longer.as_str()).is_some())
 }
 
 /// Checks that the parse refuses the text with anything appended.
@@ -42,9 +42,9 @@ fn check_longer(
 
 /// Whether the parse refuses the text with a final kind.
 fn is_final(alloc: Global, parse: Parse, text: &str) -> bool {
-    match &parse_by(alloc, parse, text) {
-        Ok(_) => false,
-        Err(e) => e.is_final(),
+    match &refusal_of(alloc, parse, text) {
+        Some(e) => e.is_final(),
+        None => false,
     }
 }
 
@@ -169,8 +169,8 @@ fn closing(alloc: Global, kind: ParseErrorKind, front: &str) -> Result<String, A
 
 /// The open kind with which the parse refuses the text, where it does.
 fn open_kind(alloc: Global, parse: Parse, text: &str) -> Option<ParseErrorKind> {
-    match &parse_by(alloc, parse, text) {
-        Err(e) if e.is_open() => Some(e.kind()),
+    match &refusal_of(alloc, parse, text) {
+        Some(e) if e.is_open() => Some(e.kind()),
         _ => None,
     }
 }

@@ -1,8 +1,8 @@
 //! Every beginning of every text, by all nine parses.
-use crate::parses::{PARSES, all_texts, parse_by};
+use crate::parses::{PARSES, all_texts, refusal_of};
 use crate::tables::{Parse, literals};
 use litrs::ParseErrorKind::OutOfMemory;
-use litrs::{Literal, ParseError, goes_on};
+use litrs::{ParseError, goes_on};
 use std::alloc::Global;
 use std::process::Abort;
 use std::test::Fail;
@@ -36,19 +36,19 @@ pub(crate) fn has_place(text: &str, error: &ParseError) -> bool {
 
 /// Whether this parse takes the text, or refuses it at a place in it.
 fn has_answer(alloc: Global, parse: Parse, text: &str) -> bool {
-    match &parse_by(alloc, parse, text) {
-        Ok(_) => true,
-        Err(e) => e.kind() != OutOfMemory && has_place(text, e),
+    match &refusal_of(alloc, parse, text) {
+        Some(e) => e.kind() != OutOfMemory && has_place(text, e),
+        None => true,
     }
 }
 
 /// Whether `goes_on` agrees with what `Literal::parse` says of the text.
 fn agrees(alloc: Global, text: &str) -> bool {
-    match &Literal::parse(alloc, text) {
-        Ok(_) => goes_on(text),
-        Err(e) if e.is_final() => !goes_on(text),
-        Err(e) if e.is_open() => goes_on(text),
-        Err(_) => true,
+    match &refusal_of(alloc, Parse::Literal, text) {
+        None => goes_on(text),
+        Some(e) if e.is_final() => !goes_on(text),
+        Some(e) if e.is_open() => goes_on(text),
+        Some(_) => true,
     }
 }
 

@@ -1,7 +1,7 @@
 //! Raw strings between as many hashes as there may be, and one more.
-use crate::parses::parse_by;
+use crate::parses::{parse_by, refusal_of, repeated, value_of};
 use crate::tables::Parse;
-use litrs::{Literal, ParseErrorKind, Text};
+use litrs::{ParseErrorKind, Text};
 use std::alloc::{AllocError, Global};
 use std::ops::Range;
 use std::process::Abort;
@@ -16,26 +16,13 @@ const FRONTS: [(&str, Parse, Range<usize>); 3] = [
 
 /// The front, so many hashes, `"peter"` and as many hashes.
 fn between_hashes(alloc: Global, front: &str, count: usize) -> Result<String, AllocError> {
-    let mut hashes = String::new(alloc);
-    for _ in 0..count {
-        hashes.push('#')?;
-    }
-    format!(in alloc; "{front}{hashes}\"peter\"{hashes}")
-}
-
-/// The bytes of the value of a raw string of one of the three kinds.
-fn raw_value<B: Text>(lit: &Literal<B>) -> Option<&[u8]> {
-    match lit {
-        Literal::String(lit) if lit.is_raw_string() => Some(lit.value().as_bytes()),
-        Literal::ByteString(lit) if lit.is_raw_byte_string() => Some(lit.value()),
-        Literal::CString(lit) if lit.is_raw_c_string() => Some(lit.value().to_bytes()),
-        _ => None,
-    }
+    let front = repeated(alloc, front, "#", count, "\"peter\"")?;
+    repeated(alloc, front.as_str(), "#", count, "")
 }
 
 fn check_peter<B: Text>(rt: &impl Abort, alloc: Global, parse: Parse, text: B) {
     let holds = match &parse_by(alloc, parse, text) {
-        Ok(lit) => raw_value(lit) == Some(b"peter".as_slice()),
+        Ok(lit) => value_of(lit) == Some(b"peter".as_slice()),
         Err(_) => false,
     };
     assert!(rt; holds);
@@ -62,12 +49,12 @@ fn check_too_many<B: Text>(
     text: B,
     span: &Range<usize>,
 ) {
-    let holds = match &parse_by(alloc, parse, text) {
-        Ok(_) => false,
-        Err(e) => {
+    let holds = match &refusal_of(alloc, parse, text) {
+        Some(e) => {
             let is_there = e.span().as_ref() == Some(span);
             is_there && e.kind() == ParseErrorKind::TooManyHashes
         }
+        None => false,
     };
     assert!(rt; holds);
 }

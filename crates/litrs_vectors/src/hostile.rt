@@ -1,6 +1,6 @@
 //! Hostile texts of a mebibyte, by all nine parses.
 use crate::beginnings::has_place;
-use crate::parses::{PARSES, parse_by};
+use crate::parses::{PARSES, parse_by, repeated};
 use crate::tables::Parse;
 use Answer::*;
 use litrs::ParseErrorKind::{self, *};
@@ -213,27 +213,10 @@ const C_STRINGS: &[Quoted] = &[
     (["cr\"", "\\", ""], Refused(UnterminatedRawString), true),
 ];
 
-/// So many copies of the part that they take 1,024 bytes.
-fn short_copies(alloc: Global, part: &str) -> Result<String, AllocError> {
-    let mut copies = String::new(alloc);
-    for _ in 0..1024 {
-        if copies.len() < 1024 {
-            copies.push_str(part)?;
-        }
-    }
-    Ok(copies)
-}
-
 /// The front, so many copies of the part that they take a mebibyte, and the end.
 fn long_text(alloc: Global, shape: &[&str; 3]) -> Result<String, AllocError> {
     let [front, part, end] = *shape;
-    let copies = short_copies(alloc, part)?;
-    let mut text = String::from_str(alloc, front)?;
-    for _ in 0..1024 {
-        text.push_str(copies.as_str())?;
-    }
-    text.push_str(end)?;
-    Ok(text)
+    repeated(alloc, front, part, MEBIBYTE / part.len().max(1), end)
 }
 
 /// What a parse answers to a text that begins like none of its literals.
@@ -382,15 +365,6 @@ fn c_strings(rt: HostRuntime) -> Result<(), AllocError> {
     check_rows(&rt, rt.alloc(), "CStringLit", C_STRINGS)
 }
 
-/// The text, and so many hashes behind it.
-fn with_hashes(alloc: Global, text: &str, count: usize) -> Result<String, AllocError> {
-    let mut longer = String::from_str(alloc, text)?;
-    for _ in 0..count {
-        longer.push('#')?;
-    }
-    Ok(longer)
-}
-
 /// Whether the text is a string of this value.
 fn is_string(alloc: Global, text: &str, value: &str) -> bool {
     match &StringLit::parse(alloc, text) {
@@ -403,9 +377,8 @@ fn is_string(alloc: Global, text: &str, value: &str) -> bool {
 #[test]
 fn hashes_that_close(rt: HostRuntime) -> Result<(), Fail> {
     let alloc = rt.alloc();
-    let mut front = with_hashes(alloc, "r", 255)?;
-    front.push_str("\"a\"")?;
-    let mut text = with_hashes(alloc, front.as_str(), 254)?;
+    let front = repeated(alloc, "r", "#", 255, "\"a\"")?;
+    let mut text = repeated(alloc, front.as_str(), "#", 254, "")?;
     for (parse, name) in PARSES {
         let expected = match *name {
             "Literal" | "StringLit" => Refused(UnterminatedRawString),
@@ -414,11 +387,11 @@ fn hashes_that_close(rt: HostRuntime) -> Result<(), Fail> {
         assert!(rt; answers(alloc, *parse, text.as_str(), expected), "{name}");
     }
     assert!(rt; goes_on(text.as_str()));
-    let closed = with_hashes(alloc, text.as_str(), 1)?;
+    let closed = repeated(alloc, text.as_str(), "#", 1, "")?;
     assert!(rt; is_string(alloc, closed.as_str(), "a"));
     text.push('"')?;
-    let closed = with_hashes(alloc, text.as_str(), 255)?;
-    let value = with_hashes(alloc, "a\"", 254)?;
+    let closed = repeated(alloc, text.as_str(), "#", 255, "")?;
+    let value = repeated(alloc, "a\"", "#", 254, "")?;
     assert!(rt; value.len() == 256 && is_string(alloc, closed.as_str(), value.as_str()));
     Ok(())
 }

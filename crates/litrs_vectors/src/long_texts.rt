@@ -1,23 +1,16 @@
 //! Texts of 100,000 characters and more.
-use crate::parses::parse_by;
+use crate::parses::{parse_by, refusal_of, repeated, value_of};
 use crate::tables::Parse;
 use litrs::ParseErrorKind::{self, *};
 use litrs::{Literal, StringLit, Text};
-use std::alloc::{AllocError, Global};
+use std::alloc::Global;
 use std::borrow::CowStr;
 use std::ops::Range;
 use std::process::Abort;
 use std::test::Fail;
 
-/// The front, 100,000 copies of the part, and the end.
-fn long_text(alloc: Global, front: &str, part: &str, end: &str) -> Result<String, AllocError> {
-    let mut text = String::from_str(alloc, front)?;
-    for _ in 0..100_000 {
-        text.push_str(part)?;
-    }
-    text.push_str(end)?;
-    Ok(text)
-}
+/// How often a part is repeated.
+const COUNT: usize = 100_000;
 
 /// Checks that the text is an integer of this value, where eight bits hold it.
 fn check_number<B: Text>(rt: &impl Abort, alloc: Global, parse: Parse, text: B, value: Option<u8>) {
@@ -39,7 +32,7 @@ const NUMBERS: &[(&str, &str, Option<u8>)] = &[("1", "", None), ("0", "7", Some(
 fn long_numbers(rt: HostRuntime) -> Result<(), Fail> {
     let alloc = rt.alloc();
     for (part, end, value) in NUMBERS {
-        let text = long_text(alloc, "", part, end)?;
+        let text = repeated(alloc, "", part, COUNT, end)?;
         check_number(&rt, alloc, Parse::Integer, text.as_str(), *value);
         check_number(&rt, alloc, Parse::Literal, text.as_str(), *value);
         check_number(&rt, alloc, Parse::Integer, text.copy(alloc)?, *value);
@@ -48,22 +41,12 @@ fn long_numbers(rt: HostRuntime) -> Result<(), Fail> {
     Ok(())
 }
 
-/// The number of bytes of the value of a string of one of the three kinds.
-fn value_len<B: Text>(lit: &Literal<B>) -> Option<usize> {
-    match lit {
-        Literal::String(lit) => Some(lit.value().len()),
-        Literal::ByteString(lit) => Some(lit.value().len()),
-        Literal::CString(lit) => Some(lit.value().to_bytes().len()),
-        _ => None,
-    }
-}
-
 fn check_body<B: Text>(rt: &impl Abort, alloc: Global, parse: Parse, text: B, len: usize) {
-    let found = match &parse_by(alloc, parse, text) {
-        Ok(lit) => value_len(lit),
-        Err(_) => None,
+    let holds = match &parse_by(alloc, parse, text) {
+        Ok(lit) => value_of(lit).is_some_and(|value| value.len() == len),
+        Err(_) => false,
     };
-    assert!(rt; found == Some(len));
+    assert!(rt; holds);
 }
 
 /// What is before and after 100,000 letters, the parse of the kind, and the bytes of the value.
@@ -78,7 +61,7 @@ const BODIES: &[(&str, &str, Parse, usize)] = &[
 fn long_bodies(rt: HostRuntime) -> Result<(), Fail> {
     let alloc = rt.alloc();
     for (front, end, parse, len) in BODIES {
-        let text = long_text(alloc, front, "a", end)?;
+        let text = repeated(alloc, front, "a", COUNT, end)?;
         check_body(&rt, alloc, *parse, text.as_str(), *len);
         check_body(&rt, alloc, Parse::Literal, text.as_str(), *len);
         check_body(&rt, alloc, *parse, text.copy(alloc)?, *len);
@@ -89,7 +72,7 @@ fn long_bodies(rt: HostRuntime) -> Result<(), Fail> {
 
 #[test]
 fn long_borrowed_value(rt: HostRuntime) -> Result<(), Fail> {
-    let text = long_text(rt.alloc(), "\"", "a", "\"")?;
+    let text = repeated(rt.alloc(), "\"", "a", COUNT, "\"")?;
     let value = StringLit::parse(rt.alloc(), text.as_str())?.into_value();
     assert!(rt; matches!(value, CowStr::Borrowed(_)));
     Ok(())
@@ -104,9 +87,9 @@ fn check_refused<B: Text>(
     kind: ParseErrorKind,
     span: &Option<Range<usize>>,
 ) {
-    let holds = match &parse_by(alloc, parse, text) {
-        Ok(_) => false,
-        Err(e) => e.kind() == kind && e.span() == *span,
+    let holds = match &refusal_of(alloc, parse, text) {
+        Some(e) => e.kind() == kind && e.span() == *span,
+        None => false,
     };
     assert!(rt; holds);
 }
@@ -121,7 +104,7 @@ const HASHES: &[(&str, ParseErrorKind, Option<Range<usize>>)] = &[
 fn long_hashes(rt: HostRuntime) -> Result<(), Fail> {
     let alloc = rt.alloc();
     for (end, kind, span) in HASHES {
-        let text = long_text(alloc, "r", "#", end)?;
+        let text = repeated(alloc, "r", "#", COUNT, end)?;
         check_refused(&rt, alloc, Parse::String, text.as_str(), *kind, span);
         check_refused(&rt, alloc, Parse::Literal, text.as_str(), *kind, span);
         check_refused(&rt, alloc, Parse::String, text.copy(alloc)?, *kind, span);

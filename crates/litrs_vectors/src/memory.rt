@@ -1,10 +1,10 @@
 //! What the parses answer where allocations are refused.
-use crate::parses::{parse_by, string_value};
+use crate::parses::{refusal_of, repeated, string_value, value_of};
+use crate::refusals::is_at;
 use crate::tables::{Body, Parse, Parts, Refusal, Row, literals, refused};
 use litrs::ParseErrorKind::OutOfMemory;
-use litrs::{Literal, ParseError, Text};
+use litrs::{Literal, Text};
 use std::alloc::{AllocError, Global};
-use std::ops::Range;
 use std::process::Abort;
 use std::test::Fail;
 
@@ -73,21 +73,12 @@ fn is_literal<B: Text>(alloc: Global, text: B, row: &Row) -> bool {
     }
 }
 
-/// Whether the error points at these bytes.
-fn is_at(error: &ParseError, place: &Option<(Range<usize>, usize)>) -> bool {
-    match (error.span(), place) {
-        (Some(found), Some((span, _))) => found == *span,
-        (None, None) => true,
-        _ => false,
-    }
-}
-
 /// Whether a text, where every allocation is refused, has its refusal.
 fn is_refused<B: Text>(alloc: Global, parse: Parse, text: B, refusal: &Refusal) -> bool {
     let (_, kind, place) = refusal;
-    match &parse_by(alloc, parse, text) {
-        Ok(_) => false,
-        Err(e) => e.kind() == *kind && is_at(e, place),
+    match &refusal_of(alloc, parse, text) {
+        Some(e) => e.kind() == *kind && is_at(e, place),
+        None => false,
     }
 }
 
@@ -163,16 +154,6 @@ fn refusals_over_strings_without_memory(rt: HostRuntime) -> Result<(), Fail> {
     Ok(())
 }
 
-/// The bytes of the value of a string of one of the three kinds.
-fn value_of<B: Text>(lit: &Literal<B>) -> Option<&[u8]> {
-    match lit {
-        Literal::String(lit) => Some(lit.value().as_bytes()),
-        Literal::ByteString(lit) => Some(lit.value()),
-        Literal::CString(lit) => Some(lit.value().to_bytes()),
-        _ => None,
-    }
-}
-
 /// Whether a literal of this value takes the only free block, which has this size.
 fn takes_block(
     alloc: Global,
@@ -230,23 +211,13 @@ fn one_allocation_each(rt: HostRuntime) -> Result<(), Fail> {
     Ok(())
 }
 
-/// The front, 100,000 letters, and the end.
-fn letters(alloc: Global, front: &str, end: &str) -> Result<String, AllocError> {
-    let mut text = String::from_str(alloc, front)?;
-    for _ in 0..100_000 {
-        text.push('a')?;
-    }
-    text.push_str(end)?;
-    Ok(text)
-}
-
 /// The same for a long value.
 #[test]
 fn one_allocation_of_a_long_value(rt: HostRuntime) -> Result<(), Fail> {
     let alloc = rt.alloc();
-    let value = letters(alloc, "", "\n")?;
+    let value = repeated(alloc, "", "a", 100_000, "\n")?;
     for (front, size) in [("\"", 100_001), ("b\"", 100_001), ("c\"", 100_002)] {
-        let text = letters(alloc, front, "\\n\"")?;
+        let text = repeated(alloc, front, "a", 100_000, "\\n\"")?;
         let block: Vec<u8> = Vec::with_capacity(alloc, size)?;
         let Some(mut held) = take_all(alloc)? else {
             return Ok(());

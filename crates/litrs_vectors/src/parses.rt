@@ -46,6 +46,11 @@ pub(crate) fn parse_by<B: Text>(
     }
 }
 
+/// Why this parse refuses the text, where it does.
+pub(crate) fn refusal_of<B: Text>(alloc: Global, parse: Parse, text: B) -> Option<ParseError> {
+    parse_by(alloc, parse, text).err()
+}
+
 /// The parse of the kind that has these parts.
 pub(crate) fn parse_of(parts: &Parts) -> Parse {
     match parts {
@@ -88,4 +93,30 @@ pub(crate) fn string_value(parts: &Parts) -> Option<&'static [u8]> {
         }
         _ => None,
     }
+}
+
+/// The bytes of the value of a string of one of the three kinds.
+pub(crate) fn value_of<B: Text>(lit: &Literal<B>) -> Option<&[u8]> {
+    match lit {
+        Literal::String(lit) => Some(lit.value().as_bytes()),
+        Literal::ByteString(lit) => Some(lit.value()),
+        Literal::CString(lit) => Some(lit.value().to_bytes()),
+        _ => None,
+    }
+}
+
+/// The front, so many copies of the part, and the end.
+pub(crate) fn repeated(
+    alloc: Global,
+    front: &str,
+    part: &str,
+    count: usize,
+    end: &str,
+) -> Result<String, AllocError> {
+    let mut text = String::from_str(alloc, front)?;
+    for _ in 0..count {
+        text.push_str(part)?;
+    }
+    text.push_str(end)?;
+    Ok(text)
 }

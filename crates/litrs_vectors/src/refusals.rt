@@ -1,5 +1,5 @@
 //! Refused texts over both buffers.
-use crate::parses::parse_by;
+use crate::parses::refusal_of;
 use crate::tables::{Parse, Refusal, refused, refused_by_one};
 use litrs::ParseErrorKind::{self, *};
 use litrs::{ParseError, Text};
@@ -39,7 +39,7 @@ const FINAL: &[ParseErrorKind] = &[
 ];
 
 /// Whether the error points at this place.
-fn is_at(error: &ParseError, place: &Option<(Range<usize>, usize)>) -> bool {
+pub(crate) fn is_at(error: &ParseError, place: &Option<(Range<usize>, usize)>) -> bool {
     match (error.span(), error.char_span(), place) {
         (Some(found), Some(chars), Some((span, char_end))) => {
             found == *span && chars.start == span.start && chars.end == *char_end
@@ -54,14 +54,14 @@ fn is_refused<B: Text>(alloc: Global, parse: Parse, text: B, refusal: &Refusal) 
     let (_, kind, place) = refusal;
     let is_final = FINAL.contains(kind);
     let is_open = matches!(*kind, UnterminatedString | UnterminatedRawString);
-    match &parse_by(alloc, parse, text) {
-        Ok(_) => false,
-        Err(e) => {
+    match &refusal_of(alloc, parse, text) {
+        Some(e) => {
             e.kind() == *kind
                 && e.is_final() == is_final
                 && e.is_open() == is_open
                 && is_at(e, place)
         }
+        None => false,
     }
 }
 
@@ -158,9 +158,9 @@ const PRINTED: &[(Parse, &str, &str)] = &[
 
 /// Whether this is printed of the refusal.
 fn is_printed(alloc: Global, parse: Parse, text: &str, printed: &str) -> Result<bool, AllocError> {
-    match &parse_by(alloc, parse, text) {
-        Ok(_) => Ok(false),
-        Err(e) => Ok(e.to_string(alloc)?.as_str() == printed),
+    match &refusal_of(alloc, parse, text) {
+        Some(e) => Ok(e.to_string(alloc)?.as_str() == printed),
+        None => Ok(false),
     }
 }
 
