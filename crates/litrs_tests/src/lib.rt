@@ -1,13 +1,18 @@
-//! Tests of public calls: of the parts that literals are made of, of the literal types, and of
-//! tokens. The crate `litrs_vectors` compares all parses over one list of texts.
+//! Tests of public calls: of buffers, errors and searches, of the parts that literals are made of,
+//! of the literal types, and of tokens. The crate `litrs_vectors` compares all parses over one list
+//! of texts.
 #![tactic(auto)]
 
+#[cfg(test)]
+mod buffers;
 #[cfg(test)]
 mod chars;
 #[cfg(test)]
 mod containers;
 #[cfg(test)]
 mod copies;
+#[cfg(test)]
+mod errors;
 #[cfg(test)]
 mod escapes;
 #[cfg(test)]
@@ -26,6 +31,8 @@ mod quoted;
 mod raw;
 #[cfg(test)]
 mod refusals;
+#[cfg(test)]
+mod searches;
 #[cfg(test)]
 mod short_values;
 #[cfg(test)]
