@@ -103,7 +103,7 @@ fn without_memory(rt: HostRuntime) -> Result<(), Fail> {
         assert!(rt; is_literal(alloc, row.0, row), "{}", row.0);
     }
     for (parse, refusals) in refused() {
-        check_refusals(&rt, alloc, parse, refusals);
+        check_refusals(&rt, alloc, *parse, refusals);
     }
     drop(held);
     assert!(rt; Literal::parse(alloc, "\"a\\nb\"").is_ok());
@@ -140,8 +140,8 @@ fn refusals_over_strings_without_memory(rt: HostRuntime) -> Result<(), Fail> {
     let alloc = rt.alloc();
     let mut texts = Vec::new(alloc);
     for (parse, refusals) in refused() {
-        for refusal in refusals {
-            texts.push((parse, refusal, String::from_str(alloc, refusal.0)?))?;
+        for refusal in *refusals {
+            texts.push((*parse, refusal, String::from_str(alloc, refusal.0)?))?;
         }
     }
     let Some(mut held) = take_all(alloc)? else {

@@ -105,7 +105,7 @@ fn check_alike(
 #[test]
 fn refused_by_literal_and_by_the_kind(rt: HostRuntime) -> Result<(), Fail> {
     for (parse, refusals) in refused() {
-        check_alike(&rt, rt.alloc(), parse, refusals)?;
+        check_alike(&rt, rt.alloc(), *parse, refusals)?;
     }
     Ok(())
 }

@@ -219,204 +219,182 @@ const LITERALS: &[Row] = &[
 ];
 
 /// Texts that `Literal::parse` refuses, by the parse of the kind that they begin like, which
-/// refuses them in the same way. (A proof of one table of them all takes longer.)
-pub fn refused() -> [(Parse, &'static [Refusal]); 8] {
-    [
-        (Parse::Literal, no_literals()),
-        (Parse::Integer, integers()),
-        (Parse::Float, floats()),
-        (Parse::Char, chars()),
-        (Parse::String, strings()),
-        (Parse::Byte, bytes()),
-        (Parse::ByteString, byte_strings()),
-        (Parse::CString, c_strings()),
-    ]
+/// refuses them in the same way.
+pub fn refused() -> &'static [(Parse, &'static [Refusal])] {
+    REFUSED
 }
 
-fn no_literals() -> &'static [Refusal] {
-    NO_LITERALS
-}
-
-const NO_LITERALS: &[Refusal] = &[
-    ("", Empty, None),
-    ("tru", InvalidLiteral, None),
-    ("b", InvalidLiteral, None),
-    ("foo", InvalidLiteral, None),
-    (".5", InvalidLiteral, None),
-    ("_3", InvalidLiteral, None),
-    ("-1", InvalidLiteral, None),
-    ("False", InvalidLiteral, None),
-    ("fals", InvalidLiteral, None),
-    ("a_123", InvalidLiteral, None),
-    (" 0", InvalidLiteral, None),
-];
-
-fn integers() -> &'static [Refusal] {
-    INTEGERS
-}
-
-const INTEGERS: &[Refusal] = &[
-    ("0x", NoDigits, Some((2..2, 2))),
-    ("0b12", InvalidDigit, Some((3..4, 4))),
-    ("0b1e3", IntegerSuffixStartingWithE, Some((3..4, 4))),
-    ("0xg", NoDigits, Some((2..2, 2))),
-    ("0x44.5", UnexpectedChar, Some((4..6, 6))),
-    ("0 ", UnexpectedChar, Some((1..2, 2))),
-    ("0;", UnexpectedChar, Some((1..2, 2))),
-    ("0b_", NoDigits, Some((2..3, 3))),
-    ("1🦊", InvalidSuffix, Some((1..5, 5))),
-];
-
-fn floats() -> &'static [Refusal] {
-    FLOATS
-}
-
-const FLOATS: &[Refusal] = &[
-    ("1.e4", UnexpectedChar, Some((2..3, 3))),
-    ("1._", UnexpectedChar, Some((2..3, 3))),
-    ("1.é", UnexpectedChar, Some((2..3, 4))),
-    ("1e", NoExponentDigits, Some((1..2, 2))),
-    ("0eel", NoExponentDigits, Some((1..2, 2))),
-    ("23E___f32", NoExponentDigits, Some((2..6, 6))),
-    ("3.7e-+3", NoExponentDigits, Some((3..5, 5))),
-    ("3.7+2", UnexpectedChar, Some((3..5, 5))),
-    ("55e3.1", UnexpectedChar, Some((4..6, 6))),
-    ("12345._987", UnexpectedChar, Some((6..7, 7))),
-];
-
-fn chars() -> &'static [Refusal] {
-    CHARS
-}
-
-const CHARS: &[Refusal] = &[
+const REFUSED: &[(Parse, &[Refusal])] = &[
     (
-        "'\\u{1_23_4_56_7}'",
-        TooManyDigitInUnicodeEscape,
-        Some((14..15, 15)),
+        Parse::Literal,
+        &[
+            ("", Empty, None),
+            ("tru", InvalidLiteral, None),
+            ("b", InvalidLiteral, None),
+            ("foo", InvalidLiteral, None),
+            (".5", InvalidLiteral, None),
+            ("_3", InvalidLiteral, None),
+            ("-1", InvalidLiteral, None),
+            ("False", InvalidLiteral, None),
+            ("fals", InvalidLiteral, None),
+            ("a_123", InvalidLiteral, None),
+            (" 0", InvalidLiteral, None),
+        ],
     ),
-    ("'\\u{110000}'", InvalidUnicodeEscapeChar, Some((1..11, 11))),
-    ("'\\x🦊'", UnterminatedEscape, Some((1..8, 8))),
-    ("'\\x🦊", UnterminatedEscape, Some((1..7, 7))),
-    ("'\\é'", UnknownEscape, Some((1..3, 4))),
-    ("'''", UnescapedSingleQuote, Some((1..2, 2))),
-    ("''''", UnescapedSingleQuote, Some((1..2, 2))),
-    ("''", EmptyCharLiteral, None),
-    ("''a'", EmptyCharLiteral, None),
-    ("'", UnterminatedCharLiteral, None),
-    ("'a", UnterminatedCharLiteral, None),
-    ("'\\'", UnterminatedCharLiteral, None),
-    ("'\\", UnterminatedEscape, Some((1..2, 2))),
-    ("'\\x", UnterminatedEscape, Some((1..3, 3))),
-    ("'\\x1'", InvalidXEscape, Some((1..5, 5))),
-    ("'\\x80'", NonAsciiXEscape, Some((1..5, 5))),
-    ("'\\u", UnicodeEscapeWithoutBrace, Some((1..3, 3))),
-    ("'\\u{1", UnterminatedUnicodeEscape, Some((1..5, 5))),
-    ("'\\u{a0_b  '", UnterminatedUnicodeEscape, Some((1..11, 11))),
-    ("'\\u{_}'", InvalidStartOfUnicodeEscape, Some((4..5, 5))),
-    ("'\\u{3b_x}'", NonHexDigitInUnicodeEscape, Some((7..8, 8))),
-    ("'\\u{dFfF}'", InvalidUnicodeEscapeChar, Some((1..9, 9))),
-    ("'ab'", OverlongCharLiteral, None),
-    ("'\n'", UnescapedSpecialWhitespace, Some((1..2, 2))),
-    ("'\t'", UnescapedSpecialWhitespace, Some((1..2, 2))),
-    ("'\r'", UnescapedSpecialWhitespace, Some((1..2, 2))),
-    ("'a'_", InvalidSuffix, Some((3..4, 4))),
-    ("'a''", UnexpectedChar, Some((3..4, 4))),
-];
-
-fn strings() -> &'static [Refusal] {
-    STRINGS
-}
-
-const STRINGS: &[Refusal] = &[
-    ("r", InvalidLiteral, None),
-    ("r####", InvalidLiteral, None),
-    ("r####x", InvalidLiteral, None),
-    ("r#abc", InvalidLiteral, None),
-    ("r####\"", UnterminatedRawString, None),
-    ("r##\"a\"#", UnterminatedRawString, None),
-    ("r\"a", UnterminatedRawString, None),
-    ("\"a", UnterminatedString, None),
-    ("\"ab", UnterminatedString, None),
-    ("\"\\n", UnterminatedEscape, Some((1..2, 2))),
-    ("\"\\n\n", UnterminatedString, None),
-    ("\"\\u{41}", UnterminatedUnicodeEscape, Some((1..6, 6))),
-    ("\"\\u{12\"", UnterminatedUnicodeEscape, Some((1..6, 6))),
-    ("\"a\\\n ", UnterminatedString, None),
-    ("\"a\\n", UnterminatedEscape, Some((2..3, 3))),
-    ("\"a\\nb", UnterminatedString, None),
-    ("\"🦊\\", UnterminatedEscape, Some((5..6, 6))),
-    ("\"a\"_", InvalidSuffix, Some((3..4, 4))),
-    ("\"a\"🦊", InvalidSuffix, Some((3..4, 7))),
-    ("\"fox\"peter\"", InvalidSuffix, Some((5..6, 6))),
-    ("\"\\x80\"", NonAsciiXEscape, Some((1..5, 5))),
-    ("\"నక్క\\xB0\"", NonAsciiXEscape, Some((13..17, 17))),
-    ("\"\\u{é}\"", NonHexDigitInUnicodeEscape, Some((4..5, 6))),
-    ("\"🦊\\u{}a\"", InvalidStartOfUnicodeEscape, Some((8..9, 9))),
     (
-        "\"నక్క\\u{1234567}🦊\"",
-        TooManyDigitInUnicodeEscape,
-        Some((22..23, 23)),
+        Parse::Integer,
+        &[
+            ("0x", NoDigits, Some((2..2, 2))),
+            ("0b12", InvalidDigit, Some((3..4, 4))),
+            ("0b1e3", IntegerSuffixStartingWithE, Some((3..4, 4))),
+            ("0xg", NoDigits, Some((2..2, 2))),
+            ("0x44.5", UnexpectedChar, Some((4..6, 6))),
+            ("0 ", UnexpectedChar, Some((1..2, 2))),
+            ("0;", UnexpectedChar, Some((1..2, 2))),
+            ("0b_", NoDigits, Some((2..3, 3))),
+            ("1🦊", InvalidSuffix, Some((1..5, 5))),
+        ],
     ),
-    ("\"a\rb\"", CarriageReturn, Some((2..3, 3))),
-];
-
-fn bytes() -> &'static [Refusal] {
-    BYTES
-}
-
-const BYTES: &[Refusal] = &[
-    ("b'", UnterminatedByteLiteral, None),
-    ("b'a", UnterminatedByteLiteral, None),
-    ("b'\\'", UnterminatedByteLiteral, None),
-    ("b' ''", UnexpectedChar, Some((4..5, 5))),
-    ("b''", EmptyByteLiteral, None),
-    ("b''a'", EmptyByteLiteral, None),
-    ("b'''", UnescapedSingleQuote, Some((2..3, 3))),
-    ("b''''", UnescapedSingleQuote, Some((2..3, 3))),
-    ("b'a _'", OverlongByteLiteral, None),
-    ("b'\n'", UnescapedSpecialWhitespace, Some((2..3, 3))),
-    ("b'\t'", UnescapedSpecialWhitespace, Some((2..3, 3))),
-    ("b'\r'", UnescapedSpecialWhitespace, Some((2..3, 3))),
-    ("b'犬'", NonAsciiInByteLiteral, Some((2..3, 5))),
-    ("b'\u{80}'", NonAsciiInByteLiteral, Some((2..3, 4))),
-    ("b'🦊", NonAsciiInByteLiteral, Some((2..3, 6))),
-    ("b'\\", UnterminatedEscape, Some((2..3, 3))),
-    ("b'\\x'", UnterminatedEscape, Some((2..5, 5))),
-    ("b'\\x🦊'", UnterminatedEscape, Some((2..9, 9))),
-    ("b'\\x1'", InvalidXEscape, Some((2..6, 6))),
-    ("b'\\é'", UnknownEscape, Some((2..4, 5))),
-    ("b'\\u", UnicodeEscapeInByteLiteral, Some((2..4, 4))),
-    ("b'\\u{0}'", UnicodeEscapeInByteLiteral, Some((2..4, 4))),
-    ("b'a'_", InvalidSuffix, Some((4..5, 5))),
-    ("b'a'🦊", InvalidSuffix, Some((4..5, 8))),
-];
-
-fn byte_strings() -> &'static [Refusal] {
-    BYTE_STRINGS
-}
-
-const BYTE_STRINGS: &[Refusal] = &[
-    ("b\"\\nJosé", NonAsciiInByteLiteral, Some((7..8, 9))),
-    ("b\"\\xFFé\"", NonAsciiInByteLiteral, Some((6..7, 8))),
-    ("b\"a\\\r\"", UnknownEscape, Some((3..5, 5))),
-    ("br\"a\\\r\"", CarriageReturn, Some((5..6, 6))),
-    ("br\"x🦊baz\"", NonAsciiInByteLiteral, Some((4..5, 8))),
-];
-
-fn c_strings() -> &'static [Refusal] {
-    C_STRINGS
-}
-
-const C_STRINGS: &[Refusal] = &[
-    ("c", InvalidCStringLiteralStart, None),
-    ("cat", InvalidCStringLiteralStart, None),
-    ("cr#\"foo \"# bar\"#", UnexpectedChar, Some((10..11, 11))),
-    ("c\"лиса\\u{0__}\"", DisallowedNulEscape, Some((10..17, 17))),
-    ("c\"\\u{0}🦊\"", DisallowedNulEscape, Some((2..7, 7))),
-    ("c\" \\u{00}\"", DisallowedNulEscape, Some((3..9, 9))),
-    ("c\"\0\"", NulByte, Some((2..3, 3))),
-    ("c\"a\0", NulByte, Some((3..4, 4))),
-    ("c\"a", UnterminatedString, None),
+    (
+        Parse::Float,
+        &[
+            ("1.e4", UnexpectedChar, Some((2..3, 3))),
+            ("1._", UnexpectedChar, Some((2..3, 3))),
+            ("1.é", UnexpectedChar, Some((2..3, 4))),
+            ("1e", NoExponentDigits, Some((1..2, 2))),
+            ("0eel", NoExponentDigits, Some((1..2, 2))),
+            ("23E___f32", NoExponentDigits, Some((2..6, 6))),
+            ("3.7e-+3", NoExponentDigits, Some((3..5, 5))),
+            ("3.7+2", UnexpectedChar, Some((3..5, 5))),
+            ("55e3.1", UnexpectedChar, Some((4..6, 6))),
+            ("12345._987", UnexpectedChar, Some((6..7, 7))),
+        ],
+    ),
+    (
+        Parse::Char,
+        &[
+            (
+                "'\\u{1_23_4_56_7}'",
+                TooManyDigitInUnicodeEscape,
+                Some((14..15, 15)),
+            ),
+            ("'\\u{110000}'", InvalidUnicodeEscapeChar, Some((1..11, 11))),
+            ("'\\x🦊'", UnterminatedEscape, Some((1..8, 8))),
+            ("'\\x🦊", UnterminatedEscape, Some((1..7, 7))),
+            ("'\\é'", UnknownEscape, Some((1..3, 4))),
+            ("'''", UnescapedSingleQuote, Some((1..2, 2))),
+            ("''''", UnescapedSingleQuote, Some((1..2, 2))),
+            ("''", EmptyCharLiteral, None),
+            ("''a'", EmptyCharLiteral, None),
+            ("'", UnterminatedCharLiteral, None),
+            ("'a", UnterminatedCharLiteral, None),
+            ("'\\'", UnterminatedCharLiteral, None),
+            ("'\\", UnterminatedEscape, Some((1..2, 2))),
+            ("'\\x", UnterminatedEscape, Some((1..3, 3))),
+            ("'\\x1'", InvalidXEscape, Some((1..5, 5))),
+            ("'\\x80'", NonAsciiXEscape, Some((1..5, 5))),
+            ("'\\u", UnicodeEscapeWithoutBrace, Some((1..3, 3))),
+            ("'\\u{1", UnterminatedUnicodeEscape, Some((1..5, 5))),
+            ("'\\u{a0_b  '", UnterminatedUnicodeEscape, Some((1..11, 11))),
+            ("'\\u{_}'", InvalidStartOfUnicodeEscape, Some((4..5, 5))),
+            ("'\\u{3b_x}'", NonHexDigitInUnicodeEscape, Some((7..8, 8))),
+            ("'\\u{dFfF}'", InvalidUnicodeEscapeChar, Some((1..9, 9))),
+            ("'ab'", OverlongCharLiteral, None),
+            ("'\n'", UnescapedSpecialWhitespace, Some((1..2, 2))),
+            ("'\t'", UnescapedSpecialWhitespace, Some((1..2, 2))),
+            ("'\r'", UnescapedSpecialWhitespace, Some((1..2, 2))),
+            ("'a'_", InvalidSuffix, Some((3..4, 4))),
+            ("'a''", UnexpectedChar, Some((3..4, 4))),
+        ],
+    ),
+    (
+        Parse::String,
+        &[
+            ("r", InvalidLiteral, None),
+            ("r####", InvalidLiteral, None),
+            ("r####x", InvalidLiteral, None),
+            ("r#abc", InvalidLiteral, None),
+            ("r####\"", UnterminatedRawString, None),
+            ("r##\"a\"#", UnterminatedRawString, None),
+            ("r\"a", UnterminatedRawString, None),
+            ("\"a", UnterminatedString, None),
+            ("\"ab", UnterminatedString, None),
+            ("\"\\n", UnterminatedEscape, Some((1..2, 2))),
+            ("\"\\n\n", UnterminatedString, None),
+            ("\"\\u{41}", UnterminatedUnicodeEscape, Some((1..6, 6))),
+            ("\"\\u{12\"", UnterminatedUnicodeEscape, Some((1..6, 6))),
+            ("\"a\\\n ", UnterminatedString, None),
+            ("\"a\\n", UnterminatedEscape, Some((2..3, 3))),
+            ("\"a\\nb", UnterminatedString, None),
+            ("\"🦊\\", UnterminatedEscape, Some((5..6, 6))),
+            ("\"a\"_", InvalidSuffix, Some((3..4, 4))),
+            ("\"a\"🦊", InvalidSuffix, Some((3..4, 7))),
+            ("\"fox\"peter\"", InvalidSuffix, Some((5..6, 6))),
+            ("\"\\x80\"", NonAsciiXEscape, Some((1..5, 5))),
+            ("\"నక్క\\xB0\"", NonAsciiXEscape, Some((13..17, 17))),
+            ("\"\\u{é}\"", NonHexDigitInUnicodeEscape, Some((4..5, 6))),
+            ("\"🦊\\u{}a\"", InvalidStartOfUnicodeEscape, Some((8..9, 9))),
+            (
+                "\"నక్క\\u{1234567}🦊\"",
+                TooManyDigitInUnicodeEscape,
+                Some((22..23, 23)),
+            ),
+            ("\"a\rb\"", CarriageReturn, Some((2..3, 3))),
+        ],
+    ),
+    (
+        Parse::Byte,
+        &[
+            ("b'", UnterminatedByteLiteral, None),
+            ("b'a", UnterminatedByteLiteral, None),
+            ("b'\\'", UnterminatedByteLiteral, None),
+            ("b' ''", UnexpectedChar, Some((4..5, 5))),
+            ("b''", EmptyByteLiteral, None),
+            ("b''a'", EmptyByteLiteral, None),
+            ("b'''", UnescapedSingleQuote, Some((2..3, 3))),
+            ("b''''", UnescapedSingleQuote, Some((2..3, 3))),
+            ("b'a _'", OverlongByteLiteral, None),
+            ("b'\n'", UnescapedSpecialWhitespace, Some((2..3, 3))),
+            ("b'\t'", UnescapedSpecialWhitespace, Some((2..3, 3))),
+            ("b'\r'", UnescapedSpecialWhitespace, Some((2..3, 3))),
+            ("b'犬'", NonAsciiInByteLiteral, Some((2..3, 5))),
+            ("b'\u{80}'", NonAsciiInByteLiteral, Some((2..3, 4))),
+            ("b'🦊", NonAsciiInByteLiteral, Some((2..3, 6))),
+            ("b'\\", UnterminatedEscape, Some((2..3, 3))),
+            ("b'\\x'", UnterminatedEscape, Some((2..5, 5))),
+            ("b'\\x🦊'", UnterminatedEscape, Some((2..9, 9))),
+            ("b'\\x1'", InvalidXEscape, Some((2..6, 6))),
+            ("b'\\é'", UnknownEscape, Some((2..4, 5))),
+            ("b'\\u", UnicodeEscapeInByteLiteral, Some((2..4, 4))),
+            ("b'\\u{0}'", UnicodeEscapeInByteLiteral, Some((2..4, 4))),
+            ("b'a'_", InvalidSuffix, Some((4..5, 5))),
+            ("b'a'🦊", InvalidSuffix, Some((4..5, 8))),
+        ],
+    ),
+    (
+        Parse::ByteString,
+        &[
+            ("b\"\\nJosé", NonAsciiInByteLiteral, Some((7..8, 9))),
+            ("b\"\\xFFé\"", NonAsciiInByteLiteral, Some((6..7, 8))),
+            ("b\"a\\\r\"", UnknownEscape, Some((3..5, 5))),
+            ("br\"a\\\r\"", CarriageReturn, Some((5..6, 6))),
+            ("br\"x🦊baz\"", NonAsciiInByteLiteral, Some((4..5, 8))),
+        ],
+    ),
+    (
+        Parse::CString,
+        &[
+            ("c", InvalidCStringLiteralStart, None),
+            ("cat", InvalidCStringLiteralStart, None),
+            ("cr#\"foo \"# bar\"#", UnexpectedChar, Some((10..11, 11))),
+            ("c\"лиса\\u{0__}\"", DisallowedNulEscape, Some((10..17, 17))),
+            ("c\"\\u{0}🦊\"", DisallowedNulEscape, Some((2..7, 7))),
+            ("c\" \\u{00}\"", DisallowedNulEscape, Some((3..9, 9))),
+            ("c\"\0\"", NulByte, Some((2..3, 3))),
+            ("c\"a\0", NulByte, Some((3..4, 4))),
+            ("c\"a", UnterminatedString, None),
+        ],
+    ),
 ];
 
 /// Texts that the parse of one kind refuses, and `Literal::parse` takes or refuses otherwise.
