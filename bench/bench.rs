@@ -1,9 +1,8 @@
 //! Times `Literal::parse` and the values of literals over texts of several shapes.
 //!
-//! The arguments name the kinds of literal that are read; the shapes of the others are left out. The texts are
-//! the same in each run. Each figure is the least of the rounds, in nanoseconds a text. With the configuration
-//! `upstream` the Rust crate of the same name is timed beside, called in the same way, and the answers of both
-//! are compared first.
+//! The texts are the same in each run. Each figure is the least of the rounds, in nanoseconds a text. With the
+//! configuration `upstream` the Rust crate of the same name is timed beside, called in the same way, and the
+//! answers of both are compared first.
 
 use std::hint::black_box;
 use std::time::Instant;
@@ -507,7 +506,6 @@ fn head() {
 }
 
 fn main() {
-    let kinds: Vec<String> = std::env::args().skip(1).collect();
     println!("Nanoseconds a text, the least of {} rounds over up to {TEXTS} texts a shape.", PASSES * ROUNDS);
     if cfg!(all(upstream, check_suffix)) {
         println!("Upstream is built with its feature check_suffix.");
@@ -515,10 +513,8 @@ fn main() {
         println!("Upstream is built WITHOUT its feature check_suffix, as unicode-xid is not at hand: of a suffix");
         println!("it looks at the ASCII alone.");
     }
-    println!("Kinds that are read: {}.\n", kinds.join(", "));
-    let read = |kind: &str| kind.is_empty() || kinds.iter().any(|read| read == kind);
+    println!();
     let mut rows: Vec<(&str, &str, Texts, Vec<String>)> = (0..SHAPES.len())
-        .filter(|place| read(SHAPES[*place].0))
         .map(|place| (SHAPES[place].0, SHAPES[place].1, SHAPES[place].2, texts_of(place)))
         .collect();
     let valued: Vec<&Vec<String>> =
@@ -550,7 +546,7 @@ fn main() {
             println!("{line}");
         }
     }
-    lines::main(&read);
+    lines::main();
     going_on::main(&rows.iter().map(|(kind, name, _, texts)| (*kind, *name, &texts[..])).collect::<Vec<_>>());
     println!();
     allocations::main(&rows.iter().map(|(kind, name, _, texts)| (*kind, *name, &texts[..])).collect::<Vec<_>>());

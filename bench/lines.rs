@@ -129,10 +129,10 @@ const CALLS: [Call; 2] = [ours::run, upstream::run];
 #[cfg(not(upstream))]
 const CALLS: [Call; 1] = [ours::run];
 
-/// Times each shape whose kind is read, and prints its figures.
-pub fn main(read: &dyn Fn(&str) -> bool) {
+/// Times each shape, and prints its figures.
+pub fn main() {
     println!("\nNanoseconds a line of `run` of litrs_lines, from memory to memory, the least of {ROUNDS} rounds.");
-    for (place, (kind, name, _)) in LINES.iter().enumerate().filter(|(_, lines)| read(lines.0)) {
+    for (place, (kind, name, _)) in LINES.iter().enumerate() {
         let (text, count) = text_of(place);
         #[cfg(upstream)]
         assert_eq!(answer(ours::reports, &text), answer(upstream::reports, &text), "the reports of {name}");

@@ -246,7 +246,7 @@ steps_on line reports rest line' reports' end held at none more =
           ∙ ap (λ xs. xs ++ behind) (sym more) ∙ ap (λ xs. reports' ++ reports_of (ended_lines xs)) (sym empty);
     }
 
--- ---- growths
+-- ---- appended bytes
 
 pub OnOk-appended : {T E : Type 0} (r : Result T E) (new old more whole : List ℕ) → new ≡ (if is_ok r then old ++ more else old) → whole ≡ old ++ more → OnOk r (new ≡ whole)
 OnOk-appended (Ok x) new old more whole is same = is ∙ sym same
