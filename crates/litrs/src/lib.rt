@@ -1,8 +1,70 @@
 //! Parsing and inspecting Rust literals.
 //!
-//! Each kind of literal has a type, [`BoolLit`], [`IntegerLit`], [`FloatLit`], [`CharLit`],
-//! [`StringLit`], [`ByteLit`], [`ByteStringLit`] and [`CStringLit`], and [`Literal`] stands for
-//! them all. Each has a `parse`, which takes a text that is one literal and nothing else.
+//! Each kind of literal has a type, and [`Literal`] stands for them all. Each type has a `parse`,
+//! which takes a text that is one literal and nothing else: no blank before or behind it, no sign.
+//!
+//! | Type | Literals | What its methods answer, beside the text and the suffix |
+//! |---|---|---|
+//! | [`BoolLit`] | `true`, `false` | the value; it has no suffix |
+//! | [`IntegerLit`] | `27`, `0xFF_u8`, `0b1_0` | base, digits, the value in any integer type |
+//! | [`FloatLit`] | `3.14`, `2e-7_f32`, `1.` | integer part, fraction, exponent; it has no value |
+//! | [`CharLit`] | `'a'`, `'\n'`, `'\u{1f98a}'` | the value, a `char` |
+//! | [`StringLit`] | `"a\n"`, `r#"C:\"#` | the value, a `str`, and whether it is raw |
+//! | [`ByteLit`] | `b'a'`, `b'\xff'` | the value, a `u8` |
+//! | [`ByteStringLit`] | `b"a\xff"`, `br"\"` | the value, a `[u8]`, and whether it is raw |
+//! | [`CStringLit`] | `c"a"`, `cr"\"` | the value, a [`CString`], and whether it is raw |
+//!
+//! # Texts and memory
+//!
+//! A literal keeps the text that it was parsed from, a `&str` or a `String` ([`Buffer`]), and its
+//! parts are slices of it. Only the value of a C string, and of a quoted string or byte string with
+//! a backslash, is allocated, once. Over `&str` bools, numbers, chars and bytes are `Copy`.
+//!
+//! # Values
+//!
+//! ```
+//! use litrs::{Literal, ParseError};
+//! use std::alloc::Global;
+//!
+//! /// How many bytes the value of a string of any kind has.
+//! fn value_len(alloc: Global, text: &str) -> Result<Option<usize>, ParseError> {
+//!     match &Literal::parse(alloc, text)? {
+//!         Literal::String(lit) => Ok(Some(lit.value().len())),
+//!         Literal::ByteString(lit) => Ok(Some(lit.value().len())),
+//!         Literal::CString(lit) => Ok(Some(lit.value().to_bytes().len())),
+//!         _ => Ok(None),
+//!     }
+//! }
+//! // Of "a\n" it is Ok(Some(2)), of b"\xff"u8 Ok(Some(1)), and of 27 Ok(None).
+//! ```
+//!
+//! # Refusals
+//!
+//! A [`ParseError`] has a kind and mostly a span: of `0b12` by [`IntegerLit::parse`] `InvalidDigit`
+//! at 3..4. Spans count bytes; `char_span` ends behind a whole character, so that the text can be
+//! cut there. After a kind that `is_final` no longer text is accepted, and after one that `is_open`
+//! the text is accepted with its closing quote, and the hashes of a raw string, behind it.
+//!
+//! # Prompts
+//!
+//! [`goes_on`] says whether a text begins a literal. A prompt takes a line that is one, asks for
+//! more where some longer text is one, and else shows the refusal:
+//!
+//! ```
+//! use litrs::ParseErrorKind::OutOfMemory;
+//! use litrs::{Literal, ParseError, goes_on};
+//! use std::alloc::Global;
+//!
+//! /// The literal of a line, None where more of it is to come.
+//! fn line(alloc: Global, text: &str) -> Result<Option<Literal<&str>>, ParseError> {
+//!     match Literal::parse(alloc, text) {
+//!         Ok(lit) => Ok(Some(lit)),
+//!         Err(e) if e.kind() != OutOfMemory && goes_on(text) => Ok(None),
+//!         Err(e) => Err(e),
+//!     }
+//! }
+//! // Of 'a' it is Ok(Some(_)), of "a Ok(None), and of "\q" an error: UnknownEscape.
+//! ```
 #![tactic(auto)]
 
 ghost use Rattle.std.specs.Prelude.{◌≡◌, false, nat_eq, IsTrue, IsOk, IfOk, OnErr, IfErr, Some};

@@ -32,6 +32,8 @@ mod raw;
 #[cfg(test)]
 mod refusals;
 #[cfg(test)]
+mod samples;
+#[cfg(test)]
 mod searches;
 #[cfg(test)]
 mod short_values;
