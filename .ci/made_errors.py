@@ -52,9 +52,12 @@ def code_lines(text):
 
 
 def is_test_file(path):
-    """Whether the file is a module that is declared under `#[cfg(test)]`."""
+    """Whether the file is a module that is declared under `#[cfg(test)]`, or below such a one."""
     declared = f"#[cfg(test)]\nmod {path.stem};"
-    return any(declared in parent.read_text() for parent in path.parent.glob("*.rt"))
+    above = path.parent.with_suffix(".rt")
+    return any(declared in parent.read_text() for parent in path.parent.glob("*.rt")) or (
+        above.is_file() and is_test_file(above)
+    )
 
 
 def main():

@@ -266,7 +266,7 @@ fn refused_bytes(rt: HostRuntime) {
 fn quoted(alloc: Global, front: &str, character: char) -> Result<String, AllocError> {
     let mut text = String::from_str(alloc, front)?;
     text.push(character)?;
-    text.push('\'')?;
+    text.push_str("'")?;
     Ok(text)
 }
 

@@ -255,7 +255,7 @@ fn have_answer(
 ) -> Result<bool, AllocError> {
     let mut text = repeated(alloc, front, "#", count)?;
     let begins = goes_on(text.as_str());
-    text.push('"')?;
+    text.push_str("\"")?;
     Ok(begins == expected && goes_on(text.as_str()) == expected)
 }
 

@@ -1,6 +1,5 @@
 //! Tests of public calls: of buffers, errors and searches, of the parts that literals are made of,
-//! of the literal types, and of tokens. The crate `litrs_vectors` compares all parses over one list
-//! of texts.
+//! of the literal types, of tokens, and of `run`; and all parses over one list of texts.
 #![tactic(auto)]
 
 #[cfg(test)]
@@ -22,6 +21,8 @@ mod goes_on;
 #[cfg(test)]
 mod integers;
 #[cfg(test)]
+mod lines;
+#[cfg(test)]
 mod names;
 #[cfg(test)]
 mod printing;
@@ -41,3 +42,5 @@ mod short_values;
 mod strings;
 #[cfg(test)]
 mod tokens;
+#[cfg(test)]
+mod vectors;

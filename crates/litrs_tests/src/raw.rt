@@ -102,7 +102,7 @@ fn refused_raw_strings(rt: HostRuntime) {
 
 fn push_hashes(text: &mut String, count: usize) -> Result<(), AllocError> {
     for _ in 0..count {
-        text.push('#')?;
+        text.push_str("#")?;
     }
     Ok(())
 }

@@ -15,10 +15,10 @@ const ESCAPES: [(&str, &str); 5] = [
 /// Adds so many letters, and this text before the last of them and behind it.
 fn push_letters(text: &mut String, len: usize, between: &str) -> Result<(), AllocError> {
     for _ in 0..len {
-        text.push('a')?;
+        text.push_str("a")?;
     }
     text.push_str(between)?;
-    text.push('b')?;
+    text.push_str("b")?;
     text.push_str(between)
 }
 
@@ -45,9 +45,9 @@ fn is_unescaped(alloc: Global, len: usize, escape: &str, value: &str) -> Result<
     let mut expected = String::new(alloc);
     push_letters(&mut expected, len, value)?;
     let mut text = String::new(alloc);
-    text.push('"')?;
+    text.push_str("\"")?;
     push_letters(&mut text, len, escape)?;
-    text.push('"')?;
+    text.push_str("\"")?;
     Ok(has_value(alloc, &text, &expected))
 }
 

@@ -1,0 +1,4 @@
+//! `run` and its devices.
+mod devices;
+mod large;
+mod runs;
