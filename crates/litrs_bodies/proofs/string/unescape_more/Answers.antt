@@ -1,5 +1,5 @@
 -- The value of the only derivation.
-use Rattle.std.proofs.Common.{◌+◌, ◌≤◌, arith, ◌∙◌, refl, sym, subst}
+use Rattle.std.proofs.Common.{◌+◌, ◌≤◌, arith, ◌∙◌, refl, sym, subst, inr, rules}
 use Rattle.std.specs.Str.{IsUtf8}
 use Rattle.std.proofs.lemmas.Result.{IfOk-at_ok}
 use Rattle.litrs_bodies.proofs.QuotedValues.{room_fits, true_by}
@@ -31,3 +31,11 @@ returns-in-Ok-clause-ok g c = record {
         IfOk-at_ok _ (sym w.copied-is ∙ c.in-Ok.is) w.copy_value-copied.ensures c.in_ok-cut.ensures.ok.parts c.in_ok-cut.ensures.ok.only.0
   ];
 }
+
+pub returns-in-Err-clause-refused : goal.returns-in-Err-clause-refused
+returns-in-Err-clause-refused g c = inr (record {
+  cut = c.in_ok-cut.cut;
+  is_cut = c.in_ok-cut.ensures.ok;
+  has_escape = sym (true_by c.in_ok-cut.cut.has_escape c.if-not-cut.false);
+  error = c.new.ensures.refusal;
+})
