@@ -1,0 +1,338 @@
+#!/usr/bin/env python3
+"""Tries the wrong bodies: for each, the check must report an open goal of the function it changes.
+
+    .ci/wrong_bodies.py [CRATE ..]
+
+At the top of the repository, after `rt ci`, over the libraries that it built; of all crates where
+none is named. A wrong body is a file `crates/CRATE/wrong/NAME.edit` of lines `file:`, `old:` and
+`new:`, as in `must-fail/`. As many as fit, one a function, are put into a copy of their crate, and
+the crate is checked once for all of them. One that this check does not report is checked alone. It
+counts as refused only where a goal of its own function is open: a proof that merely names
+what the edit took away shows nothing of the contract.
+
+The edits in `.ci/harmless/`, named by crate, do not change what their function does, so they must
+not be refused. They are tried in the same way, and show that this script can fail.
+"""
+import concurrent.futures
+import dataclasses
+import os
+import pathlib
+import re
+import shutil
+import subprocess
+import sys
+import tempfile
+
+KIT = pathlib.Path(subprocess.check_output(["rt", "doc"], text=True).strip()).parent
+SECONDS = 900
+
+FUNCTION = re.compile(r"\s*(?:pub(?:\(\w+\))? )?(?:(?:const|unsafe|final) )*fn (\w+)")
+CONSTANT = re.compile(r"\s*(?:pub(?:\(\w+\))? )?(?:const|static) (\w+):")
+GHOST = re.compile(r"\s*ghost (\w+) ")
+STATUS = re.compile(r"(?:fn|impl) (\S+): (.*)")
+ERROR = re.compile(r"(?:\./)?(proofs|src)/(\S+?):(\d+):\d+: error: (.*)")
+PLACE = re.compile(r"\bsrc/(\S+?\.rt):(\d+):\d+")
+# What the checker says of a function without answers in proofs/, whose goals it searched a proof of.
+OPEN = re.compile(r"no proof: .*?(`search` did not prove .*)")
+# What it says of a proof that names something the edit took away.
+MISSING = re.compile(r"has no field|is not in scope|has no `|was not admitted")
+
+
+def words_of(text, params):
+    """The words of a type or trait in the checker's names: `From<&TokenTree>` is FromRefTokenTree."""
+    tokens = [it for it in re.findall(r"&|\w+", text) if it not in params]
+    return "".join("Ref" if it == "&" else it[0].upper() + it[1:] for it in tokens) or "Any"
+
+
+def segment_of(header):
+    """The name by which the checker calls an impl, as `LiteralFromBoolLit` or `IntegerLit+ref+str`."""
+    rest, params = re.sub(r"'\w+,? ?", "", header.removeprefix("impl")), []
+    if rest.startswith("<"):
+        depth, end = 0, 0
+        for end, letter in enumerate(rest):
+            depth += (letter == "<") - (letter == ">")
+            if not depth:
+                break
+        params = re.findall(r"(?:^<|, ?)(\w+)", rest[: end + 1])
+        rest = rest[end + 1 :]
+    rest = rest.split(" where ")[0].strip(" {\n")
+    if " for " in rest:
+        trait, of = rest.split(" for ", 1)
+        return words_of(of, params) + words_of(re.sub(r"^(\w+::)+", "", trait), params)
+    name, _, arguments = rest.partition("<")
+    own = [it for it in re.findall(r"&|\w+", arguments) if it not in params]
+    return "+".join([name.split("::")[-1], *("ref" if it == "&" else it for it in own)])
+
+
+def owner_at(text, offset):
+    """The impl or trait around this place of a source file, and the function, constant or ghost
+    member that it stands in, each None where there is none."""
+    end = text.find("\n", offset)
+    around = inside = None
+    for line in text[: end if end >= 0 else len(text)].split("\n"):
+        if line.startswith("impl"):
+            around, inside = segment_of(line), None
+        elif found := re.match(r"(?:pub )?trait (\w+)", line):
+            around, inside = found[1], None
+        elif line.startswith("}"):
+            around = inside = None
+        else:
+            for kind, pattern in (("fn", FUNCTION), ("const", CONSTANT), ("ghost", GHOST)):
+                if found := pattern.match(line):
+                    inside = (kind, found[1])
+                    break
+    return around, inside
+
+
+def path_of(file, *names):
+    """The checker's path of an item in `src/FILE`."""
+    parts = [] if file in ("lib.rt", "main.rt") else file.removesuffix(".rt").split("/")
+    return "::".join([*parts, *(it for it in names if it)])
+
+
+def owners_of(file, text, offset):
+    """The paths of the functions that a change at this place touches. A path that ends in `::` stands
+    for all that is in an impl."""
+    around, inside = owner_at(text, offset)
+    if inside and inside[0] == "fn":
+        return {path_of(file, around, inside[1])}
+    if around:
+        return {path_of(file, around) + "::"}
+    owners = set()
+    for found in re.finditer(rf"\b{inside[1]}\b", text) if inside else ():
+        around_it, user = owner_at(text, found.start())
+        if user and user[0] == "fn":
+            owners.add(path_of(file, around_it, user[1]))
+    return owners
+
+
+@dataclasses.dataclass
+class WrongBody:
+    """An edit of a crate: its name, its changes (file, old and new text), what it touches, and
+    whether it is to be refused."""
+
+    name: str
+    changes: list
+    owners: set
+    is_wrong: bool = True
+
+    def applied(self, texts, originals):
+        """The texts with this edit in them, or None where an old text is not there just once."""
+        texts = dict(texts)
+        for file, old, new in self.changes:
+            text = texts.get(file, originals[file])
+            if text.count(old) != 1:
+                return None
+            texts[file] = text.replace(old, new)
+        return texts
+
+
+def read_edit(path, originals, is_wrong=True):
+    """The wrong body of a file."""
+    changes, owners, file, old = [], set(), None, None
+    texts = dict(originals)
+    for line in path.read_text(encoding="utf-8").splitlines():
+        if line.startswith("file: "):
+            file = line.removeprefix("file: ")
+        elif line.startswith("old: "):
+            old = line.removeprefix("old: ")
+        elif line.startswith("new:"):
+            new = line.removeprefix("new:").removeprefix(" ")
+            if file not in texts or texts[file].count(old) != 1:
+                sys.exit(f"{path}: an old text does not stand just once in {file}")
+            at = texts[file].index(old) + len(old) - len(old.lstrip())
+            owners |= owners_of(file.removeprefix("src/"), texts[file], at)
+            texts[file] = texts[file].replace(old, new)
+            changes.append((file, old, new))
+    if not owners:
+        sys.exit(f"{path}: it changes no function")
+    return WrongBody(path.stem, changes, owners, is_wrong)
+
+
+class Crate:
+    """A crate with its wrong bodies, and a copy of it that is checked."""
+
+    def __init__(self, line):
+        name, deps = line.split("#")[0].split(":")
+        self.name, self.deps = name.split()[0], deps.split()
+        self.folder = pathlib.Path("crates", self.name)
+        sources = sorted(self.folder.glob("src/**/*.rt"))
+        self.originals = {str(it.relative_to(self.folder)): it.read_text() for it in sources}
+        self.bodies = [read_edit(it, self.originals) for it in sorted(self.folder.glob("wrong/*"))]
+        harmless = pathlib.Path(".ci/harmless", f"{self.name}.edit")
+        if harmless.exists():
+            self.bodies.append(read_edit(harmless, self.originals, is_wrong=False))
+
+    def below(self, crates):
+        """The crates of the repository that this one stands on."""
+        found = {it for it in self.deps if it in crates}
+        return sorted(found.union(*(crates[it].below(crates) for it in found)))
+
+    def command(self, crates, work):
+        """The words of a check of the crate, over what earlier checks left in the folder `work`."""
+        library = "main.rt" if (self.folder / "src/main.rt").exists() else "lib.rt"
+        words = [f"{KIT}/bin/rattle", "check", "--crate-name", self.name, f"src/{library}"]
+        for dep in ["std", *self.deps]:
+            top = f"{KIT}/rlibs" if dep not in crates else library_folder(dep)
+            words += ["--extern", f"{dep}={top}/{dep}.rlib"]
+        words += ["-L", f"dependency={KIT}/rlibs"]
+        for dep in self.below(crates):
+            words += ["-L", f"dependency={library_folder(dep)}"]
+        words += ["--antt-project", f"{KIT}/rattle/logic/antt-project.json"]
+        words += ["--logic-built", f"{KIT}/logic_built", "--links", f"{self.name}="]
+        return [*words, "--jobs", "1", "--incremental", str(work)]
+
+
+def library_folder(name):
+    return pathlib.Path("crates", name, "out/rlib").absolute()
+
+
+class Answer:
+    """What a check said: which functions are proved, and of which a goal is open."""
+
+    def __init__(self, crate, texts, output):
+        lines = output.rstrip("\n").split("\n")
+        # (the last line counts the functions that were checked)
+        self.is_verdict = lines[-1].startswith("only=")
+        self.lines, self.goals, self.proved = lines, {}, set()
+        for line in lines:
+            if found := STATUS.match(line):
+                path = found[1].removeprefix(f"{crate.name}::")
+                self.proved |= {path} if found[2].startswith("proved") else set()
+                if goals := OPEN.match(found[2]):
+                    self.goals[path] = goals[1]
+            elif found := ERROR.match(line):
+                for path in self.paths_at(crate, texts, *found.groups()[:3]):
+                    if not MISSING.search(found[4]):
+                        self.goals.setdefault(path, found[4])
+
+    def paths_at(self, crate, texts, part, file, line):
+        """The paths of the functions that an error at this place speaks of."""
+        if part == "proofs":
+            return {"::".join(file.split("/")[:-1])}
+        text = texts.get(f"src/{file}", crate.originals.get(f"src/{file}", ""))
+        offset = sum(len(it) + 1 for it in text.split("\n")[: int(line) - 1])
+        return owners_of(file, text, offset)
+
+    def goal_of(self, body):
+        """A goal of what the wrong body touches that is open, with its function."""
+        for path, goal in self.goals.items():
+            touched = path in body.owners or any(
+                it.endswith("::") and path.startswith(it) for it in body.owners
+            )
+            if touched and path not in self.proved:
+                return f"{path}: {goal}"
+        return None
+
+
+class Trial:
+    """The trial of the wrong bodies of one crate."""
+
+    def __init__(self, crate, crates, room):
+        self.crate, self.copy = crate, pathlib.Path(room, crate.name)
+        for part in ("src", "specs", "proofs"):
+            if (crate.folder / part).exists():
+                shutil.copytree(crate.folder / part, self.copy / part)
+        self.work = self.copy / "incremental"
+        kept = crate.folder / "out/incremental"
+        if kept.exists():
+            shutil.copytree(kept, self.work)
+        self.words = crate.command(crates, self.work)
+        self.report, self.checks = [], 0
+
+    def check(self, bodies, texts):
+        """Checks what these wrong bodies touch, and what that calls, in the copy with these texts."""
+        for file, text in {**self.crate.originals, **texts}.items():
+            (self.copy / file).write_text(text)
+        how = {"stdout": subprocess.PIPE, "stderr": subprocess.STDOUT, "text": True}
+        self.work.mkdir(exist_ok=True)
+        self.checks += 1
+        paths = sorted({it.removesuffix("::") for body in bodies for it in body.owners})
+        words = [*self.words, *(word for it in paths for word in ("--only", it))]
+        try:
+            ran = subprocess.run(words, cwd=self.copy, timeout=SECONDS, check=False, **how)
+        except subprocess.TimeoutExpired:
+            return Answer(self.crate, texts, f"no answer in {SECONDS} seconds")
+        return Answer(self.crate, texts, ran.stdout)
+
+    def settle(self, body, goal, how):
+        """Notes what came of a wrong body."""
+        holds = (goal is not None) == body.is_wrong
+        said = f"refused ({how}): {goal[:150]}" if goal else f"NOT REFUSED ({how})"
+        self.report.append((holds, f"{self.crate.name}/{body.name}: {said}"))
+
+    def alone(self, body):
+        """Tries a wrong body by itself."""
+        texts = body.applied({}, self.crate.originals)
+        answer = self.check([body], texts)
+        if answer.is_verdict:
+            return self.settle(body, answer.goal_of(body), "alone")
+        said = " ".join(answer.lines[:3])[:300]
+        self.report.append((False, f"{self.crate.name}/{body.name}: CANNOT BE CHECKED: {said}"))
+
+    def next_round(self, left):
+        """As many of these as fit beside each other, and the texts with them."""
+        group, touched, texts = [], set(), {}
+        for body in left:
+            clash = any(a.startswith(b) or b.startswith(a) for a in body.owners for b in touched
+                        if a == b or a.endswith("::") or b.endswith("::"))
+            new = None if clash else body.applied(texts, self.crate.originals)
+            if new is not None:
+                group, touched, texts = [*group, body], touched | body.owners, new
+        return group, texts
+
+    def unreadable(self, answer, group, texts):
+        """Those of the group whose text the checker cannot read, by the places that it names."""
+        named = set()
+        for line in answer.lines:
+            for file, number in PLACE.findall(line):
+                named |= answer.paths_at(self.crate, texts, "src", file, number)
+        return [it for it in group if it.owners & named] or group
+
+    def run(self):
+        """Tries all, and returns what came of each."""
+        left, single = self.crate.bodies, []
+        while left:
+            group, texts = self.next_round(left)
+            left = [it for it in left if it not in group]
+            answer = self.check(group, texts)
+            if not answer.is_verdict:
+                bad = self.unreadable(answer, group, texts)
+                single += bad
+                left = [it for it in group if it not in bad] + left
+                continue
+            for body in group:
+                if goal := answer.goal_of(body):
+                    self.settle(body, goal, f"with {len(group) - 1} others")
+                else:
+                    single.append(body)
+        for body in single:
+            self.alone(body)
+        print(f"{self.crate.name}: {len(self.crate.bodies)} wrong bodies in {self.checks} checks")
+        return self.report
+
+
+def main(names):
+    lines = pathlib.Path("crates.txt").read_text().splitlines()
+    crates = [Crate(it) for it in lines if ":" in it.split("#")[0]]
+    crates = {it.name: it for it in crates}
+    tried = [it for it in crates.values() if it.bodies and (not names or it.name in names)]
+    for crate in tried:
+        for dep in crate.below(crates):
+            if not (library_folder(dep) / f"{dep}.rlib").exists():
+                sys.exit(f"{dep} is not built: run rt ci first")
+    tried.sort(key=lambda it: -len(it.bodies) * sum(map(len, it.originals.values())))
+    reports = []
+    with tempfile.TemporaryDirectory(prefix="wrong-bodies-") as room:
+        with concurrent.futures.ThreadPoolExecutor(len(os.sched_getaffinity(0))) as pool:
+            for report in pool.map(lambda it: Trial(it, crates, room).run(), tried):
+                print(*(line for _, line in report), sep="\n", flush=True)
+                reports += report
+    failed = [line for holds, line in reports if not holds]
+    print(*(f"FAILED: {it}" for it in failed), sep="\n", end="\n" if failed else "")
+    print(f"wrong: {len(reports) - len(failed)} passed, {len(failed)} failed")
+    return 1 if failed else 0
+
+
+if __name__ == "__main__":
+    sys.exit(main(sys.argv[1:]))
