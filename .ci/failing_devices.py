@@ -1,0 +1,90 @@
+#!/usr/bin/env python3
+"""Makes each read and each write of the program of lines fail in turn.
+
+    .ci/failing_devices.py
+
+Runs both builds of crates/litrs_lines_cli, which `rt ci` leaves in its out/, with reads and writes of
+at most 1, 3 and 4096 bytes. Where none fails, all reports are written. Where a read fails, what was
+written is the reports of the lines that were read to their end; where a write fails, it is a prefix of
+the reports. The message names the device, and the status is 1. An interrupted call is a failure.
+"""
+import errno
+import itertools
+import pathlib
+import subprocess
+import sys
+import tempfile
+
+TOP = pathlib.Path(__file__).resolve().parent.parent
+PROGRAM = TOP / "crates/litrs_lines_cli/out/litrs_lines_cli"
+LINES = b"0xff80\n'a'\n\n\"a\\tb\"x\n0;\n"
+REPORTS = [
+    b"integer base=16 digits=ff80 suffix= value=65408\n",
+    b"char value=61 suffix=\n",
+    b"error input is empty\n",
+    b"string raw=no suffix=x value=610962\n",
+    b"error unexpected character (at 1..2)\n",
+]
+PIECES = [1, 3, 4096]
+
+
+class Runs:
+    """The runs of one build."""
+
+    def __init__(self, program, library, folder):
+        self.program, self.library, self.folder = program, library, folder
+        self.number, self.faults = 0, []
+
+    def run(self, read_piece, write_piece, **how):
+        """Runs the program, and returns its output, message and status, and how many reads and writes it made."""
+        counts = self.folder / "counts"
+        counts.unlink(missing_ok=True)
+        environment = {"LD_PRELOAD": str(self.library), "IO_COUNT": str(counts)}
+        environment |= {"READ_PIECE": str(read_piece), "WRITE_PIECE": str(write_piece)}
+        environment |= {name: str(value) for name, value in how.items()}
+        ran = subprocess.run(
+            [self.program], input=LINES, capture_output=True, env=environment, timeout=60, check=False
+        )
+        self.number += 1
+        answer = (ran.stdout, ran.stderr, ran.returncode)
+        return answer, [int(it) for it in counts.read_text().split()]
+
+    def hold(self, holds, what):
+        if not holds:
+            self.faults.append(what)
+
+    def try_pieces(self, read_piece, write_piece):
+        """Runs with none failing, then with each read and each write failing in turn."""
+        sizes = f"{read_piece} and {write_piece}"
+        answer, (reads, writes) = self.run(read_piece, write_piece)
+        self.hold(answer == (b"".join(REPORTS), b"", 0), f"{sizes}: {answer}")
+        for error, at in itertools.product([errno.EIO, errno.EINTR], range(1, reads + 1)):
+            answer, counts = self.run(read_piece, write_piece, READ_FAILS=at, IO_ERROR=error)
+            ended = LINES[: read_piece * (at - 1)].count(b"\n")
+            wanted = (b"".join(REPORTS[:ended]), b"litrs_lines: read failed\n", 1)
+            self.hold(answer == wanted and counts[0] == at, f"{sizes}, read {at}: {answer}")
+        for error, at in itertools.product([errno.EIO, errno.EINTR], range(1, writes + 1)):
+            answer, counts = self.run(read_piece, write_piece, WRITE_FAILS=at, IO_ERROR=error)
+            is_prefix = b"".join(REPORTS).startswith(answer[0])
+            is_named = answer[1:] == (b"litrs_lines: write failed\n", 1)
+            self.hold(is_prefix and is_named and counts[1] == at, f"{sizes}, write {at}: {answer}")
+
+
+def main():
+    faults, number = [], 0
+    with tempfile.TemporaryDirectory(prefix="failing-devices-") as room:
+        folder = pathlib.Path(room)
+        library = folder / "fail_io.so"
+        source = TOP / ".ci/fail_io.c"
+        subprocess.run(["cc", "-O1", "-shared", "-fPIC", "-o", library, source], check=True)
+        for program in (str(PROGRAM), f"{PROGRAM}.by-rattle"):
+            runs = Runs(program, library, folder)
+            for pieces in itertools.product(PIECES, PIECES):
+                runs.try_pieces(*pieces)
+            number, faults = number + runs.number, faults + runs.faults
+    print(*faults[:20], sep="\n", end="\n" if faults else "")
+    print(f"devices: {number - len(faults)} passed, {len(faults)} failed")
+    return 1 if faults else 0
+
+
+sys.exit(main())
