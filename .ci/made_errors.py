@@ -1,11 +1,16 @@
 #!/usr/bin/env python3
-"""Fails where code makes an allocation failure or a formatting failure of its own.
+"""Fails where code makes an allocation failure or a formatting failure of its own, or asks for
+memory by a number that is not known to be a length of what it will hold.
 
 Outside tests an `AllocError` comes from the library alone, and so does a `fmt::Error`. Only
 `fn from(_: AllocError)` and the lines of `MAPPED` may make `OutOfMemory` or the `Memory` of an error
 of an `AllocError`, or one of these of `OutOfMemory`: elsewhere these stand in patterns and in the
 declarations of their enums.
+
+Outside tests memory is asked for by the number of bytes only in the lines of `RESERVED`: a contract
+says what is held in the end, and not how much was asked for.
 """
+import collections
 import pathlib
 import re
 import sys
@@ -19,6 +24,33 @@ MAPPED = {
     ("crates/litrs_token/src/from_token.rt", "ParseErrorKind::OutOfMemory => Err(AllocError),"),
     ("crates/litrs_token/src/one_kind.rt", "ParseErrorKind::OutOfMemory => TokenError::Memory,"),
 }
+
+# The lines that ask for memory by a number of bytes, and how often each stands in its file. The
+# number is the length of a text or a value that was measured, or given by the caller.
+RESERVED = {
+    ("crates/litrs_bodies/src/container.rt", "String::reserve(self, additional)"): 1,
+    ("crates/litrs_bodies/src/container.rt", "Vec::reserve(self, additional)"): 1,
+    # `room` is the length of the value, or one more.
+    ("crates/litrs_bodies/src/string.rt", "value.reserve(room)?;"): 2,
+    (
+        "crates/litrs_strings/src/byte_string.rt",
+        "let mut copy = Vec::with_capacity(alloc, value.len())?;",
+    ): 1,
+    (
+        "crates/litrs_strings/src/c_string.rt",
+        "let mut copy = Vec::with_capacity(alloc, bytes.len() + 1)?;",
+    ): 1,
+    (
+        "crates/litrs_strings/src/c_string.rt",
+        "let mut bytes = Vec::with_capacity(alloc, self.bytes.len())?;",
+    ): 1,
+    # The caller gives the room.
+    ("crates/litrs_devices/src/mem_output.rt", "bytes: Vec::with_capacity(alloc, room)?,"): 1,
+}
+RESERVES = (
+    r"(?<!fn )\b(try_)?(reserve(_exact)?|(with_capacity|resize|repeat|from_elem|new_zeroed)\w*)\("
+    r"|\bvec!\[in [^\]]*;"
+)
 
 # Where the names may stand: types, imports, clauses and patterns.
 ALLOWED = [
@@ -63,11 +95,17 @@ def is_test_file(path):
 def main():
     found = 0
     mapped = set()
+    reserved = collections.Counter()
     for path in sorted(pathlib.Path("crates").glob("*/src/**/*.rt")):
         if is_test_file(path):
             continue
         for number, line in code_lines(path.read_text()):
             place = (path.as_posix(), line.strip())
+            if re.search(RESERVES, re.sub(r"//.*", "", line)):
+                reserved[place] += 1
+                if reserved[place] > RESERVED.get(place, 0):
+                    print(f"{path}:{number}: asks for memory by a number: {line.strip()}")
+                    found += 1
             if place in MAPPED and place not in mapped:
                 mapped.add(place)
                 continue

@@ -1,6 +1,6 @@
 -- The number that digits stand for. The Rust Reference, Literal expressions, Integer literal
 -- expressions.
-use Rattle.std.specs.Prelude.{ℕ, Bool, ◌+◌, ◌*◌, ◌^◌, ◌-◌, not, ◌==◌, List, [], ◌∷◌, length, filter}
+use Rattle.std.specs.Prelude.{ℕ, ℤ, pos, neg_ℤ, ◌≤ℤ◌, Bool, ◌+◌, ◌*◌, ◌^◌, ◌-◌, not, ◌==◌, List, [], ◌∷◌, length, filter}
 use Rattle.std.specs.Char.{digit_value}
 use Rattle.litrs_base.specs.Characters.{underscore}
 use Rattle.litrs_base.specs.declared.integer.IntegerType.{IntegerType}
@@ -34,3 +34,17 @@ greatest_of I32 = 2 ^ 31 - 1
 greatest_of I64 = 2 ^ 63 - 1
 greatest_of I128 = 2 ^ 127 - 1
 greatest_of Isize = 2 ^ 63 - 1
+
+-- the least number of a type
+abbrev pub least_of : IntegerType → ℤ
+least_of I8 = neg_ℤ (pos (2 ^ 7))
+least_of I16 = neg_ℤ (pos (2 ^ 15))
+least_of I32 = neg_ℤ (pos (2 ^ 31))
+least_of I64 = neg_ℤ (pos (2 ^ 63))
+least_of I128 = neg_ℤ (pos (2 ^ 127))
+least_of Isize = neg_ℤ (pos (2 ^ 63))
+least_of _ = pos 0
+
+-- the type has a value of this number, which may be negative
+abbrev pub IsNumberOf : IntegerType → ℤ → Type 0
+IsNumberOf type number = (least_of type ≤ℤ number) × (number ≤ℤ pos (greatest_of type))

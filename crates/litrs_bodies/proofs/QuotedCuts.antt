@@ -14,8 +14,9 @@ use Rattle.litrs_base.proofs.Spans.{byte_len-append}
 use Rattle.litrs_grammar.specs.Escape.{Switches}
 use Rattle.litrs_grammar.specs.Allocation.{has_backslash}
 use Rattle.litrs_grammar.specs.Quoted.{Item, body_text, body_value, stand_before, is_body, QuotedParts, IsQuoted, IsQuotedRefusal, rest_refusal}
-use Rattle.litrs_grammar.proofs.QuotedItems.{stands_body}
+use Rattle.litrs_grammar.proofs.QuotedItems.{body_stands, stands_body}
 use Rattle.litrs_grammar.proofs.QuotedLaws.{quoted_texts_are_unique, quoted_texts_are_not_refused, quoted_refusals_are_unique, quoted_values_fit_bodies}
+use Rattle.litrs_grammar.proofs.LongerTexts.Quoted.{quoted_final, quoted_finality, quoted_items_stay, quoted_open}
 use Rattle.litrs_grammar.proofs.QuotedSpans.{quoted_spans_lie_in_text}
 use Rattle.litrs_grammar.proofs.RefusalKinds.{quoted_of_text}
 use Rattle.litrs_grammar.proofs.ValueLaws.{plain_bodies_are_their_values}
@@ -38,6 +39,10 @@ is_quoted_refused w bytes offset e table ends =
       char_span = ends;
       char_ends = char_span_points t e (quoted_spans_lie_in_text front w t (refusal_of e) table) ends;
       of_text = quoted_of_text front w t (refusal_of e) table;
+      items_stay = λ more. quoted_items_stay w table.rest more table.items table.taken;
+      final = quoted_finality front w t (refusal_of e) table;
+      stays = λ final more. quoted_final front w t more (refusal_of e) final table;
+      closes = λ shut. quoted_open front w t (refusal_of e) shut table;
     }
 
 pub refused_at : (w : Switches) (bytes : List ℕ) (offset : ℕ) (end : ItemsEnd) (e f : Refusal) → IsItemsEnd w bytes offset end →
@@ -163,4 +168,5 @@ is_quoted_cut w bytes offset end has_escape u start read free is_escape =
       body = ap chars taken ∙ slice.is_chars;
       suffix = ap (λ n. chars (drop n bytes)) (sym at) ∙ cut.rest;
       plain = λ none. taken ∙ (slice.is_bytes ∙ sym (plain_bodies_are_their_values w body items (record { spells = refl; body = good }) (sym told ∙ none)));
+      items_stay = λ more. body_stands w items (s ++ more) good;
     }

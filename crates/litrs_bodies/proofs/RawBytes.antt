@@ -24,6 +24,8 @@ use Rattle.litrs_search.specs.Special.{is_ordinary}
 use Rattle.litrs_grammar.specs.Suffix.{is_suffix, suffix_refusal}
 use Rattle.litrs_grammar.specs.Raw.{is_quote, is_hash, hashes, raw_closing, occurs, is_raw_char, RawParts, IsRawOf, hash_len, length_before, raw_char_refusal, raw_body_refusal, raw_refusal}
 use Rattle.litrs_grammar.specs.RawLaws.{NoClosingIn}
+use Rattle.litrs_grammar.proofs.LongerTexts.Raw.{raw_final, raw_finality, raw_open}
+use Rattle.litrs_grammar.proofs.RawClosings.{raw_scans_stay}
 use Rattle.litrs_grammar.proofs.RawLaws.{raw_rows, refusal_of_closed, behind_closing, length_closing, only_parts, parts_of, refused}
 use Rattle.litrs_grammar.proofs.RawScans.{raw_scans_go_on, raw_refusals_go_on}
 use Rattle.litrs_grammar.proofs.RawSpans.{raw_refusal_within}
@@ -487,6 +489,7 @@ raw_cut u a offset n start place bytes o boundary b =
       start = subst (λ (k : ℕ). IsCharBoundary bytes k) (sym o.at_start) boundary;
       end = b.body_end;
       suffix = b.suffix_start;
+      scan = raw_scans_stay t;
     }
   where
     one_more : (k : ℕ) → suc k ≡ k + 1
@@ -518,6 +521,10 @@ raw_refused u a offset bytes e utf8 boundary table ends =
       span = inside;
       char_span = ends;
       char_ends = char_span_points (chars bytes) e inside ends;
+      scan = raw_scans_stay (chars (drop offset bytes));
+      final = raw_finality u a offset (chars (drop offset bytes)) (refusal_of e) table;
+      stays = λ final more. raw_final u a offset (chars (drop offset bytes)) more (refusal_of e) final table;
+      closes = λ shut. raw_open u a offset (chars (drop offset bytes)) (refusal_of e) shut table;
     }
 
 -- a byte in its place

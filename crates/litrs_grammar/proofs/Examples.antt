@@ -5,6 +5,7 @@ pub mod Float
 pub mod Integer
 pub mod Kind
 pub mod Literal
+pub mod Memory
 pub mod Quoted
 pub mod Raw
 pub mod Text

@@ -1,5 +1,5 @@
 -- How the parts of a raw literal are found.
-use Rattle.std.proofs.Common.{◌≡◌, ℕ, ◌+◌, false, cond, ◌&&◌, ◌||◌, List, [], ◌∷◌, ◌++◌, drop, refl, sym, ap, ◌∙◌, arith}
+use Rattle.std.proofs.Common.{◌≡◌, ℕ, zero, suc, ◌+◌, true, false, cond, ◌&&◌, ◌||◌, List, [], ◌∷◌, ◌++◌, drop, refl, sym, ap, ◌∙◌, arith}
 use Rattle.std.specs.Prelude.{◌==◌}
 use Rattle.std.specs.List.{list_any}
 use Rattle.std.proofs.lemmas.Bool.{or_parts, or_left, true≢false}
@@ -7,7 +7,7 @@ use Rattle.std.proofs.lemmas.Bool.Decides.{nat_tests}
 use Rattle.std.proofs.lemmas.List.{append_assoc}
 use Rattle.litrs_base.specs.Text.{is_empty, first_passes, begins_with}
 use Rattle.litrs_grammar.specs.Raw.{is_quote, is_hash, hashes, raw_closing, occurs, hash_len, length_before}
-use Rattle.litrs_grammar.specs.RawScanLaws.{HashCountsStay, FirstClosingsStay, ClosingsBeginAtQuotes, ClosingsAreFound, QuotesArePassed}
+use Rattle.litrs_grammar.specs.RawScanLaws.{HashCountsStay, FirstClosingsStay, RawScansStay, ClosingsBeginAtQuotes, ClosingsAreFound, QuotesArePassed}
 use Rattle.litrs_grammar.proofs.RawCuts.{hash_len-append, behind_hashes, HashCut, hash_cut, closing_cut, length_before-body}
 
 pub hash_counts_stay : HashCountsStay
@@ -32,6 +32,24 @@ first_closings_stay n t more some =
     ap (λ l. cut.before ++ l) (sym (append_assoc (raw_closing n) cut.behind more)) ∙ sym (append_assoc cut.before (raw_closing n ++ cut.behind) more) ∙ ap (λ l. l ++ more) cut.spells in
     ap (length_before (raw_closing n)) (sym longer) ∙ length_before-body n cut.before (cut.behind ++ more) cut.unclosed
     ∙ sym (length_before-body n cut.before cut.behind cut.unclosed) ∙ ap (length_before (raw_closing n)) cut.spells
+
+-- what is dropped from a text is dropped from a longer one
+drop_longer : (k : ℕ) (t more : List ℕ) → is_empty (drop k t) ≡ false → drop k (t ++ more) ≡ drop k t ++ more
+drop_longer zero t more some = refl
+drop_longer (suc k) [] more some = cc
+drop_longer (suc k) (c ∷ t) more some = drop_longer k t more some
+
+closed_some : (n : ℕ) (t : List ℕ) → occurs (raw_closing n) t ≡ true → is_empty t ≡ false
+closed_some n [] h = cc
+closed_some n (c ∷ t) h = refl
+
+pub raw_scans_stay : RawScansStay
+raw_scans_stay t = record {
+  hashes = λ more some. hash_counts_stay t more some;
+  closing = λ more some.
+      let n = hash_len t in
+      ap (length_before (raw_closing n)) (drop_longer (n + 1) t more (closed_some n (drop (n + 1) t) some)) ∙ first_closings_stay n (drop (n + 1) t) more some;
+}
 
 other_than_quote : (c : ℕ) → is_quote c ≡ false → (34 == c) ≡ false
 other_than_quote c h = grind (arith, nat_tests)

@@ -5,7 +5,7 @@ use Rattle.litrs_base.specs.Finality.{is_final, is_open}
 use Rattle.litrs_base.specs.declared.err.ParseErrorKind.{ParseErrorKind}
 use Rattle.litrs_base.specs.declared.err.ParseErrorKind.TheVariants.{OutOfMemory}
 use Rattle.litrs_base.specs.Refusal.{Refusal}
-use Rattle.litrs_base.specs.Text.{is_empty, first_passes}
+use Rattle.litrs_base.specs.Text.{first_passes}
 use Rattle.litrs_base.specs.Derivations.{IsOnlyDerivation}
 use Rattle.litrs_grammar.specs.Suffix.{is_suffix}
 use Rattle.litrs_grammar.specs.Escape.{Switches, escape_refusal}
@@ -64,11 +64,10 @@ RefusedEscapesGoOn = (w : Switches) (t : List ℕ) (r : Refusal) →
     escape_refusal w (backslash ∷ t) ≡ Some r →
     BeginsEscape w (backslash ∷ t) ↔ IsTrue (escape_goes_on w t)
 
--- items that do not end the text stay those of every longer text
+-- the items that are taken before a rest are taken before every longer rest
 abbrev pub QuotedItemsStay : Type 0
 QuotedItemsStay = (w : Switches) (rest more : List ℕ) (items : List Item) →
-    IsFalse (is_empty rest) → IsTrue (stand_before w rest items) →
-    IsTrue (stand_before w (rest ++ more) items)
+    IsTrue (stand_before w rest items) → IsTrue (stand_before w (rest ++ more) items)
 
 -- a quoted text refused with a final kind is refused with the same kind and span whatever is
 -- appended

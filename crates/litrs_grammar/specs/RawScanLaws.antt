@@ -18,6 +18,19 @@ abbrev pub FirstClosingsStay : Type 0
 FirstClosingsStay = (n : ℕ) (t more : List ℕ) → IsTrue (occurs (raw_closing n) t) →
     length_before (raw_closing n) (t ++ more) ≡ length_before (raw_closing n) t
 
+-- What a scan finds in the text stays in every longer one: the number of hashes, where any character
+-- follows them; and the first closing after the hashes and the quote.
+pub record ScanStays (t : List ℕ) : Type 0 where
+  pub hashes : (more : List ℕ) → IsFalse (is_empty (drop (hash_len t) t)) →
+      hash_len (t ++ more) ≡ hash_len t
+  pub closing : (more : List ℕ) →
+      IsTrue (occurs (raw_closing (hash_len t)) (drop (hash_len t + 1) t)) →
+      length_before (raw_closing (hash_len t)) (drop (hash_len t + 1) (t ++ more))
+      ≡ length_before (raw_closing (hash_len t)) (drop (hash_len t + 1) t)
+
+abbrev pub RawScansStay : Type 0
+RawScansStay = (t : List ℕ) → ScanStays t
+
 -- the first character that may not stand in a body, behind characters that are one, is refused,
 -- whatever follows
 abbrev pub StoppedBodiesAreRefused : Type 0

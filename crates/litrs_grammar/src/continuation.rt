@@ -38,7 +38,7 @@ pub fn refused_escapes_go_on()
     ensures { RefusedEscapesGoOn }
 {}
 
-/// Items that do not end the text stay those of every longer text.
+/// The items that are taken before a rest are taken before every longer rest.
 pub fn quoted_items_stay()
     ensures { QuotedItemsStay }
 {}

@@ -1,6 +1,6 @@
 //! Laws of raw strings.
 ghost use Rattle.litrs_grammar.specs.RawLaws.{RawLiteralsAreUnique, RawLiteralsAreDecided, RawSpansLieInText, RawTextsAreUnique, RawTextsAreDecided, RawTextSpansLieInText, NoRawLiteralEndsWithLineFeed, NoNulInRawCStrings, RawValuesAreAsLongAsBodies, RawScansGoOn, RawRefusalsGoOn, RawBodiesEndAtClosings};
-ghost use Rattle.litrs_grammar.specs.RawScanLaws.{HashCountsStay, FirstClosingsStay, StoppedBodiesAreRefused, FinalRawRefusalsStay, ClosingsBeginAtQuotes, ClosingsAreFound, QuotesArePassed};
+ghost use Rattle.litrs_grammar.specs.RawScanLaws.{HashCountsStay, FirstClosingsStay, RawScansStay, StoppedBodiesAreRefused, FinalRawRefusalsStay, ClosingsBeginAtQuotes, ClosingsAreFound, QuotesArePassed};
 
 /// A text has at most one derivation as a raw literal, over all three kinds together.
 pub fn raw_literals_are_unique()
@@ -58,6 +58,12 @@ pub fn hash_counts_stay()
 /// The first closing stays that of every longer text.
 pub fn first_closings_stay()
     ensures { FirstClosingsStay }
+{}
+
+/// The number of hashes, where any character follows them, and the first closing after them and
+/// the quote stay those of every longer text.
+pub fn raw_scans_stay()
+    ensures { RawScansStay }
 {}
 
 /// The first character that may not stand in a body is refused, whatever follows.

@@ -1,10 +1,10 @@
 //! The integer types that a literal's value may have.
-ghost use Rattle.std.specs.Prelude.{◌≡◌, ℕ, ◌+◌, ◌*◌, ◌-◌, ◌^◌, ◌≤◌, pos, refl};
+ghost use Rattle.std.specs.Prelude.{◌≡◌, ℕ, ℤ, ◌+ℤ◌, ◌*ℤ◌, option_map, ◌+◌, ◌*◌, ◌-◌, ◌^◌, ◌≤◌, pos, refl};
 ghost use Rattle.std.specs.Option.{SomeIff};
 ghost use Rattle.std.proofs.Common.{rules};
 ghost use Rattle.litrs_base.specs.declared.integer.IntegerType.{IntegerType};
 ghost use Rattle.litrs_base.specs.declared.integer.IntegerType.TheVariants.{U8, U16, U32, U64, U128, Usize, I8, I16, I32, I64, I128, Isize};
-ghost use Rattle.litrs_base.specs.Numeral.{greatest_of};
+ghost use Rattle.litrs_base.specs.Numeral.{greatest_of, IsNumberOf};
 
 use litrs_base::IntegerType;
 
@@ -16,6 +16,9 @@ mod sealed {
 pub trait FromIntegerLiteral: sealed::Sealed + Copy {
     /// The value that stands for a number.
     ghost of: { ℕ → Self };
+
+    /// The number that a value stands for, negative ones among them.
+    ghost number: { Self → ℤ };
 
     /// Which type it is.
     ghost integer_type: { IntegerType };
@@ -32,15 +35,19 @@ pub trait FromIntegerLiteral: sealed::Sealed + Copy {
     fn from_number(n: u64) -> Option<Self>
         ensures { SomeIff result (n ≤ greatest) (of n) };
 
-    /// The sum, or None where it is greater than the greatest number.
+    /// The sum, or None if and only if the type has no such number.
     fn checked_add(self, rhs: Self) -> Option<Self>
-        ensures { (m n : ℕ) → self ≡ of m → rhs ≡ of n →
-            SomeIff result (m + n ≤ greatest) (of (m + n)) };
+        ensures numbers { (m n : ℕ) → self ≡ of m → rhs ≡ of n →
+            SomeIff result (m + n ≤ greatest) (of (m + n)) }
+        ensures exact { let sum = number self +ℤ number rhs in
+            SomeIff (option_map number result) (IsNumberOf integer_type sum) sum };
 
-    /// The product, or None where it is greater than the greatest number.
+    /// The product, or None if and only if the type has no such number.
     fn checked_mul(self, rhs: Self) -> Option<Self>
-        ensures { (m n : ℕ) → self ≡ of m → rhs ≡ of n →
-            SomeIff result (m * n ≤ greatest) (of (m * n)) };
+        ensures numbers { (m n : ℕ) → self ≡ of m → rhs ≡ of n →
+            SomeIff result (m * n ≤ greatest) (of (m * n)) }
+        ensures exact { let product = number self *ℤ number rhs in
+            SomeIff (option_map number result) (IsNumberOf integer_type product) product };
 
     /// Which type it is.
     fn ty() -> IntegerType
@@ -57,6 +64,8 @@ impl sealed::Sealed for u8 {}
 
 impl FromIntegerLiteral for u8 {
     ghost of = { λ n. n };
+
+    ghost number = { λ n. pos n };
 
     ghost integer_type = { U8 };
 
@@ -92,6 +101,8 @@ impl sealed::Sealed for u16 {}
 impl FromIntegerLiteral for u16 {
     ghost of = { λ n. n };
 
+    ghost number = { λ n. pos n };
+
     ghost integer_type = { U16 };
 
     ghost greatest = { 2 ^ 16 - 1 };
@@ -125,6 +136,8 @@ impl sealed::Sealed for u32 {}
 
 impl FromIntegerLiteral for u32 {
     ghost of = { λ n. n };
+
+    ghost number = { λ n. pos n };
 
     ghost integer_type = { U32 };
 
@@ -160,6 +173,8 @@ impl sealed::Sealed for u64 {}
 impl FromIntegerLiteral for u64 {
     ghost of = { λ n. n };
 
+    ghost number = { λ n. pos n };
+
     ghost integer_type = { U64 };
 
     ghost greatest = { 2 ^ 64 - 1 };
@@ -193,6 +208,8 @@ impl sealed::Sealed for u128 {}
 
 impl FromIntegerLiteral for u128 {
     ghost of = { λ n. n };
+
+    ghost number = { λ n. pos n };
 
     ghost integer_type = { U128 };
 
@@ -228,6 +245,8 @@ impl sealed::Sealed for usize {}
 impl FromIntegerLiteral for usize {
     ghost of = { λ n. n };
 
+    ghost number = { λ n. pos n };
+
     ghost integer_type = { Usize };
 
     ghost greatest = { 2 ^ 64 - 1 };
@@ -261,6 +280,8 @@ impl sealed::Sealed for i8 {}
 
 impl FromIntegerLiteral for i8 {
     ghost of = { λ n. pos n };
+
+    ghost number = { λ n. n };
 
     ghost integer_type = { I8 };
 
@@ -296,6 +317,8 @@ impl sealed::Sealed for i16 {}
 impl FromIntegerLiteral for i16 {
     ghost of = { λ n. pos n };
 
+    ghost number = { λ n. n };
+
     ghost integer_type = { I16 };
 
     ghost greatest = { 2 ^ 15 - 1 };
@@ -329,6 +352,8 @@ impl sealed::Sealed for i32 {}
 
 impl FromIntegerLiteral for i32 {
     ghost of = { λ n. pos n };
+
+    ghost number = { λ n. n };
 
     ghost integer_type = { I32 };
 
@@ -364,6 +389,8 @@ impl sealed::Sealed for i64 {}
 impl FromIntegerLiteral for i64 {
     ghost of = { λ n. pos n };
 
+    ghost number = { λ n. n };
+
     ghost integer_type = { I64 };
 
     ghost greatest = { 2 ^ 63 - 1 };
@@ -398,6 +425,8 @@ impl sealed::Sealed for i128 {}
 impl FromIntegerLiteral for i128 {
     ghost of = { λ n. pos n };
 
+    ghost number = { λ n. n };
+
     ghost integer_type = { I128 };
 
     ghost greatest = { 2 ^ 127 - 1 };
@@ -431,6 +460,8 @@ impl sealed::Sealed for isize {}
 
 impl FromIntegerLiteral for isize {
     ghost of = { λ n. pos n };
+
+    ghost number = { λ n. n };
 
     ghost integer_type = { Isize };
 

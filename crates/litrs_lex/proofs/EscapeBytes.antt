@@ -31,6 +31,7 @@ use Rattle.litrs_grammar.specs.Escape.{Switches, Escape, simple_escape, hex_esca
 use Rattle.litrs_grammar.specs.EscapeLaws.{BeginsWithEscape}
 use Rattle.litrs_grammar.proofs.EscapeLaws.{same_escape, refusal_escape, by_simple, hex_or_underscore_ascii, hexdigit_ascii, not_brace, two_bytes, starts_inner, no_stranger, has_stranger}
 use Rattle.litrs_grammar.proofs.EscapeSpans.{escape_spans_lie_in_text}
+use Rattle.litrs_grammar.proofs.LongerTexts.Escape.{escape_final, escape_finality}
 use Rattle.litrs_lex.specs.declared.escape.HexDigits.{HexDigits}
 use Rattle.litrs_lex.specs.Unescaped.{switches, IsUnescaped, IsEscapeRefused, IsHexDigits}
 
@@ -92,6 +93,8 @@ escape_is_refused w [] e begins table ends = record {
   span = λ some. cc;
   char_span = ends;
   char_ends = λ some. cc;
+  final = λ final. escape_finality w [] (refusal_of e) final table;
+  stays = λ final more. escape_final w [] more (refusal_of e) final table;
 }
 escape_is_refused w (c ∷ t) e begins table ends = at_backslash (eqb-true c 92 begins)
   where
@@ -103,6 +106,8 @@ escape_is_refused w (c ∷ t) e begins table ends = at_backslash (eqb-true c 92 
           span = λ some. inside;
           char_span = ends;
           char_ends = λ some. char_span_points (92 ∷ t) e inside ends;
+          final = λ final. escape_finality w (92 ∷ t) (refusal_of e) final table;
+          stays = λ final more. escape_final w (92 ∷ t) more (refusal_of e) final table;
         }
 
     at_backslash : c ≡ 92 → IsEscapeRefused w (c ∷ t) e

@@ -7,7 +7,8 @@ use Rattle.std.specs.Str.{chars, IsUtf8, IsCharBoundary}
 use Rattle.litrs_base.specs.declared.err.ParseError.{ParseError}
 use Rattle.litrs_base.specs.declared.escape.Unescape.{Unescape}
 use Rattle.litrs_base.specs.CharEnd.{PointsAtCharacters}
-use Rattle.litrs_base.specs.Refusal.{refusal_of, char_span_of, IsInText, HasCharSpan}
+use Rattle.litrs_base.specs.Finality.{is_final}
+use Rattle.litrs_base.specs.Refusal.{refusal_of, kind_of, char_span_of, IsInText, HasCharSpan}
 use Rattle.litrs_base.specs.Text.{byte_len, first_passes, is_empty}
 use Rattle.litrs_grammar.specs.Escape.{Switches, Escape, IsEscape, escape_text, escape_value, escape_refusal, is_hex_or_underscore, hex_value}
 use Rattle.litrs_grammar.specs.EscapeLaws.{BeginsWithEscape}
@@ -36,13 +37,18 @@ pub record IsUnescaped (w : Switches) (bytes : List ℕ) (value : Unescape) (len
 
 -- No escape stands at the front of the text, and the table of refusals has the error's kind and
 -- span for it. The span lies within the text and starts on a character boundary, and the character
--- span ends on one: all but in the empty text, which the span 0..1 passes.
+-- span ends on one: all but in the empty text, which the span 0..1 passes. Where the kind is final,
+-- the same holds whatever is appended: no escape stands at the front, and the table has this kind
+-- and span.
 pub record IsEscapeRefused (w : Switches) (t : List ℕ) (e : ParseError) : Type 0 where
   pub none : ¬ BeginsWithEscape w t
   pub table : escape_refusal w t ≡ Some (refusal_of e)
   pub span : IsFalse (is_empty t) → IsInText t (refusal_of e)
   pub char_span : HasCharSpan t e
   pub char_ends : IsFalse (is_empty t) → IfSome (char_span_of e) (PointsAtCharacters t)
+  pub final : IsTrue (is_final (kind_of e)) → (more : List ℕ) → ¬ BeginsWithEscape w (t ++ more)
+  pub stays : IsTrue (is_final (kind_of e)) → (more : List ℕ) →
+      escape_refusal w (t ++ more) ≡ Some (refusal_of e)
 
 -- The hex digits and underscores at the front of the bytes: so many bytes, with this value. They go
 -- on to the first byte that is neither, or to the seventh digit.

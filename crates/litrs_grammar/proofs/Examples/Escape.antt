@@ -291,5 +291,6 @@ rows-unknown_escape :
     × Refused byte_string_switches "\\\r" (over 0 2 kind.UnknownEscape)
     × Refused string_switches "\\a" (over 0 2 kind.UnknownEscape)
     × Refused string_switches "\\\n" (over 0 2 kind.UnknownEscape)
+    × Refused string_switches "\\`" (over 0 2 kind.UnknownEscape)
 unfolding computing
-rows-unknown_escape = (refl, refl, refl, refl)
+rows-unknown_escape = (refl, refl, refl, refl, refl)

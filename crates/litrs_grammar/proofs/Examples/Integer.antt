@@ -64,8 +64,13 @@ suffix_refusals :
     × (suffix_refusal (codes "\u{80}") ≡ kind.InvalidSuffix)
     × (suffix_refusal (codes "5") ≡ kind.UnexpectedChar)
     × (suffix_refusal (codes "Z ") ≡ kind.InvalidSuffix)
+    -- the characters beside the letters
+    × (suffix_refusal (codes "`x") ≡ kind.UnexpectedChar)
+    × (suffix_refusal (codes "{x") ≡ kind.UnexpectedChar)
+    × (suffix_refusal (codes "@x") ≡ kind.UnexpectedChar)
+    × (suffix_refusal (codes "[x") ≡ kind.UnexpectedChar)
 unfolding computing
-suffix_refusals = (refl, refl, refl, refl, refl, refl, refl, refl)
+suffix_refusals = (refl, refl, refl, refl, refl, refl, refl, refl, refl, refl, refl, refl)
 
 -- Literals and their parts
 

@@ -1,12 +1,12 @@
 -- Quoted strings, byte strings and C strings by computation: forms, values, and each row of the table of refusals. The
 -- items are written out.
 use Prim.Native.String.{String}
-use Rattle.std.specs.Prelude.{◌≡◌, ℕ, List, [], ◌∷◌, ◌++◌, map, None, codes, refl, true, false, encode_utf8_all}
+use Rattle.std.specs.Prelude.{◌≡◌, ℕ, List, [], ◌∷◌, ◌++◌, map, Some, None, codes, refl, true, false, encode_utf8_all}
 use Rattle.litrs_base.specs.declared.err.ParseErrorKind.TheVariants as kind
 use Rattle.litrs_base.specs.Refusal.{Refusal, plain, at, over}
 use Rattle.litrs_base.specs.Characters.{is_blank}
 use Rattle.litrs_grammar.specs.StringKind.{StringKind, string_kind, byte_string_kind, c_string_kind}
-use Rattle.litrs_grammar.specs.Escape.{string_switches, simple_escape, hex_escape, unicode_escape, byte_string_switches, c_string_switches}
+use Rattle.litrs_grammar.specs.Escape.{Switches, string_switches, simple_escape, hex_escape, unicode_escape, byte_string_switches, c_string_switches}
 use Rattle.litrs_grammar.specs.Quoted.{Item, plain_item, escape_item, continuation, body_value, is_body, IsQuotedLiteral, IsQuotedLiteralRefusal, rest_refusal, stand_before, is_plain}
 use Rattle.litrs_grammar.proofs.Computing.{computing, quoted, refused_behind}
 
@@ -237,6 +237,18 @@ rows-carriage_return = (
   refused_behind (plain_item 97 ∷ continuation [] ∷ []) (codes "\r\"") (at 0 kind.CarriageReturn) refl refl refl refl,
 )
 
+-- where NUL and characters beyond ASCII are both not allowed
+abbrev strict : Switches
+strict = record { unicode = false; byte_escapes = true; allow_nul = false }
+
+rows-first_character :
+    (rest_refusal strict (13 ∷ 0 ∷ 233 ∷ []) ≡ Some (at 0 kind.CarriageReturn))
+    × (rest_refusal strict (0 ∷ 13 ∷ 233 ∷ []) ≡ Some (at 0 kind.NulByte))
+    × (rest_refusal strict (0 ∷ 233 ∷ 13 ∷ []) ≡ Some (at 0 kind.NulByte))
+    × (rest_refusal strict (233 ∷ 0 ∷ 13 ∷ []) ≡ Some (at 0 kind.NonAsciiInByteLiteral))
+unfolding computing
+rows-first_character = (refl, refl, refl, refl)
+
 rows-nul_byte : Refused c_string_kind "c\"\0\"" (over 2 3 kind.NulByte)
 unfolding computing
 rows-nul_byte = refused_behind [] (0 ∷ 34 ∷ []) (at 0 kind.NulByte) refl refl refl refl
@@ -253,10 +265,12 @@ rows-non_ascii_in_byte_literal = (
 rows-unexpected_char :
     Refused string_kind "\"a\" " (over 3 4 kind.UnexpectedChar)
     × Refused c_string_kind "c\"\" " (at 3 kind.UnexpectedChar)
+    × Refused string_kind "\"a\"`x" (at 3 kind.UnexpectedChar)
 unfolding computing
 rows-unexpected_char = (
   refused_behind (plains "a") (codes "\" ") (at 1 kind.UnexpectedChar) refl refl refl refl,
   refused_behind [] (codes "\" ") (at 1 kind.UnexpectedChar) refl refl refl refl,
+  refused_behind (plains "a") (codes "\"`x") (at 1 kind.UnexpectedChar) refl refl refl refl,
 )
 
 rows-invalid_suffix :

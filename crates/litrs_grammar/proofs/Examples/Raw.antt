@@ -4,7 +4,7 @@ use Rattle.std.specs.Prelude.{◌≡◌, ℕ, List, [], ◌∷◌, ◌++◌, Som
 use Rattle.litrs_base.specs.declared.err.ParseErrorKind.TheVariants as kind
 use Rattle.litrs_base.specs.Refusal.{Refusal, plain, over, at}
 use Rattle.litrs_grammar.specs.StringKind.{StringKind, string_kind, byte_string_kind, c_string_kind}
-use Rattle.litrs_grammar.specs.Raw.{hashes, raw_value, IsRawLiteral, raw_literal_refusal, is_raw_char, raw_char_refusal, occurs, length_before}
+use Rattle.litrs_grammar.specs.Raw.{hashes, raw_value, IsRawLiteral, raw_literal_refusal, raw_refusal, is_raw_char, raw_char_refusal, occurs, length_before}
 use Rattle.litrs_grammar.proofs.Computing.{computing, raw}
 
 -- the text is a raw string of the kind, with so many hashes, this body and this suffix
@@ -76,6 +76,15 @@ kinds :
     × (raw_char_refusal 128 ≡ kind.NonAsciiInByteLiteral)
 unfolding computing
 kinds = (refl, refl, refl)
+
+-- where NUL and characters beyond ASCII are both not allowed, the first that stands in the text decides
+first_characters :
+    (raw_refusal false false 0 (34 ∷ 13 ∷ 0 ∷ 233 ∷ []) ≡ Some (at 1 kind.CarriageReturn))
+    × (raw_refusal false false 0 (34 ∷ 0 ∷ 13 ∷ 233 ∷ []) ≡ Some (at 1 kind.NulByte))
+    × (raw_refusal false false 0 (34 ∷ 0 ∷ 233 ∷ 13 ∷ []) ≡ Some (at 1 kind.NulByte))
+    × (raw_refusal false false 0 (34 ∷ 233 ∷ 0 ∷ 13 ∷ []) ≡ Some (at 1 kind.NonAsciiInByteLiteral))
+unfolding computing
+first_characters = (refl, refl, refl, refl)
 
 places :
     (occurs (codes "\"#") (codes "a\"#") ≡ true)

@@ -23,6 +23,7 @@ use Rattle.litrs_base.specs.Characters.{is_scalar}
 use Rattle.litrs_base.specs.Numeral.{place_sum, is_no_underscore}
 use Rattle.litrs_base.proofs.Runs.{list_all-append}
 use Rattle.litrs_grammar.specs.ContinuationLaws.{FinalEscapeRefusalsStay, RefusedEscapesGoOn}
+use Rattle.litrs_grammar.specs.EscapeLaws.{BeginsWithEscape}
 use Rattle.litrs_grammar.specs.EscapeGoesOn.{BeginsEscape, inner_goes_on, hex_goes_on, braces_go_on, escape_goes_on}
 
 -- A final refusal of an escape stays.
@@ -114,6 +115,12 @@ escape_final w (c ∷ d ∷ t) x e f h =
     keep ((d == 48) && not w.allow_nul) _ _ _ _ e (λ r. r)
     (keep (d == 120) _ _ _ _ e (hex_final w t x e f)
     (keep (d == 117) _ _ _ _ e (unicode_final w t x e f) (λ r. r))) h
+
+-- after a final refusal no longer text begins with an escape
+pub escape_finality : (w : Switches) (t : List ℕ) (e : Refusal) → is_final e.kind ≡ true → escape_refusal w t ≡ Some e → (more : List ℕ) → ¬ BeginsWithEscape w (t ++ more)
+escape_finality w t e f h more (g, rest, spells, grammar) =
+    let none : escape_refusal w (t ++ more) ≡ None = subst (λ (l : List ℕ). escape_refusal w l ≡ None) spells (refusal_escape w g rest grammar) in
+    let some : escape_refusal w (t ++ more) ≡ Some e = escape_final w t more e f h in cc
 
 -- `\u{` and what follows it, where no `}` follows
 

@@ -44,6 +44,21 @@ stand_more w (a ∷ items) c r x h =
     let q = and_parts (is_item w a) _ p.0 in
     and_from _ _ (and_from _ _ q.0 (taken_more a (body_text items) c r x q.1)) (stand_more w items c r x p.1)
 
+-- what is taken at the end of a text is taken before every rest
+taken_anywhere : (a : Item) (b x : List ℕ) → is_taken_before (b ++ []) a ≡ true → is_taken_before (b ++ x) a ≡ true
+taken_anywhere (plain_item d) b x h = refl
+taken_anywhere (escape_item e) [] x h = cc
+taken_anywhere (escape_item e) (d ∷ b) x h = refl
+taken_anywhere (continuation a) [] x h = cc
+taken_anywhere (continuation a) (d ∷ b) x h = h
+
+stand_anywhere : (w : Switches) (items : List Item) (x : List ℕ) → stand_before w [] items ≡ true → stand_before w x items ≡ true
+stand_anywhere w [] x h = refl
+stand_anywhere w (a ∷ items) x h =
+    let p = and_parts _ (stand_before w [] items) h in
+    let q = and_parts (is_item w a) _ p.0 in
+    and_from _ _ (and_from _ _ q.0 (taken_anywhere a (body_text items) x q.1)) (stand_anywhere w items x p.1)
+
 -- without its last character a longer text begins with the shorter one without its last character
 pub cut_more : (c : ℕ) (t x : List ℕ) → (y : List ℕ) × (without_last (c ∷ (t ++ x)) ≡ without_last (c ∷ t) ++ y)
 cut_more c t [] = ([], ap (λ l. without_last (c ∷ l)) (append-nil t) ∙ sym (append-nil (without_last (c ∷ t))))
@@ -428,8 +443,8 @@ quoted_open_kind front w t e f h =
 -- The laws
 
 pub quoted_items_stay : QuotedItemsStay
-quoted_items_stay w [] more items some stands = cc
-quoted_items_stay w (c ∷ rest) more items some stands = stand_more w items c rest more stands
+quoted_items_stay w [] more items stands = stand_anywhere w items more stands
+quoted_items_stay w (c ∷ rest) more items stands = stand_more w items c rest more stands
 
 pub final_quoted_refusals_stay : FinalQuotedRefusalsStay
 final_quoted_refusals_stay front w t more r refused final = quoted_final front w t more r final refused

@@ -16,7 +16,7 @@ returns-in_err-number g c =
     let i = c.loop-i.i in
     let digit = numeral_digit base main i c.loop-i-test.true c.if-byte-eq95.false in
     let front = numeral_take base main (i + 1) (positive_base c.args.base) in
-    let over = c.in_err-number.ensures (numeral base (take i main)) base c.loop-i.invariant.value (c.from_small_number-radix.ensures ∙ ap g.N.FromIntegerLiteral.of c.value.ensures) in
+    let over = c.in_err-number.ensures.numbers (numeral base (take i main)) base c.loop-i.invariant.value (c.from_small_number-radix.ensures ∙ ap g.N.FromIntegerLiteral.of c.value.ensures) in
     rw (c.from_residual.ensures) (λ fits. over (omega arith))
 
 pub returns-in_err-number-2 : goal.returns-in_err-number-2
@@ -26,8 +26,8 @@ returns-in_err-number-2 g c =
     let i = c.loop-i.i in
     let digit = numeral_digit base main i c.loop-i-test.true c.if-byte-eq95.false in
     let front = numeral_take base main (i + 1) (positive_base c.args.base) in
-    let product = c.in_ok-number.ensures (numeral base (take i main)) base c.loop-i.invariant.value (c.from_small_number-radix.ensures ∙ ap g.N.FromIntegerLiteral.of c.value.ensures) in
-    let over = c.in_err-number-2.ensures (numeral base (take i main) * base) (digit_value (get_or main i 0)) product.1 (c.from_small_number.ensures ∙ ap g.N.FromIntegerLiteral.of c.in-Some.ensures.1) in
+    let product = c.in_ok-number.ensures.numbers (numeral base (take i main)) base c.loop-i.invariant.value (c.from_small_number-radix.ensures ∙ ap g.N.FromIntegerLiteral.of c.value.ensures) in
+    let over = c.in_err-number-2.ensures.numbers (numeral base (take i main) * base) (digit_value (get_or main i 0)) product.1 (c.from_small_number.ensures ∙ ap g.N.FromIntegerLiteral.of c.in-Some.ensures.1) in
     rw (c.from_residual-in_err-number-2.ensures) (λ fits. over (omega arith))
 
 pub loop-i-preserved : goal.loop-i-preserved
@@ -36,8 +36,8 @@ loop-i-preserved g c =
     let main = c.args.main.now in
     let i = c.loop-i.i in
     let digit = numeral_digit base main i c.loop-i-test.true c.if-byte-eq95.false in
-    let product = c.in_ok-number.ensures (numeral base (take i main)) base c.loop-i.invariant.value (c.from_small_number-radix.ensures ∙ ap g.N.FromIntegerLiteral.of c.value.ensures) in
-    let total = c.in_ok-number-2.ensures (numeral base (take i main) * base) (digit_value (get_or main i 0)) product.1 (c.from_small_number.ensures ∙ ap g.N.FromIntegerLiteral.of c.in-Some.ensures.1) in
+    let product = c.in_ok-number.ensures.numbers (numeral base (take i main)) base c.loop-i.invariant.value (c.from_small_number-radix.ensures ∙ ap g.N.FromIntegerLiteral.of c.value.ensures) in
+    let total = c.in_ok-number-2.ensures.numbers (numeral base (take i main) * base) (digit_value (get_or main i 0)) product.1 (c.from_small_number.ensures ∙ ap g.N.FromIntegerLiteral.of c.in-Some.ensures.1) in
     record {
       value = total.1 ∙ ap g.N.FromIntegerLiteral.of (sym digit);
       fits = let fits = total.0 in omega arith;

@@ -1,0 +1,42 @@
+-- Which texts an allocation failure may be the answer to.
+use Rattle.std.specs.Prelude.{◌≡◌, ℕ, List, [], ◌∷◌, true, false, codes, refl}
+use Rattle.std.proofs.Common.{sym, ◌∙◌}
+use Rattle.std.proofs.lemmas.Bool.{false≢true}
+use Rattle.litrs_base.specs.declared.err.ParseError.{ParseError}
+use Rattle.litrs_base.specs.declared.err.ParseErrorKind.TheVariants as kind
+use Rattle.litrs_base.specs.Refusal.{plain, at, over, refusal_of}
+use Rattle.litrs_grammar.specs.Allocation.{may_allocate}
+use Rattle.litrs_grammar.specs.Escape.{simple_escape}
+use Rattle.litrs_grammar.specs.Literal.{a_string, quoted_parts, literal_parse}
+use Rattle.litrs_grammar.specs.LiteralRefusals.{IsRefusal}
+use Rattle.litrs_grammar.specs.Quoted.{plain_item, escape_item}
+use Rattle.litrs_grammar.specs.Refused.{IsOutOfMemory}
+use Rattle.litrs_grammar.proofs.AllocationLaws.{allocation_is_by_parts}
+use Rattle.litrs_grammar.proofs.Computing.{computing, quoted, refused_behind}
+use Rattle.litrs_grammar.proofs.LiteralLaws.{literals_are_not_refused}
+
+-- the value of a string with an escape is allocated
+with_escape : (e : ParseError) → refusal_of e ≡ plain kind.OutOfMemory → IsOutOfMemory literal_parse (codes "\"\\n\"") e
+unfolding computing
+with_escape e is = record {
+  derivation = a_string (quoted_parts (record { items = escape_item (simple_escape 110) ∷ []; suffix = [] }));
+  literal = quoted refl refl refl;
+  allocated = refl;
+  error = is;
+}
+
+-- that of one without a backslash is not
+without_backslash : (e : ParseError) → ¬ IsOutOfMemory literal_parse (codes "\"ab\"") e
+unfolding computing
+without_backslash e failed =
+    let none : may_allocate (codes "\"ab\"") ≡ false = refl in
+    absurd (false≢true (sym none ∙ allocation_is_by_parts (codes "\"ab\"") failed.derivation failed.literal ∙ failed.allocated))
+
+-- a string that is not finished has no value
+unfinished_refusal : IsRefusal literal_parse (codes "\"a\\n") (over 2 3 kind.UnterminatedEscape)
+unfolding computing
+unfinished_refusal = refused_behind (plain_item 97 ∷ []) (codes "\\n") (at 0 kind.UnterminatedEscape) refl refl refl refl
+
+unfinished : (e : ParseError) → ¬ IsOutOfMemory literal_parse (codes "\"a\\n") e
+unfinished e failed =
+    literals_are_not_refused literal_parse (codes "\"a\\n") failed.derivation (over 2 3 kind.UnterminatedEscape) failed.literal unfinished_refusal
