@@ -1,6 +1,6 @@
 -- Texts that end with LF, the steps of texts, and texts that are held.
 use Rattle.std.proofs.Common.{◌≡◌, ◌∙◌, ◌⊎◌, inl, inr, ℕ, Bool, true, false, List, [], ◌∷◌, ◌++◌, refl, sym, ap, subst, append-nil, arith, length, take, ◌-◌, ◌+◌, ◌<◌, length-append, slice_index, Result, Ok, Err, OnErr}
-use Rattle.std.specs.Prelude.{IsTrue, ◌↔◌, IfOk}
+use Rattle.std.specs.Prelude.{IsTrue, ◌↔◌}
 use Rattle.std.specs.Str.{chars, IsUtf8, IsCharBoundary}
 use Rattle.std.specs.String.Boundary.{IsSplitPoint}
 use Rattle.std.proofs.Math.Seq.{take-append_seam, get_or-append_seam}
@@ -8,9 +8,9 @@ use Rattle.std.proofs.lemmas.Str.{chars-append, IsCharBoundary-at_seam}
 use Rattle.litrs_base.specs.Derivations.{HasNoDerivation}
 use Rattle.litrs_base.specs.Finality.{is_open}
 use Rattle.litrs_base.specs.Refusal.{Refusal, refusal_of}
-use Rattle.litrs_grammar.specs.Literal.{Derivation, IsLiteral, literal_parse, Begins}
+use Rattle.litrs_grammar.specs.Literal.{IsLiteral, literal_parse, Begins}
 use Rattle.litrs_grammar.specs.LiteralRefusals.{IsRefusal}
-use Rattle.litrs_grammar.proofs.LiteralLaws.{literals_are_not_refused, refusals_are_unique, texts_are_decided}
+use Rattle.litrs_grammar.proofs.LiteralLaws.{literals_are_not_refused, texts_are_decided}
 use Rattle.litrs_grammar.proofs.LiteralSpans.{no_literal_ends_with_line_feed}
 use Rattle.litrs_base.specs.declared.err.ParseError.{ParseError}
 use Rattle.litrs_grammar.specs.Refused.{IsRefused}
@@ -22,7 +22,7 @@ use Rattle.litrs_collector.specs.declared.Step.{Step}
 use Rattle.litrs_collector.specs.declared.Step.TheVariants.{More, Literal, Refused}
 use Rattle.litrs_collector.specs.Held.{EndsWithLineFeed, Extends, IsHeld}
 use Rattle.litrs_collector.specs.Steps.{BeginsByLine, IsUnfinished, IsStep, held_after}
-use Rattle.litrs_collector.specs.StepLaws.{StepsAreDecided, SameStep, StepsAreUnique}
+use Rattle.litrs_collector.specs.StepLaws.{StepsAreDecided, StepsAreUnique}
 
 -- what holds anyway holds on an error
 pub OnErr-holds : {T E : Type 0} {P : Type 0} (r : Result T E) → P → OnErr r P
