@@ -1,3 +1,5 @@
+pub mod GroupReports
+pub mod GroupLemmas
 pub mod ReportLemmas
 pub mod LinesLemmas
 pub mod ReportExamples

@@ -1,9 +1,8 @@
 -- Lemmas on lines: how the words of specs/Lines go along a list that grows at its end, and one that is taken from the front.
 use Rattle.std.proofs.Common.{◌≡◌, ℕ, suc, ◌+◌, ◌-◌, ◌<◌, ◌≤◌, Bool, true, false, ◌⊎◌, inl, inr, List, [], ◌∷◌, ◌++◌, length, take, drop, Some, None, refl, sym, ap, ◌∙◌, subst, append_assoc, append-nil, arith}
-use Rattle.std.specs.Prelude.{All, flat_map, position}
+use Rattle.std.specs.Prelude.{All, flat_map, map, position}
 use Rattle.std.specs.List.{slice_split, onto_first}
 use Rattle.std.proofs.lemmas.List.Splits.{slice_split-cons_yes, slice_split-cons_no, slice_split_none}
-use Rattle.std.proofs.lemmas.Grind.{flat_map-append}
 use Rattle.std.proofs.lemmas.List.Elements.{All-nil, All-cons, All-append, All-head, All-tail}
 use Rattle.std.proofs.lemmas.List.Quantifiers.{position-Some}
 use Rattle.std.proofs.lemmas.List.Sums.{fails_before_first}
@@ -18,10 +17,14 @@ use Rattle.std.specs.Prelude.{is_ok, if◌then◌else◌}
 use Rattle.litrs_lines.specs.LinesLaws.{spelled, LinesSpellTheBytes, NoLineFeedInLines, LinesAreUnique}
 use Rattle.litrs_lines.specs.Stopped.{AppendsBeginning, StopsWithin}
 use Rattle.std.proofs.Common.{eqb-true, ltb, cond, add-one, get_or, take-append-drop, drop-cons, length-take}
-use Rattle.std.proofs.lemmas.List.{get_or-take, take_rest, take_all}
-use Rattle.litrs_lines.specs.Reported.{report_of, reports_of}
-use Rattle.litrs_lines.specs.Reports.{AppendsReports}
-use Rattle.litrs_lines.proofs.ReportLemmas.{are_reports}
+use Rattle.std.proofs.lemmas.List.{get_or-take, take_rest}
+use Rattle.litrs_lines.specs.Reported.{reports_of}
+use Rattle.litrs_lines.specs.Groups.{joined}
+use Rattle.litrs_lines.specs.Grouped.{unless_held, closed_by, held_by, closed_texts, held_text, texts_from}
+use Rattle.litrs_lines.specs.Reports.{AreReports, AreGroupReports, AppendsReports}
+use Rattle.litrs_lines.specs.ReportLaws.{LinesHaveReports, ReportsAreUnique}
+use Rattle.litrs_lines.proofs.GroupLemmas.{closed_texts-append, held_text-append, texts_from-append, grouped, groups_are_unique}
+use Rattle.litrs_lines.proofs.ReportLemmas.{are_reports, one_list_of_reports, reports_of-empty, reports_of-append}
 use Rattle.litrs_lines.specs.Lines.{is_line_feed, HasNoLineFeed, before_last_part, last_part, ended_parts, open_part, unless_empty, ended_lines, open_line, lines_of}
 
 -- the first part of a split, and those behind it
@@ -151,32 +154,13 @@ open_line-has_no_line_feed bytes = elim (cut_bytes bytes) [
   | inr cut ↦ subst HasNoLineFeed (sym (ap open_line cut.is ∙ open_line-line_feed cut.front cut.behind ∙ open_line-none cut.behind cut.none)) cut.none
 ]
 
--- ---- reports
-
-pub reports_of-append : (lines more : List (List ℕ)) → reports_of (lines ++ more) ≡ reports_of lines ++ reports_of more
-unfolding reports_of
-reports_of-append lines more = flat_map-append _ lines more
-
-pub reports_of-nil : reports_of [] ≡ []
-unfolding reports_of
-reports_of-nil = refl
-
-pub reports_of-cons : (line : List ℕ) (lines : List (List ℕ)) → reports_of (line ∷ lines) ≡ (report_of line ++ 10 ∷ []) ++ reports_of lines
-unfolding reports_of
-reports_of-cons line lines = refl
-
--- the report on a last line that has no end
-pub reports_of-open : (line : List ℕ) → (line ≡ [] → ⊥) → reports_of (unless_empty line) ≡ report_of line ++ 10 ∷ []
-reports_of-open [] some = absurd (some refl)
-reports_of-open (b ∷ bs) some = reports_of-cons (b ∷ bs) [] ∙ ap (λ xs. (report_of (b ∷ bs) ++ 10 ∷ []) ++ xs) reports_of-nil ∙ append-nil _
-
 -- ---- a piece, from the front: the line so far, and the rest of the piece
 
 -- an LF in the rest ends the line
 pub record EndsLine (line rest : List ℕ) (end : ℕ) : Type 0 where
   pub within : end < length rest
   pub leaves : open_line (line ++ rest) ≡ open_line (drop (end + 1) rest)
-  pub reports : reports_of (ended_lines (line ++ rest)) ≡ (report_of (line ++ take end rest) ++ 10 ∷ []) ++ reports_of (ended_lines (drop (end + 1) rest))
+  pub lines : ended_lines (line ++ rest) ≡ (line ++ take end rest) ∷ ended_lines (drop (end + 1) rest)
 
 cut_at : (bytes : List ℕ) (end : ℕ) → end < length bytes → get_or bytes end 0 ≡ 10 → bytes ≡ take end bytes ++ 10 ∷ drop (end + 1) bytes
 cut_at bytes end within is =
@@ -208,42 +192,49 @@ ends_line line rest end held at =
     record {
       within = found.0;
       leaves = ap open_line joined ∙ open_line-line_feed (line ++ take end rest) (drop (end + 1) rest);
-      reports =
-          ap (λ xs. reports_of (ended_lines xs)) joined ∙ ap reports_of (ended_lines-line_feed (line ++ take end rest) (drop (end + 1) rest))
-          ∙ ap (λ ps. reports_of (ps ++ ended_lines (drop (end + 1) rest))) (slice_split_none is_line_feed (line ++ take end rest) none)
-          ∙ reports_of-cons (line ++ take end rest) (ended_lines (drop (end + 1) rest));
+      lines =
+          ap ended_lines joined ∙ ended_lines-line_feed (line ++ take end rest) (drop (end + 1) rest)
+          ∙ ap (λ ps. ps ++ ended_lines (drop (end + 1) rest)) (slice_split_none is_line_feed (line ++ take end rest) none);
     }
 
 -- without one the line goes on
 pub record GoesOn (line rest : List ℕ) : Type 0 where
   pub leaves : open_line (line ++ rest) ≡ line ++ rest
-  pub reports : reports_of (ended_lines (line ++ rest)) ≡ []
+  pub lines : ended_lines (line ++ rest) ≡ []
 
 pub goes_on : (line rest : List ℕ) → HasNoLineFeed line → position is_line_feed rest ≡ None → GoesOn line rest
 goes_on line rest held at =
     let none : HasNoLineFeed (line ++ rest) = All-append EndsNoLine line rest held (none_found rest at) in
-    record { leaves = open_line-none (line ++ rest) none; reports = ap reports_of (ended_lines-none (line ++ rest) none) ∙ reports_of-nil }
+    record { leaves = open_line-none (line ++ rest) none; lines = ended_lines-none (line ++ rest) none }
 
--- a step over a line that ends: what it leaves of the line, the reports and the rest says the same of the whole
-pub record StepsOn (line reports rest line' reports' rest' : List ℕ) : Type 0 where
-  pub held : HasNoLineFeed line'
+-- a step over a line that ends: what it leaves of the line, the lines held, the reports and the rest says the same of the whole
+pub record StepsOn (held line reports rest held' line' reports' rest' : List ℕ) : Type 0 where
+  pub unended : HasNoLineFeed line'
   pub leaves : open_line (line ++ rest) ≡ open_line (line' ++ rest')
-  pub same : reports ++ reports_of (ended_lines (line ++ rest)) ≡ reports' ++ reports_of (ended_lines (line' ++ rest'))
+  pub holds : held_text held (ended_lines (line ++ rest)) ≡ held_text held' (ended_lines (line' ++ rest'))
+  pub same : reports ++ reports_of (closed_texts held (ended_lines (line ++ rest))) ≡ reports' ++ reports_of (closed_texts held' (ended_lines (line' ++ rest')))
 
-pub steps_on : (line reports rest line' reports' : List ℕ) (end : ℕ) → HasNoLineFeed line → Some end ≡ position is_line_feed rest
-    → line' ≡ [] → reports' ≡ reports ++ (report_of (line ++ take end rest) ++ 10 ∷ []) → StepsOn line reports rest line' reports' (take (length rest - (end + 1)) (drop (end + 1) rest))
-steps_on line reports rest line' reports' end held at none more =
-    let step = ends_line line rest end held (sym at) in
+pub steps_on : (held line reports rest held' line' reports' : List ℕ) (end : ℕ) → HasNoLineFeed line → Some end ≡ position is_line_feed rest
+    → line' ≡ [] → held' ≡ held_by held (line ++ take end rest) → reports' ≡ reports ++ reports_of (closed_by held (line ++ take end rest))
+    → StepsOn held line reports rest held' line' reports' (take (length rest - (end + 1)) (drop (end + 1) rest))
+steps_on held line reports rest held' line' reports' end unended at none holds more =
+    let step = ends_line line rest end unended (sym at) in
+    let whole : List ℕ = line ++ take end rest in
     let rest' = take (length rest - (end + 1)) (drop (end + 1) rest) in
     let same : rest' ≡ drop (end + 1) rest = take_rest rest (end + 1) in
     let empty : line' ++ rest' ≡ drop (end + 1) rest = ap (λ xs. xs ++ rest') none ∙ same in
-    let behind : List ℕ = reports_of (ended_lines (drop (end + 1) rest)) in
+    let behind : List (List ℕ) = ended_lines (drop (end + 1) rest) in
+    let after : behind ≡ ended_lines (line' ++ rest') = ap ended_lines (sym empty) in
+    let before : List ℕ = reports_of (closed_by held whole) in
     record {
-      held = subst HasNoLineFeed (sym none) (All-nil EndsNoLine);
+      unended = subst HasNoLineFeed (sym none) (All-nil EndsNoLine);
       leaves = step.leaves ∙ ap open_line (sym empty);
+      holds = ap (held_text held) step.lines ∙ (λ i. held_text (sym holds i) (after i));
       same =
-          ap (λ xs. reports ++ xs) step.reports ∙ sym (append_assoc reports (report_of (line ++ take end rest) ++ 10 ∷ []) behind)
-          ∙ ap (λ xs. xs ++ behind) (sym more) ∙ ap (λ xs. reports' ++ reports_of (ended_lines xs)) (sym empty);
+          ap (λ ls. reports ++ reports_of (closed_texts held ls)) step.lines
+          ∙ ap (λ xs. reports ++ xs) (reports_of-append (closed_by held whole) (closed_texts (held_by held whole) behind))
+          ∙ sym (append_assoc reports before (reports_of (closed_texts (held_by held whole) behind)))
+          ∙ (λ i. sym more i ++ reports_of (closed_texts (sym holds i) (after i)));
     }
 
 -- ---- appended bytes
@@ -281,72 +272,139 @@ OnErr-map (Err e) f p = f p
 
 -- ---- a last line that has no end
 
-pub reports_of-empty : (line : List ℕ) → length line ≡ 0 → reports_of (unless_empty line) ≡ []
-reports_of-empty [] none = reports_of-nil
-reports_of-empty (b ∷ bs) none = absurd (omega arith)
+pub unless_empty-none : (line : List ℕ) → length line ≡ 0 → unless_empty line ≡ []
+unless_empty-none [] none = refl
+unless_empty-none (b ∷ bs) none = absurd (omega arith)
 
-pub reports_of-last : (line new old : List ℕ) → 0 < length line → old ≡ [] → new ≡ old ++ (report_of (line ++ []) ++ 10 ∷ []) → new ≡ reports_of (unless_empty line)
-reports_of-last line new old some none is =
-    is ∙ ap (λ xs. xs ++ (report_of (line ++ []) ++ 10 ∷ [])) none ∙ ap (λ xs. report_of xs ++ 10 ∷ []) (append-nil line)
-    ∙ sym (reports_of-open line (λ nothing. let e : length line ≡ 0 = ap length nothing in omega arith))
+pub unless_empty-some : (line : List ℕ) → 0 < length line → unless_empty line ≡ (line ++ []) ∷ []
+unless_empty-some [] some = absurd (omega arith)
+unless_empty-some (b ∷ bs) some = ap (λ (l : List ℕ). l ∷ []) (sym (append-nil (b ∷ bs)))
+
+-- where it is empty nothing is added
+pub nothing_last : (held line reports : List ℕ) → length line ≡ 0 → (held ≡ held_text held (unless_empty line)) × (reports ≡ reports ++ reports_of (closed_texts held (unless_empty line)))
+nothing_last held line reports none =
+    let no = unless_empty-none line none in
+    (ap (held_text held) (sym no), sym (append-nil reports) ∙ ap (λ xs. reports ++ xs) (sym reports_of-empty) ∙ ap (λ ls. reports ++ reports_of (closed_texts held ls)) (sym no))
+
+pub held_last : (held line : List ℕ) → 0 < length line → held_by held (line ++ []) ≡ held_text held (unless_empty line)
+held_last held line some = ap (held_text held) (sym (unless_empty-some line some))
+
+pub closed_last : (held line : List ℕ) → 0 < length line → closed_by held (line ++ []) ≡ closed_texts held (unless_empty line)
+closed_last held line some = sym (append-nil (closed_by held (line ++ []))) ∙ ap (closed_texts held) (sym (unless_empty-some line some))
+
+-- two reports, one after the other
+pub reports_more : (a b c : List ℕ) (texts more : List (List ℕ)) → b ≡ a ++ reports_of texts → c ≡ b ++ reports_of more → c ≡ a ++ reports_of (texts ++ more)
+reports_more a b c texts more first second =
+    second ∙ ap (λ xs. xs ++ reports_of more) first ∙ append_assoc a (reports_of texts) (reports_of more) ∙ ap (λ xs. a ++ xs) (sym (reports_of-append texts more))
 
 -- ---- a run
 
--- of the bytes taken so far all but the line that goes on was reported, and each read took one at least
-pub record RunsOn (left_old left_new contents_old contents_new : Option (List ℕ)) (line : List ℕ) (reads : ℕ) : Type 0 where
+-- of the bytes taken so far all groups that ended were reported on, and each read took one at least
+pub record RunsOn (left_old left_new contents_old contents_new : Option (List ℕ)) (line held : List ℕ) (reads : ℕ) : Type 0 where
   pub taken : List ℕ
   pub takes : Consumes left_old left_new taken
   pub goes_on : line ≡ open_line taken
-  pub writes : Appends contents_old contents_new (reports_of (ended_lines taken))
+  pub holds : held ≡ held_text [] (ended_lines taken)
+  pub writes : Appends contents_old contents_new (reports_of (closed_texts [] (ended_lines taken)))
   pub few : reads ≤ length taken
 
-pub runs_none : (left contents : Option (List ℕ)) (line : List ℕ) → line ≡ [] → RunsOn left left contents contents line 0
-runs_none left contents line none = record {
-  taken = [];
-  takes = Consumes-nil left;
-  goes_on = none ∙ sym (open_line-none [] (All-nil EndsNoLine));
-  writes = subst (Appends contents contents) (sym (ap reports_of (ended_lines-none [] (All-nil EndsNoLine)) ∙ reports_of-nil)) (Appends-nil contents);
-  few = omega arith;
-}
+pub runs_none : (left contents : Option (List ℕ)) (line held : List ℕ) → line ≡ [] → held ≡ [] → RunsOn left left contents contents line held 0
+runs_none left contents line held none nothing =
+    let no : ended_lines [] ≡ [] = ended_lines-none [] (All-nil EndsNoLine) in
+    record {
+      taken = [];
+      takes = Consumes-nil left;
+      goes_on = none ∙ sym (open_line-none [] (All-nil EndsNoLine));
+      holds = nothing ∙ ap (held_text []) (sym no);
+      writes = subst (Appends contents contents) (sym (ap (λ ls. reports_of (closed_texts [] ls)) no ∙ reports_of-empty)) (Appends-nil contents);
+      few = omega arith;
+    }
 
-module _ {left_old left contents_old contents : Option (List ℕ)} {line : List ℕ} {reads : ℕ} (run : RunsOn left_old left contents_old contents line reads) where
-  pub line_held : HasNoLineFeed line
-  line_held = subst HasNoLineFeed (sym run.goes_on) (open_line-has_no_line_feed run.taken)
+-- the reports on the groups of some lines
+group_reports : (lines : List (List ℕ)) → AreGroupReports lines (reports_of (texts_from [] lines))
+group_reports lines =
+    let found = grouped lines in
+    (found.0, found.1, subst (λ ts. AreReports ts (reports_of (texts_from [] lines))) (sym found.2) (are_reports (texts_from [] lines)))
 
-  -- what is reported on a piece, behind what was reported before it
-  reports_on_piece : (piece : List ℕ) → reports_of (ended_lines (run.taken ++ piece)) ≡ reports_of (ended_lines run.taken) ++ reports_of (ended_lines (line ++ piece))
+pub lines_have_reports : LinesHaveReports
+lines_have_reports lines = (reports_of (texts_from [] lines), group_reports lines)
+
+pub reports_are_unique : ReportsAreUnique
+reports_are_unique lines out other a b =
+    let same : a.0 ≡ b.0 = groups_are_unique lines a.0 b.0 a.1 b.1 in
+    one_list_of_reports (map joined b.0) out other (subst (λ gs. AreReports (map joined gs) out) same a.2) b.2
+
+module _ {left_old left contents_old contents : Option (List ℕ)} {line held : List ℕ} {reads : ℕ} (run : RunsOn left_old left contents_old contents line held reads) where
+  pub line_unended : HasNoLineFeed line
+  line_unended = subst HasNoLineFeed (sym run.goes_on) (open_line-has_no_line_feed run.taken)
+
+  -- what was written so far
+  abbrev so_far : List ℕ
+  so_far = reports_of (closed_texts [] (ended_lines run.taken))
+
+  lines_of_piece : (piece : List ℕ) → ended_lines (run.taken ++ piece) ≡ ended_lines run.taken ++ ended_lines (line ++ piece)
+  lines_of_piece piece = ended_lines-append run.taken piece ∙ ap (λ xs. ended_lines run.taken ++ ended_lines (xs ++ piece)) (sym run.goes_on)
+
+  holds_on_piece : (piece : List ℕ) → held_text [] (ended_lines (run.taken ++ piece)) ≡ held_text held (ended_lines (line ++ piece))
+  holds_on_piece piece =
+      ap (held_text []) (lines_of_piece piece) ∙ held_text-append [] (ended_lines run.taken) (ended_lines (line ++ piece))
+      ∙ ap (λ h. held_text h (ended_lines (line ++ piece))) (sym run.holds)
+
+  -- what is reported on a piece, after what was reported before it
+  reports_on_piece : (piece : List ℕ) → reports_of (closed_texts [] (ended_lines (run.taken ++ piece))) ≡ so_far ++ reports_of (closed_texts held (ended_lines (line ++ piece)))
   reports_on_piece piece =
-      ap reports_of (ended_lines-append run.taken piece) ∙ reports_of-append (ended_lines run.taken) _
-      ∙ ap (λ xs. reports_of (ended_lines run.taken) ++ reports_of (ended_lines (xs ++ piece))) (sym run.goes_on)
+      let more : List (List ℕ) = ended_lines (line ++ piece) in
+      ap (λ ls. reports_of (closed_texts [] ls)) (lines_of_piece piece) ∙ ap reports_of (closed_texts-append [] (ended_lines run.taken) more)
+      ∙ reports_of-append (closed_texts [] (ended_lines run.taken)) (closed_texts (held_text [] (ended_lines run.taken)) more)
+      ∙ ap (λ h. so_far ++ reports_of (closed_texts h more)) (sym run.holds)
+
+  -- and on all lines, where these come last
+  reports_on_last : (last : List (List ℕ)) → reports_of (texts_from [] (ended_lines run.taken ++ last)) ≡ so_far ++ reports_of (texts_from held last)
+  reports_on_last last =
+      ap reports_of (texts_from-append [] (ended_lines run.taken) last)
+      ∙ reports_of-append (closed_texts [] (ended_lines run.taken)) (texts_from (held_text [] (ended_lines run.taken)) last)
+      ∙ ap (λ h. so_far ++ reports_of (texts_from h last)) (sym run.holds)
 
   -- what is reported on the whole, where nothing more is taken
-  reports_on_all : reports_of (lines_of run.taken) ≡ reports_of (ended_lines run.taken) ++ reports_of (unless_empty line)
+  reports_on_all : reports_of (texts_from [] (lines_of run.taken)) ≡ so_far ++ reports_of (texts_from held (unless_empty line))
   unfolding lines_of
   reports_on_all =
-      reports_of-append (ended_lines run.taken) (unless_empty (open_line run.taken))
-      ∙ ap (λ xs. reports_of (ended_lines run.taken) ++ reports_of (unless_empty xs)) (sym run.goes_on)
+      reports_on_last (unless_empty (open_line run.taken)) ∙ ap (λ xs. so_far ++ reports_of (texts_from held (unless_empty xs))) (sym run.goes_on)
 
-  pub runs_more : (left_new contents_new : Option (List ℕ)) (line_new piece : List ℕ) → Consumes left left_new piece → line_new ≡ open_line (line ++ piece)
-      → Appends contents contents_new (reports_of (ended_lines (line ++ piece))) → 0 < length piece → RunsOn left_old left_new contents_old contents_new line_new (reads + 1)
-  runs_more left_new contents_new line_new piece takes goes_on writes some = record {
+  pub runs_more : (left_new contents_new : Option (List ℕ)) (line_new held_new piece : List ℕ) → Consumes left left_new piece → line_new ≡ open_line (line ++ piece)
+      → held_new ≡ held_text held (ended_lines (line ++ piece))
+      → Appends contents contents_new (reports_of (closed_texts held (ended_lines (line ++ piece)))) → 0 < length piece
+      → RunsOn left_old left_new contents_old contents_new line_new held_new (reads + 1)
+  runs_more left_new contents_new line_new held_new piece takes goes_on holds writes some = record {
     taken = run.taken ++ piece;
     takes = Consumes-trans left_old left left_new run.taken piece run.takes takes;
     goes_on = goes_on ∙ ap (λ xs. open_line (xs ++ piece)) run.goes_on ∙ sym (open_line-append run.taken piece);
+    holds = holds ∙ sym (holds_on_piece piece);
     writes = subst (Appends contents_old contents_new) (sym (reports_on_piece piece)) (Appends-trans contents_old contents contents_new _ _ run.writes writes);
     few = let before = run.few in omega (arith, length-append run.taken piece);
   }
 
-  writes_beginning : (contents_new : Option (List ℕ)) (bytes whole : List ℕ) → AppendsBeginning contents contents_new bytes
-      → whole ≡ reports_of (ended_lines run.taken) ++ bytes → AppendsBeginning contents_old contents_new whole
-  writes_beginning contents_new bytes whole more is =
-      let front : List ℕ = reports_of (ended_lines run.taken) in
-      let rest : List ℕ = drop (length more.written) bytes in
-      let cut : whole ≡ (front ++ more.written) ++ rest = is ∙ ap (λ xs. front ++ xs) (starts_with_rest bytes more.written more.begins) ∙ sym (append_assoc front more.written rest) in
+  -- what was written is a prefix of the whole
+  writes_prefix : (contents_new : Option (List ℕ)) (bytes more whole : List ℕ) → AppendsBeginning contents contents_new bytes
+      → whole ≡ so_far ++ (bytes ++ more) → AppendsBeginning contents_old contents_new whole
+  writes_prefix contents_new bytes more whole part is =
+      let rest : List ℕ = drop (length part.written) bytes in
+      let inner : bytes ++ more ≡ part.written ++ (rest ++ more) =
+      ap (λ xs. xs ++ more) (starts_with_rest bytes part.written part.begins) ∙ append_assoc part.written rest more in
+      let cut : whole ≡ (so_far ++ part.written) ++ (rest ++ more) = is ∙ ap (λ xs. so_far ++ xs) inner ∙ sym (append_assoc so_far part.written (rest ++ more)) in
       record {
-        written = front ++ more.written;
-        appends = Appends-trans contents_old contents contents_new front more.written run.writes more.appends;
-        begins = ap (take (length (front ++ more.written))) cut ∙ take-append_seam (front ++ more.written) rest;
+        written = so_far ++ part.written;
+        appends = Appends-trans contents_old contents contents_new so_far part.written run.writes part.appends;
+        begins = ap (take (length (so_far ++ part.written))) cut ∙ take-append_seam (so_far ++ part.written) (rest ++ more);
       }
+
+  -- the reports on the lines that ended in a piece, and on what is then held
+  reports_past_piece : (piece : List ℕ) → reports_of (texts_from [] (ended_lines (run.taken ++ piece)))
+      ≡ so_far ++ (reports_of (closed_texts held (ended_lines (line ++ piece))) ++ reports_of (unless_held (held_text held (ended_lines (line ++ piece)))))
+  reports_past_piece piece =
+      let more : List (List ℕ) = ended_lines (line ++ piece) in
+      ap (λ ls. reports_of (texts_from [] ls)) (lines_of_piece piece) ∙ reports_on_last more
+      ∙ ap (λ xs. so_far ++ xs) (reports_of-append (closed_texts held more) (unless_held (held_text held more)))
 
   -- a read failed
   pub stops_at_read : (left_new : Option (List ℕ)) → Keeps left left_new → StopsWithin left_old left_new contents_old contents
@@ -355,22 +413,29 @@ module _ {left_old left contents_old contents : Option (List ℕ)} {line : List 
     takes = Consumes-kept left_old left left_new run.taken run.takes kept;
     lines = ended_lines run.taken;
     whole = inl refl;
-    out = reports_of (ended_lines run.taken);
-    reports = are_reports (ended_lines run.taken);
-    writes = record { written = reports_of (ended_lines run.taken); appends = run.writes; begins = take_all (length (reports_of (ended_lines run.taken))) (reports_of (ended_lines run.taken)) (omega arith) };
+    out = reports_of (texts_from [] (ended_lines run.taken));
+    reports = group_reports (ended_lines run.taken);
+    writes = record {
+      written = so_far;
+      appends = run.writes;
+      begins =
+          let held_reports : List ℕ = reports_of (unless_held (held_text [] (ended_lines run.taken))) in
+          ap (take (length so_far)) (reports_of-append (closed_texts [] (ended_lines run.taken)) (unless_held (held_text [] (ended_lines run.taken))))
+          ∙ take-append_seam so_far held_reports;
+    };
   }
 
   -- a piece was not reported on as a whole
   pub stops_in_piece : (left_new contents_new : Option (List ℕ)) (piece : List ℕ) → Consumes left left_new piece
-      → AppendsBeginning contents contents_new (reports_of (ended_lines (line ++ piece))) → StopsWithin left_old left_new contents_old contents_new
+      → AppendsBeginning contents contents_new (reports_of (closed_texts held (ended_lines (line ++ piece)))) → StopsWithin left_old left_new contents_old contents_new
   stops_in_piece left_new contents_new piece takes writes = record {
     taken = run.taken ++ piece;
     takes = Consumes-trans left_old left left_new run.taken piece run.takes takes;
     lines = ended_lines (run.taken ++ piece);
     whole = inl refl;
-    out = reports_of (ended_lines (run.taken ++ piece));
-    reports = are_reports (ended_lines (run.taken ++ piece));
-    writes = writes_beginning contents_new _ _ writes (reports_on_piece piece);
+    out = reports_of (texts_from [] (ended_lines (run.taken ++ piece)));
+    reports = group_reports (ended_lines (run.taken ++ piece));
+    writes = writes_prefix contents_new _ _ _ writes (reports_past_piece piece);
   }
 
   consumes_end : (left_new : Option (List ℕ)) (piece : List ℕ) → Consumes left left_new piece → piece ≡ [] → Consumes left_old left_new run.taken
@@ -379,24 +444,25 @@ module _ {left_old left contents_old contents : Option (List ℕ)} {line : List 
 
   -- the end was not reported on as a whole
   pub stops_at_end : (left_new contents_new : Option (List ℕ)) (piece : List ℕ) → Consumes left left_new piece → piece ≡ [] → IsAtEnd left_new
-      → AppendsBeginning contents contents_new (reports_of (unless_empty line)) → StopsWithin left_old left_new contents_old contents_new
+      → AppendsBeginning contents contents_new (reports_of (texts_from held (unless_empty line))) → StopsWithin left_old left_new contents_old contents_new
   stops_at_end left_new contents_new piece takes none at_end writes = record {
     taken = run.taken;
     takes = consumes_end left_new piece takes none;
     lines = lines_of run.taken;
     whole = inr (at_end, refl);
-    out = reports_of (lines_of run.taken);
-    reports = are_reports (lines_of run.taken);
-    writes = writes_beginning contents_new _ _ writes reports_on_all;
+    out = reports_of (texts_from [] (lines_of run.taken));
+    reports = group_reports (lines_of run.taken);
+    writes = writes_prefix contents_new (reports_of (texts_from held (unless_empty line))) [] _ writes
+        (reports_on_all ∙ ap (λ xs. so_far ++ xs) (sym (append-nil _)));
   }
 
   -- the end was reported on
   pub ends_run : (left_new contents_new : Option (List ℕ)) (piece : List ℕ) → Consumes left left_new piece → piece ≡ [] → IsAtEnd left_new
-      → Appends contents contents_new (reports_of (unless_empty line)) → IfSome left_old (λ bytes. AppendsReports (lines_of bytes) contents_old contents_new)
+      → Appends contents contents_new (reports_of (texts_from held (unless_empty line))) → IfSome left_old (λ bytes. AppendsReports (lines_of bytes) contents_old contents_new)
   ends_run left_new contents_new piece takes none at_end writes =
       Consumes-whole left_old left_new run.taken (λ bytes. AppendsReports (lines_of bytes) contents_old contents_new) (consumes_end left_new piece takes none) at_end (record {
-        out = reports_of (lines_of run.taken);
-        reports = are_reports (lines_of run.taken);
+        out = reports_of (texts_from [] (lines_of run.taken));
+        reports = group_reports (lines_of run.taken);
         appends = subst (Appends contents_old contents_new) (sym reports_on_all) (Appends-trans contents_old contents contents_new _ _ run.writes writes);
       })
 

@@ -18,7 +18,6 @@ use Rattle.litrs_grammar.proofs.LiteralLaws.{literals_are_unique, literals_are_n
 use Rattle.litrs_lines.specs.Report.{value_text, integer_front, fraction_field, float_report, char_report, raw_field, hex_byte, hex_bytes, string_front, string_report, literal_report, refusal_report, IsTextReport, IsReport}
 use Rattle.litrs_lines.specs.Reports.{AreReports}
 use Rattle.litrs_lines.specs.Reported.{report_by, text_report, report_of, reports_of}
-use Rattle.litrs_lines.specs.ReportLaws.{LinesHaveReports, ReportsAreUnique}
 
 -- The bytes of a line
 
@@ -68,21 +67,22 @@ line_has_report line false is =
     let none : IsUtf8 line → ⊥ = λ u. let both : true ≡ false = sym (is_utf8-from_IsUtf8 line u) ∙ is in cc in
     inr (none, report_of-other line none)
 
-reports_of-next : (line : List ℕ) (lines : List (List ℕ)) → reports_of (line ∷ lines) ≡ (report_of line ++ 10 ∷ []) ++ reports_of lines
+pub reports_of-next : (line : List ℕ) (lines : List (List ℕ)) → reports_of (line ∷ lines) ≡ (report_of line ++ 10 ∷ []) ++ reports_of lines
 unfolding reports_of
 reports_of-next line lines = refl
 
-reports_of-empty : reports_of [] ≡ []
+pub reports_of-empty : reports_of [] ≡ []
 unfolding reports_of
 reports_of-empty = refl
+
+pub reports_of-append : (lines more : List (List ℕ)) → reports_of (lines ++ more) ≡ reports_of lines ++ reports_of more
+unfolding reports_of
+reports_of-append lines more = flat_map-append _ lines more
 
 pub are_reports : (lines : List (List ℕ)) → AreReports lines (reports_of lines)
 are_reports [] = reports_of-empty
 are_reports (line ∷ lines) =
     (report_of line, reports_of lines, line_has_report line (is_utf8 line) refl, are_reports lines, reports_of-next line lines)
-
-pub lines_have_reports : LinesHaveReports
-lines_have_reports lines = (reports_of lines, are_reports lines)
 
 one_text_report : (t r s : List ℕ) → IsTextReport t r → IsTextReport t s → r ≡ s
 one_text_report t r s (inl p) (inl q) = p.2 ∙ (ap literal_report (literals_are_unique t p.0 q.0 p.1 q.1) ∙ sym q.2)
@@ -96,11 +96,12 @@ one_report line r s (inl p) (inr q) = absurd (q.0 p.0)
 one_report line r s (inr p) (inl q) = absurd (p.0 q.0)
 one_report line r s (inr p) (inr q) = p.1 ∙ sym q.1
 
-pub reports_are_unique : ReportsAreUnique
-reports_are_unique [] out other p q = p ∙ sym q
-reports_are_unique (line ∷ lines) out other p q =
+-- texts have one list of reports
+pub one_list_of_reports : (texts : List (List ℕ)) (out other : List ℕ) → AreReports texts out → AreReports texts other → out ≡ other
+one_list_of_reports [] out other p q = p ∙ sym q
+one_list_of_reports (line ∷ lines) out other p q =
     let r = one_report line p.0 q.0 p.2 q.2 in
-    let rest = reports_are_unique lines p.1 q.1 p.3 q.3 in
+    let rest = one_list_of_reports lines p.1 q.1 p.3 q.3 in
     p.4 ∙ (ap (λ (x : List ℕ). (x ++ 10 ∷ []) ++ p.1) r ∙ (ap (λ (x : List ℕ). (q.0 ++ 10 ∷ []) ++ x) rest ∙ sym q.4))
 
 -- An integer, part by part

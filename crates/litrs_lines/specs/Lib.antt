@@ -1,6 +1,11 @@
--- lines and reports
+-- lines
 pub mod Lines
 pub mod LinesLaws
+-- groups of lines
+pub mod Groups
+pub mod GroupsLaws
+pub mod Grouped
+-- reports
 pub mod Report
 pub mod Reports
 pub mod ReportLaws

@@ -1,4 +1,4 @@
--- The reports that lines have: each has one, as each text is a literal or refused.
+-- The reports that texts have: each has one, as each text is a literal or refused.
 use Rattle.std.specs.Prelude.{◌⊎◌, ℕ, List, [], ◌∷◌, ◌++◌, flat_map, codes, if◌then◌else◌}
 use Rattle.std.proofs.Common.{inl, inr}
 use Rattle.std.specs.Str.{chars, is_utf8}
@@ -19,10 +19,10 @@ report_by (inr r) = refusal_report r.0
 unfoldable pub text_report : List ℕ → List ℕ
 text_report t = report_by (texts_are_decided literal_parse t)
 
--- the report on a line
+-- the report on a text, or on a line that is none
 unfoldable pub report_of : List ℕ → List ℕ
 report_of line = if is_utf8 line then text_report (chars line) else codes "error input is not UTF-8"
 
--- the reports on lines, with an LF behind each
+-- the reports on them, with an LF after each
 unfoldable pub reports_of : List (List ℕ) → List ℕ
 reports_of lines = flat_map (λ line. report_of line ++ line_feed ∷ []) lines

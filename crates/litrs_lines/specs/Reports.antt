@@ -1,18 +1,24 @@
--- The reports on lines, one behind the other.
-use Rattle.std.specs.Prelude.{◌≡◌, ℕ, List, [], ◌∷◌, ◌++◌, Option}
+-- The reports on texts and on groups of lines, one after the other.
+use Rattle.std.specs.Prelude.{◌≡◌, ℕ, List, [], ◌∷◌, ◌++◌, Option, map}
 use Rattle.std.specs.Io.KnownBytes.{Appends}
 use Rattle.litrs_base.specs.Characters.{line_feed}
+use Rattle.litrs_lines.specs.Groups.{joined, AreGroups}
 use Rattle.litrs_lines.specs.Report.{IsReport}
 
--- out is a report on each line, with an LF behind it
+-- out is a report on each text, with an LF after it; a text may be a line that is none
 abbrev pub AreReports : List (List ℕ) → List ℕ → Type 0
 AreReports [] out = out ≡ []
-AreReports (line ∷ lines) out =
-    (r : List ℕ) × (rest : List ℕ) × IsReport line r × AreReports lines rest
+AreReports (text ∷ texts) out =
+    (r : List ℕ) × (rest : List ℕ) × IsReport text r × AreReports texts rest
     × (out ≡ (r ++ line_feed ∷ []) ++ rest)
 
--- the reports on these lines were appended to known bytes
+-- out is a report on each group of the lines, joined by LF
+abbrev pub AreGroupReports : List (List ℕ) → List ℕ → Type 0
+AreGroupReports lines out =
+    (groups : List (List (List ℕ))) × AreGroups groups lines × AreReports (map joined groups) out
+
+-- the reports on the groups of these lines were appended to known bytes
 pub record AppendsReports (lines : List (List ℕ)) (old new : Option (List ℕ)) : Type 0 where
   pub out : List ℕ
-  pub reports : AreReports lines out
+  pub reports : AreGroupReports lines out
   pub appends : Appends old new out

@@ -1,4 +1,4 @@
-//! Reads lines and writes a report on each.
+//! Reads lines and writes a report on each literal that they are, and on each text that is none.
 #![tactic(auto)]
 
 ghost use Rattle.std.specs.Prelude.{◌≡◌, ◌≢◌, ◌↔◌, ◌∷◌, [], ◌++◌, true, false, Some, IsSome, IfSome, IsErrOf, OnOk, OnErr, position, string_bytes};
@@ -6,17 +6,20 @@ ghost use Rattle.std.specs.Io.KnownBytes.{Appends, IsAtEnd};
 ghost use Rattle.litrs_base.specs.Characters.{line_feed};
 ghost use Rattle.litrs_lines.specs.Stopped.{AppendsBeginning, StopsWithin};
 ghost use Rattle.litrs_lines.specs.Lines.{is_line_feed, HasNoLineFeed, ended_lines, open_line, unless_empty, lines_of};
-ghost use Rattle.litrs_lines.specs.Reported.{report_of, reports_of};
+ghost use Rattle.litrs_lines.specs.Grouped.{closed_by, held_by, closed_texts, held_text, texts_from};
+ghost use Rattle.litrs_lines.specs.Reported.{reports_of};
 ghost use Rattle.litrs_lines.specs.Reports.{AppendsReports};
 
+use group::{report_held, take_line};
+pub use litrs_collector::{Collector, Step};
 pub use litrs_devices::{Failed, Input, MemInput, MemOutput, Output, StdInput, StdOutput};
 use memchr::memchr;
 pub use program::run_program;
-use report::push_report;
 use std::alloc::{AllocError, Global};
 use std::error::Error;
 use std::fmt;
 
+mod group;
 pub mod laws;
 mod program;
 mod report;
@@ -69,33 +72,46 @@ fn line_end(bytes: &[u8]) -> Option<usize>
     memchr(b'\n', bytes)
 }
 
-/// Reports on the line that `end` ends, and goes on with an empty one.
-fn report_line(line: &mut Vec<u8>, reports: &mut String, end: &[u8]) -> Result<(), AllocError>
+/// Takes the line that `end` ends, and goes on with an empty one.
+fn end_line(
+    line: &mut Vec<u8>,
+    collector: &mut Collector,
+    reports: &mut String,
+    end: &[u8],
+) -> Result<(), AllocError>
     ensures line { OnOk result (line.new.items ≡ []) }
+    ensures held { OnOk result (collector.new ≡ held_by collector.old (line.old.items ++ end.now)) }
     ensures reports { OnOk result (string_bytes reports.new
-        ≡ string_bytes reports.old ++ (report_of (line.old.items ++ end.now) ++ line_feed ∷ [])) }
+        ≡ string_bytes reports.old
+        ++ reports_of (closed_by collector.old (line.old.items ++ end.now))) }
 {
     if line.is_empty() {
-        push_report(reports, end)?;
-    } else {
-        line.extend_from_slice(end)?;
-        push_report(reports, line)?;
-        line.clear();
+        return take_line(collector, reports, end);
     }
-    reports.push('\n')?;
+    line.extend_from_slice(end)?;
+    take_line(collector, reports, line)?;
+    line.clear();
     Ok(())
 }
 
-/// Reports on the lines that end in `piece`, and keeps the one that goes on.
-fn gather(line: &mut Vec<u8>, reports: &mut String, piece: &[u8]) -> Result<(), AllocError>
+/// Takes the lines that end in `piece`, and keeps the one that goes on.
+fn gather(
+    line: &mut Vec<u8>,
+    collector: &mut Collector,
+    reports: &mut String,
+    piece: &[u8],
+) -> Result<(), AllocError>
     requires { HasNoLineFeed line.old.items }
     ensures line { OnOk result (line.new.items ≡ open_line (line.old.items ++ piece.now)) }
+    ensures held { OnOk result (collector.new
+        ≡ held_text collector.old (ended_lines (line.old.items ++ piece.now))) }
     ensures reports { OnOk result (string_bytes reports.new
-        ≡ string_bytes reports.old ++ reports_of (ended_lines (line.old.items ++ piece.now))) }
+        ≡ string_bytes reports.old
+        ++ reports_of (closed_texts collector.old (ended_lines (line.old.items ++ piece.now)))) }
 {
     let mut rest = piece;
     while let Some(end) = line_end(rest) {
-        report_line(line, reports, &rest[..end])?;
+        end_line(line, collector, reports, &rest[..end])?;
         rest = &rest[end + 1..];
     }
     line.extend_from_slice(rest)
@@ -120,9 +136,10 @@ fn write_all<O: Output>(writer: &mut O, bytes: &[u8]) -> Result<(), Failed>
     Ok(())
 }
 
-/// Takes the next piece of the input: writes the reports on the lines that end in it.
+/// Takes the next piece of the input: writes the reports on the groups that end in it.
 fn take_piece<O: Output>(
     line: &mut Vec<u8>,
+    collector: &mut Collector,
     reports: &mut String,
     piece: &[u8],
     writer: &mut O,
@@ -130,49 +147,75 @@ fn take_piece<O: Output>(
     requires line { HasNoLineFeed line.old.items }
     requires works { O.has_failed writer.old ≡ false }
     ensures line { OnOk result (line.new.items ≡ open_line (line.old.items ++ piece.now)) }
+    ensures held { OnOk result (collector.new
+        ≡ held_text collector.old (ended_lines (line.old.items ++ piece.now))) }
     ensures ok { OnOk result (Appends (O.contents writer.old) (O.contents writer.new)
-        (reports_of (ended_lines (line.old.items ++ piece.now)))) }
+        (reports_of (closed_texts collector.old (ended_lines (line.old.items ++ piece.now))))) }
     ensures err { OnErr result (AppendsBeginning (O.contents writer.old) (O.contents writer.new)
-        (reports_of (ended_lines (line.old.items ++ piece.now)))) }
+        (reports_of (closed_texts collector.old (ended_lines (line.old.items ++ piece.now))))) }
     ensures read { result ≢ Err RunError.Read }
     ensures write { IsErrOf result RunError.Write ↔ (O.has_failed writer.new ≡ true) }
 {
     reports.clear();
-    gather(line, reports, piece)?;
+    gather(line, collector, reports, piece)?;
     match write_all(writer, reports.as_bytes()) {
         Ok(()) => Ok(()),
         Err(Failed) => Err(RunError::Write),
     }
 }
 
-/// Reports on a last line that has no end, where it is not empty.
-fn report_open_line(line: &mut Vec<u8>, reports: &mut String) -> Result<(), AllocError>
-    requires { string_bytes reports.old ≡ [] }
-    ensures { OnOk result (string_bytes reports.new ≡ reports_of (unless_empty line.old.items)) }
+/// Takes a last line that has no end, where it is not empty.
+fn take_open_line(
+    line: &mut Vec<u8>,
+    collector: &mut Collector,
+    reports: &mut String,
+) -> Result<(), AllocError>
+    ensures held { OnOk result (collector.new
+        ≡ held_text collector.old (unless_empty line.old.items)) }
+    ensures reports { OnOk result (string_bytes reports.new
+        ≡ string_bytes reports.old
+        ++ reports_of (closed_texts collector.old (unless_empty line.old.items))) }
 {
     if line.is_empty() {
         return Ok(());
     }
-    report_line(line, reports, &[])
+    end_line(line, collector, reports, &[])
 }
 
-/// Takes the end of the input: writes the report on a last line that has no end, and flushes.
+/// Reports on a last line that has no end, where it is not empty, and on the lines that are then
+/// held.
+fn report_last(
+    line: &mut Vec<u8>,
+    collector: &mut Collector,
+    reports: &mut String,
+) -> Result<(), AllocError>
+    ensures { OnOk result (string_bytes reports.new
+        ≡ string_bytes reports.old
+        ++ reports_of (texts_from collector.old (unless_empty line.old.items))) }
+{
+    take_open_line(line, collector, reports)?;
+    report_held(collector, reports)
+}
+
+/// Takes the end of the input: writes the reports on a last line that has no end and on the lines
+/// that are held, and flushes.
 fn finish<O: Output>(
     line: &mut Vec<u8>,
+    collector: &mut Collector,
     reports: &mut String,
     writer: &mut O,
 ) -> Result<(), RunError>
     requires { O.has_failed writer.old ≡ false }
     ensures ok { OnOk result (Appends (O.contents writer.old) (O.contents writer.new)
-        (reports_of (unless_empty line.old.items))) }
+        (reports_of (texts_from collector.old (unless_empty line.old.items)))) }
     ensures flushed { OnOk result (O.is_flushed writer.new ≡ true) }
     ensures err { OnErr result (AppendsBeginning (O.contents writer.old) (O.contents writer.new)
-        (reports_of (unless_empty line.old.items))) }
+        (reports_of (texts_from collector.old (unless_empty line.old.items)))) }
     ensures read { result ≢ Err RunError.Read }
     ensures write { IsErrOf result RunError.Write ↔ (O.has_failed writer.new ≡ true) }
 {
     reports.clear();
-    report_open_line(line, reports)?;
+    report_last(line, collector, reports)?;
     if let Err(Failed) = write_all(writer, reports.as_bytes()) {
         return Err(RunError::Write);
     }
@@ -182,17 +225,20 @@ fn finish<O: Output>(
     }
 }
 
-/// Reads to the end of the input, writes the report on each line and an LF behind it, and flushes
-/// once at the end.
+/// Reads to the end of the input, writes the report on each group of lines and an LF after it, and
+/// flushes once at the end.
 ///
 /// A line is the bytes before an LF, without it, and what follows the last LF where that is
-/// not empty. One line is held at a time, so memory is taken in proportion to the longest.
+/// not empty. A group is a line that is not UTF-8, or the least number of next lines, all UTF-8,
+/// that are a literal when they are joined by LF, or no beginning of one with an LF after them, or
+/// after which no line follows or one that is not UTF-8. One group is held at a time, so memory is
+/// taken in proportion to the longest.
 ///
 /// # Errors
 ///
 /// `Read` where the reader failed, or gave no end in 2^64 - 1 reads. `Write` where the writer
-/// failed. `Memory` where an allocation failed. What was written is then a beginning of the reports
-/// on the whole lines that were read.
+/// failed. `Memory` where an allocation failed. What was written is then a prefix of the reports on
+/// the groups of the whole lines that were read.
 ///
 /// A failed call is never made again, so an error of the kind `Interrupted` ends the run as well:
 /// see [`StdInput`] and [`StdOutput`].
@@ -204,7 +250,7 @@ pub fn run<I: Input, O: Output>(
     requires reader_works { I.has_failed reader.old ≡ false }
     requires writer_works { O.has_failed writer.old ≡ false }
 
-    // The whole input was read, and the reports on its lines were written and flushed.
+    // The whole input was read, and the reports on the groups of its lines were written and flushed.
     ensures end { OnOk result (IsAtEnd (I.remaining reader.new)) }
     ensures ok { OnOk result (IfSome (I.remaining reader.old) (λ bytes.
         AppendsReports (lines_of bytes) (O.contents writer.old) (O.contents writer.new))) }
@@ -220,6 +266,7 @@ pub fn run<I: Input, O: Output>(
 {
     let mut buffer = [0; BUFFER_LEN];
     let mut line = Vec::new(alloc);
+    let mut collector = Collector::new(alloc);
     let mut reports = String::new(alloc);
     for _turn in 0..u64::MAX {
         let count = match reader.read(&mut buffer) {
@@ -227,9 +274,10 @@ pub fn run<I: Input, O: Output>(
             Err(Failed) => return Err(RunError::Read),
         };
         if count == 0 {
-            return finish(&mut line, &mut reports, writer);
+            return finish(&mut line, &mut collector, &mut reports, writer);
         }
-        if let Err(error) = take_piece(&mut line, &mut reports, &buffer[..count], writer) {
+        let piece = &buffer[..count];
+        if let Err(error) = take_piece(&mut line, &mut collector, &mut reports, piece, writer) {
             return Err(error);
         }
     }

@@ -1,55 +1,46 @@
-//! The report on one line.
-ghost use Rattle.std.specs.Prelude.{◌≡◌, ◌+◌, ◌<◌, ◌++◌, OnOk, OnErr, string_bytes, string_len, string_capacity, codes};
+//! The report on a literal, and on a refusal.
+ghost use Rattle.std.specs.Prelude.{◌≡◌, ◌<◌, ◌∷◌, [], ◌++◌, OnOk, string_bytes, codes};
 ghost use Rattle.std.specs.Char.{digit_char};
-ghost use Rattle.std.specs.Str.{chars};
 ghost use Rattle.litrs.specs.LiteralDerivation.{derivation};
 ghost use Rattle.litrs_grammar.specs.Integer.{integer_value};
 ghost use Rattle.litrs_scalars.specs.CharLiteral.{char_parts, byte_parts};
 ghost use Rattle.litrs_numbers.specs.FloatLiteral.{float_parts};
 ghost use Rattle.litrs_numbers.specs.IntegerLiteral.{integer_parts};
 ghost use Rattle.litrs_grammar.specs.Literal.{an_integer, a_float, a_char, a_byte, a_string, a_byte_string, a_c_string};
-ghost use Rattle.litrs_lines.specs.Report.{value_text, integer_front, fraction_field, float_report, char_report, raw_field, hex_byte, hex_bytes, string_front, literal_report};
-ghost use Rattle.litrs_lines.specs.Reported.{text_report, report_of};
+ghost use Rattle.litrs_lines.specs.Report.{value_text, integer_front, fraction_field, float_report, char_report, raw_field, hex_byte, hex_bytes, string_front, literal_report, refusal_report};
+ghost use Rattle.litrs_base.specs.Characters.{line_feed};
+ghost use Rattle.litrs_base.specs.Refusal.{refusal_of};
 
 use litrs::{
-    Buffer, ByteLit, ByteStringLit, CStringLit, CharLit, FloatLit, IntegerLit, Literal,
-    ParseErrorKind, StringLit,
+    Buffer, ByteLit, ByteStringLit, CStringLit, CharLit, FloatLit, IntegerLit, Literal, ParseError,
+    StringLit,
 };
-use std::alloc::{AllocError, Global};
-use std::str;
+use std::alloc::AllocError;
 
-/// Adds the report on a line.
-pub(crate) fn push_report(out: &mut String, line: &[u8]) -> Result<(), AllocError>
-    ensures { OnOk result (string_bytes out.new ≡ string_bytes out.old ++ report_of line.now) }
+/// Adds the report on a refusal, and an LF.
+pub(crate) fn report_refusal(out: &mut String, error: &ParseError) -> Result<(), AllocError>
+    ensures { OnOk result (string_bytes out.new
+        ≡ string_bytes out.old ++ (refusal_report (refusal_of error.now) ++ line_feed ∷ [])) }
 {
-    let alloc = *out.allocator();
-    match str::from_utf8(line) {
-        Ok(text) => push_text_report(alloc, out, text),
-        Err(_) => push_no_text_report(out),
-    }
+    push_refusal_report(out, error)?;
+    out.push('\n')
 }
 
-/// Adds the report on a line that is no text.
-fn push_no_text_report(out: &mut String) -> Result<(), AllocError>
-    ensures ok { OnOk result (
-        string_bytes out.new ≡ string_bytes out.old ++ codes "error input is not UTF-8") }
-    ensures err { OnErr result (string_capacity out.old < string_len out.old + 24) }
-{
-    out.push_str("error input is not UTF-8")
-}
-
-/// Adds the report on a text. There is none where there is no memory for its value.
-fn push_text_report<B: Buffer>(alloc: Global, out: &mut String, text: B) -> Result<(), AllocError>
+/// Adds the report on a refusal.
+fn push_refusal_report(out: &mut String, error: &ParseError) -> Result<(), AllocError>
     ensures { OnOk result (
-        string_bytes out.new ≡ string_bytes out.old ++ text_report (chars (B.bytes text))) }
+        string_bytes out.new ≡ string_bytes out.old ++ refusal_report (refusal_of error.now)) }
 {
-    match Literal::parse(alloc, text) {
-        Ok(lit) => push_literal_report(out, &lit),
-        Err(e) => match e.kind() {
-            ParseErrorKind::OutOfMemory => Err(AllocError),
-            _ => write!(out, "error {e}"),
-        },
-    }
+    write!(out, "error {error}")
+}
+
+/// Adds the report on a literal, and an LF.
+pub(crate) fn report_literal(out: &mut String, lit: &Literal<String>) -> Result<(), AllocError>
+    ensures { OnOk result (string_bytes out.new
+        ≡ string_bytes out.old ++ (literal_report (derivation lit.now) ++ line_feed ∷ [])) }
+{
+    push_literal_report(out, lit)?;
+    out.push('\n')
 }
 
 /// Adds the report on a literal.

@@ -1,13 +1,13 @@
 use Rattle.std.proofs.Common.{arith, ◌∙◌, length-take, rules}
 use Rattle.std.proofs.KnownBytes.{Keeps-refl}
-use Rattle.litrs_lines.proofs.LinesLemmas.{runs_none, line_held, runs_more, stops_at_read, stops_in_piece, stops_at_end, ends_run, OnOk-map, OnErr-map, false_unless, ok_not_err, take_none}
+use Rattle.litrs_lines.proofs.LinesLemmas.{runs_none, line_unended, runs_more, stops_at_read, stops_in_piece, stops_at_end, ends_run, OnOk-map, OnErr-map, false_unless, ok_not_err, take_none}
 use Rattle.litrs_lines.proofs.run.Goals as goal
 
 pub loop-turn-init : goal.loop-turn-init
 loop-turn-init g c = record {
   reader_works = c.requires.reader_works;
   writer_works = c.requires.writer_works;
-  runs = runs_none _ _ _ c.new-line.ensures.items;
+  runs = runs_none _ _ _ _ c.new-line.ensures.items c.new-collector.ensures;
 }
 
 pub returns-in-Err-clause-err : goal.returns-in-Err-clause-err
@@ -24,7 +24,7 @@ returns-then-count-eq0-clause-err g c =
     OnErr-map c.finish.result (stops_at_end c.loop-turn.invariant.runs _ _ _ read.0 (take_none _ _ (omega arith)) (read.1 (omega arith) (omega arith))) c.finish.ensures.err
 
 pub take_piece-requires-clause-line : goal.take_piece-requires-clause-line
-take_piece-requires-clause-line g c = line_held c.loop-turn.invariant.runs
+take_piece-requires-clause-line g c = line_unended c.loop-turn.invariant.runs
 
 pub returns-in-Err-take_piece-clause-err : goal.returns-in-Err-take_piece-clause-err
 returns-in-Err-take_piece-clause-err g c =
@@ -34,7 +34,7 @@ pub loop-turn-preserved : goal.loop-turn-preserved
 loop-turn-preserved g c = record {
   reader_works = c.in-Ok.ensures.failed ∙ c.loop-turn.invariant.reader_works;
   writer_works = false_unless _ (λ failed. ok_not_err (c.in_default.ensures.write.1 failed));
-  runs = runs_more c.loop-turn.invariant.runs _ _ _ _ c.in-Ok.ensures.bytes.0 c.in_default.ensures.line c.in_default.ensures.ok (rw length-take (omega arith));
+  runs = runs_more c.loop-turn.invariant.runs _ _ _ _ _ c.in-Ok.ensures.bytes.0 c.in_default.ensures.line c.in_default.ensures.held c.in_default.ensures.ok (rw length-take (omega arith));
 }
 
 pub returns-clause-err : goal.returns-clause-err

@@ -6,5 +6,5 @@ abbrev pub invariant-loop-turn : goal.invariant-loop-turn
 invariant-loop-turn g l = record {
   reader_works : g.I.Input.has_failed l.reader ≡ false;
   writer_works : g.O.Output.has_failed l.writer ≡ false;
-  runs : RunsOn (g.I.Input.remaining l.initial.reader) (g.I.Input.remaining l.reader) (g.O.Output.contents l.initial.writer) (g.O.Output.contents l.writer) l.line.items l._turn;
+  runs : RunsOn (g.I.Input.remaining l.initial.reader) (g.I.Input.remaining l.reader) (g.O.Output.contents l.initial.writer) (g.O.Output.contents l.writer) l.line.items l.collector l._turn;
 }

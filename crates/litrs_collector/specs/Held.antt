@@ -1,0 +1,30 @@
+-- The text that a collector holds: nothing, or lines with an LF after each.
+use Rattle.std.specs.Prelude.{◌≡◌, ℕ, List, [], ◌∷◌, ◌++◌}
+use Rattle.std.specs.Str.{chars, IsUtf8}
+use Rattle.litrs_base.specs.Characters.{line_feed}
+use Rattle.litrs_base.specs.declared.err.ParseError.{ParseError}
+use Rattle.litrs_base.specs.Derivations.{HasNoDerivation}
+use Rattle.litrs_grammar.specs.Literal.{IsLiteral, literal_parse}
+use Rattle.litrs_grammar.specs.Quoted.{without_last}
+use Rattle.litrs_grammar.specs.Refused.{IsRefused}
+
+-- the text ends with LF
+abbrev pub EndsWithLineFeed : List ℕ → Type 0
+EndsWithLineFeed t = (line : List ℕ) × (line ++ line_feed ∷ [] ≡ t)
+
+-- the new text is the old one with some text after it
+abbrev pub Extends : List ℕ → List ℕ → Type 0
+Extends old new = (more : List ℕ) × IsUtf8 more × (new ≡ old ++ more)
+
+-- Nothing is held, or lines that are no literal, with an LF after each. It is the LF after the last
+-- that `without_last` takes off.
+abbrev pub IsHeld : List ℕ → Type 0
+IsHeld held = (held ≡ [] → ⊥) →
+    (without_last held ++ line_feed ∷ [] ≡ held)
+    × HasNoDerivation (IsLiteral (chars (without_last held)))
+
+-- the refusal of the lines that are held, without the LF after the last
+abbrev pub IsRefusalOfHeld : List ℕ → ParseError → Type 0
+IsRefusalOfHeld held e =
+    (lines : List ℕ) × IsUtf8 lines × (lines ++ line_feed ∷ [] ≡ held)
+    × IsRefused literal_parse (chars lines) e
