@@ -9,12 +9,12 @@ use Rattle.std.proofs.lemmas.List.Sums.{fails_before_first}
 use Rattle.std.specs.List.{position_or_len}
 use Rattle.std.specs.Io.KnownBytes.{Appends, Keeps, Consumes, IsAtEnd}
 use Rattle.std.proofs.KnownBytes.{Appends-nil, Appends-trans, Consumes-nil, Consumes-trans, Consumes-kept, Consumes-whole, starts_with_rest}
-use Rattle.std.proofs.Math.Seq.{take-append_seam}
+use Rattle.std.proofs.Math.Seq.{take-append_seam, get_or-append_seam}
 use Rattle.std.proofs.lemmas.Option.{none-some}
 use Rattle.std.proofs.lemmas.Bool.{ltb-false}
 use Rattle.std.proofs.Common.{Option, Result, Ok, Err, OnOk, OnErr, IfSome, length-append}
-use Rattle.std.specs.Prelude.{is_ok, if◌then◌else◌}
-use Rattle.litrs_lines.specs.LinesLaws.{spelled, LinesSpellTheBytes, NoLineFeedInLines, LinesAreUnique}
+use Rattle.std.specs.Prelude.{is_ok, ◌==◌, slice_index, if◌then◌else◌}
+use Rattle.litrs_lines.specs.LinesLaws.{spelled, LinesSpellTheBytes, NoLineFeedInLines, LinesAreUnique, OneReturnEndsALine, LinesWithoutReturns}
 use Rattle.litrs_lines.specs.Stopped.{AppendsBeginning, StopsWithin}
 use Rattle.std.proofs.Common.{eqb-true, ltb, cond, add-one, get_or, take-append-drop, drop-cons, length-take}
 use Rattle.std.proofs.lemmas.List.{get_or-take, take_rest}
@@ -25,7 +25,7 @@ use Rattle.litrs_lines.specs.Reports.{AreReports, AreGroupReports, AppendsReport
 use Rattle.litrs_lines.specs.ReportLaws.{LinesHaveReports, ReportsAreUnique}
 use Rattle.litrs_lines.proofs.GroupLemmas.{closed_texts-append, held_text-append, texts_from-append, grouped, groups_are_unique}
 use Rattle.litrs_lines.proofs.ReportLemmas.{are_reports, one_list_of_reports, reports_of-empty, reports_of-append}
-use Rattle.litrs_lines.specs.Lines.{is_line_feed, HasNoLineFeed, before_last_part, last_part, ended_parts, open_part, unless_empty, ended_lines, open_line, lines_of}
+use Rattle.litrs_lines.specs.Lines.{is_line_feed, HasNoLineFeed, before_last_part, last_part, ended_parts, open_part, unless_empty, without_return, ended_parts_of, ended_lines, open_line, lines_of}
 
 -- the first part of a split, and those behind it
 record Parts (parts : List (List ℕ)) : Type 0 where
@@ -74,9 +74,9 @@ slice_split-line_feed : (front behind : List ℕ) → slice_split is_line_feed (
 slice_split-line_feed [] behind = refl
 slice_split-line_feed (b ∷ bs) behind = slice_split-line_feed_cons b bs behind (is_line_feed b) refl (slice_split-line_feed bs behind)
 
-ended_lines-line_feed : (front behind : List ℕ) → ended_lines (front ++ 10 ∷ behind) ≡ slice_split is_line_feed front ++ ended_lines behind
-unfolding ended_lines
-ended_lines-line_feed front behind =
+ended_parts_of-line_feed : (front behind : List ℕ) → ended_parts_of (front ++ 10 ∷ behind) ≡ slice_split is_line_feed front ++ ended_parts_of behind
+unfolding ended_parts_of
+ended_parts_of-line_feed front behind =
     let f = split_parts front in let b = split_parts behind in
     ap ended_parts (slice_split-line_feed front behind)
     ∙ ap (λ ps. ended_parts (ps ++ slice_split is_line_feed behind)) f.is
@@ -97,9 +97,9 @@ open_line-line_feed front behind =
 
 -- ---- a line that goes on
 
-pub ended_lines-none : (line : List ℕ) → HasNoLineFeed line → ended_lines line ≡ []
-unfolding ended_lines
-ended_lines-none line h = ap ended_parts (slice_split_none is_line_feed line h)
+pub ended_parts_of-none : (line : List ℕ) → HasNoLineFeed line → ended_parts_of line ≡ []
+unfolding ended_parts_of
+ended_parts_of-none line h = ap ended_parts (slice_split_none is_line_feed line h)
 
 pub open_line-none : (line : List ℕ) → HasNoLineFeed line → open_line line ≡ line
 unfolding open_line
@@ -137,15 +137,15 @@ open_line-append bytes more = elim (cut_bytes bytes) [
       ∙ ap (λ line. open_line (line ++ more)) (sym (ap open_line cut.is ∙ open_line-line_feed cut.front cut.behind ∙ open_line-none cut.behind cut.none))
 ]
 
-pub ended_lines-append : (bytes more : List ℕ) → ended_lines (bytes ++ more) ≡ ended_lines bytes ++ ended_lines (open_line bytes ++ more)
-ended_lines-append bytes more = elim (cut_bytes bytes) [
-  | inl none ↦ ap (λ line. ended_lines (line ++ more)) (sym (open_line-none bytes none)) ∙ ap (λ ls. ls ++ ended_lines (open_line bytes ++ more)) (sym (ended_lines-none bytes none))
+pub ended_parts_of-append : (bytes more : List ℕ) → ended_parts_of (bytes ++ more) ≡ ended_parts_of bytes ++ ended_parts_of (open_line bytes ++ more)
+ended_parts_of-append bytes more = elim (cut_bytes bytes) [
+  | inl none ↦ ap (λ line. ended_parts_of (line ++ more)) (sym (open_line-none bytes none)) ∙ ap (λ ls. ls ++ ended_parts_of (open_line bytes ++ more)) (sym (ended_parts_of-none bytes none))
   | inr cut ↦
       let line : open_line bytes ≡ cut.behind = ap open_line cut.is ∙ open_line-line_feed cut.front cut.behind ∙ open_line-none cut.behind cut.none in
-      let ended : ended_lines bytes ≡ slice_split is_line_feed cut.front =
-      ap ended_lines cut.is ∙ ended_lines-line_feed cut.front cut.behind ∙ ap (λ ls. slice_split is_line_feed cut.front ++ ls) (ended_lines-none cut.behind cut.none) ∙ append-nil _ in
-      ap (λ xs. ended_lines (xs ++ more)) cut.is ∙ ap ended_lines (append_assoc cut.front (10 ∷ cut.behind) more) ∙ ended_lines-line_feed cut.front (cut.behind ++ more)
-      ∙ ap (λ xs. slice_split is_line_feed cut.front ++ ended_lines (xs ++ more)) (sym line) ∙ ap (λ ls. ls ++ ended_lines (open_line bytes ++ more)) (sym ended)
+      let ended : ended_parts_of bytes ≡ slice_split is_line_feed cut.front =
+      ap ended_parts_of cut.is ∙ ended_parts_of-line_feed cut.front cut.behind ∙ ap (λ ls. slice_split is_line_feed cut.front ++ ls) (ended_parts_of-none cut.behind cut.none) ∙ append-nil _ in
+      ap (λ xs. ended_parts_of (xs ++ more)) cut.is ∙ ap ended_parts_of (append_assoc cut.front (10 ∷ cut.behind) more) ∙ ended_parts_of-line_feed cut.front (cut.behind ++ more)
+      ∙ ap (λ xs. slice_split is_line_feed cut.front ++ ended_parts_of (xs ++ more)) (sym line) ∙ ap (λ ls. ls ++ ended_parts_of (open_line bytes ++ more)) (sym ended)
 ]
 
 pub open_line-has_no_line_feed : (bytes : List ℕ) → HasNoLineFeed (open_line bytes)
@@ -154,13 +154,25 @@ open_line-has_no_line_feed bytes = elim (cut_bytes bytes) [
   | inr cut ↦ subst HasNoLineFeed (sym (ap open_line cut.is ∙ open_line-line_feed cut.front cut.behind ∙ open_line-none cut.behind cut.none)) cut.none
 ]
 
+-- ---- lines, each a part without one CR at its end
+
+pub ended_lines-none : (line : List ℕ) → HasNoLineFeed line → ended_lines line ≡ []
+ended_lines-none line h = ap (map without_return) (ended_parts_of-none line h)
+
+map-append : (parts more : List (List ℕ)) → map without_return (parts ++ more) ≡ map without_return parts ++ map without_return more
+map-append [] more = refl
+map-append (part ∷ parts) more = ap (λ (ls : List (List ℕ)). without_return part ∷ ls) (map-append parts more)
+
+pub ended_lines-append : (bytes more : List ℕ) → ended_lines (bytes ++ more) ≡ ended_lines bytes ++ ended_lines (open_line bytes ++ more)
+ended_lines-append bytes more = ap (map without_return) (ended_parts_of-append bytes more) ∙ map-append (ended_parts_of bytes) (ended_parts_of (open_line bytes ++ more))
+
 -- ---- a piece, from the front: the line so far, and the rest of the piece
 
 -- an LF in the rest ends the line
 pub record EndsLine (line rest : List ℕ) (end : ℕ) : Type 0 where
   pub within : end < length rest
   pub leaves : open_line (line ++ rest) ≡ open_line (drop (end + 1) rest)
-  pub lines : ended_lines (line ++ rest) ≡ (line ++ take end rest) ∷ ended_lines (drop (end + 1) rest)
+  pub lines : ended_lines (line ++ rest) ≡ without_return (line ++ take end rest) ∷ ended_lines (drop (end + 1) rest)
 
 cut_at : (bytes : List ℕ) (end : ℕ) → end < length bytes → get_or bytes end 0 ≡ 10 → bytes ≡ take end bytes ++ 10 ∷ drop (end + 1) bytes
 cut_at bytes end within is =
@@ -193,8 +205,8 @@ ends_line line rest end held at =
       within = found.0;
       leaves = ap open_line joined ∙ open_line-line_feed (line ++ take end rest) (drop (end + 1) rest);
       lines =
-          ap ended_lines joined ∙ ended_lines-line_feed (line ++ take end rest) (drop (end + 1) rest)
-          ∙ ap (λ ps. ps ++ ended_lines (drop (end + 1) rest)) (slice_split_none is_line_feed (line ++ take end rest) none);
+          ap (map without_return) (ap ended_parts_of joined ∙ ended_parts_of-line_feed (line ++ take end rest) (drop (end + 1) rest)
+          ∙ ap (λ ps. ps ++ ended_parts_of (drop (end + 1) rest)) (slice_split_none is_line_feed (line ++ take end rest) none));
     }
 
 -- without one the line goes on
@@ -215,11 +227,11 @@ pub record StepsOn (held line reports rest held' line' reports' rest' : List ℕ
   pub same : reports ++ reports_of (closed_texts held (ended_lines (line ++ rest))) ≡ reports' ++ reports_of (closed_texts held' (ended_lines (line' ++ rest')))
 
 pub steps_on : (held line reports rest held' line' reports' : List ℕ) (end : ℕ) → HasNoLineFeed line → Some end ≡ position is_line_feed rest
-    → line' ≡ [] → held' ≡ held_by held (line ++ take end rest) → reports' ≡ reports ++ reports_of (closed_by held (line ++ take end rest))
+    → line' ≡ [] → held' ≡ held_by held (without_return (line ++ take end rest)) → reports' ≡ reports ++ reports_of (closed_by held (without_return (line ++ take end rest)))
     → StepsOn held line reports rest held' line' reports' (take (length rest - (end + 1)) (drop (end + 1) rest))
 steps_on held line reports rest held' line' reports' end unended at none holds more =
     let step = ends_line line rest end unended (sym at) in
-    let whole : List ℕ = line ++ take end rest in
+    let whole : List ℕ = without_return (line ++ take end rest) in
     let rest' = take (length rest - (end + 1)) (drop (end + 1) rest) in
     let same : rest' ≡ drop (end + 1) rest = take_rest rest (end + 1) in
     let empty : line' ++ rest' ≡ drop (end + 1) rest = ap (λ xs. xs ++ rest') none ∙ same in
@@ -276,9 +288,9 @@ pub unless_empty-none : (line : List ℕ) → length line ≡ 0 → unless_empty
 unless_empty-none [] none = refl
 unless_empty-none (b ∷ bs) none = absurd (omega arith)
 
-pub unless_empty-some : (line : List ℕ) → 0 < length line → unless_empty line ≡ (line ++ []) ∷ []
+pub unless_empty-some : (line : List ℕ) → 0 < length line → unless_empty line ≡ line ∷ []
 unless_empty-some [] some = absurd (omega arith)
-unless_empty-some (b ∷ bs) some = ap (λ (l : List ℕ). l ∷ []) (sym (append-nil (b ∷ bs)))
+unless_empty-some (b ∷ bs) some = refl
 
 -- where it is empty nothing is added
 pub nothing_last : (held line reports : List ℕ) → length line ≡ 0 → (held ≡ held_text held (unless_empty line)) × (reports ≡ reports ++ reports_of (closed_texts held (unless_empty line)))
@@ -286,11 +298,11 @@ nothing_last held line reports none =
     let no = unless_empty-none line none in
     (ap (held_text held) (sym no), sym (append-nil reports) ∙ ap (λ xs. reports ++ xs) (sym reports_of-empty) ∙ ap (λ ls. reports ++ reports_of (closed_texts held ls)) (sym no))
 
-pub held_last : (held line : List ℕ) → 0 < length line → held_by held (line ++ []) ≡ held_text held (unless_empty line)
+pub held_last : (held line : List ℕ) → 0 < length line → held_by held line ≡ held_text held (unless_empty line)
 held_last held line some = ap (held_text held) (sym (unless_empty-some line some))
 
-pub closed_last : (held line : List ℕ) → 0 < length line → closed_by held (line ++ []) ≡ closed_texts held (unless_empty line)
-closed_last held line some = sym (append-nil (closed_by held (line ++ []))) ∙ ap (closed_texts held) (sym (unless_empty-some line some))
+pub closed_last : (held line : List ℕ) → 0 < length line → closed_by held line ≡ closed_texts held (unless_empty line)
+closed_last held line some = sym (append-nil (closed_by held line)) ∙ ap (closed_texts held) (sym (unless_empty-some line some))
 
 -- two reports, one after the other
 pub reports_more : (a b c : List ℕ) (texts more : List (List ℕ)) → b ≡ a ++ reports_of texts → c ≡ b ++ reports_of more → c ≡ a ++ reports_of (texts ++ more)
@@ -366,10 +378,10 @@ module _ {left_old left contents_old contents : Option (List ℕ)} {line held : 
       ∙ ap (λ h. so_far ++ reports_of (texts_from h last)) (sym run.holds)
 
   -- what is reported on the whole, where nothing more is taken
-  reports_on_all : reports_of (texts_from [] (lines_of run.taken)) ≡ so_far ++ reports_of (texts_from held (unless_empty line))
+  reports_on_all : (last : List ℕ) → last ≡ line → reports_of (texts_from [] (lines_of run.taken)) ≡ so_far ++ reports_of (texts_from held (unless_empty last))
   unfolding lines_of
-  reports_on_all =
-      reports_on_last (unless_empty (open_line run.taken)) ∙ ap (λ xs. so_far ++ reports_of (texts_from held (unless_empty xs))) (sym run.goes_on)
+  reports_on_all last is =
+      reports_on_last (unless_empty (open_line run.taken)) ∙ ap (λ xs. so_far ++ reports_of (texts_from held (unless_empty xs))) (sym (is ∙ run.goes_on))
 
   pub runs_more : (left_new contents_new : Option (List ℕ)) (line_new held_new piece : List ℕ) → Consumes left left_new piece → line_new ≡ open_line (line ++ piece)
       → held_new ≡ held_text held (ended_lines (line ++ piece))
@@ -443,27 +455,27 @@ module _ {left_old left contents_old contents : Option (List ℕ)} {line held : 
       subst (Consumes left_old left_new) (ap (λ xs. run.taken ++ xs) none ∙ append-nil run.taken) (Consumes-trans left_old left left_new run.taken piece run.takes takes)
 
   -- the end was not reported on as a whole
-  pub stops_at_end : (left_new contents_new : Option (List ℕ)) (piece : List ℕ) → Consumes left left_new piece → piece ≡ [] → IsAtEnd left_new
-      → AppendsBeginning contents contents_new (reports_of (texts_from held (unless_empty line))) → StopsWithin left_old left_new contents_old contents_new
-  stops_at_end left_new contents_new piece takes none at_end writes = record {
+  pub stops_at_end : (left_new contents_new : Option (List ℕ)) (piece last : List ℕ) → last ≡ line → Consumes left left_new piece → piece ≡ [] → IsAtEnd left_new
+      → AppendsBeginning contents contents_new (reports_of (texts_from held (unless_empty last))) → StopsWithin left_old left_new contents_old contents_new
+  stops_at_end left_new contents_new piece last is takes none at_end writes = record {
     taken = run.taken;
     takes = consumes_end left_new piece takes none;
     lines = lines_of run.taken;
     whole = inr (at_end, refl);
     out = reports_of (texts_from [] (lines_of run.taken));
     reports = group_reports (lines_of run.taken);
-    writes = writes_prefix contents_new (reports_of (texts_from held (unless_empty line))) [] _ writes
-        (reports_on_all ∙ ap (λ xs. so_far ++ xs) (sym (append-nil _)));
+    writes = writes_prefix contents_new (reports_of (texts_from held (unless_empty last))) [] _ writes
+        (reports_on_all last is ∙ ap (λ xs. so_far ++ xs) (sym (append-nil _)));
   }
 
   -- the end was reported on
-  pub ends_run : (left_new contents_new : Option (List ℕ)) (piece : List ℕ) → Consumes left left_new piece → piece ≡ [] → IsAtEnd left_new
-      → Appends contents contents_new (reports_of (texts_from held (unless_empty line))) → IfSome left_old (λ bytes. AppendsReports (lines_of bytes) contents_old contents_new)
-  ends_run left_new contents_new piece takes none at_end writes =
+  pub ends_run : (left_new contents_new : Option (List ℕ)) (piece last : List ℕ) → last ≡ line → Consumes left left_new piece → piece ≡ [] → IsAtEnd left_new
+      → Appends contents contents_new (reports_of (texts_from held (unless_empty last))) → IfSome left_old (λ bytes. AppendsReports (lines_of bytes) contents_old contents_new)
+  ends_run left_new contents_new piece last is takes none at_end writes =
       Consumes-whole left_old left_new run.taken (λ bytes. AppendsReports (lines_of bytes) contents_old contents_new) (consumes_end left_new piece takes none) at_end (record {
         out = reports_of (texts_from [] (lines_of run.taken));
         reports = group_reports (lines_of run.taken);
-        appends = subst (Appends contents_old contents_new) (sym reports_on_all) (Appends-trans contents_old contents contents_new _ _ run.writes writes);
+        appends = subst (Appends contents_old contents_new) (sym (reports_on_all last is)) (Appends-trans contents_old contents contents_new _ _ run.writes writes);
       })
 
 pub false_unless : (b : Bool) → (b ≡ true → ⊥) → b ≡ false
@@ -476,20 +488,20 @@ take_none count bytes none = ap (λ n. take n bytes) none
 pub ok_not_err : {T E : Type 0} {x : T} {e : E} → Ok x ≡ Err e → ⊥
 ok_not_err is = cc
 
--- ---- bytes that are spelled by lines
+-- ---- bytes that are spelled by parts
 
 spelled-cons : (line : List ℕ) (lines : List (List ℕ)) (last : List ℕ) → spelled (line ∷ lines) last ≡ line ++ 10 ∷ spelled lines last
 spelled-cons line lines last =
     append_assoc (line ++ 10 ∷ []) (flat_map (λ l. l ++ 10 ∷ []) lines) last ∙ append_assoc line (10 ∷ []) (spelled lines last)
 
--- lines with an LF behind each, and bytes behind them
-pub ended_lines-spelled : (lines : List (List ℕ)) (last : List ℕ) → All HasNoLineFeed lines → HasNoLineFeed last → ended_lines (spelled lines last) ≡ lines
-ended_lines-spelled [] last each none = ended_lines-none last none
-ended_lines-spelled (line ∷ lines) last each none =
+-- parts with an LF after each, and bytes after them
+pub ended_parts_of-spelled : (lines : List (List ℕ)) (last : List ℕ) → All HasNoLineFeed lines → HasNoLineFeed last → ended_parts_of (spelled lines last) ≡ lines
+ended_parts_of-spelled [] last each none = ended_parts_of-none last none
+ended_parts_of-spelled (line ∷ lines) last each none =
     let held : HasNoLineFeed line = All-head HasNoLineFeed line lines each in
-    ap ended_lines (spelled-cons line lines last) ∙ ended_lines-line_feed line (spelled lines last)
-    ∙ ap (λ ps. ps ++ ended_lines (spelled lines last)) (slice_split_none is_line_feed line held)
-    ∙ ap (λ ls. line ∷ ls) (ended_lines-spelled lines last (All-tail HasNoLineFeed line lines each) none)
+    ap ended_parts_of (spelled-cons line lines last) ∙ ended_parts_of-line_feed line (spelled lines last)
+    ∙ ap (λ ps. ps ++ ended_parts_of (spelled lines last)) (slice_split_none is_line_feed line held)
+    ∙ ap (λ ls. line ∷ ls) (ended_parts_of-spelled lines last (All-tail HasNoLineFeed line lines each) none)
 
 pub open_line-spelled : (lines : List (List ℕ)) (last : List ℕ) → HasNoLineFeed last → open_line (spelled lines last) ≡ last
 open_line-spelled [] last none = open_line-none last none
@@ -533,20 +545,82 @@ spelling : (bytes : List ℕ) → Spelling bytes
 spelling [] = record { lines = []; last = []; spells = refl; each = All-nil HasNoLineFeed; none = All-nil EndsNoLine }
 spelling (b ∷ bs) = spelling_at_byte b bs (is_line_feed b) refl (spelling bs)
 
-pub ended_lines-spell : LinesSpellTheBytes
-ended_lines-spell bytes =
+pub ended_parts_of-spell : LinesSpellTheBytes
+ended_parts_of-spell bytes =
     let s = spelling bytes in
-    let ended : ended_lines bytes ≡ s.lines = ap ended_lines (sym s.spells) ∙ ended_lines-spelled s.lines s.last s.each s.none in
+    let ended : ended_parts_of bytes ≡ s.lines = ap ended_parts_of (sym s.spells) ∙ ended_parts_of-spelled s.lines s.last s.each s.none in
     let open_is : open_line bytes ≡ s.last = ap open_line (sym s.spells) ∙ open_line-spelled s.lines s.last s.none in
     ap (λ ls. spelled ls (open_line bytes)) ended ∙ ap (spelled s.lines) open_is ∙ s.spells
 
-pub ended_lines-have_no_line_feed : (bytes : List ℕ) → All HasNoLineFeed (ended_lines bytes)
-ended_lines-have_no_line_feed bytes =
+pub ended_parts_of-have_no_line_feed : (bytes : List ℕ) → All HasNoLineFeed (ended_parts_of bytes)
+ended_parts_of-have_no_line_feed bytes =
     let s = spelling bytes in
-    subst (All HasNoLineFeed) (sym (ap ended_lines (sym s.spells) ∙ ended_lines-spelled s.lines s.last s.each s.none)) s.each
+    subst (All HasNoLineFeed) (sym (ap ended_parts_of (sym s.spells) ∙ ended_parts_of-spelled s.lines s.last s.each s.none)) s.each
 
 pub no_line_feed_in_lines : NoLineFeedInLines
-no_line_feed_in_lines bytes = (ended_lines-have_no_line_feed bytes, open_line-has_no_line_feed bytes)
+no_line_feed_in_lines bytes = (ended_parts_of-have_no_line_feed bytes, open_line-has_no_line_feed bytes)
 
 pub lines_are_unique : LinesAreUnique
-lines_are_unique lines last each none = (ended_lines-spelled lines last each none, open_line-spelled lines last none)
+lines_are_unique lines last each none = (ended_parts_of-spelled lines last each none, open_line-spelled lines last none)
+
+-- ---- returns
+
+-- the byte is no CR
+abbrev NoReturn : ℕ → Type 0
+NoReturn b = b ≡ 13 → ⊥
+
+kept_by_test : (b : ℕ) (short long : List ℕ) (test : Bool) → (b == 13) ≡ test → NoReturn b → (if test then short else long) ≡ long
+kept_by_test b short long true is other = absurd (other (eqb-true b 13 is))
+kept_by_test b short long false is other = refl
+
+-- without a CR at the end nothing is left out
+kept : (bytes : List ℕ) → NoReturn (slice_index bytes (length bytes - 1)) → without_return bytes ≡ bytes
+kept bytes other = kept_by_test (slice_index bytes (length bytes - 1)) (take (length bytes - 1) bytes) bytes (slice_index bytes (length bytes - 1) == 13) refl other
+
+last_place : (line : List ℕ) (b : ℕ) → length (line ++ b ∷ []) - 1 ≡ length line
+last_place line b = let long : length (line ++ b ∷ []) ≡ length line + 1 = length-append line (b ∷ []) in omega arith
+
+last_byte : (line : List ℕ) (b : ℕ) → slice_index (line ++ b ∷ []) (length (line ++ b ∷ []) - 1) ≡ b
+last_byte line b = ap (λ (i : ℕ). slice_index (line ++ b ∷ []) i) (last_place line b) ∙ get_or-append_seam line b [] 0
+
+last_kept : (line : List ℕ) (b : ℕ) → NoReturn b → without_return (line ++ b ∷ []) ≡ line ++ b ∷ []
+last_kept line b other = kept (line ++ b ∷ []) (λ is. other (sym (last_byte line b) ∙ is))
+
+return_left_out : (line : List ℕ) → without_return (line ++ 13 ∷ []) ≡ line
+return_left_out line =
+    let bytes : List ℕ = line ++ 13 ∷ [] in
+    let by_last : without_return bytes ≡ take (length bytes - 1) bytes =
+    λ i. if last_byte line 13 i == 13 then take (length bytes - 1) bytes else bytes in
+    by_last ∙ ap (λ (n : ℕ). take n bytes) (last_place line 13) ∙ take-append_seam line (13 ∷ [])
+
+pub one_return_ends_a_line : OneReturnEndsALine
+one_return_ends_a_line line = (return_left_out line, λ b other. last_kept line b other)
+
+nothing_left_out : (line : List ℕ) → All NoReturn line → without_return line ≡ line
+nothing_left_out [] all = refl
+nothing_left_out (b ∷ line) all = kept (b ∷ line) (all (length (b ∷ line) - 1) 0 (omega arith))
+
+All-front : (front rest : List ℕ) → All NoReturn (front ++ rest) → All NoReturn front
+All-front [] rest all = All-nil NoReturn
+All-front (b ∷ front) rest all = All-cons NoReturn b front (All-head NoReturn b (front ++ rest) all) (All-front front rest (All-tail NoReturn b (front ++ rest) all))
+
+All-after : (front rest : List ℕ) → All NoReturn (front ++ rest) → All NoReturn rest
+All-after [] rest all = all
+All-after (b ∷ front) rest all = All-after front rest (All-tail NoReturn b (front ++ rest) all)
+
+-- what holds of each byte holds of each of each part
+each_part : (parts : List (List ℕ)) (last : List ℕ) → All NoReturn (spelled parts last) → All (All NoReturn) parts
+each_part [] last all = All-nil (All NoReturn)
+each_part (part ∷ parts) last all =
+    let rest : All NoReturn (part ++ 10 ∷ spelled parts last) = subst (All NoReturn) (spelled-cons part parts last) all in
+    All-cons (All NoReturn) part parts (All-front part (10 ∷ spelled parts last) rest)
+    (each_part parts last (All-tail NoReturn 10 (spelled parts last) (All-after part (10 ∷ spelled parts last) rest)))
+
+each_kept : (parts : List (List ℕ)) → All (All NoReturn) parts → map without_return parts ≡ parts
+each_kept [] all = refl
+each_kept (part ∷ parts) all =
+    λ i. nothing_left_out part (All-head (All NoReturn) part parts all) i ∷ each_kept parts (All-tail (All NoReturn) part parts all) i
+
+pub lines_without_returns : LinesWithoutReturns
+lines_without_returns bytes all =
+    each_kept (ended_parts_of bytes) (each_part (ended_parts_of bytes) (open_line bytes) (subst (All NoReturn) (sym (ended_parts_of-spell bytes)) all))

@@ -11,7 +11,7 @@ use Rattle.litrs_grammar.specs.Quoted.{plain_item, escape_item}
 use Rattle.litrs_grammar.specs.Literal.{quoted_parts, raw_parts, a_bool, an_integer, a_string, a_byte_string, a_c_string}
 use Rattle.litrs_grammar.proofs.Computing.{computing}
 use Rattle.litrs_lines.specs.Report.{value_text, literal_report, IsTextReport}
-use Rattle.litrs_lines.specs.Lines.{ended_parts, open_part, ended_lines, open_line, lines_of}
+use Rattle.litrs_lines.specs.Lines.{ended_parts, open_part, ended_parts_of, ended_lines, open_line, lines_of}
 
 -- Texts
 
@@ -55,7 +55,7 @@ parts-none : (ended_parts [] ≡ []) × (open_part [] ≡ [])
 parts-none = (refl, refl)
 
 lines-ended : ended_lines (codes "a\n\nb") ≡ codes "a" ∷ [] ∷ []
-unfolding ended_lines
+unfolding ended_parts_of
 lines-ended = refl
 
 lines-open : open_line (codes "a\n\nb") ≡ codes "b"
@@ -63,13 +63,19 @@ unfolding open_line
 lines-open = refl
 
 lines-last_open : lines_of (codes "a\n\nb") ≡ codes "a" ∷ [] ∷ codes "b" ∷ []
-unfolding lines_of ended_lines open_line
+unfolding lines_of ended_parts_of open_line
 lines-last_open = refl
 
 lines-last_ended : lines_of (codes "a\n") ≡ codes "a" ∷ []
-unfolding lines_of ended_lines open_line
+unfolding lines_of ended_parts_of open_line
 lines-last_ended = refl
 
 lines-none : lines_of [] ≡ []
-unfolding lines_of ended_lines open_line
+unfolding lines_of ended_parts_of open_line
 lines-none = refl
+
+-- one CR right before an LF is left out, and no other: not the first of two, nor one that no LF follows
+lines-returns : lines_of (49 ∷ 13 ∷ 10 ∷ 13 ∷ 10 ∷ 50 ∷ 13 ∷ 13 ∷ 10 ∷ 51 ∷ 13 ∷ 52 ∷ 10 ∷ 53 ∷ 13 ∷ [])
+    ≡ codes "1" ∷ [] ∷ (50 ∷ 13 ∷ []) ∷ (51 ∷ 13 ∷ 52 ∷ []) ∷ (53 ∷ 13 ∷ []) ∷ []
+unfolding lines_of ended_parts_of open_line
+lines-returns = refl

@@ -1,7 +1,7 @@
 -- The lines of some bytes.
-use Rattle.std.specs.Prelude.{◌≡◌, ◌==◌, ℕ, Bool, false, List, [], ◌∷◌, ◌++◌, All}
+use Rattle.std.specs.Prelude.{◌≡◌, ◌==◌, ℕ, Bool, false, List, [], ◌∷◌, ◌++◌, ◌-◌, length, take, slice_index, All, map, if◌then◌else◌}
 use Rattle.std.specs.List.{slice_split}
-use Rattle.litrs_base.specs.Characters.{line_feed}
+use Rattle.litrs_base.specs.Characters.{line_feed, carriage_return}
 
 -- LF, which ends a line
 abbrev pub is_line_feed : ℕ → Bool
@@ -11,12 +11,12 @@ is_line_feed b = b == line_feed
 abbrev pub HasNoLineFeed : List ℕ → Type 0
 HasNoLineFeed bytes = All (λ b. is_line_feed b ≡ false) bytes
 
--- of a part and those behind it, all but the last
+-- of a part and those after it, all but the last
 abbrev pub before_last_part : List ℕ → List (List ℕ) → List (List ℕ)
 before_last_part part [] = []
 before_last_part part (next ∷ parts) = part ∷ before_last_part next parts
 
--- of a part and those behind it, the last
+-- of a part and those after it, the last
 abbrev pub last_part : List ℕ → List (List ℕ) → List ℕ
 last_part part [] = part
 last_part part (next ∷ parts) = last_part next parts
@@ -36,14 +36,24 @@ abbrev pub unless_empty : List ℕ → List (List ℕ)
 unless_empty [] = []
 unless_empty (b ∷ bs) = (b ∷ bs) ∷ []
 
--- The LFs split the bytes into parts. Each but the last has an LF behind it, and is an ended line.
-unfoldable pub ended_lines : List ℕ → List (List ℕ)
-ended_lines bytes = ended_parts (slice_split is_line_feed bytes)
+-- The LFs split the bytes into parts. Each but the last has an LF after it.
+unfoldable pub ended_parts_of : List ℕ → List (List ℕ)
+ended_parts_of bytes = ended_parts (slice_split is_line_feed bytes)
+
+-- a part without one CR at its end
+abbrev pub without_return : List ℕ → List ℕ
+without_return bytes =
+    if slice_index bytes (length bytes - 1) == carriage_return then take (length bytes - 1) bytes
+    else bytes
+
+-- the ended lines: one CR right before an LF belongs to the line end
+abbrev pub ended_lines : List ℕ → List (List ℕ)
+ended_lines bytes = map without_return (ended_parts_of bytes)
 
 -- what follows the last LF
 unfoldable pub open_line : List ℕ → List ℕ
 open_line bytes = open_part (slice_split is_line_feed bytes)
 
--- the ended lines, and what follows the last LF where it is not empty
+-- the ended lines, and what follows the last LF where it is not empty: a CR at its end is its own
 unfoldable pub lines_of : List ℕ → List (List ℕ)
 lines_of bytes = ended_lines bytes ++ unless_empty (open_line bytes)

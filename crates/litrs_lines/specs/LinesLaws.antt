@@ -1,23 +1,33 @@
--- What holds of the lines of any bytes.
-use Rattle.std.specs.Prelude.{◌≡◌, ℕ, List, [], ◌∷◌, ◌++◌, All, flat_map}
-use Rattle.litrs_base.specs.Characters.{line_feed}
-use Rattle.litrs_lines.specs.Lines.{HasNoLineFeed, ended_lines, open_line}
+-- What holds of the lines of any bytes, and of the parts that they are cut from.
+use Rattle.std.specs.Prelude.{◌≡◌, ◌≢◌, ℕ, List, [], ◌∷◌, ◌++◌, All, flat_map}
+use Rattle.litrs_base.specs.Characters.{line_feed, carriage_return}
+use Rattle.litrs_lines.specs.Lines.{HasNoLineFeed, without_return, ended_parts_of, ended_lines, open_line}
 
--- each line with an LF behind it, and then the last one
+-- each part with an LF after it, and then the last one
 abbrev pub spelled : List (List ℕ) → List ℕ → List ℕ
 spelled lines last = flat_map (λ line. line ++ line_feed ∷ []) lines ++ last
 
--- the ended lines and the open one spell the bytes
+-- the ended parts and the open line spell the bytes
 abbrev pub LinesSpellTheBytes : Type 0
-LinesSpellTheBytes = (bytes : List ℕ) → spelled (ended_lines bytes) (open_line bytes) ≡ bytes
+LinesSpellTheBytes = (bytes : List ℕ) → spelled (ended_parts_of bytes) (open_line bytes) ≡ bytes
 
 -- no LF stands in any of them
 abbrev pub NoLineFeedInLines : Type 0
 NoLineFeedInLines = (bytes : List ℕ) →
-    All HasNoLineFeed (ended_lines bytes) × HasNoLineFeed (open_line bytes)
+    All HasNoLineFeed (ended_parts_of bytes) × HasNoLineFeed (open_line bytes)
 
--- and no other lines without LF spell the bytes
+-- and no other parts without LF spell the bytes
 abbrev pub LinesAreUnique : Type 0
 LinesAreUnique = (lines : List (List ℕ)) (last : List ℕ) →
     All HasNoLineFeed lines → HasNoLineFeed last →
-    (ended_lines (spelled lines last) ≡ lines) × (open_line (spelled lines last) ≡ last)
+    (ended_parts_of (spelled lines last) ≡ lines) × (open_line (spelled lines last) ≡ last)
+
+-- One CR at the end of a part is no part of its line, and nothing else is left out.
+abbrev pub OneReturnEndsALine : Type 0
+OneReturnEndsALine = (line : List ℕ) → (without_return (line ++ carriage_return ∷ []) ≡ line)
+    × ((b : ℕ) → b ≢ carriage_return → without_return (line ++ b ∷ []) ≡ line ++ b ∷ [])
+
+-- in bytes without CR the lines are the parts
+abbrev pub LinesWithoutReturns : Type 0
+LinesWithoutReturns = (bytes : List ℕ) → All (λ b. b ≢ carriage_return) bytes →
+    ended_lines bytes ≡ ended_parts_of bytes

@@ -5,7 +5,7 @@ ghost use Rattle.std.specs.Prelude.{◌≡◌, ◌≢◌, ◌↔◌, ◌∷◌, 
 ghost use Rattle.std.specs.Io.KnownBytes.{Appends, IsAtEnd};
 ghost use Rattle.litrs_base.specs.Characters.{line_feed};
 ghost use Rattle.litrs_lines.specs.Stopped.{AppendsBeginning, StopsWithin};
-ghost use Rattle.litrs_lines.specs.Lines.{is_line_feed, HasNoLineFeed, ended_lines, open_line, unless_empty, lines_of};
+ghost use Rattle.litrs_lines.specs.Lines.{is_line_feed, HasNoLineFeed, without_return, ended_lines, open_line, unless_empty, lines_of};
 ghost use Rattle.litrs_lines.specs.Grouped.{closed_by, held_by, closed_texts, held_text, texts_from};
 ghost use Rattle.litrs_lines.specs.Reported.{reports_of};
 ghost use Rattle.litrs_lines.specs.Reports.{AppendsReports};
@@ -72,7 +72,17 @@ fn line_end(bytes: &[u8]) -> Option<usize>
     memchr(b'\n', bytes)
 }
 
-/// Takes the line that `end` ends, and goes on with an empty one.
+/// The line without one CR at its end.
+fn without_return(line: &[u8]) -> &[u8]
+    ensures { result.now ≡ without_return line.now }
+{
+    match line {
+        [front @ .., b'\r'] => front,
+        _ => line,
+    }
+}
+
+/// Takes the line that `end` ends, without one CR at its end, and goes on with an empty one.
 fn end_line(
     line: &mut Vec<u8>,
     collector: &mut Collector,
@@ -80,16 +90,17 @@ fn end_line(
     end: &[u8],
 ) -> Result<(), AllocError>
     ensures line { OnOk result (line.new.items ≡ []) }
-    ensures held { OnOk result (collector.new ≡ held_by collector.old (line.old.items ++ end.now)) }
+    ensures held { OnOk result (collector.new
+        ≡ held_by collector.old (without_return (line.old.items ++ end.now))) }
     ensures reports { OnOk result (string_bytes reports.new
         ≡ string_bytes reports.old
-        ++ reports_of (closed_by collector.old (line.old.items ++ end.now))) }
+        ++ reports_of (closed_by collector.old (without_return (line.old.items ++ end.now)))) }
 {
     if line.is_empty() {
-        return take_line(collector, reports, end);
+        return take_line(collector, reports, without_return(end));
     }
     line.extend_from_slice(end)?;
-    take_line(collector, reports, line)?;
+    take_line(collector, reports, without_return(line))?;
     line.clear();
     Ok(())
 }
@@ -166,32 +177,32 @@ fn take_piece<O: Output>(
 
 /// Takes a last line that has no end, where it is not empty.
 fn take_open_line(
-    line: &mut Vec<u8>,
+    line: &[u8],
     collector: &mut Collector,
     reports: &mut String,
 ) -> Result<(), AllocError>
     ensures held { OnOk result (collector.new
-        ≡ held_text collector.old (unless_empty line.old.items)) }
+        ≡ held_text collector.old (unless_empty line.now)) }
     ensures reports { OnOk result (string_bytes reports.new
         ≡ string_bytes reports.old
-        ++ reports_of (closed_texts collector.old (unless_empty line.old.items))) }
+        ++ reports_of (closed_texts collector.old (unless_empty line.now))) }
 {
     if line.is_empty() {
         return Ok(());
     }
-    end_line(line, collector, reports, &[])
+    take_line(collector, reports, line)
 }
 
 /// Reports on a last line that has no end, where it is not empty, and on the lines that are then
 /// held.
 fn report_last(
-    line: &mut Vec<u8>,
+    line: &[u8],
     collector: &mut Collector,
     reports: &mut String,
 ) -> Result<(), AllocError>
     ensures { OnOk result (string_bytes reports.new
         ≡ string_bytes reports.old
-        ++ reports_of (texts_from collector.old (unless_empty line.old.items))) }
+        ++ reports_of (texts_from collector.old (unless_empty line.now))) }
 {
     take_open_line(line, collector, reports)?;
     report_held(collector, reports)
@@ -200,17 +211,17 @@ fn report_last(
 /// Takes the end of the input: writes the reports on a last line that has no end and on the lines
 /// that are held, and flushes.
 fn finish<O: Output>(
-    line: &mut Vec<u8>,
+    line: &[u8],
     collector: &mut Collector,
     reports: &mut String,
     writer: &mut O,
 ) -> Result<(), RunError>
     requires { O.has_failed writer.old ≡ false }
     ensures ok { OnOk result (Appends (O.contents writer.old) (O.contents writer.new)
-        (reports_of (texts_from collector.old (unless_empty line.old.items)))) }
+        (reports_of (texts_from collector.old (unless_empty line.now)))) }
     ensures flushed { OnOk result (O.is_flushed writer.new ≡ true) }
     ensures err { OnErr result (AppendsBeginning (O.contents writer.old) (O.contents writer.new)
-        (reports_of (texts_from collector.old (unless_empty line.old.items)))) }
+        (reports_of (texts_from collector.old (unless_empty line.now)))) }
     ensures read { result ≢ Err RunError.Read }
     ensures write { IsErrOf result RunError.Write ↔ (O.has_failed writer.new ≡ true) }
 {
@@ -228,8 +239,8 @@ fn finish<O: Output>(
 /// Reads to the end of the input, writes the report on each group of lines and an LF after it, and
 /// flushes once at the end.
 ///
-/// A line is the bytes before an LF, without it, and what follows the last LF where that is
-/// not empty. A group is a line that is not UTF-8, or the least number of next lines, all UTF-8,
+/// A line is the bytes before an LF, without it and without one CR right before it, and what follows
+/// the last LF where that is not empty. A group is a line that is not UTF-8, or the least number of next lines, all UTF-8,
 /// that are a literal when they are joined by LF, or no beginning of one with an LF after them, or
 /// after which no line follows or one that is not UTF-8. One group is held at a time, so memory is
 /// taken in proportion to the longest.
@@ -274,7 +285,8 @@ pub fn run<I: Input, O: Output>(
             Err(Failed) => return Err(RunError::Read),
         };
         if count == 0 {
-            return finish(&mut line, &mut collector, &mut reports, writer);
+            let open_line = line.as_slice();
+            return finish(open_line, &mut collector, &mut reports, writer);
         }
         let piece = &buffer[..count];
         if let Err(error) = take_piece(&mut line, &mut collector, &mut reports, piece, writer) {

@@ -11,5 +11,5 @@ returns c =
     let taken = c.in_ok-take_open_line.ensures in
     let front = string_bytes c.take_open_line.new.reports in
     OnOk-map c.report_held.result (λ is. reports_more (string_bytes c.args.reports.now) front (string_bytes c.report_held.new.reports)
-    (closed_texts c.args.collector.now (unless_empty c.args.line.now.items)) (unless_held (held_text c.args.collector.now (unless_empty c.args.line.now.items)))
+    (closed_texts c.args.collector.now (unless_empty c.args.line.now)) (unless_held (held_text c.args.collector.now (unless_empty c.args.line.now)))
     taken.reports (is ∙ ap (λ h. front ++ reports_of (unless_held h)) taken.held)) c.report_held.ensures.reports

@@ -16,12 +16,12 @@ returns-in-Err-clause-err g c = stops_at_read c.loop-turn.invariant.runs _ c.in-
 pub returns-then-count-eq0-clause-ok : goal.returns-then-count-eq0-clause-ok
 returns-then-count-eq0-clause-ok g c =
     let read = c.in-Ok.ensures.bytes in
-    OnOk-map c.finish.result (ends_run c.loop-turn.invariant.runs _ _ _ read.0 (take_none _ _ (omega arith)) (read.1 (omega arith) (omega arith))) c.finish.ensures.ok
+    OnOk-map c.finish.result (ends_run c.loop-turn.invariant.runs _ _ _ _ c.as_slice-open_line.ensures.value read.0 (take_none _ _ (omega arith)) (read.1 (omega arith) (omega arith))) c.finish.ensures.ok
 
 pub returns-then-count-eq0-clause-err : goal.returns-then-count-eq0-clause-err
 returns-then-count-eq0-clause-err g c =
     let read = c.in-Ok.ensures.bytes in
-    OnErr-map c.finish.result (stops_at_end c.loop-turn.invariant.runs _ _ _ read.0 (take_none _ _ (omega arith)) (read.1 (omega arith) (omega arith))) c.finish.ensures.err
+    OnErr-map c.finish.result (stops_at_end c.loop-turn.invariant.runs _ _ _ _ c.as_slice-open_line.ensures.value read.0 (take_none _ _ (omega arith)) (read.1 (omega arith) (omega arith))) c.finish.ensures.err
 
 pub take_piece-requires-clause-line : goal.take_piece-requires-clause-line
 take_piece-requires-clause-line g c = line_unended c.loop-turn.invariant.runs

@@ -7,14 +7,14 @@ use Rattle.litrs_lines.proofs.take_open_line.Goals as goal
 
 pub returns-then-is_empty : goal.returns-then-is_empty
 returns-then-is_empty c =
-    let none : length c.args.line.now.items ≡ 0 = grind (arith, nat_tests, c.args.line.now.ok.0) in
-    let same = nothing_last c.args.collector.now c.args.line.now.items (string_bytes c.args.reports.now) none in
+    let none : length c.args.line.now ≡ 0 = grind (arith, nat_tests) in
+    let same = nothing_last c.args.collector.now c.args.line.now (string_bytes c.args.reports.now) none in
     record { held = same.0; reports = same.1 }
 
 pub returns : goal.returns
 returns c =
-    let some : 0 < length c.args.line.now.items = grind (arith, nat_tests, c.args.line.now.ok.0) in
+    let some : 0 < length c.args.line.now = grind (arith, nat_tests) in
     record {
-      held = OnOk-map c.end_line.result (λ is. is ∙ held_last c.args.collector.now c.args.line.now.items some) c.end_line.ensures.held;
-      reports = OnOk-map c.end_line.result (λ is. is ∙ ap (λ ts. string_bytes c.args.reports.now ++ reports_of ts) (closed_last c.args.collector.now c.args.line.now.items some)) c.end_line.ensures.reports;
+      held = OnOk-map c.take_line.result (λ is. is ∙ held_last c.args.collector.now c.args.line.now some) c.take_line.ensures.held;
+      reports = OnOk-map c.take_line.result (λ is. is ∙ ap (λ ts. string_bytes c.args.reports.now ++ reports_of ts) (closed_last c.args.collector.now c.args.line.now some)) c.take_line.ensures.reports;
     }

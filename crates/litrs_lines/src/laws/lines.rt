@@ -1,17 +1,27 @@
 //! Laws of lines.
-ghost use Rattle.litrs_lines.specs.LinesLaws.{LinesSpellTheBytes, NoLineFeedInLines, LinesAreUnique};
+ghost use Rattle.litrs_lines.specs.LinesLaws.{LinesSpellTheBytes, NoLineFeedInLines, LinesAreUnique, OneReturnEndsALine, LinesWithoutReturns};
 
-/// The ended lines, with an LF behind each, and what follows the last LF spell the bytes.
+/// The parts that an LF ends, with an LF after each, and what follows the last LF spell the bytes.
 pub fn lines_spell_the_bytes()
     ensures { LinesSpellTheBytes }
 {}
 
-/// No LF stands in a line.
+/// No LF stands in a part.
 pub fn no_line_feed_in_lines()
     ensures { NoLineFeedInLines }
 {}
 
-/// No other lines spell the same bytes.
+/// No other parts spell the same bytes.
 pub fn lines_are_unique()
     ensures { LinesAreUnique }
+{}
+
+/// One CR right before an LF belongs to the line end, and nothing else does.
+pub fn one_return_ends_a_line()
+    ensures { OneReturnEndsALine }
+{}
+
+/// Bytes without CR have the lines that an LF alone ends, and so their reports.
+pub fn lines_without_returns()
+    ensures { LinesWithoutReturns }
 {}
