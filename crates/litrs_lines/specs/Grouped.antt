@@ -31,7 +31,8 @@ closed_by held line =
 -- what is held after it, with an LF after each line
 unfoldable pub held_by : (held line : List ℕ) → List ℕ
 held_by held line =
-    if is_utf8 line then (if is_unfinished (held ++ line) then (held ++ line) ++ line_feed ∷ [] else [])
+    if is_utf8 line
+    then (if is_unfinished (held ++ line) then (held ++ line) ++ line_feed ∷ [] else [])
     else []
 
 -- the texts of the groups that end with one of these lines

@@ -239,11 +239,11 @@ fn finish<O: Output>(
 /// Reads to the end of the input, writes the report on each group of lines and an LF after it, and
 /// flushes once at the end.
 ///
-/// A line is the bytes before an LF, without it and without one CR right before it, and what follows
-/// the last LF where that is not empty. A group is a line that is not UTF-8, or the least number of next lines, all UTF-8,
-/// that are a literal when they are joined by LF, or no beginning of one with an LF after them, or
-/// after which no line follows or one that is not UTF-8. One group is held at a time, so memory is
-/// taken in proportion to the longest.
+/// A line is the bytes before an LF, without it and without one CR right before it, and what
+/// follows the last LF where that is not empty. A group is a line that is not UTF-8, or the least
+/// number of next lines, all UTF-8, that are a literal when they are joined by LF, or begin none
+/// with an LF after them, or after which no line follows or one that is not UTF-8. One group is
+/// held at a time, so memory is taken in proportion to the longest.
 ///
 /// # Errors
 ///
@@ -261,7 +261,8 @@ pub fn run<I: Input, O: Output>(
     requires reader_works { I.has_failed reader.old ≡ false }
     requires writer_works { O.has_failed writer.old ≡ false }
 
-    // The whole input was read, and the reports on the groups of its lines were written and flushed.
+    // The whole input was read, and the reports on the groups of its lines were written and
+    // flushed.
     ensures end { OnOk result (IsAtEnd (I.remaining reader.new)) }
     ensures ok { OnOk result (IfSome (I.remaining reader.old) (λ bytes.
         AppendsReports (lines_of bytes) (O.contents writer.old) (O.contents writer.new))) }
