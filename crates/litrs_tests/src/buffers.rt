@@ -8,6 +8,7 @@ use std::process::Abort;
 #[test]
 fn constants(rt: HostRuntime) {
     assert!(rt; !<&str as Text>::OWNS && String::OWNS);
+    assert!(rt; !<&str as Text>::owns_text() && String::owns_text());
     assert!(rt; !String::TAKES_BYTES && Vec::<u8>::TAKES_BYTES);
 }
 

@@ -1,5 +1,5 @@
 //! Texts that begin a literal, and texts that begin none.
-use crate::texts::repeated;
+use crate::lengths::repeated;
 use litrs::goes_on;
 use std::alloc::{AllocError, Global};
 use std::process::Abort;
@@ -40,10 +40,6 @@ const OTHER: &[&str] = &[
 const LONG: &[(&str, &str, usize, bool)] = &[
     ("r", "#", 255, true),
     ("r", "#", 256, false),
-    ("br", "#", 255, true),
-    ("br", "#", 256, false),
-    ("cr", "#", 255, true),
-    ("cr", "#", 256, false),
     ("", "_", 100_000, false),
     ("1", "1", 100_000, true),
     ("0x", "_", 100_000, true),

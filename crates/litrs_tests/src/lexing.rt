@@ -10,15 +10,38 @@ use litrs_search::{Run, run_end};
 use std::alloc::Global;
 use std::process::Abort;
 
+/// A text, whether byte escapes and NUL are allowed, and what the escape at its front stands for
+/// and its length, or None where it is an escape of value 0.
+const ESCAPES: &[(&str, bool, bool, Option<(Unescape, usize)>)] = &[
+    ("\\x41b", false, true, Some((Unescape::Byte(0x41), 4))),
+    (
+        "\\u{1_F6_02}",
+        false,
+        true,
+        Some((Unescape::Unicode('\u{1F602}'), 11)),
+    ),
+    ("\\0", true, false, None),
+];
+
+/// Whether the escape at the front of the text, which begins with a backslash, is this one.
+fn is_escape(row: &(&str, bool, bool, Option<(Unescape, usize)>)) -> bool {
+    let (text, byte_escapes, allow_nul, expected) = *row;
+    let read = match text.chars().next() {
+        Some('\\') => unescape(text, true, byte_escapes, allow_nul),
+        _ => return false,
+    };
+    match read {
+        Ok(read) => expected == Some(read),
+        Err(e) => {
+            expected.is_none() && e.kind() == DisallowedNulEscape && e.span() == Some(0..2)
+        }
+    }
+}
+
 #[test]
 fn escapes(rt: HostRuntime) {
-    let byte = unescape("\\x41b", true, false, true);
-    assert!(rt; matches!(byte, Ok((Unescape::Byte(0x41), 4))));
-    let character = unescape("\\u{1_F6_02}", true, false, true);
-    assert!(rt; matches!(character, Ok((Unescape::Unicode('\u{1F602}'), 11))));
-    match unescape("\\0", true, true, false) {
-        Ok(_) => panic!(rt; "an escape of value 0"),
-        Err(e) => assert!(rt; e.kind() == DisallowedNulEscape && e.span() == Some(0..2)),
+    for row in ESCAPES {
+        assert!(rt; is_escape(row), "{}", row.0);
     }
     assert!(rt; Unescape::Byte(0x41).unwrap_char() == 'A');
     assert!(rt; Unescape::Byte(255).unwrap_byte() == 255);

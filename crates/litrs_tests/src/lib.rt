@@ -25,8 +25,6 @@ mod samples;
 #[cfg(test)]
 mod searches;
 #[cfg(test)]
-mod texts;
-#[cfg(test)]
 mod tokens;
 #[cfg(test)]
 mod vectors;

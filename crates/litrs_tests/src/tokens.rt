@@ -1,6 +1,6 @@
 //! Tokens and trees, and what is printed of those that are refused.
-use crate::printing::is_printed;
 use litrs::{BoolLit, IntegerLit};
+use litrs_lines::RunError;
 use litrs_token::{
     Delimiter, FromToken, Group, Ident, IdentError, IntoIdent, IntoToken, InvalidToken, Literal,
     LiteralError, Punct, Spacing, Span, TokenError, TokenTree,
@@ -116,49 +116,65 @@ fn bools(rt: HostRuntime) -> Result<(), Fail> {
     Ok(())
 }
 
-/// Why a string is no integer.
-fn refused_string(alloc: Global) -> Result<InvalidToken, AllocError> {
-    match IntegerLit::from_literal(alloc, Literal::string(alloc, "x")?) {
-        Err(TokenError::Invalid(invalid)) => Ok(invalid),
-        _ => Err(AllocError),
+/// The message on a string where an integer is expected.
+const MESSAGE: &str =
+    "expected an integer literal (e.g. `27`), but found a string literal (e.g. \"Ferris\")";
+
+/// The same as a token.
+const MESSAGE_TOKEN: &str = concat!(
+    "\"expected an integer literal (e.g. `27`), ",
+    "but found a string literal (e.g. \\\"Ferris\\\")\"",
+);
+
+/// Why a string is no integer, where there is memory.
+fn refused_string(alloc: Global) -> Option<InvalidToken> {
+    let Ok(string) = Literal::string(alloc, "x") else {
+        return None;
+    };
+    match IntegerLit::from_literal(alloc, string) {
+        Ok(_lit) => None,
+        Err(TokenError::Memory) => None,
+        Err(TokenError::Invalid(invalid)) => Some(invalid),
     }
 }
 
-/// The text of the string in a compile error.
-fn string_of(trees: &[TokenTree]) -> Option<&str> {
+/// Whether the message is printed of the token, whatever the width and the precision.
+fn is_message_printed(alloc: Global, invalid: InvalidToken) -> bool {
+    match format!(in alloc; "{invalid:>200}|{invalid:.3}") {
+        Ok(printed) => printed.len() == 2 * MESSAGE.len() + 1,
+        Err(_) => false,
+    }
+}
+
+/// Whether the trees are a compile error with the message.
+fn have_message(trees: &[TokenTree]) -> bool {
     match trees {
         [_, _, TokenTree::Group(group)] => match group.stream() {
-            [TokenTree::Literal(literal)] => Some(literal.text()),
-            _ => None,
+            [TokenTree::Literal(literal)] => literal.text() == MESSAGE_TOKEN,
+            _ => false,
         },
-        _ => None,
+        _ => false,
     }
 }
 
 #[test]
 fn compile_errors(rt: HostRuntime) -> Result<(), AllocError> {
     let alloc = rt.alloc();
-    let invalid = refused_string(alloc)?;
+    let Some(invalid) = refused_string(alloc) else {
+        panic!(rt; "a string is no integer");
+    };
+    assert!(rt; says(alloc, &TokenError::from(invalid), MESSAGE));
     assert!(rt; invalid.span() == Span::call_site());
-    let message =
-        "expected an integer literal (e.g. `27`), but found a string literal (e.g. \"Ferris\")";
-    assert!(rt; says(alloc, &invalid, message) && says(alloc, &TokenError::from(invalid), message));
-    // A width is ignored, and a precision.
-    match format!(in alloc; "{invalid:>200}|{invalid:.3}") {
-        Ok(printed) => assert!(rt; printed.len() == 2 * message.len() + 1),
-        Err(_) => panic!(rt; "out of memory"),
-    }
-    let string = concat!(
-        "\"expected an integer literal (e.g. `27`), ",
-        "but found a string literal (e.g. \\\"Ferris\\\")\"",
-    );
-    assert!(rt; string_of(&invalid.to_compile_error(alloc)?) == Some(string));
+    assert!(rt; says(alloc, &invalid, MESSAGE) && is_message_printed(alloc, invalid));
+    let trees = invalid.to_compile_error(alloc)?;
+    assert!(rt; have_message(&trees));
     Ok(())
 }
 
 #[test]
 fn other_errors_are_printed(rt: HostRuntime) {
     let alloc = rt.alloc();
+    assert!(rt; says(alloc, &RunError::Memory, "out of memory"));
     assert!(rt; says(alloc, &TokenError::Memory, "out of memory"));
     assert!(rt; says(alloc, &IdentError::Memory, "out of memory"));
     assert!(rt; says(alloc, &IdentError::NotAnIdent, "not an identifier"));

@@ -1,9 +1,8 @@
 //! Runs over a reader and a writer that count their calls, one of which fails once.
 use litrs_lines::{Failed, Input, Output, RunError, StdInput, StdOutput, run, run_program};
 use std::alloc::Global;
-use std::io::{self, Cursor, ErrorKind, Read, Write};
+use std::io::{self, ErrorKind, Read, Write};
 use std::process::{Abort, ExitCode};
-use std::test::Fail;
 
 /// Lines that nine reads of two bytes give; the tenth is the end.
 const LINES: &[u8] = b"true\n0b1_____2\nfoo";
@@ -171,15 +170,6 @@ fn an_output_calls_its_writer_once(rt: HostRuntime) {
     assert!(rt; writer.calls.made == 4 && writer.bytes.as_slice() == b"abcd".as_slice());
 }
 
-#[test]
-fn a_writer_that_takes_nothing_has_failed(rt: HostRuntime) {
-    let mut room = [0; 3];
-    let mut output = StdOutput::new(Cursor::new(room.as_mut_slice()));
-    assert!(rt; matches!(output.write(b"abcd"), Ok(3)) && matches!(output.write(b""), Ok(0)));
-    assert!(rt; !output.failed());
-    assert!(rt; matches!(output.write(b"d"), Err(Failed)) && output.failed());
-}
-
 /// Whether a program over devices that fail at these calls has this status and this message.
 fn ends_with(alloc: Global, read: u64, write: u64, status: ExitCode, message: &str) -> bool {
     let mut input = StdInput::new(make_reader(read));
@@ -196,16 +186,4 @@ fn a_program_has_a_status_and_a_message(rt: HostRuntime) {
     assert!(rt; ends_with(alloc, NEVER, NEVER, ExitCode::SUCCESS, ""));
     assert!(rt; ends_with(alloc, 3, NEVER, failed, "litrs_lines: read failed\n"));
     assert!(rt; ends_with(alloc, NEVER, 3, failed, "litrs_lines: write failed\n"));
-}
-
-#[test]
-fn errors_are_printed(rt: HostRuntime) -> Result<(), Fail> {
-    for (error, text) in [
-        (RunError::Read, "read failed"),
-        (RunError::Write, "write failed"),
-        (RunError::Memory, "out of memory"),
-    ] {
-        assert!(rt; error.to_string(rt.alloc())?.as_str() == text, "{text}");
-    }
-    Ok(())
 }
