@@ -1,91 +1,63 @@
-//! Buffers: copies, parts and values.
-use litrs_base::{Buffer, Text};
-use std::alloc::Global;
+//! Buffers, and the containers of values.
+use litrs_base::{Buffer, Text, Unescape};
+use litrs_bodies::EscapeContainer;
+use std::alloc::{AllocError, Global};
 use std::borrow::{CowSlice, CowStr};
 use std::process::Abort;
-use std::test::Fail;
-
-/// A text, a range of it, and the part of the text in the range.
-const PARTS: [(&str, usize, usize, &str); 6] = [
-    ("\"ab\"", 1, 3, "ab"),
-    ("\"ab\"x", 4, 5, "x"),
-    ("\"ab\"", 4, 4, ""),
-    ("\"ab\"", 0, 4, "\"ab\""),
-    ("c\"é🦊\"", 2, 8, "é🦊"),
-    ("", 0, 0, ""),
-];
-
-#[test]
-fn buffers_are_copied(rt: HostRuntime) -> Result<(), Fail> {
-    let alloc = rt.alloc();
-    let borrowed = "0xFF_u8";
-    let owned = String::from_str(alloc, borrowed)?;
-    assert_eq!(rt; Text::as_str(&borrowed.copy(alloc)?), borrowed);
-    assert_eq!(rt; Text::as_str(&owned.copy(alloc)?), borrowed);
-    assert_eq!(rt; Text::as_str(&owned), borrowed);
-    Ok(())
-}
 
 #[test]
 fn constants(rt: HostRuntime) {
-    assert!(rt; !<&str as Text>::OWNS);
-    assert!(rt; String::OWNS);
-    assert!(rt; !<&str as Text>::owns_text());
-    assert!(rt; String::owns_text());
+    assert!(rt; !<&str as Text>::OWNS && String::OWNS);
+    assert!(rt; !<&str as Text>::owns_text() && String::owns_text());
+    assert!(rt; !String::TAKES_BYTES && Vec::<u8>::TAKES_BYTES);
 }
 
-/// Checks the value of the part, as a text and as bytes.
-fn check_values<B: Buffer>(
-    rt: &impl Abort,
-    alloc: Global,
-    part: B,
-    expected: &str,
-) -> Result<(), Fail> {
-    assert_eq!(rt; part.as_str(), expected);
-    let bytes = part.copy(alloc)?.into_byte_cow();
-    assert_eq!(rt; B::byte_cow_bytes(&bytes), expected.as_bytes());
-    assert_eq!(rt; B::cow_text(&part.into_cow()), expected);
-    let text = B::cow_from(String::from_str(alloc, expected)?);
-    assert_eq!(rt; B::cow_text(&text), expected);
-    let bytes = B::byte_cow_from(String::from_str(alloc, expected)?.into_bytes());
-    assert_eq!(rt; B::byte_cow_bytes(&bytes), expected.as_bytes());
-    Ok(())
-}
-
-#[test]
-fn parts_are_cut(rt: HostRuntime) -> Result<(), Fail> {
-    let alloc = rt.alloc();
-    for (text, start, end, part) in &PARTS {
-        let text: &'static str = text;
-        check_values(&rt, alloc, text.cut(*start..*end), part)?;
-        let owned = String::from_str(alloc, text)?;
-        check_values(&rt, alloc, owned.cut(*start..*end), part)?;
+/// Whether the part is cut out of the text, and is kept as a value of each form.
+fn is_cut<B: Buffer>(alloc: Global, text: B) -> Result<bool, AllocError> {
+    if !text.as_str().is_char_boundary(2) || !text.as_str().is_char_boundary(8) {
+        return Ok(false);
     }
-    Ok(())
+    let part = text.cut(2..8);
+    let bytes = part.copy(alloc)?.into_byte_cow();
+    let other = B::byte_cow_from(String::from_str(alloc, "é🦊")?.into_bytes());
+    let are_bytes = B::byte_cow_bytes(&bytes) == B::byte_cow_bytes(&other);
+    let text = part.into_cow();
+    let other = B::cow_from(String::from_str(alloc, "é🦊")?);
+    Ok(are_bytes && B::cow_text(&text) == B::cow_text(&other))
 }
 
 #[test]
-fn values_are_owned_where_the_buffer_is(rt: HostRuntime) -> Result<(), Fail> {
-    let alloc = rt.alloc();
+fn values_of_both_buffers(rt: HostRuntime) -> Result<(), AllocError> {
+    let text = "c\"é🦊\"";
+    assert!(rt; is_cut(rt.alloc(), text)?);
+    assert!(rt; is_cut(rt.alloc(), String::from_str(rt.alloc(), text)?)?);
     assert!(rt; matches!("ab".into_cow(), CowStr::Borrowed("ab")));
     assert!(rt; matches!("ab".into_byte_cow(), CowSlice::Borrowed(b"ab")));
-    let text = String::from_str(alloc, "ab")?;
-    assert!(rt; matches!(<&str as Buffer>::cow_from(text), CowStr::Owned(_)));
-    let bytes = String::from_str(alloc, "ab")?.into_bytes();
-    assert!(rt; matches!(<&str as Buffer>::byte_cow_from(bytes), CowSlice::Owned(_)));
     Ok(())
 }
 
-/// Texts from none to more than a mebibyte, with ample memory.
-#[test]
-fn large_texts_are_copied(rt: HostRuntime) -> Result<(), Fail> {
-    let mut text = String::new(rt.alloc());
-    for _ in 0..18 {
-        let copy = text.copy(rt.alloc())?;
-        assert!(rt; Text::as_str(&copy) == Text::as_str(&text));
-        text.push_str("0123456789")?;
-        text.push_str(copy.as_str())?;
+/// Pushes each form of value until a container has more than `len` bytes.
+fn push_values<C: EscapeContainer>(container: &mut C, len: usize) -> Result<(), AllocError> {
+    for _ in 0..len / 10 {
+        container.push(Unescape::Byte(b'\n'))?;
+        container.push(Unescape::Unicode('🦊'))?;
+        container.push_str("é")?;
+        container.push_bytes(b"abc")?;
     }
-    assert_eq!(rt; text.len(), 2_621_430);
+    container.reserve(len)
+}
+
+/// Containers take values one by one while there is memory, up to a mebibyte.
+#[test]
+fn containers_take_values(rt: HostRuntime) -> Result<(), AllocError> {
+    for len in [10, 80, 160, 4_000, 1 << 20] {
+        let mut text = <String as EscapeContainer>::new(rt.alloc());
+        push_values(&mut text, len)?;
+        let mut bytes = <Vec<u8> as EscapeContainer>::new(rt.alloc());
+        push_values(&mut bytes, len)?;
+        EscapeContainer::push(&mut bytes, Unescape::Byte(255))?;
+        assert!(rt; text.as_bytes().len() == len / 10 * 10);
+        assert!(rt; bytes.as_slice().starts_with(text.as_bytes()));
+    }
     Ok(())
 }

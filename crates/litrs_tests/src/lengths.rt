@@ -1,0 +1,131 @@
+//! Calls that allocate, on texts of each length around the constants of the code: each succeeds
+//! while there is memory. What they answer then is in their contracts.
+use litrs::{Literal, Text};
+use litrs_lines::{Input, MemInput, MemOutput, run};
+use litrs_token::{FromToken, Ident, Span};
+use std::alloc::{AllocError, Global};
+use std::process::Abort;
+
+/// What a literal has before and after a part that is repeated.
+const FORMS: &[(&str, &str, &str)] = &[
+    ("1", "0", ""),
+    ("1.5", "0", "f64"),
+    ("'a'x", "y", ""),
+    ("b'a'x", "y", ""),
+    ("\"", "a", "\""),
+    ("\"", "a", "\\n\""),
+    ("\"\\u{e9}", "a", "\""),
+    ("\"", "\\n", "\""),
+    ("\"a\"x", "y", ""),
+    ("r#\"", "a", "\"#"),
+    ("b\"", "a", "\\xff\""),
+    ("br\"", "a", "\""),
+    ("c\"", "a", "\""),
+    ("c\"", "a", "\\u{1f98a}\""),
+    ("cr\"", "a", "\""),
+];
+
+/// The lengths that are tried beside those of the sweep.
+const GREAT: &[usize] = &[4_095, 4_096, 8_191, 8_192, 100_000];
+
+/// The front, so many copies of the part, and the end.
+pub(crate) fn repeated(
+    alloc: Global,
+    front: &str,
+    part: &str,
+    count: usize,
+    end: &str,
+) -> Result<String, AllocError> {
+    let mut text = String::from_str(alloc, front)?;
+    for _ in 0..count {
+        text.push_str(part)?;
+    }
+    text.push_str(end)?;
+    Ok(text)
+}
+
+/// Whether the literal of a text is copied and printed.
+fn is_copied<B: Text>(alloc: Global, text: B) -> bool {
+    match &Literal::parse(alloc, text) {
+        Ok(lit) => lit.clone(alloc).is_ok() && lit.to_string(alloc).is_ok(),
+        Err(_) => false,
+    }
+}
+
+/// Whether the literal of a text is made to own it.
+fn is_made_to_own(alloc: Global, text: &str) -> bool {
+    match Literal::parse(alloc, text) {
+        Ok(lit) => lit.into_owned(alloc).is_ok(),
+        Err(_) => false,
+    }
+}
+
+/// Whether the literal of a text is read from a token, which is kept.
+fn is_read_from_ref(alloc: Global, text: &str) -> bool {
+    match &litrs_token::Literal::from_text(alloc, text) {
+        Ok(token) => Literal::from_literal_ref(alloc, token).is_ok(),
+        Err(_) => false,
+    }
+}
+
+/// Whether the literal of a text is read from a token.
+fn is_read(alloc: Global, text: &str) -> bool {
+    match litrs_token::Literal::from_text(alloc, text) {
+        Ok(token) => Literal::from_literal(alloc, token).is_ok(),
+        Err(_) => false,
+    }
+}
+
+/// Whether there are reports on some lines.
+fn are_reported(alloc: Global, lines: &[u8]) -> bool {
+    let room = lines.len().saturating_mul(10).saturating_add(100);
+    let mut input = MemInput::new(lines, 4_000, None);
+    match MemOutput::new(alloc, room, 4_000, None) {
+        Ok(mut output) => run(alloc, &mut input, &mut output).is_ok() && !input.failed(),
+        Err(_) => false,
+    }
+}
+
+/// Whether the calls that allocate succeed on a literal of each form with so many repeated parts.
+fn are_literals(alloc: Global, count: usize) -> Result<bool, AllocError> {
+    for (front, part, end) in FORMS {
+        let text = repeated(alloc, front, part, count, end)?;
+        let succeed = is_copied(alloc, text.as_str())
+            && is_copied(alloc, text.copy(alloc)?)
+            && is_made_to_own(alloc, text.as_str())
+            && is_read_from_ref(alloc, text.as_str())
+            && is_read(alloc, text.as_str())
+            && are_reported(alloc, text.as_bytes());
+        if !succeed {
+            return Ok(false);
+        }
+    }
+    Ok(true)
+}
+
+/// Whether they succeed on an identifier and on the value of a string with so many letters.
+fn is_text(alloc: Global, count: usize) -> Result<bool, AllocError> {
+    let text = repeated(alloc, "a", "b", count, "")?;
+    let is_ident = Ident::new(alloc, text.as_str(), Span::call_site()).is_ok();
+    Ok(is_ident && litrs_token::Literal::string(alloc, text.as_str()).is_ok())
+}
+
+#[test]
+fn texts_of_each_length(rt: HostRuntime) -> Result<(), AllocError> {
+    for count in (0..300).chain(GREAT.iter().copied()) {
+        let succeed = is_text(rt.alloc(), count)? && are_literals(rt.alloc(), count)?;
+        assert!(rt; succeed, "{count} parts");
+    }
+    Ok(())
+}
+
+/// Many lines, and a long one that is no text.
+#[test]
+fn inputs_of_several_reads(rt: HostRuntime) -> Result<(), AllocError> {
+    let alloc = rt.alloc();
+    let lines = repeated(alloc, "", "true\n0b12\n\"a\\n\"\n", 10_000, "")?;
+    assert!(rt; are_reported(alloc, lines.as_bytes()));
+    let bytes = vec![in alloc; 0xFF; 1 << 20]?;
+    assert!(rt; are_reported(alloc, &bytes));
+    Ok(())
+}
