@@ -13,7 +13,9 @@ ghost use Rattle.litrs_trees.specs.declared.kind.TokenKind.{TokenKind};
 
 use crate::one_kind::OneKind;
 use litrs::ParseErrorKind;
-use litrs_trees::{Literal, TokenError, TokenKind, TokenTree, bool_of};
+use litrs_trees::{
+    Literal, TokenError, TokenKind, TokenTree, as_literal, bool_of, check_kind, into_literal,
+};
 use std::alloc::{AllocError, Global};
 
 /// A literal that is read from a token.
@@ -109,23 +111,23 @@ impl<T: OneKind> FromToken for T {
     type Error = TokenError;
 
     fn from_literal(alloc: Global, literal: Literal) -> Result<T, TokenError> {
-        literal.check_kind(T::kind())?;
+        check_kind(&literal, T::kind())?;
         T::parse(alloc, literal.into_text())
     }
 
     fn from_literal_ref(alloc: Global, literal: &Literal) -> Result<T, TokenError> {
-        literal.check_kind(T::kind())?;
+        check_kind(literal, T::kind())?;
         let text = String::from_str(alloc, literal.text())?;
         T::parse(alloc, text)
     }
 
     fn from_tree(alloc: Global, tree: TokenTree) -> Result<T, TokenError> {
-        let literal = tree.into_literal(T::kind())?;
+        let literal = into_literal(tree, T::kind())?;
         T::from_literal(alloc, literal)
     }
 
     fn from_tree_ref(alloc: Global, tree: &TokenTree) -> Result<T, TokenError> {
-        let literal = tree.as_literal(T::kind())?;
+        let literal = as_literal(tree, T::kind())?;
         T::from_literal_ref(alloc, literal)
     }
 }
@@ -159,7 +161,7 @@ impl FromToken for litrs::Literal<String> {
         if let Some(lit) = bool_of(&tree) {
             return Ok(litrs::Literal::Bool(lit));
         }
-        let literal = tree.into_literal(TokenKind::Literal)?;
+        let literal = into_literal(tree, TokenKind::Literal)?;
         Ok(any_literal(alloc, literal.into_text())?)
     }
 
@@ -170,7 +172,7 @@ impl FromToken for litrs::Literal<String> {
         if let Some(lit) = bool_of(tree) {
             return Ok(litrs::Literal::Bool(lit));
         }
-        let literal = tree.as_literal(TokenKind::Literal)?;
+        let literal = as_literal(tree, TokenKind::Literal)?;
         let text = String::from_str(alloc, literal.text())?;
         Ok(any_literal(alloc, text)?)
     }

@@ -43,7 +43,7 @@ pub use from_token::FromToken;
 pub use into_token::{IntoIdent, IntoToken};
 pub use litrs_trees::{
     Delimiter, Group, Ident, IdentError, InvalidToken, Literal, LiteralError, Punct, Spacing, Span,
-    TokenError, TokenKind, TokenTree,
+    TokenError, TokenTree,
 };
 
 mod from_token;

@@ -25,7 +25,7 @@ pub struct InvalidToken {
 impl InvalidToken {
     /// That a token of the kind `actual` stands there, where `expected` was expected: `mask` where
     /// an integer was.
-    pub fn new(expected: TokenKind, actual: TokenKind, span: Span) -> InvalidToken
+    pub(crate) fn new(expected: TokenKind, actual: TokenKind, span: Span) -> InvalidToken
         ensures { result ≡ mismatch expected actual span }
     {
         InvalidToken {

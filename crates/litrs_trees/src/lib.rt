@@ -11,6 +11,7 @@ pub use name::{Ident, IdentError};
 pub use place::Span;
 pub use punctuation::{Punct, Spacing};
 pub use tree::{Delimiter, Group, TokenTree};
+pub use wanted::{as_literal, check_kind, into_literal};
 
 mod bool;
 mod err;
@@ -21,3 +22,4 @@ mod name;
 mod place;
 mod punctuation;
 mod tree;
+mod wanted;

@@ -1,12 +1,10 @@
 //! Tokens that are literals.
-ghost use Rattle.std.specs.Prelude.{◌≡◌, ◌↔◌, IfOk, IsOk, IfErr, OnOk, IsErrOf, string_bytes, ◌++◌};
+ghost use Rattle.std.specs.Prelude.{◌≡◌, ◌↔◌, IfOk, OnOk, IsErrOf, string_bytes, ◌++◌};
 ghost use Rattle.std.specs.Str.{chars, encode_utf8_all};
-ghost use Rattle.litrs_trees.specs.Mismatch.{literal_mismatch};
 ghost use Rattle.litrs_trees.specs.LiteralToken.{IsLiteralToken, IsNoLiteralToken};
 ghost use Rattle.litrs_trees.specs.Place.{call_site};
 ghost use Rattle.litrs_trees.specs.StringToken.{escaped, string_token, IsStringOf};
 
-use crate::err::InvalidToken;
 use crate::kind::{TokenKind, literal_kind};
 use crate::place::Span;
 use std::alloc::{AllocError, Global};
@@ -139,23 +137,6 @@ impl Literal {
         ensures literal { IsLiteralToken (chars self.now.text) result }
     {
         self.kind
-    }
-
-    /// Whether it is a literal of this kind.
-    ///
-    /// # Errors
-    ///
-    /// What is expected and what it is, where it is of another kind.
-    pub fn check_kind(&self, expected: TokenKind) -> Result<(), InvalidToken>
-        ensures ok { IsOk result ↔ (self.now.kind ≡ expected) }
-        ensures literal { OnOk result (IsLiteralToken (chars self.now.text) expected) }
-        ensures err { IfErr result (λ e. e ≡ literal_mismatch expected self.now) }
-    {
-        if self.kind == expected {
-            Ok(())
-        } else {
-            Err(InvalidToken::new(expected, self.kind, self.span))
-        }
     }
 
     /// Its text, in its buffer: of `27u8` all of it.

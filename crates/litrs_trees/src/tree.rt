@@ -1,8 +1,8 @@
 //! Trees of tokens.
-ghost use Rattle.std.specs.Prelude.{◌≡◌, IfOk, IfErr, OnErr};
+ghost use Rattle.std.specs.Prelude.{◌≡◌};
 ghost use Rattle.litrs_trees.specs.Mismatch.{actual_kind, tree_mismatch};
 ghost use Rattle.litrs_trees.specs.Place.{call_site};
-ghost use Rattle.litrs_trees.specs.Tree.{group_delimiter, group_stream, group_span, shape_of, tree_span, AreAlike, a_literal, IsNoLiteral};
+ghost use Rattle.litrs_trees.specs.Tree.{group_delimiter, group_stream, group_span, shape_of, tree_span, AreAlike};
 
 use crate::err::InvalidToken;
 use crate::kind::TokenKind;
@@ -132,48 +132,8 @@ impl TokenTree {
         }
     }
 
-    /// The literal that it is, as of the tree `27`.
-    ///
-    /// # Errors
-    ///
-    /// That another token was expected, where it is no literal.
-    pub fn as_literal(&self, expected: TokenKind) -> Result<&Literal, InvalidToken>
-        ensures ok { IfOk result (λ literal. shape_of self.now ≡ a_literal literal.now) }
-        ensures none { OnErr result (IsNoLiteral (shape_of self.now)) }
-        ensures err { IfErr result (λ e. e ≡ tree_mismatch expected self.now) }
-    {
-        match self {
-            TokenTree::Literal(literal) => Ok(literal),
-            _ => Err(self.mismatch(expected)),
-        }
-    }
-
-    /// The same, taken out of the tree.
-    ///
-    /// # Errors
-    ///
-    /// That another token was expected, where it is no literal. The tree is dropped then.
-    pub fn into_literal(self, expected: TokenKind) -> Result<Literal, InvalidToken>
-        ensures ok { IfOk result (λ literal. shape_of self ≡ a_literal literal) }
-        ensures none { OnErr result (IsNoLiteral (shape_of self)) }
-        ensures err { IfErr result (λ e. e ≡ tree_mismatch expected self) }
-    {
-        match self {
-            TokenTree::Literal(literal) => Ok(literal),
-            TokenTree::Group(group) => {
-                Err(InvalidToken::new(expected, TokenKind::Group, group.span()))
-            }
-            TokenTree::Ident(ident) => {
-                Err(InvalidToken::new(expected, TokenKind::Ident, ident.span()))
-            }
-            TokenTree::Punct(punct) => {
-                Err(InvalidToken::new(expected, TokenKind::Punct, punct.span()))
-            }
-        }
-    }
-
     /// That it is another token than the expected one, with its kind and its span.
-    pub fn mismatch(&self, expected: TokenKind) -> InvalidToken
+    pub(crate) fn mismatch(&self, expected: TokenKind) -> InvalidToken
         ensures { result ≡ tree_mismatch expected self.now }
     {
         InvalidToken::new(expected, self.kind(), self.span())
