@@ -17,6 +17,8 @@ mod lexing;
 #[cfg(test)]
 mod lines;
 #[cfg(test)]
+mod memory;
+#[cfg(test)]
 mod numbers;
 #[cfg(test)]
 mod printing;
@@ -26,5 +28,3 @@ mod samples;
 mod searches;
 #[cfg(test)]
 mod tokens;
-#[cfg(test)]
-mod vectors;

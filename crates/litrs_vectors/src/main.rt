@@ -1,0 +1,84 @@
+//! Tries the rows of a table: literals with their parts, and texts that are refused.
+//!
+//! The table is read from standard input; the comments at its top say how it is written. For each
+//! row that does not hold there is a line on standard output, and the last line says how many rows
+//! hold. The status is 0 if and only if all hold.
+//!
+//! Where a call of the library answers an allocation failure, a line says so, and the call is made
+//! again. After an allocation failure of its own the program ends, with the status 1 and one line
+//! on standard error.
+#![tactic(auto)]
+
+use rows::{Row, RowError};
+use std::alloc::AllocError;
+use std::io::{self, BufRead, BufReader, BufWriter, Write};
+use std::process::ExitCode;
+use trial::Trial;
+
+mod answers;
+mod calls;
+mod literals;
+mod parses;
+mod prefixes;
+mod refusals;
+mod rows;
+mod tokens;
+mod trial;
+
+fn main(rt: HostRuntime) -> ExitCode {
+    match try_table(&rt) {
+        Ok(true) => ExitCode::SUCCESS,
+        Ok(false) => ExitCode::from(1),
+        Err(error) => {
+            let _ = eprintln!(rt; "litrs_vectors: {error}");
+            ExitCode::from(1)
+        }
+    }
+}
+
+/// Tries each row, and prints what there is to say. Whether all rows hold.
+fn try_table(rt: &HostRuntime) -> io::Result<bool> {
+    let alloc = rt.alloc();
+    let mut output = BufWriter::new(alloc, io::writer(rt))?;
+    let mut trial = Trial::new(alloc);
+    for line in BufReader::new(alloc, rt.reader())?.lines(alloc) {
+        try_line(&mut trial, line?.as_str())?;
+        output.write_all(trial.report.as_bytes())?;
+        trial.report.clear();
+    }
+    let (held, rows) = (trial.held, trial.rows);
+    if held == rows {
+        writeln!(output, "{rows} rows hold")?;
+    } else {
+        writeln!(output, "{held} of {rows} rows hold")?;
+    }
+    output.flush()?;
+    Ok(held == rows)
+}
+
+/// Tries the row of a line, if it is one.
+fn try_line(trial: &mut Trial, line: &str) -> Result<(), AllocError> {
+    trial.line = trial.line.saturating_add(1);
+    if line.is_empty() || line.starts_with('#') {
+        return Ok(());
+    }
+    trial.begin_row();
+    match try_row(trial, line) {
+        Ok(()) => {}
+        Err(RowError::Malformed(what)) => trial.check(false, what),
+        Err(RowError::OutOfMemory) => return Err(AllocError),
+    }
+    trial.end_row(line)
+}
+
+fn try_row(trial: &mut Trial, line: &str) -> Result<(), RowError> {
+    let row = Row::read(trial.alloc, line)?;
+    if row.parses.is_empty() {
+        prefixes::try_goes_on(trial, &row);
+    } else if row.answer.starts_with("refused\t".as_bytes()) {
+        refusals::try_refusal(trial, &row);
+    } else {
+        literals::try_literal(trial, &row);
+    }
+    Ok(())
+}

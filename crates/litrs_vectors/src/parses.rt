@@ -1,0 +1,157 @@
+//! The nine parses as one call, where a refused allocation is asked for once more.
+use crate::answers::is_escaped;
+use crate::trial::{Trial, again};
+use litrs::{
+    BoolLit, ByteLit, ByteStringLit, CStringLit, CharLit, FloatLit, IntegerLit, Literal,
+    ParseError, ParseErrorKind, StringLit, Text,
+};
+use std::alloc::Global;
+
+/// The parse of one kind, or of all.
+#[derive(Clone, Copy, Drop)]
+pub enum Parse {
+    Literal,
+    Bool,
+    Integer,
+    Float,
+    Char,
+    String,
+    Byte,
+    ByteString,
+    CString,
+}
+
+/// All parses.
+pub const PARSES: [Parse; 9] = [
+    Parse::Literal,
+    Parse::Bool,
+    Parse::Integer,
+    Parse::Float,
+    Parse::Char,
+    Parse::String,
+    Parse::Byte,
+    Parse::ByteString,
+    Parse::CString,
+];
+
+impl Parse {
+    /// The type that has this parse.
+    pub fn name(self) -> &'static str {
+        match self {
+            Parse::Literal => "Literal",
+            Parse::Bool => "BoolLit",
+            Parse::Integer => "IntegerLit",
+            Parse::Float => "FloatLit",
+            Parse::Char => "CharLit",
+            Parse::String => "StringLit",
+            Parse::Byte => "ByteLit",
+            Parse::ByteString => "ByteStringLit",
+            Parse::CString => "CStringLit",
+        }
+    }
+
+    /// The parse of the type of this name.
+    pub fn from_name(name: &str) -> Option<Parse> {
+        for parse in PARSES {
+            if parse.name() == name {
+                return Some(parse);
+            }
+        }
+        None
+    }
+}
+
+/// The name of a buffer's type.
+pub fn buffer_name<B: Text>() -> &'static str {
+    if B::OWNS { "String" } else { "&str" }
+}
+
+/// What a call on a type of one kind answers, as what the call on `Literal` would.
+pub fn any<L: Into<Literal<B>>, B: Text, E>(answer: Result<L, E>) -> Result<Literal<B>, E> {
+    match answer {
+        Ok(lit) => Ok(lit.into()),
+        Err(e) => Err(e),
+    }
+}
+
+/// What this parse makes of the text.
+fn parse_by<B: Text>(alloc: Global, parse: Parse, text: B) -> Result<Literal<B>, ParseError> {
+    match parse {
+        Parse::Literal => Literal::parse(alloc, text),
+        Parse::Bool => any(BoolLit::parse(text.as_str())),
+        Parse::Integer => any(IntegerLit::parse(text)),
+        Parse::Float => any(FloatLit::parse(text)),
+        Parse::Char => any(CharLit::parse(text)),
+        Parse::String => any(StringLit::parse(alloc, text)),
+        Parse::Byte => any(ByteLit::parse(text)),
+        Parse::ByteString => any(ByteStringLit::parse(alloc, text)),
+        Parse::CString => any(CStringLit::parse(alloc, text)),
+    }
+}
+
+/// What is made of a literal of each kind, but of a bool.
+macro_rules! each_kind {
+    ($lit:expr, $bool:pat => $of_bool:expr, $other:ident => $of_other:expr) => {
+        match $lit {
+            Literal::Bool($bool) => $of_bool,
+            Literal::Integer($other) => $of_other,
+            Literal::Float($other) => $of_other,
+            Literal::Char($other) => $of_other,
+            Literal::String($other) => $of_other,
+            Literal::Byte($other) => $of_other,
+            Literal::ByteString($other) => $of_other,
+            Literal::CString($other) => $of_other,
+        }
+    };
+}
+
+pub(crate) use each_kind;
+
+/// What this parse makes of a copy of the text.
+fn parse_copy<B: Text>(
+    trial: &mut Trial,
+    parse: Parse,
+    text: &B,
+) -> Result<Literal<B>, ParseError> {
+    trial.at = (buffer_name::<B>(), buffer_name::<B>());
+    let copy = again!(trial, "copy", text.copy(trial.alloc));
+    trial.at = (parse.name(), buffer_name::<B>());
+    match trial.own(copy) {
+        Some(copy) => parse_by(trial.alloc, parse, copy),
+        None => Err(ParseError::new(None, ParseErrorKind::OutOfMemory)),
+    }
+}
+
+/// What this parse makes of the text.
+pub fn parsed<B: Text>(
+    trial: &mut Trial,
+    parse: Parse,
+    text: &B,
+) -> Result<Literal<B>, ParseError> {
+    let at = trial.at;
+    let mut answer = parse_copy(trial, parse, text);
+    if trial.is_refused("parse", is_out_of_memory(&answer)) {
+        answer = parse_copy(trial, parse, text);
+        trial.check(
+            is_allocated(&answer),
+            "is refused memory that it does not need",
+        );
+    }
+    trial.at = at;
+    answer
+}
+
+fn is_out_of_memory<B: Text>(answer: &Result<Literal<B>, ParseError>) -> bool {
+    match answer {
+        Ok(_) => false,
+        Err(e) => e.kind() == ParseErrorKind::OutOfMemory,
+    }
+}
+
+/// Whether the text is a literal whose value is allocated.
+fn is_allocated<B: Text>(answer: &Result<Literal<B>, ParseError>) -> bool {
+    match answer {
+        Ok(lit) => matches!(lit, Literal::CString(_)) || is_escaped(lit),
+        Err(_) => false,
+    }
+}
