@@ -20,7 +20,7 @@ OUT_OF_MEMORY = "Err(_) => Err(ParseError::new(None, ParseErrorKind::OutOfMemory
 MAPPED = {
     ("crates/litrs_bodies/src/string.rt", OUT_OF_MEMORY),
     ("crates/litrs_strings/src/c_string.rt", OUT_OF_MEMORY),
-    ("crates/litrs_lines/src/report.rt", "ParseErrorKind::OutOfMemory => Err(AllocError),"),
+    ("crates/litrs_collector/src/lib.rt", "ParseErrorKind::OutOfMemory => Err(AllocError),"),
     ("crates/litrs_token/src/from_token.rt", "ParseErrorKind::OutOfMemory => Err(AllocError),"),
     ("crates/litrs_token/src/one_kind.rt", "ParseErrorKind::OutOfMemory => TokenError::Memory,"),
 }
@@ -44,6 +44,7 @@ RESERVED = {
         "crates/litrs_strings/src/c_string.rt",
         "let mut bytes = Vec::with_capacity(alloc, self.bytes.len())?;",
     ): 1,
+    ("crates/litrs_collector/src/lib.rt", "held.reserve(line.len() + 1)?;"): 1,
     # The caller gives the room.
     ("crates/litrs_devices/src/mem_output.rt", "bytes: Vec::with_capacity(alloc, room)?,"): 1,
 }
