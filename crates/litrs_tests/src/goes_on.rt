@@ -1,7 +1,7 @@
 //! Texts that begin a literal, and texts that begin none.
 use crate::lengths::repeated;
 use litrs::goes_on;
-use std::alloc::{AllocError, Global};
+use std::alloc::Global;
 use std::process::Abort;
 
 /// Texts that begin a literal.
@@ -68,22 +68,19 @@ fn begun_and_other_texts(rt: HostRuntime) {
     }
 }
 
-/// Whether a text of the table has the answer.
-fn has_answer(alloc: Global, row: &(&str, &str, usize, bool)) -> Result<bool, AllocError> {
-    let (front, part, count, begins) = row;
-    Ok(goes_on(repeated(alloc, front, part, *count, "")?.as_str()) == *begins)
+/// Whether the front and so many parts begin a literal, where there is memory.
+fn goes_on_long(alloc: Global, front: &str, part: &str, count: usize) -> Option<bool> {
+    match &repeated(alloc, front, part, count, "") {
+        Ok(text) => Some(goes_on(text.as_str())),
+        Err(_) => None,
+    }
 }
 
 /// A call on a long text returns.
 #[test]
-fn long_texts(rt: HostRuntime) -> Result<(), AllocError> {
-    for row in LONG {
-        assert!(rt;
-            has_answer(rt.alloc(), row)?,
-            "{} and many {}",
-            row.0,
-            row.1
-        );
+fn long_texts(rt: HostRuntime) {
+    for (front, part, count, begins) in LONG {
+        let answer = goes_on_long(rt.alloc(), front, part, *count);
+        assert!(rt; answer == Some(*begins), "{front} and {count} {part}");
     }
-    Ok(())
 }

@@ -7,7 +7,9 @@ use std::alloc::{AllocError, Global};
 use std::process::Abort;
 
 /// What a literal has before and after a part that is repeated.
-const FORMS: &[(&str, &str, &str)] = &[
+type Form = (&'static str, &'static str, &'static str);
+
+const FORMS: &[Form] = &[
     ("1", "0", ""),
     ("1.5", "0", "f64"),
     ("'a'x", "y", ""),
@@ -86,46 +88,67 @@ fn are_reported(alloc: Global, lines: &[u8]) -> bool {
     }
 }
 
-/// Whether the calls that allocate succeed on a literal of each form with so many repeated parts.
-fn are_literals(alloc: Global, count: usize) -> Result<bool, AllocError> {
-    for (front, part, end) in FORMS {
-        let text = repeated(alloc, front, part, count, end)?;
-        let succeed = is_copied(alloc, text.as_str())
-            && is_copied(alloc, text.copy(alloc)?)
-            && is_made_to_own(alloc, text.as_str())
-            && is_read_from_ref(alloc, text.as_str())
-            && is_read(alloc, text.as_str())
-            && are_reported(alloc, text.as_bytes());
-        if !succeed {
-            return Ok(false);
+/// Whether the calls that allocate succeed on the text of a literal.
+fn succeed(alloc: Global, text: &str) -> bool {
+    is_copied(alloc, text)
+        && is_made_to_own(alloc, text)
+        && is_read_from_ref(alloc, text)
+        && is_read(alloc, text)
+        && are_reported(alloc, text.as_bytes())
+}
+
+/// Whether they succeed on a literal of a form, over both buffers.
+fn is_literal(alloc: Global, form: &Form, count: usize) -> bool {
+    let (front, part, end) = *form;
+    let Ok(text) = repeated(alloc, front, part, count, end) else {
+        return false;
+    };
+    let succeed = succeed(alloc, text.as_str());
+    succeed && is_copied(alloc, text)
+}
+
+/// Whether they succeed on an identifier, a string and a text of so many letters.
+fn is_text(alloc: Global, count: usize) -> bool {
+    match &repeated(alloc, "a", "b", count, "") {
+        Ok(text) => {
+            text.copy(alloc).is_ok()
+                && Ident::new(alloc, text.as_str(), Span::call_site()).is_ok()
+                && litrs_token::Literal::string(alloc, text.as_str()).is_ok()
+        }
+        Err(_) => false,
+    }
+}
+
+/// Whether all that is so with so many repeated parts.
+fn all_succeed(alloc: Global, count: usize) -> bool {
+    for form in FORMS {
+        if !is_literal(alloc, form, count) {
+            return false;
         }
     }
-    Ok(true)
-}
-
-/// Whether they succeed on an identifier and on the value of a string with so many letters.
-fn is_text(alloc: Global, count: usize) -> Result<bool, AllocError> {
-    let text = repeated(alloc, "a", "b", count, "")?;
-    let is_ident = Ident::new(alloc, text.as_str(), Span::call_site()).is_ok();
-    Ok(is_ident && litrs_token::Literal::string(alloc, text.as_str()).is_ok())
+    is_text(alloc, count)
 }
 
 #[test]
-fn texts_of_each_length(rt: HostRuntime) -> Result<(), AllocError> {
-    for count in (0..300).chain(GREAT.iter().copied()) {
-        let succeed = is_text(rt.alloc(), count)? && are_literals(rt.alloc(), count)?;
-        assert!(rt; succeed, "{count} parts");
+fn texts_of_each_length(rt: HostRuntime) {
+    for count in 0..300 {
+        assert!(rt; all_succeed(rt.alloc(), count), "{count} parts");
     }
-    Ok(())
+    for count in GREAT {
+        assert!(rt; all_succeed(rt.alloc(), *count), "{count} parts");
+    }
 }
 
-/// Many lines, and a long one that is no text.
+/// Whether there are reports on the line so many times.
+fn are_lines(alloc: Global, line: &str, count: usize) -> bool {
+    match &repeated(alloc, "", line, count, "") {
+        Ok(lines) => are_reported(alloc, lines.as_bytes()),
+        Err(_) => false,
+    }
+}
+
 #[test]
-fn inputs_of_several_reads(rt: HostRuntime) -> Result<(), AllocError> {
-    let alloc = rt.alloc();
-    let lines = repeated(alloc, "", "true\n0b12\n\"a\\n\"\n", 10_000, "")?;
-    assert!(rt; are_reported(alloc, lines.as_bytes()));
-    let bytes = vec![in alloc; 0xFF; 1 << 20]?;
-    assert!(rt; are_reported(alloc, &bytes));
-    Ok(())
+fn inputs_of_several_reads(rt: HostRuntime) {
+    assert!(rt; are_lines(rt.alloc(), "true\n0b12\n\"a\\n\"\n", 10_000));
+    assert!(rt; are_reported(rt.alloc(), &[0xFF; 20_000]));
 }

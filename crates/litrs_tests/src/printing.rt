@@ -1,25 +1,50 @@
 //! What is printed at a width and at a precision. Integers, floats and refused tokens ignore both.
-use litrs::{FloatType, IntegerType, Literal, ParseError, ParseErrorKind};
+use litrs::ParseErrorKind::Empty;
+use litrs::{FloatType, IntegerType, Literal, ParseError};
 use std::alloc::Global;
 use std::fmt::Display;
 use std::process::Abort;
 
-/// A literal, and what is printed of it to the right, to the left and in the middle of 7 columns,
-/// at a width of 2, and at a precision of 2.
+/// A literal, and what is printed of it to the right, to the left and in the middle of 16 columns,
+/// and at a precision of 2.
 const PRINTED: &[(&str, &str)] = &[
-    ("true", "   true|true   | true  |true|tr|"),
-    ("0x1_u8", "0x1_u8|0x1_u8|0x1_u8|0x1_u8|0x1_u8|"),
-    ("9.5", "9.5|9.5|9.5|9.5|9.5|"),
-    ("'é'u8", "  'é'u8|'é'u8  | 'é'u8 |'é'u8|'é|"),
-    ("\"é\"x", "   \"é\"x|\"é\"x   | \"é\"x  |\"é\"x|\"é|"),
-    ("b'a'é", "  b'a'é|b'a'é  | b'a'é |b'a'é|b'|"),
-    ("br\"a\"", "  br\"a\"|br\"a\"  | br\"a\" |br\"a\"|br|"),
-    ("c\"é\"x", "  c\"é\"x|c\"é\"x  | c\"é\"x |c\"é\"x|c\"|"),
+    (
+        "true",
+        "            true|true            |      true      |tr|",
+    ),
+    ("0x1_u8", "0x1_u8|0x1_u8|0x1_u8|0x1_u8|"),
+    ("9.5", "9.5|9.5|9.5|9.5|"),
+    (
+        "'é'u8",
+        "           'é'u8|'é'u8           |     'é'u8      |'é|",
+    ),
+    (
+        "\"é\"x",
+        "            \"é\"x|\"é\"x            |      \"é\"x      |\"é|",
+    ),
+    (
+        "b'a'é",
+        "           b'a'é|b'a'é           |     b'a'é      |b'|",
+    ),
+    (
+        "br\"a\"",
+        "           br\"a\"|br\"a\"           |     br\"a\"      |br|",
+    ),
+    (
+        "c\"é\"x",
+        "           c\"é\"x|c\"é\"x           |     c\"é\"x      |c\"|",
+    ),
 ];
 
+/// The same of the refusal of an empty text at 3..4: the description has the width.
+const REFUSAL: &str = concat!(
+    "  input is empty (at 3..4)|",
+    "input is empty   (at 3..4)| input is empty  (at 3..4)|in (at 3..4)|",
+);
+
 /// Whether this is printed of the value.
-pub(crate) fn is_printed<D: Display>(alloc: Global, value: &D, expected: &str) -> bool {
-    match format!(in alloc; "{value:>7}|{value:<7}|{value:^7}|{value:2}|{value:.2}|") {
+fn is_printed<D: Display>(alloc: Global, value: &D, expected: &str) -> bool {
+    match format!(in alloc; "{value:>16}|{value:<16}|{value:^16}|{value:.2}|") {
         Ok(printed) => printed.as_str() == expected,
         Err(_) => false,
     }
@@ -41,28 +66,29 @@ fn literals(rt: HostRuntime) {
 }
 
 #[test]
-fn types(rt: HostRuntime) {
-    let expected = "   u128|u128   | u128  |u128|u1|";
-    assert!(rt; is_printed(rt.alloc(), &IntegerType::U128, expected));
+fn types_and_refusals(rt: HostRuntime) {
+    let alloc = rt.alloc();
     assert!(rt;
         is_printed(
-            rt.alloc(),
-            &FloatType::F64,
-            "    f64|f64    |  f64  |f64|f6|"
+            alloc,
+            &IntegerType::U128,
+            "            u128|u128            |      u128      |u1|"
         )
     );
-}
-
-#[test]
-fn refusals(rt: HostRuntime) {
-    let kind = ParseErrorKind::UnexpectedChar;
-    let refusal = ParseError::new(Some(3..4), ParseErrorKind::Empty);
-    match format!(in rt.alloc(); "{kind:>22}|{kind:.5}|{refusal:>16}|{refusal:.5}|") {
-        Ok(printed) => {
-            let expected =
-                "  unexpected character|unexp|  input is empty (at 3..4)|input (at 3..4)|";
-            assert!(rt; printed.as_str() == expected);
-        }
-        Err(_) => panic!(rt; "out of memory"),
-    }
+    assert!(rt;
+        is_printed(
+            alloc,
+            &FloatType::F64,
+            "             f64|f64             |      f64       |f6|"
+        )
+    );
+    assert!(rt;
+        is_printed(
+            alloc,
+            &Empty,
+            "  input is empty|input is empty  | input is empty |in|"
+        )
+    );
+    let refusal = ParseError::new(Some(3..4), Empty);
+    assert!(rt; is_printed(alloc, &refusal, REFUSAL));
 }

@@ -1,7 +1,7 @@
 //! The samples of the documentation of `litrs` and `litrs_token`, and of the README.
 use litrs::ParseErrorKind::OutOfMemory;
 use litrs::{IntegerLit, Literal, ParseError, goes_on};
-use litrs_token::{FromToken, Ident, IdentError, Span, TokenError, TokenTree};
+use litrs_token::{FromToken, Ident, Span, TokenError, TokenTree};
 use std::alloc::Global;
 use std::process::Abort;
 
@@ -11,13 +11,6 @@ fn mask(alloc: Global, text: &str) -> Result<Option<u16>, ParseError> {
         Literal::Integer(lit) => Ok(lit.value::<u16>()),
         _ => Ok(None),
     }
-}
-
-#[test]
-fn values_of_16_bits(rt: HostRuntime) {
-    assert!(rt; matches!(mask(rt.alloc(), "0xFF_u8"), Ok(Some(255))));
-    assert!(rt; matches!(mask(rt.alloc(), "70_000"), Ok(None)));
-    assert!(rt; mask(rt.alloc(), "0b12").is_err());
 }
 
 /// How many bytes the value of a string of any kind has.
@@ -30,13 +23,6 @@ fn value_len(alloc: Global, text: &str) -> Result<Option<usize>, ParseError> {
     }
 }
 
-#[test]
-fn the_length_of_a_value(rt: HostRuntime) {
-    assert!(rt; matches!(value_len(rt.alloc(), "\"a\\n\""), Ok(Some(2))));
-    assert!(rt; matches!(value_len(rt.alloc(), "b\"\\xff\"u8"), Ok(Some(1))));
-    assert!(rt; matches!(value_len(rt.alloc(), "27"), Ok(None)));
-}
-
 /// The literal of a line, None where more of it is to come.
 fn line(alloc: Global, text: &str) -> Result<Option<Literal<&str>>, ParseError> {
     match Literal::parse(alloc, text) {
@@ -44,13 +30,6 @@ fn line(alloc: Global, text: &str) -> Result<Option<Literal<&str>>, ParseError> 
         Err(e) if e.kind() != OutOfMemory && goes_on(text) => Ok(None),
         Err(e) => Err(e),
     }
-}
-
-#[test]
-fn the_lines_of_a_prompt(rt: HostRuntime) {
-    assert!(rt; matches!(line(rt.alloc(), "'a'"), Ok(Some(Literal::Char(_)))));
-    assert!(rt; matches!(line(rt.alloc(), "\"a"), Ok(None)));
-    assert!(rt; line(rt.alloc(), "\"\\q\"").is_err());
 }
 
 /// What the value of an attribute says, as `27` in `#[limit = 27]`.
@@ -75,9 +54,23 @@ fn read_limit(alloc: Global, value: &TokenTree) -> Result<Limit, TokenError> {
     }
 }
 
+/// Whether an identifier is no number, and so the trees of a compile error.
+fn is_wrong(alloc: Global, text: &str) -> bool {
+    match Ident::new(alloc, text, Span::call_site()) {
+        Ok(name) => {
+            matches!(
+                &read_limit(alloc, &TokenTree::from(name)),
+                Ok(Limit::Wrong(_))
+            )
+        }
+        Err(_) => false,
+    }
+}
+
 #[test]
-fn the_value_of_an_attribute(rt: HostRuntime) -> Result<(), IdentError> {
-    let name = TokenTree::from(Ident::new(rt.alloc(), "x", Span::call_site())?);
-    assert!(rt; matches!(&read_limit(rt.alloc(), &name), Ok(Limit::Wrong(_))));
-    Ok(())
+fn answers_of_the_samples(rt: HostRuntime) {
+    assert!(rt; matches!(mask(rt.alloc(), "0xFF_u8"), Ok(Some(255))));
+    assert!(rt; matches!(value_len(rt.alloc(), "\"a\\n\""), Ok(Some(2))));
+    assert!(rt; matches!(line(rt.alloc(), "\"a"), Ok(None)));
+    assert!(rt; is_wrong(rt.alloc(), "x"));
 }

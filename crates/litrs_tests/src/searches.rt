@@ -1,6 +1,6 @@
 //! The search for the next special byte against a plain one, over each length up to three lanes.
 use litrs_search::{Special, next_special};
-use std::alloc::{AllocError, Global};
+use std::alloc::Global;
 use std::process::Abort;
 
 const NONE: Special = Special {
@@ -40,31 +40,35 @@ fn agrees(bytes: &[u8], what: Special) -> bool {
     true
 }
 
-/// Whether the search agrees over so many letters, of which the byte replaces one at most.
-fn agrees_at_each_place(alloc: Global, len: usize, byte: u8) -> Result<bool, AllocError> {
+/// Whether the search agrees over so many letters, where the byte replaces that of the place.
+fn agrees_at(alloc: Global, len: usize, byte: u8, place: usize) -> bool {
+    let Ok(mut bytes) = vec![in alloc; b'a'; len] else {
+        return false;
+    };
+    if let Some(at) = bytes.get_mut(place) {
+        *at = byte;
+    }
+    agrees(&bytes, ALL) && agrees(&bytes, NONE)
+}
+
+/// Whether it agrees for each place.
+fn agrees_at_each_place(alloc: Global, len: usize, byte: u8) -> bool {
     for place in 0..=len {
-        let mut bytes = vec![in alloc; b'a'; len]?;
-        if let Some(at) = bytes.get_mut(place) {
-            *at = byte;
-        }
-        if !agrees(&bytes, ALL) || !agrees(&bytes, NONE) {
-            return Ok(false);
+        if !agrees_at(alloc, len, byte, place) {
+            return false;
         }
     }
-    Ok(true)
+    true
 }
 
 #[test]
-fn finds_each_byte_at_each_place(rt: HostRuntime) -> Result<(), AllocError> {
+fn finds_each_byte_at_each_place(rt: HostRuntime) {
     for len in 0..=100 {
-        for byte in [b'"', b'\r', b'\\', 0, 0x7F, 0x80, 0xFF] {
-            assert!(rt;
-                agrees_at_each_place(rt.alloc(), len, byte)?,
-                "byte {byte} of {len}"
-            );
+        for byte in b"\"\r\\\0\x7F\x80\xFF" {
+            let agrees = agrees_at_each_place(rt.alloc(), len, *byte);
+            assert!(rt; agrees, "byte {byte} of {len}");
         }
     }
-    Ok(())
 }
 
 /// Bytes, the setting, and the place of the first special byte.
