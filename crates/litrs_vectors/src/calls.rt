@@ -7,9 +7,10 @@ use crate::trial::{Trial, again};
 use litrs::{BoolLit, Literal, ParseError};
 use litrs_base::Unescape;
 use litrs_bodies::{EscapeContainer, unescape_string};
+use litrs_collector::{Collector, Step};
 use litrs_lines::{MemInput, MemOutput, RunError, run};
 use litrs_token::{InvalidToken, TokenTree};
-use std::alloc::Global;
+use std::alloc::{AllocError, Global};
 use std::convert::AsSlice;
 
 /// The longest text that is tried here.
@@ -25,6 +26,7 @@ const PIECE: usize = 4096;
 pub fn try_literal(trial: &mut Trial, lit: &Literal<&str>) {
     let text = lit.raw_input();
     try_run(trial, text, kind_of(lit));
+    try_collector(trial, text, true);
     match lit {
         Literal::Bool(_) => {}
         _ => try_compile_error(trial, text),
@@ -88,45 +90,38 @@ fn has_value(lit: &Literal<&str>, found: &Option<Vec<u8>>) -> bool {
     }
 }
 
-/// Tries a container with a text: character by character, then whole, then as bytes.
-fn try_container<C: EscapeContainer + AsSlice<u8>>(trial: &mut Trial, text: &str) {
-    if text.len() > LONGEST {
-        return;
+/// The calls that add to a container, or make room in it.
+const ADDING: [&str; 4] = ["push_str", "push", "push_bytes", "reserve"];
+
+/// Makes the call of this name with a text, and with a character.
+fn add<C: EscapeContainer>(container: &mut C, call: &str, text: &str) -> Result<(), AllocError> {
+    match call {
+        "push_str" => container.push_str(text),
+        "push" => container.push(Unescape::Unicode('é')),
+        "push_bytes" => container.push_bytes(text.as_bytes()),
+        _ => container.reserve(LONGEST),
     }
-    let whole = format!(in trial.alloc; "{text}{text}{text}");
+}
+
+/// Tries a container: one call after the other.
+fn try_container<C: EscapeContainer + AsSlice<u8>>(trial: &mut Trial, text: &str) {
+    let whole = format!(in trial.alloc; "{text}é{text}");
     let Some(whole) = trial.own(whole) else {
         return;
     };
     let whole = whole.as_bytes();
     let mut container = C::new(trial.alloc);
-    for value in text.chars() {
-        let answer = container.push(Unescape::Unicode(value));
-        if trial.is_refused("push", answer.is_err()) {
-            trial.check(whole.starts_with(container.as_slice()), "has changed");
-            trial.own(container.push(Unescape::Unicode(value)));
-        }
+    let mut len = 0;
+    for call in ADDING {
+        let answer = again!(
+            trial,
+            call,
+            add(&mut container, call, text),
+            container.as_slice().len() == len && whole.starts_with(container.as_slice())
+        );
+        trial.own(answer);
+        len = container.as_slice().len();
     }
-    let answer = again!(
-        trial,
-        "push_str",
-        container.push_str(text),
-        container.as_slice() == text.as_bytes()
-    );
-    trial.own(answer);
-    let answer = again!(
-        trial,
-        "push_bytes",
-        container.push_bytes(text.as_bytes()),
-        whole.starts_with(container.as_slice())
-    );
-    trial.own(answer);
-    let answer = again!(
-        trial,
-        "reserve",
-        container.reserve(LONGEST),
-        container.as_slice() == whole
-    );
-    trial.own(answer);
     trial.check(container.as_slice() == whole, "has other contents");
 }
 
@@ -143,6 +138,26 @@ pub fn try_run(trial: &mut Trial, text: &str, begins: &str) {
         }
         Err(_) => trial.check(false, "has no report"),
     }
+}
+
+/// Tries a collector that is fed the lines of a text: it gives the text as a literal if and only if
+/// it is one, and then holds nothing.
+pub fn try_collector(trial: &mut Trial, text: &str, is_literal: bool) {
+    if text.len() > LONGEST {
+        return;
+    }
+    trial.at = ("Collector", "&str");
+    let mut collector = Collector::new(trial.alloc);
+    let mut is_found = false;
+    for line in text.split('\n') {
+        is_found = match &again!(trial, "feed", collector.feed(line)) {
+            Ok(Step::Literal(lit)) => lit.raw_input() == text,
+            _ => false,
+        };
+    }
+    let is_held = collector.finish().is_some();
+    let holds = is_found == is_literal && !(is_literal && is_held);
+    trial.check(holds, "is something else to a collector");
 }
 
 /// The report on a text that is the only line of an input.

@@ -92,6 +92,7 @@ fn try_report(trial: &mut Trial, text: &str) {
         let report = format!(in trial.alloc; "error {e}\n");
         if let Some(report) = trial.own(report) {
             calls::try_run(trial, text, report.as_str());
+            calls::try_collector(trial, text, false);
         }
     }
 }
