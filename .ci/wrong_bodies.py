@@ -32,7 +32,8 @@ GHOST = re.compile(r"\s*ghost (\w+) ")
 STATUS = re.compile(r"(?:fn|impl) (\S+): (.*)")
 ERROR = re.compile(r"(?:\./)?(proofs|src)/(\S+?):(\d+):\d+: error: (.*)")
 PLACE = re.compile(r"\bsrc/(\S+?\.rt):(\d+):\d+")
-# What the checker says of a function without answers in proofs/, whose goals it searched a proof of.
+# What the checker says of a goal that has no answer in proofs/ and that its search did not prove.
+NOTE = re.compile(r"note: src/(\S+?):(\d+):\d+: it is not proved that (.*)")
 OPEN = re.compile(r"no proof: .*?(`search` did not prove .*)")
 # What it says of a proof that names something the edit took away.
 MISSING = re.compile(r"has no field|is not in scope|has no `|was not admitted")
@@ -205,6 +206,9 @@ class Answer:
                 for path in self.paths_at(crate, texts, *found.groups()[:3]):
                     if not MISSING.search(found[4]):
                         self.goals.setdefault(path, found[4])
+            elif found := NOTE.match(line):
+                for path in self.paths_at(crate, texts, "src", *found.groups()[:2]):
+                    self.goals.setdefault(path, found[3])
 
     def paths_at(self, crate, texts, part, file, line):
         """The paths of the functions that an error at this place speaks of."""
