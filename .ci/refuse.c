@@ -1,0 +1,131 @@
+/* Refuses each allocation of a process in turn. The process loads this by LD_PRELOAD.
+ *
+ * Before an allocation the process is copied twice. In the first copy this allocation is refused,
+ * and in the second this one and all later ones; both go on to their end. What a copy prints, and
+ * its status, are appended to the file that REFUSED names:
+ *
+ *     one 7 0 12        or `all`, the number of the allocation, the status, the bytes that follow
+ *     1 rows hold..     what it printed on both standard outputs, and a line end
+ *
+ * The process itself then goes on, and nothing is refused to it. */
+#include <errno.h>
+#include <fcntl.h>
+#include <stdio.h>
+#include <stdlib.h>
+#include <sys/wait.h>
+#include <unistd.h>
+
+/* After so many seconds a copy is ended. */
+#define SECONDS 60
+
+void *__libc_malloc(size_t size);
+void *__libc_calloc(size_t count, size_t size);
+void *__libc_realloc(void *block, size_t size);
+void *__libc_memalign(size_t align, size_t size);
+
+static int records = -1;
+static unsigned long number;
+static enum { COPIES, REFUSES_ALL, REFUSES_NONE } state = REFUSES_NONE;
+static char printed[1 << 16];
+
+/* Ends the process by a status that the program has not. */
+static void fail(void) {
+    _exit(99);
+}
+
+/* Reads what a copy prints. */
+static size_t read_all(int from) {
+    size_t size = 0;
+    ssize_t count;
+    while ((count = read(from, printed + size, sizeof printed - size)) > 0)
+        size += count;
+    if (count < 0 || size == sizeof printed)
+        fail();
+    return size;
+}
+
+/* Copies the process. Whether this is the copy; else it has ended. */
+static int is_copy(const char *how) {
+    int pipes[2], status;
+    char head[64];
+    if (pipe(pipes) != 0)
+        fail();
+    pid_t copy = fork();
+    if (copy < 0)
+        fail();
+    if (copy == 0) {
+        alarm(SECONDS);
+        if (dup2(pipes[1], 1) < 0 || dup2(pipes[1], 2) < 0)
+            fail();
+        close(pipes[0]);
+        close(pipes[1]);
+        return 1;
+    }
+    close(pipes[1]);
+    size_t size = read_all(pipes[0]);
+    close(pipes[0]);
+    if (waitpid(copy, &status, 0) != copy)
+        fail();
+    status = WIFEXITED(status) ? WEXITSTATUS(status) : 128 + WTERMSIG(status);
+    int length = snprintf(head, sizeof head, "%s %lu %d %zu\n", how, number, status, size);
+    printed[size] = '\n';
+    if (write(records, head, length) != length || write(records, printed, size + 1) < 0)
+        fail();
+    return 0;
+}
+
+/* Whether the allocation that is asked for is refused. */
+static int is_refused(void) {
+    if (state == REFUSES_NONE)
+        return 0;
+    if (state == COPIES) {
+        number++;
+        if (is_copy("one")) {
+            state = REFUSES_NONE;
+        } else if (is_copy("all")) {
+            state = REFUSES_ALL;
+        } else {
+            return 0;
+        }
+    }
+    errno = ENOMEM;
+    return 1;
+}
+
+void *malloc(size_t size) {
+    return is_refused() ? NULL : __libc_malloc(size);
+}
+
+void *calloc(size_t count, size_t size) {
+    return is_refused() ? NULL : __libc_calloc(count, size);
+}
+
+void *realloc(void *block, size_t size) {
+    return is_refused() ? NULL : __libc_realloc(block, size);
+}
+
+void *aligned_alloc(size_t align, size_t size) {
+    return is_refused() ? NULL : __libc_memalign(align, size);
+}
+
+int posix_memalign(void **block, size_t align, size_t size) {
+    if (is_refused())
+        return ENOMEM;
+    *block = __libc_memalign(align, size);
+    return *block == NULL ? ENOMEM : 0;
+}
+
+__attribute__((constructor)) static void begin(void) {
+    const char *file = getenv("REFUSED");
+    if (file == NULL)
+        return;
+    records = open(file, O_WRONLY | O_CREAT | O_TRUNC | O_CLOEXEC, 0600);
+    if (records < 0)
+        fail();
+    state = COPIES;
+}
+
+/* The program has ended: what the C library does then is not tried. */
+__attribute__((destructor)) static void end(void) {
+    state = REFUSES_NONE;
+}

@@ -1,0 +1,211 @@
+#!/usr/bin/env python3
+"""Refuses each allocation of the program of rows in turn.
+
+.ci/refused.py [ROWS]
+
+Runs both builds of crates/litrs_vectors, which `rt ci` leaves in its out/, on each row of its table
+and of texts that are generated here, or on the rows of the file ROWS alone, a row a process. By
+.ci/refuse.c a process goes on from each of its allocations also as a copy in which that one is
+refused, and as one in which all from there on are.
+
+Where one is refused, either a call of the library answered it, and the program prints which one,
+makes the call again and has all else to say as before; or it was one of the program's own, and it
+ends with `out of memory` and the status 1. Where all from there on are refused, it ends so.
+
+Fails where a copy does anything else, where a call that is not listed below was refused, and where
+one that is listed never was.
+"""
+import collections
+import concurrent.futures
+import os
+import pathlib
+import random
+import re
+import subprocess
+import sys
+import tempfile
+
+TOP = pathlib.Path(__file__).resolve().parent.parent
+CRATE = TOP / "crates" / "litrs_vectors"
+STRINGS = ["StringLit", "ByteStringLit", "CStringLit"]
+OTHERS = ["IntegerLit", "FloatLit", "CharLit", "ByteLit"]
+HOLDS = b"1 rows hold\n"
+ENDED = b"litrs_vectors: out of memory\n"
+REFUSED = re.compile("refused (.*) at line 1")
+# The most copies of a part in a text.
+LONGEST = 10_000
+SECONDS = 600
+
+
+def calls():
+    """The calls that may be refused, as the program names them."""
+    kinds = ["Literal", *STRINGS]
+    for kind in kinds:
+        for buffer in ["&str", "String"]:
+            yield f"{kind}::parse over {buffer}"
+        yield f"{kind}::clone over &str"
+        yield f"{kind}::into_owned over &str"
+        yield f"{kind}::from_literal over String"
+        yield f"{kind}::from_tree over String"
+    for kind in OTHERS:
+        yield f"{kind}::to_owned over &str"
+    for kind in kinds + OTHERS:
+        yield f"{kind}::clone over String"
+        yield f"{kind}::from_literal_ref over String"
+        yield f"{kind}::from_tree_ref over String"
+    for kind in STRINGS + OTHERS:
+        for buffer in ["&str", "String"]:
+            yield f"{kind}::into_token over {buffer}"
+    for container in ["String", "Vec<u8>"]:
+        for call in ["push", "push_str", "push_bytes", "reserve"]:
+            yield f"EscapeContainer::{call} over {container}"
+    yield "String::copy over String"
+    yield "CString::clone over CString"
+    yield "BoolLit::into_ident over &str"
+    yield "Ident::new over &str"
+    yield "InvalidToken::to_compile_error over &str"
+    yield "litrs_token::Literal::from_text over &str"
+    yield "litrs_token::Literal::string over &str"
+    yield "litrs_bodies::unescape_string over &str"
+    yield "MemOutput::new over &str"
+    yield "litrs_lines::run over &str"
+    yield "Collector::feed over &str"
+
+
+def escaped(data):
+    """Bytes as a field of the table."""
+    plain = set(range(32, 127)) - {ord("%")}
+    return "".join(chr(byte) if byte in plain else f"%{byte:02X}" for byte in data)
+
+
+def generated():
+    """Rows of each kind, whose parts have lengths around each constant of the code, and others."""
+    draw = random.Random(1)
+    lengths = {0, 1, 5, 333, 1000, 5000}
+    for constant in [8, 16, 32, 64, 80, 128]:
+        lengths |= {constant - 1, constant, constant + 1}
+    lengths |= {draw.randrange(1000, 5000) for _ in range(4)}
+    for length in sorted(lengths):
+        plain = bytes(draw.choice(b"abcxyz019 _#'") for _ in range(length))
+        digits = "".join(draw.choice("0123456789") for _ in range(length)) or "0"
+        value = digits.lstrip("0") or "0"
+        if len(value) > 39 or int(value) >= 1 << 128:
+            value = "none"
+        yield f"Literal,IntegerLit\t{digits}\tinteger\t\t10\t{digits}\t{value}"
+        yield f"Literal,FloatLit\t{digits}.5\tfloat\t\t{digits}.5\t{digits}\t5\t"
+        yield f"Literal,CharLit\t'a'a{digits}\tchar\ta{digits}\t61"
+        yield f"Literal,ByteLit\tb'a'a{digits}\tbyte\ta{digits}\t61"
+        for front, parse, kind in [
+            ("", "StringLit", "string"),
+            ("b", "ByteStringLit", "bytestring"),
+            ("c", "CStringLit", "cstring"),
+        ]:
+            text = escaped(plain)
+            raw = f'{front}r##"{text}"##'
+            yield f"Literal,{parse}\t{raw}\t{kind}\t\traw\t{text}"
+            yield f'Literal,{parse}\t{front}"{text}"\t{kind}\t\tplain\t{text}'
+            at = draw.randrange(length + 1)
+            begin, end = escaped(plain[:at]), escaped(plain[at:])
+            quoted = f'{front}"{begin}\\n{end}"u8'
+            yield f"Literal,{parse}\t{quoted}\t{kind}\tu8\tescaped\t{begin}%0A{end}"
+
+
+class Build:
+    """What was seen of one build."""
+
+    def __init__(self, name, library, folder):
+        self.program = CRATE / "out" / name
+        self.library = library
+        self.folder = folder
+        self.refused = collections.Counter()
+        self.copies = 0
+        self.faults = []
+
+    def try_row(self, task):
+        """Refuses each allocation of a row in turn."""
+        number, row = task
+        records = self.folder / f"{self.program.name}.{number}"
+        done = subprocess.run(
+            [self.program],
+            input=f"{row}\n".encode(),
+            capture_output=True,
+            env={"LD_PRELOAD": self.library, "REFUSED": records},
+            timeout=SECONDS,
+        )
+        if (done.stdout, done.stderr, done.returncode) != (HOLDS, b"", 0):
+            self.fault(row, f"{done.stdout + done.stderr}, status {done.returncode}")
+        with open(records, "rb") as file:
+            for head in file:
+                how, allocation, status, size = head.split()
+                printed = file.read(int(size) + 1)[:-1]
+                self.copies += 1
+                if not self.is_right(how, printed, int(status)):
+                    what = f"allocation {int(allocation)}, {how.decode()} refused"
+                    self.fault(row, f"{what}: {printed}, status {int(status)}")
+        records.unlink()
+
+    def is_right(self, how, printed, status):
+        """Whether a copy did what it should, in which one allocation was refused, or all were."""
+        if status == 1 and printed.endswith(ENDED):
+            return True
+        line, _, rest = printed.partition(b"\n")
+        match = REFUSED.fullmatch(line.decode())
+        if match:
+            self.refused[match[1]] += 1
+        return how == b"one" and status == 0 and match is not None and rest == HOLDS
+
+    def fault(self, row, what):
+        self.faults.append(f"{row[:200]}: {what}")
+
+
+def is_short(row):
+    """Whether no part of a row is repeated so often that a copy of the process takes long."""
+    return all(int(count) <= LONGEST for count in re.findall(r"%\((\d+)\*", row))
+
+
+def table_rows(path):
+    for line in path.read_text().split("\n"):
+        if line and not line.startswith("#") and is_short(line):
+            yield line
+
+
+def try_rows(name, rows, folder):
+    """Runs a build on all rows."""
+    build = Build(name, folder / "refuse.so", folder)
+    with concurrent.futures.ThreadPoolExecutor(os.cpu_count()) as pool:
+        for _ in pool.map(build.try_row, enumerate(rows)):
+            pass
+    return build
+
+
+def report(build, wanted):
+    """Prints what was refused in a build. Whether it failed."""
+    print(f"{build.program.name}: {build.copies} copies")
+    for call in sorted(build.refused):
+        print(f"  {build.refused[call]:7} {call}")
+    for call in sorted(set(build.refused) - set(calls())):
+        build.faults.append(f"{call} allocates")
+    for call in sorted(wanted - set(build.refused)):
+        build.faults.append(f"{call} was never refused")
+    for fault in build.faults[:20]:
+        print(f"{build.program.name}: {fault}")
+    return bool(build.faults)
+
+
+def main():
+    if len(sys.argv) > 1:
+        rows, wanted = list(table_rows(pathlib.Path(sys.argv[1]))), set()
+    else:
+        rows, wanted = [*table_rows(CRATE / "stdin"), *generated()], set(calls())
+    with tempfile.TemporaryDirectory() as name:
+        folder = pathlib.Path(name)
+        words = ["cc", "-O1", "-shared", "-fPIC", "-o", folder / "refuse.so"]
+        subprocess.run([*words, TOP / ".ci" / "refuse.c"], check=True)
+        failed = [
+            report(try_rows(build, rows, folder), wanted)
+            for build in ["litrs_vectors", "litrs_vectors.by-rattle"]
+        ]
+    sys.exit(1 if any(failed) else 0)
+
+
+main()
