@@ -21,7 +21,7 @@ TEST_CRATES = {"litrs_vectors"}
 # The lines that map one of these to another, each of which stands once in its file.
 OUT_OF_MEMORY = "Err(_) => Err(ParseError::new(None, ParseErrorKind::OutOfMemory)),"
 MAPPED = {
-    ("crates/litrs_bodies/src/string.rt", OUT_OF_MEMORY),
+    ("crates/litrs_lex/src/string.rt", OUT_OF_MEMORY),
     ("crates/litrs_strings/src/c_string.rt", OUT_OF_MEMORY),
     ("crates/litrs_collector/src/lib.rt", "ParseErrorKind::OutOfMemory => Err(AllocError),"),
     ("crates/litrs_token/src/from_token.rt", "ParseErrorKind::OutOfMemory => Err(AllocError),"),
@@ -31,10 +31,10 @@ MAPPED = {
 # The lines that ask for memory by a number of bytes, and how often each stands in its file. The
 # number is the length of a text or a value that was measured, or given by the caller.
 RESERVED = {
-    ("crates/litrs_bodies/src/container.rt", "String::reserve(self, additional)"): 1,
-    ("crates/litrs_bodies/src/container.rt", "Vec::reserve(self, additional)"): 1,
+    ("crates/litrs_lex/src/container.rt", "String::reserve(self, additional)"): 1,
+    ("crates/litrs_lex/src/container.rt", "Vec::reserve(self, additional)"): 1,
     # `room` is the length of the value, or one more.
-    ("crates/litrs_bodies/src/string.rt", "value.reserve(room)?;"): 2,
+    ("crates/litrs_lex/src/string.rt", "value.reserve(room)?;"): 2,
     (
         "crates/litrs_strings/src/byte_string.rt",
         "let mut copy = Vec::with_capacity(alloc, value.len())?;",
@@ -49,7 +49,7 @@ RESERVED = {
     ): 1,
     ("crates/litrs_collector/src/lib.rt", "held.reserve(line.len() + 1)?;"): 1,
     # The caller gives the room.
-    ("crates/litrs_devices/src/mem_output.rt", "bytes: Vec::with_capacity(alloc, room)?,"): 1,
+    ("crates/litrs_lines/src/mem_output.rt", "bytes: Vec::with_capacity(alloc, room)?,"): 1,
 }
 RESERVES = (
     r"(?<!fn )\b(try_)?(reserve(_exact)?|(with_capacity|resize|repeat|from_elem|new_zeroed)\w*)\("

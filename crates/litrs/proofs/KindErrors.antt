@@ -12,9 +12,9 @@ use Rattle.litrs_grammar.specs.LiteralRefusals.{Dispatch, refused_as, parsed_as,
 use Rattle.litrs_grammar.specs.Refused.{IsRefused, IsRefusedOrOutOfMemory}
 use Rattle.litrs_grammar.proofs.LiteralLaws.{literals_are_unique}
 use Rattle.litrs_grammar.proofs.Refused.{is_refused}
-use Rattle.litrs_lex.specs.NumberCut.{number_kind}
-use Rattle.litrs_lex.proofs.NumberBytes.{kind_by_bytes}
-use Rattle.litrs_lex.proofs.Dispatch.{dispatch-chars}
+use Rattle.litrs_parts.specs.NumberCut.{number_kind}
+use Rattle.litrs_parts.proofs.NumberBytes.{kind_by_bytes}
+use Rattle.litrs_parts.proofs.Dispatch.{dispatch-chars}
 
 -- a literal is the only derivation of its text
 pub only_literal : (t : List ℕ) (d : Derivation) → IsLiteral t d → IsOnlyDerivation (IsLiteral t) d

@@ -1,7 +1,7 @@
 //! Parsing and inspecting Rust literals.
 //!
 //! Each kind of literal has a type, and [`Literal`] stands for them all. Each type has a `parse`,
-//! which takes a text that is one literal and nothing else: no blank before or behind it, no sign.
+//! which takes a text that is one literal and nothing else: no blank before or after it, no sign.
 //!
 //! | Type | Literals | What its methods answer, beside the text and the suffix |
 //! |---|---|---|
@@ -41,9 +41,9 @@
 //! # Refusals
 //!
 //! A [`ParseError`] has a kind and mostly a span: of `0b12` by [`IntegerLit::parse`] `InvalidDigit`
-//! at 3..4. Spans count bytes; `char_span` ends behind a whole character, so that the text can be
+//! at 3..4. Spans count bytes; `char_span` ends after a whole character, so that the text can be
 //! cut there. After a kind that `is_final` no longer text is accepted, and after one that `is_open`
-//! the text is accepted with its closing quote, and the hashes of a raw string, behind it.
+//! the text is accepted with its closing quote, and the hashes of a raw string, after it.
 //!
 //! # Prompts
 //!
@@ -77,21 +77,22 @@ ghost use Rattle.litrs_base.specs.Text.{first_passes};
 ghost use Rattle.litrs_grammar.specs.Literal.{IsLiteral, suffix_of, literal_parse, kind_parse};
 ghost use Rattle.litrs_grammar.specs.Allocation.{allocates};
 ghost use Rattle.litrs_grammar.specs.Refused.{IsRefused, IsRefusedOrOutOfMemory};
-ghost use Rattle.litrs_lex.specs.NumberCut.{number_kind};
+ghost use Rattle.litrs_parts.specs.NumberCut.{number_kind};
 ghost use Rattle.litrs.specs.LiteralDerivation.{literal_raw, derivation};
 
-pub use litrs_goes_on::goes_on;
-pub use litrs_lex::{
+pub use goes_on::goes_on;
+pub use litrs_numbers::{FloatLit, FromIntegerLiteral, IntegerLit};
+pub use litrs_parts::{
     Buffer, FloatType, IntegerBase, IntegerType, ParseError, ParseErrorKind, Text,
 };
-use litrs_lex::{NumberCut, cut_number};
-pub use litrs_numbers::{FloatLit, FromIntegerLiteral, IntegerLit};
+use litrs_parts::{NumberCut, cut_number};
 pub use litrs_scalars::{BoolLit, ByteLit, CharLit};
 pub use litrs_strings::{ByteStringLit, CString, CStringLit, StringLit};
 use parse::Dispatched;
 use std::alloc::{AllocError, Global};
 use std::fmt;
 
+mod goes_on;
 mod parse;
 
 /// A literal of any kind. See [the reference][ref].

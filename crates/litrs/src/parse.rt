@@ -3,7 +3,7 @@ ghost use Rattle.std.specs.Prelude.{◌≡◌};
 ghost use Rattle.litrs_grammar.specs.LiteralRefusals.{dispatch};
 ghost use Rattle.litrs.specs.Dispatched.{row_of, HoldsOf};
 
-use litrs_lex::{ParseError, ParseErrorKind};
+use litrs_parts::{ParseError, ParseErrorKind};
 use litrs_scalars::BoolLit;
 
 /// What a text is parsed as, by how it begins.

@@ -1,4 +1,4 @@
--- Where spans end in whole characters: in the bytes of a text, and in a text behind a front.
+-- Where spans end in whole characters: in the bytes of a text, and in a text after a front.
 use Rattle.std.proofs.Common.{◌≡◌, ◌≤◌, ◌<◌, ◌+◌, ◌-◌, ◌/◌, ◌^◌, ℕ, Bool, true, false, cond, ltb, get_or, zero, suc, List, [], ◌∷◌, ◌++◌, length, Option, Some, None, refl, sym, ap, subst, ◌∙◌, arith, inl, inr}
 use Rattle.std.specs.Option.{ForSome}
 use Rattle.std.specs.Prelude.{IfSome, IsUtf8, IsCharBoundary, chars, encode_utf8_all, option_map}

@@ -63,7 +63,7 @@ chars_wide b bs high u = let s = first_char b bs u in
 abbrev pub OnlyAscii : (ℕ → Bool) → Type 0
 OnlyAscii p = (c : ℕ) → 128 ≤ c → p c ≡ false
 
--- The first n bytes are characters, so that a text may be cut behind them.
+-- The first n bytes are characters, so that a text may be cut after them.
 pub record IsAsciiFront (bs : List ℕ) (n : ℕ) : Type 0 where
   pub taken : take n (chars bs) ≡ take n bs
   pub rest : drop n (chars bs) ≡ chars (drop n bs)
@@ -103,7 +103,7 @@ front_step p b bs true only passes u more =
     subst (λ (n : ℕ). IsAsciiFront (b ∷ bs) n) (omega arith) (front_suc b bs (prefix_len p bs) low (more (utf8_behind_ascii b bs low u)))
 front_step p b bs false only passes u more = front_zero (b ∷ bs) u
 
--- a text may be cut behind the first bytes that pass
+-- a text may be cut after the first bytes that pass
 pub passing_front : (p : ℕ → Bool) (bs : List ℕ) → OnlyAscii p → IsUtf8 bs → IsAsciiFront bs (prefix_len p bs)
 passing_front p [] only u = front_zero [] u
 passing_front p (b ∷ bs) only u = front_step p b bs (p b) only refl u (λ v. passing_front p bs only v)
@@ -116,7 +116,7 @@ first_passes-chars p (b ∷ bs) only u = elim (cases_lt b 128) [
   | inr high ↦ (let w = chars_wide b bs high u in ap (first_passes p) w.is ∙ (only w.first w.wide ∙ sym (only b high)))
 ]
 
--- one front behind another
+-- one front after another
 pub front_front : (bs : List ℕ) (n m : ℕ) → IsAsciiFront bs n → IsAsciiFront (drop n bs) m → IsAsciiFront bs (n + m)
 front_front bs n m f g = record {
   taken = take-add n m (chars bs) ∙ (ap (λ t. t ++ take m (drop n (chars bs))) f.taken
@@ -142,7 +142,7 @@ begins_with-chars (c ∷ front) (b ∷ bs) low u =
           ∙ (ap (λ v. v && begins_with front w.rest) (ne_eqb c w.first (λ e. omega arith)) ∙ sym (ap (λ v. v && begins_with front bs) (ne_eqb c b (λ e. omega arith)))))
     ]
 
--- a text may be cut behind the ASCII characters that it begins with
+-- a text may be cut after the ASCII characters that it begins with
 pub begins_front : (front bs : List ℕ) → list_all (λ c. ltb c 128) front ≡ true → begins_with front bs ≡ true → IsUtf8 bs → IsAsciiFront bs (length front)
 begins_front [] bs low e u = front_zero bs u
 begins_front (c ∷ front) [] low e u = absurd (false≢true e)

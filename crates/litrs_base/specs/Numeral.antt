@@ -6,7 +6,7 @@ use Rattle.litrs_base.specs.Characters.{underscore}
 use Rattle.litrs_base.specs.declared.integer.IntegerType.{IntegerType}
 use Rattle.litrs_base.specs.declared.integer.IntegerType.TheVariants.{U8, U16, U32, U64, U128, Usize, I8, I16, I32, I64, I128, Isize}
 
--- each digit times the base to the power of the number of digits behind it
+-- each digit times the base to the power of the number of digits after it
 unfoldable pub place_sum : ℕ → List ℕ → ℕ
 place_sum base [] = 0
 place_sum base (c ∷ cs) = digit_value c * base ^ length cs + place_sum base cs
@@ -16,7 +16,7 @@ abbrev pub is_no_underscore : ℕ → Bool
 is_no_underscore c = not (c == underscore)
 
 -- The value of digits of a base and underscores: underscores dropped, the sum of each digit times
--- the base to the power of the number of digits behind it. It has no bound.
+-- the base to the power of the number of digits after it. It has no bound.
 abbrev pub numeral : ℕ → List ℕ → ℕ
 numeral base t = place_sum base (filter is_no_underscore t)
 

@@ -37,7 +37,7 @@ is_text [] (d ∷ ds) = false
 is_text (c ∷ cs) [] = false
 is_text (c ∷ cs) (d ∷ ds) = (c == d) && is_text cs ds
 
--- The span begins on a character boundary of the text, behind some of its characters, and ends
+-- The span begins on a character boundary of the text, after some of its characters, and ends
 -- within the text.
 pub record PointsInto (t : List ℕ) (span : Range ℕ) : Type 0 where
   pub front : List ℕ

@@ -5,10 +5,12 @@ pub use buffer::{Buffer, Text};
 pub use err::{ParseError, ParseErrorKind};
 pub use escape::Unescape;
 pub use float::FloatType;
+pub use from_integer_literal::FromIntegerLiteral;
 pub use integer::{IntegerBase, IntegerType};
 
 pub mod buffer;
 pub mod err;
 pub mod escape;
 pub mod float;
+pub mod from_integer_literal;
 pub mod integer;

@@ -15,7 +15,7 @@ use Rattle.litrs_grammar.proofs.EscapeSpans.{Marks, AllFit, marks_byte, fit_if, 
 use Rattle.litrs_base.proofs.Begins.{begins_with-split}
 use Rattle.litrs_grammar.proofs.QuotedSpans.{first_byte, some_no_suffix}
 
--- behind the item of a char
+-- after the item of a char
 closing_fits : (kind : CharKind) (before behind : List ℕ) → AllFit (before ++ behind) (closing_refusal kind (byte_len before) behind)
 closing_fits kind before [] = tt
 closing_fits kind before (c ∷ t) =

@@ -102,7 +102,7 @@ inner_none w inner f a n v s =
     (none_unless _ _ _ v
     (none_unless _ _ _ s refl))))
 
--- the text behind the opening brace
+-- the text after the opening brace
 refusal_braced : (w : Switches) (inner x : List ℕ) → w.unicode ≡ true → list_all is_hex_or_underscore inner ≡ true → inner_refusal w inner ≡ None →
     unicode_refusal w (123 ∷ (inner ++ 125 ∷ x)) ≡ None
 refusal_braced w inner x u a none =
@@ -236,7 +236,7 @@ read_simple w c t h n =
         (λ _. or_right _ _ refl) (λ _. or_right _ _ refl) (λ _. or_right _ _ refl) (λ _. or_right _ _ refl) (λ _. or_right _ _ refl) (λ _. or_right _ _ refl)
         (λ e. keeps w.allow_nul e)
 
--- by the letter behind the backslash
+-- by the letter after the backslash
 read_letter : (w : Switches) (c : ℕ) (t : List ℕ) (x u : Bool) → (c == 120) ≡ x → (c == 117) ≡ u → ((c == 48) && not w.allow_nul) ≡ false → (e : Refusal) →
     (if x then hex_refusal w t else if u then unicode_refusal w t else if is_simple c then None else Some e) ≡ None → SomeEscape w (92 ∷ c ∷ t)
 read_letter w c t true u x_is u_is n e h = subst (λ d. SomeEscape w (92 ∷ d ∷ t)) (sym (eqb-true c 120 x_is)) (read_hex w t h)

@@ -27,7 +27,7 @@ Marks t start end = PointsInto t (record { start = start; end = end })
 pub marks_start : (t : List ℕ) (end : ℕ) → end ≤ byte_len t → Marks t 0 end
 marks_start t end h = record { front = []; rest = t; cut = refl; start = refl; in_order = omega arith; within = h }
 
--- the byte behind some front
+-- the byte after some front
 pub marks_byte : (before behind t : List ℕ) (place : ℕ) → before ++ behind ≡ t → byte_len before ≡ place → 0 < length behind → Marks t place (place + 1)
 marks_byte before behind t place spells starts some =
     let size : byte_len (before ++ behind) ≡ byte_len t = ap byte_len spells in
@@ -110,7 +110,7 @@ fit_later front t e h = go e.span h
     go None h = h
     go (Some span) h = marks_later front t span.start span.end h
 
--- behind `\x`
+-- after `\x`
 two_bytes_there : (t : List ℕ) → has_two_bytes t ≡ true → 2 ≤ byte_len t
 two_bytes_there [] h = cc
 two_bytes_there (c ∷ []) h = let two = eqb-true (byte_len (c ∷ [])) 2 h in omega arith
@@ -135,7 +135,7 @@ hex_fits w t =
     (λ _. fit_unless _ (allows_byte w (pair_value (slice_index t 0) (slice_index t 1))) _ _ (λ _. four)
     (λ _. fit_unless _ (allows_value w (pair_value (slice_index t 0) (slice_index t 1))) _ None (λ _. four) (λ _. tt))))
 
--- behind `\u{`, up to the first `}`
+-- after `\u{`, up to the first `}`
 take_while_passes : (p : ℕ → Bool) (xs : List ℕ) → list_all p (take_while p xs) ≡ true
 take_while_passes p [] = refl
 take_while_passes p (x ∷ xs) = rw (take_while-cons p x xs) (go (p x) refl (take_while_passes p xs))
@@ -144,7 +144,7 @@ take_while_passes p (x ∷ xs) = rw (take_while-cons p x xs) (go (p x) refl (tak
     go true e rec = and_from _ _ e rec
     go false e rec = refl
 
--- the place behind n digits, where the front of the text has more
+-- the place after n digits, where the front of the text has more
 abbrev PlaceIn : ℕ → List ℕ → List ℕ → Type 0
 PlaceIn n front more = (a : List ℕ) × (c : ℕ) × (b : List ℕ) × (a ++ c ∷ b ≡ front) × (length a ≡ place_behind n is_ascii_hexdigit (front ++ more))
 
@@ -197,7 +197,7 @@ opening t =
     let b = byte_len_one_ascii 123 t (lit< tt) in
     omega arith
 
--- a byte behind hex digits and underscores
+-- a byte after hex digits and underscores
 marks_inner : (inner : List ℕ) (c : ℕ) (ys r a b : List ℕ) → inner ++ c ∷ ys ≡ r → a ++ b ≡ inner → list_all is_hex_or_underscore a ≡ true →
     Marks (92 ∷ 117 ∷ 123 ∷ r) (3 + length a) (3 + length a + 1)
 marks_inner inner c ys r a b spells cut passes =

@@ -43,7 +43,7 @@ pub record IsCut (d : FloatParts) : Type 0 where
   pub no_sign : (c : ℕ) → d.exponent ≡ c ∷ [] → first_passes is_sign d.suffix ≡ false
   pub no_period : d.fraction ≡ None → d.exponent ≡ [] → first_passes is_period d.suffix ≡ false
 
--- behind the fraction
+-- after the fraction
 
 pub exponent_stops : (p x : List ℕ) → is_exponent_front p ≡ true → first_passes is_decimal_char x ≡ false → first_passes is_decimal_char (p ++ x) ≡ false
 exponent_stops [] x front stop = stop
@@ -154,7 +154,7 @@ pub record CutOf (t : List ℕ) : Type 0 where
   pub spells : float_text parts ≡ t
   pub cut : IsCut parts
 
--- behind the integer part and the fraction
+-- after the integer part and the fraction
 record ExponentCut (r : List ℕ) : Type 0 where
   exponent : List ℕ
   suffix : List ℕ

@@ -19,8 +19,8 @@ use Rattle.litrs_base.proofs.Spans.{none_from}
 use Rattle.litrs_grammar.proofs.SuffixStart.{suffix_begins_otherwise}
 use Rattle.litrs_grammar.proofs.FloatCuts.{cut_of_text, letter_period, letter_decimal, IsCut, is_exponent_front, fraction_passes, same_cut, cut_of, fraction_stops, exponent_stops}
 
--- the rows by what is known of the parts: something else than a digit behind a period; a period; an exponent; a digit in it;
--- a suffix behind the number
+-- the rows by what is known of the parts: something else than a digit after a period; a period; an exponent; a digit in it;
+-- a suffix after the number
 abbrev pub float_rows : (fraction exponent suffix len : ℕ) (kind : ParseErrorKind) (wrong_fraction has_fraction has_exponent exponent_digit suffix_behind : Bool) → Option Refusal
 float_rows fraction exponent suffix len kind wrong_fraction has_fraction has_exponent exponent_digit suffix_behind =
     if wrong_fraction then Some (at (fraction + 1) UnexpectedChar)

@@ -115,7 +115,7 @@ quote_no_item w s (plain_item c) behind h k same = let at : c ≡ 34 = cc in not
 quote_no_item w s (escape_item e) behind h k same = let head = escape_head e behind in heads_differ 92 34 _ _ (sym head.2 ∙ same) refl
 quote_no_item w s (continuation b) behind h k same = heads_differ 92 34 _ _ same refl
 
--- the last character of a text that goes on behind a part
+-- the last character of a text that goes on after a part
 pub without_last-append : (t : List ℕ) (c : ℕ) (x : List ℕ) → without_last (t ++ c ∷ x) ≡ t ++ without_last (c ∷ x)
 without_last-append [] c x = refl
 without_last-append (d ∷ []) c x = refl
@@ -125,7 +125,7 @@ pub last_of : (c : ℕ) (t : List ℕ) → (d : ℕ) × (without_last (c ∷ t) 
 last_of c [] = (c, refl)
 last_of c (d ∷ t) = let rec = last_of d t in (rec.0, ap (λ l. c ∷ l) rec.1)
 
--- the rest may begin with an item that the text goes on behind
+-- the rest may begin with an item that the text goes on after
 plain_no_refusal : (w : Switches) (c : ℕ) (t : List ℕ) → is_plain w c ≡ true → rest_refusal w (c ∷ t) ≡ None
 unfolding rest_refusal
 plain_no_refusal w c t h =
@@ -208,7 +208,7 @@ continuation_here w t h =
       },
     )
 
--- an escape that the text goes on behind
+-- an escape that the text goes on after
 escape_here : (w : Switches) (t : List ℕ) → escape_refusal w (without_last (92 ∷ t)) ≡ None → SomeItem w (92 ∷ t)
 unfolding escape_refusal
 escape_here w [] h = cc
@@ -284,7 +284,7 @@ front w t = go t (rest_refusal w t) refl
     go t (Some e) told = inr (inl (e, told))
     go t None told = none t told
 
--- the items of a text, and the refused rest or the closing quote with a suffix behind them
+-- the items of a text, and the refused rest or the closing quote with a suffix after them
 pub record Derives (w : Switches) (t : List ℕ) (items : List Item) (rest : List ℕ) : Type 0 where
   pub spells : body_text items ++ rest ≡ t
   pub taken : stand_before w rest items ≡ true

@@ -23,7 +23,7 @@ use Rattle.litrs_base.proofs.ListTests.{none_unless}
 use Rattle.litrs_grammar.proofs.EscapeLaws.{inner_of}
 use Rattle.litrs_grammar.proofs.QuotedItems.{closed_before_line_feed, heads_differ, same_items, quote_no_item, refused_no_item, read_items, Derives, SomeReading, Closes, body_stands, stands_body}
 
--- two quoted texts behind one front
+-- two quoted texts after one front
 same_parts : (w : Switches) (items others : List Item) (s r : List ℕ) → is_body w items ≡ true → is_body w others ≡ true →
     body_text items ++ 34 ∷ s ≡ body_text others ++ 34 ∷ r → (items ≡ others) × (34 ∷ s ≡ 34 ∷ r)
 same_parts w items others s r h g same =
@@ -109,7 +109,7 @@ join_item (escape_item e) t b h n = refl
 join_item (continuation blanks) [] b h n = not_from_false _ n
 join_item (continuation blanks) (c ∷ t) b h n = h
 
--- bodies one behind the other
+-- bodies one after the other
 join_body : (w : Switches) (items others : List Item) → is_body w items ≡ true → is_body w others ≡ true → first_passes is_blank (body_text others) ≡ false →
     is_body w (items ++ others) ≡ true
 join_body w [] others h g n = g

@@ -15,7 +15,7 @@ use Rattle.litrs_base.proofs.Runs.{prefix_len_all, all_from_prefix_len}
 use Rattle.litrs_base.proofs.Spans.{none_from}
 use Rattle.litrs_grammar.proofs.RawCuts.{length-hashes, hash_len-append, behind_hashes, hash_cut, length_before-body, occurs-body, ClosingCut, closing_cut}
 
--- The rows behind the opening quote, by what is known of the text: a character that may not stand in the body stands before
+-- The rows after the opening quote, by what is known of the text: a character that may not stand in the body stands before
 -- the first closing; there is a closing; a suffix follows it.
 abbrev pub raw_body_rows : (place suffix_place : ℕ) (kind suffix_kind : ParseErrorKind) (refused closed suffix : Bool) → Option Refusal
 raw_body_rows place suffix_place kind suffix_kind refused closed suffix =
@@ -24,7 +24,7 @@ raw_body_rows place suffix_place kind suffix_kind refused closed suffix =
     else if not suffix then Some (at suffix_place suffix_kind)
     else None
 
--- The rows before it: nothing is behind the hashes; there are too many; `"` is behind them.
+-- The rows before it: nothing is after the hashes; there are too many; `"` is after them.
 abbrev pub raw_rows : (start n : ℕ) (body_refusal : Option Refusal) (nothing too_many quote : Bool) → Option Refusal
 raw_rows start n body_refusal nothing too_many quote =
     if nothing then Some (plain InvalidLiteral)
@@ -43,7 +43,7 @@ refusal_of_hashes unicode allow_nul start n rest stop =
     let behind : drop (hash_len (hashes n ++ rest)) (hashes n ++ rest) ≡ rest = ap (λ k. drop k (hashes n ++ rest)) count ∙ behind_hashes n rest in
     λ j. raw_rows start (count j) (raw_body_refusal unicode allow_nul (count j) (start + (count j + 1)) (drop 1 (behind j))) (is_empty (behind j)) (ltb 255 (count j)) (first_passes is_quote (behind j))
 
--- what stands before the first closing, and behind it
+-- what stands before the first closing, and after it
 pub before_closing : (n : ℕ) (body x : List ℕ) → occurs (raw_closing n) body ≡ false →
     take (length_before (raw_closing n) (body ++ (raw_closing n ++ x))) (body ++ (raw_closing n ++ x)) ≡ body
 before_closing n body x none = take_at body (raw_closing n ++ x) (length_before (raw_closing n) (body ++ (raw_closing n ++ x))) (sym (length_before-body n body x none))

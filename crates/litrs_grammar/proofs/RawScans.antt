@@ -25,7 +25,7 @@ raw_scans_go_on n (c ∷ front) t none =
       ap (λ v. v || occurs p (front ++ t)) here ∙ more.1,
     )
 
--- as many characters pass as pass at the front, which all do, and behind it
+-- as many characters pass as pass at the front, which all do, and after it
 prefix_len_behind : (p : ℕ → Bool) (front t : List ℕ) → list_all p front ≡ true → prefix_len p (front ++ t) ≡ length front + prefix_len p t
 prefix_len_behind p [] t all = omega arith
 prefix_len_behind p (c ∷ front) t all =

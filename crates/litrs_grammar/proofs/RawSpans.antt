@@ -38,7 +38,7 @@ rows_hold P start n body_refusal false true quote a b c = of_some P _ b
 rows_hold P start n body_refusal false false false a b c = of_some P _ a
 rows_hold P start n body_refusal false false true a b c = c refl
 
--- behind the opening quote
+-- after the opening quote
 
 hash_ascii : (c : ℕ) → is_hash c ≡ true → is_ascii_char c ≡ true
 hash_ascii c h = rw (eqb-true c 35 h) refl

@@ -6,7 +6,7 @@ use Rattle.litrs_base.specs.Text.{begins_with}
 use Rattle.litrs_grammar.specs.CharByte.{CharKind, char_front, char_switches_of, CharItem, plain_char, char_item_text, is_char_item}
 use Rattle.litrs_grammar.specs.EscapeGoesOn.{BeginsEscape}
 
--- behind the front: a text that begins an escape, or one character that stands for itself, or an
+-- after the front: a text that begins an escape, or one character that stands for itself, or an
 -- item, the closing quote and a lone underscore, which is no suffix yet
 abbrev pub CharRestGoesOn : CharKind → List ℕ → Type 0
 CharRestGoesOn kind rest =
@@ -16,7 +16,7 @@ CharRestGoesOn kind rest =
     × (rest ≡ char_item_text item ++ (single_quote ∷ underscore ∷ []))))
 
 -- The text is the front, a part of the front from its start, or nothing, or it is the front and
--- behind it a text that goes on.
+-- after it a text that goes on.
 abbrev pub CharGoesOn : CharKind → List ℕ → Type 0
 CharGoesOn kind t =
     IsTrue (begins_with t (char_front kind))

@@ -43,7 +43,7 @@ a_string_of byte_string_kind d = a_byte_string d
 a_string_of c_string_kind d = a_c_string d
 
 -- The closing text makes the text a string literal without suffix, whose body is all that stands in
--- the text behind the opening.
+-- the text after the opening.
 pub record IsClosedBy (Derives : List ℕ → Derivation → Type 0) (t closing : List ℕ) : Type 0 where
   pub kind : StringKind
   pub parts : StringParts

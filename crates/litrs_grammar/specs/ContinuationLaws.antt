@@ -1,4 +1,4 @@
--- What holds of refused texts with more behind them, and of the texts of literals.
+-- What holds of refused texts with more after them, and of the texts of literals.
 use Rattle.std.specs.Prelude.{◌≡◌, ◌≢◌, ◌↔◌, ℕ, List, [], ◌∷◌, ◌++◌, Some, IsTrue, IsFalse}
 use Rattle.litrs_base.specs.Characters.{line_feed, backslash, double_quote, is_blank}
 use Rattle.litrs_base.specs.Finality.{is_final, is_open}
@@ -20,14 +20,14 @@ use Rattle.litrs_grammar.specs.GoesOn.{GoesOn}
 
 -- Of the nine parses.
 
--- After a final refusal the same parse refuses every longer text: no list behind the text, be it a
+-- After a final refusal the same parse refuses every longer text: no list after the text, be it a
 -- text or not, gives a literal.
 abbrev pub FinalRefusalsStay : Type 0
 FinalRefusalsStay = (parse : Parse) (t : List ℕ) (r : Refusal) →
     IsRefusal parse t r → IsTrue (is_final r.kind) → EndsBy (IsLiteralOf parse) t
 
 -- After an open refusal the closing text makes the text a string literal of the parse without
--- suffix, whose body is all of the text behind the opening.
+-- suffix, whose body is all of the text after the opening.
 abbrev pub OpenRefusalsClose : Type 0
 OpenRefusalsClose = (parse : Parse) (t : List ℕ) (r : Refusal) →
     IsRefusal parse t r → IsTrue (is_open r.kind) →

@@ -94,7 +94,7 @@ abbrev pub allows_byte : Switches → ℕ → Bool
 allows_byte w value = w.byte_escapes || is_ascii value
 
 -- An escape is a simple one; or `\x` and two hex digits; or, where Unicode escapes are on, `\u{..}`
--- with a hex digit first, one to six hex digits in all, underscores anywhere behind the first, and
+-- with a hex digit first, one to six hex digits in all, underscores anywhere after the first, and
 -- a Unicode scalar value.
 abbrev pub is_escape : Switches → Escape → Bool
 is_escape w (simple_escape c) = is_simple c && allows_value w (simple_value c)
@@ -114,8 +114,8 @@ IsEscape w e = IsTrue (is_escape w e)
 -- the spans count; of the rows of each function the first that fits decides, and where none fits an
 -- escape stands there.
 
--- a character ends behind the first two bytes, as it does where the first one has two, or the first
--- two have: otherwise the two bytes behind `\x` are not there, or they end inside a character
+-- a character ends after the first two bytes, as it does where the first one has two, or the first
+-- two have: otherwise the two bytes after `\x` are not there, or they end inside a character
 abbrev pub has_two_bytes : List ℕ → Bool
 has_two_bytes [] = false
 has_two_bytes (c ∷ []) = byte_len (c ∷ []) == 2

@@ -7,11 +7,11 @@ use Rattle.litrs_base.specs.Characters.{digit_zero, letter_u, letter_x, open_bra
 use Rattle.litrs_base.specs.Text.{is_empty, first_passes}
 use Rattle.litrs_grammar.specs.Escape.{Switches, Escape, unicode_escape, escape_text, is_escape, IsEscape, allows_byte, pair_value, is_hex_or_underscore}
 
--- the text begins an escape: with some text behind it, which may be empty, it is one
+-- the text begins an escape: with some text after it, which may be empty, it is one
 abbrev pub BeginsEscape : Switches → List ℕ → Type 0
 BeginsEscape w t = (e : Escape) × (more : List ℕ) × (t ++ more ≡ escape_text e) × IsEscape w e
 
--- Behind `\u{`, where no `}` follows: nothing, or hex digits and underscores, a digit first, and
+-- After `\u{`, where no `}` follows: nothing, or hex digits and underscores, a digit first, and
 -- either at most five digits, as then one more mends every value, or what a `}` makes an escape.
 abbrev pub inner_goes_on : Switches → List ℕ → Bool
 inner_goes_on w t =
@@ -21,7 +21,7 @@ inner_goes_on w t =
     && nat_le (count_by is_ascii_hexdigit t) 5)
     || is_escape w (unicode_escape t)))
 
--- Behind `\x`: nothing, or one hex digit behind which another gives an allowed byte. The digit 1 is
+-- After `\x`: nothing, or one hex digit after which another gives an allowed byte. The digit 1 is
 -- among the least ones, and never makes the value 0.
 abbrev pub hex_goes_on : Switches → List ℕ → Bool
 hex_goes_on w [] = true
@@ -29,13 +29,13 @@ hex_goes_on w (high ∷ []) =
     is_ascii_hexdigit high && allows_byte w (pair_value high (digit_zero + 1))
 hex_goes_on w (high ∷ low ∷ t) = false
 
--- behind `\u`: nothing, or an open brace and what may go on behind it
+-- after `\u`: nothing, or an open brace and what may go on after it
 abbrev pub braces_go_on : Switches → List ℕ → Bool
 braces_go_on w [] = true
 braces_go_on w (c ∷ t) = (c == open_brace) && inner_goes_on w t
 
--- Behind the backslash of a refused escape: nothing, or `x` or, where Unicode escapes are on, `u`,
--- and what may go on behind it.
+-- After the backslash of a refused escape: nothing, or `x` or, where Unicode escapes are on, `u`,
+-- and what may go on after it.
 abbrev pub escape_goes_on : Switches → List ℕ → Bool
 escape_goes_on w [] = true
 escape_goes_on w (c ∷ t) =

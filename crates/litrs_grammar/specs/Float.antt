@@ -14,7 +14,7 @@ use Rattle.litrs_grammar.specs.Integer.{is_e}
 
 -- The parts of a float: `147.3_33__E3f64` has the integer part `147`, the fraction `3_33__`, the
 -- exponent `E3` and the suffix `f64`. The fraction is None where there is no period, and empty
--- where nothing is behind it. The exponent begins with its letter, and is empty where there is
+-- where nothing is after it. The exponent begins with its letter, and is empty where there is
 -- none.
 pub record FloatParts : Type 0 where
   pub integer : List ℕ
@@ -66,7 +66,7 @@ unfoldable pub is_exponent : List ℕ → Bool
 is_exponent [] = false
 is_exponent (c ∷ cs) = is_e c && is_exponent_number (drop (sign_len cs) cs)
 
--- The three forms behind the integer part: a period that ends the text; a period, a fraction, an
+-- The three forms after the integer part: a period that ends the text; a period, a fraction, an
 -- optional exponent and a suffix; an exponent and a suffix.
 abbrev pub is_float_form : Option (List ℕ) → List ℕ → List ℕ → Bool
 is_float_form (Some []) exponent suffix = is_empty exponent && is_empty suffix
@@ -75,7 +75,7 @@ is_float_form (Some (c ∷ cs)) exponent suffix =
 is_float_form None exponent suffix = is_exponent exponent
 
 -- The parts are those of a float. The suffix does not begin with `_`, nor with `e` or `E` but
--- behind an exponent.
+-- after an exponent.
 pub record IsFloat (d : FloatParts) : Type 0 where
   pub integer : IsTrue (is_decimal_literal d.integer)
   pub form : IsTrue (is_float_form d.fraction d.exponent d.suffix)
@@ -91,13 +91,13 @@ pub record IsFloatOf (t : List ℕ) (d : FloatParts) : Type 0 where
 -- Refusals. A text that begins with a digit is cut into the parts that a float would have, whether
 -- it is one or not.
 
--- the fraction, by what follows the integer part: after a period, the digits and `_` behind it
+-- the fraction, by what follows the integer part: after a period, the digits and `_` after it
 abbrev pub fraction_of : List ℕ → Option (List ℕ)
 fraction_of [] = None
 fraction_of (c ∷ cs) = if is_period c then Some (take_while is_decimal_char cs) else None
 
 -- the exponent, by what follows the fraction: where that is `e` or `E`, the letter, a sign that
--- follows, and the digits and `_` behind them
+-- follows, and the digits and `_` after them
 abbrev pub exponent_of : List ℕ → List ℕ
 exponent_of [] = []
 exponent_of (c ∷ cs) =
@@ -123,7 +123,7 @@ float_cut t =
       suffix = behind (integer ++ (fraction_text fraction ++ exponent)) t;
     }
 
--- a period, and behind it something that is no decimal digit
+-- a period, and after it something that is no decimal digit
 abbrev pub has_wrong_fraction : List ℕ → Bool
 has_wrong_fraction [] = false
 has_wrong_fraction (c ∷ cs) =

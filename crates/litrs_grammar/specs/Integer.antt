@@ -77,7 +77,7 @@ main_of t = take_while (is_digit_or_underscore (base_of t)) (behind_prefix t)
 abbrev pub behind_main : List ℕ → List ℕ
 behind_main t = drop (length (main_of t)) (behind_prefix t)
 
--- a text cut behind the prefix and behind the main part
+-- a text cut after the prefix and after the main part
 unfoldable pub integer_cut : List ℕ → IntegerParts
 integer_cut t = record { base = base_of t; main = main_of t; suffix = behind_main t }
 

@@ -94,6 +94,6 @@ abbrev pub IsLiteralOf : Parse → List ℕ → Derivation → Type 0
 IsLiteralOf literal_parse t d = IsLiteral t d
 IsLiteralOf (kind_parse kind) t d = (literal_kind d ≡ kind) × IsLiteral t d
 
--- t begins a literal of the parse: with some text behind it, which may be empty, it is one
+-- t begins a literal of the parse: with some text after it, which may be empty, it is one
 abbrev pub Begins : Parse → List ℕ → Type 0
 Begins parse t = BeginsBy (IsLiteralOf parse) t

@@ -65,7 +65,7 @@ IsKindRefusal c_string_literal t e = IsStringRefusal c_string_kind t e
 
 -- Literals of any kind
 
--- what a float has behind its integer part: a period, `e` or `E`
+-- what a float has after its integer part: a period, `e` or `E`
 abbrev pub is_float_mark : ℕ → Bool
 is_float_mark c = (c == period) || is_e c
 

@@ -4,11 +4,11 @@ use Rattle.litrs_grammar.specs.Float.{FloatParts, IsFloatOf}
 use Rattle.litrs_grammar.specs.Integer.{IntegerParts, IsIntegerOf}
 use Rattle.litrs_grammar.specs.LiteralRefusals.{begins_float}
 
--- behind the leading run of decimal digits and underscores of a float stands a period, `e` or `E`
+-- after the leading run of decimal digits and underscores of a float stands a period, `e` or `E`
 abbrev pub FloatsBeginAsFloats : Type 0
 FloatsBeginAsFloats = (t : List ℕ) (d : FloatParts) → IsFloatOf t d → IsTrue (begins_float t)
 
--- behind that of an integer stands none of them
+-- after that of an integer stands none of them
 abbrev pub NoIntegerBeginsAsFloat : Type 0
 NoIntegerBeginsAsFloat = (t : List ℕ) (d : IntegerParts) →
     IsIntegerOf t d → IsFalse (begins_float t)

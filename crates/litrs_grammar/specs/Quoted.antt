@@ -18,7 +18,7 @@ quoted_front byte_string_kind = letter_b ∷ double_quote ∷ []
 quoted_front c_string_kind = letter_c ∷ double_quote ∷ []
 
 -- An item of a body: a character that stands for itself, an escape, or a continuation, which is a
--- backslash, LF and all spaces, tabs and LFs behind it.
+-- backslash, LF and all spaces, tabs and LFs after it.
 pub data Item : Type 0 where
   plain_item : ℕ → Item
   escape_item : Escape → Item
@@ -48,12 +48,12 @@ is_item w (plain_item c) = is_plain w c
 is_item w (escape_item e) = is_escape w e
 is_item w (continuation blanks) = list_all is_blank blanks
 
--- the texts of items, one behind the other
+-- the texts of items, one after the other
 abbrev pub body_text : List Item → List ℕ
 body_text [] = []
 body_text (item ∷ items) = item_text item ++ body_text items
 
--- the bytes that they stand for, one behind the other
+-- the bytes that they stand for, one after the other
 abbrev pub body_value : List Item → List ℕ
 body_value [] = []
 body_value (item ∷ items) = item_value item ++ body_value items
@@ -85,7 +85,7 @@ pub record QuotedParts : Type 0 where
 abbrev pub quoted_text : List ℕ → QuotedParts → List ℕ
 quoted_text front q = front ++ (body_text q.items ++ double_quote ∷ q.suffix)
 
--- the text is the literal of these parts behind this front
+-- the text is the literal of these parts after this front
 pub record IsQuoted (front : List ℕ) (w : Switches) (t : List ℕ) (q : QuotedParts) : Type 0 where
   pub spells : quoted_text front q ≡ t
   pub body : IsTrue (is_body w q.items)
@@ -139,7 +139,7 @@ rest_refusal w (c ∷ t) =
     else if (c == double_quote) && not (is_suffix t) then Some (at 1 (suffix_refusal t))
     else None
 
--- The text is refused as a quoted literal behind this front, as the rest decides. The span moves by
+-- The text is refused as a quoted literal after this front, as the rest decides. The span moves by
 -- the bytes before the rest.
 pub record IsQuotedRefusal (front : List ℕ) (w : Switches) (t : List ℕ) (e : Refusal) : Type 0 where
   pub items : List Item

@@ -59,7 +59,7 @@ pub record RawParts : Type 0 where
   pub body : List ℕ
   pub suffix : List ℕ
 
--- the text with these parts behind its front: hashes, `"`, body, `"`, as many hashes, suffix
+-- the text with these parts after its front: hashes, `"`, body, `"`, as many hashes, suffix
 abbrev pub raw_text : RawParts → List ℕ
 raw_text d =
     hashes d.hash_count ++ (double_quote ∷ (d.body ++ (raw_closing d.hash_count ++ d.suffix)))
@@ -93,7 +93,7 @@ pub record IsRawLiteral (kind : StringKind) (t : List ℕ) (d : RawParts) : Type
   pub spells : raw_front kind ++ raw_text d ≡ t
   pub grammar : IsRaw (has_unicode kind) (allows_nul kind) d
 
--- Refusals: decided by the hashes behind the front, and by what stands before the first closing.
+-- Refusals: decided by the hashes after the front, and by what stands before the first closing.
 
 -- how many hashes the text begins with
 abbrev pub hash_len : List ℕ → ℕ

@@ -18,8 +18,8 @@ abbrev pub FirstClosingsStay : Type 0
 FirstClosingsStay = (n : ℕ) (t more : List ℕ) → IsTrue (occurs (raw_closing n) t) →
     length_before (raw_closing n) (t ++ more) ≡ length_before (raw_closing n) t
 
--- What a scan finds in the text stays in every longer one: the number of hashes, where any character
--- follows them; and the first closing after the hashes and the quote.
+-- What a scan finds in the text stays in every longer one: the number of hashes, where any
+-- character follows them; and the first closing after the hashes and the quote.
 pub record ScanStays (t : List ℕ) : Type 0 where
   pub hashes : (more : List ℕ) → IsFalse (is_empty (drop (hash_len t) t)) →
       hash_len (t ++ more) ≡ hash_len t
@@ -31,7 +31,7 @@ pub record ScanStays (t : List ℕ) : Type 0 where
 abbrev pub RawScansStay : Type 0
 RawScansStay = (t : List ℕ) → ScanStays t
 
--- the first character that may not stand in a body, behind characters that are one, is refused,
+-- the first character that may not stand in a body, after characters that are one, is refused,
 -- whatever follows
 abbrev pub StoppedBodiesAreRefused : Type 0
 StoppedBodiesAreRefused =

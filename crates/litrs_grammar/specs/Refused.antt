@@ -18,9 +18,9 @@ use Rattle.litrs_grammar.specs.Allocation.{allocates}
 -- and no other pair; the span lies within the text and starts on a character boundary; and the
 -- character span has as its end the least character boundary at or after the end of the span, so
 -- that it begins and ends on character boundaries of the text. As to what may follow: where the
--- kind is final, no list behind the text gives one that has a derivation; where it is open, the
--- closing text gives a string literal without suffix, with all of the text behind the opening as
--- its body; and where the text ends with LF, some text behind it gives one that has a derivation
+-- kind is final, no list after the text gives one that has a derivation; where it is open, the
+-- closing text gives a string literal without suffix, with all of the text after the opening as
+-- its body; and where the text ends with LF, some text after it gives one that has a derivation
 -- exactly if the kind is open.
 pub record IsRefusedBy
     (Derives : List ℕ → Derivation → Type 0) (Table : List ℕ → Refusal → Type 0)

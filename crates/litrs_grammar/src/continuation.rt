@@ -1,4 +1,4 @@
-//! Laws of refused texts with more behind them, and of the texts of literals.
+//! Laws of refused texts with more after them, and of the texts of literals.
 ghost use Rattle.litrs_grammar.specs.ContinuationLaws.{FinalRefusalsStay, OpenRefusalsClose, LineEndsAreDecided, RefusedTextsGoOn, OtherKindsMayGoOn, FinalEscapeRefusalsStay, RefusedEscapesGoOn, QuotedItemsStay, FinalQuotedRefusalsStay, LiteralsAreWritten, LiteralsParseBack, JoinedBodiesAreQuoted};
 
 /// After a final refusal the same parse refuses every longer text.
@@ -7,7 +7,7 @@ pub fn final_refusals_stay()
 {}
 
 /// After an open refusal the closing text makes the text a string literal without suffix, whose
-/// body is all of the text behind the opening.
+/// body is all of the text after the opening.
 pub fn open_refusals_close()
     ensures { OpenRefusalsClose }
 {}

@@ -1,12 +1,12 @@
 //! Laws that tell floats and integers apart.
 ghost use Rattle.litrs_grammar.specs.NumberLaws.{FloatsBeginAsFloats, NoIntegerBeginsAsFloat, NoFloatIsInteger};
 
-/// Behind the leading run of decimal digits and underscores of a float stands a period, `e` or `E`.
+/// After the leading run of decimal digits and underscores of a float stands a period, `e` or `E`.
 pub fn floats_begin_as_floats()
     ensures { FloatsBeginAsFloats }
 {}
 
-/// Behind that of an integer stands none of them.
+/// After that of an integer stands none of them.
 pub fn no_integer_begins_as_float()
     ensures { NoIntegerBeginsAsFloat }
 {}

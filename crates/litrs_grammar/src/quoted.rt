@@ -6,7 +6,7 @@ pub fn quoted_literals_are_unique()
     ensures { QuotedLiteralsAreUnique }
 {}
 
-/// A text has at most one derivation behind the same front and under the same switches.
+/// A text has at most one derivation after the same front and under the same switches.
 pub fn quoted_texts_are_unique()
     ensures { QuotedTextsAreUnique }
 {}

@@ -91,13 +91,13 @@ pub fn quotes_are_passed()
     ensures { QuotesArePassed }
 {}
 
-/// Behind a front in which no closing begins, the rest decides where the first closing stands, and
+/// After a front in which no closing begins, the rest decides where the first closing stands, and
 /// whether there is one.
 pub fn raw_scans_go_on()
     ensures { RawScansGoOn }
 {}
 
-/// Behind such a front, whose characters a body may have, the rest has the refusal, further on by
+/// After such a front, whose characters a body may have, the rest has the refusal, further on by
 /// the bytes of the front.
 pub fn raw_refusals_go_on()
     ensures { RawRefusalsGoOn }

@@ -1,8 +1,9 @@
-pub mod SuffixBytes
-pub mod NumeralLemmas
-pub mod IntegerBytes
-pub mod Dispatch
-pub mod FloatBytes
-pub mod NumberBytes
-pub mod EscapeBytes
-pub mod CharByteBytes
+pub mod StringFronts
+pub mod PlainRuns
+pub mod QuotedScan
+pub mod QuotedBytes
+pub mod QuotedCuts
+pub mod QuotedValues
+pub mod ShortValues
+pub mod CharRuns
+pub mod RawBytes

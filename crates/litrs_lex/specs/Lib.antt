@@ -1,7 +1,8 @@
--- what an escape holds
-pub mod Unescaped
--- the parts that stand at the places of a cut
-pub mod IntegerCut
-pub mod FloatCut
-pub mod NumberCut
-pub mod CharCut
+-- what takes a value
+pub mod Container
+-- quoted bodies
+pub mod QuotedItems
+pub mod ShortValue
+pub mod QuotedCut
+-- raw bodies
+pub mod RawCut

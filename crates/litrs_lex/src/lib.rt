@@ -1,19 +1,22 @@
-//! Parses the parts that literals are made of, and says where a number, a char or a byte is cut.
+//! The lexing calls: where a literal of each kind is cut, and how its escapes are read.
+//!
+//! The calls on quoted and raw bodies are of this crate. Those on numbers, chars, bytes and single
+//! escapes are of `litrs_parts`, and the searches of `litrs_search`; both are re-exported.
 #![tactic(auto)]
 
-pub use char::{cut_byte, cut_char};
-pub use escape::unescape;
-pub use float::{FloatCut, cut_float};
-pub use integer::{IntegerCut, cut_integer};
-pub use litrs_base::{
-    Buffer, FloatType, IntegerBase, IntegerType, ParseError, ParseErrorKind, Text, Unescape,
+pub use container::EscapeContainer;
+pub use litrs_parts::{
+    Buffer, FloatCut, FloatType, IntegerBase, IntegerCut, IntegerType, NumberCut, ParseError,
+    ParseErrorKind, Text, Unescape, check_suffix, cut_byte, cut_char, cut_float, cut_integer,
+    cut_number, end_dec_digits, first_byte_or_empty, hex_digit_value, unescape,
 };
-pub use number::{NumberCut, cut_number};
-pub use parse::{check_suffix, end_dec_digits, first_byte_or_empty, hex_digit_value};
+pub use litrs_search::{Run, Special, next_special, run_end};
+pub use quoted::{QuotedCut, cut_quoted};
+pub use raw::scan_raw_string;
+pub use string::unescape_string;
 
-pub mod char;
-pub mod escape;
-pub mod float;
-pub mod integer;
-pub mod number;
-mod parse;
+pub mod container;
+pub mod quoted;
+pub mod raw;
+mod short_value;
+pub mod string;

@@ -27,7 +27,7 @@ use Rattle.litrs_lines.proofs.GroupLemmas.{closed_texts-append, held_text-append
 use Rattle.litrs_lines.proofs.ReportLemmas.{are_reports, one_list_of_reports, reports_of-empty, reports_of-append}
 use Rattle.litrs_lines.specs.Lines.{is_line_feed, HasNoLineFeed, before_last_part, last_part, ended_parts, open_part, unless_empty, without_return, ended_parts_of, ended_lines, open_line, lines_of}
 
--- the first part of a split, and those behind it
+-- the first part of a split, and those after it
 record Parts (parts : List (List ℕ)) : Type 0 where
   first : List ℕ
   behind : List (List ℕ)
@@ -44,7 +44,7 @@ split_parts (b ∷ bs) = split_cons b bs (is_line_feed b) refl (split_parts bs)
     split_cons b bs true is some = record { first = []; behind = slice_split is_line_feed bs; is = slice_split-cons_yes is_line_feed b bs is }
     split_cons b bs false is some = subst Parts (sym (slice_split-cons_no is_line_feed b bs is)) (onto_first-parts b _ some)
 
--- ---- a list that is split behind an LF
+-- ---- a list that is split after an LF
 
 before_last_part-append : (part : List ℕ) (parts : List (List ℕ)) (next : List ℕ) (more : List (List ℕ)) → before_last_part part (parts ++ next ∷ more) ≡ (part ∷ parts) ++ before_last_part next more
 before_last_part-append part [] next more = refl
@@ -111,7 +111,7 @@ open_line-none line h = ap open_part (slice_split_none is_line_feed line h)
 abbrev EndsNoLine : ℕ → Type 0
 EndsNoLine b = is_line_feed b ≡ false
 
--- the bytes up to the last LF, and those behind it
+-- the bytes up to the last LF, and those after it
 record Cut (bytes : List ℕ) : Type 0 where
   front : List ℕ
   behind : List ℕ

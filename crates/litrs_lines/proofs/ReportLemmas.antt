@@ -139,7 +139,7 @@ char_report_made name old new suffix value d suffix_utf8 value_is suffix_is made
     let s : suffix ≡ encode_utf8_all d.suffix = sym (encodes-chars suffix suffix_utf8) ∙ ap encode_utf8_all suffix_is in
     made ∙ (λ j. old ++ char_report name (value_is j) (s j))
 
--- pieces written one behind the other
+-- pieces written one after the other
 pub appended :
     (a p q b c : List ℕ) → b ≡ a ++ p → c ≡ b ++ q → c ≡ a ++ (p ++ q)
 appended a p q b c first second = second ∙ ap (λ t. t ++ q) first ∙ append_assoc a p q

@@ -54,7 +54,7 @@ raw_field false = codes "no"
 abbrev pub hex_byte : ℕ → List ℕ
 hex_byte b = digit_char (b / 16) ∷ digit_char (b % 16) ∷ []
 
--- bytes in hex, one behind the other
+-- bytes in hex, one after the other
 abbrev pub hex_bytes : List ℕ → List ℕ
 hex_bytes bytes = flat_map hex_byte bytes
 

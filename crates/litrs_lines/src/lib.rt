@@ -10,19 +10,29 @@ ghost use Rattle.litrs_lines.specs.Grouped.{closed_by, held_by, closed_texts, he
 ghost use Rattle.litrs_lines.specs.Reported.{reports_of};
 ghost use Rattle.litrs_lines.specs.Reports.{AppendsReports};
 
+pub use device::{Failed, Input, Output};
 use group::{report_held, take_line};
 pub use litrs_collector::{Collector, Step};
-pub use litrs_devices::{Failed, Input, MemInput, MemOutput, Output, StdInput, StdOutput};
+pub use mem_input::MemInput;
+pub use mem_output::MemOutput;
 use memchr::memchr;
 pub use program::run_program;
 use std::alloc::{AllocError, Global};
 use std::error::Error;
 use std::fmt;
+pub use std_input::StdInput;
+pub use std_output::StdOutput;
 
+mod calls;
+mod device;
 mod group;
 pub mod laws;
+mod mem_input;
+mod mem_output;
 mod program;
 mod report;
+mod std_input;
+mod std_output;
 
 /// The bytes that are read at a time.
 const BUFFER_LEN: usize = 8192;

@@ -1,8 +1,8 @@
 -- What a float literal holds.
 use Rattle.std.specs.Prelude.{ℕ, List}
-use Rattle.litrs_lex.specs.declared.float.FloatCut.{FloatCut}
+use Rattle.litrs_parts.specs.declared.float.FloatCut.{FloatCut}
 use Rattle.litrs_grammar.specs.Float.{FloatParts}
-use Rattle.litrs_lex.specs.FloatCut.{float_parts_at}
+use Rattle.litrs_parts.specs.FloatCut.{float_parts_at}
 
 -- its buffer, the bytes of its text, and where it is cut
 pub record FloatLiteral (B : Type 0) : Type 0 where

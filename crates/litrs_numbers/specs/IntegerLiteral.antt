@@ -1,8 +1,8 @@
 -- What an integer literal holds.
 use Rattle.std.specs.Prelude.{ℕ, List}
-use Rattle.litrs_lex.specs.declared.integer.IntegerCut.{IntegerCut}
+use Rattle.litrs_parts.specs.declared.integer.IntegerCut.{IntegerCut}
 use Rattle.litrs_grammar.specs.Integer.{IntegerParts}
-use Rattle.litrs_lex.specs.IntegerCut.{parts_at}
+use Rattle.litrs_parts.specs.IntegerCut.{parts_at}
 
 -- its buffer, the bytes of its text, and where it is cut
 pub record IntegerLiteral (B : Type 0) : Type 0 where

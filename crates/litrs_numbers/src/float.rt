@@ -7,17 +7,17 @@ ghost use Rattle.litrs_base.specs.Derivations.{IsOnlyDerivation};
 ghost use Rattle.litrs_grammar.specs.Float.{IsFloatOf, number_part};
 ghost use Rattle.litrs_grammar.specs.Literal.{kind_parse, float_literal};
 ghost use Rattle.litrs_grammar.specs.Refused.{IsRefused};
-ghost use Rattle.litrs_lex.specs.FloatCut.{float_parts_at, IsFloatWithin, IsFloatAt};
+ghost use Rattle.litrs_parts.specs.FloatCut.{float_parts_at, IsFloatWithin, IsFloatAt};
 ghost use Rattle.litrs_numbers.specs.FloatLiteral.{FloatLiteral, float_parts};
 
-use litrs_lex::{FloatCut, ParseError, ParseErrorKind, Text, cut_float, first_byte_or_empty};
+use litrs_parts::{FloatCut, ParseError, ParseErrorKind, Text, cut_float, first_byte_or_empty};
 use std::alloc::{AllocError, Global};
 use std::fmt;
 use std::marker::Model;
 
 /// A floating-point number as it is written in Rust: `3.14`, `9.`, `27e-3`, `147.3_33__E3f64`.
 ///
-/// It is made of the integer part, a fraction behind a period, an exponent, and a suffix. The
+/// It is made of the integer part, a fraction after a period, an exponent, and a suffix. The
 /// period with the fraction or the exponent may be missing, but not both; the suffix may be empty.
 /// It has no sign. See [the reference][ref].
 ///
@@ -38,8 +38,9 @@ impl<B: Text> Model for FloatLit<B> {
 }
 
 impl<B: Text> FloatLit<B> {
-    /// The literal whose text is cut so. The cut is one that [`cut_float`](litrs_lex::cut_float) or
-    /// [`cut_number`](litrs_lex::cut_number) answers of this text.
+    /// The literal whose text is cut so. The cut is one that
+    /// [`cut_float`](litrs_parts::cut_float) or [`cut_number`](litrs_parts::cut_number) answers of
+    /// this text.
     #[inline(always)]
     pub fn new(raw: B, cut: FloatCut) -> FloatLit<B>
         requires { IsFloatAt cut (B.bytes raw) }
@@ -84,7 +85,7 @@ impl<B: Text> FloatLit<B> {
         &self.raw.as_str()[..self.cut.end_integer]
     }
 
-    /// The digits and underscores behind the period, None where there is no period: `3_33__` of
+    /// The digits and underscores after the period, None where there is no period: `3_33__` of
     /// `147.3_33__E3f64`, the empty text of `9.`, and None of `1e3`.
     pub fn fractional_part(&self) -> Option<&str>
         ensures part { option_map (λ text. chars text.now) result
@@ -118,7 +119,7 @@ impl<B: Text> FloatLit<B> {
     }
 
     /// The text that was parsed, as `3.14f33`. It is a float, with the parts that the accessors
-    /// answer: its number part, and behind it its suffix.
+    /// answer: its number part, and after it its suffix.
     pub fn raw_input(&self) -> &str
         ensures raw { result.now ≡ self.now.raw }
         ensures literal { IsFloatOf (chars result.now) (float_parts self.now) }

@@ -14,11 +14,11 @@ ghost use Rattle.litrs_base.specs.Derivations.{IsOnlyDerivation};
 ghost use Rattle.litrs_grammar.specs.Literal.{kind_parse, integer_literal};
 ghost use Rattle.litrs_grammar.specs.Refused.{IsRefused};
 ghost use Rattle.litrs_base.specs.Text.{first_passes};
-ghost use Rattle.litrs_lex.specs.IntegerCut.{parts_at, IsWithin, IsIntegerAt, IsDigitsCut};
+ghost use Rattle.litrs_parts.specs.IntegerCut.{parts_at, IsWithin, IsIntegerAt, IsDigitsCut};
 ghost use Rattle.litrs_grammar.specs.Integer.{IsIntegerOf};
 
-use litrs_integers::FromIntegerLiteral;
-use litrs_lex::{
+use litrs_base::FromIntegerLiteral;
+use litrs_parts::{
     IntegerBase, IntegerCut, ParseError, ParseErrorKind, Text, cut_integer, first_byte_or_empty,
     hex_digit_value,
 };
@@ -50,8 +50,8 @@ impl<B: Text> Model for IntegerLit<B> {
 
 impl<B: Text> IntegerLit<B> {
     /// The literal whose text is cut so. The cut is one that
-    /// [`cut_integer`](litrs_lex::cut_integer) or [`cut_number`](litrs_lex::cut_number) answers of
-    /// this text.
+    /// [`cut_integer`](litrs_parts::cut_integer) or [`cut_number`](litrs_parts::cut_number)
+    /// answers of this text.
     #[inline(always)]
     pub fn new(raw: B, cut: IntegerCut) -> IntegerLit<B>
         requires { IsIntegerAt cut (B.bytes raw) }

@@ -6,7 +6,7 @@
 
 pub use float::FloatLit;
 pub use integer::IntegerLit;
-pub use litrs_integers::FromIntegerLiteral;
+pub use litrs_base::FromIntegerLiteral;
 
 mod float;
 mod integer;

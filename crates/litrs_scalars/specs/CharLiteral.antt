@@ -1,7 +1,7 @@
 -- What a char or a byte literal holds.
 use Rattle.std.specs.Prelude.{ℕ, List}
 use Rattle.litrs_grammar.specs.CharByte.{char_kind, byte_kind, CharParts}
-use Rattle.litrs_lex.specs.CharCut.{char_parts_at}
+use Rattle.litrs_parts.specs.CharCut.{char_parts_at}
 
 -- its buffer, the bytes of its text, its value, and where its suffix starts
 pub record CharLiteral (B : Type 0) : Type 0 where

@@ -5,7 +5,7 @@ ghost use Rattle.litrs_base.specs.Derivations.{IsOnlyDerivation};
 ghost use Rattle.litrs_grammar.specs.Literal.{kind_parse, bool_literal};
 ghost use Rattle.litrs_grammar.specs.Refused.{IsRefused};
 
-use litrs_lex::{ParseError, ParseErrorKind};
+use litrs_parts::{ParseError, ParseErrorKind};
 use std::fmt;
 
 /// One of the two words `true` and `false`. See [the reference][ref].

@@ -8,17 +8,17 @@ ghost use Rattle.litrs_base.specs.Derivations.{IsOnlyDerivation};
 ghost use Rattle.litrs_grammar.specs.CharByte.{byte_kind, char_value, IsCharLiteral};
 ghost use Rattle.litrs_grammar.specs.Literal.{kind_parse, byte_literal};
 ghost use Rattle.litrs_grammar.specs.Refused.{IsRefused};
-ghost use Rattle.litrs_lex.specs.CharCut.{char_parts_at, IsCharAt};
+ghost use Rattle.litrs_parts.specs.CharCut.{char_parts_at, IsCharAt};
 ghost use Rattle.litrs_scalars.specs.CharLiteral.{CharLiteral, byte_parts};
 
-use litrs_lex::{ParseError, ParseErrorKind, Text, cut_byte, first_byte_or_empty};
+use litrs_parts::{ParseError, ParseErrorKind, Text, cut_byte, first_byte_or_empty};
 use std::alloc::{AllocError, Global};
 use std::fmt;
 use std::marker::Model;
 
 /// A byte as it is written in Rust: `b'a'`, `b'\n'`, `b'\xff'`.
 ///
-/// It is made of an ASCII character or an escape between single quotes, the first of them behind a
+/// It is made of an ASCII character or an escape between single quotes, the first of them after a
 /// `b`, and a suffix, which may be empty. See [the reference][ref].
 ///
 /// [ref]: https://doc.rust-lang.org/reference/tokens.html#byte-literals

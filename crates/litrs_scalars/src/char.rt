@@ -7,10 +7,10 @@ ghost use Rattle.litrs_base.specs.Derivations.{IsOnlyDerivation};
 ghost use Rattle.litrs_grammar.specs.CharByte.{char_kind, char_value, IsCharLiteral};
 ghost use Rattle.litrs_grammar.specs.Literal.{kind_parse, char_literal};
 ghost use Rattle.litrs_grammar.specs.Refused.{IsRefused};
-ghost use Rattle.litrs_lex.specs.CharCut.{char_parts_at, IsCharAt};
+ghost use Rattle.litrs_parts.specs.CharCut.{char_parts_at, IsCharAt};
 ghost use Rattle.litrs_scalars.specs.CharLiteral.{CharLiteral, char_parts};
 
-use litrs_lex::{ParseError, ParseErrorKind, Text, cut_char, first_byte_or_empty};
+use litrs_parts::{ParseError, ParseErrorKind, Text, cut_char, first_byte_or_empty};
 use std::alloc::{AllocError, Global};
 use std::fmt;
 use std::marker::Model;

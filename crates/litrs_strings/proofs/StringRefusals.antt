@@ -21,9 +21,9 @@ use Rattle.litrs_grammar.specs.Allocation.{has_escapes, allocates}
 use Rattle.litrs_grammar.specs.Refused.{IsRefused, IsOutOfMemory, IsRefusedOrOutOfMemory}
 use Rattle.litrs_grammar.proofs.LiteralLaws.{string_literal_of, start_quoted, start_raw}
 use Rattle.litrs_grammar.proofs.Refused.{is_refused}
-use Rattle.litrs_bodies.specs.QuotedCut.{IsQuotedRefused, IsQuotedOutOfMemory}
-use Rattle.litrs_bodies.specs.RawCut.{IsRawRefused}
-use Rattle.litrs_bodies.proofs.StringFronts.{quoted_begins, raw_begins, quoted_before, raw_behind}
+use Rattle.litrs_lex.specs.QuotedCut.{IsQuotedRefused, IsQuotedOutOfMemory}
+use Rattle.litrs_lex.specs.RawCut.{IsRawRefused}
+use Rattle.litrs_lex.proofs.StringFronts.{quoted_begins, raw_begins, quoted_before, raw_behind}
 
 -- the text is refused, or there was no memory for its value
 abbrev pub IsStringError : StringKind → List ℕ → ParseError → Type 0

@@ -17,7 +17,7 @@ pub record IsParsedQuoted
   pub derives : IsQuoted (chars (take offset bytes)) w (chars bytes) parts
   pub at : IsStringAt cut value bytes (quoted_parts parts)
 
--- behind the offset stands what is behind the `r` of a raw string, with these places
+-- after the offset stands what is after the `r` of a raw string, with these places
 pub record IsParsedRaw
     (unicode allow_nul : Bool) (offset : ℕ) (bytes : List ℕ) (cut : StringCut) : Type 0 where
   pub parts : RawParts

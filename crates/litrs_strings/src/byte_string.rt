@@ -15,7 +15,7 @@ ghost use Rattle.litrs_strings.specs.StringLiteral.{StringLiteral, IsStringAt};
 ghost use Rattle.litrs_strings.specs.ParsedStrings.{IsParsedString};
 
 use crate::cut::{StringCut, cut_raw, parse_quoted};
-use litrs_lex::{Buffer, ParseError, ParseErrorKind, Text, first_byte_or_empty};
+use litrs_parts::{Buffer, ParseError, ParseErrorKind, Text, first_byte_or_empty};
 use std::alloc::{AllocError, Global};
 use std::fmt;
 use std::marker::Model;
@@ -51,8 +51,8 @@ impl<B: Text> ByteStringLit<B> {
     /// # Errors
     ///
     /// `Empty`; `InvalidByteStringLiteralStart` where the text begins with neither `b"` nor `br`;
-    /// or as [`cut_quoted`](litrs_bodies::cut_quoted) and
-    /// [`scan_raw_string`](litrs_bodies::scan_raw_string) refuse the text: `b"ab` is
+    /// or as [`cut_quoted`](litrs_lex::cut_quoted) and
+    /// [`scan_raw_string`](litrs_lex::scan_raw_string) refuse the text: `b"ab` is
     /// `UnterminatedString`, and `b"é"` is `NonAsciiInByteLiteral` at 2..3. `OutOfMemory`, with no
     /// span, where the text is a byte string and there is no memory for its value.
     #[inline(always)]

@@ -17,12 +17,12 @@ ghost use Rattle.litrs_strings.specs.StringLiteral.{StringLiteral, IsCStringAt};
 ghost use Rattle.litrs_strings.specs.ParsedStrings.{IsParsedString, IsParsedCString};
 
 use crate::cut::{StringCut, cut_raw, parse_quoted};
-use litrs_lex::{ParseError, ParseErrorKind, Text, first_byte_or_empty};
+use litrs_parts::{ParseError, ParseErrorKind, Text, first_byte_or_empty};
 use std::alloc::{AllocError, Global};
 use std::fmt;
 use std::marker::Model;
 
-/// Bytes without a zero, and a closing zero behind them: the value of a C string literal.
+/// Bytes without a zero, and a closing zero after them: the value of a C string literal.
 ///
 /// Contracts see the bytes before the closing zero.
 #[derive(Drop)]
@@ -39,7 +39,7 @@ impl Model for CString {
 }
 
 impl CString {
-    /// These bytes, of which none is zero, with a closing zero behind them.
+    /// These bytes, of which none is zero, with a closing zero after them.
     ///
     /// It succeeds where the bytes have room for one more.
     ///
@@ -57,7 +57,7 @@ impl CString {
         Ok(CString { bytes })
     }
 
-    /// The same bytes, of which none is zero, with a closing zero behind them.
+    /// The same bytes, of which none is zero, with a closing zero after them.
     ///
     /// # Errors
     ///
@@ -135,8 +135,8 @@ impl<B: Text> CStringLit<B> {
     /// # Errors
     ///
     /// `Empty`; `InvalidCStringLiteralStart` where the text begins with neither `c"` nor `cr`; or
-    /// as [`cut_quoted`](litrs_bodies::cut_quoted) and
-    /// [`scan_raw_string`](litrs_bodies::scan_raw_string) refuse the text: `c"ab` is
+    /// as [`cut_quoted`](litrs_lex::cut_quoted) and
+    /// [`scan_raw_string`](litrs_lex::scan_raw_string) refuse the text: `c"ab` is
     /// `UnterminatedString`, and `c"\0"` is `DisallowedNulEscape` at 2..4. `OutOfMemory`, with no
     /// span, where the text is a C string and there is no memory for its value.
     #[inline(always)]

@@ -1,19 +1,19 @@
 //! Where strings of the three kinds are cut.
 ghost use Rattle.std.specs.Prelude.{◌⊎◌, ◌||◌, not, option_map, IfOk, IfErr, IsTrue};
 ghost use Rattle.std.specs.Str.{IsCharBoundary};
-ghost use Rattle.litrs_bodies.specs.QuotedCut.{IsQuotedRefused, IsQuotedOutOfMemory};
-ghost use Rattle.litrs_bodies.specs.RawCut.{IsRawRefused};
-ghost use Rattle.litrs_lex.specs.Unescaped.{switches};
+ghost use Rattle.litrs_lex.specs.QuotedCut.{IsQuotedRefused, IsQuotedOutOfMemory};
+ghost use Rattle.litrs_lex.specs.RawCut.{IsRawRefused};
+ghost use Rattle.litrs_parts.specs.Unescaped.{switches};
 ghost use Rattle.litrs_strings.specs.ParsedStrings.{IsParsedQuoted, IsParsedRaw};
 
-use litrs_bodies::{EscapeContainer, scan_raw_string, unescape_string};
-use litrs_lex::ParseError;
+use litrs_lex::{EscapeContainer, scan_raw_string, unescape_string};
+use litrs_parts::ParseError;
 use std::alloc::Global;
 
 /// Where a string is cut, in bytes.
 #[derive(Clone, Copy, Debug, PartialEq, Eq)]
 pub struct StringCut {
-    /// Where the body begins, behind the opening quote.
+    /// Where the body begins, after the opening quote.
     pub start_body: usize,
     /// Where the body ends, at the closing quote.
     pub end_body: usize,

@@ -14,7 +14,7 @@ ghost use Rattle.litrs_strings.specs.StringLiteral.{StringLiteral, IsStringAt};
 ghost use Rattle.litrs_strings.specs.ParsedStrings.{IsParsedString};
 
 use crate::cut::{StringCut, cut_raw, parse_quoted};
-use litrs_lex::{Buffer, ParseError, ParseErrorKind, Text, first_byte_or_empty};
+use litrs_parts::{Buffer, ParseError, ParseErrorKind, Text, first_byte_or_empty};
 use std::alloc::{AllocError, Global};
 use std::fmt;
 use std::marker::Model;
@@ -50,8 +50,8 @@ impl<B: Text> StringLit<B> {
     /// # Errors
     ///
     /// `Empty`; `InvalidStringLiteralStart` at the first byte where that is neither `"` nor `r`; or
-    /// as [`cut_quoted`](litrs_bodies::cut_quoted) and
-    /// [`scan_raw_string`](litrs_bodies::scan_raw_string) refuse the text: `"ab` is
+    /// as [`cut_quoted`](litrs_lex::cut_quoted) and
+    /// [`scan_raw_string`](litrs_lex::scan_raw_string) refuse the text: `"ab` is
     /// `UnterminatedString`, and `"\x80"` is `NonAsciiXEscape` at 1..5. `OutOfMemory`, with no
     /// span, where the text is a string and there is no memory for its value.
     #[inline(always)]

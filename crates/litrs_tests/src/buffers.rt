@@ -1,6 +1,6 @@
 //! Buffers and the containers of values.
 use litrs_base::{Text, Unescape};
-use litrs_bodies::EscapeContainer;
+use litrs_lex::EscapeContainer;
 use std::alloc::{AllocError, Global};
 use std::process::Abort;
 

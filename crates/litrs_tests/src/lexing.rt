@@ -1,8 +1,8 @@
 //! The calls that read an escape and the body of a string.
 use litrs_base::ParseErrorKind::DisallowedNulEscape;
 use litrs_base::Unescape;
-use litrs_bodies::{cut_quoted, unescape_string};
-use litrs_lex::unescape;
+use litrs_lex::{cut_quoted, unescape_string};
+use litrs_parts::unescape;
 use std::alloc::Global;
 use std::process::Abort;
 

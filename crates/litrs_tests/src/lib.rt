@@ -17,8 +17,6 @@ mod lexing;
 #[cfg(test)]
 mod lines;
 #[cfg(test)]
-mod memory;
-#[cfg(test)]
 mod numbers;
 #[cfg(test)]
 mod printing;

@@ -9,7 +9,7 @@ use std::alloc::{AllocError, Global};
 use std::fmt::Display;
 use std::process::Abort;
 
-/// Texts that no literal token has: a bool is an identifier, and a literal has no sign and no blank.
+/// Texts that no literal token has: a bool is an identifier, and a literal has no sign or blank.
 const NO_LITERALS: &[&str] = &["true", "-1", "1 "];
 
 /// Texts that no identifier has.

@@ -1,11 +1,11 @@
 -- The answers of conversions.
 use Rattle.std.proofs.Common.{◌≡◌, Result, Ok, Err, ap, refl}
 use Rattle.std.specs.Result.{IsErrAnd}
-use Rattle.litrs_trees.specs.declared.kind.TokenKind.{TokenKind}
-use Rattle.litrs_trees.specs.declared.kind.TokenKind.TheVariants as token
-use Rattle.litrs_trees.specs.declared.tree.TokenTree.TheOpen as tree
+use Rattle.litrs_token.specs.declared.kind.TokenKind.{TokenKind}
+use Rattle.litrs_token.specs.declared.kind.TokenKind.TheVariants as token
+use Rattle.litrs_token.specs.declared.tree.TokenTree.TheOpen as tree
 use Rattle.litrs_token.specs.Conversion.{IsWanted}
-use Rattle.litrs_trees.specs.Tree.{Shape, IsNoLiteral}
+use Rattle.litrs_token.specs.Tree.{Shape, IsNoLiteral}
 
 -- an error that is this one
 pub err_of : {T E : Type 0} (r : Result T E) (e : E) → IsErrAnd r (λ x. x ≡ e) → r ≡ Err e

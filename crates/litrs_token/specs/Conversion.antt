@@ -1,10 +1,10 @@
 -- Which tokens the conversions to literals want.
 use Rattle.std.specs.Prelude.{◌≡◌, ◌⊎◌, IsTrue}
 use Rattle.litrs_grammar.specs.Bool.{is_bool}
-use Rattle.litrs_trees.specs.declared.kind.TokenKind.{TokenKind}
-use Rattle.litrs_trees.specs.declared.kind.TokenKind.TheVariants as token
-use Rattle.litrs_trees.specs.declared.tree.TokenTree.TheOpen as tree
-use Rattle.litrs_trees.specs.Tree.{Shape}
+use Rattle.litrs_token.specs.declared.kind.TokenKind.{TokenKind}
+use Rattle.litrs_token.specs.declared.kind.TokenKind.TheVariants as token
+use Rattle.litrs_token.specs.declared.tree.TokenTree.TheOpen as tree
+use Rattle.litrs_token.specs.Tree.{Shape}
 
 -- a literal of this kind is wanted: it is the wanted kind, or any literal is
 abbrev pub IsWantedKind : (wanted kind : TokenKind) → Type 0

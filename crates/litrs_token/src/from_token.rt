@@ -4,18 +4,21 @@ ghost use Rattle.std.specs.Result.{IsErrAnd};
 ghost use Rattle.std.specs.Str.{chars};
 ghost use Rattle.litrs.specs.LiteralDerivation.{literal_raw};
 ghost use Rattle.litrs_token.specs.Conversion.{IsWantedKind, IsWanted};
-ghost use Rattle.litrs_trees.specs.BoolTree.{text_of};
-ghost use Rattle.litrs_trees.specs.LiteralToken.{SomeLiteral};
-ghost use Rattle.litrs_trees.specs.Mismatch.{literal_mismatch, tree_mismatch};
-ghost use Rattle.litrs_trees.specs.Tree.{shape_of};
-ghost use Rattle.litrs_trees.specs.declared.err.TokenError.{TokenError};
-ghost use Rattle.litrs_trees.specs.declared.kind.TokenKind.{TokenKind};
+ghost use Rattle.litrs_token.specs.BoolTree.{text_of};
+ghost use Rattle.litrs_token.specs.LiteralToken.{SomeLiteral};
+ghost use Rattle.litrs_token.specs.Mismatch.{literal_mismatch, tree_mismatch};
+ghost use Rattle.litrs_token.specs.Tree.{shape_of};
+ghost use Rattle.litrs_token.specs.declared.err.TokenError.{TokenError};
+ghost use Rattle.litrs_token.specs.declared.kind.TokenKind.{TokenKind};
 
+use crate::bool::bool_of;
+use crate::err::TokenError;
+use crate::kind::TokenKind;
+use crate::literal_token::Literal;
 use crate::one_kind::OneKind;
+use crate::tree::TokenTree;
+use crate::wanted::{as_literal, check_kind, into_literal};
 use litrs::ParseErrorKind;
-use litrs_trees::{
-    Literal, TokenError, TokenKind, TokenTree, as_literal, bool_of, check_kind, into_literal,
-};
 use std::alloc::{AllocError, Global};
 
 /// A literal that is read from a token.
@@ -133,9 +136,9 @@ impl<T: OneKind> FromToken for T {
 }
 
 impl FromToken for litrs::Literal<String> {
-    ghost use Rattle.litrs_trees.specs.declared.kind.TokenKind.TheVariants as token;
+    ghost use Rattle.litrs_token.specs.declared.kind.TokenKind.TheVariants as token;
     ghost use Rattle.litrs.specs.LiteralDerivation.{literal_raw};
-    ghost use Rattle.litrs_trees.specs.declared.err.TokenError.TheVariants.{Memory};
+    ghost use Rattle.litrs_token.specs.declared.err.TokenError.TheVariants.{Memory};
 
     ghost wanted = { token.Literal };
 

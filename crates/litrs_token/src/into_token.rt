@@ -1,12 +1,15 @@
 //! Conversions of literals to tokens.
 ghost use Rattle.std.specs.Prelude.{◌≡◌, ℕ, List, IfOk};
-ghost use Rattle.litrs_trees.specs.Place.{call_site};
-ghost use Rattle.litrs_trees.specs.declared.kind.TokenKind.{TokenKind};
+ghost use Rattle.litrs_token.specs.Place.{call_site};
+ghost use Rattle.litrs_token.specs.declared.kind.TokenKind.{TokenKind};
 
+use crate::kind::TokenKind;
+use crate::literal_token::Literal;
+use crate::name::Ident;
+use crate::place::Span;
 use litrs::{
     BoolLit, ByteLit, ByteStringLit, CStringLit, CharLit, FloatLit, IntegerLit, StringLit, Text,
 };
-use litrs_trees::{Ident, Literal, Span, TokenKind};
 use std::alloc::{AllocError, Global};
 
 /// A literal that is written as a token.
@@ -29,7 +32,7 @@ pub trait IntoToken: Drop {
 }
 
 impl<B: Text> IntoToken for IntegerLit<B> {
-    ghost use Rattle.litrs_trees.specs.declared.kind.TokenKind.TheVariants as token;
+    ghost use Rattle.litrs_token.specs.declared.kind.TokenKind.TheVariants as token;
 
     ghost raw = { λ lit. lit.raw };
 
@@ -41,7 +44,7 @@ impl<B: Text> IntoToken for IntegerLit<B> {
 }
 
 impl<B: Text> IntoToken for FloatLit<B> {
-    ghost use Rattle.litrs_trees.specs.declared.kind.TokenKind.TheVariants as token;
+    ghost use Rattle.litrs_token.specs.declared.kind.TokenKind.TheVariants as token;
 
     ghost raw = { λ lit. lit.raw };
 
@@ -53,7 +56,7 @@ impl<B: Text> IntoToken for FloatLit<B> {
 }
 
 impl<B: Text> IntoToken for CharLit<B> {
-    ghost use Rattle.litrs_trees.specs.declared.kind.TokenKind.TheVariants as token;
+    ghost use Rattle.litrs_token.specs.declared.kind.TokenKind.TheVariants as token;
 
     ghost raw = { λ lit. lit.raw };
 
@@ -65,7 +68,7 @@ impl<B: Text> IntoToken for CharLit<B> {
 }
 
 impl<B: Text> IntoToken for ByteLit<B> {
-    ghost use Rattle.litrs_trees.specs.declared.kind.TokenKind.TheVariants as token;
+    ghost use Rattle.litrs_token.specs.declared.kind.TokenKind.TheVariants as token;
 
     ghost raw = { λ lit. lit.raw };
 
@@ -77,7 +80,7 @@ impl<B: Text> IntoToken for ByteLit<B> {
 }
 
 impl<B: Text> IntoToken for StringLit<B> {
-    ghost use Rattle.litrs_trees.specs.declared.kind.TokenKind.TheVariants as token;
+    ghost use Rattle.litrs_token.specs.declared.kind.TokenKind.TheVariants as token;
 
     ghost raw = { λ lit. lit.raw };
 
@@ -89,7 +92,7 @@ impl<B: Text> IntoToken for StringLit<B> {
 }
 
 impl<B: Text> IntoToken for ByteStringLit<B> {
-    ghost use Rattle.litrs_trees.specs.declared.kind.TokenKind.TheVariants as token;
+    ghost use Rattle.litrs_token.specs.declared.kind.TokenKind.TheVariants as token;
 
     ghost raw = { λ lit. lit.raw };
 
@@ -101,7 +104,7 @@ impl<B: Text> IntoToken for ByteStringLit<B> {
 }
 
 impl<B: Text> IntoToken for CStringLit<B> {
-    ghost use Rattle.litrs_trees.specs.declared.kind.TokenKind.TheVariants as token;
+    ghost use Rattle.litrs_token.specs.declared.kind.TokenKind.TheVariants as token;
 
     ghost raw = { λ lit. lit.raw };
 

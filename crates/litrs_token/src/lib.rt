@@ -39,13 +39,25 @@
 //! [ref]: https://doc.rust-lang.org/reference/procedural-macros.html
 #![tactic(auto)]
 
+pub use err::{InvalidToken, TokenError};
 pub use from_token::FromToken;
 pub use into_token::{IntoIdent, IntoToken};
-pub use litrs_trees::{
-    Delimiter, Group, Ident, IdentError, InvalidToken, Literal, LiteralError, Punct, Spacing, Span,
-    TokenError, TokenTree,
-};
+pub use literal_token::{Literal, LiteralError};
+pub use name::{Ident, IdentError};
+pub use place::Span;
+pub use punctuation::{Punct, Spacing};
+pub use tree::{Delimiter, Group, TokenTree};
 
+mod bool;
+mod err;
 mod from_token;
 mod into_token;
+mod kind;
+pub mod laws;
+mod literal_token;
+mod name;
 mod one_kind;
+mod place;
+mod punctuation;
+mod tree;
+mod wanted;

@@ -2,14 +2,15 @@
 ghost use Rattle.std.specs.Prelude.{◌≡◌, ◌≢◌, ℕ, List, IfOk, IfErr, string_bytes};
 ghost use Rattle.std.specs.Str.{chars};
 ghost use Rattle.litrs_base.specs.Refusal.{kind_of};
-ghost use Rattle.litrs_trees.specs.LiteralToken.{IsLiteralToken};
-ghost use Rattle.litrs_trees.specs.declared.kind.TokenKind.{TokenKind};
+ghost use Rattle.litrs_token.specs.LiteralToken.{IsLiteralToken};
+ghost use Rattle.litrs_token.specs.declared.kind.TokenKind.{TokenKind};
 
+use crate::err::TokenError;
+use crate::kind::TokenKind;
 use litrs::{
     ByteLit, ByteStringLit, CStringLit, CharLit, FloatLit, IntegerLit, ParseError, ParseErrorKind,
     StringLit,
 };
-use litrs_trees::{TokenError, TokenKind};
 use std::alloc::Global;
 
 /// A literal of one kind.
@@ -33,7 +34,7 @@ pub trait OneKind: Drop {
 }
 
 impl OneKind for IntegerLit<String> {
-    ghost use Rattle.litrs_trees.specs.declared.kind.TokenKind.TheVariants as token;
+    ghost use Rattle.litrs_token.specs.declared.kind.TokenKind.TheVariants as token;
 
     ghost kind = { token.IntegerLit };
 
@@ -52,7 +53,7 @@ impl OneKind for IntegerLit<String> {
 }
 
 impl OneKind for FloatLit<String> {
-    ghost use Rattle.litrs_trees.specs.declared.kind.TokenKind.TheVariants as token;
+    ghost use Rattle.litrs_token.specs.declared.kind.TokenKind.TheVariants as token;
 
     ghost kind = { token.FloatLit };
 
@@ -71,7 +72,7 @@ impl OneKind for FloatLit<String> {
 }
 
 impl OneKind for CharLit<String> {
-    ghost use Rattle.litrs_trees.specs.declared.kind.TokenKind.TheVariants as token;
+    ghost use Rattle.litrs_token.specs.declared.kind.TokenKind.TheVariants as token;
 
     ghost kind = { token.CharLit };
 
@@ -90,7 +91,7 @@ impl OneKind for CharLit<String> {
 }
 
 impl OneKind for ByteLit<String> {
-    ghost use Rattle.litrs_trees.specs.declared.kind.TokenKind.TheVariants as token;
+    ghost use Rattle.litrs_token.specs.declared.kind.TokenKind.TheVariants as token;
 
     ghost kind = { token.ByteLit };
 
@@ -109,7 +110,7 @@ impl OneKind for ByteLit<String> {
 }
 
 impl OneKind for StringLit<String> {
-    ghost use Rattle.litrs_trees.specs.declared.kind.TokenKind.TheVariants as token;
+    ghost use Rattle.litrs_token.specs.declared.kind.TokenKind.TheVariants as token;
 
     ghost kind = { token.StringLit };
 
@@ -128,7 +129,7 @@ impl OneKind for StringLit<String> {
 }
 
 impl OneKind for ByteStringLit<String> {
-    ghost use Rattle.litrs_trees.specs.declared.kind.TokenKind.TheVariants as token;
+    ghost use Rattle.litrs_token.specs.declared.kind.TokenKind.TheVariants as token;
 
     ghost kind = { token.ByteStringLit };
 
@@ -147,7 +148,7 @@ impl OneKind for ByteStringLit<String> {
 }
 
 impl OneKind for CStringLit<String> {
-    ghost use Rattle.litrs_trees.specs.declared.kind.TokenKind.TheVariants as token;
+    ghost use Rattle.litrs_token.specs.declared.kind.TokenKind.TheVariants as token;
 
     ghost kind = { token.CStringLit };
 

@@ -6,8 +6,8 @@ use crate::tokens::{Token, token_of};
 use crate::trial::{Trial, again};
 use litrs::{BoolLit, Literal, ParseError};
 use litrs_base::Unescape;
-use litrs_bodies::{EscapeContainer, unescape_string};
 use litrs_collector::{Collector, Step};
+use litrs_lex::{EscapeContainer, unescape_string};
 use litrs_lines::{MemInput, MemOutput, RunError, run};
 use litrs_token::{InvalidToken, TokenTree};
 use std::alloc::{AllocError, Global};
@@ -71,7 +71,7 @@ fn unescaped(alloc: Global, lit: &Literal<&str>) -> Result<Unescaped, ParseError
 
 /// Tries what unescapes the body of a quoted string.
 fn try_unescaped(trial: &mut Trial, lit: &Literal<&str>) {
-    trial.at = ("litrs_bodies", "&str");
+    trial.at = ("litrs_lex", "&str");
     let holds = match &again!(trial, "unescape_string", unescaped(trial.alloc, lit)) {
         Ok((value, start)) => {
             has_value(lit, value) && lit.raw_input().get(*start..) == Some(lit.suffix())

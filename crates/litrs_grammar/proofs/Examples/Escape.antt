@@ -250,7 +250,7 @@ rows-invalid_start_of_unicode_escape = (refl, refl, refl)
 
 rows-non_hex_digit_in_unicode_escape :
     Refused char_switches "\\u{3b_x}'" (at 6 kind.NonHexDigitInUnicodeEscape)
-    -- behind six digits
+    -- after six digits
     × Refused char_switches "\\u{123456x7}'" (at 9 kind.NonHexDigitInUnicodeEscape)
     × Refused char_switches "\\u{x}'" (at 3 kind.NonHexDigitInUnicodeEscape)
     × Refused char_switches "\\u{1_x}" (at 5 kind.NonHexDigitInUnicodeEscape)

@@ -59,7 +59,7 @@ suffix_refusals :
     × (suffix_refusal (codes "_") ≡ kind.InvalidSuffix)
     × (suffix_refusal (codes "peter\"") ≡ kind.InvalidSuffix)
     × (suffix_refusal (codes "🦊") ≡ kind.InvalidSuffix)
-    -- the last character of ASCII, and the first behind it
+    -- the last character of ASCII, and the first after it
     × (suffix_refusal (codes "\u{7f}") ≡ kind.UnexpectedChar)
     × (suffix_refusal (codes "\u{80}") ≡ kind.InvalidSuffix)
     × (suffix_refusal (codes "5") ≡ kind.UnexpectedChar)

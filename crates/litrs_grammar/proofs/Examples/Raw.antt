@@ -165,7 +165,7 @@ rows-invalid_suffix :
     Refused string_kind (codes "r\"a\"_") (at 4 kind.InvalidSuffix)
     × Refused string_kind (codes "r\"🦊\"🦊") (at 7 kind.InvalidSuffix)
     × Refused string_kind (codes "r\"\"\u{80}") (at 3 kind.InvalidSuffix)
-    -- a character that no body has, behind the closing
+    -- a character that no body has, after the closing
     × Refused byte_string_kind (codes "br\"\"é\"") (at 4 kind.InvalidSuffix)
 unfolding computing
 rows-invalid_suffix = (refl, refl, refl, refl)

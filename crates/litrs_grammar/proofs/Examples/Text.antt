@@ -73,7 +73,7 @@ tests :
     × (is_text (codes "ab") (codes "ac") ≡ false)
 tests = (refl, refl, refl, refl, refl, refl, refl, refl, refl, refl, refl, refl, refl, refl)
 
--- Spans that do not begin or end on character boundaries, that end before they start or behind the text
+-- Spans that do not begin or end on character boundaries, that end before they start or after the text
 
 abbrev span : ℕ → ℕ → Range ℕ
 span start end = record { start = start; end = end }

@@ -155,14 +155,14 @@ parts_go_on d e more cut none float same =
 cut_is : (t : List ℕ) (c : CutOf t) → c.parts ≡ float_cut t
 cut_is t c = sym (cut_of_text c.parts c.cut) ∙ ap float_cut c.spells
 
--- the parts of a text that is no float, and with more behind it is one
+-- the parts of a text that is no float, and with more after it is one
 pub float_longer : (t more : List ℕ) (d : FloatParts) → HasNoDerivation (IsFloatOf t) → IsFloatOf (t ++ more) d → FloatGoesOn (float_cut t)
 float_longer t more d none float =
     let c = cut_of t in
     subst FloatGoesOn (cut_is t c)
     (parts_go_on c.parts d more c.cut (λ grammar. none c.parts (record { spells = c.spells; grammar = grammar })) float.grammar (ap (λ s. s ++ more) c.spells ∙ sym float.spells))
 
--- What completes such parts: a period where there is neither fraction nor exponent, and a digit behind an exponent.
+-- What completes such parts: a period where there is neither fraction nor exponent, and a digit after an exponent.
 
 one_more : (c : ℕ) (cs : List ℕ) → is_exponent_front (c ∷ cs) ≡ true → is_exponent (c ∷ (cs ++ 49 ∷ [])) ≡ true
 unfolding is_exponent
@@ -188,7 +188,7 @@ complete_none = record {
   float = record { spells = refl; grammar = record { integer = refl; form = refl; suffix = is_suffix-nil; no_underscore = refl; no_letter = λ e. refl } };
 }
 
--- a digit more behind an exponent
+-- a digit more after an exponent
 complete_exponent : (i : List ℕ) (f : Option (List ℕ)) (c : ℕ) (cs : List ℕ) → is_decimal_literal i ≡ true → is_float_form f (c ∷ (cs ++ 49 ∷ [])) [] ≡ true →
     Completed (i ++ (fraction_text f ++ c ∷ cs))
 complete_exponent i f c cs integer form = record {

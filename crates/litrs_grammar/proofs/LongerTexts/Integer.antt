@@ -40,7 +40,7 @@ cut_parts base m x all stops =
 base_more : (c d : ℕ) (t x : List ℕ) → base_of (c ∷ d ∷ (t ++ x)) ≡ base_of (c ∷ d ∷ t)
 base_more c d t x = refl
 
--- behind the main part stands none of its characters
+-- after the main part stands none of its characters
 cut_ends : (base : IntegerBase) (t : List ℕ) → first_passes (is_digit_or_underscore base) (cut_with base t).suffix ≡ false
 cut_ends base t =
     let behind = drop (length (prefix base)) t in
@@ -150,7 +150,7 @@ suffix_begins c d r digit is =
     one_digit_is Decimal = refl
     one_digit_is Hexadecimal = refl
 
--- where some list behind a refused text gives an integer, nothing follows the main part
+-- where some list after a refused text gives an integer, nothing follows the main part
 freed_suffix : (t : List ℕ) (e : Refusal) → first_passes is_ascii_digit t ≡ true → integer_refusal t ≡ Some e → (x : List ℕ) (d : IntegerParts) → IsIntegerOf (t ++ x) d →
     (integer_cut t).suffix ≡ []
 freed_suffix [] e digit h x d reads = cc

@@ -90,7 +90,7 @@ begins_kind kind t = (
   λ begins. let d = literal_of_parts kind (t ++ begins.0) begins.1 begins.3 in (begins.0, d.0, begins.2, d.1),
 )
 
--- one equivalence behind the other
+-- one equivalence after the other
 pub chain : {A B C : Type 0} → A ↔ B → B ↔ C → A ↔ C
 chain f g = (λ a. g.0 (f.0 a), λ c. f.1 (g.1 c))
 
@@ -162,7 +162,7 @@ start_line kind raw_start t e is refused =
     (chain (back (subst (λ l. BeginsBy (IsRawLiteral kind) l ↔ BeginsBy (IsRawOf (has_unicode kind) (allows_nul kind)) u) spelled (raw_begins_behind kind u)))
     (back (raw_string_begins kind (t ++ 10 ∷ []) is)))
 
--- a string of the kind without suffix, whose body is all of the text behind the opening
+-- a string of the kind without suffix, whose body is all of the text after the opening
 record IsClosedString (kind : StringKind) (t closing : List ℕ) : Type 0 where
   parts : StringParts
   literal : IsString kind (t ++ closing) parts

@@ -114,7 +114,7 @@ at_end : {A : Type 0} (w : Switches) (e : Refusal) → is_final e.kind ≡ true 
 unfolding rest_refusal
 at_end w e f h = never (plain UnterminatedString) e refl f h
 
--- what refuses the rest with more behind it refuses the text with more behind it
+-- what refuses the rest with more after it refuses the text with more after it
 pub refused_more : (front : List ℕ) (w : Switches) (t x : List ℕ) (items : List Item) (c : ℕ) (r : List ℕ) (cause : Refusal) →
     front ++ (body_text items ++ c ∷ r) ≡ t → stand_before w (c ∷ r) items ≡ true → rest_refusal w (c ∷ (r ++ x)) ≡ Some cause →
     IsQuotedRefusal front w (t ++ x) (moved (byte_len (front ++ body_text items)) cause)

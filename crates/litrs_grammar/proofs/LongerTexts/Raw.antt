@@ -25,7 +25,7 @@ use Rattle.litrs_grammar.proofs.OpenRows.{shut_kind_if, shut_suffix}
 use Rattle.litrs_grammar.proofs.RawCuts.{hashes_pass, length-hashes, hash_len-append, behind_hashes, HashCut, hash_cut, closing_cut}
 use Rattle.litrs_grammar.proofs.RawLaws.{raw_body_rows, raw_rows, refusal_of_hashes, refusal_of_closed, refused, refusal_free, only_raw}
 
--- Behind n hashes and the quote: what a text is up to its first closing, or to the first character that may not stand there.
+-- After n hashes and the quote: what a text is up to its first closing, or to the first character that may not stand there.
 
 -- a raw body, and a character that may not stand in one
 pub record IsStopped (unicode allow_nul : Bool) (n : ℕ) (t : List ℕ) : Type 0 where
@@ -115,7 +115,7 @@ hash_allowed unicode allow_nul c bad = by (is_hash c) refl
     by false is = refl
     by true is = absurd (true≢false (sym (ap (is_raw_char unicode allow_nul) (eqb-true c 35 is) ∙ and_from _ _ refl (and_from _ _ (or_right unicode true refl) (or_right allow_nul true refl))) ∙ bad))
 
--- the character behind a body that may not stand there is refused
+-- the character after a body that may not stand there is refused
 pub stopped_at : (unicode allow_nul : Bool) (n start : ℕ) (front : List ℕ) (c : ℕ) (t : List ℕ) → IsRawBody unicode allow_nul n front → is_raw_char unicode allow_nul c ≡ false →
     raw_body_refusal unicode allow_nul n start (front ++ c ∷ t) ≡ Some (at (start + byte_len front) (raw_char_refusal c))
 unfolding raw_body_refusal

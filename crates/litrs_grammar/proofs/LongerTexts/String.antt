@@ -71,7 +71,7 @@ raw_string_begins kind t is = (
 
 -- Texts that begin with neither front
 
--- one of the fronts goes on behind the text
+-- one of the fronts goes on after the text
 abbrev pub StartsFront : StringKind → List ℕ → Type 0
 StartsFront kind t = ((c : ℕ) × (z : List ℕ) × (quoted_front kind ≡ t ++ c ∷ z)) ⊎ ((c : ℕ) × (z : List ℕ) × (raw_front kind ≡ t ++ c ∷ z))
 

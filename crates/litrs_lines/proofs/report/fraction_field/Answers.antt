@@ -1,4 +1,4 @@
--- The digits behind the period are the fraction.
+-- The digits after the period are the fraction.
 use Rattle.std.proofs.Common.{rules}
 use Rattle.litrs_numbers.specs.FloatLiteral.{float_parts}
 use Rattle.litrs_lines.proofs.ReportLemmas.{fraction_field-is}

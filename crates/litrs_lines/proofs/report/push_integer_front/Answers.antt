@@ -1,4 +1,4 @@
--- The fields are written one behind the other.
+-- The fields are written one after the other.
 use Rattle.std.proofs.Common.{◌++◌, ap, ◌∙◌}
 use Rattle.std.specs.Prelude.{string_bytes, codes}
 use Rattle.std.specs.Fmt.{decimal}

@@ -1,4 +1,4 @@
--- The parts are written one behind the other.
+-- The parts are written one after the other.
 use Rattle.std.proofs.Common.{ℕ, ◌++◌, ap, ◌∙◌}
 use Rattle.std.proofs.lemmas.Result.{on_ok_weaker}
 use Rattle.std.specs.Prelude.{string_bytes}

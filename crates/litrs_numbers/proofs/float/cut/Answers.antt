@@ -7,8 +7,8 @@ use Rattle.litrs_base.specs.Refusal.{refusal_of}
 use Rattle.litrs_base.proofs.CharEnds.{no_span}
 use Rattle.litrs_grammar.specs.Literal.{kind_parse, float_literal}
 use Rattle.litrs_grammar.proofs.Refused.{is_refused}
-use Rattle.litrs_lex.proofs.SuffixBytes.{first_passes_at}
-use Rattle.litrs_lex.proofs.FloatBytes.{refusal-empty, refusal-no_digit}
+use Rattle.litrs_parts.proofs.SuffixBytes.{first_passes_at}
+use Rattle.litrs_parts.proofs.FloatBytes.{refusal-empty, refusal-no_digit}
 use Rattle.litrs_numbers.proofs.float.cut.Goals as goal
 
 pub returns-in_err-first-clause-refused : goal.returns-in_err-first-clause-refused

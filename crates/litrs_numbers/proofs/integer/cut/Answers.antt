@@ -8,7 +8,7 @@ use Rattle.litrs_base.specs.Refusal.{refusal_of}
 use Rattle.litrs_base.proofs.CharEnds.{no_span}
 use Rattle.litrs_grammar.specs.Literal.{kind_parse, integer_literal}
 use Rattle.litrs_grammar.proofs.Refused.{is_refused}
-use Rattle.litrs_lex.proofs.IntegerBytes.{refusal-empty, refusal-no_digit}
+use Rattle.litrs_parts.proofs.IntegerBytes.{refusal-empty, refusal-no_digit}
 use Rattle.litrs_numbers.proofs.integer.cut.Goals as goal
 
 pub returns-in_err-first_byte_or_empty-clause-refused : goal.returns-in_err-first_byte_or_empty-clause-refused

@@ -8,7 +8,7 @@ use Rattle.litrs_base.proofs.CharEnds.{no_span}
 use Rattle.litrs_grammar.specs.CharByte.{byte_kind}
 use Rattle.litrs_grammar.specs.Literal.{kind_parse, byte_literal}
 use Rattle.litrs_grammar.proofs.Refused.{is_refused}
-use Rattle.litrs_lex.proofs.CharByteBytes.{empty_start, byte_start}
+use Rattle.litrs_parts.proofs.CharByteBytes.{empty_start, byte_start}
 use Rattle.litrs_scalars.proofs.byte.cut.Goals as goal
 
 pub returns-in_err-first_byte_or_empty-clause-refused : goal.returns-in_err-first_byte_or_empty-clause-refused

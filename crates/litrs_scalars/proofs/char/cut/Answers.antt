@@ -7,7 +7,7 @@ use Rattle.litrs_base.proofs.CharEnds.{no_span}
 use Rattle.litrs_grammar.specs.CharByte.{char_kind}
 use Rattle.litrs_grammar.specs.Literal.{kind_parse, char_literal}
 use Rattle.litrs_grammar.proofs.Refused.{is_refused}
-use Rattle.litrs_lex.proofs.CharByteBytes.{empty_start, char_start, begins_get_at, quote_not_first}
+use Rattle.litrs_parts.proofs.CharByteBytes.{empty_start, char_start, begins_get_at, quote_not_first}
 use Rattle.litrs_scalars.proofs.char.cut.Goals as goal
 
 pub returns-in_err-first-clause-refused : goal.returns-in_err-first-clause-refused

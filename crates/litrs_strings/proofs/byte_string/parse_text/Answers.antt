@@ -7,7 +7,7 @@ use Rattle.litrs_base.proofs.CharEnds.{no_span}
 use Rattle.litrs_grammar.specs.StringKind.{byte_string_kind}
 use Rattle.litrs_grammar.specs.Quoted.{quoted_front}
 use Rattle.litrs_grammar.specs.Raw.{raw_front}
-use Rattle.litrs_bodies.proofs.StringFronts.{quoted_boundary, raw_boundary}
+use Rattle.litrs_lex.proofs.StringFronts.{quoted_boundary, raw_boundary}
 use Rattle.litrs_strings.proofs.ParsedStrings.{parsed_quoted, parsed_raw}
 use Rattle.litrs_strings.proofs.StringRefusals.{empty_start, other_start, quoted_error, raw_error}
 use Rattle.litrs_strings.proofs.byte_string.parse_text.Goals as goal

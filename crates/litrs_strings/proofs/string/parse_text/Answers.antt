@@ -3,8 +3,8 @@ use Rattle.std.proofs.lemmas.Result.{err_from_is_err_and, IfOk-weaker, IfErr-wea
 use Rattle.std.proofs.Common.{ap, ◌∙◌}
 use Rattle.litrs_base.specs.Refusal.{refusal_of}
 use Rattle.litrs_grammar.specs.StringKind.{string_kind}
-use Rattle.litrs_lex.proofs.CharByteBytes.{begins_get_at}
-use Rattle.litrs_bodies.proofs.StringFronts.{quoted_boundary, raw_boundary}
+use Rattle.litrs_parts.proofs.CharByteBytes.{begins_get_at}
+use Rattle.litrs_lex.proofs.StringFronts.{quoted_boundary, raw_boundary}
 use Rattle.litrs_strings.proofs.ParsedStrings.{parsed_quoted, parsed_raw}
 use Rattle.litrs_strings.proofs.StringRefusals.{empty_start, other_start, another_first, quoted_error, raw_error}
 use Rattle.litrs_strings.proofs.string.parse_text.Goals as goal

@@ -2,7 +2,7 @@
 use Rattle.std.proofs.Common.{ap, ◌∙◌}
 use Rattle.litrs_grammar.specs.Float.{number_part}
 use Rattle.litrs_numbers.specs.FloatLiteral.{FloatLiteral, float_parts}
-use Rattle.litrs_lex.proofs.FloatBytes.{number_part_at}
+use Rattle.litrs_parts.proofs.FloatBytes.{number_part_at}
 use Rattle.litrs_numbers.proofs.float.FloatLit.number_part.Goals as goal
 
 pub returns : goal.returns

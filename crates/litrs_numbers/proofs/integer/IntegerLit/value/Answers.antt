@@ -6,7 +6,7 @@ use Rattle.litrs_base.specs.declared.integer.IntegerBase.{IntegerBase}
 use Rattle.litrs_base.specs.Base.{base_value, is_digit_or_underscore}
 use Rattle.litrs_numbers.specs.IntegerLiteral.{IntegerLiteral, integer_parts}
 use Rattle.litrs_base.specs.Numeral.{numeral}
-use Rattle.litrs_lex.proofs.NumeralLemmas.{bytes_of_digits}
+use Rattle.litrs_parts.proofs.NumeralLemmas.{bytes_of_digits}
 use Rattle.litrs_numbers.proofs.integer.IntegerLit.value.Goals as goal
 
 pub value_of-requires : goal.value_of-requires

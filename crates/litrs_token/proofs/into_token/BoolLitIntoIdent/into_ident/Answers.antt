@@ -2,8 +2,8 @@
 use Rattle.std.proofs.Common.{ap, ◌∙◌}
 use Rattle.std.specs.Str.{chars}
 use Rattle.litrs_scalars.specs.BoolLiteral.{bool_value}
-use Rattle.litrs_trees.specs.Tokens.{is_ident}
-use Rattle.litrs_trees.proofs.Idents.{bool_is_ident}
+use Rattle.litrs_token.specs.Tokens.{is_ident}
+use Rattle.litrs_token.proofs.Idents.{bool_is_ident}
 use Rattle.litrs_token.proofs.into_token.BoolLitIntoIdent.into_ident.Goals as goal
 
 pub copied-requires : goal.copied-requires

@@ -1,5 +1,5 @@
 -- The text of the literal is one of its kind.
-use Rattle.litrs_trees.proofs.TokenTexts.{char_token}
+use Rattle.litrs_token.proofs.TokenTexts.{char_token}
 use Rattle.litrs_token.proofs.into_token.CharLitIntoToken.into_token.Goals as goal
 
 pub copied-requires : goal.copied-requires

@@ -1,5 +1,5 @@
 -- The text of the literal is one of its kind.
-use Rattle.litrs_trees.proofs.TokenTexts.{float_token}
+use Rattle.litrs_token.proofs.TokenTexts.{float_token}
 use Rattle.litrs_token.proofs.into_token.FloatLitIntoToken.into_token.Goals as goal
 
 pub copied-requires : goal.copied-requires

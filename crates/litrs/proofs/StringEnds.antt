@@ -1,0 +1,143 @@
+-- What begins a string of each kind, by its front.
+use Rattle.std.proofs.Common.{◌≡◌, ℕ, Bool, true, false, ◌&&◌, ◌||◌, ltb, List, [], ◌∷◌, ◌++◌, length, take, drop, refl, sym, ap, ◌∙◌, subst, arith}
+use Rattle.std.specs.Prelude.{◌↔◌, ◌==◌, IsTrue, codes}
+use Rattle.std.specs.List.{list_all}
+use Rattle.std.specs.Str.{chars, IsUtf8}
+use Rattle.std.proofs.lemmas.Bool.{and_left, or_from, eqb-true, eq-eqb, ne_eqb, both_ways}
+use Rattle.std.proofs.lemmas.Str.{chars-nil}
+use Rattle.litrs_base.specs.Text.{is_empty, begins_with}
+use Rattle.litrs_base.proofs.Chars.{chars_ascii, chars_empty, begins_with-chars, utf8_behind_ascii}
+use Rattle.litrs_grammar.specs.StringKind.{StringKind, string_kind, byte_string_kind, c_string_kind, switches_of}
+use Rattle.litrs_grammar.specs.Quoted.{quoted_front, IsQuoted}
+use Rattle.litrs_grammar.specs.Raw.{raw_front, has_unicode, allows_nul, IsRawOf, IsRawLiteral}
+use Rattle.litrs_grammar.specs.Continuation.{BeginsBy}
+use Rattle.litrs_grammar.specs.Literal.{IsString}
+use Rattle.litrs_grammar.specs.LiteralRefusals.{refused_start, quoted_start, raw_start, string_start, string_start_refusal}
+use Rattle.litrs_grammar.specs.StringGoesOn.{start_goes_on}
+use Rattle.litrs_grammar.proofs.LiteralLaws.{start_quoted, start_raw}
+use Rattle.litrs_grammar.proofs.LongerTexts.Literal.{chain, back, raw_begins_behind}
+use Rattle.litrs_grammar.proofs.LongerTexts.String.{quoted_string_begins, raw_string_begins, start_begins}
+use Rattle.litrs.proofs.Begins.{answer_is}
+use Rattle.litrs.proofs.Fronts.{front_chars, front_taken}
+
+-- one of two holds, and not the first
+pub or_else : (a b : Bool) → (a || b) ≡ true → a ≡ false → b ≡ true
+or_else true b h none = cc
+or_else false b h none = h
+
+-- Quoted
+
+quoted_low : (kind : StringKind) → list_all (λ c. ltb c 128) (quoted_front kind) ≡ true
+quoted_low string_kind = refl
+quoted_low byte_string_kind = refl
+quoted_low c_string_kind = refl
+
+pub quoted_string : (kind : StringKind) (bs : List ℕ) (b : Bool) → IsUtf8 bs →
+    begins_with (quoted_front kind) bs ≡ true →
+    IsTrue b ↔ BeginsBy (IsQuoted (chars (take (length (quoted_front kind)) bs)) (switches_of kind))
+    (chars bs) → IsTrue b ↔ BeginsBy (IsString kind) (chars bs)
+quoted_string kind bs b u begins is =
+    let start : string_start kind (chars bs) ≡ quoted_start =
+    ap (string_start kind) (sym (front_chars (quoted_front kind) bs (quoted_low kind) u begins))
+    ∙ start_quoted kind (chars (drop (length (quoted_front kind)) bs)) in
+    chain (subst (λ (front : List ℕ). IsTrue b ↔ BeginsBy (IsQuoted front (switches_of kind))
+    (chars bs)) (front_taken (quoted_front kind) bs (quoted_low kind) begins) is)
+    (back (quoted_string_begins kind (chars bs) start))
+
+-- Raw
+
+raw_low : (kind : StringKind) → list_all (λ c. ltb c 128) (raw_front kind) ≡ true
+raw_low string_kind = refl
+raw_low byte_string_kind = refl
+raw_low c_string_kind = refl
+
+pub raw_string : (kind : StringKind) (bs : List ℕ) (b : Bool) → IsUtf8 bs →
+    begins_with (raw_front kind) bs ≡ true →
+    IsTrue b ↔ BeginsBy (IsRawOf (has_unicode kind) (allows_nul kind))
+    (chars (drop (length (raw_front kind)) bs)) → IsTrue b ↔ BeginsBy (IsString kind) (chars bs)
+raw_string kind bs b u begins is =
+    let t = chars (drop (length (raw_front kind)) bs) in
+    let whole : raw_front kind ++ t ≡ chars bs =
+    front_chars (raw_front kind) bs (raw_low kind) u begins in
+    let start : string_start kind (chars bs) ≡ raw_start = ap (string_start kind) (sym whole)
+    ∙ start_raw kind t in
+    let behind : BeginsBy (IsRawOf (has_unicode kind) (allows_nul kind)) t
+    ↔ BeginsBy (IsRawLiteral kind) (chars bs) =
+    subst (λ (l : List ℕ). BeginsBy (IsRawOf (has_unicode kind) (allows_nul kind)) t
+    ↔ BeginsBy (IsRawLiteral kind) l) whole (back (raw_begins_behind kind t)) in
+    chain is (chain behind (back (raw_string_begins kind (chars bs) start)))
+
+-- Neither
+
+other_way : (a c : ℕ) → (a == c) ≡ false → (c == a) ≡ false
+other_way a c h = ne_eqb c a (λ same. both_ways (a == c) h (eq-eqb a c (sym same)))
+
+-- a character after the `c` that neither front has
+two_goes : (c : ℕ) (t : List ℕ) → begins_with (codes "c\"") (99 ∷ c ∷ t) ≡ false →
+    begins_with (codes "cr") (99 ∷ c ∷ t) ≡ false → start_goes_on c_string_kind (99 ∷ c ∷ t) ≡ false
+two_goes c t quote raw =
+    or_from _ _
+    (and_left (c == 34) _ (other_way 34 c (alone (34 == c) quote)))
+    (and_left (c == 114) _ (other_way 114 c (alone (114 == c) raw)))
+  where
+    alone : (b : Bool) → (b && true) ≡ false → b ≡ false
+    alone true h = cc
+    alone false h = refl
+
+lone_goes : (t : List ℕ) (n : ℕ) (bs : List ℕ) → t ≡ chars bs → IsUtf8 bs → bs ≡ 99 ∷ drop 1 bs →
+    begins_with (codes "c\"") t ≡ false → begins_with (codes "cr") t ≡ false → n ≡ length bs →
+    (n == 1) ≡ start_goes_on c_string_kind t
+lone_goes t n [] same u first quote raw is_len = cc
+lone_goes t n (b ∷ []) same u first quote raw is_len =
+    let at : b ≡ 99 = cc in
+    let whole : t ≡ 99 ∷ [] = same ∙ ap (λ k. chars (k ∷ [])) at ∙ chars_ascii 99 [] (omega arith)
+    ∙ ap (λ l. 99 ∷ l) chars-nil in
+    ap (λ k. k == 1) is_len ∙ sym (ap (start_goes_on c_string_kind) whole)
+lone_goes t n (b ∷ d ∷ bs) same u first quote raw is_len = by (chars (d ∷ bs)) refl
+  where
+    at : b ≡ 99
+    at = cc
+
+    whole : t ≡ 99 ∷ chars (d ∷ bs)
+    whole = same ∙ ap (λ k. chars (k ∷ d ∷ bs)) at ∙ chars_ascii 99 (d ∷ bs) (omega arith)
+
+    some : is_empty (chars (d ∷ bs)) ≡ false
+    some = chars_empty (d ∷ bs) (utf8_behind_ascii b (d ∷ bs) (omega (arith, at)) u)
+        ∙ ne_eqb (length (d ∷ bs)) 0 (λ h. omega arith)
+
+    by : (s : List ℕ) → chars (d ∷ bs) ≡ s → (n == 1) ≡ start_goes_on c_string_kind t
+    by [] is = absurd (both_ways _ some (ap is_empty is))
+    by (c ∷ s) is =
+        let text : t ≡ 99 ∷ c ∷ s = whole ∙ ap (λ l. 99 ∷ l) is in
+        ne_eqb n 1 (λ h. omega arith)
+        ∙ sym (ap (start_goes_on c_string_kind) text
+        ∙ two_goes c s (ap (begins_with (codes "c\"")) (sym text) ∙ quote)
+        (ap (begins_with (codes "cr")) (sym text) ∙ raw))
+
+pub lone_string : (bs : List ℕ) (n : ℕ) → IsUtf8 bs → begins_with (codes "c") bs ≡ true →
+    begins_with (codes "c\"") bs ≡ false → begins_with (codes "cr") bs ≡ false → n ≡ length bs →
+    IsTrue (n == 1) ↔ BeginsBy (IsString c_string_kind) (chars bs)
+lone_string bs n u begins quote raw is_len =
+    let t = chars bs in
+    let no_quote : begins_with (codes "c\"") t ≡ false = begins_with-chars (codes "c\"") bs refl u
+    ∙ quote in
+    let no_raw : begins_with (codes "cr") t ≡ false = begins_with-chars (codes "cr") bs refl u
+    ∙ raw in
+    let start : string_start c_string_kind t ≡ refused_start (string_start_refusal c_string_kind) =
+    rw (some bs u begins, no_quote, no_raw) refl in
+    answer_is (n == 1) (start_goes_on c_string_kind t)
+    (lone_goes t n bs refl u (first bs begins) no_quote no_raw is_len)
+    (back (start_begins c_string_kind t (string_start_refusal c_string_kind) start))
+  where
+    first : (bs : List ℕ) → begins_with (codes "c") bs ≡ true → bs ≡ 99 ∷ drop 1 bs
+    first [] h = cc
+    first (b ∷ bs) h = ap (λ k. k ∷ bs) (sym (eqb-true 99 b (alone (99 == b) h)))
+      where
+        alone : (v : Bool) → (v && true) ≡ true → v ≡ true
+        alone true e = refl
+        alone false e = cc
+
+    some : (bs : List ℕ) → IsUtf8 bs → begins_with (codes "c") bs ≡ true →
+        is_empty (chars bs) ≡ false
+    some [] u h = cc
+    some (b ∷ bs) u h = chars_empty (b ∷ bs) u ∙ ne_eqb (length (b ∷ bs)) 0 (λ e. omega arith)

@@ -1,0 +1,44 @@
+//! Which texts begin a literal: they are one, or become one with some text appended.
+ghost use Rattle.std.specs.Prelude.{◌↔◌, IsTrue};
+ghost use Rattle.std.specs.Str.{chars};
+ghost use Rattle.litrs_grammar.specs.Literal.{literal_parse, Begins};
+
+use char::{byte_goes_on, char_goes_on};
+use dispatch::{Row, dispatch};
+use number::number_goes_on;
+use string::{byte_string_goes_on, c_string_goes_on, string_goes_on};
+use word::word_goes_on;
+
+mod char;
+mod dispatch;
+mod escape;
+mod front;
+mod number;
+mod quoted;
+mod raw;
+mod string;
+mod suffix;
+mod word;
+
+/// Whether the text, or the text with some text appended, is a literal of any kind.
+///
+/// It is true of the empty text, `fals`, `12`, `1e+_`, `'a`, `"a"_` and `"\u{d800`, and false of
+/// `cat`, `0xg`, `1e+x`, `'ab`, `"\q` and `"\u{00d800`. Where it is false no further input makes
+/// the text a literal: so it is after each final refusal, and after no open one. It does not
+/// allocate. See [the reference][ref].
+///
+/// [ref]: https://doc.rust-lang.org/reference/tokens.html#literals
+pub fn goes_on(text: &str) -> bool
+    ensures { IsTrue result ↔ Begins literal_parse (chars text.now) }
+{
+    match dispatch(text) {
+        Row::Empty | Row::Bool => true,
+        Row::Number => number_goes_on(text),
+        Row::Char => char_goes_on(text),
+        Row::Byte => byte_goes_on(text),
+        Row::String => string_goes_on(text),
+        Row::ByteString => byte_string_goes_on(text),
+        Row::CString => c_string_goes_on(text),
+        Row::Unnamed => word_goes_on(text.as_bytes()),
+    }
+}

@@ -1,0 +1,102 @@
+//! Escapes.
+ghost use Rattle.std.specs.Prelude.{◌≡◌, ◌↔◌, ◌&&◌, ◌==◌, Bool, true, count_by, IsTrue};
+ghost use Rattle.std.specs.Char.{is_ascii_hexdigit};
+ghost use Rattle.std.specs.Str.{chars};
+ghost use Rattle.litrs_base.specs.Characters.{backslash, is_scalar, is_no_nul_unless};
+ghost use Rattle.litrs_base.specs.Text.{first_passes};
+ghost use Rattle.litrs_grammar.specs.EscapeGoesOn.{BeginsEscape, escape_goes_on, hex_goes_on, braces_go_on, inner_goes_on};
+ghost use Rattle.litrs_parts.specs.Unescaped.{switches};
+
+use litrs_parts::escape::hex_digits;
+use litrs_parts::{hex_digit_value, unescape};
+
+/// Whether a text that begins with a backslash begins an escape: it is one, or becomes one. The
+/// switches are those of [`unescape`].
+pub(crate) fn escape_goes_on(text: &str, unicode: bool, byte_escapes: bool, allow_nul: bool) -> bool
+    requires { IsTrue (first_passes (λ c. c == backslash) text.now) }
+    ensures { IsTrue result
+        ↔ BeginsEscape (switches unicode byte_escapes allow_nul) (chars text.now) }
+{
+    match unescape(text, unicode, byte_escapes, allow_nul) {
+        Ok((_, len)) => len == text.len(),
+        Err(_) => {
+            let behind = &text.as_bytes()[1..];
+            refused_escape_goes_on(behind, unicode, byte_escapes, allow_nul)
+        }
+    }
+}
+
+/// Whether a refused escape becomes one, by what follows the backslash.
+pub(crate) fn refused_escape_goes_on(
+    behind: &[u8],
+    unicode: bool,
+    byte_escapes: bool,
+    allow_nul: bool,
+) -> bool
+    ensures { result ≡ escape_goes_on (switches unicode byte_escapes allow_nul) behind.now }
+{
+    match behind {
+        [] => true,
+        [b'x', digits @ ..] => hex_goes_on(digits, byte_escapes),
+        [b'u', braces @ ..] => unicode && braces_go_on(braces, allow_nul),
+        _ => false,
+    }
+}
+
+/// The same by what follows `\x`: nothing, or one hex digit, with which `1` is allowed.
+fn hex_goes_on(digits: &[u8], byte_escapes: bool) -> bool
+    ensures { (unicode allow_nul : Bool) →
+        result ≡ hex_goes_on (switches unicode byte_escapes allow_nul) digits.now }
+{
+    match digits {
+        [] => true,
+        [high] => match hex_digit_value(*high) {
+            Some(high) => byte_escapes || high < 8,
+            None => false,
+        },
+        _ => false,
+    }
+}
+
+/// The same by what follows `\u`, where such escapes are allowed.
+fn braces_go_on(braces: &[u8], allow_nul: bool) -> bool
+    ensures { (byte_escapes : Bool) →
+        result ≡ braces_go_on (switches true byte_escapes allow_nul) braces.now }
+{
+    match braces {
+        [] => true,
+        [b'{', inner @ ..] => inner_goes_on(inner, allow_nul),
+        _ => false,
+    }
+}
+
+/// The same by what follows `\u{`: nothing, or hex digits and underscores, a digit first. A
+/// digit or a brace mends at most five digits, and a brace alone the value of six.
+fn inner_goes_on(inner: &[u8], allow_nul: bool) -> bool
+    ensures { (byte_escapes : Bool) →
+        result ≡ inner_goes_on (switches true byte_escapes allow_nul) inner.now }
+{
+    match inner {
+        [] => true,
+        [first, ..] if first.is_ascii_hexdigit() => {
+            let digits = hex_digits(inner);
+            let is_all = digits.len == inner.len();
+            is_all && (hex_digit_count(inner) < 6 || is_value(digits.value, allow_nul))
+        }
+        _ => false,
+    }
+}
+
+/// How many hex digits are among the bytes.
+fn hex_digit_count(bytes: &[u8]) -> usize
+    ensures { result ≡ count_by is_ascii_hexdigit bytes.now }
+{
+    bytes.iter().filter(|b| b.is_ascii_hexdigit()).count()
+}
+
+/// Whether a `\u{..}` may have this value.
+fn is_value(value: u32, allow_nul: bool) -> bool
+    ensures { result ≡ (is_no_nul_unless allow_nul value && is_scalar value) }
+{
+    (allow_nul || value != 0) && char::from_u32(value).is_some()
+}

@@ -1,0 +1,37 @@
+//! Integers and floats.
+ghost use Rattle.std.specs.Prelude.{◌≡◌, ◌↔◌, IsTrue, length};
+ghost use Rattle.std.specs.Char.{is_ascii_digit};
+ghost use Rattle.std.specs.Str.{chars};
+ghost use Rattle.litrs_base.specs.Refusal.{refusal_of};
+ghost use Rattle.litrs_base.specs.Text.{first_passes};
+ghost use Rattle.litrs_grammar.specs.Literal.{kind_parse, Begins};
+ghost use Rattle.litrs_parts.specs.NumberCut.{number_kind};
+ghost use Rattle.litrs.specs.LacksDigits.{lacks_digits};
+
+use litrs_parts::{ParseError, ParseErrorKind, cut_number};
+
+/// Whether a text that begins with a decimal digit begins a number of the kind that it is parsed
+/// as.
+pub(crate) fn number_goes_on(text: &str) -> bool
+    requires { IsTrue (first_passes is_ascii_digit text.now) }
+    ensures { IsTrue result
+        ↔ Begins (kind_parse (number_kind (chars text.now))) (chars text.now) }
+{
+    match cut_number(text) {
+        Ok(_) => true,
+        Err(e) => lacks_digits(&e, text.len()),
+    }
+}
+
+/// Whether a number of so many bytes is refused since it has no digits at its end: `0x` and `1e+_`
+/// are, and `0xg` is not.
+fn lacks_digits(refusal: &ParseError, len: usize) -> bool
+    ensures { result ≡ lacks_digits (refusal_of refusal.now) len }
+{
+    match refusal.kind() {
+        ParseErrorKind::NoDigits | ParseErrorKind::NoExponentDigits => {
+            matches!(refusal.span(), Some(span) if span.end == len)
+        }
+        _ => false,
+    }
+}

@@ -1,0 +1,54 @@
+//! Raw strings, byte strings and C strings.
+ghost use Rattle.std.specs.Prelude.{◌≡◌, ◌↔◌, ◌&&◌, nat_le, length, drop, IsTrue};
+ghost use Rattle.std.specs.List.{list_all};
+ghost use Rattle.std.specs.Str.{chars, IsCharBoundary};
+ghost use Rattle.litrs_base.specs.Refusal.{refusal_of, span_of, IsInText};
+ghost use Rattle.litrs_grammar.specs.Continuation.{BeginsBy};
+ghost use Rattle.litrs_grammar.specs.Raw.{is_hash, IsRawOf};
+ghost use Rattle.litrs.specs.LastUnderscore.{points_at_last_underscore};
+
+use litrs_lex::scan_raw_string;
+use litrs_parts::{ParseError, ParseErrorKind};
+
+/// Whether a text begins a raw literal whose `r` ends at `offset`. The place and the switches are
+/// those of [`scan_raw_string`].
+pub(crate) fn raw_goes_on(text: &str, offset: usize, unicode: bool, allow_nul: bool) -> bool
+    requires { IsCharBoundary text.now offset }
+    ensures { IsTrue result
+        ↔ BeginsBy (IsRawOf unicode allow_nul) (chars (drop offset text.now)) }
+{
+    match scan_raw_string(text, offset, unicode, allow_nul) {
+        Ok(_) => true,
+        Err(e) => match e.kind() {
+            ParseErrorKind::UnterminatedRawString => true,
+            ParseErrorKind::InvalidLiteral => are_opening_hashes(&text.as_bytes()[offset..]),
+            ParseErrorKind::InvalidSuffix => points_at_last_underscore(&e, text),
+            _ => false,
+        },
+    }
+}
+
+/// Whether all are hashes, and no more than a raw literal may have.
+fn are_opening_hashes(bytes: &[u8]) -> bool
+    ensures { result ≡ (nat_le (length bytes.now) 255 && list_all is_hash bytes.now) }
+{
+    bytes.len() <= 255 && are_hashes(bytes)
+}
+
+/// Whether all are hashes.
+fn are_hashes(bytes: &[u8]) -> bool
+    ensures { result ≡ list_all is_hash bytes.now }
+{
+    bytes.iter().all(|b| *b == b'#')
+}
+
+/// Whether the refusal points at an underscore that ends the text: a suffix that lacks its letters.
+fn points_at_last_underscore(refusal: &ParseError, text: &str) -> bool
+    requires { IsInText (chars text.now) (refusal_of refusal.now) }
+    ensures { result ≡ points_at_last_underscore (span_of refusal.now) text.now }
+{
+    match refusal.span() {
+        Some(span) => matches!(&text[span.start..], "_"),
+        None => false,
+    }
+}

@@ -1,0 +1,16 @@
+//! Suffixes.
+ghost use Rattle.std.specs.Prelude.{◌↔◌, IsTrue};
+ghost use Rattle.std.specs.Str.{chars};
+ghost use Rattle.litrs.specs.Begins.{BeginsSuffix};
+
+use litrs_parts::check_suffix;
+
+/// Whether the text begins a suffix: it is one, or the `_` that stands alone.
+pub(crate) fn suffix_goes_on(suffix: &str) -> bool
+    ensures { IsTrue result ↔ BeginsSuffix (chars suffix.now) }
+{
+    match suffix {
+        "_" => true,
+        _ => check_suffix(suffix).is_ok(),
+    }
+}

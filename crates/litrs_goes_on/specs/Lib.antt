@@ -1,4 +1,0 @@
-pub mod Row
-pub mod Begins
-pub mod LacksDigits
-pub mod LastUnderscore

@@ -1,0 +1,208 @@
+-- Runs of plain characters, from a search in bytes. How many bytes pass a test that has one answer for all characters from
+-- 128 on is how many the characters have that pass.
+use Rattle.std.proofs.Common.{◌≡◌, ℕ, zero, suc, ◌+◌, ◌<◌, ◌≤◌, Bool, true, false, cond, ltb, List, [], ◌∷◌, ◌++◌, length, drop, take, get_or, refl, sym, ap, subst, ◌∙◌, arith, inl, inr, append_assoc, length-append}
+use Rattle.std.specs.Prelude.{encode_utf8, encode_utf8_all}
+use Rattle.std.specs.List.{prefix_len, list_all, take_while}
+use Rattle.std.specs.Str.{chars, IsUtf8, IsCharBoundary}
+use Rattle.std.proofs.lemmas.Bool.{cases_lt}
+use Rattle.std.proofs.lemmas.List.{append-nil, take-append-drop, drop-drop, length-drop}
+use Rattle.std.proofs.lemmas.List.Sums.{prefix_len-le-length}
+use Rattle.std.proofs.Math.Seq.{drop-append_seam}
+use Rattle.litrs_search.specs.Special.{is_ordinary}
+use Rattle.litrs_lex.specs.QuotedItems.{IsPlainRun}
+use Rattle.litrs_parts.specs.Unescaped.{switches}
+use Rattle.std.proofs.lemmas.Str.{chars-nil, encode_ascii, inside_one, length-encode, len_utf8_bounds, encodes-chars, encodes-append, chars_from_encodes, IsUtf8-past_char, IsCharBoundary-from_drop, IsUtf8-drop}
+use Rattle.litrs_base.specs.Text.{byte_len, first_passes}
+use Rattle.litrs_base.proofs.Chars.{chars_ascii, chars_wide}
+use Rattle.std.specs.Prelude.{not, ◌&&◌, ◌||◌, ◌==◌}
+use Rattle.std.proofs.lemmas.Bool.{ne_eqb, ltb-true, and_from}
+use Rattle.litrs_base.specs.Characters.{is_ascii, is_ascii_unless, is_no_nul_unless}
+use Rattle.litrs_grammar.specs.Escape.{Switches}
+use Rattle.litrs_grammar.specs.Quoted.{is_plain}
+
+abbrev pub AlikeFrom128 : (ℕ → Bool) → Bool → Type 0
+AlikeFrom128 p h = (c : ℕ) → 128 ≤ c → p c ≡ h
+
+-- a byte of a character from 128 on is from 128 on
+pub high_bytes : (c i : ℕ) → 128 ≤ c → i < length (encode_utf8 c) → 128 ≤ get_or (encode_utf8 c) i 0
+high_bytes c i wide inside = elim (cases_lt (get_or (encode_utf8 c) i 0) 128) [
+  | inl low ↦ (let same = inside_one c [] (encode_utf8 c) i (sym (append-nil (encode_utf8 c))) inside low in absurd (omega arith))
+  | inr high ↦ high
+]
+
+-- all of them pass, or the first fails
+pub prefix_len-from_places : (p : ℕ → Bool) (bs x : List ℕ) (h : Bool) → ((i : ℕ) → i < length bs → p (get_or bs i 0) ≡ h) → 0 < length bs →
+    prefix_len p (bs ++ x) ≡ cond h (length bs + prefix_len p x) 0
+prefix_len-from_places p [] x h pass some = absurd (omega arith)
+prefix_len-from_places p (b ∷ []) x h pass some = rw (pass 0 (omega arith)) refl
+prefix_len-from_places p (b ∷ d ∷ bs) x false pass some = rw (pass 0 (omega arith)) refl
+prefix_len-from_places p (b ∷ d ∷ bs) x true pass some =
+    let rec = prefix_len-from_places p (d ∷ bs) x true (λ i inside. pass (suc i) (omega arith)) (omega arith) in
+    ap (λ v. cond v (1 + prefix_len p ((d ∷ bs) ++ x)) 0) (pass 0 (omega arith)) ∙ omega (arith, rec)
+
+low_case : (p : ℕ → Bool) (c : ℕ) (cs run : List ℕ) (b : Bool) → p c ≡ b → prefix_len p (encode_utf8_all cs) ≡ byte_len run → c < 128 →
+    prefix_len p (encode_utf8 c ++ encode_utf8_all cs) ≡ byte_len (cond b (c ∷ run) [])
+low_case p c cs run false is rec low =
+    ap (λ l. prefix_len p (l ++ encode_utf8_all cs)) (encode_ascii c low) ∙ ap (λ v. cond v (1 + prefix_len p (encode_utf8_all cs)) 0) is
+low_case p c cs run true is rec low =
+    let a : prefix_len p (encode_utf8 c ++ encode_utf8_all cs) ≡ 1 + prefix_len p (encode_utf8_all cs) =
+    ap (λ l. prefix_len p (l ++ encode_utf8_all cs)) (encode_ascii c low) ∙ ap (λ v. cond v (1 + prefix_len p (encode_utf8_all cs)) 0) is in
+    let b : length (encode_utf8 c ++ encode_utf8_all run) ≡ suc (length (encode_utf8_all run)) = ap (λ l. length (l ++ encode_utf8_all run)) (encode_ascii c low) in
+    omega (arith, a, b, rec)
+
+wide_case : (p : ℕ → Bool) (h : Bool) (c : ℕ) (cs run : List ℕ) (b : Bool) → AlikeFrom128 p h → p c ≡ b → prefix_len p (encode_utf8_all cs) ≡ byte_len run → 128 ≤ c →
+    prefix_len p (encode_utf8 c ++ encode_utf8_all cs) ≡ byte_len (cond b (c ∷ run) [])
+wide_case p h c cs run b alike is rec wide =
+    let same : h ≡ b = sym (alike c wide) ∙ is in
+    let size = length-encode c in let some = len_utf8_bounds c in
+    let a = prefix_len-from_places p (encode_utf8 c) (encode_utf8_all cs) b (λ i inside. alike _ (high_bytes c i wide inside) ∙ same) (omega arith) in
+    by b a
+  where
+    by : (v : Bool) → prefix_len p (encode_utf8 c ++ encode_utf8_all cs) ≡ cond v (length (encode_utf8 c) + prefix_len p (encode_utf8_all cs)) 0 →
+        prefix_len p (encode_utf8 c ++ encode_utf8_all cs) ≡ byte_len (cond v (c ∷ run) [])
+    by false a = a
+    by true a = a ∙ (ap (λ n. length (encode_utf8 c) + n) rec ∙ sym (length-append (encode_utf8 c) (encode_utf8_all run)))
+
+pub take_while-cons : (p : ℕ → Bool) (c : ℕ) (cs : List ℕ) (b : Bool) → p c ≡ b → take_while p (c ∷ cs) ≡ cond b (c ∷ take_while p cs) []
+take_while-cons p c cs false is = ap (λ v. take (cond v (1 + prefix_len p cs) 0) (c ∷ cs)) is
+take_while-cons p c cs true is =
+    let one : 1 + prefix_len p cs ≡ suc (prefix_len p cs) = omega arith in
+    ap (λ v. take (cond v (1 + prefix_len p cs) 0) (c ∷ cs)) is ∙ ap (λ n. take n (c ∷ cs)) one
+
+-- how many bytes pass is how many the characters have that pass
+pub run_len : (p : ℕ → Bool) (h : Bool) → AlikeFrom128 p h → (cs : List ℕ) → prefix_len p (encode_utf8_all cs) ≡ byte_len (take_while p cs)
+run_len p h alike [] = refl
+run_len p h alike (c ∷ cs) =
+    let rec = run_len p h alike cs in
+    elim (cases_lt c 128) [
+      | inl low ↦ low_case p c cs (take_while p cs) (p c) refl rec low ∙ ap byte_len (sym (take_while-cons p c cs (p c) refl))
+      | inr wide ↦ wide_case p h c cs (take_while p cs) (p c) alike refl rec wide ∙ ap byte_len (sym (take_while-cons p c cs (p c) refl))
+    ]
+
+not_ascii : (d : ℕ) → 128 ≤ d → is_ascii d ≡ false
+not_ascii d high = go (ltb d 128) refl
+  where
+    go : (b : Bool) → ltb d 128 ≡ b → is_ascii d ≡ false
+    go false e = e
+    go true e = let low = ltb-true d 128 e in absurd (omega arith)
+
+high_rest : (c : ℕ) (u n : Bool) → 128 ≤ c → (is_ascii_unless u c && is_no_nul_unless n c) ≡ u
+high_rest c true true wide = refl
+high_rest c true false wide = ap not (ne_eqb c 0 (λ e. omega arith))
+high_rest c false n wide = ap (λ b. b && is_no_nul_unless n c) (not_ascii c wide)
+
+-- the test of plain characters is such a test
+pub plain_alike : (w : Switches) → AlikeFrom128 (is_plain w) w.unicode
+plain_alike w c wide =
+    let a = ne_eqb c 34 (λ e. omega arith) in
+    let b = ne_eqb c 92 (λ e. omega arith) in
+    let d = ne_eqb c 13 (λ e. omega arith) in
+    rw a (rw b (rw d (high_rest c w.unicode w.allow_nul wide)))
+
+list_all-step : (p : ℕ → Bool) (c : ℕ) (cs : List ℕ) (b : Bool) → p c ≡ b → list_all p (take_while p cs) ≡ true → list_all p (take_while p (c ∷ cs)) ≡ true
+list_all-step p c cs false is rec = ap (list_all p) (take_while-cons p c cs false is)
+list_all-step p c cs true is rec = ap (list_all p) (take_while-cons p c cs true is) ∙ and_from _ _ is rec
+
+pub list_all-take : (p : ℕ → Bool) (cs : List ℕ) → list_all p (take_while p cs) ≡ true
+list_all-take p [] = refl
+list_all-take p (c ∷ cs) = list_all-step p c cs (p c) refl (list_all-take p cs)
+
+pub utf8_behind : (run bs rest : List ℕ) → IsUtf8 bs → bs ≡ encode_utf8_all run ++ rest → IsUtf8 rest
+utf8_behind [] bs rest u same = subst (λ (l : List ℕ). IsUtf8 l) same u
+utf8_behind (c ∷ run) bs rest u same =
+    let split : bs ≡ encode_utf8 c ++ (encode_utf8_all run ++ rest) = same ∙ append_assoc (encode_utf8 c) (encode_utf8_all run) rest in
+    utf8_behind run (encode_utf8_all run ++ rest) rest (IsUtf8-past_char bs (encode_utf8_all run ++ rest) c u split) refl
+
+-- the first byte after the run does not pass, nor does the first character
+first_stops : (p : ℕ → Bool) (b : ℕ) (bs : List ℕ) (v : Bool) → p b ≡ v → first_passes p (drop (prefix_len p bs) bs) ≡ false →
+    first_passes p (drop (cond v (1 + prefix_len p bs) 0) (b ∷ bs)) ≡ false
+first_stops p b bs false is rec = is
+first_stops p b bs true is rec =
+    let one : 1 + prefix_len p bs ≡ suc (prefix_len p bs) = omega arith in ap (λ n. first_passes p (drop n (b ∷ bs))) one ∙ rec
+
+pub stops_at : (p : ℕ → Bool) (bs : List ℕ) → first_passes p (drop (prefix_len p bs) bs) ≡ false
+stops_at p [] = refl
+stops_at p (b ∷ bs) = first_stops p b bs (p b) refl (stops_at p bs)
+
+pub first_passes-alike : (p : ℕ → Bool) (h : Bool) (bs : List ℕ) → AlikeFrom128 p h → IsUtf8 bs → first_passes p (chars bs) ≡ first_passes p bs
+first_passes-alike p h [] alike u = ap (first_passes p) chars-nil
+first_passes-alike p h (b ∷ bs) alike u = elim (cases_lt b 128) [
+  | inl low ↦ ap (first_passes p) (chars_ascii b bs low)
+  | inr high ↦ (let w = chars_wide b bs high u in ap (first_passes p) w.is ∙ (alike w.first w.wide ∙ sym (alike b high)))
+]
+
+-- the bytes from a place on up to the first that is no plain character are a run
+pub plain_run : (w : Switches) (bytes : List ℕ) (from end : ℕ) → IsUtf8 bytes → IsCharBoundary bytes from → end ≡ from + prefix_len (is_plain w) (drop from bytes) →
+    IsPlainRun w bytes from end
+plain_run w bytes from end whole start is =
+    let p = is_plain w in
+    let bs = drop from bytes in
+    let u : IsUtf8 bs = IsUtf8-drop bytes from whole start in
+    let cs = chars bs in
+    let m = prefix_len p cs in
+    let enc : encode_utf8_all cs ≡ bs = encodes-chars bs u in
+    let n : prefix_len p bs ≡ length (encode_utf8_all (take m cs)) = ap (prefix_len p) (sym enc) ∙ run_len p w.unicode (plain_alike w) cs in
+    let both : bs ≡ encode_utf8_all (take m cs) ++ encode_utf8_all (drop m cs) =
+    sym enc ∙ (ap encode_utf8_all (sym (take-append-drop m cs)) ∙ encodes-append (take m cs) (drop m cs)) in
+    let seam : drop (prefix_len p bs) bs ≡ encode_utf8_all (drop m cs) =
+    ap (λ k. drop k bs) n ∙ (ap (drop (length (encode_utf8_all (take m cs)))) both ∙ drop-append_seam (encode_utf8_all (take m cs)) (encode_utf8_all (drop m cs))) in
+    let same : drop (prefix_len p bs) bs ≡ drop end bytes = drop-drop (prefix_len p bs) from bytes ∙ ap (λ k. drop k bytes) (sym is) in
+    let behind : drop end bytes ≡ encode_utf8_all (drop m cs) = sym same ∙ seam in
+    let text : IsUtf8 (drop end bytes) = utf8_behind (take m cs) bs _ u (both ∙ ap (λ l. encode_utf8_all (take m cs) ++ l) (sym behind)) in
+    let rest : drop m cs ≡ chars (drop end bytes) = chars_from_encodes (drop m cs) _ text (sym behind) in
+    let fits : end ≤ length bytes = omega (arith, prefix_len-le-length p bs, length-drop from bytes, start.0) in record {
+      run = take m cs;
+      split = sym (take-append-drop m cs) ∙ ap (λ l. take m cs ++ l) rest;
+      plain = list_all-take p cs;
+      size = omega arith;
+      boundary = IsCharBoundary-from_drop bytes end fits text;
+      stops = first_passes-alike p w.unicode _ (plain_alike w) text ∙ (ap (first_passes p) (sym same) ∙ stops_at p bs);
+    }
+
+-- the search stops at what is no plain character, where it looks for backslashes, and for the bytes that the switches exclude
+same_tests : (quote return slash zero ascii u n : Bool) →
+    not (quote || return || (true && slash) || (not n && zero) || (not u && not ascii)) ≡ (not quote && not slash && not return && (u || ascii) && (n || not zero))
+same_tests true r s z a u n = refl
+same_tests false true true z a u n = refl
+same_tests false true false z a u n = refl
+same_tests false false true z a u n = refl
+same_tests false false false true a true true = refl
+same_tests false false false true a true false = refl
+same_tests false false false true true false true = refl
+same_tests false false false true true false false = refl
+same_tests false false false true false false true = refl
+same_tests false false false true false false false = refl
+same_tests false false false false a true true = refl
+same_tests false false false false a true false = refl
+same_tests false false false false true false true = refl
+same_tests false false false false true false false = refl
+same_tests false false false false false false true = refl
+same_tests false false false false false false false = refl
+
+prefix_len-same : (p q : ℕ → Bool) → ((b : ℕ) → p b ≡ q b) → (bs : List ℕ) → prefix_len p bs ≡ prefix_len q bs
+prefix_len-same p q same [] = refl
+prefix_len-same p q same (b ∷ bs) =
+    ap (λ v. cond v (1 + prefix_len p bs) 0) (same b) ∙ ap (λ n. cond (q b) (1 + n) 0) (prefix_len-same p q same bs)
+
+pub special_run : (u e n : Bool) (text bytes : List ℕ) (from end : ℕ) → bytes ≡ text →
+    end ≡ from + prefix_len (is_ordinary (record { backslash = true; nul = not n; non_ascii = not u })) (drop from bytes) →
+    end ≡ from + prefix_len (is_plain (switches u e n)) (drop from text)
+special_run u e n text bytes from end is place =
+    let same = prefix_len-same (is_ordinary (record { backslash = true; nul = not n; non_ascii = not u })) (is_plain (switches u e n))
+    (λ b. same_tests (b == 34) (b == 13) (b == 92) (b == 0) (is_ascii b) u n) (drop from bytes) in
+    let last : prefix_len (is_plain (switches u e n)) (drop from bytes) ≡ prefix_len (is_plain (switches u e n)) (drop from text) =
+    ap (λ (l : List ℕ). prefix_len (is_plain (switches u e n)) (drop from l)) is in
+    omega arith
+
+-- no plain character stands at a backslash
+slash_first : (w : Switches) (bytes : List ℕ) (n : ℕ) → n < length bytes → get_or bytes n 0 ≡ 92 → prefix_len (is_plain w) (drop n bytes) ≡ 0
+slash_first w [] n inside h = absurd (omega arith)
+slash_first w (b ∷ bytes) zero inside h = ap (λ c. prefix_len (is_plain w) (c ∷ bytes)) h
+slash_first w (b ∷ bytes) (suc n) inside h = slash_first w bytes n (omega arith) h
+
+pub empty_run : (w : Switches) (bytes seen : List ℕ) (from : ℕ) → IsUtf8 bytes → IsCharBoundary bytes from → seen ≡ bytes → from < length seen → get_or seen from 0 ≡ 92 →
+    IsPlainRun w bytes from from
+empty_run w bytes seen from u start same inside slash =
+    let size = ap length same in
+    let none : prefix_len (is_plain w) (drop from bytes) ≡ 0 = slash_first w bytes from (omega arith) (ap (λ (l : List ℕ). get_or l from 0) (sym same) ∙ slash) in
+    plain_run w bytes from from u start (omega arith)

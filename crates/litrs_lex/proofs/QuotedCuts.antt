@@ -1,0 +1,172 @@
+-- The cut of a quoted literal, and its refusal, from where its items end.
+use Rattle.std.proofs.Common.{◌≡◌, ℕ, ◌+◌, ◌-◌, ◌≤◌, ◌<◌, ◌^◌, ◌==◌, Bool, true, false, not, List, [], ◌∷◌, ◌++◌, length, drop, take, refl, sym, ap, subst, ◌∙◌, append_assoc, arith, Some, None}
+use Rattle.std.specs.Prelude.{encode_utf8_all, slice_range}
+use Rattle.std.specs.Str.{chars, IsUtf8, IsCharBoundary}
+use Rattle.std.proofs.lemmas.Bool.{ne_eqb, eq-eqb, true≢false}
+use Rattle.std.proofs.lemmas.Str.{encodes-chars, encodes-append, chars_from_encodes, IsUtf8-drop, IsUtf8-take}
+use Rattle.std.proofs.Math.Seq.{take-append_seam}
+use Rattle.litrs_base.specs.declared.err.ParseError.{ParseError}
+use Rattle.litrs_base.specs.Refusal.{Refusal, refusal_of, IsInText, moved, moved_span, char_span_of, HasCharSpan, MovesWithin}
+use Rattle.litrs_base.specs.Text.{byte_len}
+use Rattle.litrs_base.proofs.ByteLen.{byte_len_one_ascii}
+use Rattle.litrs_base.proofs.CharEnds.{char_span_points, char_span_moved, moves_within}
+use Rattle.litrs_base.proofs.Spans.{byte_len-append}
+use Rattle.litrs_grammar.specs.Escape.{Switches}
+use Rattle.litrs_grammar.specs.Allocation.{has_backslash}
+use Rattle.litrs_grammar.specs.Quoted.{Item, body_text, body_value, stand_before, is_body, QuotedParts, IsQuoted, IsQuotedRefusal, rest_refusal}
+use Rattle.litrs_grammar.proofs.QuotedItems.{body_stands, stands_body}
+use Rattle.litrs_grammar.proofs.QuotedLaws.{quoted_texts_are_unique, quoted_texts_are_not_refused, quoted_refusals_are_unique, quoted_values_fit_bodies}
+use Rattle.litrs_grammar.proofs.LongerTexts.Quoted.{quoted_final, quoted_finality, quoted_items_stay, quoted_open}
+use Rattle.litrs_grammar.proofs.QuotedSpans.{quoted_spans_lie_in_text}
+use Rattle.litrs_grammar.proofs.RefusalKinds.{quoted_of_text}
+use Rattle.litrs_grammar.proofs.ValueLaws.{plain_bodies_are_their_values}
+use Rattle.litrs_lex.specs.declared.quoted.ItemsEnd.{ItemsEnd}
+use Rattle.litrs_lex.specs.QuotedCut.{IsQuotedCut, IsQuotedRefused}
+use Rattle.litrs_lex.specs.QuotedItems.{IsItemsEnd}
+use Rattle.litrs_lex.proofs.QuotedBytes.{cut_at, closed_of}
+use Rattle.litrs_lex.proofs.QuotedScan.{front_splits}
+
+-- The refusal
+
+pub is_quoted_refused : (w : Switches) (bytes : List ℕ) (offset : ℕ) (e : ParseError) → IsQuotedRefusal (chars (take offset bytes)) w (chars bytes) (refusal_of e) →
+    HasCharSpan (chars bytes) e → IsQuotedRefused w bytes offset e
+is_quoted_refused w bytes offset e table ends =
+    let front = chars (take offset bytes) in let t = chars bytes in record {
+      none = λ q is. quoted_texts_are_not_refused front w t q (refusal_of e) is table;
+      table = table;
+      only = λ r other. quoted_refusals_are_unique front w t r (refusal_of e) other table;
+      span = quoted_spans_lie_in_text front w t (refusal_of e) table;
+      char_span = ends;
+      char_ends = char_span_points t e (quoted_spans_lie_in_text front w t (refusal_of e) table) ends;
+      of_text = quoted_of_text front w t (refusal_of e) table;
+      items_stay = λ more. quoted_items_stay w table.rest more table.items table.taken;
+      final = quoted_finality front w t (refusal_of e) table;
+      stays = λ final more. quoted_final front w t more (refusal_of e) final table;
+      closes = λ shut. quoted_open front w t (refusal_of e) shut table;
+    }
+
+pub refused_at : (w : Switches) (bytes : List ℕ) (offset : ℕ) (end : ItemsEnd) (e f : Refusal) → IsItemsEnd w bytes offset end →
+    rest_refusal w (chars (drop end.place bytes)) ≡ Some e → f ≡ moved end.place e → IsQuotedRefusal (chars (take offset bytes)) w (chars bytes) f
+refused_at w bytes offset end e f read told is = record {
+  items = read.items;
+  rest = chars (drop end.place bytes);
+  cause = e;
+  spells = read.spells;
+  taken = read.taken;
+  told = told;
+  placed = ap (λ n. moved n e) (sym read.place) ∙ sym is;
+}
+
+-- the bytes before the items' end are those of the front and of the items
+pub front_of : (w : Switches) (bytes : List ℕ) (offset : ℕ) (end : ItemsEnd) → (read : IsItemsEnd w bytes offset end) →
+    (chars (take offset bytes) ++ body_text read.items) ++ chars (drop end.place bytes) ≡ chars bytes
+front_of w bytes offset end read = append_assoc (chars (take offset bytes)) (body_text read.items) (chars (drop end.place bytes)) ∙ read.spells
+
+-- the refusal of the rest, moved by what stands before it
+pub refused_cut : (w : Switches) (bytes : List ℕ) (offset : ℕ) (end : ItemsEnd) (e f : ParseError) → IsItemsEnd w bytes offset end →
+    rest_refusal w (chars (drop end.place bytes)) ≡ Some (refusal_of e) → HasCharSpan (chars (drop end.place bytes)) e → refusal_of f ≡ moved end.place (refusal_of e) →
+    char_span_of f ≡ moved_span end.place (char_span_of e) → IsQuotedRefused w bytes offset f
+refused_cut w bytes offset end e f read told ends same span =
+    let front = chars (take offset bytes) ++ body_text read.items in
+    let rest = chars (drop end.place bytes) in
+    is_quoted_refused w bytes offset f (refused_at w bytes offset end (refusal_of e) (refusal_of f) read told same)
+    (subst (λ (l : List ℕ). HasCharSpan l f) (front_of w bytes offset end read)
+    (char_span_moved front rest e f (same ∙ ap (λ n. moved n (refusal_of e)) read.place) (span ∙ ap (λ n. moved_span n (char_span_of e)) read.place) ends))
+
+-- it may be moved so far
+pub may_move : (w : Switches) (bytes : List ℕ) (offset : ℕ) (end : ItemsEnd) (e : ParseError) → IsUtf8 bytes → IsItemsEnd w bytes offset end →
+    rest_refusal w (chars (drop end.place bytes)) ≡ Some (refusal_of e) → HasCharSpan (chars (drop end.place bytes)) e → length bytes < 2 ^ 64 → MovesWithin end.place e
+may_move w bytes offset end e u read told ends small =
+    let front = chars (take offset bytes) ++ body_text read.items in
+    let rest = chars (drop end.place bytes) in
+    let table = refused_at w bytes offset end (refusal_of e) (moved (byte_len front) (refusal_of e)) read told (ap (λ n. moved n (refusal_of e)) (sym read.place)) in
+    let inside : IsInText (front ++ rest) (moved (byte_len front) (refusal_of e)) =
+    subst (λ (l : List ℕ). IsInText l (moved (byte_len front) (refusal_of e))) (sym (front_of w bytes offset end read))
+    (quoted_spans_lie_in_text (chars (take offset bytes)) w (chars bytes) (moved (byte_len front) (refusal_of e)) table) in
+    let size : byte_len (front ++ rest) ≡ length bytes = ap byte_len (front_of w bytes offset end read) ∙ ap length (encodes-chars bytes u) in
+    subst (λ (n : ℕ). MovesWithin n e) (sym read.place) (moves_within front rest e inside ends (omega arith))
+
+pub from_offset : (w : Switches) (bytes : List ℕ) (offset : ℕ) (end : ItemsEnd) → IsUtf8 bytes → IsCharBoundary bytes offset → IsItemsEnd w bytes offset end → offset ≤ end.place
+from_offset w bytes offset end u start read =
+    let cut = front_splits bytes offset u start in let size = cut.1 in
+    omega (arith, read.place, byte_len-append (chars (take offset bytes)) (body_text read.items))
+
+-- The cut
+
+-- a value is shorter than its body exactly where the body has a backslash
+size_test : (w : Switches) (items : List Item) (v n : ℕ) → is_body w items ≡ true → v ≡ length (body_value items) → n ≡ byte_len (body_text items) →
+    not (v == n) ≡ has_backslash (body_text items)
+size_test w items v n body is_value is_text =
+    let law = (quoted_values_fit_bodies w (body_text items) items (record { spells = refl; body = body })).1 in
+    by (has_backslash (body_text items)) refl law
+  where
+    by : (b : Bool) → has_backslash (body_text items) ≡ b →
+        ((length (body_value items) ≡ byte_len (body_text items) → has_backslash (body_text items) ≡ false)
+        × (has_backslash (body_text items) ≡ false → length (body_value items) ≡ byte_len (body_text items))) → not (v == n) ≡ b
+    by true is law = ap not (ne_eqb v n (λ e. true≢false (sym is ∙ law.0 (omega arith))))
+    by false is law = ap not (eq-eqb v n (let same = law.1 is in omega arith))
+
+-- what a slice holds whose characters are these
+pub record IsSlice (bytes : List ℕ) (from : ℕ) (t : List ℕ) : Type 0 where
+  pub is_bytes : take (byte_len t) (drop from bytes) ≡ encode_utf8_all t
+  pub is_chars : chars (take (byte_len t) (drop from bytes)) ≡ t
+
+pub slice_of : (bytes t rest : List ℕ) (from : ℕ) → IsUtf8 bytes → IsCharBoundary bytes from → chars (drop from bytes) ≡ t ++ rest → IsSlice bytes from t
+slice_of bytes t rest from u start split =
+    let v = IsUtf8-drop bytes from u start in
+    let cut = cut_at (drop from bytes) t rest v split in
+    let both : drop from bytes ≡ encode_utf8_all t ++ encode_utf8_all rest =
+    sym (encodes-chars (drop from bytes) v) ∙ (ap encode_utf8_all split ∙ encodes-append t rest) in
+    let same : take (byte_len t) (drop from bytes) ≡ encode_utf8_all t = ap (take (byte_len t)) both ∙ take-append_seam (encode_utf8_all t) (encode_utf8_all rest) in record {
+      is_bytes = same;
+      is_chars = sym (chars_from_encodes t (take (byte_len t) (drop from bytes)) (IsUtf8-take (drop from bytes) (byte_len t) v cut.boundary) (sym same));
+    }
+
+behind_front : (front x y : List ℕ) → front ++ x ≡ front ++ y → x ≡ y
+behind_front [] x y h = h
+behind_front (c ∷ front) x y h = behind_front front x y (let same : front ++ x ≡ front ++ y = cc in same)
+
+pub is_quoted_cut : (w : Switches) (bytes : List ℕ) (offset : ℕ) (end : ItemsEnd) (has_escape : Bool) → IsUtf8 bytes → IsCharBoundary bytes offset → IsItemsEnd w bytes offset end →
+    rest_refusal w (chars (drop end.place bytes)) ≡ None → has_escape ≡ not (end.value_len == end.place - offset) →
+    IsQuotedCut w bytes offset (record { value_len = end.value_len; has_escape = has_escape; start_suffix = end.place + 1 })
+is_quoted_cut w bytes offset end has_escape u start read free is_escape =
+    let front = chars (take offset bytes) in
+    let rest = chars (drop end.place bytes) in
+    let s = drop 1 rest in
+    let items = read.items in
+    let body = body_text items in
+    let closed = closed_of w rest read.ends free in
+    let front_cut = front_splits bytes offset u start in
+    let q : QuotedParts = record { items = items; suffix = s } in
+    let good : is_body w items ≡ true = stands_body w items s (subst (λ l. stand_before w l items ≡ true) (sym closed.0) read.taken) in
+    let mine : IsQuoted front w (chars bytes) q = record {
+      spells = ap (λ l. front ++ (body ++ l)) closed.0 ∙ read.spells;
+      body = good;
+      suffix = closed.1;
+    } in
+    let place : end.place ≡ offset + byte_len body = read.place ∙ (byte_len-append front body ∙ ap (λ n. n + byte_len body) front_cut.1) in
+    let back : end.place + 1 - 1 ≡ end.place = omega arith in
+    let size : end.place - offset ≡ byte_len body = omega arith in
+    let told : has_escape ≡ has_backslash body = is_escape ∙ size_test w items end.value_len (end.place - offset) good read.value_len size in
+    let whole : chars bytes ≡ (front ++ (body ++ 34 ∷ [])) ++ s =
+    sym (append_assoc front (body ++ 34 ∷ []) s ∙ (ap (λ l. front ++ l) (append_assoc body (34 ∷ []) s) ∙ mine.spells)) in
+    let at : byte_len (front ++ (body ++ 34 ∷ [])) ≡ end.place + 1 =
+    byte_len-append front (body ++ 34 ∷ []) ∙ (ap (λ n. byte_len front + n) (byte_len-append body (34 ∷ [])) ∙ (let f = front_cut.1 in let one = byte_len_one_ascii 34 [] (omega arith) in omega arith)) in
+    let cut = cut_at bytes (front ++ (body ++ 34 ∷ [])) s u whole in
+    let split : chars (drop offset bytes) ≡ body ++ rest =
+    behind_front front (chars (drop offset bytes)) (body ++ rest) (front_cut.0 ∙ sym read.spells) in
+    let slice = slice_of bytes body rest offset u start split in
+    let taken : slice_range bytes offset (end.place + 1 - 1) ≡ take (byte_len body) (drop offset bytes) =
+    ap (λ n. take n (drop offset bytes)) (let e : end.place + 1 - 1 - offset ≡ byte_len body = omega arith in e) in record {
+      parts = q;
+      only = (mine, λ r is. quoted_texts_are_unique front w (chars bytes) r q is mine);
+      value_len = read.value_len;
+      has_escape = told;
+      start_suffix = ap (λ n. n + 1) place;
+      end_body = subst (λ (n : ℕ). IsCharBoundary bytes n) (sym back) read.boundary;
+      boundary = subst (λ (n : ℕ). IsCharBoundary bytes n) at cut.boundary;
+      body = ap chars taken ∙ slice.is_chars;
+      suffix = ap (λ n. chars (drop n bytes)) (sym at) ∙ cut.rest;
+      plain = λ none. taken ∙ (slice.is_bytes ∙ sym (plain_bodies_are_their_values w body items (record { spells = refl; body = good }) (sym told ∙ none)));
+      items_stay = λ more. body_stands w items (s ++ more) good;
+    }

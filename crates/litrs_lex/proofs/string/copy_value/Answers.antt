@@ -1,0 +1,26 @@
+-- A run and an item are copied in each turn.
+use Rattle.std.proofs.Common.{◌∙◌, ap, refl, drop}
+use Rattle.std.proofs.lemmas.List.{drop-drop}
+use Rattle.litrs_lex.proofs.QuotedScan.{boundary_later}
+use Rattle.litrs_lex.proofs.QuotedValues.{copy_start, copy_run, copy_item, whole_value, fits}
+use Rattle.litrs_lex.proofs.string.copy_value.Goals as goal
+
+pub loop-value-init : goal.loop-value-init
+loop-value-init g c = (c.requires.at, copy_start _ c.args.input.now _ _ c.utf8.input c.requires.at (c.reserve.ensures.contents ∙ c.new-value.ensures))
+
+pub loop-value-preserved : goal.loop-value-preserved
+loop-value-preserved g c = (
+  boundary_later c.args.input.now _ _ _ c.utf8.input c.plain_end-end.ensures.boundary c.range_from.ensures.value c.in-Some.ensures.item.boundary,
+  copy_item _ _ _ c.args.input.now _ _ _ _ _ _ _ _ c.in-Some.ensures.item c.range_from.ensures.value
+      (ap (drop c.in-Some.item.len) c.range_from.ensures.value ∙ drop-drop c.in-Some.item.len c.plain_end-end.result c.args.input.now) refl c.in_ok-push_value-in-Some.ensures
+      (copy_run _ _ _ c.args.input.now _ _ _ _ _ c.utf8.input c.loop-value.invariant.0 c.plain_end-end.ensures c.range.ensures.value c.in_ok-push_run.ensures c.loop-value.invariant.1),
+)
+
+pub push_value-requires : goal.push_value-requires
+push_value-requires g c = fits c.args.byte_escapes g.C.EscapeContainer.TAKES_BYTES c.in-Some.item.value c.requires.fits c.in-Some.ensures.item.pushable
+
+pub returns-in-None : goal.returns-in-None
+returns-in-None g c = λ q is.
+    whole_value _ _ _ c.args.input.now _ _ _ q
+    (copy_run _ _ _ c.args.input.now _ _ _ _ _ c.utf8.input c.loop-value.invariant.0 c.plain_end-end.ensures c.range.ensures.value c.in_ok-push_run.ensures c.loop-value.invariant.1)
+    c.range_from.ensures.value c.in-None.ensures.none is

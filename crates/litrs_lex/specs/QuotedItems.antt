@@ -1,0 +1,62 @@
+-- The items of a quoted body in the bytes of a text.
+use Rattle.std.specs.Prelude.{◌≡◌, ◌⊎◌, ℕ, ◌+◌, ◌≤◌, ◌<◌, ◌==◌, List, [], ◌++◌, length, drop, take, Option, Some, None, IfSome, IsTrue, IsFalse}
+use Rattle.std.specs.List.{list_all}
+use Rattle.std.specs.Str.{chars, IsCharBoundary}
+use Rattle.litrs_base.specs.declared.escape.Unescape.{Unescape}
+use Rattle.litrs_base.specs.Characters.{double_quote}
+use Rattle.litrs_base.specs.Refusal.{Refusal}
+use Rattle.litrs_base.specs.Text.{byte_len, first_passes}
+use Rattle.litrs_grammar.specs.Escape.{Switches, value_bytes}
+use Rattle.litrs_grammar.specs.Quoted.{Item, item_text, item_value, is_item, is_taken_before, is_plain, body_text, body_value, stand_before, rest_refusal}
+use Rattle.litrs_lex.specs.Container.{is_pushable}
+use Rattle.litrs_lex.specs.declared.quoted.ItemsEnd.{ItemsEnd}
+
+-- From the one place up to the other stand characters that stand for themselves, and after them
+-- none.
+pub record IsPlainRun (w : Switches) (bytes : List ℕ) (from end : ℕ) : Type 0 where
+  pub run : List ℕ
+  pub split : chars (drop from bytes) ≡ run ++ chars (drop end bytes)
+  pub plain : IsTrue (list_all (is_plain w) run)
+  pub size : from + byte_len run ≡ end
+  pub boundary : IsCharBoundary bytes end
+  pub stops : IsFalse (first_passes (is_plain w) (chars (drop end bytes)))
+
+-- the bytes that an item with a backslash stands for: those of an escape; none for a continuation
+abbrev pub item_bytes : Option Unescape → List ℕ
+item_bytes None = []
+item_bytes (Some value) = value_bytes value
+
+-- An item of so many bytes stands at the front. An escape has this value, which is a byte above
+-- 7F only where byte escapes are on; a continuation has none.
+pub record IsItemAt (w : Switches) (bytes : List ℕ) (len : ℕ) (value : Option Unescape)
+    : Type 0 where
+  pub item : Item
+  pub split : chars bytes ≡ item_text item ++ chars (drop len bytes)
+  pub grammar : IsTrue (is_item w item)
+  pub taken : IsTrue (is_taken_before (chars (drop len bytes)) item)
+  pub size : byte_len (item_text item) ≡ len
+  pub is_value : item_value item ≡ item_bytes value
+  pub pushable : IfSome value (λ v. IsTrue (is_pushable w.byte_escapes v))
+  pub fits : length (item_bytes value) ≤ len
+  pub some : 0 < len
+  pub within : len ≤ length bytes
+  pub boundary : IsCharBoundary bytes len
+
+-- No item stands at the front of the rest: it begins with the closing quote, or it is refused.
+abbrev pub EndsItems : Switches → List ℕ → Type 0
+EndsItems w rest =
+    IsTrue (first_passes (λ c. c == double_quote) rest)
+    ⊎ ((e : Refusal) × (rest_refusal w rest ≡ Some e))
+
+-- After the front, which ends at `offset`, stand items up to the place, which stand for so many
+-- bytes; and there they end.
+pub record IsItemsEnd (w : Switches) (bytes : List ℕ) (offset : ℕ) (end : ItemsEnd) : Type 0 where
+  pub items : List Item
+  pub spells :
+      chars (take offset bytes) ++ (body_text items ++ chars (drop end.place bytes)) ≡ chars bytes
+  pub taken : IsTrue (stand_before w (chars (drop end.place bytes)) items)
+  pub place : end.place ≡ byte_len (chars (take offset bytes) ++ body_text items)
+  pub value_len : end.value_len ≡ length (body_value items)
+  pub boundary : IsCharBoundary bytes end.place
+  pub stops : IsFalse (first_passes (is_plain w) (chars (drop end.place bytes)))
+  pub ends : EndsItems w (chars (drop end.place bytes))

@@ -1,0 +1,154 @@
+//! What unescaped values are put into.
+ghost use Rattle.std.specs.Prelude.{◌≡◌, ◌+◌, ◌≤◌, ℕ, Bool, true, false, List, [], ◌++◌, length, string_bytes, string_capacity, vec_capacity, IsTrue, IsFalse, IsOk, IfOk, OnOk, OnErr};
+ghost use Rattle.std.specs.Str.{IsUtf8};
+ghost use Rattle.litrs_grammar.specs.Escape.{value_bytes};
+ghost use Rattle.litrs_lex.specs.Container.{is_pushable};
+
+use litrs_base::Unescape;
+use std::alloc::{AllocError, Global};
+
+/// What takes the value of a quoted body: a `String` takes texts, a `Vec<u8>` takes any bytes.
+///
+/// A call that has no memory leaves the contents as they were. A call that finds room succeeds.
+pub trait EscapeContainer: Drop {
+    /// The bytes that it has taken.
+    ghost contents: { Self → List ℕ };
+
+    /// How many bytes it has room for.
+    ghost capacity: { Self → ℕ };
+
+    /// Whether it takes bytes above 7F.
+    ghost TAKES_BYTES: { Bool };
+
+    /// Whether it takes bytes above 7F: false for `String`, true for `Vec<u8>`.
+    const TAKES_BYTES: bool;
+
+    /// An empty one. It keeps the allocator and does not allocate.
+    fn new(alloc: Global) -> Self
+        ensures { contents result ≡ [] };
+
+    /// Adds the value of an escape: the byte, or the UTF-8 of the character.
+    ///
+    /// A byte above 7F is added only where [`TAKES_BYTES`](EscapeContainer::TAKES_BYTES).
+    ///
+    /// # Errors
+    ///
+    /// `AllocError` where there is no memory for it.
+    fn push(&mut self, value: Unescape) -> Result<(), AllocError>
+        requires { IsTrue (is_pushable TAKES_BYTES value) }
+        ensures ok { IfOk result (λ _. contents self.new ≡ contents self.old ++ value_bytes value) }
+        ensures err { OnErr result (contents self.new ≡ contents self.old) }
+        ensures kept { capacity self.old ≤ capacity self.new }
+        ensures succeeds { length (contents self.old) + length (value_bytes value)
+            ≤ capacity self.old → IsOk result };
+
+    /// Adds a text.
+    ///
+    /// # Errors
+    ///
+    /// `AllocError` where there is no memory for it.
+    fn push_str(&mut self, text: &str) -> Result<(), AllocError>
+        ensures ok { IfOk result (λ _. contents self.new ≡ contents self.old ++ text.now) }
+        ensures err { OnErr result (contents self.new ≡ contents self.old) }
+        ensures kept { capacity self.old ≤ capacity self.new }
+        ensures succeeds { length (contents self.old) + length text.now
+            ≤ capacity self.old → IsOk result };
+
+    /// Adds bytes, which are UTF-8 where it takes no others.
+    ///
+    /// # Errors
+    ///
+    /// `AllocError` where there is no memory for them.
+    fn push_bytes(&mut self, bytes: &[u8]) -> Result<(), AllocError>
+        requires { IsFalse TAKES_BYTES → IsUtf8 bytes.now }
+        ensures ok { IfOk result (λ _. contents self.new ≡ contents self.old ++ bytes.now) }
+        ensures err { OnErr result (contents self.new ≡ contents self.old) }
+        ensures kept { capacity self.old ≤ capacity self.new }
+        ensures succeeds { length (contents self.old) + length bytes.now
+            ≤ capacity self.old → IsOk result };
+
+    /// Makes room for this many more bytes.
+    ///
+    /// # Errors
+    ///
+    /// `AllocError` where there is no memory for them.
+    fn reserve(&mut self, additional: usize) -> Result<(), AllocError>
+        ensures contents { contents self.new ≡ contents self.old }
+        ensures room { OnOk result (length (contents self.new) + additional ≤ capacity self.new) }
+        ensures kept { capacity self.old ≤ capacity self.new }
+        ensures succeeds { length (contents self.old) + additional
+            ≤ capacity self.old → IsOk result };
+}
+
+impl EscapeContainer for String {
+    ghost contents = { string_bytes };
+
+    ghost capacity = { string_capacity };
+
+    ghost TAKES_BYTES = { false };
+
+    const TAKES_BYTES: bool = false;
+
+    fn new(alloc: Global) -> String {
+        String::new(alloc)
+    }
+
+    fn push(&mut self, value: Unescape) -> Result<(), AllocError> {
+        match value {
+            Unescape::Byte(byte) => String::push(self, byte as char),
+            Unescape::Unicode(character) => String::push(self, character),
+        }
+    }
+
+    fn push_str(&mut self, text: &str) -> Result<(), AllocError> {
+        String::push_str(self, text)
+    }
+
+    fn push_bytes(&mut self, bytes: &[u8]) -> Result<(), AllocError> {
+        String::push_str(self, unsafe { str::from_utf8_unchecked(bytes) })
+    }
+
+    fn reserve(&mut self, additional: usize) -> Result<(), AllocError> {
+        String::reserve(self, additional)
+    }
+}
+
+impl EscapeContainer for Vec<u8> {
+    ghost contents = { λ bytes. bytes.items };
+
+    ghost capacity = { vec_capacity };
+
+    ghost TAKES_BYTES = { true };
+
+    const TAKES_BYTES: bool = true;
+
+    fn new(alloc: Global) -> Vec<u8> {
+        Vec::new(alloc)
+    }
+
+    fn push(&mut self, value: Unescape) -> Result<(), AllocError> {
+        match value {
+            Unescape::Byte(byte) => {
+                Vec::push(self, byte)?;
+                Ok(())
+            }
+            Unescape::Unicode(character) => {
+                let mut buffer = [0; 4];
+                let text = character.encode_utf8(&mut buffer);
+                self.extend_from_slice(text.as_bytes())
+            }
+        }
+    }
+
+    fn push_str(&mut self, text: &str) -> Result<(), AllocError> {
+        self.extend_from_slice(text.as_bytes())
+    }
+
+    fn push_bytes(&mut self, bytes: &[u8]) -> Result<(), AllocError> {
+        self.extend_from_slice(bytes)
+    }
+
+    fn reserve(&mut self, additional: usize) -> Result<(), AllocError> {
+        Vec::reserve(self, additional)
+    }
+}

@@ -1,0 +1,455 @@
+//! Where a quoted string, byte string or C string is cut.
+ghost use Rattle.std.specs.Prelude.{not, ◌-◌, [], take, codes, ◌≡◌, ◌≤◌, ◌==◌, true, false, length, IfOk, IfErr, IfSome, IfNone, Some, None, IsTrue, IsFalse};
+ghost use Rattle.std.specs.List.{prefix_len};
+ghost use Rattle.std.specs.Str.{chars, IsCharBoundary};
+ghost use Rattle.litrs_base.specs.Characters.{line_feed, is_blank};
+ghost use Rattle.litrs_base.specs.Refusal.{refusal_of, HasCharSpan};
+ghost use Rattle.litrs_base.specs.Text.{first_passes};
+ghost use Rattle.litrs_grammar.specs.Quoted.{QuotedParts, IsQuoted, body_value, is_plain, without_last, rest_refusal};
+ghost use Rattle.litrs_lex.specs.QuotedCut.{IsQuotedCut, IsQuotedRefused};
+ghost use Rattle.litrs_lex.specs.QuotedItems.{IsPlainRun, IsItemAt, IsItemsEnd, EndsItems, item_bytes};
+ghost use Rattle.litrs_parts.specs.Unescaped.{switches};
+
+use crate::short_value::ShortValue;
+use litrs_base::{ParseError, ParseErrorKind, Unescape};
+use litrs_parts::{check_suffix, unescape};
+use litrs_search::{Special, next_special};
+
+/// Where a quoted literal is cut: sizes and places in bytes.
+#[derive(Clone, Copy, Debug, PartialEq, Eq)]
+pub struct QuotedCut {
+    /// How many bytes the value has, without the closing zero of a C string.
+    pub value_len: usize,
+    /// Whether the body has a backslash.
+    pub has_escape: bool,
+    /// Where the suffix begins, after the closing quote.
+    pub start_suffix: usize,
+}
+
+/// Cuts a quoted literal whose body begins at `offset`. Of `"a\nb"u8` from 1 the value has 3 bytes,
+/// the body has an escape, and the suffix begins at 6. See [the reference][ref].
+///
+/// The place stands within the text, on a character boundary. `unicode` allows `\u{..}` and
+/// characters beyond ASCII, `byte_escapes` allows `\x80` to `\xff`, and `allow_nul` allows NUL and
+/// an escape of value 0.
+///
+/// # Errors
+///
+/// The first that stands in the text, from `offset` on:
+/// - the refusal of [`unescape`] where a backslash begins neither an escape nor a continuation; the
+///   escape is parsed without the last character of the text;
+/// - `CarriageReturn` at a CR, `NulByte` at a NUL that is not allowed, and `NonAsciiInByteLiteral`
+///   at a character beyond ASCII that is not allowed, over its first byte;
+/// - `UnterminatedString`, with no span, where the text ends before a closing quote;
+/// - the refusal of [`check_suffix`] where what follows the closing quote is no suffix, over its
+///   first byte.
+///
+/// [ref]: https://doc.rust-lang.org/reference/tokens.html#string-literals
+#[inline(always)]
+pub fn cut_quoted(
+    input: &str,
+    offset: usize,
+    unicode: bool,
+    byte_escapes: bool,
+    allow_nul: bool,
+) -> Result<QuotedCut, ParseError>
+    requires { IsCharBoundary input.now offset }
+    ensures ok { IfOk result
+        (IsQuotedCut (switches unicode byte_escapes allow_nul) input.now offset) }
+    ensures refused { IfErr result
+        (IsQuotedRefused (switches unicode byte_escapes allow_nul) input.now offset) }
+{
+    let end = items_end(input, offset, unicode, byte_escapes, allow_nul);
+    cut_at_end(input, offset, end, unicode, byte_escapes, allow_nul)
+}
+
+/// [`cut_quoted`] where the items of the body end there.
+#[inline(always)]
+pub(crate) fn cut_at_end(
+    input: &str,
+    offset: usize,
+    end: ItemsEnd,
+    unicode: bool,
+    byte_escapes: bool,
+    allow_nul: bool,
+) -> Result<QuotedCut, ParseError>
+    requires at { IsCharBoundary input.now offset }
+    requires end { IsItemsEnd (switches unicode byte_escapes allow_nul) input.now offset end }
+    ensures ok { IfOk result
+        (IsQuotedCut (switches unicode byte_escapes allow_nul) input.now offset) }
+    ensures refused { IfErr result
+        (IsQuotedRefused (switches unicode byte_escapes allow_nul) input.now offset) }
+    ensures has_escape { IfOk result (λ cut.
+        cut.has_escape ≡ not (end.value_len == end.place - offset)) }
+{
+    match end_refusal(&input[end.place..], unicode, byte_escapes, allow_nul) {
+        // A value is shorter than its body where the body has a backslash.
+        None => Ok(QuotedCut {
+            value_len: end.value_len,
+            has_escape: end.value_len != end.place - offset,
+            start_suffix: end.place + 1,
+        }),
+        Some(e) => Err(e.offset_span(end.place)),
+    }
+}
+
+/// Where the items of a quoted body end: at its closing quote, or where the text is refused.
+#[derive(Clone, Copy, Debug, PartialEq, Eq)]
+pub struct ItemsEnd {
+    /// The place, in bytes.
+    pub place: usize,
+    /// How many bytes the items before it stand for.
+    pub value_len: usize,
+}
+
+/// Where the items of a quoted body end that begins at `offset`: of `"a\n"u8` from 1 at 4, and the
+/// items stand for 2 bytes. An escape or a continuation that ends the text is not among them.
+///
+/// The place and the switches are those of [`cut_quoted`].
+#[inline(always)]
+pub fn items_end(
+    input: &str,
+    offset: usize,
+    unicode: bool,
+    byte_escapes: bool,
+    allow_nul: bool,
+) -> ItemsEnd
+    requires { IsCharBoundary input.now offset }
+    ensures { IsItemsEnd (switches unicode byte_escapes allow_nul) input.now offset result }
+{
+    let place = first_plain_end(input, offset, unicode, byte_escapes, allow_nul);
+    if ends_items(&input[place..], unicode, byte_escapes, allow_nul) {
+        ItemsEnd {
+            place,
+            value_len: place - offset,
+        }
+    } else {
+        let mut value = ShortValue::unused();
+        more_items_end(
+            input,
+            offset,
+            place,
+            unicode,
+            byte_escapes,
+            allow_nul,
+            &mut value,
+        )
+    }
+}
+
+/// [`plain_end`] in one piece for each kind of literal, so that callers stay small and the search
+/// has no switch to test.
+#[inline(always)]
+pub(crate) fn first_plain_end(
+    input: &str,
+    from: usize,
+    unicode: bool,
+    byte_escapes: bool,
+    allow_nul: bool,
+) -> usize
+    requires { IsCharBoundary input.now from }
+    ensures { IsPlainRun (switches unicode byte_escapes allow_nul) input.now from result }
+{
+    if !unicode {
+        byte_plain_end(input, from, byte_escapes, allow_nul)
+    } else if allow_nul {
+        string_plain_end(input, from, byte_escapes)
+    } else {
+        c_plain_end(input, from, byte_escapes)
+    }
+}
+
+/// [`plain_end`] in a string.
+#[inline(never)]
+fn string_plain_end(input: &str, from: usize, byte_escapes: bool) -> usize
+    requires { IsCharBoundary input.now from }
+    ensures { IsPlainRun (switches true byte_escapes true) input.now from result }
+{
+    plain_end(input, from, true, byte_escapes, true)
+}
+
+/// [`plain_end`] in a byte string.
+#[inline(never)]
+fn byte_plain_end(input: &str, from: usize, byte_escapes: bool, allow_nul: bool) -> usize
+    requires { IsCharBoundary input.now from }
+    ensures { IsPlainRun (switches false byte_escapes allow_nul) input.now from result }
+{
+    plain_end(input, from, false, byte_escapes, allow_nul)
+}
+
+/// [`plain_end`] in a C string.
+#[inline(never)]
+fn c_plain_end(input: &str, from: usize, byte_escapes: bool) -> usize
+    requires { IsCharBoundary input.now from }
+    ensures { IsPlainRun (switches true byte_escapes false) input.now from result }
+{
+    plain_end(input, from, true, byte_escapes, false)
+}
+
+/// Whether no backslash begins a text that begins with no plain character: then no item does.
+#[inline(always)]
+pub(crate) fn ends_items(rest: &str, unicode: bool, byte_escapes: bool, allow_nul: bool) -> bool
+    requires { IsFalse
+        (first_passes (is_plain (switches unicode byte_escapes allow_nul)) (chars rest.now)) }
+    ensures { IsTrue result →
+        EndsItems (switches unicode byte_escapes allow_nul) (chars rest.now) }
+{
+    let [first, ..] = rest.as_bytes() else {
+        return true;
+    };
+    *first != b'\\'
+}
+
+/// [`items_end`] of a body whose plain characters at its front end at `from`. The value, empty
+/// before, takes the bytes of the items.
+///
+/// There is one piece for each kind of literal, as of [`first_plain_end`].
+#[inline(always)]
+pub(crate) fn more_items_end(
+    input: &str,
+    offset: usize,
+    from: usize,
+    unicode: bool,
+    byte_escapes: bool,
+    allow_nul: bool,
+    value: &mut ShortValue,
+) -> ItemsEnd
+    requires at { IsCharBoundary input.now offset }
+    requires run { IsPlainRun (switches unicode byte_escapes allow_nul) input.now offset from }
+    requires empty { IsTrue value.old.is_whole → value.old.bytes ≡ [] }
+    ensures end { IsItemsEnd (switches unicode byte_escapes allow_nul) input.now offset result }
+    ensures value { IsTrue value.new.is_whole → (q : QuotedParts) →
+        IsQuoted (chars (take offset input.now)) (switches unicode byte_escapes allow_nul)
+        (chars input.now) q →
+        value.new.bytes ≡ body_value q.items }
+{
+    match (unicode, allow_nul) {
+        (true, true) => read_items::<true, true>(input, offset, from, byte_escapes, value),
+        (true, false) => read_items::<true, false>(input, offset, from, byte_escapes, value),
+        (false, true) => read_items::<false, true>(input, offset, from, byte_escapes, value),
+        (false, false) => read_items::<false, false>(input, offset, from, byte_escapes, value),
+    }
+}
+
+/// [`more_items_end`], from item to item.
+#[inline(never)]
+fn read_items<const UNICODE: bool, const ALLOW_NUL: bool>(
+    input: &str,
+    offset: usize,
+    from: usize,
+    byte_escapes: bool,
+    value: &mut ShortValue,
+) -> ItemsEnd
+    requires at { IsCharBoundary input.now offset }
+    requires run { IsPlainRun (switches UNICODE byte_escapes ALLOW_NUL) input.now offset from }
+    requires empty { IsTrue value.old.is_whole → value.old.bytes ≡ [] }
+    ensures end { IsItemsEnd (switches UNICODE byte_escapes ALLOW_NUL) input.now offset result }
+    ensures value { IsTrue value.new.is_whole → (q : QuotedParts) →
+        IsQuoted (chars (take offset input.now)) (switches UNICODE byte_escapes ALLOW_NUL)
+        (chars input.now) q →
+        value.new.bytes ≡ body_value q.items }
+{
+    let mut at = offset;
+    let mut place = from;
+    let mut value_len = 0;
+    loop {
+        value.push_run(input.as_bytes(), at, place);
+        value_len += place - at;
+        match next_item(&input[place..], UNICODE, byte_escapes, ALLOW_NUL) {
+            Some(item) => {
+                value.push(item.value);
+                value_len += item.value_len();
+                at = place + item.len;
+                place = plain_end(input, at, UNICODE, byte_escapes, ALLOW_NUL);
+            }
+            None => return ItemsEnd { place, value_len },
+        }
+    }
+}
+
+/// Where the plain characters end that stand from `from` on.
+#[inline(always)]
+pub(crate) fn plain_end(
+    input: &str,
+    from: usize,
+    unicode: bool,
+    byte_escapes: bool,
+    allow_nul: bool,
+) -> usize
+    requires { IsCharBoundary input.now from }
+    ensures { IsPlainRun (switches unicode byte_escapes allow_nul) input.now from result }
+{
+    let what = Special {
+        backslash: true,
+        nul: !allow_nul,
+        non_ascii: !unicode,
+    };
+    let bytes = input.as_bytes();
+    match bytes.get(from) {
+        // One escape follows another.
+        Some(b'\\') => from,
+        _ => next_special(bytes, from, what),
+    }
+}
+
+/// An item that begins with a backslash.
+#[derive(Clone, Copy)]
+pub(crate) struct Escaped {
+    /// Its length in bytes.
+    pub(crate) len: usize,
+    /// What an escape stands for; None for a continuation.
+    pub(crate) value: Option<Unescape>,
+}
+
+impl Escaped {
+    /// How many bytes it stands for.
+    #[inline(always)]
+    fn value_len(&self) -> usize
+        ensures { result ≡ length (item_bytes self.now.value) }
+    {
+        match self.value {
+            None => 0,
+            Some(Unescape::Byte(_)) => 1,
+            Some(Unescape::Unicode(c)) => c.len_utf8(),
+        }
+    }
+}
+
+/// The escape or the continuation at the front of a text that begins with no plain character; None
+/// where the items of the body end.
+#[inline(always)]
+pub(crate) fn next_item(
+    rest: &str,
+    unicode: bool,
+    byte_escapes: bool,
+    allow_nul: bool,
+) -> Option<Escaped>
+    requires { IsFalse
+        (first_passes (is_plain (switches unicode byte_escapes allow_nul)) (chars rest.now)) }
+    ensures item { IfSome result (λ item.
+        IsItemAt (switches unicode byte_escapes allow_nul) rest.now item.len item.value) }
+    ensures none { IfNone result
+        (EndsItems (switches unicode byte_escapes allow_nul) (chars rest.now)) }
+{
+    let [first, behind @ ..] = rest.as_bytes() else {
+        return None;
+    };
+    match *first {
+        b'\\' if begins_with_line_feed(behind) => {
+            let len = 2 + blanks_len(&behind[1..]);
+            if len == rest.len() {
+                None
+            } else {
+                Some(Escaped { len, value: None })
+            }
+        }
+        b'\\' => match unescape(without_last(rest), unicode, byte_escapes, allow_nul) {
+            Ok((value, len)) => Some(Escaped {
+                len,
+                value: Some(value),
+            }),
+            Err(_) => None,
+        },
+        _ => None,
+    }
+}
+
+/// [`rest_refusal`], and nothing else to be read where the closing quote ends the text.
+#[inline(always)]
+fn end_refusal(rest: &str, unicode: bool, byte_escapes: bool, allow_nul: bool) -> Option<ParseError>
+    requires { IsFalse
+        (first_passes (is_plain (switches unicode byte_escapes allow_nul)) (chars rest.now)) }
+    ensures none { IfNone result
+        (rest_refusal (switches unicode byte_escapes allow_nul) (chars rest.now) ≡ None) }
+    ensures refusal { IfSome result (λ e.
+        rest_refusal (switches unicode byte_escapes allow_nul) (chars rest.now)
+        ≡ Some (refusal_of e)) }
+    ensures char_span { IfSome result (HasCharSpan (chars rest.now)) }
+{
+    if is_quote(rest.as_bytes()) {
+        None
+    } else {
+        rest_refusal(rest, unicode, byte_escapes, allow_nul)
+    }
+}
+
+/// Whether a quote is all there is. It is the equality of texts, without a call.
+#[inline(always)]
+fn is_quote(bytes: &[u8]) -> bool
+    ensures { IsTrue result → bytes.now ≡ codes "\"" }
+{
+    matches!(bytes, [b'"'])
+}
+
+/// Why no item and no closing quote with a suffix stands at the front of a text that begins with no
+/// plain character; None where one does.
+#[inline(never)]
+fn rest_refusal(
+    rest: &str,
+    unicode: bool,
+    byte_escapes: bool,
+    allow_nul: bool,
+) -> Option<ParseError>
+    requires { IsFalse
+        (first_passes (is_plain (switches unicode byte_escapes allow_nul)) (chars rest.now)) }
+    ensures none { IfNone result
+        (rest_refusal (switches unicode byte_escapes allow_nul) (chars rest.now) ≡ None) }
+    ensures refusal { IfSome result (λ e.
+        rest_refusal (switches unicode byte_escapes allow_nul) (chars rest.now)
+        ≡ Some (refusal_of e)) }
+    ensures char_span { IfSome result (HasCharSpan (chars rest.now)) }
+{
+    let [first, behind @ ..] = rest.as_bytes() else {
+        return Some(ParseError::new(None, ParseErrorKind::UnterminatedString));
+    };
+    match *first {
+        b'"' => match check_suffix(&rest[1..]) {
+            Ok(()) => None,
+            Err(kind) => Some(ParseError::in_text(rest, Some(1..2), kind)),
+        },
+        b'\\' if begins_with_line_feed(behind) => {
+            let len = 2 + blanks_len(&behind[1..]);
+            if len == rest.len() {
+                Some(ParseError::new(None, ParseErrorKind::UnterminatedString))
+            } else {
+                None
+            }
+        }
+        b'\\' => match unescape(without_last(rest), unicode, byte_escapes, allow_nul) {
+            Ok(_) => None,
+            Err(e) => Some(e),
+        },
+        b'\r' => Some(ParseError::in_text(rest, Some(0..1), ParseErrorKind::CarriageReturn)),
+        0 => Some(ParseError::in_text(rest, Some(0..1), ParseErrorKind::NulByte)),
+        _ => Some(ParseError::in_text(rest, Some(0..1), ParseErrorKind::NonAsciiInByteLiteral)),
+    }
+}
+
+/// Whether LF stands first.
+#[inline(always)]
+fn begins_with_line_feed(bytes: &[u8]) -> bool
+    ensures { result ≡ first_passes (λ c. c == line_feed) bytes.now }
+{
+    matches!(bytes, [b'\n', ..])
+}
+
+/// How many spaces, tabs and LFs stand at the front.
+fn blanks_len(bytes: &[u8]) -> usize
+    ensures count { result ≡ prefix_len is_blank bytes.now }
+    ensures within { result ≤ length bytes.now }
+{
+    bytes
+        .iter()
+        .take_while(|b| matches!(**b, b' ' | b'\t' | b'\n'))
+        .count()
+}
+
+/// The text without its last character.
+#[inline(always)]
+fn without_last(text: &str) -> &str
+    ensures { chars result.now ≡ without_last (chars text.now) }
+{
+    let mut chars = text.chars();
+    chars.next_back();
+    chars.as_str()
+}

@@ -1,0 +1,170 @@
+//! Raw strings of the three kinds.
+ghost use Rattle.std.specs.Prelude.{◌≡◌, ◌&&◌, ◌≤◌, not, length, drop, IsTrue, IfOk, IfErr, Some};
+ghost use Rattle.std.specs.List.{list_all};
+ghost use Rattle.std.specs.Str.{chars, IsUtf8, IsCharBoundary};
+ghost use Rattle.litrs_base.specs.Refusal.{refusal};
+ghost use Rattle.litrs_base.specs.Text.{first_passes, begins_with};
+ghost use Rattle.litrs_grammar.specs.Raw.{hashes, hash_len, is_hash, is_quote, raw_closing, raw_char_refusal, raw_body_refusal, raw_refusal};
+ghost use Rattle.litrs_lex.specs.RawCut.{IsRawCut, IsRawRefused, IsStop, IsBodyCut};
+
+use litrs_base::{ParseError, ParseErrorKind};
+use litrs_parts::check_suffix;
+use litrs_search::{Special, next_special};
+use std::ops::Range;
+
+/// Cuts the rest of a raw literal, from after its `r` on, into hashes, body and suffix.
+///
+/// The `r` ends at `offset`, a character boundary within the text. The answer is the number of
+/// hashes, at most 255, and where the suffix begins, in bytes of the whole text: `(2, 11)` for
+/// `r##"a"#b"##c` from 1 on. `unicode` allows characters beyond ASCII in the body, and `allow_nul`
+/// NUL. See [the reference][ref].
+///
+/// # Errors
+///
+/// `InvalidLiteral` where the hashes end the text, or something else than `"` is after them;
+/// `TooManyHashes` where something is after more than 255, over the hashes; `CarriageReturn`,
+/// `NulByte` or `NonAsciiInByteLiteral` at the first character that may not stand in the body;
+/// `UnterminatedRawString` where there is no closing; the refusal of [`check_suffix`] where what
+/// follows the closing is no suffix, at its first byte. All spans count from the start of the text.
+///
+/// [ref]: https://doc.rust-lang.org/reference/tokens.html#raw-string-literals
+pub fn scan_raw_string(
+    input: &str,
+    offset: usize,
+    unicode: bool,
+    allow_nul: bool,
+) -> Result<(u8, usize), ParseError>
+    requires { IsCharBoundary input.now offset }
+    ensures ok { IfOk result (IsRawCut unicode allow_nul offset input.now) }
+    ensures refused { IfErr result (IsRawRefused unicode allow_nul offset input.now) }
+{
+    match cut_raw(input, offset, unicode, allow_nul) {
+        Ok(cut) => Ok(cut),
+        Err((span, kind)) => Err(ParseError::in_text(input, span, kind)),
+    }
+}
+
+/// The same; or why it is no raw literal, and where.
+fn cut_raw(
+    input: &str,
+    offset: usize,
+    unicode: bool,
+    allow_nul: bool,
+) -> Result<(u8, usize), (Option<Range<usize>>, ParseErrorKind)>
+    requires { IsCharBoundary input.now offset }
+    ensures ok { IfOk result (IsRawCut unicode allow_nul offset input.now) }
+    ensures refused { IfErr result (λ r.
+        raw_refusal unicode allow_nul offset (chars (drop offset input.now))
+        ≡ Some (refusal r.0 r.1)) }
+{
+    let bytes = input.as_bytes();
+    let hashes = hash_len(&bytes[offset..]);
+    let opening = offset + hashes;
+    if opening == bytes.len() {
+        return Err((None, ParseErrorKind::InvalidLiteral));
+    }
+    if hashes > 255 {
+        return Err((Some(offset..opening), ParseErrorKind::TooManyHashes));
+    }
+    if bytes[opening] != b'"' {
+        return Err((None, ParseErrorKind::InvalidLiteral));
+    }
+    let place = cut_body(input, opening + 1, hashes, unicode, allow_nul)?;
+    Ok((hashes as u8, place))
+}
+
+/// Where the suffix begins after a body from `start` on and its closing with so many hashes; or
+/// why they end no raw literal, and where.
+fn cut_body(
+    input: &str,
+    start: usize,
+    hashes: usize,
+    unicode: bool,
+    allow_nul: bool,
+) -> Result<usize, (Option<Range<usize>>, ParseErrorKind)>
+    requires { IsCharBoundary input.now start }
+    ensures ok { IfOk result (IsBodyCut unicode allow_nul hashes start input.now) }
+    ensures refused { IfErr result (λ r.
+        raw_body_refusal unicode allow_nul hashes start (chars (drop start input.now))
+        ≡ Some (refusal r.0 r.1)) }
+{
+    let bytes = input.as_bytes();
+    let end = body_end(bytes, start, hashes, unicode, allow_nul);
+    if end == bytes.len() {
+        return Err((None, ParseErrorKind::UnterminatedRawString));
+    }
+    let byte = bytes[end];
+    if byte != b'"' {
+        return Err((Some(end..end + 1), raw_char_refusal(byte)));
+    }
+    let place = end + 1 + hashes;
+    let (_, suffix) = input.split_at(place);
+    match check_suffix(suffix) {
+        Ok(()) => Ok(place),
+        Err(kind) => Err((Some(place..place + 1), kind)),
+    }
+}
+
+/// The first place from `start` on where the body is closed, or where a byte stands that may not
+/// stand in it; else the end of the text.
+fn body_end(bytes: &[u8], start: usize, hashes: usize, unicode: bool, allow_nul: bool) -> usize
+    requires { (start ≤ length bytes.now) × IsUtf8 (drop start bytes.now) }
+    ensures stop { IsStop unicode allow_nul hashes start bytes.now result }
+    ensures closing { IsTrue (first_passes is_quote (drop result bytes.now))
+        → IsTrue (begins_with (raw_closing hashes) (drop result bytes.now)) }
+{
+    let what = Special {
+        backslash: false,
+        nul: !allow_nul,
+        non_ascii: !unicode,
+    };
+    let mut place = next_special(bytes, start, what);
+    while is_inner_quote(&bytes[place..], hashes) {
+        place = next_special(bytes, place + 1, what);
+    }
+    place
+}
+
+/// Whether `"` stands first, with fewer hashes after it.
+fn is_inner_quote(bytes: &[u8], hashes: usize) -> bool
+    ensures { result
+        ≡ (first_passes is_quote bytes.now && not (begins_with (raw_closing hashes) bytes.now)) }
+{
+    match bytes {
+        [b'"', behind @ ..] => !begins_with_hashes(behind, hashes),
+        _ => false,
+    }
+}
+
+/// Whether so many hashes stand first.
+fn begins_with_hashes(bytes: &[u8], count: usize) -> bool
+    ensures { result ≡ begins_with (hashes count) bytes.now }
+{
+    count <= bytes.len() && are_hashes(&bytes[..count])
+}
+
+/// Whether all are hashes.
+fn are_hashes(bytes: &[u8]) -> bool
+    ensures { result ≡ list_all is_hash bytes.now }
+{
+    bytes.iter().all(|b| *b == b'#')
+}
+
+/// How many hashes stand first.
+fn hash_len(bytes: &[u8]) -> usize
+    ensures len { result ≡ hash_len bytes.now }
+    ensures within { result ≤ length bytes.now }
+{
+    bytes.iter().take_while(|b| **b == b'#').count()
+}
+
+/// Why a byte may not stand in a raw body.
+fn raw_char_refusal(byte: u8) -> ParseErrorKind
+    ensures { result ≡ raw_char_refusal byte }
+{
+    match byte {
+        b'\r' => ParseErrorKind::CarriageReturn,
+        0 => ParseErrorKind::NulByte,
+        _ => ParseErrorKind::NonAsciiInByteLiteral,
+    }
+}

@@ -1,0 +1,193 @@
+//! The values of quoted strings, byte strings and C strings.
+ghost use Rattle.std.specs.Prelude.{◌≡◌, ◌≤◌, ◌⊎◌, ◌||◌, ◌++◌, not, length, take, option_map, IfOk, IfErr, IfSome, IsTrue, IsFalse};
+ghost use Rattle.std.specs.Str.{chars, IsUtf8, IsCharBoundary};
+ghost use Rattle.litrs_grammar.specs.Quoted.{QuotedParts, IsQuoted, body_value};
+ghost use Rattle.litrs_lex.specs.Container.{is_pushable};
+ghost use Rattle.litrs_lex.specs.QuotedItems.{IsPlainRun, item_bytes};
+ghost use Rattle.litrs_lex.specs.QuotedCut.{IsQuotedRefused, IsQuotedValue, IsQuotedOutOfMemory};
+ghost use Rattle.litrs_parts.specs.Unescaped.{switches};
+
+use crate::container::EscapeContainer;
+use crate::quoted::{
+    ItemsEnd, cut_at_end, ends_items, first_plain_end, more_items_end, next_item, plain_end,
+};
+use crate::short_value::ShortValue;
+use litrs_base::{ParseError, ParseErrorKind, Unescape};
+use std::alloc::{AllocError, Global};
+
+/// Unescapes a quoted literal whose body begins at `offset`: the value, where the body has a
+/// backslash, and the place in bytes where the suffix begins. Without a backslash the value is the
+/// body itself, and none is given. Of `"a\nb"u8` from 1 the value is `a`, LF and `b`, and the place
+/// 6. See [the reference][ref].
+///
+/// `offset` and the switches are those of [`cut_quoted`]; `byte_escapes` is set only where the
+/// container takes bytes. There is one allocation, of the value's length, and of one byte more
+/// where NUL is not allowed, for the closing zero of a C string.
+///
+/// # Errors
+///
+/// The refusal of [`cut_quoted`]; `OutOfMemory`, with no span, where the text is a literal whose
+/// body has a backslash, and there is no memory for its value.
+///
+/// [ref]: https://doc.rust-lang.org/reference/tokens.html#string-literals
+#[inline(always)]
+pub fn unescape_string<C: EscapeContainer>(
+    alloc: Global,
+    input: &str,
+    offset: usize,
+    unicode: bool,
+    byte_escapes: bool,
+    allow_nul: bool,
+) -> Result<(Option<C>, usize), ParseError>
+    requires at { IsCharBoundary input.now offset }
+    requires fits { IsTrue (not byte_escapes || C.TAKES_BYTES) }
+    ensures ok { IfOk result (λ read.
+        IsQuotedValue (switches unicode byte_escapes allow_nul) input.now offset
+        (option_map C.contents read.0) read.1) }
+    ensures refused { IfErr result (λ e.
+        IsQuotedRefused (switches unicode byte_escapes allow_nul) input.now offset e
+        ⊎ IsQuotedOutOfMemory (switches unicode byte_escapes allow_nul) input.now offset e) }
+{
+    let place = first_plain_end(input, offset, unicode, byte_escapes, allow_nul);
+    if ends_items(&input[place..], unicode, byte_escapes, allow_nul) {
+        let value_len = place - offset;
+        let end = ItemsEnd { place, value_len };
+        let plain = cut_at_end(input, offset, end, unicode, byte_escapes, allow_nul)?;
+        Ok((None, plain.start_suffix))
+    } else {
+        unescape_more(
+            alloc,
+            input,
+            offset,
+            place,
+            unicode,
+            byte_escapes,
+            allow_nul,
+        )
+    }
+}
+
+/// [`unescape_string`] of a body whose plain characters at its front end at `from`.
+#[inline(never)]
+fn unescape_more<C: EscapeContainer>(
+    alloc: Global,
+    input: &str,
+    offset: usize,
+    from: usize,
+    unicode: bool,
+    byte_escapes: bool,
+    allow_nul: bool,
+) -> Result<(Option<C>, usize), ParseError>
+    requires at { IsCharBoundary input.now offset }
+    requires run { IsPlainRun (switches unicode byte_escapes allow_nul) input.now offset from }
+    requires fits { IsTrue (not byte_escapes || C.TAKES_BYTES) }
+    ensures ok { IfOk result (λ read.
+        IsQuotedValue (switches unicode byte_escapes allow_nul) input.now offset
+        (option_map C.contents read.0) read.1) }
+    ensures refused { IfErr result (λ e.
+        IsQuotedRefused (switches unicode byte_escapes allow_nul) input.now offset e
+        ⊎ IsQuotedOutOfMemory (switches unicode byte_escapes allow_nul) input.now offset e) }
+{
+    let mut short = ShortValue::new();
+    let end = more_items_end(
+        input,
+        offset,
+        from,
+        unicode,
+        byte_escapes,
+        allow_nul,
+        &mut short,
+    );
+    let cut = cut_at_end(input, offset, end, unicode, byte_escapes, allow_nul)?;
+    if !cut.has_escape {
+        return Ok((None, cut.start_suffix));
+    }
+    let room = if allow_nul {
+        cut.value_len
+    } else {
+        cut.value_len + 1
+    };
+    let copied = if short.is_whole() {
+        copy_short(alloc, short.as_bytes(), room)
+    } else {
+        copy_value(alloc, input, offset, room, unicode, byte_escapes, allow_nul)
+    };
+    match copied {
+        Ok(value) => Ok((Some(value), cut.start_suffix)),
+        Err(_) => Err(ParseError::new(None, ParseErrorKind::OutOfMemory)),
+    }
+}
+
+/// A container with room for this many bytes, which has these.
+fn copy_short<C: EscapeContainer>(alloc: Global, bytes: &[u8], room: usize) -> Result<C, AllocError>
+    requires { IsFalse C.TAKES_BYTES → IsUtf8 bytes.now }
+    ensures { IfOk result (λ value. C.contents value ≡ bytes.now) }
+{
+    let mut value = C::new(alloc);
+    value.reserve(room)?;
+    value.push_bytes(bytes)?;
+    Ok(value)
+}
+
+/// The value of the quoted literal whose body begins at `offset`, in a container with room for this
+/// many bytes.
+#[inline(never)]
+fn copy_value<C: EscapeContainer>(
+    alloc: Global,
+    input: &str,
+    offset: usize,
+    room: usize,
+    unicode: bool,
+    byte_escapes: bool,
+    allow_nul: bool,
+) -> Result<C, AllocError>
+    requires at { IsCharBoundary input.now offset }
+    requires fits { IsTrue (not byte_escapes || C.TAKES_BYTES) }
+    ensures { IfOk result (λ value. (q : QuotedParts) →
+        IsQuoted (chars (take offset input.now)) (switches unicode byte_escapes allow_nul)
+        (chars input.now) q →
+        C.contents value ≡ body_value q.items) }
+{
+    let mut value = C::new(alloc);
+    value.reserve(room)?;
+    let mut at = offset;
+    loop {
+        let end = plain_end(input, at, unicode, byte_escapes, allow_nul);
+        push_run(&mut value, &input[at..end])?;
+        match next_item(&input[end..], unicode, byte_escapes, allow_nul) {
+            Some(item) => {
+                push_value(&mut value, item.value)?;
+                at = end + item.len;
+            }
+            None => return Ok(value),
+        }
+    }
+}
+
+/// Adds a run of plain characters. One that is empty, as between two escapes, costs no copy.
+#[inline(always)]
+fn push_run<C: EscapeContainer>(container: &mut C, run: &str) -> Result<(), AllocError>
+    ensures { IfOk result (λ _.
+        C.contents container.new ≡ C.contents container.old ++ run.now) }
+{
+    match run {
+        "" => Ok(()),
+        _ => container.push_str(run),
+    }
+}
+
+/// Adds the value of an escape; nothing where there is none, as for a continuation.
+#[inline(always)]
+fn push_value<C: EscapeContainer>(
+    container: &mut C,
+    value: Option<Unescape>,
+) -> Result<(), AllocError>
+    requires { IfSome value (λ v. IsTrue (is_pushable C.TAKES_BYTES v)) }
+    ensures { IfOk result (λ _.
+        C.contents container.new ≡ C.contents container.old ++ item_bytes value) }
+{
+    match value {
+        Some(value) => container.push(value),
+        None => Ok(()),
+    }
+}

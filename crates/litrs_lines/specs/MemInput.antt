@@ -1,0 +1,20 @@
+-- What an input over memory holds.
+use Rattle.std.specs.Prelude.{ℕ, List, Bool}
+use Rattle.litrs_lines.specs.declared.calls.Calls.{Calls}
+use Rattle.litrs_lines.specs.declared.mem_input.MemInput.{MemInput}
+
+-- the bytes that are left
+abbrev pub left_of : MemInput → List ℕ
+left_of input = input.rest.now
+
+-- how many bytes a call moves at most
+abbrev pub piece_of : MemInput → ℕ
+piece_of input = input.piece
+
+-- the calls that were made
+abbrev pub calls_of : MemInput → Calls
+calls_of input = input.calls
+
+-- a call has failed
+abbrev pub failed_of : MemInput → Bool
+failed_of input = input.failed

@@ -1,0 +1,63 @@
+//! What lines are read from, and what reports are written to.
+ghost use Rattle.std.specs.Prelude.{◌≡◌, ℕ, ◌≤◌, ◌<◌, ◌^◌, Bool, true, [], List, Option, None, length, IfOk, IfSome, OnOk};
+ghost use Rattle.std.specs.Io.KnownBytes.{Keeps, ReadConsumes, WriteAppends};
+ghost use Rattle.litrs_lines.specs.Devices.{RecordsFailure};
+
+/// A call of a device failed.
+#[derive(Clone, Copy, Debug, PartialEq, Eq)]
+pub struct Failed;
+
+/// A source of bytes.
+pub trait Input {
+    /// The bytes that reads will give from here on, where they are known.
+    ghost remaining: { Self → Option (List ℕ) } = { λ _. None };
+
+    /// A call has failed.
+    ghost has_failed: { Self → Bool };
+
+    /// Reads bytes into the front of `buffer` and answers their number.
+    ///
+    /// Of a known input these are the next bytes, and none only at its end or where `buffer` is
+    /// empty. A call that fails takes none of them.
+    fn read(&mut self, buffer: &mut [u8]) -> Result<usize, Failed>
+        ensures bound { IfOk result (λ count. count ≤ length buffer.new) }
+        ensures bytes { ReadConsumes (remaining self.old) (remaining self.new) result buffer.new }
+        ensures failed { RecordsFailure (has_failed self.old) (has_failed self.new) result };
+
+    /// Whether a call has failed.
+    fn failed(&self) -> bool
+        ensures { result ≡ has_failed self.now };
+
+    /// A known input is shorter than 2^63 bytes.
+    ghost few: { (input : Self) → IfSome (remaining input) (λ bytes. length bytes < 2 ^ 63) };
+}
+
+/// A place that bytes are written to.
+pub trait Output {
+    /// The bytes that were written, where they are known.
+    ghost contents: { Self → Option (List ℕ) } = { λ _. None };
+
+    /// A call has failed.
+    ghost has_failed: { Self → Bool };
+
+    /// Nothing was written after the last flush, where that is known.
+    ghost is_flushed: { Self → Bool } = { λ _. true };
+
+    /// Writes bytes from the front of `piece` and answers their number, at least one where `piece`
+    /// is not empty. A call that fails writes none.
+    fn write(&mut self, piece: &[u8]) -> Result<usize, Failed>
+        ensures bound { IfOk result (λ count. count ≤ length piece.now) }
+        ensures some { IfOk result (λ count. count ≡ 0 → piece.now ≡ []) }
+        ensures bytes { WriteAppends (contents self.old) (contents self.new) result piece.now }
+        ensures failed { RecordsFailure (has_failed self.old) (has_failed self.new) result };
+
+    /// Passes on what was written so far. It writes no byte itself.
+    fn flush(&mut self) -> Result<(), Failed>
+        ensures bytes { Keeps (contents self.old) (contents self.new) }
+        ensures flushed { OnOk result (is_flushed self.new ≡ true) }
+        ensures failed { RecordsFailure (has_failed self.old) (has_failed self.new) result };
+
+    /// Whether a call has failed.
+    fn failed(&self) -> bool
+        ensures { result ≡ has_failed self.now };
+}

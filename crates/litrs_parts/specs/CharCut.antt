@@ -1,0 +1,81 @@
+-- Where a char or a byte is cut, in bytes. The Rust Reference, Tokens, Literals:
+-- "Character literals" and "Byte literals".
+use Rattle.std.specs.Prelude.{◌≡◌, ℕ, ◌+◌, ◌-◌, ◌==◌, Bool, true, false, List, ◌∷◌, ◌++◌, length, take, drop, slice_index, slice_range, Some, IsTrue, if◌then◌else◌}
+use Rattle.std.specs.Str.{chars, IsCharBoundary}
+use Rattle.litrs_base.specs.declared.err.ParseError.{ParseError}
+use Rattle.litrs_base.specs.declared.escape.Unescape.{Unescape}
+use Rattle.litrs_base.specs.Characters.{single_quote, backslash, letter_x, letter_u}
+use Rattle.litrs_base.specs.Refusal.{refusal_of, HasCharSpan}
+use Rattle.litrs_base.specs.Text.{byte_len}
+use Rattle.litrs_base.specs.Unescape.{unescaped_number, is_unescaped_char, is_unescaped_byte}
+use Rattle.litrs_grammar.specs.Escape.{Escape, simple_escape, hex_escape, unicode_escape}
+use Rattle.litrs_grammar.specs.CharByte.{CharKind, char_kind, byte_kind, char_front, CharItem, plain_char, escaped_char, char_item_text, char_value, is_char_item, CharParts, IsCharLiteral, char_item_refusal}
+use Rattle.litrs_grammar.specs.Suffix.{is_suffix}
+
+-- the escape that is written so
+abbrev pub escape_written : List ℕ → Escape
+escape_written t =
+    let letter = slice_index t 1 in
+    if letter == letter_x then hex_escape (slice_index t 2) (slice_index t 3)
+    else if letter == letter_u then unicode_escape (take (length t - 4) (drop 3 t))
+    else simple_escape letter
+
+-- the character or the escape that is written so
+abbrev pub item_written : List ℕ → CharItem
+item_written t =
+    if slice_index t 0 == backslash then escaped_char (escape_written t)
+    else plain_char (slice_index t 0)
+
+-- the parts of a literal whose suffix starts at the place: the item stands between the front and
+-- the closing quote
+abbrev pub char_parts_at : CharKind → ℕ → List ℕ → CharParts
+char_parts_at kind start bytes = record {
+  item = item_written (chars (slice_range bytes (length (char_front kind)) (start - 1)));
+  suffix = chars (drop start bytes);
+}
+
+-- the text is a literal of the kind and of the value, whose suffix starts at the place
+pub record IsCharAt (kind : CharKind) (value start : ℕ) (bytes : List ℕ) : Type 0 where
+  pub place : IsCharBoundary bytes start
+  pub literal : IsCharLiteral kind (chars bytes) (char_parts_at kind start bytes)
+  pub is_value : char_value (char_parts_at kind start bytes).item ≡ value
+
+-- After the front
+
+-- the kind, by whether it is that of bytes
+abbrev pub kind_if : (is_byte : Bool) → CharKind
+kind_if true = byte_kind
+kind_if false = char_kind
+
+-- what a literal of the kind may take from an escape
+abbrev pub unwraps_as : CharKind → Unescape → Bool
+unwraps_as char_kind = is_unescaped_char
+unwraps_as byte_kind = is_unescaped_byte
+
+-- a character or an escape of this value stands first, and has so many bytes
+pub record IsItemRead (kind : CharKind) (bytes : List ℕ) (value : Unescape) (len : ℕ) : Type 0 where
+  pub item : CharItem
+  pub rest : List ℕ
+  pub spells : char_item_text item ++ rest ≡ chars bytes
+  pub grammar : IsTrue (is_char_item kind item)
+  pub is_value : unescaped_number value ≡ char_value item
+  pub unwraps : IsTrue (unwraps_as kind value)
+  pub size : byte_len (char_item_text item) ≡ len
+  pub boundary : IsCharBoundary bytes len
+
+-- the table refuses what follows the front
+pub record IsItemRefused (kind : CharKind) (t : List ℕ) (e : ParseError) : Type 0 where
+  pub table : char_item_refusal kind t ≡ Some (refusal_of e)
+  pub char_span : HasCharSpan t e
+
+-- an item, the closing quote and a suffix, which starts at the place
+pub record IsCutBehind (kind : CharKind) (bytes : List ℕ) (value : Unescape) (start : ℕ)
+    : Type 0 where
+  pub item : CharItem
+  pub suffix : List ℕ
+  pub spells : char_item_text item ++ single_quote ∷ suffix ≡ chars bytes
+  pub grammar : IsTrue (is_char_item kind item)
+  pub is_suffix : IsTrue (is_suffix suffix)
+  pub is_value : unescaped_number value ≡ char_value item
+  pub unwraps : IsTrue (unwraps_as kind value)
+  pub size : byte_len (char_item_text item) + 1 ≡ start

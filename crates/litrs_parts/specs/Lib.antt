@@ -1,0 +1,7 @@
+-- what an escape holds
+pub mod Unescaped
+-- the parts that stand at the places of a cut
+pub mod IntegerCut
+pub mod FloatCut
+pub mod NumberCut
+pub mod CharCut

@@ -1,0 +1,101 @@
+-- Trees of tokens, and which of them are bools, by computation.
+use Rattle.std.specs.Prelude.{◌≡◌, ℕ, ◌+◌, List, [], ◌∷◌, IsTrue, IsFalse, Ok, Err, codes, refl}
+use Rattle.std.specs.Str.{chars}
+use Rattle.std.proofs.Common.{arith}
+use Rattle.litrs_scalars.specs.declared.bool.BoolLit.TheVariants.{False, True}
+use Rattle.litrs_token.specs.declared.err.InvalidToken.{InvalidToken}
+use Rattle.litrs_token.specs.declared.kind.TokenKind.{TokenKind}
+use Rattle.litrs_token.specs.declared.kind.TokenKind.TheVariants as token
+use Rattle.litrs_token.specs.declared.punctuation.Spacing.{Spacing}
+use Rattle.litrs_token.specs.declared.punctuation.Spacing.TheVariants.{Alone, Joint}
+use Rattle.litrs_token.specs.declared.tree.Delimiter.TheVariants.{Brace}
+use Rattle.litrs_token.specs.declared.tree.Group.{Group}
+use Rattle.litrs_token.specs.declared.tree.TokenTree.{TokenTree}
+use Rattle.litrs_token.specs.declared.tree.TokenTree.TheOpen as tree
+use Rattle.litrs_token.specs.declared.tree.TokenTree.TheVariants as variant
+use Rattle.litrs_token.specs.CompileError.{IsMessageGroup}
+use Rattle.litrs_token.specs.BoolTree.{text_of, is_bool_ident, IsBoolAnswer}
+use Rattle.litrs_token.specs.Errors.{invalid_span, invalid_text}
+use Rattle.litrs_token.specs.Mismatch.{tree_mismatch}
+use Rattle.litrs_token.specs.Place.{Place, call_site}
+use Rattle.litrs_token.specs.StringToken.{string_token, IsStringOf}
+use Rattle.litrs_token.specs.Tree.{Shape, shape_of, AreAlike, group_delimiter, group_stream, group_span}
+
+-- Tokens at a place
+
+abbrev place : ℕ → Place
+place start = record { start = start; end = start + 1 }
+
+abbrev ident : List ℕ → ℕ → Shape
+ident text start = tree.Ident (record { text = text; span = place start })
+
+abbrev punct : ℕ → Spacing → ℕ → Shape
+punct character spacing start =
+    tree.Punct (record { character = character; spacing = spacing; span = place start })
+
+abbrev literal : List ℕ → TokenKind → ℕ → Shape
+literal text kind start = tree.Literal (record { text = text; kind = kind; span = place start })
+
+-- Trees that are alike: the place alone may differ
+
+alike :
+    AreAlike (ident (codes "a") 0) (ident (codes "a") 5)
+    × AreAlike (punct 43 Alone 0) (punct 43 Alone 5)
+    × AreAlike (literal (codes "1") token.IntegerLit 0) (literal (codes "1") token.IntegerLit 5)
+    × ((g : Group) → AreAlike (tree.Group g) (tree.Group g))
+alike = (refl, (refl, refl), (refl, refl), λ g. (refl, refl))
+
+not_alike :
+    ¬ AreAlike (ident (97 ∷ []) 0) (ident (97 ∷ 98 ∷ []) 0)
+    × ¬ AreAlike (punct 43 Alone 0) (punct 45 Alone 0)
+    × ¬ AreAlike (punct 43 Alone 0) (punct 43 Joint 0)
+    × ¬ AreAlike (literal (49 ∷ []) token.IntegerLit 0) (literal (49 ∷ 50 ∷ []) token.IntegerLit 0)
+    × ¬ AreAlike (literal (49 ∷ []) token.IntegerLit 0) (literal (49 ∷ []) token.FloatLit 0)
+    × ¬ AreAlike (ident (97 ∷ []) 0) (literal (97 ∷ []) token.IntegerLit 0)
+    × ¬ AreAlike (literal (97 ∷ []) token.IntegerLit 0) (ident (97 ∷ []) 0)
+    × ¬ AreAlike (punct 97 Alone 0) (ident (97 ∷ []) 0)
+not_alike = (
+  λ same. cc,
+  λ same. absurd (omega (arith, same.0)),
+  λ same. let spacing = same.1 in cc,
+  λ same. let text = same.0 in cc,
+  λ same. let kind = same.1 in cc,
+  λ same. same,
+  λ same. same,
+  λ same. same,
+)
+
+-- Groups that are alike have the same delimiters and trees.
+alike_groups : (g h : Group) → AreAlike (tree.Group g) (tree.Group h) →
+    (group_delimiter g ≡ group_delimiter h) × (group_stream g ≡ group_stream h)
+alike_groups g h same = same
+
+-- Texts of trees
+
+texts :
+    (text_of (ident (codes "a") 0) ≡ codes "a")
+    × (text_of (literal (codes "1") token.IntegerLit 0) ≡ codes "1")
+    × (text_of (punct 43 Alone 0) ≡ [])
+    × ((g : Group) → text_of (tree.Group g) ≡ [])
+texts = (refl, refl, refl, λ g. refl)
+
+-- What is known of a bool, or of the error in its place
+
+bool_answers : (t : TokenTree) →
+    (IsBoolAnswer t (Ok True) → IsTrue (is_bool_ident (shape_of t)) × (text_of (shape_of t) ≡ codes "true"))
+    × (IsBoolAnswer t (Ok False) → IsTrue (is_bool_ident (shape_of t)) × (text_of (shape_of t) ≡ codes "false"))
+bool_answers t = (λ is. is, λ is. is)
+
+bool_errors : (t : TokenTree) (e : InvalidToken) → IsBoolAnswer t (Err e) →
+    IsFalse (is_bool_ident (shape_of t)) × (e ≡ tree_mismatch token.BoolLit t)
+bool_errors t e is = is
+
+-- The message of an error is one string between braces, of what is printed of the error.
+message : (e : InvalidToken) (group : Group) (is : IsMessageGroup e group) →
+    (group_delimiter group ≡ Brace)
+    × (group_stream group ≡ variant.Literal is.message ∷ [])
+    × (group_span group ≡ invalid_span e)
+    × (chars is.message.text ≡ string_token (chars (invalid_text e)))
+    × IsStringOf (chars is.message.text) (invalid_text e)
+    × (is.message.span ≡ call_site)
+message e group is = (is.delimiter, is.stream, is.span, is.text, is.value, is.message_span)

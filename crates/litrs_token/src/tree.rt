@@ -1,0 +1,185 @@
+//! Trees of tokens.
+ghost use Rattle.std.specs.Prelude.{◌≡◌};
+ghost use Rattle.litrs_token.specs.Mismatch.{actual_kind, tree_mismatch};
+ghost use Rattle.litrs_token.specs.Place.{call_site};
+ghost use Rattle.litrs_token.specs.Tree.{group_delimiter, group_stream, group_span, shape_of, tree_span, AreAlike};
+
+use crate::err::InvalidToken;
+use crate::kind::TokenKind;
+use crate::literal_token::Literal;
+use crate::name::Ident;
+use crate::place::Span;
+use crate::punctuation::Punct;
+
+/// What stands around a group.
+#[derive(Clone, Copy, Debug, PartialEq, Eq)]
+pub enum Delimiter {
+    /// `(` and `)`.
+    Parenthesis,
+    /// `{` and `}`.
+    Brace,
+    /// `[` and `]`.
+    Bracket,
+    /// Nothing.
+    None,
+}
+
+/// Trees of tokens between two delimiters.
+#[cycle(tree)]
+#[derive(Drop)]
+pub struct Group {
+    delimiter: Delimiter,
+    stream: Vec<TokenTree>,
+    span: Span,
+}
+
+/// A token, or a group of them.
+#[cycle(tree)]
+#[derive(Drop)]
+pub enum TokenTree {
+    /// A group, as `(a, b)`.
+    Group(Group),
+    /// An identifier, as `x`.
+    Ident(Ident),
+    /// Punctuation, as `+`.
+    Punct(Punct),
+    /// A literal that is no bool, as `27`.
+    Literal(Literal),
+}
+
+impl Group {
+    /// A group of these trees, with the call-site span.
+    pub fn new(delimiter: Delimiter, stream: Vec<TokenTree>) -> Group
+        ensures delimiter { group_delimiter result ≡ delimiter }
+        ensures stream { group_stream result ≡ stream.items }
+        ensures span { group_span result ≡ call_site }
+    {
+        Group {
+            delimiter,
+            stream,
+            span: Span::call_site(),
+        }
+    }
+
+    /// What stands around it.
+    pub fn delimiter(&self) -> Delimiter
+        ensures { result ≡ group_delimiter self.now }
+    {
+        self.delimiter
+    }
+
+    /// The trees between the delimiters.
+    pub fn stream(&self) -> &[TokenTree]
+        ensures { result.now ≡ group_stream self.now }
+    {
+        self.stream.as_slice()
+    }
+
+    /// Where it stands.
+    pub fn span(&self) -> Span
+        ensures { result ≡ group_span self.now }
+    {
+        self.span
+    }
+
+    /// Puts the group at another place, and leaves the trees inside where they are.
+    pub fn set_span(&mut self, span: Span)
+        ensures span { group_span self.new ≡ span }
+        ensures delimiter { group_delimiter self.new ≡ group_delimiter self.old }
+        ensures stream { group_stream self.new ≡ group_stream self.old }
+    {
+        self.span = span;
+    }
+}
+
+impl TokenTree {
+    /// Where it stands.
+    pub fn span(&self) -> Span
+        ensures { result ≡ tree_span self.now }
+    {
+        match self {
+            TokenTree::Group(group) => group.span(),
+            TokenTree::Ident(ident) => ident.span(),
+            TokenTree::Punct(punct) => punct.span(),
+            TokenTree::Literal(literal) => literal.span(),
+        }
+    }
+
+    /// Puts the tree at another place, and leaves the trees inside a group where they are.
+    pub fn set_span(&mut self, span: Span)
+        ensures span { tree_span self.new ≡ span }
+        ensures alike { AreAlike (shape_of self.old) (shape_of self.new) }
+    {
+        match self {
+            TokenTree::Group(group) => group.set_span(span),
+            TokenTree::Ident(ident) => ident.set_span(span),
+            TokenTree::Punct(punct) => punct.set_span(span),
+            TokenTree::Literal(literal) => literal.set_span(span),
+        }
+    }
+}
+
+impl TokenTree {
+    /// What kind of token it is, and of a literal which kind: of the tree `27` `IntegerLit`.
+    pub(crate) fn kind(&self) -> TokenKind
+        ensures { result ≡ actual_kind (shape_of self.now) }
+    {
+        match self {
+            TokenTree::Group(_) => TokenKind::Group,
+            TokenTree::Ident(_) => TokenKind::Ident,
+            TokenTree::Punct(_) => TokenKind::Punct,
+            TokenTree::Literal(literal) => literal.kind(),
+        }
+    }
+
+    /// That it is another token than the expected one, with its kind and its span.
+    pub(crate) fn mismatch(&self, expected: TokenKind) -> InvalidToken
+        ensures { result ≡ tree_mismatch expected self.now }
+    {
+        InvalidToken::new(expected, self.kind(), self.span())
+    }
+}
+
+impl From<Group> for TokenTree {
+    ghost use Rattle.std.specs.Prelude.{◌≡◌};
+    ghost use Rattle.litrs_token.specs.declared.tree.TokenTree.TheVariants.{Group};
+
+    ghost from_gives = { λ group tree. tree ≡ Group group };
+
+    fn from(group: Group) -> TokenTree {
+        TokenTree::Group(group)
+    }
+}
+
+impl From<Ident> for TokenTree {
+    ghost use Rattle.std.specs.Prelude.{◌≡◌};
+    ghost use Rattle.litrs_token.specs.declared.tree.TokenTree.TheVariants.{Ident};
+
+    ghost from_gives = { λ ident tree. tree ≡ Ident ident };
+
+    fn from(ident: Ident) -> TokenTree {
+        TokenTree::Ident(ident)
+    }
+}
+
+impl From<Punct> for TokenTree {
+    ghost use Rattle.std.specs.Prelude.{◌≡◌};
+    ghost use Rattle.litrs_token.specs.declared.tree.TokenTree.TheVariants.{Punct};
+
+    ghost from_gives = { λ punct tree. tree ≡ Punct punct };
+
+    fn from(punct: Punct) -> TokenTree {
+        TokenTree::Punct(punct)
+    }
+}
+
+impl From<Literal> for TokenTree {
+    ghost use Rattle.std.specs.Prelude.{◌≡◌};
+    ghost use Rattle.litrs_token.specs.declared.tree.TokenTree.TheVariants.{Literal};
+
+    ghost from_gives = { λ literal tree. tree ≡ Literal literal };
+
+    fn from(literal: Literal) -> TokenTree {
+        TokenTree::Literal(literal)
+    }
+}

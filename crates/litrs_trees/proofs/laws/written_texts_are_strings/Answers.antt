@@ -1,5 +1,0 @@
-use Rattle.litrs_trees.proofs.WrittenStrings.{string_of}
-use Rattle.litrs_trees.proofs.laws.written_texts_are_strings.Goals as goal
-
-pub returns : goal.returns
-returns c = string_of

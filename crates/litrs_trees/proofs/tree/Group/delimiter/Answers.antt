@@ -1,5 +1,0 @@
-use Rattle.std.proofs.Common.{refl}
-use Rattle.litrs_trees.proofs.tree.Group.delimiter.Goals as goal
-
-pub returns : goal.returns
-returns c = refl
