@@ -1,9 +1,9 @@
 /* Makes reads of standard input and writes to standard output of a process fail or fall short. The
  * process loads it by LD_PRELOAD.
  *
- * READ_PIECE=N and WRITE_PIECE=N: a call moves at most N bytes. READ_FAILS=N and WRITE_FAILS=N: the
- * Nth call, counted from 1, fails, with the error number IO_ERROR. IO_COUNT=FILE has the numbers of
- * reads and of writes appended to the file at the end. */
+ * READ_PIECE=N and WRITE_PIECE=N: a call moves at most N bytes. READ_FIRST=N: the first read does.
+ * READ_FAILS=N and WRITE_FAILS=N: the Nth call, counted from 1, fails, with the error number
+ * IO_ERROR. IO_COUNT=FILE: the numbers of reads and of writes are appended to the file at the end. */
 #define _GNU_SOURCE
 #include <errno.h>
 #include <fcntl.h>
@@ -23,7 +23,8 @@ static unsigned long number(const char *name) {
 /* Counts a call, and makes it fail or move fewer bytes where that is asked for. */
 static ssize_t move(long call, int fd, void *buffer, size_t size, unsigned long *count,
                     const char *fails, const char *piece) {
-    unsigned long most = number(piece);
+    unsigned long most = number(count == &reads && reads == 0 && getenv("READ_FIRST") != NULL
+                                    ? "READ_FIRST" : piece);
     if (++*count == number(fails)) {
         errno = (int)number("IO_ERROR");
         return -1;
@@ -37,8 +38,8 @@ ssize_t read(int fd, void *buffer, size_t size) {
 }
 
 ssize_t write(int fd, const void *buffer, size_t size) {
-    return fd == 1 ? move(SYS_write, fd, (void *)buffer, size, &writes, "WRITE_FAILS", "WRITE_PIECE")
-                   : syscall(SYS_write, fd, buffer, size);
+    return fd != 1 ? syscall(SYS_write, fd, buffer, size)
+                   : move(SYS_write, fd, (void *)buffer, size, &writes, "WRITE_FAILS", "WRITE_PIECE");
 }
 
 ssize_t __write(int fd, const void *buffer, size_t size) {

@@ -1,12 +1,16 @@
 #!/usr/bin/env python3
-"""Makes each read and each write of the program of lines fail in turn.
+"""Makes each read and each write of the program of lines fail in turn, and fall short.
 
     .ci/failing_devices.py
 
-Runs both builds of crates/litrs_lines_cli, which `rt ci` leaves in its out/, with reads and writes of
-at most 1, 3 and 4096 bytes. Where none fails, all reports are written. Where a read fails, what was
-written is the reports of the lines that were read to their end; where a write fails, it is a prefix of
-the reports. The message names the device, and the status is 1. An interrupted call is a failure.
+Runs both builds of crates/litrs_lines_cli, which `rt ci` leaves in its out/, with reads and writes
+of at most 1, 3 and 4096 bytes. Where none fails, all reports are written. Where a read fails, what
+was written is the reports of the lines that were read to their end; where a write fails, it is a
+prefix of the reports. The message names the device, and the status is 1. An interrupted call is a
+failure.
+
+The program's file `stdin`, and some groups of lines alone, get their reports in pieces of 1, 3 and
+4096 bytes on both sides, and in each cut of the input into two pieces.
 """
 import errno
 import itertools
@@ -26,6 +30,31 @@ REPORTS = [
     b"error unexpected character (at 1..2)\n",
 ]
 PIECES = [1, 3, 4096]
+# Inputs with their reports: literals over several lines, and line ends.
+OPEN = b"error unterminated (byte) string literal\n"
+ONE = b"integer base=10 digits=1 suffix= value=1\n"
+NO_END = b"error unexpected character (at 1..2)\n"
+GROUPS = [
+    (b'"foo\\\n  bar"\n', b"string raw=no suffix= value=666f6f626172\n"),
+    (b'"a\\n\nb"\n', b"string raw=no suffix= value=610a0a62\n"),
+    (b'r#"a\nb"#\n', b"string raw=yes suffix= value=610a62\n"),
+    (b"'a\n1\n", b"error character literal is not terminated\n" + ONE),
+    (
+        b'"\\u{41\n}"\n',
+        b"error unterminated `\\u{...}` escape (at 1..5)\nerror invalid literal\n",
+    ),
+    (b'"a\n\xff\n1\n', OPEN + b"error input is not UTF-8\n" + ONE),
+    (b'"a', OPEN),
+    (b'"a\n', OPEN),
+    (b"1\r\n", ONE),
+    (b'"a\r\nb"\r\n', b"string raw=no suffix= value=610a62\n"),
+    (b'"a\\\r\nb"\r\n', b"string raw=no suffix= value=6162\n"),
+    (b"1\r\r\n", NO_END),
+    (b"1\r", NO_END),
+    (b"\r\n", b"error input is empty\n"),
+    (b"", b""),
+    (b"\xff", b"error input is not UTF-8\n"),
+]
 
 
 class Runs:
@@ -35,16 +64,16 @@ class Runs:
         self.program, self.library, self.folder = program, library, folder
         self.number, self.faults = 0, []
 
-    def run(self, read_piece, write_piece, **how):
-        """Runs the program, and returns its output, message and status, and how many reads and writes it made."""
+    def run(self, read_piece, write_piece, lines=LINES, **changes):
+        """Runs the program. Returns its output, message and status, and how many reads and writes
+        it made."""
         counts = self.folder / "counts"
         counts.unlink(missing_ok=True)
         environment = {"LD_PRELOAD": str(self.library), "IO_COUNT": str(counts)}
         environment |= {"READ_PIECE": str(read_piece), "WRITE_PIECE": str(write_piece)}
-        environment |= {name: str(value) for name, value in how.items()}
-        ran = subprocess.run(
-            [self.program], input=LINES, capture_output=True, env=environment, timeout=60, check=False
-        )
+        environment |= {name: str(value) for name, value in changes.items()}
+        how = {"capture_output": True, "timeout": 60, "check": False}
+        ran = subprocess.run([self.program], input=lines, env=environment, **how)
         self.number += 1
         answer = (ran.stdout, ran.stderr, ran.returncode)
         return answer, [int(it) for it in counts.read_text().split()]
@@ -52,6 +81,15 @@ class Runs:
     def hold(self, holds, what):
         if not holds:
             self.faults.append(what)
+
+    def try_cuts(self, lines, reports):
+        """Runs on an input in pieces, and in each cut into two pieces."""
+        for pieces in itertools.product(PIECES, PIECES):
+            answer, _ = self.run(*pieces, lines=lines)
+            self.hold(answer == (reports, b"", 0), f"{lines[:40]} in {pieces}: {answer}"[:300])
+        for at in range(1, len(lines)):
+            answer, _ = self.run(4096, 4096, lines=lines, READ_FIRST=at)
+            self.hold(answer == (reports, b"", 0), f"{lines[:40]} cut at {at}: {answer}"[:300])
 
     def try_pieces(self, read_piece, write_piece):
         """Runs with none failing, then with each read and each write failing in turn."""
@@ -81,6 +119,10 @@ def main():
             runs = Runs(program, library, folder)
             for pieces in itertools.product(PIECES, PIECES):
                 runs.try_pieces(*pieces)
+            for lines, reports in GROUPS:
+                runs.try_cuts(lines, reports)
+            stdin, stdout = (PROGRAM.parent.parent / name for name in ("stdin", "stdout"))
+            runs.try_cuts(stdin.read_bytes(), stdout.read_bytes())
             number, faults = number + runs.number, faults + runs.faults
     print(*faults[:20], sep="\n", end="\n" if faults else "")
     print(f"devices: {number - len(faults)} passed, {len(faults)} failed")

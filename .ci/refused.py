@@ -12,6 +12,9 @@ Where one is refused, either a call of the library answered it, and the program 
 makes the call again and has all else to say as before; or it was one of the program's own, and it
 ends with `out of memory` and the status 1. Where all from there on are refused, it ends so.
 
+Last, each build runs with nothing refused on texts with parts of every length below 512, and every
+row has to hold.
+
 Fails where a copy does anything else, where a call that is not listed below was refused, and where
 one that is listed never was.
 """
@@ -34,6 +37,8 @@ ENDED = b"litrs_vectors: out of memory\n"
 REFUSED = re.compile("refused (.*) at line 1")
 # The most copies of a part in a text.
 LONGEST = 10_000
+# Below this number parts of every length are tried, with nothing refused.
+SHORT = 512
 SECONDS = 600
 
 
@@ -78,14 +83,17 @@ def escaped(data):
     return "".join(chr(byte) if byte in plain else f"%{byte:02X}" for byte in data)
 
 
-def generated():
-    """Rows of each kind, whose parts have lengths around each constant of the code, and others."""
-    draw = random.Random(1)
+def some_lengths(draw):
+    """Lengths around each constant of the code, and others."""
     lengths = {0, 1, 5, 333, 1000, 5000}
     for constant in [8, 16, 32, 64, 80, 128]:
         lengths |= {constant - 1, constant, constant + 1}
-    lengths |= {draw.randrange(1000, 5000) for _ in range(4)}
-    for length in sorted(lengths):
+    return sorted(lengths | {draw.randrange(1000, 5000) for _ in range(4)})
+
+
+def generated(lengths, draw):
+    """Rows of each kind, whose parts have these lengths."""
+    for length in lengths:
         plain = bytes(draw.choice(b"abcxyz019 _#'") for _ in range(length))
         digits = "".join(draw.choice("0123456789") for _ in range(length)) or "0"
         value = digits.lstrip("0") or "0"
@@ -178,6 +186,14 @@ def try_rows(name, rows, folder):
     return build
 
 
+def try_every_length(build, rows):
+    """Runs a build once on rows of every length, with nothing refused."""
+    text = "".join(f"{row}\n" for row in rows).encode()
+    done = subprocess.run([build.program], input=text, capture_output=True, timeout=SECONDS)
+    if (done.stdout, done.returncode) != (f"{len(rows)} rows hold\n".encode(), 0):
+        build.fault("every length", f"{done.stdout[:300] + done.stderr}, status {done.returncode}")
+
+
 def report(build, wanted):
     """Prints what was refused in a build. Whether it failed."""
     print(f"{build.program.name}: {build.copies} copies")
@@ -193,19 +209,22 @@ def report(build, wanted):
 
 
 def main():
+    draw = random.Random(1)
     if len(sys.argv) > 1:
-        rows, wanted = list(table_rows(pathlib.Path(sys.argv[1]))), set()
+        rows, wanted, every = list(table_rows(pathlib.Path(sys.argv[1]))), set(), []
     else:
-        rows, wanted = [*table_rows(CRATE / "stdin"), *generated()], set(calls())
+        rows = [*table_rows(CRATE / "stdin"), *generated(some_lengths(draw), draw)]
+        wanted, every = set(calls()), list(generated(range(SHORT), draw))
+    failed = False
     with tempfile.TemporaryDirectory() as name:
         folder = pathlib.Path(name)
         words = ["cc", "-O1", "-shared", "-fPIC", "-o", folder / "refuse.so"]
         subprocess.run([*words, TOP / ".ci" / "refuse.c"], check=True)
-        failed = [
-            report(try_rows(build, rows, folder), wanted)
-            for build in ["litrs_vectors", "litrs_vectors.by-rattle"]
-        ]
-    sys.exit(1 if any(failed) else 0)
+        for program in ["litrs_vectors", "litrs_vectors.by-rattle"]:
+            build = try_rows(program, rows, folder)
+            try_every_length(build, every)
+            failed |= report(build, wanted)
+    sys.exit(1 if failed else 0)
 
 
 main()

@@ -10,6 +10,7 @@ use std::time::Instant;
 mod allocations;
 mod going_on;
 mod lines;
+mod several_lines;
 
 /// The texts of a shape, and the bytes that they have at most, together.
 const TEXTS: usize = 4000;
@@ -36,6 +37,8 @@ mod ours {
         pub fn contents(text: *const u8, len: usize) -> u64;
         #[link_name = "litrs_bench_goes_on"]
         pub fn goes_on(text: *const u8, len: usize) -> u64;
+        #[link_name = "litrs_bench_feed"]
+        pub fn feed(text: *const u8, len: usize) -> u64;
         #[link_name = "litrs_bench_run"]
         pub fn run(text: *const u8, len: usize) -> u64;
         #[cfg(upstream)]
@@ -547,6 +550,7 @@ fn main() {
         }
     }
     lines::main();
+    several_lines::main();
     going_on::main(&rows.iter().map(|(kind, name, _, texts)| (*kind, *name, &texts[..])).collect::<Vec<_>>());
     println!();
     allocations::main(&rows.iter().map(|(kind, name, _, texts)| (*kind, *name, &texts[..])).collect::<Vec<_>>());
