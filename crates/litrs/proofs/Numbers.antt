@@ -37,7 +37,7 @@ use Rattle.litrs_parts.proofs.IntegerBytes.{digit-chars}
 use Rattle.litrs_parts.proofs.NumberBytes.{begins_float-chars}
 use Rattle.litrs.specs.LacksDigits.{is_digits_kind, ends_at, lacks_digits}
 use Rattle.litrs.specs.Row.{row_of}
-use Rattle.litrs.specs.declared.goes_on.dispatch.Row.TheVariants as row
+use Rattle.litrs.specs.declared.going_on.dispatch.Row.TheVariants as row
 use Rattle.litrs.proofs.Begins.{answer_is, begins_now}
 
 -- nothing stands after a front that is as long as the text

@@ -17,8 +17,8 @@ use Rattle.litrs_grammar.proofs.LongerTexts.Dispatch.{unnamed_begins}
 use Rattle.litrs_grammar.proofs.LongerTexts.Literal.{back}
 use Rattle.litrs_parts.proofs.Dispatch.{dispatch-chars, is_bool-chars}
 use Rattle.litrs.specs.Row.{row_of, begins_as}
-use Rattle.litrs.specs.declared.goes_on.dispatch.Row.{Row}
-use Rattle.litrs.specs.declared.goes_on.dispatch.Row.TheVariants as row
+use Rattle.litrs.specs.declared.going_on.dispatch.Row.{Row}
+use Rattle.litrs.specs.declared.going_on.dispatch.Row.TheVariants as row
 use Rattle.litrs.proofs.Begins.{yes, answer_is, begins_now}
 
 -- an ASCII word begins with the bytes if and only if it begins with the characters

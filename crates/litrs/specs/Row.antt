@@ -7,8 +7,8 @@ use Rattle.litrs_base.specs.Text.{is_empty, first_passes, begins_with}
 use Rattle.litrs_grammar.specs.Bool.{is_bool}
 use Rattle.litrs_grammar.specs.Literal.{bool_literal, integer_literal, float_literal, char_literal, byte_literal, string_literal, byte_string_literal, c_string_literal}
 use Rattle.litrs_grammar.specs.LiteralRefusals.{begins_float, Dispatch, refused_as, parsed_as}
-use Rattle.litrs.specs.declared.goes_on.dispatch.Row.{Row}
-use Rattle.litrs.specs.declared.goes_on.dispatch.Row.TheVariants as row
+use Rattle.litrs.specs.declared.going_on.dispatch.Row.{Row}
+use Rattle.litrs.specs.declared.going_on.dispatch.Row.TheVariants as row
 
 -- the row of the dispatch that fits the text with these bytes
 abbrev pub row_of : Row → List ℕ → Dispatch

@@ -80,7 +80,7 @@ ghost use Rattle.litrs_grammar.specs.Refused.{IsRefused, IsRefusedOrOutOfMemory}
 ghost use Rattle.litrs_parts.specs.NumberCut.{number_kind};
 ghost use Rattle.litrs.specs.LiteralDerivation.{literal_raw, derivation};
 
-pub use goes_on::goes_on;
+pub use going_on::goes_on;
 pub use litrs_numbers::{FloatLit, FromIntegerLiteral, IntegerLit};
 pub use litrs_parts::{
     Buffer, FloatType, IntegerBase, IntegerType, ParseError, ParseErrorKind, Text,
@@ -92,7 +92,7 @@ use parse::Dispatched;
 use std::alloc::{AllocError, Global};
 use std::fmt;
 
-mod goes_on;
+mod going_on;
 mod parse;
 
 /// A literal of any kind. See [the reference][ref].

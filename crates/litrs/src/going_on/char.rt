@@ -1,0 +1,74 @@
+//! Chars and bytes.
+ghost use Rattle.std.specs.Prelude.{◌≡◌, ◌↔◌, ◌++◌, ◌==◌, codes, IsTrue};
+ghost use Rattle.std.specs.Str.{chars};
+ghost use Rattle.litrs_base.specs.Characters.{backslash};
+ghost use Rattle.litrs_base.specs.Text.{begins_with, first_passes};
+ghost use Rattle.litrs_grammar.specs.CharByte.{char_front, plain_char, is_char_item, IsCharLiteral};
+ghost use Rattle.litrs_grammar.specs.Continuation.{BeginsBy};
+ghost use Rattle.litrs_grammar.specs.Literal.{kind_parse, char_literal, byte_literal, Begins};
+ghost use Rattle.litrs_parts.specs.CharCut.{kind_if};
+ghost use Rattle.litrs.specs.Begins.{BeginsClosing};
+
+use crate::going_on::escape::refused_escape_goes_on;
+use crate::going_on::suffix::suffix_goes_on;
+use litrs_parts::unescape;
+
+/// Whether a text that begins with `'` begins a char.
+pub(crate) fn char_goes_on(text: &str) -> bool
+    requires { IsTrue (begins_with (codes "'") text.now) }
+    ensures { IsTrue result ↔ Begins (kind_parse char_literal) (chars text.now) }
+{
+    item_goes_on(&text[1..], false)
+}
+
+/// Whether a text that begins with `b'` begins a byte.
+pub(crate) fn byte_goes_on(text: &str) -> bool
+    requires { IsTrue (begins_with (codes "b'") text.now) }
+    ensures { IsTrue result ↔ Begins (kind_parse byte_literal) (chars text.now) }
+{
+    item_goes_on(&text[2..], true)
+}
+
+/// Whether the front of a char or of a byte, followed by this, begins one.
+fn item_goes_on(rest: &str, is_byte: bool) -> bool
+    ensures { IsTrue result ↔ BeginsBy (IsCharLiteral (kind_if is_byte))
+        (char_front (kind_if is_byte) ++ chars rest.now) }
+{
+    let mut chars = rest.chars();
+    match chars.next() {
+        None => true,
+        Some('\\') => escaped_goes_on(rest, is_byte),
+        Some(c) => is_plain(c, is_byte) && closing_goes_on(chars.as_str()),
+    }
+}
+
+/// The same of a rest that begins with a backslash.
+fn escaped_goes_on(rest: &str, is_byte: bool) -> bool
+    requires { IsTrue (first_passes (λ c. c == backslash) rest.now) }
+    ensures { IsTrue result ↔ BeginsBy (IsCharLiteral (kind_if is_byte))
+        (char_front (kind_if is_byte) ++ chars rest.now) }
+{
+    match unescape(rest, !is_byte, is_byte, true) {
+        Ok((_, len)) => closing_goes_on(&rest[len..]),
+        Err(_) => refused_escape_goes_on(&rest.as_bytes()[1..], !is_byte, is_byte, true),
+    }
+}
+
+/// Whether the character stands for itself in a char or in a byte.
+fn is_plain(c: char, is_byte: bool) -> bool
+    ensures { result ≡ is_char_item (kind_if is_byte) (plain_char c) }
+{
+    !matches!(c, '\'' | '\\' | '\n' | '\t' | '\r') && (!is_byte || c.is_ascii())
+}
+
+/// Whether what follows the character begins the closing quote and a suffix.
+fn closing_goes_on(behind: &str) -> bool
+    ensures { IsTrue result ↔ BeginsClosing (chars behind.now) }
+{
+    let mut chars = behind.chars();
+    match chars.next() {
+        None => true,
+        Some('\'') => suffix_goes_on(chars.as_str()),
+        Some(_) => false,
+    }
+}

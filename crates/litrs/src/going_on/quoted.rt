@@ -1,0 +1,50 @@
+//! Quoted strings, byte strings and C strings.
+ghost use Rattle.std.specs.Prelude.{◌↔◌, ◌⊎◌, take, IsTrue};
+ghost use Rattle.std.specs.Str.{chars, IsCharBoundary};
+ghost use Rattle.litrs_grammar.specs.Continuation.{BeginsBy};
+ghost use Rattle.litrs_grammar.specs.Quoted.{IsQuoted};
+ghost use Rattle.litrs_grammar.specs.QuotedGoesOn.{RestGoesOn};
+ghost use Rattle.litrs_lex.specs.QuotedItems.{EndsItems};
+ghost use Rattle.litrs_parts.specs.Unescaped.{switches};
+ghost use Rattle.litrs.specs.Begins.{IsClosed};
+
+use crate::going_on::escape::escape_goes_on;
+use crate::going_on::front::begins_with;
+use crate::going_on::suffix::suffix_goes_on;
+use litrs_lex::quoted::items_end;
+
+/// Whether a text whose body begins at `offset` begins a quoted literal. The place and the switches
+/// are those of [`cut_quoted`](litrs_lex::cut_quoted).
+pub(crate) fn quoted_goes_on(
+    text: &str,
+    offset: usize,
+    unicode: bool,
+    byte_escapes: bool,
+    allow_nul: bool,
+) -> bool
+    requires { IsCharBoundary text.now offset }
+    ensures { IsTrue result ↔ BeginsBy (IsQuoted (chars (take offset text.now))
+        (switches unicode byte_escapes allow_nul)) (chars text.now) }
+{
+    let end = items_end(text, offset, unicode, byte_escapes, allow_nul);
+    rest_goes_on(&text[end.place..], unicode, byte_escapes, allow_nul)
+}
+
+/// The same by what stands where the items end.
+fn rest_goes_on(rest: &str, unicode: bool, byte_escapes: bool, allow_nul: bool) -> bool
+    requires { EndsItems (switches unicode byte_escapes allow_nul) (chars rest.now) }
+    ensures { IsTrue result ↔ (IsClosed (chars rest.now)
+        ⊎ RestGoesOn (switches unicode byte_escapes allow_nul) (chars rest.now)) }
+{
+    let mut chars = rest.chars();
+    match chars.next() {
+        None => true,
+        Some('"') => suffix_goes_on(chars.as_str()),
+        // A continuation where the items end goes up to the end of the text.
+        Some('\\') => {
+            begins_with(b"\n", chars.as_str().as_bytes())
+                || escape_goes_on(rest, unicode, byte_escapes, allow_nul)
+        }
+        Some(_) => false,
+    }
+}
