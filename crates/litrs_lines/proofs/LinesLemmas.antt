@@ -20,7 +20,7 @@ use Rattle.std.proofs.Common.{eqb-true, ltb, cond, add-one, get_or, take-append-
 use Rattle.std.proofs.lemmas.List.{get_or-take, take_rest}
 use Rattle.litrs_lines.specs.Ended.{AreEndedReports, AreLastReports}
 use Rattle.litrs_lines.specs.Reports.{AppendsReports}
-use Rattle.litrs_lines.proofs.GroupReports.{group_reports, last_reports, have_ended_reports, have_last_reports, ended-none, ended-append, last-append, Adds, adds-none, adds-append}
+use Rattle.litrs_lines.proofs.GroupReports.{group_reports, last_reports, ended-none, ended-append, last-append, Adds, adds-none, adds-append}
 use Rattle.litrs_lines.specs.Lines.{is_line_feed, HasNoLineFeed, before_last_part, last_part, ended_parts, open_part, unless_empty, without_return, ended_parts_of, ended_lines, open_line, lines_of}
 
 -- the first part of a split, and those after it

@@ -1,5 +1,5 @@
 use Rattle.std.specs.Prelude.{string_bytes}
-use Rattle.std.proofs.Common.{arith, rules, ◌-◌, ◌+◌, drop, sym, ◌∙◌, ap, ◌++◌, append-nil, length, length-take, length-drop}
+use Rattle.std.proofs.Common.{arith, rules, ◌-◌, ◌+◌, drop, sym, ◌∙◌, length, length-take, length-drop}
 use Rattle.std.proofs.lemmas.Grind.{common_steps}
 use Rattle.litrs_lines.proofs.LinesLemmas.{steps_on, takes_all, goes_on, OnOk-appended, OnOk-holds, ends_line}
 use Rattle.litrs_lines.proofs.gather.Goals as goal
