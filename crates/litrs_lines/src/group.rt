@@ -1,7 +1,7 @@
 //! The reports on the groups that lines make.
-ghost use Rattle.std.specs.Prelude.{◌≡◌, ◌++◌, [], OnOk, string_bytes, codes};
-ghost use Rattle.litrs_lines.specs.Grouped.{closed_by, held_by, unless_held};
-ghost use Rattle.litrs_lines.specs.Reported.{reports_of};
+ghost use Rattle.std.specs.Prelude.{◌≡◌, ◌++◌, ◌∷◌, [], ℕ, List, OnOk, string_bytes, codes};
+ghost use Rattle.litrs_lines.specs.Ended.{unless_held, AreEndedReports};
+ghost use Rattle.litrs_lines.specs.Reports.{AreReports};
 
 use crate::report::{report_literal, report_refusal};
 use litrs_collector::{Collector, Step};
@@ -14,9 +14,9 @@ pub(crate) fn take_line(
     reports: &mut String,
     line: &[u8],
 ) -> Result<(), AllocError>
-    ensures held { OnOk result (collector.new ≡ held_by collector.old line.now) }
-    ensures reports { OnOk result (string_bytes reports.new
-        ≡ string_bytes reports.old ++ reports_of (closed_by collector.old line.now)) }
+    ensures { OnOk result ((out : List ℕ)
+        × AreEndedReports collector.old (line.now ∷ []) collector.new out
+        × (string_bytes reports.new ≡ string_bytes reports.old ++ out)) }
 {
     match str::from_utf8(line) {
         Ok(text) => take_text(collector, reports, text),
@@ -26,9 +26,9 @@ pub(crate) fn take_line(
 
 /// The same for a line that is a text.
 fn take_text(collector: &mut Collector, reports: &mut String, line: &str) -> Result<(), AllocError>
-    ensures held { OnOk result (collector.new ≡ held_by collector.old line.now) }
-    ensures reports { OnOk result (string_bytes reports.new
-        ≡ string_bytes reports.old ++ reports_of (closed_by collector.old line.now)) }
+    ensures { OnOk result ((out : List ℕ)
+        × AreEndedReports collector.old (line.now ∷ []) collector.new out
+        × (string_bytes reports.new ≡ string_bytes reports.old ++ out)) }
 {
     match collector.feed(line)? {
         Step::More => Ok(()),
@@ -40,9 +40,10 @@ fn take_text(collector: &mut Collector, reports: &mut String, line: &str) -> Res
 /// The same for a line that is no text.
 fn report_no_text(collector: &mut Collector, reports: &mut String) -> Result<(), AllocError>
     ensures held { OnOk result (collector.new ≡ []) }
-    ensures reports { OnOk result (string_bytes reports.new
-        ≡ (string_bytes reports.old ++ reports_of (unless_held collector.old))
-        ++ codes "error input is not UTF-8\n") }
+    ensures reports { OnOk result ((out : List ℕ)
+        × AreReports (unless_held collector.old) out
+        × (string_bytes reports.new
+        ≡ (string_bytes reports.old ++ out) ++ codes "error input is not UTF-8\n")) }
 {
     report_held(collector, reports)?;
     reports.push_str("error input is not UTF-8\n")
@@ -51,8 +52,9 @@ fn report_no_text(collector: &mut Collector, reports: &mut String) -> Result<(),
 /// Adds the report on the lines that are held, where there are some. Then none is held.
 pub(crate) fn report_held(collector: &mut Collector, reports: &mut String) -> Result<(), AllocError>
     ensures held { OnOk result (collector.new ≡ []) }
-    ensures reports { OnOk result (string_bytes reports.new
-        ≡ string_bytes reports.old ++ reports_of (unless_held collector.old)) }
+    ensures reports { OnOk result ((out : List ℕ)
+        × AreReports (unless_held collector.old) out
+        × (string_bytes reports.new ≡ string_bytes reports.old ++ out)) }
 {
     let alloc = *reports.allocator();
     match mem::replace(collector, Collector::new(alloc)).finish() {

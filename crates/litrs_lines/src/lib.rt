@@ -1,13 +1,12 @@
 //! Reads lines and writes a report on each literal that they are, and on each text that is none.
 #![tactic(auto)]
 
-ghost use Rattle.std.specs.Prelude.{◌≡◌, ◌≢◌, ◌↔◌, ◌∷◌, [], ◌++◌, true, false, Some, IsSome, IfSome, IsErrOf, OnOk, OnErr, position, string_bytes};
+ghost use Rattle.std.specs.Prelude.{◌≡◌, ◌≢◌, ◌↔◌, ◌∷◌, [], ◌++◌, ℕ, List, true, false, Some, IsSome, IfSome, IsErrOf, OnOk, OnErr, position, string_bytes};
 ghost use Rattle.std.specs.Io.KnownBytes.{Appends, IsAtEnd};
 ghost use Rattle.litrs_base.specs.Characters.{line_feed};
 ghost use Rattle.litrs_lines.specs.Stopped.{AppendsBeginning, StopsWithin};
 ghost use Rattle.litrs_lines.specs.Lines.{is_line_feed, HasNoLineFeed, without_return, ended_lines, open_line, unless_empty, lines_of};
-ghost use Rattle.litrs_lines.specs.Grouped.{closed_by, held_by, closed_texts, held_text, texts_from};
-ghost use Rattle.litrs_lines.specs.Reported.{reports_of};
+ghost use Rattle.litrs_lines.specs.Ended.{AreEndedReports, AreLastReports};
 ghost use Rattle.litrs_lines.specs.Reports.{AppendsReports};
 
 pub use device::{Failed, Input, Output};
@@ -100,11 +99,10 @@ fn end_line(
     end: &[u8],
 ) -> Result<(), AllocError>
     ensures line { OnOk result (line.new.items ≡ []) }
-    ensures held { OnOk result (collector.new
-        ≡ held_by collector.old (without_return (line.old.items ++ end.now))) }
-    ensures reports { OnOk result (string_bytes reports.new
-        ≡ string_bytes reports.old
-        ++ reports_of (closed_by collector.old (without_return (line.old.items ++ end.now)))) }
+    ensures reports { OnOk result ((out : List ℕ)
+        × AreEndedReports collector.old
+        (without_return (line.old.items ++ end.now) ∷ []) collector.new out
+        × (string_bytes reports.new ≡ string_bytes reports.old ++ out)) }
 {
     if line.is_empty() {
         return take_line(collector, reports, without_return(end));
@@ -124,11 +122,10 @@ fn gather(
 ) -> Result<(), AllocError>
     requires { HasNoLineFeed line.old.items }
     ensures line { OnOk result (line.new.items ≡ open_line (line.old.items ++ piece.now)) }
-    ensures held { OnOk result (collector.new
-        ≡ held_text collector.old (ended_lines (line.old.items ++ piece.now))) }
-    ensures reports { OnOk result (string_bytes reports.new
-        ≡ string_bytes reports.old
-        ++ reports_of (closed_texts collector.old (ended_lines (line.old.items ++ piece.now)))) }
+    ensures reports { OnOk result ((out : List ℕ)
+        × AreEndedReports collector.old
+        (ended_lines (line.old.items ++ piece.now)) collector.new out
+        × (string_bytes reports.new ≡ string_bytes reports.old ++ out)) }
 {
     let mut rest = piece;
     while let Some(end) = line_end(rest) {
@@ -168,12 +165,13 @@ fn take_piece<O: Output>(
     requires line { HasNoLineFeed line.old.items }
     requires works { O.has_failed writer.old ≡ false }
     ensures line { OnOk result (line.new.items ≡ open_line (line.old.items ++ piece.now)) }
-    ensures held { OnOk result (collector.new
-        ≡ held_text collector.old (ended_lines (line.old.items ++ piece.now))) }
-    ensures ok { OnOk result (Appends (O.contents writer.old) (O.contents writer.new)
-        (reports_of (closed_texts collector.old (ended_lines (line.old.items ++ piece.now))))) }
-    ensures err { OnErr result (AppendsBeginning (O.contents writer.old) (O.contents writer.new)
-        (reports_of (closed_texts collector.old (ended_lines (line.old.items ++ piece.now))))) }
+    ensures ok { OnOk result ((out : List ℕ)
+        × AreEndedReports collector.old
+        (ended_lines (line.old.items ++ piece.now)) collector.new out
+        × Appends (O.contents writer.old) (O.contents writer.new) out) }
+    ensures err { OnErr result ((left : List ℕ) × (out : List ℕ)
+        × AreEndedReports collector.old (ended_lines (line.old.items ++ piece.now)) left out
+        × AppendsBeginning (O.contents writer.old) (O.contents writer.new) out) }
     ensures read { result ≢ Err RunError.Read }
     ensures write { IsErrOf result RunError.Write ↔ (O.has_failed writer.new ≡ true) }
 {
@@ -191,11 +189,9 @@ fn take_open_line(
     collector: &mut Collector,
     reports: &mut String,
 ) -> Result<(), AllocError>
-    ensures held { OnOk result (collector.new
-        ≡ held_text collector.old (unless_empty line.now)) }
-    ensures reports { OnOk result (string_bytes reports.new
-        ≡ string_bytes reports.old
-        ++ reports_of (closed_texts collector.old (unless_empty line.now))) }
+    ensures { OnOk result ((out : List ℕ)
+        × AreEndedReports collector.old (unless_empty line.now) collector.new out
+        × (string_bytes reports.new ≡ string_bytes reports.old ++ out)) }
 {
     if line.is_empty() {
         return Ok(());
@@ -210,9 +206,9 @@ fn report_last(
     collector: &mut Collector,
     reports: &mut String,
 ) -> Result<(), AllocError>
-    ensures { OnOk result (string_bytes reports.new
-        ≡ string_bytes reports.old
-        ++ reports_of (texts_from collector.old (unless_empty line.now))) }
+    ensures { OnOk result ((out : List ℕ)
+        × AreLastReports collector.old (unless_empty line.now) out
+        × (string_bytes reports.new ≡ string_bytes reports.old ++ out)) }
 {
     take_open_line(line, collector, reports)?;
     report_held(collector, reports)
@@ -227,11 +223,13 @@ fn finish<O: Output>(
     writer: &mut O,
 ) -> Result<(), RunError>
     requires { O.has_failed writer.old ≡ false }
-    ensures ok { OnOk result (Appends (O.contents writer.old) (O.contents writer.new)
-        (reports_of (texts_from collector.old (unless_empty line.now)))) }
+    ensures ok { OnOk result ((out : List ℕ)
+        × AreLastReports collector.old (unless_empty line.now) out
+        × Appends (O.contents writer.old) (O.contents writer.new) out) }
     ensures flushed { OnOk result (O.is_flushed writer.new ≡ true) }
-    ensures err { OnErr result (AppendsBeginning (O.contents writer.old) (O.contents writer.new)
-        (reports_of (texts_from collector.old (unless_empty line.now)))) }
+    ensures err { OnErr result ((out : List ℕ)
+        × AreLastReports collector.old (unless_empty line.now) out
+        × AppendsBeginning (O.contents writer.old) (O.contents writer.new) out) }
     ensures read { result ≢ Err RunError.Read }
     ensures write { IsErrOf result RunError.Write ↔ (O.has_failed writer.new ≡ true) }
 {
