@@ -1,9 +1,9 @@
 -- What is known of the bytes of a text that begins a string: it stays known with more after them, and goes on over a line.
-use Rattle.std.proofs.Common.{◌≡◌, ◌∙◌, inl, inr, ℕ, zero, suc, ◌+◌, ◌≤◌, ◌<◌, Bool, true, false, not, ◌&&◌, ◌||◌, List, [], ◌∷◌, ◌++◌, length, take, drop, get_or, Option, Some, None, refl, sym, ap, subst, append_assoc, append-nil, arith}
+use Rattle.std.proofs.Common.{◌≡◌, ◌∙◌, inl, inr, ℕ, zero, suc, ◌+◌, ◌≤◌, ◌<◌, Bool, true, false, ◌||◌, List, [], ◌∷◌, ◌++◌, length, take, drop, Option, Some, None, refl, sym, ap, subst, append_assoc, append-nil, arith}
 use Rattle.std.specs.Prelude.{◌==◌}
 use Rattle.std.specs.List.{list_all, prefix_len}
 use Rattle.std.specs.Str.{chars, IsUtf8, IsCharBoundary}
-use Rattle.std.proofs.Math.Seq.{take-append_seam, take-length, drop-length}
+use Rattle.std.proofs.Math.Seq.{take-length, drop-length}
 use Rattle.std.proofs.lemmas.Bool.{and_from, ne_eqb, not_from_false, cases_lt, eqb-true}
 use Rattle.std.proofs.lemmas.List.{take-append-le, drop-append-le, take-append-drop, length-take-le, length-append, length-drop, drop-drop, append_cancel_left, append_cancel_right, take_at}
 use Rattle.std.proofs.lemmas.Str.{chars-append, chars-nil, IsUtf8-append, IsUtf8-drop, IsUtf8-from_ascii, IsCharBoundary-at_seam, IsCharBoundary-end, IsCharBoundary-from_drop}
@@ -17,7 +17,7 @@ use Rattle.litrs_base.proofs.Spans.{is_ascii_char}
 use Rattle.litrs_grammar.specs.StringKind.{StringKind, string_kind, byte_string_kind, c_string_kind, switches_of}
 use Rattle.litrs_grammar.specs.Escape.{Switches, escape_text, IsEscape}
 use Rattle.litrs_grammar.specs.Quoted.{Item, continuation, quoted_front, body_text, stand_before}
-use Rattle.litrs_grammar.specs.Raw.{hashes, hash_len, occurs, raw_closing, raw_front, has_unicode, allows_nul, is_raw_char, IsRawBody}
+use Rattle.litrs_grammar.specs.Raw.{hashes, hash_len, occurs, raw_closing, raw_front, has_unicode, allows_nul, is_raw_char}
 use Rattle.litrs_grammar.specs.RawLaws.{NoClosingIn}
 use Rattle.litrs_grammar.proofs.QuotedLaws.{body_text-append}
 use Rattle.litrs_grammar.proofs.RawCuts.{HashCut, hash_cut, hash_len-append, behind_hashes, length-hashes}
@@ -31,7 +31,7 @@ use Rattle.litrs_lex.specs.RawCut.{IsStop}
 use Rattle.litrs_lex.proofs.PlainRuns.{list_all-take, stops_at}
 use Rattle.litrs_lex.proofs.QuotedBytes.{blank_ascii}
 use Rattle.litrs_lex.proofs.QuotedScan.{front_splits, stand_before-append}
-use Rattle.litrs_lex.proofs.StringFronts.{quoted_boundary, quoted_before, raw_boundary}
+use Rattle.litrs_lex.proofs.StringFronts.{quoted_boundary, quoted_before}
 use Rattle.litrs_collector.specs.declared.body.Body.{Body}
 use Rattle.litrs_collector.specs.declared.body.Body.TheVariants.{Quoted, Continuation, Raw}
 use Rattle.litrs_collector.specs.declared.body.Open.{Open}

@@ -1,5 +1,5 @@
 -- Strings whose bodies are open at the end of the text: no such text is a literal, and with an LF after it it begins one.
-use Rattle.std.proofs.Common.{◌≡◌, ◌∙◌, ◌⊎◌, inl, inr, ℕ, zero, suc, ◌+◌, ◌≤◌, Bool, true, false, not, ◌&&◌, ◌||◌, ltb, List, [], ◌∷◌, ◌++◌, length, drop, Option, Some, refl, sym, ap, subst, append_assoc, append-nil, arith}
+use Rattle.std.proofs.Common.{◌≡◌, ◌∙◌, ◌⊎◌, inl, inr, ℕ, zero, suc, ◌+◌, ◌≤◌, Bool, true, false, not, ◌&&◌, List, [], ◌∷◌, ◌++◌, length, drop, Some, refl, sym, ap, subst, append_assoc, append-nil}
 use Rattle.std.specs.Prelude.{◌==◌}
 use Rattle.std.specs.List.{list_all}
 use Rattle.std.proofs.lemmas.Bool.{and_from, or_parts, or_from, le-ltb, both_ways, not_from_false}
@@ -18,9 +18,9 @@ use Rattle.litrs_grammar.specs.Continuation.{BeginsBy}
 use Rattle.litrs_grammar.specs.Escape.{Switches, Escape, escape_text, IsEscape}
 use Rattle.litrs_grammar.specs.Quoted.{Item, plain_item, escape_item, quoted_front, body_text, stand_before, QuotedParts, rest_refusal, IsQuotedLiteral, IsQuotedRefusal, IsQuotedLiteralRefusal}
 use Rattle.litrs_grammar.specs.QuotedGoesOn.{IsOpenRest}
-use Rattle.litrs_grammar.specs.Raw.{hashes, is_hash, occurs, raw_closing, raw_front, has_unicode, allows_nul, is_raw_char, IsRawBody, RawParts, IsRawLiteral, raw_refusal}
-use Rattle.litrs_grammar.specs.Literal.{StringParts, quoted_parts, raw_parts, IsString, a_string, a_byte_string, a_c_string, IsLiteral, literal_parse, Begins}
-use Rattle.litrs_grammar.specs.LiteralRefusals.{StringStart, quoted_start, raw_start, string_start, IsRefusalOfStart, IsStringRefusal, IsKindRefusal, Dispatch, parsed_as, dispatch, IsRefusalOfDispatch, IsRefusal}
+use Rattle.litrs_grammar.specs.Raw.{hashes, occurs, raw_closing, raw_front, has_unicode, allows_nul, is_raw_char, IsRawBody, RawParts, raw_refusal}
+use Rattle.litrs_grammar.specs.Literal.{quoted_parts, raw_parts, IsString, a_string, a_byte_string, a_c_string, IsLiteral, literal_parse, Begins}
+use Rattle.litrs_grammar.specs.LiteralRefusals.{StringStart, quoted_start, raw_start, string_start, IsRefusalOfStart, IsStringRefusal, IsKindRefusal, parsed_as, dispatch, IsRefusalOfDispatch, IsRefusal}
 use Rattle.litrs_grammar.proofs.LiteralLaws.{string_literal_of, start_quoted, start_raw, literals_are_not_refused}
 use Rattle.litrs_grammar.proofs.QuotedLaws.{body_text-append, quoted_refusals_are_unique, quoted_texts_are_decided}
 use Rattle.litrs_grammar.proofs.OpenRows.{shut_suffix}

@@ -1,7 +1,5 @@
 -- An escape that is read is all of the text where it is as long.
-use Rattle.std.proofs.Common.{ℕ, List}
 use Rattle.litrs_grammar.specs.StringKind.{switches_of}
-use Rattle.litrs_parts.specs.Unescaped.{switches}
 use Rattle.litrs_lex.proofs.QuotedBytes.{first_of}
 use Rattle.litrs_collector.specs.Open.{kind_of}
 use Rattle.litrs_collector.proofs.OpenBytes.{switches_by, is_empty_left, begins_backslash, is_whole_escape}

@@ -1,5 +1,5 @@
 -- Each turn goes from a quote that closes nothing to the next byte that the search stops at.
-use Rattle.std.proofs.Common.{◌≡◌, ◌+◌, true, false, not, ◌&&◌, drop, refl, sym, ap, ◌∙◌, arith}
+use Rattle.std.proofs.Common.{◌≡◌, ◌+◌, true, not, ◌&&◌, drop, refl, sym, ap, ◌∙◌, arith}
 use Rattle.std.specs.Str.{chars}
 use Rattle.litrs_base.specs.Text.{first_passes, begins_with}
 use Rattle.litrs_grammar.specs.Raw.{is_quote, raw_closing}
