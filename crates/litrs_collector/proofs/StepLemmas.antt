@@ -1,10 +1,10 @@
 -- Texts that end with LF, the steps of texts, and texts that are held.
-use Rattle.std.proofs.Common.{◌≡◌, ◌∙◌, ◌⊎◌, inl, inr, ℕ, Bool, true, false, List, [], ◌∷◌, ◌++◌, refl, sym, ap, subst, append-nil, arith, length, take, ◌-◌, ◌+◌, ◌<◌, length-append, slice_index, Result, Ok, Err, OnErr}
+use Rattle.std.proofs.Common.{◌≡◌, ◌∙◌, ◌⊎◌, inl, inr, ℕ, Bool, true, false, List, [], ◌∷◌, ◌++◌, refl, sym, ap, subst, append-nil, append_assoc, arith, length, take, ◌-◌, ◌+◌, ◌<◌, length-append, slice_index, Result, Ok, Err, OnErr}
 use Rattle.std.specs.Prelude.{IsTrue, ◌↔◌}
 use Rattle.std.specs.Str.{chars, IsUtf8, IsCharBoundary}
 use Rattle.std.specs.String.Boundary.{IsSplitPoint}
 use Rattle.std.proofs.Math.Seq.{take-append_seam, get_or-append_seam}
-use Rattle.std.proofs.lemmas.Str.{chars-append, IsCharBoundary-at_seam}
+use Rattle.std.proofs.lemmas.Str.{chars-append, IsUtf8-append, IsCharBoundary-at_seam}
 use Rattle.litrs_base.specs.Derivations.{HasNoDerivation}
 use Rattle.litrs_base.specs.Finality.{is_open}
 use Rattle.litrs_base.specs.Refusal.{Refusal, refusal_of}
@@ -141,3 +141,11 @@ pub may_be_cut : (old new : List ℕ) (len : ℕ) → Extends old new → len �
 may_be_cut old new len longer is =
     let boundary : IsCharBoundary new (length old) = IsCharBoundary-at_seam new old longer.0 longer.2 longer.1 in
     subst (IsSplitPoint new) (sym is) (boundary.0, λ _ below. boundary.1 below)
+
+-- what has a line and more after it has that after it
+pub extends_more : (old line mid new : List ℕ) → IsUtf8 line → mid ≡ old ++ line → Extends mid new → Extends old new
+extends_more old line mid new u is longer = (
+  line ++ longer.0,
+  IsUtf8-append line longer.0 u longer.1,
+  longer.2 ∙ ap (λ (x : List ℕ). x ++ longer.0) is ∙ append_assoc old line longer.0,
+)

@@ -10,12 +10,15 @@ ghost use Rattle.std.specs.Str.{chars, IsUtf8};
 ghost use Rattle.litrs_grammar.specs.Literal.{literal_parse, Begins};
 ghost use Rattle.litrs_grammar.specs.Refused.{IsRefused};
 ghost use Rattle.litrs_collector.specs.Held.{EndsWithLineFeed, Extends, IsHeld, IsRefusalOfHeld};
+ghost use Rattle.litrs_collector.specs.Open.{IsKnown};
 ghost use Rattle.litrs_collector.specs.Steps.{IsReadAs, IsStep, held_after};
 
+use crate::body::{Open, open_after};
 use litrs::{Literal, ParseError, ParseErrorKind};
 use std::alloc::{AllocError, Global};
 use std::marker::Model;
 
+mod body;
 pub mod laws;
 
 /// What a [`Collector`] answers to a line.
@@ -52,18 +55,22 @@ pub enum Step {
 #[derive(Drop)]
 pub struct Collector {
     held: String,
+    /// What is open at the end of the lines, where it is known.
+    known: Option<Open>,
 }
 
 impl Model for Collector {
     ghost use Rattle.std.specs.Prelude.{ℕ, List, string_bytes};
     ghost use Rattle.litrs_collector.specs.Held.{IsHeld};
+    ghost use Rattle.litrs_collector.specs.Open.{IsKnown};
 
     // The lines that are held, with an LF after each.
     ghost Value = { List ℕ };
 
     ghost view = { λ c. string_bytes c.held };
 
-    ghost invariant = { λ c. IsHeld (string_bytes c.held) };
+    ghost invariant = { λ c.
+        IsHeld (string_bytes c.held) × IsKnown (string_bytes c.held) c.known };
 }
 
 impl Collector {
@@ -73,6 +80,7 @@ impl Collector {
     {
         Collector {
             held: String::new(alloc),
+            known: None,
         }
     }
 
@@ -87,6 +95,10 @@ impl Collector {
     ///
     /// `More` and `Refused` take at most one allocation.
     ///
+    /// While the lines are a string that goes on, a call takes time in proportion to `line`: what
+    /// was fed before is not read again. `Literal` and `Refused` take time in proportion to all
+    /// lines.
+    ///
     /// # Errors
     ///
     /// `AllocError` where an allocation failed. Then the lines held are those of before the call.
@@ -96,7 +108,7 @@ impl Collector {
         ensures held { IfOk result (λ step. self.new ≡ held_after (self.old ++ line.now) step) }
         ensures err { OnErr result (self.new ≡ self.old) }
     {
-        feed_text(&mut self.held, line)
+        feed_text(&mut self.held, &mut self.known, line)
     }
 
     /// The refusal of the lines that are held, joined by LF; None if and only if none is held. It
@@ -135,16 +147,15 @@ fn begins(alloc: Global, text: &str) -> bool
     refusal.is_open()
 }
 
-/// Adds a line to the text that is held. After an error the text may have some of it at its end.
-fn add_line(held: &mut String, line: &str) -> Result<Step, AllocError>
-    ensures step { IfOk result (IsStep (string_bytes held.old ++ line.now)) }
+/// What the text that is held, to which a line was added, is now, and what is open after it. After
+/// an error it may have an LF at its end.
+fn read_held(held: &mut String) -> Result<Step, AllocError>
+    ensures step { IfOk result (IsStep (string_bytes held.old)) }
     ensures held { IfOk result (λ step.
-        string_bytes held.new ≡ held_after (string_bytes held.old ++ line.now) step) }
+        string_bytes held.new ≡ held_after (string_bytes held.old) step) }
     ensures err { OnErr result (Extends (string_bytes held.old) (string_bytes held.new)) }
 {
     let alloc = *held.allocator();
-    held.reserve(line.len() + 1)?;
-    held.push_str(line)?;
     let refusal = match read(alloc, held.as_str()) {
         Ok(Ok(lit)) => {
             held.clear();
@@ -161,19 +172,47 @@ fn add_line(held: &mut String, line: &str) -> Result<Step, AllocError>
     Ok(Step::Refused(refusal))
 }
 
+/// Adds a line to the text that is held. After an error the text may have some of it at its end.
+fn add_line(
+    held: &mut String,
+    known: Option<Open>,
+    line: &str,
+) -> Result<(Step, Option<Open>), AllocError>
+    requires { IsKnown (string_bytes held.old) known }
+    ensures step { IfOk result (λ added. IsStep (string_bytes held.old ++ line.now) added.0) }
+    ensures held { IfOk result (λ added.
+        string_bytes held.new ≡ held_after (string_bytes held.old ++ line.now) added.0) }
+    ensures known { IfOk result (λ added. IsKnown (string_bytes held.new) added.1) }
+    ensures err { OnErr result (Extends (string_bytes held.old) (string_bytes held.new)) }
+{
+    held.reserve(line.len() + 1)?;
+    held.push_str(line)?;
+    if let Some(next) = open_after(held.as_str(), known) {
+        held.push('\n')?;
+        return Ok((Step::More, Some(next)));
+    }
+    let step = read_held(held)?;
+    Ok((step, None))
+}
+
 /// Adds a line to the text that is held, which is as before after an error.
-fn feed_text(held: &mut String, line: &str) -> Result<Step, AllocError>
-    requires { IsHeld (string_bytes held.old) }
+fn feed_text(held: &mut String, known: &mut Option<Open>, line: &str) -> Result<Step, AllocError>
+    requires held { IsHeld (string_bytes held.old) }
+    requires known { IsKnown (string_bytes held.old) known.old }
     ensures step { IfOk result (IsStep (string_bytes held.old ++ line.now)) }
     ensures utf8 { IsUtf8 (string_bytes held.old ++ line.now) }
     ensures held { IfOk result (λ step.
         string_bytes held.new ≡ held_after (string_bytes held.old ++ line.now) step) }
     ensures err { OnErr result (string_bytes held.new ≡ string_bytes held.old) }
     ensures is_held { IsHeld (string_bytes held.new) }
+    ensures is_known { IsKnown (string_bytes held.new) known.new }
 {
     let len = held.len();
-    match add_line(held, line) {
-        Ok(step) => Ok(step),
+    match add_line(held, *known, line) {
+        Ok((step, next)) => {
+            *known = next;
+            Ok(step)
+        }
         Err(error) => {
             held.truncate(len);
             Err(error)

@@ -1,31 +1,25 @@
-use Rattle.std.proofs.Common.{◌≡◌, ◌∙◌, ℕ, List, ◌++◌, ◌∷◌, [], sym, ap, append-nil, rules}
+-- What is known of the text stays known with the line after it.
+use Rattle.std.proofs.Common.{◌≡◌, ◌∙◌, ℕ, List, ◌++◌, [], sym, ap, subst, append-nil}
 use Rattle.std.specs.Prelude.{string_bytes}
-use Rattle.std.proofs.lemmas.Str.{IsUtf8-nil, IsUtf8-append, IsUtf8-string_bytes}
-use Rattle.litrs_collector.proofs.StepLemmas.{OnErr-holds, ends_with_line_feed, is_unfinished, is_refused_step}
+use Rattle.std.proofs.lemmas.Str.{IsUtf8-nil, IsUtf8-string_bytes}
+use Rattle.litrs_collector.specs.Open.{IsKnown}
+use Rattle.litrs_collector.proofs.OpenBytes.{known_stays}
+use Rattle.litrs_collector.proofs.StepLemmas.{OnErr-holds, extends_more}
 use Rattle.litrs_collector.proofs.add_line.Goals as goal
 
 pub returns-in_err-reserve-clause-err : goal.returns-in_err-reserve-clause-err
-returns-in_err-reserve-clause-err c =
-    OnErr-holds c.from_residual.result ([], IsUtf8-nil, c.in_err-reserve.ensures.bytes ∙ sym (append-nil _))
+returns-in_err-reserve-clause-err c = OnErr-holds c.from_residual.result ([], IsUtf8-nil, c.in_err-reserve.ensures.bytes ∙ sym (append-nil _))
 
-pub begins-requires : goal.begins-requires
-begins-requires c =
-    ends_with_line_feed (string_bytes c.push_str.new.self) _ (IsUtf8-string_bytes c.push_str.new.self) (c.as_str-2.ensures.value ∙ c.in_ok-push.ensures.bytes ∙ ap (λ (x : List ℕ). string_bytes c.push_str.new.self ++ x) (c.in_ok-push.ensures.ascii (search rules)))
+pub open_after-requires : goal.open_after-requires
+open_after-requires c =
+    let held : List ℕ = string_bytes c.args.held.now in
+    let line : List ℕ = c.args.line.now in
+    let text : c.as_str.result.now ≡ held ++ line = c.as_str.ensures.value ∙ c.in_ok-push_str.ensures.bytes ∙ ap (λ (x : List ℕ). x ++ line) c.in_ok-reserve.ensures.bytes in
+    subst (λ (x : List ℕ). IsKnown x c.args.known) (sym text) (known_stays c.args.known held line (IsUtf8-string_bytes c.args.held.now) c.utf8.line c.requires)
 
-pub returns-then-begins-clause-step : goal.returns-then-begins-clause-step
-returns-then-begins-clause-step c =
-    let t : List ℕ = string_bytes c.args.held.now ++ c.args.line.now in
-    let pushed : string_bytes c.push_str.new.self ≡ t = c.in_ok-push_str.ensures.bytes ∙ ap (λ (x : List ℕ). x ++ c.args.line.now) c.in_ok-reserve.ensures.bytes in
-    let more : c.as_str-2.result.now ≡ t ++ 10 ∷ [] = c.as_str-2.ensures.value ∙ c.in_ok-push.ensures.bytes ∙ (λ i. pushed i ++ c.in_ok-push.ensures.ascii (search rules) i) in
-    let refused = rw c.in-Ok-Err.field-0-is at c.in-Ok-Err.ensures in
-    is_unfinished t c.as_str.result.now c.as_str-2.result.now c.in-Ok-Err.e c.begins.result (IsUtf8-append _ _ (IsUtf8-string_bytes c.args.held.now) c.utf8.line) (c.as_str.ensures.value ∙ pushed)
-    more refused c.begins.ensures c.if-begins.true
-
-pub returns-clause-step : goal.returns-clause-step
-returns-clause-step c =
-    let t : List ℕ = string_bytes c.args.held.now ++ c.args.line.now in
-    let pushed : string_bytes c.push_str.new.self ≡ t = c.in_ok-push_str.ensures.bytes ∙ ap (λ (x : List ℕ). x ++ c.args.line.now) c.in_ok-reserve.ensures.bytes in
-    let more : c.as_str-2.result.now ≡ t ++ 10 ∷ [] = c.as_str-2.ensures.value ∙ c.in_ok-push.ensures.bytes ∙ (λ i. pushed i ++ c.in_ok-push.ensures.ascii (search rules) i) in
-    let refused = rw c.in-Ok-Err.field-0-is at c.in-Ok-Err.ensures in
-    is_refused_step t c.as_str.result.now c.as_str-2.result.now c.in-Ok-Err.e c.begins.result (IsUtf8-append _ _ (IsUtf8-string_bytes c.args.held.now) c.utf8.line) (c.as_str.ensures.value ∙ pushed)
-    more refused c.begins.ensures c.if-begins.false
+pub returns-in_err-step-clause-err : goal.returns-in_err-step-clause-err
+returns-in_err-step-clause-err c =
+    let line : List ℕ = c.args.line.now in
+    OnErr-holds c.from_residual-in_err-step.result
+    (extends_more (string_bytes c.args.held.now) line (string_bytes c.push_str.new.self) (string_bytes c.read_held.new.held) c.utf8.line
+    (c.in_ok-push_str.ensures.bytes ∙ ap (λ (x : List ℕ). x ++ line) c.in_ok-reserve.ensures.bytes) c.in_err-step.ensures.err)

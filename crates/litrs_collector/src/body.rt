@@ -1,0 +1,312 @@
+//! Strings whose bodies are open at the end of a line.
+//!
+//! What is known of the lines that are held stays known with more lines after them, so that only
+//! the next line is read.
+ghost use Rattle.std.specs.Prelude.{◌≡◌, ◌≤◌, ◌&&◌, not, ◌∷◌, [], ◌++◌, length, drop, IfSome, IsTrue};
+ghost use Rattle.std.specs.List.{list_all, prefix_len};
+ghost use Rattle.std.specs.Str.{chars, IsUtf8};
+ghost use Rattle.litrs_base.specs.Characters.{line_feed, backslash, is_blank};
+ghost use Rattle.litrs_base.specs.Text.{first_passes, begins_with};
+ghost use Rattle.litrs_grammar.specs.StringKind.{switches_of};
+ghost use Rattle.litrs_grammar.specs.Quoted.{quoted_front};
+ghost use Rattle.litrs_grammar.specs.Raw.{hashes, hash_len, is_hash, is_quote, raw_closing, raw_front, has_unicode, allows_nul};
+ghost use Rattle.litrs_lex.specs.RawCut.{IsStop};
+ghost use Rattle.litrs_collector.specs.Open.{kind_of, start_text, IsEscapeOrEmpty, IsOpen, IsKnown, IsQuotedTo, IsContinuedTo, IsRawTo};
+ghost use Rattle.litrs_collector.specs.Steps.{IsUnfinished};
+
+use litrs_lex::quoted::items_end;
+use litrs_lex::{Special, next_special, unescape};
+
+/// The kind of a string.
+#[derive(Clone, Copy)]
+pub(crate) enum Kind {
+    String,
+    ByteString,
+    CString,
+}
+
+/// How a string starts: with `"`, `b"` or `c"`, or with `r`, `br` or `cr`.
+#[derive(Clone, Copy)]
+enum Start {
+    Quoted(Kind),
+    Raw(Kind),
+}
+
+/// What goes on at a place in a string.
+#[derive(Clone, Copy)]
+pub(crate) enum Body {
+    /// A quoted body, between two of its items.
+    Quoted,
+    /// A continuation of a quoted body, which takes all spaces, tabs and LFs that follow.
+    Continuation,
+    /// A raw body between so many hashes.
+    Raw(usize),
+}
+
+/// A string whose body is open, and how far it has been read.
+#[derive(Clone, Copy)]
+pub(crate) struct Open {
+    kind: Kind,
+    body: Body,
+    /// The place, in bytes.
+    place: usize,
+}
+
+impl Kind {
+    /// Whether characters beyond ASCII and `\u{..}` may stand in it.
+    fn unicode(self) -> bool
+        ensures { result ≡ has_unicode (kind_of self) }
+    {
+        !matches!(self, Kind::ByteString)
+    }
+
+    /// Whether `\x80` to `\xff` may stand in it.
+    fn byte_escapes(self) -> bool
+        ensures { result ≡ (switches_of (kind_of self)).byte_escapes }
+    {
+        !matches!(self, Kind::String)
+    }
+
+    /// Whether NUL may stand in it.
+    fn allows_nul(self) -> bool
+        ensures { result ≡ allows_nul (kind_of self) }
+    {
+        !matches!(self, Kind::CString)
+    }
+
+    /// The length of its front, which is the same for a quoted and for a raw one.
+    fn front_len(self) -> usize
+        ensures quoted { result ≡ length (quoted_front (kind_of self)) }
+        ensures raw { result ≡ length (raw_front (kind_of self)) }
+    {
+        match self {
+            Kind::String => 1,
+            Kind::ByteString | Kind::CString => 2,
+        }
+    }
+}
+
+/// What is open after the text and an LF, where the text begins a string whose body goes on to its
+/// end; None where it begins none. Where it is known what is open, only what follows is read.
+pub(crate) fn open_after(text: &str, known: Option<Open>) -> Option<Open>
+    requires { IsKnown text.now known }
+    ensures unfinished { IfSome result (λ _. IsUnfinished text.now) }
+    ensures next { IfSome result (IsOpen (text.now ++ line_feed ∷ [])) }
+{
+    match known {
+        Some(string) => next_line(text, string),
+        None => next_line(text, opening(text)?),
+    }
+}
+
+/// The string that the text begins, up to where its body begins.
+fn opening(text: &str) -> Option<Open>
+    ensures { IfSome result (IsOpen text.now) }
+{
+    match start_of(text.as_bytes()) {
+        Some(Start::Quoted(kind)) => Some(Open {
+            kind,
+            body: Body::Quoted,
+            place: kind.front_len(),
+        }),
+        Some(Start::Raw(kind)) => raw_opening(text, kind),
+        None => None,
+    }
+}
+
+/// How the text starts, where it starts as a string does.
+fn start_of(bytes: &[u8]) -> Option<Start>
+    ensures { IfSome result (λ start. IsTrue (begins_with (start_text start) bytes.now)) }
+{
+    match bytes {
+        [b'"', ..] => Some(Start::Quoted(Kind::String)),
+        [b'b', b'"', ..] => Some(Start::Quoted(Kind::ByteString)),
+        [b'c', b'"', ..] => Some(Start::Quoted(Kind::CString)),
+        [b'r', ..] => Some(Start::Raw(Kind::String)),
+        [b'b', b'r', ..] => Some(Start::Raw(Kind::ByteString)),
+        [b'c', b'r', ..] => Some(Start::Raw(Kind::CString)),
+        _ => None,
+    }
+}
+
+/// A raw string of the kind, with whose front the text begins; None where the front is followed by
+/// no hashes and `"`, or by more than 255 hashes.
+fn raw_opening(text: &str, kind: Kind) -> Option<Open>
+    requires { IsTrue (begins_with (raw_front (kind_of kind)) text.now) }
+    ensures { IfSome result (IsOpen text.now) }
+{
+    let bytes = text.as_bytes();
+    let front = kind.front_len();
+    let hashes = hash_len(&bytes[front..]);
+    let opening = front + hashes;
+    if hashes > 255 || opening == bytes.len() || bytes[opening] != b'"' {
+        return None;
+    }
+    Some(Open {
+        kind,
+        body: Body::Raw(hashes),
+        place: opening + 1,
+    })
+}
+
+/// What is open after the text and an LF, where the body goes on to the end of the text; None where
+/// it does not.
+fn next_line(text: &str, string: Open) -> Option<Open>
+    requires { IsOpen text.now string }
+    ensures unfinished { IfSome result (λ _. IsUnfinished text.now) }
+    ensures next { IfSome result (IsOpen (text.now ++ line_feed ∷ [])) }
+{
+    match string.body {
+        Body::Quoted => quoted_line(text, string.kind, string.place),
+        Body::Continuation => continued_line(text, string.kind, string.place),
+        Body::Raw(hashes) => raw_line(text, string.kind, hashes, string.place),
+    }
+}
+
+/// [`next_line`] of a quoted body, of which the place stands between two items.
+fn quoted_line(text: &str, kind: Kind, place: usize) -> Option<Open>
+    requires { IsQuotedTo (kind_of kind) place text.now }
+    ensures unfinished { IfSome result (λ _. IsUnfinished text.now) }
+    ensures next { IfSome result (IsOpen (text.now ++ line_feed ∷ [])) }
+{
+    let unicode = kind.unicode();
+    let end = items_end(text, place, unicode, kind.byte_escapes(), kind.allows_nul()).place;
+    if is_escape_or_empty(&text[end..], kind) {
+        Some(Open {
+            kind,
+            body: Body::Quoted,
+            place: end,
+        })
+    } else if is_backslash(&text.as_bytes()[end..]) {
+        Some(Open {
+            kind,
+            body: Body::Continuation,
+            place: text.len() + 1,
+        })
+    } else {
+        None
+    }
+}
+
+/// Whether the text is empty or one escape, which is no item of the body before something follows.
+fn is_escape_or_empty(text: &str, kind: Kind) -> bool
+    ensures { IsTrue result → IsEscapeOrEmpty (switches_of (kind_of kind)) (chars text.now) }
+{
+    let [first, ..] = text.as_bytes() else {
+        return true;
+    };
+    if *first != b'\\' {
+        return false;
+    }
+    let unicode = kind.unicode();
+    match unescape(text, unicode, kind.byte_escapes(), kind.allows_nul()) {
+        Ok((_, len)) => len == text.len(),
+        Err(_) => false,
+    }
+}
+
+/// Whether a backslash is all there is.
+fn is_backslash(bytes: &[u8]) -> bool
+    ensures { IsTrue result → bytes.now ≡ backslash ∷ [] }
+{
+    matches!(bytes, [b'\\'])
+}
+
+/// [`next_line`] of a quoted body, of which the place stands in a continuation.
+fn continued_line(text: &str, kind: Kind, place: usize) -> Option<Open>
+    requires { IsContinuedTo (kind_of kind) place text.now }
+    ensures unfinished { IfSome result (λ _. IsUnfinished text.now) }
+    ensures next { IfSome result (IsOpen (text.now ++ line_feed ∷ [])) }
+{
+    let end = place + blanks_len(&text.as_bytes()[place..]);
+    if end == text.len() {
+        Some(Open {
+            kind,
+            body: Body::Continuation,
+            place: end + 1,
+        })
+    } else {
+        quoted_line(text, kind, end)
+    }
+}
+
+/// [`next_line`] of a raw body between so many hashes.
+fn raw_line(text: &str, kind: Kind, hashes: usize, place: usize) -> Option<Open>
+    requires { IsRawTo (kind_of kind) hashes place text.now }
+    ensures unfinished { IfSome result (λ _. IsUnfinished text.now) }
+    ensures next { IfSome result (IsOpen (text.now ++ line_feed ∷ [])) }
+{
+    let unicode = kind.unicode();
+    let stop = raw_body_end(text.as_bytes(), place, hashes, unicode, kind.allows_nul());
+    if stop == text.len() {
+        Some(Open {
+            kind,
+            body: Body::Raw(hashes),
+            place: stop + 1,
+        })
+    } else {
+        None
+    }
+}
+
+/// The first place from `start` on where a raw body is closed, or where a byte stands that may not
+/// stand in it; else the end of the text.
+fn raw_body_end(bytes: &[u8], start: usize, hashes: usize, unicode: bool, allow_nul: bool) -> usize
+    requires { (start ≤ length bytes.now) × IsUtf8 (drop start bytes.now) }
+    ensures { IsStop unicode allow_nul hashes start bytes.now result }
+{
+    let what = Special {
+        backslash: false,
+        nul: !allow_nul,
+        non_ascii: !unicode,
+    };
+    let mut place = next_special(bytes, start, what);
+    while is_inner_quote(&bytes[place..], hashes) {
+        place = next_special(bytes, place + 1, what);
+    }
+    place
+}
+
+/// Whether `"` stands first, with fewer hashes after it.
+fn is_inner_quote(bytes: &[u8], hashes: usize) -> bool
+    ensures { result
+        ≡ (first_passes is_quote bytes.now && not (begins_with (raw_closing hashes) bytes.now)) }
+{
+    match bytes {
+        [b'"', behind @ ..] => !begins_with_hashes(behind, hashes),
+        _ => false,
+    }
+}
+
+/// Whether so many hashes stand first.
+fn begins_with_hashes(bytes: &[u8], count: usize) -> bool
+    ensures { result ≡ begins_with (hashes count) bytes.now }
+{
+    count <= bytes.len() && are_hashes(&bytes[..count])
+}
+
+/// Whether all are hashes.
+fn are_hashes(bytes: &[u8]) -> bool
+    ensures { result ≡ list_all is_hash bytes.now }
+{
+    bytes.iter().all(|b| *b == b'#')
+}
+
+/// How many hashes stand first.
+fn hash_len(bytes: &[u8]) -> usize
+    ensures len { result ≡ hash_len bytes.now }
+    ensures within { result ≤ length bytes.now }
+{
+    bytes.iter().take_while(|b| **b == b'#').count()
+}
+
+/// How many spaces, tabs and LFs stand first.
+fn blanks_len(bytes: &[u8]) -> usize
+    ensures count { result ≡ prefix_len is_blank bytes.now }
+    ensures within { result ≤ length bytes.now }
+{
+    bytes
+        .iter()
+        .take_while(|b| matches!(**b, b' ' | b'\t' | b'\n'))
+        .count()
+}
