@@ -172,8 +172,31 @@ fn read_held(held: &mut String) -> Result<Step, AllocError>
     Ok(Step::Refused(refusal))
 }
 
-/// Adds a line to the text that is held. After an error the text may have some of it at its end.
+/// Adds a line to the text that is held. After an error the text may have some of it at its end. A
+/// line that is a literal by itself is not copied.
 fn add_line(
+    held: &mut String,
+    known: Option<Open>,
+    line: &str,
+) -> Result<(Step, Option<Open>), AllocError>
+    requires { IsKnown (string_bytes held.old) known }
+    ensures step { IfOk result (λ added. IsStep (string_bytes held.old ++ line.now) added.0) }
+    ensures held { IfOk result (λ added.
+        string_bytes held.new ≡ held_after (string_bytes held.old ++ line.now) added.0) }
+    ensures known { IfOk result (λ added. IsKnown (string_bytes held.new) added.1) }
+    ensures err { OnErr result (Extends (string_bytes held.old) (string_bytes held.new)) }
+{
+    if held.is_empty() {
+        let alloc = *held.allocator();
+        if let Ok(lit) = read(alloc, line)? {
+            return Ok((Step::Literal(lit), None));
+        }
+    }
+    push_line(held, known, line)
+}
+
+/// The same by adding the line first.
+fn push_line(
     held: &mut String,
     known: Option<Open>,
     line: &str,

@@ -1,25 +1,17 @@
--- What is known of the text stays known with the line after it.
-use Rattle.std.proofs.Common.{◌≡◌, ◌∙◌, ℕ, List, ◌++◌, [], sym, ap, subst, append-nil}
+-- Where nothing is held, the text with the line after it is the line.
+use Rattle.std.proofs.Common.{arith, ◌≡◌, ℕ, List, ◌++◌, ◌∷◌, [], length, refl, sym, ap, subst, append-nil}
 use Rattle.std.specs.Prelude.{string_bytes}
-use Rattle.std.proofs.lemmas.Str.{IsUtf8-nil, IsUtf8-string_bytes}
-use Rattle.litrs_collector.specs.Open.{IsKnown}
-use Rattle.litrs_collector.proofs.OpenBytes.{known_stays}
-use Rattle.litrs_collector.proofs.StepLemmas.{OnErr-holds, extends_more}
+use Rattle.std.proofs.lemmas.Bool.Decides.{nat_tests}
+use Rattle.std.proofs.lemmas.Str.{IsUtf8-nil}
+use Rattle.litrs_collector.specs.Steps.{IsReadAs}
+use Rattle.litrs_collector.proofs.StepLemmas.{OnErr-holds}
 use Rattle.litrs_collector.proofs.add_line.Goals as goal
 
-pub returns-in_err-reserve-clause-err : goal.returns-in_err-reserve-clause-err
-returns-in_err-reserve-clause-err c = OnErr-holds c.from_residual.result ([], IsUtf8-nil, c.in_err-reserve.ensures.bytes ∙ sym (append-nil _))
+nothing : (xs : List ℕ) → length xs ≡ 0 → xs ≡ []
+nothing [] none = refl
+nothing (b ∷ bs) none = absurd (omega arith)
 
-pub open_after-requires : goal.open_after-requires
-open_after-requires c =
-    let held : List ℕ = string_bytes c.args.held.now in
-    let line : List ℕ = c.args.line.now in
-    let text : c.as_str.result.now ≡ held ++ line = c.as_str.ensures.value ∙ c.in_ok-push_str.ensures.bytes ∙ ap (λ (x : List ℕ). x ++ line) c.in_ok-reserve.ensures.bytes in
-    subst (λ (x : List ℕ). IsKnown x c.args.known) (sym text) (known_stays c.args.known held line (IsUtf8-string_bytes c.args.held.now) c.utf8.line c.requires)
-
-pub returns-in_err-step-clause-err : goal.returns-in_err-step-clause-err
-returns-in_err-step-clause-err c =
-    let line : List ℕ = c.args.line.now in
-    OnErr-holds c.from_residual-in_err-step.result
-    (extends_more (string_bytes c.args.held.now) line (string_bytes c.push_str.new.self) (string_bytes c.read_held.new.held) c.utf8.line
-    (c.in_ok-push_str.ensures.bytes ∙ ap (λ (x : List ℕ). x ++ line) c.in_ok-reserve.ensures.bytes) c.in_err-step.ensures.err)
+pub returns-in-Ok-clause-step : goal.returns-in-Ok-clause-step
+returns-in-Ok-clause-step c =
+    let none : length (string_bytes c.args.held.now) ≡ 0 = grind (arith, nat_tests) in
+    subst (λ (t : List ℕ). IsReadAs (t ++ c.args.line.now) c.in-Ok.lit) (sym (nothing (string_bytes c.args.held.now) none)) (rw c.in-Ok.is at c.in_ok-lit.ensures)
