@@ -1,66 +1,37 @@
 -- The groups of lines: each list of lines has them, and no other; and how their texts are found from line to line.
 use Rattle.std.proofs.Common.{◌≡◌, ◌∙◌, ◌⊎◌, inl, inr, ℕ, Bool, true, false, List, [], ◌∷◌, ◌++◌, refl, sym, ap, subst, append_assoc, append-nil}
-use Rattle.std.specs.Prelude.{All, map, if◌then◌else◌}
+use Rattle.std.specs.Prelude.{All, map}
 use Rattle.std.specs.Str.{IsUtf8, is_utf8}
 use Rattle.std.proofs.lemmas.Str.{is_utf8-from_IsUtf8, IsUtf8-from_is_utf8}
-use Rattle.std.proofs.lemmas.Bool.{false_from_ne_true}
 use Rattle.std.proofs.lemmas.List.Elements.{All-nil, All-cons, All-append, All-head, All-tail}
 use Rattle.litrs_collector.specs.Steps.{IsUnfinished}
 use Rattle.litrs_collector.specs.StepLaws.{HasStep}
 use Rattle.litrs_collector.proofs.StepLemmas.{steps_are_decided, without_line_feed}
 use Rattle.litrs_lines.specs.Groups.{IsNoText, joined, IsFinished, NoTextNext, EndsGroup, IsGroup, IsOtherLine, AreGroups}
 use Rattle.litrs_lines.specs.GroupsLaws.{LinesHaveGroups, GroupsAreUnique}
-use Rattle.litrs_lines.specs.Grouped.{unfinished_by, is_unfinished, unless_held, closed_by, held_by, closed_texts, held_text, texts_from}
-
--- ---- whether a text is unfinished
-
-not_both : false ≡ true → ⊥
-not_both is = cc
-
-unfinished_by-yes : (t : List ℕ) (step : HasStep t) → unfinished_by t step ≡ true → IsUnfinished t
-unfinished_by-yes t (inl d) is = absurd (not_both is)
-unfinished_by-yes t (inr (inl more)) is = more
-unfinished_by-yes t (inr (inr r)) is = absurd (not_both is)
-
-unfinished_by-no : (t : List ℕ) (step : HasStep t) → unfinished_by t step ≡ false → IsFinished t
-unfinished_by-no t (inl d) is = inl d
-unfinished_by-no t (inr (inl more)) is = absurd (not_both (sym is))
-unfinished_by-no t (inr (inr r)) is = inr r.2
-
-pub unfinished_yes : (t : List ℕ) → is_unfinished t ≡ true → IsUnfinished t
-unfolding is_unfinished
-unfinished_yes t is = unfinished_by-yes t (steps_are_decided t) is
-
-pub unfinished_no : (t : List ℕ) → is_unfinished t ≡ false → IsFinished t
-unfolding is_unfinished
-unfinished_no t is = unfinished_by-no t (steps_are_decided t) is
-
--- never both
-pub finished_is_not : (t : List ℕ) → IsFinished t → IsUnfinished t → ⊥
-finished_is_not t (inl d) more = more.0 d.0 d.1
-finished_is_not t (inr none) more = none more.1
-
-pub is_unfinished-false : (t : List ℕ) → IsFinished t → is_unfinished t ≡ false
-is_unfinished-false t finished = false_from_ne_true (is_unfinished t) (λ is. finished_is_not t finished (unfinished_yes t is))
-
-true_unless : (b : Bool) → (b ≡ false → ⊥) → b ≡ true
-true_unless true h = refl
-true_unless false h = absurd (h refl)
-
-pub is_unfinished-true : (t : List ℕ) → IsUnfinished t → is_unfinished t ≡ true
-is_unfinished-true t more = true_unless (is_unfinished t) (λ is. finished_is_not t (unfinished_no t is) more)
+use Rattle.litrs_lines.specs.Ended.{unless_held, LineEnds, LinesEnd}
 
 -- ---- one line
 
-pub closed_by-is : (held line : List ℕ) (text more : Bool) → is_utf8 line ≡ text → is_unfinished (held ++ line) ≡ more →
-    closed_by held line ≡ (if text then (if more then [] else (held ++ line) ∷ []) else (unless_held held ++ line ∷ []))
-unfolding closed_by
-closed_by-is held line text more t m = λ i. if t i then (if m i then [] else (held ++ line) ∷ []) else (unless_held held ++ line ∷ [])
+-- never both
+finished_is_not : (t : List ℕ) → IsFinished t → IsUnfinished t → ⊥
+finished_is_not t (inl d) more = more.0 d.0 d.1
+finished_is_not t (inr none) more = none more.1
 
-pub held_by-is : (held line : List ℕ) (text more : Bool) → is_utf8 line ≡ text → is_unfinished (held ++ line) ≡ more →
-    held_by held line ≡ (if text then (if more then (held ++ line) ++ 10 ∷ [] else []) else [])
-unfolding held_by
-held_by-is held line text more t m = λ i. if t i then (if m i then (held ++ line) ++ 10 ∷ [] else []) else []
+-- what some line ends and leaves
+abbrev LineHasEnds : (held line : List ℕ) → Type 0
+LineHasEnds held line = (texts : List (List ℕ)) × (left : List ℕ) × LineEnds held line texts left
+
+text_ends : (held line : List ℕ) → IsUtf8 line → HasStep (held ++ line) → LineHasEnds held line
+text_ends held line u (inl d) = ((held ++ line) ∷ [], [], inr (inl (u, inl d, refl, refl)))
+text_ends held line u (inr (inl more)) = ([], (held ++ line) ++ 10 ∷ [], inl (u, more, refl, refl))
+text_ends held line u (inr (inr r)) = ((held ++ line) ∷ [], [], inr (inl (u, inr r.2, refl, refl)))
+
+line_ends : (held line : List ℕ) (v : Bool) → is_utf8 line ≡ v → LineHasEnds held line
+line_ends held line true is = text_ends held line (IsUtf8-from_is_utf8 line is) (steps_are_decided (held ++ line))
+line_ends held line false is =
+    let none : IsNoText line = λ u. let both : true ≡ false = sym (is_utf8-from_IsUtf8 line u) ∙ is in cc in
+    (unless_held held ++ line ∷ [], [], inr (inr (none, refl, refl)))
 
 pub unless_held-some : (held t : List ℕ) → held ≡ t ++ 10 ∷ [] → unless_held held ≡ t ∷ []
 unless_held-some held [] is = ap unless_held is
@@ -68,22 +39,24 @@ unless_held-some held (b ∷ t) is = ap unless_held is ∙ ap (λ (x : List ℕ)
 
 -- ---- more lines
 
-pub closed_texts-append : (held : List ℕ) (lines more : List (List ℕ)) → closed_texts held (lines ++ more) ≡ closed_texts held lines ++ closed_texts (held_text held lines) more
-closed_texts-append held [] more = refl
-closed_texts-append held (line ∷ lines) more =
-    ap (λ (ts : List (List ℕ)). closed_by held line ++ ts) (closed_texts-append (held_by held line) lines more)
-    ∙ sym (append_assoc (closed_by held line) (closed_texts (held_by held line) lines) (closed_texts (held_text (held_by held line) lines) more))
+-- all lines end some groups
+pub lines_end : (held : List ℕ) (lines : List (List ℕ)) → (texts : List (List ℕ)) × (left : List ℕ) × LinesEnd held lines texts left
+lines_end held [] = ([], held, (refl, refl))
+lines_end held (line ∷ lines) =
+    let one = line_ends held line (is_utf8 line) refl in
+    let rest = lines_end one.1 lines in
+    (one.0 ++ rest.0, rest.1, (one.0, one.1, rest.0, one.2, rest.2, refl))
 
-pub held_text-append : (held : List ℕ) (lines more : List (List ℕ)) → held_text held (lines ++ more) ≡ held_text (held_text held lines) more
-held_text-append held [] more = refl
-held_text-append held (line ∷ lines) more = held_text-append (held_by held line) lines more
+pub LinesEnd-one : (held line : List ℕ) (texts : List (List ℕ)) (left : List ℕ) → LineEnds held line texts left → LinesEnd held (line ∷ []) texts left
+LinesEnd-one held line texts left is = (texts, left, [], is, (refl, refl), sym (append-nil texts))
 
-pub texts_from-append : (held : List ℕ) (lines more : List (List ℕ)) → texts_from held (lines ++ more) ≡ closed_texts held lines ++ texts_from (held_text held lines) more
-texts_from-append held lines more =
-    let left : List ℕ = held_text held lines in
-    let both : texts_from held (lines ++ more) ≡ (closed_texts held lines ++ closed_texts left more) ++ unless_held (held_text left more) =
-    λ i. closed_texts-append held lines more i ++ unless_held (held_text-append held lines more i) in
-    both ∙ append_assoc (closed_texts held lines) (closed_texts left more) (unless_held (held_text left more))
+pub LinesEnd-append : (held : List ℕ) (lines more : List (List ℕ)) (between left : List ℕ) (texts next : List (List ℕ)) →
+    LinesEnd held lines texts between → LinesEnd between more next left → LinesEnd held (lines ++ more) (texts ++ next) left
+LinesEnd-append held [] more between left texts next none b =
+    subst (λ (h : List ℕ). LinesEnd h more (texts ++ next) left) none.1
+    (subst (λ (ts : List (List ℕ)). LinesEnd between more ts left) (sym (ap (λ (ts : List (List ℕ)). ts ++ next) none.0)) b)
+LinesEnd-append held (line ∷ lines) more between left texts next a b =
+    (a.0, a.1, a.2 ++ next, a.3, LinesEnd-append a.1 lines more between left a.2 next a.4 b, ap (λ (ts : List (List ℕ)). ts ++ next) a.5 ∙ append_assoc a.0 a.2 next)
 
 -- ---- lists that are joined
 
@@ -232,67 +205,63 @@ record Grouping (lines texts : List (List ℕ)) : Type 0 where
 
 -- those of lines that are held and of others after them
 abbrev GroupsFrom : (group lines : List (List ℕ)) → Type 0
-GroupsFrom group lines = Grouping (group ++ lines) (texts_from (with_ends group) lines)
+GroupsFrom group lines = (texts : List (List ℕ)) (left : List ℕ) → LinesEnd (with_ends group) lines texts left → Grouping (group ++ lines) (texts ++ unless_held left)
 
 module _ (line : List ℕ) (lines : List (List ℕ)) (behind : (group : List (List ℕ)) → IsOpen group → GroupsFrom group lines) where
-  texts_after : (held held' : List ℕ) (closed : List (List ℕ)) → closed_by held line ≡ closed → held_by held line ≡ held' →
-      texts_from held (line ∷ lines) ≡ closed ++ texts_from held' lines
-  texts_after held held' closed c h =
-      append_assoc (closed_by held line) (closed_texts (held_by held line) lines) (unless_held (held_text (held_by held line) lines))
-      ∙ (λ i. c i ++ texts_from (h i) lines)
+  -- where nothing is held after the line
+  behind_nothing : (between : List ℕ) (texts : List (List ℕ)) (left : List ℕ) → between ≡ [] → LinesEnd between lines texts left → Grouping lines (texts ++ unless_held left)
+  behind_nothing between texts left none end = behind [] open_none texts left (subst (λ (h : List ℕ). LinesEnd h lines texts left) none end)
 
-  groups_at_more : (group : List (List ℕ)) → IsOpen group → is_utf8 line ≡ true → is_unfinished (with_ends group ++ line) ≡ true → GroupsFrom group (line ∷ lines)
-  groups_at_more group held text more =
-      let unfinished : IsUnfinished (joined (group ++ line ∷ [])) = subst IsUnfinished (sym (joined-last group line)) (unfinished_yes _ more) in
-      let rest = behind (group ++ line ∷ []) (open_more group line held (IsUtf8-from_is_utf8 line text) unfinished) in
+  groups_at_more : (group : List (List ℕ)) (between : List ℕ) (texts : List (List ℕ)) (left : List ℕ) → IsOpen group → IsUtf8 line → IsUnfinished (with_ends group ++ line) →
+      between ≡ (with_ends group ++ line) ++ 10 ∷ [] → LinesEnd between lines texts left → Grouping (group ++ line ∷ lines) (texts ++ unless_held left)
+  groups_at_more group between texts left held text more is end =
+      let unfinished : IsUnfinished (joined (group ++ line ∷ [])) = subst IsUnfinished (sym (joined-last group line)) more in
+      let rest = behind (group ++ line ∷ []) (open_more group line held text unfinished) texts left
+      (subst (λ (h : List ℕ). LinesEnd h lines texts left) (is ∙ sym (with_ends-last group line)) end) in
       record {
         groups = rest.groups;
         are = subst (AreGroups rest.groups) (append_assoc group (line ∷ []) lines) rest.are;
-        same = rest.same ∙ sym (texts_after (with_ends group) (with_ends (group ++ line ∷ [])) [] (closed_by-is _ line true true text more) (held_by-is _ line true true text more ∙ sym (with_ends-last group line)));
+        same = rest.same;
       }
 
-  groups_at_end : (group : List (List ℕ)) → IsOpen group → is_utf8 line ≡ true → is_unfinished (with_ends group ++ line) ≡ false → GroupsFrom group (line ∷ lines)
-  groups_at_end group held text more =
-      let finished : IsFinished (joined (group ++ line ∷ [])) = subst IsFinished (sym (joined-last group line)) (unfinished_no _ more) in
-      let rest = behind [] open_none in
-      let firsts : joined (group ++ line ∷ []) ∷ map joined rest.groups ≡ (with_ends group ++ line) ∷ texts_from [] lines =
-      λ i. joined-last group line i ∷ rest.same i in
+  groups_at_end : (group texts : List (List ℕ)) → IsOpen group → IsUtf8 line → IsFinished (with_ends group ++ line) → Grouping lines texts →
+      Grouping (group ++ line ∷ lines) ((with_ends group ++ line) ∷ texts)
+  groups_at_end group texts held text finished rest =
+      let whole : IsFinished (joined (group ++ line ∷ [])) = subst IsFinished (sym (joined-last group line)) finished in
       record {
         groups = (group ++ line ∷ []) ∷ rest.groups;
-        are = (lines, append_assoc group (line ∷ []) lines, inl (finished_group group line lines held (IsUtf8-from_is_utf8 line text) finished), rest.are);
-        same = firsts ∙ sym (texts_after (with_ends group) [] ((with_ends group ++ line) ∷ []) (closed_by-is _ line true false text more) (held_by-is _ line true false text more));
+        are = (lines, append_assoc group (line ∷ []) lines, inl (finished_group group line lines held text whole), rest.are);
+        same = λ i. joined-last group line i ∷ rest.same i;
       }
 
-  no_text : is_utf8 line ≡ false → IsNoText line
-  no_text text u = let both : true ≡ false = sym (is_utf8-from_IsUtf8 line u) ∙ text in cc
+  groups_at_other : (group texts : List (List ℕ)) → IsOpen group → IsNoText line → Grouping lines texts →
+      Grouping (group ++ line ∷ lines) ((unless_held (with_ends group) ++ line ∷ []) ++ texts)
+  groups_at_other [] texts held none rest = record {
+    groups = (line ∷ []) ∷ rest.groups;
+    are = (lines, refl, inr (line, refl, none), rest.are);
+    same = ap (λ (ts : List (List ℕ)). line ∷ ts) rest.same;
+  }
+  groups_at_other (first ∷ group) texts held none rest = record {
+    groups = (first ∷ group) ∷ (line ∷ []) ∷ rest.groups;
+    are = (line ∷ lines, refl, inl (held_group first group (line ∷ lines) held none), (lines, refl, inr (line, refl, none), rest.are));
+    same = ap (λ (ts : List (List ℕ)). joined (first ∷ group) ∷ line ∷ ts) rest.same
+        ∙ ap (λ (ts : List (List ℕ)). (ts ++ line ∷ []) ++ texts) (sym (unless_held-some (with_ends (first ∷ group)) (joined (first ∷ group)) (with_ends-joined first group)));
+  }
 
-  groups_at_other : (group : List (List ℕ)) → IsOpen group → is_utf8 line ≡ false → GroupsFrom group (line ∷ lines)
-  groups_at_other [] held text =
-      let rest = behind [] open_none in
-      record {
-        groups = (line ∷ []) ∷ rest.groups;
-        are = (lines, refl, inr (line, refl, no_text text), rest.are);
-        same = ap (λ (ts : List (List ℕ)). line ∷ ts) rest.same
-            ∙ sym (texts_after [] [] (line ∷ []) (closed_by-is [] line false (is_unfinished line) text refl) (held_by-is [] line false (is_unfinished line) text refl));
-      }
-  groups_at_other (first ∷ group) held text =
-      let rest = behind [] open_none in
-      let whole : List ℕ = with_ends (first ∷ group) in
-      record {
-        groups = (first ∷ group) ∷ (line ∷ []) ∷ rest.groups;
-        are = (line ∷ lines, refl, inl (held_group first group (line ∷ lines) held (no_text text)), (lines, refl, inr (line, refl, no_text text), rest.are));
-        same = ap (λ (ts : List (List ℕ)). joined (first ∷ group) ∷ line ∷ ts) rest.same
-            ∙ sym (texts_after whole [] (joined (first ∷ group) ∷ line ∷ [])
-            (closed_by-is whole line false (is_unfinished (whole ++ line)) text refl ∙ ap (λ (ts : List (List ℕ)). ts ++ line ∷ []) (unless_held-some whole (joined (first ∷ group)) (with_ends-joined first group)))
-            (held_by-is whole line false (is_unfinished (whole ++ line)) text refl));
-      }
+  groups_at : (group first : List (List ℕ)) (between : List ℕ) (rest : List (List ℕ)) (left : List ℕ) → IsOpen group →
+      LineEnds (with_ends group) line first between → LinesEnd between lines rest left → Grouping (group ++ line ∷ lines) ((first ++ rest) ++ unless_held left)
+  groups_at group first between rest left held (inl more) end =
+      subst (λ (ts : List (List ℕ)). Grouping (group ++ line ∷ lines) ((ts ++ rest) ++ unless_held left)) (sym more.2)
+      (groups_at_more group between rest left held more.0 more.1 more.3 end)
+  groups_at group first between rest left held (inr (inl finished)) end =
+      subst (λ (ts : List (List ℕ)). Grouping (group ++ line ∷ lines) ((ts ++ rest) ++ unless_held left)) (sym finished.2)
+      (groups_at_end group (rest ++ unless_held left) held finished.0 finished.1 (behind_nothing between rest left finished.3 end))
+  groups_at group first between rest left held (inr (inr other)) end =
+      subst (λ (ts : List (List ℕ)). Grouping (group ++ line ∷ lines) ((ts ++ rest) ++ unless_held left)) (sym other.1)
+      (subst (Grouping (group ++ line ∷ lines)) (sym (append_assoc (unless_held (with_ends group) ++ line ∷ []) rest (unless_held left)))
+      (groups_at_other group (rest ++ unless_held left) held other.0 (behind_nothing between rest left other.2 end)))
 
-  groups_at : (group : List (List ℕ)) → IsOpen group → (text more : Bool) → is_utf8 line ≡ text → is_unfinished (with_ends group ++ line) ≡ more → GroupsFrom group (line ∷ lines)
-  groups_at group held true true text more = groups_at_more group held text more
-  groups_at group held true false text more = groups_at_end group held text more
-  groups_at group held false more text _ = groups_at_other group held text
-
-groups_of_held : (group : List (List ℕ)) → IsOpen group → GroupsFrom group []
+groups_of_held : (group : List (List ℕ)) → IsOpen group → Grouping (group ++ []) (unless_held (with_ends group))
 groups_of_held [] held = record { groups = []; are = refl; same = refl }
 groups_of_held (line ∷ lines) held = record {
   groups = (line ∷ lines) ∷ [];
@@ -301,16 +270,22 @@ groups_of_held (line ∷ lines) held = record {
 }
 
 groups_from : (lines group : List (List ℕ)) → IsOpen group → GroupsFrom group lines
-groups_from [] group held = groups_of_held group held
-groups_from (line ∷ lines) group held =
-    groups_at line lines (λ before open_before. groups_from lines before open_before) group held (is_utf8 line) (is_unfinished (with_ends group ++ line)) refl refl
+groups_from [] group held texts left end =
+    subst (λ (ts : List (List ℕ)). Grouping (group ++ []) (ts ++ unless_held left)) (sym end.0)
+    (subst (λ (h : List ℕ). Grouping (group ++ []) (unless_held h)) (sym end.1) (groups_of_held group held))
+groups_from (line ∷ lines) group held texts left end =
+    subst (λ (ts : List (List ℕ)). Grouping (group ++ line ∷ lines) (ts ++ unless_held left)) (sym end.5)
+    (groups_at line lines (λ before open_before. groups_from lines before open_before) group end.0 end.1 end.2 left held end.3 end.4)
 
--- the groups of the lines, and that the texts found from line to line are theirs
-pub grouped : (lines : List (List ℕ)) → (groups : List (List (List ℕ))) × AreGroups groups lines × (map joined groups ≡ texts_from [] lines)
-grouped lines = let found = groups_from lines [] open_none in (found.groups, found.are, found.same)
+-- the groups that end with some lines, and the one that is then held, are the groups of the lines
+pub grouped : (lines texts : List (List ℕ)) (left : List ℕ) → LinesEnd [] lines texts left → (groups : List (List (List ℕ))) × AreGroups groups lines × (map joined groups ≡ texts ++ unless_held left)
+grouped lines texts left end = let found = groups_from lines [] open_none texts left end in (found.groups, found.are, found.same)
 
 pub lines_have_groups : LinesHaveGroups
-lines_have_groups lines = let found = grouped lines in (found.0, found.1)
+lines_have_groups lines =
+    let ends = lines_end [] lines in
+    let found = grouped lines ends.0 ends.1 ends.2 in
+    (found.0, found.1)
 
 -- ---- and no other
 

@@ -1,67 +1,113 @@
--- The reports on the groups that a line ends.
-use Rattle.std.proofs.Common.{◌≡◌, ◌∙◌, inl, inr, ℕ, true, false, List, [], ◌∷◌, ◌++◌, refl, sym, ap, append_assoc, append-nil}
-use Rattle.std.specs.Prelude.{codes, Result, Ok, Err, OnOk, is_ok, if◌then◌else◌}
-use Rattle.std.specs.Str.{chars, IsUtf8, is_utf8}
-use Rattle.std.proofs.lemmas.Str.{is_utf8-from_IsUtf8, IsUtf8-from_is_utf8}
-use Rattle.std.proofs.lemmas.Bool.{false_from_ne_true}
+-- The reports on the groups that end with lines: each list of lines has them, and how they go on from line to line.
+use Rattle.std.proofs.Common.{◌≡◌, ◌∙◌, inl, inr, ℕ, List, [], ◌∷◌, ◌++◌, refl, sym, ap, subst, append_assoc, append-nil}
+use Rattle.std.specs.Prelude.{map, codes, Result, Ok, Err, OnOk, is_ok, if◌then◌else◌}
+use Rattle.std.specs.Str.{chars, IsUtf8}
 use Rattle.litrs_base.specs.declared.err.ParseError.{ParseError}
 use Rattle.litrs_base.specs.Refusal.{refusal_of}
 use Rattle.litrs.specs.LiteralDerivation.{derivation}
 use Rattle.litrs_collector.specs.declared.Step.{Step}
 use Rattle.litrs_collector.specs.declared.Step.TheVariants.{More, Literal, Refused}
 use Rattle.litrs_collector.specs.Held.{IsRefusalOfHeld}
-use Rattle.litrs_collector.specs.Steps.{IsUnfinished, IsStep, held_after}
-use Rattle.litrs_lines.specs.Groups.{IsFinished}
-use Rattle.litrs_lines.specs.Grouped.{is_unfinished, unless_held, closed_by, held_by}
+use Rattle.litrs_collector.specs.Steps.{IsStep, held_after}
+use Rattle.litrs_lines.specs.Groups.{joined, IsNoText}
 use Rattle.litrs_lines.specs.Report.{literal_report, refusal_report}
-use Rattle.litrs_lines.specs.Reported.{report_of, reports_of}
-use Rattle.litrs_lines.proofs.ReportLemmas.{report_of-text, report_of-other, text_report-literal, text_report-refused, reports_of-next, reports_of-empty, reports_of-append}
-use Rattle.litrs_lines.proofs.GroupLemmas.{is_unfinished-true, is_unfinished-false, closed_by-is, held_by-is, unless_held-some}
+use Rattle.litrs_lines.specs.Reports.{AreReports, AreGroupReports}
+use Rattle.litrs_lines.specs.ReportLaws.{LinesHaveReports, ReportsAreUnique}
+use Rattle.litrs_lines.specs.Ended.{unless_held, AreEndedReports, AreLastReports}
+use Rattle.litrs_lines.proofs.ReportLemmas.{texts_have_reports, AreReports-one, AreReports-append, one_list_of_reports}
+use Rattle.litrs_lines.proofs.GroupLemmas.{unless_held-some, lines_end, LinesEnd-one, LinesEnd-append, grouped, groups_are_unique}
 
--- what a line ends and leaves, by its step
+-- ---- each list of lines has them
 
-module _ (held line : List ℕ) (text : IsUtf8 line) where
-  closed_by-more : IsUnfinished (held ++ line) → closed_by held line ≡ []
-  closed_by-more more = closed_by-is held line true true (is_utf8-from_IsUtf8 line text) (is_unfinished-true (held ++ line) more)
+pub have_ended_reports : (held : List ℕ) (lines : List (List ℕ)) → (left : List ℕ) × (out : List ℕ) × AreEndedReports held lines left out
+have_ended_reports held lines =
+    let ends = lines_end held lines in
+    let found = texts_have_reports ends.0 in
+    (ends.1, found.0, (ends.0, ends.2, found.1))
 
-  held_by-more : IsUnfinished (held ++ line) → held_by held line ≡ (held ++ line) ++ 10 ∷ []
-  held_by-more more = held_by-is held line true true (is_utf8-from_IsUtf8 line text) (is_unfinished-true (held ++ line) more)
+-- with those on what is then held
+pub last_reports : (held : List ℕ) (lines : List (List ℕ)) (left ended : List ℕ) → AreEndedReports held lines left ended → (last : List ℕ) × AreLastReports held lines (ended ++ last)
+last_reports held lines left ended is =
+    let found = texts_have_reports (unless_held left) in
+    (found.0, (left, ended, found.0, is, found.1, refl))
 
-  closed_by-finished : IsFinished (held ++ line) → closed_by held line ≡ (held ++ line) ∷ []
-  closed_by-finished finished = closed_by-is held line true false (is_utf8-from_IsUtf8 line text) (is_unfinished-false (held ++ line) finished)
+pub have_last_reports : (held : List ℕ) (lines : List (List ℕ)) → (out : List ℕ) × AreLastReports held lines out
+have_last_reports held lines =
+    let found = have_ended_reports held lines in
+    let all = last_reports held lines found.0 found.1 found.2 in
+    (found.1 ++ all.0, all.1)
 
-  held_by-finished : IsFinished (held ++ line) → held_by held line ≡ []
-  held_by-finished finished = held_by-is held line true false (is_utf8-from_IsUtf8 line text) (is_unfinished-false (held ++ line) finished)
+-- from the first line on they are the reports on the groups
+pub group_reports : (lines : List (List ℕ)) (out : List ℕ) → AreLastReports [] lines out → AreGroupReports lines out
+group_reports lines out all =
+    let ended = all.3 in
+    let found = grouped lines ended.0 all.0 ended.1 in (
+      found.0,
+      found.1,
+      subst (λ (ts : List (List ℕ)). AreReports ts out) (sym found.2)
+          (subst (AreReports (ended.0 ++ unless_held all.0)) (sym all.5) (AreReports-append ended.0 (unless_held all.0) all.1 all.2 ended.2 all.4)),
+    )
 
-  -- what the collector holds after a step is what the line leaves
-  pub held_by_step : (step : Step) (new : List ℕ) → IsStep (held ++ line) step → new ≡ held_after (held ++ line) step → new ≡ held_by held line
-  held_by_step More new is after = after ∙ sym (held_by-more is)
-  held_by_step (Literal lit) new is after = after ∙ sym (held_by-finished (inl (derivation lit, is.1.0)))
-  held_by_step (Refused e) new is after = after ∙ sym (held_by-finished (inr is.1))
+pub lines_have_reports : LinesHaveReports
+lines_have_reports lines = let all = have_last_reports [] lines in (all.0, group_reports lines all.0 all.1)
 
--- a line that is no text
-module _ (held line : List ℕ) (other : IsUtf8 line → ⊥) where
-  no_text : is_utf8 line ≡ false
-  no_text = false_from_ne_true (is_utf8 line) (λ is. other (IsUtf8-from_is_utf8 line is))
+pub reports_are_unique : ReportsAreUnique
+reports_are_unique lines out other a b =
+    let same : a.0 ≡ b.0 = groups_are_unique lines a.0 b.0 a.1 b.1 in
+    one_list_of_reports (map joined b.0) out other (subst (λ gs. AreReports (map joined gs) out) same a.2) b.2
 
-  closed_by-other : closed_by held line ≡ unless_held held ++ line ∷ []
-  closed_by-other = closed_by-is held line false (is_unfinished (held ++ line)) no_text refl
+-- ---- no lines, and more lines
 
-  pub held_by-other : (new : List ℕ) → new ≡ [] → new ≡ held_by held line
-  held_by-other new none = none ∙ sym (held_by-is held line false (is_unfinished (held ++ line)) no_text refl)
+pub ended-none : (held : List ℕ) → AreEndedReports held [] held []
+ended-none held = ([], (refl, refl), refl)
 
--- the report on one text, with an LF
-reports_of-one : (t : List ℕ) → reports_of (t ∷ []) ≡ report_of t ++ 10 ∷ []
-reports_of-one t = reports_of-next t [] ∙ ap (λ (xs : List ℕ). (report_of t ++ 10 ∷ []) ++ xs) reports_of-empty ∙ append-nil (report_of t ++ 10 ∷ [])
+pub ended-append : (held : List ℕ) (lines more : List (List ℕ)) (between left out next : List ℕ) →
+    AreEndedReports held lines between out → AreEndedReports between more left next → AreEndedReports held (lines ++ more) left (out ++ next)
+ended-append held lines more between left out next a b =
+    (a.0 ++ b.0, LinesEnd-append held lines more between left a.0 b.0 a.1 b.1, AreReports-append a.0 b.0 out next a.2 b.2)
 
--- nothing is reported
-pub reports_none : (old : List ℕ) (texts : List (List ℕ)) → texts ≡ [] → old ≡ old ++ reports_of texts
-reports_none old texts none = sym (append-nil old) ∙ ap (λ (xs : List ℕ). old ++ xs) (sym reports_of-empty) ∙ ap (λ ts. old ++ reports_of ts) (sym none)
+pub last-append : (held : List ℕ) (lines more : List (List ℕ)) (between out next : List ℕ) →
+    AreEndedReports held lines between out → AreLastReports between more next → AreLastReports held (lines ++ more) (out ++ next)
+last-append held lines more between out next a b = (
+  b.0,
+  out ++ b.1,
+  b.2,
+  ended-append held lines more between b.0 out b.1 a b.3,
+  b.4,
+  ap (λ (xs : List ℕ). out ++ xs) b.5 ∙ sym (append_assoc out b.1 b.2),
+)
 
--- one text is reported
-reports_one : (old new r t : List ℕ) (texts : List (List ℕ)) → new ≡ old ++ (r ++ 10 ∷ []) → report_of t ≡ r → texts ≡ t ∷ [] → new ≡ old ++ reports_of texts
-reports_one old new r t texts pushed is one =
-    pushed ∙ sym (ap (λ ts. old ++ reports_of ts) one ∙ ap (λ (xs : List ℕ). old ++ xs) (reports_of-one t) ∙ ap (λ (x : List ℕ). old ++ (x ++ 10 ∷ [])) is)
+-- ---- reports that are added to old ones
+
+-- the reports on the groups that end with these lines were added
+abbrev pub Adds : (held : List ℕ) (lines : List (List ℕ)) (left old new : List ℕ) → Type 0
+Adds held lines left old new = (out : List ℕ) × AreEndedReports held lines left out × (new ≡ old ++ out)
+
+pub adds-none : (held old : List ℕ) → Adds held [] held old old
+adds-none held old = ([], ended-none held, sym (append-nil old))
+
+pub adds-append : (held : List ℕ) (lines more : List (List ℕ)) (between left old front new : List ℕ) →
+    Adds held lines between old front → Adds between more left front new → Adds held (lines ++ more) left old new
+adds-append held lines more between left old front new a b = (
+  a.0 ++ b.0,
+  ended-append held lines more between left a.0 b.0 a.1 b.1,
+  b.2 ∙ ap (λ (xs : List ℕ). xs ++ b.0) a.2 ∙ append_assoc old a.0 b.0,
+)
+
+-- the report on the group that is held was added
+abbrev pub AddsHeld : (held old new : List ℕ) → Type 0
+AddsHeld held old new = (out : List ℕ) × AreReports (unless_held held) out × (new ≡ old ++ out)
+
+-- it comes last
+pub adds-last : (held : List ℕ) (lines : List (List ℕ)) (left old front new : List ℕ) → Adds held lines left old front → AddsHeld left front new →
+    (out : List ℕ) × AreLastReports held lines out × (new ≡ old ++ out)
+adds-last held lines left old front new a b = (
+  a.0 ++ b.0,
+  (left, a.0, b.0, a.1, b.1, refl),
+  b.2 ∙ ap (λ (xs : List ℕ). xs ++ b.0) a.2 ∙ append_assoc old a.0 b.0,
+)
+
+-- ---- one line
 
 -- what is pushed for a step
 abbrev pub Pushed : (old new : List ℕ) → Step → Type 0
@@ -70,39 +116,58 @@ Pushed old new (Literal lit) = new ≡ old ++ (literal_report (derivation lit) +
 Pushed old new (Refused e) = new ≡ old ++ (refusal_report (refusal_of e) ++ 10 ∷ [])
 
 -- it is the reports on the groups that the line ends
-pub step_reports : (old new held line : List ℕ) (step : Step) → IsUtf8 line → IsUtf8 (held ++ line) → IsStep (held ++ line) step → Pushed old new step →
-    new ≡ old ++ reports_of (closed_by held line)
-step_reports old new held line More text whole is pushed =
-    pushed ∙ reports_none old (closed_by held line) (closed_by-more held line text is)
-step_reports old new held line (Literal lit) text whole is pushed =
-    reports_one old new (literal_report (derivation lit)) (held ++ line) (closed_by held line) pushed
-    (report_of-text (held ++ line) whole ∙ text_report-literal (chars (held ++ line)) (derivation lit) is.1.0)
-    (closed_by-finished held line text (inl (derivation lit, is.1.0)))
-step_reports old new held line (Refused e) text whole is pushed =
-    reports_one old new (refusal_report (refusal_of e)) (held ++ line) (closed_by held line) pushed
-    (report_of-text (held ++ line) whole ∙ text_report-refused (chars (held ++ line)) (refusal_of e) is.0.table)
-    (closed_by-finished held line text (inr is.1))
+pub step_adds : (old new held line left : List ℕ) (step : Step) → IsUtf8 line → IsUtf8 (held ++ line) → IsStep (held ++ line) step → left ≡ held_after (held ++ line) step → Pushed old new step →
+    Adds held (line ∷ []) left old new
+step_adds old new held line left More text whole is after pushed =
+    ([], ([], LinesEnd-one held line [] left (inl (text, is, refl, after)), refl), pushed ∙ sym (append-nil old))
+step_adds old new held line left (Literal lit) text whole is after pushed = (
+  literal_report (derivation lit) ++ 10 ∷ [],
+  (
+    (held ++ line) ∷ [],
+    LinesEnd-one held line ((held ++ line) ∷ []) left (inr (inl (text, inl (derivation lit, is.1.0), refl, after))),
+    AreReports-one (held ++ line) (literal_report (derivation lit)) (inl (whole, inl (derivation lit, is.1.0, refl))),
+  ),
+  pushed,
+)
+step_adds old new held line left (Refused e) text whole is after pushed = (
+  refusal_report (refusal_of e) ++ 10 ∷ [],
+  (
+    (held ++ line) ∷ [],
+    LinesEnd-one held line ((held ++ line) ∷ []) left (inr (inl (text, inr is.1, refl, after))),
+    AreReports-one (held ++ line) (refusal_report (refusal_of e)) (inl (whole, inr (refusal_of e, is.0.table, refl))),
+  ),
+  pushed,
+)
 
 -- the report on lines that are held
-pub held_reports : (old new held : List ℕ) (e : ParseError) → IsRefusalOfHeld held e → new ≡ old ++ (refusal_report (refusal_of e) ++ 10 ∷ []) → new ≡ old ++ reports_of (unless_held held)
-held_reports old new held e is pushed =
-    reports_one old new (refusal_report (refusal_of e)) is.0 (unless_held held) pushed (report_of-text is.0 is.1 ∙ text_report-refused (chars is.0) (refusal_of e) is.3.table) (unless_held-some held is.0 (sym is.2))
+pub held_adds : (old new held : List ℕ) (e : ParseError) → IsRefusalOfHeld held e → new ≡ old ++ (refusal_report (refusal_of e) ++ 10 ∷ []) → AddsHeld held old new
+held_adds old new held e is pushed =
+    let r : List ℕ = refusal_report (refusal_of e) in (
+      r ++ 10 ∷ [],
+      subst (λ (ts : List (List ℕ)). AreReports ts (r ++ 10 ∷ [])) (sym (unless_held-some held is.0 (sym is.2)))
+          (AreReports-one is.0 r (inl (is.1, inr (refusal_of e, is.3.table, refl)))),
+      pushed,
+    )
 
-pub no_held_reports : (old held : List ℕ) → held ≡ [] → old ≡ old ++ reports_of (unless_held held)
-no_held_reports old held none = reports_none old (unless_held held) (ap unless_held none)
+pub nothing_held_adds : (old held : List ℕ) → held ≡ [] → AddsHeld held old old
+nothing_held_adds old held none = ([], subst (λ (h : List ℕ). AreReports (unless_held h) []) (sym none) refl, sym (append-nil old))
 
-last_report : (line : List ℕ) → (IsUtf8 line → ⊥) → reports_of (line ∷ []) ≡ codes "error input is not UTF-8\n"
-last_report line other = reports_of-one line ∙ ap (λ (x : List ℕ). x ++ 10 ∷ []) (report_of-other line other)
+-- what is added for a line that is no text, after the report on what is held
+abbrev pub AddsNoText : (held old new : List ℕ) → Type 0
+AddsNoText held old new =
+    (out : List ℕ) × AreReports (unless_held held) out × (new ≡ (old ++ out) ++ codes "error input is not UTF-8\n")
 
--- and on a line that is no text after them
-pub other_reports : (old new held line : List ℕ) → (IsUtf8 line → ⊥) → new ≡ (old ++ reports_of (unless_held held)) ++ codes "error input is not UTF-8\n" →
-    new ≡ old ++ reports_of (closed_by held line)
-other_reports old new held line other pushed =
-    let last : reports_of (line ∷ []) ≡ codes "error input is not UTF-8\n" = last_report line other in
-    pushed ∙ ap (λ (xs : List ℕ). (old ++ reports_of (unless_held held)) ++ xs) (sym last)
-    ∙ append_assoc old (reports_of (unless_held held)) (reports_of (line ∷ []))
-    ∙ ap (λ (xs : List ℕ). old ++ xs) (sym (reports_of-append (unless_held held) (line ∷ [])))
-    ∙ ap (λ ts. old ++ reports_of ts) (sym (closed_by-other held line other))
+pub other_adds : (old new held line left : List ℕ) → IsNoText line → left ≡ [] → AddsNoText held old new → Adds held (line ∷ []) left old new
+other_adds old new held line left other none adds = (
+  adds.0 ++ codes "error input is not UTF-8\n",
+  (
+    unless_held held ++ line ∷ [],
+    LinesEnd-one held line (unless_held held ++ line ∷ []) left (inr (inr (other, refl, none))),
+    AreReports-append (unless_held held) (line ∷ []) adds.0 (codes "error input is not UTF-8\n") adds.1
+        (AreReports-one line (codes "error input is not UTF-8") (inr (other, refl))),
+  ),
+  adds.2 ∙ append_assoc old adds.0 (codes "error input is not UTF-8\n"),
+)
 
 -- an LF after what was pushed
 pub pushes_line_feed : {T E : Type 0} (result : Result T E) (old front new r end : List ℕ) → front ≡ old ++ r → end ≡ 10 ∷ [] → new ≡ (if is_ok result then front ++ end else front) →

@@ -18,13 +18,9 @@ use Rattle.litrs_lines.specs.LinesLaws.{spelled, LinesSpellTheBytes, NoLineFeedI
 use Rattle.litrs_lines.specs.Stopped.{AppendsBeginning, StopsWithin}
 use Rattle.std.proofs.Common.{eqb-true, ltb, cond, add-one, get_or, take-append-drop, drop-cons, length-take}
 use Rattle.std.proofs.lemmas.List.{get_or-take, take_rest}
-use Rattle.litrs_lines.specs.Reported.{reports_of}
-use Rattle.litrs_lines.specs.Groups.{joined}
-use Rattle.litrs_lines.specs.Grouped.{unless_held, closed_by, held_by, closed_texts, held_text, texts_from}
-use Rattle.litrs_lines.specs.Reports.{AreReports, AreGroupReports, AppendsReports}
-use Rattle.litrs_lines.specs.ReportLaws.{LinesHaveReports, ReportsAreUnique}
-use Rattle.litrs_lines.proofs.GroupLemmas.{closed_texts-append, held_text-append, texts_from-append, grouped, groups_are_unique}
-use Rattle.litrs_lines.proofs.ReportLemmas.{are_reports, one_list_of_reports, reports_of-empty, reports_of-append}
+use Rattle.litrs_lines.specs.Ended.{AreEndedReports, AreLastReports}
+use Rattle.litrs_lines.specs.Reports.{AppendsReports}
+use Rattle.litrs_lines.proofs.GroupReports.{group_reports, last_reports, have_ended_reports, have_last_reports, ended-none, ended-append, last-append, Adds, adds-none, adds-append}
 use Rattle.litrs_lines.specs.Lines.{is_line_feed, HasNoLineFeed, before_last_part, last_part, ended_parts, open_part, unless_empty, without_return, ended_parts_of, ended_lines, open_line, lines_of}
 
 -- the first part of a split, and those after it
@@ -219,35 +215,46 @@ goes_on line rest held at =
     let none : HasNoLineFeed (line ++ rest) = All-append EndsNoLine line rest held (none_found rest at) in
     record { leaves = open_line-none (line ++ rest) none; lines = ended_lines-none (line ++ rest) none }
 
--- a step over a line that ends: what it leaves of the line, the lines held, the reports and the rest says the same of the whole
-pub record StepsOn (held line reports rest held' line' reports' rest' : List ℕ) : Type 0 where
+-- of all lines some were taken, and the reports on the groups that end with them were added; the rest is left
+pub record TakesOn (held : List ℕ) (all rest : List (List ℕ)) (left old new : List ℕ) : Type 0 where
+  pub lines : List (List ℕ)
+  pub is : all ≡ lines ++ rest
+  pub adds : Adds held lines left old new
+
+pub takes_none : (held : List ℕ) (all : List (List ℕ)) (old : List ℕ) → TakesOn held all all held old old
+takes_none held all old = record { lines = []; is = refl; adds = adds-none held old }
+
+-- a step over a line that ends
+pub record StepsOn (held : List ℕ) (all : List (List ℕ)) (left old new line rest line' rest' : List ℕ) : Type 0 where
   pub unended : HasNoLineFeed line'
   pub leaves : open_line (line ++ rest) ≡ open_line (line' ++ rest')
-  pub holds : held_text held (ended_lines (line ++ rest)) ≡ held_text held' (ended_lines (line' ++ rest'))
-  pub same : reports ++ reports_of (closed_texts held (ended_lines (line ++ rest))) ≡ reports' ++ reports_of (closed_texts held' (ended_lines (line' ++ rest')))
+  pub takes : TakesOn held all (ended_lines (line' ++ rest')) left old new
 
-pub steps_on : (held line reports rest held' line' reports' : List ℕ) (end : ℕ) → HasNoLineFeed line → Some end ≡ position is_line_feed rest
-    → line' ≡ [] → held' ≡ held_by held (without_return (line ++ take end rest)) → reports' ≡ reports ++ reports_of (closed_by held (without_return (line ++ take end rest)))
-    → StepsOn held line reports rest held' line' reports' (take (length rest - (end + 1)) (drop (end + 1) rest))
-steps_on held line reports rest held' line' reports' end unended at none holds more =
+pub steps_on : (held : List ℕ) (all : List (List ℕ)) (between left old front new line rest line' : List ℕ) (end : ℕ) → HasNoLineFeed line → Some end ≡ position is_line_feed rest
+    → TakesOn held all (ended_lines (line ++ rest)) between old front → line' ≡ [] → Adds between (without_return (line ++ take end rest) ∷ []) left front new
+    → StepsOn held all left old new line rest line' (take (length rest - (end + 1)) (drop (end + 1) rest))
+steps_on held all between left old front new line rest line' end unended at so_far none adds =
     let step = ends_line line rest end unended (sym at) in
     let whole : List ℕ = without_return (line ++ take end rest) in
     let rest' = take (length rest - (end + 1)) (drop (end + 1) rest) in
-    let same : rest' ≡ drop (end + 1) rest = take_rest rest (end + 1) in
-    let empty : line' ++ rest' ≡ drop (end + 1) rest = ap (λ xs. xs ++ rest') none ∙ same in
+    let empty : line' ++ rest' ≡ drop (end + 1) rest = ap (λ xs. xs ++ rest') none ∙ take_rest rest (end + 1) in
     let behind : List (List ℕ) = ended_lines (drop (end + 1) rest) in
     let after : behind ≡ ended_lines (line' ++ rest') = ap ended_lines (sym empty) in
-    let before : List ℕ = reports_of (closed_by held whole) in
     record {
       unended = subst HasNoLineFeed (sym none) (All-nil EndsNoLine);
       leaves = step.leaves ∙ ap open_line (sym empty);
-      holds = ap (held_text held) step.lines ∙ (λ i. held_text (sym holds i) (after i));
-      same =
-          ap (λ ls. reports ++ reports_of (closed_texts held ls)) step.lines
-          ∙ ap (λ xs. reports ++ xs) (reports_of-append (closed_by held whole) (closed_texts (held_by held whole) behind))
-          ∙ sym (append_assoc reports before (reports_of (closed_texts (held_by held whole) behind)))
-          ∙ (λ i. sym more i ++ reports_of (closed_texts (sym holds i) (after i)));
+      takes = record {
+        lines = so_far.lines ++ whole ∷ [];
+        is = so_far.is ∙ ap (λ (ls : List (List ℕ)). so_far.lines ++ ls) step.lines
+            ∙ sym (append_assoc so_far.lines (whole ∷ []) behind) ∙ ap (λ (ls : List (List ℕ)). (so_far.lines ++ whole ∷ []) ++ ls) after;
+        adds = adds-append held so_far.lines (whole ∷ []) between left old front new so_far.adds adds;
+      };
     }
+
+-- where none is left all were taken
+pub takes_all : (held : List ℕ) (all rest : List (List ℕ)) (left old new : List ℕ) → TakesOn held all rest left old new → rest ≡ [] → Adds held all left old new
+takes_all held all rest left old new so_far none =
+    subst (λ (ls : List (List ℕ)). Adds held ls left old new) (sym (so_far.is ∙ ap (λ (ls : List (List ℕ)). so_far.lines ++ ls) none ∙ append-nil so_far.lines)) so_far.adds
 
 -- ---- appended bytes
 
@@ -278,6 +285,10 @@ pub OnOk-map : {T E P Q : Type 0} (r : Result T E) → (P → Q) → OnOk r P �
 OnOk-map (Ok x) f p = f p
 OnOk-map (Err e) f p = tt
 
+pub OnOk-both : {T E P Q R : Type 0} (r : Result T E) → (P → Q → R) → OnOk r P → OnOk r Q → OnOk r R
+OnOk-both (Ok x) f p q = f p q
+OnOk-both (Err e) f p q = tt
+
 pub OnErr-map : {T E P Q : Type 0} (r : Result T E) → (P → Q) → OnErr r P → OnErr r Q
 OnErr-map (Ok x) f p = tt
 OnErr-map (Err e) f p = f p
@@ -293,31 +304,23 @@ unless_empty-some [] some = absurd (omega arith)
 unless_empty-some (b ∷ bs) some = refl
 
 -- where it is empty nothing is added
-pub nothing_last : (held line reports : List ℕ) → length line ≡ 0 → (held ≡ held_text held (unless_empty line)) × (reports ≡ reports ++ reports_of (closed_texts held (unless_empty line)))
-nothing_last held line reports none =
-    let no = unless_empty-none line none in
-    (ap (held_text held) (sym no), sym (append-nil reports) ∙ ap (λ xs. reports ++ xs) (sym reports_of-empty) ∙ ap (λ ls. reports ++ reports_of (closed_texts held ls)) (sym no))
-
-pub held_last : (held line : List ℕ) → 0 < length line → held_by held line ≡ held_text held (unless_empty line)
-held_last held line some = ap (held_text held) (sym (unless_empty-some line some))
-
-pub closed_last : (held line : List ℕ) → 0 < length line → closed_by held line ≡ closed_texts held (unless_empty line)
-closed_last held line some = sym (append-nil (closed_by held line)) ∙ ap (closed_texts held) (sym (unless_empty-some line some))
-
--- two reports, one after the other
-pub reports_more : (a b c : List ℕ) (texts more : List (List ℕ)) → b ≡ a ++ reports_of texts → c ≡ b ++ reports_of more → c ≡ a ++ reports_of (texts ++ more)
-reports_more a b c texts more first second =
-    second ∙ ap (λ xs. xs ++ reports_of more) first ∙ append_assoc a (reports_of texts) (reports_of more) ∙ ap (λ xs. a ++ xs) (sym (reports_of-append texts more))
+pub nothing_last : (held line old : List ℕ) → length line ≡ 0 → Adds held (unless_empty line) held old old
+nothing_last held line old none = subst (λ (ls : List (List ℕ)). Adds held ls held old old) (sym (unless_empty-none line none)) (adds-none held old)
 
 -- ---- a run
+
+-- a prefix of nothing more than was written
+pub AppendsBeginning-none : (contents : Option (List ℕ)) (bytes : List ℕ) → AppendsBeginning contents contents bytes
+AppendsBeginning-none contents bytes = record { written = []; appends = Appends-nil contents; begins = refl }
 
 -- of the bytes taken so far all groups that ended were reported on, and each read took one at least
 pub record RunsOn (left_old left_new contents_old contents_new : Option (List ℕ)) (line held : List ℕ) (reads : ℕ) : Type 0 where
   pub taken : List ℕ
   pub takes : Consumes left_old left_new taken
   pub goes_on : line ≡ open_line taken
-  pub holds : held ≡ held_text [] (ended_lines taken)
-  pub writes : Appends contents_old contents_new (reports_of (closed_texts [] (ended_lines taken)))
+  pub so_far : List ℕ
+  pub reports : AreEndedReports [] (ended_lines taken) held so_far
+  pub writes : Appends contents_old contents_new so_far
   pub few : reads ≤ length taken
 
 pub runs_none : (left contents : Option (List ℕ)) (line held : List ℕ) → line ≡ [] → held ≡ [] → RunsOn left left contents contents line held 0
@@ -327,79 +330,51 @@ runs_none left contents line held none nothing =
       taken = [];
       takes = Consumes-nil left;
       goes_on = none ∙ sym (open_line-none [] (All-nil EndsNoLine));
-      holds = nothing ∙ ap (held_text []) (sym no);
-      writes = subst (Appends contents contents) (sym (ap (λ ls. reports_of (closed_texts [] ls)) no ∙ reports_of-empty)) (Appends-nil contents);
+      so_far = [];
+      reports = subst (λ (h : List ℕ). AreEndedReports [] (ended_lines []) h []) (sym nothing)
+          (subst (λ (ls : List (List ℕ)). AreEndedReports [] ls [] []) (sym no) (ended-none []));
+      writes = Appends-nil contents;
       few = omega arith;
     }
-
--- the reports on the groups of some lines
-group_reports : (lines : List (List ℕ)) → AreGroupReports lines (reports_of (texts_from [] lines))
-group_reports lines =
-    let found = grouped lines in
-    (found.0, found.1, subst (λ ts. AreReports ts (reports_of (texts_from [] lines))) (sym found.2) (are_reports (texts_from [] lines)))
-
-pub lines_have_reports : LinesHaveReports
-lines_have_reports lines = (reports_of (texts_from [] lines), group_reports lines)
-
-pub reports_are_unique : ReportsAreUnique
-reports_are_unique lines out other a b =
-    let same : a.0 ≡ b.0 = groups_are_unique lines a.0 b.0 a.1 b.1 in
-    one_list_of_reports (map joined b.0) out other (subst (λ gs. AreReports (map joined gs) out) same a.2) b.2
 
 module _ {left_old left contents_old contents : Option (List ℕ)} {line held : List ℕ} {reads : ℕ} (run : RunsOn left_old left contents_old contents line held reads) where
   pub line_unended : HasNoLineFeed line
   line_unended = subst HasNoLineFeed (sym run.goes_on) (open_line-has_no_line_feed run.taken)
 
-  -- what was written so far
-  abbrev so_far : List ℕ
-  so_far = reports_of (closed_texts [] (ended_lines run.taken))
-
   lines_of_piece : (piece : List ℕ) → ended_lines (run.taken ++ piece) ≡ ended_lines run.taken ++ ended_lines (line ++ piece)
   lines_of_piece piece = ended_lines-append run.taken piece ∙ ap (λ xs. ended_lines run.taken ++ ended_lines (xs ++ piece)) (sym run.goes_on)
 
-  holds_on_piece : (piece : List ℕ) → held_text [] (ended_lines (run.taken ++ piece)) ≡ held_text held (ended_lines (line ++ piece))
-  holds_on_piece piece =
-      ap (held_text []) (lines_of_piece piece) ∙ held_text-append [] (ended_lines run.taken) (ended_lines (line ++ piece))
-      ∙ ap (λ h. held_text h (ended_lines (line ++ piece))) (sym run.holds)
+  -- the reports on a piece, after those before it
+  reports_on_piece : (piece left_held out : List ℕ) → AreEndedReports held (ended_lines (line ++ piece)) left_held out → AreEndedReports [] (ended_lines (run.taken ++ piece)) left_held (run.so_far ++ out)
+  reports_on_piece piece left_held out is =
+      subst (λ (ls : List (List ℕ)). AreEndedReports [] ls left_held (run.so_far ++ out)) (sym (lines_of_piece piece))
+      (ended-append [] (ended_lines run.taken) (ended_lines (line ++ piece)) held left_held run.so_far out run.reports is)
 
-  -- what is reported on a piece, after what was reported before it
-  reports_on_piece : (piece : List ℕ) → reports_of (closed_texts [] (ended_lines (run.taken ++ piece))) ≡ so_far ++ reports_of (closed_texts held (ended_lines (line ++ piece)))
-  reports_on_piece piece =
-      let more : List (List ℕ) = ended_lines (line ++ piece) in
-      ap (λ ls. reports_of (closed_texts [] ls)) (lines_of_piece piece) ∙ ap reports_of (closed_texts-append [] (ended_lines run.taken) more)
-      ∙ reports_of-append (closed_texts [] (ended_lines run.taken)) (closed_texts (held_text [] (ended_lines run.taken)) more)
-      ∙ ap (λ h. so_far ++ reports_of (closed_texts h more)) (sym run.holds)
-
-  -- and on all lines, where these come last
-  reports_on_last : (last : List (List ℕ)) → reports_of (texts_from [] (ended_lines run.taken ++ last)) ≡ so_far ++ reports_of (texts_from held last)
-  reports_on_last last =
-      ap reports_of (texts_from-append [] (ended_lines run.taken) last)
-      ∙ reports_of-append (closed_texts [] (ended_lines run.taken)) (texts_from (held_text [] (ended_lines run.taken)) last)
-      ∙ ap (λ h. so_far ++ reports_of (texts_from h last)) (sym run.holds)
-
-  -- what is reported on the whole, where nothing more is taken
-  reports_on_all : (last : List ℕ) → last ≡ line → reports_of (texts_from [] (lines_of run.taken)) ≡ so_far ++ reports_of (texts_from held (unless_empty last))
+  -- and on all lines, where nothing more is taken
+  reports_on_all : (last out : List ℕ) → last ≡ line → AreLastReports held (unless_empty last) out → AreLastReports [] (lines_of run.taken) (run.so_far ++ out)
   unfolding lines_of
-  reports_on_all last is =
-      reports_on_last (unless_empty (open_line run.taken)) ∙ ap (λ xs. so_far ++ reports_of (texts_from held (unless_empty xs))) (sym (is ∙ run.goes_on))
+  reports_on_all last out is all =
+      last-append [] (ended_lines run.taken) (unless_empty (open_line run.taken)) held run.so_far out run.reports
+      (subst (λ (xs : List ℕ). AreLastReports held (unless_empty xs) out) (is ∙ run.goes_on) all)
 
-  pub runs_more : (left_new contents_new : Option (List ℕ)) (line_new held_new piece : List ℕ) → Consumes left left_new piece → line_new ≡ open_line (line ++ piece)
-      → held_new ≡ held_text held (ended_lines (line ++ piece))
-      → Appends contents contents_new (reports_of (closed_texts held (ended_lines (line ++ piece)))) → 0 < length piece
+  pub runs_more : (left_new contents_new : Option (List ℕ)) (line_new held_new piece out : List ℕ) → Consumes left left_new piece → line_new ≡ open_line (line ++ piece)
+      → AreEndedReports held (ended_lines (line ++ piece)) held_new out → Appends contents contents_new out → 0 < length piece
       → RunsOn left_old left_new contents_old contents_new line_new held_new (reads + 1)
-  runs_more left_new contents_new line_new held_new piece takes goes_on holds writes some = record {
+  runs_more left_new contents_new line_new held_new piece out takes goes_on reports writes some = record {
     taken = run.taken ++ piece;
     takes = Consumes-trans left_old left left_new run.taken piece run.takes takes;
     goes_on = goes_on ∙ ap (λ xs. open_line (xs ++ piece)) run.goes_on ∙ sym (open_line-append run.taken piece);
-    holds = holds ∙ sym (holds_on_piece piece);
-    writes = subst (Appends contents_old contents_new) (sym (reports_on_piece piece)) (Appends-trans contents_old contents contents_new _ _ run.writes writes);
+    so_far = run.so_far ++ out;
+    reports = reports_on_piece piece held_new out reports;
+    writes = Appends-trans contents_old contents contents_new run.so_far out run.writes writes;
     few = let before = run.few in omega (arith, length-append run.taken piece);
   }
 
   -- what was written is a prefix of the whole
   writes_prefix : (contents_new : Option (List ℕ)) (bytes more whole : List ℕ) → AppendsBeginning contents contents_new bytes
-      → whole ≡ so_far ++ (bytes ++ more) → AppendsBeginning contents_old contents_new whole
+      → whole ≡ run.so_far ++ (bytes ++ more) → AppendsBeginning contents_old contents_new whole
   writes_prefix contents_new bytes more whole part is =
+      let so_far : List ℕ = run.so_far in
       let rest : List ℕ = drop (length part.written) bytes in
       let inner : bytes ++ more ≡ part.written ++ (rest ++ more) =
       ap (λ xs. xs ++ more) (starts_with_rest bytes part.written part.begins) ∙ append_assoc part.written rest more in
@@ -410,72 +385,60 @@ module _ {left_old left contents_old contents : Option (List ℕ)} {line held : 
         begins = ap (take (length (so_far ++ part.written))) cut ∙ take-append_seam (so_far ++ part.written) (rest ++ more);
       }
 
-  -- the reports on the lines that ended in a piece, and on what is then held
-  reports_past_piece : (piece : List ℕ) → reports_of (texts_from [] (ended_lines (run.taken ++ piece)))
-      ≡ so_far ++ (reports_of (closed_texts held (ended_lines (line ++ piece))) ++ reports_of (unless_held (held_text held (ended_lines (line ++ piece)))))
-  reports_past_piece piece =
-      let more : List (List ℕ) = ended_lines (line ++ piece) in
-      ap (λ ls. reports_of (texts_from [] ls)) (lines_of_piece piece) ∙ reports_on_last more
-      ∙ ap (λ xs. so_far ++ xs) (reports_of-append (closed_texts held more) (unless_held (held_text held more)))
-
   -- a read failed
   pub stops_at_read : (left_new : Option (List ℕ)) → Keeps left left_new → StopsWithin left_old left_new contents_old contents
-  stops_at_read left_new kept = record {
-    taken = run.taken;
-    takes = Consumes-kept left_old left left_new run.taken run.takes kept;
-    lines = ended_lines run.taken;
-    whole = inl refl;
-    out = reports_of (texts_from [] (ended_lines run.taken));
-    reports = group_reports (ended_lines run.taken);
-    writes = record {
-      written = so_far;
-      appends = run.writes;
-      begins =
-          let held_reports : List ℕ = reports_of (unless_held (held_text [] (ended_lines run.taken))) in
-          ap (take (length so_far)) (reports_of-append (closed_texts [] (ended_lines run.taken)) (unless_held (held_text [] (ended_lines run.taken))))
-          ∙ take-append_seam so_far held_reports;
-    };
-  }
+  stops_at_read left_new kept =
+      let all = last_reports [] (ended_lines run.taken) held run.so_far run.reports in
+      record {
+        taken = run.taken;
+        takes = Consumes-kept left_old left left_new run.taken run.takes kept;
+        lines = ended_lines run.taken;
+        whole = inl refl;
+        out = run.so_far ++ all.0;
+        reports = group_reports (ended_lines run.taken) (run.so_far ++ all.0) all.1;
+        writes = record { written = run.so_far; appends = run.writes; begins = take-append_seam run.so_far all.0 };
+      }
 
   -- a piece was not reported on as a whole
-  pub stops_in_piece : (left_new contents_new : Option (List ℕ)) (piece : List ℕ) → Consumes left left_new piece
-      → AppendsBeginning contents contents_new (reports_of (closed_texts held (ended_lines (line ++ piece)))) → StopsWithin left_old left_new contents_old contents_new
-  stops_in_piece left_new contents_new piece takes writes = record {
-    taken = run.taken ++ piece;
-    takes = Consumes-trans left_old left left_new run.taken piece run.takes takes;
-    lines = ended_lines (run.taken ++ piece);
-    whole = inl refl;
-    out = reports_of (texts_from [] (ended_lines (run.taken ++ piece)));
-    reports = group_reports (ended_lines (run.taken ++ piece));
-    writes = writes_prefix contents_new _ _ _ writes (reports_past_piece piece);
-  }
+  pub stops_in_piece : (left_new contents_new : Option (List ℕ)) (piece left_held out : List ℕ) → Consumes left left_new piece
+      → AreEndedReports held (ended_lines (line ++ piece)) left_held out → AppendsBeginning contents contents_new out → StopsWithin left_old left_new contents_old contents_new
+  stops_in_piece left_new contents_new piece left_held out takes is writes =
+      let all = last_reports [] (ended_lines (run.taken ++ piece)) left_held (run.so_far ++ out) (reports_on_piece piece left_held out is) in
+      record {
+        taken = run.taken ++ piece;
+        takes = Consumes-trans left_old left left_new run.taken piece run.takes takes;
+        lines = ended_lines (run.taken ++ piece);
+        whole = inl refl;
+        out = (run.so_far ++ out) ++ all.0;
+        reports = group_reports (ended_lines (run.taken ++ piece)) ((run.so_far ++ out) ++ all.0) all.1;
+        writes = writes_prefix contents_new out all.0 ((run.so_far ++ out) ++ all.0) writes (append_assoc run.so_far out all.0);
+      }
 
   consumes_end : (left_new : Option (List ℕ)) (piece : List ℕ) → Consumes left left_new piece → piece ≡ [] → Consumes left_old left_new run.taken
   consumes_end left_new piece takes none =
       subst (Consumes left_old left_new) (ap (λ xs. run.taken ++ xs) none ∙ append-nil run.taken) (Consumes-trans left_old left left_new run.taken piece run.takes takes)
 
   -- the end was not reported on as a whole
-  pub stops_at_end : (left_new contents_new : Option (List ℕ)) (piece last : List ℕ) → last ≡ line → Consumes left left_new piece → piece ≡ [] → IsAtEnd left_new
-      → AppendsBeginning contents contents_new (reports_of (texts_from held (unless_empty last))) → StopsWithin left_old left_new contents_old contents_new
-  stops_at_end left_new contents_new piece last is takes none at_end writes = record {
+  pub stops_at_end : (left_new contents_new : Option (List ℕ)) (piece last out : List ℕ) → last ≡ line → Consumes left left_new piece → piece ≡ [] → IsAtEnd left_new
+      → AreLastReports held (unless_empty last) out → AppendsBeginning contents contents_new out → StopsWithin left_old left_new contents_old contents_new
+  stops_at_end left_new contents_new piece last out is takes none at_end all writes = record {
     taken = run.taken;
     takes = consumes_end left_new piece takes none;
     lines = lines_of run.taken;
     whole = inr (at_end, refl);
-    out = reports_of (texts_from [] (lines_of run.taken));
-    reports = group_reports (lines_of run.taken);
-    writes = writes_prefix contents_new (reports_of (texts_from held (unless_empty last))) [] _ writes
-        (reports_on_all last is ∙ ap (λ xs. so_far ++ xs) (sym (append-nil _)));
+    out = run.so_far ++ out;
+    reports = group_reports (lines_of run.taken) (run.so_far ++ out) (reports_on_all last out is all);
+    writes = writes_prefix contents_new out [] (run.so_far ++ out) writes (ap (λ xs. run.so_far ++ xs) (sym (append-nil out)));
   }
 
   -- the end was reported on
-  pub ends_run : (left_new contents_new : Option (List ℕ)) (piece last : List ℕ) → last ≡ line → Consumes left left_new piece → piece ≡ [] → IsAtEnd left_new
-      → Appends contents contents_new (reports_of (texts_from held (unless_empty last))) → IfSome left_old (λ bytes. AppendsReports (lines_of bytes) contents_old contents_new)
-  ends_run left_new contents_new piece last is takes none at_end writes =
+  pub ends_run : (left_new contents_new : Option (List ℕ)) (piece last out : List ℕ) → last ≡ line → Consumes left left_new piece → piece ≡ [] → IsAtEnd left_new
+      → AreLastReports held (unless_empty last) out → Appends contents contents_new out → IfSome left_old (λ bytes. AppendsReports (lines_of bytes) contents_old contents_new)
+  ends_run left_new contents_new piece last out is takes none at_end all writes =
       Consumes-whole left_old left_new run.taken (λ bytes. AppendsReports (lines_of bytes) contents_old contents_new) (consumes_end left_new piece takes none) at_end (record {
-        out = reports_of (texts_from [] (lines_of run.taken));
-        reports = group_reports (lines_of run.taken);
-        appends = subst (Appends contents_old contents_new) (sym (reports_on_all last is)) (Appends-trans contents_old contents contents_new _ _ run.writes writes);
+        out = run.so_far ++ out;
+        reports = group_reports (lines_of run.taken) (run.so_far ++ out) (reports_on_all last out is all);
+        appends = Appends-trans contents_old contents contents_new run.so_far out run.writes writes;
       })
 
 pub false_unless : (b : Bool) → (b ≡ true → ⊥) → b ≡ false

@@ -1,88 +1,57 @@
--- The report of a text, by its derivation or its refusal: each line has one.
-use Rattle.std.proofs.Common.{◌≡◌, ◌⊎◌, inl, inr, ℕ, ◌+◌, ◌<◌, length, get_or, take, List, [], ◌∷◌, ◌++◌, refl, sym, ap, subst, ◌∙◌, append_assoc, Bool, true, false, Option, Some}
+-- The reports of texts, by their derivations or refusals: each text has one, and no two.
+use Rattle.std.proofs.Common.{◌≡◌, ◌⊎◌, inl, inr, ℕ, ◌+◌, ◌<◌, length, get_or, take, List, [], ◌∷◌, ◌++◌, refl, sym, ap, subst, ◌∙◌, append_assoc, append-nil, Bool, true, false, Option, Some}
 use Rattle.std.specs.Prelude.{codes, decimal, Result, Ok, Err, OnOk, is_ok, if◌then◌else◌}
 use Rattle.std.specs.Str.{chars, is_utf8, IsUtf8, encode_utf8_all}
 use Rattle.std.proofs.lemmas.Str.{encodes-chars, is_utf8-from_IsUtf8, IsUtf8-from_is_utf8}
 use Rattle.std.proofs.lemmas.Grind.{flat_map-append}
 use Rattle.std.proofs.lemmas.List.{take_more}
-use Rattle.std.proofs.lemmas.Bool.{false_from_ne_true}
 use Rattle.litrs_base.specs.Base.{base_value}
 use Rattle.litrs_base.specs.Refusal.{Refusal}
 use Rattle.litrs_grammar.specs.Integer.{IntegerParts, integer_value}
 use Rattle.litrs_grammar.specs.CharByte.{CharParts, char_value}
 use Rattle.litrs_grammar.specs.Float.{FloatParts}
-use Rattle.litrs_grammar.specs.Literal.{StringParts, string_suffix, string_value, Derivation, an_integer, a_float, IsLiteral, literal_parse}
+use Rattle.litrs_grammar.specs.Literal.{StringParts, string_suffix, string_value, Derivation, a_bool, an_integer, a_float, a_char, a_byte, a_string, a_byte_string, a_c_string, IsLiteral, literal_parse}
 use Rattle.litrs_grammar.specs.LiteralRefusals.{IsRefusal}
 use Rattle.litrs_grammar.specs.Strings.{is_raw}
 use Rattle.litrs_grammar.proofs.LiteralLaws.{literals_are_unique, literals_are_not_refused, refusals_are_unique, texts_are_decided}
 use Rattle.litrs_lines.specs.Report.{value_text, integer_front, fraction_field, float_report, char_report, raw_field, hex_byte, hex_bytes, string_front, string_report, literal_report, refusal_report, IsTextReport, IsReport}
+use Rattle.litrs_lines.specs.ReportParts.{front_of_string, literal_front, hex_value}
 use Rattle.litrs_lines.specs.Reports.{AreReports}
-use Rattle.litrs_lines.specs.Reported.{report_by, text_report, report_of, reports_of}
 
--- The bytes of a line
+-- Each text has a report
 
-pub report_of-text : (line : List ℕ) → IsUtf8 line → report_of line ≡ text_report (chars line)
-unfolding report_of
-report_of-text line u = rw (is_utf8-from_IsUtf8 line u) refl
+text_has_report : (t : List ℕ) → (r : List ℕ) × IsTextReport t r
+text_has_report t = elim (texts_are_decided literal_parse t) [
+  | inl d ↦ (literal_report d.0, inl (d.0, d.1, refl))
+  | inr e ↦ (refusal_report e.0, inr (e.0, e.1, refl))
+]
 
-pub report_of-other : (line : List ℕ) → (IsUtf8 line → ⊥) → report_of line ≡ codes "error input is not UTF-8"
-unfolding report_of
-report_of-other line none = rw (false_from_ne_true (is_utf8 line) (λ is. none (IsUtf8-from_is_utf8 line is))) refl
-
--- The report of a text
-
-literal_by : (t : List ℕ) (found : ((d : Derivation) × IsLiteral t d) ⊎ ((r : Refusal) × IsRefusal literal_parse t r)) (d : Derivation) → IsLiteral t d →
-    report_by found ≡ literal_report d
-literal_by t (inl e) d r = ap literal_report (literals_are_unique t e.0 d e.1 r)
-literal_by t (inr e) d r = absurd (literals_are_not_refused literal_parse t d e.0 r e.1)
-
-refused_by : (t : List ℕ) (found : ((d : Derivation) × IsLiteral t d) ⊎ ((r : Refusal) × IsRefusal literal_parse t r)) (r : Refusal) → IsRefusal literal_parse t r →
-    report_by found ≡ refusal_report r
-refused_by t (inl e) r table = absurd (literals_are_not_refused literal_parse t e.0 r e.1 table)
-refused_by t (inr e) r table = ap refusal_report (refusals_are_unique literal_parse t e.0 r e.1 table)
-
-pub text_report-literal : (t : List ℕ) (d : Derivation) → IsLiteral t d → text_report t ≡ literal_report d
-unfolding text_report
-text_report-literal t d r = literal_by t (texts_are_decided literal_parse t) d r
-
-pub text_report-refused : (t : List ℕ) (r : Refusal) → IsRefusal literal_parse t r → text_report t ≡ refusal_report r
-unfolding text_report
-text_report-refused t r table = refused_by t (texts_are_decided literal_parse t) r table
-
--- The relation
-
-text_has_report : (t : List ℕ) (found : ((d : Derivation) × IsLiteral t d) ⊎ ((r : Refusal) × IsRefusal literal_parse t r)) → IsTextReport t (report_by found)
-text_has_report t (inl d) = inl (d.0, d.1, refl)
-text_has_report t (inr r) = inr (r.0, r.1, refl)
-
-report_is : (t : List ℕ) → IsTextReport t (text_report t)
-unfolding text_report
-report_is t = text_has_report t (texts_are_decided literal_parse t)
-
-line_has_report : (line : List ℕ) (v : Bool) → is_utf8 line ≡ v → IsReport line (report_of line)
+line_has_report : (line : List ℕ) (v : Bool) → is_utf8 line ≡ v → (r : List ℕ) × IsReport line r
 line_has_report line true is =
-    let u : IsUtf8 line = IsUtf8-from_is_utf8 line is in
-    inl (u, subst (IsTextReport (chars line)) (sym (report_of-text line u)) (report_is (chars line)))
+    let found = text_has_report (chars line) in
+    (found.0, inl (IsUtf8-from_is_utf8 line is, found.1))
 line_has_report line false is =
     let none : IsUtf8 line → ⊥ = λ u. let both : true ≡ false = sym (is_utf8-from_IsUtf8 line u) ∙ is in cc in
-    inr (none, report_of-other line none)
+    (codes "error input is not UTF-8", inr (none, refl))
 
-pub reports_of-next : (line : List ℕ) (lines : List (List ℕ)) → reports_of (line ∷ lines) ≡ (report_of line ++ 10 ∷ []) ++ reports_of lines
-unfolding reports_of
-reports_of-next line lines = refl
+pub texts_have_reports : (texts : List (List ℕ)) → (out : List ℕ) × AreReports texts out
+texts_have_reports [] = ([], refl)
+texts_have_reports (t ∷ texts) =
+    let one = line_has_report t (is_utf8 t) refl in
+    let rest = texts_have_reports texts in
+    ((one.0 ++ 10 ∷ []) ++ rest.0, (one.0, rest.0, one.1, rest.1, refl))
 
-pub reports_of-empty : reports_of [] ≡ []
-unfolding reports_of
-reports_of-empty = refl
+-- Reports, one after the other
 
-pub reports_of-append : (lines more : List (List ℕ)) → reports_of (lines ++ more) ≡ reports_of lines ++ reports_of more
-unfolding reports_of
-reports_of-append lines more = flat_map-append _ lines more
+pub AreReports-one : (t r : List ℕ) → IsReport t r → AreReports (t ∷ []) (r ++ 10 ∷ [])
+AreReports-one t r is = (r, [], is, refl, sym (append-nil (r ++ 10 ∷ [])))
 
-pub are_reports : (lines : List (List ℕ)) → AreReports lines (reports_of lines)
-are_reports [] = reports_of-empty
-are_reports (line ∷ lines) =
-    (report_of line, reports_of lines, line_has_report line (is_utf8 line) refl, are_reports lines, reports_of-next line lines)
+pub AreReports-append : (texts more : List (List ℕ)) (out next : List ℕ) → AreReports texts out → AreReports more next → AreReports (texts ++ more) (out ++ next)
+AreReports-append [] more out next none b = subst (AreReports more) (sym (ap (λ (xs : List ℕ). xs ++ next) none)) b
+AreReports-append (t ∷ texts) more out next a b =
+    (a.0, a.1 ++ next, a.2, AreReports-append texts more a.1 next a.3 b, ap (λ (xs : List ℕ). xs ++ next) a.4 ∙ append_assoc (a.0 ++ 10 ∷ []) a.1 next)
+
+-- and no text has two
 
 one_text_report : (t r s : List ℕ) → IsTextReport t r → IsTextReport t s → r ≡ s
 one_text_report t r s (inl p) (inl q) = p.2 ∙ (ap literal_report (literals_are_unique t p.0 q.0 p.1 q.1) ∙ sym q.2)
@@ -173,13 +142,22 @@ integer_front_made base digits suffix a b c d e one two three four =
 
 -- A string of one of the three kinds
 
-pub string_report_made : (name old front new raw suffix value : List ℕ) (d : StringParts) → IsUtf8 suffix → raw ≡ raw_field (is_raw d) →
-    chars suffix ≡ string_suffix d → value ≡ string_value d → front ≡ old ++ string_front name raw suffix → new ≡ front ++ hex_bytes value →
-    new ≡ old ++ string_report name d
-string_report_made name old front new raw suffix value d suffix_utf8 raw_is suffix_is value_is made valued =
+pub string_front_made : (name old new raw suffix : List ℕ) (d : StringParts) → IsUtf8 suffix → raw ≡ raw_field (is_raw d) →
+    chars suffix ≡ string_suffix d → new ≡ old ++ string_front name raw suffix → new ≡ old ++ front_of_string name d
+string_front_made name old new raw suffix d suffix_utf8 raw_is suffix_is made =
     let s : suffix ≡ encode_utf8_all (string_suffix d) = sym (encodes-chars suffix suffix_utf8) ∙ ap encode_utf8_all suffix_is in
-    valued ∙ (ap (λ (xs : List ℕ). xs ++ hex_bytes value) made ∙ (append_assoc old (string_front name raw suffix) (hex_bytes value)
-    ∙ (λ j. old ++ (string_front name (raw_is j) (s j) ++ hex_bytes (value_is j)))))
+    made ∙ (λ j. old ++ string_front name (raw_is j) (s j))
+
+-- the two parts of a report
+pub report_of_parts : (d : Derivation) → literal_report d ≡ literal_front d ++ hex_bytes (hex_value d)
+report_of_parts (a_bool b) = sym (append-nil (literal_report (a_bool b)))
+report_of_parts (an_integer d) = sym (append-nil (literal_report (an_integer d)))
+report_of_parts (a_float d) = sym (append-nil (literal_report (a_float d)))
+report_of_parts (a_char d) = sym (append-nil (literal_report (a_char d)))
+report_of_parts (a_byte d) = sym (append-nil (literal_report (a_byte d)))
+report_of_parts (a_string d) = refl
+report_of_parts (a_byte_string d) = refl
+report_of_parts (a_c_string d) = refl
 
 -- one more byte of a value
 pub hex_step : (old now next bytes : List ℕ) (i : ℕ) → i < length bytes → now ≡ old ++ hex_bytes (take i bytes) →

@@ -13,12 +13,14 @@ pub mod LinesLaws
 -- groups of lines
 pub mod Groups
 pub mod GroupsLaws
-pub mod Grouped
 -- reports
 pub mod Report
+pub mod ReportParts
 pub mod Reports
 pub mod ReportLaws
-pub mod Reported
+-- groups and reports, from line to line
+pub mod Ended
 -- how a run ends
 pub mod Stopped
+pub mod Sent
 pub mod RunError

@@ -1,48 +1,75 @@
 //! The reports on the groups that lines make.
-ghost use Rattle.std.specs.Prelude.{◌≡◌, ◌++◌, [], OnOk, string_bytes, codes};
-ghost use Rattle.litrs_lines.specs.Grouped.{closed_by, held_by, unless_held};
-ghost use Rattle.litrs_lines.specs.Reported.{reports_of};
+ghost use Rattle.std.specs.Prelude.{◌≡◌, ◌≢◌, ◌↔◌, ◌++◌, ◌∷◌, [], ℕ, List, true, false, OnOk, OnErr, IsErrOf, string_bytes, codes};
+ghost use Rattle.litrs_lines.specs.Ended.{unless_held, AreEndedReports};
+ghost use Rattle.litrs_lines.specs.Reports.{AreReports};
+ghost use Rattle.litrs_lines.specs.Sent.{SendsReports, StopsReports};
 
+use crate::RunError;
+use crate::device::Output;
 use crate::report::{report_literal, report_refusal};
 use litrs_collector::{Collector, Step};
 use std::alloc::AllocError;
 use std::{mem, str};
 
-/// Takes a line, and adds the reports on the groups that end with it, with an LF after each.
-pub(crate) fn take_line(
+/// Takes a line, and adds the reports on the groups that end with it, with an LF after each. Where
+/// one is long, the reports up to then are written.
+pub(crate) fn take_line<O: Output>(
     collector: &mut Collector,
     reports: &mut String,
+    writer: &mut O,
     line: &[u8],
-) -> Result<(), AllocError>
-    ensures held { OnOk result (collector.new ≡ held_by collector.old line.now) }
-    ensures reports { OnOk result (string_bytes reports.new
-        ≡ string_bytes reports.old ++ reports_of (closed_by collector.old line.now)) }
+) -> Result<(), RunError>
+    requires works { O.has_failed writer.old ≡ false }
+    ensures ok { OnOk result (SendsReports
+        (AreEndedReports collector.old (line.now ∷ []) collector.new)
+        (O.contents writer.old) (string_bytes reports.old)
+        (O.contents writer.new) (string_bytes reports.new)) }
+    ensures err { OnErr result ((left : List ℕ) × StopsReports
+        (AreEndedReports collector.old (line.now ∷ []) left)
+        (O.contents writer.old) (string_bytes reports.old) (O.contents writer.new)) }
+    ensures works { OnOk result (O.has_failed writer.new ≡ false) }
+    ensures read { result ≢ Err RunError.Read }
+    ensures write { IsErrOf result RunError.Write ↔ (O.has_failed writer.new ≡ true) }
 {
     match str::from_utf8(line) {
-        Ok(text) => take_text(collector, reports, text),
-        Err(_) => report_no_text(collector, reports),
+        Ok(text) => take_text(collector, reports, writer, text),
+        Err(_) => Ok(report_no_text(collector, reports)?),
     }
 }
 
 /// The same for a line that is a text.
-fn take_text(collector: &mut Collector, reports: &mut String, line: &str) -> Result<(), AllocError>
-    ensures held { OnOk result (collector.new ≡ held_by collector.old line.now) }
-    ensures reports { OnOk result (string_bytes reports.new
-        ≡ string_bytes reports.old ++ reports_of (closed_by collector.old line.now)) }
+fn take_text<O: Output>(
+    collector: &mut Collector,
+    reports: &mut String,
+    writer: &mut O,
+    line: &str,
+) -> Result<(), RunError>
+    requires works { O.has_failed writer.old ≡ false }
+    ensures ok { OnOk result (SendsReports
+        (AreEndedReports collector.old (line.now ∷ []) collector.new)
+        (O.contents writer.old) (string_bytes reports.old)
+        (O.contents writer.new) (string_bytes reports.new)) }
+    ensures err { OnErr result ((left : List ℕ) × StopsReports
+        (AreEndedReports collector.old (line.now ∷ []) left)
+        (O.contents writer.old) (string_bytes reports.old) (O.contents writer.new)) }
+    ensures works { OnOk result (O.has_failed writer.new ≡ false) }
+    ensures read { result ≢ Err RunError.Read }
+    ensures write { IsErrOf result RunError.Write ↔ (O.has_failed writer.new ≡ true) }
 {
     match collector.feed(line)? {
         Step::More => Ok(()),
-        Step::Literal(lit) => report_literal(reports, &lit),
-        Step::Refused(e) => report_refusal(reports, &e),
+        Step::Literal(lit) => report_literal(reports, writer, &lit),
+        Step::Refused(e) => Ok(report_refusal(reports, &e)?),
     }
 }
 
 /// The same for a line that is no text.
 fn report_no_text(collector: &mut Collector, reports: &mut String) -> Result<(), AllocError>
     ensures held { OnOk result (collector.new ≡ []) }
-    ensures reports { OnOk result (string_bytes reports.new
-        ≡ (string_bytes reports.old ++ reports_of (unless_held collector.old))
-        ++ codes "error input is not UTF-8\n") }
+    ensures reports { OnOk result ((out : List ℕ)
+        × AreReports (unless_held collector.old) out
+        × (string_bytes reports.new
+        ≡ (string_bytes reports.old ++ out) ++ codes "error input is not UTF-8\n")) }
 {
     report_held(collector, reports)?;
     reports.push_str("error input is not UTF-8\n")
@@ -51,8 +78,9 @@ fn report_no_text(collector: &mut Collector, reports: &mut String) -> Result<(),
 /// Adds the report on the lines that are held, where there are some. Then none is held.
 pub(crate) fn report_held(collector: &mut Collector, reports: &mut String) -> Result<(), AllocError>
     ensures held { OnOk result (collector.new ≡ []) }
-    ensures reports { OnOk result (string_bytes reports.new
-        ≡ string_bytes reports.old ++ reports_of (unless_held collector.old)) }
+    ensures reports { OnOk result ((out : List ℕ)
+        × AreReports (unless_held collector.old) out
+        × (string_bytes reports.new ≡ string_bytes reports.old ++ out)) }
 {
     let alloc = *reports.allocator();
     match mem::replace(collector, Collector::new(alloc)).finish() {

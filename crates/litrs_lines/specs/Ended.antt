@@ -1,0 +1,58 @@
+-- The groups that end with lines, as they are found from line to line, and the reports on them. A
+-- text is held before the lines and after them: it is lines that are unfinished, with an LF after
+-- each, or it is empty.
+use Rattle.std.specs.Prelude.{◌≡◌, ◌⊎◌, ℕ, List, [], ◌∷◌, ◌++◌}
+use Rattle.std.specs.Str.{IsUtf8}
+use Rattle.litrs_base.specs.Characters.{line_feed}
+use Rattle.litrs_grammar.specs.Quoted.{without_last}
+use Rattle.litrs_collector.specs.Steps.{IsUnfinished}
+use Rattle.litrs_lines.specs.Groups.{IsNoText, IsFinished}
+use Rattle.litrs_lines.specs.Reports.{AreReports}
+
+-- the text of the group that is held, where there is one
+abbrev pub unless_held : List ℕ → List (List ℕ)
+unless_held [] = []
+unless_held (b ∷ held) = without_last (b ∷ held) ∷ []
+
+-- The line adds to the group that is held: no group ends, and the line is held too.
+abbrev pub AddsToGroup : (held line : List ℕ) (texts : List (List ℕ)) (left : List ℕ) → Type 0
+AddsToGroup held line texts left =
+    IsUtf8 line × IsUnfinished (held ++ line) × (texts ≡ [])
+    × (left ≡ (held ++ line) ++ line_feed ∷ [])
+
+-- The line finishes the group that is held, or is one by itself: this group ends.
+abbrev pub FinishesGroup : (held line : List ℕ) (texts : List (List ℕ)) (left : List ℕ) → Type 0
+FinishesGroup held line texts left =
+    IsUtf8 line × IsFinished (held ++ line) × (texts ≡ (held ++ line) ∷ []) × (left ≡ [])
+
+-- The line is no text: the group that is held ends, and the line is a group by itself.
+abbrev pub StandsAlone : (held line : List ℕ) (texts : List (List ℕ)) (left : List ℕ) → Type 0
+StandsAlone held line texts left =
+    IsNoText line × (texts ≡ unless_held held ++ line ∷ []) × (left ≡ [])
+
+-- the groups that end with this line have these texts, and left is held after it
+abbrev pub LineEnds : (held line : List ℕ) (texts : List (List ℕ)) (left : List ℕ) → Type 0
+LineEnds held line texts left =
+    AddsToGroup held line texts left
+    ⊎ (FinishesGroup held line texts left ⊎ StandsAlone held line texts left)
+
+-- the same of lines, one after the other
+abbrev pub LinesEnd :
+    (held : List ℕ) (lines texts : List (List ℕ)) (left : List ℕ) → Type 0
+LinesEnd held [] texts left = (texts ≡ []) × (left ≡ held)
+LinesEnd held (line ∷ lines) texts left =
+    (first : List (List ℕ)) × (between : List ℕ) × (rest : List (List ℕ))
+    × LineEnds held line first between × LinesEnd between lines rest left
+    × (texts ≡ first ++ rest)
+
+-- out is a report on each group that ends with these lines
+abbrev pub AreEndedReports : (held : List ℕ) (lines : List (List ℕ)) (left out : List ℕ) → Type 0
+AreEndedReports held lines left out =
+    (texts : List (List ℕ)) × LinesEnd held lines texts left × AreReports texts out
+
+-- out is the same and a report on the group that is then held, as no line follows
+abbrev pub AreLastReports : (held : List ℕ) (lines : List (List ℕ)) (out : List ℕ) → Type 0
+AreLastReports held lines out =
+    (left : List ℕ) × (ended : List ℕ) × (last : List ℕ)
+    × AreEndedReports held lines left ended × AreReports (unless_held left) last
+    × (out ≡ ended ++ last)
