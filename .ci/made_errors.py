@@ -15,10 +15,7 @@ import pathlib
 import re
 import sys
 
-# Programs that only test the others.
-TEST_CRATES = {"litrs_vectors"}
-
-# The lines that map one of these to another, each of which stands once in its file.
+# The lines that map, compare or declare one of these, each of which stands once in its file.
 OUT_OF_MEMORY = "Err(_) => Err(ParseError::new(None, ParseErrorKind::OutOfMemory)),"
 MAPPED = {
     ("crates/litrs_lex/src/string.rt", OUT_OF_MEMORY),
@@ -26,6 +23,19 @@ MAPPED = {
     ("crates/litrs_collector/src/lib.rt", "ParseErrorKind::OutOfMemory => Err(AllocError),"),
     ("crates/litrs_token/src/from_token.rt", "ParseErrorKind::OutOfMemory => Err(AllocError),"),
     ("crates/litrs_token/src/one_kind.rt", "ParseErrorKind::OutOfMemory => TokenError::Memory,"),
+    # The program of rows, which ends where memory of its own was refused.
+    ("crates/litrs_vectors/src/main.rt", "Err(RowError::OutOfMemory) => return Err(AllocError),"),
+    (
+        "crates/litrs_vectors/src/parses.rt",
+        "None => Err(ParseError::new(None, ParseErrorKind::OutOfMemory)),",
+    ),
+    (
+        "crates/litrs_vectors/src/parses.rt",
+        "Err(e) => e.kind() == ParseErrorKind::OutOfMemory,",
+    ),
+    ("crates/litrs_vectors/src/rows.rt", "OutOfMemory,"),
+    ("crates/litrs_vectors/src/tokens.rt", "Err(IdentError::Memory) => true,"),
+    ("crates/litrs_vectors/src/trial.rt", "refusal: Option<AllocError>,"),
 }
 
 # The lines that ask for memory by a number of bytes, and how often each stands in its file. The
@@ -50,6 +60,9 @@ RESERVED = {
     ("crates/litrs_collector/src/lib.rt", "held.reserve(line.len() + 1)?;"): 1,
     # The caller gives the room.
     ("crates/litrs_lines/src/mem_output.rt", "bytes: Vec::with_capacity(alloc, room)?,"): 1,
+    # `LONGEST` is the length of the longest text that the program of rows tries so.
+    ("crates/litrs_vectors/src/calls.rt", "_ => container.reserve(LONGEST),"): 1,
+    ("crates/litrs_vectors/src/prefixes.rt", "trial.own(longer.reserve(2 * LONGEST));"): 1,
 }
 RESERVES = (
     r"(?<!fn )\b(try_)?(reserve(_exact)?|(with_capacity|resize|repeat|from_elem|new_zeroed)\w*)\("
@@ -101,7 +114,7 @@ def main():
     mapped = set()
     reserved = collections.Counter()
     for path in sorted(pathlib.Path("crates").glob("*/src/**/*.rt")):
-        if path.parts[1] in TEST_CRATES or is_test_file(path):
+        if is_test_file(path):
             continue
         for number, line in code_lines(path.read_text()):
             place = (path.as_posix(), line.strip())

@@ -20,7 +20,7 @@ use Rattle.std.proofs.Common.{eqb-true, ltb, cond, add-one, get_or, take-append-
 use Rattle.std.proofs.lemmas.List.{get_or-take, take_rest}
 use Rattle.litrs_lines.specs.Ended.{AreEndedReports, AreLastReports}
 use Rattle.litrs_lines.specs.Reports.{AppendsReports}
-use Rattle.litrs_lines.proofs.GroupReports.{group_reports, last_reports, have_ended_reports, have_last_reports, ended-none, ended-append, last-append, Adds, adds-none, adds-append}
+use Rattle.litrs_lines.proofs.GroupReports.{group_reports, last_reports, ended-none, ended-append, last-append, Adds, adds-none, adds-append}
 use Rattle.litrs_lines.specs.Lines.{is_line_feed, HasNoLineFeed, before_last_part, last_part, ended_parts, open_part, unless_empty, without_return, ended_parts_of, ended_lines, open_line, lines_of}
 
 -- the first part of a split, and those after it
@@ -288,6 +288,10 @@ OnOk-map (Err e) f p = tt
 pub OnOk-both : {T E P Q R : Type 0} (r : Result T E) → (P → Q → R) → OnOk r P → OnOk r Q → OnOk r R
 OnOk-both (Ok x) f p q = f p q
 OnOk-both (Err e) f p q = tt
+
+pub OnErr-holds : {T E P : Type 0} (r : Result T E) → P → OnErr r P
+OnErr-holds (Ok x) p = tt
+OnErr-holds (Err e) p = p
 
 pub OnErr-map : {T E P Q : Type 0} (r : Result T E) → (P → Q) → OnErr r P → OnErr r Q
 OnErr-map (Ok x) f p = tt

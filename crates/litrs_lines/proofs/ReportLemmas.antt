@@ -1,17 +1,15 @@
 -- The reports of texts, by their derivations or refusals: each text has one, and no two.
-use Rattle.std.proofs.Common.{◌≡◌, ◌⊎◌, inl, inr, ℕ, ◌+◌, ◌<◌, length, get_or, take, List, [], ◌∷◌, ◌++◌, refl, sym, ap, subst, ◌∙◌, append_assoc, append-nil, Bool, true, false, Option, Some}
+use Rattle.std.proofs.Common.{◌≡◌, inl, inr, ℕ, ◌+◌, ◌<◌, length, get_or, take, List, [], ◌∷◌, ◌++◌, refl, sym, ap, subst, ◌∙◌, append_assoc, append-nil, Bool, true, false, Option, Some}
 use Rattle.std.specs.Prelude.{codes, decimal, Result, Ok, Err, OnOk, is_ok, if◌then◌else◌}
 use Rattle.std.specs.Str.{chars, is_utf8, IsUtf8, encode_utf8_all}
 use Rattle.std.proofs.lemmas.Str.{encodes-chars, is_utf8-from_IsUtf8, IsUtf8-from_is_utf8}
 use Rattle.std.proofs.lemmas.Grind.{flat_map-append}
 use Rattle.std.proofs.lemmas.List.{take_more}
 use Rattle.litrs_base.specs.Base.{base_value}
-use Rattle.litrs_base.specs.Refusal.{Refusal}
 use Rattle.litrs_grammar.specs.Integer.{IntegerParts, integer_value}
 use Rattle.litrs_grammar.specs.CharByte.{CharParts, char_value}
 use Rattle.litrs_grammar.specs.Float.{FloatParts}
-use Rattle.litrs_grammar.specs.Literal.{StringParts, string_suffix, string_value, Derivation, a_bool, an_integer, a_float, a_char, a_byte, a_string, a_byte_string, a_c_string, IsLiteral, literal_parse}
-use Rattle.litrs_grammar.specs.LiteralRefusals.{IsRefusal}
+use Rattle.litrs_grammar.specs.Literal.{StringParts, string_suffix, string_value, an_integer, a_float, literal_parse}
 use Rattle.litrs_grammar.specs.Strings.{is_raw}
 use Rattle.litrs_grammar.proofs.LiteralLaws.{literals_are_unique, literals_are_not_refused, refusals_are_unique, texts_are_decided}
 use Rattle.litrs_lines.specs.Report.{value_text, integer_front, fraction_field, float_report, char_report, raw_field, hex_byte, hex_bytes, string_front, string_report, literal_report, refusal_report, IsTextReport, IsReport}

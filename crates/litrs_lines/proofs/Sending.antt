@@ -72,9 +72,9 @@ pub sends_piece : (a b c : Option (List ℕ)) (p q r bytes rest rest_new : List 
 sends_piece a b c p q r bytes rest rest_new n so_far more writes is_new = record {
   front = so_far.front ++ take n rest;
   is = so_far.is ∙ ap (λ l. so_far.front ++ l) (sym (take-append-drop n rest)) ∙ sym (append_assoc so_far.front (take n rest) (drop n rest))
-    ∙ ap (λ l. (so_far.front ++ take n rest) ++ l) (sym is_new);
+      ∙ ap (λ l. (so_far.front ++ take n rest) ++ l) (sym is_new);
   sends = subst (Sends a p c []) (ap (λ l. hex_bytes so_far.front ++ l) (append-nil (hex_bytes (take n rest))) ∙ sym (hex_bytes-append so_far.front (take n rest)))
-    (sends_more a b c p q [] _ _ so_far.sends (sends_more b b c q r [] _ _ (adds b q r (hex_bytes (take n rest)) more) (writes_all b c r writes)));
+      (sends_more a b c p q [] _ _ so_far.sends (sends_more b b c q r [] _ _ (adds b q r (hex_bytes (take n rest)) more) (writes_all b c r writes)));
 }
 
 -- the last piece is added

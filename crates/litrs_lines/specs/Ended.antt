@@ -1,6 +1,6 @@
--- The groups that end with lines, as they are found from line to line, and the reports on them. A
--- text is held before the lines and after them: it is lines that are unfinished, with an LF after
--- each, or it is empty.
+-- The groups that end with some lines, as they are found from line to line, and the reports on
+-- them. What is held before the lines and left after them is empty, or lines that are unfinished,
+-- with an LF after each: a group that goes on.
 use Rattle.std.specs.Prelude.{◌≡◌, ◌⊎◌, ℕ, List, [], ◌∷◌, ◌++◌}
 use Rattle.std.specs.Str.{IsUtf8}
 use Rattle.litrs_base.specs.Characters.{line_feed}
@@ -9,18 +9,18 @@ use Rattle.litrs_collector.specs.Steps.{IsUnfinished}
 use Rattle.litrs_lines.specs.Groups.{IsNoText, IsFinished}
 use Rattle.litrs_lines.specs.Reports.{AreReports}
 
--- the text of the group that is held, where there is one
+-- the text of the group that is held, where there is one: without the LF after its last line
 abbrev pub unless_held : List ℕ → List (List ℕ)
 unless_held [] = []
 unless_held (b ∷ held) = without_last (b ∷ held) ∷ []
 
--- The line adds to the group that is held: no group ends, and the line is held too.
+-- The line adds to the group that is held, or begins one: none ends, and the line is held.
 abbrev pub AddsToGroup : (held line : List ℕ) (texts : List (List ℕ)) (left : List ℕ) → Type 0
 AddsToGroup held line texts left =
     IsUtf8 line × IsUnfinished (held ++ line) × (texts ≡ [])
     × (left ≡ (held ++ line) ++ line_feed ∷ [])
 
--- The line finishes the group that is held, or is one by itself: this group ends.
+-- The line finishes the group that is held, or is one by itself: that group ends.
 abbrev pub FinishesGroup : (held line : List ℕ) (texts : List (List ℕ)) (left : List ℕ) → Type 0
 FinishesGroup held line texts left =
     IsUtf8 line × IsFinished (held ++ line) × (texts ≡ (held ++ line) ∷ []) × (left ≡ [])
@@ -45,12 +45,12 @@ LinesEnd held (line ∷ lines) texts left =
     × LineEnds held line first between × LinesEnd between lines rest left
     × (texts ≡ first ++ rest)
 
--- out is a report on each group that ends with these lines
+-- out is a report on each group that ends with these lines, and left is held after them
 abbrev pub AreEndedReports : (held : List ℕ) (lines : List (List ℕ)) (left out : List ℕ) → Type 0
 AreEndedReports held lines left out =
     (texts : List (List ℕ)) × LinesEnd held lines texts left × AreReports texts out
 
--- out is the same and a report on the group that is then held, as no line follows
+-- out is those reports, and one on the group that is held after the lines: no line follows
 abbrev pub AreLastReports : (held : List ℕ) (lines : List (List ℕ)) (out : List ℕ) → Type 0
 AreLastReports held lines out =
     (left : List ℕ) × (ended : List ℕ) × (last : List ℕ)

@@ -1,6 +1,6 @@
 //! Calls that allocate, on texts of each length around the constants of the code: each succeeds
 //! while there is memory. What they answer then is in their contracts.
-use litrs::{Literal, Text};
+use litrs::{Literal, ParseError, Text};
 use litrs_lines::{Input, MemInput, MemOutput, run};
 use litrs_token::{FromToken, Ident, Span};
 use std::alloc::{AllocError, Global};
@@ -48,7 +48,12 @@ pub(crate) fn repeated(
 
 /// Whether the literal of a text is copied and printed.
 fn is_copied<B: Text>(alloc: Global, text: B) -> bool {
-    match &Literal::parse(alloc, text) {
+    let answer = Literal::parse(alloc, text);
+    is_copied_answer(alloc, &answer)
+}
+
+fn is_copied_answer<B: Text>(alloc: Global, answer: &Result<Literal<B>, ParseError>) -> bool {
+    match answer {
         Ok(lit) => lit.clone(alloc).is_ok() && lit.to_string(alloc).is_ok(),
         Err(_) => false,
     }

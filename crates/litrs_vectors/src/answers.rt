@@ -1,6 +1,7 @@
 //! Literals and refusals as the table writes them.
 use litrs::{FloatLit, IntegerLit, Literal, ParseError, Text};
 use std::alloc::{AllocError, Global};
+use std::fmt::Display;
 use std::ops::Range;
 
 /// The kind of a literal.
@@ -35,72 +36,120 @@ pub fn is_escaped<B: Text>(lit: &Literal<B>) -> bool {
     }
 }
 
-/// The fields of a literal, by its accessors.
-pub fn literal_fields<B: Text>(alloc: Global, lit: &Literal<B>) -> Result<Vec<u8>, AllocError> {
-    let suffix = lit.suffix();
-    let kind = kind_of(lit);
-    let parts = match lit {
-        Literal::Bool(lit) => format!(in alloc; "{}", lit.value())?,
-        Literal::Integer(lit) => integer_fields(alloc, lit)?,
-        Literal::Float(lit) => float_fields(alloc, lit)?,
-        Literal::Char(lit) => format!(in alloc; "{:x}", u32::from(lit.value()))?,
-        Literal::Byte(lit) => format!(in alloc; "{:x}", lit.value())?,
-        Literal::String(_) | Literal::ByteString(_) | Literal::CString(_) => String::new(alloc),
-    };
-    let fields = format!(in alloc; "{kind}\t{suffix}\t{parts}")?;
-    let mut fields = fields.into_bytes();
-    if let Some((is_raw, value)) = value_of(lit) {
-        let body = match (is_raw, is_escaped(lit)) {
-            (true, _) => "raw\t",
-            (false, true) => "escaped\t",
-            (false, false) => "plain\t",
-        };
-        fields.extend_from_slice(body.as_bytes())?;
-        fields.extend_from_slice(value)?;
-    }
-    Ok(fields)
-}
-
-fn integer_fields<B: Text>(alloc: Global, lit: &IntegerLit<B>) -> Result<String, AllocError> {
-    let base = lit.base().value();
-    let main = lit.raw_main_part();
-    match lit.value::<u128>() {
-        Some(value) => format!(in alloc; "{base}\t{main}\t{value}"),
-        None => format!(in alloc; "{base}\t{main}\tnone"),
-    }
-}
-
-fn float_fields<B: Text>(alloc: Global, lit: &FloatLit<B>) -> Result<String, AllocError> {
-    let number = lit.number_part();
-    let integer = lit.integer_part();
-    let fraction = lit.fractional_part().unwrap_or("-");
-    let exponent = lit.exponent_part();
-    format!(in alloc; "{number}\t{integer}\t{fraction}\t{exponent}")
-}
-
-/// The fields of a refusal, with what is printed of it or without.
-pub fn refusal_fields(
+/// Adds the fields of a literal, by its accessors.
+pub fn push_fields<B: Text>(
     alloc: Global,
-    error: &ParseError,
-    printed: bool,
-) -> Result<String, AllocError> {
-    let kind = error.kind();
-    let span = span_field(alloc, error.span())?;
-    let char_span = span_field(alloc, error.char_span())?;
-    if printed {
-        format!(in alloc; "refused\t{kind:?}\t{span}\t{char_span}\t{error}")
-    } else {
-        format!(in alloc; "refused\t{kind:?}\t{span}\t{char_span}")
+    fields: &mut Vec<u8>,
+    lit: &Literal<B>,
+) -> Result<(), AllocError> {
+    push_field(fields, kind_of(lit))?;
+    push_field(fields, lit.suffix())?;
+    push_parts(alloc, fields, lit)
+}
+
+/// Adds a text and a tab.
+fn push_field(fields: &mut Vec<u8>, text: &str) -> Result<(), AllocError> {
+    fields.extend_from_slice(text.as_bytes())?;
+    fields.extend_from_slice(b"\t")
+}
+
+/// Adds what is printed of a value.
+fn push_printed<D: Display>(
+    alloc: Global,
+    fields: &mut Vec<u8>,
+    value: &D,
+) -> Result<(), AllocError> {
+    let printed = value.to_string(alloc)?;
+    fields.extend_from_slice(printed.as_bytes())
+}
+
+/// Adds a number in hex.
+fn push_hex(alloc: Global, fields: &mut Vec<u8>, value: u32) -> Result<(), AllocError> {
+    let printed = format!(in alloc; "{value:x}")?;
+    fields.extend_from_slice(printed.as_bytes())
+}
+
+/// Adds the fields of a kind.
+fn push_parts<B: Text>(
+    alloc: Global,
+    fields: &mut Vec<u8>,
+    lit: &Literal<B>,
+) -> Result<(), AllocError> {
+    match lit {
+        Literal::Bool(lit) => push_printed(alloc, fields, &lit.value()),
+        Literal::Integer(lit) => push_integer(alloc, fields, lit),
+        Literal::Float(lit) => push_float(fields, lit),
+        Literal::Char(lit) => push_hex(alloc, fields, u32::from(lit.value())),
+        Literal::Byte(lit) => push_hex(alloc, fields, u32::from(lit.value())),
+        Literal::String(_) | Literal::ByteString(_) | Literal::CString(_) => {
+            push_string(fields, lit)
+        }
     }
 }
 
-fn span_field(alloc: Global, span: Option<Range<usize>>) -> Result<String, AllocError> {
-    match span {
-        Some(span) => {
-            let start = span.start;
-            let end = span.end;
-            format!(in alloc; "{start}..{end}")
-        }
-        None => String::from_str(alloc, "-"),
+fn push_integer<B: Text>(
+    alloc: Global,
+    fields: &mut Vec<u8>,
+    lit: &IntegerLit<B>,
+) -> Result<(), AllocError> {
+    push_printed(alloc, fields, &lit.base().value())?;
+    push_field(fields, "")?;
+    push_field(fields, lit.raw_main_part())?;
+    match lit.value::<u128>() {
+        Some(value) => push_printed(alloc, fields, &value),
+        None => fields.extend_from_slice(b"none"),
     }
+}
+
+fn push_float<B: Text>(fields: &mut Vec<u8>, lit: &FloatLit<B>) -> Result<(), AllocError> {
+    push_field(fields, lit.number_part())?;
+    push_field(fields, lit.integer_part())?;
+    push_field(fields, lit.fractional_part().unwrap_or("-"))?;
+    fields.extend_from_slice(lit.exponent_part().as_bytes())
+}
+
+fn push_string<B: Text>(fields: &mut Vec<u8>, lit: &Literal<B>) -> Result<(), AllocError> {
+    let Some((is_raw, value)) = value_of(lit) else {
+        return Ok(());
+    };
+    let body = match (is_raw, is_escaped(lit)) {
+        (true, _) => "raw",
+        (false, true) => "escaped",
+        (false, false) => "plain",
+    };
+    push_field(fields, body)?;
+    fields.extend_from_slice(value)
+}
+
+/// The name of the kind of a refusal.
+pub fn kind_name(alloc: Global, error: &ParseError) -> Result<String, AllocError> {
+    let kind = error.kind();
+    format!(in alloc; "{kind:?}")
+}
+
+/// Adds the fields of a refusal of a kind of this name, without what is printed of it.
+pub fn push_refusal(
+    alloc: Global,
+    fields: &mut Vec<u8>,
+    kind: &str,
+    error: &ParseError,
+) -> Result<(), AllocError> {
+    push_field(fields, "refused")?;
+    push_field(fields, kind)?;
+    push_span(alloc, fields, error.span())?;
+    push_field(fields, "")?;
+    push_span(alloc, fields, error.char_span())
+}
+
+fn push_span(
+    alloc: Global,
+    fields: &mut Vec<u8>,
+    span: Option<Range<usize>>,
+) -> Result<(), AllocError> {
+    let Some(span) = span else {
+        return fields.extend_from_slice(b"-");
+    };
+    push_printed(alloc, fields, &span.start)?;
+    fields.extend_from_slice(b"..")?;
+    push_printed(alloc, fields, &span.end)
 }

@@ -8,9 +8,9 @@ use litrs::{BoolLit, Literal, ParseError};
 use litrs_base::Unescape;
 use litrs_collector::{Collector, Step};
 use litrs_lex::{EscapeContainer, unescape_string};
-use litrs_lines::{MemInput, MemOutput, RunError, run};
+use litrs_lines::{MemInput, MemOutput, Output, run};
 use litrs_token::{InvalidToken, TokenTree};
-use std::alloc::{AllocError, Global};
+use std::alloc::AllocError;
 use std::convert::AsSlice;
 
 /// The longest text that is tried here.
@@ -45,48 +45,63 @@ pub fn try_literal(trial: &mut Trial, lit: &Literal<&str>) {
     }
 }
 
-/// The value of a quoted body with a backslash, and the place where its suffix begins.
-type Unescaped = (Option<Vec<u8>>, usize);
-
-/// What unescapes the body of a quoted string of this kind.
-fn unescaped(alloc: Global, lit: &Literal<&str>) -> Result<Unescaped, ParseError> {
-    let text = lit.raw_input();
-    match lit {
-        Literal::ByteString(_) if text.is_char_boundary(2) => {
-            unescape_string::<Vec<u8>>(alloc, text, 2, false, true, true)
-        }
-        Literal::CString(_) if text.is_char_boundary(2) => {
-            unescape_string::<Vec<u8>>(alloc, text, 2, true, true, false)
-        }
-        _ if text.is_char_boundary(1) => {
-            let (value, start) = unescape_string::<String>(alloc, text, 1, true, false, true)?;
-            match value {
-                Some(value) => Ok((Some(value.into_bytes()), start)),
-                None => Ok((None, start)),
-            }
-        }
-        _ => Ok((None, 0)),
-    }
-}
-
 /// Tries what unescapes the body of a quoted string.
 fn try_unescaped(trial: &mut Trial, lit: &Literal<&str>) {
     trial.at = ("litrs_lex", "&str");
-    let holds = match &again!(trial, "unescape_string", unescaped(trial.alloc, lit)) {
-        Ok((value, start)) => {
-            has_value(lit, value) && lit.raw_input().get(*start..) == Some(lit.suffix())
+    again!(trial, "unescape_string", is_unescape_refused(trial, lit));
+}
+
+/// Unescapes the body of a quoted string of any kind, and tries that. Whether it was refused.
+fn is_unescape_refused(trial: &mut Trial, lit: &Literal<&str>) -> bool {
+    let text = lit.raw_input();
+    match lit {
+        Literal::ByteString(_) if text.is_char_boundary(2) => {
+            let read = unescape_string::<Vec<u8>>(trial.alloc, text, 2, false, true, true);
+            is_value_refused(trial, lit, read)
         }
-        Err(_) => false,
-    };
-    trial.check(holds, "has another unescaped body");
+        Literal::CString(_) if text.is_char_boundary(2) => {
+            let read = unescape_string::<Vec<u8>>(trial.alloc, text, 2, true, true, false);
+            is_value_refused(trial, lit, read)
+        }
+        _ if text.is_char_boundary(1) => {
+            let read = unescape_string::<String>(trial.alloc, text, 1, true, false, true);
+            is_value_refused(trial, lit, read)
+        }
+        _ => true,
+    }
+}
+
+/// Tries the value of a quoted body with a backslash, and the place where its suffix begins.
+/// Whether memory was refused.
+fn is_value_refused<C: Drop + AsSlice<u8>>(
+    trial: &mut Trial,
+    lit: &Literal<&str>,
+    read: Result<(Option<C>, usize), ParseError>,
+) -> bool {
+    match &read {
+        Ok((value, start)) => {
+            let is_followed = lit.raw_input().get(*start..) == Some(lit.suffix());
+            let holds = is_followed && has_value(lit, value);
+            trial.check(holds, "has another unescaped body");
+            false
+        }
+        Err(_) => true,
+    }
 }
 
 /// Whether this is the value of a quoted string with a backslash, or none without one.
-fn has_value(lit: &Literal<&str>, found: &Option<Vec<u8>>) -> bool {
-    match (found, value_of(lit)) {
-        (Some(found), Some((_, value))) => is_escaped(lit) && found.as_slice() == value,
-        (None, _) => !is_escaped(lit),
-        _ => false,
+fn has_value<C: AsSlice<u8>>(lit: &Literal<&str>, found: &Option<C>) -> bool {
+    match found {
+        Some(found) => is_escaped(lit) && is_value(lit, found.as_slice()),
+        None => !is_escaped(lit),
+    }
+}
+
+/// Whether this is the value of a string.
+fn is_value(lit: &Literal<&str>, found: &[u8]) -> bool {
+    match value_of(lit) {
+        Some((_, value)) => found == value,
+        None => false,
     }
 }
 
@@ -106,23 +121,45 @@ fn add<C: EscapeContainer>(container: &mut C, call: &str, text: &str) -> Result<
 /// Tries a container: one call after the other.
 fn try_container<C: EscapeContainer + AsSlice<u8>>(trial: &mut Trial, text: &str) {
     let whole = format!(in trial.alloc; "{text}é{text}");
-    let Some(whole) = trial.own(whole) else {
-        return;
-    };
-    let whole = whole.as_bytes();
-    let mut container = C::new(trial.alloc);
-    let mut len = 0;
+    if let Some(whole) = trial.own(whole) {
+        try_adding(trial, &mut C::new(trial.alloc), text, whole.as_bytes());
+    }
+}
+
+/// Tries each call in turn, which make these bytes.
+fn try_adding<C: EscapeContainer + AsSlice<u8>>(
+    trial: &mut Trial,
+    container: &mut C,
+    text: &str,
+    whole: &[u8],
+) {
     for call in ADDING {
-        let answer = again!(
-            trial,
-            call,
-            add(&mut container, call, text),
-            container.as_slice().len() == len && whole.starts_with(container.as_slice())
-        );
-        trial.own(answer);
-        len = container.as_slice().len();
+        try_add(trial, container, call, text, whole);
     }
     trial.check(container.as_slice() == whole, "has other contents");
+}
+
+/// Tries the call of this name, after which the container has more of these bytes.
+fn try_add<C: EscapeContainer + AsSlice<u8>>(
+    trial: &mut Trial,
+    container: &mut C,
+    call: &str,
+    text: &str,
+    whole: &[u8],
+) {
+    let len = container.as_slice().len();
+    again!(
+        trial,
+        call,
+        add(container, call, text).is_err(),
+        has_bytes(container, len, whole)
+    );
+}
+
+/// Whether a container has so many of these bytes.
+fn has_bytes<C: AsSlice<u8>>(container: &C, len: usize, whole: &[u8]) -> bool {
+    let bytes = container.as_slice();
+    bytes.len() == len && whole.starts_with(bytes)
 }
 
 /// Tries the report on a text that is the only line of an input. `begins` is how it begins.
@@ -130,14 +167,38 @@ pub fn try_run(trial: &mut Trial, text: &str, begins: &str) {
     if text.is_empty() || text.len() > LONGEST || text.contains('\n') {
         return;
     }
-    match again!(trial, "run", report_of(trial, text)) {
-        Ok(output) => {
-            let report = output.bytes();
-            let holds = report.starts_with(begins.as_bytes()) && report.last() == Some(&b'\n');
-            trial.check(holds, "has another report");
-        }
-        Err(_) => trial.check(false, "has no report"),
+    again!(trial, "run", is_run_refused(trial, text, begins));
+}
+
+/// Runs over a text that is the only line of an input. Whether that was refused memory.
+fn is_run_refused(trial: &mut Trial, text: &str, begins: &str) -> bool {
+    trial.at = ("MemOutput", "&str");
+    match MemOutput::new(trial.alloc, ROOM, PIECE, None) {
+        Ok(mut output) => is_report_refused(trial, &mut output, text, begins),
+        Err(_) => is_output_refused(trial, text, begins),
     }
+}
+
+/// The same where memory for the output was refused once.
+fn is_output_refused(trial: &mut Trial, text: &str, begins: &str) -> bool {
+    trial.note_refusal("new");
+    match MemOutput::new(trial.alloc, ROOM, PIECE, None) {
+        Ok(mut output) => is_report_refused(trial, &mut output, text, begins),
+        Err(_) => true,
+    }
+}
+
+/// Runs into an output. Whether that was refused memory.
+fn is_report_refused(trial: &mut Trial, output: &mut MemOutput, text: &str, begins: &str) -> bool {
+    trial.at = ("litrs_lines", "&str");
+    let mut input = MemInput::new(text.as_bytes(), PIECE, None);
+    if output.failed() || run(trial.alloc, &mut input, output).is_err() {
+        return true;
+    }
+    let report = output.bytes();
+    let holds = report.starts_with(begins.as_bytes()) && report.last() == Some(&b'\n');
+    trial.check(holds, "has another report");
+    false
 }
 
 /// Tries a collector that is fed the lines of a text: it gives the text as a literal if and only if
@@ -150,53 +211,77 @@ pub fn try_collector(trial: &mut Trial, text: &str, is_literal: bool) {
     let mut collector = Collector::new(trial.alloc);
     let mut is_found = false;
     for line in text.split('\n') {
-        is_found = match &again!(trial, "feed", collector.feed(line)) {
-            Ok(Step::Literal(lit)) => lit.raw_input() == text,
-            _ => false,
-        };
+        is_found = is_fed(trial, &mut collector, line, text);
     }
     let is_held = collector.finish().is_some();
     let holds = is_found == is_literal && !(is_literal && is_held);
     trial.check(holds, "is something else to a collector");
 }
 
-/// The report on a text that is the only line of an input.
-fn report_of(trial: &mut Trial, text: &str) -> Result<MemOutput, RunError> {
-    let alloc = trial.alloc;
-    trial.at = ("MemOutput", "&str");
-    let mut output = again!(trial, "new", MemOutput::new(alloc, ROOM, PIECE, None))?;
-    trial.at = ("litrs_lines", "&str");
-    let mut input = MemInput::new(text.as_bytes(), PIECE, None);
-    run(alloc, &mut input, &mut output)?;
-    Ok(output)
+/// Feeds a line. Whether the lines are then the literal of this text.
+fn is_fed(trial: &mut Trial, collector: &mut Collector, line: &str, text: &str) -> bool {
+    match collector.feed(line) {
+        Ok(step) => is_found(step, text),
+        Err(_) => is_fed_again(trial, collector, line, text),
+    }
+}
+
+/// Feeds a line for which memory was refused once. Whether the lines are then the literal.
+fn is_fed_again(trial: &mut Trial, collector: &mut Collector, line: &str, text: &str) -> bool {
+    trial.note_refusal("feed");
+    match collector.feed(line) {
+        Ok(step) => is_found(step, text),
+        Err(_) => false,
+    }
+}
+
+/// Whether a collector answers the literal of this text.
+fn is_found(step: Step, text: &str) -> bool {
+    match step {
+        Step::Literal(lit) => lit.raw_input() == text,
+        _ => false,
+    }
 }
 
 /// Tries the compile error of a token that is no bool.
 fn try_compile_error(trial: &mut Trial, text: &str) {
-    let token = token_of(trial, text);
-    let Some(token) = trial.own(token) else {
-        return;
-    };
-    match BoolLit::try_from(TokenTree::from(token)) {
-        Ok(_) => trial.check(false, "is a bool"),
-        Err(invalid) => try_invalid(trial, &invalid),
+    if let Some(token) = token_of(trial, text) {
+        match &BoolLit::try_from(TokenTree::from(token)) {
+            Ok(_) => trial.check(false, "is a bool"),
+            Err(invalid) => try_invalid(trial, invalid),
+        }
     }
 }
 
 /// Tries the trees of a compile error: a string of the message is in them.
 fn try_invalid(trial: &mut Trial, invalid: &InvalidToken) {
     trial.at = ("InvalidToken", "&str");
-    let trees = again!(
-        trial,
-        "to_compile_error",
-        invalid.to_compile_error(trial.alloc)
-    );
     let message = invalid.to_string(trial.alloc);
-    if let (Some(trees), Some(message)) = (trial.own(trees), trial.own(message)) {
-        match message_of(trees.as_slice()) {
-            Some(token) => try_value(trial, token, message.as_str()),
-            None => trial.check(false, "has other trees"),
+    if let Some(message) = trial.own(message) {
+        let message = message.as_str();
+        again!(
+            trial,
+            "to_compile_error",
+            are_trees_refused(trial, invalid, message)
+        );
+    }
+}
+
+/// Tries that the string of this message is in them. Whether memory for them was refused.
+fn are_trees_refused(trial: &mut Trial, invalid: &InvalidToken, message: &str) -> bool {
+    match &invalid.to_compile_error(trial.alloc) {
+        Ok(trees) => {
+            try_trees(trial, trees.as_slice(), message);
+            false
         }
+        Err(_) => true,
+    }
+}
+
+fn try_trees(trial: &mut Trial, trees: &[TokenTree], message: &str) {
+    match message_of(trees) {
+        Some(token) => try_value(trial, token, message),
+        None => trial.check(false, "has other trees"),
     }
 }
 
@@ -219,18 +304,31 @@ fn message_of(trees: &[TokenTree]) -> Option<&Token> {
 
 /// Tries that a token is a string of this value.
 fn try_value(trial: &mut Trial, token: &Token, value: &str) {
-    let holds = match &parsed(trial, Parse::String, &token.text()) {
+    let answer = parsed(trial, Parse::String, &token.text());
+    trial.check(is_string(&answer, value), "has another value");
+}
+
+/// Whether a parse answers a string of this value.
+fn is_string(answer: &Result<Literal<&str>, ParseError>, value: &str) -> bool {
+    match answer {
         Ok(Literal::String(lit)) => lit.value() == value,
         _ => false,
-    };
-    trial.check(holds, "has another value");
+    }
 }
 
 /// Tries the token that is a string of this value.
 fn try_string(trial: &mut Trial, value: &str) {
     trial.at = ("litrs_token::Literal", "&str");
-    let token = again!(trial, "string", Token::string(trial.alloc, value));
-    if let Some(token) = trial.own(token) {
-        try_value(trial, &token, value);
+    again!(trial, "string", is_string_refused(trial, value));
+}
+
+/// Tries the token that is a string of this value. Whether memory for it was refused.
+fn is_string_refused(trial: &mut Trial, value: &str) -> bool {
+    match &Token::string(trial.alloc, value) {
+        Ok(token) => {
+            try_value(trial, token, value);
+            false
+        }
+        Err(_) => true,
     }
 }

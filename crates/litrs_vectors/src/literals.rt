@@ -1,11 +1,15 @@
 //! Literals over both buffers, by each accessor, and their copies.
-use crate::answers::{is_escaped, literal_fields, value_of};
-use crate::parses::{Parse, any, buffer_name, each_kind, parsed};
+use crate::answers::{is_escaped, push_fields, value_of};
+use crate::parses::{Parse, buffer_name, each_kind, parsed};
+use crate::prefixes::Whole;
 use crate::rows::Row;
 use crate::trial::{Trial, again};
 use crate::{calls, prefixes, tokens};
-use litrs::{Buffer, CString, FromIntegerLiteral, IntegerLit, Literal, Text};
-use std::alloc::{AllocError, Global};
+use litrs::{
+    Buffer, ByteStringLit, CString, FromIntegerLiteral, IntegerLit, Literal, ParseError, StringLit,
+    Text,
+};
+use std::alloc::AllocError;
 use std::borrow::{CowSlice, CowStr};
 
 /// Tries a literal by the parses of its row, and its prefixes.
@@ -17,19 +21,40 @@ pub fn try_literal(trial: &mut Trial, row: &Row) {
             tokens::try_tokens(trial, *parse, row);
         }
     }
-    match &parsed(trial, Parse::Literal, &text) {
-        Ok(lit) => {
-            calls::try_literal(trial, lit);
-            prefixes::try_prefixes(trial, text, Some(lit));
-        }
+    let answer = parsed(trial, Parse::Literal, &text);
+    match &answer {
+        Ok(lit) => try_whole(trial, lit, text),
         Err(_) => trial.check(false, "is refused"),
     }
+}
+
+/// Tries the calls on a literal, and the prefixes of its text.
+fn try_whole(trial: &mut Trial, lit: &Literal<&str>, text: &str) {
+    calls::try_literal(trial, lit);
+    let value = match value_of(lit) {
+        Some((_, value)) => Some(value),
+        None => None,
+    };
+    let is_literal = true;
+    prefixes::try_prefixes(trial, text, &Whole { is_literal, value });
 }
 
 /// Tries the literal that a parse makes of a text. Whether it makes one.
 fn try_over<B: Buffer>(trial: &mut Trial, parse: Parse, text: &B, row: &Row) -> bool {
     trial.at = (parse.name(), buffer_name::<B>());
-    match &parsed(trial, parse, text) {
+    let answer = parsed(trial, parse, text);
+    try_answer(trial, parse, &answer, text, row)
+}
+
+/// Tries what a parse answers on the text of a literal. Whether that is one.
+fn try_answer<B: Buffer>(
+    trial: &mut Trial,
+    parse: Parse,
+    answer: &Result<Literal<B>, ParseError>,
+    text: &B,
+    row: &Row,
+) -> bool {
+    match answer {
         Ok(lit) => {
             try_parts(trial, lit, row);
             try_copy(trial, parse, lit, text, row);
@@ -47,19 +72,26 @@ fn try_over<B: Buffer>(trial: &mut Trial, parse: Parse, text: &B, row: &Row) -> 
 fn try_parts<B: Text>(trial: &mut Trial, lit: &Literal<B>, row: &Row) {
     let text = row.text.as_str();
     trial.check(lit.raw_input() == text, "has another text");
-    let fields = literal_fields(trial.alloc, lit);
-    if let Some(fields) = trial.own(fields) {
-        trial.check(
-            fields.as_slice() == row.answer.as_slice(),
-            "has other parts",
-        );
+    try_fields(trial, lit, row.answer.as_slice());
+    try_printed(trial, lit, text);
+    if let Literal::Integer(lit) = lit {
+        trial.check(has_values(lit), "has another value at a type");
     }
+}
+
+/// Tries that a literal has these fields.
+fn try_fields<B: Text>(trial: &mut Trial, lit: &Literal<B>, answer: &[u8]) {
+    let mut fields = Vec::new(trial.alloc);
+    let pushed = push_fields(trial.alloc, &mut fields, lit);
+    trial.own(pushed);
+    trial.check(fields.as_slice() == answer, "has other parts");
+}
+
+/// Tries that a literal is printed as its text.
+fn try_printed<B: Text>(trial: &mut Trial, lit: &Literal<B>, text: &str) {
     let printed = lit.to_string(trial.alloc);
     if let Some(printed) = trial.own(printed) {
         trial.check(printed.as_str() == text, "is printed otherwise");
-    }
-    if let Literal::Integer(lit) = lit {
-        trial.check(has_values(lit), "has another value at a type");
     }
 }
 
@@ -96,48 +128,75 @@ where
 pub fn try_c_string(trial: &mut Trial, value: &CString) {
     trial.at = ("CString", "CString");
     let closed = value.as_bytes_with_nul();
-    let is_closed = match closed.split_last() {
-        Some((last, rest)) => *last == 0 && rest == value.to_bytes(),
-        None => false,
-    };
-    trial.check(is_closed, "is not closed");
-    let copy = again!(
+    trial.check(is_closed(closed, value.to_bytes()), "is not closed");
+    again!(
         trial,
         "clone",
-        value.clone(trial.alloc),
+        is_c_string_refused(trial, value, closed),
         value.as_bytes_with_nul() == closed
     );
-    if let Some(copy) = trial.own(copy) {
-        trial.check(copy.as_bytes_with_nul() == closed, "has another copy");
+}
+
+/// Whether these are the bytes and a closing zero.
+fn is_closed(closed: &[u8], bytes: &[u8]) -> bool {
+    match closed.split_last() {
+        Some((last, rest)) => *last == 0 && rest == bytes,
+        None => false,
     }
 }
 
-/// The same literal again, by the `clone` of the type whose parse this is.
-fn clone_by<B: Text>(
-    alloc: Global,
-    parse: Parse,
-    lit: &Literal<B>,
-) -> Result<Literal<B>, AllocError> {
-    if matches!(parse, Parse::Literal) {
-        return lit.clone(alloc);
+/// Tries a copy of a C string. Whether it was refused memory.
+fn is_c_string_refused(trial: &mut Trial, value: &CString, closed: &[u8]) -> bool {
+    match &value.clone(trial.alloc) {
+        Ok(copy) => {
+            trial.check(copy.as_bytes_with_nul() == closed, "has another copy");
+            false
+        }
+        Err(_) => true,
     }
-    each_kind!(lit, lit => Ok(Literal::Bool(*lit)), lit => any(lit.clone(alloc)))
 }
 
 /// Tries the copy of a literal.
 fn try_copy<B: Text>(trial: &mut Trial, parse: Parse, lit: &Literal<B>, text: &B, row: &Row) {
-    let copy = again!(
+    again!(
         trial,
         "clone",
-        clone_by(trial.alloc, parse, lit),
+        is_clone_refused(trial, parse, lit, row),
         is_parsed(trial, parse, text, lit)
     );
-    if let Some(copy) = trial.own(copy) {
-        try_parts(trial, lit, row);
-        try_parts(trial, &copy, row);
-        trial.check(copy == *lit, "has a copy that is not equal");
-        trial.check(has_buffer(copy, text.as_str()), "gives another text away");
+}
+
+/// Tries the copy by the `clone` of the type whose parse this is. Whether it was refused memory.
+fn is_clone_refused<B: Text>(trial: &mut Trial, parse: Parse, lit: &Literal<B>, row: &Row) -> bool {
+    if matches!(parse, Parse::Literal) {
+        return is_copy_refused(trial, lit.clone(trial.alloc), lit, row);
     }
+    each_kind!(lit, _ => false, kind => is_copy_refused(trial, kind.clone(trial.alloc), lit, row))
+}
+
+/// Tries the copy of a literal. Whether it was refused memory.
+fn is_copy_refused<L: Into<Literal<B>>, B: Text>(
+    trial: &mut Trial,
+    copy: Result<L, AllocError>,
+    lit: &Literal<B>,
+    row: &Row,
+) -> bool {
+    match copy {
+        Ok(copy) => {
+            try_clone(trial, lit, copy.into(), row);
+            false
+        }
+        Err(_) => true,
+    }
+}
+
+/// Tries a literal, of which this is a copy, and the copy.
+fn try_clone<B: Text>(trial: &mut Trial, lit: &Literal<B>, copy: Literal<B>, row: &Row) {
+    try_parts(trial, lit, row);
+    try_parts(trial, &copy, row);
+    trial.check(copy == *lit, "has a copy that is not equal");
+    let holds = has_buffer(copy, row.text.as_str());
+    trial.check(holds, "gives another text away");
 }
 
 /// Whether a parse makes a literal of the text that is equal to this one.
@@ -156,52 +215,84 @@ fn try_value<B: Buffer>(trial: &mut Trial, parse: Parse, lit: &Literal<B>, text:
     }
 }
 
-/// The same literal with a text of its own, by the call of the type whose parse this is.
-fn own_by(alloc: Global, parse: Parse, lit: Literal<&str>) -> Result<Literal<String>, AllocError> {
-    if matches!(parse, Parse::Literal) {
-        return lit.into_owned(alloc);
-    }
-    match lit {
-        Literal::Bool(lit) => Ok(Literal::Bool(lit)),
-        Literal::Integer(lit) => any(lit.to_owned(alloc)),
-        Literal::Float(lit) => any(lit.to_owned(alloc)),
-        Literal::Char(lit) => any(lit.to_owned(alloc)),
-        Literal::String(lit) => any(lit.into_owned(alloc)),
-        Literal::Byte(lit) => any(lit.to_owned(alloc)),
-        Literal::ByteString(lit) => any(lit.into_owned(alloc)),
-        Literal::CString(lit) => any(lit.into_owned(alloc)),
-    }
-}
-
-/// Tries a literal that is made to own its text, and whether its value is borrowed.
+/// Tries whether the value of a literal is borrowed, and the literal that is made to own its text.
 fn try_borrowed(trial: &mut Trial, parse: Parse, row: &Row) {
     trial.at = (parse.name(), "&str");
-    let text = row.text.as_str();
-    if let Ok(lit) = parsed(trial, parse, &text) {
-        let escaped = is_escaped(&lit);
-        trial.check(
-            is_value_owned(lit, escaped),
-            "has a value that is owned or borrowed",
-        );
-    }
+    try_owned_value(trial, parse, row);
     let call = match parse {
         Parse::Integer | Parse::Float | Parse::Char | Parse::Byte => "to_owned",
         _ => "into_owned",
     };
-    let owned = again!(trial, call, owned(trial, parse, text));
-    if let Some(owned) = trial.own(owned) {
-        try_parts(trial, &owned, row);
-        let holds = is_parsed(trial, parse, &row.text, &owned);
-        trial.check(holds, "has an owned form that is not equal");
+    again!(trial, call, is_own_refused(trial, parse, row));
+}
+
+/// Tries whether the value of a literal is borrowed.
+fn try_owned_value(trial: &mut Trial, parse: Parse, row: &Row) {
+    match parsed(trial, parse, &row.text.as_str()) {
+        Ok(lit) => {
+            let escaped = is_escaped(&lit);
+            let holds = is_value_owned(lit, escaped);
+            trial.check(holds, "has a value that is owned or borrowed");
+        }
+        Err(_) => trial.check(false, "is refused"),
     }
 }
 
-/// The literal of a text that is made to own it.
-fn owned(trial: &mut Trial, parse: Parse, text: &str) -> Result<Literal<String>, AllocError> {
-    match parsed(trial, parse, &text) {
-        Ok(lit) => own_by(trial.alloc, parse, lit),
-        Err(_) => Err(AllocError),
+/// Makes the literal of a text own it, and tries that. Whether memory was refused.
+fn is_own_refused(trial: &mut Trial, parse: Parse, row: &Row) -> bool {
+    match parsed(trial, parse, &row.text.as_str()) {
+        Ok(lit) => is_literal_refused(trial, parse, lit, row),
+        Err(_) => {
+            trial.check(false, "is refused");
+            false
+        }
     }
+}
+
+/// The same of a literal, by the call of the type whose parse this is.
+fn is_literal_refused(trial: &mut Trial, parse: Parse, lit: Literal<&str>, row: &Row) -> bool {
+    if matches!(parse, Parse::Literal) {
+        return is_owned_refused(trial, parse, lit.into_owned(trial.alloc), row);
+    }
+    is_kind_refused(trial, parse, lit, row)
+}
+
+/// The same of a literal of each kind.
+fn is_kind_refused(trial: &mut Trial, parse: Parse, lit: Literal<&str>, row: &Row) -> bool {
+    let alloc = trial.alloc;
+    match lit {
+        Literal::Bool(_) => false,
+        Literal::Integer(lit) => is_owned_refused(trial, parse, lit.to_owned(alloc), row),
+        Literal::Float(lit) => is_owned_refused(trial, parse, lit.to_owned(alloc), row),
+        Literal::Char(lit) => is_owned_refused(trial, parse, lit.to_owned(alloc), row),
+        Literal::String(lit) => is_owned_refused(trial, parse, lit.into_owned(alloc), row),
+        Literal::Byte(lit) => is_owned_refused(trial, parse, lit.to_owned(alloc), row),
+        Literal::ByteString(lit) => is_owned_refused(trial, parse, lit.into_owned(alloc), row),
+        Literal::CString(lit) => is_owned_refused(trial, parse, lit.into_owned(alloc), row),
+    }
+}
+
+/// Tries a literal that was made to own its text. Whether memory was refused.
+fn is_owned_refused<L: Into<Literal<String>>>(
+    trial: &mut Trial,
+    parse: Parse,
+    owned: Result<L, AllocError>,
+    row: &Row,
+) -> bool {
+    match owned {
+        Ok(owned) => {
+            try_owned(trial, parse, &owned.into(), row);
+            false
+        }
+        Err(_) => true,
+    }
+}
+
+/// Tries a literal that was made to own its text.
+fn try_owned(trial: &mut Trial, parse: Parse, owned: &Literal<String>, row: &Row) {
+    try_parts(trial, owned, row);
+    let holds = is_parsed(trial, parse, &row.text, owned);
+    trial.check(holds, "has an owned form that is not equal");
 }
 
 /// Whether the value of a string or a byte string is owned, if this is set, or borrowed.
@@ -215,7 +306,12 @@ fn is_value_owned(lit: Literal<&str>, owned: bool) -> bool {
 
 /// Whether a literal gives this buffer back. A bool has none.
 fn has_buffer<B: Text>(lit: Literal<B>, text: &str) -> bool {
-    each_kind!(lit, _ => true, lit => lit.into_raw_input().as_str() == text)
+    each_kind!(lit, _ => true, lit => is_buffer(lit.into_raw_input(), text))
+}
+
+/// Whether a buffer has this text.
+fn is_buffer<B: Text>(buffer: B, text: &str) -> bool {
+    buffer.as_str() == text
 }
 
 /// Whether the value of the copy is taken out of a string of one of the three kinds.
@@ -224,9 +320,21 @@ fn has_value<B: Buffer>(lit: Literal<B>, copy: &Literal<B>) -> bool {
         return true;
     };
     match lit {
-        Literal::String(lit) => B::cow_text(&lit.into_value()).as_bytes() == value,
-        Literal::ByteString(lit) => B::byte_cow_bytes(&lit.into_value()) == value,
+        Literal::String(lit) => is_text_value(lit, value),
+        Literal::ByteString(lit) => is_byte_value(lit, value),
         Literal::CString(lit) => lit.into_value().to_bytes() == value,
         _ => false,
     }
+}
+
+/// Whether this value is taken out of a string.
+fn is_text_value<B: Buffer>(lit: StringLit<B>, value: &[u8]) -> bool {
+    let taken = lit.into_value();
+    B::cow_text(&taken).as_bytes() == value
+}
+
+/// Whether this value is taken out of a byte string.
+fn is_byte_value<B: Buffer>(lit: ByteStringLit<B>, value: &[u8]) -> bool {
+    let taken = lit.into_value();
+    B::byte_cow_bytes(&taken) == value
 }

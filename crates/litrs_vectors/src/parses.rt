@@ -1,6 +1,6 @@
 //! The nine parses as one call, where a refused allocation is asked for once more.
 use crate::answers::is_escaped;
-use crate::trial::{Trial, again};
+use crate::trial::Trial;
 use litrs::{
     BoolLit, ByteLit, ByteStringLit, CStringLit, CharLit, FloatLit, IntegerLit, Literal,
     ParseError, ParseErrorKind, StringLit, Text,
@@ -78,14 +78,28 @@ pub fn any<L: Into<Literal<B>>, B: Text, E>(answer: Result<L, E>) -> Result<Lite
 fn parse_by<B: Text>(alloc: Global, parse: Parse, text: B) -> Result<Literal<B>, ParseError> {
     match parse {
         Parse::Literal => Literal::parse(alloc, text),
-        Parse::Bool => any(BoolLit::parse(text.as_str())),
+        Parse::String | Parse::ByteString | Parse::CString => parse_string(alloc, parse, text),
+        _ => parse_other(parse, text),
+    }
+}
+
+/// What the parse of a string makes of it.
+fn parse_string<B: Text>(alloc: Global, parse: Parse, text: B) -> Result<Literal<B>, ParseError> {
+    match parse {
+        Parse::ByteString => any(ByteStringLit::parse(alloc, text)),
+        Parse::CString => any(CStringLit::parse(alloc, text)),
+        _ => any(StringLit::parse(alloc, text)),
+    }
+}
+
+/// What the parse of another kind makes of it.
+fn parse_other<B: Text>(parse: Parse, text: B) -> Result<Literal<B>, ParseError> {
+    match parse {
         Parse::Integer => any(IntegerLit::parse(text)),
         Parse::Float => any(FloatLit::parse(text)),
         Parse::Char => any(CharLit::parse(text)),
-        Parse::String => any(StringLit::parse(alloc, text)),
         Parse::Byte => any(ByteLit::parse(text)),
-        Parse::ByteString => any(ByteStringLit::parse(alloc, text)),
-        Parse::CString => any(CStringLit::parse(alloc, text)),
+        _ => any(BoolLit::parse(text.as_str())),
     }
 }
 
@@ -107,16 +121,31 @@ macro_rules! each_kind {
 
 pub(crate) use each_kind;
 
+/// A copy of the text.
+fn copied<B: Text>(trial: &mut Trial, text: &B) -> Option<B> {
+    match text.copy(trial.alloc) {
+        Ok(copy) => Some(copy),
+        Err(_) => copied_again(trial, text),
+    }
+}
+
+/// A copy of the text, for which memory was refused once.
+fn copied_again<B: Text>(trial: &mut Trial, text: &B) -> Option<B> {
+    let at = trial.at;
+    trial.at = (buffer_name::<B>(), buffer_name::<B>());
+    trial.note_refusal("copy");
+    trial.at = at;
+    let copy = text.copy(trial.alloc);
+    trial.own(copy)
+}
+
 /// What this parse makes of a copy of the text.
 fn parse_copy<B: Text>(
     trial: &mut Trial,
     parse: Parse,
     text: &B,
 ) -> Result<Literal<B>, ParseError> {
-    trial.at = (buffer_name::<B>(), buffer_name::<B>());
-    let copy = again!(trial, "copy", text.copy(trial.alloc));
-    trial.at = (parse.name(), buffer_name::<B>());
-    match trial.own(copy) {
+    match copied(trial, text) {
         Some(copy) => parse_by(trial.alloc, parse, copy),
         None => Err(ParseError::new(None, ParseErrorKind::OutOfMemory)),
     }
@@ -128,19 +157,32 @@ pub fn parsed<B: Text>(
     parse: Parse,
     text: &B,
 ) -> Result<Literal<B>, ParseError> {
-    let at = trial.at;
-    let mut answer = parse_copy(trial, parse, text);
-    if trial.is_refused("parse", is_out_of_memory(&answer)) {
-        answer = parse_copy(trial, parse, text);
-        trial.check(
-            is_allocated(&answer),
-            "is refused memory that it does not need",
-        );
+    let answer = parse_copy(trial, parse, text);
+    if is_out_of_memory(&answer) {
+        return parsed_again(trial, parse, text);
     }
+    answer
+}
+
+/// What this parse makes of the text, for which memory was refused once.
+fn parsed_again<B: Text>(
+    trial: &mut Trial,
+    parse: Parse,
+    text: &B,
+) -> Result<Literal<B>, ParseError> {
+    let at = trial.at;
+    trial.at = (parse.name(), buffer_name::<B>());
+    trial.note_refusal("parse");
+    let answer = parse_copy(trial, parse, text);
+    trial.check(
+        is_allocated(&answer),
+        "is refused memory that it does not need",
+    );
     trial.at = at;
     answer
 }
 
+/// Whether memory was refused.
 fn is_out_of_memory<B: Text>(answer: &Result<Literal<B>, ParseError>) -> bool {
     match answer {
         Ok(_) => false,

@@ -12,35 +12,74 @@ const LONGEST: usize = 1000;
 /// What is appended to a text that no longer text completes.
 const APPENDED: &[&str] = &["\"", "'", "0", "1", "_", "x", "}", "\"#", "\n", "é", "🦊"];
 
-/// Tries each prefix of a text, and the text, by all nine parses and by `goes_on`. `literal` is the
-/// literal that the text is, if it is one.
-pub fn try_prefixes(trial: &mut Trial, text: &str, literal: Option<&Literal<&str>>) {
+/// What is known of the text whose prefixes are tried.
+#[derive(Clone, Copy)]
+pub struct Whole<'a> {
+    /// Whether it is a literal.
+    pub is_literal: bool,
+    /// The value of that literal, if it is a string of one of the three kinds.
+    pub value: Option<&'a [u8]>,
+}
+
+/// A text that is no literal.
+pub const NO_LITERAL: Whole<'static> = Whole {
+    is_literal: false,
+    value: None,
+};
+
+/// Tries each prefix of a text, and the text, by all nine parses and by `goes_on`.
+pub fn try_prefixes(trial: &mut Trial, text: &str, whole: &Whole) {
     let mut longer = String::new(trial.alloc);
     if text.len() <= LONGEST {
         trial.own(longer.reserve(2 * LONGEST));
         for (len, _) in text.char_indices() {
-            try_prefix(trial, &text[..len], literal, &mut longer);
+            try_prefix(trial, &text[..len], whole, &mut longer);
         }
     }
-    try_prefix(trial, text, literal, &mut longer);
+    try_prefix(trial, text, whole, &mut longer);
 }
 
 /// Tries a prefix by all nine parses and by `goes_on`. In `longer` something is appended to it.
-fn try_prefix(trial: &mut Trial, text: &str, literal: Option<&Literal<&str>>, longer: &mut String) {
+fn try_prefix(trial: &mut Trial, text: &str, whole: &Whole, longer: &mut String) {
     trial.prefix = Some(text.len());
     for parse in PARSES {
         trial.at = (parse.name(), "&str");
-        match &parsed(trial, parse, &text) {
-            Ok(_) => trial.check(other_start(parse, text).is_none(), "takes another start"),
-            Err(e) => try_error(trial, parse, text, e, literal, longer),
-        }
+        try_parse(trial, parse, text, whole, longer);
     }
-    let holds = match &parsed(trial, Parse::Literal, &text) {
-        Err(e) if e.is_final() => !goes_on(text),
-        Err(e) => goes_on(text) || !e.is_open() && literal.is_none(),
-        Ok(_) => goes_on(text),
-    };
+    let answer = parsed(trial, Parse::Literal, &text);
+    let holds = is_known(&answer, text, whole.is_literal);
     trial.check(holds, "goes_on says otherwise");
+}
+
+/// Tries what a parse answers on a prefix.
+fn try_parse(trial: &mut Trial, parse: Parse, text: &str, whole: &Whole, longer: &mut String) {
+    let answer = parsed(trial, parse, &text);
+    try_answer(trial, parse, text, &answer, whole, longer);
+}
+
+/// Tries this answer on a prefix.
+fn try_answer(
+    trial: &mut Trial,
+    parse: Parse,
+    text: &str,
+    answer: &Result<Literal<&str>, ParseError>,
+    whole: &Whole,
+    longer: &mut String,
+) {
+    match answer {
+        Ok(_) => trial.check(other_start(parse, text).is_none(), "takes another start"),
+        Err(e) => try_error(trial, parse, text, e, whole, longer),
+    }
+}
+
+/// Whether `goes_on` says of a text what the answer of its parse does, of a prefix of a literal or
+/// of another.
+fn is_known(answer: &Result<Literal<&str>, ParseError>, text: &str, is_literal: bool) -> bool {
+    match answer {
+        Ok(_) => goes_on(text),
+        Err(e) if e.is_final() => !goes_on(text),
+        Err(e) => goes_on(text) || !e.is_open() && !is_literal,
+    }
 }
 
 /// Tries how a parse refuses a prefix, and what it says of longer texts.
@@ -49,7 +88,7 @@ fn try_error(
     parse: Parse,
     text: &str,
     error: &ParseError,
-    literal: Option<&Literal<&str>>,
+    whole: &Whole,
     longer: &mut String,
 ) {
     let holds = is_refused_at(error, other_start(parse, text));
@@ -62,40 +101,47 @@ fn try_error(
         try_appended(trial, parse, text, longer);
     }
     if error.is_open() {
-        try_closed(trial, parse, text, error.kind(), literal, longer);
+        try_closed(trial, parse, text, error.kind(), whole, longer);
     }
 }
 
 /// How a parse refuses a text that begins like no literal of its kind: the kind, and the end of the
 /// span, if there is one.
 fn other_start(parse: Parse, text: &str) -> Option<(ParseErrorKind, Option<usize>)> {
-    let digit = matches!(text.as_bytes().first(), Some(b'0'..=b'9'));
-    let (starts, refusal) = match parse {
-        Parse::Literal => (true, (InvalidLiteral, None)),
-        Parse::Bool => (matches!(text, "true" | "false"), (InvalidLiteral, None)),
-        Parse::Integer | Parse::Float => (digit, (DoesNotStartWithDigit, Some(1))),
-        Parse::Char => (text.starts_with('\''), (DoesNotStartWithQuote, Some(1))),
-        Parse::String => (
-            starts_with(text, "\"", "r"),
-            (InvalidStringLiteralStart, Some(1)),
-        ),
-        Parse::Byte => (text.starts_with("b'"), (InvalidByteLiteralStart, None)),
-        Parse::ByteString => (
-            starts_with(text, "b\"", "br"),
-            (InvalidByteStringLiteralStart, None),
-        ),
-        Parse::CString => (
-            starts_with(text, "c\"", "cr"),
-            (InvalidCStringLiteralStart, None),
-        ),
-    };
-    if starts {
+    if is_start(parse, text) {
         return None;
     }
     if text.is_empty() && !matches!(parse, Parse::Bool) {
         return Some((Empty, None));
     }
-    Some(refusal)
+    Some(refusal_of_start(parse))
+}
+
+/// Whether a text begins like a literal of the kind of a parse; of a bool, whether it is one.
+fn is_start(parse: Parse, text: &str) -> bool {
+    match parse {
+        Parse::Literal => true,
+        Parse::Bool => matches!(text, "true" | "false"),
+        Parse::Integer | Parse::Float => matches!(text.as_bytes().first(), Some(b'0'..=b'9')),
+        Parse::Char => text.starts_with('\''),
+        Parse::String => starts_with(text, "\"", "r"),
+        Parse::Byte => text.starts_with("b'"),
+        Parse::ByteString => starts_with(text, "b\"", "br"),
+        Parse::CString => starts_with(text, "c\"", "cr"),
+    }
+}
+
+/// How a parse refuses another start, but of the empty text.
+fn refusal_of_start(parse: Parse) -> (ParseErrorKind, Option<usize>) {
+    match parse {
+        Parse::Literal | Parse::Bool => (InvalidLiteral, None),
+        Parse::Integer | Parse::Float => (DoesNotStartWithDigit, Some(1)),
+        Parse::Char => (DoesNotStartWithQuote, Some(1)),
+        Parse::String => (InvalidStringLiteralStart, Some(1)),
+        Parse::Byte => (InvalidByteLiteralStart, None),
+        Parse::ByteString => (InvalidByteStringLiteralStart, None),
+        Parse::CString => (InvalidCStringLiteralStart, None),
+    }
 }
 
 fn starts_with(text: &str, quoted: &str, raw: &str) -> bool {
@@ -160,7 +206,7 @@ fn try_closed(
     parse: Parse,
     text: &str,
     kind: ParseErrorKind,
-    literal: Option<&Literal<&str>>,
+    whole: &Whole,
     longer: &mut String,
 ) {
     let Some((front, body)) = text.split_once('"') else {
@@ -172,35 +218,67 @@ fn try_closed(
             trial.own(longer.push_str("#"));
         }
     }
-    let longer = longer.as_str();
-    let holds = match &parsed(trial, parse, &longer) {
+    let body = Body {
+        text: body,
+        is_raw: front.contains('r'),
+    };
+    try_longer(trial, parse, longer.as_str(), &body, whole);
+}
+
+/// The body of a string.
+#[derive(Clone, Copy)]
+struct Body<'a> {
+    text: &'a str,
+    is_raw: bool,
+}
+
+/// Tries that the parse takes a closed text, a string of this body and no suffix.
+fn try_longer(trial: &mut Trial, parse: Parse, longer: &str, body: &Body, whole: &Whole) {
+    let answer = parsed(trial, parse, &longer);
+    let holds = is_closed(&answer, longer, body, whole);
+    trial.check(holds, "does not take the closed text");
+}
+
+/// Whether an answer is a string of this text and this body, without a suffix.
+fn is_closed(
+    answer: &Result<Literal<&str>, ParseError>,
+    longer: &str,
+    body: &Body,
+    whole: &Whole,
+) -> bool {
+    match answer {
         Ok(lit) => {
-            let is_whole = lit.suffix().is_empty() && lit.raw_input() == longer;
-            is_whole && has_body(lit, front.contains('r'), body, literal)
+            lit.suffix().is_empty() && lit.raw_input() == longer && has_body(lit, body, whole)
         }
         Err(_) => false,
-    };
-    trial.check(holds, "does not take the closed text");
+    }
 }
 
 /// Whether a string of one of the three kinds has this body, and where it is quoted, a value that
 /// the value of the longer literal begins with.
-fn has_body(lit: &Literal<&str>, raw: bool, body: &str, literal: Option<&Literal<&str>>) -> bool {
-    let Some((is_raw, value)) = value_of(lit) else {
-        return false;
-    };
-    let has_value = match body.split_once('\\') {
-        Some((plain, _)) if !raw => value.starts_with(plain.as_bytes()),
-        _ => value == body.as_bytes(),
-    };
-    let is_begun = match literal {
-        Some(literal) if !raw => match value_of(literal) {
-            Some((_, whole)) => whole.starts_with(value),
-            None => false,
-        },
-        _ => true,
-    };
-    has_value && is_begun && is_raw == raw
+fn has_body(lit: &Literal<&str>, body: &Body, whole: &Whole) -> bool {
+    match value_of(lit) {
+        Some((is_raw, value)) => {
+            is_raw == body.is_raw && has_value(value, body) && (is_raw || is_begun(value, whole))
+        }
+        None => false,
+    }
+}
+
+/// Whether a body has this value, as far as its first escape where it is quoted.
+fn has_value(value: &[u8], body: &Body) -> bool {
+    match body.text.split_once('\\') {
+        Some((plain, _)) if !body.is_raw => value.starts_with(plain.as_bytes()),
+        _ => value == body.text.as_bytes(),
+    }
+}
+
+/// Whether the value of the longer literal, if it is one, begins with this value.
+fn is_begun(value: &[u8], whole: &Whole) -> bool {
+    match whole.value {
+        Some(whole) => whole.starts_with(value),
+        None => !whole.is_literal,
+    }
 }
 
 /// Tries which prefixes of a text begin a literal: all, not the text, or those below a length.
@@ -218,5 +296,5 @@ pub fn try_goes_on(trial: &mut Trial, row: &Row) {
         }
         Err(_) => trial.check(matches!(answer, "yes" | "no"), "has no such answer"),
     }
-    try_prefixes(trial, text, None);
+    try_prefixes(trial, text, &NO_LITERAL);
 }

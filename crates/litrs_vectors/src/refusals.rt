@@ -1,10 +1,11 @@
 //! Refused texts over both buffers.
-use crate::answers::refusal_fields;
+use crate::answers::{kind_name, push_refusal};
 use crate::parses::{Parse, buffer_name, parsed};
+use crate::prefixes::NO_LITERAL;
 use crate::rows::Row;
 use crate::trial::Trial;
 use crate::{calls, prefixes, tokens};
-use litrs::{ParseError, Text};
+use litrs::{Literal, ParseError, Text};
 
 /// The kinds of refusal after which no longer text is a literal for the same parse.
 const FINAL: &[&str] = &[
@@ -49,50 +50,82 @@ pub fn try_refusal(trial: &mut Trial, row: &Row) {
             try_report(trial, text);
         }
     }
-    prefixes::try_prefixes(trial, text, None);
+    prefixes::try_prefixes(trial, text, &NO_LITERAL);
 }
 
 /// Tries how a parse refuses a text.
 fn try_over<B: Text>(trial: &mut Trial, parse: Parse, text: &B, row: &Row) {
     trial.at = (parse.name(), buffer_name::<B>());
-    match &parsed(trial, parse, text) {
-        Ok(_) => trial.check(false, "is a literal"),
-        Err(e) => {
-            try_error(trial, e, row);
-            try_error(trial, &e.clone(), row);
-        }
+    match parsed(trial, parse, text) {
+        Ok(lit) => try_none(trial, lit),
+        Err(e) => try_both(trial, e, row),
     }
+}
+
+/// Reports a literal where there is to be none.
+fn try_none<B: Text>(trial: &mut Trial, _lit: Literal<B>) {
+    trial.check(false, "is a literal");
+}
+
+/// Tries an error and a copy of it.
+fn try_both(trial: &mut Trial, error: ParseError, row: &Row) {
+    try_error(trial, &error, row);
+    try_error(trial, &error.clone(), row);
 }
 
 /// Tries what an error answers, and what is printed of it.
 fn try_error(trial: &mut Trial, error: &ParseError, row: &Row) {
-    let fields = refusal_fields(trial.alloc, error, false);
-    let printed = refusal_fields(trial.alloc, error, true);
-    if let (Some(fields), Some(printed)) = (trial.own(fields), trial.own(printed)) {
-        let answer = row.answer.as_slice();
-        let holds = fields.as_bytes() == answer || printed.as_bytes() == answer;
-        trial.check(holds, "is refused otherwise");
-    }
-    let kind = format!(in trial.alloc; "{:?}", error.kind());
+    let kind = kind_name(trial.alloc, error);
     if let Some(kind) = trial.own(kind) {
-        trial.check(
-            error.is_final() == FINAL.contains(&kind.as_str()),
-            "is final or not",
-        );
-        trial.check(
-            error.is_open() == OPEN.contains(&kind.as_str()),
-            "is open or not",
-        );
+        try_kind(trial, error, kind.as_str());
+        try_fields(trial, error, kind.as_str(), row.answer.as_slice());
+    }
+}
+
+/// Tries whether longer texts are refused too, by the name of the kind.
+fn try_kind(trial: &mut Trial, error: &ParseError, kind: &str) {
+    let is_final = FINAL.contains(&kind);
+    trial.check(error.is_final() == is_final, "is final or not");
+    let is_open = OPEN.contains(&kind);
+    trial.check(error.is_open() == is_open, "is open or not");
+}
+
+/// Tries that the row has the fields of an error, and then either none or what is printed of it.
+fn try_fields(trial: &mut Trial, error: &ParseError, kind: &str, answer: &[u8]) {
+    let mut fields = Vec::new(trial.alloc);
+    let pushed = push_refusal(trial.alloc, &mut fields, kind, error);
+    trial.own(pushed);
+    match answer.strip_prefix(fields.as_slice()) {
+        Some(rest) => try_printed(trial, error, rest),
+        None => trial.check(false, "is refused otherwise"),
+    }
+}
+
+/// Tries that these bytes, if there are any, are a tab and what is printed of an error.
+fn try_printed(trial: &mut Trial, error: &ParseError, bytes: &[u8]) {
+    if bytes.is_empty() {
+        return;
+    }
+    let printed = error.to_string(trial.alloc);
+    if let Some(printed) = trial.own(printed) {
+        let holds = bytes.strip_prefix(b"\t") == Some(printed.as_bytes());
+        trial.check(holds, "is refused otherwise");
     }
 }
 
 /// Tries the report on a text that is refused.
 fn try_report(trial: &mut Trial, text: &str) {
-    if let Err(e) = parsed(trial, Parse::Literal, &text) {
-        let report = format!(in trial.alloc; "error {e}\n");
-        if let Some(report) = trial.own(report) {
-            calls::try_run(trial, text, report.as_str());
-            calls::try_collector(trial, text, false);
-        }
+    match parsed(trial, Parse::Literal, &text) {
+        Ok(lit) => try_none(trial, lit),
+        Err(e) => try_reported(trial, e, text),
+    }
+}
+
+/// Tries the report on a text that is refused so.
+fn try_reported(trial: &mut Trial, error: ParseError, text: &str) {
+    let report = format!(in trial.alloc; "error {error}\n");
+    if let Some(report) = trial.own(report) {
+        calls::try_run(trial, text, report.as_str());
+        calls::try_collector(trial, text, false);
     }
 }

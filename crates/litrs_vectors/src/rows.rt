@@ -12,13 +12,13 @@ pub enum RowError {
 }
 
 impl From<AllocError> for RowError {
-    fn from(_: AllocError) -> RowError {
+    fn from(_: AllocError) -> Self {
         RowError::OutOfMemory
     }
 }
 
 impl<T: Drop> From<AllocFailed<T>> for RowError {
-    fn from(_: AllocFailed<T>) -> RowError {
+    fn from(_: AllocFailed<T>) -> Self {
         RowError::OutOfMemory
     }
 }
@@ -70,13 +70,19 @@ fn read_parses(alloc: Global, names: &str) -> Result<Vec<Parse>, RowError> {
 
 /// The bytes that a field stands for.
 fn unescaped(alloc: Global, field: &str) -> Result<Vec<u8>, RowError> {
-    let mut pieces = field.split("%(");
     let mut bytes = Vec::new(alloc);
-    push_text(&mut bytes, pieces.next().unwrap_or(""))?;
-    for piece in pieces {
-        push_repeated(alloc, &mut bytes, piece)?;
-    }
+    push_field(alloc, &mut bytes, field)?;
     Ok(bytes)
+}
+
+/// Adds the bytes that a field stands for.
+fn push_field(alloc: Global, bytes: &mut Vec<u8>, field: &str) -> Result<(), RowError> {
+    let mut pieces = field.split("%(");
+    push_text(bytes, pieces.next().unwrap_or(""))?;
+    for piece in pieces {
+        push_repeated(alloc, bytes, piece)?;
+    }
+    Ok(())
 }
 
 /// Adds a text in which `%` and two hex digits stand for a byte.
@@ -84,16 +90,25 @@ fn push_text(bytes: &mut Vec<u8>, text: &str) -> Result<(), RowError> {
     let mut pieces = text.split('%');
     bytes.extend_from_slice(pieces.next().unwrap_or("").as_bytes())?;
     for piece in pieces {
-        let Some((digits, plain)) = piece.split_at_checked(2) else {
-            return Err(RowError::Malformed("has an escape without digits"));
-        };
-        let Ok(byte) = u8::from_str_radix(digits, 16) else {
-            return Err(RowError::Malformed("has an escape without hex digits"));
-        };
-        bytes.push(byte)?;
-        bytes.extend_from_slice(plain.as_bytes())?;
+        push_escaped(bytes, piece)?;
     }
     Ok(())
+}
+
+/// Adds the byte of two hex digits, and the text after them.
+fn push_escaped(bytes: &mut Vec<u8>, piece: &str) -> Result<(), RowError> {
+    let Some((digits, plain)) = piece.split_at_checked(2) else {
+        return Err(RowError::Malformed("has an escape without digits"));
+    };
+    match u8::from_str_radix(digits, 16) {
+        Ok(byte) => Ok(push_byte(bytes, byte, plain)?),
+        Err(_) => Err(RowError::Malformed("has an escape without hex digits")),
+    }
+}
+
+fn push_byte(bytes: &mut Vec<u8>, byte: u8, plain: &str) -> Result<(), AllocError> {
+    bytes.extend_from_slice(&[byte])?;
+    bytes.extend_from_slice(plain.as_bytes())
 }
 
 /// Adds the part of `N*PART)` so many times, and the text after it.
@@ -104,13 +119,19 @@ fn push_repeated(alloc: Global, bytes: &mut Vec<u8>, piece: &str) -> Result<(), 
     let Some((count, part)) = repeated.split_once('*') else {
         return Err(RowError::Malformed("has a repeated part without a count"));
     };
-    let Ok(count) = count.parse::<u32>() else {
-        return Err(RowError::Malformed("has a count that is no number"));
-    };
+    match count.parse::<u32>() {
+        Ok(count) => push_copies(alloc, bytes, part, count)?,
+        Err(_) => return Err(RowError::Malformed("has a count that is no number")),
+    }
+    push_text(bytes, text)
+}
+
+/// Adds what a text stands for so many times.
+fn push_copies(alloc: Global, bytes: &mut Vec<u8>, part: &str, count: u32) -> Result<(), RowError> {
     let mut unescaped = Vec::new(alloc);
     push_text(&mut unescaped, part)?;
     for _ in 0..count {
         bytes.extend_from_slice(unescaped.as_slice())?;
     }
-    push_text(bytes, text)
+    Ok(())
 }

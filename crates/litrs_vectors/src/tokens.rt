@@ -1,29 +1,38 @@
 //! Literals that are written as tokens and read from them.
-use crate::parses::{Parse, any, buffer_name, each_kind, parsed};
+use crate::parses::{Parse, buffer_name, each_kind, parsed};
 use crate::rows::Row;
 use crate::trial::{Trial, again};
 use litrs::{
-    BoolLit, ByteLit, ByteStringLit, CStringLit, CharLit, FloatLit, IntegerLit, Literal, StringLit,
-    Text,
+    BoolLit, ByteLit, ByteStringLit, CStringLit, CharLit, FloatLit, IntegerLit, Literal,
+    ParseError, StringLit, Text,
 };
 use litrs_token::{
     FromToken, Ident, IdentError, IntoIdent, IntoToken, LiteralError, Span, TokenTree,
 };
-use std::alloc::AllocError;
 
 /// A token that is a literal.
 pub type Token = litrs_token::Literal;
 
 /// Tries a literal as a token, there and back, by the type whose parse this is.
 pub fn try_tokens(trial: &mut Trial, parse: Parse, row: &Row) {
-    let text = row.text.as_str();
-    match &parsed(trial, parse, &row.text) {
+    let answer = parsed(trial, parse, &row.text);
+    try_answer(trial, parse, &answer, row);
+}
+
+/// Tries the literal that a parse answers as a token.
+fn try_answer(
+    trial: &mut Trial,
+    parse: Parse,
+    answer: &Result<Literal<String>, ParseError>,
+    row: &Row,
+) {
+    match answer {
         Ok(Literal::Bool(lit)) => {
-            try_no_token(trial, text);
+            try_no_token(trial, row.text.as_str());
             try_ident(trial, *lit);
         }
         Ok(lit) => {
-            try_written(trial, parse, &text);
+            try_written(trial, parse, &row.text.as_str());
             try_written(trial, parse, &row.text);
             trial.at = (parse.name(), "String");
             try_read_by(trial, parse, lit);
@@ -55,57 +64,98 @@ pub fn try_no_token(trial: &mut Trial, text: &str) {
     trial.check(holds, "is a token");
 }
 
-/// The token that the literal of a text is written as. A bool is none.
-fn written<B: Text>(trial: &mut Trial, parse: Parse, text: &B) -> Result<Token, AllocError> {
-    match parsed(trial, parse, text) {
-        Ok(lit) => each_kind!(lit, _ => Err(AllocError), lit => lit.into_token(trial.alloc)),
-        Err(_) => Err(AllocError),
-    }
-}
-
 /// Tries the token that a literal is written as, by the type of its kind.
 fn try_written<B: Text>(trial: &mut Trial, parse: Parse, text: &B) {
     trial.at = (parse.name(), buffer_name::<B>());
     if matches!(parse, Parse::Literal) {
         return;
     }
-    let token = again!(trial, "into_token", written(trial, parse, text));
-    if let Some(token) = trial.own(token) {
-        let holds = token.text() == text.as_str() && token.span() == Span::call_site();
-        trial.check(holds, "is written as another token");
+    again!(trial, "into_token", is_write_refused(trial, parse, text));
+}
+
+/// Writes the literal of a text as a token, and tries that. Whether it was refused memory.
+fn is_write_refused<B: Text>(trial: &mut Trial, parse: Parse, text: &B) -> bool {
+    match parsed(trial, parse, text) {
+        Ok(lit) => is_token_refused(trial, lit, text.as_str()),
+        Err(_) => {
+            trial.check(false, "is refused");
+            false
+        }
     }
+}
+
+/// The same of a literal. A bool is no token.
+fn is_token_refused<B: Text>(trial: &mut Trial, lit: Literal<B>, text: &str) -> bool {
+    each_kind!(lit, _ => false, lit => is_kind_refused(trial, lit, text))
+}
+
+/// The same of a literal of one kind.
+fn is_kind_refused<L: IntoToken>(trial: &mut Trial, lit: L, text: &str) -> bool {
+    match &lit.into_token(trial.alloc) {
+        Ok(token) => {
+            try_text(trial, token, text);
+            false
+        }
+        Err(_) => true,
+    }
+}
+
+/// Tries that a token has this text, and no place.
+fn try_text(trial: &mut Trial, token: &Token, text: &str) {
+    let holds = token.text() == text && token.span() == Span::call_site();
+    trial.check(holds, "is another token");
 }
 
 /// The token of a literal's text.
-pub fn token_of(trial: &mut Trial, text: &str) -> Result<Token, AllocError> {
-    let at = trial.at;
-    trial.at = ("litrs_token::Literal", "&str");
-    let token = again!(trial, "from_text", Token::from_text(trial.alloc, text));
-    let answer = match token {
-        Ok(token) => {
-            let holds = token.text() == text && token.span() == Span::call_site();
-            trial.check(holds, "has another text");
-            Ok(token)
-        }
-        Err(e) => {
-            trial.check(e == LiteralError::Memory, "is not made");
-            Err(AllocError)
-        }
-    };
-    trial.at = at;
-    answer
+pub fn token_of(trial: &mut Trial, text: &str) -> Option<Token> {
+    match Token::from_text(trial.alloc, text) {
+        Ok(token) => Some(token),
+        Err(e) => token_again(trial, text, e),
+    }
 }
 
-/// Tries that what was read is this literal.
-fn try_same<L: Into<Literal<String>>, E: Drop>(
+/// The token of a literal's text, of which the first call gave this error.
+fn token_again(trial: &mut Trial, text: &str, error: LiteralError) -> Option<Token> {
+    match error {
+        LiteralError::Memory => note_token(trial),
+        LiteralError::NotALiteral => trial.check(false, "is not made"),
+    }
+    match Token::from_text(trial.alloc, text) {
+        Ok(token) => Some(token),
+        Err(_) => {
+            trial.check(false, "fails twice");
+            None
+        }
+    }
+}
+
+/// Reports that memory for a token was refused.
+fn note_token(trial: &mut Trial) {
+    let at = trial.at;
+    trial.at = ("litrs_token::Literal", "&str");
+    trial.note_refusal("from_text");
+    trial.at = at;
+}
+
+/// Tries what was read from the token or the tree of a literal, if memory was not refused. Whether
+/// it was.
+fn is_read_refused<L: Into<Literal<String>>, E: Drop>(
     trial: &mut Trial,
     read: Result<L, E>,
     lit: &Literal<String>,
-) {
-    match any(read) {
-        Ok(read) => trial.check(read == *lit, "is read from a token as another"),
-        Err(_) => trial.check(false, "is not read from a token"),
+) -> bool {
+    match read {
+        Ok(read) => {
+            try_same(trial, &read.into(), lit);
+            false
+        }
+        Err(_) => true,
     }
+}
+
+/// Tries that what was read is this literal.
+fn try_same(trial: &mut Trial, read: &Literal<String>, lit: &Literal<String>) {
+    trial.check(*read == *lit, "is read from a token as another");
 }
 
 /// Tries the four conversions of a type to a literal on the token of one.
@@ -114,83 +164,100 @@ where
     L: FromToken + Into<Literal<String>>,
     L::Error: Drop,
 {
-    let alloc = trial.alloc;
-    let text = lit.raw_input();
-    let token = token_of(trial, text);
-    let Some(token) = trial.own(token) else {
-        return;
-    };
-    let read = again!(
-        trial,
-        "from_literal_ref",
-        L::from_literal_ref(alloc, &token),
-        token.text() == text
-    );
-    try_same(trial, read, lit);
-    let tree = TokenTree::from(token);
-    let read = again!(
-        trial,
-        "from_tree_ref",
-        L::from_tree_ref(alloc, &tree),
-        matches!(&tree, TokenTree::Literal(token) if token.text() == text)
-    );
-    try_same(trial, read, lit);
-    try_consumed::<L>(trial, lit);
+    if let Some(token) = token_of(trial, lit.raw_input()) {
+        try_text(trial, &token, lit.raw_input());
+        try_read_token::<L>(trial, &token, lit);
+        try_read_tree::<L>(trial, &TokenTree::from(token), lit);
+    }
+    again!(trial, "from_literal", is_literal_refused::<L>(trial, lit));
+    again!(trial, "from_tree", is_tree_refused::<L>(trial, lit));
 }
 
-/// Tries the two of them that consume the token.
-fn try_consumed<L>(trial: &mut Trial, lit: &Literal<String>)
+/// Tries the one that keeps the token.
+fn try_read_token<L>(trial: &mut Trial, token: &Token, lit: &Literal<String>)
 where
     L: FromToken + Into<Literal<String>>,
     L::Error: Drop,
 {
-    let text = lit.raw_input();
-    let read = again!(trial, "from_literal", from_literal::<L>(trial, text));
-    try_same(trial, read, lit);
-    let read = again!(trial, "from_tree", from_tree::<L>(trial, text));
-    try_same(trial, read, lit);
+    again!(
+        trial,
+        "from_literal_ref",
+        is_read_refused(trial, L::from_literal_ref(trial.alloc, token), lit),
+        token.text() == lit.raw_input()
+    );
 }
 
-/// The literal of this type that is read from the token of a text.
-fn from_literal<L: FromToken>(trial: &mut Trial, text: &str) -> Result<L, AllocError>
+/// Tries the one that keeps the tree of a token.
+fn try_read_tree<L>(trial: &mut Trial, tree: &TokenTree, lit: &Literal<String>)
 where
+    L: FromToken + Into<Literal<String>>,
     L::Error: Drop,
 {
-    let token = token_of(trial, text)?;
-    match L::from_literal(trial.alloc, token) {
-        Ok(lit) => Ok(lit),
-        Err(_) => Err(AllocError),
+    again!(
+        trial,
+        "from_tree_ref",
+        is_read_refused(trial, L::from_tree_ref(trial.alloc, tree), lit),
+        matches!(tree, TokenTree::Literal(token) if token.text() == lit.raw_input())
+    );
+}
+
+/// Tries the one that consumes the token. Whether it was refused memory.
+fn is_literal_refused<L>(trial: &mut Trial, lit: &Literal<String>) -> bool
+where
+    L: FromToken + Into<Literal<String>>,
+    L::Error: Drop,
+{
+    match token_of(trial, lit.raw_input()) {
+        Some(token) => is_read_refused(trial, L::from_literal(trial.alloc, token), lit),
+        None => false,
     }
 }
 
-/// The literal of this type that is read from the tree of a text.
-fn from_tree<L: FromToken>(trial: &mut Trial, text: &str) -> Result<L, AllocError> {
-    let tree = TokenTree::from(token_of(trial, text)?);
-    match L::from_tree(trial.alloc, tree) {
-        Ok(lit) => Ok(lit),
-        Err(_) => Err(AllocError),
+/// Tries the one that consumes the tree of a token. Whether it was refused memory.
+fn is_tree_refused<L: FromToken + Into<Literal<String>>>(
+    trial: &mut Trial,
+    lit: &Literal<String>,
+) -> bool {
+    match token_of(trial, lit.raw_input()) {
+        Some(token) => {
+            let tree = TokenTree::from(token);
+            is_read_refused(trial, L::from_tree(trial.alloc, tree), lit)
+        }
+        None => false,
     }
 }
 
 /// Tries the identifier that a bool is written as, and is read from.
 fn try_ident(trial: &mut Trial, lit: BoolLit) {
-    let text = lit.as_str();
     trial.at = ("BoolLit", "&str");
-    let ident = again!(trial, "into_ident", lit.into_ident(trial.alloc));
-    if let Some(ident) = trial.own(ident) {
-        try_bool(trial, ident, lit);
-    }
+    again!(trial, "into_ident", is_ident_refused(trial, lit));
     trial.at = ("Ident", "&str");
-    match again!(
-        trial,
-        "new",
-        Ident::new(trial.alloc, text, Span::call_site())
-    ) {
-        Ok(ident) => try_bool(trial, ident, lit),
-        Err(e) => {
-            trial.check(e == IdentError::Memory, "is no identifier");
-            trial.out_of_memory = e == IdentError::Memory;
+    again!(trial, "new", is_name_refused(trial, lit));
+}
+
+/// Tries the identifier that a bool is written as. Whether it was refused memory.
+fn is_ident_refused(trial: &mut Trial, lit: BoolLit) -> bool {
+    match lit.into_ident(trial.alloc) {
+        Ok(ident) => {
+            try_bool(trial, ident, lit);
+            false
         }
+        Err(_) => true,
+    }
+}
+
+/// Tries the identifier of its text. Whether it was refused memory.
+fn is_name_refused(trial: &mut Trial, lit: BoolLit) -> bool {
+    match Ident::new(trial.alloc, lit.as_str(), Span::call_site()) {
+        Ok(ident) => {
+            try_bool(trial, ident, lit);
+            false
+        }
+        Err(IdentError::NotAnIdent) => {
+            trial.check(false, "is no identifier");
+            false
+        }
+        Err(IdentError::Memory) => true,
     }
 }
 
@@ -198,16 +265,23 @@ fn try_ident(trial: &mut Trial, lit: BoolLit) {
 fn try_bool(trial: &mut Trial, ident: Ident, lit: BoolLit) {
     let holds = ident.text() == lit.as_str() && ident.span() == Span::call_site();
     trial.check(holds, "has another text");
-    let tree = TokenTree::from(ident);
+    try_tree(trial, TokenTree::from(ident), lit);
+}
+
+/// Tries that a bool is read from the tree of an identifier.
+fn try_tree(trial: &mut Trial, tree: TokenTree, lit: BoolLit) {
+    let expected = Literal::Bool(lit);
     trial.check(BoolLit::try_from(&tree) == Ok(lit), "is not read as a bool");
-    try_same(
-        trial,
-        Literal::from_tree_ref(trial.alloc, &tree),
-        &Literal::Bool(lit),
-    );
-    try_same(
-        trial,
-        Literal::from_tree(trial.alloc, tree),
-        &Literal::Bool(lit),
-    );
+    try_not_refused(trial, Literal::from_tree_ref(trial.alloc, &tree), &expected);
+    try_not_refused(trial, Literal::from_tree(trial.alloc, tree), &expected);
+}
+
+/// Tries what was read, where no memory is needed.
+fn try_not_refused<E: Drop>(
+    trial: &mut Trial,
+    read: Result<Literal<String>, E>,
+    lit: &Literal<String>,
+) {
+    let refused = is_read_refused(trial, read, lit);
+    trial.check(!refused, "is not read from a token");
 }

@@ -2,12 +2,23 @@
 use std::alloc::{AllocError, Global};
 use std::fmt::Write;
 
+/// What is being called: a type, and the type of its text.
+pub type Place = (&'static str, &'static str);
+
+/// What does not hold of a row.
+#[derive(Clone, Copy)]
+struct Fault {
+    at: Place,
+    what: &'static str,
+    prefix: Option<usize>,
+}
+
 /// The row that is being tried, and what is to be printed.
 #[derive(Drop)]
 pub struct Trial {
     pub alloc: Global,
-    /// Whether an allocation of the program's own was refused.
-    pub out_of_memory: bool,
+    /// The refusal of an allocation of the program's own, if there was one.
+    refusal: Option<AllocError>,
     /// The number of the line.
     pub line: u64,
     /// How many rows there were.
@@ -17,29 +28,29 @@ pub struct Trial {
     /// Lines that are still to be printed.
     pub report: String,
     /// The type whose calls are tried, and the type of its text.
-    pub at: (&'static str, &'static str),
+    pub at: Place,
     /// How many bytes of the text are tried, where that is a prefix.
     pub prefix: Option<usize>,
-    /// What does not hold of the row, empty where all holds.
-    fault: String,
+    /// What does not hold of the row, if all does not.
+    fault: Option<Fault>,
 }
 
-/// What a call of the library answers, which is made once more where it was refused memory. Then
-/// the last condition, if there is one, says that what the call was made on has not changed.
+/// Tries a call of the library, which is made once more where it was refused memory. The call tries
+/// what it is answered, and says whether it was refused. Between the two the last condition, if
+/// there is one, says that what the call was made on has not changed.
 macro_rules! again {
-    ($trial:expr, $call:expr, $answer:expr) => {
-        again!($trial, $call, $answer, true)
+    ($trial:expr, $name:expr, $call:expr) => {
+        again!($trial, $name, $call, true)
     };
-    ($trial:expr, $call:expr, $answer:expr, $unchanged:expr) => {{
-        let answer = $answer;
-        if $trial.is_refused($call, answer.is_err()) {
+    ($trial:expr, $name:expr, $call:expr, $unchanged:expr) => {
+        if $call {
+            $trial.note_refusal($name);
             let unchanged = $unchanged;
             $trial.check(unchanged, "has changed");
-            $answer
-        } else {
-            answer
+            let refused = $call;
+            $trial.check(!refused, "fails twice");
         }
-    }};
+    };
 }
 
 pub(crate) use again;
@@ -49,14 +60,14 @@ impl Trial {
     pub fn new(alloc: Global) -> Trial {
         Trial {
             alloc,
-            out_of_memory: false,
+            refusal: None,
             line: 0,
             rows: 0,
             held: 0,
             report: String::new(alloc),
             at: ("", ""),
             prefix: None,
-            fault: String::new(alloc),
+            fault: None,
         }
     }
 
@@ -64,59 +75,80 @@ impl Trial {
         self.rows = self.rows.saturating_add(1);
         self.at = ("the", "row");
         self.prefix = None;
-        self.fault.clear();
+        self.fault = None;
     }
 
     /// Counts the row, and reports what does not hold of it.
     pub fn end_row(&mut self, row: &str) -> Result<(), AllocError> {
-        if self.out_of_memory {
-            return Err(AllocError);
+        if let Some(refusal) = self.refusal {
+            return Err(refusal);
         }
-        if self.fault.is_empty() {
-            self.held = self.held.saturating_add(1);
-            return Ok(());
+        match self.fault {
+            Some(fault) => {
+                let text = row.split('\t').nth(1).unwrap_or(row);
+                push_fault(&mut self.report, self.line, text, fault)
+            }
+            None => {
+                self.held = self.held.saturating_add(1);
+                Ok(())
+            }
         }
-        let line = self.line;
-        let text = row.split('\t').nth(1).unwrap_or(row);
-        let fault = self.fault.as_str();
-        writeln!(self.report, "line {line}: {text}: {fault}")
     }
 
     /// Notes what does not hold, if it is the first of the row.
-    pub fn check(&mut self, holds: bool, what: &str) {
-        if holds || !self.fault.is_empty() {
-            return;
+    pub fn check(&mut self, holds: bool, what: &'static str) {
+        if !holds && self.fault.is_none() {
+            self.fault = Some(Fault {
+                at: self.at,
+                what,
+                prefix: self.prefix,
+            });
         }
-        let (name, over) = self.at;
-        let written = match self.prefix {
-            Some(len) => write!(self.fault, "{name} over {over}: {what}, in {len} bytes"),
-            None => write!(self.fault, "{name} over {over}: {what}"),
-        };
-        self.own(written);
     }
 
-    /// Reports that a call of the library was refused memory, if it was. Whether it was.
-    pub fn is_refused(&mut self, call: &str, refused: bool) -> bool {
-        if refused {
-            let line = self.line;
-            let (name, over) = self.at;
-            let written = writeln!(
-                self.report,
-                "refused {name}::{call} over {over} at line {line}"
-            );
-            self.own(written);
-        }
-        refused
+    /// Reports that a call of the library was refused memory.
+    pub fn note_refusal(&mut self, call: &str) {
+        let written = push_refused(&mut self.report, self.line, self.at, call);
+        self.own(written);
     }
 
     /// What is answered, where no allocation is refused. The program ends where one is.
     pub fn own<T>(&mut self, answer: Result<T, AllocError>) -> Option<T> {
         match answer {
             Ok(value) => Some(value),
-            Err(AllocError) => {
-                self.out_of_memory = true;
+            Err(refusal) => {
+                self.refusal = Some(refusal);
                 None
             }
         }
     }
+}
+
+/// Adds the line on what does not hold of a text.
+fn push_fault(report: &mut String, line: u64, text: &str, fault: Fault) -> Result<(), AllocError> {
+    write!(report, "line {line}: {text}: ")?;
+    push_place(report, fault.at)?;
+    report.push_str(": ")?;
+    report.push_str(fault.what)?;
+    if let Some(len) = fault.prefix {
+        write!(report, ", in {len} bytes")?;
+    }
+    report.push_str("\n")
+}
+
+/// Adds the line on a call that was refused memory.
+fn push_refused(report: &mut String, line: u64, at: Place, call: &str) -> Result<(), AllocError> {
+    report.push_str("refused ")?;
+    report.push_str(at.0)?;
+    report.push_str("::")?;
+    report.push_str(call)?;
+    report.push_str(" over ")?;
+    report.push_str(at.1)?;
+    writeln!(report, " at line {line}")
+}
+
+fn push_place(report: &mut String, at: Place) -> Result<(), AllocError> {
+    report.push_str(at.0)?;
+    report.push_str(" over ")?;
+    report.push_str(at.1)
 }

@@ -16,25 +16,26 @@ returns-in-Err-clause-err g c = stops_at_read c.loop-turn.invariant.runs _ c.in-
 pub returns-then-count-eq0-clause-ok : goal.returns-then-count-eq0-clause-ok
 returns-then-count-eq0-clause-ok g c =
     let read = c.in-Ok.ensures.bytes in
-    OnOk-map c.finish.result (ends_run c.loop-turn.invariant.runs _ _ _ _ c.as_slice-open_line.ensures.value read.0 (take_none _ _ (omega arith)) (read.1 (omega arith) (omega arith))) c.finish.ensures.ok
+    OnOk-map c.finish.result (λ all. ends_run c.loop-turn.invariant.runs _ _ _ _ all.0 c.as_slice-open_line.ensures.value read.0 (take_none _ _ (omega arith)) (read.1 (omega arith) (omega arith)) all.1 all.2) c.finish.ensures.ok
 
 pub returns-then-count-eq0-clause-err : goal.returns-then-count-eq0-clause-err
 returns-then-count-eq0-clause-err g c =
     let read = c.in-Ok.ensures.bytes in
-    OnErr-map c.finish.result (stops_at_end c.loop-turn.invariant.runs _ _ _ _ c.as_slice-open_line.ensures.value read.0 (take_none _ _ (omega arith)) (read.1 (omega arith) (omega arith))) c.finish.ensures.err
+    OnErr-map c.finish.result (λ all. stops_at_end c.loop-turn.invariant.runs _ _ _ _ all.0 c.as_slice-open_line.ensures.value read.0 (take_none _ _ (omega arith)) (read.1 (omega arith) (omega arith)) all.1 all.2) c.finish.ensures.err
 
 pub take_piece-requires-clause-line : goal.take_piece-requires-clause-line
 take_piece-requires-clause-line g c = line_unended c.loop-turn.invariant.runs
 
 pub returns-in-Err-take_piece-clause-err : goal.returns-in-Err-take_piece-clause-err
 returns-in-Err-take_piece-clause-err g c =
-    stops_in_piece c.loop-turn.invariant.runs _ _ _ c.in-Ok.ensures.bytes.0 c.in-Err-take_piece.ensures.err
+    let part = c.in-Err-take_piece.ensures.err in
+    stops_in_piece c.loop-turn.invariant.runs _ _ _ part.0 part.1 c.in-Ok.ensures.bytes.0 part.2 part.3
 
 pub loop-turn-preserved : goal.loop-turn-preserved
 loop-turn-preserved g c = record {
   reader_works = c.in-Ok.ensures.failed ∙ c.loop-turn.invariant.reader_works;
   writer_works = false_unless _ (λ failed. ok_not_err (c.in_default.ensures.write.1 failed));
-  runs = runs_more c.loop-turn.invariant.runs _ _ _ _ _ c.in-Ok.ensures.bytes.0 c.in_default.ensures.line c.in_default.ensures.held c.in_default.ensures.ok (rw length-take (omega arith));
+  runs = runs_more c.loop-turn.invariant.runs _ _ _ _ _ c.in_default.ensures.ok.0 c.in-Ok.ensures.bytes.0 c.in_default.ensures.line c.in_default.ensures.ok.1 c.in_default.ensures.ok.2 (rw length-take (omega arith));
 }
 
 pub returns-clause-err : goal.returns-clause-err

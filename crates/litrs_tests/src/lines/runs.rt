@@ -33,26 +33,38 @@ float int=3 frac=14 exp= suffix=f33
 /// The sizes of the pieces that are tried.
 const SIZES: &[usize] = &[1, 3, 4096];
 
-/// What `run` answers over an input, and what it has written by then. The pieces have these sizes,
-/// and the devices fail from the calls of these numbers on.
+/// What `run` answers over an input, and what it has written by then.
+#[derive(Drop)]
+struct Run {
+    result: Result<(), RunError>,
+    output: MemOutput,
+}
+
+/// A run over an input. The pieces have these sizes, and the devices fail from the calls of these
+/// numbers on.
 fn run_over(
     alloc: Global,
     lines: &[u8],
     pieces: (usize, usize),
     fails: (Option<u64>, Option<u64>),
-) -> Result<(Result<(), RunError>, MemOutput), AllocError> {
+) -> Result<Run, AllocError> {
     let mut input = MemInput::new(lines, pieces.0.max(1), fails.0);
     let mut output = MemOutput::new(alloc, 4096, pieces.1.max(1), fails.1)?;
     let result = run(alloc, &mut input, &mut output);
-    Ok((result, output))
+    Ok(Run { result, output })
 }
 
 /// Whether a run in pieces of these sizes gives the reports.
 fn gives(alloc: Global, lines: &[u8], reports: &[u8], read: usize, write: usize) -> bool {
-    match &run_over(alloc, lines, (read, write), (None, None)) {
-        Ok((result, output)) => { result.is_ok() && output.bytes() == reports && !output.failed() }
+    match run_over(alloc, lines, (read, write), (None, None)) {
+        Ok(run) => has_given(run, reports),
         Err(_) => false,
     }
+}
+
+/// Whether a run has given the reports.
+fn has_given(run: Run, reports: &[u8]) -> bool {
+    run.result.is_ok() && run.output.bytes() == reports && !run.output.failed()
 }
 
 /// Whether that is so of pieces of each size.
@@ -82,13 +94,18 @@ fn count_lines(bytes: &[u8]) -> usize {
 /// Whether the read of this number, which fails, ends the run: what is written by then is the
 /// reports on the lines that were read, in reads of one byte.
 fn ends_at_read(alloc: Global, number: usize) -> bool {
-    match &run_over(alloc, LINES, (1, 3), (Some(number as u64), None)) {
-        Ok((Err(RunError::Read), output)) => {
-            let read = LINES.get(..number).unwrap_or(&[]);
-            REPORTS.starts_with(output.bytes()) && count_lines(output.bytes()) == count_lines(read)
-        }
-        _ => false,
+    match run_over(alloc, LINES, (1, 3), (Some(number as u64), None)) {
+        Ok(run) => has_ended_at_read(run, number),
+        Err(_) => false,
     }
+}
+
+fn has_ended_at_read(run: Run, number: usize) -> bool {
+    let read = LINES.get(..number).unwrap_or(&[]);
+    let written = run.output.bytes();
+    matches!(run.result, Err(RunError::Read))
+        && REPORTS.starts_with(written)
+        && count_lines(written) == count_lines(read)
 }
 
 #[test]
@@ -101,12 +118,17 @@ fn each_read_fails(rt: HostRuntime) {
 /// Whether the write or the flush of this number, which fails, ends the run, and so much is written
 /// by then.
 fn ends_at_write(alloc: Global, number: u64, written: usize) -> bool {
-    match &run_over(alloc, LINES, (4096, 4), (None, Some(number))) {
-        Ok((Err(RunError::Write), output)) => {
-            REPORTS.starts_with(output.bytes()) && output.bytes().len() == written
-        }
-        _ => false,
+    match run_over(alloc, LINES, (4096, 4), (None, Some(number))) {
+        Ok(run) => has_ended_at_write(run, written),
+        Err(_) => false,
     }
+}
+
+fn has_ended_at_write(run: Run, written: usize) -> bool {
+    let bytes = run.output.bytes();
+    matches!(run.result, Err(RunError::Write))
+        && REPORTS.starts_with(bytes)
+        && bytes.len() == written
 }
 
 /// The writes are of four bytes: 32 of the reports on the lines that an LF ends, whose last has

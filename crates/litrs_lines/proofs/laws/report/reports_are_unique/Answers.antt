@@ -1,4 +1,4 @@
-use Rattle.litrs_lines.proofs.LinesLemmas.{reports_are_unique}
+use Rattle.litrs_lines.proofs.GroupReports.{reports_are_unique}
 use Rattle.litrs_lines.proofs.laws.report.reports_are_unique.Goals as goal
 
 pub returns : goal.returns
