@@ -52,6 +52,28 @@ stops_later a b c p q x y z whole one part is =
           ∙ take-append_seam (one.written ++ part.written) (rest ++ z);
     }
 
+-- the same of a longer whole
+pub stops_longer : (a c : Option (List ℕ)) (old out more : List ℕ) → AppendsBeginning a c (old ++ out) →
+    AppendsBeginning a c (old ++ (out ++ more))
+stops_longer a c old out more part =
+    stops_later a a c old old [] out more _ (adds a old old [] (sym (append-nil old))) part refl
+
+-- what was written before a failure that writes nothing
+pub stops_now : (a b : Option (List ℕ)) (p q x : List ℕ) → Sends a p b q x → AppendsBeginning a b (p ++ x)
+stops_now a b p q x one =
+    stops_later a b b p q x [] [] _ one (writes_nothing b (q ++ [])) (ap (λ l. p ++ l) (sym (append-nil x)))
+
+-- where nothing was unwritten before, and then all that is unwritten is written
+pub writes_rest : (a b c : Option (List ℕ)) (p q x : List ℕ) → Sends a p b q x → p ≡ [] → Appends b c q → Appends a c x
+writes_rest a b c p q x one none writes =
+    subst (Appends a c) (one.spells ∙ ap (λ l. l ++ x) none) (Appends-trans a b c one.written q one.appends writes)
+
+-- or a prefix of it
+pub writes_some_rest : (a b c : Option (List ℕ)) (p q x : List ℕ) → Sends a p b q x → p ≡ [] → AppendsBeginning b c q → AppendsBeginning a c x
+writes_some_rest a b c p q x one none part =
+    stops_later a b c p q x [] [] x one (subst (AppendsBeginning b c) (sym (append-nil q)) part)
+    (sym (append-nil x) ∙ ap (λ l. l ++ (x ++ [])) (sym none))
+
 -- ---- bytes in hex
 
 -- those before the rest are added
@@ -67,15 +89,15 @@ hex_bytes-append : (a b : List ℕ) → hex_bytes (a ++ b) ≡ hex_bytes a ++ he
 hex_bytes-append a b = flat_map-append hex_byte a b
 
 -- a piece is added, and all is written
-pub sends_piece : (a b c : Option (List ℕ)) (p q r bytes rest rest_new : List ℕ) (n : ℕ) → SendsHex a p b q bytes rest → r ≡ q ++ hex_bytes (take n rest) → Appends b c r →
-    rest_new ≡ drop n rest → SendsHex a p c [] bytes rest_new
-sends_piece a b c p q r bytes rest rest_new n so_far more writes is_new = record {
+pub sends_piece : (a b c : Option (List ℕ)) (p q r s bytes rest rest_new : List ℕ) (n : ℕ) → SendsHex a p b q bytes rest → r ≡ q ++ hex_bytes (take n rest) → Appends b c r →
+    s ≡ [] → rest_new ≡ drop n rest → SendsHex a p c s bytes rest_new
+sends_piece a b c p q r s bytes rest rest_new n so_far more writes none is_new = subst (λ l. SendsHex a p c l bytes rest_new) (sym none) (record {
   front = so_far.front ++ take n rest;
   is = so_far.is ∙ ap (λ l. so_far.front ++ l) (sym (take-append-drop n rest)) ∙ sym (append_assoc so_far.front (take n rest) (drop n rest))
       ∙ ap (λ l. (so_far.front ++ take n rest) ++ l) (sym is_new);
   sends = subst (Sends a p c []) (ap (λ l. hex_bytes so_far.front ++ l) (append-nil (hex_bytes (take n rest))) ∙ sym (hex_bytes-append so_far.front (take n rest)))
       (sends_more a b c p q [] _ _ so_far.sends (sends_more b b c q r [] _ _ (adds b q r (hex_bytes (take n rest)) more) (writes_all b c r writes)));
-}
+})
 
 -- the last piece is added
 pub sends_last : (a b : Option (List ℕ)) (p q r bytes rest : List ℕ) → SendsHex a p b q bytes rest → r ≡ q ++ hex_bytes rest → Sends a p b r (hex_bytes bytes)

@@ -292,7 +292,8 @@ fn finish<O: Output>(
 /// follows the last LF where that is not empty. A group is a line that is not UTF-8, or the least
 /// number of next lines, all UTF-8, that are a literal when they are joined by LF, or begin none
 /// with an LF after them, or after which no line follows or one that is not UTF-8. One group is
-/// held at a time, so memory is taken in proportion to the longest.
+/// held at a time, so memory is taken in proportion to the longest. The report on a long value is
+/// written in pieces.
 ///
 /// # Errors
 ///
