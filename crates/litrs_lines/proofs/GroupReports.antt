@@ -115,8 +115,7 @@ pub stops-append : (held : List ℕ) (lines more rest : List (List ℕ)) (betwee
 stops-append held lines more rest between a b c old front x y =
     let part = y.1 in
     let all = have_ended_reports y.0 rest in
-    let front_lines : AreEndedReports held (lines ++ more) y.0 (x.0 ++ part.0) = ended-append held lines more between y.0 x.0 part.0 x.1 part.1 in
-    (
+    let front_lines : AreEndedReports held (lines ++ more) y.0 (x.0 ++ part.0) = ended-append held lines more between y.0 x.0 part.0 x.1 part.1 in (
       all.0,
       (
         (x.0 ++ part.0) ++ all.1,

@@ -1,5 +1,5 @@
 -- Reports of which a part is written: how what is added and what is written go together.
-use Rattle.std.proofs.Common.{◌≡◌, ℕ, List, [], ◌∷◌, ◌++◌, length, take, drop, Option, refl, sym, ap, subst, ◌∙◌, take-append-drop}
+use Rattle.std.proofs.Common.{◌≡◌, ℕ, List, [], ◌++◌, length, take, drop, Option, refl, sym, ap, subst, ◌∙◌, take-append-drop}
 use Rattle.std.proofs.lemmas.List.{append-nil, append_assoc}
 use Rattle.std.proofs.lemmas.Grind.{flat_map-append}
 use Rattle.std.proofs.KnownBytes.{Appends-nil, Appends-trans, starts_with_rest}
@@ -73,6 +73,11 @@ pub writes_some_rest : (a b c : Option (List ℕ)) (p q x : List ℕ) → Sends 
 writes_some_rest a b c p q x one none part =
     stops_later a b c p q x [] [] x one (subst (AppendsBeginning b c) (sym (append-nil q)) part)
     (sym (append-nil x) ∙ ap (λ l. l ++ (x ++ [])) (sym none))
+
+-- or all of it
+pub writes_whole : (a c : Option (List ℕ)) (x : List ℕ) → Appends a c x → AppendsBeginning a c x
+writes_whole a c x writes =
+    subst (AppendsBeginning a c) (append-nil x) (record { written = x; appends = writes; begins = take-append_seam x [] })
 
 -- ---- bytes in hex
 

@@ -4,7 +4,7 @@ use Rattle.std.proofs.KnownBytes.{Appends-kept}
 use Rattle.std.specs.Io.KnownBytes.{Appends}
 use Rattle.litrs_lines.specs.Stopped.{AppendsBeginning}
 use Rattle.litrs_lines.proofs.LinesLemmas.{OnErr-holds}
-use Rattle.litrs_lines.proofs.Sending.{writes_rest, writes_some_rest}
+use Rattle.litrs_lines.proofs.Sending.{writes_rest, writes_some_rest, writes_whole}
 use Rattle.litrs_lines.proofs.GroupReports.{stops-first_last}
 use Rattle.std.specs.Prelude.{string_bytes}
 use Rattle.litrs_lines.specs.Lines.{unless_empty}
@@ -18,3 +18,10 @@ pub returns-in-Err-clause-err : goal.returns-in-Err-clause-err
 returns-in-Err-clause-err g c =
     let all = c.in_ok-report_last.ensures.ok in
     (all.0, all.1, writes_some_rest _ _ _ _ _ all.0 all.2 c.clear.ensures.bytes (subst (AppendsBeginning _ _) c.as_bytes.ensures.value c.in-Err.ensures.err))
+
+pub returns-in-Err-flush-clause-err : goal.returns-in-Err-flush-clause-err
+returns-in-Err-flush-clause-err g c =
+    let all = c.in_ok-report_last.ensures.ok in
+    let wrote = subst (Appends (g.O.Output.contents c.report_last.new.writer) (g.O.Output.contents c.write_all.new.writer)) c.as_bytes.ensures.value c.in_default.ensures.ok in
+    let whole = writes_rest (g.O.Output.contents c.args.writer.now) (g.O.Output.contents c.report_last.new.writer) (g.O.Output.contents c.write_all.new.writer) _ _ all.0 all.2 c.clear.ensures.bytes wrote in
+    (all.0, all.1, writes_whole (g.O.Output.contents c.args.writer.now) (g.O.Output.contents c.flush.new.self) all.0 (Appends-kept (g.O.Output.contents c.args.writer.now) (g.O.Output.contents c.write_all.new.writer) (g.O.Output.contents c.flush.new.self) all.0 whole c.in-Err-flush.ensures.bytes))

@@ -2,7 +2,6 @@
 use Rattle.std.proofs.Common.{arith, ◌∙◌, length-take}
 use Rattle.std.proofs.lemmas.List.{take_rest}
 use Rattle.std.proofs.lemmas.Bool.Decides.{nat_tests}
-use Rattle.std.specs.Prelude.{string_bytes}
 use Rattle.litrs_lines.proofs.LinesLemmas.{OnErr-holds}
 use Rattle.litrs_lines.proofs.Sending.{sends_stops_now, sends_stops, sends_piece}
 use Rattle.litrs_lines.proofs.report.send_hex.Goals as goal
