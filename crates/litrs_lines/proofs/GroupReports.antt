@@ -1,6 +1,6 @@
 -- The reports on the groups that end with lines: each list of lines has them, and how they go on from line to line.
 use Rattle.std.proofs.Common.{◌≡◌, ◌∙◌, inl, inr, ℕ, List, [], ◌∷◌, ◌++◌, refl, sym, ap, subst, append_assoc, append-nil}
-use Rattle.std.specs.Prelude.{map, codes, Result, Ok, Err, OnOk, is_ok, if◌then◌else◌}
+use Rattle.std.specs.Prelude.{map, codes, Option, Result, Ok, Err, OnOk, is_ok, if◌then◌else◌}
 use Rattle.std.specs.Str.{IsUtf8}
 use Rattle.litrs_base.specs.declared.err.ParseError.{ParseError}
 use Rattle.litrs_base.specs.Refusal.{refusal_of}
@@ -14,6 +14,9 @@ use Rattle.litrs_lines.specs.Report.{literal_report, refusal_report}
 use Rattle.litrs_lines.specs.Reports.{AreReports, AreGroupReports}
 use Rattle.litrs_lines.specs.ReportLaws.{LinesHaveReports, ReportsAreUnique}
 use Rattle.litrs_lines.specs.Ended.{unless_held, AreEndedReports, AreLastReports}
+use Rattle.litrs_lines.specs.Sent.{Sends, SendsReports, StopsReports}
+use Rattle.litrs_lines.specs.Stopped.{AppendsBeginning}
+use Rattle.litrs_lines.proofs.Sending.{adds, sends_more, writes_nothing, stops_later, stops_longer, stops_now}
 use Rattle.litrs_lines.proofs.ReportLemmas.{texts_have_reports, AreReports-one, AreReports-append, one_list_of_reports}
 use Rattle.litrs_lines.proofs.GroupLemmas.{unless_held-some, lines_end, LinesEnd-one, LinesEnd-append, grouped, groups_are_unique}
 
@@ -77,67 +80,116 @@ last-append held lines more between out next a b = (
   ap (λ (xs : List ℕ). out ++ xs) b.5 ∙ sym (append_assoc out b.1 b.2),
 )
 
--- ---- reports that are added to old ones
+-- ---- reports that are added to old ones, and written in part
 
 -- the reports on the groups that end with these lines were added
-abbrev pub Adds : (held : List ℕ) (lines : List (List ℕ)) (left old new : List ℕ) → Type 0
-Adds held lines left old new = (out : List ℕ) × AreEndedReports held lines left out × (new ≡ old ++ out)
+abbrev pub Adds : (held : List ℕ) (lines : List (List ℕ)) (left : List ℕ) (a : Option (List ℕ)) (old : List ℕ) (b : Option (List ℕ)) (new : List ℕ) → Type 0
+Adds held lines left a old b new = SendsReports (AreEndedReports held lines left) a old b new
 
-pub adds-none : (held old : List ℕ) → Adds held [] held old old
-adds-none held old = ([], ended-none held, sym (append-nil old))
+-- a prefix of them was written
+abbrev pub Stops : (held : List ℕ) (lines : List (List ℕ)) (a : Option (List ℕ)) (old : List ℕ) (b : Option (List ℕ)) → Type 0
+Stops held lines a old b = (left : List ℕ) × StopsReports (AreEndedReports held lines left) a old b
 
-pub adds-append : (held : List ℕ) (lines more : List (List ℕ)) (between left old front new : List ℕ) →
-    Adds held lines between old front → Adds between more left front new → Adds held (lines ++ more) left old new
-adds-append held lines more between left old front new a b = (
-  a.0 ++ b.0,
-  ended-append held lines more between left a.0 b.0 a.1 b.1,
-  b.2 ∙ ap (λ (xs : List ℕ). xs ++ b.0) a.2 ∙ append_assoc old a.0 b.0,
-)
+pub adds-none : (held : List ℕ) (a : Option (List ℕ)) (old : List ℕ) → Adds held [] held a old a old
+adds-none held a old = ([], ended-none held, adds a old old [] (sym (append-nil old)))
+
+pub adds-append : (held : List ℕ) (lines more : List (List ℕ)) (between left : List ℕ) (a b c : Option (List ℕ)) (old front new : List ℕ) →
+    Adds held lines between a old b front → Adds between more left b front c new → Adds held (lines ++ more) left a old c new
+adds-append held lines more between left a b c old front new x y =
+    (x.0 ++ y.0, ended-append held lines more between left x.0 y.0 x.1 y.1, sends_more a b c old front new x.0 y.0 x.2 y.2)
+
+-- nothing was written
+pub stops-none : (held : List ℕ) (lines : List (List ℕ)) (a : Option (List ℕ)) (old : List ℕ) → Stops held lines a old a
+stops-none held lines a old =
+    let all = have_ended_reports held lines in
+    (all.0, (all.1, all.2, writes_nothing a (old ++ all.1)))
+
+-- what was added before a failure that writes nothing
+pub stops-after : (held : List ℕ) (lines : List (List ℕ)) (left : List ℕ) (a b : Option (List ℕ)) (old new : List ℕ) →
+    Adds held lines left a old b new → Stops held lines a old b
+stops-after held lines left a b old new x = (left, (x.0, x.1, stops_now a b old new x.0 x.2))
+
+-- a failure in lines that have some before and after them
+pub stops-append : (held : List ℕ) (lines more rest : List (List ℕ)) (between : List ℕ) (a b c : Option (List ℕ)) (old front : List ℕ) →
+    Adds held lines between a old b front → Stops between more b front c → Stops held ((lines ++ more) ++ rest) a old c
+stops-append held lines more rest between a b c old front x y =
+    let part = y.1 in
+    let all = have_ended_reports y.0 rest in
+    let front_lines : AreEndedReports held (lines ++ more) y.0 (x.0 ++ part.0) = ended-append held lines more between y.0 x.0 part.0 x.1 part.1 in (
+      all.0,
+      (
+        (x.0 ++ part.0) ++ all.1,
+        ended-append held (lines ++ more) rest y.0 all.0 (x.0 ++ part.0) all.1 front_lines all.2,
+        stops_later a b c old front x.0 part.0 all.1 _ x.2 part.2 (ap (λ (l : List ℕ). old ++ l) (append_assoc x.0 part.0 all.1)),
+      ),
+    )
 
 -- the report on the group that is held was added
 abbrev pub AddsHeld : (held old new : List ℕ) → Type 0
 AddsHeld held old new = (out : List ℕ) × AreReports (unless_held held) out × (new ≡ old ++ out)
 
 -- it comes last
-pub adds-last : (held : List ℕ) (lines : List (List ℕ)) (left old front new : List ℕ) → Adds held lines left old front → AddsHeld left front new →
-    (out : List ℕ) × AreLastReports held lines out × (new ≡ old ++ out)
-adds-last held lines left old front new a b = (
-  a.0 ++ b.0,
-  (left, a.0, b.0, a.1, b.1, refl),
-  b.2 ∙ ap (λ (xs : List ℕ). xs ++ b.0) a.2 ∙ append_assoc old a.0 b.0,
-)
+pub adds-last : (held : List ℕ) (lines : List (List ℕ)) (left : List ℕ) (a b : Option (List ℕ)) (old front new : List ℕ) → Adds held lines left a old b front → AddsHeld left front new →
+    SendsReports (AreLastReports held lines) a old b new
+adds-last held lines left a b old front new x y =
+    (x.0 ++ y.0, (left, x.0, y.0, x.1, y.1, refl), sends_more a b b old front new x.0 y.0 x.2 (adds b front new y.0 y.2))
+
+-- a failure before it is added
+pub stops-last : (held : List ℕ) (lines : List (List ℕ)) (a c : Option (List ℕ)) (old : List ℕ) → Stops held lines a old c → StopsReports (AreLastReports held lines) a old c
+stops-last held lines a c old y =
+    let part = y.1 in
+    let all = last_reports held lines y.0 part.0 part.1 in
+    (part.0 ++ all.0, all.1, stops_longer a c old part.0 all.0 part.2)
+
+-- where nothing was unwritten before
+pub stops-first : (held : List ℕ) (lines : List (List ℕ)) (a c : Option (List ℕ)) (old : List ℕ) → Stops held lines a old c → old ≡ [] →
+    (left : List ℕ) × (out : List ℕ) × AreEndedReports held lines left out × AppendsBeginning a c out
+stops-first held lines a c old y none =
+    let part = y.1 in
+    (y.0, part.0, part.1, subst (AppendsBeginning a c) (ap (λ (l : List ℕ). l ++ part.0) none) part.2)
+
+pub stops-first_last : (held : List ℕ) (lines : List (List ℕ)) (a c : Option (List ℕ)) (old : List ℕ) → StopsReports (AreLastReports held lines) a old c → old ≡ [] →
+    (out : List ℕ) × AreLastReports held lines out × AppendsBeginning a c out
+stops-first_last held lines a c old part none = (part.0, part.1, subst (AppendsBeginning a c) (ap (λ (l : List ℕ). l ++ part.0) none) part.2)
 
 -- ---- one line
 
--- what is pushed for a step
-abbrev pub Pushed : (old new : List ℕ) → Step → Type 0
-Pushed old new More = new ≡ old
-Pushed old new (Literal lit) = new ≡ old ++ (literal_report (derivation lit) ++ 10 ∷ [])
-Pushed old new (Refused e) = new ≡ old ++ (refusal_report (refusal_of e) ++ 10 ∷ [])
+-- what is added for a step
+abbrev pub step_bytes : Step → List ℕ
+step_bytes More = []
+step_bytes (Literal lit) = literal_report (derivation lit) ++ 10 ∷ []
+step_bytes (Refused e) = refusal_report (refusal_of e) ++ 10 ∷ []
 
 -- it is the reports on the groups that the line ends
-pub step_adds : (old new held line left : List ℕ) (step : Step) → IsUtf8 line → IsUtf8 (held ++ line) → IsStep (held ++ line) step → left ≡ held_after (held ++ line) step → Pushed old new step →
-    Adds held (line ∷ []) left old new
-step_adds old new held line left More text whole is after pushed =
-    ([], ([], LinesEnd-one held line [] left (inl (text, is, refl, after)), refl), pushed ∙ sym (append-nil old))
-step_adds old new held line left (Literal lit) text whole is after pushed = (
-  literal_report (derivation lit) ++ 10 ∷ [],
-  (
-    (held ++ line) ∷ [],
-    LinesEnd-one held line ((held ++ line) ∷ []) left (inr (inl (text, inl (derivation lit, is.1.0), refl, after))),
-    AreReports-one (held ++ line) (literal_report (derivation lit)) (inl (whole, inl (derivation lit, is.1.0, refl))),
-  ),
-  pushed,
+step_reports : (held line left : List ℕ) (step : Step) → IsUtf8 line → IsUtf8 (held ++ line) → IsStep (held ++ line) step → left ≡ held_after (held ++ line) step →
+    AreEndedReports held (line ∷ []) left (step_bytes step)
+step_reports held line left More text whole is after =
+    ([], LinesEnd-one held line [] left (inl (text, is, refl, after)), refl)
+step_reports held line left (Literal lit) text whole is after = (
+  (held ++ line) ∷ [],
+  LinesEnd-one held line ((held ++ line) ∷ []) left (inr (inl (text, inl (derivation lit, is.1.0), refl, after))),
+  AreReports-one (held ++ line) (literal_report (derivation lit)) (inl (whole, inl (derivation lit, is.1.0, refl))),
 )
-step_adds old new held line left (Refused e) text whole is after pushed = (
-  refusal_report (refusal_of e) ++ 10 ∷ [],
-  (
-    (held ++ line) ∷ [],
-    LinesEnd-one held line ((held ++ line) ∷ []) left (inr (inl (text, inr is.1, refl, after))),
-    AreReports-one (held ++ line) (refusal_report (refusal_of e)) (inl (whole, inr (refusal_of e, is.0.table, refl))),
-  ),
-  pushed,
+step_reports held line left (Refused e) text whole is after = (
+  (held ++ line) ∷ [],
+  LinesEnd-one held line ((held ++ line) ∷ []) left (inr (inl (text, inr is.1, refl, after))),
+  AreReports-one (held ++ line) (refusal_report (refusal_of e)) (inl (whole, inr (refusal_of e, is.0.table, refl))),
 )
+
+-- the step that a line makes
+pub record Steps (held line left : List ℕ) (step : Step) : Type 0 where
+  pub text : IsUtf8 line
+  pub whole : IsUtf8 (held ++ line)
+  pub is : IsStep (held ++ line) step
+  pub after : left ≡ held_after (held ++ line) step
+
+pub step_adds : (held line left : List ℕ) (step : Step) (a b : Option (List ℕ)) (old new : List ℕ) → Steps held line left step →
+    Sends a old b new (step_bytes step) → Adds held (line ∷ []) left a old b new
+step_adds held line left step a b old new s sends = (step_bytes step, step_reports held line left step s.text s.whole s.is s.after, sends)
+
+pub step_stops : (held line left : List ℕ) (step : Step) (a b : Option (List ℕ)) (old : List ℕ) → Steps held line left step →
+    AppendsBeginning a b (old ++ step_bytes step) → Stops held (line ∷ []) a old b
+step_stops held line left step a b old s part = (left, (step_bytes step, step_reports held line left step s.text s.whole s.is s.after, part))
 
 -- the report on lines that are held
 pub held_adds : (old new held : List ℕ) (e : ParseError) → IsRefusalOfHeld held e → new ≡ old ++ (refusal_report (refusal_of e) ++ 10 ∷ []) → AddsHeld held old new
@@ -157,16 +209,16 @@ abbrev pub AddsNoText : (held old new : List ℕ) → Type 0
 AddsNoText held old new =
     (out : List ℕ) × AreReports (unless_held held) out × (new ≡ (old ++ out) ++ codes "error input is not UTF-8\n")
 
-pub other_adds : (old new held line left : List ℕ) → IsNoText line → left ≡ [] → AddsNoText held old new → Adds held (line ∷ []) left old new
-other_adds old new held line left other none adds = (
-  adds.0 ++ codes "error input is not UTF-8\n",
+pub other_adds : (a : Option (List ℕ)) (old new held line left : List ℕ) → IsNoText line → left ≡ [] → AddsNoText held old new → Adds held (line ∷ []) left a old a new
+other_adds a old new held line left other none more = (
+  more.0 ++ codes "error input is not UTF-8\n",
   (
     unless_held held ++ line ∷ [],
     LinesEnd-one held line (unless_held held ++ line ∷ []) left (inr (inr (other, refl, none))),
-    AreReports-append (unless_held held) (line ∷ []) adds.0 (codes "error input is not UTF-8\n") adds.1
+    AreReports-append (unless_held held) (line ∷ []) more.0 (codes "error input is not UTF-8\n") more.1
         (AreReports-one line (codes "error input is not UTF-8") (inr (other, refl))),
   ),
-  adds.2 ∙ append_assoc old adds.0 (codes "error input is not UTF-8\n"),
+  adds a old new _ (more.2 ∙ append_assoc old more.0 (codes "error input is not UTF-8\n")),
 )
 
 -- an LF after what was pushed

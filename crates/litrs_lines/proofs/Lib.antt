@@ -1,3 +1,4 @@
+pub mod Sending
 pub mod GroupReports
 pub mod GroupLemmas
 pub mod ReportLemmas

@@ -20,7 +20,7 @@ use Rattle.std.proofs.Common.{eqb-true, ltb, cond, add-one, get_or, take-append-
 use Rattle.std.proofs.lemmas.List.{get_or-take, take_rest}
 use Rattle.litrs_lines.specs.Ended.{AreEndedReports, AreLastReports}
 use Rattle.litrs_lines.specs.Reports.{AppendsReports}
-use Rattle.litrs_lines.proofs.GroupReports.{group_reports, last_reports, ended-none, ended-append, last-append, Adds, adds-none, adds-append}
+use Rattle.litrs_lines.proofs.GroupReports.{group_reports, last_reports, ended-none, ended-append, last-append, Adds, Stops, adds-none, adds-append, stops-append}
 use Rattle.litrs_lines.specs.Lines.{is_line_feed, HasNoLineFeed, before_last_part, last_part, ended_parts, open_part, unless_empty, without_return, ended_parts_of, ended_lines, open_line, lines_of}
 
 -- the first part of a split, and those after it
@@ -216,24 +216,24 @@ goes_on line rest held at =
     record { leaves = open_line-none (line ++ rest) none; lines = ended_lines-none (line ++ rest) none }
 
 -- of all lines some were taken, and the reports on the groups that end with them were added; the rest is left
-pub record TakesOn (held : List ℕ) (all rest : List (List ℕ)) (left old new : List ℕ) : Type 0 where
+pub record TakesOn (held : List ℕ) (all rest : List (List ℕ)) (left : List ℕ) (a : Option (List ℕ)) (old : List ℕ) (b : Option (List ℕ)) (new : List ℕ) : Type 0 where
   pub lines : List (List ℕ)
   pub is : all ≡ lines ++ rest
-  pub adds : Adds held lines left old new
+  pub adds : Adds held lines left a old b new
 
-pub takes_none : (held : List ℕ) (all : List (List ℕ)) (old : List ℕ) → TakesOn held all all held old old
-takes_none held all old = record { lines = []; is = refl; adds = adds-none held old }
+pub takes_none : (held : List ℕ) (all : List (List ℕ)) (a : Option (List ℕ)) (old : List ℕ) → TakesOn held all all held a old a old
+takes_none held all a old = record { lines = []; is = refl; adds = adds-none held a old }
 
 -- a step over a line that ends
-pub record StepsOn (held : List ℕ) (all : List (List ℕ)) (left old new line rest line' rest' : List ℕ) : Type 0 where
+pub record StepsOn (held : List ℕ) (all : List (List ℕ)) (left : List ℕ) (a : Option (List ℕ)) (old : List ℕ) (c : Option (List ℕ)) (new line rest line' rest' : List ℕ) : Type 0 where
   pub unended : HasNoLineFeed line'
   pub leaves : open_line (line ++ rest) ≡ open_line (line' ++ rest')
-  pub takes : TakesOn held all (ended_lines (line' ++ rest')) left old new
+  pub takes : TakesOn held all (ended_lines (line' ++ rest')) left a old c new
 
-pub steps_on : (held : List ℕ) (all : List (List ℕ)) (between left old front new line rest line' : List ℕ) (end : ℕ) → HasNoLineFeed line → Some end ≡ position is_line_feed rest
-    → TakesOn held all (ended_lines (line ++ rest)) between old front → line' ≡ [] → Adds between (without_return (line ++ take end rest) ∷ []) left front new
-    → StepsOn held all left old new line rest line' (take (length rest - (end + 1)) (drop (end + 1) rest))
-steps_on held all between left old front new line rest line' end unended at so_far none adds =
+pub steps_on : (held : List ℕ) (all : List (List ℕ)) (between left : List ℕ) (a b c : Option (List ℕ)) (old front new line rest line' : List ℕ) (end : ℕ) → HasNoLineFeed line → Some end ≡ position is_line_feed rest
+    → TakesOn held all (ended_lines (line ++ rest)) between a old b front → line' ≡ [] → Adds between (without_return (line ++ take end rest) ∷ []) left b front c new
+    → StepsOn held all left a old c new line rest line' (take (length rest - (end + 1)) (drop (end + 1) rest))
+steps_on held all between left a b c old front new line rest line' end unended at so_far none more =
     let step = ends_line line rest end unended (sym at) in
     let whole : List ℕ = without_return (line ++ take end rest) in
     let rest' = take (length rest - (end + 1)) (drop (end + 1) rest) in
@@ -247,14 +247,25 @@ steps_on held all between left old front new line rest line' end unended at so_f
         lines = so_far.lines ++ whole ∷ [];
         is = so_far.is ∙ ap (λ (ls : List (List ℕ)). so_far.lines ++ ls) step.lines
             ∙ sym (append_assoc so_far.lines (whole ∷ []) behind) ∙ ap (λ (ls : List (List ℕ)). (so_far.lines ++ whole ∷ []) ++ ls) after;
-        adds = adds-append held so_far.lines (whole ∷ []) between left old front new so_far.adds adds;
+        adds = adds-append held so_far.lines (whole ∷ []) between left a b c old front new so_far.adds more;
       };
     }
 
+-- a failure at a line that ends
+pub stops_on : (held : List ℕ) (all : List (List ℕ)) (between : List ℕ) (a b c : Option (List ℕ)) (old front line rest : List ℕ) (end : ℕ) → HasNoLineFeed line → Some end ≡ position is_line_feed rest
+    → TakesOn held all (ended_lines (line ++ rest)) between a old b front → Stops between (without_return (line ++ take end rest) ∷ []) b front c → Stops held all a old c
+stops_on held all between a b c old front line rest end unended at so_far part =
+    let step = ends_line line rest end unended (sym at) in
+    let whole : List ℕ = without_return (line ++ take end rest) in
+    let behind : List (List ℕ) = ended_lines (drop (end + 1) rest) in
+    let is : all ≡ (so_far.lines ++ whole ∷ []) ++ behind =
+    so_far.is ∙ ap (λ (ls : List (List ℕ)). so_far.lines ++ ls) step.lines ∙ sym (append_assoc so_far.lines (whole ∷ []) behind) in
+    subst (λ (ls : List (List ℕ)). Stops held ls a old c) (sym is) (stops-append held so_far.lines (whole ∷ []) behind between a b c old front so_far.adds part)
+
 -- where none is left all were taken
-pub takes_all : (held : List ℕ) (all rest : List (List ℕ)) (left old new : List ℕ) → TakesOn held all rest left old new → rest ≡ [] → Adds held all left old new
-takes_all held all rest left old new so_far none =
-    subst (λ (ls : List (List ℕ)). Adds held ls left old new) (sym (so_far.is ∙ ap (λ (ls : List (List ℕ)). so_far.lines ++ ls) none ∙ append-nil so_far.lines)) so_far.adds
+pub takes_all : (held : List ℕ) (all rest : List (List ℕ)) (left : List ℕ) (a : Option (List ℕ)) (old : List ℕ) (b : Option (List ℕ)) (new : List ℕ) → TakesOn held all rest left a old b new → rest ≡ [] → Adds held all left a old b new
+takes_all held all rest left a old b new so_far none =
+    subst (λ (ls : List (List ℕ)). Adds held ls left a old b new) (sym (so_far.is ∙ ap (λ (ls : List (List ℕ)). so_far.lines ++ ls) none ∙ append-nil so_far.lines)) so_far.adds
 
 -- ---- appended bytes
 
@@ -308,14 +319,10 @@ unless_empty-some [] some = absurd (omega arith)
 unless_empty-some (b ∷ bs) some = refl
 
 -- where it is empty nothing is added
-pub nothing_last : (held line old : List ℕ) → length line ≡ 0 → Adds held (unless_empty line) held old old
-nothing_last held line old none = subst (λ (ls : List (List ℕ)). Adds held ls held old old) (sym (unless_empty-none line none)) (adds-none held old)
+pub nothing_last : (held line : List ℕ) (a : Option (List ℕ)) (old : List ℕ) → length line ≡ 0 → Adds held (unless_empty line) held a old a old
+nothing_last held line a old none = subst (λ (ls : List (List ℕ)). Adds held ls held a old a old) (sym (unless_empty-none line none)) (adds-none held a old)
 
 -- ---- a run
-
--- a prefix of nothing more than was written
-pub AppendsBeginning-none : (contents : Option (List ℕ)) (bytes : List ℕ) → AppendsBeginning contents contents bytes
-AppendsBeginning-none contents bytes = record { written = []; appends = Appends-nil contents; begins = refl }
 
 -- of the bytes taken so far all groups that ended were reported on, and each read took one at least
 pub record RunsOn (left_old left_new contents_old contents_new : Option (List ℕ)) (line held : List ℕ) (reads : ℕ) : Type 0 where

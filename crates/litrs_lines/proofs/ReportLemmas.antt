@@ -9,11 +9,15 @@ use Rattle.litrs_base.specs.Base.{base_value}
 use Rattle.litrs_grammar.specs.Integer.{IntegerParts, integer_value}
 use Rattle.litrs_grammar.specs.CharByte.{CharParts, char_value}
 use Rattle.litrs_grammar.specs.Float.{FloatParts}
-use Rattle.litrs_grammar.specs.Literal.{StringParts, string_suffix, string_value, an_integer, a_float, literal_parse}
+use Rattle.litrs_grammar.specs.Literal.{StringParts, string_suffix, Derivation, a_bool, an_integer, a_float, a_char, a_byte, a_string, a_byte_string, a_c_string, literal_parse}
 use Rattle.litrs_grammar.specs.Strings.{is_raw}
 use Rattle.litrs_grammar.proofs.LiteralLaws.{literals_are_unique, literals_are_not_refused, refusals_are_unique, texts_are_decided}
-use Rattle.litrs_lines.specs.Report.{value_text, integer_front, fraction_field, float_report, char_report, raw_field, hex_byte, hex_bytes, string_front, string_report, literal_report, refusal_report, IsTextReport, IsReport}
+use Rattle.litrs_lines.specs.Report.{value_text, integer_front, fraction_field, float_report, char_report, raw_field, hex_byte, hex_bytes, string_front, literal_report, refusal_report, IsTextReport, IsReport}
+use Rattle.litrs_lines.specs.ReportParts.{front_of_string, literal_front, hex_value}
 use Rattle.litrs_lines.specs.Reports.{AreReports}
+use Rattle.litrs_lines.specs.Sent.{Sends}
+use Rattle.litrs_lines.specs.Stopped.{AppendsBeginning}
+use Rattle.litrs_lines.proofs.Sending.{adds, sends_more, stops_later, stops_now}
 
 -- Each text has a report
 
@@ -139,13 +143,47 @@ integer_front_made base digits suffix a b c d e one two three four =
 
 -- A string of one of the three kinds
 
-pub string_report_made : (name old front new raw suffix value : List ℕ) (d : StringParts) → IsUtf8 suffix → raw ≡ raw_field (is_raw d) →
-    chars suffix ≡ string_suffix d → value ≡ string_value d → front ≡ old ++ string_front name raw suffix → new ≡ front ++ hex_bytes value →
-    new ≡ old ++ string_report name d
-string_report_made name old front new raw suffix value d suffix_utf8 raw_is suffix_is value_is made valued =
+pub string_front_made : (name old new raw suffix : List ℕ) (d : StringParts) → IsUtf8 suffix → raw ≡ raw_field (is_raw d) →
+    chars suffix ≡ string_suffix d → new ≡ old ++ string_front name raw suffix → new ≡ old ++ front_of_string name d
+string_front_made name old new raw suffix d suffix_utf8 raw_is suffix_is made =
     let s : suffix ≡ encode_utf8_all (string_suffix d) = sym (encodes-chars suffix suffix_utf8) ∙ ap encode_utf8_all suffix_is in
-    valued ∙ (ap (λ (xs : List ℕ). xs ++ hex_bytes value) made ∙ (append_assoc old (string_front name raw suffix) (hex_bytes value)
-    ∙ (λ j. old ++ (string_front name (raw_is j) (s j) ++ hex_bytes (value_is j)))))
+    made ∙ (λ j. old ++ string_front name (raw_is j) (s j))
+
+-- the two parts of a report
+pub report_of_parts : (d : Derivation) → literal_report d ≡ literal_front d ++ hex_bytes (hex_value d)
+report_of_parts (a_bool b) = sym (append-nil (literal_report (a_bool b)))
+report_of_parts (an_integer d) = sym (append-nil (literal_report (an_integer d)))
+report_of_parts (a_float d) = sym (append-nil (literal_report (a_float d)))
+report_of_parts (a_char d) = sym (append-nil (literal_report (a_char d)))
+report_of_parts (a_byte d) = sym (append-nil (literal_report (a_byte d)))
+report_of_parts (a_string d) = refl
+report_of_parts (a_byte_string d) = refl
+report_of_parts (a_c_string d) = refl
+
+report_cut : (d : Derivation) (value end : List ℕ) → value ≡ hex_value d → literal_report d ++ end ≡ literal_front d ++ (hex_bytes value ++ end)
+report_cut d value end is =
+    ap (λ l. l ++ end) (report_of_parts d) ∙ append_assoc (literal_front d) (hex_bytes (hex_value d)) end
+    ∙ ap (λ l. literal_front d ++ (hex_bytes l ++ end)) (sym is)
+
+-- the front is added, the bytes in hex, and an LF
+pub report_sends : (a b : Option (List ℕ)) (p q r s value : List ℕ) (d : Derivation) → value ≡ hex_value d → q ≡ p ++ literal_front d →
+    Sends a q b r (hex_bytes value) → s ≡ r ++ 10 ∷ [] → Sends a p b s (literal_report d ++ 10 ∷ [])
+report_sends a b p q r s value d is front hex end =
+    subst (Sends a p b s) (sym (report_cut d value (10 ∷ []) is))
+    (sends_more a a b p q s (literal_front d) (hex_bytes value ++ 10 ∷ []) (adds a p q (literal_front d) front)
+    (sends_more a b b q r s (hex_bytes value) (10 ∷ []) hex (adds b r s (10 ∷ []) end)))
+
+-- a failure at the bytes in hex
+pub report_stops : (a b : Option (List ℕ)) (p q value : List ℕ) (d : Derivation) → value ≡ hex_value d → q ≡ p ++ literal_front d →
+    AppendsBeginning a b (q ++ hex_bytes value) → AppendsBeginning a b (p ++ (literal_report d ++ 10 ∷ []))
+report_stops a b p q value d is front part =
+    stops_later a a b p q (literal_front d) (hex_bytes value) (10 ∷ []) _ (adds a p q (literal_front d) front) part
+    (ap (λ (l : List ℕ). p ++ l) (report_cut d value (10 ∷ []) is))
+
+-- a failure at the LF
+pub report_stops_at_end : (a b : Option (List ℕ)) (p q r value : List ℕ) (d : Derivation) → value ≡ hex_value d → q ≡ p ++ literal_front d →
+    Sends a q b r (hex_bytes value) → AppendsBeginning a b (p ++ (literal_report d ++ 10 ∷ []))
+report_stops_at_end a b p q r value d is front hex = report_stops a b p q value d is front (stops_now a b q r (hex_bytes value) hex)
 
 -- one more byte of a value
 pub hex_step : (old now next bytes : List ℕ) (i : ℕ) → i < length bytes → now ≡ old ++ hex_bytes (take i bytes) →

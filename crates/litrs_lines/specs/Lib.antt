@@ -15,10 +15,12 @@ pub mod Groups
 pub mod GroupsLaws
 -- reports
 pub mod Report
+pub mod ReportParts
 pub mod Reports
 pub mod ReportLaws
 -- groups and reports, from line to line
 pub mod Ended
 -- how a run ends
 pub mod Stopped
+pub mod Sent
 pub mod RunError

@@ -1,39 +1,65 @@
 //! The reports on the groups that lines make.
-ghost use Rattle.std.specs.Prelude.{◌≡◌, ◌++◌, ◌∷◌, [], ℕ, List, OnOk, string_bytes, codes};
+ghost use Rattle.std.specs.Prelude.{◌≡◌, ◌≢◌, ◌↔◌, ◌++◌, ◌∷◌, [], ℕ, List, true, false, OnOk, OnErr, IsErrOf, string_bytes, codes};
 ghost use Rattle.litrs_lines.specs.Ended.{unless_held, AreEndedReports};
 ghost use Rattle.litrs_lines.specs.Reports.{AreReports};
+ghost use Rattle.litrs_lines.specs.Sent.{SendsReports, StopsReports};
 
+use crate::RunError;
+use crate::device::Output;
 use crate::report::{report_literal, report_refusal};
 use litrs_collector::{Collector, Step};
 use std::alloc::AllocError;
 use std::{mem, str};
 
-/// Takes a line, and adds the reports on the groups that end with it, with an LF after each.
-pub(crate) fn take_line(
+/// Takes a line, and adds the reports on the groups that end with it, with an LF after each. Where
+/// one is long, the reports up to then are written.
+pub(crate) fn take_line<O: Output>(
     collector: &mut Collector,
     reports: &mut String,
+    writer: &mut O,
     line: &[u8],
-) -> Result<(), AllocError>
-    ensures { OnOk result ((out : List ℕ)
-        × AreEndedReports collector.old (line.now ∷ []) collector.new out
-        × (string_bytes reports.new ≡ string_bytes reports.old ++ out)) }
+) -> Result<(), RunError>
+    requires works { O.has_failed writer.old ≡ false }
+    ensures ok { OnOk result (SendsReports
+        (AreEndedReports collector.old (line.now ∷ []) collector.new)
+        (O.contents writer.old) (string_bytes reports.old)
+        (O.contents writer.new) (string_bytes reports.new)) }
+    ensures err { OnErr result ((left : List ℕ) × StopsReports
+        (AreEndedReports collector.old (line.now ∷ []) left)
+        (O.contents writer.old) (string_bytes reports.old) (O.contents writer.new)) }
+    ensures works { OnOk result (O.has_failed writer.new ≡ false) }
+    ensures read { result ≢ Err RunError.Read }
+    ensures write { IsErrOf result RunError.Write ↔ (O.has_failed writer.new ≡ true) }
 {
     match str::from_utf8(line) {
-        Ok(text) => take_text(collector, reports, text),
-        Err(_) => report_no_text(collector, reports),
+        Ok(text) => take_text(collector, reports, writer, text),
+        Err(_) => Ok(report_no_text(collector, reports)?),
     }
 }
 
 /// The same for a line that is a text.
-fn take_text(collector: &mut Collector, reports: &mut String, line: &str) -> Result<(), AllocError>
-    ensures { OnOk result ((out : List ℕ)
-        × AreEndedReports collector.old (line.now ∷ []) collector.new out
-        × (string_bytes reports.new ≡ string_bytes reports.old ++ out)) }
+fn take_text<O: Output>(
+    collector: &mut Collector,
+    reports: &mut String,
+    writer: &mut O,
+    line: &str,
+) -> Result<(), RunError>
+    requires works { O.has_failed writer.old ≡ false }
+    ensures ok { OnOk result (SendsReports
+        (AreEndedReports collector.old (line.now ∷ []) collector.new)
+        (O.contents writer.old) (string_bytes reports.old)
+        (O.contents writer.new) (string_bytes reports.new)) }
+    ensures err { OnErr result ((left : List ℕ) × StopsReports
+        (AreEndedReports collector.old (line.now ∷ []) left)
+        (O.contents writer.old) (string_bytes reports.old) (O.contents writer.new)) }
+    ensures works { OnOk result (O.has_failed writer.new ≡ false) }
+    ensures read { result ≢ Err RunError.Read }
+    ensures write { IsErrOf result RunError.Write ↔ (O.has_failed writer.new ≡ true) }
 {
     match collector.feed(line)? {
         Step::More => Ok(()),
-        Step::Literal(lit) => report_literal(reports, &lit),
-        Step::Refused(e) => report_refusal(reports, &e),
+        Step::Literal(lit) => report_literal(reports, writer, &lit),
+        Step::Refused(e) => Ok(report_refusal(reports, &e)?),
     }
 }
 

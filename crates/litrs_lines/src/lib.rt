@@ -8,6 +8,7 @@ ghost use Rattle.litrs_lines.specs.Stopped.{AppendsBeginning, StopsWithin};
 ghost use Rattle.litrs_lines.specs.Lines.{is_line_feed, HasNoLineFeed, without_return, ended_lines, open_line, unless_empty, lines_of};
 ghost use Rattle.litrs_lines.specs.Ended.{AreEndedReports, AreLastReports};
 ghost use Rattle.litrs_lines.specs.Reports.{AppendsReports};
+ghost use Rattle.litrs_lines.specs.Sent.{SendsReports, StopsReports};
 
 pub use device::{Failed, Input, Output};
 use group::{report_held, take_line};
@@ -92,47 +93,68 @@ fn without_return(line: &[u8]) -> &[u8]
 }
 
 /// Takes the line that `end` ends, without one CR at its end, and goes on with an empty one.
-fn end_line(
+fn end_line<O: Output>(
     line: &mut Vec<u8>,
     collector: &mut Collector,
     reports: &mut String,
+    writer: &mut O,
     end: &[u8],
-) -> Result<(), AllocError>
+) -> Result<(), RunError>
+    requires works { O.has_failed writer.old ≡ false }
     ensures line { OnOk result (line.new.items ≡ []) }
-    ensures reports { OnOk result ((out : List ℕ)
-        × AreEndedReports collector.old
-        (without_return (line.old.items ++ end.now) ∷ []) collector.new out
-        × (string_bytes reports.new ≡ string_bytes reports.old ++ out)) }
+    ensures ok { OnOk result (SendsReports
+        (AreEndedReports collector.old
+        (without_return (line.old.items ++ end.now) ∷ []) collector.new)
+        (O.contents writer.old) (string_bytes reports.old)
+        (O.contents writer.new) (string_bytes reports.new)) }
+    ensures err { OnErr result ((left : List ℕ) × StopsReports
+        (AreEndedReports collector.old
+        (without_return (line.old.items ++ end.now) ∷ []) left)
+        (O.contents writer.old) (string_bytes reports.old) (O.contents writer.new)) }
+    ensures works { OnOk result (O.has_failed writer.new ≡ false) }
+    ensures read { result ≢ Err RunError.Read }
+    ensures write { IsErrOf result RunError.Write ↔ (O.has_failed writer.new ≡ true) }
 {
     if line.is_empty() {
-        return take_line(collector, reports, without_return(end));
+        return take_line(collector, reports, writer, without_return(end));
     }
     line.extend_from_slice(end)?;
-    take_line(collector, reports, without_return(line))?;
+    take_line(collector, reports, writer, without_return(line))?;
     line.clear();
     Ok(())
 }
 
 /// Takes the lines that end in `piece`, and keeps the one that goes on.
-fn gather(
+fn gather<O: Output>(
     line: &mut Vec<u8>,
     collector: &mut Collector,
     reports: &mut String,
+    writer: &mut O,
     piece: &[u8],
-) -> Result<(), AllocError>
-    requires { HasNoLineFeed line.old.items }
+) -> Result<(), RunError>
+    requires line { HasNoLineFeed line.old.items }
+    requires works { O.has_failed writer.old ≡ false }
     ensures line { OnOk result (line.new.items ≡ open_line (line.old.items ++ piece.now)) }
-    ensures reports { OnOk result ((out : List ℕ)
-        × AreEndedReports collector.old
-        (ended_lines (line.old.items ++ piece.now)) collector.new out
-        × (string_bytes reports.new ≡ string_bytes reports.old ++ out)) }
+    ensures ok { OnOk result (SendsReports
+        (AreEndedReports collector.old
+        (ended_lines (line.old.items ++ piece.now)) collector.new)
+        (O.contents writer.old) (string_bytes reports.old)
+        (O.contents writer.new) (string_bytes reports.new)) }
+    ensures err { OnErr result ((left : List ℕ) × StopsReports
+        (AreEndedReports collector.old
+        (ended_lines (line.old.items ++ piece.now)) left)
+        (O.contents writer.old) (string_bytes reports.old) (O.contents writer.new)) }
+    ensures works { OnOk result (O.has_failed writer.new ≡ false) }
+    ensures read { result ≢ Err RunError.Read }
+    ensures write { IsErrOf result RunError.Write ↔ (O.has_failed writer.new ≡ true) }
 {
     let mut rest = piece;
     while let Some(end) = line_end(rest) {
-        end_line(line, collector, reports, &rest[..end])?;
+        end_line(line, collector, reports, writer, &rest[..end])?;
         rest = &rest[end + 1..];
     }
-    line.extend_from_slice(rest)
+    line.extend_from_slice(rest)?;
+    Ok(())
 }
 
 /// Writes all of `bytes`.
@@ -176,7 +198,7 @@ fn take_piece<O: Output>(
     ensures write { IsErrOf result RunError.Write ↔ (O.has_failed writer.new ≡ true) }
 {
     reports.clear();
-    gather(line, collector, reports, piece)?;
+    gather(line, collector, reports, writer, piece)?;
     match write_all(writer, reports.as_bytes()) {
         Ok(()) => Ok(()),
         Err(Failed) => Err(RunError::Write),
@@ -184,34 +206,53 @@ fn take_piece<O: Output>(
 }
 
 /// Takes a last line that has no end, where it is not empty.
-fn take_open_line(
+fn take_open_line<O: Output>(
     line: &[u8],
     collector: &mut Collector,
     reports: &mut String,
-) -> Result<(), AllocError>
-    ensures { OnOk result ((out : List ℕ)
-        × AreEndedReports collector.old (unless_empty line.now) collector.new out
-        × (string_bytes reports.new ≡ string_bytes reports.old ++ out)) }
+    writer: &mut O,
+) -> Result<(), RunError>
+    requires works { O.has_failed writer.old ≡ false }
+    ensures ok { OnOk result (SendsReports
+        (AreEndedReports collector.old (unless_empty line.now) collector.new)
+        (O.contents writer.old) (string_bytes reports.old)
+        (O.contents writer.new) (string_bytes reports.new)) }
+    ensures err { OnErr result ((left : List ℕ) × StopsReports
+        (AreEndedReports collector.old (unless_empty line.now) left)
+        (O.contents writer.old) (string_bytes reports.old) (O.contents writer.new)) }
+    ensures works { OnOk result (O.has_failed writer.new ≡ false) }
+    ensures read { result ≢ Err RunError.Read }
+    ensures write { IsErrOf result RunError.Write ↔ (O.has_failed writer.new ≡ true) }
 {
     if line.is_empty() {
         return Ok(());
     }
-    take_line(collector, reports, line)
+    take_line(collector, reports, writer, line)
 }
 
 /// Reports on a last line that has no end, where it is not empty, and on the lines that are then
 /// held.
-fn report_last(
+fn report_last<O: Output>(
     line: &[u8],
     collector: &mut Collector,
     reports: &mut String,
-) -> Result<(), AllocError>
-    ensures { OnOk result ((out : List ℕ)
-        × AreLastReports collector.old (unless_empty line.now) out
-        × (string_bytes reports.new ≡ string_bytes reports.old ++ out)) }
+    writer: &mut O,
+) -> Result<(), RunError>
+    requires works { O.has_failed writer.old ≡ false }
+    ensures ok { OnOk result (SendsReports
+        (AreLastReports collector.old (unless_empty line.now))
+        (O.contents writer.old) (string_bytes reports.old)
+        (O.contents writer.new) (string_bytes reports.new)) }
+    ensures err { OnErr result (StopsReports
+        (AreLastReports collector.old (unless_empty line.now))
+        (O.contents writer.old) (string_bytes reports.old) (O.contents writer.new)) }
+    ensures works { OnOk result (O.has_failed writer.new ≡ false) }
+    ensures read { result ≢ Err RunError.Read }
+    ensures write { IsErrOf result RunError.Write ↔ (O.has_failed writer.new ≡ true) }
 {
-    take_open_line(line, collector, reports)?;
-    report_held(collector, reports)
+    take_open_line(line, collector, reports, writer)?;
+    report_held(collector, reports)?;
+    Ok(())
 }
 
 /// Takes the end of the input: writes the reports on a last line that has no end and on the lines
@@ -234,7 +275,7 @@ fn finish<O: Output>(
     ensures write { IsErrOf result RunError.Write ↔ (O.has_failed writer.new ≡ true) }
 {
     reports.clear();
-    report_last(line, collector, reports)?;
+    report_last(line, collector, reports, writer)?;
     if let Err(Failed) = write_all(writer, reports.as_bytes()) {
         return Err(RunError::Write);
     }
@@ -251,7 +292,8 @@ fn finish<O: Output>(
 /// follows the last LF where that is not empty. A group is a line that is not UTF-8, or the least
 /// number of next lines, all UTF-8, that are a literal when they are joined by LF, or begin none
 /// with an LF after them, or after which no line follows or one that is not UTF-8. One group is
-/// held at a time, so memory is taken in proportion to the longest.
+/// held at a time, so memory is taken in proportion to the longest. The report on a long value is
+/// written in pieces.
 ///
 /// # Errors
 ///

@@ -1,21 +1,26 @@
 //! The report on a literal, and on a refusal.
-ghost use Rattle.std.specs.Prelude.{◌≡◌, ◌<◌, ◌∷◌, [], ◌++◌, OnOk, string_bytes, codes};
+ghost use Rattle.std.specs.Prelude.{◌≡◌, ◌≢◌, ◌↔◌, ◌<◌, ◌∷◌, [], ◌++◌, true, false, OnOk, OnErr, IsErrOf, string_bytes, codes};
 ghost use Rattle.std.specs.Char.{digit_char};
 ghost use Rattle.litrs.specs.LiteralDerivation.{derivation};
 ghost use Rattle.litrs_grammar.specs.Integer.{integer_value};
 ghost use Rattle.litrs_scalars.specs.CharLiteral.{char_parts, byte_parts};
 ghost use Rattle.litrs_numbers.specs.FloatLiteral.{float_parts};
 ghost use Rattle.litrs_numbers.specs.IntegerLiteral.{integer_parts};
-ghost use Rattle.litrs_grammar.specs.Literal.{an_integer, a_float, a_char, a_byte, a_string, a_byte_string, a_c_string};
+ghost use Rattle.litrs_grammar.specs.Literal.{an_integer, a_float, a_char, a_byte};
 ghost use Rattle.litrs_lines.specs.Report.{value_text, integer_front, fraction_field, float_report, char_report, raw_field, hex_byte, hex_bytes, string_front, literal_report, refusal_report};
+ghost use Rattle.litrs_lines.specs.ReportParts.{literal_front, hex_value};
+ghost use Rattle.litrs_lines.specs.Sent.{Sends};
+ghost use Rattle.litrs_lines.specs.Stopped.{AppendsBeginning};
 ghost use Rattle.litrs_base.specs.Characters.{line_feed};
 ghost use Rattle.litrs_base.specs.Refusal.{refusal_of};
 
-use litrs::{
-    Buffer, ByteLit, ByteStringLit, CStringLit, CharLit, FloatLit, IntegerLit, Literal, ParseError,
-    StringLit,
-};
+use crate::device::{Failed, Output};
+use crate::{RunError, write_all};
+use litrs::{Buffer, ByteLit, CharLit, FloatLit, IntegerLit, Literal, ParseError};
 use std::alloc::AllocError;
+
+/// The most bytes of a value whose report is held before it is written.
+const PIECE_LEN: usize = 4096;
 
 /// Adds the report on a refusal, and an LF.
 pub(crate) fn report_refusal(out: &mut String, error: &ParseError) -> Result<(), AllocError>
@@ -34,29 +39,70 @@ fn push_refusal_report(out: &mut String, error: &ParseError) -> Result<(), Alloc
     write!(out, "error {error}")
 }
 
-/// Adds the report on a literal, and an LF.
-pub(crate) fn report_literal(out: &mut String, lit: &Literal<String>) -> Result<(), AllocError>
-    ensures { OnOk result (string_bytes out.new
-        ≡ string_bytes out.old ++ (literal_report (derivation lit.now) ++ line_feed ∷ [])) }
+/// Adds the report on a literal, and an LF. Where its value is long, it is written in pieces.
+pub(crate) fn report_literal<O: Output>(
+    reports: &mut String,
+    writer: &mut O,
+    lit: &Literal<String>,
+) -> Result<(), RunError>
+    requires { O.has_failed writer.old ≡ false }
+    ensures ok { OnOk result (Sends (O.contents writer.old) (string_bytes reports.old)
+        (O.contents writer.new) (string_bytes reports.new)
+        (literal_report (derivation lit.now) ++ line_feed ∷ [])) }
+    ensures err { OnErr result (AppendsBeginning (O.contents writer.old) (O.contents writer.new)
+        (string_bytes reports.old ++ (literal_report (derivation lit.now) ++ line_feed ∷ []))) }
+    ensures works { OnOk result (O.has_failed writer.new ≡ false) }
+    ensures read { result ≢ Err RunError.Read }
+    ensures write { IsErrOf result RunError.Write ↔ (O.has_failed writer.new ≡ true) }
 {
-    push_literal_report(out, lit)?;
-    out.push('\n')
+    push_front(reports, lit)?;
+    send_hex(reports, writer, hex_value(lit))?;
+    reports.push('\n')?;
+    Ok(())
 }
 
-/// Adds the report on a literal.
-fn push_literal_report<B: Buffer>(out: &mut String, lit: &Literal<B>) -> Result<(), AllocError>
+/// Adds the report on a literal, but for the bytes in hex at the end of that on a string.
+fn push_front<B: Buffer>(out: &mut String, lit: &Literal<B>) -> Result<(), AllocError>
     ensures { OnOk result (
-        string_bytes out.new ≡ string_bytes out.old ++ literal_report (derivation lit.now)) }
+        string_bytes out.new ≡ string_bytes out.old ++ literal_front (derivation lit.now)) }
 {
     match lit {
         Literal::Bool(lit) => write!(out, "bool {lit}"),
         Literal::Integer(lit) => push_integer_report(out, lit),
         Literal::Float(lit) => push_float_report(out, lit),
         Literal::Char(lit) => push_char_report(out, lit),
-        Literal::String(lit) => push_string_report(out, lit),
+        Literal::String(lit) => {
+            push_string_front(out, "string", raw_field(lit.is_raw_string()), lit.suffix())
+        }
         Literal::Byte(lit) => push_byte_report(out, lit),
-        Literal::ByteString(lit) => push_byte_string_report(out, lit),
-        Literal::CString(lit) => push_c_string_report(out, lit),
+        Literal::ByteString(lit) => {
+            push_string_front(
+                out,
+                "bytestring",
+                raw_field(lit.is_raw_byte_string()),
+                lit.suffix(),
+            )
+        }
+        Literal::CString(lit) => {
+            push_string_front(
+                out,
+                "cstring",
+                raw_field(lit.is_raw_c_string()),
+                lit.suffix(),
+            )
+        }
+    }
+}
+
+/// The bytes of a literal that are reported in hex: those of a string's value.
+fn hex_value<B: Buffer>(lit: &Literal<B>) -> &[u8]
+    ensures { result.now ≡ hex_value (derivation lit.now) }
+{
+    match lit {
+        Literal::String(lit) => lit.value().as_bytes(),
+        Literal::ByteString(lit) => lit.value(),
+        Literal::CString(lit) => lit.value().to_bytes(),
+        _ => &[],
     }
 }
 
@@ -175,47 +221,6 @@ fn push_char_parts(out: &mut String, name: &str, value: u32, suffix: &str) -> Re
     write!(out, "{name} value={value:x} suffix={suffix}")
 }
 
-/// Adds the report on a string.
-fn push_string_report<B: Buffer>(out: &mut String, lit: &StringLit<B>) -> Result<(), AllocError>
-    ensures { OnOk result (
-        string_bytes out.new ≡ string_bytes out.old ++ literal_report (a_string lit.now.parts)) }
-{
-    push_string_front(out, "string", raw_field(lit.is_raw_string()), lit.suffix())?;
-    push_hex(out, lit.value().as_bytes())
-}
-
-/// Adds the report on a byte string.
-fn push_byte_string_report<B: Buffer>(
-    out: &mut String,
-    lit: &ByteStringLit<B>,
-) -> Result<(), AllocError>
-    ensures { OnOk result (
-        string_bytes out.new
-        ≡ string_bytes out.old ++ literal_report (a_byte_string lit.now.parts)) }
-{
-    push_string_front(
-        out,
-        "bytestring",
-        raw_field(lit.is_raw_byte_string()),
-        lit.suffix(),
-    )?;
-    push_hex(out, lit.value())
-}
-
-/// Adds the report on a C string.
-fn push_c_string_report<B: Buffer>(out: &mut String, lit: &CStringLit<B>) -> Result<(), AllocError>
-    ensures { OnOk result (
-        string_bytes out.new ≡ string_bytes out.old ++ literal_report (a_c_string lit.now.parts)) }
-{
-    push_string_front(
-        out,
-        "cstring",
-        raw_field(lit.is_raw_c_string()),
-        lit.suffix(),
-    )?;
-    push_hex(out, lit.value().to_bytes())
-}
-
 /// Adds the report on a string of one of the three kinds up to its value.
 fn push_string_front(
     out: &mut String,
@@ -234,6 +239,30 @@ fn raw_field(is_raw: bool) -> &'static str
     ensures { result.now ≡ raw_field is_raw }
 {
     if is_raw { "yes" } else { "no" }
+}
+
+/// Adds bytes in hex. Where these are many, they are written in pieces.
+fn send_hex<O: Output>(reports: &mut String, writer: &mut O, bytes: &[u8]) -> Result<(), RunError>
+    requires { O.has_failed writer.old ≡ false }
+    ensures ok { OnOk result (Sends (O.contents writer.old) (string_bytes reports.old)
+        (O.contents writer.new) (string_bytes reports.new) (hex_bytes bytes.now)) }
+    ensures err { OnErr result (AppendsBeginning (O.contents writer.old) (O.contents writer.new)
+        (string_bytes reports.old ++ hex_bytes bytes.now)) }
+    ensures works { OnOk result (O.has_failed writer.new ≡ false) }
+    ensures read { result ≢ Err RunError.Read }
+    ensures write { IsErrOf result RunError.Write ↔ (O.has_failed writer.new ≡ true) }
+{
+    let mut rest = bytes;
+    while rest.len() > PIECE_LEN {
+        push_hex(reports, &rest[..PIECE_LEN])?;
+        if let Err(Failed) = write_all(writer, reports.as_bytes()) {
+            return Err(RunError::Write);
+        }
+        reports.clear();
+        rest = &rest[PIECE_LEN..];
+    }
+    push_hex(reports, rest)?;
+    Ok(())
 }
 
 /// Adds bytes in hex, in lower case, with two digits each.

@@ -1,30 +1,49 @@
 use Rattle.std.specs.Prelude.{string_bytes}
-use Rattle.std.proofs.Common.{arith, rules, ◌-◌, ◌+◌, drop, sym, ◌∙◌, length, length-take, length-drop}
+use Rattle.std.proofs.Common.{arith, rules, ◌-◌, ◌+◌, drop, ◌++◌, sym, ◌∙◌, length, length-take, length-drop}
 use Rattle.std.proofs.lemmas.Grind.{common_steps}
-use Rattle.litrs_lines.proofs.LinesLemmas.{steps_on, takes_all, goes_on, OnOk-appended, OnOk-holds, ends_line}
+use Rattle.litrs_lines.proofs.GroupReports.{stops-after}
+use Rattle.litrs_lines.proofs.LinesLemmas.{steps_on, stops_on, takes_all, goes_on, OnErr-holds, ends_line}
+use Rattle.litrs_lines.specs.Lines.{ended_lines}
 use Rattle.litrs_lines.proofs.gather.Goals as goal
 
 pub overflow_add-rest : goal.overflow_add-rest
-overflow_add-rest c =
+overflow_add-rest g c =
     let step = ends_line c.loop-end.line.items c.loop-end.rest.now c.in-Some.end c.loop-end.invariant.unended (sym c.in-Some.ensures) in
     let within = step.within in
     first_of (omega arith, search rules, grind (arith, common_steps))
 
-pub loop-end-preserved : goal.loop-end-preserved
-loop-end-preserved c =
+pub returns-in_err-end_line-clause-err : goal.returns-in_err-end_line-clause-err
+returns-in_err-end_line-clause-err g c =
     let inv = c.loop-end.invariant in
-    let step = steps_on _ _ c.loop-end.collector c.end_line.new.collector _ (string_bytes c.loop-end.reports) (string_bytes c.end_line.new.reports) c.loop-end.line.items c.loop-end.rest.now c.end_line.new.line.items c.in-Some.end inv.unended c.in-Some.ensures
-    inv.takes c.in_ok-end_line.ensures.line c.in_ok-end_line.ensures.reports in
-    record { within = omega (arith, length-take (length c.loop-end.rest.now - (c.in-Some.end + 1)) (drop (c.in-Some.end + 1) c.loop-end.rest.now), length-drop (c.in-Some.end + 1) c.loop-end.rest.now); unended = step.unended; leaves = inv.leaves ∙ step.leaves; takes = step.takes }
+    OnErr-holds _ (stops_on _ _ c.loop-end.collector _ _ _ _ (string_bytes c.loop-end.reports) c.loop-end.line.items c.loop-end.rest.now c.in-Some.end inv.unended c.in-Some.ensures inv.takes c.in_err-end_line.ensures.err)
+
+pub loop-end-preserved : goal.loop-end-preserved
+loop-end-preserved g c =
+    let inv = c.loop-end.invariant in
+    let step = steps_on _ _ c.loop-end.collector c.end_line.new.collector _ _ _ _ (string_bytes c.loop-end.reports) (string_bytes c.end_line.new.reports) c.loop-end.line.items c.loop-end.rest.now c.end_line.new.line.items c.in-Some.end inv.unended c.in-Some.ensures
+    inv.takes c.in_ok-end_line.ensures.line c.in_ok-end_line.ensures.ok in
+    record {
+      works = c.in_ok-end_line.ensures.works;
+      within = omega (arith, length-take (length c.loop-end.rest.now - (c.in-Some.end + 1)) (drop (c.in-Some.end + 1) c.loop-end.rest.now), length-drop (c.in-Some.end + 1) c.loop-end.rest.now);
+      unended = step.unended;
+      leaves = inv.leaves ∙ step.leaves;
+      takes = step.takes;
+    }
+
+pub returns-in_err-extend_from_slice-clause-err : goal.returns-in_err-extend_from_slice-clause-err
+returns-in_err-extend_from_slice-clause-err g c =
+    let inv = c.loop-end.invariant in
+    let last = goes_on c.loop-end.line.items c.loop-end.rest.now inv.unended (sym c.in_default.ensures) in
+    OnErr-holds _ (stops-after c.args.collector.now (ended_lines (c.args.line.now.items ++ c.args.piece.now)) c.loop-end.collector (g.O.Output.contents c.args.writer.now) (g.O.Output.contents c.loop-end.writer) (string_bytes c.args.reports.now) (string_bytes c.loop-end.reports) (takes_all _ _ _ _ _ _ _ _ inv.takes last.lines))
 
 pub returns-clause-line : goal.returns-clause-line
-returns-clause-line c =
+returns-clause-line g c =
     let inv = c.loop-end.invariant in
     let last = goes_on c.loop-end.line.items c.loop-end.rest.now inv.unended (sym c.in_default.ensures) in
-    OnOk-appended c.extend_from_slice.result _ c.loop-end.line.items c.loop-end.rest.now _ c.extend_from_slice.ensures.items (inv.leaves ∙ last.leaves)
+    c.in_ok-extend_from_slice.ensures.items ∙ sym (inv.leaves ∙ last.leaves)
 
-pub returns-clause-reports : goal.returns-clause-reports
-returns-clause-reports c =
+pub returns-clause-ok : goal.returns-clause-ok
+returns-clause-ok g c =
     let inv = c.loop-end.invariant in
     let last = goes_on c.loop-end.line.items c.loop-end.rest.now inv.unended (sym c.in_default.ensures) in
-    OnOk-holds c.extend_from_slice.result (takes_all _ _ _ _ _ _ inv.takes last.lines)
+    takes_all _ _ _ _ _ _ _ _ inv.takes last.lines

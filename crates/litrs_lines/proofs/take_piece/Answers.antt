@@ -1,10 +1,24 @@
-use Rattle.std.proofs.Common.{◌++◌}
+-- Nothing is unwritten at first, and all is written at the end.
+use Rattle.std.proofs.Common.{subst, ◌++◌}
+use Rattle.std.specs.Io.KnownBytes.{Appends}
+use Rattle.litrs_lines.specs.Stopped.{AppendsBeginning}
+use Rattle.litrs_lines.proofs.LinesLemmas.{OnErr-holds}
+use Rattle.litrs_lines.proofs.Sending.{writes_rest, writes_some_rest}
+use Rattle.litrs_lines.proofs.GroupReports.{stops-first}
+use Rattle.std.specs.Prelude.{string_bytes}
 use Rattle.litrs_lines.specs.Lines.{ended_lines}
-use Rattle.litrs_lines.proofs.GroupReports.{have_ended_reports}
-use Rattle.litrs_lines.proofs.LinesLemmas.{AppendsBeginning-none, OnErr-holds}
 use Rattle.litrs_lines.proofs.take_piece.Goals as goal
 
 pub returns-in_err-gather-clause-err : goal.returns-in_err-gather-clause-err
 returns-in_err-gather-clause-err g c =
-    let all = have_ended_reports c.args.collector.now (ended_lines (c.args.line.now.items ++ c.args.piece.now)) in
-    OnErr-holds c.from_residual.result (all.0, all.1, all.2, AppendsBeginning-none (g.O.Output.contents c.args.writer.now) all.1)
+    OnErr-holds _ (stops-first c.args.collector.now (ended_lines (c.args.line.now.items ++ c.args.piece.now)) (g.O.Output.contents c.args.writer.now) (g.O.Output.contents c.gather.new.writer) (string_bytes c.clear.new.self) c.in_err-gather.ensures.err c.clear.ensures.bytes)
+
+pub returns-in-Ok-clause-ok : goal.returns-in-Ok-clause-ok
+returns-in-Ok-clause-ok g c =
+    let all = c.in_ok-gather.ensures.ok in
+    (all.0, all.1, writes_rest _ _ _ _ _ all.0 all.2 c.clear.ensures.bytes (subst (Appends _ _) c.as_bytes.ensures.value c.in-Ok.ensures.ok))
+
+pub returns-in-Err-clause-err : goal.returns-in-Err-clause-err
+returns-in-Err-clause-err g c =
+    let all = c.in_ok-gather.ensures.ok in
+    (c.gather.new.collector, all.0, all.1, writes_some_rest _ _ _ _ _ all.0 all.2 c.clear.ensures.bytes (subst (AppendsBeginning _ _) c.as_bytes.ensures.value c.in-Err.ensures.err))
