@@ -147,7 +147,7 @@ fn begins(alloc: Global, text: &str) -> bool
     refusal.is_open()
 }
 
-/// What the text that is held, to which a line was added, is now, and what is open after it. After
+/// Decides what the text is that is held, to which a line was added, by a parse of all of it. After
 /// an error it may have an LF at its end.
 fn read_held(held: &mut String) -> Result<Step, AllocError>
     ensures step { IfOk result (IsStep (string_bytes held.old)) }
