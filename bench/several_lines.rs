@@ -1,14 +1,17 @@
-//! Times a literal over many lines: `Collector::feed` of each line, beside `parse` of the whole.
+//! Times a literal over many lines: `Collector::feed` of each line, beside `parse`.
 
 use crate::{Call, answer, ours};
 use std::hint::black_box;
 use std::time::Instant;
 
 /// Rounds over a text.
-const ROUNDS: usize = 5;
+const ROUNDS: usize = 20;
 
 /// The most that the time may grow by where there are twice as many lines.
 const MOST_GROWTH: f64 = 2.2;
+
+/// The numbers of lines.
+const COUNTS: [usize; 3] = [10_000, 20_000, 40_000];
 
 /// The bytes of a line, without its LF.
 const LINE_LEN: usize = 50;
@@ -31,29 +34,38 @@ fn text_of((_, front, end, closing): (&str, &str, &str, &str), lines: usize) -> 
     format!("{front}{}{closing}", line.repeat(lines))
 }
 
-/// The least time of a call, in milliseconds.
-fn least(call: Call, text: &str) -> f64 {
+/// The least time of so many calls, in nanoseconds.
+fn least(call: Call, text: &str, calls: usize) -> f64 {
     let mut least = f64::INFINITY;
     for _ in 0..ROUNDS {
         let start = Instant::now();
-        black_box(answer(call, black_box(text)));
-        least = least.min(start.elapsed().as_nanos() as f64 / 1e6);
+        for _ in 0..calls {
+            black_box(answer(call, black_box(text)));
+        }
+        least = least.min(start.elapsed().as_nanos() as f64);
     }
     least
 }
 
-/// Prints the times of each shape over 10,000, 20,000 and 40,000 lines, and of one `parse` of the last.
+/// Prints, of each shape, the time of a line where there are 10,000, 20,000 and 40,000, and of a line
+/// that is parsed as a literal by itself.
 pub fn main() {
-    println!("\nMilliseconds of `feed` of 10,000, 20,000 and 40,000 lines of one literal, the most growth by a");
-    println!("step, milliseconds of `parse` of the last, and the ratio; the least of {ROUNDS} rounds.");
+    println!("\nNanoseconds a line of `feed` of 10,000, 20,000 and 40,000 lines of one literal; the most growth");
+    println!("of all by a step; a `parse` of one line alone as a literal; the ratio; a line's share of a `parse`");
+    println!("of the whole. The least of {ROUNDS} rounds.");
     for shape in SHAPES {
-        let texts = [10_000, 20_000, 40_000].map(|lines| text_of(*shape, lines));
-        let times = texts.each_ref().map(|text| least(ours::feed, text));
-        let parse = least(ours::parse, &texts[2]);
+        let texts = COUNTS.map(|lines| text_of(*shape, lines));
         assert_eq!(answer(ours::feed, &texts[0]), answer(ours::parse, &texts[0]), "{}", shape.0);
+        let times = texts.each_ref().map(|text| least(ours::feed, text, 1));
         let growth = (times[1] / times[0]).max(times[2] / times[1]);
-        let [first, second, third] = times;
-        print!("String     {:<32}{first:>10.2}{second:>10.2}{third:>10.2}{growth:>6.2}", shape.0);
-        println!("{parse:>10.2}{:>6.2}{}", third / parse, if growth > MOST_GROWTH { "  grows" } else { "" });
+        let alone = least(ours::parse, &text_of(*shape, 1), 1000) / 1000.0;
+        let share = least(ours::parse, &texts[2], 1) / COUNTS[2] as f64;
+        print!("String     {:<32}", shape.0);
+        for (time, lines) in times.iter().zip(COUNTS) {
+            print!("{:>8.1}", time / lines as f64);
+        }
+        let line = times[2] / COUNTS[2] as f64;
+        print!("{growth:>6.2}{alone:>8.1}{:>6.2}{share:>8.1}", line / alone);
+        println!("{}", if growth > MOST_GROWTH { "  grows" } else { "" });
     }
 }
