@@ -8,7 +8,7 @@ use std::sync::atomic::{AtomicU64, Ordering};
 #[unsafe(no_mangle)]
 static LITRS_BENCH_ALLOCATIONS: AtomicU64 = AtomicU64::new(0);
 
-// The linker leads each call of the name behind `__wrap_` here: `run` says so.
+// The linker leads each call of the name after `__wrap_` here: `run` says so.
 std::arch::global_asm!(
     ".macro counted name",
     ".globl __wrap_\\name",

@@ -184,7 +184,7 @@ impl Numbers {
         (0..=self.below(most)).map(|_| char::from(b'0' + self.below(10) as u8)).collect()
     }
 
-    /// As many texts as `len` says, one behind the other.
+    /// As many texts as `len` says, one after the other.
     fn many(&mut self, len: usize, text: fn(&mut Numbers) -> String) -> String {
         (0..len).map(|_| text(self)).collect()
     }
@@ -292,7 +292,7 @@ const SHAPES: &[Shape] = &[
         format!("{}{:b}e{}", n.one_of(&["0b", "0o"]), n.below(256), n.digits(2))
     }),
     ("Float", "with a fraction", Parsed, |n| format!("{}.{}", n.digits(4), n.digits(6))),
-    ("Float", "nothing behind the period", Parsed, |n| format!("{}.", n.digits(4))),
+    ("Float", "nothing after the period", Parsed, |n| format!("{}.", n.digits(4))),
     ("Float", "with a fraction and a type", Parsed, |n| {
         format!("{}.{}{}", n.digits(4), n.digits(6), n.one_of(&["f32", "f64"]))
     }),

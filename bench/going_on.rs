@@ -28,7 +28,7 @@ type Hostile = (&'static str, fn(usize) -> String);
 const HOSTILE: &[Hostile] = &[
     ("backslashes in a string", |n| format!("\"{}", "\\".repeat(n))),
     ("quotes", |n| "\"".repeat(n)),
-    ("hashes behind an r", |n| format!("r{}", "#".repeat(n))),
+    ("hashes after an r", |n| format!("r{}", "#".repeat(n))),
     ("raw, quotes with 254 of 255 hashes", |n| {
         let nearly = format!("\"{}", "#".repeat(254));
         format!("r{}\"{}", "#".repeat(255), nearly.repeat(n / 255))
