@@ -39,6 +39,8 @@ mod ours {
         pub fn goes_on(text: *const u8, len: usize) -> u64;
         #[link_name = "litrs_bench_feed"]
         pub fn feed(text: *const u8, len: usize) -> u64;
+        #[link_name = "litrs_bench_split"]
+        pub fn split(text: *const u8, len: usize) -> u64;
         #[link_name = "litrs_bench_run"]
         pub fn run(text: *const u8, len: usize) -> u64;
         #[cfg(upstream)]

@@ -48,15 +48,17 @@ fn least(call: Call, text: &str, calls: usize) -> f64 {
 }
 
 /// Prints, of each shape, the time of a line where there are 10,000, 20,000 and 40,000, and of a line
-/// that is parsed as a literal by itself.
+/// that is parsed as a literal by itself. The time that splitting the text takes is taken off.
 pub fn main() {
-    println!("\nNanoseconds a line of `feed` of 10,000, 20,000 and 40,000 lines of one literal; the most growth");
-    println!("of all by a step; a `parse` of one line alone as a literal; the ratio; a line's share of a `parse`");
-    println!("of the whole. The least of {ROUNDS} rounds.");
+    println!("\nNanoseconds a line of `feed` of 10,000, 20,000 and 40,000 lines of one literal, less those of splitting");
+    println!("the text alone; the most growth of all by a step; a `parse` of one line alone as a literal; the ratio; a");
+    println!("line's share of a `parse` of the whole; splitting. The least of {ROUNDS} rounds.");
     for shape in SHAPES {
         let texts = COUNTS.map(|lines| text_of(*shape, lines));
         assert_eq!(answer(ours::feed, &texts[0]), answer(ours::parse, &texts[0]), "{}", shape.0);
-        let times = texts.each_ref().map(|text| least(ours::feed, text, 1));
+        let split = texts.each_ref().map(|text| least(ours::split, text, 1));
+        let whole = texts.each_ref().map(|text| least(ours::feed, text, 1));
+        let times: Vec<f64> = whole.iter().zip(split).map(|(whole, split)| whole - split).collect();
         let growth = (times[1] / times[0]).max(times[2] / times[1]);
         let alone = least(ours::parse, &text_of(*shape, 1), 1000) / 1000.0;
         let share = least(ours::parse, &texts[2], 1) / COUNTS[2] as f64;
@@ -66,6 +68,7 @@ pub fn main() {
         }
         let line = times[2] / COUNTS[2] as f64;
         print!("{growth:>6.2}{alone:>8.1}{:>6.2}{share:>8.1}", line / alone);
+        print!("{:>8.1}", split[2] / COUNTS[2] as f64);
         println!("{}", if growth > MOST_GROWTH { "  grows" } else { "" });
     }
 }

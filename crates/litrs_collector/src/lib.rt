@@ -5,13 +5,14 @@
 //! begin one, or neither.
 #![tactic(auto)]
 
-ghost use Rattle.std.specs.Prelude.{◌≡◌, ◌↔◌, ◌++◌, [], IsTrue, IfOk, OnOk, OnErr, IfSome, IfNone, MatchResult, string_bytes};
+ghost use Rattle.std.specs.Prelude.{◌≡◌, ◌↔◌, ◌∷◌, ◌++◌, [], IsTrue, IsFalse, IfOk, OnOk, OnErr, IfSome, IfNone, MatchResult, string_bytes};
 ghost use Rattle.std.specs.Str.{chars, IsUtf8};
+ghost use Rattle.litrs_base.specs.Characters.{line_feed};
 ghost use Rattle.litrs_grammar.specs.Literal.{literal_parse, Begins};
 ghost use Rattle.litrs_grammar.specs.Refused.{IsRefused};
 ghost use Rattle.litrs_collector.specs.Held.{EndsWithLineFeed, Extends, IsHeld, IsRefusalOfHeld};
 ghost use Rattle.litrs_collector.specs.Open.{IsKnown};
-ghost use Rattle.litrs_collector.specs.Steps.{IsReadAs, IsStep, held_after};
+ghost use Rattle.litrs_collector.specs.Steps.{IsReadAs, IsUnfinished, IsStep, held_after};
 
 use crate::body::{Open, open_after};
 use litrs::{Literal, ParseError, ParseErrorKind};
@@ -172,53 +173,67 @@ fn read_held(held: &mut String) -> Result<Step, AllocError>
     Ok(Step::Refused(refusal))
 }
 
-/// Adds a line to the text that is held. After an error the text may have some of it at its end. A
-/// line that is a literal by itself is not copied.
-fn add_line(
-    held: &mut String,
-    known: Option<Open>,
-    line: &str,
-) -> Result<(Step, Option<Open>), AllocError>
-    requires { IsKnown (string_bytes held.old) known }
-    ensures step { IfOk result (λ added. IsStep (string_bytes held.old ++ line.now) added.0) }
-    ensures held { IfOk result (λ added.
-        string_bytes held.new ≡ held_after (string_bytes held.old ++ line.now) added.0) }
-    ensures known { IfOk result (λ added. IsKnown (string_bytes held.new) added.1) }
-    ensures err { OnErr result (Extends (string_bytes held.old) (string_bytes held.new)) }
-{
-    if held.is_empty() {
-        let alloc = *held.allocator();
-        if let Ok(lit) = read(alloc, line)? {
-            return Ok((Step::Literal(lit), None));
-        }
-    }
-    push_line(held, known, line)
-}
-
-/// The same by adding the line first.
+/// Adds a line to the text that is held, and an LF where a string is then known to go on after it:
+/// true if one is. After an error the text may have some of the line at its end.
+#[inline(always)]
 fn push_line(
     held: &mut String,
-    known: Option<Open>,
+    known: &mut Option<Open>,
     line: &str,
-) -> Result<(Step, Option<Open>), AllocError>
-    requires { IsKnown (string_bytes held.old) known }
-    ensures step { IfOk result (λ added. IsStep (string_bytes held.old ++ line.now) added.0) }
-    ensures held { IfOk result (λ added.
-        string_bytes held.new ≡ held_after (string_bytes held.old ++ line.now) added.0) }
-    ensures known { IfOk result (λ added. IsKnown (string_bytes held.new) added.1) }
-    ensures err { OnErr result (Extends (string_bytes held.old) (string_bytes held.new)) }
+) -> Result<bool, AllocError>
+    requires { IsKnown (string_bytes held.old) known.old }
+    ensures goes_on { IfOk result (λ goes_on. IsTrue goes_on →
+        IsUnfinished (string_bytes held.old ++ line.now)
+        × (string_bytes held.new ≡ (string_bytes held.old ++ line.now) ++ line_feed ∷ [])
+        × IsKnown (string_bytes held.new) known.new) }
+    ensures other { IfOk result (λ goes_on. IsFalse goes_on →
+        (string_bytes held.new ≡ string_bytes held.old ++ line.now)
+        × (known.new ≡ known.old)) }
+    ensures err { OnErr result
+        (Extends (string_bytes held.old) (string_bytes held.new) × (known.new ≡ known.old)) }
 {
     held.reserve(line.len() + 1)?;
     held.push_str(line)?;
-    if let Some(next) = open_after(held.as_str(), known) {
-        held.push('\n')?;
-        return Ok((Step::More, Some(next)));
-    }
-    let step = read_held(held)?;
-    Ok((step, None))
+    let Some(next) = open_after(held.as_str(), *known) else {
+        return Ok(false);
+    };
+    held.push('\n')?;
+    *known = Some(next);
+    Ok(true)
 }
 
 /// Adds a line to the text that is held, which is as before after an error.
+#[inline(always)]
+fn add_line(held: &mut String, known: &mut Option<Open>, line: &str) -> Result<Step, AllocError>
+    requires { IsKnown (string_bytes held.old) known.old }
+    ensures step { IfOk result (IsStep (string_bytes held.old ++ line.now)) }
+    ensures held { IfOk result (λ step.
+        string_bytes held.new ≡ held_after (string_bytes held.old ++ line.now) step) }
+    ensures err { OnErr result (string_bytes held.new ≡ string_bytes held.old) }
+    ensures known { IsKnown (string_bytes held.new) known.new }
+{
+    let len = held.len();
+    match push_line(held, known, line) {
+        Ok(true) => return Ok(Step::More),
+        Ok(false) => {}
+        Err(error) => {
+            held.truncate(len);
+            return Err(error);
+        }
+    }
+    match read_held(held) {
+        Ok(step) => {
+            *known = None;
+            Ok(step)
+        }
+        Err(error) => {
+            held.truncate(len);
+            Err(error)
+        }
+    }
+}
+
+/// The same, without a copy of a line that is a literal by itself.
 fn feed_text(held: &mut String, known: &mut Option<Open>, line: &str) -> Result<Step, AllocError>
     requires held { IsHeld (string_bytes held.old) }
     requires known { IsKnown (string_bytes held.old) known.old }
@@ -230,17 +245,13 @@ fn feed_text(held: &mut String, known: &mut Option<Open>, line: &str) -> Result<
     ensures is_held { IsHeld (string_bytes held.new) }
     ensures is_known { IsKnown (string_bytes held.new) known.new }
 {
-    let len = held.len();
-    match add_line(held, *known, line) {
-        Ok((step, next)) => {
-            *known = next;
-            Ok(step)
-        }
-        Err(error) => {
-            held.truncate(len);
-            Err(error)
+    if held.is_empty() {
+        let alloc = *held.allocator();
+        if let Ok(lit) = read(alloc, line)? {
+            return Ok(Step::Literal(lit));
         }
     }
+    add_line(held, known, line)
 }
 
 /// The refusal of the lines that are held.

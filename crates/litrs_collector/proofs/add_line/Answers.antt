@@ -1,17 +1,13 @@
--- Where nothing is held, the text with the line after it is the line.
-use Rattle.std.proofs.Common.{arith, ◌≡◌, ℕ, List, ◌++◌, ◌∷◌, [], length, refl, sym, ap, subst, append-nil}
+-- The text is cut where the line was added.
+use Rattle.std.proofs.Common.{◌∙◌, ◌++◌}
 use Rattle.std.specs.Prelude.{string_bytes}
-use Rattle.std.proofs.lemmas.Bool.Decides.{nat_tests}
-use Rattle.std.proofs.lemmas.Str.{IsUtf8-nil}
-use Rattle.litrs_collector.specs.Steps.{IsReadAs}
-use Rattle.litrs_collector.proofs.StepLemmas.{OnErr-holds}
+use Rattle.litrs_collector.proofs.StepLemmas.{extends_more, may_be_cut}
 use Rattle.litrs_collector.proofs.add_line.Goals as goal
 
-nothing : (xs : List ℕ) → length xs ≡ 0 → xs ≡ []
-nothing [] none = refl
-nothing (b ∷ bs) none = absurd (omega arith)
+pub truncate-requires : goal.truncate-requires
+truncate-requires c = λ _. may_be_cut (string_bytes c.args.held.now) (string_bytes c.push_line.new.held) c.len-len.result c.in-Err.ensures.err.0 (c.len-len.ensures ∙ c.args.held.now.bytes.ok.0)
 
-pub returns-in-Ok-clause-step : goal.returns-in-Ok-clause-step
-returns-in-Ok-clause-step c =
-    let none : length (string_bytes c.args.held.now) ≡ 0 = grind (arith, nat_tests) in
-    subst (λ (t : List ℕ). IsReadAs (t ++ c.args.line.now) c.in-Ok.lit) (sym (nothing (string_bytes c.args.held.now) none)) (rw c.in-Ok.is at c.in_ok-lit.ensures)
+pub truncate-requires-in-Err-read_held : goal.truncate-requires-in-Err-read_held
+truncate-requires-in-Err-read_held c = λ _. may_be_cut (string_bytes c.args.held.now) (string_bytes c.read_held.new.held) c.len-len.result
+    (extends_more (string_bytes c.args.held.now) c.args.line.now (string_bytes c.push_line.new.held) (string_bytes c.read_held.new.held) c.utf8.line (c.in-Ok-false.ensures.other c.in-Ok-false.field-0-test).0 c.in-Err-read_held.ensures.err)
+    (c.len-len.ensures ∙ c.args.held.now.bytes.ok.0)

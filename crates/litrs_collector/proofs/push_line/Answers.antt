@@ -1,25 +1,18 @@
 -- What is known of the text stays known with the line after it.
-use Rattle.std.proofs.Common.{◌≡◌, ◌∙◌, ℕ, List, ◌++◌, [], sym, ap, subst, append-nil}
+use Rattle.std.proofs.Common.{◌≡◌, ◌∙◌, ℕ, List, ◌++◌, [], refl, sym, ap, subst, append-nil}
 use Rattle.std.specs.Prelude.{string_bytes}
 use Rattle.std.proofs.lemmas.Str.{IsUtf8-nil, IsUtf8-string_bytes}
 use Rattle.litrs_collector.specs.Open.{IsKnown}
 use Rattle.litrs_collector.proofs.OpenBytes.{known_stays}
-use Rattle.litrs_collector.proofs.StepLemmas.{OnErr-holds, extends_more}
+use Rattle.litrs_collector.proofs.StepLemmas.{OnErr-holds}
 use Rattle.litrs_collector.proofs.push_line.Goals as goal
 
 pub returns-in_err-reserve-clause-err : goal.returns-in_err-reserve-clause-err
-returns-in_err-reserve-clause-err c = OnErr-holds c.from_residual.result ([], IsUtf8-nil, c.in_err-reserve.ensures.bytes ∙ sym (append-nil _))
+returns-in_err-reserve-clause-err c = OnErr-holds c.from_residual.result (([], IsUtf8-nil, c.in_err-reserve.ensures.bytes ∙ sym (append-nil _)), refl)
 
 pub open_after-requires : goal.open_after-requires
 open_after-requires c =
     let held : List ℕ = string_bytes c.args.held.now in
     let line : List ℕ = c.args.line.now in
     let text : c.as_str.result.now ≡ held ++ line = c.as_str.ensures.value ∙ c.in_ok-push_str.ensures.bytes ∙ ap (λ (x : List ℕ). x ++ line) c.in_ok-reserve.ensures.bytes in
-    subst (λ (x : List ℕ). IsKnown x c.args.known) (sym text) (known_stays c.args.known held line (IsUtf8-string_bytes c.args.held.now) c.utf8.line c.requires)
-
-pub returns-in_err-step-clause-err : goal.returns-in_err-step-clause-err
-returns-in_err-step-clause-err c =
-    let line : List ℕ = c.args.line.now in
-    OnErr-holds c.from_residual-in_err-step.result
-    (extends_more (string_bytes c.args.held.now) line (string_bytes c.push_str.new.self) (string_bytes c.read_held.new.held) c.utf8.line
-    (c.in_ok-push_str.ensures.bytes ∙ ap (λ (x : List ℕ). x ++ line) c.in_ok-reserve.ensures.bytes) c.in_err-step.ensures.err)
+    subst (λ (x : List ℕ). IsKnown x c.args.known.now) (sym text) (known_stays c.args.known.now held line (IsUtf8-string_bytes c.args.held.now) c.utf8.line c.requires)
