@@ -1,5 +1,5 @@
 -- The text is cut where the line was added.
-use Rattle.std.proofs.Common.{◌∙◌, ◌++◌}
+use Rattle.std.proofs.Common.{◌∙◌}
 use Rattle.std.specs.Prelude.{string_bytes}
 use Rattle.litrs_collector.proofs.StepLemmas.{extends_more, may_be_cut}
 use Rattle.litrs_collector.proofs.add_line.Goals as goal
