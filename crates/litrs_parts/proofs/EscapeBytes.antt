@@ -28,9 +28,9 @@ use Rattle.litrs_base.proofs.ListTests.{if_true, if_false, Split, split_first, b
 use Rattle.litrs_base.proofs.Runs.{list_all-append, list_all-weaken}
 use Rattle.litrs_base.proofs.Spans.{byte_len-append}
 use Rattle.litrs_grammar.specs.Escape.{Switches, Escape, simple_escape, hex_escape, unicode_escape, is_escape, escape_text, escape_value, escape_refusal, hex_refusal, unicode_refusal, inner_refusal, is_simple, simple_value, pair_value, hex_value, is_hex_or_underscore, allows_value, allows_byte, has_two_bytes, place_behind}
-use Rattle.litrs_grammar.specs.EscapeLaws.{BeginsWithEscape}
-use Rattle.litrs_grammar.proofs.EscapeLaws.{same_escape, refusal_escape, by_simple, hex_or_underscore_ascii, hexdigit_ascii, not_brace, two_bytes, starts_inner, no_stranger, has_stranger}
-use Rattle.litrs_grammar.proofs.EscapeSpans.{escape_spans_lie_in_text}
+use Rattle.litrs_grammar.specs.Laws.Escape.{BeginsWithEscape}
+use Rattle.litrs_grammar.proofs.Laws.Escape.{same_escape, refusal_escape, by_simple, hex_or_underscore_ascii, hexdigit_ascii, not_brace, two_bytes, starts_inner, no_stranger, has_stranger}
+use Rattle.litrs_grammar.proofs.Spans.Escape.{escape_spans_lie_in_text}
 use Rattle.litrs_grammar.proofs.LongerTexts.Escape.{escape_final, escape_finality}
 use Rattle.litrs_parts.specs.declared.escape.HexDigits.{HexDigits}
 use Rattle.litrs_parts.specs.Unescaped.{switches, IsUnescaped, IsEscapeRefused, IsHexDigits}

@@ -4,7 +4,7 @@ ghost use Rattle.std.specs.Char.{is_ascii_hexdigit};
 ghost use Rattle.std.specs.Str.{chars};
 ghost use Rattle.litrs_base.specs.Characters.{backslash, is_scalar, is_no_nul_unless};
 ghost use Rattle.litrs_base.specs.Text.{first_passes};
-ghost use Rattle.litrs_grammar.specs.EscapeGoesOn.{BeginsEscape, escape_goes_on, hex_goes_on, braces_go_on, inner_goes_on};
+ghost use Rattle.litrs_grammar.specs.GoesOn.Escape.{BeginsEscape, escape_goes_on, hex_goes_on, braces_go_on, inner_goes_on};
 ghost use Rattle.litrs_parts.specs.Unescaped.{switches};
 
 use litrs_parts::escape::hex_digits;

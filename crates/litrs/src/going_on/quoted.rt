@@ -3,7 +3,7 @@ ghost use Rattle.std.specs.Prelude.{◌↔◌, ◌⊎◌, take, IsTrue};
 ghost use Rattle.std.specs.Str.{chars, IsCharBoundary};
 ghost use Rattle.litrs_grammar.specs.Continuation.{BeginsBy};
 ghost use Rattle.litrs_grammar.specs.Quoted.{IsQuoted};
-ghost use Rattle.litrs_grammar.specs.QuotedGoesOn.{RestGoesOn};
+ghost use Rattle.litrs_grammar.specs.GoesOn.Quoted.{RestGoesOn};
 ghost use Rattle.litrs_lex.specs.QuotedItems.{EndsItems};
 ghost use Rattle.litrs_parts.specs.Unescaped.{switches};
 ghost use Rattle.litrs.specs.Begins.{IsClosed};

@@ -1,7 +1,7 @@
 //! Texts that begin with the front of no kind.
 ghost use Rattle.std.specs.Prelude.{◌≡◌, ◌==◌, ◌||◌};
 ghost use Rattle.litrs_base.specs.Text.{is_empty, first_passes};
-ghost use Rattle.litrs_grammar.specs.UnnamedGoesOn.{unnamed_goes_on};
+ghost use Rattle.litrs_grammar.specs.GoesOn.Unnamed.{unnamed_goes_on};
 
 use crate::going_on::front::begins_with;
 

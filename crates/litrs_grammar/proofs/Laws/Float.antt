@@ -14,7 +14,7 @@ use Rattle.litrs_grammar.specs.Suffix.{is_suffix, suffix_refusal}
 use Rattle.litrs_grammar.specs.Integer.{is_e}
 use Rattle.litrs_grammar.specs.Float.{FloatParts, fraction_text, float_text, is_decimal_char, is_underscore, is_period, is_sign, is_decimal_literal, is_exponent_number, sign_len, is_exponent, is_float_form, IsFloat, IsFloatOf, float_cut, has_wrong_fraction, float_cut_refusal, float_refusal}
 use Rattle.litrs_base.specs.Derivations.{IsOnlyDerivation, HasNoDerivation}
-use Rattle.litrs_grammar.proofs.IntegerLaws.{number_rows-None, number_rows}
+use Rattle.litrs_grammar.proofs.Laws.Integer.{number_rows-None, number_rows}
 use Rattle.litrs_base.proofs.Spans.{none_from}
 use Rattle.litrs_grammar.proofs.SuffixStart.{suffix_begins_otherwise}
 use Rattle.litrs_grammar.proofs.FloatCuts.{cut_of_text, letter_period, letter_decimal, IsCut, is_exponent_front, fraction_passes, same_cut, cut_of, fraction_stops, exponent_stops}

@@ -10,9 +10,9 @@ use Rattle.litrs_grammar.specs.Suffix.{is_suffix}
 use Rattle.litrs_base.specs.Text.{byte_len, first_passes}
 use Rattle.litrs_grammar.specs.Escape.{Switches, escape_refusal, allows_value}
 use Rattle.litrs_grammar.specs.Quoted.{body_text, without_last, backslash_refusal, rest_refusal}
-use Rattle.litrs_grammar.specs.QuotedLaws.{QuotedSpansLieInText}
+use Rattle.litrs_grammar.specs.Laws.Quoted.{QuotedSpansLieInText}
 use Rattle.litrs_base.proofs.ByteLen.{byte_len_one_ascii, length-le-byte_len}
-use Rattle.litrs_grammar.proofs.EscapeSpans.{Marks, AllFit, marks_start, marks_byte, fit_if, fit_unless, fit_either, fit_some, fit_on, fit_later, escape_fits}
+use Rattle.litrs_grammar.proofs.Spans.Escape.{Marks, AllFit, marks_start, marks_byte, fit_if, fit_unless, fit_either, fit_some, fit_on, fit_later, escape_fits}
 use Rattle.litrs_grammar.proofs.QuotedItems.{last_of}
 
 pub first_byte : (c : ℕ) (t : List ℕ) → Marks (c ∷ t) 0 1

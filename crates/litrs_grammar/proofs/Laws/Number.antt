@@ -11,9 +11,9 @@ use Rattle.litrs_base.specs.Base.{prefix, is_digit_or_underscore}
 use Rattle.litrs_grammar.specs.Integer.{IntegerParts, IsIntegerOf, is_e}
 use Rattle.litrs_grammar.specs.Float.{FloatParts, fraction_text, is_period, is_exponent, is_float_form, IsFloatOf}
 use Rattle.litrs_grammar.specs.LiteralRefusals.{is_float_mark, begins_float}
-use Rattle.litrs_grammar.proofs.IntegerLaws.{prefix_len_front}
+use Rattle.litrs_grammar.proofs.Laws.Integer.{prefix_len_front}
 use Rattle.litrs_grammar.proofs.FloatCuts.{behind_decimals}
-use Rattle.litrs_grammar.proofs.FloatLaws.{float_is_cut, suffix_no_period}
+use Rattle.litrs_grammar.proofs.Laws.Float.{float_is_cut, suffix_no_period}
 
 -- floats
 

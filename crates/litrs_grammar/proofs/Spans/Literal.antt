@@ -12,17 +12,17 @@ use Rattle.litrs_grammar.specs.Quoted.{quoted_front}
 use Rattle.litrs_grammar.specs.Raw.{raw_front}
 use Rattle.litrs_grammar.specs.Literal.{StringParts, quoted_parts, raw_parts, IsString, a_bool, an_integer, a_float, a_char, a_byte, a_string, a_byte_string, a_c_string, LiteralKind, bool_literal, integer_literal, float_literal, char_literal, byte_literal, string_literal, byte_string_literal, c_string_literal, literal_parse, kind_parse}
 use Rattle.litrs_grammar.specs.LiteralRefusals.{StringStart, refused_start, quoted_start, raw_start, string_start, string_start_refusal, IsRefusalOfStart, IsKindRefusal, Dispatch, refused_as, parsed_as, dispatch, IsRefusalOfDispatch}
-use Rattle.litrs_grammar.specs.LiteralLaws.{RefusalSpansLieInText, NoLiteralEndsWithLineFeed}
+use Rattle.litrs_grammar.specs.Laws.Literal.{RefusalSpansLieInText, NoLiteralEndsWithLineFeed}
 use Rattle.litrs_base.proofs.Runs.{last_passes, is_line_feed, line_feed_last}
 use Rattle.litrs_base.proofs.Spans.{plain_within, at_within}
-use Rattle.litrs_grammar.proofs.IntegerSpans.{row_is, integer_refusal_within, no_integer_with_line_feed}
-use Rattle.litrs_grammar.proofs.FloatSpans.{float_refusal_within, no_float_with_line_feed}
-use Rattle.litrs_grammar.proofs.CharByteLaws.{no_char_ends_with_line_feed}
-use Rattle.litrs_grammar.proofs.QuotedLaws.{no_quoted_text_ends_with_line_feed}
-use Rattle.litrs_grammar.proofs.QuotedSpans.{quoted_spans_lie_in_text}
-use Rattle.litrs_grammar.proofs.CharByteSpans.{char_spans_lie_in_text}
+use Rattle.litrs_grammar.proofs.Spans.Integer.{row_is, integer_refusal_within, no_integer_with_line_feed}
+use Rattle.litrs_grammar.proofs.Spans.Float.{float_refusal_within, no_float_with_line_feed}
+use Rattle.litrs_grammar.proofs.Laws.CharByte.{no_char_ends_with_line_feed}
+use Rattle.litrs_grammar.proofs.Laws.Quoted.{no_quoted_text_ends_with_line_feed}
+use Rattle.litrs_grammar.proofs.Spans.Quoted.{quoted_spans_lie_in_text}
+use Rattle.litrs_grammar.proofs.Spans.CharByte.{char_spans_lie_in_text}
 use Rattle.litrs_grammar.proofs.RawKinds.{literal_refusal_within, no_literal_with_line_feed}
-use Rattle.litrs_grammar.proofs.LiteralLaws.{string_start_says, dispatch_refusal}
+use Rattle.litrs_grammar.proofs.Laws.Literal.{string_start_says, dispatch_refusal}
 
 -- The ends of literals
 

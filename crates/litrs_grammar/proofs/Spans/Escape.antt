@@ -13,11 +13,11 @@ use Rattle.litrs_base.specs.Characters.{is_scalar}
 use Rattle.std.specs.declared.ops.Range.{Range}
 use Rattle.litrs_base.specs.Text.{is_empty, PointsInto, byte_len, first_passes}
 use Rattle.litrs_grammar.specs.Escape.{Switches, escape_refusal, hex_refusal, unicode_refusal, inner_refusal, is_simple, is_hex_or_underscore, has_two_bytes, place_behind, allows_value, allows_byte, pair_value, hex_value}
-use Rattle.litrs_grammar.specs.EscapeLaws.{EscapeSpansLieInText}
+use Rattle.litrs_grammar.specs.Laws.Escape.{EscapeSpansLieInText}
 use Rattle.litrs_base.proofs.Spans.{byte_len-append}
 use Rattle.litrs_base.proofs.ByteLen.{byte_len_one_ascii, byte_len_all_ascii, length-le-byte_len}
 use Rattle.litrs_base.proofs.ListTests.{Splits, split_first, before_first-split, take_while_whole, if_true, if_false}
-use Rattle.litrs_grammar.proofs.EscapeLaws.{hex_or_underscore_ascii, has_stranger}
+use Rattle.litrs_grammar.proofs.Laws.Escape.{hex_or_underscore_ascii, has_stranger}
 
 -- the bytes from start up to end lie within the text, and start is a character boundary
 abbrev pub Marks : List ℕ → ℕ → ℕ → Type 0

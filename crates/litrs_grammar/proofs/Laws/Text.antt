@@ -4,7 +4,7 @@ use Rattle.std.proofs.lemmas.Bool.{cases_lt}
 use Rattle.litrs_base.specs.Text.{byte_len}
 use Rattle.litrs_base.specs.CharEnd.{IsBoundaryOf}
 use Rattle.litrs_base.proofs.CharEnds.{front_boundary}
-use Rattle.litrs_grammar.specs.TextLaws.{CharEndsAreUnique, SpansStartOnBoundaries}
+use Rattle.litrs_grammar.specs.Laws.Text.{CharEndsAreUnique, SpansStartOnBoundaries}
 
 pub char_ends_are_unique : CharEndsAreUnique
 char_ends_are_unique t end p q is also = elim (cases_lt (byte_len t) end) [

@@ -8,12 +8,12 @@ use Rattle.litrs_grammar.specs.Suffix.{is_suffix}
 use Rattle.litrs_base.specs.Text.{byte_len, first_passes, begins_with}
 use Rattle.litrs_grammar.specs.Escape.{escape_refusal}
 use Rattle.litrs_grammar.specs.CharByte.{CharKind, char_kind, byte_kind, char_front, char_switches_of, is_special_whitespace, allows_char, char_item_length, closing_refusal, char_item_refusal, start_refusal, char_kind_refusal}
-use Rattle.litrs_grammar.specs.CharByteLaws.{CharSpansLieInText}
+use Rattle.litrs_grammar.specs.Laws.CharByte.{CharSpansLieInText}
 use Rattle.litrs_base.proofs.Spans.{byte_len-append}
 use Rattle.litrs_base.proofs.ByteLen.{byte_len_one_ascii}
-use Rattle.litrs_grammar.proofs.EscapeSpans.{Marks, AllFit, marks_byte, fit_if, fit_unless, fit_either, fit_some, fit_later, escape_fits}
+use Rattle.litrs_grammar.proofs.Spans.Escape.{Marks, AllFit, marks_byte, fit_if, fit_unless, fit_either, fit_some, fit_later, escape_fits}
 use Rattle.litrs_base.proofs.Begins.{begins_with-split}
-use Rattle.litrs_grammar.proofs.QuotedSpans.{first_byte, some_no_suffix}
+use Rattle.litrs_grammar.proofs.Spans.Quoted.{first_byte, some_no_suffix}
 
 -- after the item of a char
 closing_fits : (kind : CharKind) (before behind : List ℕ) → AllFit (before ++ behind) (closing_refusal kind (byte_len before) behind)

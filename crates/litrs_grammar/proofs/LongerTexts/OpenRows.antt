@@ -8,7 +8,7 @@ use Rattle.litrs_base.specs.Refusal.{Refusal}
 use Rattle.litrs_base.specs.Text.{first_passes}
 use Rattle.litrs_grammar.specs.Suffix.{is_ascii_symbol, suffix_refusal}
 use Rattle.litrs_grammar.specs.Escape.{Switches, hex_refusal, inner_refusal, unicode_refusal, escape_refusal}
-use Rattle.litrs_grammar.proofs.IntegerLaws.{number_rows}
+use Rattle.litrs_grammar.proofs.Laws.Integer.{number_rows}
 
 -- a table gives an open refusal
 abbrev pub is_open_row : Option Refusal → Bool

@@ -13,7 +13,7 @@ use Rattle.litrs_base.specs.declared.integer.IntegerBase.{IntegerBase}
 use Rattle.litrs_base.specs.declared.integer.IntegerBase.TheVariants.{Binary, Octal, Decimal, Hexadecimal}
 use Rattle.litrs_base.specs.Base.{prefix, is_digit, is_digit_or_underscore}
 use Rattle.litrs_grammar.specs.Integer.{IntegerParts, integer_text, IsInteger, IsIntegerOf, is_e, base_of, integer_cut, cut_refusal, integer_refusal}
-use Rattle.litrs_grammar.proofs.IntegerLaws.{cut_with, integer_cut-is, cut-spells, integer_rows, number_rows}
+use Rattle.litrs_grammar.proofs.Laws.Integer.{cut_with, integer_cut-is, cut-spells, integer_rows, number_rows}
 use Rattle.litrs_base.proofs.Runs.{last_passes, is_line_feed, line_feed_last, last_passes-all, last_passes-both}
 use Rattle.litrs_grammar.proofs.SuffixStart.{suffix_last}
 use Rattle.litrs_base.proofs.Spans.{byte_len-append, plain_within, over_within, at_within}

@@ -2,7 +2,7 @@
 -- Literals.
 use Rattle.std.specs.Prelude.{ℕ, Bool, ◌||◌, List, codes}
 use Rattle.litrs_base.specs.Text.{begins_with}
-use Rattle.litrs_grammar.specs.BoolGoesOn.{bool_goes_on}
+use Rattle.litrs_grammar.specs.GoesOn.Bool.{bool_goes_on}
 
 -- a front of `true` or `false`, which may be empty, or `b` alone, which a byte or a byte string
 -- begins with

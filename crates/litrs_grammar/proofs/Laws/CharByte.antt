@@ -9,11 +9,11 @@ use Rattle.litrs_grammar.specs.Suffix.{is_suffix}
 use Rattle.litrs_base.specs.Text.{first_passes, byte_len, begins_with}
 use Rattle.litrs_grammar.specs.Escape.{Switches, Escape, simple_escape, hex_escape, unicode_escape, escape_text, is_escape, is_simple, escape_refusal}
 use Rattle.litrs_grammar.specs.CharByte.{CharKind, char_kind, byte_kind, char_front, char_switches_of, CharItem, plain_char, escaped_char, char_item_text, is_special_whitespace, allows_char, is_char_item, CharParts, IsCharLiteral, escape_length, char_item_length, closing_refusal, char_item_refusal, char_kind_refusal}
-use Rattle.litrs_grammar.specs.CharByteLaws.{CharsAreUnique, CharsAreDecided, NoCharEndsWithLineFeed}
+use Rattle.litrs_grammar.specs.Laws.CharByte.{CharsAreUnique, CharsAreDecided, NoCharEndsWithLineFeed}
 use Rattle.litrs_base.proofs.ListTests.{unless_none, none_if, none_unless, if_true, if_false, position_or_len-split}
 use Rattle.litrs_base.proofs.Begins.{begins_with-split, begins_with-append}
 use Rattle.litrs_base.proofs.Spans.{none_from}
-use Rattle.litrs_grammar.proofs.EscapeLaws.{by_simple, same_escape, refusal_escape, read_escape, HasEscape, unicode_parts}
+use Rattle.litrs_grammar.proofs.Laws.Escape.{by_simple, same_escape, refusal_escape, read_escape, HasEscape, unicode_parts}
 use Rattle.litrs_grammar.proofs.QuotedItems.{escape_head, closed_before_line_feed, heads_differ}
 
 not_plain_char : (kind : CharKind) (c : ℕ) → is_char_item kind (plain_char c) ≡ true → c ≡ 92 → ⊥

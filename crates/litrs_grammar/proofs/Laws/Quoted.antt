@@ -15,12 +15,12 @@ use Rattle.litrs_base.specs.Text.{first_passes, byte_len}
 use Rattle.litrs_grammar.specs.Escape.{Switches, Escape, simple_escape, hex_escape, unicode_escape, escape_text, escape_value, value_bytes, is_escape, is_simple, hex_value, pair_value, allows_value}
 use Rattle.litrs_grammar.specs.Quoted.{Item, plain_item, escape_item, continuation, item_text, item_value, is_item, stand_before, body_text, body_value, is_body, takes_all_blanks, rest_refusal, QuotedParts, IsQuoted, IsQuotedRefusal}
 use Rattle.litrs_grammar.specs.Raw.{is_nul}
-use Rattle.litrs_grammar.specs.QuotedLaws.{QuotedBodiesAreUnique, QuotedTextsAreUnique, QuotedRefusalsAreUnique, QuotedTextsAreDecided, QuotedTextsAreNotRefused, QuotedBodiesJoin, QuotedValuesFitBodies, NoNulInQuotedCStrings, NoQuotedTextEndsWithLineFeed, QuotedLiteralsAreUnique}
+use Rattle.litrs_grammar.specs.Laws.Quoted.{QuotedBodiesAreUnique, QuotedTextsAreUnique, QuotedRefusalsAreUnique, QuotedTextsAreDecided, QuotedTextsAreNotRefused, QuotedBodiesJoin, QuotedValuesFitBodies, NoNulInQuotedCStrings, NoQuotedTextEndsWithLineFeed, QuotedLiteralsAreUnique}
 use Rattle.litrs_base.proofs.Spans.{byte_len-append}
 use Rattle.litrs_grammar.proofs.NoNul.{encode_no_nul}
 use Rattle.litrs_base.proofs.ByteLen.{length-le-byte_len}
 use Rattle.litrs_base.proofs.ListTests.{none_unless}
-use Rattle.litrs_grammar.proofs.EscapeLaws.{inner_of}
+use Rattle.litrs_grammar.proofs.Laws.Escape.{inner_of}
 use Rattle.litrs_grammar.proofs.QuotedItems.{closed_before_line_feed, heads_differ, same_items, quote_no_item, refused_no_item, read_items, Derives, SomeReading, Closes, body_stands, stands_body}
 
 -- two quoted texts after one front

@@ -9,7 +9,7 @@ use Rattle.litrs_base.specs.Text.{first_passes}
 use Rattle.litrs_base.specs.Derivations.{IsOnlyDerivation}
 use Rattle.litrs_grammar.specs.Suffix.{is_suffix}
 use Rattle.litrs_grammar.specs.Escape.{Switches, escape_refusal}
-use Rattle.litrs_grammar.specs.EscapeGoesOn.{BeginsEscape, escape_goes_on}
+use Rattle.litrs_grammar.specs.GoesOn.Escape.{BeginsEscape, escape_goes_on}
 use Rattle.litrs_grammar.specs.Quoted.{Item, stand_before, IsBodyOf, IsQuoted, IsQuotedRefusal}
 use Rattle.litrs_grammar.specs.Literal.{Derivation, IsLiteral, Parse, IsLiteralOf, Begins}
 use Rattle.litrs_grammar.specs.LiteralRefusals.{IsRefusal}

@@ -14,7 +14,7 @@ use Rattle.litrs_base.proofs.ByteLen.{byte_len_one_ascii}
 use Rattle.litrs_base.proofs.Runs.{list_all-weaken}
 use Rattle.litrs_base.proofs.ListTests.{none_if, none_unless, unless_none, take_while_all, take_while_whole, before_first-split, list_any-split, split_only, split_first, Splits}
 use Rattle.litrs_base.proofs.Spans.{none_from}
-use Rattle.litrs_grammar.specs.EscapeLaws.{BeginsWithEscape, EscapesAreDecided, EscapesAreUnique}
+use Rattle.litrs_grammar.specs.Laws.Escape.{BeginsWithEscape, EscapesAreDecided, EscapesAreUnique}
 
 -- what holds of the seven simple escapes holds of each
 pub by_simple : (P : ℕ → Type 0) (c : ℕ) → is_simple c ≡ true → P 39 → P 34 → P 110 → P 114 → P 116 → P 92 → P 48 → P c

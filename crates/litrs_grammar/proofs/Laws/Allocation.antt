@@ -13,10 +13,10 @@ use Rattle.litrs_grammar.specs.Suffix.{is_suffix}
 use Rattle.litrs_grammar.specs.Quoted.{Item, body_text}
 use Rattle.litrs_grammar.specs.Literal.{quoted_parts, raw_parts, a_bool, an_integer, a_float, a_char, a_byte, a_string, a_byte_string, a_c_string}
 use Rattle.litrs_grammar.specs.Allocation.{has_backslash, may_allocate}
-use Rattle.litrs_grammar.specs.AllocationLaws.{AllocationIsByParts}
+use Rattle.litrs_grammar.specs.Laws.Allocation.{AllocationIsByParts}
 use Rattle.litrs_grammar.proofs.SuffixStart.{suffix_continues}
-use Rattle.litrs_grammar.proofs.IntegerLaws.{starts_with_digit}
-use Rattle.litrs_grammar.proofs.LiteralLaws.{float_digit}
+use Rattle.litrs_grammar.proofs.Laws.Integer.{starts_with_digit}
+use Rattle.litrs_grammar.proofs.Laws.Literal.{float_digit}
 
 no_backslash_continues : (c : ℕ) → is_xid_continue c ≡ true → (c == 92) ≡ false
 no_backslash_continues c h = elim (cases_lt c 128) [

@@ -16,8 +16,8 @@ use Rattle.litrs_base.proofs.Runs.{last_passes, is_line_feed, line_feed_last, la
 use Rattle.litrs_base.proofs.Spans.{byte_len-append, is_ascii_char, byte_len_ascii, plain_within, over_within, at_within, of_some, of_none}
 use Rattle.litrs_grammar.proofs.SuffixStart.{suffix_last}
 use Rattle.litrs_grammar.proofs.FloatCuts.{IsCut, is_exponent_front, fraction_passes, cut_of}
-use Rattle.litrs_grammar.proofs.FloatLaws.{float_rows, cut_rows, refusal_of_cut, float_is_cut}
-use Rattle.litrs_grammar.proofs.IntegerLaws.{number_rows}
+use Rattle.litrs_grammar.proofs.Laws.Float.{float_rows, cut_rows, refusal_of_cut, float_is_cut}
+use Rattle.litrs_grammar.proofs.Laws.Integer.{number_rows}
 
 -- what stands in front of the suffix
 abbrev pub is_number_char : ℕ → Bool

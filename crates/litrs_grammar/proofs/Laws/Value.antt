@@ -14,9 +14,9 @@ use Rattle.litrs_grammar.specs.Quoted.{Item, plain_item, escape_item, continuati
 use Rattle.litrs_grammar.specs.Raw.{hashes, raw_closing}
 use Rattle.litrs_grammar.specs.Literal.{quoted_parts, raw_parts}
 use Rattle.litrs_grammar.specs.Allocation.{has_backslash}
-use Rattle.litrs_grammar.specs.ValueLaws.{PlainBodiesAreTheirValues, ValuesWithoutByteEscapesAreUtf8, StringValuesAreUtf8, NoNulInCStrings}
-use Rattle.litrs_grammar.proofs.EscapeLaws.{by_simple, inner_of}
-use Rattle.litrs_grammar.proofs.QuotedLaws.{no_nul_in_quoted_c_strings}
+use Rattle.litrs_grammar.specs.Laws.Value.{PlainBodiesAreTheirValues, ValuesWithoutByteEscapesAreUtf8, StringValuesAreUtf8, NoNulInCStrings}
+use Rattle.litrs_grammar.proofs.Laws.Escape.{by_simple, inner_of}
+use Rattle.litrs_grammar.proofs.Laws.Quoted.{no_nul_in_quoted_c_strings}
 use Rattle.litrs_grammar.proofs.RawKinds.{c_string_no_nul}
 
 -- A body without a backslash

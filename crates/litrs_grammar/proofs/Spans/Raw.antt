@@ -18,7 +18,7 @@ use Rattle.litrs_base.proofs.Spans.{byte_len-append, is_ascii_char, byte_len_asc
 use Rattle.litrs_grammar.proofs.SuffixStart.{suffix_last}
 use Rattle.litrs_grammar.proofs.NoNul.{encode_no_nul}
 use Rattle.litrs_grammar.proofs.RawCuts.{hashes_pass, length-hashes, hash_cut, ClosingCut, closing_cut, length_before_le}
-use Rattle.litrs_grammar.proofs.RawLaws.{refusal_of_hashes, before_closing, behind_closing, raw_body_rows, raw_rows}
+use Rattle.litrs_grammar.proofs.Laws.Raw.{refusal_of_hashes, before_closing, behind_closing, raw_body_rows, raw_rows}
 
 -- what holds of the refusal in each row holds of the tables
 

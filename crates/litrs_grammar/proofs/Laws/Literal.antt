@@ -16,14 +16,14 @@ use Rattle.litrs_grammar.specs.Quoted.{QuotedParts, quoted_front, IsQuotedLitera
 use Rattle.litrs_grammar.specs.Raw.{RawParts, raw_front, IsRawLiteral, raw_literal_refusal}
 use Rattle.litrs_grammar.specs.Literal.{StringParts, quoted_parts, raw_parts, IsString, Derivation, a_bool, an_integer, a_float, a_char, a_byte, a_string, a_byte_string, a_c_string, IsLiteral, LiteralKind, bool_literal, integer_literal, float_literal, char_literal, byte_literal, string_literal, byte_string_literal, c_string_literal, literal_kind, literal_parse, kind_parse, IsLiteralOf}
 use Rattle.litrs_grammar.specs.LiteralRefusals.{StringStart, refused_start, quoted_start, raw_start, string_start, string_start_refusal, IsRefusalOfStart, IsStringRefusal, IsKindRefusal, begins_float, Dispatch, refused_as, parsed_as, dispatch, IsRefusalOfDispatch}
-use Rattle.litrs_grammar.specs.LiteralLaws.{LiteralsAreUnique, TextsAreDecided, LiteralsAreNotRefused, RefusalsAreUnique}
-use Rattle.litrs_grammar.proofs.BoolLaws.{same_bool}
+use Rattle.litrs_grammar.specs.Laws.Literal.{LiteralsAreUnique, TextsAreDecided, LiteralsAreNotRefused, RefusalsAreUnique}
+use Rattle.litrs_grammar.proofs.Laws.Bool.{same_bool}
 use Rattle.litrs_base.proofs.Begins.{begins_with-split, begins_with-append}
-use Rattle.litrs_grammar.proofs.IntegerLaws.{only_integer, starts_with_digit, not_empty_by_first, integer_refusal-free, derivable as derivable_integer}
-use Rattle.litrs_grammar.proofs.FloatLaws.{only_float, starts_digit, refusal_free, derivable}
-use Rattle.litrs_grammar.proofs.NumberLaws.{float_begins, integer_begins}
-use Rattle.litrs_grammar.proofs.CharByteLaws.{chars_are_unique, chars_are_decided}
-use Rattle.litrs_grammar.proofs.QuotedLaws.{quoted_literals_are_unique, quoted_texts_are_decided, quoted_texts_are_not_refused, quoted_refusals_are_unique}
+use Rattle.litrs_grammar.proofs.Laws.Integer.{only_integer, starts_with_digit, not_empty_by_first, integer_refusal-free, derivable as derivable_integer}
+use Rattle.litrs_grammar.proofs.Laws.Float.{only_float, starts_digit, refusal_free, derivable}
+use Rattle.litrs_grammar.proofs.Laws.Number.{float_begins, integer_begins}
+use Rattle.litrs_grammar.proofs.Laws.CharByte.{chars_are_unique, chars_are_decided}
+use Rattle.litrs_grammar.proofs.Laws.Quoted.{quoted_literals_are_unique, quoted_texts_are_decided, quoted_texts_are_not_refused, quoted_refusals_are_unique}
 use Rattle.litrs_grammar.proofs.RawKinds.{only_raw_literal, literal_derivable, literal_refusal_free}
 
 -- Bools

@@ -4,7 +4,7 @@ use Rattle.std.specs.Prelude.{◌≡◌, ◌⊎◌, ℕ, List, [], ◌∷◌, �
 use Rattle.litrs_base.specs.Characters.{single_quote, underscore}
 use Rattle.litrs_base.specs.Text.{begins_with}
 use Rattle.litrs_grammar.specs.CharByte.{CharKind, char_front, char_switches_of, CharItem, plain_char, char_item_text, is_char_item}
-use Rattle.litrs_grammar.specs.EscapeGoesOn.{BeginsEscape}
+use Rattle.litrs_grammar.specs.GoesOn.Escape.{BeginsEscape}
 
 -- after the front: a text that begins an escape, or one character that stands for itself, or an
 -- item, the closing quote and a lone underscore, which is no suffix yet
