@@ -1,5 +1,5 @@
 -- Which texts an allocation failure may be the answer to.
-use Rattle.std.specs.Prelude.{◌≡◌, ℕ, List, [], ◌∷◌, true, false, codes, refl}
+use Rattle.std.specs.Prelude.{◌≡◌, [], ◌∷◌, false, codes, refl}
 use Rattle.std.proofs.Common.{sym, ◌∙◌}
 use Rattle.std.proofs.lemmas.Bool.{false≢true}
 use Rattle.litrs_base.specs.declared.err.ParseError.{ParseError}
