@@ -30,7 +30,7 @@ pub(crate) fn quoted_goes_on(
     rest_goes_on(&text[end.place..], unicode, byte_escapes, allow_nul)
 }
 
-/// The same by what stands where the items end.
+/// Whether a quoted literal goes on, by what stands where its items end.
 fn rest_goes_on(rest: &str, unicode: bool, byte_escapes: bool, allow_nul: bool) -> bool
     requires { EndsItems (switches unicode byte_escapes allow_nul) (chars rest.now) }
     ensures { IsTrue result ↔ (IsClosed (chars rest.now)
