@@ -22,7 +22,6 @@ MAPPED = {
     ("crates/litrs_strings/src/c_string.rt", OUT_OF_MEMORY),
     ("crates/litrs_collector/src/lib.rt", "ParseErrorKind::OutOfMemory => Err(AllocError),"),
     ("crates/litrs_token/src/from_token.rt", "ParseErrorKind::OutOfMemory => Err(AllocError),"),
-    ("crates/litrs_token/src/one_kind.rt", "ParseErrorKind::OutOfMemory => TokenError::Memory,"),
     # The program of rows, which ends where memory of its own was refused.
     ("crates/litrs_vectors/src/main.rt", "Err(RowError::OutOfMemory) => return Err(AllocError),"),
     (

@@ -6,7 +6,7 @@ use Rattle.std.proofs.lemmas.List.{append-nil}
 use Rattle.litrs_grammar.specs.Continuation.{BeginsBy}
 use Rattle.litrs_grammar.specs.Literal.{LiteralKind, literal_parse, kind_parse, IsLiteralOf, Begins}
 use Rattle.litrs_grammar.specs.LiteralRefusals.{parsed_as, dispatch}
-use Rattle.litrs_grammar.proofs.LiteralLaws.{texts_are_decided}
+use Rattle.litrs_grammar.proofs.Laws.Literal.{texts_are_decided}
 use Rattle.litrs_grammar.proofs.LongerTexts.Dispatch.{literal_begins}
 
 -- an answer, by what holds

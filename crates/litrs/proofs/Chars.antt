@@ -10,12 +10,12 @@ use Rattle.litrs_base.specs.Refusal.{Refusal, refusal_of}
 use Rattle.litrs_base.specs.Text.{first_passes, begins_with}
 use Rattle.litrs_grammar.specs.Suffix.{is_suffix}
 use Rattle.litrs_grammar.specs.Escape.{Switches, escape_text, is_escape, escape_refusal}
-use Rattle.litrs_grammar.specs.EscapeGoesOn.{BeginsEscape, escape_goes_on}
+use Rattle.litrs_grammar.specs.GoesOn.Escape.{BeginsEscape, escape_goes_on}
 use Rattle.litrs_grammar.specs.CharByte.{CharKind, char_kind, byte_kind, char_front, char_switches_of, CharItem, plain_char, escaped_char, char_item_text, is_char_item, IsCharLiteral}
 use Rattle.litrs_grammar.specs.Continuation.{BeginsBy}
 use Rattle.litrs_grammar.specs.Literal.{kind_parse, char_literal, byte_literal, Begins}
-use Rattle.litrs_grammar.proofs.CharByteLaws.{same_char_item}
-use Rattle.litrs_grammar.proofs.EscapeLaws.{refusal_escape}
+use Rattle.litrs_grammar.proofs.Laws.CharByte.{same_char_item}
+use Rattle.litrs_grammar.proofs.Laws.Escape.{refusal_escape}
 use Rattle.litrs_grammar.proofs.QuotedItems.{escape_head}
 use Rattle.litrs_grammar.proofs.LongerTexts.CharByte.{completed, char_completed}
 use Rattle.litrs_grammar.proofs.LongerTexts.Escape.{refused_escape_begins}

@@ -16,8 +16,8 @@ use Rattle.litrs_base.specs.Refusal.{refusal_of}
 use Rattle.litrs_base.specs.Text.{is_empty, first_passes}
 use Rattle.litrs_base.proofs.Chars.{OnlyAscii, chars_empty, chars_ascii, chars_wide, utf8_behind_ascii, first_passes-chars, ascii_by_test, ascii_from_test}
 use Rattle.litrs_grammar.specs.Escape.{Switches, unicode_escape, escape_text, is_escape, escape_refusal, is_hex_or_underscore}
-use Rattle.litrs_grammar.specs.EscapeGoesOn.{BeginsEscape, escape_goes_on, hex_goes_on, braces_go_on, inner_goes_on}
-use Rattle.litrs_grammar.proofs.EscapeLaws.{same_escape}
+use Rattle.litrs_grammar.specs.GoesOn.Escape.{BeginsEscape, escape_goes_on, hex_goes_on, braces_go_on, inner_goes_on}
+use Rattle.litrs_grammar.proofs.Laws.Escape.{same_escape}
 use Rattle.litrs_grammar.proofs.LongerTexts.Escape.{refused_escape_begins}
 use Rattle.litrs_grammar.proofs.LongerTexts.Literal.{back}
 use Rattle.litrs_parts.specs.declared.escape.HexDigits.{HexDigits}

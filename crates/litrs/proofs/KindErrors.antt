@@ -10,7 +10,7 @@ use Rattle.litrs_base.proofs.CharEnds.{no_span}
 use Rattle.litrs_grammar.specs.Literal.{Derivation, IsLiteral, LiteralKind, integer_literal, float_literal, literal_parse, kind_parse}
 use Rattle.litrs_grammar.specs.LiteralRefusals.{Dispatch, refused_as, parsed_as, begins_float, dispatch, IsRefusalOfDispatch}
 use Rattle.litrs_grammar.specs.Refused.{IsRefused, IsRefusedOrOutOfMemory}
-use Rattle.litrs_grammar.proofs.LiteralLaws.{literals_are_unique}
+use Rattle.litrs_grammar.proofs.Laws.Literal.{literals_are_unique}
 use Rattle.litrs_grammar.proofs.Refused.{is_refused}
 use Rattle.litrs_parts.specs.NumberCut.{number_kind}
 use Rattle.litrs_parts.proofs.NumberBytes.{kind_by_bytes}

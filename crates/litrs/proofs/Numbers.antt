@@ -17,18 +17,18 @@ use Rattle.litrs_base.proofs.Spans.{byte_len-append, byte_len-cons, byte_len_asc
 use Rattle.litrs_grammar.specs.Suffix.{is_suffix, is_ascii_symbol, suffix_refusal}
 use Rattle.litrs_grammar.specs.Integer.{IntegerParts, is_e, integer_text, integer_cut, cut_refusal, integer_refusal}
 use Rattle.litrs_grammar.specs.Float.{FloatParts, number_part, fraction_text, float_text, is_period, is_decimal_char, has_wrong_fraction, float_cut, float_refusal}
-use Rattle.litrs_grammar.specs.FloatGoesOn.{FloatGoesOn}
-use Rattle.litrs_grammar.specs.IntegerGoesOn.{IntegerGoesOn}
+use Rattle.litrs_grammar.specs.GoesOn.Float.{FloatGoesOn}
+use Rattle.litrs_grammar.specs.GoesOn.Integer.{IntegerGoesOn}
 use Rattle.litrs_grammar.specs.Literal.{LiteralKind, an_integer, a_float, integer_literal, float_literal, kind_parse, IsLiteralOf, Begins}
 use Rattle.litrs_grammar.specs.LiteralRefusals.{is_float_mark, begins_float, parsed_as, dispatch}
 use Rattle.litrs_grammar.specs.Refused.{IsRefused}
-use Rattle.litrs_grammar.proofs.IntegerLaws.{integer_rows, number_rows, integer_cut-is, cut-spells, refusal_of_digit}
+use Rattle.litrs_grammar.proofs.Laws.Integer.{integer_rows, number_rows, integer_cut-is, cut-spells, refusal_of_digit}
 use Rattle.litrs_grammar.proofs.FloatCuts.{IsCut, CutOf, cut_of, cut_of_text, behind_decimals, fraction_stops, number_part-suffix}
-use Rattle.litrs_grammar.proofs.FloatLaws.{float_rows, cut_rows, refusal_of_cut}
-use Rattle.litrs_grammar.proofs.FloatSpans.{number_part_ascii}
+use Rattle.litrs_grammar.proofs.Laws.Float.{float_rows, cut_rows, refusal_of_cut}
+use Rattle.litrs_grammar.proofs.Spans.Float.{number_part_ascii}
 use Rattle.litrs_grammar.proofs.LongerTexts.Literal.{chain, back, refused_texts_go_on}
 use Rattle.litrs_grammar.proofs.LongerTexts.Suffix.{is_suffix-nil}
-use Rattle.litrs_grammar.proofs.NumberLaws.{float_begins, integer_begins}
+use Rattle.litrs_grammar.proofs.Laws.Number.{float_begins, integer_begins}
 use Rattle.litrs_parts.specs.declared.number.NumberCut.{NumberCut}
 use Rattle.litrs_parts.specs.declared.number.NumberCut.TheVariants as number
 use Rattle.litrs_parts.specs.NumberCut.{number_kind, IsNumberCut}

@@ -12,9 +12,9 @@ use Rattle.litrs_base.specs.Text.{byte_len, begins_with}
 use Rattle.litrs_base.proofs.Begins.{begins_with-split}
 use Rattle.litrs_grammar.specs.Suffix.{is_suffix, suffix_refusal}
 use Rattle.litrs_grammar.specs.Escape.{Switches, escape_text}
-use Rattle.litrs_grammar.specs.EscapeGoesOn.{BeginsEscape}
+use Rattle.litrs_grammar.specs.GoesOn.Escape.{BeginsEscape}
 use Rattle.litrs_grammar.specs.Quoted.{Item, body_text, stand_before, rest_refusal, IsQuoted, IsQuotedRefusal}
-use Rattle.litrs_grammar.specs.QuotedGoesOn.{RestGoesOn}
+use Rattle.litrs_grammar.specs.GoesOn.Quoted.{RestGoesOn}
 use Rattle.litrs_grammar.specs.Continuation.{BeginsBy}
 use Rattle.litrs_grammar.proofs.QuotedItems.{escape_head}
 use Rattle.litrs_grammar.proofs.LongerTexts.Quoted.{stands_is_body, begins_rest, rest_begins}

@@ -22,15 +22,15 @@ use Rattle.litrs_base.proofs.ByteLen.{byte_len_one_ascii}
 use Rattle.litrs_base.proofs.Spans.{byte_len-append}
 use Rattle.litrs_grammar.specs.Suffix.{is_suffix, is_ascii_symbol, suffix_refusal}
 use Rattle.litrs_grammar.specs.Raw.{is_quote, is_hash, is_nul, hashes, raw_closing, occurs, length_before, IsRawOf, hash_len, raw_char_refusal, raw_body_refusal, raw_refusal}
-use Rattle.litrs_grammar.specs.RawGoesOn.{IsClosedRaw, RawGoesOn}
+use Rattle.litrs_grammar.specs.GoesOn.Raw.{IsClosedRaw, RawGoesOn}
 use Rattle.litrs_grammar.specs.Continuation.{BeginsBy}
-use Rattle.litrs_grammar.proofs.LiteralLaws.{is_text-is}
+use Rattle.litrs_grammar.proofs.Laws.Literal.{is_text-is}
 use Rattle.litrs_grammar.proofs.RawCuts.{hashes_pass, length-hashes, HashCut, hash_cut, length_before-body, occurs-body}
-use Rattle.litrs_grammar.proofs.RawLaws.{raw_rows}
-use Rattle.litrs_grammar.proofs.RawSpans.{hashes_bytes, quoted_bytes}
+use Rattle.litrs_grammar.proofs.Laws.Raw.{raw_rows}
+use Rattle.litrs_grammar.proofs.Spans.Raw.{hashes_bytes, quoted_bytes}
 use Rattle.litrs_grammar.proofs.LongerTexts.Raw.{RawScan, stopped, closed, unclosed, raw_scan, stopped_refusal, closed_refusal, unclosed_refusal, rows_of, rows_of_nothing, CutGoesOn, from_cut, to_cut, closing_is_text, raw_begins, raw_open, raw_finality}
-use Rattle.litrs_grammar.specs.RawGoesOn.{raw_open_parts}
-use Rattle.litrs_parts.proofs.EscapeBytes.{IsCut, cut_at}
+use Rattle.litrs_grammar.specs.GoesOn.Raw.{raw_open_parts}
+use Rattle.litrs_parts.proofs.CharCuts.{IsCut, cut_at}
 use Rattle.litrs_parts.proofs.FloatBytes.{rest_is}
 use Rattle.litrs.specs.LastUnderscore.{points_at_last_underscore}
 use Rattle.litrs.proofs.Begins.{yes, no, answer_is}

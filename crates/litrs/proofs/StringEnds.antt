@@ -13,8 +13,8 @@ use Rattle.litrs_grammar.specs.Raw.{raw_front, has_unicode, allows_nul, IsRawOf,
 use Rattle.litrs_grammar.specs.Continuation.{BeginsBy}
 use Rattle.litrs_grammar.specs.Literal.{IsString}
 use Rattle.litrs_grammar.specs.LiteralRefusals.{refused_start, quoted_start, raw_start, string_start, string_start_refusal}
-use Rattle.litrs_grammar.specs.StringGoesOn.{start_goes_on}
-use Rattle.litrs_grammar.proofs.LiteralLaws.{start_quoted, start_raw}
+use Rattle.litrs_grammar.specs.GoesOn.String.{start_goes_on}
+use Rattle.litrs_grammar.proofs.Laws.Literal.{start_quoted, start_raw}
 use Rattle.litrs_grammar.proofs.LongerTexts.Literal.{chain, back, raw_begins_behind}
 use Rattle.litrs_grammar.proofs.LongerTexts.String.{quoted_string_begins, raw_string_begins, start_begins}
 use Rattle.litrs.proofs.Begins.{answer_is}

@@ -11,8 +11,8 @@ use Rattle.litrs_base.specs.Text.{is_empty, first_passes, begins_with}
 use Rattle.litrs_base.proofs.Chars.{chars_ascii, chars_wide, utf8_behind_ascii}
 use Rattle.litrs_grammar.specs.Literal.{a_bool, literal_parse, IsLiteralOf, Begins}
 use Rattle.litrs_grammar.specs.LiteralRefusals.{refused_as, dispatch}
-use Rattle.litrs_grammar.specs.UnnamedGoesOn.{unnamed_goes_on}
-use Rattle.litrs_grammar.proofs.LiteralLaws.{some_bool}
+use Rattle.litrs_grammar.specs.GoesOn.Unnamed.{unnamed_goes_on}
+use Rattle.litrs_grammar.proofs.Laws.Literal.{some_bool}
 use Rattle.litrs_grammar.proofs.LongerTexts.Dispatch.{unnamed_begins}
 use Rattle.litrs_grammar.proofs.LongerTexts.Literal.{back}
 use Rattle.litrs_parts.proofs.Dispatch.{dispatch-chars, is_bool-chars}

@@ -130,6 +130,9 @@ impl<B: Text> Literal<B> {
     /// `Empty`; the refusal of the kind that the text begins like, as `UnexpectedChar` at 1..2 for
     /// `0 `; `InvalidLiteral` where no kind begins so. `OutOfMemory`, with no span, where the text
     /// is a literal and there is no memory for its value.
+    // Inlined, with the parse of each kind, so that a literal is made where the caller keeps it:
+    // passed through memory, bools and chars took twice the time. What cuts a text is a call, so
+    // that this stays small.
     #[inline(always)]
     pub fn parse(alloc: Global, input: B) -> Result<Literal<B>, ParseError>
         ensures raw { IfOk result (λ lit. literal_raw lit ≡ B.bytes input) }
@@ -150,7 +153,7 @@ impl<B: Text> Literal<B> {
         }
     }
 
-    /// The same for a text that begins with a digit.
+    /// [`parse`](Literal::parse) of a text that begins with a digit.
     #[inline(always)]
     fn parse_number(input: B) -> Result<Literal<B>, ParseError>
         requires { IsTrue (first_passes is_ascii_digit (B.bytes input)) }
@@ -159,10 +162,9 @@ impl<B: Text> Literal<B> {
         ensures refused { IfErr result
             (IsRefused (kind_parse (number_kind (chars (B.bytes input)))) (chars (B.bytes input))) }
     {
-        match cut_number(input.as_str()) {
-            Ok(NumberCut::Integer(cut)) => Ok(Literal::Integer(IntegerLit::new(input, cut))),
-            Ok(NumberCut::Float(cut)) => Ok(Literal::Float(FloatLit::new(input, cut))),
-            Err(e) => Err(e),
+        match cut_number(input.as_str())? {
+            NumberCut::Integer(cut) => Ok(Literal::Integer(IntegerLit::new(input, cut))),
+            NumberCut::Float(cut) => Ok(Literal::Float(FloatLit::new(input, cut))),
         }
     }
 

@@ -9,7 +9,9 @@ use std::str::FromStr;
 /// [ref]: https://doc.rust-lang.org/reference/types/numeric.html#floating-point-types
 #[derive(Clone, Copy, Debug, PartialEq, Eq)]
 pub enum FloatType {
+    /// `f32`: 32 bits, the format binary32 of IEEE 754.
     F32,
+    /// `f64`: 64 bits, the format binary64 of IEEE 754.
     F64,
 }
 

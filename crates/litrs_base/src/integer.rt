@@ -53,17 +53,29 @@ impl IntegerBase {
 /// [ref]: https://doc.rust-lang.org/reference/types/numeric.html#integer-types
 #[derive(Clone, Copy, Debug, PartialEq, Eq)]
 pub enum IntegerType {
+    /// `u8`: 8 bits, without a sign.
     U8,
+    /// `u16`: 16 bits, without a sign.
     U16,
+    /// `u32`: 32 bits, without a sign.
     U32,
+    /// `u64`: 64 bits, without a sign.
     U64,
+    /// `u128`: 128 bits, without a sign.
     U128,
+    /// `usize`: as many bits as an address, without a sign.
     Usize,
+    /// `i8`: 8 bits, with a sign.
     I8,
+    /// `i16`: 16 bits, with a sign.
     I16,
+    /// `i32`: 32 bits, with a sign.
     I32,
+    /// `i64`: 64 bits, with a sign.
     I64,
+    /// `i128`: 128 bits, with a sign.
     I128,
+    /// `isize`: as many bits as an address, with a sign.
     Isize,
 }
 

@@ -18,8 +18,8 @@ use Rattle.litrs_grammar.specs.StringKind.{StringKind, string_kind, byte_string_
 use Rattle.litrs_grammar.specs.Escape.{Switches, escape_text, IsEscape}
 use Rattle.litrs_grammar.specs.Quoted.{Item, continuation, quoted_front, body_text, stand_before}
 use Rattle.litrs_grammar.specs.Raw.{hashes, hash_len, occurs, raw_closing, raw_front, has_unicode, allows_nul, is_raw_char}
-use Rattle.litrs_grammar.specs.RawLaws.{NoClosingIn}
-use Rattle.litrs_grammar.proofs.QuotedLaws.{body_text-append}
+use Rattle.litrs_grammar.specs.Laws.Raw.{NoClosingIn}
+use Rattle.litrs_grammar.proofs.Laws.Quoted.{body_text-append}
 use Rattle.litrs_grammar.proofs.RawCuts.{HashCut, hash_cut, hash_len-append, behind_hashes, length-hashes}
 use Rattle.litrs_grammar.proofs.RawScans.{raw_scans_go_on}
 use Rattle.litrs_grammar.proofs.LongerTexts.Quoted.{quoted_items_stay}

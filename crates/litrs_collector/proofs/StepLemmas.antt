@@ -10,8 +10,8 @@ use Rattle.litrs_base.specs.Finality.{is_open}
 use Rattle.litrs_base.specs.Refusal.{Refusal, refusal_of}
 use Rattle.litrs_grammar.specs.Literal.{IsLiteral, literal_parse, Begins}
 use Rattle.litrs_grammar.specs.LiteralRefusals.{IsRefusal}
-use Rattle.litrs_grammar.proofs.LiteralLaws.{literals_are_not_refused, texts_are_decided}
-use Rattle.litrs_grammar.proofs.LiteralSpans.{no_literal_ends_with_line_feed}
+use Rattle.litrs_grammar.proofs.Laws.Literal.{literals_are_not_refused, texts_are_decided}
+use Rattle.litrs_grammar.proofs.Spans.Literal.{no_literal_ends_with_line_feed}
 use Rattle.litrs_base.specs.declared.err.ParseError.{ParseError}
 use Rattle.litrs_grammar.specs.Refused.{IsRefused}
 use Rattle.litrs_grammar.specs.Quoted.{without_last}

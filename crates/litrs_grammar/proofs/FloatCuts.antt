@@ -7,7 +7,7 @@ use Rattle.std.proofs.lemmas.List.{drop_at, append_assoc, take-append-drop, take
 use Rattle.litrs_base.specs.Text.{first_passes}
 use Rattle.litrs_grammar.specs.Integer.{is_e}
 use Rattle.litrs_grammar.specs.Float.{FloatParts, fraction_text, number_part, float_text, is_decimal_char, is_period, is_sign, sign_len, fraction_of, exponent_of, behind, float_cut}
-use Rattle.litrs_grammar.proofs.IntegerLaws.{prefix_len_front, take_while_front}
+use Rattle.litrs_grammar.proofs.Laws.Integer.{prefix_len_front, take_while_front}
 use Rattle.litrs_base.proofs.Runs.{run_of}
 
 -- tests on one character

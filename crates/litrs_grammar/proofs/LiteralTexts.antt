@@ -5,9 +5,9 @@ use Rattle.litrs_grammar.specs.StringKind.{StringKind, string_kind, byte_string_
 use Rattle.litrs_grammar.specs.CharByte.{CharKind, char_kind, byte_kind, CharParts, char_text, IsCharLiteral}
 use Rattle.litrs_grammar.specs.Literal.{StringParts, quoted_parts, raw_parts, IsString, a_bool, an_integer, a_float, a_char, a_byte, a_string, a_byte_string, a_c_string, IsLiteral}
 use Rattle.litrs_grammar.specs.LiteralText.{string_text, literal_text, AreCharParts, AreStringParts}
-use Rattle.litrs_grammar.specs.ContinuationLaws.{LiteralsAreWritten, LiteralsParseBack, JoinedBodiesAreQuoted}
-use Rattle.litrs_grammar.proofs.LiteralLaws.{literals_are_unique}
-use Rattle.litrs_grammar.proofs.QuotedLaws.{quoted_bodies_join}
+use Rattle.litrs_grammar.specs.Laws.Continuation.{LiteralsAreWritten, LiteralsParseBack, JoinedBodiesAreQuoted}
+use Rattle.litrs_grammar.proofs.Laws.Literal.{literals_are_unique}
+use Rattle.litrs_grammar.proofs.Laws.Quoted.{quoted_bodies_join}
 
 char_written : (kind : CharKind) (t : List ℕ) (d : CharParts) → IsCharLiteral kind t d ↔ ((char_text kind d ≡ t) × AreCharParts kind d)
 char_written kind t d = (λ r. (r.spells, (r.item, r.suffix)), λ h. record { spells = h.0; item = h.1.0; suffix = h.1.1 })

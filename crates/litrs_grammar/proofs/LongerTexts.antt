@@ -10,3 +10,5 @@ pub mod Dispatch
 pub mod String
 pub mod CharByte
 pub mod Literal
+pub mod OpenRows
+pub mod OtherKinds

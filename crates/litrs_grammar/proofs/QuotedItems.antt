@@ -14,7 +14,7 @@ use Rattle.litrs_grammar.specs.Escape.{Switches, Escape, simple_escape, hex_esca
 use Rattle.litrs_grammar.specs.Quoted.{Item, plain_item, escape_item, continuation, item_text, is_item, is_plain, body_text, is_body, takes_all_blanks, is_taken_before, stand_before, without_last, backslash_refusal, rest_refusal}
 use Rattle.litrs_base.proofs.ListTests.{unless_none, none_if, none_unless, if_true, if_false}
 use Rattle.litrs_base.proofs.Spans.{none_from}
-use Rattle.litrs_grammar.proofs.EscapeLaws.{same_escape, refusal_escape, read_escape}
+use Rattle.litrs_grammar.proofs.Laws.Escape.{same_escape, refusal_escape, read_escape}
 
 -- an escape begins with a backslash, and no LF follows it
 pub escape_head : (e : Escape) (x : List ℕ) → (c : ℕ) × (t : List ℕ) × (escape_text e ++ x ≡ 92 ∷ c ∷ t)

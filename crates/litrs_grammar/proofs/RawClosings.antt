@@ -7,7 +7,7 @@ use Rattle.std.proofs.lemmas.Bool.Decides.{nat_tests}
 use Rattle.std.proofs.lemmas.List.{append_assoc}
 use Rattle.litrs_base.specs.Text.{is_empty, first_passes, begins_with}
 use Rattle.litrs_grammar.specs.Raw.{is_quote, is_hash, hashes, raw_closing, occurs, hash_len, length_before}
-use Rattle.litrs_grammar.specs.RawScanLaws.{HashCountsStay, FirstClosingsStay, RawScansStay, ClosingsBeginAtQuotes, ClosingsAreFound, QuotesArePassed}
+use Rattle.litrs_grammar.specs.Laws.RawScan.{HashCountsStay, FirstClosingsStay, RawScansStay, ClosingsBeginAtQuotes, ClosingsAreFound, QuotesArePassed}
 use Rattle.litrs_grammar.proofs.RawCuts.{hash_len-append, behind_hashes, HashCut, hash_cut, closing_cut, length_before-body}
 
 pub hash_counts_stay : HashCountsStay

@@ -7,7 +7,7 @@ use Rattle.std.proofs.lemmas.List.{drop_at, length-replicate}
 use Rattle.litrs_base.specs.Text.{first_passes, begins_with}
 use Rattle.litrs_grammar.specs.Raw.{is_hash, hashes, raw_closing, occurs, hash_len, length_before}
 use Rattle.litrs_base.proofs.Begins.{begins_with-split, begins_with-append}
-use Rattle.litrs_grammar.proofs.IntegerLaws.{prefix_len_front}
+use Rattle.litrs_grammar.proofs.Laws.Integer.{prefix_len_front}
 use Rattle.litrs_base.proofs.Runs.{run_of}
 
 -- hashes

@@ -11,8 +11,8 @@ use Rattle.litrs_grammar.specs.Raw.{is_nul, raw_value, RawParts, raw_text, IsRaw
 use Rattle.litrs_base.proofs.Runs.{last_passes, is_line_feed, line_feed_last}
 use Rattle.litrs_base.proofs.Spans.{byte_len_ascii}
 use Rattle.litrs_base.proofs.Begins.{begins_with-split}
-use Rattle.litrs_grammar.proofs.RawLaws.{only_raw, derivable, refusal_free}
-use Rattle.litrs_grammar.proofs.RawSpans.{raw_refusal_within, raw_last, raw_no_nul}
+use Rattle.litrs_grammar.proofs.Laws.Raw.{only_raw, derivable, refusal_free}
+use Rattle.litrs_grammar.proofs.Spans.Raw.{raw_refusal_within, raw_last, raw_no_nul}
 
 -- The first character of a raw literal decides its kind.
 

@@ -12,7 +12,7 @@ use Rattle.litrs_base.specs.Text.{begins_with, byte_len}
 use Rattle.litrs_base.proofs.Spans.{byte_len-append}
 use Rattle.litrs_grammar.specs.Suffix.{is_suffix, suffix_refusal}
 use Rattle.litrs_grammar.specs.Raw.{raw_closing, hashes, occurs, length_before, is_raw_char, raw_char_refusal, raw_body_refusal}
-use Rattle.litrs_grammar.specs.RawLaws.{NoClosingIn, RawScansGoOn, RawRefusalsGoOn, RawBodiesEndAtClosings}
+use Rattle.litrs_grammar.specs.Laws.Raw.{NoClosingIn, RawScansGoOn, RawRefusalsGoOn, RawBodiesEndAtClosings}
 use Rattle.litrs_grammar.proofs.RawCuts.{closing_before_closing}
 
 pub raw_scans_go_on : RawScansGoOn

@@ -17,9 +17,9 @@ use Rattle.litrs_grammar.specs.Quoted.{quoted_front, backslash_refusal, rest_ref
 use Rattle.litrs_grammar.specs.Raw.{raw_char_refusal, raw_body_refusal, raw_refusal, raw_literal_refusal}
 use Rattle.litrs_grammar.specs.Literal.{LiteralKind, bool_literal, integer_literal, float_literal, char_literal, byte_literal, string_literal, byte_string_literal, c_string_literal, literal_parse, kind_parse}
 use Rattle.litrs_grammar.specs.LiteralRefusals.{StringStart, refused_start, quoted_start, raw_start, string_start, string_start_refusal, IsRefusalOfStart, IsKindRefusal, Dispatch, refused_as, parsed_as, dispatch, IsRefusalOfDispatch}
-use Rattle.litrs_grammar.specs.LiteralLaws.{NoRefusalIsOfMemory}
-use Rattle.litrs_grammar.proofs.LiteralLaws.{dispatch_refusal}
-use Rattle.litrs_grammar.proofs.IntegerLaws.{number_rows}
+use Rattle.litrs_grammar.specs.Laws.Literal.{NoRefusalIsOfMemory}
+use Rattle.litrs_grammar.proofs.Laws.Literal.{dispatch_refusal}
+use Rattle.litrs_grammar.proofs.Laws.Integer.{number_rows}
 
 -- the kind is another
 abbrev is_of_text : ParseErrorKind → Bool

@@ -8,8 +8,8 @@ use Rattle.litrs_base.proofs.CharEnds.{char_span_points}
 use Rattle.litrs_grammar.specs.Literal.{Parse, Begins}
 use Rattle.litrs_grammar.specs.LiteralRefusals.{IsRefusal}
 use Rattle.litrs_grammar.specs.Refused.{IsRefused}
-use Rattle.litrs_grammar.proofs.LiteralLaws.{literals_are_not_refused, refusals_are_unique}
-use Rattle.litrs_grammar.proofs.LiteralSpans.{refusal_spans_lie_in_text}
+use Rattle.litrs_grammar.proofs.Laws.Literal.{literals_are_not_refused, refusals_are_unique}
+use Rattle.litrs_grammar.proofs.Spans.Literal.{refusal_spans_lie_in_text}
 use Rattle.litrs_grammar.proofs.LongerTexts.Literal.{final_refusals_stay, open_refusals_close, line_ends_are_decided}
 
 pub is_refused : (parse : Parse) (t : List ℕ) (e : ParseError) → IsRefusal parse t (refusal_of e) → HasCharSpan t e → IsRefused parse t e

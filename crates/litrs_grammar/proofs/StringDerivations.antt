@@ -5,7 +5,7 @@ use mathlib.Core.HLevel.{Σ_prop_path}
 use Rattle.litrs_grammar.specs.StringKind.{StringKind}
 use Rattle.litrs_grammar.specs.Literal.{StringParts, quoted_parts, raw_parts, IsString}
 use Rattle.litrs_grammar.specs.Strings.{StringDerivation}
-use Rattle.litrs_grammar.proofs.LiteralLaws.{only_string}
+use Rattle.litrs_grammar.proofs.Laws.Literal.{only_string}
 
 pub IsString-prop : (kind : StringKind) (t : List ℕ) (d : StringParts) → IsProp (IsString kind t d)
 IsString-prop kind t (quoted_parts d) = hlevel props

@@ -1,5 +1,14 @@
 -- Which refused texts begin a literal, for the nine parses. The Rust Reference, Tokens, Literals;
 -- it does not speak of refusals.
+pub mod Escape
+pub mod Quoted
+pub mod Raw
+pub mod String
+pub mod CharByte
+pub mod Integer
+pub mod Float
+pub mod Bool
+pub mod Unnamed
 use Rattle.std.specs.Prelude.{ℕ, List, IsTrue, length, drop}
 use Rattle.litrs_grammar.specs.StringKind.{StringKind, string_kind, byte_string_kind, c_string_kind, switches_of}
 use Rattle.litrs_grammar.specs.Float.{float_cut}
@@ -8,14 +17,14 @@ use Rattle.litrs_grammar.specs.Quoted.{quoted_front}
 use Rattle.litrs_grammar.specs.Raw.{raw_front, has_unicode, allows_nul}
 use Rattle.litrs_grammar.specs.Literal.{LiteralKind, bool_literal, integer_literal, float_literal, char_literal, byte_literal, string_literal, byte_string_literal, c_string_literal, Parse, literal_parse, kind_parse}
 use Rattle.litrs_grammar.specs.LiteralRefusals.{StringStart, refused_start, quoted_start, raw_start, string_start, Dispatch, refused_as, parsed_as, dispatch}
-use Rattle.litrs_grammar.specs.BoolGoesOn.{bool_goes_on}
-use Rattle.litrs_grammar.specs.IntegerGoesOn.{IntegerGoesOn}
-use Rattle.litrs_grammar.specs.FloatGoesOn.{FloatGoesOn}
-use Rattle.litrs_grammar.specs.CharByteGoesOn.{CharGoesOn}
-use Rattle.litrs_grammar.specs.QuotedGoesOn.{QuotedGoesOn}
-use Rattle.litrs_grammar.specs.RawGoesOn.{RawGoesOn}
-use Rattle.litrs_grammar.specs.StringGoesOn.{start_goes_on}
-use Rattle.litrs_grammar.specs.UnnamedGoesOn.{unnamed_goes_on}
+use Rattle.litrs_grammar.specs.GoesOn.Bool.{bool_goes_on}
+use Rattle.litrs_grammar.specs.GoesOn.Integer.{IntegerGoesOn}
+use Rattle.litrs_grammar.specs.GoesOn.Float.{FloatGoesOn}
+use Rattle.litrs_grammar.specs.GoesOn.CharByte.{CharGoesOn}
+use Rattle.litrs_grammar.specs.GoesOn.Quoted.{QuotedGoesOn}
+use Rattle.litrs_grammar.specs.GoesOn.Raw.{RawGoesOn}
+use Rattle.litrs_grammar.specs.GoesOn.String.{start_goes_on}
+use Rattle.litrs_grammar.specs.GoesOn.Unnamed.{unnamed_goes_on}
 
 -- a text that starts so, as a string of the kind
 abbrev pub StartGoesOn : StringKind → StringStart → List ℕ → Type 0

@@ -17,29 +17,8 @@ pub mod Allocation
 pub mod Continuation
 pub mod Closing
 pub mod Refused
--- which refused texts some longer text completes, kind by kind
-pub mod EscapeGoesOn
-pub mod QuotedGoesOn
-pub mod RawGoesOn
-pub mod StringGoesOn
-pub mod CharByteGoesOn
-pub mod IntegerGoesOn
-pub mod FloatGoesOn
-pub mod BoolGoesOn
-pub mod UnnamedGoesOn
+-- which refused texts some longer text completes, all kinds and kind by kind
 pub mod LiteralText
 pub mod GoesOn
 -- what the laws say
-pub mod EscapeLaws
-pub mod QuotedLaws
-pub mod RawLaws
-pub mod RawScanLaws
-pub mod CharByteLaws
-pub mod FloatLaws
-pub mod NumberLaws
-pub mod LiteralLaws
-pub mod ValueLaws
-pub mod AllocationLaws
-pub mod ContinuationLaws
-pub mod TextLaws
-pub mod NameLaws
+pub mod Laws

@@ -1,5 +1,5 @@
 //! Laws of the texts that a parse may allocate memory for.
-ghost use Rattle.litrs_grammar.specs.AllocationLaws.{AllocationIsByParts};
+ghost use Rattle.litrs_grammar.specs.Laws.Allocation.{AllocationIsByParts};
 
 /// A parse may allocate for a literal if and only if it is a C string, or its body is quoted and
 /// has a backslash.

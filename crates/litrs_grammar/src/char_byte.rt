@@ -1,5 +1,5 @@
 //! Laws of chars and bytes.
-ghost use Rattle.litrs_grammar.specs.CharByteLaws.{CharsAreUnique, CharsAreDecided, CharSpansLieInText, NoCharEndsWithLineFeed};
+ghost use Rattle.litrs_grammar.specs.Laws.CharByte.{CharsAreUnique, CharsAreDecided, CharSpansLieInText, NoCharEndsWithLineFeed};
 
 /// A text has at most one derivation as a char or a byte, over both kinds together.
 pub fn chars_are_unique()

@@ -1,5 +1,5 @@
 //! Laws of refused texts with more after them, and of the texts of literals.
-ghost use Rattle.litrs_grammar.specs.ContinuationLaws.{FinalRefusalsStay, OpenRefusalsClose, LineEndsAreDecided, RefusedTextsGoOn, OtherKindsMayGoOn, FinalEscapeRefusalsStay, RefusedEscapesGoOn, QuotedItemsStay, FinalQuotedRefusalsStay, LiteralsAreWritten, LiteralsParseBack, JoinedBodiesAreQuoted};
+ghost use Rattle.litrs_grammar.specs.Laws.Continuation.{FinalRefusalsStay, OpenRefusalsClose, LineEndsAreDecided, RefusedTextsGoOn, OtherKindsMayGoOn, FinalEscapeRefusalsStay, RefusedEscapesGoOn, QuotedItemsStay, FinalQuotedRefusalsStay, LiteralsAreWritten, LiteralsParseBack, JoinedBodiesAreQuoted};
 
 /// After a final refusal the same parse refuses every longer text.
 pub fn final_refusals_stay()

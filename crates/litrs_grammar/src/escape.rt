@@ -1,5 +1,5 @@
 //! Laws of escapes.
-ghost use Rattle.litrs_grammar.specs.EscapeLaws.{EscapesAreUnique, EscapesAreDecided, EscapeSpansLieInText};
+ghost use Rattle.litrs_grammar.specs.Laws.Escape.{EscapesAreUnique, EscapesAreDecided, EscapeSpansLieInText};
 
 /// At most one escape stands at the front of a text.
 pub fn escapes_are_unique()

@@ -1,5 +1,5 @@
 //! Laws of floating-point literals.
-ghost use Rattle.litrs_grammar.specs.FloatLaws.{FloatsAreUnique, FloatsAreDecided, FloatSpansLieInText, NoFloatEndsWithLineFeed};
+ghost use Rattle.litrs_grammar.specs.Laws.Float.{FloatsAreUnique, FloatsAreDecided, FloatSpansLieInText, NoFloatEndsWithLineFeed};
 
 /// A text has at most one derivation as a float.
 pub fn floats_are_unique()

@@ -1,5 +1,5 @@
 //! Laws of literals of all kinds.
-ghost use Rattle.litrs_grammar.specs.LiteralLaws.{LiteralsAreUnique, TextsAreDecided, LiteralsAreNotRefused, RefusalsAreUnique, RefusalSpansLieInText, NoRefusalIsOfMemory, NoLiteralEndsWithLineFeed};
+ghost use Rattle.litrs_grammar.specs.Laws.Literal.{LiteralsAreUnique, TextsAreDecided, LiteralsAreNotRefused, RefusalsAreUnique, RefusalSpansLieInText, NoRefusalIsOfMemory, NoLiteralEndsWithLineFeed};
 
 /// A text has at most one derivation, over all eight kinds together; so no text is a literal of two
 /// kinds.

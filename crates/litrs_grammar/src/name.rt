@@ -1,5 +1,5 @@
 //! Laws of texts that are compared, and of the names of types.
-ghost use Rattle.litrs_grammar.specs.NameLaws.{EqualityIsOfTexts, TypeNamesAreDistinct, FloatTypeNamesAreDistinct};
+ghost use Rattle.litrs_grammar.specs.Laws.Name.{EqualityIsOfTexts, TypeNamesAreDistinct, FloatTypeNamesAreDistinct};
 
 /// Comparing literals compares their texts: they are equal exactly where their texts are.
 pub fn equality_is_of_texts()

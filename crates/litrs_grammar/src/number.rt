@@ -1,5 +1,5 @@
 //! Laws that tell floats and integers apart.
-ghost use Rattle.litrs_grammar.specs.NumberLaws.{FloatsBeginAsFloats, NoIntegerBeginsAsFloat, NoFloatIsInteger};
+ghost use Rattle.litrs_grammar.specs.Laws.Number.{FloatsBeginAsFloats, NoIntegerBeginsAsFloat, NoFloatIsInteger};
 
 /// After the leading run of decimal digits and underscores of a float stands a period, `e` or `E`.
 pub fn floats_begin_as_floats()

@@ -1,5 +1,5 @@
 //! Laws of quoted strings, byte strings and C strings.
-ghost use Rattle.litrs_grammar.specs.QuotedLaws.{QuotedLiteralsAreUnique, QuotedTextsAreUnique, QuotedRefusalsAreUnique, QuotedTextsAreDecided, QuotedTextsAreNotRefused, QuotedSpansLieInText, NoQuotedTextEndsWithLineFeed, QuotedBodiesAreUnique, QuotedBodiesJoin, QuotedValuesFitBodies, NoNulInQuotedCStrings};
+ghost use Rattle.litrs_grammar.specs.Laws.Quoted.{QuotedLiteralsAreUnique, QuotedTextsAreUnique, QuotedRefusalsAreUnique, QuotedTextsAreDecided, QuotedTextsAreNotRefused, QuotedSpansLieInText, NoQuotedTextEndsWithLineFeed, QuotedBodiesAreUnique, QuotedBodiesJoin, QuotedValuesFitBodies, NoNulInQuotedCStrings};
 
 /// A text has at most one derivation as a quoted literal, over all three kinds together.
 pub fn quoted_literals_are_unique()

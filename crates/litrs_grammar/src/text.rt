@@ -1,5 +1,5 @@
 //! Laws of places and spans in texts.
-ghost use Rattle.litrs_grammar.specs.TextLaws.{CharEndsAreUnique, SpansStartOnBoundaries};
+ghost use Rattle.litrs_grammar.specs.Laws.Text.{CharEndsAreUnique, SpansStartOnBoundaries};
 
 /// A place has one end in whole characters.
 pub fn char_ends_are_unique()

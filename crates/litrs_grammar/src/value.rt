@@ -1,5 +1,5 @@
 //! Laws of the values of strings, byte strings and C strings.
-ghost use Rattle.litrs_grammar.specs.ValueLaws.{PlainBodiesAreTheirValues, ValuesWithoutByteEscapesAreUtf8, StringValuesAreUtf8, NoNulInCStrings};
+ghost use Rattle.litrs_grammar.specs.Laws.Value.{PlainBodiesAreTheirValues, ValuesWithoutByteEscapesAreUtf8, StringValuesAreUtf8, NoNulInCStrings};
 
 /// The value of a quoted body without a backslash is its UTF-8.
 pub fn plain_bodies_are_their_values()

@@ -25,9 +25,9 @@ use Rattle.litrs_base.proofs.Runs.{prefix_len_all}
 use Rattle.litrs_grammar.specs.Escape.{Switches, Escape, escape_text, escape_value, value_bytes, simple_escape, hex_escape, unicode_escape, escape_refusal, allows_value, allows_byte, is_escape, is_simple, simple_value, pair_value}
 use Rattle.litrs_grammar.specs.Suffix.{is_suffix, suffix_refusal}
 use Rattle.litrs_grammar.specs.Quoted.{Item, plain_item, escape_item, continuation, item_text, item_value, is_item, is_taken_before, is_plain, body_value, without_last, rest_refusal}
-use Rattle.litrs_grammar.proofs.EscapeLaws.{by_simple, refusal_escape}
+use Rattle.litrs_grammar.proofs.Laws.Escape.{by_simple, refusal_escape}
 use Rattle.litrs_grammar.proofs.QuotedItems.{last_of, without_last-append}
-use Rattle.litrs_grammar.proofs.QuotedLaws.{quoted_values_fit_bodies}
+use Rattle.litrs_grammar.proofs.Laws.Quoted.{quoted_values_fit_bodies}
 use Rattle.litrs_lex.specs.QuotedItems.{IsItemAt, EndsItems, item_bytes}
 use Rattle.litrs_lex.specs.Container.{is_pushable}
 use Rattle.litrs_parts.specs.Unescaped.{IsUnescaped, IsEscapeRefused}

@@ -15,11 +15,11 @@ use Rattle.litrs_grammar.specs.Escape.{Switches}
 use Rattle.litrs_grammar.specs.Allocation.{has_backslash}
 use Rattle.litrs_grammar.specs.Quoted.{Item, body_text, body_value, stand_before, is_body, QuotedParts, IsQuoted, IsQuotedRefusal, rest_refusal}
 use Rattle.litrs_grammar.proofs.QuotedItems.{body_stands, stands_body}
-use Rattle.litrs_grammar.proofs.QuotedLaws.{quoted_texts_are_unique, quoted_texts_are_not_refused, quoted_refusals_are_unique, quoted_values_fit_bodies}
+use Rattle.litrs_grammar.proofs.Laws.Quoted.{quoted_texts_are_unique, quoted_texts_are_not_refused, quoted_refusals_are_unique, quoted_values_fit_bodies}
 use Rattle.litrs_grammar.proofs.LongerTexts.Quoted.{quoted_final, quoted_finality, quoted_items_stay, quoted_open}
-use Rattle.litrs_grammar.proofs.QuotedSpans.{quoted_spans_lie_in_text}
+use Rattle.litrs_grammar.proofs.Spans.Quoted.{quoted_spans_lie_in_text}
 use Rattle.litrs_grammar.proofs.RefusalKinds.{quoted_of_text}
-use Rattle.litrs_grammar.proofs.ValueLaws.{plain_bodies_are_their_values}
+use Rattle.litrs_grammar.proofs.Laws.Value.{plain_bodies_are_their_values}
 use Rattle.litrs_lex.specs.declared.quoted.ItemsEnd.{ItemsEnd}
 use Rattle.litrs_lex.specs.QuotedCut.{IsQuotedCut, IsQuotedRefused}
 use Rattle.litrs_lex.specs.QuotedItems.{IsItemsEnd}

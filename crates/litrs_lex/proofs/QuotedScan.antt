@@ -11,7 +11,7 @@ use Rattle.litrs_base.specs.Text.{byte_len}
 use Rattle.litrs_base.proofs.Spans.{byte_len-append}
 use Rattle.litrs_grammar.specs.Escape.{Switches}
 use Rattle.litrs_grammar.specs.Quoted.{Item, plain_item, item_text, item_value, is_item, is_taken_before, is_plain, body_text, body_value, stand_before}
-use Rattle.litrs_grammar.proofs.QuotedLaws.{body_text-append, body_value-append}
+use Rattle.litrs_grammar.proofs.Laws.Quoted.{body_text-append, body_value-append}
 use Rattle.litrs_lex.specs.QuotedItems.{IsPlainRun, IsItemAt, IsItemsEnd, EndsItems, item_bytes}
 
 -- After the front stand some items, up to this place and standing for these bytes, and then the rest.

@@ -10,7 +10,7 @@ use Rattle.litrs_base.specs.Text.{byte_len}
 use Rattle.litrs_grammar.specs.Escape.{Switches}
 use Rattle.litrs_grammar.specs.Quoted.{body_text, body_value, stand_before, QuotedParts, IsQuoted, rest_refusal}
 use Rattle.litrs_grammar.proofs.QuotedItems.{stands_body}
-use Rattle.litrs_grammar.proofs.QuotedLaws.{quoted_texts_are_unique, quoted_texts_are_not_refused, quoted_values_fit_bodies}
+use Rattle.litrs_grammar.proofs.Laws.Quoted.{quoted_texts_are_unique, quoted_texts_are_not_refused, quoted_values_fit_bodies}
 use Rattle.litrs_lex.specs.declared.quoted.QuotedCut.{QuotedCut}
 use Rattle.litrs_lex.specs.Container.{is_pushable}
 use Rattle.litrs_lex.specs.QuotedCut.{IsQuotedCut}

@@ -23,12 +23,12 @@ use Rattle.litrs_base.proofs.Spans.{is_ascii_char, byte_len-append}
 use Rattle.litrs_search.specs.Special.{is_ordinary}
 use Rattle.litrs_grammar.specs.Suffix.{is_suffix, suffix_refusal}
 use Rattle.litrs_grammar.specs.Raw.{is_quote, is_hash, hashes, raw_closing, occurs, is_raw_char, RawParts, IsRawOf, hash_len, length_before, raw_char_refusal, raw_body_refusal, raw_refusal}
-use Rattle.litrs_grammar.specs.RawLaws.{NoClosingIn}
+use Rattle.litrs_grammar.specs.Laws.Raw.{NoClosingIn}
 use Rattle.litrs_grammar.proofs.LongerTexts.Raw.{raw_final, raw_finality, raw_open}
 use Rattle.litrs_grammar.proofs.RawClosings.{raw_scans_stay}
-use Rattle.litrs_grammar.proofs.RawLaws.{raw_rows, refusal_of_closed, behind_closing, length_closing, only_parts, parts_of, refused}
+use Rattle.litrs_grammar.proofs.Laws.Raw.{raw_rows, refusal_of_closed, behind_closing, length_closing, only_parts, parts_of, refused}
 use Rattle.litrs_grammar.proofs.RawScans.{raw_scans_go_on, raw_refusals_go_on}
-use Rattle.litrs_grammar.proofs.RawSpans.{raw_refusal_within}
+use Rattle.litrs_grammar.proofs.Spans.Raw.{raw_refusal_within}
 use Rattle.litrs_lex.specs.RawCut.{raw_parts_at, IsRawCut, IsRawRefused, raw_special, IsPassed, IsStop, IsBodyCut}
 use Rattle.litrs_lex.proofs.PlainRuns.{AlikeFrom128}
 use Rattle.litrs_lex.proofs.CharRuns.{IsCharRun, char_run}

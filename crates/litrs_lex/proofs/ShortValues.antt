@@ -13,7 +13,7 @@ use Rattle.std.proofs.lemmas.List.Folds.{list_all-append}
 use Rattle.litrs_base.specs.declared.escape.Unescape.{Unescape}
 use Rattle.litrs_grammar.specs.Escape.{Switches}
 use Rattle.litrs_grammar.specs.Quoted.{QuotedParts, IsQuoted, body_text, body_value}
-use Rattle.litrs_grammar.proofs.ValueLaws.{values_without_byte_escapes_are_utf8}
+use Rattle.litrs_grammar.proofs.Laws.Value.{values_without_byte_escapes_are_utf8}
 use Rattle.litrs_lex.specs.declared.quoted.QuotedCut.{QuotedCut}
 use Rattle.litrs_lex.specs.QuotedCut.{IsQuotedCut}
 use Rattle.litrs_lex.specs.QuotedItems.{IsPlainRun, IsItemAt, EndsItems, item_bytes}

@@ -14,7 +14,7 @@ use Rattle.litrs_grammar.specs.Escape.{Switches}
 use Rattle.litrs_grammar.specs.Allocation.{has_backslash}
 use Rattle.litrs_grammar.specs.Continuation.{EndsBy}
 use Rattle.litrs_grammar.specs.Quoted.{QuotedParts, IsQuoted, IsQuotedRefusal, body_text, body_value, stand_before}
-use Rattle.litrs_grammar.specs.QuotedGoesOn.{IsClosedQuoted}
+use Rattle.litrs_grammar.specs.GoesOn.Quoted.{IsClosedQuoted}
 use Rattle.litrs_lex.specs.declared.quoted.QuotedCut.{QuotedCut}
 
 -- The text of these bytes is a quoted literal whose body begins at the place, with only these

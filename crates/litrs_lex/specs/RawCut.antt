@@ -11,9 +11,9 @@ use Rattle.litrs_base.specs.Text.{first_passes}
 use Rattle.litrs_search.specs.declared.search.Special.{Special}
 use Rattle.litrs_search.specs.Special.{is_ordinary}
 use Rattle.litrs_grammar.specs.Continuation.{EndsBy}
-use Rattle.litrs_grammar.specs.RawGoesOn.{raw_open_parts}
-use Rattle.litrs_grammar.specs.RawLaws.{NoClosingIn}
-use Rattle.litrs_grammar.specs.RawScanLaws.{ScanStays}
+use Rattle.litrs_grammar.specs.GoesOn.Raw.{raw_open_parts}
+use Rattle.litrs_grammar.specs.Laws.Raw.{NoClosingIn}
+use Rattle.litrs_grammar.specs.Laws.RawScan.{ScanStays}
 use Rattle.litrs_grammar.specs.Raw.{RawParts, IsRawOf, is_raw_char, hash_len, raw_closing, length_before, raw_refusal, raw_body_refusal}
 
 -- the parts that a cut names: of the text with these bytes, after the offset, by the number of

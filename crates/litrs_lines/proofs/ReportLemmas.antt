@@ -11,7 +11,7 @@ use Rattle.litrs_grammar.specs.CharByte.{CharParts, char_value}
 use Rattle.litrs_grammar.specs.Float.{FloatParts}
 use Rattle.litrs_grammar.specs.Literal.{StringParts, string_suffix, Derivation, a_bool, an_integer, a_float, a_char, a_byte, a_string, a_byte_string, a_c_string, literal_parse}
 use Rattle.litrs_grammar.specs.Strings.{is_raw}
-use Rattle.litrs_grammar.proofs.LiteralLaws.{literals_are_unique, literals_are_not_refused, refusals_are_unique, texts_are_decided}
+use Rattle.litrs_grammar.proofs.Laws.Literal.{literals_are_unique, literals_are_not_refused, refusals_are_unique, texts_are_decided}
 use Rattle.litrs_lines.specs.Report.{value_text, integer_front, fraction_field, float_report, char_report, raw_field, hex_byte, hex_bytes, string_front, literal_report, refusal_report, IsTextReport, IsReport}
 use Rattle.litrs_lines.specs.ReportParts.{front_of_string, literal_front, hex_value}
 use Rattle.litrs_lines.specs.Reports.{AreReports}

@@ -179,6 +179,7 @@ impl FloatLit<&str> {
 }
 
 /// Where the text is cut, if it is a float.
+// Not inlined, so that `parse` is small enough to be.
 #[inline(never)]
 fn cut(input: &str) -> Result<FloatCut, ParseError>
     ensures ok { IfOk result (λ cut.

@@ -1,6 +1,5 @@
 //! Integer literals.
 ghost use Rattle.std.specs.Prelude.{◌≡◌, ◌≤◌, ℕ, length, take, Bool, false, IsTrue, MatchOption, slice_index, IsOk, IfOk, IfErr, Some, nat_eq, ⊤};
-ghost use Rattle.std.specs.Char.{is_ascii_digit};
 ghost use Rattle.std.specs.Cmp.{on_per, on_equiv, partial_equiv_from_equiv};
 ghost use Rattle.std.specs.Cmp.Lexicographic.{pointwise, nat_list_eq_equiv};
 ghost use Rattle.std.specs.List.{prefix_len, list_all, list_any};
@@ -13,7 +12,6 @@ ghost use Rattle.litrs_grammar.specs.Integer.{integer_value};
 ghost use Rattle.litrs_base.specs.Derivations.{IsOnlyDerivation};
 ghost use Rattle.litrs_grammar.specs.Literal.{kind_parse, integer_literal};
 ghost use Rattle.litrs_grammar.specs.Refused.{IsRefused};
-ghost use Rattle.litrs_base.specs.Text.{first_passes};
 ghost use Rattle.litrs_parts.specs.IntegerCut.{parts_at, IsWithin, IsIntegerAt, IsDigitsCut};
 ghost use Rattle.litrs_grammar.specs.Integer.{IsIntegerOf};
 
@@ -176,6 +174,7 @@ impl IntegerLit<&str> {
 }
 
 /// Where the text is cut, if it is an integer.
+// Not inlined, so that `parse` is small enough to be.
 #[inline(never)]
 fn cut(input: &str) -> Result<IntegerCut, ParseError>
     ensures ok { IfOk result (λ cut.
@@ -183,8 +182,8 @@ fn cut(input: &str) -> Result<IntegerCut, ParseError>
     ensures places { IfOk result (λ cut. IsWithin cut input.now) }
     ensures refused { IfErr result (IsRefused (kind_parse integer_literal) (chars input.now)) }
 {
-    first_byte_or_empty(input)?;
-    if begins_with_digit(input.as_bytes()) {
+    let first = first_byte_or_empty(input)?;
+    if first.is_ascii_digit() {
         cut_integer(input)
     } else {
         Err(ParseError::in_text(input, Some(0..1), ParseErrorKind::DoesNotStartWithDigit))
@@ -215,7 +214,7 @@ fn value_of<N: FromIntegerLiteral>(base: IntegerBase, main: &[u8]) -> Option<N>
     N::from_number(number)
 }
 
-/// The same from this place on: the bytes before it stand for the number `front`.
+/// [`value_of`] from this place on: the bytes before it stand for the number `front`.
 fn value_from<N: FromIntegerLiteral>(
     base: IntegerBase,
     main: &[u8],
@@ -279,15 +278,5 @@ impl<B: Text> fmt::Display for IntegerLit<B> {
 
     fn fmt<W: fmt::Write>(&self, f: &mut fmt::Formatter<W>) -> fmt::Result {
         f.write_str(self.raw.as_str())
-    }
-}
-
-/// Whether a decimal digit stands first.
-fn begins_with_digit(bytes: &[u8]) -> bool
-    ensures { result ≡ first_passes is_ascii_digit bytes.now }
-{
-    match bytes {
-        [first, ..] => first.is_ascii_digit(),
-        [] => false,
     }
 }

@@ -28,14 +28,15 @@ use Rattle.litrs_grammar.specs.Literal.{kind_parse, LiteralKind, char_literal, b
 use Rattle.litrs_grammar.specs.LiteralRefusals.{IsKindRefusal}
 use Rattle.litrs_grammar.specs.Refused.{IsRefused}
 use Rattle.litrs_base.specs.Derivations.{IsOnlyDerivation}
-use Rattle.litrs_grammar.proofs.CharByteLaws.{chars_are_unique, closing_read, escape_length_is}
-use Rattle.litrs_grammar.proofs.CharByteSpans.{char_spans_lie_in_text}
-use Rattle.litrs_grammar.proofs.EscapeLaws.{by_simple, refusal_escape}
+use Rattle.litrs_grammar.proofs.Laws.CharByte.{chars_are_unique, closing_read, escape_length_is}
+use Rattle.litrs_grammar.proofs.Spans.CharByte.{char_spans_lie_in_text}
+use Rattle.litrs_grammar.proofs.Laws.Escape.{by_simple, refusal_escape}
 use Rattle.litrs_grammar.proofs.QuotedItems.{escape_head}
 use Rattle.litrs_grammar.proofs.Refused.{is_refused}
 use Rattle.litrs_parts.specs.CharCut.{escape_written, item_written, char_parts_at, kind_if, unwraps_as, IsItemRead, IsItemRefused, IsCutBehind}
 use Rattle.litrs_parts.specs.Unescaped.{switches, IsUnescaped, IsEscapeRefused}
-use Rattle.litrs_parts.proofs.EscapeBytes.{cut_at, only_char, list_any-chars}
+use Rattle.litrs_parts.proofs.CharCuts.{cut_at}
+use Rattle.litrs_parts.proofs.AsciiTests.{only_char, list_any-chars}
 
 -- After the front
 

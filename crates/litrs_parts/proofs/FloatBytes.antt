@@ -24,9 +24,9 @@ use Rattle.litrs_parts.specs.FloatCut.{fraction_at, float_parts_at, IsFloatWithi
 use Rattle.litrs_base.proofs.Chars.{chars_empty, chars_wide, ascii_by_test, chars_ascii, utf8_behind_ascii, OnlyAscii, first_passes-chars}
 use Rattle.litrs_base.proofs.Spans.{is_ascii_char}
 use Rattle.litrs_base.proofs.Runs.{list_all-append}
-use Rattle.litrs_grammar.proofs.IntegerLaws.{not_empty_by_first}
+use Rattle.litrs_grammar.proofs.Laws.Integer.{not_empty_by_first}
 use Rattle.litrs_grammar.proofs.FloatCuts.{IsCut, CutOf, cut_of, cut_of_text, number_part-suffix}
-use Rattle.litrs_grammar.proofs.FloatSpans.{number_part_ascii, float_refusal_within}
+use Rattle.litrs_grammar.proofs.Spans.Float.{number_part_ascii, float_refusal_within}
 use Rattle.litrs_parts.proofs.IntegerBytes.{digits_are_ascii, e_is_ascii, digit_is_ascii, filled_by_first, digit-chars}
 use Rattle.litrs_parts.proofs.SuffixBytes.{first_passes_at}
 

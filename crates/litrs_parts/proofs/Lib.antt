@@ -4,5 +4,10 @@ pub mod IntegerBytes
 pub mod Dispatch
 pub mod FloatBytes
 pub mod NumberBytes
+pub mod AsciiTests
+pub mod CharCuts
+pub mod HexDigitBytes
 pub mod EscapeBytes
+pub mod HexEscapeBytes
+pub mod UnicodeEscapeBytes
 pub mod CharByteBytes

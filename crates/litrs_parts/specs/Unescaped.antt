@@ -11,7 +11,7 @@ use Rattle.litrs_base.specs.Finality.{is_final}
 use Rattle.litrs_base.specs.Refusal.{refusal_of, kind_of, char_span_of, IsInText, HasCharSpan}
 use Rattle.litrs_base.specs.Text.{byte_len, first_passes, is_empty}
 use Rattle.litrs_grammar.specs.Escape.{Switches, Escape, IsEscape, escape_text, escape_value, escape_refusal, is_hex_or_underscore, hex_value}
-use Rattle.litrs_grammar.specs.EscapeLaws.{BeginsWithEscape}
+use Rattle.litrs_grammar.specs.Laws.Escape.{BeginsWithEscape}
 use Rattle.litrs_parts.specs.declared.escape.HexDigits.{HexDigits}
 
 -- what a literal allows in its escapes, by the three tests

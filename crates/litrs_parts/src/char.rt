@@ -29,6 +29,8 @@ use litrs_base::{ParseError, ParseErrorKind, Unescape};
 /// - As [`check_suffix`] refuses the suffix, at its first byte.
 ///
 /// [ref]: https://doc.rust-lang.org/reference/tokens.html#character-literals
+// Not inlined, so that `parse` is small enough to be; a function for each of the two kinds, so that
+// neither tests which it is.
 #[inline(never)]
 pub fn cut_char(input: &str) -> Result<(char, usize), ParseError>
     requires { IsTrue (begins_with (codes "'") input.now) }
@@ -61,6 +63,7 @@ pub fn cut_char(input: &str) -> Result<(char, usize), ParseError>
 /// - As [`check_suffix`] refuses the suffix, at its first byte.
 ///
 /// [ref]: https://doc.rust-lang.org/reference/tokens.html#byte-literals
+// Not inlined, so that `parse` is small enough to be.
 #[inline(never)]
 pub fn cut_byte(input: &str) -> Result<(u8, usize), ParseError>
     requires { IsTrue (begins_with (codes "b'") input.now) }

@@ -136,33 +136,6 @@ fn begins_with_e(bytes: &[u8]) -> bool
     }
 }
 
-/// What the letter after a `0` indicates, from `b` on.
-static BASES: [IntegerBase; 23] = [
-    Binary,
-    Decimal,
-    Decimal,
-    Decimal,
-    Decimal,
-    Decimal,
-    Decimal,
-    Decimal,
-    Decimal,
-    Decimal,
-    Decimal,
-    Decimal,
-    Decimal,
-    Octal,
-    Decimal,
-    Decimal,
-    Decimal,
-    Decimal,
-    Decimal,
-    Decimal,
-    Decimal,
-    Decimal,
-    Hexadecimal,
-];
-
 /// The base, by the front of a text: `0b`, `0o` and `0x` are always the prefix, and
 /// everything else is decimal.
 fn base_of(bytes: &[u8]) -> IntegerBase
@@ -174,13 +147,14 @@ fn base_of(bytes: &[u8]) -> IntegerBase
     }
 }
 
-/// The same for a text that begins with `0` and this byte. The table makes it one test for all
-/// bases.
+/// [`base_of`] a text that begins with `0` and this byte.
 fn base_of_letter(letter: u8) -> IntegerBase
     ensures { result ≡ base_of (digit_zero ∷ letter ∷ []) }
 {
     match letter {
-        b'b'..=b'x' => BASES[(letter - b'b') as usize],
+        b'b' => Binary,
+        b'o' => Octal,
+        b'x' => Hexadecimal,
         _ => Decimal,
     }
 }
@@ -196,7 +170,8 @@ fn digits_len(base: IntegerBase, bytes: &[u8]) -> usize
     }
 }
 
-/// The same by one search for all bases.
+/// [`digits_len`] of any base. It is not inlined, so that its search stands once for the bases other
+/// than ten; ten has the search of [`end_dec_digits`].
 #[inline(never)]
 fn end_digits(base: IntegerBase, bytes: &[u8]) -> usize
     ensures { result ≡ prefix_len (is_digit_or_underscore base) bytes.now }

@@ -32,6 +32,7 @@ pub enum NumberCut {
 /// integer.
 ///
 /// [ref]: https://doc.rust-lang.org/reference/tokens.html#number-literals
+// Not inlined, so that the parse of a literal is small enough to be.
 #[inline(never)]
 pub fn cut_number(input: &str) -> Result<NumberCut, ParseError>
     requires { IsTrue (first_passes is_ascii_digit input.now) }
@@ -41,15 +42,9 @@ pub fn cut_number(input: &str) -> Result<NumberCut, ParseError>
 {
     let cut = cut_digits(input);
     if begins_float(&cut, input.as_bytes()) {
-        match cut_float_at(input, cut.end_main) {
-            Ok(cut) => Ok(NumberCut::Float(cut)),
-            Err(e) => Err(e),
-        }
+        Ok(NumberCut::Float(cut_float_at(input, cut.end_main)?))
     } else {
-        match cut_integer_at(input, cut) {
-            Ok(cut) => Ok(NumberCut::Integer(cut)),
-            Err(e) => Err(e),
-        }
+        Ok(NumberCut::Integer(cut_integer_at(input, cut)?))
     }
 }
 

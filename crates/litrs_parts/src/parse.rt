@@ -13,6 +13,7 @@ use litrs_base::{IntegerBase, ParseError, ParseErrorKind};
 use litrs_search::{Run, run_end};
 
 /// How many decimal digits and underscores stand at the front, in bytes: 4 of `1_0_a2`.
+// Not inlined, so that the search stands once.
 #[inline(never)]
 pub fn end_dec_digits(input: &[u8]) -> usize
     ensures run { result ≡ prefix_len (is_digit_or_underscore IntegerBase.Decimal) input.now }
@@ -86,7 +87,7 @@ fn continues_identifier(rest: &str) -> bool
     }
 }
 
-/// The same of any characters.
+/// Whether each character may continue an identifier, by the tables of Unicode.
 fn continues_in_unicode(rest: &str) -> bool
     ensures { result ≡ list_all is_xid_continue (chars rest.now) }
 {
@@ -151,7 +152,10 @@ pub fn check_suffix(s: &str) -> Result<(), ParseErrorKind>
     }
 }
 
-/// [`check_suffix`] in one piece.
+/// [`check_suffix`] of a text that is not empty.
+///
+/// It is not inlined, so that callers hold no more than the test for the empty text, which most
+/// suffixes are.
 #[inline(never)]
 fn check_some_suffix(s: &str) -> Result<(), ParseErrorKind>
     ensures ok { is_ok result ≡ is_suffix (chars s.now) }

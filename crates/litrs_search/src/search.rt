@@ -184,9 +184,9 @@ fn next_target(bytes: &[u8], from: usize, target: Target) -> usize
 ///
 /// ```
 /// let what = Special { backslash: true, nul: false, non_ascii: false };
-/// assert_eq!(next_special(b"ab\\n\"", 0, what), 2);
-/// assert_eq!(next_special(b"ab\\n\"", 3, what), 4);
-/// assert_eq!(next_special(b"ab", 1, what), 2);
+/// assert_eq!(rt; next_special(b"ab\\n\"", 0, what), 2);
+/// assert_eq!(rt; next_special(b"ab\\n\"", 3, what), 4);
+/// assert_eq!(rt; next_special(b"ab", 1, what), 2);
 /// ```
 ///
 /// The Rust Reference, Tokens, String literals: the characters that end a run of plain ones.
@@ -202,9 +202,9 @@ pub fn next_special(bytes: &[u8], from: usize, what: Special) -> usize
 /// How many bytes at the front are of the run.
 ///
 /// ```
-/// assert_eq!(run_end(b"1_0a2", Run::Digits(IntegerBase::Decimal)), 3);
-/// assert_eq!(run_end(b"1_0a2", Run::Digits(IntegerBase::Hexadecimal)), 5);
-/// assert_eq!(run_end("größe".as_bytes(), Run::Identifier), 2);
+/// assert_eq!(rt; run_end(b"1_0a2", Run::Digits(IntegerBase::Decimal)), 3);
+/// assert_eq!(rt; run_end(b"1_0a2", Run::Digits(IntegerBase::Hexadecimal)), 5);
+/// assert_eq!(rt; run_end("größe".as_bytes(), Run::Identifier), 2);
 /// ```
 ///
 /// The Rust Reference, Tokens, Integer literals, and Identifiers.

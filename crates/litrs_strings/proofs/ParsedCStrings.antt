@@ -11,7 +11,7 @@ use Rattle.litrs_grammar.specs.StringKind.{c_string_kind}
 use Rattle.litrs_grammar.specs.Literal.{a_c_string, string_value, kind_parse, c_string_literal}
 use Rattle.litrs_grammar.specs.Raw.{is_nul}
 use Rattle.litrs_grammar.specs.Refused.{IsOutOfMemory}
-use Rattle.litrs_grammar.proofs.ValueLaws.{no_nul_in_c_strings}
+use Rattle.litrs_grammar.proofs.Laws.Value.{no_nul_in_c_strings}
 use Rattle.litrs_strings.specs.declared.cut.StringCut.{StringCut}
 use Rattle.litrs_strings.specs.CString.{has_nul}
 use Rattle.litrs_strings.specs.ParsedStrings.{IsParsedString, IsParsedCString}

@@ -10,7 +10,7 @@ use Rattle.litrs_grammar.specs.Quoted.{quoted_front, IsQuoted}
 use Rattle.litrs_grammar.specs.Raw.{raw_front, has_unicode, allows_nul}
 use Rattle.litrs_grammar.specs.Literal.{StringParts, quoted_parts, raw_parts, IsString}
 use Rattle.litrs_grammar.specs.Strings.{StringDerivation}
-use Rattle.litrs_grammar.proofs.LiteralLaws.{only_string}
+use Rattle.litrs_grammar.proofs.Laws.Literal.{only_string}
 use Rattle.litrs_lex.proofs.StringFronts.{raw_begins, quoted_before, raw_behind}
 use Rattle.litrs_lex.specs.RawCut.{IsRawCut, raw_parts_at}
 use Rattle.litrs_strings.specs.declared.cut.StringCut.{StringCut}

@@ -19,7 +19,7 @@ use Rattle.litrs_grammar.specs.Literal.{StringParts, quoted_parts, Derivation, a
 use Rattle.litrs_grammar.specs.LiteralRefusals.{StringStart, refused_start, quoted_start, raw_start, string_start, string_start_refusal, IsRefusalOfStart, IsStringRefusal, IsKindRefusal}
 use Rattle.litrs_grammar.specs.Allocation.{has_escapes, allocates}
 use Rattle.litrs_grammar.specs.Refused.{IsRefused, IsOutOfMemory, IsRefusedOrOutOfMemory}
-use Rattle.litrs_grammar.proofs.LiteralLaws.{string_literal_of, start_quoted, start_raw}
+use Rattle.litrs_grammar.proofs.Laws.Literal.{string_literal_of, start_quoted, start_raw}
 use Rattle.litrs_grammar.proofs.Refused.{is_refused}
 use Rattle.litrs_lex.specs.QuotedCut.{IsQuotedRefused, IsQuotedOutOfMemory}
 use Rattle.litrs_lex.specs.RawCut.{IsRawRefused}

@@ -17,8 +17,8 @@ use Rattle.litrs_grammar.specs.Raw.{raw_front}
 use Rattle.litrs_grammar.specs.Refused.{IsRefused}
 use Rattle.litrs_grammar.specs.StringKind.{StringKind, string_kind, byte_string_kind, c_string_kind}
 use Rattle.litrs_grammar.specs.Strings.{StringDerivation}
-use Rattle.litrs_grammar.proofs.IntegerLaws.{not_empty_by_first, starts_with_digit}
-use Rattle.litrs_grammar.proofs.LiteralLaws.{dispatch_literal, is_bool-digit, float_digit}
+use Rattle.litrs_grammar.proofs.Laws.Integer.{not_empty_by_first, starts_with_digit}
+use Rattle.litrs_grammar.proofs.Laws.Literal.{dispatch_literal, is_bool-digit, float_digit}
 use Rattle.litrs_parts.proofs.IntegerBytes.{digit-chars}
 use Rattle.litrs_token.specs.Front.{string_literal_of, begins_literal}
 use Rattle.litrs_token.specs.LiteralToken.{IsNoLiteralToken}

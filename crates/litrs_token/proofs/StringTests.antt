@@ -13,7 +13,7 @@ use Rattle.litrs_grammar.specs.Quoted.{quoted_front, IsQuoted}
 use Rattle.litrs_grammar.specs.Raw.{raw_front, has_unicode, allows_nul, raw_refusal}
 use Rattle.litrs_grammar.specs.StringKind.{StringKind, switches_of}
 use Rattle.litrs_grammar.specs.Strings.{StringDerivation}
-use Rattle.litrs_grammar.proofs.LiteralLaws.{start_quoted, start_raw, quoted_starts, raw_starts}
+use Rattle.litrs_grammar.proofs.Laws.Literal.{start_quoted, start_raw, quoted_starts, raw_starts}
 use Rattle.litrs_grammar.proofs.RawKinds.{literal_refusal_free}
 use Rattle.litrs_lex.specs.declared.quoted.QuotedCut.{QuotedCut}
 use Rattle.litrs_lex.specs.QuotedCut.{IsQuotedCut, IsQuotedRefused}

@@ -35,7 +35,7 @@ impl InvalidToken {
         }
     }
 
-    /// Where the token stands.
+    /// Where the token stands, as a compile error points at it.
     pub fn span(&self) -> Span
         ensures { result ≡ invalid_span self.now }
     {
@@ -47,6 +47,17 @@ impl InvalidToken {
     ///
     /// They stand where an item, a statement or an expression may. The identifier, the `!` and the
     /// group have the span of the token, and the string inside the call-site span.
+    ///
+    /// ```rust
+    /// let tree = TokenTree::from(Punct::new('+', Spacing::Alone));
+    /// let Err(TokenError::Invalid(invalid)) = IntegerLit::from_tree(rt.alloc(), tree) else {
+    ///     unreachable!();
+    /// };
+    /// // compile_error! {
+    /// //     "expected an integer literal (e.g. `27`), but found a punctuation character"
+    /// // }
+    /// assert_eq!(rt; invalid.to_compile_error(rt.alloc())?.len(), 3);
+    /// ```
     ///
     /// # Errors
     ///

@@ -1,11 +1,12 @@
 //! Conversions of tokens to literals.
-ghost use Rattle.std.specs.Prelude.{◌≡◌, ℕ, List, IfOk, IfErr, IsErrOf, OnOk, string_bytes};
+ghost use Rattle.std.specs.Prelude.{◌≡◌, ℕ, List, Ok, IfOk, IfErr, IsErrOf, OnOk, string_bytes};
 ghost use Rattle.std.specs.Result.{IsErrAnd};
 ghost use Rattle.std.specs.Str.{chars};
+ghost use Rattle.litrs_base.specs.Refusal.{kind_of};
 ghost use Rattle.litrs.specs.LiteralDerivation.{literal_raw};
 ghost use Rattle.litrs_token.specs.Conversion.{IsWantedKind, IsWanted};
 ghost use Rattle.litrs_token.specs.BoolTree.{text_of};
-ghost use Rattle.litrs_token.specs.LiteralToken.{SomeLiteral};
+ghost use Rattle.litrs_token.specs.LiteralToken.{IsLiteralToken, SomeLiteral};
 ghost use Rattle.litrs_token.specs.Mismatch.{literal_mismatch, tree_mismatch};
 ghost use Rattle.litrs_token.specs.Tree.{shape_of};
 ghost use Rattle.litrs_token.specs.declared.err.TokenError.{TokenError};
@@ -15,10 +16,10 @@ use crate::bool::bool_of;
 use crate::err::TokenError;
 use crate::kind::TokenKind;
 use crate::literal_token::Literal;
-use crate::one_kind::OneKind;
+use crate::one_kind::OwnedKind;
 use crate::tree::TokenTree;
 use crate::wanted::{as_literal, check_kind, into_literal};
-use litrs::ParseErrorKind;
+use litrs::{ParseError, ParseErrorKind};
 use std::alloc::{AllocError, Global};
 
 /// A literal that is read from a token.
@@ -47,6 +48,12 @@ pub trait FromToken: Drop {
 
     /// The literal that a token is: of `27` an integer.
     ///
+    /// ```rust
+    /// let token = litrs_token::Literal::from_text(rt.alloc(), "0xFF_u8")?;
+    /// let lit = IntegerLit::from_literal(rt.alloc(), token)?;
+    /// assert_eq!(rt; lit.value::<u8>(), Some(255));
+    /// ```
+    ///
     /// # Errors
     ///
     /// That the token is of another kind, with both kinds and its span; else that there is no
@@ -60,7 +67,13 @@ pub trait FromToken: Drop {
             → IsErrAnd result (λ e. as_token_error e
             ≡ TokenError.Invalid (literal_mismatch wanted literal)) };
 
-    /// The same, of a token that is kept.
+    /// [`from_literal`](FromToken::from_literal) of a token that is kept.
+    ///
+    /// ```rust
+    /// let token = litrs_token::Literal::from_text(rt.alloc(), "0xFF_u8")?;
+    /// assert!(rt; CharLit::from_literal_ref(rt.alloc(), &token).is_err());
+    /// assert!(rt; IntegerLit::from_literal_ref(rt.alloc(), &token).is_ok());
+    /// ```
     ///
     /// # Errors
     ///
@@ -76,6 +89,12 @@ pub trait FromToken: Drop {
 
     /// The literal that a tree is.
     ///
+    /// ```rust
+    /// let name = Ident::new(rt.alloc(), "true", Span::call_site())?;
+    /// let lit = litrs::Literal::from_tree(rt.alloc(), TokenTree::from(name))?;
+    /// assert!(rt; matches!(&lit, litrs::Literal::Bool(BoolLit::True)));
+    /// ```
+    ///
     /// # Errors
     ///
     /// `Invalid` where the tree is not the wanted one, with the span of the tree and what it is: a
@@ -90,7 +109,7 @@ pub trait FromToken: Drop {
         ensures invalid { ¬ IsWanted wanted (shape_of tree)
             → IsErrOf result (TokenError.Invalid (tree_mismatch wanted tree)) };
 
-    /// The same, of a tree that is kept.
+    /// [`from_tree`](FromToken::from_tree) of a tree that is kept, as in the sample of this crate.
     ///
     /// # Errors
     ///
@@ -104,7 +123,7 @@ pub trait FromToken: Drop {
             → IsErrOf result (TokenError.Invalid (tree_mismatch wanted tree.now)) };
 }
 
-impl<T: OneKind> FromToken for T {
+impl<T: OwnedKind> FromToken for T {
     ghost wanted = { T.kind };
 
     ghost raw = { T.raw };
@@ -115,13 +134,13 @@ impl<T: OneKind> FromToken for T {
 
     fn from_literal(alloc: Global, literal: Literal) -> Result<T, TokenError> {
         check_kind(&literal, T::kind())?;
-        T::parse(alloc, literal.into_text())
+        literal_of(alloc, literal.into_text())
     }
 
     fn from_literal_ref(alloc: Global, literal: &Literal) -> Result<T, TokenError> {
         check_kind(literal, T::kind())?;
         let text = String::from_str(alloc, literal.text())?;
-        T::parse(alloc, text)
+        literal_of(alloc, text)
     }
 
     fn from_tree(alloc: Global, tree: TokenTree) -> Result<T, TokenError> {
@@ -181,7 +200,20 @@ impl FromToken for litrs::Literal<String> {
     }
 }
 
-/// The literal of a text that is one.
+/// The literal of a text that is one of the wanted kind.
+///
+/// # Errors
+///
+/// `Memory` where there is no memory for its value. The text is dropped then.
+fn literal_of<T: OwnedKind>(alloc: Global, text: String) -> Result<T, TokenError>
+    requires { IsLiteralToken (chars (string_bytes text)) T.kind }
+    ensures raw { IfOk result (λ lit. T.raw lit ≡ string_bytes text) }
+    ensures memory { IfErr result (λ e. e ≡ TokenError.Memory) }
+{
+    Ok(or_alloc_error(T::parse(alloc, text))?)
+}
+
+/// The literal of a text that is one, of any kind.
 ///
 /// # Errors
 ///
@@ -190,7 +222,15 @@ fn any_literal(alloc: Global, text: String) -> Result<litrs::Literal<String>, Al
     requires { SomeLiteral (chars (string_bytes text)) }
     ensures { IfOk result (λ lit. literal_raw lit ≡ string_bytes text) }
 {
-    match litrs::Literal::parse(alloc, text) {
+    or_alloc_error(litrs::Literal::parse(alloc, text))
+}
+
+/// The answer of a parse that can only fail to allocate, with that failure as its error.
+fn or_alloc_error<T: Drop>(parsed: Result<T, ParseError>) -> Result<T, AllocError>
+    requires { IfErr parsed (λ e. kind_of e ≡ ParseErrorKind.OutOfMemory) }
+    ensures { IfOk result (λ lit. parsed ≡ Ok lit) }
+{
+    match parsed {
         Ok(lit) => Ok(lit),
         Err(e) => match e.kind() {
             ParseErrorKind::OutOfMemory => Err(AllocError),

@@ -3,13 +3,11 @@ ghost use Rattle.std.specs.Prelude.{◌≡◌, ℕ, List, IfOk};
 ghost use Rattle.litrs_token.specs.Place.{call_site};
 ghost use Rattle.litrs_token.specs.declared.kind.TokenKind.{TokenKind};
 
-use crate::kind::TokenKind;
 use crate::literal_token::Literal;
 use crate::name::Ident;
+use crate::one_kind::OneKind;
 use crate::place::Span;
-use litrs::{
-    BoolLit, ByteLit, ByteStringLit, CStringLit, CharLit, FloatLit, IntegerLit, StringLit, Text,
-};
+use litrs::BoolLit;
 use std::alloc::{AllocError, Global};
 
 /// A literal that is written as a token.
@@ -22,6 +20,11 @@ pub trait IntoToken: Drop {
 
     /// The token of this literal: its text, with the call-site span.
     ///
+    /// ```rust
+    /// let token = IntegerLit::parse("27u8")?.into_token(rt.alloc())?;
+    /// assert_eq!(rt; token.text(), "27u8");
+    /// ```
+    ///
     /// # Errors
     ///
     /// `AllocError` where there is no memory for the text. The literal is dropped then.
@@ -31,87 +34,13 @@ pub trait IntoToken: Drop {
         ensures span { IfOk result (λ token. token.span ≡ call_site) };
 }
 
-impl<B: Text> IntoToken for IntegerLit<B> {
-    ghost use Rattle.litrs_token.specs.declared.kind.TokenKind.TheVariants as token;
+impl<T: OneKind> IntoToken for T {
+    ghost raw = { T.OneKind.raw };
 
-    ghost raw = { λ lit. lit.raw };
-
-    ghost kind = { token.IntegerLit };
+    ghost kind = { T.OneKind.kind };
 
     fn into_token(self, alloc: Global) -> Result<Literal, AllocError> {
-        Literal::copied(alloc, self.raw_input(), TokenKind::IntegerLit)
-    }
-}
-
-impl<B: Text> IntoToken for FloatLit<B> {
-    ghost use Rattle.litrs_token.specs.declared.kind.TokenKind.TheVariants as token;
-
-    ghost raw = { λ lit. lit.raw };
-
-    ghost kind = { token.FloatLit };
-
-    fn into_token(self, alloc: Global) -> Result<Literal, AllocError> {
-        Literal::copied(alloc, self.raw_input(), TokenKind::FloatLit)
-    }
-}
-
-impl<B: Text> IntoToken for CharLit<B> {
-    ghost use Rattle.litrs_token.specs.declared.kind.TokenKind.TheVariants as token;
-
-    ghost raw = { λ lit. lit.raw };
-
-    ghost kind = { token.CharLit };
-
-    fn into_token(self, alloc: Global) -> Result<Literal, AllocError> {
-        Literal::copied(alloc, self.raw_input(), TokenKind::CharLit)
-    }
-}
-
-impl<B: Text> IntoToken for ByteLit<B> {
-    ghost use Rattle.litrs_token.specs.declared.kind.TokenKind.TheVariants as token;
-
-    ghost raw = { λ lit. lit.raw };
-
-    ghost kind = { token.ByteLit };
-
-    fn into_token(self, alloc: Global) -> Result<Literal, AllocError> {
-        Literal::copied(alloc, self.raw_input(), TokenKind::ByteLit)
-    }
-}
-
-impl<B: Text> IntoToken for StringLit<B> {
-    ghost use Rattle.litrs_token.specs.declared.kind.TokenKind.TheVariants as token;
-
-    ghost raw = { λ lit. lit.raw };
-
-    ghost kind = { token.StringLit };
-
-    fn into_token(self, alloc: Global) -> Result<Literal, AllocError> {
-        Literal::copied(alloc, self.raw_input(), TokenKind::StringLit)
-    }
-}
-
-impl<B: Text> IntoToken for ByteStringLit<B> {
-    ghost use Rattle.litrs_token.specs.declared.kind.TokenKind.TheVariants as token;
-
-    ghost raw = { λ lit. lit.raw };
-
-    ghost kind = { token.ByteStringLit };
-
-    fn into_token(self, alloc: Global) -> Result<Literal, AllocError> {
-        Literal::copied(alloc, self.raw_input(), TokenKind::ByteStringLit)
-    }
-}
-
-impl<B: Text> IntoToken for CStringLit<B> {
-    ghost use Rattle.litrs_token.specs.declared.kind.TokenKind.TheVariants as token;
-
-    ghost raw = { λ lit. lit.raw };
-
-    ghost kind = { token.CStringLit };
-
-    fn into_token(self, alloc: Global) -> Result<Literal, AllocError> {
-        Literal::copied(alloc, self.raw_input(), TokenKind::CStringLit)
+        Literal::copied(alloc, self.text(), T::kind())
     }
 }
 
@@ -121,6 +50,11 @@ pub trait IntoIdent: Drop {
     ghost raw: { Self → List ℕ };
 
     /// The identifier of this literal, with the call-site span.
+    ///
+    /// ```rust
+    /// let name = BoolLit::True.into_ident(rt.alloc())?;
+    /// assert_eq!(rt; name.text(), "true");
+    /// ```
     ///
     /// # Errors
     ///

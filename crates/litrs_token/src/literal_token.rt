@@ -44,6 +44,13 @@ pub enum LiteralError {
 impl Literal {
     /// The literal with this text, with the call-site span.
     ///
+    /// ```rust
+    /// let literal = Literal::from_text(rt.alloc(), "27u8")?;
+    /// assert_eq!(rt; literal.text(), "27u8");
+    /// let negative = Literal::from_text(rt.alloc(), "-1");
+    /// assert!(rt; matches!(negative, Err(LiteralError::NotALiteral)));
+    /// ```
+    ///
     /// # Errors
     ///
     /// `NotALiteral` where the text is no literal, as `-1`, or a bool, before anything is
@@ -66,6 +73,11 @@ impl Literal {
     /// It is written between quotes: `"`, backslash, LF, CR, tab and NUL as `\"`, `\\`, `\n`, `\r`,
     /// `\t` and `\0`, and every other character as it is. That is a quoted string of this value,
     /// without a suffix, and nothing else. See [the reference][ref].
+    ///
+    /// ```rust
+    /// let literal = Literal::string(rt.alloc(), "a\n\"b\"")?;
+    /// assert_eq!(rt; literal.text(), r#""a\n\"b\"""#);
+    /// ```
     ///
     /// # Errors
     ///
@@ -107,7 +119,7 @@ impl Literal {
         })
     }
 
-    /// Its text. It is a literal, and no bool.
+    /// Its text, as `27u8`. It is a literal, and no bool.
     pub fn text(&self) -> &str
         ensures text { result.now ≡ self.now.text }
         ensures literal { IsLiteralToken (chars result.now) self.now.kind }
@@ -115,7 +127,7 @@ impl Literal {
         self.text.as_str()
     }
 
-    /// Where it stands.
+    /// Where it stands: the call-site span, until it is put at another place.
     pub fn span(&self) -> Span
         ensures { result ≡ self.now.span }
     {
@@ -123,6 +135,11 @@ impl Literal {
     }
 
     /// Puts it at another place.
+    ///
+    /// ```rust
+    /// literal.set_span(Span::new(4, 8));
+    /// assert_eq!(rt; literal.span(), Span::new(4, 8));
+    /// ```
     pub fn set_span(&mut self, span: Span)
         ensures span { self.new.span ≡ span }
         ensures text { self.new.text ≡ self.old.text }

@@ -47,6 +47,13 @@ impl Ident {
     ///
     /// It begins with `_` or an XID_Start character, and goes on with XID_Continue characters.
     ///
+    /// ```rust
+    /// let name = Ident::new(rt.alloc(), "mask", Span::new(0, 4))?;
+    /// assert_eq!(rt; name.text(), "mask");
+    /// let raw = Ident::new(rt.alloc(), "r#a", Span::new(0, 3));
+    /// assert!(rt; matches!(raw, Err(IdentError::NotAnIdent)));
+    /// ```
+    ///
     /// # Errors
     ///
     /// `NotAnIdent` of every other text, as `r#a` and the empty one, before anything is allocated;
@@ -77,7 +84,7 @@ impl Ident {
         Ok(Ident { text, span })
     }
 
-    /// Its text. It is an identifier.
+    /// Its text, as `mask`. It is an identifier.
     pub fn text(&self) -> &str
         ensures text { result.now ≡ self.now.text }
         ensures ident { IsTrue (is_ident (chars result.now)) }
@@ -85,7 +92,7 @@ impl Ident {
         self.text.as_str()
     }
 
-    /// Where it stands.
+    /// Where it stands: 0..4 of `mask` at the start of a source.
     pub fn span(&self) -> Span
         ensures { result ≡ self.now.span }
     {
@@ -93,6 +100,11 @@ impl Ident {
     }
 
     /// Puts it at another place.
+    ///
+    /// ```rust
+    /// name.set_span(Span::new(7, 11));
+    /// assert_eq!(rt; name.span(), Span::new(7, 11));
+    /// ```
     pub fn set_span(&mut self, span: Span)
         ensures span { self.new.span ≡ span }
         ensures text { self.new.text ≡ self.old.text }

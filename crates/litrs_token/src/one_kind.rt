@@ -1,19 +1,18 @@
-//! Literals of one kind, from their texts.
+//! What the literals of the seven kinds that are tokens have in common.
 ghost use Rattle.std.specs.Prelude.{◌≡◌, ◌≢◌, ℕ, List, IfOk, IfErr, string_bytes};
 ghost use Rattle.std.specs.Str.{chars};
 ghost use Rattle.litrs_base.specs.Refusal.{kind_of};
 ghost use Rattle.litrs_token.specs.LiteralToken.{IsLiteralToken};
 ghost use Rattle.litrs_token.specs.declared.kind.TokenKind.{TokenKind};
 
-use crate::err::TokenError;
 use crate::kind::TokenKind;
 use litrs::{
     ByteLit, ByteStringLit, CStringLit, CharLit, FloatLit, IntegerLit, ParseError, ParseErrorKind,
-    StringLit,
+    StringLit, Text,
 };
 use std::alloc::Global;
 
-/// A literal of one kind.
+/// A literal of one kind, over any buffer.
 pub trait OneKind: Drop {
     /// The kind.
     ghost kind: { TokenKind };
@@ -21,19 +20,31 @@ pub trait OneKind: Drop {
     /// The bytes of its text.
     ghost raw: { Self → List ℕ };
 
-    /// The kind.
+    /// The kind: of an integer `IntegerLit`.
     fn kind() -> TokenKind
         ensures kind { result ≡ kind }
         ensures one { kind ≢ TokenKind.Literal };
 
-    /// The literal of a text that is one of the kind.
-    fn parse(alloc: Global, text: String) -> Result<Self, TokenError>
-        requires { IsLiteralToken (chars (string_bytes text)) kind }
-        ensures raw { IfOk result (λ lit. raw lit ≡ string_bytes text) }
-        ensures memory { IfErr result (λ e. e ≡ TokenError.Memory) };
+    /// The text of the literal, which is one of the kind.
+    fn text(&self) -> &str
+        ensures text { result.now ≡ raw self.now }
+        ensures literal { IsLiteralToken (chars result.now) kind };
 }
 
-impl OneKind for IntegerLit<String> {
+/// A literal of one kind that owns its text.
+pub trait OwnedKind: OneKind {
+    /// The literal of a text that is one of the kind.
+    ///
+    /// # Errors
+    ///
+    /// `OutOfMemory` where there is no memory for its value. The text is dropped then.
+    fn parse(alloc: Global, text: String) -> Result<Self, ParseError>
+        requires { IsLiteralToken (chars (string_bytes text)) Self.kind }
+        ensures raw { IfOk result (λ lit. Self.raw lit ≡ string_bytes text) }
+        ensures memory { IfErr result (λ e. kind_of e ≡ ParseErrorKind.OutOfMemory) };
+}
+
+impl<B: Text> OneKind for IntegerLit<B> {
     ghost use Rattle.litrs_token.specs.declared.kind.TokenKind.TheVariants as token;
 
     ghost kind = { token.IntegerLit };
@@ -44,15 +55,18 @@ impl OneKind for IntegerLit<String> {
         TokenKind::IntegerLit
     }
 
-    fn parse(_alloc: Global, text: String) -> Result<IntegerLit<String>, TokenError> {
-        match IntegerLit::parse(text) {
-            Ok(lit) => Ok(lit),
-            Err(_) => unreachable!(),
-        }
+    fn text(&self) -> &str {
+        IntegerLit::raw_input(self)
     }
 }
 
-impl OneKind for FloatLit<String> {
+impl OwnedKind for IntegerLit<String> {
+    fn parse(_alloc: Global, text: String) -> Result<IntegerLit<String>, ParseError> {
+        IntegerLit::parse(text)
+    }
+}
+
+impl<B: Text> OneKind for FloatLit<B> {
     ghost use Rattle.litrs_token.specs.declared.kind.TokenKind.TheVariants as token;
 
     ghost kind = { token.FloatLit };
@@ -63,15 +77,18 @@ impl OneKind for FloatLit<String> {
         TokenKind::FloatLit
     }
 
-    fn parse(_alloc: Global, text: String) -> Result<FloatLit<String>, TokenError> {
-        match FloatLit::parse(text) {
-            Ok(lit) => Ok(lit),
-            Err(_) => unreachable!(),
-        }
+    fn text(&self) -> &str {
+        FloatLit::raw_input(self)
     }
 }
 
-impl OneKind for CharLit<String> {
+impl OwnedKind for FloatLit<String> {
+    fn parse(_alloc: Global, text: String) -> Result<FloatLit<String>, ParseError> {
+        FloatLit::parse(text)
+    }
+}
+
+impl<B: Text> OneKind for CharLit<B> {
     ghost use Rattle.litrs_token.specs.declared.kind.TokenKind.TheVariants as token;
 
     ghost kind = { token.CharLit };
@@ -82,15 +99,18 @@ impl OneKind for CharLit<String> {
         TokenKind::CharLit
     }
 
-    fn parse(_alloc: Global, text: String) -> Result<CharLit<String>, TokenError> {
-        match CharLit::parse(text) {
-            Ok(lit) => Ok(lit),
-            Err(_) => unreachable!(),
-        }
+    fn text(&self) -> &str {
+        CharLit::raw_input(self)
     }
 }
 
-impl OneKind for ByteLit<String> {
+impl OwnedKind for CharLit<String> {
+    fn parse(_alloc: Global, text: String) -> Result<CharLit<String>, ParseError> {
+        CharLit::parse(text)
+    }
+}
+
+impl<B: Text> OneKind for ByteLit<B> {
     ghost use Rattle.litrs_token.specs.declared.kind.TokenKind.TheVariants as token;
 
     ghost kind = { token.ByteLit };
@@ -101,15 +121,18 @@ impl OneKind for ByteLit<String> {
         TokenKind::ByteLit
     }
 
-    fn parse(_alloc: Global, text: String) -> Result<ByteLit<String>, TokenError> {
-        match ByteLit::parse(text) {
-            Ok(lit) => Ok(lit),
-            Err(_) => unreachable!(),
-        }
+    fn text(&self) -> &str {
+        ByteLit::raw_input(self)
     }
 }
 
-impl OneKind for StringLit<String> {
+impl OwnedKind for ByteLit<String> {
+    fn parse(_alloc: Global, text: String) -> Result<ByteLit<String>, ParseError> {
+        ByteLit::parse(text)
+    }
+}
+
+impl<B: Text> OneKind for StringLit<B> {
     ghost use Rattle.litrs_token.specs.declared.kind.TokenKind.TheVariants as token;
 
     ghost kind = { token.StringLit };
@@ -120,15 +143,18 @@ impl OneKind for StringLit<String> {
         TokenKind::StringLit
     }
 
-    fn parse(alloc: Global, text: String) -> Result<StringLit<String>, TokenError> {
-        match StringLit::parse(alloc, text) {
-            Ok(lit) => Ok(lit),
-            Err(e) => Err(memory_error(&e)),
-        }
+    fn text(&self) -> &str {
+        StringLit::raw_input(self)
     }
 }
 
-impl OneKind for ByteStringLit<String> {
+impl OwnedKind for StringLit<String> {
+    fn parse(alloc: Global, text: String) -> Result<StringLit<String>, ParseError> {
+        StringLit::parse(alloc, text)
+    }
+}
+
+impl<B: Text> OneKind for ByteStringLit<B> {
     ghost use Rattle.litrs_token.specs.declared.kind.TokenKind.TheVariants as token;
 
     ghost kind = { token.ByteStringLit };
@@ -139,15 +165,18 @@ impl OneKind for ByteStringLit<String> {
         TokenKind::ByteStringLit
     }
 
-    fn parse(alloc: Global, text: String) -> Result<ByteStringLit<String>, TokenError> {
-        match ByteStringLit::parse(alloc, text) {
-            Ok(lit) => Ok(lit),
-            Err(e) => Err(memory_error(&e)),
-        }
+    fn text(&self) -> &str {
+        ByteStringLit::raw_input(self)
     }
 }
 
-impl OneKind for CStringLit<String> {
+impl OwnedKind for ByteStringLit<String> {
+    fn parse(alloc: Global, text: String) -> Result<ByteStringLit<String>, ParseError> {
+        ByteStringLit::parse(alloc, text)
+    }
+}
+
+impl<B: Text> OneKind for CStringLit<B> {
     ghost use Rattle.litrs_token.specs.declared.kind.TokenKind.TheVariants as token;
 
     ghost kind = { token.CStringLit };
@@ -158,21 +187,13 @@ impl OneKind for CStringLit<String> {
         TokenKind::CStringLit
     }
 
-    fn parse(alloc: Global, text: String) -> Result<CStringLit<String>, TokenError> {
-        match CStringLit::parse(alloc, text) {
-            Ok(lit) => Ok(lit),
-            Err(e) => Err(memory_error(&e)),
-        }
+    fn text(&self) -> &str {
+        CStringLit::raw_input(self)
     }
 }
 
-/// That there was no memory, as the error of a parse says.
-fn memory_error(e: &ParseError) -> TokenError
-    requires { kind_of e.now ≡ ParseErrorKind.OutOfMemory }
-    ensures { result ≡ TokenError.Memory }
-{
-    match e.kind() {
-        ParseErrorKind::OutOfMemory => TokenError::Memory,
-        _ => unreachable!(),
+impl OwnedKind for CStringLit<String> {
+    fn parse(alloc: Global, text: String) -> Result<CStringLit<String>, ParseError> {
+        CStringLit::parse(alloc, text)
     }
 }

@@ -26,6 +26,11 @@ impl Model for Span {
 
 impl Span {
     /// From `start` up to `end`, in bytes. The start is at most the end.
+    ///
+    /// ```rust
+    /// let span = Span::new(2, 5);
+    /// assert_eq!(rt; (span.start(), span.end()), (2, 5));
+    /// ```
     pub fn new(start: usize, end: usize) -> Span
         requires { start ≤ end }
         ensures start { result.start ≡ start }

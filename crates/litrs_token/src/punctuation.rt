@@ -32,6 +32,13 @@ impl Model for Punct {
 
 impl Punct {
     /// Punctuation of this character, whatever it is, with the call-site span.
+    ///
+    /// ```rust
+    /// // The first character of `+=`.
+    /// let plus = Punct::new('+', Spacing::Joint);
+    /// assert_eq!(rt; plus.as_char(), '+');
+    /// assert_eq!(rt; plus.span(), Span::call_site());
+    /// ```
     pub fn new(character: char, spacing: Spacing) -> Punct
         ensures character { result.character ≡ character }
         ensures spacing { result.spacing ≡ spacing }
@@ -44,21 +51,21 @@ impl Punct {
         }
     }
 
-    /// The character.
+    /// The character, as `+`.
     pub fn as_char(&self) -> char
         ensures { result ≡ self.now.character }
     {
         self.character
     }
 
-    /// Whether more punctuation follows.
+    /// Whether more punctuation follows: `Joint` of the `+` in `+=`.
     pub fn spacing(&self) -> Spacing
         ensures { result ≡ self.now.spacing }
     {
         self.spacing
     }
 
-    /// Where it stands.
+    /// Where it stands: 3..4 of the `!` in `foo!`.
     pub fn span(&self) -> Span
         ensures { result ≡ self.now.span }
     {
@@ -66,6 +73,12 @@ impl Punct {
     }
 
     /// Puts it at another place.
+    ///
+    /// ```rust
+    /// let mut mark = Punct::new('!', Spacing::Alone);
+    /// mark.set_span(Span::new(3, 4));
+    /// assert_eq!(rt; mark.span(), Span::new(3, 4));
+    /// ```
     pub fn set_span(&mut self, span: Span)
         ensures span { self.new.span ≡ span }
         ensures character { self.new.character ≡ self.old.character }

@@ -49,6 +49,15 @@ pub enum TokenTree {
 
 impl Group {
     /// A group of these trees, with the call-site span.
+    ///
+    /// ```rust
+    /// let name = Ident::new(rt.alloc(), "a", Span::new(1, 2))?;
+    /// let mut stream = Vec::new(rt.alloc());
+    /// stream.push(TokenTree::from(name))?;
+    /// let group = Group::new(Delimiter::Parenthesis, stream);
+    /// assert_eq!(rt; group.delimiter(), Delimiter::Parenthesis);
+    /// assert_eq!(rt; group.stream().len(), 1);
+    /// ```
     pub fn new(delimiter: Delimiter, stream: Vec<TokenTree>) -> Group
         ensures delimiter { group_delimiter result ≡ delimiter }
         ensures stream { group_stream result ≡ stream.items }
@@ -61,21 +70,21 @@ impl Group {
         }
     }
 
-    /// What stands around it.
+    /// What stands around it: `Parenthesis` of `(a)`.
     pub fn delimiter(&self) -> Delimiter
         ensures { result ≡ group_delimiter self.now }
     {
         self.delimiter
     }
 
-    /// The trees between the delimiters.
+    /// The trees between the delimiters: of `(a)` the identifier `a`.
     pub fn stream(&self) -> &[TokenTree]
         ensures { result.now ≡ group_stream self.now }
     {
         self.stream.as_slice()
     }
 
-    /// Where it stands.
+    /// Where it stands, with its delimiters: 0..3 of `(a)` at the start of a source.
     pub fn span(&self) -> Span
         ensures { result ≡ group_span self.now }
     {
@@ -83,6 +92,12 @@ impl Group {
     }
 
     /// Puts the group at another place, and leaves the trees inside where they are.
+    ///
+    /// ```rust
+    /// group.set_span(Span::new(0, 3));
+    /// assert_eq!(rt; group.span(), Span::new(0, 3));
+    /// assert_eq!(rt; group.stream()[0].span(), Span::new(1, 2));
+    /// ```
     pub fn set_span(&mut self, span: Span)
         ensures span { group_span self.new ≡ span }
         ensures delimiter { group_delimiter self.new ≡ group_delimiter self.old }
@@ -93,7 +108,7 @@ impl Group {
 }
 
 impl TokenTree {
-    /// Where it stands.
+    /// Where it stands: the span of the group, the identifier, the punctuation or the literal.
     pub fn span(&self) -> Span
         ensures { result ≡ tree_span self.now }
     {
@@ -106,6 +121,12 @@ impl TokenTree {
     }
 
     /// Puts the tree at another place, and leaves the trees inside a group where they are.
+    ///
+    /// ```rust
+    /// let mut tree = TokenTree::from(Punct::new('+', Spacing::Alone));
+    /// tree.set_span(Span::new(2, 3));
+    /// assert_eq!(rt; tree.span(), Span::new(2, 3));
+    /// ```
     pub fn set_span(&mut self, span: Span)
         ensures span { tree_span self.new ≡ span }
         ensures alike { AreAlike (shape_of self.old) (shape_of self.new) }

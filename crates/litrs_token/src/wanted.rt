@@ -43,7 +43,7 @@ pub fn as_literal(tree: &TokenTree, expected: TokenKind) -> Result<&Literal, Inv
     }
 }
 
-/// The same, taken out of the tree.
+/// [`as_literal`], taken out of the tree.
 ///
 /// # Errors
 ///

@@ -42,7 +42,7 @@ fn item_goes_on(rest: &str, is_byte: bool) -> bool
     }
 }
 
-/// The same of a rest that begins with a backslash.
+/// [`item_goes_on`] of a rest that begins with a backslash.
 fn escaped_goes_on(rest: &str, is_byte: bool) -> bool
     requires { IsTrue (first_passes (λ c. c == backslash) rest.now) }
     ensures { IsTrue result ↔ BeginsBy (IsCharLiteral (kind_if is_byte))

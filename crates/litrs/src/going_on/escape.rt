@@ -4,7 +4,7 @@ ghost use Rattle.std.specs.Char.{is_ascii_hexdigit};
 ghost use Rattle.std.specs.Str.{chars};
 ghost use Rattle.litrs_base.specs.Characters.{backslash, is_scalar, is_no_nul_unless};
 ghost use Rattle.litrs_base.specs.Text.{first_passes};
-ghost use Rattle.litrs_grammar.specs.EscapeGoesOn.{BeginsEscape, escape_goes_on, hex_goes_on, braces_go_on, inner_goes_on};
+ghost use Rattle.litrs_grammar.specs.GoesOn.Escape.{BeginsEscape, escape_goes_on, hex_goes_on, braces_go_on, inner_goes_on};
 ghost use Rattle.litrs_parts.specs.Unescaped.{switches};
 
 use litrs_parts::escape::hex_digits;
@@ -43,7 +43,8 @@ pub(crate) fn refused_escape_goes_on(
     }
 }
 
-/// The same by what follows `\x`: nothing, or one hex digit, with which `1` is allowed.
+/// Whether `\x` becomes an escape, by what follows it: nothing, or one hex digit, with which `1` is
+/// allowed.
 fn hex_goes_on(digits: &[u8], byte_escapes: bool) -> bool
     ensures { (unicode allow_nul : Bool) →
         result ≡ hex_goes_on (switches unicode byte_escapes allow_nul) digits.now }
@@ -58,7 +59,7 @@ fn hex_goes_on(digits: &[u8], byte_escapes: bool) -> bool
     }
 }
 
-/// The same by what follows `\u`, where such escapes are allowed.
+/// Whether `\u` becomes an escape, where such escapes are allowed, by what follows it.
 fn braces_go_on(braces: &[u8], allow_nul: bool) -> bool
     ensures { (byte_escapes : Bool) →
         result ≡ braces_go_on (switches true byte_escapes allow_nul) braces.now }
@@ -70,8 +71,9 @@ fn braces_go_on(braces: &[u8], allow_nul: bool) -> bool
     }
 }
 
-/// The same by what follows `\u{`: nothing, or hex digits and underscores, a digit first. A
-/// digit or a brace mends at most five digits, and a brace alone the value of six.
+/// Whether `\u{` becomes an escape, by what follows it: nothing, or hex digits and underscores, a
+/// digit first, and either at most five digits, as then one more mends every value, or six digits
+/// of an allowed value.
 fn inner_goes_on(inner: &[u8], allow_nul: bool) -> bool
     ensures { (byte_escapes : Bool) →
         result ≡ inner_goes_on (switches true byte_escapes allow_nul) inner.now }

@@ -3,7 +3,7 @@ ghost use Rattle.std.specs.Prelude.{◌↔◌, ◌⊎◌, take, IsTrue};
 ghost use Rattle.std.specs.Str.{chars, IsCharBoundary};
 ghost use Rattle.litrs_grammar.specs.Continuation.{BeginsBy};
 ghost use Rattle.litrs_grammar.specs.Quoted.{IsQuoted};
-ghost use Rattle.litrs_grammar.specs.QuotedGoesOn.{RestGoesOn};
+ghost use Rattle.litrs_grammar.specs.GoesOn.Quoted.{RestGoesOn};
 ghost use Rattle.litrs_lex.specs.QuotedItems.{EndsItems};
 ghost use Rattle.litrs_parts.specs.Unescaped.{switches};
 ghost use Rattle.litrs.specs.Begins.{IsClosed};
@@ -30,7 +30,7 @@ pub(crate) fn quoted_goes_on(
     rest_goes_on(&text[end.place..], unicode, byte_escapes, allow_nul)
 }
 
-/// The same by what stands where the items end.
+/// Whether a quoted literal goes on, by what stands where its items end.
 fn rest_goes_on(rest: &str, unicode: bool, byte_escapes: bool, allow_nul: bool) -> bool
     requires { EndsItems (switches unicode byte_escapes allow_nul) (chars rest.now) }
     ensures { IsTrue result ↔ (IsClosed (chars rest.now)

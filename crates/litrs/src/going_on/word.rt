@@ -1,9 +1,7 @@
 //! Texts that begin with the front of no kind.
 ghost use Rattle.std.specs.Prelude.{◌≡◌, ◌==◌, ◌||◌};
 ghost use Rattle.litrs_base.specs.Text.{is_empty, first_passes};
-ghost use Rattle.litrs_grammar.specs.UnnamedGoesOn.{unnamed_goes_on};
-
-use crate::going_on::front::begins_with;
+ghost use Rattle.litrs_grammar.specs.GoesOn.Unnamed.{unnamed_goes_on};
 
 /// Whether `true` or `false` begins with the word, or it is `b`, which bytes and byte strings begin
 /// with. The empty word is one of them.
@@ -23,10 +21,13 @@ fn begins_like_a_word(word: &[u8]) -> bool
     matches!(word, [] | [b't' | b'f' | b'b', ..])
 }
 
-/// [`word_goes_on`] of any word.
+/// Whether `true`, `false` or `b` begins with the word.
+///
+/// A call, so that a text that begins with another letter pays for one comparison alone.
 #[inline(never)]
+#[tactic(auto, using(crate::proofs::Fronts::starts_with_front))]
 fn is_front_of_a_word(word: &[u8]) -> bool
     ensures { result ≡ unnamed_goes_on word.now }
 {
-    begins_with(word, b"true") || begins_with(word, b"false") || begins_with(word, b"b")
+    b"true".starts_with(word) || b"false".starts_with(word) || b"b".starts_with(word)
 }

@@ -1,5 +1,5 @@
 -- Which texts an allocation failure may be the answer to.
-use Rattle.std.specs.Prelude.{◌≡◌, ℕ, List, [], ◌∷◌, true, false, codes, refl}
+use Rattle.std.specs.Prelude.{◌≡◌, [], ◌∷◌, false, codes, refl}
 use Rattle.std.proofs.Common.{sym, ◌∙◌}
 use Rattle.std.proofs.lemmas.Bool.{false≢true}
 use Rattle.litrs_base.specs.declared.err.ParseError.{ParseError}
@@ -11,9 +11,9 @@ use Rattle.litrs_grammar.specs.Literal.{a_string, quoted_parts, literal_parse}
 use Rattle.litrs_grammar.specs.LiteralRefusals.{IsRefusal}
 use Rattle.litrs_grammar.specs.Quoted.{plain_item, escape_item}
 use Rattle.litrs_grammar.specs.Refused.{IsOutOfMemory}
-use Rattle.litrs_grammar.proofs.AllocationLaws.{allocation_is_by_parts}
+use Rattle.litrs_grammar.proofs.Laws.Allocation.{allocation_is_by_parts}
 use Rattle.litrs_grammar.proofs.Computing.{computing, quoted, refused_behind}
-use Rattle.litrs_grammar.proofs.LiteralLaws.{literals_are_not_refused}
+use Rattle.litrs_grammar.proofs.Laws.Literal.{literals_are_not_refused}
 
 -- the value of a string with an escape is allocated
 with_escape : (e : ParseError) → refusal_of e ≡ plain kind.OutOfMemory → IsOutOfMemory literal_parse (codes "\"\\n\"") e

@@ -17,12 +17,12 @@ use Rattle.litrs_grammar.specs.Suffix.{is_suffix, starts_identifier}
 use Rattle.litrs_grammar.specs.Escape.{Switches, Escape, escape_text, is_escape, escape_refusal}
 use Rattle.litrs_grammar.specs.CharByte.{CharKind, char_kind, byte_kind, char_front, char_switches_of, CharItem, plain_char, escaped_char, char_item_text, is_special_whitespace, allows_char, is_char_item, CharParts, char_text, IsCharLiteral, unterminated_kind, empty_kind, overlong_kind, start_refusal, char_item_length, escape_length, closing_refusal, char_item_refusal, char_kind_refusal}
 use Rattle.litrs_grammar.specs.Continuation.{BeginsBy, EndsBy}
-use Rattle.litrs_grammar.specs.CharByteGoesOn.{CharRestGoesOn, CharGoesOn}
+use Rattle.litrs_grammar.specs.GoesOn.CharByte.{CharRestGoesOn, CharGoesOn}
 use Rattle.litrs_grammar.proofs.LongerTexts.Suffix.{front_of, suffix_freed, is_suffix-nil, underscore_x}
-use Rattle.litrs_grammar.proofs.OpenRows.{is_open_row, shut_if, shut_suffix, shut_escape}
+use Rattle.litrs_grammar.proofs.LongerTexts.OpenRows.{is_open_row, shut_if, shut_suffix, shut_escape}
 use Rattle.litrs_grammar.proofs.LineFeeds.{is_other, escape_other, suffix_other, no_line_feed}
-use Rattle.litrs_grammar.proofs.CharByteLaws.{chars_are_decided, chars_are_unique, escape_length_is, backslash_allowed}
-use Rattle.litrs_grammar.proofs.EscapeLaws.{refusal_escape, read_escape, HasEscape, same_escape}
+use Rattle.litrs_grammar.proofs.Laws.CharByte.{chars_are_decided, chars_are_unique, escape_length_is, backslash_allowed}
+use Rattle.litrs_grammar.proofs.Laws.Escape.{refusal_escape, read_escape, HasEscape, same_escape}
 use Rattle.litrs_grammar.proofs.LongerTexts.Escape.{escape_final}
 use Rattle.litrs_grammar.proofs.QuotedItems.{escape_head}
 use Rattle.litrs_grammar.proofs.LongerTexts.Quoted.{escape_is_text}

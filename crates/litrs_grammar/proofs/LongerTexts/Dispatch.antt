@@ -18,14 +18,14 @@ use Rattle.litrs_grammar.specs.Integer.{integer_refusal, base_of, cut_refusal}
 use Rattle.litrs_grammar.specs.Literal.{LiteralKind, bool_literal, integer_literal, float_literal, char_literal, byte_literal, string_literal, byte_string_literal, c_string_literal}
 use Rattle.litrs_grammar.specs.LiteralRefusals.{Dispatch, refused_as, parsed_as, dispatch, is_float_mark, begins_float, IsKindRefusal}
 use Rattle.litrs_base.proofs.Runs.{IsRun, run_of, prefix_len_all}
-use Rattle.litrs_grammar.proofs.IntegerLaws.{prefix_len_front, refusal_of_digit, integer_cut-is, cut_with}
+use Rattle.litrs_grammar.proofs.Laws.Integer.{prefix_len_front, refusal_of_digit, integer_cut-is, cut_with}
 use Rattle.litrs_grammar.proofs.LongerTexts.Integer.{cut_parts}
-use Rattle.litrs_grammar.proofs.LiteralLaws.{is_bool-digit, some_bool, dispatch_literal}
+use Rattle.litrs_grammar.proofs.Laws.Literal.{is_bool-digit, some_bool, dispatch_literal}
 use Rattle.std.specs.Prelude.{◌↔◌}
 use Rattle.litrs_grammar.specs.CharByte.{plain_char}
 use Rattle.litrs_grammar.specs.Literal.{a_bool, a_byte, Derivation, IsLiteral, literal_kind, literal_parse, kind_parse, Begins}
-use Rattle.litrs_grammar.specs.BoolGoesOn.{bool_goes_on}
-use Rattle.litrs_grammar.specs.UnnamedGoesOn.{unnamed_goes_on}
+use Rattle.litrs_grammar.specs.GoesOn.Bool.{bool_goes_on}
+use Rattle.litrs_grammar.specs.GoesOn.Unnamed.{unnamed_goes_on}
 use Rattle.litrs_grammar.proofs.LongerTexts.Suffix.{is_suffix-nil}
 use Rattle.litrs_grammar.proofs.LongerTexts.Bool.{bool_front, bool_begins}
 use Rattle.litrs_grammar.proofs.LineFeeds.{is_other, no_line_feed}

@@ -12,7 +12,7 @@ use Rattle.litrs_base.specs.Text.{byte_len, first_passes}
 use Rattle.litrs_grammar.specs.Escape.{Switches, escape_refusal, hex_refusal, unicode_refusal, inner_refusal, allows_value, allows_byte, pair_value, has_two_bytes, Escape, simple_escape, hex_escape, unicode_escape, escape_text, is_escape, is_hex_or_underscore, hex_value}
 use Rattle.litrs_base.proofs.ByteLen.{byte_len_one_ascii}
 use Rattle.litrs_base.proofs.ListTests.{before_first-split, split_first, Splits, if_false}
-use Rattle.litrs_grammar.proofs.EscapeLaws.{hexdigit_ascii, inner_of, IsInner, hexdigit_no_underscore, refusal_escape}
+use Rattle.litrs_grammar.proofs.Laws.Escape.{hexdigit_ascii, inner_of, IsInner, hexdigit_no_underscore, refusal_escape}
 use Rattle.std.proofs.lemmas.Bool.Decides.{nat_tests}
 use Rattle.std.proofs.lemmas.List.{append-nil}
 use Rattle.std.proofs.lemmas.List.Elements.{filter-append}
@@ -22,9 +22,9 @@ use Rattle.std.proofs.Math.Nat.{mul-le-mul_left, pow-le-pow_right}
 use Rattle.litrs_base.specs.Characters.{is_scalar}
 use Rattle.litrs_base.specs.Numeral.{place_sum, is_no_underscore}
 use Rattle.litrs_base.proofs.Runs.{list_all-append}
-use Rattle.litrs_grammar.specs.ContinuationLaws.{FinalEscapeRefusalsStay, RefusedEscapesGoOn}
-use Rattle.litrs_grammar.specs.EscapeLaws.{BeginsWithEscape}
-use Rattle.litrs_grammar.specs.EscapeGoesOn.{BeginsEscape, inner_goes_on, hex_goes_on, braces_go_on, escape_goes_on}
+use Rattle.litrs_grammar.specs.Laws.Continuation.{FinalEscapeRefusalsStay, RefusedEscapesGoOn}
+use Rattle.litrs_grammar.specs.Laws.Escape.{BeginsWithEscape}
+use Rattle.litrs_grammar.specs.GoesOn.Escape.{BeginsEscape, inner_goes_on, hex_goes_on, braces_go_on, escape_goes_on}
 
 -- A final refusal of an escape stays.
 

@@ -17,15 +17,15 @@ use Rattle.litrs_base.specs.declared.err.ParseErrorKind.{ParseErrorKind}
 use Rattle.litrs_base.specs.Refusal.{Refusal}
 use Rattle.litrs_base.specs.Finality.{is_final, is_open}
 use Rattle.litrs_grammar.specs.Continuation.{BeginsBy, EndsBy}
-use Rattle.litrs_grammar.specs.FloatGoesOn.{FloatGoesOn}
+use Rattle.litrs_grammar.specs.GoesOn.Float.{FloatGoesOn}
 use Rattle.litrs_base.specs.Derivations.{IsOnlyDerivation, HasNoDerivation}
 use Rattle.litrs_grammar.proofs.LongerTexts.Suffix.{suffix_freed, is_suffix-nil}
 use Rattle.litrs_grammar.proofs.FloatCuts.{IsCut, is_exponent_front, fraction_passes, sign_len-append, sign_len_le, letter_decimal, CutOf, cut_of, cut_of_text, same_cut, behind_decimals, fraction_stops, number_part-suffix}
-use Rattle.litrs_grammar.proofs.FloatLaws.{float_is_cut, starts_digit, fraction_row, only_float, empty-true, refused, float_rows, cut_rows, refusal_of_cut}
-use Rattle.litrs_grammar.proofs.FloatSpans.{is_number_char, number_line_feed, number_part_chars}
+use Rattle.litrs_grammar.proofs.Laws.Float.{float_is_cut, starts_digit, fraction_row, only_float, empty-true, refused, float_rows, cut_rows, refusal_of_cut}
+use Rattle.litrs_grammar.proofs.Spans.Float.{is_number_char, number_line_feed, number_part_chars}
 use Rattle.litrs_grammar.proofs.LineFeeds.{is_other, suffix_other, no_line_feed}
-use Rattle.litrs_grammar.proofs.OpenRows.{is_open_row, shut_if, shut_number, shut_suffix}
-use Rattle.litrs_grammar.proofs.IntegerLaws.{prefix_len_front, number_rows, first_passes-append}
+use Rattle.litrs_grammar.proofs.LongerTexts.OpenRows.{is_open_row, shut_if, shut_number, shut_suffix}
+use Rattle.litrs_grammar.proofs.Laws.Integer.{prefix_len_front, number_rows, first_passes-append}
 
 -- Parts with a suffix, of which only the first character decides where they are cut.
 

@@ -18,12 +18,12 @@ use Rattle.litrs_grammar.specs.Literal.{StringParts, string_suffix, quoted_parts
 use Rattle.litrs_grammar.specs.LiteralRefusals.{StringStart, refused_start, quoted_start, raw_start, string_start, IsRefusalOfStart, IsStringRefusal, IsKindRefusal, Dispatch, refused_as, parsed_as, dispatch, IsRefusalOfDispatch}
 use Rattle.litrs_grammar.specs.Closing.{behind_raw_front, closing_text, closing_of, opening_text, written_body, IsClosedBy}
 use Rattle.litrs_grammar.specs.Continuation.{BeginsBy, EndsBy}
-use Rattle.litrs_grammar.specs.RawGoesOn.{raw_open_parts}
+use Rattle.litrs_grammar.specs.GoesOn.Raw.{raw_open_parts}
 use Rattle.litrs_grammar.specs.GoesOn.{StartGoesOn, KindGoesOn, DispatchedGoesOn}
-use Rattle.litrs_grammar.specs.ContinuationLaws.{FinalRefusalsStay, OpenRefusalsClose, LineEndsAreDecided, RefusedTextsGoOn}
+use Rattle.litrs_grammar.specs.Laws.Continuation.{FinalRefusalsStay, OpenRefusalsClose, LineEndsAreDecided, RefusedTextsGoOn}
 use Rattle.litrs_base.proofs.Runs.{last_passes, is_line_feed, line_feed_last}
-use Rattle.litrs_grammar.proofs.OpenRows.{is_open_row, shut_if, shut_number, shut_suffix}
-use Rattle.litrs_grammar.proofs.LiteralLaws.{string_literal_of, dispatch_literal, dispatch_refusal}
+use Rattle.litrs_grammar.proofs.LongerTexts.OpenRows.{is_open_row, shut_if, shut_number, shut_suffix}
+use Rattle.litrs_grammar.proofs.Laws.Literal.{string_literal_of, dispatch_literal, dispatch_refusal}
 use Rattle.litrs_grammar.proofs.RawKinds.{behind_front}
 use Rattle.litrs_grammar.proofs.LongerTexts.Suffix.{front_of}
 use Rattle.litrs_grammar.proofs.LineFeeds.{is_other, no_line_feed}

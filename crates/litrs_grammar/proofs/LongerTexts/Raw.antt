@@ -16,14 +16,14 @@ use Rattle.litrs_base.proofs.Runs.{list_all-weaken, prefix_len_all, IsRun, run_o
 use Rattle.litrs_base.specs.Derivations.{IsOnlyDerivation}
 use Rattle.litrs_grammar.specs.Suffix.{is_suffix, suffix_refusal}
 use Rattle.litrs_grammar.specs.Raw.{is_quote, is_hash, hashes, raw_closing, occurs, is_raw_char, IsRawBody, RawParts, raw_text, IsRaw, IsRawOf, hash_len, length_before, raw_char_refusal, raw_body_refusal, raw_refusal}
-use Rattle.litrs_grammar.specs.RawGoesOn.{raw_open_parts, IsClosedRaw, RawRestGoesOn, RawGoesOn}
+use Rattle.litrs_grammar.specs.GoesOn.Raw.{raw_open_parts, IsClosedRaw, RawRestGoesOn, RawGoesOn}
 use Rattle.litrs_grammar.specs.Continuation.{BeginsBy, EndsBy}
-use Rattle.litrs_grammar.proofs.IntegerLaws.{prefix_len_front}
+use Rattle.litrs_grammar.proofs.Laws.Integer.{prefix_len_front}
 use Rattle.litrs_grammar.proofs.LongerTexts.Escape.{never, keep}
 use Rattle.litrs_grammar.proofs.LongerTexts.Suffix.{suffix_freed, suffix_final, is_suffix-nil, underscore_x}
-use Rattle.litrs_grammar.proofs.OpenRows.{shut_kind_if, shut_suffix}
+use Rattle.litrs_grammar.proofs.LongerTexts.OpenRows.{shut_kind_if, shut_suffix}
 use Rattle.litrs_grammar.proofs.RawCuts.{hashes_pass, length-hashes, hash_len-append, behind_hashes, HashCut, hash_cut, closing_cut}
-use Rattle.litrs_grammar.proofs.RawLaws.{raw_body_rows, raw_rows, refusal_of_hashes, refusal_of_closed, refused, refusal_free, only_raw}
+use Rattle.litrs_grammar.proofs.Laws.Raw.{raw_body_rows, raw_rows, refusal_of_hashes, refusal_of_closed, refused, refusal_free, only_raw}
 
 -- After n hashes and the quote: what a text is up to its first closing, or to the first character that may not stand there.
 

@@ -3,7 +3,7 @@ use Rattle.std.proofs.Common.{inl, refl, sym, ap, ◌∙◌}
 use Rattle.std.specs.Str.{chars}
 use Rattle.std.proofs.lemmas.Result.{err_from_is_err_and}
 use Rattle.litrs_grammar.specs.Literal.{a_bool, a_char, a_byte, a_string, a_byte_string, a_c_string, char_literal, byte_literal, string_literal, byte_string_literal, c_string_literal}
-use Rattle.litrs_grammar.proofs.BoolLaws.{chars-bool_text}
+use Rattle.litrs_grammar.proofs.Laws.Bool.{chars-bool_text}
 use Rattle.litrs_scalars.specs.BoolLiteral.{bool_value}
 use Rattle.litrs_scalars.specs.CharLiteral.{char_parts, byte_parts}
 use Rattle.litrs.specs.LiteralDerivation.{derivation}

@@ -1,4 +1,4 @@
-use Rattle.litrs_grammar.proofs.AllocationLaws.{allocation_is_by_parts}
+use Rattle.litrs_grammar.proofs.Laws.Allocation.{allocation_is_by_parts}
 use Rattle.litrs_grammar.proofs.allocation.allocation_is_by_parts.Goals as goal
 
 pub returns : goal.returns

@@ -1,4 +1,4 @@
-use Rattle.litrs_grammar.proofs.OtherKinds.{other_kinds_may_go_on}
+use Rattle.litrs_grammar.proofs.LongerTexts.OtherKinds.{other_kinds_may_go_on}
 use Rattle.litrs_grammar.proofs.continuation.other_kinds_may_go_on.Goals as goal
 
 pub returns : goal.returns

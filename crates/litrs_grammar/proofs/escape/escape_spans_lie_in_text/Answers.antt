@@ -1,4 +1,4 @@
-use Rattle.litrs_grammar.proofs.EscapeSpans.{escape_spans_lie_in_text}
+use Rattle.litrs_grammar.proofs.Spans.Escape.{escape_spans_lie_in_text}
 use Rattle.litrs_grammar.proofs.escape.escape_spans_lie_in_text.Goals as goal
 
 pub returns : goal.returns

@@ -1,4 +1,4 @@
-use Rattle.litrs_grammar.proofs.EscapeLaws.{escapes_are_decided}
+use Rattle.litrs_grammar.proofs.Laws.Escape.{escapes_are_decided}
 use Rattle.litrs_grammar.proofs.escape.escapes_are_decided.Goals as goal
 
 pub returns : goal.returns

@@ -1,4 +1,4 @@
-use Rattle.litrs_grammar.proofs.EscapeLaws.{escapes_are_unique}
+use Rattle.litrs_grammar.proofs.Laws.Escape.{escapes_are_unique}
 use Rattle.litrs_grammar.proofs.escape.escapes_are_unique.Goals as goal
 
 pub returns : goal.returns

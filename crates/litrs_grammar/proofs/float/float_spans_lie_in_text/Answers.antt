@@ -1,4 +1,4 @@
-use Rattle.litrs_grammar.proofs.FloatSpans.{float_refusal_within}
+use Rattle.litrs_grammar.proofs.Spans.Float.{float_refusal_within}
 use Rattle.litrs_grammar.proofs.float.float_spans_lie_in_text.Goals as goal
 
 pub returns : goal.returns

@@ -1,4 +1,4 @@
-use Rattle.litrs_grammar.proofs.FloatLaws.{refusal_free, derivable}
+use Rattle.litrs_grammar.proofs.Laws.Float.{refusal_free, derivable}
 use Rattle.litrs_grammar.proofs.float.floats_are_decided.Goals as goal
 
 pub returns : goal.returns

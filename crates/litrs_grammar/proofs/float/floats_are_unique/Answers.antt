@@ -1,4 +1,4 @@
-use Rattle.litrs_grammar.proofs.FloatLaws.{only_float}
+use Rattle.litrs_grammar.proofs.Laws.Float.{only_float}
 use Rattle.litrs_grammar.proofs.float.floats_are_unique.Goals as goal
 
 pub returns : goal.returns

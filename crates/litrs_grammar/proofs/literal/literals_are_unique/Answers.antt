@@ -1,4 +1,4 @@
-use Rattle.litrs_grammar.proofs.LiteralLaws.{literals_are_unique}
+use Rattle.litrs_grammar.proofs.Laws.Literal.{literals_are_unique}
 use Rattle.litrs_grammar.proofs.literal.literals_are_unique.Goals as goal
 
 pub returns : goal.returns

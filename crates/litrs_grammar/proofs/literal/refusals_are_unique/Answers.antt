@@ -1,4 +1,4 @@
-use Rattle.litrs_grammar.proofs.LiteralLaws.{refusals_are_unique}
+use Rattle.litrs_grammar.proofs.Laws.Literal.{refusals_are_unique}
 use Rattle.litrs_grammar.proofs.literal.refusals_are_unique.Goals as goal
 
 pub returns : goal.returns

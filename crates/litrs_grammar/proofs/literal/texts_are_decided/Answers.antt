@@ -1,4 +1,4 @@
-use Rattle.litrs_grammar.proofs.LiteralLaws.{texts_are_decided}
+use Rattle.litrs_grammar.proofs.Laws.Literal.{texts_are_decided}
 use Rattle.litrs_grammar.proofs.literal.texts_are_decided.Goals as goal
 
 pub returns : goal.returns

@@ -1,4 +1,4 @@
-use Rattle.litrs_grammar.proofs.NumberLaws.{float_begins}
+use Rattle.litrs_grammar.proofs.Laws.Number.{float_begins}
 use Rattle.litrs_grammar.proofs.number.floats_begin_as_floats.Goals as goal
 
 pub returns : goal.returns

@@ -1,4 +1,4 @@
-use Rattle.litrs_grammar.proofs.QuotedSpans.{quoted_spans_lie_in_text}
+use Rattle.litrs_grammar.proofs.Spans.Quoted.{quoted_spans_lie_in_text}
 use Rattle.litrs_grammar.proofs.quoted.quoted_spans_lie_in_text.Goals as goal
 
 pub returns : goal.returns

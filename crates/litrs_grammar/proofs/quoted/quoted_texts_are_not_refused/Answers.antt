@@ -1,4 +1,4 @@
-use Rattle.litrs_grammar.proofs.QuotedLaws.{quoted_texts_are_not_refused}
+use Rattle.litrs_grammar.proofs.Laws.Quoted.{quoted_texts_are_not_refused}
 use Rattle.litrs_grammar.proofs.quoted.quoted_texts_are_not_refused.Goals as goal
 
 pub returns : goal.returns

@@ -1,4 +1,4 @@
-use Rattle.litrs_grammar.proofs.QuotedLaws.{quoted_values_fit_bodies}
+use Rattle.litrs_grammar.proofs.Laws.Quoted.{quoted_values_fit_bodies}
 use Rattle.litrs_grammar.proofs.quoted.quoted_values_fit_bodies.Goals as goal
 
 pub returns : goal.returns

@@ -1,4 +1,4 @@
-use Rattle.litrs_grammar.proofs.RawLaws.{derivable, refusal_free}
+use Rattle.litrs_grammar.proofs.Laws.Raw.{derivable, refusal_free}
 use Rattle.litrs_grammar.proofs.raw.raw_texts_are_decided.Goals as goal
 
 pub returns : goal.returns

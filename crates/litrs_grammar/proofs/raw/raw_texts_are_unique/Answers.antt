@@ -1,4 +1,4 @@
-use Rattle.litrs_grammar.proofs.RawLaws.{only_raw}
+use Rattle.litrs_grammar.proofs.Laws.Raw.{only_raw}
 use Rattle.litrs_grammar.proofs.raw.raw_texts_are_unique.Goals as goal
 
 pub returns : goal.returns

@@ -1,4 +1,4 @@
-use Rattle.litrs_grammar.proofs.TextLaws.{char_ends_are_unique}
+use Rattle.litrs_grammar.proofs.Laws.Text.{char_ends_are_unique}
 use Rattle.litrs_grammar.proofs.text.char_ends_are_unique.Goals as goal
 
 pub returns : goal.returns

@@ -1,4 +1,4 @@
-use Rattle.litrs_grammar.proofs.ValueLaws.{plain_bodies_are_their_values}
+use Rattle.litrs_grammar.proofs.Laws.Value.{plain_bodies_are_their_values}
 use Rattle.litrs_grammar.proofs.value.plain_bodies_are_their_values.Goals as goal
 
 pub returns : goal.returns

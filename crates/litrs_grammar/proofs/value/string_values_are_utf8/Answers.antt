@@ -1,4 +1,4 @@
-use Rattle.litrs_grammar.proofs.ValueLaws.{string_values_are_utf8}
+use Rattle.litrs_grammar.proofs.Laws.Value.{string_values_are_utf8}
 use Rattle.litrs_grammar.proofs.value.string_values_are_utf8.Goals as goal
 
 pub returns : goal.returns

@@ -1,4 +1,4 @@
-use Rattle.litrs_grammar.proofs.ValueLaws.{values_without_byte_escapes_are_utf8}
+use Rattle.litrs_grammar.proofs.Laws.Value.{values_without_byte_escapes_are_utf8}
 use Rattle.litrs_grammar.proofs.value.values_without_byte_escapes_are_utf8.Goals as goal
 
 pub returns : goal.returns

@@ -7,7 +7,9 @@ use Rattle.std.proofs.lemmas.Bool.{true≢false}
 use Rattle.litrs_base.specs.Refusal.{at}
 use Rattle.litrs_base.specs.Text.{first_passes}
 use Rattle.litrs_base.specs.declared.err.ParseErrorKind.TheVariants.{TooManyDigitInUnicodeEscape, NonHexDigitInUnicodeEscape}
-use Rattle.litrs_parts.proofs.EscapeBytes.{escape_is_refused, braced, digit_text, slice_from, length-take-within, unclosed_row, start_row, stopped, many_row, nonhex_row, is_wrong_start, digit_or_underscore, fails}
+use Rattle.litrs_parts.proofs.HexDigitBytes.{digit_or_underscore}
+use Rattle.litrs_parts.proofs.EscapeBytes.{escape_is_refused, slice_from, length-take-within, fails}
+use Rattle.litrs_parts.proofs.UnicodeEscapeBytes.{braced, digit_text, unclosed_row, start_row, stopped, many_row, nonhex_row, is_wrong_start}
 use Rattle.litrs_parts.proofs.escape.braces_refusal.Goals as goal
 
 pub returns-then-not-has_close_brace : goal.returns-then-not-has_close_brace

@@ -3,7 +3,8 @@ use Rattle.std.proofs.Common.{◌≡◌, ◌+◌, ap, ◌∙◌, sym, Some, drop
 use Rattle.litrs_base.specs.Characters.{is_no_nul_unless, is_scalar}
 use Rattle.litrs_base.specs.Refusal.{over}
 use Rattle.litrs_base.specs.declared.err.ParseErrorKind.TheVariants.{DisallowedNulEscape, InvalidUnicodeEscapeChar}
-use Rattle.litrs_parts.proofs.EscapeBytes.{escape_is_refused, braced, digit_text, closed_text, length-take-within, value_nul_row, value_row, unicode_read, fails, scalar_by, by_scalar}
+use Rattle.litrs_parts.proofs.EscapeBytes.{escape_is_refused, length-take-within, fails, scalar_by, by_scalar}
+use Rattle.litrs_parts.proofs.UnicodeEscapeBytes.{braced, digit_text, closed_text, value_nul_row, value_row, unicode_read}
 use Rattle.litrs_parts.proofs.escape.unescape_digits.Goals as goal
 
 pub returns-then-not-allows_value-clause-refused : goal.returns-then-not-allows_value-clause-refused

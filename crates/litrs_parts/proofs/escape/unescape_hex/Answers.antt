@@ -3,7 +3,8 @@ use Rattle.std.proofs.Common.{◌&&◌, get_or, ap, ◌∙◌, sym, Some, refl}
 use Rattle.std.proofs.lemmas.Bool.{false≢true}
 use Rattle.std.specs.Char.{is_ascii_hexdigit}
 use Rattle.litrs_base.specs.Characters.{is_no_nul_unless}
-use Rattle.litrs_parts.proofs.EscapeBytes.{escape_is_refused, letter_of, first_slash, hex_end_row, hex_digits_row, pair_of, hex_byte_row, hex_nul_row, hex_read, fails}
+use Rattle.litrs_parts.proofs.EscapeBytes.{escape_is_refused, letter_of, first_slash, fails}
+use Rattle.litrs_parts.proofs.HexEscapeBytes.{hex_end_row, hex_digits_row, pair_of, hex_byte_row, hex_nul_row, hex_read}
 use Rattle.litrs_parts.proofs.escape.unescape_hex.Goals as goal
 
 pub returns-then-not-is_char_boundary-clause-refused : goal.returns-then-not-is_char_boundary-clause-refused

@@ -3,7 +3,8 @@ use Rattle.std.proofs.Common.{ap, ◌∙◌, sym, Some}
 use Rattle.std.specs.Prelude.{◌==◌}
 use Rattle.std.proofs.Common.{drop}
 use Rattle.litrs_base.specs.Text.{first_passes}
-use Rattle.litrs_parts.proofs.EscapeBytes.{escape_is_refused, letter_of, first_slash, no_brace_row}
+use Rattle.litrs_parts.proofs.EscapeBytes.{escape_is_refused, letter_of, first_slash}
+use Rattle.litrs_parts.proofs.UnicodeEscapeBytes.{no_brace_row}
 use Rattle.litrs_parts.proofs.escape.unescape_unicode.Goals as goal
 
 pub returns-then-not-opens_brace-clause-refused : goal.returns-then-not-opens_brace-clause-refused

@@ -5,7 +5,7 @@ use Rattle.std.specs.Str.{chars}
 use Rattle.litrs_base.specs.Derivations.{IsOnlyDerivation}
 use Rattle.litrs_grammar.specs.Float.{FloatParts, IsFloatOf, has_wrong_fraction, float_refusal}
 use Rattle.litrs_grammar.specs.Literal.{kind_parse, float_literal}
-use Rattle.litrs_grammar.proofs.FloatLaws.{only_cut}
+use Rattle.litrs_grammar.proofs.Laws.Float.{only_cut}
 use Rattle.litrs_grammar.proofs.Refused.{is_refused}
 use Rattle.litrs_parts.proofs.IntegerBytes.{digit-chars}
 use Rattle.litrs_parts.proofs.FloatBytes.{parts_of_cut, places_of_cut, in_order, rest_is, refusal_of_digit, refusal_of_fraction, wrong_fraction_within}

@@ -5,8 +5,8 @@ use Rattle.litrs_base.specs.Derivations.{IsOnlyDerivation}
 use Rattle.litrs_base.specs.Refusal.{refusal}
 use Rattle.litrs_grammar.specs.Integer.{IntegerParts, IsIntegerOf, integer_refusal}
 use Rattle.litrs_grammar.specs.Literal.{kind_parse, integer_literal}
-use Rattle.litrs_grammar.proofs.IntegerLaws.{only_cut, refusal_of_digit}
-use Rattle.litrs_grammar.proofs.IntegerSpans.{integer_refusal_within}
+use Rattle.litrs_grammar.proofs.Laws.Integer.{only_cut, refusal_of_digit}
+use Rattle.litrs_grammar.proofs.Spans.Integer.{integer_refusal_within}
 use Rattle.litrs_grammar.proofs.Refused.{is_refused}
 use Rattle.litrs_parts.proofs.IntegerBytes.{parts_of_cut, places_of_cut, digit-chars}
 use Rattle.litrs_parts.proofs.integer.cut_integer_at.Goals as goal

@@ -2,8 +2,8 @@
 use Rattle.std.proofs.Common.{rules, ◌≡◌, Bool, Some, true, false, sym, ap, subst, IsFalse, ◌∙◌}
 use Rattle.std.specs.Str.{chars}
 use Rattle.litrs_grammar.specs.Bool.{is_bool, bool_text}
-use Rattle.litrs_grammar.proofs.BoolLaws.{only_bool, no_bool, chars-bool_text}
-use Rattle.litrs_grammar.proofs.LiteralLaws.{bool_refusal-none}
+use Rattle.litrs_grammar.proofs.Laws.Bool.{only_bool, no_bool, chars-bool_text}
+use Rattle.litrs_grammar.proofs.Laws.Literal.{bool_refusal-none}
 use Rattle.litrs_base.proofs.CharEnds.{no_span}
 use Rattle.litrs_grammar.specs.Literal.{kind_parse, bool_literal}
 use Rattle.litrs_grammar.proofs.Refused.{is_refused}

@@ -1,7 +1,0 @@
--- The text of the literal is one of its kind.
-use Rattle.litrs_grammar.specs.StringKind.{byte_string_kind}
-use Rattle.litrs_token.proofs.TokenTexts.{string_token_of}
-use Rattle.litrs_token.proofs.into_token.ByteStringLitIntoToken.into_token.Goals as goal
-
-pub copied-requires : goal.copied-requires
-copied-requires g c = string_token_of byte_string_kind _ (_, c.raw_input.ensures.literal)

@@ -1,6 +1,0 @@
--- The text of the literal is one of its kind.
-use Rattle.litrs_token.proofs.TokenTexts.{char_token}
-use Rattle.litrs_token.proofs.into_token.CharLitIntoToken.into_token.Goals as goal
-
-pub copied-requires : goal.copied-requires
-copied-requires g c = char_token _ _ c.raw_input.ensures.literal
