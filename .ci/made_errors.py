@@ -23,6 +23,8 @@ MAPPED = {
     ("crates/litrs_collector/src/lib.rt", "ParseErrorKind::OutOfMemory => Err(AllocError),"),
     ("crates/litrs_token/src/from_token.rt", "ParseErrorKind::OutOfMemory => Err(AllocError),"),
     ("crates/litrs_token/src/one_kind.rt", "ParseErrorKind::OutOfMemory => TokenError::Memory,"),
+    ("crates/uses_lexer/src/literal.rt", "ParseErrorKind::OutOfMemory => Err(AllocError),"),
+    ("crates/uses_formatter/src/form.rt", "ParseErrorKind::OutOfMemory => Err(AllocError),"),
     # The program of rows, which ends where memory of its own was refused.
     ("crates/litrs_vectors/src/main.rt", "Err(RowError::OutOfMemory) => return Err(AllocError),"),
     (
