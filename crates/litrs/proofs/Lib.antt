@@ -1,3 +1,12 @@
+-- for users: where a refusal may be moved, and where a text may be cut
+pub mod MovedRefusals
+pub mod SpanCuts
+-- for users: from parts to text
+pub mod WrittenParts
+-- for users: laws of the grammar
+pub use Rattle.litrs_grammar.proofs.LiteralLaws
+pub use Rattle.litrs_grammar.proofs.LiteralTexts
+pub use Rattle.litrs_parts.proofs.NumeralLemmas
 -- refusals of one kind, as those of any
 pub mod KindErrors
 -- what begins a literal

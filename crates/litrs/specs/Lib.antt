@@ -1,5 +1,7 @@
 -- what literals hold
 pub mod LiteralDerivation
+-- digits, however they are grouped
+pub mod Digits
 -- the dispatch
 pub mod Dispatched
 -- what begins a literal
@@ -7,3 +9,40 @@ pub mod Row
 pub mod Begins
 pub mod LacksDigits
 pub mod LastUnderscore
+-- The words of the contracts, so that users name this crate alone: texts, numbers and refusals
+pub use Rattle.litrs_base.specs.Base
+pub use Rattle.litrs_base.specs.CharEnd
+pub use Rattle.litrs_base.specs.Characters
+pub use Rattle.litrs_base.specs.Derivations
+pub use Rattle.litrs_base.specs.Finality
+pub use Rattle.litrs_base.specs.FloatTypes
+pub use Rattle.litrs_base.specs.IntegerTypes
+pub use Rattle.litrs_base.specs.Kind
+pub use Rattle.litrs_base.specs.Numeral
+pub use Rattle.litrs_base.specs.Refusal
+pub use Rattle.litrs_base.specs.Text
+-- the grammar, and what a refusal means
+pub use Rattle.litrs_grammar.specs.Allocation
+pub use Rattle.litrs_grammar.specs.Bool
+pub use Rattle.litrs_grammar.specs.CharByte
+pub use Rattle.litrs_grammar.specs.Closing
+pub use Rattle.litrs_grammar.specs.Continuation
+pub use Rattle.litrs_grammar.specs.Escape
+pub use Rattle.litrs_grammar.specs.Float
+pub use Rattle.litrs_grammar.specs.Integer
+pub use Rattle.litrs_grammar.specs.Literal
+pub use Rattle.litrs_grammar.specs.LiteralRefusals
+pub use Rattle.litrs_grammar.specs.LiteralText
+pub use Rattle.litrs_grammar.specs.Quoted
+pub use Rattle.litrs_grammar.specs.Raw
+pub use Rattle.litrs_grammar.specs.Refused
+pub use Rattle.litrs_grammar.specs.StringKind
+pub use Rattle.litrs_grammar.specs.Strings
+pub use Rattle.litrs_grammar.specs.Suffix
+-- what the literals of each kind hold
+pub use Rattle.litrs_numbers.specs.FloatLiteral
+pub use Rattle.litrs_numbers.specs.IntegerLiteral
+pub use Rattle.litrs_scalars.specs.BoolLiteral
+pub use Rattle.litrs_scalars.specs.CharLiteral
+pub use Rattle.litrs_strings.specs.CString
+pub use Rattle.litrs_strings.specs.StringLiteral

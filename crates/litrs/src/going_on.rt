@@ -27,6 +27,11 @@ mod word;
 /// the text a literal: so it is after each final refusal, and after no open one. It does not
 /// allocate. See [the reference][ref].
 ///
+/// A list of literals may be cut at the first comma after which no literal goes on, by
+/// `!goes_on(&text[..comma + 1])`. Each call reads the text from its start, so that this takes time
+/// quadratic in the commas inside one string. The program `uses_attributes` tries no comma before
+/// the place where a parse of the whole rest stops, which is after the string.
+///
 /// [ref]: https://doc.rust-lang.org/reference/tokens.html#literals
 pub fn goes_on(text: &str) -> bool
     ensures { IsTrue result ↔ Begins literal_parse (chars text.now) }

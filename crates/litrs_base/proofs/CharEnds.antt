@@ -1,7 +1,7 @@
 -- Where spans end in whole characters: in the bytes of a text, and in a text after a front.
-use Rattle.std.proofs.Common.{◌≡◌, ◌≤◌, ◌<◌, ◌+◌, ◌-◌, ◌/◌, ◌^◌, ℕ, Bool, true, false, cond, ltb, get_or, zero, suc, List, [], ◌∷◌, ◌++◌, length, Option, Some, None, refl, sym, ap, subst, ◌∙◌, arith, inl, inr}
+use Rattle.std.proofs.Common.{◌≡◌, ◌≤◌, ◌<◌, ◌+◌, ◌-◌, ◌/◌, ◌^◌, ℕ, Bool, true, false, cond, ltb, get_or, zero, suc, List, [], ◌∷◌, ◌++◌, length, Option, Some, None, refl, sym, ap, subst, ◌∙◌, arith, append-nil, inl, inr}
 use Rattle.std.specs.Option.{ForSome}
-use Rattle.std.specs.Prelude.{IfSome, IsUtf8, IsCharBoundary, chars, encode_utf8_all, option_map}
+use Rattle.std.specs.Prelude.{IfSome, IsUtf8, IsCharBoundary, chars, encode_utf8_all, option_map, unwrap_or}
 use Rattle.std.specs.declared.ops.Range.{Range}
 use Rattle.std.proofs.Math.Utf8.{encode}
 use Rattle.std.proofs.lemmas.Bool.{ltb-true, cases_lt}
@@ -9,8 +9,8 @@ use Rattle.std.proofs.lemmas.Str.{encodes-chars, encodes-append}
 use Rattle.litrs_base.specs.declared.err.ParseErrorKind.{ParseErrorKind}
 use Rattle.litrs_base.specs.declared.err.ParseError.{ParseError}
 use Rattle.litrs_base.specs.Text.{byte_len, PointsInto}
-use Rattle.litrs_base.specs.CharEnd.{IsBoundaryOf, IsCharEnd, PointsAtCharacters}
-use Rattle.litrs_base.specs.Refusal.{Refusal, refusal_of, IsInText, plain, moved, moved_span, char_span_of, HasCharSpan, MovesWithin}
+use Rattle.litrs_base.specs.CharEnd.{IsBoundaryOf, IsCharEnd, PointsAtCharacters, IsCutBy}
+use Rattle.litrs_base.specs.Refusal.{Refusal, refusal_of, IsInText, plain, moved, moved_span, char_span_of, marked_span, HasCharSpan, MovesWithin}
 use Rattle.litrs_base.proofs.Spans.{byte_len-append}
 
 -- a refusal with no span
@@ -177,3 +177,28 @@ moves_within front t e inside is small = within e.span e.char_end inside is
         let bound = (is.boundary (omega arith)).0 in
         let e : span ≡ x = cc in
         subst (λ (y : Range ℕ). (y.start + byte_len front < 2 ^ 64) × (y.end + byte_len front < 2 ^ 64) × (place + byte_len front < 2 ^ 64)) e (omega arith, omega arith, omega arith)
+
+-- what is to be marked of a text: where a span points at characters of it, its bytes may be cut there
+pub points_cut : (bs : List ℕ) (span : Range ℕ) → IsUtf8 bs → PointsAtCharacters (chars bs) span → IsCutBy bs span
+points_cut bs span utf8 at =
+    let same : encode_utf8_all (chars bs) ≡ bs = encodes-chars bs utf8 in
+    record {
+      start = subst (λ (b : List ℕ). IsCharBoundary b span.start) same at.start;
+      end = subst (λ (b : List ℕ). IsCharBoundary b span.end) same at.end;
+      in_order = at.in_order;
+      within = subst (λ (b : List ℕ). span.end ≤ length b) same at.within;
+    }
+
+-- the same of its character span, or all of it where there is none
+pub marked_span_cuts : (bs : List ℕ) (e : ParseError) → IsUtf8 bs → IfSome (char_span_of e) (PointsAtCharacters (chars bs)) → IsCutBy bs (marked_span (chars bs) e)
+marked_span_cuts bs e utf8 = cuts e.span e.char_end
+  where
+    cuts : (o : Option (Range ℕ)) (place : ℕ) → IfSome (option_map (λ (span : Range ℕ). record { start = span.start; end = place }) o) (PointsAtCharacters (chars bs)) →
+        IsCutBy bs (unwrap_or (option_map (λ (span : Range ℕ). record { start = span.start; end = place }) o) (record { start = 0; end = byte_len (chars bs) }))
+    cuts None place all = points_cut bs (record { start = 0; end = byte_len (chars bs) }) utf8 (record {
+      start = starts_character (chars bs);
+      end = subst (IsBoundaryOf (chars bs)) refl (front_boundary (chars bs) (chars bs) [] (append-nil (chars bs)));
+      in_order = omega arith;
+      within = omega arith;
+    })
+    cuts (Some span) place all = points_cut bs (record { start = span.start; end = place }) utf8 all

@@ -1,5 +1,5 @@
 -- Where a span ends in whole characters.
-use Rattle.std.specs.Prelude.{◌≡◌, ◌≤◌, ◌<◌, ℕ, List}
+use Rattle.std.specs.Prelude.{◌≡◌, ◌≤◌, ◌<◌, ℕ, List, length}
 use Rattle.std.specs.Str.{IsCharBoundary, encode_utf8_all}
 use Rattle.std.specs.declared.ops.Range.{Range}
 use Rattle.litrs_base.specs.Text.{byte_len}
@@ -22,3 +22,10 @@ pub record PointsAtCharacters (t : List ℕ) (span : Range ℕ) : Type 0 where
   pub end : IsBoundaryOf t span.end
   pub in_order : span.start ≤ span.end
   pub within : span.end ≤ byte_len t
+
+-- The bytes of a text may be cut at both ends of the span, which is in order and within them.
+pub record IsCutBy (bytes : List ℕ) (span : Range ℕ) : Type 0 where
+  pub start : IsCharBoundary bytes span.start
+  pub end : IsCharBoundary bytes span.end
+  pub in_order : span.start ≤ span.end
+  pub within : span.end ≤ length bytes

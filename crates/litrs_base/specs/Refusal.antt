@@ -1,12 +1,12 @@
 -- Refusals: a kind, and perhaps a span in the text, in bytes. The Rust Reference has none.
-use Rattle.std.specs.Prelude.{ℕ, ◌+◌, ◌<◌, ◌^◌, List, [], ◌++◌, Option, Some, None, IfSome, option_map, codes}
+use Rattle.std.specs.Prelude.{ℕ, ◌+◌, ◌<◌, ◌^◌, List, [], ◌++◌, Option, Some, None, IfSome, option_map, unwrap_or, codes}
 use Rattle.std.specs.Option.{ForSome}
 use Rattle.std.specs.Fmt.{decimal}
 use Rattle.std.specs.declared.ops.Range.{Range}
 use Rattle.litrs_base.specs.declared.err.ParseErrorKind.{ParseErrorKind}
 use Rattle.litrs_base.specs.declared.err.ParseError.{ParseError}
 use Rattle.litrs_base.specs.Kind.{kind_text}
-use Rattle.litrs_base.specs.Text.{PointsInto}
+use Rattle.litrs_base.specs.Text.{byte_len, PointsInto}
 use Rattle.litrs_base.specs.CharEnd.{IsCharEnd}
 
 -- what the tables of refusals give for a text: a pair of kind and span
@@ -70,6 +70,10 @@ span_of e = (refusal_of e).span
 -- its character span: its span, up to the end in whole characters
 abbrev pub char_span_of : ParseError → Option (Range ℕ)
 char_span_of e = option_map (λ span. record { start = span.start; end = e.char_end }) (span_of e)
+
+-- what is to be marked of the text: the character span, or all of the text where there is none
+abbrev pub marked_span : List ℕ → ParseError → Range ℕ
+marked_span t e = unwrap_or (char_span_of e) (record { start = 0; end = byte_len t })
 
 -- where the error has a span, the end in whole characters is that of the span in the text
 abbrev pub HasCharSpan : List ℕ → ParseError → Type 0

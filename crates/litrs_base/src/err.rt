@@ -18,7 +18,8 @@ pub struct ParseError {
 
 impl ParseError {
     ghost use Rattle.std.specs.Prelude.{IsTrue, IfSome};
-    ghost use Rattle.litrs_base.specs.Refusal.{refusal, refusal_of, kind_of, span_of, char_span_of, HasCharSpan, moved, moved_span, MovesWithin};
+    ghost use Rattle.litrs_base.specs.Refusal.{refusal, refusal_of, kind_of, span_of, char_span_of, marked_span, HasCharSpan, moved, moved_span, MovesWithin};
+    ghost use Rattle.litrs_base.specs.CharEnd.{PointsAtCharacters, IsCutBy};
     ghost use Rattle.litrs_base.specs.Finality.{is_final, is_open};
 
     /// A refusal of this kind. The span counts bytes of the text, and is its own character span: of
@@ -62,6 +63,22 @@ impl ParseError {
     ///
     /// The start is a character boundary. The end may lie inside a character: `é` is no integer,
     /// and refused at 0..1.
+    ///
+    /// Whether a refusal by a parse has a span is decided by its kind. These kinds have none, and
+    /// all others have one:
+    ///
+    /// | Kinds without a span | Refused so |
+    /// |---|---|
+    /// | `Empty` | the empty text |
+    /// | `InvalidLiteral` | `yes`; `r#a` |
+    /// | `UnexpectedIntegerLit` | `27` as a float |
+    /// | `InvalidByteLiteralStart` | `27` as a byte |
+    /// | `InvalidByteStringLiteralStart`, `InvalidCStringLiteralStart` | `27` as such a string |
+    /// | `EmptyCharLiteral`, `EmptyByteLiteral` | `''`, `b''` |
+    /// | `OverlongCharLiteral`, `OverlongByteLiteral` | `'ab'`, `b'ab'` |
+    /// | `UnterminatedCharLiteral`, `UnterminatedByteLiteral` | `'a`, `b'a` |
+    /// | `UnterminatedString`, `UnterminatedRawString` | `"ab`, `r#"ab"` |
+    /// | `OutOfMemory` | a literal with no memory for its value |
     pub fn span(&self) -> Option<Range<usize>>
         ensures { result ≡ span_of self.now }
     {
@@ -79,6 +96,31 @@ impl ParseError {
         match &self.span {
             Some(span) => Some(span.start..self.char_end),
             None => None,
+        }
+    }
+
+    /// The part of the refused text to mark, in whole characters: the character span, or all of the
+    /// text where there is none. Of `0b12` it is 3..4, of `"ab`, which has no closing quote, 0..3.
+    ///
+    /// Of the refusal of a text by a parse both ends are character boundaries of that text, so that
+    /// it can be cut there.
+    ///
+    /// ```
+    /// use litrs_base::ParseError;
+    ///
+    /// /// What is to be underlined of a text with this refusal.
+    /// fn marked<'a>(text: &'a str, refusal: &ParseError) -> Option<&'a str> {
+    ///     text.get(refusal.marked_span(text))
+    /// }
+    /// ```
+    pub fn marked_span(&self, text: &str) -> Range<usize>
+        ensures span { result ≡ marked_span (chars text.now) self.now }
+        ensures cuts { IfSome (char_span_of self.now) (PointsAtCharacters (chars text.now))
+            → IsCutBy text.now result }
+    {
+        match self.char_span() {
+            Some(span) => span,
+            None => 0..text.len(),
         }
     }
 

@@ -24,3 +24,13 @@ pub mod Ended
 pub mod Stopped
 pub mod Sent
 pub mod RunError
+-- The words of the contracts, so that users name this crate alone: of collectors
+pub use Rattle.litrs_collector.specs.Held
+pub use Rattle.litrs_collector.specs.Steps
+-- and of what they collect
+pub use Rattle.litrs_base.specs.Characters
+pub use Rattle.litrs_base.specs.Derivations
+pub use Rattle.litrs_base.specs.Refusal
+pub use Rattle.litrs_grammar.specs.Literal
+pub use Rattle.litrs_grammar.specs.Refused
+pub use Rattle.litrs.specs.LiteralDerivation

@@ -1,0 +1,2 @@
+-- ends of a line
+pub mod Ends

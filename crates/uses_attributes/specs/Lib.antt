@@ -1,0 +1,2 @@
+-- where a value stands in a line
+pub mod Stands

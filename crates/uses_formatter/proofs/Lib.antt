@@ -1,0 +1,2 @@
+-- digits, one more at a time
+pub mod DigitLemmas

@@ -1,0 +1,2 @@
+-- what formatting keeps
+pub mod Keeps

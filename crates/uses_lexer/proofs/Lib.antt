@@ -1,0 +1,2 @@
+-- what tokens spell
+pub mod Spelled

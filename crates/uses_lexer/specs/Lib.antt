@@ -1,0 +1,2 @@
+-- what tokens are
+pub mod Tokens

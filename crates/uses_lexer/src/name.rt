@@ -1,0 +1,22 @@
+//! Names, and the characters that they are made of.
+ghost use Rattle.std.specs.Prelude.{◌≤◌, length};
+
+use unicode_ident::{is_xid_continue, is_xid_start};
+
+/// Whether a name may begin with the character.
+pub fn begins_name(c: char) -> bool {
+    c == '_' || is_xid_start(c)
+}
+
+/// How many bytes at the front of the text are a name, 0 where there is none.
+pub fn name_len(text: &str) -> usize
+    ensures { result ≤ length text.now }
+{
+    match text.chars().next() {
+        Some(c) if begins_name(c) => match text.find(|c: char| !is_xid_continue(c)) {
+            Some(end) => end,
+            None => text.len(),
+        },
+        _ => 0,
+    }
+}

@@ -1,0 +1,93 @@
+//! Tokens.
+ghost use Rattle.std.specs.Prelude.{◌≡◌, ◌≢◌, ◌<◌, ◌++◌, length, IfOk, All};
+ghost use Rattle.uses_lexer.specs.Tokens.{spelled, IsToken};
+ghost use Rattle.uses_lexer.specs.declared.token.TokenKind.TheVariants as kind;
+
+use crate::literal::first_literal;
+use crate::name::name_len;
+use std::alloc::{AllocError, Global};
+
+/// What a token is.
+#[derive(Clone, Copy, PartialEq, Eq)]
+pub enum TokenKind {
+    /// White space.
+    Blank,
+    /// An identifier or a keyword, but for `true` and `false`.
+    Name,
+    /// A quote and a name.
+    Lifetime,
+    /// A literal.
+    Literal,
+    /// One character of any other kind.
+    Punctuation,
+    /// A quote or a digit that begins no token, and all that follows it.
+    Unknown,
+}
+
+/// A token and its text.
+#[derive(Clone, Copy)]
+pub struct Token<'a> {
+    pub kind: TokenKind,
+    pub text: &'a str,
+}
+
+/// The tokens of a line. They spell it, and each literal token is a literal of the grammar.
+pub fn tokens(alloc: Global, line: &str) -> Result<Vec<Token<'_>>, AllocError>
+    ensures spells { IfOk result (λ found. spelled found.items ≡ line.now) }
+    ensures tokens { IfOk result (λ found. All IsToken found.items) }
+{
+    let mut found = Vec::new(alloc);
+    let mut rest = line;
+    while !rest.is_empty() {
+        let (token, next) = first_token(alloc, rest)?;
+        found.push(token)?;
+        rest = next;
+    }
+    Ok(found)
+}
+
+/// The first token of a text that is not empty, and what follows it.
+fn first_token(alloc: Global, text: &str) -> Result<(Token<'_>, &str), AllocError>
+    requires { 0 < length text.now }
+    ensures spells { IfOk result (λ first. text.now ≡ first.0.text.now ++ first.1.now) }
+    ensures shorter { IfOk result (λ first. length first.1.now < length text.now) }
+    ensures token { IfOk result (λ first. IsToken first.0) }
+{
+    if let Some((literal, rest)) = first_literal(alloc, text)? {
+        if !literal.is_empty() {
+            return Ok((
+                Token {
+                    kind: TokenKind::Literal,
+                    text: literal,
+                },
+                rest,
+            ));
+        }
+    }
+    let (kind, len) = kind_and_len(text);
+    let (text, rest) = text.split_at(text.ceil_char_boundary(len.max(1)));
+    Ok((Token { kind, text }, rest))
+}
+
+/// The kind of the first token, where it is no literal, and how many bytes it has.
+fn kind_and_len(text: &str) -> (TokenKind, usize)
+    ensures { result.0 ≢ kind.Literal }
+{
+    let blanks = text.len() - text.trim_start().len();
+    let name = name_len(text);
+    match text.as_bytes() {
+        _ if blanks > 0 => (TokenKind::Blank, blanks),
+        _ if name > 0 => (TokenKind::Name, name),
+        [b'\'', ..] => match text.get(1..) {
+            Some(rest) if name_len(rest) > 0 => {
+                (
+                    TokenKind::Lifetime,
+                    text.len() - rest.len() + name_len(rest),
+                )
+            }
+            _ => (TokenKind::Unknown, text.len()),
+        },
+        [b'"' | b'0'..=b'9', ..] => (TokenKind::Unknown, text.len()),
+        _ => (TokenKind::Punctuation, 1),
+    }
+}

@@ -1,0 +1,2 @@
+-- a text in three parts
+pub mod Parts
