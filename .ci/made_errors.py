@@ -1,3 +1,27 @@
+#!/usr/bin/env python3
+"""Fails where code makes an allocation failure or a formatting failure of its own, or asks for
+memory by a number that is not known to be a length of what it will hold.
+
+Outside tests an `AllocError` comes from the library alone, and so does a `fmt::Error`. Only
+`fn from(_: AllocError)` and the lines of `MAPPED` may make `OutOfMemory` or the `Memory` of an error
+of an `AllocError`, or one of these of `OutOfMemory`: elsewhere these stand in patterns and in the
+declarations of their enums.
+
+Outside tests memory is asked for by the number of bytes only in the lines of `RESERVED`: a contract
+says what is held in the end, and not how much was asked for.
+"""
+import collections
+import pathlib
+import re
+import sys
+
+# The lines that map, compare or declare one of these, each of which stands once in its file.
+OUT_OF_MEMORY = "Err(_) => Err(ParseError::new(None, ParseErrorKind::OutOfMemory)),"
+MAPPED = {
+    ("crates/litrs_lex/src/string.rt", OUT_OF_MEMORY),
+    ("crates/litrs_strings/src/c_string.rt", OUT_OF_MEMORY),
+    ("crates/litrs_collector/src/lib.rt", "ParseErrorKind::OutOfMemory => Err(AllocError),"),
+    ("crates/litrs_token/src/from_token.rt", "ParseErrorKind::OutOfMemory => Err(AllocError),"),
     ("crates/uses_lexer/src/literal.rt", "ParseErrorKind::OutOfMemory => Err(AllocError),"),
     ("crates/uses_formatter/src/form.rt", "ParseErrorKind::OutOfMemory => Err(AllocError),"),
     # The program of rows, which ends where memory of its own was refused.

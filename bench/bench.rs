@@ -9,6 +9,7 @@ use std::time::Instant;
 
 mod allocations;
 mod going_on;
+mod held_out;
 mod lines;
 mod several_lines;
 
@@ -551,6 +552,7 @@ fn main() {
             println!("{line}");
         }
     }
+    held_out::main();
     lines::main();
     several_lines::main();
     going_on::main(&rows.iter().map(|(kind, name, _, texts)| (*kind, *name, &texts[..])).collect::<Vec<_>>());

@@ -3,7 +3,7 @@ ghost use Rattle.std.specs.Prelude.{◌≡◌, ◌+◌, ◌≤◌, length, map, 
 ghost use Rattle.std.specs.Simd.Lanes.{mask_l, chunk};
 ghost use Rattle.litrs_base.specs.Characters.{double_quote, backslash, nul};
 ghost use Rattle.litrs_search.specs.Special.{is_special};
-ghost use Rattle.litrs_search.specs.Run.{is_in_run, last_digit, last_letter};
+ghost use Rattle.litrs_search.specs.Run.{is_in_run, last_digit, last_letter, first_other, second_other, third_other};
 
 use crate::{Run, Special};
 use litrs_base::IntegerBase;
@@ -50,7 +50,7 @@ pub(crate) fn special_marks<const N: usize>(bytes: &[u8], at: usize, what: Speci
         | v.simd_gt(Simd::splat(limit))).to_bitmask()
 }
 
-/// The digits of a run end here.
+/// The digits of a run end here: at `/`, which stands before `0`, where it has no digit.
 #[inline(always)]
 fn last_digit(run: Run) -> u8
     ensures { result ≡ last_digit run }
@@ -58,7 +58,8 @@ fn last_digit(run: Run) -> u8
     match run {
         Run::Digits(IntegerBase::Binary) => b'1',
         Run::Digits(IntegerBase::Octal) => b'7',
-        _ => b'9',
+        Run::Digits(_) | Run::Identifier => b'9',
+        Run::Underscores | Run::Blanks | Run::Hashes => b'/',
     }
 }
 
@@ -70,8 +71,33 @@ fn last_letter(run: Run) -> u8
 {
     match run {
         Run::Digits(IntegerBase::Hexadecimal) => b'f',
-        Run::Digits(_) => b'`',
         Run::Identifier => b'z',
+        _ => b'`',
+    }
+}
+
+/// The bytes of a run that are neither digits nor letters: three, or one of them more than once.
+struct Others {
+    first: u8,
+    second: u8,
+    third: u8,
+}
+
+#[inline(always)]
+fn other_bytes(run: Run) -> Others
+    ensures first { result.first ≡ first_other run }
+    ensures second { result.second ≡ second_other run }
+    ensures third { result.third ≡ third_other run }
+{
+    let (first, second, third) = match run {
+        Run::Blanks => (b' ', b'\t', b'\n'),
+        Run::Hashes => (b'#', b'#', b'#'),
+        _ => (b'_', b'_', b'_'),
+    };
+    Others {
+        first,
+        second,
+        third,
     }
 }
 
@@ -83,9 +109,16 @@ pub(crate) fn outside_marks<const N: usize>(bytes: &[u8], at: usize, run: Run) -
     requires { (at + N ≤ length bytes.now) × (N ≤ 64) }
     ensures { result ≡ mask_l (map (λ b. not (is_in_run run b)) (chunk at N bytes.now)) }
 {
+    let Others {
+        first,
+        second,
+        third,
+    } = other_bytes(run);
     let v = Simd::<u8, N>::from_slice(&bytes[at..]);
     let small = v | Simd::splat(0x20);
     ((v.simd_lt(Simd::splat(b'0')) | v.simd_gt(Simd::splat(last_digit(run))))
         & (small.simd_lt(Simd::splat(b'a')) | small.simd_gt(Simd::splat(last_letter(run))))
-        & v.simd_ne(Simd::splat(b'_'))).to_bitmask()
+        & v.simd_ne(Simd::splat(first))
+        & v.simd_ne(Simd::splat(second))
+        & v.simd_ne(Simd::splat(third))).to_bitmask()
 }

@@ -28,6 +28,12 @@ pub enum Run {
     Digits(IntegerBase),
     /// ASCII letters, decimal digits and underscores.
     Identifier,
+    /// Underscores.
+    Underscores,
+    /// Spaces, tabs and LFs.
+    Blanks,
+    /// `#`.
+    Hashes,
 }
 
 /// The bytes that a search looks for.
@@ -50,11 +56,12 @@ fn is_special(byte: u8, what: Special) -> bool
         || what.non_ascii && !byte.is_ascii()
 }
 
-/// What each byte is, one bit each: a digit of base 2, 8, 10 or 16, an ASCII letter, an underscore.
+/// What each byte is, one bit each: a digit of base 2, 8, 10 or 16, an ASCII letter, an underscore,
+/// a blank, `#`.
 static CLASSES: [u8; 256] = *b"\
+    \x00\x00\x00\x00\x00\x00\x00\x00\x00\x40\x40\x00\x00\x00\x00\x00\
     \x00\x00\x00\x00\x00\x00\x00\x00\x00\x00\x00\x00\x00\x00\x00\x00\
-    \x00\x00\x00\x00\x00\x00\x00\x00\x00\x00\x00\x00\x00\x00\x00\x00\
-    \x00\x00\x00\x00\x00\x00\x00\x00\x00\x00\x00\x00\x00\x00\x00\x00\
+    \x40\x00\x00\x80\x00\x00\x00\x00\x00\x00\x00\x00\x00\x00\x00\x00\
     \x0f\x0f\x0e\x0e\x0e\x0e\x0e\x0e\x0c\x0c\x00\x00\x00\x00\x00\x00\
     \x00\x18\x18\x18\x18\x18\x18\x10\x10\x10\x10\x10\x10\x10\x10\x10\
     \x10\x10\x10\x10\x10\x10\x10\x10\x10\x10\x10\x00\x00\x00\x00\x20\
@@ -80,6 +87,9 @@ fn classes(run: Run) -> u8
         Run::Digits(IntegerBase::Decimal) => 0x24,
         Run::Digits(IntegerBase::Hexadecimal) => 0x28,
         Run::Identifier => 0x34,
+        Run::Underscores => 0x20,
+        Run::Blanks => 0x40,
+        Run::Hashes => 0x80,
     }
 }
 
@@ -205,9 +215,13 @@ pub fn next_special(bytes: &[u8], from: usize, what: Special) -> usize
 /// assert_eq!(rt; run_end(b"1_0a2", Run::Digits(IntegerBase::Decimal)), 3);
 /// assert_eq!(rt; run_end(b"1_0a2", Run::Digits(IntegerBase::Hexadecimal)), 5);
 /// assert_eq!(rt; run_end("größe".as_bytes(), Run::Identifier), 2);
+/// assert_eq!(rt; run_end(b"__1_", Run::Underscores), 2);
+/// assert_eq!(rt; run_end(b" \t\na", Run::Blanks), 3);
+/// assert_eq!(rt; run_end(b"##\"#", Run::Hashes), 2);
 /// ```
 ///
-/// The Rust Reference, Tokens, Integer literals, and Identifiers.
+/// The Rust Reference, Tokens, Integer literals, String literals and Raw string literals, and
+/// Identifiers.
 #[inline(always)]
 pub fn run_end(bytes: &[u8], run: Run) -> usize
     ensures run { result ≡ prefix_len (is_in_run run) bytes.now }

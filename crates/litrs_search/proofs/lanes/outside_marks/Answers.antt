@@ -7,5 +7,6 @@ use Rattle.litrs_search.proofs.lanes.outside_marks.Goals as goal
 pub returns : goal.returns
 returns g c =
     let bytes = c.args.bytes.now in
-    marks_outside c.args.run (chunk c.args.at g.row.N bytes) g.row.N _ _ (length-chunk c.args.at g.row.N bytes c.requires.0) (omega arith)
-    (chunk-fits w8 c.args.at g.row.N bytes c.type_inv.bytes) c.last_digit.ensures c.last_letter.ensures
+    let others = c.other_bytes-first.ensures in
+    marks_outside c.args.run (chunk c.args.at g.row.N bytes) g.row.N _ _ _ _ _ (length-chunk c.args.at g.row.N bytes c.requires.0) (omega arith)
+    (chunk-fits w8 c.args.at g.row.N bytes c.type_inv.bytes) c.last_digit.ensures c.last_letter.ensures others.first others.second others.third

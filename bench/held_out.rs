@@ -1,0 +1,138 @@
+//! Times `parse` over texts that the table of shapes lacks: long runs of one character, one word alone, and
+//! literals of given lengths.
+
+use crate::Texts::{Refused, Valued};
+use crate::{CALLS, Numbers, PASSES, Texts, compare, row, time};
+
+/// The texts of a shape of one size, and the bytes that they have at most, together.
+const TEXTS: usize = 1000;
+const BYTES: usize = 1 << 18;
+
+/// A kind of literal, the name of a shape, what the texts are, the sizes that it is swept over, and a text of it.
+type Sweep = (&'static str, &'static str, Texts, &'static [usize], fn(&mut Numbers, usize) -> String);
+
+const SWEEPS: &[Sweep] = &[
+    ("Bool", "only true", Valued, &[4], |_, _| "true".to_string()),
+    ("Bool", "only false", Valued, &[5], |_, _| "false".to_string()),
+    ("Bool", "true, percent among integers", Valued, &[10, 50], |n, percent| {
+        if n.below(100) < percent as u64 { "true".to_string() } else { n.below(10_000).to_string() }
+    }),
+    ("Char", "refused: long, no end", Refused, &[2, 8, 30, 100, 1000, 262_144], |_, len| {
+        format!("'{}", "a".repeat(len))
+    }),
+    ("Char", "refused: long", Refused, &[2, 8, 30, 100, 1000, 262_144], |_, len| format!("'{}'", "a".repeat(len))),
+    ("Char", "underscores in an escape", Valued, &[0, 1, 8, 100], |_, len| {
+        format!("'\\u{{1{}2}}'", "_".repeat(len))
+    }),
+    ("String", "underscores in an escape", Valued, &[0, 1, 8, 16, 100], |_, len| {
+        format!("\"\\u{{1{}2}}\"", "_".repeat(len))
+    }),
+    ("String", "one escape among characters", Valued, &[0, 1, 2, 3, 4], |n, len| {
+        let before = n.below(1 + len as u64) as usize;
+        format!("\"{}\\n{}\"", "a".repeat(before), "a".repeat(len - before))
+    }),
+    ("String", "escape each 2 bytes", Valued, &[20, 81, 200, 1000, 5000], |_, len| {
+        format!("\"{}\"", "a\\n".repeat(len / 3))
+    }),
+    ("String", "escape each 8 bytes", Valued, &[81, 200, 1000, 5000], |n, len| {
+        let body = |n: &mut Numbers| format!("{}{}", n.many(6, Numbers::plain), n.simple_escape());
+        format!("\"{}\"", n.many(len / 8, body))
+    }),
+    ("String", "escape each 20 bytes", Valued, &[81, 200, 1000, 5000], |n, len| {
+        let body = |n: &mut Numbers| format!("{}{}", n.many(18, Numbers::plain), n.simple_escape());
+        format!("\"{}\"", n.many(len / 20, body))
+    }),
+    ("String", "unicode escapes", Valued, &[64, 512], |n, count| {
+        format!("\"{}\"", n.many(count, Numbers::unicode_escape))
+    }),
+    ("String", "continuation of blanks", Valued, &[0, 4, 16, 1000, 262_144], |_, len| {
+        format!("\"a\\\n{}b\"", " ".repeat(len))
+    }),
+    ("String", "refused: blanks, no end", Refused, &[4, 16, 1000, 262_144], |_, len| {
+        format!("\"a\\\n{}", " ".repeat(len))
+    }),
+    ("String", "continuations", Valued, &[4, 64, 1000], |_, count| format!("\"{}\"", "line \\\n    ".repeat(count))),
+    ("String", "raw, hashes", Valued, &[0, 1, 2, 3, 8, 64, 128, 255], |_, count| {
+        let hashes = "#".repeat(count);
+        format!("r{hashes}\"a body\"{hashes}")
+    }),
+    ("String", "refused: hashes", Refused, &[256, 1000], |_, count| {
+        let hashes = "#".repeat(count);
+        format!("r{hashes}\"a body\"{hashes}")
+    }),
+    ("String", "raw, quote after each", Valued, &[0, 1, 2, 4, 8, 30], |_, len| {
+        format!("r#\"{}\"#", format!("{}\"", "a".repeat(len)).repeat(1000 / (1 + len)) + " ")
+    }),
+    ("String", "raw under ##, \"# only", Valued, &[100, 1000], |_, len| format!("r##\"{} \"##", "\"#".repeat(len / 2))),
+    ("String", "raw under ##, quotes only", Valued, &[100, 1000], |_, len| format!("r##\"{} \"##", "\"".repeat(len))),
+    ("ByteString", "raw under ##, quotes only", Valued, &[100, 1000], |_, len| {
+        format!("br##\"{} \"##", "\"".repeat(len))
+    }),
+    ("CString", "raw under ##, quotes only", Valued, &[100, 1000], |_, len| {
+        format!("cr##\"{} \"##", "\"".repeat(len))
+    }),
+    ("String", "refused: \\xff after", Refused, &[0, 1, 8, 20], |n, len| {
+        format!("\"{}\\xff\"", n.many(len, Numbers::plain))
+    }),
+    ("CString", "refused: \\x00 after", Refused, &[0, 1, 8, 20], |n, len| {
+        format!("c\"{}\\x00\"", n.many(len, Numbers::plain))
+    }),
+    ("String", "refused: raw, no end", Refused, &[1, 8, 20], |n, len| {
+        format!("r#\"{}", n.many(len, Numbers::plain))
+    }),
+    ("ByteString", "only \\xNN", Valued, &[1, 16, 81, 400], |n, count| {
+        format!("b\"{}\"", n.many(count, |n| format!("\\x{:02x}", n.below(256))))
+    }),
+    ("ByteString", "table of bytes", Valued, &[64, 256], |n, count| {
+        let byte = |n: &mut Numbers| match n.below(3) {
+            0 => format!("\\x{:02x}", n.below(256)),
+            1 => "\\0".to_string(),
+            _ => n.plain(),
+        };
+        format!("b\"{}\"", (0..count / 16).map(|_| format!("\\\n    {}", n.many(16, byte))).collect::<String>())
+    }),
+];
+
+/// The texts of the shape at this place and of this size.
+fn texts_of(place: usize, size: usize) -> Vec<String> {
+    let mut numbers = Numbers(0xA076_1D64_78BD_642Fu64.wrapping_mul(1 + place as u64) ^ size as u64);
+    let mut texts = Vec::new();
+    let mut bytes = 0;
+    while texts.len() < TEXTS && bytes < BYTES {
+        let text = SWEEPS[place].4(&mut numbers, size);
+        bytes += text.len();
+        texts.push(text);
+    }
+    texts
+}
+
+/// Prints the table.
+pub fn main() {
+    println!("\nNanoseconds a text of other shapes, by the size after their name: up to {TEXTS} texts each.");
+    let mut rows = Vec::new();
+    for (place, (kind, name, shape, sizes, _)) in SWEEPS.iter().enumerate() {
+        for size in *sizes {
+            rows.push((*kind, format!("{name} {size}"), *shape, texts_of(place, *size)));
+        }
+    }
+    let rows: Vec<(&str, &str, Texts, Vec<&str>)> = rows
+        .iter()
+        .map(|(kind, name, shape, texts)| (*kind, name.as_str(), *shape, texts.iter().map(String::as_str).collect()))
+        .collect();
+    for (_, _, shape, texts) in &rows {
+        compare(texts, *shape);
+    }
+    let mut times = vec![[f64::INFINITY; CALLS.len()]; rows.len()];
+    for _ in 0..PASSES {
+        for (row, least) in rows.iter().zip(&mut times) {
+            time(&row.3, least);
+        }
+    }
+    let mut slower = 0;
+    for ((kind, name, shape, texts), times) in rows.iter().zip(&times) {
+        slower += row(kind, name, *shape, texts, times).len();
+    }
+    if cfg!(upstream) {
+        println!("\nSlower than upstream: {slower}");
+    }
+}
