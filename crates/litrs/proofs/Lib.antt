@@ -4,7 +4,7 @@ pub mod SpanCuts
 -- for users: from parts to text
 pub mod WrittenParts
 -- for users: laws of the grammar
-pub use Rattle.litrs_grammar.proofs.LiteralLaws
+pub use Rattle.litrs_grammar.proofs.Laws
 pub use Rattle.litrs_grammar.proofs.LiteralTexts
 pub use Rattle.litrs_parts.proofs.NumeralLemmas
 -- refusals of one kind, as those of any
