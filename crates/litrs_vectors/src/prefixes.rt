@@ -157,7 +157,8 @@ fn is_refused_at(error: &ParseError, start: Option<(ParseErrorKind, Option<usize
     }
 }
 
-/// Whether a refusal of the text has no span or two, which lie in the text.
+/// Whether a refusal of the text has no span or two, which lie in the text; what is to be marked is
+/// the second, or all of the text.
 fn has_place(text: &str, error: &ParseError) -> bool {
     match (error.span(), error.char_span()) {
         (Some(span), Some(chars)) => {
@@ -168,8 +169,9 @@ fn has_place(text: &str, error: &ParseError) -> bool {
                 && text.is_char_boundary(span.start)
                 && text.is_char_boundary(chars.end)
                 && is_within_character(text, span.end, chars.end)
+                && error.marked_span(text) == chars
         }
-        (None, None) => true,
+        (None, None) => error.marked_span(text) == (0..text.len()),
         _ => false,
     }
 }
