@@ -88,6 +88,7 @@ impl Kind {
 
 /// What is open after the text and an LF, where the text begins a string whose body goes on to its
 /// end; None where it begins none. Where it is known what is open, only what follows is read.
+#[inline(always)]
 pub(crate) fn open_after(text: &str, known: Option<Open>) -> Option<Open>
     requires { IsKnown text.now known }
     ensures unfinished { IfSome result (λ _. IsUnfinished text.now) }
@@ -151,6 +152,7 @@ fn raw_opening(text: &str, kind: Kind) -> Option<Open>
 
 /// What is open after the text and an LF, where the body goes on to the end of the text; None where
 /// it does not.
+#[inline(always)]
 fn next_line(text: &str, string: Open) -> Option<Open>
     requires { IsOpen text.now string }
     ensures unfinished { IfSome result (λ _. IsUnfinished text.now) }
@@ -164,6 +166,7 @@ fn next_line(text: &str, string: Open) -> Option<Open>
 }
 
 /// [`next_line`] of a quoted body, of which the place stands between two items.
+#[inline(always)]
 fn quoted_line(text: &str, kind: Kind, place: usize) -> Option<Open>
     requires { IsQuotedTo (kind_of kind) place text.now }
     ensures unfinished { IfSome result (λ _. IsUnfinished text.now) }
@@ -189,6 +192,7 @@ fn quoted_line(text: &str, kind: Kind, place: usize) -> Option<Open>
 }
 
 /// Whether the text is empty or one escape, which is no item of the body before something follows.
+#[inline(always)]
 fn is_escape_or_empty(text: &str, kind: Kind) -> bool
     ensures { IsTrue result → IsEscapeOrEmpty (switches_of (kind_of kind)) (chars text.now) }
 {
@@ -231,6 +235,7 @@ fn continued_line(text: &str, kind: Kind, place: usize) -> Option<Open>
 }
 
 /// [`next_line`] of a raw body between so many hashes.
+#[inline(always)]
 fn raw_line(text: &str, kind: Kind, hashes: usize, place: usize) -> Option<Open>
     requires { IsRawTo (kind_of kind) hashes place text.now }
     ensures unfinished { IfSome result (λ _. IsUnfinished text.now) }
