@@ -1,3 +1,4 @@
+pub mod ByteSearch
 pub mod SuffixBytes
 pub mod NumeralLemmas
 pub mod IntegerBytes
@@ -5,4 +6,5 @@ pub mod Dispatch
 pub mod FloatBytes
 pub mod NumberBytes
 pub mod EscapeBytes
+pub mod UnderscoreRuns
 pub mod CharByteBytes
