@@ -13,7 +13,7 @@ ghost use Rattle.litrs_parts.specs.Unescaped.{switches};
 use crate::short_value::ShortValue;
 use litrs_base::{ParseError, ParseErrorKind, Unescape};
 use litrs_parts::{check_suffix, unescape};
-use litrs_search::{Special, next_special};
+use litrs_search::{Run, Special, next_special, run_end};
 
 /// Where a quoted literal is cut: sizes and places in bytes.
 #[derive(Clone, Copy, Debug, PartialEq, Eq)]
@@ -438,10 +438,7 @@ fn blanks_len(bytes: &[u8]) -> usize
     ensures count { result ≡ prefix_len is_blank bytes.now }
     ensures within { result ≤ length bytes.now }
 {
-    bytes
-        .iter()
-        .take_while(|b| matches!(**b, b' ' | b'\t' | b'\n'))
-        .count()
+    run_end(bytes, Run::Blanks)
 }
 
 /// The text without its last character.

@@ -9,7 +9,7 @@ ghost use Rattle.litrs_lex.specs.RawCut.{IsRawCut, IsRawRefused, IsStop, IsBodyC
 
 use litrs_base::{ParseError, ParseErrorKind};
 use litrs_parts::check_suffix;
-use litrs_search::{Special, next_special};
+use litrs_search::{Run, Special, next_special, run_end};
 use std::ops::Range;
 
 /// Cuts the rest of a raw literal, from after its `r` on, into hashes, body and suffix.
@@ -147,7 +147,7 @@ fn begins_with_hashes(bytes: &[u8], count: usize) -> bool
 fn are_hashes(bytes: &[u8]) -> bool
     ensures { result ≡ list_all is_hash bytes.now }
 {
-    bytes.iter().all(|b| *b == b'#')
+    hash_len(bytes) == bytes.len()
 }
 
 /// How many hashes stand first.
@@ -155,7 +155,11 @@ fn hash_len(bytes: &[u8]) -> usize
     ensures len { result ≡ hash_len bytes.now }
     ensures within { result ≤ length bytes.now }
 {
-    bytes.iter().take_while(|b| **b == b'#').count()
+    match bytes {
+        // A search by lanes costs more than a comparison of each where there are few.
+        [b'#', b'#', b'#', b'#', ..] => run_end(bytes, Run::Hashes),
+        _ => bytes.iter().take_while(|b| **b == b'#').count(),
+    }
 }
 
 /// Why a byte may not stand in a raw body.

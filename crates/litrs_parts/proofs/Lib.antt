@@ -1,3 +1,4 @@
+pub mod ByteSearch
 pub mod SuffixBytes
 pub mod NumeralLemmas
 pub mod IntegerBytes
@@ -10,4 +11,5 @@ pub mod HexDigitBytes
 pub mod EscapeBytes
 pub mod HexEscapeBytes
 pub mod UnicodeEscapeBytes
+pub mod UnderscoreRuns
 pub mod CharByteBytes

@@ -14,6 +14,7 @@ ghost use Rattle.litrs_parts.specs.CharCut.{char_parts_at, kind_if, IsItemRead, 
 use crate::escape::unescape;
 use crate::parse::{check_suffix, split_first_char};
 use litrs_base::{ParseError, ParseErrorKind, Unescape};
+use memchr::memchr;
 
 /// Cuts a char, a text that begins with `'`: its value, and the place in bytes where its suffix
 /// starts. Of `'\n'u8` that is LF and 4. See [the reference][ref].
@@ -188,7 +189,7 @@ fn begins_with_quote(bytes: &[u8]) -> bool
 fn has_quote(bytes: &[u8]) -> bool
     ensures { result ≡ list_any (λ c. c == single_quote) bytes.now }
 {
-    bytes.iter().any(|b| *b == b'\'')
+    memchr(b'\'', bytes).is_some()
 }
 
 /// The refusal of a literal that is not closed.

@@ -1,5 +1,6 @@
 //! Bool literals.
-ghost use Rattle.std.specs.Prelude.{◌≡◌, ◌≢◌, ◌≤◌, length, IfOk, IfErr, IfSome, IfNone, IsTrue, IsFalse};
+ghost use Rattle.std.specs.Prelude.{◌≡◌, ◌≢◌, ◌≤◌, length, take, IfOk, IfErr, IfSome, IfNone, IsTrue, IsFalse};
+ghost use Rattle.std.specs.Int.{w32, from_le_bytes};
 ghost use Rattle.std.specs.Str.{chars};
 ghost use Rattle.litrs_base.specs.Derivations.{IsOnlyDerivation};
 ghost use Rattle.litrs_grammar.specs.Literal.{kind_parse, bool_literal};
@@ -94,11 +95,25 @@ fn is_word(bytes: &[u8], word: &[u8]) -> bool
     ensures same { IsTrue result → bytes.now ≡ word.now }
     ensures other { IsFalse result → bytes.now ≢ word.now }
 {
-    if bytes.is_empty() || bytes[0] != word[0] || bytes.len() != word.len() {
+    if bytes.len() != word.len() {
         return false;
     }
     let last = word.len() - 1;
-    bytes[1] == word[1] && bytes[2] == word[2] && bytes[3] == word[3] && bytes[last] == word[last]
+    if bytes[last] != word[last] {
+        return false;
+    }
+    let found = first_four(bytes);
+    let wanted = first_four(word);
+    found == wanted
+}
+
+/// The first four bytes as one number, so that they are compared at once.
+#[inline(always)]
+fn first_four(bytes: &[u8]) -> u32
+    requires { 4 ≤ length bytes.now }
+    ensures { result ≡ from_le_bytes w32 (take 4 bytes.now) }
+{
+    u32::from_le_bytes([bytes[0], bytes[1], bytes[2], bytes[3]])
 }
 
 impl fmt::Display for BoolLit {
