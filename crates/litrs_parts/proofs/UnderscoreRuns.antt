@@ -8,7 +8,7 @@ use Rattle.std.proofs.lemmas.List.{get_or-drop}
 use Rattle.std.proofs.lemmas.List.Sums.{prefix_len_passes}
 use Rattle.litrs_grammar.specs.Escape.{is_hex_or_underscore, hex_value}
 use Rattle.litrs_parts.proofs.NumeralLemmas.{numeral_underscore}
-use Rattle.litrs_parts.proofs.EscapeBytes.{all_more, count_one}
+use Rattle.litrs_parts.proofs.HexDigitBytes.{all_more, count_one}
 
 -- what stands before j is what stands before i and underscores
 pub record IsMoreUnderscores (t : List ℕ) (i j : ℕ) : Type 0 where

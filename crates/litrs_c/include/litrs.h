@@ -1,0 +1,145 @@
+/* Rust literals: what a text is as one literal, and why it is none.
+ *
+ * A text is a pointer and a length in bytes; it has no closing zero. Places count bytes of the text.
+ * Nothing is kept between calls, and nothing has to be freed. README.md says more.
+ */
+#ifndef LITRS_H
+#define LITRS_H
+
+#include <stdbool.h>
+#include <stddef.h>
+#include <stdint.h>
+
+#ifdef __cplusplus
+extern "C" {
+#endif
+
+/* What a call answers. */
+enum litrs_status {
+    LITRS_LITERAL = 0,       /* the text is a literal */
+    LITRS_REFUSED = 1,       /* it is none */
+    LITRS_NOT_UTF8 = 2,      /* the bytes are not UTF-8 */
+    LITRS_OUT_OF_MEMORY = 3, /* there was no memory for the value of a literal, or for a message */
+    LITRS_NO_STRING = 4      /* by litrs_value: it is a literal of another kind than strings */
+};
+
+/* The kinds of literals. */
+enum litrs_kind {
+    LITRS_BOOL = 1,        /* true */
+    LITRS_INTEGER = 2,     /* 0xFF_u8 */
+    LITRS_FLOAT = 3,       /* 3.14f32 */
+    LITRS_CHAR = 4,        /* 'a' */
+    LITRS_BYTE = 5,        /* b'a' */
+    LITRS_STRING = 6,      /* "a", r"a" */
+    LITRS_BYTE_STRING = 7, /* b"a", br"a" */
+    LITRS_C_STRING = 8     /* c"a", cr"a" */
+};
+
+/* The kinds of refusals. */
+enum litrs_error {
+    LITRS_ERROR_EMPTY = 1,
+    LITRS_ERROR_UNEXPECTED_CHAR = 2,
+    LITRS_ERROR_INVALID_LITERAL = 3,
+    LITRS_ERROR_DOES_NOT_START_WITH_DIGIT = 4,
+    LITRS_ERROR_INVALID_DIGIT = 5,
+    LITRS_ERROR_NO_DIGITS = 6,
+    LITRS_ERROR_NO_EXPONENT_DIGITS = 7,
+    LITRS_ERROR_UNKNOWN_ESCAPE = 8,
+    LITRS_ERROR_UNTERMINATED_ESCAPE = 9,
+    LITRS_ERROR_INVALID_X_ESCAPE = 10,
+    LITRS_ERROR_NON_ASCII_X_ESCAPE = 11,
+    LITRS_ERROR_UNICODE_ESCAPE_IN_BYTE_LITERAL = 12,
+    LITRS_ERROR_INVALID_START_OF_UNICODE_ESCAPE = 13,
+    LITRS_ERROR_UNICODE_ESCAPE_WITHOUT_BRACE = 14,
+    LITRS_ERROR_NON_HEX_DIGIT_IN_UNICODE_ESCAPE = 15,
+    LITRS_ERROR_TOO_MANY_DIGIT_IN_UNICODE_ESCAPE = 16,
+    LITRS_ERROR_INVALID_UNICODE_ESCAPE_CHAR = 17,
+    LITRS_ERROR_UNTERMINATED_UNICODE_ESCAPE = 18,
+    LITRS_ERROR_UNTERMINATED_CHAR_LITERAL = 19,
+    LITRS_ERROR_OVERLONG_CHAR_LITERAL = 20,
+    LITRS_ERROR_EMPTY_CHAR_LITERAL = 21,
+    LITRS_ERROR_UNTERMINATED_BYTE_LITERAL = 22,
+    LITRS_ERROR_OVERLONG_BYTE_LITERAL = 23,
+    LITRS_ERROR_EMPTY_BYTE_LITERAL = 24,
+    LITRS_ERROR_NON_ASCII_IN_BYTE_LITERAL = 25,
+    LITRS_ERROR_UNESCAPED_SINGLE_QUOTE = 26,
+    LITRS_ERROR_UNESCAPED_SPECIAL_WHITESPACE = 27,
+    LITRS_ERROR_DOES_NOT_START_WITH_QUOTE = 28,
+    LITRS_ERROR_UNTERMINATED_RAW_STRING = 29,
+    LITRS_ERROR_UNTERMINATED_STRING = 30,
+    LITRS_ERROR_INVALID_STRING_LITERAL_START = 31,
+    LITRS_ERROR_INVALID_BYTE_LITERAL_START = 32,
+    LITRS_ERROR_INVALID_BYTE_STRING_LITERAL_START = 33,
+    LITRS_ERROR_INVALID_C_STRING_LITERAL_START = 34,
+    LITRS_ERROR_DISALLOWED_NUL_ESCAPE = 35,
+    LITRS_ERROR_NUL_BYTE = 36,
+    LITRS_ERROR_CARRIAGE_RETURN = 37,
+    LITRS_ERROR_TOO_MANY_HASHES = 38,
+    LITRS_ERROR_INVALID_SUFFIX = 39,
+    LITRS_ERROR_UNEXPECTED_INTEGER_LIT = 40,
+    LITRS_ERROR_INTEGER_SUFFIX_STARTING_WITH_E = 41
+};
+
+/* The bytes from start up to end. */
+typedef struct {
+    size_t start;
+    size_t end;
+} litrs_place;
+
+/* A literal. What a kind does not have is 0, false, or the place 0..0. */
+typedef struct {
+    uint32_t kind;        /* enum litrs_kind */
+    uint32_t base;        /* of an integer: 2, 8, 10 or 16 */
+    bool is_raw;          /* of the three kinds of strings */
+    bool has_fraction;    /* of a float: whether it has a period */
+    bool has_value;       /* of a bool, a char, a byte, and an integer below 2^128 */
+    uint64_t value_low;   /* the value modulo 2^64 */
+    uint64_t value_high;  /* the value divided by 2^64, rounded down */
+    litrs_place main;     /* of an integer its digits, of a float those before period and exponent */
+    litrs_place fraction; /* of a float: the digits after the period */
+    litrs_place exponent; /* of a float: the exponent, with its letter and sign */
+    litrs_place suffix;   /* with which the text ends; it is empty where there is none */
+} litrs_literal;
+
+/* A refusal. */
+typedef struct {
+    uint32_t kind;         /* enum litrs_error */
+    bool has_span;         /* whether it points at a part of the text; else both places are 0..0 */
+    bool is_final;         /* whether no text that begins with this one is a literal */
+    bool is_open;          /* whether the text only lacks its closing quote and hashes */
+    litrs_place span;      /* the end may lie inside a character */
+    litrs_place char_span; /* the same up to the next end of a character */
+} litrs_refusal;
+
+/* What litrs_parse answers: the status is not LITRS_NO_STRING. */
+typedef struct {
+    uint32_t status;       /* enum litrs_status */
+    litrs_literal literal; /* if the status is LITRS_LITERAL; else all is 0 */
+    litrs_refusal refusal; /* if the status is LITRS_REFUSED; else all is 0 */
+} litrs_answer;
+
+/* What the calls answer that write to the caller's room. */
+typedef struct {
+    uint32_t status; /* enum litrs_status */
+    size_t len;      /* how many bytes there are to write, whether or not they fit */
+} litrs_written;
+
+/* Whether the text is a literal, and what it is made of, or why it is none. */
+litrs_answer litrs_parse(const uint8_t *text, size_t len);
+
+/* Writes the bytes that a string, a byte string or a C string stands for, as many as fit, where the
+ * status is LITRS_LITERAL. */
+litrs_written litrs_value(const uint8_t *text, size_t len, uint8_t *room, size_t room_len);
+
+/* Writes the message on a refused text, as much as fits, where the status is LITRS_REFUSED. It is
+ * ASCII, and has no closing zero. */
+litrs_written litrs_message(const uint8_t *text, size_t len, uint8_t *room, size_t room_len);
+
+/* Whether the text, or the text with some text appended, is a literal. */
+bool litrs_goes_on(const uint8_t *text, size_t len);
+
+#ifdef __cplusplus
+}
+#endif
+
+#endif

@@ -1,0 +1,8 @@
+use Rattle.std.proofs.Common.{sym, ◌∙◌}
+use Rattle.std.specs.Str.{chars}
+use Rattle.litrs_c.proofs.Memory.{lacks_memory}
+use Rattle.litrs_c.proofs.parsed.Goals as goal
+
+pub returns-in-OutOfMemory-clause-memory : goal.returns-in-OutOfMemory-clause-memory
+returns-in-OutOfMemory-clause-memory c =
+    λ _. lacks_memory (chars c.args.text.now) c.in-Err.e c.in-Err.ensures.refused (sym c.kind.ensures ∙ c.in-OutOfMemory.is)

@@ -1,0 +1,7 @@
+-- the numbers that stand for kinds in C
+pub mod Codes
+-- what is answered of literals and of refusals
+pub mod Places
+pub mod LiteralFields
+pub mod RefusalFields
+pub mod Answers

@@ -1,0 +1,313 @@
+//! Rust literals, for C and for what calls C.
+//!
+//! A static library over [`litrs`]. `include/litrs.h` declares the four calls and what they answer,
+//! and `README.md` says how to build and to call them. Each call reads a text anew: nothing is kept
+//! between calls, and nothing has to be freed.
+#![tactic(auto)]
+
+ghost use Rattle.std.specs.Prelude.{◌≡◌, ◌≢◌, ◌≤◌, ◌↔◌, ⊤, IsTrue, length, Some, None, option_map, IfOk, string_bytes};
+ghost use Rattle.std.specs.Str.{chars, IsUtf8};
+ghost use Rattle.litrs_base.specs.Derivations.{HasNoDerivation};
+ghost use Rattle.litrs_base.specs.Refusal.{refusal_of, refusal_text};
+ghost use Rattle.litrs_grammar.specs.Literal.{IsLiteral, literal_parse, Begins};
+ghost use Rattle.litrs.specs.LiteralDerivation.{derivation};
+ghost use Rattle.litrs_c.specs.LiteralFields.{IsLiteralFields, bytes_of};
+ghost use Rattle.litrs_c.specs.RefusalFields.{IsRefusalFields};
+ghost use Rattle.litrs_c.specs.Answers.{IsLiteralAnd, IsRefusedAnd, LacksMemory, IsWritten, IsKept, WritesValue, WritesMessage};
+
+use literals::{NO_LITERAL, literal_fields};
+use litrs::{Literal, ParseError, ParseErrorKind};
+use refusals::{NO_REFUSAL, refusal_fields};
+use std::alloc::{AllocError, Global};
+use std::str;
+
+mod literals;
+mod refusals;
+
+/// The text is a literal.
+pub const LITERAL: u32 = 0;
+/// The text is a text, and no literal.
+pub const REFUSED: u32 = 1;
+/// The bytes are not UTF-8.
+pub const NOT_UTF8: u32 = 2;
+/// The text is a literal, and there was no memory for its value, or there was none for a message.
+pub const OUT_OF_MEMORY: u32 = 3;
+/// The text is a literal of another kind than strings, byte strings and C strings.
+pub const NO_STRING: u32 = 4;
+
+/// A part of a text: the bytes from `start` up to `end`.
+#[repr(C)]
+#[derive(Clone, Copy)]
+pub struct Place {
+    pub start: usize,
+    pub end: usize,
+}
+
+/// A literal. What a kind does not have is 0, false, or the place 0..0.
+#[repr(C)]
+#[derive(Clone, Copy)]
+pub struct LiteralFields {
+    /// `enum litrs_kind`.
+    pub kind: u32,
+    /// How many digits the base of an integer has: 2, 8, 10 or 16.
+    pub base: u32,
+    /// Whether a string of one of the three kinds is raw.
+    pub is_raw: bool,
+    /// Whether a float has a period.
+    pub has_fraction: bool,
+    /// Whether the halves are those of the value: of a bool, a char, a byte, and an integer below
+    /// 2^128.
+    pub has_value: bool,
+    /// The value modulo 2^64.
+    pub value_low: u64,
+    /// The value divided by 2^64.
+    pub value_high: u64,
+    /// The digits of an integer after the prefix, or of a float before a period and an exponent.
+    pub main: Place,
+    /// The digits of a float after the period.
+    pub fraction: Place,
+    /// The exponent of a float, with its letter and sign.
+    pub exponent: Place,
+    /// The suffix, which ends the text.
+    pub suffix: Place,
+}
+
+/// A refusal.
+#[repr(C)]
+#[derive(Clone, Copy)]
+pub struct RefusalFields {
+    /// `enum litrs_error`.
+    pub kind: u32,
+    /// Whether it points at a part of the text.
+    pub has_span: bool,
+    /// Whether no text that begins with this one is a literal.
+    pub is_final: bool,
+    /// Whether the text only lacks its closing quote, with the hashes of a raw string.
+    pub is_open: bool,
+    /// The part of the text. The start is a character boundary.
+    pub span: Place,
+    /// The same part up to the next character boundary.
+    pub char_span: Place,
+}
+
+/// What a text is.
+#[repr(C)]
+#[derive(Clone, Copy)]
+pub struct Answer {
+    /// `enum litrs_status`: of a literal, refused, not UTF-8, out of memory.
+    pub status: u32,
+    /// The literal, where the status says so; else all is 0.
+    pub literal: LiteralFields,
+    /// The refusal, where the status says so; else all is 0.
+    pub refusal: RefusalFields,
+}
+
+/// What was written to the caller's room.
+#[repr(C)]
+#[derive(Clone, Copy)]
+pub struct Written {
+    /// `enum litrs_status`.
+    pub status: u32,
+    /// How many bytes there are, whether or not they fit.
+    pub len: usize,
+}
+
+/// Says of a text whether it is a literal of any kind, and what it is made of, or why it is none.
+///
+/// Only the value of a C string, and of a quoted string or byte string with a backslash, is
+/// allocated, and freed again before the call returns.
+#[unsafe(no_mangle)]
+pub extern "C" fn litrs_parse(alloc: Global, text: &[u8]) -> Answer
+    ensures statuses { result.status ≤ OUT_OF_MEMORY }
+    ensures utf8 { result.status ≢ NOT_UTF8 ↔ IsUtf8 text.now }
+    ensures literal { result.status ≡ LITERAL → IsLiteralAnd (chars text.now)
+        (λ d. IsLiteralFields (length text.now) d result.literal) }
+    ensures refused { result.status ≡ REFUSED → IsRefusedAnd (chars text.now)
+        (λ e. IsRefusalFields e result.refusal) }
+    ensures memory { result.status ≡ OUT_OF_MEMORY → LacksMemory (chars text.now) }
+    ensures no_literal { result.status ≢ LITERAL → result.literal ≡ NO_LITERAL }
+    ensures no_refusal { result.status ≢ REFUSED → result.refusal ≡ NO_REFUSAL }
+{
+    match str::from_utf8(text) {
+        Ok(text) => parsed(alloc, text),
+        Err(_) => only_status(NOT_UTF8),
+    }
+}
+
+/// The same of a text that is UTF-8.
+fn parsed(alloc: Global, text: &str) -> Answer
+    ensures statuses { result.status ≤ OUT_OF_MEMORY }
+    ensures utf8 { result.status ≢ NOT_UTF8 }
+    ensures literal { result.status ≡ LITERAL → IsLiteralAnd (chars text.now)
+        (λ d. IsLiteralFields (length text.now) d result.literal) }
+    ensures refused { result.status ≡ REFUSED → IsRefusedAnd (chars text.now)
+        (λ e. IsRefusalFields e result.refusal) }
+    ensures memory { result.status ≡ OUT_OF_MEMORY → LacksMemory (chars text.now) }
+    ensures no_literal { result.status ≢ LITERAL → result.literal ≡ NO_LITERAL }
+    ensures no_refusal { result.status ≢ REFUSED → result.refusal ≡ NO_REFUSAL }
+{
+    match Literal::parse(alloc, text) {
+        Ok(lit) => Answer {
+            literal: literal_fields(&lit),
+            ..only_status(LITERAL)
+        },
+        Err(e) => match e.kind() {
+            ParseErrorKind::OutOfMemory => only_status(OUT_OF_MEMORY),
+            _ => Answer {
+                refusal: refusal_fields(&e),
+                ..only_status(REFUSED)
+            },
+        },
+    }
+}
+
+/// An answer of this status, which says nothing else.
+fn only_status(status: u32) -> Answer
+    ensures { result ≡ record {
+      status = status;
+      literal = NO_LITERAL;
+      refusal = NO_REFUSAL;
+    } }
+{
+    Answer {
+        status,
+        literal: NO_LITERAL,
+        refusal: NO_REFUSAL,
+    }
+}
+
+/// Whether the text, or the text with some text appended, is a literal of any kind. Bytes that are
+/// not UTF-8 are no text. It does not allocate.
+#[unsafe(no_mangle)]
+pub extern "C" fn litrs_goes_on(text: &[u8]) -> bool
+    ensures { IsTrue result ↔ (IsUtf8 text.now × Begins literal_parse (chars text.now)) }
+{
+    match str::from_utf8(text) {
+        Ok(text) => litrs::goes_on(text),
+        Err(_) => false,
+    }
+}
+
+/// Writes the bytes that a string, a byte string or a C string stands for to the room, as many as
+/// fit; of a C string without its closing zero. The rest of the room is left as it is, and all of
+/// it where there is no value. It allocates as [`litrs_parse`] does.
+#[unsafe(no_mangle)]
+pub extern "C" fn litrs_value(alloc: Global, text: &[u8], room: &mut [u8]) -> Written
+    ensures statuses { result.status ≤ NO_STRING }
+    ensures utf8 { result.status ≢ NOT_UTF8 ↔ IsUtf8 text.now }
+    ensures value { result.status ≡ LITERAL →
+        IsLiteralAnd (chars text.now) (WritesValue room.old room.new result.len) }
+    ensures other { result.status ≡ NO_STRING →
+        IsLiteralAnd (chars text.now) (λ d. bytes_of d ≡ None) }
+    ensures refused { result.status ≡ REFUSED → HasNoDerivation (IsLiteral (chars text.now)) }
+    ensures memory { result.status ≡ OUT_OF_MEMORY → LacksMemory (chars text.now) }
+    ensures kept { result.status ≢ LITERAL → IsKept room.old room.new result.len }
+{
+    match str::from_utf8(text) {
+        Ok(text) => write_value(alloc, text, room),
+        Err(_) => nothing(NOT_UTF8),
+    }
+}
+
+/// The same of a text that is UTF-8.
+fn write_value(alloc: Global, text: &str, room: &mut [u8]) -> Written
+    ensures statuses { result.status ≤ NO_STRING }
+    ensures utf8 { result.status ≢ NOT_UTF8 }
+    ensures value { result.status ≡ LITERAL →
+        IsLiteralAnd (chars text.now) (WritesValue room.old room.new result.len) }
+    ensures other { result.status ≡ NO_STRING →
+        IsLiteralAnd (chars text.now) (λ d. bytes_of d ≡ None) }
+    ensures refused { result.status ≡ REFUSED → HasNoDerivation (IsLiteral (chars text.now)) }
+    ensures memory { result.status ≡ OUT_OF_MEMORY → LacksMemory (chars text.now) }
+    ensures kept { result.status ≢ LITERAL → IsKept room.old room.new result.len }
+{
+    match Literal::parse(alloc, text) {
+        Ok(lit) => match value_bytes(&lit) {
+            Some(bytes) => filled(room, bytes, LITERAL),
+            None => nothing(NO_STRING),
+        },
+        Err(e) => match e.kind() {
+            ParseErrorKind::OutOfMemory => nothing(OUT_OF_MEMORY),
+            _ => nothing(REFUSED),
+        },
+    }
+}
+
+/// The bytes that a string of one of the three kinds stands for.
+fn value_bytes<'a>(lit: &'a Literal<&str>) -> Option<&'a [u8]>
+    ensures { option_map (λ bytes. bytes.now) result ≡ bytes_of (derivation lit.now) }
+{
+    match lit {
+        Literal::String(lit) => Some(lit.value().as_bytes()),
+        Literal::ByteString(lit) => Some(lit.value()),
+        Literal::CString(lit) => Some(lit.value().to_bytes()),
+        _ => None,
+    }
+}
+
+/// Writes the message on a text that is refused to the room, as much as fits: what is wrong, and
+/// the span, if there is one, as ` (at 3..4)`. The rest of the room is left as it is, and all of it
+/// where the text is not refused. The message is allocated, and freed again before the call returns.
+#[unsafe(no_mangle)]
+pub extern "C" fn litrs_message(alloc: Global, text: &[u8], room: &mut [u8]) -> Written
+    ensures statuses { result.status ≤ OUT_OF_MEMORY }
+    ensures utf8 { result.status ≢ NOT_UTF8 ↔ IsUtf8 text.now }
+    ensures literal { result.status ≡ LITERAL → IsLiteralAnd (chars text.now) (λ _. ⊤) }
+    ensures message { result.status ≡ REFUSED →
+        IsRefusedAnd (chars text.now) (WritesMessage room.old room.new result.len) }
+    ensures kept { result.status ≢ REFUSED → IsKept room.old room.new result.len }
+{
+    match str::from_utf8(text) {
+        Ok(text) => write_message(alloc, text, room),
+        Err(_) => nothing(NOT_UTF8),
+    }
+}
+
+/// The same of a text that is UTF-8.
+fn write_message(alloc: Global, text: &str, room: &mut [u8]) -> Written
+    ensures statuses { result.status ≤ OUT_OF_MEMORY }
+    ensures utf8 { result.status ≢ NOT_UTF8 }
+    ensures literal { result.status ≡ LITERAL → IsLiteralAnd (chars text.now) (λ _. ⊤) }
+    ensures message { result.status ≡ REFUSED →
+        IsRefusedAnd (chars text.now) (WritesMessage room.old room.new result.len) }
+    ensures kept { result.status ≢ REFUSED → IsKept room.old room.new result.len }
+{
+    match Literal::parse(alloc, text) {
+        Ok(_) => nothing(LITERAL),
+        Err(e) => match e.kind() {
+            ParseErrorKind::OutOfMemory => nothing(OUT_OF_MEMORY),
+            _ => match message(alloc, &e) {
+                Ok(message) => filled(room, message.as_bytes(), REFUSED),
+                Err(_) => nothing(OUT_OF_MEMORY),
+            },
+        },
+    }
+}
+
+/// What is printed of the refusal.
+fn message(alloc: Global, error: &ParseError) -> Result<String, AllocError>
+    ensures { IfOk result (λ message.
+        string_bytes message ≡ refusal_text (refusal_of error.now)) }
+{
+    format!(in alloc; "{error}")
+}
+
+/// Writes bytes to the room, as many as fit.
+fn filled(room: &mut [u8], bytes: &[u8], status: u32) -> Written
+    ensures status { result.status ≡ status }
+    ensures written { IsWritten bytes.now room.old room.new result.len }
+{
+    let fits = bytes.len().min(room.len());
+    room[..fits].copy_from_slice(&bytes[..fits]);
+    Written {
+        status,
+        len: bytes.len(),
+    }
+}
+
+/// Where nothing is written.
+fn nothing(status: u32) -> Written
+    ensures { result ≡ record { status = status; len = 0 } }
+{
+    Written { status, len: 0 }
+}

@@ -1,0 +1,97 @@
+//! The fields of a refusal.
+ghost use Rattle.std.specs.Prelude.{◌≡◌};
+ghost use Rattle.litrs_c.specs.Codes.{error_code};
+ghost use Rattle.litrs_c.specs.RefusalFields.{span_place, IsRefusalFields};
+
+use crate::literals::NOWHERE;
+use crate::{Place, RefusalFields};
+use litrs::{ParseError, ParseErrorKind};
+use std::ops::Range;
+
+/// Where a text is not refused.
+pub(crate) const NO_REFUSAL: RefusalFields = RefusalFields {
+    kind: 0,
+    has_span: false,
+    is_final: false,
+    is_open: false,
+    span: NOWHERE,
+    char_span: NOWHERE,
+};
+
+/// The fields of the refusal.
+pub(crate) fn refusal_fields(error: &ParseError) -> RefusalFields
+    ensures { IsRefusalFields error.now result }
+{
+    let span = error.span();
+    RefusalFields {
+        kind: error_code(error.kind()),
+        has_span: span.is_some(),
+        is_final: error.is_final(),
+        is_open: error.is_open(),
+        span: span_place(span),
+        char_span: span_place(error.char_span()),
+    }
+}
+
+/// The place of a span.
+fn span_place(span: Option<Range<usize>>) -> Place
+    ensures { result ≡ span_place span }
+{
+    match span {
+        Some(span) => Place {
+            start: span.start,
+            end: span.end,
+        },
+        None => NOWHERE,
+    }
+}
+
+/// The number by which the header calls the kind.
+fn error_code(kind: ParseErrorKind) -> u32
+    ensures { result ≡ error_code kind }
+{
+    match kind {
+        ParseErrorKind::Empty => 1,
+        ParseErrorKind::UnexpectedChar => 2,
+        ParseErrorKind::InvalidLiteral => 3,
+        ParseErrorKind::DoesNotStartWithDigit => 4,
+        ParseErrorKind::InvalidDigit => 5,
+        ParseErrorKind::NoDigits => 6,
+        ParseErrorKind::NoExponentDigits => 7,
+        ParseErrorKind::UnknownEscape => 8,
+        ParseErrorKind::UnterminatedEscape => 9,
+        ParseErrorKind::InvalidXEscape => 10,
+        ParseErrorKind::NonAsciiXEscape => 11,
+        ParseErrorKind::UnicodeEscapeInByteLiteral => 12,
+        ParseErrorKind::InvalidStartOfUnicodeEscape => 13,
+        ParseErrorKind::UnicodeEscapeWithoutBrace => 14,
+        ParseErrorKind::NonHexDigitInUnicodeEscape => 15,
+        ParseErrorKind::TooManyDigitInUnicodeEscape => 16,
+        ParseErrorKind::InvalidUnicodeEscapeChar => 17,
+        ParseErrorKind::UnterminatedUnicodeEscape => 18,
+        ParseErrorKind::UnterminatedCharLiteral => 19,
+        ParseErrorKind::OverlongCharLiteral => 20,
+        ParseErrorKind::EmptyCharLiteral => 21,
+        ParseErrorKind::UnterminatedByteLiteral => 22,
+        ParseErrorKind::OverlongByteLiteral => 23,
+        ParseErrorKind::EmptyByteLiteral => 24,
+        ParseErrorKind::NonAsciiInByteLiteral => 25,
+        ParseErrorKind::UnescapedSingleQuote => 26,
+        ParseErrorKind::UnescapedSpecialWhitespace => 27,
+        ParseErrorKind::DoesNotStartWithQuote => 28,
+        ParseErrorKind::UnterminatedRawString => 29,
+        ParseErrorKind::UnterminatedString => 30,
+        ParseErrorKind::InvalidStringLiteralStart => 31,
+        ParseErrorKind::InvalidByteLiteralStart => 32,
+        ParseErrorKind::InvalidByteStringLiteralStart => 33,
+        ParseErrorKind::InvalidCStringLiteralStart => 34,
+        ParseErrorKind::DisallowedNulEscape => 35,
+        ParseErrorKind::NulByte => 36,
+        ParseErrorKind::CarriageReturn => 37,
+        ParseErrorKind::TooManyHashes => 38,
+        ParseErrorKind::InvalidSuffix => 39,
+        ParseErrorKind::UnexpectedIntegerLit => 40,
+        ParseErrorKind::IntegerSuffixStartingWithE => 41,
+        ParseErrorKind::OutOfMemory => 42,
+    }
+}
