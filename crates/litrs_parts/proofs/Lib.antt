@@ -2,6 +2,7 @@ pub mod SuffixBytes
 pub mod NumeralLemmas
 pub mod IntegerBytes
 pub mod Dispatch
+pub mod Fronts
 pub mod FloatBytes
 pub mod NumberBytes
 pub mod EscapeBytes
