@@ -1,5 +1,5 @@
 -- Which words begin a literal.
-use Rattle.std.proofs.Common.{◌≡◌, inl, inr, ◌<◌, ℕ, Bool, true, false, ltb, ◌&&◌, List, [], ◌∷◌, refl, sym, ap, ◌∙◌, arith}
+use Rattle.std.proofs.Common.{◌≡◌, inl, inr, ◌<◌, ℕ, Bool, true, false, ltb, ◌&&◌, List, [], ◌∷◌, refl, sym, ap, ◌∙◌, arith, ◌⊎◌, subst}
 use Rattle.std.specs.Prelude.{◌↔◌, ◌==◌, ◌||◌, codes, IsTrue, if◌then◌else◌}
 use Rattle.std.specs.List.{list_all}
 use Rattle.std.specs.Str.{chars, IsUtf8}
@@ -18,6 +18,7 @@ use Rattle.litrs_grammar.proofs.BoolLaws.{chars-bool_text}
 use Rattle.litrs_grammar.proofs.LongerTexts.Dispatch.{unnamed_begins}
 use Rattle.litrs_grammar.proofs.LongerTexts.Literal.{back}
 use Rattle.litrs_parts.proofs.Dispatch.{dispatch-chars}
+use Rattle.litrs_parts.specs.declared.kind.Front.{Front}
 use Rattle.litrs_parts.specs.declared.kind.Front.TheVariants as front
 use Rattle.litrs_parts.specs.Front.{IsFront}
 use Rattle.litrs_parts.proofs.Fronts.{some_text}
@@ -79,7 +80,7 @@ other_word (c ∷ cs) none = other_letter (c == 116) (c == 102) (c == 98) (c == 
 -- The fronts of no kind
 
 -- the empty text begins a literal
-pub empty_decided : (bs : List ℕ) → IsUtf8 bs → IsFront front.Empty bs →
+empty_decided : (bs : List ℕ) → IsUtf8 bs → IsFront front.Empty bs →
     IsTrue true ↔ Begins literal_parse (chars bs)
 empty_decided bs u is = at bs u is.row is.begins
   where
@@ -89,11 +90,19 @@ empty_decided bs u is = at bs u is.row is.begins
     at (b ∷ bs) u row none = cc
 
 -- a bool is a literal
-pub bool_decided : (value : Bool) (bs : List ℕ) → IsFront (front.Bool value) bs →
+bool_decided : (value : Bool) (bs : List ℕ) → IsFront (front.Bool value) bs →
     IsTrue true ↔ Begins literal_parse (chars bs)
 bool_decided value bs is =
     yes (begins_now (IsLiteralOf literal_parse) (chars bs) (a_bool value)
     (sym (ap chars is.begins ∙ chars-bool_text value)))
+
+pub whole_decided : (f : Front) (bs : List ℕ) → IsUtf8 bs → IsFront f bs →
+    (f ≡ front.Empty) ⊎ ((value : Bool) × (f ≡ front.Bool value)) →
+    IsTrue true ↔ Begins literal_parse (chars bs)
+whole_decided f bs u is (inl empty) =
+    empty_decided bs u (subst (λ (g : Front). IsFront g bs) empty is)
+whole_decided f bs u is (inr bool) =
+    bool_decided bool.0 bs (subst (λ (g : Front). IsFront g bs) bool.1 is)
 
 -- a text that begins with another letter than `c`
 other_first : (bs : List ℕ) → is_empty bs ≡ false → begins_with (codes "c") bs ≡ false →

@@ -1,6 +1,6 @@
 -- A text is a literal of one kind alone, told by how it begins: where it is none of that kind, it
 -- is none at all, a bool aside.
-use Rattle.std.proofs.Common.{◌≡◌, ℕ, Bool, true, false, List, ◌++◌, refl, sym, ap, ◌∙◌}
+use Rattle.std.proofs.Common.{◌≡◌, ℕ, Bool, true, false, List, ◌++◌, refl, sym, ap, ◌∙◌, ◌⊎◌, inl, inr, subst}
 use Rattle.std.specs.Prelude.{◌≢◌, codes, if◌then◌else◌}
 use Rattle.std.specs.Char.{is_ascii_digit}
 use Rattle.std.specs.Str.{chars, IsUtf8}
@@ -22,6 +22,7 @@ use Rattle.litrs_grammar.specs.Strings.{StringDerivation}
 use Rattle.litrs_grammar.proofs.IntegerLaws.{not_empty_by_first}
 use Rattle.litrs_grammar.proofs.LiteralLaws.{dispatch_literal, is_bool-digit}
 use Rattle.litrs_parts.proofs.IntegerBytes.{digit-chars}
+use Rattle.litrs_parts.specs.declared.kind.Front.{Front}
 use Rattle.litrs_parts.specs.declared.kind.Front.TheVariants as front
 use Rattle.litrs_parts.specs.Front.{string_literal_of, IsFront}
 use Rattle.litrs_parts.specs.NumberCut.{number_kind}
@@ -129,10 +130,10 @@ no_row bs row u is none k r =
     none (literal_kind r.derivation) r.no_bool
     (sym (dispatch_literal (chars bs) r.derivation r.literal) ∙ (dispatch-chars bs u ∙ sym is))
 
-pub no_text : (bs : List ℕ) → IsUtf8 bs → IsFront front.Empty bs → IsNoLiteralToken (chars bs)
+no_text : (bs : List ℕ) → IsUtf8 bs → IsFront front.Empty bs → IsNoLiteralToken (chars bs)
 no_text bs u is = no_row bs (refused_as (plain Empty)) u is.row (λ kind no_bool e. cc)
 
-pub only_bool : (value : Bool) (bs : List ℕ) → IsUtf8 bs → IsFront (front.Bool value) bs →
+only_bool : (value : Bool) (bs : List ℕ) → IsUtf8 bs → IsFront (front.Bool value) bs →
     IsNoLiteralToken (chars bs)
 only_bool value bs u is =
     no_row bs (parsed_as bool_literal) u is.row
@@ -161,5 +162,13 @@ other_at bs false u is begins =
     (sym begins) ∙ is.row)
     (λ kind no_bool e. cc)
 
-pub no_front : (bs : List ℕ) → IsUtf8 bs → IsFront front.Other bs → IsNoLiteralToken (chars bs)
+no_front : (bs : List ℕ) → IsUtf8 bs → IsFront front.Other bs → IsNoLiteralToken (chars bs)
 no_front bs u is = other_at bs (begins_with (codes "c") bs) u is refl
+
+pub no_kind : (f : Front) (bs : List ℕ) → IsUtf8 bs → IsFront f bs →
+    (f ≡ front.Empty) ⊎ (((value : Bool) × (f ≡ front.Bool value)) ⊎ (f ≡ front.Other)) →
+    IsNoLiteralToken (chars bs)
+no_kind f bs u is (inl empty) = no_text bs u (subst (λ (g : Front). IsFront g bs) empty is)
+no_kind f bs u is (inr (inl bool)) =
+    only_bool bool.0 bs u (subst (λ (g : Front). IsFront g bs) bool.1 is)
+no_kind f bs u is (inr (inr other)) = no_front bs u (subst (λ (g : Front). IsFront g bs) other is)

@@ -9,11 +9,12 @@ use Rattle.litrs_parts.proofs.Dispatch.{dispatch-chars}
 use Rattle.litrs.proofs.Begins.{begins_parsed}
 use Rattle.litrs.proofs.Numbers.{number_named}
 use Rattle.litrs.proofs.StringEnds.{string_parsed}
-use Rattle.litrs.proofs.Words.{empty_decided, bool_decided, other_decided}
+use Rattle.litrs.proofs.Words.{whole_decided, other_decided}
 use Rattle.litrs.proofs.going_on.goes_on.Goals as goal
 
 pub returns-in-Empty : goal.returns-in-Empty
-returns-in-Empty c = let h = c.in-Empty in ?
+returns-in-Empty c =
+    whole_decided c.of.result c.args.text.now c.utf8.text c.of.ensures c.in-Empty.is
 
 pub returns-in-Number : goal.returns-in-Number
 returns-in-Number c = let is = c.in-Number.ensures in

@@ -135,5 +135,8 @@ returns-in_default-clause-refused g c =
           c.requires.front w.in-Raw.is
           (λ (e : w.in-Raw.found ≡ c.args.kind). same_false the_type _ c.args.kind (sym w.if-eq-2.ensures) (cc))
           c.start_refusal.ensures.refusal c.start_refusal.ensures.char_span
-      | in_default-via-in_default w ↦ (let h = w.in_default in ?)
+      | in_default-via-in_default w ↦
+          other c.args.kind c.args.front c.args.input.now c.start_refusal.result c.utf8.input c.requires.front
+          w.in_default.not-Empty (w.in_default.not-Quoted c.args.kind) (w.in_default.not-Raw c.args.kind)
+          c.start_refusal.ensures.refusal c.start_refusal.ensures.char_span
     ]
