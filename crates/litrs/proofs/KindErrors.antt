@@ -1,20 +1,28 @@
 -- What is an error of the parse of a kind is one of the parse of all kinds, where the text is dispatched to that kind.
-use Rattle.std.proofs.Common.{◌≡◌, inl, inr, ℕ, Bool, true, false, List, Option, None, refl, sym, ap, subst, ◌∙◌}
-use Rattle.std.specs.Prelude.{if◌then◌else◌}
+use Rattle.std.proofs.Common.{◌≡◌, inl, inr, ℕ, Bool, true, false, List, refl, sym, ap, subst, ◌∙◌}
+use Rattle.std.specs.Prelude.{codes, if◌then◌else◌}
 use Rattle.std.specs.Str.{chars, IsUtf8}
-use Rattle.std.specs.declared.ops.Range.{Range}
 use Rattle.litrs_base.specs.declared.err.ParseError.{ParseError}
-use Rattle.litrs_base.specs.Refusal.{refusal, refusal_of, kind_of, span_of}
+use Rattle.litrs_base.specs.declared.err.ParseErrorKind.{ParseErrorKind}
+use Rattle.litrs_base.specs.declared.err.ParseErrorKind.TheVariants.{InvalidLiteral, InvalidCStringLiteralStart}
+use Rattle.litrs_base.specs.Refusal.{Refusal, plain, refusal_of}
+use Rattle.litrs_base.specs.Text.{begins_with}
 use Rattle.litrs_base.specs.Derivations.{IsOnlyDerivation}
 use Rattle.litrs_base.proofs.CharEnds.{no_span}
-use Rattle.litrs_grammar.specs.Literal.{Derivation, IsLiteral, LiteralKind, integer_literal, float_literal, literal_parse, kind_parse}
-use Rattle.litrs_grammar.specs.LiteralRefusals.{Dispatch, refused_as, parsed_as, begins_float, dispatch, IsRefusalOfDispatch}
+use Rattle.litrs_base.proofs.Chars.{begins_with-chars}
+use Rattle.litrs_base.proofs.ListTests.{if_false}
+use Rattle.litrs_grammar.specs.Literal.{Derivation, IsLiteral, LiteralKind, integer_literal, float_literal, c_string_literal, literal_parse, kind_parse}
+use Rattle.litrs_grammar.specs.LiteralRefusals.{StringStart, refused_start, string_start, IsRefusalOfStart, Dispatch, refused_as, parsed_as, begins_float, dispatch, IsRefusalOfDispatch, IsRefusal}
 use Rattle.litrs_grammar.specs.Refused.{IsRefused, IsRefusedOrOutOfMemory}
+use Rattle.litrs_grammar.specs.StringKind.{c_string_kind}
 use Rattle.litrs_grammar.proofs.Laws.Literal.{literals_are_unique}
 use Rattle.litrs_grammar.proofs.Refused.{is_refused}
 use Rattle.litrs_parts.specs.NumberCut.{number_kind}
 use Rattle.litrs_parts.proofs.NumberBytes.{kind_by_bytes}
-use Rattle.litrs_parts.proofs.Dispatch.{dispatch-chars}
+use Rattle.litrs_parts.specs.declared.kind.Front.TheVariants as front
+use Rattle.litrs_parts.specs.Front.{IsFront}
+use Rattle.litrs_parts.proofs.Dispatch.{is_empty-chars, dispatch-chars}
+use Rattle.litrs_parts.proofs.Fronts.{some_text}
 
 -- a literal is the only derivation of its text
 pub only_literal : (t : List ℕ) (d : Derivation) → IsLiteral t d → IsOnlyDerivation (IsLiteral t) d
@@ -59,11 +67,34 @@ number_error_at bytes text number e f u same again is copy refused =
     (inl (subst (λ (bs : List ℕ). IsRefused (kind_parse kind) (chars bs) e) same
     (subst (λ (bs : List ℕ). IsRefused (kind_parse (number_kind (chars bs))) (chars bs) e) (again ∙ sym same) refused)))
 
--- no kind begins so
-pub start_error_at : (bytes text : List ℕ) (e : ParseError) → IsUtf8 text → text ≡ bytes → refused_as (refusal_of e) ≡ dispatch text → span_of e ≡ None →
-    IsRefusedOrOutOfMemory literal_parse (chars bytes) e
-start_error_at bytes text e u same is span =
-    let row = row_at bytes text (refused_as (refusal_of e)) u same is in
+-- a text that is refused by how it begins alone
+pub start_refused : (text : List ℕ) (r : Refusal) → IsUtf8 text → refused_as r ≡ dispatch text → IsRefusal literal_parse (chars text) r
+start_refused text r u is = subst (λ (row : Dispatch). IsRefusalOfDispatch row (chars text) r) (is ∙ sym (dispatch-chars text u)) refl
+
+pub start_error_at : (bytes text : List ℕ) (kind : ParseErrorKind) (e : ParseError) → text ≡ bytes → IsRefusal literal_parse (chars text) (plain kind) →
+    refusal_of e ≡ plain kind → IsRefusedOrOutOfMemory literal_parse (chars bytes) e
+start_error_at bytes text kind e same table is =
     inl (is_refused literal_parse (chars bytes) e
-    (subst (λ (row : Dispatch). IsRefusalOfDispatch row (chars bytes) (refusal_of e)) (sym row) refl)
-    (no_span (chars bytes) e (kind_of e) (ap (λ (s : Option (Range ℕ)). refusal s (kind_of e)) span)))
+    (subst (λ (r : Refusal). IsRefusal literal_parse (chars bytes) r) (sym is)
+    (subst (λ (b : List ℕ). IsRefusal literal_parse (chars b) (plain kind)) same table))
+    (no_span (chars bytes) e kind is))
+
+-- a text that begins with `c` and with neither front of a C string
+pub c_refused : (text : List ℕ) → IsUtf8 text → IsFront front.Other text → begins_with (codes "c") text ≡ true →
+    IsRefusal literal_parse (chars text) (plain InvalidCStringLiteralStart)
+c_refused text u is begins =
+    subst (λ (row : Dispatch). IsRefusalOfDispatch row (chars text) (plain InvalidCStringLiteralStart))
+    (ap (λ v. if v then parsed_as c_string_literal else refused_as (plain InvalidLiteral)) (sym begins) ∙ (is.row ∙ sym (dispatch-chars text u)))
+    (subst (λ (start : StringStart). IsRefusalOfStart c_string_kind start (chars text) (plain InvalidCStringLiteralStart)) (sym start) refl)
+  where
+    start : string_start c_string_kind (chars text) ≡ refused_start (plain InvalidCStringLiteralStart)
+    start = if_false _ _ _ (is_empty-chars text u ∙ some_text front.Other text is (λ e. cc))
+        ∙ (if_false _ _ _ (begins_with-chars (codes "c\"") text refl u ∙ is.begins.0)
+        ∙ if_false _ _ _ (begins_with-chars (codes "cr") text refl u ∙ is.begins.1))
+
+-- a text that begins with another letter, as no literal
+pub other_refused : (text : List ℕ) → IsUtf8 text → IsFront front.Other text → begins_with (codes "c") text ≡ false →
+    IsRefusal literal_parse (chars text) (plain InvalidLiteral)
+other_refused text u is other =
+    start_refused text (plain InvalidLiteral) u
+    (ap (λ v. if v then parsed_as c_string_literal else refused_as (plain InvalidLiteral)) (sym other) ∙ is.row)

@@ -36,8 +36,8 @@ use Rattle.litrs_parts.proofs.Dispatch.{dispatch-chars}
 use Rattle.litrs_parts.proofs.IntegerBytes.{digit-chars}
 use Rattle.litrs_parts.proofs.NumberBytes.{begins_float-chars}
 use Rattle.litrs.specs.LacksDigits.{is_digits_kind, ends_at, lacks_digits}
-use Rattle.litrs.specs.Row.{row_of}
-use Rattle.litrs.specs.declared.going_on.dispatch.Row.TheVariants as row
+use Rattle.litrs_parts.specs.Front.{row_of}
+use Rattle.litrs_parts.specs.declared.kind.Front.TheVariants as front
 use Rattle.litrs.proofs.Begins.{answer_is, begins_now}
 
 -- nothing stands after a front that is as long as the text
@@ -356,7 +356,7 @@ abbrev kind_of : Bool → LiteralKind
 kind_of float = if float then float_literal else integer_literal
 
 -- a number is parsed as its kind
-pub number_named : (bs : List ℕ) → IsUtf8 bs → row_of row.Number bs ≡ dispatch bs →
+pub number_named : (bs : List ℕ) → IsUtf8 bs → row_of front.Number bs ≡ dispatch bs →
     dispatch (chars bs) ≡ parsed_as (number_kind (chars bs))
 number_named bs u is = dispatch-chars bs u ∙ sym is ∙ inside (begins_float bs)
     ∙ (λ j. parsed_as (kind_of (sym (begins_float-chars bs u) j)))

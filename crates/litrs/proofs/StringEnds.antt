@@ -11,19 +11,30 @@ use Rattle.litrs_grammar.specs.StringKind.{StringKind, string_kind, byte_string_
 use Rattle.litrs_grammar.specs.Quoted.{quoted_front, IsQuoted}
 use Rattle.litrs_grammar.specs.Raw.{raw_front, has_unicode, allows_nul, IsRawOf, IsRawLiteral}
 use Rattle.litrs_grammar.specs.Continuation.{BeginsBy}
-use Rattle.litrs_grammar.specs.Literal.{IsString}
-use Rattle.litrs_grammar.specs.LiteralRefusals.{refused_start, quoted_start, raw_start, string_start, string_start_refusal}
+use Rattle.litrs_grammar.specs.Literal.{IsString, string_literal, byte_string_literal, c_string_literal, literal_parse, kind_parse, Begins}
+use Rattle.litrs_grammar.specs.LiteralRefusals.{parsed_as, dispatch, refused_start, quoted_start, raw_start, string_start, string_start_refusal}
 use Rattle.litrs_grammar.specs.GoesOn.String.{start_goes_on}
 use Rattle.litrs_grammar.proofs.Laws.Literal.{start_quoted, start_raw}
-use Rattle.litrs_grammar.proofs.LongerTexts.Literal.{chain, back, raw_begins_behind}
+use Rattle.litrs_grammar.proofs.LongerTexts.Literal.{chain, back, begins_kind, raw_begins_behind}
 use Rattle.litrs_grammar.proofs.LongerTexts.String.{quoted_string_begins, raw_string_begins, start_begins}
-use Rattle.litrs.proofs.Begins.{answer_is}
+use Rattle.litrs_parts.specs.Front.{string_literal_of}
+use Rattle.litrs_parts.proofs.Dispatch.{dispatch-chars}
+use Rattle.litrs.proofs.Begins.{answer_is, begins_parsed}
 use Rattle.litrs.proofs.Fronts.{front_chars, front_taken}
 
--- one of two holds, and not the first
-pub or_else : (a b : Bool) → (a || b) ≡ true → a ≡ false → b ≡ true
-or_else true b h none = cc
-or_else false b h none = h
+-- what begins a string of the kind begins a literal, where the text is parsed as such a string
+begins_string : (kind : StringKind) (t : List ℕ) →
+    BeginsBy (IsString kind) t ↔ Begins (kind_parse (string_literal_of kind)) t
+begins_string string_kind t = back (begins_kind string_literal t)
+begins_string byte_string_kind t = back (begins_kind byte_string_literal t)
+begins_string c_string_kind t = back (begins_kind c_string_literal t)
+
+pub string_parsed : (kind : StringKind) (bs : List ℕ) (b : Bool) → IsUtf8 bs →
+    parsed_as (string_literal_of kind) ≡ dispatch bs →
+    IsTrue b ↔ BeginsBy (IsString kind) (chars bs) → IsTrue b ↔ Begins literal_parse (chars bs)
+string_parsed kind bs b u row is =
+    chain is (chain (begins_string kind (chars bs))
+    (begins_parsed (chars bs) (string_literal_of kind) (dispatch-chars bs u ∙ sym row)))
 
 -- Quoted
 
@@ -84,16 +95,16 @@ two_goes c t quote raw =
     alone true h = cc
     alone false h = refl
 
-lone_goes : (t : List ℕ) (n : ℕ) (bs : List ℕ) → t ≡ chars bs → IsUtf8 bs → bs ≡ 99 ∷ drop 1 bs →
-    begins_with (codes "c\"") t ≡ false → begins_with (codes "cr") t ≡ false → n ≡ length bs →
-    (n == 1) ≡ start_goes_on c_string_kind t
-lone_goes t n [] same u first quote raw is_len = cc
-lone_goes t n (b ∷ []) same u first quote raw is_len =
+lone_goes : (t bs : List ℕ) → t ≡ chars bs → IsUtf8 bs → bs ≡ 99 ∷ drop 1 bs →
+    begins_with (codes "c\"") t ≡ false → begins_with (codes "cr") t ≡ false →
+    begins_with bs (codes "c") ≡ start_goes_on c_string_kind t
+lone_goes t [] same u first quote raw = cc
+lone_goes t (b ∷ []) same u first quote raw =
     let at : b ≡ 99 = cc in
     let whole : t ≡ 99 ∷ [] = same ∙ ap (λ k. chars (k ∷ [])) at ∙ chars_ascii 99 [] (omega arith)
     ∙ ap (λ l. 99 ∷ l) chars-nil in
-    ap (λ k. k == 1) is_len ∙ sym (ap (start_goes_on c_string_kind) whole)
-lone_goes t n (b ∷ d ∷ bs) same u first quote raw is_len = by (chars (d ∷ bs)) refl
+    ap (λ k. begins_with (k ∷ []) (codes "c")) at ∙ sym (ap (start_goes_on c_string_kind) whole)
+lone_goes t (b ∷ d ∷ bs) same u first quote raw = by (chars (d ∷ bs)) refl
   where
     at : b ≡ 99
     at = cc
@@ -105,19 +116,20 @@ lone_goes t n (b ∷ d ∷ bs) same u first quote raw is_len = by (chars (d ∷ 
     some = chars_empty (d ∷ bs) (utf8_behind_ascii b (d ∷ bs) (omega (arith, at)) u)
         ∙ ne_eqb (length (d ∷ bs)) 0 (λ h. omega arith)
 
-    by : (s : List ℕ) → chars (d ∷ bs) ≡ s → (n == 1) ≡ start_goes_on c_string_kind t
+    by : (s : List ℕ) → chars (d ∷ bs) ≡ s →
+        begins_with (b ∷ d ∷ bs) (codes "c") ≡ start_goes_on c_string_kind t
     by [] is = absurd (both_ways _ some (ap is_empty is))
     by (c ∷ s) is =
         let text : t ≡ 99 ∷ c ∷ s = whole ∙ ap (λ l. 99 ∷ l) is in
-        ne_eqb n 1 (λ h. omega arith)
+        ap (λ k. begins_with (k ∷ d ∷ bs) (codes "c")) at
         ∙ sym (ap (start_goes_on c_string_kind) text
         ∙ two_goes c s (ap (begins_with (codes "c\"")) (sym text) ∙ quote)
         (ap (begins_with (codes "cr")) (sym text) ∙ raw))
 
-pub lone_string : (bs : List ℕ) (n : ℕ) → IsUtf8 bs → begins_with (codes "c") bs ≡ true →
-    begins_with (codes "c\"") bs ≡ false → begins_with (codes "cr") bs ≡ false → n ≡ length bs →
-    IsTrue (n == 1) ↔ BeginsBy (IsString c_string_kind) (chars bs)
-lone_string bs n u begins quote raw is_len =
+pub lone_string : (bs : List ℕ) (b : Bool) → IsUtf8 bs → begins_with (codes "c") bs ≡ true →
+    begins_with (codes "c\"") bs ≡ false → begins_with (codes "cr") bs ≡ false →
+    b ≡ begins_with bs (codes "c") → IsTrue b ↔ BeginsBy (IsString c_string_kind) (chars bs)
+lone_string bs b u begins quote raw answer =
     let t = chars bs in
     let no_quote : begins_with (codes "c\"") t ≡ false = begins_with-chars (codes "c\"") bs refl u
     ∙ quote in
@@ -125,8 +137,8 @@ lone_string bs n u begins quote raw is_len =
     ∙ raw in
     let start : string_start c_string_kind t ≡ refused_start (string_start_refusal c_string_kind) =
     rw (some bs u begins, no_quote, no_raw) refl in
-    answer_is (n == 1) (start_goes_on c_string_kind t)
-    (lone_goes t n bs refl u (first bs begins) no_quote no_raw is_len)
+    answer_is b (start_goes_on c_string_kind t)
+    (answer ∙ lone_goes t bs refl u (first bs begins) no_quote no_raw)
     (back (start_begins c_string_kind t (string_start_refusal c_string_kind) start))
   where
     first : (bs : List ℕ) → begins_with (codes "c") bs ≡ true → bs ≡ 99 ∷ drop 1 bs

@@ -1,25 +1,29 @@
 -- Which words begin a literal.
-use Rattle.std.proofs.Common.{◌≡◌, ◌⊎◌, inl, inr, ◌<◌, ℕ, Bool, true, false, ltb, ◌&&◌, List, [], ◌∷◌, refl, sym, ap, ◌∙◌, arith}
-use Rattle.std.specs.Prelude.{◌↔◌, ◌==◌, ◌||◌, codes, IsTrue}
+use Rattle.std.proofs.Common.{◌≡◌, inl, inr, ◌<◌, ℕ, Bool, true, false, ltb, ◌&&◌, List, [], ◌∷◌, refl, sym, ap, ◌∙◌, arith, ◌⊎◌, subst}
+use Rattle.std.specs.Prelude.{◌↔◌, ◌==◌, ◌||◌, codes, IsTrue, if◌then◌else◌}
 use Rattle.std.specs.List.{list_all}
 use Rattle.std.specs.Str.{chars, IsUtf8}
-use Rattle.std.proofs.lemmas.Bool.{and_parts, and_left, cases_lt, ltb-true, ne_eqb}
+use Rattle.std.proofs.Math.Bool.{or-false}
+use Rattle.std.proofs.lemmas.Bool.{and_parts, and_left, cases_lt, both_ways, eqb-true, ltb-true, ne_eqb}
 use Rattle.std.proofs.lemmas.Str.{chars-nil}
-use Rattle.litrs_base.specs.declared.err.ParseErrorKind.TheVariants.{Empty}
+use Rattle.litrs_base.specs.declared.err.ParseErrorKind.TheVariants.{Empty, InvalidLiteral}
 use Rattle.litrs_base.specs.Refusal.{Refusal, plain}
 use Rattle.litrs_base.specs.Text.{is_empty, first_passes, begins_with}
 use Rattle.litrs_base.proofs.Chars.{chars_ascii, chars_wide, utf8_behind_ascii}
-use Rattle.litrs_grammar.specs.Literal.{a_bool, literal_parse, IsLiteralOf, Begins}
-use Rattle.litrs_grammar.specs.LiteralRefusals.{refused_as, dispatch}
+use Rattle.litrs_grammar.specs.Literal.{a_bool, literal_parse, c_string_literal, IsLiteralOf, Begins}
+use Rattle.litrs_grammar.specs.LiteralRefusals.{refused_as, parsed_as, dispatch}
 use Rattle.litrs_grammar.specs.GoesOn.Unnamed.{unnamed_goes_on}
-use Rattle.litrs_grammar.proofs.Laws.Literal.{some_bool}
+use Rattle.litrs_grammar.specs.StringKind.{c_string_kind}
+use Rattle.litrs_grammar.proofs.Laws.Bool.{chars-bool_text}
 use Rattle.litrs_grammar.proofs.LongerTexts.Dispatch.{unnamed_begins}
 use Rattle.litrs_grammar.proofs.LongerTexts.Literal.{back}
-use Rattle.litrs_parts.proofs.Dispatch.{dispatch-chars, is_bool-chars}
-use Rattle.litrs.specs.Row.{row_of, begins_as}
-use Rattle.litrs.specs.declared.going_on.dispatch.Row.{Row}
-use Rattle.litrs.specs.declared.going_on.dispatch.Row.TheVariants as row
+use Rattle.litrs_parts.proofs.Dispatch.{dispatch-chars}
+use Rattle.litrs_parts.specs.declared.kind.Front.{Front}
+use Rattle.litrs_parts.specs.declared.kind.Front.TheVariants as front
+use Rattle.litrs_parts.specs.Front.{IsFront}
+use Rattle.litrs_parts.proofs.Fronts.{some_text}
 use Rattle.litrs.proofs.Begins.{yes, answer_is, begins_now}
+use Rattle.litrs.proofs.StringEnds.{string_parsed, lone_string}
 
 -- an ASCII word begins with the bytes if and only if it begins with the characters
 fronts-chars : (word bs : List ℕ) → list_all (λ c. ltb c 128) word ≡ true → IsUtf8 bs →
@@ -58,29 +62,79 @@ word_decided bs seen e b u row same is =
     (is ∙ ap unnamed_goes_on same ∙ sym (unnamed-chars bs u))
     (back (unnamed_begins (chars bs) e (dispatch-chars bs u ∙ sym row)))
 
--- a word that begins with no letter of `true`, `false` and `b` begins none of them
-other_letter : (a b d x y z : Bool) → a || (b || d) ≡ false → ((a && x) || (b && y)) || (d && z) ≡ false
-other_letter false false false x y z none = refl
-other_letter true b d x y z none = cc
-other_letter false true d x y z none = cc
-other_letter false false true x y z none = cc
+-- a word that begins with none of the letters begins none of the words
+other_letter : (a b d e x y z w : Bool) → a || (b || (d || e)) ≡ false →
+    (((a && x) || (b && y)) || (d && z)) || (e && w) ≡ false
+other_letter false false false false x y z w none = refl
+other_letter true b d e x y z w none = cc
+other_letter false true d e x y z w none = cc
+other_letter false false true e x y z w none = cc
+other_letter false false false true x y z w none = cc
 
-pub other_word : (word : List ℕ) → is_empty word || first_passes (λ c. (c == 116) || ((c == 102) || (c == 98))) word ≡ false → unnamed_goes_on word ≡ false
+pub other_word : (word : List ℕ) → is_empty word
+    || first_passes (λ c. (c == 116) || ((c == 102) || ((c == 98) || (c == 99)))) word ≡ false →
+    unnamed_goes_on word || begins_with word (codes "c") ≡ false
 other_word [] none = cc
-other_word (c ∷ cs) none = other_letter (c == 116) (c == 102) (c == 98) _ _ _ none
+other_word (c ∷ cs) none = other_letter (c == 116) (c == 102) (c == 98) (c == 99) _ _ _ _ none
 
--- the empty text begins a literal, and a bool is one
-pub whole_decided : (r : Row) (bs : List ℕ) → IsUtf8 bs → (r ≡ row.Empty) ⊎ (r ≡ row.Bool) →
-    row_of r bs ≡ dispatch bs → begins_as r bs ≡ true → IsTrue true ↔ Begins literal_parse (chars bs)
-whole_decided r bs u (inl empty) is begins =
-    nothing bs u (ap (λ (k : Row). row_of k bs) (sym empty) ∙ is)
-    (ap (λ (k : Row). begins_as k bs) (sym empty) ∙ begins)
+-- The fronts of no kind
+
+-- the empty text begins a literal
+empty_decided : (bs : List ℕ) → IsUtf8 bs → IsFront front.Empty bs →
+    IsTrue true ↔ Begins literal_parse (chars bs)
+empty_decided bs u is = at bs u is.row is.begins
   where
-    nothing : (bs : List ℕ) → IsUtf8 bs → refused_as (plain Empty) ≡ dispatch bs →
-        is_empty bs ≡ true → IsTrue true ↔ Begins literal_parse (chars bs)
-    nothing [] u same none = word_decided [] [] (plain Empty) true u same refl refl
-    nothing (b ∷ bs) u same none = cc
-whole_decided r bs u (inr bool) is begins =
-    let found = some_bool (chars bs)
-    (is_bool-chars bs u ∙ ap (λ (k : Row). begins_as k bs) (sym bool) ∙ begins) in
-    yes (begins_now (IsLiteralOf literal_parse) (chars bs) (a_bool found.0) found.1)
+    at : (bs : List ℕ) → IsUtf8 bs → refused_as (plain Empty) ≡ dispatch bs → is_empty bs ≡ true →
+        IsTrue true ↔ Begins literal_parse (chars bs)
+    at [] u row none = word_decided [] [] (plain Empty) true u row refl refl
+    at (b ∷ bs) u row none = cc
+
+-- a bool is a literal
+bool_decided : (value : Bool) (bs : List ℕ) → IsFront (front.Bool value) bs →
+    IsTrue true ↔ Begins literal_parse (chars bs)
+bool_decided value bs is =
+    yes (begins_now (IsLiteralOf literal_parse) (chars bs) (a_bool value)
+    (sym (ap chars is.begins ∙ chars-bool_text value)))
+
+pub whole_decided : (f : Front) (bs : List ℕ) → IsUtf8 bs → IsFront f bs →
+    (f ≡ front.Empty) ⊎ ((value : Bool) × (f ≡ front.Bool value)) →
+    IsTrue true ↔ Begins literal_parse (chars bs)
+whole_decided f bs u is (inl empty) =
+    empty_decided bs u (subst (λ (g : Front). IsFront g bs) empty is)
+whole_decided f bs u is (inr bool) =
+    bool_decided bool.0 bs (subst (λ (g : Front). IsFront g bs) bool.1 is)
+
+-- a text that begins with another letter than `c`
+other_first : (bs : List ℕ) → is_empty bs ≡ false → begins_with (codes "c") bs ≡ false →
+    begins_with bs (codes "c") ≡ false
+other_first [] some other = cc
+other_first (b ∷ bs) some other =
+    and_left (b == 99) _ (ne_eqb b 99 (λ same. both_ways _ other
+    (ap (λ k. begins_with (codes "c") (k ∷ bs)) same)))
+
+-- a text that begins with `c` begins no other word
+c_word : (bs : List ℕ) → begins_with (codes "c") bs ≡ true → unnamed_goes_on bs ≡ false
+c_word [] begins = cc
+c_word (b ∷ bs) begins =
+    ap (λ k. unnamed_goes_on (k ∷ bs)) (sym (eqb-true 99 b (and_parts (99 == b) true begins).0))
+
+pub other_decided : (bs seen : List ℕ) (b : Bool) → IsUtf8 bs → IsFront front.Other bs →
+    seen ≡ bs → b ≡ unnamed_goes_on seen || begins_with seen (codes "c") →
+    IsTrue b ↔ Begins literal_parse (chars bs)
+other_decided bs seen b u is same answer = at (begins_with (codes "c") bs) refl
+  where
+    now : b ≡ unnamed_goes_on bs || begins_with bs (codes "c")
+    now = answer ∙ ap (λ l. unnamed_goes_on l || begins_with l (codes "c")) same
+
+    row : (v : Bool) → begins_with (codes "c") bs ≡ v →
+        (if v then parsed_as c_string_literal else refused_as (plain InvalidLiteral)) ≡ dispatch bs
+    row v test = ap (λ w. if w then parsed_as c_string_literal else refused_as (plain InvalidLiteral))
+        (sym test) ∙ is.row
+
+    at : (v : Bool) → begins_with (codes "c") bs ≡ v → IsTrue b ↔ Begins literal_parse (chars bs)
+    at true test = string_parsed c_string_kind bs b u (row true test)
+        (lone_string bs b u test is.begins.0 is.begins.1
+        (now ∙ ap (λ v. v || begins_with bs (codes "c")) (c_word bs test)))
+    at false test = word_decided bs bs (plain InvalidLiteral) b u (row false test) refl
+        (now ∙ ap (λ v. unnamed_goes_on bs || v)
+        (other_first bs (some_text front.Other bs is (λ e. cc)) test) ∙ or-false (unnamed_goes_on bs))

@@ -2,10 +2,7 @@
 pub mod LiteralDerivation
 -- digits, however they are grouped
 pub mod Digits
--- the dispatch
-pub mod Dispatched
 -- what begins a literal
-pub mod Row
 pub mod Begins
 pub mod LacksDigits
 pub mod LastUnderscore

@@ -4,19 +4,18 @@ ghost use Rattle.std.specs.Str.{chars};
 ghost use Rattle.litrs_grammar.specs.Literal.{literal_parse, Begins};
 
 use char::{byte_goes_on, char_goes_on};
-use dispatch::{Row, dispatch};
+use litrs_parts::Front;
 use number::number_goes_on;
-use string::{byte_string_goes_on, c_string_goes_on, string_goes_on};
+use quoted::quoted_goes_on;
+use raw::raw_goes_on;
 use word::word_goes_on;
 
 mod char;
-mod dispatch;
 mod escape;
-mod front;
+pub(crate) mod front;
 mod number;
 mod quoted;
 mod raw;
-mod string;
 mod suffix;
 mod word;
 
@@ -36,14 +35,13 @@ mod word;
 pub fn goes_on(text: &str) -> bool
     ensures { IsTrue result ↔ Begins literal_parse (chars text.now) }
 {
-    match dispatch(text) {
-        Row::Empty | Row::Bool => true,
-        Row::Number => number_goes_on(text),
-        Row::Char => char_goes_on(text),
-        Row::Byte => byte_goes_on(text),
-        Row::String => string_goes_on(text),
-        Row::ByteString => byte_string_goes_on(text),
-        Row::CString => c_string_goes_on(text),
-        Row::Unnamed => word_goes_on(text.as_bytes()),
+    match Front::of(text) {
+        Front::Empty | Front::Bool(_) => true,
+        Front::Number => number_goes_on(text),
+        Front::Char => char_goes_on(text),
+        Front::Byte => byte_goes_on(text),
+        Front::Quoted(kind) => quoted_goes_on(text, kind),
+        Front::Raw(kind) => raw_goes_on(text, kind),
+        Front::Other => word_goes_on(text.as_bytes()),
     }
 }

@@ -73,27 +73,29 @@ ghost use Rattle.std.specs.Cmp.Lexicographic.{pointwise, nat_list_eq_equiv};
 ghost use Rattle.std.specs.Char.{is_ascii_digit};
 ghost use Rattle.std.specs.Str.{chars};
 ghost use Rattle.litrs_base.specs.Derivations.{IsOnlyDerivation};
+ghost use Rattle.litrs_base.specs.Refusal.{plain};
 ghost use Rattle.litrs_base.specs.Text.{first_passes};
 ghost use Rattle.litrs_grammar.specs.Literal.{IsLiteral, suffix_of, literal_parse, kind_parse};
 ghost use Rattle.litrs_grammar.specs.Allocation.{allocates};
+ghost use Rattle.litrs_grammar.specs.LiteralRefusals.{IsRefusal};
 ghost use Rattle.litrs_grammar.specs.Refused.{IsRefused, IsRefusedOrOutOfMemory};
+ghost use Rattle.litrs_parts.specs.Front.{grammar_kind, string_literal_of, IsFront};
 ghost use Rattle.litrs_parts.specs.NumberCut.{number_kind};
 ghost use Rattle.litrs.specs.LiteralDerivation.{literal_raw, derivation};
 
+use going_on::front::begins_with;
 pub use going_on::goes_on;
 pub use litrs_numbers::{FloatLit, FromIntegerLiteral, IntegerLit};
 pub use litrs_parts::{
     Buffer, FloatType, IntegerBase, IntegerType, ParseError, ParseErrorKind, Text,
 };
-use litrs_parts::{NumberCut, cut_number};
+use litrs_parts::{Front, NumberCut, StringKind, cut_number};
 pub use litrs_scalars::{BoolLit, ByteLit, CharLit};
 pub use litrs_strings::{ByteStringLit, CString, CStringLit, StringLit};
-use parse::Dispatched;
 use std::alloc::{AllocError, Global};
 use std::fmt;
 
 mod going_on;
-mod parse;
 
 /// A literal of any kind. See [the reference][ref].
 ///
@@ -141,15 +143,17 @@ impl<B: Text> Literal<B> {
         ensures refused { IfErr result
             (IsRefusedOrOutOfMemory literal_parse (chars (B.bytes input))) }
     {
-        match parse::dispatch(input.as_str()) {
-            Dispatched::Refused(e) => Err(e),
-            Dispatched::Bool(lit) => Ok(Literal::Bool(lit)),
-            Dispatched::Number => Ok(Literal::parse_number(input)?),
-            Dispatched::Char => Ok(Literal::Char(CharLit::parse(input)?)),
-            Dispatched::String => Ok(Literal::String(StringLit::parse(alloc, input)?)),
-            Dispatched::Byte => Ok(Literal::Byte(ByteLit::parse(input)?)),
-            Dispatched::ByteString => Ok(Literal::ByteString(ByteStringLit::parse(alloc, input)?)),
-            Dispatched::CString => Ok(Literal::CString(CStringLit::parse(alloc, input)?)),
+        match Front::of(input.as_str()) {
+            Front::Empty => Err(ParseError::new(None, ParseErrorKind::Empty)),
+            Front::Bool(value) => Ok(Literal::Bool(BoolLit::new(value))),
+            Front::Number => Ok(Literal::parse_number(input)?),
+            Front::Char => Ok(Literal::Char(CharLit::parse_with_front(input, Front::Char)?)),
+            Front::Byte => Ok(Literal::Byte(ByteLit::parse_with_front(input, Front::Byte)?)),
+            Front::Quoted(kind) => {
+                Ok(Literal::parse_string(alloc, input, kind, Front::Quoted(kind))?)
+            }
+            Front::Raw(kind) => Ok(Literal::parse_string(alloc, input, kind, Front::Raw(kind))?),
+            Front::Other => Err(ParseError::new(None, other_refusal(input.as_str()))),
         }
     }
 
@@ -165,6 +169,33 @@ impl<B: Text> Literal<B> {
         match cut_number(input.as_str())? {
             NumberCut::Integer(cut) => Ok(Literal::Integer(IntegerLit::new(input, cut))),
             NumberCut::Float(cut) => Ok(Literal::Float(FloatLit::new(input, cut))),
+        }
+    }
+
+    /// The same for a text that is parsed as a string of the kind, and begins so.
+    #[inline(always)]
+    fn parse_string(
+        alloc: Global,
+        input: B,
+        kind: StringKind,
+        front: Front,
+    ) -> Result<Literal<B>, ParseError>
+        requires { IsFront front (B.bytes input) }
+        ensures raw { IfOk result (λ lit. literal_raw lit ≡ B.bytes input) }
+        ensures literal { IfOk result (λ lit. IsLiteral (chars (B.bytes input)) (derivation lit)) }
+        ensures refused { IfErr result (IsRefusedOrOutOfMemory
+            (kind_parse (string_literal_of (grammar_kind kind))) (chars (B.bytes input))) }
+    {
+        match kind {
+            StringKind::String => {
+                Ok(Literal::String(StringLit::parse_with_front(alloc, input, front)?))
+            }
+            StringKind::ByteString => {
+                Ok(Literal::ByteString(ByteStringLit::parse_with_front(alloc, input, front)?))
+            }
+            StringKind::CString => {
+                Ok(Literal::CString(CStringLit::parse_with_front(alloc, input, front)?))
+            }
         }
     }
 
@@ -248,6 +279,18 @@ impl Literal<&str> {
             Literal::ByteString(lit) => Ok(Literal::ByteString(lit.into_owned(alloc)?)),
             Literal::CString(lit) => Ok(Literal::CString(lit.into_owned(alloc)?)),
         }
+    }
+}
+
+/// Why a text that begins as no literal is none. One that begins with `c` is refused as a C string.
+fn other_refusal(text: &str) -> ParseErrorKind
+    requires { IsFront Front.Other text.now }
+    ensures { IsRefusal literal_parse (chars text.now) (plain result) }
+{
+    if begins_with(b"c", text.as_bytes()) {
+        ParseErrorKind::InvalidCStringLiteralStart
+    } else {
+        ParseErrorKind::InvalidLiteral
     }
 }
 

@@ -6,9 +6,10 @@
 
 pub use container::EscapeContainer;
 pub use litrs_parts::{
-    Buffer, FloatCut, FloatType, IntegerBase, IntegerCut, IntegerType, NumberCut, ParseError,
-    ParseErrorKind, Text, Unescape, check_suffix, cut_byte, cut_char, cut_float, cut_integer,
-    cut_number, end_dec_digits, first_byte_or_empty, hex_digit_value, unescape,
+    Buffer, FloatCut, FloatType, Front, IntegerBase, IntegerCut, IntegerType, NumberCut,
+    ParseError, ParseErrorKind, StringKind, Switches, Text, Unescape, check_suffix, cut_bool,
+    cut_byte, cut_char, cut_float, cut_integer, cut_number, end_dec_digits, first_byte_or_empty,
+    hex_digit_value, unescape,
 };
 pub use litrs_search::{Run, Special, next_special, run_end};
 pub use quoted::{QuotedCut, cut_quoted};

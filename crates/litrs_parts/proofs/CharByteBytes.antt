@@ -35,8 +35,8 @@ use Rattle.litrs_grammar.proofs.QuotedItems.{escape_head}
 use Rattle.litrs_grammar.proofs.Refused.{is_refused}
 use Rattle.litrs_parts.specs.CharCut.{escape_written, item_written, char_parts_at, kind_if, unwraps_as, IsItemRead, IsItemRefused, IsCutBehind}
 use Rattle.litrs_parts.specs.Unescaped.{switches, IsUnescaped, IsEscapeRefused}
-use Rattle.litrs_parts.proofs.CharCuts.{cut_at}
-use Rattle.litrs_parts.proofs.AsciiTests.{only_char, list_any-chars}
+use Rattle.litrs_parts.proofs.Dispatch.{is_empty-chars}
+use Rattle.litrs_parts.proofs.EscapeBytes.{cut_at, only_char, list_any-chars}
 
 -- After the front
 
@@ -473,19 +473,16 @@ start_within kind bs value start u r =
 
 -- A text that does not begin with the front
 
-pub empty_start : (kind : CharKind) (bs : List ℕ) → bs ≡ [] → char_kind_refusal kind (chars bs) ≡ Some (plain Empty)
+pub empty_start : (kind : CharKind) (bs : List ℕ) → is_empty bs ≡ true → char_kind_refusal kind (chars bs) ≡ Some (plain Empty)
 unfolding char_kind_refusal
-empty_start char_kind bs none = ap (λ l. char_kind_refusal char_kind (chars l)) none ∙ ap (char_kind_refusal char_kind) chars-nil
-empty_start byte_kind bs none = ap (λ l. char_kind_refusal byte_kind (chars l)) none ∙ ap (char_kind_refusal byte_kind) chars-nil
+empty_start char_kind [] none = ap (char_kind_refusal char_kind) chars-nil
+empty_start byte_kind [] none = ap (char_kind_refusal byte_kind) chars-nil
+empty_start kind (b ∷ bs) none = cc
 
 other_start : (kind : CharKind) (bs : List ℕ) → IsUtf8 bs → begins_with (char_front kind) bs ≡ false → char_kind_refusal kind (chars bs) ≡ Some (start_refusal kind (chars bs))
 unfolding char_kind_refusal
 other_start char_kind bs u never = if_false _ _ _ (begins_with-chars (39 ∷ []) bs refl u ∙ never)
 other_start byte_kind bs u never = if_false _ _ _ (begins_with-chars (98 ∷ 39 ∷ []) bs refl u ∙ never)
-
-filled : (bs : List ℕ) (b : ℕ) → IsUtf8 bs → slice_get bs 0 ≡ Some b → is_empty (chars bs) ≡ false
-filled [] b u is = cc
-filled (c ∷ bs) b u is = chars_empty (c ∷ bs) u ∙ ne_eqb (suc (length bs)) 0 (λ e. omega arith)
 
 char_other : (t : List ℕ) → is_empty t ≡ false → start_refusal char_kind t ≡ at 0 DoesNotStartWithQuote
 char_other [] some = cc
@@ -495,15 +492,8 @@ byte_other : (t : List ℕ) → is_empty t ≡ false → start_refusal byte_kind
 byte_other [] some = cc
 byte_other (c ∷ t) some = refl
 
-pub char_start : (bs : List ℕ) (b : ℕ) → IsUtf8 bs → slice_get bs 0 ≡ Some b → begins_with (39 ∷ []) bs ≡ false → char_kind_refusal char_kind (chars bs) ≡ Some (at 0 DoesNotStartWithQuote)
-char_start bs b u some never = other_start char_kind bs u never ∙ ap Some (char_other (chars bs) (filled bs b u some))
+pub char_start : (bs : List ℕ) → IsUtf8 bs → is_empty bs ≡ false → begins_with (39 ∷ []) bs ≡ false → char_kind_refusal char_kind (chars bs) ≡ Some (at 0 DoesNotStartWithQuote)
+char_start bs u some never = other_start char_kind bs u never ∙ ap Some (char_other (chars bs) (is_empty-chars bs u ∙ some))
 
-pub byte_start : (bs : List ℕ) (b : ℕ) → IsUtf8 bs → slice_get bs 0 ≡ Some b → begins_with (98 ∷ 39 ∷ []) bs ≡ false → char_kind_refusal byte_kind (chars bs) ≡ Some (plain InvalidByteLiteralStart)
-byte_start bs b u some never = other_start byte_kind bs u never ∙ ap Some (byte_other (chars bs) (filled bs b u some))
-
-pub begins_get_at : (bs : List ℕ) (b k : ℕ) → slice_get bs 0 ≡ Some b → b ≡ k → begins_with (k ∷ []) bs ≡ true
-begins_get_at bs b k some is = begins_get bs bs k refl (ap Some (sym is) ∙ sym some)
-
-pub quote_not_first : (bs : List ℕ) (b : ℕ) → slice_get bs 0 ≡ Some b → (b ≡ 39 → ⊥) → begins_with (39 ∷ []) bs ≡ false
-quote_not_first [] b some other = cc
-quote_not_first (c ∷ bs) b some other = let same : c ≡ b = cc in and_left _ _ (ne_eqb 39 c (λ e. other (sym same ∙ sym e)))
+pub byte_start : (bs : List ℕ) → IsUtf8 bs → is_empty bs ≡ false → begins_with (98 ∷ 39 ∷ []) bs ≡ false → char_kind_refusal byte_kind (chars bs) ≡ Some (plain InvalidByteLiteralStart)
+byte_start bs u some never = other_start byte_kind bs u never ∙ ap Some (byte_other (chars bs) (is_empty-chars bs u ∙ some))

@@ -11,7 +11,7 @@ use Rattle.litrs_grammar.specs.LiteralRefusals.{dispatch}
 use Rattle.litrs_parts.proofs.IntegerBytes.{digit-chars}
 use Rattle.litrs_parts.proofs.NumberBytes.{begins_float-chars}
 
-is_empty-chars : (bs : List ℕ) → IsUtf8 bs → is_empty (chars bs) ≡ is_empty bs
+pub is_empty-chars : (bs : List ℕ) → IsUtf8 bs → is_empty (chars bs) ≡ is_empty bs
 is_empty-chars [] u = ap is_empty chars-nil
 is_empty-chars (b ∷ bs) u = chars_empty (b ∷ bs) u ∙ ne_eqb (suc (length bs)) 0 (λ h. omega arith)
 

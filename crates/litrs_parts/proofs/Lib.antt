@@ -3,6 +3,7 @@ pub mod SuffixBytes
 pub mod NumeralLemmas
 pub mod IntegerBytes
 pub mod Dispatch
+pub mod Fronts
 pub mod FloatBytes
 pub mod NumberBytes
 pub mod AsciiTests
@@ -13,3 +14,4 @@ pub mod HexEscapeBytes
 pub mod UnicodeEscapeBytes
 pub mod UnderscoreRuns
 pub mod CharByteBytes
+pub mod Words

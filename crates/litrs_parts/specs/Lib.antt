@@ -1,3 +1,5 @@
+-- how a text begins
+pub mod Front
 -- what an escape holds
 pub mod Unescaped
 -- the parts that stand at the places of a cut

@@ -13,11 +13,16 @@ use Rattle.litrs_base.specs.Text.{byte_len, first_passes, is_empty}
 use Rattle.litrs_grammar.specs.Escape.{Switches, Escape, IsEscape, escape_text, escape_value, escape_refusal, is_hex_or_underscore, hex_value}
 use Rattle.litrs_grammar.specs.Laws.Escape.{BeginsWithEscape}
 use Rattle.litrs_parts.specs.declared.escape.HexDigits.{HexDigits}
+use Rattle.litrs_parts.specs.declared.escape.Switches.{Switches as CodeSwitches}
 
 -- what a literal allows in its escapes, by the three tests
 abbrev pub switches : (unicode byte_escapes allow_nul : Bool) → Switches
 switches unicode byte_escapes allow_nul =
     record { unicode = unicode; byte_escapes = byte_escapes; allow_nul = allow_nul }
+
+-- the same of the switches of the code
+abbrev pub grammar_switches : CodeSwitches → Switches
+grammar_switches w = switches w.unicode w.byte_escapes w.allow_nul
 
 -- The text of these bytes begins with an escape, and with no other. The escape stands for the value
 -- and has so many bytes, after which the text may be cut.

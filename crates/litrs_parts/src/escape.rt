@@ -14,6 +14,17 @@ use litrs_base::{ParseError, ParseErrorKind, Unescape};
 use litrs_search::{Run, run_end};
 use memchr::memchr;
 
+/// What a literal allows in its escapes, and of other characters in its body.
+#[derive(Clone, Copy, Debug, PartialEq, Eq)]
+pub struct Switches {
+    /// `\u{..}`, and characters beyond ASCII.
+    pub unicode: bool,
+    /// `\x80` to `\xff`.
+    pub byte_escapes: bool,
+    /// NUL, and escapes of value 0.
+    pub allow_nul: bool,
+}
+
 /// Parses the escape at the front of a text that is empty or begins with a backslash: what it
 /// stands for, and its length in bytes. Of `\n12` that is the byte 10, with length 2. See
 /// [the reference][ref].

@@ -1,12 +1,11 @@
 //! Bool literals.
-ghost use Rattle.std.specs.Prelude.{◌≡◌, ◌≢◌, ◌≤◌, length, take, IfOk, IfErr, IfSome, IfNone, IsTrue, IsFalse};
-ghost use Rattle.std.specs.Int.{w32, from_le_bytes};
+ghost use Rattle.std.specs.Prelude.{◌≡◌, IfOk, IfErr};
 ghost use Rattle.std.specs.Str.{chars};
 ghost use Rattle.litrs_base.specs.Derivations.{IsOnlyDerivation};
 ghost use Rattle.litrs_grammar.specs.Literal.{kind_parse, bool_literal};
 ghost use Rattle.litrs_grammar.specs.Refused.{IsRefused};
 
-use litrs_parts::{ParseError, ParseErrorKind};
+use litrs_parts::{ParseError, ParseErrorKind, cut_bool};
 use std::fmt;
 
 /// One of the two words `true` and `false`. See [the reference][ref].
@@ -23,7 +22,7 @@ pub enum BoolLit {
 
 impl BoolLit {
     ghost use Rattle.litrs_scalars.specs.BoolLiteral.{bool_value};
-    ghost use Rattle.litrs_grammar.specs.Bool.{IsBool, is_bool, bool_text};
+    ghost use Rattle.litrs_grammar.specs.Bool.{IsBool, bool_text};
 
     /// Parses a text that is exactly `true` or `false`.
     ///
@@ -34,32 +33,18 @@ impl BoolLit {
         ensures ok { IfOk result (λ lit. IsOnlyDerivation (IsBool (chars s.now)) (bool_value lit)) }
         ensures refused { IfErr result (IsRefused (kind_parse bool_literal) (chars s.now)) }
     {
-        match BoolLit::from_bytes(s.as_bytes()) {
-            Some(lit) => Ok(lit),
+        match cut_bool(s) {
+            Some(value) => Ok(BoolLit::new(value)),
             None => Err(ParseError::new(None, ParseErrorKind::InvalidLiteral)),
         }
     }
 
-    /// The bool that the bytes are, if they are one: `BoolLit::True` of `true`, None of `True`.
+    /// The literal of a bool: `BoolLit::True` of true.
     #[inline(always)]
-    pub fn from_bytes(bytes: &[u8]) -> Option<BoolLit>
-        ensures some { IfSome result (λ lit. bytes.now ≡ bool_text (bool_value lit)) }
-        ensures none { IfNone result (IsFalse (is_bool bytes.now)) }
+    pub fn new(value: bool) -> BoolLit
+        ensures { bool_value result ≡ value }
     {
-        // Both words begin with a letter of this range. Other texts are mostly rejected by this one
-        // comparison: names and signs took a sixth longer without it.
-        let [b'f'..=b't', ..] = bytes else {
-            return None;
-        };
-        let lit = match bytes {
-            [b't', ..] => BoolLit::True,
-            _ => BoolLit::False,
-        };
-        if is_word(bytes, lit.as_str().as_bytes()) {
-            Some(lit)
-        } else {
-            None
-        }
+        if value { BoolLit::True } else { BoolLit::False }
     }
 
     /// What it stands for: `true` of `BoolLit::True`.
@@ -81,39 +66,6 @@ impl BoolLit {
             BoolLit::True => "true",
         }
     }
-}
-
-/// Whether the bytes are this word of four or five bytes.
-///
-/// It is `bytes == word` without a call, and without a branch on which of the two words it is: with
-/// one, which a mix of both mispredicts, bools took a fifth longer. So the fourth byte of `true` is
-/// compared twice.
-#[inline(always)]
-fn is_word(bytes: &[u8], word: &[u8]) -> bool
-    requires least { 4 ≤ length word.now }
-    requires most { length word.now ≤ 5 }
-    ensures same { IsTrue result → bytes.now ≡ word.now }
-    ensures other { IsFalse result → bytes.now ≢ word.now }
-{
-    if bytes.len() != word.len() {
-        return false;
-    }
-    let last = word.len() - 1;
-    if bytes[last] != word[last] {
-        return false;
-    }
-    let found = first_four(bytes);
-    let wanted = first_four(word);
-    found == wanted
-}
-
-/// The first four bytes as one number, so that they are compared at once.
-#[inline(always)]
-fn first_four(bytes: &[u8]) -> u32
-    requires { 4 ≤ length bytes.now }
-    ensures { result ≡ from_le_bytes w32 (take 4 bytes.now) }
-{
-    u32::from_le_bytes([bytes[0], bytes[1], bytes[2], bytes[3]])
 }
 
 impl fmt::Display for BoolLit {

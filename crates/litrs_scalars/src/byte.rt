@@ -1,17 +1,17 @@
 //! Byte literals.
-ghost use Rattle.std.specs.Prelude.{◌≡◌, codes, false, IsOk, IfOk, IfErr, Some, nat_eq, ⊤};
+ghost use Rattle.std.specs.Prelude.{◌≡◌, false, IsOk, IfOk, IfErr, Some, nat_eq, ⊤};
 ghost use Rattle.std.specs.Cmp.{on_per, on_equiv, partial_equiv_from_equiv};
 ghost use Rattle.std.specs.Cmp.Lexicographic.{pointwise, nat_list_eq_equiv};
 ghost use Rattle.std.specs.Str.{chars, IsCharBoundary};
-ghost use Rattle.litrs_base.specs.Text.{begins_with};
 ghost use Rattle.litrs_base.specs.Derivations.{IsOnlyDerivation};
 ghost use Rattle.litrs_grammar.specs.CharByte.{byte_kind, char_value, IsCharLiteral};
 ghost use Rattle.litrs_grammar.specs.Literal.{kind_parse, byte_literal};
 ghost use Rattle.litrs_grammar.specs.Refused.{IsRefused};
+ghost use Rattle.litrs_parts.specs.Front.{IsFront};
 ghost use Rattle.litrs_parts.specs.CharCut.{char_parts_at, IsCharAt};
 ghost use Rattle.litrs_scalars.specs.CharLiteral.{CharLiteral, byte_parts};
 
-use litrs_parts::{ParseError, ParseErrorKind, Text, cut_byte, first_byte_or_empty};
+use litrs_parts::{Front, ParseError, ParseErrorKind, Text, cut_byte};
 use std::alloc::{AllocError, Global};
 use std::fmt;
 use std::marker::Model;
@@ -63,7 +63,26 @@ impl<B: Text> ByteLit<B> {
         ensures refused { IfErr result
             (IsRefused (kind_parse byte_literal) (chars (B.bytes input))) }
     {
-        let (value, start_suffix) = cut(input.as_str())?;
+        let front = Front::of(input.as_str());
+        ByteLit::parse_with_front(input, front)
+    }
+
+    /// [`parse`](ByteLit::parse) of a text of which it is known how it begins.
+    ///
+    /// # Errors
+    ///
+    /// Those of [`parse`](ByteLit::parse).
+    #[inline(always)]
+    pub fn parse_with_front(input: B, front: Front) -> Result<ByteLit<B>, ParseError>
+        requires { IsFront front (B.bytes input) }
+        ensures buffer { IfOk result (λ lit. lit.buffer ≡ input) }
+        ensures raw { IfOk result (λ lit. lit.raw ≡ B.bytes input) }
+        ensures ok { IfOk result (λ lit.
+            IsOnlyDerivation (IsCharLiteral byte_kind (chars (B.bytes input))) (byte_parts lit)) }
+        ensures refused { IfErr result
+            (IsRefused (kind_parse byte_literal) (chars (B.bytes input))) }
+    {
+        let (value, start_suffix) = cut(input.as_str(), front)?;
         Ok(ByteLit {
             raw: input,
             value,
@@ -151,8 +170,10 @@ impl ByteLit<&str> {
     }
 }
 
-/// The value, and where the suffix starts, if the text is a byte.
-fn cut(input: &str) -> Result<(u8, usize), ParseError>
+/// The value, and where the suffix starts, if the text, which begins so, is a byte.
+#[inline(always)]
+fn cut(input: &str, front: Front) -> Result<(u8, usize), ParseError>
+    requires { IsFront front input.now }
     ensures ok { IfOk result (λ cut.
         IsOnlyDerivation (IsCharLiteral byte_kind (chars input.now))
         (char_parts_at byte_kind cut.1 input.now)) }
@@ -161,19 +182,11 @@ fn cut(input: &str) -> Result<(u8, usize), ParseError>
     ensures place { IfOk result (λ cut. IsCharBoundary input.now cut.1) }
     ensures refused { IfErr result (IsRefused (kind_parse byte_literal) (chars input.now)) }
 {
-    first_byte_or_empty(input)?;
-    if begins_byte(input.as_bytes()) {
-        cut_byte(input)
-    } else {
-        Err(ParseError::new(None, ParseErrorKind::InvalidByteLiteralStart))
+    match front {
+        Front::Byte => cut_byte(input),
+        Front::Empty => Err(ParseError::new(None, ParseErrorKind::Empty)),
+        _ => Err(ParseError::new(None, ParseErrorKind::InvalidByteLiteralStart)),
     }
-}
-
-/// Whether the text begins with `b'`.
-fn begins_byte(bytes: &[u8]) -> bool
-    ensures { result ≡ begins_with (codes "b'") bytes.now }
-{
-    matches!(bytes, [b'b', b'\'', ..])
 }
 
 impl<B: Text> PartialEq for ByteLit<B> {

@@ -7,10 +7,11 @@ ghost use Rattle.litrs_base.specs.Derivations.{IsOnlyDerivation};
 ghost use Rattle.litrs_grammar.specs.CharByte.{char_kind, char_value, IsCharLiteral};
 ghost use Rattle.litrs_grammar.specs.Literal.{kind_parse, char_literal};
 ghost use Rattle.litrs_grammar.specs.Refused.{IsRefused};
+ghost use Rattle.litrs_parts.specs.Front.{IsFront};
 ghost use Rattle.litrs_parts.specs.CharCut.{char_parts_at, IsCharAt};
 ghost use Rattle.litrs_scalars.specs.CharLiteral.{CharLiteral, char_parts};
 
-use litrs_parts::{ParseError, ParseErrorKind, Text, cut_char, first_byte_or_empty};
+use litrs_parts::{Front, ParseError, ParseErrorKind, Text, cut_char};
 use std::alloc::{AllocError, Global};
 use std::fmt;
 use std::marker::Model;
@@ -61,7 +62,26 @@ impl<B: Text> CharLit<B> {
         ensures refused { IfErr result
             (IsRefused (kind_parse char_literal) (chars (B.bytes input))) }
     {
-        let (value, start_suffix) = cut(input.as_str())?;
+        let front = Front::of(input.as_str());
+        CharLit::parse_with_front(input, front)
+    }
+
+    /// [`parse`](CharLit::parse) of a text of which it is known how it begins.
+    ///
+    /// # Errors
+    ///
+    /// Those of [`parse`](CharLit::parse).
+    #[inline(always)]
+    pub fn parse_with_front(input: B, front: Front) -> Result<CharLit<B>, ParseError>
+        requires { IsFront front (B.bytes input) }
+        ensures buffer { IfOk result (λ lit. lit.buffer ≡ input) }
+        ensures raw { IfOk result (λ lit. lit.raw ≡ B.bytes input) }
+        ensures ok { IfOk result (λ lit.
+            IsOnlyDerivation (IsCharLiteral char_kind (chars (B.bytes input))) (char_parts lit)) }
+        ensures refused { IfErr result
+            (IsRefused (kind_parse char_literal) (chars (B.bytes input))) }
+    {
+        let (value, start_suffix) = cut(input.as_str(), front)?;
         Ok(CharLit {
             raw: input,
             value,
@@ -149,8 +169,10 @@ impl CharLit<&str> {
     }
 }
 
-/// The value, and where the suffix starts, if the text is a char.
-fn cut(input: &str) -> Result<(char, usize), ParseError>
+/// The value, and where the suffix starts, if the text, which begins so, is a char.
+#[inline(always)]
+fn cut(input: &str, front: Front) -> Result<(char, usize), ParseError>
+    requires { IsFront front input.now }
     ensures ok { IfOk result (λ cut.
         IsOnlyDerivation (IsCharLiteral char_kind (chars input.now))
         (char_parts_at char_kind cut.1 input.now)) }
@@ -159,11 +181,10 @@ fn cut(input: &str) -> Result<(char, usize), ParseError>
     ensures place { IfOk result (λ cut. IsCharBoundary input.now cut.1) }
     ensures refused { IfErr result (IsRefused (kind_parse char_literal) (chars input.now)) }
 {
-    let first = first_byte_or_empty(input)?;
-    if first == b'\'' {
-        cut_char(input)
-    } else {
-        Err(ParseError::in_text(input, Some(0..1), ParseErrorKind::DoesNotStartWithQuote))
+    match front {
+        Front::Char => cut_char(input),
+        Front::Empty => Err(ParseError::new(None, ParseErrorKind::Empty)),
+        _ => Err(ParseError::in_text(input, Some(0..1), ParseErrorKind::DoesNotStartWithQuote)),
     }
 }
 

@@ -21,6 +21,7 @@ use Rattle.litrs_grammar.specs.Allocation.{has_escapes, allocates}
 use Rattle.litrs_grammar.specs.Refused.{IsRefused, IsOutOfMemory, IsRefusedOrOutOfMemory}
 use Rattle.litrs_grammar.proofs.Laws.Literal.{string_literal_of, start_quoted, start_raw}
 use Rattle.litrs_grammar.proofs.Refused.{is_refused}
+use Rattle.litrs_parts.proofs.Dispatch.{is_empty-chars}
 use Rattle.litrs_lex.specs.QuotedCut.{IsQuotedRefused, IsQuotedOutOfMemory}
 use Rattle.litrs_lex.specs.RawCut.{IsRawRefused}
 use Rattle.litrs_lex.proofs.StringFronts.{quoted_begins, raw_begins, quoted_before, raw_behind}
@@ -51,27 +52,19 @@ starts_raw : (kind : StringKind) (bs : List ℕ) → IsUtf8 bs → begins_with (
 starts_raw kind bs u begins =
     ap (string_start kind) (sym (begins_with-split (raw_front kind) (chars bs) (raw_begins kind bs u ∙ begins))) ∙ start_raw kind _
 
-pub empty_start : (kind : StringKind) (bs : List ℕ) (e : ParseError) → bs ≡ [] → refusal_of e ≡ plain Empty → IsStringError kind (chars bs) e
-empty_start kind bs e none is =
-    inl (refused_at kind (refused_start (plain Empty)) (chars bs) e (ap (λ (l : List ℕ). string_start kind (chars l)) none ∙ ap (string_start kind) chars-nil)
-    (sym is) (no_span (chars bs) e Empty is))
+pub empty_start : (kind : StringKind) (bs : List ℕ) (e : ParseError) → is_empty bs ≡ true → refusal_of e ≡ plain Empty → IsStringError kind (chars bs) e
+empty_start kind [] e none is =
+    inl (refused_at kind (refused_start (plain Empty)) (chars []) e (ap (string_start kind) chars-nil)
+    (sym is) (no_span (chars []) e Empty is))
+empty_start kind (b ∷ bs) e none is = cc
 
-filled : (bs : List ℕ) (b : ℕ) → IsUtf8 bs → slice_get bs 0 ≡ Some b → is_empty (chars bs) ≡ false
-filled [] b u is = cc
-filled (c ∷ bs) b u is = chars_empty (c ∷ bs) u ∙ ne_eqb (suc (length bs)) 0 (λ e. omega arith)
-
-pub other_start : (kind : StringKind) (bs : List ℕ) (b : ℕ) (e : ParseError) → IsUtf8 bs → slice_get bs 0 ≡ Some b →
+pub other_start : (kind : StringKind) (bs : List ℕ) (e : ParseError) → IsUtf8 bs → is_empty bs ≡ false →
     begins_with (quoted_front kind) bs ≡ false → begins_with (raw_front kind) bs ≡ false →
     refusal_of e ≡ string_start_refusal kind → HasCharSpan (chars bs) e → IsStringError kind (chars bs) e
-other_start kind bs b e u some quoted raw is ends =
+other_start kind bs e u some quoted raw is ends =
     inl (refused_at kind (refused_start (string_start_refusal kind)) (chars bs) e
-    (if_false _ _ _ (filled bs b u some) ∙ (if_false _ _ _ (quoted_begins kind bs u ∙ quoted) ∙ if_false _ _ _ (raw_begins kind bs u ∙ raw)))
+    (if_false _ _ _ (is_empty-chars bs u ∙ some) ∙ (if_false _ _ _ (quoted_begins kind bs u ∙ quoted) ∙ if_false _ _ _ (raw_begins kind bs u ∙ raw)))
     (sym is) ends)
-
--- another first byte
-pub another_first : (bs : List ℕ) (b k : ℕ) → slice_get bs 0 ≡ Some b → (b ≡ k → ⊥) → begins_with (k ∷ []) bs ≡ false
-another_first [] b k some other = cc
-another_first (c ∷ bs) b k some other = let same : c ≡ b = cc in and_left _ _ (ne_eqb k c (λ e. other (sym same ∙ sym e)))
 
 -- Quoted strings
 

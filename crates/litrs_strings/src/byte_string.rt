@@ -1,21 +1,20 @@
 //! Byte string literals.
-ghost use Rattle.std.specs.Prelude.{◌≡◌, ◌↔◌, ◌⊎◌, false, IsTrue, IsOk, IfOk, IfErr, Some, nat_eq, option_map, vec_items, is_some, codes};
+ghost use Rattle.std.specs.Prelude.{◌≡◌, ◌↔◌, ◌⊎◌, false, IsTrue, IsOk, IfOk, IfErr, Some, nat_eq, option_map, vec_items, is_some};
 ghost use Rattle.std.specs.Cmp.{on_per, on_equiv, partial_equiv_from_equiv};
 ghost use Rattle.std.specs.Cmp.Lexicographic.{pointwise, nat_list_eq_equiv};
 ghost use Rattle.std.specs.Str.{chars};
 ghost use Rattle.litrs_base.specs.Derivations.{IsOnlyDerivation};
-ghost use Rattle.litrs_base.specs.Text.{begins_with};
 ghost use Rattle.litrs_grammar.specs.StringKind.{byte_string_kind};
 ghost use Rattle.litrs_grammar.specs.Literal.{IsString, string_suffix, string_value, kind_parse, byte_string_literal};
 ghost use Rattle.litrs_grammar.specs.Allocation.{has_escapes};
 ghost use Rattle.litrs_grammar.specs.Strings.{StringDerivation, is_raw};
 ghost use Rattle.litrs_grammar.specs.Refused.{IsRefusedOrOutOfMemory};
 ghost use Rattle.litrs_grammar.proofs.StringDerivations.{string_derivation-prop};
+ghost use Rattle.litrs_parts.specs.Front.{IsFront};
 ghost use Rattle.litrs_strings.specs.StringLiteral.{StringLiteral, IsStringAt};
-ghost use Rattle.litrs_strings.specs.ParsedStrings.{IsParsedString};
 
-use crate::cut::{StringCut, cut_raw, parse_quoted};
-use litrs_parts::{Buffer, ParseError, ParseErrorKind, Text, first_byte_or_empty};
+use crate::cut::{StringCut, parse_string};
+use litrs_parts::{Buffer, Front, ParseError, StringKind, Text};
 use std::alloc::{AllocError, Global};
 use std::fmt;
 use std::marker::Model;
@@ -64,7 +63,30 @@ impl<B: Text> ByteStringLit<B> {
         ensures refused { IfErr result
             (IsRefusedOrOutOfMemory (kind_parse byte_string_literal) (chars (B.bytes input))) }
     {
-        let (value, cut) = parse_text(alloc, input.as_str())?;
+        let front = Front::of(input.as_str());
+        ByteStringLit::parse_with_front(alloc, input, front)
+    }
+
+    /// [`parse`](ByteStringLit::parse) of a text of which it is known how it begins.
+    ///
+    /// # Errors
+    ///
+    /// Those of [`parse`](ByteStringLit::parse).
+    #[inline(always)]
+    pub fn parse_with_front(
+        alloc: Global,
+        input: B,
+        front: Front,
+    ) -> Result<ByteStringLit<B>, ParseError>
+        requires { IsFront front (B.bytes input) }
+        ensures buffer { IfOk result (λ lit. lit.buffer ≡ input) }
+        ensures raw { IfOk result (λ lit. lit.raw ≡ B.bytes input) }
+        ensures ok { IfOk result (λ lit.
+            IsOnlyDerivation (IsString byte_string_kind (chars (B.bytes input))) lit.parts) }
+        ensures refused { IfErr result
+            (IsRefusedOrOutOfMemory (kind_parse byte_string_literal) (chars (B.bytes input))) }
+    {
+        let (value, cut) = parse_string(alloc, input.as_str(), StringKind::ByteString, front)?;
         Ok(ByteStringLit {
             raw: input,
             value,
@@ -171,39 +193,6 @@ impl ByteStringLit<&str> {
         let raw = String::from_str(alloc, raw)?;
         Ok(ByteStringLit { raw, value, cut })
     }
-}
-
-/// The value, where the body has a backslash, and where the text is cut, if it is a byte string.
-#[inline(always)]
-fn parse_text(alloc: Global, input: &str) -> Result<(Option<Vec<u8>>, StringCut), ParseError>
-    ensures ok { IfOk result (λ parsed.
-        IsParsedString byte_string_kind input.now (option_map vec_items parsed.0) parsed.1) }
-    ensures refused { IfErr result
-        (IsRefusedOrOutOfMemory (kind_parse byte_string_literal) (chars input.now)) }
-{
-    first_byte_or_empty(input)?;
-    if begins_quoted(input.as_bytes()) {
-        parse_quoted(alloc, input, 2, false, true, true)
-    } else if begins_raw(input.as_bytes()) {
-        let cut = cut_raw(input, 2, false, true)?;
-        Ok((None, cut))
-    } else {
-        Err(ParseError::new(None, ParseErrorKind::InvalidByteStringLiteralStart))
-    }
-}
-
-/// Whether the text begins with `b"`.
-fn begins_quoted(bytes: &[u8]) -> bool
-    ensures { result ≡ begins_with (codes "b\"") bytes.now }
-{
-    matches!(bytes, [b'b', b'"', ..])
-}
-
-/// Whether the text begins with `br`.
-fn begins_raw(bytes: &[u8]) -> bool
-    ensures { result ≡ begins_with (codes "br") bytes.now }
-{
-    matches!(bytes, [b'b', b'r', ..])
 }
 
 /// The same value again.

@@ -1,23 +1,23 @@
 //! C string literals, and their values.
-ghost use Rattle.std.specs.Prelude.{◌≡◌, ◌<◌, ℕ, List, [], ◌∷◌, ◌++◌, IsFalse, IsOk, IfOk, IfErr, Some, nat_eq, option_map, vec_items, vec_len, vec_capacity, codes};
+ghost use Rattle.std.specs.Prelude.{◌≡◌, ◌<◌, ℕ, List, [], ◌∷◌, ◌++◌, IsFalse, IsOk, IfOk, IfErr, Some, nat_eq, option_map, vec_items, vec_len, vec_capacity};
 ghost use Rattle.std.specs.Cmp.{on_per, on_equiv, partial_equiv_from_equiv};
 ghost use Rattle.std.specs.Cmp.Lexicographic.{pointwise, nat_list_eq_equiv};
 ghost use Rattle.std.specs.Option.{unwrap_or};
 ghost use Rattle.std.specs.Str.{chars};
 ghost use Rattle.litrs_base.specs.Derivations.{IsOnlyDerivation};
 ghost use Rattle.litrs_base.specs.Characters.{nul};
-ghost use Rattle.litrs_base.specs.Text.{begins_with};
 ghost use Rattle.litrs_grammar.specs.StringKind.{c_string_kind};
 ghost use Rattle.litrs_grammar.specs.Literal.{IsString, string_suffix, string_value, kind_parse, c_string_literal};
 ghost use Rattle.litrs_grammar.specs.Strings.{StringDerivation, is_raw};
 ghost use Rattle.litrs_grammar.specs.Refused.{IsRefusedOrOutOfMemory};
 ghost use Rattle.litrs_grammar.proofs.StringDerivations.{string_derivation-prop};
+ghost use Rattle.litrs_parts.specs.Front.{IsFront};
 ghost use Rattle.litrs_strings.specs.CString.{before_zero, has_nul, IsClosed};
 ghost use Rattle.litrs_strings.specs.StringLiteral.{StringLiteral, IsCStringAt};
-ghost use Rattle.litrs_strings.specs.ParsedStrings.{IsParsedString, IsParsedCString};
+ghost use Rattle.litrs_strings.specs.ParsedStrings.{IsParsedCString};
 
-use crate::cut::{StringCut, cut_raw, parse_quoted};
-use litrs_parts::{ParseError, ParseErrorKind, Text, first_byte_or_empty};
+use crate::cut::{StringCut, parse_string};
+use litrs_parts::{Front, ParseError, ParseErrorKind, StringKind, Text};
 use std::alloc::{AllocError, Global};
 use std::fmt;
 use std::marker::Model;
@@ -148,7 +148,30 @@ impl<B: Text> CStringLit<B> {
         ensures refused { IfErr result
             (IsRefusedOrOutOfMemory (kind_parse c_string_literal) (chars (B.bytes input))) }
     {
-        let (value, cut) = parse_text(alloc, input.as_str())?;
+        let front = Front::of(input.as_str());
+        CStringLit::parse_with_front(alloc, input, front)
+    }
+
+    /// [`parse`](CStringLit::parse) of a text of which it is known how it begins.
+    ///
+    /// # Errors
+    ///
+    /// Those of [`parse`](CStringLit::parse).
+    #[inline(always)]
+    pub fn parse_with_front(
+        alloc: Global,
+        input: B,
+        front: Front,
+    ) -> Result<CStringLit<B>, ParseError>
+        requires { IsFront front (B.bytes input) }
+        ensures buffer { IfOk result (λ lit. lit.buffer ≡ input) }
+        ensures raw { IfOk result (λ lit. lit.raw ≡ B.bytes input) }
+        ensures ok { IfOk result (λ lit.
+            IsOnlyDerivation (IsString c_string_kind (chars (B.bytes input))) lit.parts) }
+        ensures refused { IfErr result
+            (IsRefusedOrOutOfMemory (kind_parse c_string_literal) (chars (B.bytes input))) }
+    {
+        let (value, cut) = parse_text(alloc, input.as_str(), front)?;
         Ok(CStringLit {
             raw: input,
             value,
@@ -261,38 +284,19 @@ impl CStringLit<&str> {
     }
 }
 
-/// The value, and where the text is cut, if it is a C string.
+/// The value, and where the text is cut, if it, which begins so, is a C string.
 #[inline(always)]
-fn parse_text(alloc: Global, input: &str) -> Result<(CString, StringCut), ParseError>
+fn parse_text(alloc: Global, input: &str, front: Front) -> Result<(CString, StringCut), ParseError>
+    requires { IsFront front input.now }
     ensures ok { IfOk result (λ parsed. IsParsedCString input.now parsed.0 parsed.1) }
     ensures refused { IfErr result
         (IsRefusedOrOutOfMemory (kind_parse c_string_literal) (chars input.now)) }
 {
-    let (unescaped, cut) = parse_body(alloc, input)?;
+    let (unescaped, cut) = parse_string(alloc, input, StringKind::CString, front)?;
     let body = &input.as_bytes()[cut.start_body..cut.end_body];
     match close_body(alloc, unescaped, body) {
         Ok(value) => Ok((value, cut)),
         Err(_) => Err(ParseError::new(None, ParseErrorKind::OutOfMemory)),
-    }
-}
-
-/// The value without its closing zero, where the body has a backslash, and where the text is cut,
-/// if it is a C string.
-#[inline(always)]
-fn parse_body(alloc: Global, input: &str) -> Result<(Option<Vec<u8>>, StringCut), ParseError>
-    ensures ok { IfOk result (λ parsed.
-        IsParsedString c_string_kind input.now (option_map vec_items parsed.0) parsed.1) }
-    ensures refused { IfErr result
-        (IsRefusedOrOutOfMemory (kind_parse c_string_literal) (chars input.now)) }
-{
-    first_byte_or_empty(input)?;
-    if begins_quoted(input.as_bytes()) {
-        parse_quoted(alloc, input, 2, true, true, false)
-    } else if begins_raw(input.as_bytes()) {
-        let cut = cut_raw(input, 2, true, false)?;
-        Ok((None, cut))
-    } else {
-        Err(ParseError::new(None, ParseErrorKind::InvalidCStringLiteralStart))
     }
 }
 
@@ -307,20 +311,6 @@ fn close_body(alloc: Global, unescaped: Option<Vec<u8>>, body: &[u8]) -> Result<
         Some(bytes) => CString::close(bytes),
         None => CString::copy_of(alloc, body),
     }
-}
-
-/// Whether the text begins with `c"`.
-fn begins_quoted(bytes: &[u8]) -> bool
-    ensures { result ≡ begins_with (codes "c\"") bytes.now }
-{
-    matches!(bytes, [b'c', b'"', ..])
-}
-
-/// Whether the text begins with `cr`.
-fn begins_raw(bytes: &[u8]) -> bool
-    ensures { result ≡ begins_with (codes "cr") bytes.now }
-{
-    matches!(bytes, [b'c', b'r', ..])
 }
 
 impl<B: Text> PartialEq for CStringLit<B> {

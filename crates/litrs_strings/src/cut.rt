@@ -1,13 +1,19 @@
 //! Where strings of the three kinds are cut.
-ghost use Rattle.std.specs.Prelude.{◌⊎◌, ◌||◌, not, option_map, IfOk, IfErr, IsTrue};
-ghost use Rattle.std.specs.Str.{IsCharBoundary};
+ghost use Rattle.std.specs.Prelude.{◌≡◌, ◌⊎◌, ◌||◌, not, option_map, IfOk, IfErr, IsTrue};
+ghost use Rattle.std.specs.Str.{chars, IsCharBoundary};
+ghost use Rattle.litrs_base.specs.Refusal.{refusal_of, HasCharSpan};
+ghost use Rattle.litrs_grammar.specs.Literal.{kind_parse};
+ghost use Rattle.litrs_grammar.specs.LiteralRefusals.{string_start_refusal};
+ghost use Rattle.litrs_grammar.specs.Refused.{IsRefusedOrOutOfMemory};
+ghost use Rattle.litrs_grammar.specs.StringKind.{switches_of};
 ghost use Rattle.litrs_lex.specs.QuotedCut.{IsQuotedRefused, IsQuotedOutOfMemory};
 ghost use Rattle.litrs_lex.specs.RawCut.{IsRawRefused};
+ghost use Rattle.litrs_parts.specs.Front.{grammar_kind, string_literal_of, IsFront};
 ghost use Rattle.litrs_parts.specs.Unescaped.{switches};
-ghost use Rattle.litrs_strings.specs.ParsedStrings.{IsParsedQuoted, IsParsedRaw};
+ghost use Rattle.litrs_strings.specs.ParsedStrings.{IsParsedQuoted, IsParsedRaw, IsParsedString};
 
 use litrs_lex::{EscapeContainer, scan_raw_string, unescape_string};
-use litrs_parts::ParseError;
+use litrs_parts::{Front, ParseError, ParseErrorKind, StringKind, Switches};
 use std::alloc::Global;
 
 /// Where a string is cut, in bytes.
@@ -23,10 +29,62 @@ pub struct StringCut {
     pub is_raw: bool,
 }
 
+/// Parses a text that begins so as a string of the kind: the value, where it is quoted and its body
+/// has a backslash, and where it is cut.
+#[inline(always)]
+pub(crate) fn parse_string<C: EscapeContainer>(
+    alloc: Global,
+    input: &str,
+    kind: StringKind,
+    front: Front,
+) -> Result<(Option<C>, StringCut), ParseError>
+    requires front { IsFront front input.now }
+    requires fits { IsTrue (not (switches_of (grammar_kind kind)).byte_escapes || C.TAKES_BYTES) }
+    ensures ok { IfOk result (λ parsed.
+        IsParsedString (grammar_kind kind) input.now (option_map C.contents parsed.0) parsed.1) }
+    ensures refused { IfErr result (IsRefusedOrOutOfMemory
+        (kind_parse (string_literal_of (grammar_kind kind))) (chars input.now)) }
+{
+    let Switches {
+        unicode,
+        byte_escapes,
+        allow_nul,
+    } = kind.switches();
+    let offset = kind.front_len();
+    match front {
+        Front::Quoted(found) if found == kind => {
+            parse_quoted(alloc, input, offset, unicode, byte_escapes, allow_nul)
+        }
+        Front::Raw(found) if found == kind => {
+            let cut = cut_raw(input, offset, unicode, allow_nul)?;
+            Ok((None, cut))
+        }
+        Front::Empty => Err(ParseError::new(None, ParseErrorKind::Empty)),
+        _ => Err(start_refusal(input, kind)),
+    }
+}
+
+/// Why a text that is not empty, and begins with neither front of the kind, is no string of it.
+fn start_refusal(input: &str, kind: StringKind) -> ParseError
+    ensures refusal { refusal_of result ≡ string_start_refusal (grammar_kind kind) }
+    ensures char_span { HasCharSpan (chars input.now) result }
+{
+    match kind {
+        StringKind::String => {
+            let span = Some(0..1);
+            ParseError::in_text(input, span, ParseErrorKind::InvalidStringLiteralStart)
+        }
+        StringKind::ByteString => {
+            ParseError::new(None, ParseErrorKind::InvalidByteStringLiteralStart)
+        }
+        StringKind::CString => ParseError::new(None, ParseErrorKind::InvalidCStringLiteralStart),
+    }
+}
+
 /// Parses a quoted string whose body begins at `offset`: the value, where the body has a backslash,
 /// and where the string is cut. `offset` and the switches are those of [`unescape_string`].
 #[inline(always)]
-pub(crate) fn parse_quoted<C: EscapeContainer>(
+fn parse_quoted<C: EscapeContainer>(
     alloc: Global,
     input: &str,
     offset: usize,
@@ -63,7 +121,7 @@ pub(crate) fn parse_quoted<C: EscapeContainer>(
 /// Cuts a raw string whose `r` ends at `offset`. `offset` and the switches are those of
 /// [`scan_raw_string`].
 #[inline(never)]
-pub(crate) fn cut_raw(
+fn cut_raw(
     input: &str,
     offset: usize,
     unicode: bool,

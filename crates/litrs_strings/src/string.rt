@@ -10,11 +10,11 @@ ghost use Rattle.litrs_grammar.specs.Allocation.{has_escapes};
 ghost use Rattle.litrs_grammar.specs.Strings.{StringDerivation, is_raw};
 ghost use Rattle.litrs_grammar.specs.Refused.{IsRefusedOrOutOfMemory};
 ghost use Rattle.litrs_grammar.proofs.StringDerivations.{string_derivation-prop};
+ghost use Rattle.litrs_parts.specs.Front.{IsFront};
 ghost use Rattle.litrs_strings.specs.StringLiteral.{StringLiteral, IsStringAt};
-ghost use Rattle.litrs_strings.specs.ParsedStrings.{IsParsedString};
 
-use crate::cut::{StringCut, cut_raw, parse_quoted};
-use litrs_parts::{Buffer, ParseError, ParseErrorKind, Text, first_byte_or_empty};
+use crate::cut::{StringCut, parse_string};
+use litrs_parts::{Buffer, Front, ParseError, StringKind, Text};
 use std::alloc::{AllocError, Global};
 use std::fmt;
 use std::marker::Model;
@@ -63,7 +63,30 @@ impl<B: Text> StringLit<B> {
         ensures refused { IfErr result
             (IsRefusedOrOutOfMemory (kind_parse string_literal) (chars (B.bytes input))) }
     {
-        let (value, cut) = parse_text(alloc, input.as_str())?;
+        let front = Front::of(input.as_str());
+        StringLit::parse_with_front(alloc, input, front)
+    }
+
+    /// [`parse`](StringLit::parse) of a text of which it is known how it begins.
+    ///
+    /// # Errors
+    ///
+    /// Those of [`parse`](StringLit::parse).
+    #[inline(always)]
+    pub fn parse_with_front(
+        alloc: Global,
+        input: B,
+        front: Front,
+    ) -> Result<StringLit<B>, ParseError>
+        requires { IsFront front (B.bytes input) }
+        ensures buffer { IfOk result (λ lit. lit.buffer ≡ input) }
+        ensures raw { IfOk result (λ lit. lit.raw ≡ B.bytes input) }
+        ensures ok { IfOk result (λ lit.
+            IsOnlyDerivation (IsString string_kind (chars (B.bytes input))) lit.parts) }
+        ensures refused { IfErr result
+            (IsRefusedOrOutOfMemory (kind_parse string_literal) (chars (B.bytes input))) }
+    {
+        let (value, cut) = parse_string(alloc, input.as_str(), StringKind::String, front)?;
         Ok(StringLit {
             raw: input,
             value,
@@ -167,26 +190,6 @@ impl StringLit<&str> {
         let StringLit { raw, value, cut } = self;
         let raw = String::from_str(alloc, raw)?;
         Ok(StringLit { raw, value, cut })
-    }
-}
-
-/// The value, where the body has a backslash, and where the text is cut, if it is a string.
-#[inline(always)]
-fn parse_text(alloc: Global, input: &str) -> Result<(Option<String>, StringCut), ParseError>
-    ensures ok { IfOk result (λ parsed.
-        IsParsedString string_kind input.now (option_map string_bytes parsed.0) parsed.1) }
-    ensures refused { IfErr result
-        (IsRefusedOrOutOfMemory (kind_parse string_literal) (chars input.now)) }
-{
-    let first = first_byte_or_empty(input)?;
-    if first == b'"' {
-        parse_quoted(alloc, input, 1, true, false, true)
-    } else if first == b'r' {
-        let cut = cut_raw(input, 1, true, true)?;
-        Ok((None, cut))
-    } else {
-        let span = Some(0..1);
-        Err(ParseError::in_text(input, span, ParseErrorKind::InvalidStringLiteralStart))
     }
 }
 

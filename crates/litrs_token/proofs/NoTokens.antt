@@ -1,26 +1,33 @@
 -- A text is a literal of one kind alone, told by how it begins: where it is none of that kind, it
 -- is none at all, a bool aside.
-use Rattle.std.proofs.Common.{◌≡◌, ℕ, Bool, true, false, List, ◌++◌, refl, sym, ap, ◌∙◌}
-use Rattle.std.specs.Prelude.{codes, if◌then◌else◌}
+use Rattle.std.proofs.Common.{◌≡◌, ℕ, Bool, true, false, List, ◌++◌, refl, sym, ap, ◌∙◌, ◌⊎◌, inl, inr, subst}
+use Rattle.std.specs.Prelude.{◌≢◌, codes, if◌then◌else◌}
 use Rattle.std.specs.Char.{is_ascii_digit}
 use Rattle.std.specs.Str.{chars, IsUtf8}
-use Rattle.std.proofs.lemmas.Bool.{true≢false}
+use Rattle.std.proofs.lemmas.Bool.{both_ways}
 use Rattle.litrs_base.specs.declared.err.ParseError.{ParseError}
+use Rattle.litrs_base.specs.declared.err.ParseErrorKind.TheVariants.{Empty, InvalidLiteral}
 use Rattle.litrs_base.specs.Derivations.{HasNoDerivation}
+use Rattle.litrs_base.specs.Refusal.{plain}
 use Rattle.litrs_base.specs.Text.{first_passes, begins_with}
 use Rattle.litrs_base.proofs.Begins.{begins_with-split}
 use Rattle.litrs_base.proofs.Chars.{begins_with-chars}
-use Rattle.litrs_grammar.specs.Literal.{Derivation, a_bool, an_integer, a_float, a_char, a_byte, a_string, a_byte_string, a_c_string, StringParts, quoted_parts, raw_parts, IsString, IsLiteral, LiteralKind, bool_literal, integer_literal, float_literal, char_literal, byte_literal, literal_kind, kind_parse, IsLiteralOf}
-use Rattle.litrs_grammar.specs.LiteralRefusals.{begins_float, parsed_as, dispatch}
+use Rattle.litrs_grammar.specs.Literal.{Derivation, a_bool, an_integer, a_float, a_char, a_byte, a_string, a_byte_string, a_c_string, StringParts, quoted_parts, raw_parts, IsString, IsLiteral, LiteralKind, bool_literal, integer_literal, float_literal, char_literal, byte_literal, c_string_literal, literal_kind, kind_parse, IsLiteralOf}
+use Rattle.litrs_grammar.specs.LiteralRefusals.{Dispatch, begins_float, refused_as, parsed_as, dispatch}
 use Rattle.litrs_grammar.specs.Quoted.{quoted_front}
 use Rattle.litrs_grammar.specs.Raw.{raw_front}
 use Rattle.litrs_grammar.specs.Refused.{IsRefused}
 use Rattle.litrs_grammar.specs.StringKind.{StringKind, string_kind, byte_string_kind, c_string_kind}
 use Rattle.litrs_grammar.specs.Strings.{StringDerivation}
-use Rattle.litrs_grammar.proofs.Laws.Integer.{not_empty_by_first, starts_with_digit}
-use Rattle.litrs_grammar.proofs.Laws.Literal.{dispatch_literal, is_bool-digit, float_digit}
+use Rattle.litrs_grammar.proofs.Laws.Integer.{not_empty_by_first}
+use Rattle.litrs_grammar.proofs.Laws.Literal.{dispatch_literal, is_bool-digit}
 use Rattle.litrs_parts.proofs.IntegerBytes.{digit-chars}
-use Rattle.litrs_token.specs.Front.{string_literal_of, begins_literal}
+use Rattle.litrs_parts.specs.declared.kind.Front.{Front}
+use Rattle.litrs_parts.specs.declared.kind.Front.TheVariants as front
+use Rattle.litrs_parts.specs.Front.{string_literal_of, IsFront}
+use Rattle.litrs_parts.specs.NumberCut.{number_kind}
+use Rattle.litrs_parts.proofs.Dispatch.{dispatch-chars}
+use Rattle.litrs_parts.proofs.Fronts.{char_row, byte_row, quoted_row, raw_row}
 use Rattle.litrs_token.specs.LiteralToken.{IsNoLiteralToken}
 use Rattle.litrs_token.proofs.StringTests.{quoted_split, raw_split}
 
@@ -35,36 +42,20 @@ no_token t kind is none k r =
 -- Numbers
 
 digit_row : (t : List ℕ) (v : Bool) → first_passes is_ascii_digit t ≡ true →
-    begins_float t ≡ v →
-    dispatch t ≡ (if v then parsed_as float_literal else parsed_as integer_literal)
+    begins_float t ≡ v → dispatch t ≡ parsed_as (if v then float_literal else integer_literal)
 unfolding dispatch
-digit_row t v digit float =
+digit_row t true digit float =
+    rw (not_empty_by_first is_ascii_digit t digit, is_bool-digit t digit, digit, float) refl
+digit_row t false digit float =
     rw (not_empty_by_first is_ascii_digit t digit, is_bool-digit t digit, digit, float) refl
 
-no_number_where : (t : List ℕ) (v : Bool) → first_passes is_ascii_digit t ≡ true →
-    begins_float t ≡ v → HasNoDerivation (IsLiteralOf (kind_parse float_literal) t) →
-    HasNoDerivation (IsLiteralOf (kind_parse integer_literal) t) → IsNoLiteralToken t
-no_number_where t true digit is no_float no_integer =
-    no_token t float_literal (digit_row t true digit is) no_float
-no_number_where t false digit is no_float no_integer =
-    no_token t integer_literal (digit_row t false digit is) no_integer
-
-pub no_number : (bs : List ℕ) (e f : ParseError) → IsUtf8 bs →
-    first_passes is_ascii_digit bs ≡ true → IsRefused (kind_parse float_literal) (chars bs) e →
-    IsRefused (kind_parse integer_literal) (chars bs) f → IsNoLiteralToken (chars bs)
-no_number bs e f u digit no_float no_integer =
-    no_number_where (chars bs) (begins_float (chars bs)) (digit-chars bs u ∙ digit) refl
-    no_float.none no_integer.none
+pub no_number : (bs : List ℕ) (e : ParseError) → IsUtf8 bs → first_passes is_ascii_digit bs ≡ true →
+    IsRefused (kind_parse (number_kind (chars bs))) (chars bs) e → IsNoLiteralToken (chars bs)
+no_number bs e u digit refused =
+    no_token (chars bs) (number_kind (chars bs))
+    (digit_row (chars bs) (begins_float (chars bs)) (digit-chars bs u ∙ digit) refl) refused.none
 
 -- Chars and bytes
-
-char_row : (x : List ℕ) → dispatch (codes "'" ++ x) ≡ parsed_as char_literal
-unfolding dispatch
-char_row x = refl
-
-byte_row : (x : List ℕ) → dispatch (codes "b'" ++ x) ≡ parsed_as byte_literal
-unfolding dispatch
-byte_row x = refl
 
 pub no_char : (bs : List ℕ) (e : ParseError) → IsUtf8 bs → begins_with (codes "'") bs ≡ true →
     IsRefused (kind_parse char_literal) (chars bs) e → IsNoLiteralToken (chars bs)
@@ -115,20 +106,6 @@ no_string : (kind : StringKind) (t : List ℕ) → dispatch t ≡ parsed_as (str
 no_string kind t is none = no_token t (string_literal_of kind) is
     (λ d r. let parts = string_parts kind t d r.0 r.1 in none parts.0 parts.1)
 
-quoted_row : (kind : StringKind) (x : List ℕ) →
-    dispatch (quoted_front kind ++ x) ≡ parsed_as (string_literal_of kind)
-unfolding dispatch
-quoted_row string_kind x = refl
-quoted_row byte_string_kind x = refl
-quoted_row c_string_kind x = refl
-
-raw_row : (kind : StringKind) (x : List ℕ) →
-    dispatch (raw_front kind ++ x) ≡ parsed_as (string_literal_of kind)
-unfolding dispatch
-raw_row string_kind x = refl
-raw_row byte_string_kind x = refl
-raw_row c_string_kind x = refl
-
 pub no_quoted : (kind : StringKind) (bs : List ℕ) → IsUtf8 bs →
     begins_with (quoted_front kind) bs ≡ true → HasNoDerivation (IsString kind (chars bs)) →
     IsNoLiteralToken (chars bs)
@@ -145,44 +122,53 @@ no_raw kind bs u front none =
 
 -- Other texts
 
--- a literal that is no bool begins in one of these ways
-begins_string : (kind : StringKind) (t : List ℕ) (d : StringParts) → IsString kind t d →
-    begins_literal t ≡ true
-begins_string string_kind t (quoted_parts d) r = ap begins_literal (sym r.spells)
-begins_string byte_string_kind t (quoted_parts d) r = ap begins_literal (sym r.spells)
-begins_string c_string_kind t (quoted_parts d) r = ap begins_literal (sym r.spells)
-begins_string string_kind t (raw_parts d) r = ap begins_literal (sym r.spells)
-begins_string byte_string_kind t (raw_parts d) r = ap begins_literal (sym r.spells)
-begins_string c_string_kind t (raw_parts d) r = ap begins_literal (sym r.spells)
+-- a text that begins so is not parsed as a literal of any kind, or as a bool
+no_row : (bs : List ℕ) (row : Dispatch) → IsUtf8 bs → row ≡ dispatch bs →
+    ((kind : LiteralKind) → (kind ≢ bool_literal) → parsed_as kind ≡ row → ⊥) →
+    IsNoLiteralToken (chars bs)
+no_row bs row u is none k r =
+    none (literal_kind r.derivation) r.no_bool
+    (sym (dispatch_literal (chars bs) r.derivation r.literal) ∙ (dispatch-chars bs u ∙ sym is))
 
-begins_digit : (t : List ℕ) → first_passes is_ascii_digit t ≡ true → begins_literal t ≡ true
-begins_digit t digit = rw digit refl
+no_text : (bs : List ℕ) → IsUtf8 bs → IsFront front.Empty bs → IsNoLiteralToken (chars bs)
+no_text bs u is = no_row bs (refused_as (plain Empty)) u is.row (λ kind no_bool e. cc)
 
-begins_so : (t : List ℕ) (d : Derivation) → IsLiteral t d → (literal_kind d ≡ bool_literal → ⊥) →
-    begins_literal t ≡ true
-begins_so t (a_bool b) r other = absurd (other refl)
-begins_so t (an_integer d) r other = begins_digit t (starts_with_digit t d r)
-begins_so t (a_float d) r other = begins_digit t (float_digit t d r)
-begins_so t (a_char d) r other = ap begins_literal (sym r.spells)
-begins_so t (a_byte d) r other = ap begins_literal (sym r.spells)
-begins_so t (a_string d) r other = begins_string string_kind t d r
-begins_so t (a_byte_string d) r other = begins_string byte_string_kind t d r
-begins_so t (a_c_string d) r other = begins_string c_string_kind t d r
+only_bool : (value : Bool) (bs : List ℕ) → IsUtf8 bs → IsFront (front.Bool value) bs →
+    IsNoLiteralToken (chars bs)
+only_bool value bs u is =
+    no_row bs (parsed_as bool_literal) u is.row
+    (λ kind no_bool e. let same : kind ≡ bool_literal = cc in no_bool same)
 
-begins_literal-chars : (bs : List ℕ) → IsUtf8 bs → begins_literal (chars bs) ≡ begins_literal bs
-begins_literal-chars bs u = rw (
-  digit-chars bs u,
-  begins_with-chars (codes "'") bs refl u,
-  begins_with-chars (codes "b'") bs refl u,
-  begins_with-chars (codes "\"") bs refl u,
-  begins_with-chars (codes "b\"") bs refl u,
-  begins_with-chars (codes "c\"") bs refl u,
-  begins_with-chars (codes "r") bs refl u,
-  begins_with-chars (codes "br") bs refl u,
-  begins_with-chars (codes "cr") bs refl u,
-) refl
+-- a C string begins with one of its two fronts
+begins_c_string : (t : List ℕ) (d : StringParts) → IsString c_string_kind t d →
+    begins_with (codes "c\"") t ≡ false → begins_with (codes "cr") t ≡ false → ⊥
+begins_c_string t (quoted_parts d) r quoted raw =
+    both_ways _ quoted (ap (begins_with (codes "c\"")) (sym r.spells))
+begins_c_string t (raw_parts d) r quoted raw =
+    both_ways _ raw (ap (begins_with (codes "cr")) (sym r.spells))
 
-pub no_front : (bs : List ℕ) → IsUtf8 bs → begins_literal bs ≡ false → IsNoLiteralToken (chars bs)
-no_front bs u none kind r =
-    true≢false (sym (begins_so (chars bs) r.derivation r.literal r.no_bool)
-    ∙ (begins_literal-chars bs u ∙ none))
+other_at : (bs : List ℕ) (v : Bool) → IsUtf8 bs → IsFront front.Other bs →
+    begins_with (codes "c") bs ≡ v → IsNoLiteralToken (chars bs)
+other_at bs true u is begins =
+    no_string c_string_kind (chars bs)
+    (dispatch-chars bs u ∙ sym (ap (λ w. if w then parsed_as c_string_literal
+    else refused_as (plain InvalidLiteral)) (sym begins) ∙ is.row))
+    (λ d r. begins_c_string (chars bs) d r
+    (begins_with-chars (codes "c\"") bs refl u ∙ is.begins.0)
+    (begins_with-chars (codes "cr") bs refl u ∙ is.begins.1))
+other_at bs false u is begins =
+    no_row bs (refused_as (plain InvalidLiteral)) u
+    (ap (λ w. if w then parsed_as c_string_literal else refused_as (plain InvalidLiteral))
+    (sym begins) ∙ is.row)
+    (λ kind no_bool e. cc)
+
+no_front : (bs : List ℕ) → IsUtf8 bs → IsFront front.Other bs → IsNoLiteralToken (chars bs)
+no_front bs u is = other_at bs (begins_with (codes "c") bs) u is refl
+
+pub no_kind : (f : Front) (bs : List ℕ) → IsUtf8 bs → IsFront f bs →
+    (f ≡ front.Empty) ⊎ (((value : Bool) × (f ≡ front.Bool value)) ⊎ (f ≡ front.Other)) →
+    IsNoLiteralToken (chars bs)
+no_kind f bs u is (inl empty) = no_text bs u (subst (λ (g : Front). IsFront g bs) empty is)
+no_kind f bs u is (inr (inl bool)) =
+    only_bool bool.0 bs u (subst (λ (g : Front). IsFront g bs) bool.1 is)
+no_kind f bs u is (inr (inr other)) = no_front bs u (subst (λ (g : Front). IsFront g bs) other is)

@@ -1,10 +1,7 @@
--- The cuts of quoted and raw strings test whether a text that begins so is a string.
-use Rattle.std.proofs.Common.{◌≡◌, ℕ, Bool, true, List, ◌++◌, length, drop, sym, ap, subst, ◌∙◌}
-use Rattle.std.specs.Prelude.{Result, Ok, Err, IfOk, IfErr, is_ok}
-use Rattle.std.specs.Bool.{MatchBool}
+-- The cuts of quoted and raw strings tell whether a text that begins so is a string.
+use Rattle.std.proofs.Common.{◌≡◌, ℕ, true, List, ◌++◌, length, drop, sym, ap, subst, ◌∙◌}
 use Rattle.std.specs.Str.{chars, IsUtf8}
 use Rattle.litrs_base.specs.declared.err.ParseError.{ParseError}
-use Rattle.litrs_base.specs.Derivations.{HasNoDerivation}
 use Rattle.litrs_base.specs.Text.{begins_with}
 use Rattle.litrs_base.proofs.Begins.{begins_with-split}
 use Rattle.litrs_grammar.specs.Literal.{StringParts, quoted_parts, raw_parts, IsString}
@@ -19,7 +16,6 @@ use Rattle.litrs_lex.specs.declared.quoted.QuotedCut.{QuotedCut}
 use Rattle.litrs_lex.specs.QuotedCut.{IsQuotedCut, IsQuotedRefused}
 use Rattle.litrs_lex.specs.RawCut.{IsRawCut, IsRawRefused, raw_parts_at}
 use Rattle.litrs_lex.proofs.StringFronts.{quoted_begins, raw_begins, quoted_before, raw_behind}
-use Rattle.litrs_token.specs.Front.{IsStringTest}
 
 -- A text that begins so, cut after its front
 
@@ -35,18 +31,9 @@ pub raw_split : (kind : StringKind) (bs : List ℕ) → IsUtf8 bs →
 raw_split kind bs u front =
     begins_with-split (raw_front kind) (chars bs) (raw_begins kind bs u ∙ front)
 
--- what follows from each result follows from the test whether it is Ok
-decided : {T E : Type 0} {P : T → Type 0} {Q : E → Type 0} (A B : Type 0)
-    (r : Result T E) (test : Bool) → test ≡ is_ok r → IfOk r P → IfErr r Q →
-    ((x : T) → P x → A) → ((e : E) → Q e → B) → MatchBool test A B
-decided A B (Ok x) test is p q a b =
-    subst (λ (v : Bool). MatchBool v A B) (sym is) (a x p)
-decided A B (Err e) test is p q a b =
-    subst (λ (v : Bool). MatchBool v A B) (sym is) (b e q)
-
 -- Quoted strings
 
-quoted_derivation : (kind : StringKind) (bs : List ℕ) (cut : QuotedCut) → IsUtf8 bs →
+pub quoted_derivation : (kind : StringKind) (bs : List ℕ) (cut : QuotedCut) → IsUtf8 bs →
     begins_with (quoted_front kind) bs ≡ true →
     IsQuotedCut (switches_of kind) bs (length (quoted_front kind)) cut →
     StringDerivation kind (chars bs)
@@ -56,7 +43,7 @@ quoted_derivation kind bs cut u front is = (
       (quoted_before kind bs u front) is.only.0,
 )
 
-quoted_none : (kind : StringKind) (bs : List ℕ) (e : ParseError) → IsUtf8 bs →
+pub quoted_none : (kind : StringKind) (bs : List ℕ) (e : ParseError) → IsUtf8 bs →
     begins_with (quoted_front kind) bs ≡ true →
     IsQuotedRefused (switches_of kind) bs (length (quoted_front kind)) e →
     (d : StringParts) → IsString kind (chars bs) d → ⊥
@@ -69,19 +56,9 @@ quoted_none kind bs e u front refused (raw_parts d) r =
     let raw = raw_starts kind (chars bs) d r in
     let both : quoted_start ≡ raw_start = sym quoted ∙ raw in cc
 
-pub quoted_test : (kind : StringKind) (bs : List ℕ) (r : Result QuotedCut ParseError)
-    (test : Bool) → IsUtf8 bs → begins_with (quoted_front kind) bs ≡ true → test ≡ is_ok r →
-    IfOk r (IsQuotedCut (switches_of kind) bs (length (quoted_front kind))) →
-    IfErr r (IsQuotedRefused (switches_of kind) bs (length (quoted_front kind))) →
-    IsStringTest kind (chars bs) test
-quoted_test kind bs r test u front is cut refused =
-    decided (StringDerivation kind (chars bs)) (HasNoDerivation (IsString kind (chars bs)))
-    r test is cut refused
-    (λ x p. quoted_derivation kind bs x u front p) (λ e p. quoted_none kind bs e u front p)
-
 -- Raw strings
 
-raw_derivation : (kind : StringKind) (bs : List ℕ) (cut : ℕ × ℕ) → IsUtf8 bs →
+pub raw_derivation : (kind : StringKind) (bs : List ℕ) (cut : ℕ × ℕ) → IsUtf8 bs →
     begins_with (raw_front kind) bs ≡ true →
     IsRawCut (has_unicode kind) (allows_nul kind) (length (raw_front kind)) bs cut →
     StringDerivation kind (chars bs)
@@ -94,7 +71,7 @@ raw_derivation kind bs cut u front is = (
   },
 )
 
-raw_none : (kind : StringKind) (bs : List ℕ) (e : ParseError) → IsUtf8 bs →
+pub raw_none : (kind : StringKind) (bs : List ℕ) (e : ParseError) → IsUtf8 bs →
     begins_with (raw_front kind) bs ≡ true →
     IsRawRefused (has_unicode kind) (allows_nul kind) (length (raw_front kind)) bs e →
     (d : StringParts) → IsString kind (chars bs) d → ⊥
@@ -107,13 +84,3 @@ raw_none kind bs e u front refused (quoted_parts d) r =
     let raw = ap (string_start kind) (sym (raw_split kind bs u front)) ∙ start_raw kind _ in
     let quoted = quoted_starts kind (chars bs) d r in
     let both : quoted_start ≡ raw_start = sym quoted ∙ raw in cc
-
-pub raw_test : (kind : StringKind) (bs : List ℕ) (r : Result (ℕ × ℕ) ParseError)
-    (test : Bool) → IsUtf8 bs → begins_with (raw_front kind) bs ≡ true → test ≡ is_ok r →
-    IfOk r (IsRawCut (has_unicode kind) (allows_nul kind) (length (raw_front kind)) bs) →
-    IfErr r (IsRawRefused (has_unicode kind) (allows_nul kind) (length (raw_front kind)) bs) →
-    IsStringTest kind (chars bs) test
-raw_test kind bs r test u front is cut refused =
-    decided (StringDerivation kind (chars bs)) (HasNoDerivation (IsString kind (chars bs)))
-    r test is cut refused
-    (λ x p. raw_derivation kind bs x u front p) (λ e p. raw_none kind bs e u front p)

@@ -2,7 +2,6 @@
 pub mod Place
 pub mod Tokens
 pub mod LiteralToken
-pub mod Front
 pub mod StringToken
 pub mod Tree
 -- what is printed of errors

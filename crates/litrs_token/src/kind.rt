@@ -5,11 +5,11 @@ ghost use Rattle.std.specs.Str.{chars};
 ghost use Rattle.litrs_base.specs.Text.{first_passes, begins_with};
 ghost use Rattle.litrs_grammar.specs.Quoted.{quoted_front};
 ghost use Rattle.litrs_grammar.specs.Raw.{raw_front};
-ghost use Rattle.litrs_token.specs.Front.{grammar_kind, string_literal_of, BeginsAs, IsStringTest};
+ghost use Rattle.litrs_parts.specs.Front.{grammar_kind, string_literal_of};
 ghost use Rattle.litrs_token.specs.LiteralToken.{token_kind, IsLiteralToken, IsNoLiteralToken};
 
 use litrs_lex::{cut_quoted, scan_raw_string};
-use litrs_parts::{cut_byte, cut_char, cut_float, cut_integer};
+use litrs_parts::{Front, NumberCut, StringKind, Switches, cut_byte, cut_char, cut_number};
 
 /// What a token is, and of a literal which kind.
 #[derive(Clone, Copy, Debug, PartialEq, Eq)]
@@ -40,102 +40,19 @@ pub enum TokenKind {
     CStringLit,
 }
 
-/// The kinds of strings.
-#[derive(Clone, Copy)]
-enum StringKind {
-    /// `"` and `r`.
-    String,
-    /// `b"` and `br`.
-    ByteString,
-    /// `c"` and `cr`.
-    CString,
-}
-
-/// How a text begins.
-#[derive(Clone, Copy)]
-enum Front {
-    /// With a decimal digit.
-    Digit,
-    /// With `'`.
-    Char,
-    /// With `b'`.
-    Byte,
-    /// As a quoted string.
-    Quoted(StringKind),
-    /// As a raw string.
-    Raw(StringKind),
-    /// As no literal but a bool.
-    Other,
-}
-
 /// The kind of literal that a text is. None where it is no literal, or a bool. It does not
 /// allocate.
 pub(crate) fn literal_kind(text: &str) -> Option<TokenKind>
     ensures some { IfSome result (IsLiteralToken (chars text.now)) }
     ensures none { IfNone result (IsNoLiteralToken (chars text.now)) }
 {
-    match front_of(text.as_bytes()) {
-        Front::Digit => number_kind(text),
+    match Front::of(text) {
+        Front::Number => number_kind(text),
         Front::Char => char_kind(text),
         Front::Byte => byte_kind(text),
-        Front::Quoted(kind) if kind.is_quoted(text) => Some(kind.token_kind()),
-        Front::Raw(kind) if kind.is_raw(text) => Some(kind.token_kind()),
-        _ => None,
-    }
-}
-
-/// How a text begins.
-fn front_of(bytes: &[u8]) -> Front
-    ensures { BeginsAs result bytes.now }
-{
-    match bytes {
-        [b'0'..=b'9', ..] => Front::Digit,
-        [b'\'', ..] => Front::Char,
-        [b'b', b'\'', ..] => Front::Byte,
-        [b'"', ..] => Front::Quoted(StringKind::String),
-        [b'r', ..] => Front::Raw(StringKind::String),
-        [b'b', b'"', ..] => Front::Quoted(StringKind::ByteString),
-        [b'b', b'r', ..] => Front::Raw(StringKind::ByteString),
-        [b'c', b'"', ..] => Front::Quoted(StringKind::CString),
-        [b'c', b'r', ..] => Front::Raw(StringKind::CString),
-        _ => Front::Other,
-    }
-}
-
-impl StringKind {
-    /// The kind as that of a token.
-    fn token_kind(self) -> TokenKind
-        ensures { result ≡ token_kind (string_literal_of (grammar_kind self)) }
-    {
-        match self {
-            StringKind::String => TokenKind::StringLit,
-            StringKind::ByteString => TokenKind::ByteStringLit,
-            StringKind::CString => TokenKind::CStringLit,
-        }
-    }
-
-    /// Whether a text that begins as a quoted string is one.
-    fn is_quoted(self, text: &str) -> bool
-        requires { IsTrue (begins_with (quoted_front (grammar_kind self)) text.now) }
-        ensures { IsStringTest (grammar_kind self) (chars text.now) result }
-    {
-        match self {
-            StringKind::String => cut_quoted(text, 1, true, false, true).is_ok(),
-            StringKind::ByteString => cut_quoted(text, 2, false, true, true).is_ok(),
-            StringKind::CString => cut_quoted(text, 2, true, true, false).is_ok(),
-        }
-    }
-
-    /// Whether a text that begins as a raw string is one.
-    fn is_raw(self, text: &str) -> bool
-        requires { IsTrue (begins_with (raw_front (grammar_kind self)) text.now) }
-        ensures { IsStringTest (grammar_kind self) (chars text.now) result }
-    {
-        match self {
-            StringKind::String => scan_raw_string(text, 1, true, true).is_ok(),
-            StringKind::ByteString => scan_raw_string(text, 2, false, true).is_ok(),
-            StringKind::CString => scan_raw_string(text, 2, true, false).is_ok(),
-        }
+        Front::Quoted(kind) => quoted_kind(text, kind),
+        Front::Raw(kind) => raw_kind(text, kind),
+        Front::Empty | Front::Bool(_) | Front::Other => None,
     }
 }
 
@@ -145,12 +62,10 @@ fn number_kind(text: &str) -> Option<TokenKind>
     ensures some { IfSome result (IsLiteralToken (chars text.now)) }
     ensures none { IfNone result (IsNoLiteralToken (chars text.now)) }
 {
-    match cut_float(text) {
-        Ok(_) => Some(TokenKind::FloatLit),
-        Err(_) => match cut_integer(text) {
-            Ok(_) => Some(TokenKind::IntegerLit),
-            Err(_) => None,
-        },
+    match cut_number(text) {
+        Ok(NumberCut::Integer(_)) => Some(TokenKind::IntegerLit),
+        Ok(NumberCut::Float(_)) => Some(TokenKind::FloatLit),
+        Err(_) => None,
     }
 }
 
@@ -175,5 +90,46 @@ fn byte_kind(text: &str) -> Option<TokenKind>
     match cut_byte(text) {
         Ok(_) => Some(TokenKind::ByteLit),
         Err(_) => None,
+    }
+}
+
+/// The same of a text that begins as a quoted string of the kind.
+fn quoted_kind(text: &str, kind: StringKind) -> Option<TokenKind>
+    requires { IsTrue (begins_with (quoted_front (grammar_kind kind)) text.now) }
+    ensures some { IfSome result (IsLiteralToken (chars text.now)) }
+    ensures none { IfNone result (IsNoLiteralToken (chars text.now)) }
+{
+    let Switches {
+        unicode,
+        byte_escapes,
+        allow_nul,
+    } = kind.switches();
+    match cut_quoted(text, kind.front_len(), unicode, byte_escapes, allow_nul) {
+        Ok(_) => Some(string_token_kind(kind)),
+        Err(_) => None,
+    }
+}
+
+/// The same of a text that begins as a raw string of the kind.
+fn raw_kind(text: &str, kind: StringKind) -> Option<TokenKind>
+    requires { IsTrue (begins_with (raw_front (grammar_kind kind)) text.now) }
+    ensures some { IfSome result (IsLiteralToken (chars text.now)) }
+    ensures none { IfNone result (IsNoLiteralToken (chars text.now)) }
+{
+    let switches = kind.switches();
+    match scan_raw_string(text, kind.front_len(), switches.unicode, switches.allow_nul) {
+        Ok(_) => Some(string_token_kind(kind)),
+        Err(_) => None,
+    }
+}
+
+/// What a string of the kind is as a token.
+fn string_token_kind(kind: StringKind) -> TokenKind
+    ensures { result ≡ token_kind (string_literal_of (grammar_kind kind)) }
+{
+    match kind {
+        StringKind::String => TokenKind::StringLit,
+        StringKind::ByteString => TokenKind::ByteStringLit,
+        StringKind::CString => TokenKind::CStringLit,
     }
 }

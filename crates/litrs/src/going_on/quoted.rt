@@ -1,10 +1,13 @@
 //! Quoted strings, byte strings and C strings.
-ghost use Rattle.std.specs.Prelude.{◌↔◌, ◌⊎◌, take, IsTrue};
-ghost use Rattle.std.specs.Str.{chars, IsCharBoundary};
+ghost use Rattle.std.specs.Prelude.{◌↔◌, ◌⊎◌, IsTrue};
+ghost use Rattle.std.specs.Str.{chars};
+ghost use Rattle.litrs_base.specs.Text.{begins_with};
 ghost use Rattle.litrs_grammar.specs.Continuation.{BeginsBy};
-ghost use Rattle.litrs_grammar.specs.Quoted.{IsQuoted};
+ghost use Rattle.litrs_grammar.specs.Literal.{IsString};
+ghost use Rattle.litrs_grammar.specs.Quoted.{quoted_front};
 ghost use Rattle.litrs_grammar.specs.GoesOn.Quoted.{RestGoesOn};
 ghost use Rattle.litrs_lex.specs.QuotedItems.{EndsItems};
+ghost use Rattle.litrs_parts.specs.Front.{grammar_kind};
 ghost use Rattle.litrs_parts.specs.Unescaped.{switches};
 ghost use Rattle.litrs.specs.Begins.{IsClosed};
 
@@ -12,21 +15,19 @@ use crate::going_on::escape::escape_goes_on;
 use crate::going_on::front::begins_with;
 use crate::going_on::suffix::suffix_goes_on;
 use litrs_lex::quoted::items_end;
+use litrs_parts::{StringKind, Switches};
 
-/// Whether a text whose body begins at `offset` begins a quoted literal. The place and the switches
-/// are those of [`cut_quoted`](litrs_lex::cut_quoted).
-pub(crate) fn quoted_goes_on(
-    text: &str,
-    offset: usize,
-    unicode: bool,
-    byte_escapes: bool,
-    allow_nul: bool,
-) -> bool
-    requires { IsCharBoundary text.now offset }
-    ensures { IsTrue result ↔ BeginsBy (IsQuoted (chars (take offset text.now))
-        (switches unicode byte_escapes allow_nul)) (chars text.now) }
+/// Whether a text that begins as a quoted string of the kind begins a string of it.
+pub(crate) fn quoted_goes_on(text: &str, kind: StringKind) -> bool
+    requires { IsTrue (begins_with (quoted_front (grammar_kind kind)) text.now) }
+    ensures { IsTrue result ↔ BeginsBy (IsString (grammar_kind kind)) (chars text.now) }
 {
-    let end = items_end(text, offset, unicode, byte_escapes, allow_nul);
+    let Switches {
+        unicode,
+        byte_escapes,
+        allow_nul,
+    } = kind.switches();
+    let end = items_end(text, kind.front_len(), unicode, byte_escapes, allow_nul);
     rest_goes_on(&text[end.place..], unicode, byte_escapes, allow_nul)
 }
 

@@ -3,16 +3,28 @@ ghost use Rattle.std.specs.Prelude.{◌≡◌, ◌↔◌, ◌&&◌, nat_le, leng
 ghost use Rattle.std.specs.List.{list_all};
 ghost use Rattle.std.specs.Str.{chars, IsCharBoundary};
 ghost use Rattle.litrs_base.specs.Refusal.{refusal_of, span_of, IsInText};
+ghost use Rattle.litrs_base.specs.Text.{begins_with};
 ghost use Rattle.litrs_grammar.specs.Continuation.{BeginsBy};
-ghost use Rattle.litrs_grammar.specs.Raw.{is_hash, IsRawOf};
+ghost use Rattle.litrs_grammar.specs.Literal.{IsString};
+ghost use Rattle.litrs_grammar.specs.Raw.{is_hash, raw_front, IsRawOf};
+ghost use Rattle.litrs_parts.specs.Front.{grammar_kind};
 ghost use Rattle.litrs.specs.LastUnderscore.{points_at_last_underscore};
 
 use litrs_lex::scan_raw_string;
-use litrs_parts::{ParseError, ParseErrorKind};
+use litrs_parts::{ParseError, ParseErrorKind, StringKind};
+
+/// Whether a text that begins as a raw string of the kind begins a string of it.
+pub(crate) fn raw_goes_on(text: &str, kind: StringKind) -> bool
+    requires { IsTrue (begins_with (raw_front (grammar_kind kind)) text.now) }
+    ensures { IsTrue result ↔ BeginsBy (IsString (grammar_kind kind)) (chars text.now) }
+{
+    let switches = kind.switches();
+    hashes_go_on(text, kind.front_len(), switches.unicode, switches.allow_nul)
+}
 
 /// Whether a text begins a raw literal whose `r` ends at `offset`. The place and the switches are
 /// those of [`scan_raw_string`].
-pub(crate) fn raw_goes_on(text: &str, offset: usize, unicode: bool, allow_nul: bool) -> bool
+fn hashes_go_on(text: &str, offset: usize, unicode: bool, allow_nul: bool) -> bool
     requires { IsCharBoundary text.now offset }
     ensures { IsTrue result
         ↔ BeginsBy (IsRawOf unicode allow_nul) (chars (drop offset text.now)) }

@@ -1,24 +1,26 @@
 //! Texts that begin with the front of no kind.
-ghost use Rattle.std.specs.Prelude.{◌≡◌, ◌==◌, ◌||◌};
-ghost use Rattle.litrs_base.specs.Text.{is_empty, first_passes};
+ghost use Rattle.std.specs.Prelude.{◌≡◌, ◌==◌, ◌||◌, codes};
+ghost use Rattle.litrs_base.specs.Text.{is_empty, first_passes, begins_with};
 ghost use Rattle.litrs_grammar.specs.GoesOn.Unnamed.{unnamed_goes_on};
 
-/// Whether `true` or `false` begins with the word, or it is `b`, which bytes and byte strings begin
-/// with. The empty word is one of them.
+use crate::going_on::front::begins_with;
+
+/// Whether `true` or `false` begins with the word, or it is `b` or `c`, which bytes, byte strings
+/// and C strings begin with. The empty word is one of them.
 #[inline(always)]
 pub(crate) fn word_goes_on(word: &[u8]) -> bool
-    ensures { result ≡ unnamed_goes_on word.now }
+    ensures { result ≡ (unnamed_goes_on word.now || begins_with word.now (codes "c")) }
 {
     begins_like_a_word(word) && is_front_of_a_word(word)
 }
 
-/// Whether the first letter is that of `true`, `false` or `b`, or the word is empty.
+/// Whether the first letter is that of `true`, `false`, `b` or `c`, or the word is empty.
 #[inline(always)]
 fn begins_like_a_word(word: &[u8]) -> bool
-    ensures { result ≡ (is_empty word.now
-        || first_passes (λ c. (c == 116) || ((c == 102) || (c == 98))) word.now) }
+    ensures { result ≡ (is_empty word.now || first_passes
+        (λ c. (c == 116) || ((c == 102) || ((c == 98) || (c == 99)))) word.now) }
 {
-    matches!(word, [] | [b't' | b'f' | b'b', ..])
+    matches!(word, [] | [b't' | b'f' | b'b' | b'c', ..])
 }
 
 /// Whether `true`, `false` or `b` begins with the word.
@@ -27,7 +29,10 @@ fn begins_like_a_word(word: &[u8]) -> bool
 #[inline(never)]
 #[tactic(auto, using(crate::proofs::Fronts::starts_with_front))]
 fn is_front_of_a_word(word: &[u8]) -> bool
-    ensures { result ≡ unnamed_goes_on word.now }
+    ensures { result ≡ (unnamed_goes_on word.now || begins_with word.now (codes "c")) }
 {
-    b"true".starts_with(word) || b"false".starts_with(word) || b"b".starts_with(word)
+    b"true".starts_with(word)
+        || b"false".starts_with(word)
+        || b"b".starts_with(word)
+        || b"c".starts_with(word)
 }

@@ -2,73 +2,105 @@
 use Rattle.std.proofs.Common.{inl, refl, sym, ap, ◌∙◌}
 use Rattle.std.specs.Str.{chars}
 use Rattle.std.proofs.lemmas.Result.{err_from_is_err_and}
-use Rattle.litrs_grammar.specs.Literal.{a_bool, a_char, a_byte, a_string, a_byte_string, a_c_string, char_literal, byte_literal, string_literal, byte_string_literal, c_string_literal}
+use Rattle.litrs_base.specs.declared.err.ParseErrorKind.TheVariants.{Empty}
+use Rattle.litrs_base.specs.Refusal.{plain}
+use Rattle.litrs_grammar.specs.Bool.{bool_text}
+use Rattle.litrs_grammar.specs.Literal.{a_bool, a_char, a_byte, char_literal, byte_literal}
 use Rattle.litrs_grammar.proofs.Laws.Bool.{chars-bool_text}
 use Rattle.litrs_scalars.specs.BoolLiteral.{bool_value}
 use Rattle.litrs_scalars.specs.CharLiteral.{char_parts, byte_parts}
+use Rattle.litrs_parts.specs.Front.{grammar_kind, string_literal_of}
 use Rattle.litrs.specs.LiteralDerivation.{derivation}
-use Rattle.litrs.proofs.KindErrors.{only_literal, kind_error_at, number_error_at, start_error_at}
+use Rattle.litrs.proofs.KindErrors.{only_literal, kind_error_at, number_error_at, start_refused, start_error_at}
 use Rattle.litrs.proofs.Literal.parse.Goals as goal
 
-pub returns-in-Refused-clause-refused : goal.returns-in-Refused-clause-refused
-returns-in-Refused-clause-refused g c =
-    start_error_at _ c.as_str.result.now c.in-Refused.e c.as_str.utf8 c.as_str.ensures c.in-Refused.ensures.row c.in-Refused.ensures.holds
+pub returns-in-Empty-clause-refused : goal.returns-in-Empty-clause-refused
+returns-in-Empty-clause-refused g c =
+    let is = c.in-Empty.ensures in
+    start_error_at _ c.as_str.result.now Empty c.new.result c.as_str.ensures
+    (start_refused c.as_str.result.now (plain Empty) c.as_str.utf8 is.row) c.new.ensures.refusal
+
+pub returns-in-Bool-clause-raw : goal.returns-in-Bool-clause-raw
+returns-in-Bool-clause-raw g c =
+    let is = c.in-Bool.ensures in
+    ap bool_text c.new-in-Bool.ensures ∙ sym (sym c.as_str.ensures ∙ is.begins)
 
 pub returns-in-Bool-clause-ok : goal.returns-in-Bool-clause-ok
 returns-in-Bool-clause-ok g c =
-    only_literal _ (a_bool (bool_value c.in-Bool.lit))
-    (sym (ap chars (sym c.as_str.ensures) ∙ (ap chars c.in-Bool.ensures.holds ∙ chars-bool_text (bool_value c.in-Bool.lit))))
+    let is = c.in-Bool.ensures in
+    only_literal _ (a_bool (bool_value c.new-in-Bool.result))
+    (ap bool_text c.new-in-Bool.ensures
+    ∙ sym (ap chars (sym c.as_str.ensures ∙ is.begins) ∙ chars-bool_text c.in-Bool.value))
+
+pub parse_number-requires : goal.parse_number-requires
+parse_number-requires g c = let is = c.in-Number.ensures in rw (← c.as_str.ensures) is.begins
 
 pub returns-in_err-parse_number-in-Number-clause-refused : goal.returns-in_err-parse_number-in-Number-clause-refused
 returns-in_err-parse_number-in-Number-clause-refused g c =
+    let is = c.in-Number.ensures in
     let p = err_from_is_err_and c.from_residual.result c.from_residual.ensures.1 in
     rw (p.1) (number_error_at _ c.as_str.result.now _ c.in_err-parse_number-in-Number.field-0.0 _ c.as_str.utf8 c.as_str.ensures refl
-    c.in-Number.ensures.row p.2 c.in_err-parse_number-in-Number.ensures.refused)
+    is.row p.2 c.in_err-parse_number-in-Number.ensures.refused)
 
 pub returns-in_ok-parse_number-in-Number-clause-ok : goal.returns-in_ok-parse_number-in-Number-clause-ok
 returns-in_ok-parse_number-in-Number-clause-ok g c = only_literal _ (derivation c.in_ok-parse_number-in-Number.field-0) c.in_ok-parse_number-in-Number.ensures.literal
 
-pub returns-in_err-parse-in-Char-clause-refused : goal.returns-in_err-parse-in-Char-clause-refused
-returns-in_err-parse-in-Char-clause-refused g c =
-    let p = err_from_is_err_and c.from_residual-in_err-parse-in-Char.result c.from_residual-in_err-parse-in-Char.ensures.1 in
-    rw (p.1) (kind_error_at char_literal _ c.as_str.result.now c.in_err-parse-in-Char.field-0.0 _ c.as_str.utf8 c.as_str.ensures
-    c.in-Char.ensures.row p.2 (inl c.in_err-parse-in-Char.ensures.refused))
+pub parse_with_front-requires : goal.parse_with_front-requires
+parse_with_front-requires g c = rw (c.as_str.ensures) at c.in-Char.ensures
 
-pub returns-in_ok-parse-in-Char-clause-ok : goal.returns-in_ok-parse-in-Char-clause-ok
-returns-in_ok-parse-in-Char-clause-ok g c = only_literal _ (a_char (char_parts c.in_ok-parse-in-Char.field-0)) c.in_ok-parse-in-Char.ensures.ok.0
+pub returns-in_err-parse_with_front-in-Char-clause-refused : goal.returns-in_err-parse_with_front-in-Char-clause-refused
+returns-in_err-parse_with_front-in-Char-clause-refused g c =
+    let is = c.in-Char.ensures in
+    let p = err_from_is_err_and c.from_residual-in_err-parse_with_front-in-Char.result c.from_residual-in_err-parse_with_front-in-Char.ensures.1 in
+    rw (p.1) (kind_error_at char_literal _ c.as_str.result.now c.in_err-parse_with_front-in-Char.field-0.0 _ c.as_str.utf8 c.as_str.ensures
+    is.row p.2 (inl c.in_err-parse_with_front-in-Char.ensures.refused))
 
-pub returns-in_err-parse-in-String-clause-refused : goal.returns-in_err-parse-in-String-clause-refused
-returns-in_err-parse-in-String-clause-refused g c =
-    let p = err_from_is_err_and c.from_residual-in_err-parse-in-String.result c.from_residual-in_err-parse-in-String.ensures.1 in
-    rw (p.1) (kind_error_at string_literal _ c.as_str.result.now c.in_err-parse-in-String.field-0.0 _ c.as_str.utf8 c.as_str.ensures
-    c.in-String.ensures.row p.2 c.in_err-parse-in-String.ensures.refused)
+pub returns-in_ok-parse_with_front-in-Char-clause-ok : goal.returns-in_ok-parse_with_front-in-Char-clause-ok
+returns-in_ok-parse_with_front-in-Char-clause-ok g c = only_literal _ (a_char (char_parts c.in_ok-parse_with_front-in-Char.field-0)) c.in_ok-parse_with_front-in-Char.ensures.ok.0
 
-pub returns-in_ok-parse-in-String-clause-ok : goal.returns-in_ok-parse-in-String-clause-ok
-returns-in_ok-parse-in-String-clause-ok g c = only_literal _ (a_string c.in_ok-parse-in-String.field-0.parts) c.in_ok-parse-in-String.ensures.ok.0
+pub parse_with_front-requires-in-Byte : goal.parse_with_front-requires-in-Byte
+parse_with_front-requires-in-Byte g c = rw (c.as_str.ensures) at c.in-Byte.ensures
 
-pub returns-in_err-parse-in-Byte-clause-refused : goal.returns-in_err-parse-in-Byte-clause-refused
-returns-in_err-parse-in-Byte-clause-refused g c =
-    let p = err_from_is_err_and c.from_residual-in_err-parse-in-Byte.result c.from_residual-in_err-parse-in-Byte.ensures.1 in
-    rw (p.1) (kind_error_at byte_literal _ c.as_str.result.now c.in_err-parse-in-Byte.field-0.0 _ c.as_str.utf8 c.as_str.ensures
-    c.in-Byte.ensures.row p.2 (inl c.in_err-parse-in-Byte.ensures.refused))
+pub returns-in_err-parse_with_front-in-Byte-clause-refused : goal.returns-in_err-parse_with_front-in-Byte-clause-refused
+returns-in_err-parse_with_front-in-Byte-clause-refused g c =
+    let is = c.in-Byte.ensures in
+    let p = err_from_is_err_and c.from_residual-in_err-parse_with_front-in-Byte.result c.from_residual-in_err-parse_with_front-in-Byte.ensures.1 in
+    rw (p.1) (kind_error_at byte_literal _ c.as_str.result.now c.in_err-parse_with_front-in-Byte.field-0.0 _ c.as_str.utf8 c.as_str.ensures
+    is.row p.2 (inl c.in_err-parse_with_front-in-Byte.ensures.refused))
 
-pub returns-in_ok-parse-in-Byte-clause-ok : goal.returns-in_ok-parse-in-Byte-clause-ok
-returns-in_ok-parse-in-Byte-clause-ok g c = only_literal _ (a_byte (byte_parts c.in_ok-parse-in-Byte.field-0)) c.in_ok-parse-in-Byte.ensures.ok.0
+pub returns-in_ok-parse_with_front-in-Byte-clause-ok : goal.returns-in_ok-parse_with_front-in-Byte-clause-ok
+returns-in_ok-parse_with_front-in-Byte-clause-ok g c = only_literal _ (a_byte (byte_parts c.in_ok-parse_with_front-in-Byte.field-0)) c.in_ok-parse_with_front-in-Byte.ensures.ok.0
 
-pub returns-in_err-parse-in-ByteString-clause-refused : goal.returns-in_err-parse-in-ByteString-clause-refused
-returns-in_err-parse-in-ByteString-clause-refused g c =
-    let p = err_from_is_err_and c.from_residual-in_err-parse-in-ByteString.result c.from_residual-in_err-parse-in-ByteString.ensures.1 in
-    rw (p.1) (kind_error_at byte_string_literal _ c.as_str.result.now c.in_err-parse-in-ByteString.field-0.0 _ c.as_str.utf8 c.as_str.ensures
-    c.in-ByteString.ensures.row p.2 c.in_err-parse-in-ByteString.ensures.refused)
+pub parse_string-requires : goal.parse_string-requires
+parse_string-requires g c = rw (c.as_str.ensures) at c.in-Quoted.ensures
 
-pub returns-in_ok-parse-in-ByteString-clause-ok : goal.returns-in_ok-parse-in-ByteString-clause-ok
-returns-in_ok-parse-in-ByteString-clause-ok g c = only_literal _ (a_byte_string c.in_ok-parse-in-ByteString.field-0.parts) c.in_ok-parse-in-ByteString.ensures.ok.0
+pub returns-in_err-parse_string-in-Quoted-clause-refused : goal.returns-in_err-parse_string-in-Quoted-clause-refused
+returns-in_err-parse_string-in-Quoted-clause-refused g c =
+    let is = c.in-Quoted.ensures in
+    let p = err_from_is_err_and c.from_residual-in_err-parse_string-in-Quoted.result c.from_residual-in_err-parse_string-in-Quoted.ensures.1 in
+    rw (p.1) (kind_error_at (string_literal_of (grammar_kind c.in-Quoted.kind)) _ c.as_str.result.now c.in_err-parse_string-in-Quoted.field-0.0 _ c.as_str.utf8 c.as_str.ensures
+    is.row p.2 c.in_err-parse_string-in-Quoted.ensures.refused)
 
-pub returns-in_err-parse-in-CString-clause-refused : goal.returns-in_err-parse-in-CString-clause-refused
-returns-in_err-parse-in-CString-clause-refused g c =
-    let p = err_from_is_err_and c.from_residual-in_err-parse-in-CString.result c.from_residual-in_err-parse-in-CString.ensures.1 in
-    rw (p.1) (kind_error_at c_string_literal _ c.as_str.result.now c.in_err-parse-in-CString.field-0.0 _ c.as_str.utf8 c.as_str.ensures
-    c.in-CString.ensures.row p.2 c.in_err-parse-in-CString.ensures.refused)
+pub returns-in_ok-parse_string-in-Quoted-clause-ok : goal.returns-in_ok-parse_string-in-Quoted-clause-ok
+returns-in_ok-parse_string-in-Quoted-clause-ok g c = only_literal _ (derivation c.in_ok-parse_string-in-Quoted.field-0) c.in_ok-parse_string-in-Quoted.ensures.literal
 
-pub returns-in_ok-parse-in-CString-clause-ok : goal.returns-in_ok-parse-in-CString-clause-ok
-returns-in_ok-parse-in-CString-clause-ok g c = only_literal _ (a_c_string c.in_ok-parse-in-CString.field-0.parts) c.in_ok-parse-in-CString.ensures.ok.0
+pub parse_string-requires-in-Raw : goal.parse_string-requires-in-Raw
+parse_string-requires-in-Raw g c = rw (c.as_str.ensures) at c.in-Raw.ensures
+
+pub returns-in_err-parse_string-in-Raw-clause-refused : goal.returns-in_err-parse_string-in-Raw-clause-refused
+returns-in_err-parse_string-in-Raw-clause-refused g c =
+    let is = c.in-Raw.ensures in
+    let p = err_from_is_err_and c.from_residual-in_err-parse_string-in-Raw.result c.from_residual-in_err-parse_string-in-Raw.ensures.1 in
+    rw (p.1) (kind_error_at (string_literal_of (grammar_kind c.in-Raw.kind)) _ c.as_str.result.now c.in_err-parse_string-in-Raw.field-0.0 _ c.as_str.utf8 c.as_str.ensures
+    is.row p.2 c.in_err-parse_string-in-Raw.ensures.refused)
+
+pub returns-in_ok-parse_string-in-Raw-clause-ok : goal.returns-in_ok-parse_string-in-Raw-clause-ok
+returns-in_ok-parse_string-in-Raw-clause-ok g c = only_literal _ (derivation c.in_ok-parse_string-in-Raw.field-0) c.in_ok-parse_string-in-Raw.ensures.literal
+
+pub other_refusal-requires : goal.other_refusal-requires
+other_refusal-requires g c = let is = rw (c.as_str.ensures) at c.in-Other.ensures in rw (c.as_str-in-Other.ensures) is
+
+pub returns-in-Other-clause-refused : goal.returns-in-Other-clause-refused
+returns-in-Other-clause-refused g c =
+    start_error_at _ c.as_str-in-Other.result.now c.other_refusal.result c.new-in-Other.result c.as_str-in-Other.ensures
+    c.other_refusal.ensures c.new-in-Other.ensures.refusal

@@ -1,29 +1,28 @@
--- The empty text and one that does not begin with `b'` come before the cut.
-use Rattle.std.proofs.Common.{ap, sym, ◌∙◌, Some, codes}
+-- An empty text and one that does not begin with `b'` come beside the cut.
+use Rattle.std.proofs.Common.{ap, sym, ◌∙◌, Some}
 use Rattle.std.specs.Str.{chars}
-use Rattle.std.proofs.lemmas.Result.{err_from_is_err_and}
-use Rattle.litrs_base.specs.Refusal.{refusal_of}
-use Rattle.litrs_base.specs.Text.{begins_with}
 use Rattle.litrs_base.proofs.CharEnds.{no_span}
 use Rattle.litrs_grammar.specs.CharByte.{byte_kind}
 use Rattle.litrs_grammar.specs.Literal.{kind_parse, byte_literal}
 use Rattle.litrs_grammar.proofs.Refused.{is_refused}
 use Rattle.litrs_parts.proofs.CharByteBytes.{empty_start, byte_start}
+use Rattle.litrs_parts.proofs.Fronts.{some_text, no_byte_front}
 use Rattle.litrs_scalars.proofs.byte.cut.Goals as goal
 
-pub returns-in_err-first_byte_or_empty-clause-refused : goal.returns-in_err-first_byte_or_empty-clause-refused
-returns-in_err-first_byte_or_empty-clause-refused c =
-    let p = err_from_is_err_and c.from_residual.result c.from_residual.ensures.1 in
-    let same = ap refusal_of p.2 ∙ c.in_err-first_byte_or_empty.ensures.1 in
-    rw (p.1) (is_refused (kind_parse byte_literal) (chars c.args.input.now) _
-    (empty_start byte_kind c.args.input.now c.in_err-first_byte_or_empty.ensures.0 ∙ ap Some (sym same)) (no_span _ _ _ same))
-
 pub cut_byte-requires : goal.cut_byte-requires
-cut_byte-requires c = ap (begins_with (codes "b'")) (sym c.as_bytes.ensures.value) ∙ sym c.if-begins_byte.ensures
+cut_byte-requires c = let is = rw c.in-Byte.is at c.requires in is.begins
 
-pub returns-else-begins_byte-clause-refused : goal.returns-else-begins_byte-clause-refused
-returns-else-begins_byte-clause-refused c =
+pub returns-in-Empty-clause-refused : goal.returns-in-Empty-clause-refused
+returns-in-Empty-clause-refused c =
+    let is = rw c.in-Empty.is at c.requires in
     is_refused (kind_parse byte_literal) (chars c.args.input.now) c.new.result
-    (byte_start c.args.input.now c.in_ok-first_byte_or_empty.field-0 c.utf8.input c.in_ok-first_byte_or_empty.ensures
-    (ap (begins_with (codes "b'")) (sym c.as_bytes.ensures.value) ∙ sym c.if-begins_byte.ensures)
-    ∙ ap Some (sym c.new.ensures.refusal)) (no_span _ _ _ c.new.ensures.refusal)
+    (empty_start byte_kind c.args.input.now is.begins ∙ ap Some (sym c.new.ensures.refusal))
+    (no_span _ _ _ c.new.ensures.refusal)
+
+pub returns-in_default-clause-refused : goal.returns-in_default-clause-refused
+returns-in_default-clause-refused c =
+    is_refused (kind_parse byte_literal) (chars c.args.input.now) c.new-in_default.result
+    (byte_start c.args.input.now c.utf8.input
+    (some_text c.args.front c.args.input.now c.requires c.in_default.not-Empty)
+    (no_byte_front c.args.front c.args.input.now c.requires c.in_default.not-Byte)
+    ∙ ap Some (sym c.new-in_default.ensures.refusal)) (no_span _ _ _ c.new-in_default.ensures.refusal)

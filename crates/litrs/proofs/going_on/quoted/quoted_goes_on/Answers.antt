@@ -1,10 +1,22 @@
 -- The rest decides.
-use Rattle.litrs_parts.specs.Unescaped.{switches}
+use Rattle.std.proofs.Common.{ap}
+use Rattle.litrs_grammar.specs.StringKind.{switches_of}
+use Rattle.litrs_parts.specs.Front.{grammar_kind}
+use Rattle.litrs_lex.proofs.StringFronts.{quoted_boundary}
 use Rattle.litrs.proofs.QuotedEnds.{quoted_decided}
+use Rattle.litrs.proofs.StringEnds.{quoted_string}
 use Rattle.litrs.proofs.going_on.quoted.quoted_goes_on.Goals as goal
+
+pub items_end-end-requires : goal.items_end-end-requires
+items_end-end-requires c =
+    rw (c.front_len.ensures.quoted)
+    (quoted_boundary (grammar_kind c.args.kind) c.args.text.now c.utf8.text c.requires)
 
 pub returns : goal.returns
 returns c =
-    quoted_decided (switches c.args.unicode c.args.byte_escapes c.args.allow_nul) c.args.text.now
-    c.range_from.result.now c.args.offset c.items_end-end.result c.rest_goes_on.result
-    c.items_end-end.ensures c.range_from.ensures.value c.rest_goes_on.ensures
+    let kind = grammar_kind c.args.kind in
+    let end = rw (c.front_len.ensures.quoted, c.switches-unicode.ensures) at c.items_end-end.ensures in
+    let goes = rw (c.switches-unicode.ensures) at c.rest_goes_on.ensures in
+    quoted_string kind c.args.text.now c.rest_goes_on.result c.utf8.text c.requires
+    (quoted_decided (switches_of kind) c.args.text.now c.range_from.result.now _
+    c.items_end-end.result c.rest_goes_on.result end c.range_from.ensures.value goes)

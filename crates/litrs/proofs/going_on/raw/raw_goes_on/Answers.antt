@@ -1,43 +1,17 @@
--- By the kind of the refusal.
-use Rattle.std.proofs.Common.{drop, sym, ◌∙◌}
-use Rattle.std.specs.Str.{chars}
-use Rattle.std.proofs.lemmas.Str.{IsUtf8-drop}
-use Rattle.litrs_base.specs.Refusal.{refusal_of}
-use Rattle.litrs_grammar.specs.Raw.{IsRawOf}
-use Rattle.litrs.proofs.Begins.{yes, begins_now}
-use Rattle.litrs.proofs.RawEnds.{unclosed_decided, hashes_decided, suffix_decided, other_decided}
+-- The hashes decide.
+use Rattle.std.proofs.Common.{ap}
+use Rattle.litrs_grammar.specs.Escape.{Switches}
+use Rattle.litrs_parts.specs.Front.{grammar_kind}
+use Rattle.litrs_lex.proofs.StringFronts.{raw_boundary}
+use Rattle.litrs.proofs.StringEnds.{raw_string}
 use Rattle.litrs.proofs.going_on.raw.raw_goes_on.Goals as goal
 
-pub returns-in-Ok : goal.returns-in-Ok
-returns-in-Ok c = yes (begins_now (IsRawOf c.args.unicode c.args.allow_nul)
-    (chars (drop c.args.offset c.args.text.now)) _ c.in-Ok.ensures.ok.only.0)
+pub hashes_go_on-requires : goal.hashes_go_on-requires
+hashes_go_on-requires c =
+    rw (c.front_len.ensures.raw)
+    (raw_boundary (grammar_kind c.args.kind) c.args.text.now c.utf8.text c.requires)
 
-pub returns-in-UnterminatedRawString : goal.returns-in-UnterminatedRawString
-returns-in-UnterminatedRawString c =
-    unclosed_decided c.args.unicode c.args.allow_nul c.args.offset
-    (chars (drop c.args.offset c.args.text.now)) (refusal_of c.in-Err.e)
-    c.in-Err.ensures.refused.table (sym c.in-UnterminatedRawString.ensures)
-
-pub returns-in-InvalidLiteral : goal.returns-in-InvalidLiteral
-returns-in-InvalidLiteral c =
-    hashes_decided c.args.unicode c.args.allow_nul c.args.offset c.args.text.now c.args.offset
-    c.as_bytes.result.now (refusal_of c.in-Err.e) c.are_opening_hashes.result
-    (IsUtf8-drop c.args.text.now c.args.offset c.utf8.text c.requires) c.as_bytes.ensures.value
-    c.in-Err.ensures.refused.table (sym c.in-InvalidLiteral.ensures) c.are_opening_hashes.ensures
-
-pub returns-in-InvalidSuffix : goal.returns-in-InvalidSuffix
-returns-in-InvalidSuffix c =
-    suffix_decided c.args.unicode c.args.allow_nul c.args.text.now c.args.offset c.in-Err.e
-    c.points_at_last_underscore.result
-    (IsUtf8-drop c.args.text.now c.args.offset c.utf8.text c.requires)
-    c.in-Err.ensures.refused.table (sym c.in-InvalidSuffix.ensures)
-    c.points_at_last_underscore.ensures
-
-pub returns-in_default : goal.returns-in_default
-returns-in_default c =
-    other_decided c.args.unicode c.args.allow_nul c.args.offset
-    (chars (drop c.args.offset c.args.text.now)) (refusal_of c.in-Err.e)
-    c.in-Err.ensures.refused.table
-    (λ is. c.in_default.not-InvalidLiteral (c.kind.ensures ∙ is))
-    (λ is. c.in_default.not-UnterminatedRawString (c.kind.ensures ∙ is))
-    (λ is. c.in_default.not-InvalidSuffix (c.kind.ensures ∙ is))
+pub returns : goal.returns
+returns c =
+    let goes = rw (c.front_len.ensures.raw, ap (λ (w : Switches). w.unicode) c.switches-switches.ensures, ap (λ (w : Switches). w.allow_nul) c.switches-switches.ensures) at c.hashes_go_on.ensures in
+    raw_string (grammar_kind c.args.kind) c.args.text.now c.hashes_go_on.result c.utf8.text c.requires goes

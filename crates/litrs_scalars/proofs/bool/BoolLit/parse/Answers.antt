@@ -16,13 +16,14 @@ no_bool_text true h = search rules
 
 pub returns-in-Some-clause-ok : goal.returns-in-Some-clause-ok
 returns-in-Some-clause-ok c =
-    let value = bool_value c.in-Some.lit in
-    only_bool (chars c.args.s.now) value (sym (ap chars (sym c.as_bytes.ensures.value ∙ c.in-Some.ensures.some) ∙ chars-bool_text value))
+    let value = c.in-Some.value in
+    only_bool (chars c.args.s.now) (bool_value c.new.result)
+    (ap bool_text c.new.ensures ∙ sym (ap chars c.in-Some.ensures.some ∙ chars-bool_text value))
 
 pub returns-in-None-clause-refused : goal.returns-in-None-clause-refused
 returns-in-None-clause-refused c =
     let other = λ (b : Bool) (e : c.args.s.now ≡ bool_text b).
-    no_bool_text b (subst IsFalse (ap is_bool (c.as_bytes.ensures.value ∙ e)) c.in-None.ensures.none) in
-    is_refused (kind_parse bool_literal) (chars c.args.s.now) c.new.result
-    (bool_refusal-none (chars c.args.s.now) (no_bool c.args.s.now c.utf8.s (other false) (other true)) ∙ ap Some (sym c.new.ensures.refusal))
-    (no_span _ _ _ c.new.ensures.refusal)
+    no_bool_text b (subst IsFalse (ap is_bool e) c.in-None.ensures.none) in
+    is_refused (kind_parse bool_literal) (chars c.args.s.now) c.new-in-None.result
+    (bool_refusal-none (chars c.args.s.now) (no_bool c.args.s.now c.utf8.s (other false) (other true)) ∙ ap Some (sym c.new-in-None.ensures.refusal))
+    (no_span _ _ _ c.new-in-None.ensures.refusal)

@@ -1,8 +1,5 @@
-use Rattle.std.proofs.Common.{rules}
+-- The front is that of the text.
 use Rattle.litrs_scalars.proofs.byte.ByteLit.parse.Goals as goal
 
-pub returns-in_err-value-clause-refused : goal.returns-in_err-value-clause-refused
-returns-in_err-value-clause-refused g c = search rules
-
-pub invariant_of-result : goal.invariant_of-result
-invariant_of-result g c = search rules
+pub parse_with_front-requires : goal.parse_with_front-requires
+parse_with_front-requires g c = rw c.as_str.ensures at c.of-front.ensures
