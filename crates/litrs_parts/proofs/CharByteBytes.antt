@@ -36,7 +36,8 @@ use Rattle.litrs_grammar.proofs.Refused.{is_refused}
 use Rattle.litrs_parts.specs.CharCut.{escape_written, item_written, char_parts_at, kind_if, unwraps_as, IsItemRead, IsItemRefused, IsCutBehind}
 use Rattle.litrs_parts.specs.Unescaped.{switches, IsUnescaped, IsEscapeRefused}
 use Rattle.litrs_parts.proofs.Dispatch.{is_empty-chars}
-use Rattle.litrs_parts.proofs.EscapeBytes.{cut_at, only_char, list_any-chars}
+use Rattle.litrs_parts.proofs.CharCuts.{cut_at}
+use Rattle.litrs_parts.proofs.AsciiTests.{only_char, list_any-chars}
 
 -- After the front
 
