@@ -5,7 +5,6 @@ use Rattle.std.specs.Option.{ForSome}
 use Rattle.std.specs.Str.{IsUtf8, chars}
 use Rattle.std.specs.declared.ops.Range.{Range}
 use Rattle.std.proofs.lemmas.Str.{encodes-chars}
-use Rattle.litrs_base.specs.CharEnd.{PointsAtCharacters}
 use Rattle.litrs_base.specs.declared.err.ParseError.{ParseError}
 use Rattle.litrs_base.specs.Refusal.{Refusal, span_of, MovesWithin}
 use Rattle.litrs_base.specs.Text.{byte_len, PointsInto}

@@ -1,21 +1,20 @@
 -- From parts to text: digits that are grouped anew keep their number, and parts that are put
 -- together are a literal with these parts and no others.
-use Rattle.std.proofs.Common.{◌≡◌, ℕ, ◌+◌, ◌*◌, ◌^◌, ◌≤◌, ◌<◌, Bool, true, false, cond, ltb, List, [], ◌∷◌, ◌++◌, length, map, refl, sym, ap, ◌∙◌, arith, inl, inr}
-use Rattle.std.specs.Prelude.{IsTrue, filter}
+use Rattle.std.proofs.Common.{◌≡◌, ℕ, ◌+◌, ◌≤◌, ◌<◌, Bool, true, false, cond, ltb, List, [], ◌∷◌, map, refl, sym, ap, ◌∙◌, arith}
+use Rattle.std.specs.Prelude.{filter}
 use Rattle.std.specs.Char.{digit_value, to_ascii_lowercase}
 use Rattle.std.proofs.lemmas.Bool.{ltb-true, ltb-false, lt-ltb, le-ltb}
 use Rattle.std.proofs.lemmas.List.{length-map}
 use Rattle.litrs_base.specs.Derivations.{IsOnlyDerivation}
 use Rattle.litrs_base.specs.Numeral.{place_sum, is_no_underscore, numeral}
-use Rattle.litrs_grammar.specs.StringKind.{string_kind, byte_string_kind, c_string_kind, switches_of}
-use Rattle.litrs_grammar.specs.Suffix.{is_suffix}
+use Rattle.litrs_grammar.specs.StringKind.{string_kind, byte_string_kind, c_string_kind}
 use Rattle.litrs_grammar.specs.Integer.{IntegerParts, integer_text, IsInteger}
 use Rattle.litrs_grammar.specs.Float.{FloatParts, float_text, IsFloat}
-use Rattle.litrs_grammar.specs.CharByte.{CharParts, char_kind, byte_kind, char_text, is_char_item}
+use Rattle.litrs_grammar.specs.CharByte.{CharParts, char_kind, byte_kind, char_text}
 use Rattle.litrs_grammar.specs.Literal.{StringParts, IsLiteral, an_integer, a_float, a_char, a_byte, a_string, a_byte_string, a_c_string}
 use Rattle.litrs_grammar.specs.LiteralText.{string_text, AreCharParts, AreStringParts}
 use Rattle.litrs_grammar.proofs.LiteralTexts.{literals_parse_back}
-use Rattle.litrs.specs.Digits.{digits_of, HaveSameDigits}
+use Rattle.litrs.specs.Digits.{HaveSameDigits}
 
 upper_value : (c : ℕ) → 65 ≤ c → c < 91 → digit_value (c + 32) ≡ digit_value c
 upper_value c above below =

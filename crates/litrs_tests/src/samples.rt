@@ -1,6 +1,6 @@
-//! The samples of the documentation of `litrs` and `litrs_token`, and of the README.
+//! The samples of the documentation of the libraries, and of the README.
 use litrs::ParseErrorKind::OutOfMemory;
-use litrs::{IntegerLit, Literal, ParseError, goes_on};
+use litrs::{BoolLit, IntegerLit, Literal, ParseError, goes_on};
 use litrs_token::{FromToken, Ident, Span, TokenError, TokenTree};
 use std::alloc::Global;
 use std::process::Abort;
@@ -29,6 +29,21 @@ fn line(alloc: Global, text: &str) -> Result<Option<Literal<&str>>, ParseError> 
         Ok(lit) => Ok(Some(lit)),
         Err(e) if e.kind() != OutOfMemory && goes_on(text) => Ok(None),
         Err(e) => Err(e),
+    }
+}
+
+/// What is to be underlined of a text with this refusal.
+fn marked<'a>(text: &'a str, refusal: &ParseError) -> Option<&'a str> {
+    text.get(refusal.marked_span(text))
+}
+
+/// Whether a text that is no integer and one that is no bool are underlined so.
+fn are_marked() -> bool {
+    match (IntegerLit::parse("0b12"), BoolLit::parse("yes")) {
+        (Err(digit), Err(word)) => {
+            marked("0b12", &digit) == Some("2") && marked("yes", &word) == Some("yes")
+        }
+        _ => false,
     }
 }
 
@@ -73,4 +88,5 @@ fn answers_of_the_samples(rt: HostRuntime) {
     assert!(rt; matches!(value_len(rt.alloc(), "\"a\\n\""), Ok(Some(2))));
     assert!(rt; matches!(line(rt.alloc(), "\"a"), Ok(None)));
     assert!(rt; is_wrong(rt.alloc(), "x"));
+    assert!(rt; are_marked());
 }

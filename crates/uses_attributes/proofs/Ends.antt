@@ -1,5 +1,5 @@
 -- What is cut off an end of a line stands in the line.
-use Rattle.std.proofs.Common.{◌≡◌, ℕ, ◌+◌, ◌-◌, ◌≤◌, List, [], ◌++◌, length, take, drop, refl, sym, ap, ◌∙◌, arith, subst, append_assoc, append-nil}
+use Rattle.std.proofs.Common.{◌≡◌, ℕ, ◌+◌, ◌-◌, ◌≤◌, List, [], ◌++◌, length, take, drop, sym, ap, ◌∙◌, arith, subst, append_assoc, append-nil}
 use Rattle.std.specs.Str.{IsTrimEnd}
 use Rattle.std.proofs.lemmas.List.{take-append-drop, length-append}
 use Rattle.uses_attributes.specs.Stands.{IsEndOf, StandsAt}

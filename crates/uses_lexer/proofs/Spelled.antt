@@ -1,5 +1,5 @@
 -- What tokens spell, with one more at the end.
-use Rattle.std.proofs.Common.{◌≡◌, ℕ, List, [], ◌∷◌, ◌++◌, refl, sym, ap, ◌∙◌, append_assoc, append-nil}
+use Rattle.std.proofs.Common.{◌≡◌, ℕ, List, [], ◌∷◌, ◌++◌, sym, ap, ◌∙◌, append_assoc, append-nil}
 use Rattle.uses_lexer.specs.Tokens.{spelled}
 use Rattle.uses_lexer.specs.declared.token.Token.{Token}
 

@@ -3,7 +3,6 @@ use Rattle.std.specs.Prelude.{◌≡◌, ℕ, List, [], ◌∷◌, ◌++◌}
 use Rattle.std.specs.Str.{chars}
 use Rattle.litrs.specs.Literal.{Derivation, IsLiteral}
 use Rattle.uses_lexer.specs.declared.token.Token.{Token}
-use Rattle.uses_lexer.specs.declared.token.TokenKind.{TokenKind}
 use Rattle.uses_lexer.specs.declared.token.TokenKind.TheVariants.{Literal}
 
 -- the texts of the tokens, one after the other

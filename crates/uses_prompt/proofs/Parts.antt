@@ -8,5 +8,5 @@ three_parts bs start end order =
     let sum : start + (end - start) ≡ end = omega arith in
     let after : drop (end - start) (drop start bs) ≡ drop end bs = drop-drop (end - start) start bs ∙ ap (λ (n : ℕ). drop n bs) sum in
     sym
-        (ap (λ (l : List ℕ). take start bs ++ (slice_range bs start end ++ l)) (sym after)
-        ∙ (ap (λ (l : List ℕ). take start bs ++ l) (take-append-drop (end - start) (drop start bs)) ∙ take-append-drop start bs))
+    (ap (λ (l : List ℕ). take start bs ++ (slice_range bs start end ++ l)) (sym after)
+    ∙ (ap (λ (l : List ℕ). take start bs ++ l) (take-append-drop (end - start) (drop start bs)) ∙ take-append-drop start bs))

@@ -1,5 +1,5 @@
 -- What is left is an end of the line and shrinks; what was found stands in the line.
-use Rattle.std.proofs.Common.{◌≡◌, length}
+use Rattle.std.proofs.Common.{length}
 use Rattle.std.specs.Prelude.{All}
 use denote.Text.{Utf8}
 use denote.Shadow.{shadow}

@@ -1,6 +1,6 @@
 -- A comma is ASCII, so the text may be cut before and after it.
 use Rattle.std.proofs.Common.{◌≡◌, arith, get_or}
-use Rattle.std.proofs.lemmas.Str.{IsCharBoundary-after_ascii, IsCharBoundary-before_ascii}
+use Rattle.std.proofs.lemmas.Str.{IsCharBoundary-after_ascii}
 use Rattle.uses_attributes.proofs.setting.value_len.Goals as goal
 
 pub range-requires-clause-end_boundary : goal.range-requires-clause-end_boundary

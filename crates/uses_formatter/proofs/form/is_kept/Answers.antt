@@ -1,5 +1,5 @@
 -- What is alike to the literal of the text keeps it.
-use Rattle.std.proofs.Common.{◌≡◌, ℕ, List, Bool, Result, Ok, Err}
+use Rattle.std.proofs.Common.{ℕ, List, Bool, Result, Ok, Err}
 use Rattle.std.specs.Prelude.{IfOk, IsTrue, chars}
 use Rattle.litrs.specs.Literal.{Derivation, IsLiteral}
 use Rattle.litrs.specs.LiteralDerivation.{derivation}

@@ -12,10 +12,9 @@ loop-rest-preserved c =
     let pushed : c.push.new.self.items ≡ c.loop-rest.found.items ++ c.in_ok-token.token ∷ [] = search rules in
     let found = c.loop-rest.found.items in
     let token = c.in_ok-token.token in
-    let next = c.in_ok-token.next.now in
-    (
+    let next = c.in_ok-token.next.now in (
       search rules,
       ap (λ (l : List Token). spelled l ++ next) pushed
-      ∙ (spelled_snoc found token next ∙ (ap (λ (l : List ℕ). spelled found ++ l) (sym c.in_ok-token.ensures.spells) ∙ c.loop-rest.invariant.1)),
+          ∙ (spelled_snoc found token next ∙ (ap (λ (l : List ℕ). spelled found ++ l) (sym c.in_ok-token.ensures.spells) ∙ c.loop-rest.invariant.1)),
       subst (All IsToken) (sym pushed) (All-push IsToken found token c.loop-rest.invariant.2 c.in_ok-token.ensures.token),
     )

@@ -1,4 +1,3 @@
-use Rattle.std.proofs.Common.{◌≡◌}
 use Rattle.uses_prompt.proofs.Parts.{three_parts}
 use Rattle.uses_prompt.proofs.marks.cut.Goals as goal
 
@@ -6,5 +5,5 @@ pub returns : goal.returns
 returns c =
     let ends = c.marked_span-span.ensures.cuts c.requires.char_ends in
     rw c.split_at.ensures.front
-        (rw c.range.ensures.value
-        (rw c.split_at-2.ensures.back (three_parts c.args.text.now c.marked_span-span.result.start c.marked_span-span.result.end ends.in_order)))
+    (rw c.range.ensures.value
+    (rw c.split_at-2.ensures.back (three_parts c.args.text.now c.marked_span-span.result.start c.marked_span-span.result.end ends.in_order)))

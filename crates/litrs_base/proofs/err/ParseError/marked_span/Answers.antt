@@ -1,9 +1,9 @@
-use Rattle.std.proofs.Common.{◌≡◌, ℕ, List, length, Option, Some, None, sym, ap, subst, ◌∙◌}
-use Rattle.std.specs.Prelude.{chars, encode_utf8_all, unwrap_or}
+use Rattle.std.proofs.Common.{◌≡◌, ℕ, length, Option, sym, ap, subst, ◌∙◌}
+use Rattle.std.specs.Prelude.{chars, unwrap_or}
 use Rattle.std.specs.declared.ops.Range.{Range}
 use Rattle.std.proofs.lemmas.Str.{encodes-chars}
 use Rattle.litrs_base.specs.CharEnd.{IsCutBy}
-use Rattle.litrs_base.specs.Refusal.{char_span_of, marked_span}
+use Rattle.litrs_base.specs.Refusal.{marked_span}
 use Rattle.litrs_base.specs.Text.{byte_len}
 use Rattle.litrs_base.proofs.CharEnds.{marked_span_cuts}
 use Rattle.litrs_base.proofs.err.ParseError.marked_span.Goals as goal
