@@ -12,7 +12,7 @@ abbrev pub is_hit : (second third limit : ℕ) → ℕ → Bool
 is_hit second third limit x = (((eqb x 34 || eqb x 13) || eqb x second) || eqb x third) || ltb limit x
 
 found : (s z n : Bool) →
-    agree_below (is_hit (cond s 92 34) (cond z 0 34) (cond n 127 255)) (is_special (record { backslash = s; nul = z; non_ascii = n })) 256 ≡ true
+    agree_below (is_hit (cond s 92 13) (cond z 0 13) (cond n 127 255)) (is_special (record { backslash = s; nul = z; non_ascii = n })) 256 ≡ true
 found true true true = refl
 found true true false = refl
 found true false true = refl
@@ -23,10 +23,10 @@ found false false true = refl
 found false false false = refl
 
 pub hits_special : (what : Special) (v : List ℕ) → Each1 (Fits w8) v →
-    map (is_hit (cond what.backslash 92 34) (cond what.nul 0 34) (cond what.non_ascii 127 255)) v ≡ map (is_special what) v
+    map (is_hit (cond what.backslash 92 13) (cond what.nul 0 13) (cond what.non_ascii 127 255)) v ≡ map (is_special what) v
 hits_special what [] fits = refl
 hits_special what (x ∷ xs) fits =
-    λ i. agree_below_at (is_hit (cond what.backslash 92 34) (cond what.nul 0 34) (cond what.non_ascii 127 255)) (is_special what) 256 x
+    λ i. agree_below_at (is_hit (cond what.backslash 92 13) (cond what.nul 0 13) (cond what.non_ascii 127 255)) (is_special what) 256 x
     (found what.backslash what.nul what.non_ascii) fits.0.fits i ∷ hits_special what xs fits.1 i
 
 abbrev equal : ℕ → ℕ → ℕ
@@ -40,7 +40,7 @@ joined = zip2 bit_or
 
 -- the mask of a load is that of the bytes of the set
 pub marks_special : (what : Special) (v : List ℕ) (n second third limit : ℕ) → length v ≡ n → n ≤ 64 → Each1 (Fits w8) v →
-    second ≡ cond what.backslash 92 34 → third ≡ cond what.nul 0 34 → limit ≡ cond what.non_ascii 127 255 →
+    second ≡ cond what.backslash 92 13 → third ≡ cond what.nul 0 13 → limit ≡ cond what.non_ascii 127 255 →
     mask_l (map (top 7) (joined (joined (joined (joined (zip2 equal v (replicate n 34)) (zip2 equal v (replicate n 13))) (zip2 equal v (replicate n second))) (zip2 equal v (replicate n third))) (zip2 below (replicate n limit) v))) % 2 ^ 64
     ≡ mask_l (map (is_special what) v)
 marks_special what v n second third limit long few fits is_second is_third is_limit =

@@ -1,8 +1,9 @@
 //! The bytes of one load that a search looks for.
 ghost use Rattle.std.specs.Prelude.{◌≡◌, ◌+◌, ◌≤◌, length, map, not, if◌then◌else◌};
 ghost use Rattle.std.specs.Simd.Lanes.{mask_l, chunk};
-ghost use Rattle.litrs_base.specs.Characters.{double_quote, backslash, nul};
+ghost use Rattle.litrs_base.specs.Characters.{carriage_return, backslash, nul};
 ghost use Rattle.litrs_search.specs.Special.{is_special};
+ghost use Rattle.litrs_search.specs.Closing.{may_close, pairs};
 ghost use Rattle.litrs_search.specs.Run.{is_in_run, last_digit, last_letter, first_other, second_other, third_other};
 
 use crate::{Run, Special};
@@ -11,7 +12,7 @@ use std::simd::prelude::*;
 
 /// What lanes are compared with beside `"` and CR: two bytes, and a limit that none may pass.
 ///
-/// A byte that is not searched for stands as `"`, and the limit as 255, which no byte passes.
+/// A byte that is not searched for stands as CR, and the limit as 255, which no byte passes.
 struct Sought {
     second: u8,
     third: u8,
@@ -20,13 +21,13 @@ struct Sought {
 
 #[inline(always)]
 fn needles(what: Special) -> Sought
-    ensures second { result.second ≡ if what.backslash then backslash else double_quote }
-    ensures third { result.third ≡ if what.nul then nul else double_quote }
+    ensures second { result.second ≡ if what.backslash then backslash else carriage_return }
+    ensures third { result.third ≡ if what.nul then nul else carriage_return }
     ensures limit { result.limit ≡ if what.non_ascii then 127 else 255 }
 {
     Sought {
-        second: if what.backslash { b'\\' } else { b'"' },
-        third: if what.nul { 0 } else { b'"' },
+        second: if what.backslash { b'\\' } else { b'\r' },
+        third: if what.nul { 0 } else { b'\r' },
         limit: if what.non_ascii { 127 } else { 255 },
     }
 }
@@ -48,6 +49,32 @@ pub(crate) fn special_marks<const N: usize>(bytes: &[u8], at: usize, what: Speci
         | v.simd_eq(Simd::splat(second))
         | v.simd_eq(Simd::splat(third))
         | v.simd_gt(Simd::splat(limit))).to_bitmask()
+}
+
+/// The places among the N from `at` on where a raw body may be closed, or whose byte is special and
+/// no `"`, in the same way. The last hash of a closing stands so many places after its `"`.
+#[inline(always)]
+pub(crate) fn closing_marks<const N: usize>(
+    bytes: &[u8],
+    at: usize,
+    hashes: usize,
+    what: Special,
+) -> u64
+    requires { (at + hashes + N ≤ length bytes.now) × (N ≤ 64) }
+    ensures { result ≡ mask_l (map (may_close what) (chunk at N (pairs hashes bytes.now))) }
+{
+    let Sought {
+        second,
+        third,
+        limit,
+    } = needles(what);
+    let byte = Simd::<u8, N>::from_slice(&bytes[at..]);
+    let last = Simd::<u8, N>::from_slice(&bytes[at + hashes..]);
+    (byte.simd_eq(Simd::splat(b'"')) & last.simd_eq(Simd::splat(b'#'))
+        | byte.simd_eq(Simd::splat(b'\r'))
+        | byte.simd_eq(Simd::splat(second))
+        | byte.simd_eq(Simd::splat(third))
+        | byte.simd_gt(Simd::splat(limit))).to_bitmask()
 }
 
 /// The digits of a run end here: at `/`, which stands before `0`, where it has no digit.

@@ -1,8 +1,10 @@
 //! Searches bytes for the end of a run: of plain characters in a quoted literal, of digits, of an
-//! identifier, or of underscores, blanks or hashes.
+//! identifier, or of underscores, blanks or hashes; and for what may close a raw literal.
 #![tactic(auto)]
 
+pub use closing::next_closing;
 pub use search::{Run, Special, next_special, run_end};
 
+pub mod closing;
 mod lanes;
 pub mod search;

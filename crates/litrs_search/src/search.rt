@@ -46,7 +46,7 @@ enum Target {
 }
 
 #[inline(always)]
-fn is_special(byte: u8, what: Special) -> bool
+pub(crate) fn is_special(byte: u8, what: Special) -> bool
     ensures { result ≡ is_special what byte }
 {
     byte == b'"'
@@ -139,7 +139,7 @@ fn marks<const N: usize>(bytes: &[u8], at: usize, target: Target) -> u64
 /// The place of the lowest mark, where bit 0 is the mark of the place `from`; `end` where there is
 /// none.
 #[inline(always)]
-fn first_marked(marks: u64, from: usize, end: usize) -> usize
+pub(crate) fn first_marked(marks: u64, from: usize, end: usize) -> usize
     requires { 0 < marks → from + trailing_zeros w64 marks ≤ end }
     ensures { result ≡ if marks == 0 then end else (from + trailing_zeros w64 marks) }
 {
