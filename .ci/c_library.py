@@ -6,15 +6,14 @@
 At the top of the repository, after `rt ci`, over the libraries that it built: builds the static
 library of crates/litrs_c, the C program .ci/c_library.c, and a shared object for ctypes. Each row
 of the table of `litrs_vectors` that is about literals of any kind, or about what texts begin, and
-whose text has at most 65,536 bytes, has to be answered as it says by both, with the descriptions and marks that docs/GRAMMAR.md has; each
-prefix of its text, at each byte, has to be refused as not UTF-8 where Python does not decode it,
-and answered alike by both. The samples of crates/litrs_c/README.md have to print what stands below
-them.
+whose text has at most 65,536 bytes, has to be answered as it says by both, with the descriptions
+and marks that docs/GRAMMAR.md has; each prefix of its text, at each byte, has to be refused as not
+UTF-8 where Python does not decode it, and answered alike by both. The samples of
+crates/litrs_c/README.md have to print what stands below them.
 """
 import concurrent.futures
 import ctypes
 import dataclasses
-import os
 import pathlib
 import re
 import subprocess
@@ -211,7 +210,8 @@ def wanted_of_rows(kinds):
 
 def wanted_of_prefixes(rows):
     """Of each prefix of their texts, at each byte, whether it is UTF-8."""
-    for text in {it.text[:end] for it in rows if len(it.text) < PREFIXED for end in range(len(it.text))}:
+    texts = [it.text for it in rows if len(it.text) < PREFIXED]
+    for text in {it[:end] for it in texts for end in range(len(it))}:
         try:
             text.decode()
             yield Wanted(text, [None] * 31)
@@ -246,7 +246,7 @@ def faults_of(wanted, from_c, from_python):
 
 
 def try_texts(folder):
-    """Tries all texts from C and from Python, from some threads at once. Returns how many there are,
+    """Tries all texts from C, and from Python by some threads at once. Returns how many there are,
     and the faults."""
     program, shared = folder / "program", folder / "liblitrs.so"
     wrap = ["-Wl,--wrap=malloc,--wrap=realloc,--wrap=free"]

@@ -26,7 +26,7 @@ import tempfile
 KIT = pathlib.Path(subprocess.check_output(["rt", "doc"], text=True).strip()).parent
 SECONDS = 900
 
-FUNCTION = re.compile(r"\s*(?:pub(?:\(\w+\))? )?(?:(?:const|unsafe|final) )*fn (\w+)")
+FUNCTION = re.compile(r'\s*(?:pub(?:\(\w+\))? )?(?:(?:const|unsafe|final|extern "C") )*fn (\w+)')
 CONSTANT = re.compile(r"\s*(?:pub(?:\(\w+\))? )?(?:const|static) (\w+):")
 GHOST = re.compile(r"\s*ghost (\w+) ")
 STATUS = re.compile(r"(?:fn|impl) (\S+): (.*)")
