@@ -35,7 +35,8 @@ use Rattle.litrs_lex.proofs.StringFronts.{quoted_boundary, quoted_before}
 use Rattle.litrs_collector.specs.declared.body.Body.{Body}
 use Rattle.litrs_collector.specs.declared.body.Body.TheVariants.{Quoted, Continuation, Raw}
 use Rattle.litrs_collector.specs.declared.body.Open.{Open}
-use Rattle.litrs_collector.specs.Open.{kind_of, IsEscapeOrEmpty, IsQuotedTo, IsContinuedTo, IsRawTo, IsBodyTo, IsOpen, IsKnown}
+use Rattle.litrs_parts.specs.Front.{grammar_kind}
+use Rattle.litrs_collector.specs.Open.{IsEscapeOrEmpty, IsQuotedTo, IsContinuedTo, IsRawTo, IsBodyTo, IsOpen, IsKnown}
 use Rattle.litrs_collector.proofs.StepLemmas.{chars-line_feed}
 use Rattle.litrs_collector.proofs.OpenTexts.{IsOpenText, IsOpenEnd, more_after, quoted_is_open, none_over_line, line_in_body, raw_is_open}
 
@@ -89,7 +90,7 @@ body_stays Continuation kind place bytes more u v s = continued_stays kind place
 body_stays (Raw n) kind place bytes more u v s = raw_stays kind n place bytes more u v s
 
 pub open_stays : (string : Open) (bytes more : List ℕ) → IsUtf8 bytes → IsUtf8 more → IsOpen bytes string → IsOpen (bytes ++ more) string
-open_stays string bytes more u v s = body_stays string.body (kind_of string.kind) string.place bytes more u v s
+open_stays string bytes more u v s = body_stays string.body (grammar_kind string.kind) string.place bytes more u v s
 
 pub known_stays : (known : Option Open) (bytes more : List ℕ) → IsUtf8 bytes → IsUtf8 more → IsKnown bytes known → IsKnown (bytes ++ more) known
 known_stays None bytes more u v s = tt
@@ -113,17 +114,6 @@ line_boundary bytes n is =
     subst (λ (k : ℕ). IsCharBoundary (bytes ++ 10 ∷ []) k) size (IsCharBoundary-end (bytes ++ 10 ∷ []))
 
 -- What the switches of the code are, and what it sees of a text
-
-pub items_by : (kind : StringKind) (unicode byte_escapes allow_nul : Bool) (bytes : List ℕ) (place : ℕ) (end : ItemsEnd) →
-    unicode ≡ has_unicode kind → byte_escapes ≡ (switches_of kind).byte_escapes → allow_nul ≡ allows_nul kind →
-    IsItemsEnd (switches unicode byte_escapes allow_nul) bytes place end → IsItemsEnd (switches_of kind) bytes place end
-items_by kind unicode byte_escapes allow_nul bytes place end p q r read =
-    let same : switches unicode byte_escapes allow_nul ≡ switches_of kind = λ j. switches (p j) (q j) (r j) in
-    subst (λ (w : Switches). IsItemsEnd w bytes place end) same read
-
-pub switches_by : (kind : StringKind) (unicode byte_escapes allow_nul : Bool) → unicode ≡ has_unicode kind → byte_escapes ≡ (switches_of kind).byte_escapes → allow_nul ≡ allows_nul kind →
-    switches unicode byte_escapes allow_nul ≡ switches_of kind
-switches_by kind unicode byte_escapes allow_nul p q r = λ j. switches (p j) (q j) (r j)
 
 pub stop_by : (kind : StringKind) (unicode allow_nul : Bool) (n place end : ℕ) (bytes seen : List ℕ) → seen ≡ bytes → unicode ≡ has_unicode kind → allow_nul ≡ allows_nul kind →
     IsStop unicode allow_nul n place seen end → IsStop (has_unicode kind) (allows_nul kind) n place bytes end

@@ -3,28 +3,14 @@ use Rattle.std.specs.Prelude.{◌≡◌, ◌⊎◌, ◌≤◌, ℕ, List, [], �
 use Rattle.std.specs.List.{list_all}
 use Rattle.std.specs.Str.{chars, IsCharBoundary}
 use Rattle.litrs_base.specs.Characters.{line_feed, double_quote, backslash, is_blank}
-use Rattle.litrs_grammar.specs.StringKind.{StringKind, string_kind, byte_string_kind, c_string_kind, switches_of}
+use Rattle.litrs_grammar.specs.StringKind.{StringKind, switches_of}
 use Rattle.litrs_grammar.specs.Escape.{Switches, Escape, escape_text, IsEscape}
 use Rattle.litrs_grammar.specs.Quoted.{Item, quoted_front, body_text, stand_before}
 use Rattle.litrs_grammar.specs.Raw.{hashes, occurs, raw_closing, raw_front, has_unicode, allows_nul, is_raw_char}
-use Rattle.litrs_collector.specs.declared.body.Kind.{Kind}
-use Rattle.litrs_collector.specs.declared.body.Kind.TheVariants.{String, ByteString, CString}
-use Rattle.litrs_collector.specs.declared.body.Start.{Start}
-use Rattle.litrs_collector.specs.declared.body.Start.TheVariants as start
+use Rattle.litrs_parts.specs.Front.{grammar_kind}
 use Rattle.litrs_collector.specs.declared.body.Body.{Body}
 use Rattle.litrs_collector.specs.declared.body.Body.TheVariants.{Quoted, Continuation, Raw}
 use Rattle.litrs_collector.specs.declared.body.Open.{Open}
-
--- the kind of the grammar
-abbrev pub kind_of : Kind → StringKind
-kind_of String = string_kind
-kind_of ByteString = byte_string_kind
-kind_of CString = c_string_kind
-
--- the text that such a start has
-abbrev pub start_text : Start → List ℕ
-start_text (start.Quoted kind) = quoted_front (kind_of kind)
-start_text (start.Raw kind) = raw_front (kind_of kind)
 
 -- the text is empty, or one escape
 abbrev pub IsEscapeOrEmpty : Switches → List ℕ → Type 0
@@ -68,7 +54,7 @@ IsBodyTo (Raw n) kind = IsRawTo kind n
 
 -- the text begins this string, which has been read up to its place
 abbrev pub IsOpen : List ℕ → Open → Type 0
-IsOpen bytes string = IsBodyTo string.body (kind_of string.kind) string.place bytes
+IsOpen bytes string = IsBodyTo string.body (grammar_kind string.kind) string.place bytes
 
 -- where something is known of the text, it begins this string
 abbrev pub IsKnown : List ℕ → Option Open → Type 0

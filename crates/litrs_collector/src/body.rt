@@ -8,29 +8,15 @@ ghost use Rattle.std.specs.Str.{chars, IsUtf8};
 ghost use Rattle.litrs_base.specs.Characters.{line_feed, backslash, is_blank};
 ghost use Rattle.litrs_base.specs.Text.{first_passes, begins_with};
 ghost use Rattle.litrs_grammar.specs.StringKind.{switches_of};
-ghost use Rattle.litrs_grammar.specs.Quoted.{quoted_front};
-ghost use Rattle.litrs_grammar.specs.Raw.{hashes, hash_len, is_hash, is_quote, raw_closing, raw_front, has_unicode, allows_nul};
+ghost use Rattle.litrs_grammar.specs.Raw.{hashes, hash_len, is_hash, is_quote, raw_closing, raw_front};
 ghost use Rattle.litrs_lex.specs.RawCut.{IsStop};
-ghost use Rattle.litrs_collector.specs.Open.{kind_of, start_text, IsEscapeOrEmpty, IsOpen, IsKnown, IsQuotedTo, IsContinuedTo, IsRawTo};
+ghost use Rattle.litrs_parts.specs.Front.{grammar_kind};
+ghost use Rattle.litrs_collector.specs.Open.{IsEscapeOrEmpty, IsOpen, IsKnown, IsQuotedTo, IsContinuedTo, IsRawTo};
 ghost use Rattle.litrs_collector.specs.Steps.{IsUnfinished};
 
 use litrs_lex::quoted::items_end;
 use litrs_lex::{Special, next_special, unescape};
-
-/// The kind of a string.
-#[derive(Clone, Copy)]
-pub(crate) enum Kind {
-    String,
-    ByteString,
-    CString,
-}
-
-/// How a string starts: with `"`, `b"` or `c"`, or with `r`, `br` or `cr`.
-#[derive(Clone, Copy)]
-enum Start {
-    Quoted(Kind),
-    Raw(Kind),
-}
+use litrs_parts::{Front, StringKind};
 
 /// What goes on at a place in a string.
 #[derive(Clone, Copy)]
@@ -46,44 +32,10 @@ pub(crate) enum Body {
 /// A string whose body is open, and how far it has been read.
 #[derive(Clone, Copy)]
 pub(crate) struct Open {
-    kind: Kind,
+    kind: StringKind,
     body: Body,
     /// The place, in bytes.
     place: usize,
-}
-
-impl Kind {
-    /// Whether characters beyond ASCII and `\u{..}` may stand in it.
-    fn unicode(self) -> bool
-        ensures { result ≡ has_unicode (kind_of self) }
-    {
-        !matches!(self, Kind::ByteString)
-    }
-
-    /// Whether `\x80` to `\xff` may stand in it.
-    fn byte_escapes(self) -> bool
-        ensures { result ≡ (switches_of (kind_of self)).byte_escapes }
-    {
-        !matches!(self, Kind::String)
-    }
-
-    /// Whether NUL may stand in it.
-    fn allows_nul(self) -> bool
-        ensures { result ≡ allows_nul (kind_of self) }
-    {
-        !matches!(self, Kind::CString)
-    }
-
-    /// The length of its front, which is the same for a quoted and for a raw one.
-    fn front_len(self) -> usize
-        ensures quoted { result ≡ length (quoted_front (kind_of self)) }
-        ensures raw { result ≡ length (raw_front (kind_of self)) }
-    {
-        match self {
-            Kind::String => 1,
-            Kind::ByteString | Kind::CString => 2,
-        }
-    }
 }
 
 /// What is open after the text and an LF, where the text begins a string whose body goes on to its
@@ -104,36 +56,21 @@ pub(crate) fn open_after(text: &str, known: Option<Open>) -> Option<Open>
 fn opening(text: &str) -> Option<Open>
     ensures { IfSome result (IsOpen text.now) }
 {
-    match start_of(text.as_bytes()) {
-        Some(Start::Quoted(kind)) => Some(Open {
+    match Front::of(text) {
+        Front::Quoted(kind) => Some(Open {
             kind,
             body: Body::Quoted,
             place: kind.front_len(),
         }),
-        Some(Start::Raw(kind)) => raw_opening(text, kind),
-        None => None,
-    }
-}
-
-/// How the text starts, where it starts as a string does.
-fn start_of(bytes: &[u8]) -> Option<Start>
-    ensures { IfSome result (λ start. IsTrue (begins_with (start_text start) bytes.now)) }
-{
-    match bytes {
-        [b'"', ..] => Some(Start::Quoted(Kind::String)),
-        [b'b', b'"', ..] => Some(Start::Quoted(Kind::ByteString)),
-        [b'c', b'"', ..] => Some(Start::Quoted(Kind::CString)),
-        [b'r', ..] => Some(Start::Raw(Kind::String)),
-        [b'b', b'r', ..] => Some(Start::Raw(Kind::ByteString)),
-        [b'c', b'r', ..] => Some(Start::Raw(Kind::CString)),
+        Front::Raw(kind) => raw_opening(text, kind),
         _ => None,
     }
 }
 
 /// A raw string of the kind, with whose front the text begins; None where the front is followed by
 /// no hashes and `"`, or by more than 255 hashes.
-fn raw_opening(text: &str, kind: Kind) -> Option<Open>
-    requires { IsTrue (begins_with (raw_front (kind_of kind)) text.now) }
+fn raw_opening(text: &str, kind: StringKind) -> Option<Open>
+    requires { IsTrue (begins_with (raw_front (grammar_kind kind)) text.now) }
     ensures { IfSome result (IsOpen text.now) }
 {
     let bytes = text.as_bytes();
@@ -167,13 +104,13 @@ fn next_line(text: &str, string: Open) -> Option<Open>
 
 /// [`next_line`] of a quoted body, of which the place stands between two items.
 #[inline(always)]
-fn quoted_line(text: &str, kind: Kind, place: usize) -> Option<Open>
-    requires { IsQuotedTo (kind_of kind) place text.now }
+fn quoted_line(text: &str, kind: StringKind, place: usize) -> Option<Open>
+    requires { IsQuotedTo (grammar_kind kind) place text.now }
     ensures unfinished { IfSome result (λ _. IsUnfinished text.now) }
     ensures next { IfSome result (IsOpen (text.now ++ line_feed ∷ [])) }
 {
-    let unicode = kind.unicode();
-    let end = items_end(text, place, unicode, kind.byte_escapes(), kind.allows_nul()).place;
+    let w = kind.switches();
+    let end = items_end(text, place, w.unicode, w.byte_escapes, w.allow_nul).place;
     if is_escape_or_empty(&text[end..], kind) {
         Some(Open {
             kind,
@@ -193,8 +130,8 @@ fn quoted_line(text: &str, kind: Kind, place: usize) -> Option<Open>
 
 /// Whether the text is empty or one escape, which is no item of the body before something follows.
 #[inline(always)]
-fn is_escape_or_empty(text: &str, kind: Kind) -> bool
-    ensures { IsTrue result → IsEscapeOrEmpty (switches_of (kind_of kind)) (chars text.now) }
+fn is_escape_or_empty(text: &str, kind: StringKind) -> bool
+    ensures { IsTrue result → IsEscapeOrEmpty (switches_of (grammar_kind kind)) (chars text.now) }
 {
     let [first, ..] = text.as_bytes() else {
         return true;
@@ -202,8 +139,8 @@ fn is_escape_or_empty(text: &str, kind: Kind) -> bool
     if *first != b'\\' {
         return false;
     }
-    let unicode = kind.unicode();
-    match unescape(text, unicode, kind.byte_escapes(), kind.allows_nul()) {
+    let w = kind.switches();
+    match unescape(text, w.unicode, w.byte_escapes, w.allow_nul) {
         Ok((_, len)) => len == text.len(),
         Err(_) => false,
     }
@@ -217,8 +154,8 @@ fn is_backslash(bytes: &[u8]) -> bool
 }
 
 /// [`next_line`] of a quoted body, of which the place stands in a continuation.
-fn continued_line(text: &str, kind: Kind, place: usize) -> Option<Open>
-    requires { IsContinuedTo (kind_of kind) place text.now }
+fn continued_line(text: &str, kind: StringKind, place: usize) -> Option<Open>
+    requires { IsContinuedTo (grammar_kind kind) place text.now }
     ensures unfinished { IfSome result (λ _. IsUnfinished text.now) }
     ensures next { IfSome result (IsOpen (text.now ++ line_feed ∷ [])) }
 {
@@ -236,13 +173,13 @@ fn continued_line(text: &str, kind: Kind, place: usize) -> Option<Open>
 
 /// [`next_line`] of a raw body between so many hashes.
 #[inline(always)]
-fn raw_line(text: &str, kind: Kind, hashes: usize, place: usize) -> Option<Open>
-    requires { IsRawTo (kind_of kind) hashes place text.now }
+fn raw_line(text: &str, kind: StringKind, hashes: usize, place: usize) -> Option<Open>
+    requires { IsRawTo (grammar_kind kind) hashes place text.now }
     ensures unfinished { IfSome result (λ _. IsUnfinished text.now) }
     ensures next { IfSome result (IsOpen (text.now ++ line_feed ∷ [])) }
 {
-    let unicode = kind.unicode();
-    let stop = raw_body_end(text.as_bytes(), place, hashes, unicode, kind.allows_nul());
+    let w = kind.switches();
+    let stop = raw_body_end(text.as_bytes(), place, hashes, w.unicode, w.allow_nul);
     if stop == text.len() {
         Some(Open {
             kind,

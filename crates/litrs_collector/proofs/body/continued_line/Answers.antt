@@ -3,13 +3,13 @@ use Rattle.std.proofs.Common.{◌≡◌, ◌≤◌, ◌+◌, ℕ, List, length, 
 use Rattle.std.specs.List.{prefix_len}
 use Rattle.litrs_base.specs.Characters.{is_blank}
 use Rattle.litrs_parts.proofs.FloatBytes.{rest_is}
-use Rattle.litrs_collector.specs.Open.{kind_of}
+use Rattle.litrs_parts.specs.Front.{grammar_kind}
 use Rattle.litrs_collector.proofs.OpenBytes.{continued_unfinished, continued_next, continued_quoted, before_end}
 use Rattle.litrs_collector.proofs.body.continued_line.Goals as goal
 
 pub quoted_line-requires : goal.quoted_line-requires
 quoted_line-requires c =
-    let kind = kind_of c.args.kind in
+    let kind = grammar_kind c.args.kind in
     let text : List ℕ = c.args.text.now in
     let place : ℕ = c.args.place in
     let k : ℕ = c.blanks_len.result in
@@ -20,7 +20,7 @@ quoted_line-requires c =
 
 pub returns-then-end-text-clause-unfinished : goal.returns-then-end-text-clause-unfinished
 returns-then-end-text-clause-unfinished c =
-    let kind = kind_of c.args.kind in
+    let kind = grammar_kind c.args.kind in
     let text : List ℕ = c.args.text.now in
     let place : ℕ = c.args.place in
     let k : ℕ = c.blanks_len.result in
@@ -30,7 +30,7 @@ returns-then-end-text-clause-unfinished c =
 
 pub returns-then-end-text-clause-next : goal.returns-then-end-text-clause-next
 returns-then-end-text-clause-next c =
-    let kind = kind_of c.args.kind in
+    let kind = grammar_kind c.args.kind in
     let text : List ℕ = c.args.text.now in
     let place : ℕ = c.args.place in
     let k : ℕ = c.blanks_len.result in

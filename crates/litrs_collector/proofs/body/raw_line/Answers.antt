@@ -1,8 +1,9 @@
 -- The search passes all of the line, so that nothing closes the body.
-use Rattle.std.proofs.Common.{◌≤◌, List, ℕ, length, drop, sym, subst}
+use Rattle.std.proofs.Common.{◌≤◌, List, ℕ, length, drop, sym, ap, subst}
 use Rattle.std.specs.Str.{IsUtf8}
 use Rattle.std.proofs.lemmas.Str.{IsUtf8-drop}
-use Rattle.litrs_collector.specs.Open.{kind_of}
+use Rattle.litrs_grammar.specs.Escape.{Switches}
+use Rattle.litrs_parts.specs.Front.{grammar_kind}
 use Rattle.litrs_collector.proofs.OpenBytes.{stop_by, raw_unfinished, raw_next}
 use Rattle.litrs_collector.proofs.body.raw_line.Goals as goal
 
@@ -16,14 +17,14 @@ raw_body_end-stop-requires c =
 
 pub returns-then-stop-text-clause-unfinished : goal.returns-then-stop-text-clause-unfinished
 returns-then-stop-text-clause-unfinished c =
-    let kind = kind_of c.args.kind in
+    let kind = grammar_kind c.args.kind in
     let text : List ℕ = c.args.text.now in
-    let stop = stop_by kind c.unicode-unicode.result c.allows_nul.result c.args.hashes c.args.place c.raw_body_end-stop.result text c.as_bytes.result.now c.as_bytes.ensures.value c.unicode-unicode.ensures c.allows_nul.ensures c.raw_body_end-stop.ensures in
+    let stop = stop_by kind c.switches-w.result.unicode c.switches-w.result.allow_nul c.args.hashes c.args.place c.raw_body_end-stop.result text c.as_bytes.result.now c.as_bytes.ensures.value (ap (λ (w : Switches). w.unicode) c.switches-w.ensures) (ap (λ (w : Switches). w.allow_nul) c.switches-w.ensures) c.raw_body_end-stop.ensures in
     raw_unfinished kind c.args.hashes c.args.place c.raw_body_end-stop.result text c.utf8.text c.requires stop c.if-stop-text.true
 
 pub returns-then-stop-text-clause-next : goal.returns-then-stop-text-clause-next
 returns-then-stop-text-clause-next c =
-    let kind = kind_of c.args.kind in
+    let kind = grammar_kind c.args.kind in
     let text : List ℕ = c.args.text.now in
-    let stop = stop_by kind c.unicode-unicode.result c.allows_nul.result c.args.hashes c.args.place c.raw_body_end-stop.result text c.as_bytes.result.now c.as_bytes.ensures.value c.unicode-unicode.ensures c.allows_nul.ensures c.raw_body_end-stop.ensures in
+    let stop = stop_by kind c.switches-w.result.unicode c.switches-w.result.allow_nul c.args.hashes c.args.place c.raw_body_end-stop.result text c.as_bytes.result.now c.as_bytes.ensures.value (ap (λ (w : Switches). w.unicode) c.switches-w.ensures) (ap (λ (w : Switches). w.allow_nul) c.switches-w.ensures) c.raw_body_end-stop.ensures in
     raw_next kind c.args.hashes c.args.place c.raw_body_end-stop.result text c.utf8.text c.requires stop c.if-stop-text.true

@@ -4,13 +4,13 @@ use Rattle.litrs_grammar.specs.Raw.{hash_len}
 use Rattle.litrs_parts.proofs.FloatBytes.{rest_is}
 use Rattle.litrs_lex.proofs.RawBytes.{cons_at, hashes_within}
 use Rattle.litrs_lex.proofs.StringFronts.{raw_boundary}
-use Rattle.litrs_collector.specs.Open.{kind_of}
+use Rattle.litrs_parts.specs.Front.{grammar_kind}
 use Rattle.litrs_collector.proofs.OpenBytes.{raw_opened}
 use Rattle.litrs_collector.proofs.body.raw_opening.Goals as goal
 
 pub returns : goal.returns
 returns c =
-    let kind = kind_of c.args.kind in
+    let kind = grammar_kind c.args.kind in
     let text : List ℕ = c.args.text.now in
     let bytes : List ℕ = c.as_bytes-bytes.result.now in
     let same = c.as_bytes-bytes.ensures.value in
