@@ -9,7 +9,7 @@ pub use litrs_parts::{
     Buffer, FloatCut, FloatType, Front, IntegerBase, IntegerCut, IntegerType, NumberCut,
     ParseError, ParseErrorKind, StringKind, Switches, Text, Unescape, check_suffix, cut_bool,
     cut_byte, cut_char, cut_float, cut_integer, cut_number, end_dec_digits, first_byte_or_empty,
-    hex_digit_value, unescape,
+    hex_digit_value, unescape, unescape_with,
 };
 pub use litrs_search::{Run, Special, next_closing, next_special, run_end};
 pub use quoted::{QuotedCut, cut_quoted};

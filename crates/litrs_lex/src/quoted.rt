@@ -1,5 +1,5 @@
 //! Where a quoted string, byte string or C string is cut.
-ghost use Rattle.std.specs.Prelude.{not, ◌-◌, [], take, codes, ◌≡◌, ◌≤◌, ◌==◌, true, false, length, IfOk, IfErr, IfSome, IfNone, Some, None, IsTrue, IsFalse};
+ghost use Rattle.std.specs.Prelude.{Bool, not, ◌-◌, [], take, codes, ◌≡◌, ◌≤◌, ◌==◌, true, false, length, IfOk, IfErr, IfSome, IfNone, Some, None, IsTrue, IsFalse};
 ghost use Rattle.std.specs.List.{prefix_len};
 ghost use Rattle.std.specs.Str.{chars, IsCharBoundary};
 ghost use Rattle.litrs_base.specs.Characters.{line_feed, is_blank};
@@ -8,11 +8,11 @@ ghost use Rattle.litrs_base.specs.Text.{first_passes};
 ghost use Rattle.litrs_grammar.specs.Quoted.{QuotedParts, IsQuoted, body_value, is_plain, without_last, rest_refusal};
 ghost use Rattle.litrs_lex.specs.QuotedCut.{IsQuotedCut, IsQuotedRefused};
 ghost use Rattle.litrs_lex.specs.QuotedItems.{IsPlainRun, IsItemAt, IsItemsEnd, EndsItems, item_bytes};
-ghost use Rattle.litrs_parts.specs.Unescaped.{switches};
+ghost use Rattle.litrs_parts.specs.Unescaped.{switches, grammar_switches};
 
 use crate::short_value::ShortValue;
 use litrs_base::{ParseError, ParseErrorKind, Unescape};
-use litrs_parts::{check_suffix, unescape};
+use litrs_parts::{Switches, check_suffix, unescape_with};
 use litrs_search::{Run, Special, next_special, run_end};
 
 /// Where a quoted literal is cut: sizes and places in bytes.
@@ -59,8 +59,13 @@ pub fn cut_quoted(
     ensures refused { IfErr result
         (IsQuotedRefused (switches unicode byte_escapes allow_nul) input.now offset) }
 {
-    let end = items_end(input, offset, unicode, byte_escapes, allow_nul);
-    cut_at_end(input, offset, end, unicode, byte_escapes, allow_nul)
+    let allowed = Switches {
+        unicode,
+        byte_escapes,
+        allow_nul,
+    };
+    let end = items_end_with(input, offset, allowed);
+    cut_at_end(input, offset, end, allowed)
 }
 
 /// [`cut_quoted`] where the items of the body end there.
@@ -69,20 +74,18 @@ pub(crate) fn cut_at_end(
     input: &str,
     offset: usize,
     end: ItemsEnd,
-    unicode: bool,
-    byte_escapes: bool,
-    allow_nul: bool,
+    allowed: Switches,
 ) -> Result<QuotedCut, ParseError>
     requires at { IsCharBoundary input.now offset }
-    requires end { IsItemsEnd (switches unicode byte_escapes allow_nul) input.now offset end }
+    requires end { IsItemsEnd (grammar_switches allowed) input.now offset end }
     ensures ok { IfOk result
-        (IsQuotedCut (switches unicode byte_escapes allow_nul) input.now offset) }
+        (IsQuotedCut (grammar_switches allowed) input.now offset) }
     ensures refused { IfErr result
-        (IsQuotedRefused (switches unicode byte_escapes allow_nul) input.now offset) }
+        (IsQuotedRefused (grammar_switches allowed) input.now offset) }
     ensures has_escape { IfOk result (λ cut.
         cut.has_escape ≡ not (end.value_len == end.place - offset)) }
 {
-    match end_refusal(&input[end.place..], unicode, byte_escapes, allow_nul) {
+    match end_refusal(&input[end.place..], allowed) {
         // A value is shorter than its body where the body has a backslash.
         None => Ok(QuotedCut {
             value_len: end.value_len,
@@ -117,82 +120,64 @@ pub fn items_end(
     requires { IsCharBoundary input.now offset }
     ensures { IsItemsEnd (switches unicode byte_escapes allow_nul) input.now offset result }
 {
-    let place = first_plain_end(input, offset, unicode, byte_escapes, allow_nul);
-    if ends_items(&input[place..], unicode, byte_escapes, allow_nul) {
+    let allowed = Switches {
+        unicode,
+        byte_escapes,
+        allow_nul,
+    };
+    items_end_with(input, offset, allowed)
+}
+
+/// [`items_end`] by what is allowed.
+#[inline(always)]
+pub fn items_end_with(input: &str, offset: usize, allowed: Switches) -> ItemsEnd
+    requires { IsCharBoundary input.now offset }
+    ensures { IsItemsEnd (grammar_switches allowed) input.now offset result }
+{
+    let place = first_plain_end(input, offset, allowed);
+    if ends_items(&input[place..], allowed) {
         ItemsEnd {
             place,
             value_len: place - offset,
         }
     } else {
         let mut value = ShortValue::unused();
-        more_items_end(
-            input,
-            offset,
-            place,
-            unicode,
-            byte_escapes,
-            allow_nul,
-            &mut value,
-        )
+        more_items_end(input, offset, place, allowed, &mut value)
     }
 }
 
 /// [`plain_end`] in one piece for each kind of literal, so that callers stay small and the search
 /// has no switch to test.
 #[inline(always)]
-pub(crate) fn first_plain_end(
-    input: &str,
-    from: usize,
-    unicode: bool,
-    byte_escapes: bool,
-    allow_nul: bool,
-) -> usize
+pub(crate) fn first_plain_end(input: &str, from: usize, allowed: Switches) -> usize
     requires { IsCharBoundary input.now from }
-    ensures { IsPlainRun (switches unicode byte_escapes allow_nul) input.now from result }
+    ensures { IsPlainRun (grammar_switches allowed) input.now from result }
 {
-    if !unicode {
-        byte_plain_end(input, from, byte_escapes, allow_nul)
-    } else if allow_nul {
-        string_plain_end(input, from, byte_escapes)
-    } else {
-        c_plain_end(input, from, byte_escapes)
+    match (allowed.unicode, allowed.allow_nul) {
+        (true, true) => piece_end::<true, true>(input, from),
+        (true, false) => piece_end::<true, false>(input, from),
+        (false, true) => piece_end::<false, true>(input, from),
+        (false, false) => piece_end::<false, false>(input, from),
     }
 }
 
-/// [`plain_end`] in a string.
+/// [`plain_end`] in the literals of one kind.
 #[inline(never)]
-fn string_plain_end(input: &str, from: usize, byte_escapes: bool) -> usize
+fn piece_end<const UNICODE: bool, const ALLOW_NUL: bool>(input: &str, from: usize) -> usize
     requires { IsCharBoundary input.now from }
-    ensures { IsPlainRun (switches true byte_escapes true) input.now from result }
+    ensures { (byte_escapes : Bool) →
+        IsPlainRun (switches UNICODE byte_escapes ALLOW_NUL) input.now from result }
 {
-    plain_end(input, from, true, byte_escapes, true)
-}
-
-/// [`plain_end`] in a byte string.
-#[inline(never)]
-fn byte_plain_end(input: &str, from: usize, byte_escapes: bool, allow_nul: bool) -> usize
-    requires { IsCharBoundary input.now from }
-    ensures { IsPlainRun (switches false byte_escapes allow_nul) input.now from result }
-{
-    plain_end(input, from, false, byte_escapes, allow_nul)
-}
-
-/// [`plain_end`] in a C string.
-#[inline(never)]
-fn c_plain_end(input: &str, from: usize, byte_escapes: bool) -> usize
-    requires { IsCharBoundary input.now from }
-    ensures { IsPlainRun (switches true byte_escapes false) input.now from result }
-{
-    plain_end(input, from, true, byte_escapes, false)
+    plain_end(input, from, UNICODE, ALLOW_NUL)
 }
 
 /// Whether no backslash begins a text that begins with no plain character: then no item does.
 #[inline(always)]
-pub(crate) fn ends_items(rest: &str, unicode: bool, byte_escapes: bool, allow_nul: bool) -> bool
+pub(crate) fn ends_items(rest: &str, allowed: Switches) -> bool
     requires { IsFalse
-        (first_passes (is_plain (switches unicode byte_escapes allow_nul)) (chars rest.now)) }
+        (first_passes (is_plain (grammar_switches allowed)) (chars rest.now)) }
     ensures { IsTrue result →
-        EndsItems (switches unicode byte_escapes allow_nul) (chars rest.now) }
+        EndsItems (grammar_switches allowed) (chars rest.now) }
 {
     let [first, ..] = rest.as_bytes() else {
         return true;
@@ -209,21 +194,20 @@ pub(crate) fn more_items_end(
     input: &str,
     offset: usize,
     from: usize,
-    unicode: bool,
-    byte_escapes: bool,
-    allow_nul: bool,
+    allowed: Switches,
     value: &mut ShortValue,
 ) -> ItemsEnd
     requires at { IsCharBoundary input.now offset }
-    requires run { IsPlainRun (switches unicode byte_escapes allow_nul) input.now offset from }
+    requires run { IsPlainRun (grammar_switches allowed) input.now offset from }
     requires empty { IsTrue value.old.is_whole → value.old.bytes ≡ [] }
-    ensures end { IsItemsEnd (switches unicode byte_escapes allow_nul) input.now offset result }
+    ensures end { IsItemsEnd (grammar_switches allowed) input.now offset result }
     ensures value { IsTrue value.new.is_whole → (q : QuotedParts) →
-        IsQuoted (chars (take offset input.now)) (switches unicode byte_escapes allow_nul)
+        IsQuoted (chars (take offset input.now)) (grammar_switches allowed)
         (chars input.now) q →
         value.new.bytes ≡ body_value q.items }
 {
-    match (unicode, allow_nul) {
+    let byte_escapes = allowed.byte_escapes;
+    match (allowed.unicode, allowed.allow_nul) {
         (true, true) => read_items::<true, true>(input, offset, from, byte_escapes, value),
         (true, false) => read_items::<true, false>(input, offset, from, byte_escapes, value),
         (false, true) => read_items::<false, true>(input, offset, from, byte_escapes, value),
@@ -249,18 +233,23 @@ fn read_items<const UNICODE: bool, const ALLOW_NUL: bool>(
         (chars input.now) q →
         value.new.bytes ≡ body_value q.items }
 {
+    let allowed = Switches {
+        unicode: UNICODE,
+        byte_escapes,
+        allow_nul: ALLOW_NUL,
+    };
     let mut at = offset;
     let mut place = from;
     let mut value_len = 0;
     loop {
         value.push_run(input.as_bytes(), at, place);
         value_len += place - at;
-        match next_item(&input[place..], UNICODE, byte_escapes, ALLOW_NUL) {
+        match next_item(&input[place..], allowed) {
             Some(item) => {
                 value.push(item.value);
                 value_len += item.value_len();
                 at = place + item.len;
-                place = plain_end(input, at, UNICODE, byte_escapes, ALLOW_NUL);
+                place = plain_end(input, at, UNICODE, ALLOW_NUL);
             }
             None => return ItemsEnd { place, value_len },
         }
@@ -269,15 +258,10 @@ fn read_items<const UNICODE: bool, const ALLOW_NUL: bool>(
 
 /// Where the plain characters end that stand from `from` on.
 #[inline(always)]
-pub(crate) fn plain_end(
-    input: &str,
-    from: usize,
-    unicode: bool,
-    byte_escapes: bool,
-    allow_nul: bool,
-) -> usize
+pub(crate) fn plain_end(input: &str, from: usize, unicode: bool, allow_nul: bool) -> usize
     requires { IsCharBoundary input.now from }
-    ensures { IsPlainRun (switches unicode byte_escapes allow_nul) input.now from result }
+    ensures { (byte_escapes : Bool) →
+        IsPlainRun (switches unicode byte_escapes allow_nul) input.now from result }
 {
     let what = Special {
         backslash: true,
@@ -318,18 +302,13 @@ impl Escaped {
 /// The escape or the continuation at the front of a text that begins with no plain character; None
 /// where the items of the body end.
 #[inline(always)]
-pub(crate) fn next_item(
-    rest: &str,
-    unicode: bool,
-    byte_escapes: bool,
-    allow_nul: bool,
-) -> Option<Escaped>
+pub(crate) fn next_item(rest: &str, allowed: Switches) -> Option<Escaped>
     requires { IsFalse
-        (first_passes (is_plain (switches unicode byte_escapes allow_nul)) (chars rest.now)) }
+        (first_passes (is_plain (grammar_switches allowed)) (chars rest.now)) }
     ensures item { IfSome result (λ item.
-        IsItemAt (switches unicode byte_escapes allow_nul) rest.now item.len item.value) }
+        IsItemAt (grammar_switches allowed) rest.now item.len item.value) }
     ensures none { IfNone result
-        (EndsItems (switches unicode byte_escapes allow_nul) (chars rest.now)) }
+        (EndsItems (grammar_switches allowed) (chars rest.now)) }
 {
     let [first, behind @ ..] = rest.as_bytes() else {
         return None;
@@ -343,7 +322,7 @@ pub(crate) fn next_item(
                 Some(Escaped { len, value: None })
             }
         }
-        b'\\' => match unescape(without_last(rest), unicode, byte_escapes, allow_nul) {
+        b'\\' => match unescape_with(without_last(rest), allowed) {
             Ok((value, len)) => Some(Escaped {
                 len,
                 value: Some(value),
@@ -356,20 +335,20 @@ pub(crate) fn next_item(
 
 /// [`rest_refusal`], and nothing else to be read where the closing quote ends the text.
 #[inline(always)]
-fn end_refusal(rest: &str, unicode: bool, byte_escapes: bool, allow_nul: bool) -> Option<ParseError>
+fn end_refusal(rest: &str, allowed: Switches) -> Option<ParseError>
     requires { IsFalse
-        (first_passes (is_plain (switches unicode byte_escapes allow_nul)) (chars rest.now)) }
+        (first_passes (is_plain (grammar_switches allowed)) (chars rest.now)) }
     ensures none { IfNone result
-        (rest_refusal (switches unicode byte_escapes allow_nul) (chars rest.now) ≡ None) }
+        (rest_refusal (grammar_switches allowed) (chars rest.now) ≡ None) }
     ensures refusal { IfSome result (λ e.
-        rest_refusal (switches unicode byte_escapes allow_nul) (chars rest.now)
+        rest_refusal (grammar_switches allowed) (chars rest.now)
         ≡ Some (refusal_of e)) }
     ensures char_span { IfSome result (HasCharSpan (chars rest.now)) }
 {
     if is_quote(rest.as_bytes()) {
         None
     } else {
-        rest_refusal(rest, unicode, byte_escapes, allow_nul)
+        rest_refusal(rest, allowed)
     }
 }
 
@@ -384,18 +363,13 @@ fn is_quote(bytes: &[u8]) -> bool
 /// Why no item and no closing quote with a suffix stands at the front of a text that begins with no
 /// plain character; None where one does.
 #[inline(never)]
-fn rest_refusal(
-    rest: &str,
-    unicode: bool,
-    byte_escapes: bool,
-    allow_nul: bool,
-) -> Option<ParseError>
+fn rest_refusal(rest: &str, allowed: Switches) -> Option<ParseError>
     requires { IsFalse
-        (first_passes (is_plain (switches unicode byte_escapes allow_nul)) (chars rest.now)) }
+        (first_passes (is_plain (grammar_switches allowed)) (chars rest.now)) }
     ensures none { IfNone result
-        (rest_refusal (switches unicode byte_escapes allow_nul) (chars rest.now) ≡ None) }
+        (rest_refusal (grammar_switches allowed) (chars rest.now) ≡ None) }
     ensures refusal { IfSome result (λ e.
-        rest_refusal (switches unicode byte_escapes allow_nul) (chars rest.now)
+        rest_refusal (grammar_switches allowed) (chars rest.now)
         ≡ Some (refusal_of e)) }
     ensures char_span { IfSome result (HasCharSpan (chars rest.now)) }
 {
@@ -415,7 +389,7 @@ fn rest_refusal(
                 None
             }
         }
-        b'\\' => match unescape(without_last(rest), unicode, byte_escapes, allow_nul) {
+        b'\\' => match unescape_with(without_last(rest), allowed) {
             Ok(_) => None,
             Err(e) => Some(e),
         },

@@ -8,7 +8,7 @@ ghost use Rattle.litrs_grammar.specs.Raw.{hashes, hash_len, is_hash, is_quote, r
 ghost use Rattle.litrs_lex.specs.RawCut.{IsRawCut, IsRawRefused, IsStop, IsBodyCut};
 
 use litrs_base::{ParseError, ParseErrorKind};
-use litrs_parts::check_suffix;
+use litrs_parts::{Switches, check_suffix};
 use litrs_search::{Run, Special, next_special, run_end};
 use std::ops::Range;
 
@@ -38,7 +38,12 @@ pub fn scan_raw_string(
     ensures ok { IfOk result (IsRawCut unicode allow_nul offset input.now) }
     ensures refused { IfErr result (IsRawRefused unicode allow_nul offset input.now) }
 {
-    match cut_raw(input, offset, unicode, allow_nul) {
+    let allowed = Switches {
+        unicode,
+        byte_escapes: true,
+        allow_nul,
+    };
+    match cut_raw(input, offset, allowed) {
         Ok(cut) => Ok(cut),
         Err((span, kind)) => Err(ParseError::in_text(input, span, kind)),
     }
@@ -48,13 +53,12 @@ pub fn scan_raw_string(
 fn cut_raw(
     input: &str,
     offset: usize,
-    unicode: bool,
-    allow_nul: bool,
+    allowed: Switches,
 ) -> Result<(u8, usize), (Option<Range<usize>>, ParseErrorKind)>
     requires { IsCharBoundary input.now offset }
-    ensures ok { IfOk result (IsRawCut unicode allow_nul offset input.now) }
+    ensures ok { IfOk result (IsRawCut allowed.unicode allowed.allow_nul offset input.now) }
     ensures refused { IfErr result (λ r.
-        raw_refusal unicode allow_nul offset (chars (drop offset input.now))
+        raw_refusal allowed.unicode allowed.allow_nul offset (chars (drop offset input.now))
         ≡ Some (refusal r.0 r.1)) }
 {
     let bytes = input.as_bytes();
@@ -69,7 +73,7 @@ fn cut_raw(
     if bytes[opening] != b'"' {
         return Err((None, ParseErrorKind::InvalidLiteral));
     }
-    let place = cut_body(input, opening + 1, hashes, unicode, allow_nul)?;
+    let place = cut_body(input, opening + 1, hashes, allowed)?;
     Ok((hashes as u8, place))
 }
 
@@ -79,17 +83,17 @@ fn cut_body(
     input: &str,
     start: usize,
     hashes: usize,
-    unicode: bool,
-    allow_nul: bool,
+    allowed: Switches,
 ) -> Result<usize, (Option<Range<usize>>, ParseErrorKind)>
     requires { IsCharBoundary input.now start }
-    ensures ok { IfOk result (IsBodyCut unicode allow_nul hashes start input.now) }
+    ensures ok { IfOk result (IsBodyCut allowed.unicode allowed.allow_nul hashes start input.now) }
     ensures refused { IfErr result (λ r.
-        raw_body_refusal unicode allow_nul hashes start (chars (drop start input.now))
+        raw_body_refusal allowed.unicode allowed.allow_nul hashes start
+        (chars (drop start input.now))
         ≡ Some (refusal r.0 r.1)) }
 {
     let bytes = input.as_bytes();
-    let end = body_end(bytes, start, hashes, unicode, allow_nul);
+    let end = body_end(bytes, start, hashes, allowed);
     if end == bytes.len() {
         return Err((None, ParseErrorKind::UnterminatedRawString));
     }
@@ -107,16 +111,16 @@ fn cut_body(
 
 /// The first place from `start` on where the body is closed, or where a byte stands that may not
 /// stand in it; else the end of the text.
-fn body_end(bytes: &[u8], start: usize, hashes: usize, unicode: bool, allow_nul: bool) -> usize
+fn body_end(bytes: &[u8], start: usize, hashes: usize, allowed: Switches) -> usize
     requires { (start ≤ length bytes.now) × IsUtf8 (drop start bytes.now) }
-    ensures stop { IsStop unicode allow_nul hashes start bytes.now result }
+    ensures stop { IsStop allowed.unicode allowed.allow_nul hashes start bytes.now result }
     ensures closing { IsTrue (first_passes is_quote (drop result bytes.now))
         → IsTrue (begins_with (raw_closing hashes) (drop result bytes.now)) }
 {
     let what = Special {
         backslash: false,
-        nul: !allow_nul,
-        non_ascii: !unicode,
+        nul: !allowed.allow_nul,
+        non_ascii: !allowed.unicode,
     };
     let mut place = next_special(bytes, start, what);
     while is_inner_quote(&bytes[place..], hashes) {

@@ -5,7 +5,7 @@ ghost use Rattle.litrs_grammar.specs.Quoted.{QuotedParts, IsQuoted, body_value};
 ghost use Rattle.litrs_lex.specs.Container.{is_pushable};
 ghost use Rattle.litrs_lex.specs.QuotedItems.{IsPlainRun, item_bytes};
 ghost use Rattle.litrs_lex.specs.QuotedCut.{IsQuotedRefused, IsQuotedValue, IsQuotedOutOfMemory};
-ghost use Rattle.litrs_parts.specs.Unescaped.{switches};
+ghost use Rattle.litrs_parts.specs.Unescaped.{switches, grammar_switches};
 
 use crate::container::EscapeContainer;
 use crate::quoted::{
@@ -13,6 +13,7 @@ use crate::quoted::{
 };
 use crate::short_value::ShortValue;
 use litrs_base::{ParseError, ParseErrorKind, Unescape};
+use litrs_parts::Switches;
 use std::alloc::{AllocError, Global};
 
 /// Unescapes a quoted literal whose body begins at `offset`: the value, where the body has a
@@ -48,22 +49,19 @@ pub fn unescape_string<C: EscapeContainer>(
         IsQuotedRefused (switches unicode byte_escapes allow_nul) input.now offset e
         ⊎ IsQuotedOutOfMemory (switches unicode byte_escapes allow_nul) input.now offset e) }
 {
-    let place = first_plain_end(input, offset, unicode, byte_escapes, allow_nul);
-    if ends_items(&input[place..], unicode, byte_escapes, allow_nul) {
+    let allowed = Switches {
+        unicode,
+        byte_escapes,
+        allow_nul,
+    };
+    let place = first_plain_end(input, offset, allowed);
+    if ends_items(&input[place..], allowed) {
         let value_len = place - offset;
         let end = ItemsEnd { place, value_len };
-        let plain = cut_at_end(input, offset, end, unicode, byte_escapes, allow_nul)?;
+        let plain = cut_at_end(input, offset, end, allowed)?;
         Ok((None, plain.start_suffix))
     } else {
-        unescape_more(
-            alloc,
-            input,
-            offset,
-            place,
-            unicode,
-            byte_escapes,
-            allow_nul,
-        )
+        unescape_more(alloc, input, offset, place, allowed)
     }
 }
 
@@ -74,35 +72,25 @@ fn unescape_more<C: EscapeContainer>(
     input: &str,
     offset: usize,
     from: usize,
-    unicode: bool,
-    byte_escapes: bool,
-    allow_nul: bool,
+    allowed: Switches,
 ) -> Result<(Option<C>, usize), ParseError>
     requires at { IsCharBoundary input.now offset }
-    requires run { IsPlainRun (switches unicode byte_escapes allow_nul) input.now offset from }
-    requires fits { IsTrue (not byte_escapes || C.TAKES_BYTES) }
+    requires run { IsPlainRun (grammar_switches allowed) input.now offset from }
+    requires fits { IsTrue (not allowed.byte_escapes || C.TAKES_BYTES) }
     ensures ok { IfOk result (λ read.
-        IsQuotedValue (switches unicode byte_escapes allow_nul) input.now offset
+        IsQuotedValue (grammar_switches allowed) input.now offset
         (option_map C.contents read.0) read.1) }
     ensures refused { IfErr result (λ e.
-        IsQuotedRefused (switches unicode byte_escapes allow_nul) input.now offset e
-        ⊎ IsQuotedOutOfMemory (switches unicode byte_escapes allow_nul) input.now offset e) }
+        IsQuotedRefused (grammar_switches allowed) input.now offset e
+        ⊎ IsQuotedOutOfMemory (grammar_switches allowed) input.now offset e) }
 {
     let mut short = ShortValue::new();
-    let end = more_items_end(
-        input,
-        offset,
-        from,
-        unicode,
-        byte_escapes,
-        allow_nul,
-        &mut short,
-    );
-    let cut = cut_at_end(input, offset, end, unicode, byte_escapes, allow_nul)?;
+    let end = more_items_end(input, offset, from, allowed, &mut short);
+    let cut = cut_at_end(input, offset, end, allowed)?;
     if !cut.has_escape {
         return Ok((None, cut.start_suffix));
     }
-    let room = if allow_nul {
+    let room = if allowed.allow_nul {
         cut.value_len
     } else {
         cut.value_len + 1
@@ -110,7 +98,7 @@ fn unescape_more<C: EscapeContainer>(
     let copied = if short.is_whole() {
         copy_short(alloc, short.as_bytes(), room)
     } else {
-        copy_value(alloc, input, offset, room, unicode, byte_escapes, allow_nul)
+        copy_value(alloc, input, offset, room, allowed)
     };
     match copied {
         Ok(value) => Ok((Some(value), cut.start_suffix)),
@@ -137,14 +125,12 @@ fn copy_value<C: EscapeContainer>(
     input: &str,
     offset: usize,
     room: usize,
-    unicode: bool,
-    byte_escapes: bool,
-    allow_nul: bool,
+    allowed: Switches,
 ) -> Result<C, AllocError>
     requires at { IsCharBoundary input.now offset }
-    requires fits { IsTrue (not byte_escapes || C.TAKES_BYTES) }
+    requires fits { IsTrue (not allowed.byte_escapes || C.TAKES_BYTES) }
     ensures { IfOk result (λ value. (q : QuotedParts) →
-        IsQuoted (chars (take offset input.now)) (switches unicode byte_escapes allow_nul)
+        IsQuoted (chars (take offset input.now)) (grammar_switches allowed)
         (chars input.now) q →
         C.contents value ≡ body_value q.items) }
 {
@@ -152,9 +138,9 @@ fn copy_value<C: EscapeContainer>(
     value.reserve(room)?;
     let mut at = offset;
     loop {
-        let end = plain_end(input, at, unicode, byte_escapes, allow_nul);
+        let end = plain_end(input, at, allowed.unicode, allowed.allow_nul);
         push_run(&mut value, &input[at..end])?;
-        match next_item(&input[end..], unicode, byte_escapes, allow_nul) {
+        match next_item(&input[end..], allowed) {
             Some(item) => {
                 push_value(&mut value, item.value)?;
                 at = end + item.len;

@@ -7,7 +7,7 @@ ghost use Rattle.std.specs.Str.{chars};
 ghost use Rattle.litrs_base.specs.Characters.{backslash, letter_x, letter_u, underscore, open_brace, close_brace, is_ascii, is_no_nul_unless};
 ghost use Rattle.litrs_base.specs.Text.{first_passes, is_empty, begins_with};
 ghost use Rattle.litrs_grammar.specs.Escape.{is_simple, simple_value, pair_value, hex_value};
-ghost use Rattle.litrs_parts.specs.Unescaped.{switches, IsUnescaped, IsEscapeRefused, IsHexDigits};
+ghost use Rattle.litrs_parts.specs.Unescaped.{switches, grammar_switches, IsUnescaped, IsEscapeRefused, IsHexDigits};
 
 use crate::parse::hex_digit_value;
 use litrs_base::{ParseError, ParseErrorKind, Unescape};
@@ -64,18 +64,41 @@ pub fn unescape(
     ensures refused { IfErr result
         (IsEscapeRefused (switches unicode byte_escapes allow_nul) (chars input.now)) }
 {
+    let allowed = Switches {
+        unicode,
+        byte_escapes,
+        allow_nul,
+    };
+    unescape_with(input, allowed)
+}
+
+/// [`unescape`] by what is allowed.
+///
+/// # Errors
+///
+/// Those of [`unescape`].
+#[inline(always)]
+pub fn unescape_with(input: &str, allowed: Switches) -> Result<(Unescape, usize), ParseError>
+    requires { IsTrue (is_empty (chars input.now)
+        || first_passes (λ c. c == backslash) (chars input.now)) }
+    ensures ok { IfOk result (λ read.
+        IsUnescaped (grammar_switches allowed) input.now read.0 read.1) }
+    ensures refused { IfErr result
+        (IsEscapeRefused (grammar_switches allowed) (chars input.now)) }
+{
     let Some(letter) = input.as_bytes().get(1) else {
         return Err(ParseError::in_text(input, Some(0..1), ParseErrorKind::UnterminatedEscape));
     };
+    let unicode = allowed.unicode;
     match *letter {
-        b'x' => unescape_hex(input, byte_escapes, allow_nul),
+        b'x' => unescape_hex(input, allowed),
         b'u' => if unicode {
-            unescape_unicode(input, allow_nul)
+            unescape_unicode(input, allowed)
         } else {
             let kind = ParseErrorKind::UnicodeEscapeInByteLiteral;
             Err(ParseError::in_text(input, Some(0..2), kind))
         },
-        letter => unescape_simple(input, letter, allow_nul),
+        letter => unescape_simple(input, letter, allowed),
     }
 }
 
@@ -84,20 +107,20 @@ pub fn unescape(
 fn unescape_simple(
     input: &str,
     letter: u8,
-    allow_nul: bool,
+    allowed: Switches,
 ) -> Result<(Unescape, usize), ParseError>
     requires begins { IsTrue (begins_with (backslash ∷ letter ∷ []) input.now) }
     requires no_hex { letter ≢ letter_x }
     requires no_unicode { letter ≢ letter_u }
-    ensures ok { (unicode byte_escapes : Bool) → IfOk result (λ read.
-        IsUnescaped (switches unicode byte_escapes allow_nul) input.now read.0 read.1) }
-    ensures refused { (unicode byte_escapes : Bool) → IfErr result
-        (IsEscapeRefused (switches unicode byte_escapes allow_nul) (chars input.now)) }
+    ensures ok { IfOk result (λ read.
+        IsUnescaped (grammar_switches allowed) input.now read.0 read.1) }
+    ensures refused { IfErr result
+        (IsEscapeRefused (grammar_switches allowed) (chars input.now)) }
 {
     let Some(value) = simple_value(letter) else {
         return Err(ParseError::in_text(input, Some(0..2), ParseErrorKind::UnknownEscape));
     };
-    if !allows_value(allow_nul, u32::from(value)) {
+    if !allows_value(allowed, u32::from(value)) {
         return Err(ParseError::in_text(input, Some(0..2), ParseErrorKind::DisallowedNulEscape));
     }
     Ok((Unescape::Byte(value), 2))
@@ -133,16 +156,12 @@ fn simple_value(letter: u8) -> Option<u8>
 
 /// The escape of a text that begins with `\x`.
 #[inline(always)]
-fn unescape_hex(
-    input: &str,
-    byte_escapes: bool,
-    allow_nul: bool,
-) -> Result<(Unescape, usize), ParseError>
+fn unescape_hex(input: &str, allowed: Switches) -> Result<(Unescape, usize), ParseError>
     requires { IsTrue (begins_with (codes "\\x") input.now) }
-    ensures ok { (unicode : Bool) → IfOk result (λ read.
-        IsUnescaped (switches unicode byte_escapes allow_nul) input.now read.0 read.1) }
-    ensures refused { (unicode : Bool) → IfErr result
-        (IsEscapeRefused (switches unicode byte_escapes allow_nul) (chars input.now)) }
+    ensures ok { IfOk result (λ read.
+        IsUnescaped (grammar_switches allowed) input.now read.0 read.1) }
+    ensures refused { IfErr result
+        (IsEscapeRefused (grammar_switches allowed) (chars input.now)) }
 {
     if !input.is_char_boundary(4) {
         let end = input.len();
@@ -152,10 +171,10 @@ fn unescape_hex(
     let Some(value) = pair_value(bytes[2], bytes[3]) else {
         return Err(ParseError::in_text(input, Some(0..4), ParseErrorKind::InvalidXEscape));
     };
-    if !allows_byte(byte_escapes, value) {
+    if !allows_byte(allowed, value) {
         return Err(ParseError::in_text(input, Some(0..4), ParseErrorKind::NonAsciiXEscape));
     }
-    if !allows_value(allow_nul, u32::from(value)) {
+    if !allows_value(allowed, u32::from(value)) {
         return Err(ParseError::in_text(input, Some(0..4), ParseErrorKind::DisallowedNulEscape));
     }
     Ok((Unescape::Byte(value), 4))
@@ -163,18 +182,18 @@ fn unescape_hex(
 
 /// Whether `\x` may have this value.
 #[inline(always)]
-fn allows_byte(byte_escapes: bool, value: u8) -> bool
-    ensures { result ≡ (byte_escapes || is_ascii value) }
+fn allows_byte(allowed: Switches, value: u8) -> bool
+    ensures { result ≡ (allowed.byte_escapes || is_ascii value) }
 {
-    byte_escapes || value < 128
+    allowed.byte_escapes || value < 128
 }
 
 /// Whether an escape may have this value.
 #[inline(always)]
-fn allows_value(allow_nul: bool, value: u32) -> bool
-    ensures { result ≡ is_no_nul_unless allow_nul value }
+fn allows_value(allowed: Switches, value: u32) -> bool
+    ensures { result ≡ is_no_nul_unless allowed.allow_nul value }
 {
-    allow_nul || value != 0
+    allowed.allow_nul || value != 0
 }
 
 /// The value of two hex digits, or None where one of the two is none.
@@ -190,12 +209,13 @@ fn pair_value(high: u8, low: u8) -> Option<u8>
 
 /// The escape of a text that begins with `\u`, where such escapes are allowed.
 #[inline(always)]
-fn unescape_unicode(input: &str, allow_nul: bool) -> Result<(Unescape, usize), ParseError>
-    requires { IsTrue (begins_with (codes "\\u") input.now) }
-    ensures ok { (byte_escapes : Bool) → IfOk result (λ read.
-        IsUnescaped (switches true byte_escapes allow_nul) input.now read.0 read.1) }
-    ensures refused { (byte_escapes : Bool) → IfErr result
-        (IsEscapeRefused (switches true byte_escapes allow_nul) (chars input.now)) }
+fn unescape_unicode(input: &str, allowed: Switches) -> Result<(Unescape, usize), ParseError>
+    requires begins { IsTrue (begins_with (codes "\\u") input.now) }
+    requires unicode { IsTrue allowed.unicode }
+    ensures ok { IfOk result (λ read.
+        IsUnescaped (grammar_switches allowed) input.now read.0 read.1) }
+    ensures refused { IfErr result
+        (IsEscapeRefused (grammar_switches allowed) (chars input.now)) }
 {
     let bytes = input.as_bytes();
     if !opens_brace(bytes) {
@@ -205,7 +225,7 @@ fn unescape_unicode(input: &str, allow_nul: bool) -> Result<(Unescape, usize), P
     let inner = &bytes[3..];
     let digits = hex_digits(inner);
     if is_closed(inner, digits) {
-        unescape_digits(input, digits, allow_nul)
+        unescape_digits(input, digits, allowed)
     } else {
         Err(braces_refusal(input, digits))
     }
@@ -288,19 +308,20 @@ fn underscores_len(bytes: &[u8]) -> usize
 fn unescape_digits(
     input: &str,
     digits: HexDigits,
-    allow_nul: bool,
+    allowed: Switches,
 ) -> Result<(Unescape, usize), ParseError>
     requires begins { IsTrue (begins_with (codes "\\u{") input.now) }
     requires digits { IsHexDigits (drop 3 input.now) digits }
     requires closed { IsTrue (first_passes is_ascii_hexdigit (drop 3 input.now)
         && first_passes (λ c. c == close_brace) (drop digits.len (drop 3 input.now))) }
-    ensures ok { (byte_escapes : Bool) → IfOk result (λ read.
-        IsUnescaped (switches true byte_escapes allow_nul) input.now read.0 read.1) }
-    ensures refused { (byte_escapes : Bool) → IfErr result
-        (IsEscapeRefused (switches true byte_escapes allow_nul) (chars input.now)) }
+    requires unicode { IsTrue allowed.unicode }
+    ensures ok { IfOk result (λ read.
+        IsUnescaped (grammar_switches allowed) input.now read.0 read.1) }
+    ensures refused { IfErr result
+        (IsEscapeRefused (grammar_switches allowed) (chars input.now)) }
 {
     let end = 4 + digits.len;
-    if !allows_value(allow_nul, digits.value) {
+    if !allows_value(allowed, digits.value) {
         let kind = ParseErrorKind::DisallowedNulEscape;
         return Err(ParseError::in_text(input, Some(0..end), kind));
     }

@@ -3,7 +3,7 @@
 
 pub use bool::cut_bool;
 pub use char::{cut_byte, cut_char};
-pub use escape::{Switches, unescape};
+pub use escape::{Switches, unescape, unescape_with};
 pub use float::{FloatCut, cut_float};
 pub use integer::{IntegerCut, cut_integer};
 pub use kind::{Front, StringKind};

@@ -9,7 +9,7 @@ ghost use Rattle.litrs_grammar.specs.StringKind.{switches_of};
 ghost use Rattle.litrs_lex.specs.QuotedCut.{IsQuotedRefused, IsQuotedOutOfMemory};
 ghost use Rattle.litrs_lex.specs.RawCut.{IsRawRefused};
 ghost use Rattle.litrs_parts.specs.Front.{grammar_kind, string_literal_of, IsFront};
-ghost use Rattle.litrs_parts.specs.Unescaped.{switches};
+ghost use Rattle.litrs_parts.specs.Unescaped.{grammar_switches};
 ghost use Rattle.litrs_strings.specs.ParsedStrings.{IsParsedQuoted, IsParsedRaw, IsParsedString};
 
 use litrs_lex::{EscapeContainer, scan_raw_string, unescape_string};
@@ -45,18 +45,12 @@ pub(crate) fn parse_string<C: EscapeContainer>(
     ensures refused { IfErr result (IsRefusedOrOutOfMemory
         (kind_parse (string_literal_of (grammar_kind kind))) (chars input.now)) }
 {
-    let Switches {
-        unicode,
-        byte_escapes,
-        allow_nul,
-    } = kind.switches();
+    let allowed = kind.switches();
     let offset = kind.front_len();
     match front {
-        Front::Quoted(found) if found == kind => {
-            parse_quoted(alloc, input, offset, unicode, byte_escapes, allow_nul)
-        }
+        Front::Quoted(found) if found == kind => { parse_quoted(alloc, input, offset, allowed) }
         Front::Raw(found) if found == kind => {
-            let cut = cut_raw(input, offset, unicode, allow_nul)?;
+            let cut = cut_raw(input, offset, allowed)?;
             Ok((None, cut))
         }
         Front::Empty => Err(ParseError::new(None, ParseErrorKind::Empty)),
@@ -88,26 +82,24 @@ fn parse_quoted<C: EscapeContainer>(
     alloc: Global,
     input: &str,
     offset: usize,
-    unicode: bool,
-    byte_escapes: bool,
-    allow_nul: bool,
+    allowed: Switches,
 ) -> Result<(Option<C>, StringCut), ParseError>
     requires at { IsCharBoundary input.now offset }
-    requires fits { IsTrue (not byte_escapes || C.TAKES_BYTES) }
+    requires fits { IsTrue (not allowed.byte_escapes || C.TAKES_BYTES) }
     ensures ok { IfOk result (λ parsed.
-        IsParsedQuoted (switches unicode byte_escapes allow_nul) input.now offset
+        IsParsedQuoted (grammar_switches allowed) input.now offset
         (option_map C.contents parsed.0) parsed.1) }
     ensures refused { IfErr result (λ e.
-        IsQuotedRefused (switches unicode byte_escapes allow_nul) input.now offset e
-        ⊎ IsQuotedOutOfMemory (switches unicode byte_escapes allow_nul) input.now offset e) }
+        IsQuotedRefused (grammar_switches allowed) input.now offset e
+        ⊎ IsQuotedOutOfMemory (grammar_switches allowed) input.now offset e) }
 {
     let (value, start_suffix) = unescape_string(
         alloc,
         input,
         offset,
-        unicode,
-        byte_escapes,
-        allow_nul,
+        allowed.unicode,
+        allowed.byte_escapes,
+        allowed.allow_nul,
     )?;
     let cut = StringCut {
         start_body: offset,
@@ -121,17 +113,18 @@ fn parse_quoted<C: EscapeContainer>(
 /// Cuts a raw string whose `r` ends at `offset`. `offset` and the switches are those of
 /// [`scan_raw_string`].
 #[inline(never)]
-fn cut_raw(
-    input: &str,
-    offset: usize,
-    unicode: bool,
-    allow_nul: bool,
-) -> Result<StringCut, ParseError>
+fn cut_raw(input: &str, offset: usize, allowed: Switches) -> Result<StringCut, ParseError>
     requires { IsCharBoundary input.now offset }
-    ensures ok { IfOk result (IsParsedRaw unicode allow_nul offset input.now) }
-    ensures refused { IfErr result (IsRawRefused unicode allow_nul offset input.now) }
+    ensures ok { IfOk result (IsParsedRaw allowed.unicode allowed.allow_nul offset input.now) }
+    ensures refused { IfErr result
+        (IsRawRefused allowed.unicode allowed.allow_nul offset input.now) }
 {
-    let (hashes, start_suffix) = scan_raw_string(input, offset, unicode, allow_nul)?;
+    let (hashes, start_suffix) = scan_raw_string(
+        input,
+        offset,
+        allowed.unicode,
+        allowed.allow_nul,
+    )?;
     // The quote and the hashes.
     let closing = hashes as usize + 1;
     Ok(StringCut {

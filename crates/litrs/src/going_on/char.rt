@@ -11,7 +11,7 @@ ghost use Rattle.litrs.specs.Begins.{BeginsClosing};
 
 use crate::going_on::escape::refused_escape_goes_on;
 use crate::going_on::suffix::suffix_goes_on;
-use litrs_parts::unescape;
+use litrs_parts::{Switches, unescape_with};
 
 /// Whether a text that begins with `'` begins a char.
 pub(crate) fn char_goes_on(text: &str) -> bool
@@ -48,9 +48,14 @@ fn escaped_goes_on(rest: &str, is_byte: bool) -> bool
     ensures { IsTrue result ↔ BeginsBy (IsCharLiteral (kind_if is_byte))
         (char_front (kind_if is_byte) ++ chars rest.now) }
 {
-    match unescape(rest, !is_byte, is_byte, true) {
+    let allowed = Switches {
+        unicode: !is_byte,
+        byte_escapes: is_byte,
+        allow_nul: true,
+    };
+    match unescape_with(rest, allowed) {
         Ok((_, len)) => closing_goes_on(&rest[len..]),
-        Err(_) => refused_escape_goes_on(&rest.as_bytes()[1..], !is_byte, is_byte, true),
+        Err(_) => refused_escape_goes_on(&rest.as_bytes()[1..], allowed),
     }
 }
 

@@ -5,40 +5,35 @@ ghost use Rattle.std.specs.Str.{chars};
 ghost use Rattle.litrs_base.specs.Characters.{backslash, is_scalar, is_no_nul_unless};
 ghost use Rattle.litrs_base.specs.Text.{first_passes};
 ghost use Rattle.litrs_grammar.specs.GoesOn.Escape.{BeginsEscape, escape_goes_on, hex_goes_on, braces_go_on, inner_goes_on};
-ghost use Rattle.litrs_parts.specs.Unescaped.{switches};
+ghost use Rattle.litrs_parts.specs.Unescaped.{switches, grammar_switches};
 
 use litrs_parts::escape::hex_digits;
-use litrs_parts::{hex_digit_value, unescape};
+use litrs_parts::{Switches, hex_digit_value, unescape_with};
 
 /// Whether a text that begins with a backslash begins an escape: it is one, or becomes one. The
-/// switches are those of [`unescape`].
-pub(crate) fn escape_goes_on(text: &str, unicode: bool, byte_escapes: bool, allow_nul: bool) -> bool
+/// switches are those of [`unescape_with`].
+pub(crate) fn escape_goes_on(text: &str, allowed: Switches) -> bool
     requires { IsTrue (first_passes (λ c. c == backslash) text.now) }
     ensures { IsTrue result
-        ↔ BeginsEscape (switches unicode byte_escapes allow_nul) (chars text.now) }
+        ↔ BeginsEscape (grammar_switches allowed) (chars text.now) }
 {
-    match unescape(text, unicode, byte_escapes, allow_nul) {
+    match unescape_with(text, allowed) {
         Ok((_, len)) => len == text.len(),
         Err(_) => {
             let behind = &text.as_bytes()[1..];
-            refused_escape_goes_on(behind, unicode, byte_escapes, allow_nul)
+            refused_escape_goes_on(behind, allowed)
         }
     }
 }
 
 /// Whether a refused escape becomes one, by what follows the backslash.
-pub(crate) fn refused_escape_goes_on(
-    behind: &[u8],
-    unicode: bool,
-    byte_escapes: bool,
-    allow_nul: bool,
-) -> bool
-    ensures { result ≡ escape_goes_on (switches unicode byte_escapes allow_nul) behind.now }
+pub(crate) fn refused_escape_goes_on(behind: &[u8], allowed: Switches) -> bool
+    ensures { result ≡ escape_goes_on (grammar_switches allowed) behind.now }
 {
     match behind {
         [] => true,
-        [b'x', digits @ ..] => hex_goes_on(digits, byte_escapes),
-        [b'u', braces @ ..] => unicode && braces_go_on(braces, allow_nul),
+        [b'x', digits @ ..] => hex_goes_on(digits, allowed.byte_escapes),
+        [b'u', braces @ ..] => allowed.unicode && braces_go_on(braces, allowed.allow_nul),
         _ => false,
     }
 }

@@ -8,13 +8,13 @@ ghost use Rattle.litrs_grammar.specs.Quoted.{quoted_front};
 ghost use Rattle.litrs_grammar.specs.GoesOn.Quoted.{RestGoesOn};
 ghost use Rattle.litrs_lex.specs.QuotedItems.{EndsItems};
 ghost use Rattle.litrs_parts.specs.Front.{grammar_kind};
-ghost use Rattle.litrs_parts.specs.Unescaped.{switches};
+ghost use Rattle.litrs_parts.specs.Unescaped.{grammar_switches};
 ghost use Rattle.litrs.specs.Begins.{IsClosed};
 
 use crate::going_on::escape::escape_goes_on;
 use crate::going_on::front::begins_with;
 use crate::going_on::suffix::suffix_goes_on;
-use litrs_lex::quoted::items_end;
+use litrs_lex::quoted::items_end_with;
 use litrs_parts::{StringKind, Switches};
 
 /// Whether a text that begins as a quoted string of the kind begins a string of it.
@@ -22,20 +22,16 @@ pub(crate) fn quoted_goes_on(text: &str, kind: StringKind) -> bool
     requires { IsTrue (begins_with (quoted_front (grammar_kind kind)) text.now) }
     ensures { IsTrue result ↔ BeginsBy (IsString (grammar_kind kind)) (chars text.now) }
 {
-    let Switches {
-        unicode,
-        byte_escapes,
-        allow_nul,
-    } = kind.switches();
-    let end = items_end(text, kind.front_len(), unicode, byte_escapes, allow_nul);
-    rest_goes_on(&text[end.place..], unicode, byte_escapes, allow_nul)
+    let allowed = kind.switches();
+    let end = items_end_with(text, kind.front_len(), allowed);
+    rest_goes_on(&text[end.place..], allowed)
 }
 
 /// Whether a quoted literal goes on, by what stands where its items end.
-fn rest_goes_on(rest: &str, unicode: bool, byte_escapes: bool, allow_nul: bool) -> bool
-    requires { EndsItems (switches unicode byte_escapes allow_nul) (chars rest.now) }
+fn rest_goes_on(rest: &str, allowed: Switches) -> bool
+    requires { EndsItems (grammar_switches allowed) (chars rest.now) }
     ensures { IsTrue result ↔ (IsClosed (chars rest.now)
-        ⊎ RestGoesOn (switches unicode byte_escapes allow_nul) (chars rest.now)) }
+        ⊎ RestGoesOn (grammar_switches allowed) (chars rest.now)) }
 {
     let mut chars = rest.chars();
     match chars.next() {
@@ -43,8 +39,7 @@ fn rest_goes_on(rest: &str, unicode: bool, byte_escapes: bool, allow_nul: bool) 
         Some('"') => suffix_goes_on(chars.as_str()),
         // A continuation where the items end goes up to the end of the text.
         Some('\\') => {
-            begins_with(b"\n", chars.as_str().as_bytes())
-                || escape_goes_on(rest, unicode, byte_escapes, allow_nul)
+            begins_with(b"\n", chars.as_str().as_bytes()) || escape_goes_on(rest, allowed)
         }
         Some(_) => false,
     }

@@ -11,25 +11,24 @@ ghost use Rattle.litrs_parts.specs.Front.{grammar_kind};
 ghost use Rattle.litrs.specs.LastUnderscore.{points_at_last_underscore};
 
 use litrs_lex::scan_raw_string;
-use litrs_parts::{ParseError, ParseErrorKind, StringKind};
+use litrs_parts::{ParseError, ParseErrorKind, StringKind, Switches};
 
 /// Whether a text that begins as a raw string of the kind begins a string of it.
 pub(crate) fn raw_goes_on(text: &str, kind: StringKind) -> bool
     requires { IsTrue (begins_with (raw_front (grammar_kind kind)) text.now) }
     ensures { IsTrue result ↔ BeginsBy (IsString (grammar_kind kind)) (chars text.now) }
 {
-    let switches = kind.switches();
-    hashes_go_on(text, kind.front_len(), switches.unicode, switches.allow_nul)
+    hashes_go_on(text, kind.front_len(), kind.switches())
 }
 
 /// Whether a text begins a raw literal whose `r` ends at `offset`. The place and the switches are
 /// those of [`scan_raw_string`].
-fn hashes_go_on(text: &str, offset: usize, unicode: bool, allow_nul: bool) -> bool
+fn hashes_go_on(text: &str, offset: usize, allowed: Switches) -> bool
     requires { IsCharBoundary text.now offset }
     ensures { IsTrue result
-        ↔ BeginsBy (IsRawOf unicode allow_nul) (chars (drop offset text.now)) }
+        ↔ BeginsBy (IsRawOf allowed.unicode allowed.allow_nul) (chars (drop offset text.now)) }
 {
-    match scan_raw_string(text, offset, unicode, allow_nul) {
+    match scan_raw_string(text, offset, allowed.unicode, allowed.allow_nul) {
         Ok(_) => true,
         Err(e) => match e.kind() {
             ParseErrorKind::UnterminatedRawString => true,

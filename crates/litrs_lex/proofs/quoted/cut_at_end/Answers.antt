@@ -3,7 +3,7 @@ use Rattle.std.proofs.Common.{ℕ, List, ◌<◌, ◌^◌, length, arith, ◌∙
 use Rattle.std.specs.Str.{chars}
 use Rattle.litrs_base.specs.Refusal.{HasCharSpan}
 use Rattle.litrs_grammar.specs.Quoted.{rest_refusal}
-use Rattle.litrs_parts.specs.Unescaped.{switches}
+use Rattle.litrs_parts.specs.Unescaped.{grammar_switches}
 use Rattle.litrs_lex.proofs.QuotedCuts.{is_quoted_cut, refused_cut, may_move, from_offset}
 use Rattle.litrs_lex.proofs.quoted.cut_at_end.Goals as goal
 
@@ -13,19 +13,19 @@ overflow_sub-result c = from_offset _ c.args.input.now _ _ c.utf8.input c.requir
 pub offset_span-requires : goal.offset_span-requires
 offset_span-requires c =
     may_move _ c.args.input.now _ _ c.in-Some.e c.utf8.input c.requires.end
-    (ap (λ (l : List ℕ). rest_refusal (switches c.args.unicode c.args.byte_escapes c.args.allow_nul) (chars l)) (sym c.range_from.ensures.value) ∙ c.in-Some.ensures.refusal)
+    (ap (λ (l : List ℕ). rest_refusal (grammar_switches c.args.allowed) (chars l)) (sym c.range_from.ensures.value) ∙ c.in-Some.ensures.refusal)
     (subst (λ (l : List ℕ). HasCharSpan (chars l) c.in-Some.e) c.range_from.ensures.value c.in-Some.ensures.char_span)
     (let small : length c.args.input.now < 2 ^ 64 = omega arith in small)
 
 pub returns-in-None-clause-ok : goal.returns-in-None-clause-ok
 returns-in-None-clause-ok c =
     is_quoted_cut _ c.args.input.now _ c.args.end _ c.utf8.input c.requires.at c.requires.end
-    (ap (λ (l : List ℕ). rest_refusal (switches c.args.unicode c.args.byte_escapes c.args.allow_nul) (chars l)) (sym c.range_from.ensures.value) ∙ c.in-None.ensures.none)
+    (ap (λ (l : List ℕ). rest_refusal (grammar_switches c.args.allowed) (chars l)) (sym c.range_from.ensures.value) ∙ c.in-None.ensures.none)
     refl
 
 pub returns-in-Some-clause-refused : goal.returns-in-Some-clause-refused
 returns-in-Some-clause-refused c =
     refused_cut _ c.args.input.now _ c.args.end c.in-Some.e c.offset_span.result c.requires.end
-    (ap (λ (l : List ℕ). rest_refusal (switches c.args.unicode c.args.byte_escapes c.args.allow_nul) (chars l)) (sym c.range_from.ensures.value) ∙ c.in-Some.ensures.refusal)
+    (ap (λ (l : List ℕ). rest_refusal (grammar_switches c.args.allowed) (chars l)) (sym c.range_from.ensures.value) ∙ c.in-Some.ensures.refusal)
     (subst (λ (l : List ℕ). HasCharSpan (chars l) c.in-Some.e) c.range_from.ensures.value c.in-Some.ensures.char_span)
     c.offset_span.ensures.refusal c.offset_span.ensures.char_span

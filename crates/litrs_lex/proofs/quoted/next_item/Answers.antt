@@ -10,8 +10,8 @@ pub returns-in_default-clause-none : goal.returns-in_default-clause-none
 returns-in_default-clause-none c =
     inr (_, end_refused _ c.args.rest.now (let n = c.in_default.len_below in let e = ap length c.as_bytes.ensures.value in omega arith))
 
-pub unescape-requires : goal.unescape-requires
-unescape-requires c = begins_cut c.args.rest.now _ _ (first_of c.args.rest.now c.as_bytes.result.now 92 c.as_bytes.ensures.value c.in-len1-up.len_at_least c.in-92.is) c.without_last.ensures
+pub unescape_with-requires : goal.unescape_with-requires
+unescape_with-requires c = begins_cut c.args.rest.now _ _ (first_of c.args.rest.now c.as_bytes.result.now 92 c.as_bytes.ensures.value c.in-len1-up.len_at_least c.in-92.is) c.without_last.ensures
 
 pub returns-then-len-rest-clause-none : goal.returns-then-len-rest-clause-none
 returns-then-len-rest-clause-none c =

@@ -25,7 +25,7 @@ loop-item-preserved g c =
           (short_run _ _ _ c.args.input.now _ _ _ _ _ _ _ c.utf8.input c.loop-item.invariant.0 run
           (ap (λ (l : List ℕ). take (c.loop-item.place - c.loop-item.at) (drop c.loop-item.at l)) c.as_bytes.ensures.value)
           c.push_run.ensures refl c.loop-item.invariant.2),
-      c.plain_end-place.ensures,
+      c.plain_end-place.ensures c.args.byte_escapes,
     )
 
 pub returns-in-None : goal.returns-in-None

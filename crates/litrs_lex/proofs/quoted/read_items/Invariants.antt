@@ -10,8 +10,8 @@ use Rattle.litrs_lex.proofs.quoted.read_items.Given as goal
 abbrev pub invariant-loop-item : goal.invariant-loop-item
 invariant-loop-item g l =
     IsCharBoundary l.input l.at × (l.value_len ≤ l.at)
-    × ReadsShort (switches (not (eqb g.row.UNICODE 0)) l.byte_escapes (not (eqb g.row.ALLOW_NUL 0))) (chars (take l.offset l.input)) (chars l.input) (chars (drop l.at l.input)) l.at l.value_len l.value
-    × IsPlainRun (switches (not (eqb g.row.UNICODE 0)) l.byte_escapes (not (eqb g.row.ALLOW_NUL 0))) l.input l.at l.place
+    × ReadsShort (switches (not (eqb g.row.UNICODE 0)) l.fn.byte_escapes (not (eqb g.row.ALLOW_NUL 0))) (chars (take l.offset l.input)) (chars l.input) (chars (drop l.at l.input)) l.at l.value_len l.value
+    × IsPlainRun (switches (not (eqb g.row.UNICODE 0)) l.fn.byte_escapes (not (eqb g.row.ALLOW_NUL 0))) l.input l.at l.place
 
 abbrev pub decreases-loop-item : goal.decreases-loop-item
 decreases-loop-item g l = length l.input - l.at

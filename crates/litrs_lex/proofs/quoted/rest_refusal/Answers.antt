@@ -12,8 +12,8 @@ pub returns-in_default-clause-refusal : goal.returns-in_default-clause-refusal
 returns-in_default-clause-refusal c =
     end_refused _ c.args.rest.now (let n = c.in_default.len_below in let e = ap length c.as_bytes.ensures.value in omega arith) ∙ ap Some (sym c.new.ensures.refusal)
 
-pub unescape-requires : goal.unescape-requires
-unescape-requires c = begins_cut c.args.rest.now _ _ (first_of c.args.rest.now c.as_bytes.result.now 92 c.as_bytes.ensures.value c.in-len1-up.len_at_least c.in-92.is) c.without_last.ensures
+pub unescape_with-requires : goal.unescape_with-requires
+unescape_with-requires c = begins_cut c.args.rest.now _ _ (first_of c.args.rest.now c.as_bytes.result.now 92 c.as_bytes.ensures.value c.in-len1-up.len_at_least c.in-92.is) c.without_last.ensures
 
 pub range_from-requires : goal.range_from-requires
 range_from-requires c = λ _. IsCharBoundary-after_ascii c.args.rest.now 0 c.utf8.rest (let some = c.in-len1-up.len_at_least in let e = ap length c.as_bytes.ensures.value in omega arith)
@@ -46,29 +46,29 @@ returns-else-len-rest-clause-none c =
     (sym c.begins_with_line_feed.ensures ∙ c.if-begins_with_line_feed.true) (rest_is (take (length c.as_bytes.result.now - 1) (drop 1 c.as_bytes.result.now))))
     c.utf8.rest c.blanks_len-len.ensures.count c.if-len-rest.false
 
-pub returns-in-Ok-unescape-clause-none : goal.returns-in-Ok-unescape-clause-none
-returns-in-Ok-unescape-clause-none c =
+pub returns-in-Ok-unescape_with-clause-none : goal.returns-in-Ok-unescape_with-clause-none
+returns-in-Ok-unescape_with-clause-none c =
     escape_free _ c.args.rest.now _ c.without_last.result.now _ _
     (first_of c.args.rest.now c.as_bytes.result.now 92 c.as_bytes.ensures.value c.in-len1-up.len_at_least c.in-92.is)
     c.utf8.rest
     (ap (first_passes (λ b. b == 10)) (sym (behind_is c.args.rest.now c.as_bytes.result.now c.as_bytes.ensures.value))
     ∙ (sym c.begins_with_line_feed.ensures ∙ c.if-begins_with_line_feed.false))
-    c.without_last.ensures c.in-Ok-unescape.ensures.ok
+    c.without_last.ensures c.in-Ok-unescape_with.ensures.ok
 
-pub returns-in-Err-unescape-clause-refusal : goal.returns-in-Err-unescape-clause-refusal
-returns-in-Err-unescape-clause-refusal c =
+pub returns-in-Err-unescape_with-clause-refusal : goal.returns-in-Err-unescape_with-clause-refusal
+returns-in-Err-unescape_with-clause-refusal c =
     escape_refused _ c.args.rest.now _ c.without_last.result.now _
     (first_of c.args.rest.now c.as_bytes.result.now 92 c.as_bytes.ensures.value c.in-len1-up.len_at_least c.in-92.is)
     c.utf8.rest
     (ap (first_passes (λ b. b == 10)) (sym (behind_is c.args.rest.now c.as_bytes.result.now c.as_bytes.ensures.value))
     ∙ (sym c.begins_with_line_feed.ensures ∙ c.if-begins_with_line_feed.false))
-    c.without_last.ensures c.in-Err-unescape.ensures.refused
+    c.without_last.ensures c.in-Err-unescape_with.ensures.refused
 
-pub returns-in-Err-unescape-clause-char_span : goal.returns-in-Err-unescape-clause-char_span
-returns-in-Err-unescape-clause-char_span c =
+pub returns-in-Err-unescape_with-clause-char_span : goal.returns-in-Err-unescape_with-clause-char_span
+returns-in-Err-unescape_with-clause-char_span c =
     escape_span _ c.args.rest.now _ c.without_last.result.now _
     (first_of c.args.rest.now c.as_bytes.result.now 92 c.as_bytes.ensures.value c.in-len1-up.len_at_least c.in-92.is)
-    c.without_last.ensures c.in-Err-unescape.ensures.refused
+    c.without_last.ensures c.in-Err-unescape_with.ensures.refused
 
 pub returns-in-13-clause-refusal : goal.returns-in-13-clause-refusal
 returns-in-13-clause-refusal c = return_refused _ c.args.rest.now _ (first_of c.args.rest.now c.as_bytes.result.now 13 c.as_bytes.ensures.value c.in-len1-up.len_at_least c.in-13.is) ∙ ap Some (sym c.in_text-in-13.ensures.refusal)

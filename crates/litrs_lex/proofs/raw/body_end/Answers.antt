@@ -9,8 +9,8 @@ use Rattle.litrs_lex.proofs.raw.body_end.Goals as goal
 
 pub loop-what-init : goal.loop-what-init
 loop-what-init c =
-    stop_made c.args.unicode c.args.allow_nul c.args.hashes c.args.start c.args.start c.next_special-place.result c.args.bytes.now (omega arith) c.requires.0 c.requires.1
-    (passed_none c.args.unicode c.args.allow_nul c.args.hashes (chars (drop c.args.start c.args.bytes.now))) c.next_special-place.ensures.place
+    stop_made c.args.allowed.unicode c.args.allowed.allow_nul c.args.hashes c.args.start c.args.start c.next_special-place.result c.args.bytes.now (omega arith) c.requires.0 c.requires.1
+    (passed_none c.args.allowed.unicode c.args.allowed.allow_nul c.args.hashes (chars (drop c.args.start c.args.bytes.now))) c.next_special-place.ensures.place
 
 pub loop-what-preserved : goal.loop-what-preserved
 loop-what-preserved c =
@@ -19,8 +19,8 @@ loop-what-preserved c =
     let place = c.loop-what.place in
     let inner : (first_passes is_quote (drop place bytes) && not (begins_with (raw_closing n) (drop place bytes))) ≡ true =
     ap (λ l. first_passes is_quote l && not (begins_with (raw_closing n) l)) (sym (rest_is bytes bytes place refl)) ∙ (sym c.is_inner_quote.ensures ∙ c.loop-what-test.true) in
-    let b = after_quote c.args.unicode c.args.allow_nul n c.args.start place bytes c.loop-what.invariant inner in
-    stop_made c.args.unicode c.args.allow_nul n c.args.start (place + 1) c.next_special-place-in-loop-what.result bytes (omega (arith, c.loop-what.invariant.from)) b.within b.utf8 b.passed
+    let b = after_quote c.args.allowed.unicode c.args.allowed.allow_nul n c.args.start place bytes c.loop-what.invariant inner in
+    stop_made c.args.allowed.unicode c.args.allowed.allow_nul n c.args.start (place + 1) c.next_special-place-in-loop-what.result bytes (omega (arith, c.loop-what.invariant.from)) b.within b.utf8 b.passed
     c.next_special-place-in-loop-what.ensures.place
 
 pub returns-clause-closing : goal.returns-clause-closing

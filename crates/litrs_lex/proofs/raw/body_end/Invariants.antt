@@ -4,7 +4,7 @@ use Rattle.litrs_lex.specs.RawCut.{IsStop}
 use Rattle.litrs_lex.proofs.raw.body_end.Given as goal
 
 abbrev pub invariant-loop-what : goal.invariant-loop-what
-invariant-loop-what l = IsStop l.fn.unicode l.fn.allow_nul l.hashes l.fn.start l.bytes l.place
+invariant-loop-what l = IsStop l.fn.allowed.unicode l.fn.allowed.allow_nul l.hashes l.fn.start l.bytes l.place
 
 abbrev pub decreases-loop-what : goal.decreases-loop-what
 decreases-loop-what l = length l.bytes - l.place

@@ -17,8 +17,8 @@ returns-then-end-bytes-clause-refused c =
     let n = c.args.hashes in
     let place = c.body_end-end.result in
     let utf8 = IsUtf8-drop text start c.utf8.input c.requires in
-    let stop = stop_of c.args.unicode c.args.allow_nul n start place bytes text same c.body_end-end.ensures.stop in
-    open_body c.args.unicode c.args.allow_nul n start place text utf8 stop (none_at bytes text place same c.if-end-bytes.true)
+    let stop = stop_of c.args.allowed.unicode c.args.allowed.allow_nul n start place bytes text same c.body_end-end.ensures.stop in
+    open_body c.args.allowed.unicode c.args.allowed.allow_nul n start place text utf8 stop (none_at bytes text place same c.if-end-bytes.true)
 
 pub returns-then-byte-ne34-clause-refused : goal.returns-then-byte-ne34-clause-refused
 returns-then-byte-ne34-clause-refused c =
@@ -29,9 +29,9 @@ returns-then-byte-ne34-clause-refused c =
     let n = c.args.hashes in
     let place = c.body_end-end.result in
     let utf8 = IsUtf8-drop text start c.utf8.input c.requires in
-    let stop = stop_of c.args.unicode c.args.allow_nul n start place bytes text same c.body_end-end.ensures.stop in
+    let stop = stop_of c.args.allowed.unicode c.args.allowed.allow_nul n start place bytes text same c.body_end-end.ensures.stop in
     let b = get_or bytes place 0 in
-    refused_body c.args.unicode c.args.allow_nul n start place b text (drop (place + 1) text) utf8 stop (cons_at bytes text place b same stop.within c.if-end-bytes.false refl) (ne_eqb b 34 c.if-byte-ne34.true)
+    refused_body c.args.allowed.unicode c.args.allowed.allow_nul n start place b text (drop (place + 1) text) utf8 stop (cons_at bytes text place b same stop.within c.if-end-bytes.false refl) (ne_eqb b 34 c.if-byte-ne34.true)
     ∙ ap (λ k. Some (at place k)) (sym c.raw_char_refusal.ensures)
 
 pub split_at-requires : goal.split_at-requires
@@ -43,8 +43,8 @@ split_at-requires c =
     let n = c.args.hashes in
     let place = c.body_end-end.result in
     let utf8 = IsUtf8-drop text start c.utf8.input c.requires in
-    let stop = stop_of c.args.unicode c.args.allow_nul n start place bytes text same c.body_end-end.ensures.stop in
-    let closing = closing_of c.args.unicode c.args.allow_nul n start place bytes text same c.body_end-end.ensures.stop c.body_end-end.ensures.closing c.if-end-bytes.false c.if-byte-ne34.false in
+    let stop = stop_of c.args.allowed.unicode c.args.allowed.allow_nul n start place bytes text same c.body_end-end.ensures.stop in
+    let closing = closing_of c.args.allowed.unicode c.args.allowed.allow_nul n start place bytes text same c.body_end-end.ensures.stop c.body_end-end.ensures.closing c.if-end-bytes.false c.if-byte-ne34.false in
     IsCharBoundary-from_drop text (place + 1 + n) closing.within closing.utf8
 
 pub returns-in-Ok-clause-ok : goal.returns-in-Ok-clause-ok
@@ -56,10 +56,10 @@ returns-in-Ok-clause-ok c =
     let n = c.args.hashes in
     let place = c.body_end-end.result in
     let utf8 = IsUtf8-drop text start c.utf8.input c.requires in
-    let stop = stop_of c.args.unicode c.args.allow_nul n start place bytes text same c.body_end-end.ensures.stop in
-    let closing = closing_of c.args.unicode c.args.allow_nul n start place bytes text same c.body_end-end.ensures.stop c.body_end-end.ensures.closing c.if-end-bytes.false c.if-byte-ne34.false in
+    let stop = stop_of c.args.allowed.unicode c.args.allowed.allow_nul n start place bytes text same c.body_end-end.ensures.stop in
+    let closing = closing_of c.args.allowed.unicode c.args.allowed.allow_nul n start place bytes text same c.body_end-end.ensures.stop c.body_end-end.ensures.closing c.if-end-bytes.false c.if-byte-ne34.false in
     let back : chars (drop (place + 1 + n) text) ≡ chars c.split_at.result.1.now = ap chars (sym c.split_at.ensures.back) in
-    body_cut c.args.unicode c.args.allow_nul n start place text utf8 stop closing (ap is_suffix back ∙ sym c.in-Ok.ensures.ok)
+    body_cut c.args.allowed.unicode c.args.allowed.allow_nul n start place text utf8 stop closing (ap is_suffix back ∙ sym c.in-Ok.ensures.ok)
 
 pub returns-in-Err-clause-refused : goal.returns-in-Err-clause-refused
 returns-in-Err-clause-refused c =
@@ -70,10 +70,10 @@ returns-in-Err-clause-refused c =
     let n = c.args.hashes in
     let place = c.body_end-end.result in
     let utf8 = IsUtf8-drop text start c.utf8.input c.requires in
-    let stop = stop_of c.args.unicode c.args.allow_nul n start place bytes text same c.body_end-end.ensures.stop in
-    let closing = closing_of c.args.unicode c.args.allow_nul n start place bytes text same c.body_end-end.ensures.stop c.body_end-end.ensures.closing c.if-end-bytes.false c.if-byte-ne34.false in
+    let stop = stop_of c.args.allowed.unicode c.args.allowed.allow_nul n start place bytes text same c.body_end-end.ensures.stop in
+    let closing = closing_of c.args.allowed.unicode c.args.allowed.allow_nul n start place bytes text same c.body_end-end.ensures.stop c.body_end-end.ensures.closing c.if-end-bytes.false c.if-byte-ne34.false in
     let back : chars (drop (place + 1 + n) text) ≡ chars c.split_at.result.1.now = ap chars (sym c.split_at.ensures.back) in
-    suffix_refused c.args.unicode c.args.allow_nul n start place text utf8 stop closing (ap is_suffix back ∙ sym c.in-Err.ensures.ok)
+    suffix_refused c.args.allowed.unicode c.args.allowed.allow_nul n start place text utf8 stop closing (ap is_suffix back ∙ sym c.in-Err.ensures.ok)
     ∙ ap (λ k. Some (at (place + 1 + n) k)) (ap suffix_refusal back ∙ sym c.in-Err.ensures.err)
 
 pub overflow_add-place-2 : goal.overflow_add-place-2
@@ -85,8 +85,8 @@ overflow_add-place-2 c =
     let n = c.args.hashes in
     let place = c.body_end-end.result in
     let utf8 = IsUtf8-drop text start c.utf8.input c.requires in
-    let stop = stop_of c.args.unicode c.args.allow_nul n start place bytes text same c.body_end-end.ensures.stop in
-    let closing = closing_of c.args.unicode c.args.allow_nul n start place bytes text same c.body_end-end.ensures.stop c.body_end-end.ensures.closing c.if-end-bytes.false c.if-byte-ne34.false in
+    let stop = stop_of c.args.allowed.unicode c.args.allowed.allow_nul n start place bytes text same c.body_end-end.ensures.stop in
+    let closing = closing_of c.args.allowed.unicode c.args.allowed.allow_nul n start place bytes text same c.body_end-end.ensures.stop c.body_end-end.ensures.closing c.if-end-bytes.false c.if-byte-ne34.false in
     let size : length bytes ≡ length text = ap length same in
     let small = c.as_bytes-bytes.type_inv.0 in
     omega (arith, closing.within)

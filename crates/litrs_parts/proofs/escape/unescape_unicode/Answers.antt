@@ -8,13 +8,14 @@ use Rattle.litrs_parts.proofs.UnicodeEscapeBytes.{no_brace_row}
 use Rattle.litrs_parts.proofs.escape.unescape_unicode.Goals as goal
 
 pub returns-then-not-opens_brace-clause-refused : goal.returns-then-not-opens_brace-clause-refused
-returns-then-not-opens_brace-clause-refused c = λ byte_escapes.
-    let is = letter_of c.args.input.now 117 c.requires in
-    escape_is_refused _ _ c.in_text.result (first_slash c.args.input.now 117 is)
-    (no_brace_row byte_escapes c.args.allow_nul c.args.input.now c.utf8.input is
+returns-then-not-opens_brace-clause-refused c =
+    let is = letter_of c.args.input.now 117 c.requires.begins in
+    rw (c.requires.unicode) (escape_is_refused _ _ c.in_text.result (first_slash c.args.input.now 117 is)
+    (no_brace_row c.args.allowed.byte_escapes c.args.allowed.allow_nul c.args.input.now c.utf8.input is
     (ap (λ l. first_passes (λ n. n == 123) (drop 2 l)) (sym c.as_bytes-bytes.ensures.value) ∙ sym c.if-not-opens_brace.ensures)
     ∙ ap Some (sym c.in_text.ensures.refusal))
-    c.in_text.ensures.char_span
+    c.in_text.ensures.char_span)
 
 pub returns-else-is_closed-clause-refused : goal.returns-else-is_closed-clause-refused
-returns-else-is_closed-clause-refused c = λ byte_escapes. c.braces_refusal.ensures byte_escapes c.args.allow_nul
+returns-else-is_closed-clause-refused c =
+    rw (c.requires.unicode) (c.braces_refusal.ensures c.args.allowed.byte_escapes c.args.allowed.allow_nul)

@@ -5,8 +5,8 @@ use Rattle.litrs.proofs.Chars.{escape_behind, refused_behind}
 use Rattle.litrs.proofs.Escapes.{behind_goes_on, starts_escape}
 use Rattle.litrs.proofs.going_on.char.escaped_goes_on.Goals as goal
 
-pub unescape-requires : goal.unescape-requires
-unescape-requires c = starts_escape c.args.rest.now c.utf8.rest c.requires
+pub unescape_with-requires : goal.unescape_with-requires
+unescape_with-requires c = starts_escape c.args.rest.now c.utf8.rest c.requires
 
 pub returns-in-Ok : goal.returns-in-Ok
 returns-in-Ok c =

@@ -5,14 +5,14 @@ use Rattle.std.specs.Str.{chars}
 use Rattle.std.proofs.lemmas.Str.{chars_past_char}
 use Rattle.litrs_base.specs.Text.{begins_with}
 use Rattle.litrs_base.proofs.Chars.{begins_with-chars}
-use Rattle.litrs_parts.specs.Unescaped.{switches}
+use Rattle.litrs_parts.specs.Unescaped.{grammar_switches}
 use Rattle.litrs.proofs.Begins.{answer_is}
 use Rattle.litrs.proofs.QuotedEnds.{quote_rest, continued_rest, slash_rest, other_rest}
 use Rattle.litrs.proofs.going_on.quoted.rest_goes_on.Goals as goal
 
 pub returns-in-Some-eq34 : goal.returns-in-Some-eq34
 returns-in-Some-eq34 c =
-    quote_rest (switches c.args.unicode c.args.byte_escapes c.args.allow_nul)
+    quote_rest (grammar_switches c.args.allowed)
     (chars c.args.rest.now) (chars c.as_str.result.now) c.in-Some-eq34.field-0
     c.suffix_goes_on.result
     (chars_past_char c.args.rest.now c.as_str.result.now c.in-Some-eq34.field-0 c.utf8.rest
@@ -25,7 +25,7 @@ pub returns-then-begins_with : goal.returns-then-begins_with
 returns-then-begins_with c =
     let behind = c.as_str-in-Some-eq92.result.now in
     answer_is c.begins_with.result _ c.if-begins_with.true
-    (continued_rest (switches c.args.unicode c.args.byte_escapes c.args.allow_nul)
+    (continued_rest (grammar_switches c.args.allowed)
     (chars c.args.rest.now) (chars behind) c.in-Some-eq92.field-0 c.requires
     (chars_past_char c.args.rest.now behind c.in-Some-eq92.field-0 c.utf8.rest
     (sym c.chars-chars.ensures.rest
@@ -38,7 +38,7 @@ returns-then-begins_with c =
 pub returns-else-begins_with : goal.returns-else-begins_with
 returns-else-begins_with c =
     let behind = c.as_str-in-Some-eq92.result.now in
-    slash_rest (switches c.args.unicode c.args.byte_escapes c.args.allow_nul)
+    slash_rest (grammar_switches c.args.allowed)
     (chars c.args.rest.now) (chars behind) c.in-Some-eq92.field-0 c.escape_goes_on.result
     (chars_past_char c.args.rest.now behind c.in-Some-eq92.field-0 c.utf8.rest
     (sym c.chars-chars.ensures.rest
@@ -51,7 +51,7 @@ returns-else-begins_with c =
 
 pub returns-in-Some : goal.returns-in-Some
 returns-in-Some c =
-    other_rest (switches c.args.unicode c.args.byte_escapes c.args.allow_nul)
+    other_rest (grammar_switches c.args.allowed)
     (chars c.args.rest.now) (chars c.next.new.self.rest.now) c.in-Some.field-0
     (chars_past_char c.args.rest.now c.next.new.self.rest.now c.in-Some.field-0 c.utf8.rest
     (sym c.chars-chars.ensures.rest ∙ c.in-Some.ensures.steps.0))

@@ -13,5 +13,5 @@ hashes_go_on-requires c =
 
 pub returns : goal.returns
 returns c =
-    let goes = rw (c.front_len.ensures.raw, ap (λ (w : Switches). w.unicode) c.switches-switches.ensures, ap (λ (w : Switches). w.allow_nul) c.switches-switches.ensures) at c.hashes_go_on.ensures in
+    let goes = rw (c.front_len.ensures.raw, ap (λ (w : Switches). w.unicode) c.switches.ensures, ap (λ (w : Switches). w.allow_nul) c.switches.ensures) at c.hashes_go_on.ensures in
     raw_string (grammar_kind c.args.kind) c.args.text.now c.hashes_go_on.result c.utf8.text c.requires goes
