@@ -7,3 +7,4 @@ pub mod QuotedValues
 pub mod ShortValues
 pub mod CharRuns
 pub mod RawBytes
+pub mod RawSteps

@@ -1,15 +1,16 @@
 //! Raw strings of the three kinds.
-ghost use Rattle.std.specs.Prelude.{◌≡◌, ◌&&◌, ◌≤◌, not, length, drop, IsTrue, IfOk, IfErr, Some};
+ghost use Rattle.std.specs.Prelude.{◌≡◌, ◌&&◌, ◌≤◌, ◌<◌, ℕ, not, slice_index, length, drop, IsTrue, IfOk, IfErr, Some};
 ghost use Rattle.std.specs.List.{list_all};
 ghost use Rattle.std.specs.Str.{chars, IsUtf8, IsCharBoundary};
 ghost use Rattle.litrs_base.specs.Refusal.{refusal};
 ghost use Rattle.litrs_base.specs.Text.{first_passes, begins_with};
 ghost use Rattle.litrs_grammar.specs.Raw.{hashes, hash_len, is_hash, is_quote, raw_closing, raw_char_refusal, raw_body_refusal, raw_refusal};
-ghost use Rattle.litrs_lex.specs.RawCut.{IsRawCut, IsRawRefused, IsStop, IsBodyCut};
+ghost use Rattle.litrs_lex.specs.RawCut.{IsRawCut, IsRawRefused, IsStop, IsBodyCut, is_inner_at};
+ghost use Rattle.litrs_search.specs.Special.{is_special};
 
 use litrs_base::{ParseError, ParseErrorKind};
 use litrs_parts::{Switches, check_suffix};
-use litrs_search::{Run, Special, next_special, run_end};
+use litrs_search::{Run, Special, next_closing, next_special, run_end};
 use std::ops::Range;
 
 /// Cuts the rest of a raw literal, from after its `r` on, into hashes, body and suffix.
@@ -122,11 +123,30 @@ fn body_end(bytes: &[u8], start: usize, hashes: usize, allowed: Switches) -> usi
         nul: !allowed.allow_nul,
         non_ascii: !allowed.unicode,
     };
-    let mut place = next_special(bytes, start, what);
+    let mut place = next_stop(bytes, start, hashes, what);
     while is_inner_quote(&bytes[place..], hashes) {
-        place = next_special(bytes, place + 1, what);
+        place = next_stop(bytes, place + 1, hashes, what);
     }
     place
+}
+
+/// A place from `from` on with a special byte, or the end of the text: before it stand no special
+/// bytes but quotes that do not close the body.
+#[inline(always)]
+fn next_stop(bytes: &[u8], from: usize, hashes: usize, what: Special) -> usize
+    requires { from ≤ length bytes.now }
+    ensures from { from ≤ result }
+    ensures within { result ≤ length bytes.now }
+    ensures inner { (k : ℕ) → from ≤ k → k < result →
+        IsTrue (is_inner_at what hashes bytes.now k) }
+    ensures stops { result < length bytes.now →
+        IsTrue (is_special what (slice_index bytes.now result)) }
+{
+    if hashes == 0 {
+        next_special(bytes, from, what)
+    } else {
+        next_closing(bytes, from, hashes, what)
+    }
 }
 
 /// Whether `"` stands first, with fewer hashes after it.

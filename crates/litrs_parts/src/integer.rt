@@ -170,13 +170,22 @@ fn digits_len(base: IntegerBase, bytes: &[u8]) -> usize
     }
 }
 
+<<<<<<< ours
 /// [`digits_len`] of any base. It is not inlined, so that its search stands once for the bases other
 /// than ten; ten has the search of [`end_dec_digits`].
+=======
+/// The same by a search of its own for each base, whose bytes are compared with constants.
+>>>>>>> theirs
 #[inline(never)]
 fn end_digits(base: IntegerBase, bytes: &[u8]) -> usize
     ensures { result ≡ prefix_len (is_digit_or_underscore base) bytes.now }
 {
-    run_end(bytes, Run::Digits(base))
+    match base {
+        IntegerBase::Binary => run_end(bytes, Run::Digits(IntegerBase::Binary)),
+        IntegerBase::Octal => run_end(bytes, Run::Digits(IntegerBase::Octal)),
+        IntegerBase::Decimal => run_end(bytes, Run::Digits(IntegerBase::Decimal)),
+        IntegerBase::Hexadecimal => run_end(bytes, Run::Digits(IntegerBase::Hexadecimal)),
+    }
 }
 
 /// Whether one of these digits and underscores is a digit.
