@@ -37,7 +37,7 @@ pub(crate) fn take_line<O: Output>(
     }
 }
 
-/// The same for a line that is a text.
+/// [`take_line`] of a line that is a text.
 fn take_text<O: Output>(
     collector: &mut Collector,
     reports: &mut String,
@@ -63,7 +63,7 @@ fn take_text<O: Output>(
     }
 }
 
-/// The same for a line that is no text.
+/// [`take_line`] of a line that is no text.
 fn report_no_text(collector: &mut Collector, reports: &mut String) -> Result<(), AllocError>
     ensures held { OnOk result (collector.new ≡ []) }
     ensures reports { OnOk result ((out : List ℕ)

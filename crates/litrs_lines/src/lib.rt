@@ -1,7 +1,7 @@
 //! Reads lines and writes a report on each literal that they are, and on each text that is none.
 #![tactic(auto)]
 
-ghost use Rattle.std.specs.Prelude.{◌≡◌, ◌≢◌, ◌↔◌, ◌∷◌, [], ◌++◌, ℕ, List, true, false, Some, IsSome, IfSome, IsErrOf, OnOk, OnErr, position, string_bytes};
+ghost use Rattle.std.specs.Prelude.{◌≡◌, ◌≢◌, ◌↔◌, ◌∷◌, [], ◌++◌, ℕ, List, true, false, Some, IsSome, IfSome, IfErr, IsErrOf, OnOk, OnErr, position, string_bytes};
 ghost use Rattle.std.specs.Io.KnownBytes.{Appends, IsAtEnd};
 ghost use Rattle.litrs_base.specs.Characters.{line_feed};
 ghost use Rattle.litrs_lines.specs.Stopped.{AppendsBeginning, StopsWithin};
@@ -158,19 +158,20 @@ fn gather<O: Output>(
 }
 
 /// Writes all of `bytes`.
-fn write_all<O: Output>(writer: &mut O, bytes: &[u8]) -> Result<(), Failed>
+fn write_all<O: Output>(writer: &mut O, bytes: &[u8]) -> Result<(), RunError>
     requires { O.has_failed writer.old ≡ false }
     ensures ok { OnOk result (Appends (O.contents writer.old) (O.contents writer.new) bytes.now) }
     ensures works { OnOk result (O.has_failed writer.new ≡ false) }
     ensures err { OnErr result (AppendsBeginning (O.contents writer.old) (O.contents writer.new)
         bytes.now) }
     ensures failed { OnErr result (O.has_failed writer.new ≡ true) }
+    ensures write { IfErr result (λ e. e ≡ RunError.Write) }
 {
     let mut rest = bytes;
     while !rest.is_empty() {
         match writer.write(rest) {
             Ok(count) => rest = &rest[count..],
-            Err(Failed) => return Err(Failed),
+            Err(Failed) => return Err(RunError::Write),
         }
     }
     Ok(())
@@ -199,10 +200,7 @@ fn take_piece<O: Output>(
 {
     reports.clear();
     gather(line, collector, reports, writer, piece)?;
-    match write_all(writer, reports.as_bytes()) {
-        Ok(()) => Ok(()),
-        Err(Failed) => Err(RunError::Write),
-    }
+    write_all(writer, reports.as_bytes())
 }
 
 /// Takes a last line that has no end, where it is not empty.
@@ -276,9 +274,7 @@ fn finish<O: Output>(
 {
     reports.clear();
     report_last(line, collector, reports, writer)?;
-    if let Err(Failed) = write_all(writer, reports.as_bytes()) {
-        return Err(RunError::Write);
-    }
+    write_all(writer, reports.as_bytes())?;
     match writer.flush() {
         Ok(()) => Ok(()),
         Err(Failed) => Err(RunError::Write),
@@ -340,9 +336,7 @@ pub fn run<I: Input, O: Output>(
             return finish(open_line, &mut collector, &mut reports, writer);
         }
         let piece = &buffer[..count];
-        if let Err(error) = take_piece(&mut line, &mut collector, &mut reports, piece, writer) {
-            return Err(error);
-        }
+        take_piece(&mut line, &mut collector, &mut reports, piece, writer)?;
     }
     Err(RunError::Read)
 }

@@ -14,7 +14,7 @@ ghost use Rattle.litrs_lines.specs.Stopped.{AppendsBeginning};
 ghost use Rattle.litrs_base.specs.Characters.{line_feed};
 ghost use Rattle.litrs_base.specs.Refusal.{refusal_of};
 
-use crate::device::{Failed, Output};
+use crate::device::Output;
 use crate::{RunError, write_all};
 use litrs::{Buffer, ByteLit, CharLit, FloatLit, IntegerLit, Literal, ParseError};
 use std::alloc::AllocError;
@@ -255,9 +255,7 @@ fn send_hex<O: Output>(reports: &mut String, writer: &mut O, bytes: &[u8]) -> Re
     let mut rest = bytes;
     while rest.len() > PIECE_LEN {
         push_hex(reports, &rest[..PIECE_LEN])?;
-        if let Err(Failed) = write_all(writer, reports.as_bytes()) {
-            return Err(RunError::Write);
-        }
+        write_all(writer, reports.as_bytes())?;
         reports.clear();
         rest = &rest[PIECE_LEN..];
     }

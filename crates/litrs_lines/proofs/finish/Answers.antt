@@ -1,5 +1,5 @@
 -- Nothing is unwritten at first, and all is written at the end.
-use Rattle.std.proofs.Common.{subst}
+use Rattle.std.proofs.Common.{ℕ, List, subst}
 use Rattle.std.proofs.KnownBytes.{Appends-kept}
 use Rattle.std.specs.Io.KnownBytes.{Appends}
 use Rattle.litrs_lines.specs.Stopped.{AppendsBeginning}
@@ -8,20 +8,23 @@ use Rattle.litrs_lines.proofs.Sending.{writes_rest, writes_some_rest, writes_who
 use Rattle.litrs_lines.proofs.GroupReports.{stops-first_last}
 use Rattle.std.specs.Prelude.{string_bytes}
 use Rattle.litrs_lines.specs.Lines.{unless_empty}
+use Rattle.litrs_lines.specs.Ended.{AreLastReports}
 use Rattle.litrs_lines.proofs.finish.Goals as goal
 
 pub returns-in_err-report_last-clause-err : goal.returns-in_err-report_last-clause-err
 returns-in_err-report_last-clause-err g c =
     OnErr-holds _ (stops-first_last c.args.collector.now (unless_empty c.args.line.now) (g.O.Output.contents c.args.writer.now) (g.O.Output.contents c.report_last.new.writer) (string_bytes c.clear.new.self) c.in_err-report_last.ensures.err c.clear.ensures.bytes)
 
+pub returns-in_err-write_all-clause-err : goal.returns-in_err-write_all-clause-err
+returns-in_err-write_all-clause-err g c =
+    let all = c.in_ok-report_last.ensures.ok in
+    let begun : (out : List ℕ) × AreLastReports c.args.collector.now (unless_empty c.args.line.now) out × AppendsBeginning (g.O.Output.contents c.args.writer.now) (g.O.Output.contents c.write_all.new.writer) out =
+    (all.0, all.1, writes_some_rest _ _ _ _ _ all.0 all.2 c.clear.ensures.bytes (subst (AppendsBeginning _ _) c.as_bytes.ensures.value c.in_err-write_all.ensures.err)) in
+    OnErr-holds _ begun
+
 pub returns-in-Err-clause-err : goal.returns-in-Err-clause-err
 returns-in-Err-clause-err g c =
     let all = c.in_ok-report_last.ensures.ok in
-    (all.0, all.1, writes_some_rest _ _ _ _ _ all.0 all.2 c.clear.ensures.bytes (subst (AppendsBeginning _ _) c.as_bytes.ensures.value c.in-Err.ensures.err))
-
-pub returns-in-Err-flush-clause-err : goal.returns-in-Err-flush-clause-err
-returns-in-Err-flush-clause-err g c =
-    let all = c.in_ok-report_last.ensures.ok in
-    let wrote = subst (Appends (g.O.Output.contents c.report_last.new.writer) (g.O.Output.contents c.write_all.new.writer)) c.as_bytes.ensures.value c.in_default.ensures.ok in
+    let wrote = subst (Appends (g.O.Output.contents c.report_last.new.writer) (g.O.Output.contents c.write_all.new.writer)) c.as_bytes.ensures.value c.in_ok-write_all.ensures.ok in
     let whole = writes_rest (g.O.Output.contents c.args.writer.now) (g.O.Output.contents c.report_last.new.writer) (g.O.Output.contents c.write_all.new.writer) _ _ all.0 all.2 c.clear.ensures.bytes wrote in
-    (all.0, all.1, writes_whole (g.O.Output.contents c.args.writer.now) (g.O.Output.contents c.flush.new.self) all.0 (Appends-kept (g.O.Output.contents c.args.writer.now) (g.O.Output.contents c.write_all.new.writer) (g.O.Output.contents c.flush.new.self) all.0 whole c.in-Err-flush.ensures.bytes))
+    (all.0, all.1, writes_whole (g.O.Output.contents c.args.writer.now) (g.O.Output.contents c.flush.new.self) all.0 (Appends-kept (g.O.Output.contents c.args.writer.now) (g.O.Output.contents c.write_all.new.writer) (g.O.Output.contents c.flush.new.self) all.0 whole c.in-Err.ensures.bytes))

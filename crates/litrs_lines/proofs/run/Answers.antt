@@ -1,6 +1,6 @@
 use Rattle.std.proofs.Common.{arith, ◌∙◌, length-take, rules}
 use Rattle.std.proofs.KnownBytes.{Keeps-refl}
-use Rattle.litrs_lines.proofs.LinesLemmas.{runs_none, line_unended, runs_more, stops_at_read, stops_in_piece, stops_at_end, ends_run, OnOk-map, OnErr-map, false_unless, ok_not_err, take_none}
+use Rattle.litrs_lines.proofs.LinesLemmas.{runs_none, line_unended, runs_more, stops_at_read, stops_in_piece, stops_at_end, ends_run, OnOk-map, OnErr-map, OnErr-holds, false_unless, ok_not_err, take_none}
 use Rattle.litrs_lines.proofs.run.Goals as goal
 
 pub loop-turn-init : goal.loop-turn-init
@@ -26,23 +26,23 @@ returns-then-count-eq0-clause-err g c =
 pub take_piece-requires-clause-line : goal.take_piece-requires-clause-line
 take_piece-requires-clause-line g c = line_unended c.loop-turn.invariant.runs
 
-pub returns-in-Err-take_piece-clause-err : goal.returns-in-Err-take_piece-clause-err
-returns-in-Err-take_piece-clause-err g c =
-    let part = c.in-Err-take_piece.ensures.err in
-    stops_in_piece c.loop-turn.invariant.runs _ _ _ part.0 part.1 c.in-Ok.ensures.bytes.0 part.2 part.3
+pub returns-in_err-take_piece-clause-err : goal.returns-in_err-take_piece-clause-err
+returns-in_err-take_piece-clause-err g c =
+    let part = c.in_err-take_piece.ensures.err in
+    OnErr-holds _ (stops_in_piece c.loop-turn.invariant.runs _ _ _ part.0 part.1 c.in-Ok.ensures.bytes.0 part.2 part.3)
 
 pub loop-turn-preserved : goal.loop-turn-preserved
 loop-turn-preserved g c = record {
   reader_works = c.in-Ok.ensures.failed ∙ c.loop-turn.invariant.reader_works;
-  writer_works = false_unless _ (λ failed. ok_not_err (c.in_default.ensures.write.1 failed));
-  runs = runs_more c.loop-turn.invariant.runs _ _ _ _ _ c.in_default.ensures.ok.0 c.in-Ok.ensures.bytes.0 c.in_default.ensures.line c.in_default.ensures.ok.1 c.in_default.ensures.ok.2 (rw length-take (omega arith));
+  writer_works = false_unless _ (λ failed. ok_not_err (c.in_ok-take_piece.ensures.write.1 failed));
+  runs = runs_more c.loop-turn.invariant.runs _ _ _ _ _ c.in_ok-take_piece.ensures.ok.0 c.in-Ok.ensures.bytes.0 c.in_ok-take_piece.ensures.line c.in_ok-take_piece.ensures.ok.1 c.in_ok-take_piece.ensures.ok.2 (rw length-take (omega arith));
 }
 
 pub returns-clause-err : goal.returns-clause-err
 returns-clause-err g c = stops_at_read c.loop-turn.invariant.runs _ (Keeps-refl _)
 
-pub returns-in-Err-take_piece-clause-read : goal.returns-in-Err-take_piece-clause-read
-returns-in-Err-take_piece-clause-read g c = search rules
+pub returns-in_err-take_piece-clause-read : goal.returns-in_err-take_piece-clause-read
+returns-in_err-take_piece-clause-read g c = search rules
 
-pub returns-in-Err-take_piece-clause-write : goal.returns-in-Err-take_piece-clause-write
-returns-in-Err-take_piece-clause-write g c = search rules
+pub returns-in_err-take_piece-clause-write : goal.returns-in_err-take_piece-clause-write
+returns-in_err-take_piece-clause-write g c = search rules

@@ -2,7 +2,7 @@
 use Rattle.std.proofs.Common.{subst, ◌++◌}
 use Rattle.std.specs.Io.KnownBytes.{Appends}
 use Rattle.litrs_lines.specs.Stopped.{AppendsBeginning}
-use Rattle.litrs_lines.proofs.LinesLemmas.{OnErr-holds}
+use Rattle.litrs_lines.proofs.LinesLemmas.{OnErr-holds, OnOk-map, OnErr-map}
 use Rattle.litrs_lines.proofs.Sending.{writes_rest, writes_some_rest}
 use Rattle.litrs_lines.proofs.GroupReports.{stops-first}
 use Rattle.std.specs.Prelude.{string_bytes}
@@ -13,12 +13,12 @@ pub returns-in_err-gather-clause-err : goal.returns-in_err-gather-clause-err
 returns-in_err-gather-clause-err g c =
     OnErr-holds _ (stops-first c.args.collector.now (ended_lines (c.args.line.now.items ++ c.args.piece.now)) (g.O.Output.contents c.args.writer.now) (g.O.Output.contents c.gather.new.writer) (string_bytes c.clear.new.self) c.in_err-gather.ensures.err c.clear.ensures.bytes)
 
-pub returns-in-Ok-clause-ok : goal.returns-in-Ok-clause-ok
-returns-in-Ok-clause-ok g c =
+pub returns-clause-ok : goal.returns-clause-ok
+returns-clause-ok g c =
     let all = c.in_ok-gather.ensures.ok in
-    (all.0, all.1, writes_rest _ _ _ _ _ all.0 all.2 c.clear.ensures.bytes (subst (Appends _ _) c.as_bytes.ensures.value c.in-Ok.ensures.ok))
+    OnOk-map c.write_all.result (λ wrote. (all.0, all.1, writes_rest _ _ _ _ _ all.0 all.2 c.clear.ensures.bytes (subst (Appends _ _) c.as_bytes.ensures.value wrote))) c.write_all.ensures.ok
 
-pub returns-in-Err-clause-err : goal.returns-in-Err-clause-err
-returns-in-Err-clause-err g c =
+pub returns-clause-err : goal.returns-clause-err
+returns-clause-err g c =
     let all = c.in_ok-gather.ensures.ok in
-    (c.gather.new.collector, all.0, all.1, writes_some_rest _ _ _ _ _ all.0 all.2 c.clear.ensures.bytes (subst (AppendsBeginning _ _) c.as_bytes.ensures.value c.in-Err.ensures.err))
+    OnErr-map c.write_all.result (λ wrote. (c.gather.new.collector, all.0, all.1, writes_some_rest _ _ _ _ _ all.0 all.2 c.clear.ensures.bytes (subst (AppendsBeginning _ _) c.as_bytes.ensures.value wrote))) c.write_all.ensures.err

@@ -16,13 +16,13 @@ pub returns-in_err-push_hex-clause-err : goal.returns-in_err-push_hex-clause-err
 returns-in_err-push_hex-clause-err g c =
     OnErr-holds _ (sends_stops_now _ _ _ _ _ _ c.loop-rest.invariant.sends)
 
-pub returns-in-Err-clause-err : goal.returns-in-Err-clause-err
-returns-in-Err-clause-err g c =
-    sends_stops _ _ _ _ _ (c.as_bytes.result.now) _ _ 4096 c.loop-rest.invariant.sends (c.as_bytes.ensures.value ∙ c.in_ok-push_hex.ensures) c.in-Err.ensures.err
+pub returns-in_err-write_all-clause-err : goal.returns-in_err-write_all-clause-err
+returns-in_err-write_all-clause-err g c =
+    OnErr-holds _ (sends_stops _ _ _ _ _ (c.as_bytes.result.now) _ _ 4096 c.loop-rest.invariant.sends (c.as_bytes.ensures.value ∙ c.in_ok-push_hex.ensures) c.in_err-write_all.ensures.err)
 
 pub loop-rest-preserved : goal.loop-rest-preserved
 loop-rest-preserved g c = record {
-  works = c.in_default.ensures.works;
+  works = c.in_ok-write_all.ensures.works;
   sends =
-      sends_piece _ _ _ _ _ c.as_bytes.result.now _ _ _ _ 4096 c.loop-rest.invariant.sends (c.as_bytes.ensures.value ∙ c.in_ok-push_hex.ensures) c.in_default.ensures.ok c.clear.ensures.bytes (take_rest c.loop-rest.rest.now 4096);
+      sends_piece _ _ _ _ _ c.as_bytes.result.now _ _ _ _ 4096 c.loop-rest.invariant.sends (c.as_bytes.ensures.value ∙ c.in_ok-push_hex.ensures) c.in_ok-write_all.ensures.ok c.clear.ensures.bytes (take_rest c.loop-rest.rest.now 4096);
 }
