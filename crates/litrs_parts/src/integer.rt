@@ -170,12 +170,9 @@ fn digits_len(base: IntegerBase, bytes: &[u8]) -> usize
     }
 }
 
-<<<<<<< ours
-/// [`digits_len`] of any base. It is not inlined, so that its search stands once for the bases other
-/// than ten; ten has the search of [`end_dec_digits`].
-=======
-/// The same by a search of its own for each base, whose bytes are compared with constants.
->>>>>>> theirs
+/// [`digits_len`] of any base, by a search of its own for each, so that its bytes are compared with
+/// constants. It is not inlined, so that they stand once; ten has the search of
+/// [`end_dec_digits`].
 #[inline(never)]
 fn end_digits(base: IntegerBase, bytes: &[u8]) -> usize
     ensures { result ≡ prefix_len (is_digit_or_underscore base) bytes.now }
