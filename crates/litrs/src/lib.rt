@@ -133,8 +133,8 @@ impl<B: Text> Literal<B> {
     /// `0 `; `InvalidLiteral` where no kind begins so. `OutOfMemory`, with no span, where the text
     /// is a literal and there is no memory for its value.
     // Inlined, with the parse of each kind, so that a literal is made where the caller keeps it:
-    // passed through memory, bools and chars took twice the time. What cuts a text is a call, so
-    // that this stays small.
+    // passed through memory, bools and chars took twice the time. What cuts a text is a call, and
+    // so is the parse of strings, so that this stays small.
     #[inline(always)]
     pub fn parse(alloc: Global, input: B) -> Result<Literal<B>, ParseError>
         ensures raw { IfOk result (λ lit. literal_raw lit ≡ B.bytes input) }
@@ -172,8 +172,9 @@ impl<B: Text> Literal<B> {
         }
     }
 
-    /// The same for a text that is parsed as a string of the kind, and begins so.
-    #[inline(always)]
+    /// The same for a text that is parsed as a string of the kind, and begins so. It is not inlined:
+    /// with it in `parse`, that is no longer inlined itself, and each text took 9 ns more.
+    #[inline(never)]
     fn parse_string(
         alloc: Global,
         input: B,
