@@ -134,7 +134,7 @@ impl<B: Text> Literal<B> {
     /// is a literal and there is no memory for its value.
     // Inlined, with the parse of each kind, so that a literal is made where the caller keeps it:
     // passed through memory, bools and chars took twice the time. What cuts a text is a call, and
-    // so is the parse of strings, so that this stays small.
+    // so is the parse of raw strings, so that this stays small.
     #[inline(always)]
     pub fn parse(alloc: Global, input: B) -> Result<Literal<B>, ParseError>
         ensures raw { IfOk result (λ lit. literal_raw lit ≡ B.bytes input) }
@@ -152,7 +152,9 @@ impl<B: Text> Literal<B> {
             Front::Quoted(kind) => {
                 Ok(Literal::parse_string(alloc, input, kind, Front::Quoted(kind))?)
             }
-            Front::Raw(kind) => Ok(Literal::parse_string(alloc, input, kind, Front::Raw(kind))?),
+            Front::Raw(kind) => {
+                Ok(Literal::parse_raw_string(alloc, input, kind, Front::Raw(kind))?)
+            }
             Front::Other => Err(ParseError::new(None, other_refusal(input.as_str()))),
         }
     }
@@ -172,9 +174,8 @@ impl<B: Text> Literal<B> {
         }
     }
 
-    /// The same for a text that is parsed as a string of the kind, and begins so. It is not inlined:
-    /// with it in `parse`, that is no longer inlined itself, and each text took 9 ns more.
-    #[inline(never)]
+    /// The same for a text that is parsed as a string of the kind, and begins so.
+    #[inline(always)]
     fn parse_string(
         alloc: Global,
         input: B,
@@ -198,6 +199,24 @@ impl<B: Text> Literal<B> {
                 Ok(Literal::CString(CStringLit::parse_with_front(alloc, input, front)?))
             }
         }
+    }
+
+    /// The same for one that begins as a raw string. It is not inlined: with all strings in it twice,
+    /// `parse` was not inlined, and each text took 9 ns more.
+    #[inline(never)]
+    fn parse_raw_string(
+        alloc: Global,
+        input: B,
+        kind: StringKind,
+        front: Front,
+    ) -> Result<Literal<B>, ParseError>
+        requires { IsFront front (B.bytes input) }
+        ensures raw { IfOk result (λ lit. literal_raw lit ≡ B.bytes input) }
+        ensures literal { IfOk result (λ lit. IsLiteral (chars (B.bytes input)) (derivation lit)) }
+        ensures refused { IfErr result (IsRefusedOrOutOfMemory
+            (kind_parse (string_literal_of (grammar_kind kind))) (chars (B.bytes input))) }
+    {
+        Literal::parse_string(alloc, input, kind, front)
     }
 
     /// The suffix, empty where there is none: `u8` of `0xFF_u8`. A bool has none.

@@ -84,18 +84,18 @@ returns-in_err-parse_string-in-Quoted-clause-refused g c =
 pub returns-in_ok-parse_string-in-Quoted-clause-ok : goal.returns-in_ok-parse_string-in-Quoted-clause-ok
 returns-in_ok-parse_string-in-Quoted-clause-ok g c = only_literal _ (derivation c.in_ok-parse_string-in-Quoted.field-0) c.in_ok-parse_string-in-Quoted.ensures.literal
 
-pub parse_string-requires-in-Raw : goal.parse_string-requires-in-Raw
-parse_string-requires-in-Raw g c = rw (c.as_str.ensures) at c.in-Raw.ensures
+pub parse_raw_string-requires : goal.parse_raw_string-requires
+parse_raw_string-requires g c = rw (c.as_str.ensures) at c.in-Raw.ensures
 
-pub returns-in_err-parse_string-in-Raw-clause-refused : goal.returns-in_err-parse_string-in-Raw-clause-refused
-returns-in_err-parse_string-in-Raw-clause-refused g c =
+pub returns-in_err-parse_raw_string-in-Raw-clause-refused : goal.returns-in_err-parse_raw_string-in-Raw-clause-refused
+returns-in_err-parse_raw_string-in-Raw-clause-refused g c =
     let is = c.in-Raw.ensures in
-    let p = err_from_is_err_and c.from_residual-in_err-parse_string-in-Raw.result c.from_residual-in_err-parse_string-in-Raw.ensures.1 in
-    rw (p.1) (kind_error_at (string_literal_of (grammar_kind c.in-Raw.kind)) _ c.as_str.result.now c.in_err-parse_string-in-Raw.field-0.0 _ c.as_str.utf8 c.as_str.ensures
-    is.row p.2 c.in_err-parse_string-in-Raw.ensures.refused)
+    let p = err_from_is_err_and c.from_residual-in_err-parse_raw_string-in-Raw.result c.from_residual-in_err-parse_raw_string-in-Raw.ensures.1 in
+    rw (p.1) (kind_error_at (string_literal_of (grammar_kind c.in-Raw.kind)) _ c.as_str.result.now c.in_err-parse_raw_string-in-Raw.field-0.0 _ c.as_str.utf8 c.as_str.ensures
+    is.row p.2 c.in_err-parse_raw_string-in-Raw.ensures.refused)
 
-pub returns-in_ok-parse_string-in-Raw-clause-ok : goal.returns-in_ok-parse_string-in-Raw-clause-ok
-returns-in_ok-parse_string-in-Raw-clause-ok g c = only_literal _ (derivation c.in_ok-parse_string-in-Raw.field-0) c.in_ok-parse_string-in-Raw.ensures.literal
+pub returns-in_ok-parse_raw_string-in-Raw-clause-ok : goal.returns-in_ok-parse_raw_string-in-Raw-clause-ok
+returns-in_ok-parse_raw_string-in-Raw-clause-ok g c = only_literal _ (derivation c.in_ok-parse_raw_string-in-Raw.field-0) c.in_ok-parse_raw_string-in-Raw.ensures.literal
 
 pub other_refusal-requires : goal.other_refusal-requires
 other_refusal-requires g c = let is = rw (c.as_str.ensures) at c.in-Other.ensures in rw (c.as_str-in-Other.ensures) is
