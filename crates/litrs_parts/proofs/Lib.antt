@@ -12,6 +12,5 @@ pub mod HexDigitBytes
 pub mod EscapeBytes
 pub mod HexEscapeBytes
 pub mod UnicodeEscapeBytes
-pub mod UnderscoreRuns
 pub mod CharByteBytes
 pub mod Words

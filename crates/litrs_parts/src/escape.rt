@@ -1,7 +1,7 @@
 //! Escapes.
 ghost use Rattle.std.specs.Prelude.{◌≡◌, ◌≢◌, [], ◌∷◌, ◌+◌, ◌<◌, ◌≤◌, Bool, true, ◌&&◌, ◌||◌, ◌==◌, not, codes, drop, length, IfOk, IfErr, IsTrue, IsFalse};
 ghost use Rattle.std.specs.Char.{is_ascii_hexdigit};
-ghost use Rattle.std.specs.List.{list_any, prefix_len};
+ghost use Rattle.std.specs.List.{list_any};
 ghost use Rattle.std.specs.Option.{SomeIff};
 ghost use Rattle.std.specs.Str.{chars};
 ghost use Rattle.litrs_base.specs.Characters.{backslash, letter_x, letter_u, underscore, open_brace, close_brace, is_ascii, is_no_nul_unless};
@@ -11,7 +11,6 @@ ghost use Rattle.litrs_parts.specs.Unescaped.{switches, grammar_switches, IsUnes
 
 use crate::parse::hex_digit_value;
 use litrs_base::{ParseError, ParseErrorKind, Unescape};
-use litrs_search::{Run, run_end};
 use memchr::memchr;
 
 /// What a literal allows in its escapes, and of other characters in its body.
@@ -276,31 +275,22 @@ pub fn hex_digits(bytes: &[u8]) -> HexDigits
 {
     let mut count: usize = 0;
     let mut value = 0;
-    let mut len = 0;
-    while len < bytes.len() {
-        if bytes[len] == b'_' {
-            len += 1 + underscores_len(&bytes[len + 1..]);
+    for (len, byte) in bytes.iter().enumerate() {
+        if *byte == b'_' {
             continue;
         }
-        match hex_digit_value(bytes[len]) {
+        match hex_digit_value(*byte) {
             Some(digit) if count < 6 => {
                 count += 1;
                 value = 16 * value + u32::from(digit);
-                len += 1;
             }
             _ => return HexDigits { len, value },
         }
     }
-    HexDigits { len, value }
-}
-
-/// How many underscores stand at the front.
-#[inline(never)]
-fn underscores_len(bytes: &[u8]) -> usize
-    ensures count { result ≡ prefix_len (λ c. c == underscore) bytes.now }
-    ensures within { result ≤ length bytes.now }
-{
-    run_end(bytes, Run::Underscores)
+    HexDigits {
+        len: bytes.len(),
+        value,
+    }
 }
 
 /// The escape of a text that begins with `\u{`, hex digits and `}`.

@@ -1,20 +1,15 @@
--- Underscores, or one more digit.
-use Rattle.std.proofs.Common.{◌≡◌, ◌+◌, ◌-◌, ◌≤◌, ℕ, length, take, drop, cond, get_or, ap, ◌∙◌, arith, refl}
-use Rattle.std.specs.Prelude.{◌==◌}
-use Rattle.std.specs.List.{prefix_len}
-use Rattle.std.proofs.lemmas.List.{length-drop, take_all}
+-- One more byte: an underscore, or a digit.
+use Rattle.std.proofs.Common.{◌≡◌, ℕ, cond, get_or, ap, arith, refl}
 use Rattle.std.specs.Char.{is_ascii_hexdigit}
 use Rattle.std.proofs.lemmas.Grind.{pow_more}
 use Rattle.std.proofs.lemmas.Bool.{or_left}
 use Rattle.litrs_grammar.specs.Escape.{is_hex_or_underscore}
 use Rattle.litrs_parts.proofs.NumeralLemmas.{numeral-nil, numeral_digit}
 use Rattle.litrs_parts.proofs.HexDigitBytes.{six_digits, digit_small, all_more, count_one}
-use Rattle.litrs_parts.proofs.UnderscoreRuns.{underscores_more}
 use Rattle.litrs_parts.proofs.escape.hex_digits.Goals as goal
 
 pub loop-len-init : goal.loop-len-init
 loop-len-init c = record {
-  within = omega arith;
   passes = refl;
   count = refl;
   few = omega arith;
@@ -47,31 +42,10 @@ loop-len-preserved c =
     let power = pow_more 16 c.loop-len.count in
     let all = c.loop-len.invariant.count in
     record {
-      within = omega arith;
       passes = all_more is_hex_or_underscore t i c.loop-len-test.true c.loop-len.invariant.passes (or_left _ _ hex);
       count = (let one : cond {A = ℕ} (is_ascii_hexdigit b) 1 0 ≡ 1 = ap (λ v. cond {A = ℕ} v 1 0) hex in
           let more = count_one is_ascii_hexdigit t i c.loop-len-test.true in omega arith);
       few = omega arith;
-      value = (let more = numeral_digit 16 t i c.loop-len-test.true c.if-bytes-len-eq95.false in omega arith);
+      value = (let more = numeral_digit 16 t i c.loop-len-test.true c.if-byte-eq95.false in omega arith);
       small = omega arith;
-    }
-
-pub loop-len-preserved-then-bytes-len-eq95 : goal.loop-len-preserved-then-bytes-len-eq95
-loop-len-preserved-then-bytes-len-eq95 c =
-    let t = c.args.bytes.now in
-    let i = c.loop-len.len in
-    let k = c.underscores_len.result in
-    let before = c.loop-len.invariant in
-    let size = length-drop (i + 1) t in
-    let rest : take (length t - (i + 1)) (drop (i + 1) t) ≡ drop (i + 1) t = take_all (length t - (i + 1)) (drop (i + 1) t) (omega (arith, size)) in
-    let run : k ≡ prefix_len (λ b. b == 95) (drop (i + 1) t) = c.underscores_len.ensures.count ∙ ap (prefix_len (λ b. b == 95)) rest in
-    let inside : i + 1 + k ≤ length t = omega (arith, c.underscores_len.ensures.within, ap length rest, size) in
-    let more = underscores_more t i k inside c.if-bytes-len-eq95.true run in
-    record {
-      within = omega arith;
-      passes = more.passes before.passes;
-      count = more.count ∙ before.count;
-      few = before.few;
-      value = more.value ∙ before.value;
-      small = before.small;
     }
