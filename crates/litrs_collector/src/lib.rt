@@ -176,11 +176,7 @@ fn read_held(held: &mut String) -> Result<Step, AllocError>
 /// Adds a line to the text that is held, and an LF where a string is then known to go on after it:
 /// true if one is. After an error the text may have some of the line at its end.
 #[inline(always)]
-fn push_line(
-    held: &mut String,
-    known: &mut Option<Open>,
-    line: &str,
-) -> Result<bool, AllocError>
+fn push_line(held: &mut String, known: &mut Option<Open>, line: &str) -> Result<bool, AllocError>
     requires { IsKnown (string_bytes held.old) known.old }
     ensures goes_on { IfOk result (λ goes_on. IsTrue goes_on →
         IsUnfinished (string_bytes held.old ++ line.now)
