@@ -7,9 +7,10 @@ import html
 import math
 import re
 import sys
+import textwrap
 
 # Kind, shape, bytes, our time, upstream's, their ratio.
-ROW = re.compile(r"^ {4}(.{11})(.+?)\s+([\d.]+)\s+([\d.]+)\s+([\d.]+)\s+([\d.]+)\s")
+ROW = re.compile(r"^(.{11})(.+?)\s+([\d.]+)\s+([\d.]+)\s+([\d.]+)\s+([\d.]+)\s")
 TOP, STEP, LEFT, WIDTH, LOW, HIGH = 46, 15, 290, 560, 1, 1e7
 OURS, UPSTREAM, AXIS, INK = "#1f6f50", "#b5651d", "#d8d8d8", "#222222"
 
@@ -55,7 +56,7 @@ def marks(rows):
 
 
 def main():
-    rows = rows_of(sys.stdin.read().split("\n"))
+    rows = rows_of(textwrap.dedent(sys.stdin.read()).split("\n"))
     bottom = TOP + STEP * len(rows) + 4
     size = f'width="{LEFT + WIDTH + 30}" height="{bottom + 8}"'
     print(f'<svg xmlns="http://www.w3.org/2000/svg" {size} font-family="sans-serif" font-size="11">')
