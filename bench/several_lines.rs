@@ -5,7 +5,7 @@ use std::hint::black_box;
 use std::time::Instant;
 
 /// Rounds over a text.
-const ROUNDS: usize = 20;
+const ROUNDS: usize = 60;
 
 /// The most that the time may grow by where there are twice as many lines.
 const MOST_GROWTH: f64 = 2.2;
@@ -51,15 +51,15 @@ fn least(call: Call, text: &str, calls: usize) -> f64 {
 /// that is parsed as a literal by itself. The time that splitting the text takes is taken off.
 pub fn main() {
     println!("\nNanoseconds a line of `feed` of 10,000, 20,000 and 40,000 lines of one literal, less those of splitting");
-    println!("the text alone; the most growth of all by a step; a `parse` of one line alone as a literal; the ratio; a");
-    println!("line's share of a `parse` of the whole; splitting. The least of {ROUNDS} rounds.");
+    println!("the text alone; by how much the whole, with splitting, grows at most by a step; a `parse` of one line alone");
+    println!("as a literal; the ratio; a line's share of a `parse` of the whole; splitting. The least of {ROUNDS} rounds.");
     for shape in SHAPES {
         let texts = COUNTS.map(|lines| text_of(*shape, lines));
         assert_eq!(answer(ours::feed, &texts[0]), answer(ours::parse, &texts[0]), "{}", shape.0);
         let split = texts.each_ref().map(|text| least(ours::split, text, 1));
         let whole = texts.each_ref().map(|text| least(ours::feed, text, 1));
         let times: Vec<f64> = whole.iter().zip(split).map(|(whole, split)| whole - split).collect();
-        let growth = (times[1] / times[0]).max(times[2] / times[1]);
+        let growth = (whole[1] / whole[0]).max(whole[2] / whole[1]);
         let alone = least(ours::parse, &text_of(*shape, 1), 1000) / 1000.0;
         let share = least(ours::parse, &texts[2], 1) / COUNTS[2] as f64;
         print!("String     {:<32}", shape.0);
