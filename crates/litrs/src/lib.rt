@@ -201,8 +201,8 @@ impl<B: Text> Literal<B> {
         }
     }
 
-    /// The same for one that begins as a raw string. It is not inlined: with all strings in it twice,
-    /// `parse` was not inlined, and each text took 9 ns more.
+    /// The same for one that begins as a raw string. It is not inlined: with all strings in it
+    /// twice, `parse` was not inlined, and each text took 9 ns more.
     #[inline(never)]
     fn parse_raw_string(
         alloc: Global,

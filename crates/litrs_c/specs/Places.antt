@@ -14,7 +14,8 @@ nowhere = record { start = 0; end = 0 }
 abbrev pub place_of : ℕ → List ℕ → Place
 place_of start part = record { start = start; end = start + byte_len part }
 
--- the digits of an integer, which follow its prefix, or the integer part of a float, which begins it
+-- the digits of an integer, which follow its prefix, or the integer part of a float, which stands
+-- first
 abbrev pub main_place : Derivation → Place
 main_place (an_integer d) = place_of (length (prefix d.base)) d.main
 main_place (a_float d) = place_of 0 d.integer

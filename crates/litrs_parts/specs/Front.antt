@@ -41,8 +41,8 @@ row_of front.Other bytes =
     if begins_with (codes "c") bytes then parsed_as c_string_literal
     else refused_as (plain InvalidLiteral)
 
--- The bytes begin so, or are so. The dispatch has one row for all texts that begin with `c`; those of
--- them that begin with neither front of a C string begin as no literal.
+-- The bytes begin so, or are so. The dispatch has one row for all texts that begin with `c`; those
+-- of them that begin with neither front of a C string begin as no literal.
 abbrev pub BeginsAs : Front → List ℕ → Type 0
 BeginsAs front.Empty bytes = IsTrue (is_empty bytes)
 BeginsAs (front.Bool value) bytes = bytes ≡ bool_text value
