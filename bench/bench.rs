@@ -511,6 +511,23 @@ fn head() {
     }
 }
 
+/// A kind, a shape, whether its literals have values, and its texts.
+type Row<'a> = (&'a str, &'a str, Texts, Vec<&'a str>);
+
+/// The least times of each row, whose answers are compared first.
+fn times_of(rows: &[Row]) -> Vec<[f64; CALLS.len()]> {
+    for (_, _, shape, texts) in rows {
+        compare(texts, *shape);
+    }
+    let mut times = vec![[f64::INFINITY; CALLS.len()]; rows.len()];
+    for _ in 0..PASSES {
+        for (row, least) in rows.iter().zip(&mut times) {
+            time(&row.3, least);
+        }
+    }
+    times
+}
+
 fn main() {
     println!("Nanoseconds a text, the least of {} rounds over up to {TEXTS} texts a shape.", PASSES * ROUNDS);
     if cfg!(all(upstream, check_suffix)) {
@@ -527,19 +544,11 @@ fn main() {
         rows.iter().filter(|row| row.2 == Valued && row.3.len() == TEXTS).map(|row| &row.3).collect();
     let mixed = (0..TEXTS).map(|i| valued[i % valued.len()][i].clone()).collect();
     rows.push(("", "those with a value in turn", Valued, mixed));
-    let rows: Vec<(&str, &str, Texts, Vec<&str>)> = rows
+    let rows: Vec<Row> = rows
         .iter()
         .map(|(kind, name, shape, texts)| (*kind, *name, *shape, texts.iter().map(String::as_str).collect()))
         .collect();
-    for (_, _, shape, texts) in &rows {
-        compare(texts, *shape);
-    }
-    let mut times = vec![[f64::INFINITY; CALLS.len()]; rows.len()];
-    for _ in 0..PASSES {
-        for (row, least) in rows.iter().zip(&mut times) {
-            time(&row.3, least);
-        }
-    }
+    let times = times_of(&rows);
     head();
     let mut slower = Vec::new();
     for ((kind, name, shape, texts), times) in rows.iter().zip(&times) {

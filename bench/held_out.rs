@@ -2,7 +2,7 @@
 //! literals of given lengths.
 
 use crate::Texts::{Refused, Valued};
-use crate::{CALLS, Numbers, PASSES, Texts, compare, row, time};
+use crate::{Numbers, Row, Texts, row, times_of};
 
 /// The texts of a shape of one size, and the bytes that they have at most, together.
 const TEXTS: usize = 1000;
@@ -115,19 +115,11 @@ pub fn main() {
             rows.push((*kind, format!("{name} {size}"), *shape, texts_of(place, *size)));
         }
     }
-    let rows: Vec<(&str, &str, Texts, Vec<&str>)> = rows
+    let rows: Vec<Row> = rows
         .iter()
         .map(|(kind, name, shape, texts)| (*kind, name.as_str(), *shape, texts.iter().map(String::as_str).collect()))
         .collect();
-    for (_, _, shape, texts) in &rows {
-        compare(texts, *shape);
-    }
-    let mut times = vec![[f64::INFINITY; CALLS.len()]; rows.len()];
-    for _ in 0..PASSES {
-        for (row, least) in rows.iter().zip(&mut times) {
-            time(&row.3, least);
-        }
-    }
+    let times = times_of(&rows);
     let mut slower = 0;
     for ((kind, name, shape, texts), times) in rows.iter().zip(&times) {
         slower += row(kind, name, *shape, texts, times).len();
