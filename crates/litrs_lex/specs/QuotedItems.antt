@@ -1,5 +1,5 @@
 -- The items of a quoted body in the bytes of a text.
-use Rattle.std.specs.Prelude.{◌≡◌, ◌⊎◌, ℕ, ◌+◌, ◌≤◌, ◌<◌, ◌==◌, List, [], ◌++◌, length, drop, take, Option, Some, None, IfSome, IsTrue, IsFalse}
+use Rattle.std.specs.Prelude.{◌≡◌, ◌⊎◌, ℕ, Bool, true, not, ◌+◌, ◌≤◌, ◌<◌, ◌==◌, List, [], ◌++◌, length, drop, take, Option, Some, None, IfSome, IsTrue, IsFalse}
 use Rattle.std.specs.List.{list_all}
 use Rattle.std.specs.Str.{chars, IsCharBoundary}
 use Rattle.litrs_base.specs.declared.escape.Unescape.{Unescape}
@@ -8,8 +8,15 @@ use Rattle.litrs_base.specs.Refusal.{Refusal}
 use Rattle.litrs_base.specs.Text.{byte_len, first_passes}
 use Rattle.litrs_grammar.specs.Escape.{Switches, value_bytes}
 use Rattle.litrs_grammar.specs.Quoted.{Item, item_text, item_value, is_item, is_taken_before, is_plain, body_text, body_value, stand_before, rest_refusal}
+use Rattle.litrs_search.specs.declared.search.Special.{Special}
 use Rattle.litrs_lex.specs.Container.{is_pushable}
 use Rattle.litrs_lex.specs.declared.quoted.ItemsEnd.{ItemsEnd}
+
+-- The bytes beside `"` and CR at which the plain characters of a body end. Where only ASCII is
+-- allowed, each byte above 7F is one.
+abbrev pub stops : (unicode allow_nul : Bool) → Special
+stops unicode allow_nul =
+    record { backslash = true; nul = not allow_nul; non_ascii = not unicode }
 
 -- From the one place up to the other stand characters that stand for themselves, and after them
 -- none.

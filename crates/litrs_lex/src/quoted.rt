@@ -7,13 +7,14 @@ ghost use Rattle.litrs_base.specs.Refusal.{refusal_of, HasCharSpan};
 ghost use Rattle.litrs_base.specs.Text.{first_passes};
 ghost use Rattle.litrs_grammar.specs.Quoted.{QuotedParts, IsQuoted, body_value, is_plain, without_last, rest_refusal};
 ghost use Rattle.litrs_lex.specs.QuotedCut.{IsQuotedCut, IsQuotedRefused};
-ghost use Rattle.litrs_lex.specs.QuotedItems.{IsPlainRun, IsItemAt, IsItemsEnd, EndsItems, item_bytes};
+ghost use Rattle.litrs_lex.specs.QuotedItems.{IsPlainRun, IsItemAt, IsItemsEnd, EndsItems, item_bytes, stops};
+ghost use Rattle.litrs_search.specs.Marked.{IsMarked};
 ghost use Rattle.litrs_parts.specs.Unescaped.{switches, grammar_switches};
 
-use crate::short_value::ShortValue;
+use crate::short_value::{SHORT, ShortValue};
 use litrs_base::{ParseError, ParseErrorKind, Unescape};
 use litrs_parts::{Switches, check_suffix, unescape_with};
-use litrs_search::{Run, Special, next_special, run_end};
+use litrs_search::{Marked, Run, Special, next_marked, run_end};
 
 /// Where a quoted literal is cut: sizes and places in bytes.
 #[derive(Clone, Copy, Debug, PartialEq, Eq)]
@@ -141,7 +142,7 @@ pub fn items_end_with(input: &str, offset: usize, allowed: Switches) -> ItemsEnd
             value_len: place - offset,
         }
     } else {
-        let mut value = ShortValue::unused();
+        let mut value = ShortValue::<SHORT>::unused();
         more_items_end(input, offset, place, allowed, &mut value)
     }
 }
@@ -168,7 +169,7 @@ fn piece_end<const UNICODE: bool, const ALLOW_NUL: bool>(input: &str, from: usiz
     ensures { (byte_escapes : Bool) →
         IsPlainRun (switches UNICODE byte_escapes ALLOW_NUL) input.now from result }
 {
-    plain_end(input, from, UNICODE, ALLOW_NUL)
+    plain_end(input, from, UNICODE, ALLOW_NUL, Marked::nothing_at(from)).0
 }
 
 /// Whether no backslash begins a text that begins with no plain character: then no item does.
@@ -190,12 +191,12 @@ pub(crate) fn ends_items(rest: &str, allowed: Switches) -> bool
 ///
 /// There is one piece for each kind of literal, as of [`first_plain_end`].
 #[inline(always)]
-pub(crate) fn more_items_end(
+pub(crate) fn more_items_end<const ROOM: usize>(
     input: &str,
     offset: usize,
     from: usize,
     allowed: Switches,
-    value: &mut ShortValue,
+    value: &mut ShortValue<ROOM>,
 ) -> ItemsEnd
     requires at { IsCharBoundary input.now offset }
     requires run { IsPlainRun (grammar_switches allowed) input.now offset from }
@@ -208,21 +209,27 @@ pub(crate) fn more_items_end(
 {
     let byte_escapes = allowed.byte_escapes;
     match (allowed.unicode, allowed.allow_nul) {
-        (true, true) => read_items::<true, true>(input, offset, from, byte_escapes, value),
-        (true, false) => read_items::<true, false>(input, offset, from, byte_escapes, value),
-        (false, true) => read_items::<false, true>(input, offset, from, byte_escapes, value),
-        (false, false) => read_items::<false, false>(input, offset, from, byte_escapes, value),
+        (true, true) => read_items::<true, true, ROOM>(input, offset, from, byte_escapes, value),
+        (true, false) => read_items::<true, false, ROOM>(input, offset, from, byte_escapes, value),
+        (false, true) => read_items::<false, true, ROOM>(input, offset, from, byte_escapes, value),
+        (false, false) => read_items::<false, false, ROOM>(
+            input,
+            offset,
+            from,
+            byte_escapes,
+            value,
+        ),
     }
 }
 
 /// [`more_items_end`], from item to item.
 #[inline(never)]
-fn read_items<const UNICODE: bool, const ALLOW_NUL: bool>(
+fn read_items<const UNICODE: bool, const ALLOW_NUL: bool, const ROOM: usize>(
     input: &str,
     offset: usize,
     from: usize,
     byte_escapes: bool,
-    value: &mut ShortValue,
+    value: &mut ShortValue<ROOM>,
 ) -> ItemsEnd
     requires at { IsCharBoundary input.now offset }
     requires run { IsPlainRun (switches UNICODE byte_escapes ALLOW_NUL) input.now offset from }
@@ -238,6 +245,7 @@ fn read_items<const UNICODE: bool, const ALLOW_NUL: bool>(
         byte_escapes,
         allow_nul: ALLOW_NUL,
     };
+    let mut marked = Marked::nothing_at(from);
     let mut at = offset;
     let mut place = from;
     let mut value_len = 0;
@@ -249,19 +257,32 @@ fn read_items<const UNICODE: bool, const ALLOW_NUL: bool>(
                 value.push(item.value);
                 value_len += item.value_len();
                 at = place + item.len;
-                place = plain_end(input, at, UNICODE, ALLOW_NUL);
+                let next = plain_end(input, at, UNICODE, ALLOW_NUL, marked);
+                place = next.0;
+                marked = next.1;
             }
             None => return ItemsEnd { place, value_len },
         }
     }
 }
 
-/// Where the plain characters end that stand from `from` on.
+/// Where the plain characters end that stand from `from` on, and what is marked then of the bytes
+/// that a search stops at.
 #[inline(always)]
-pub(crate) fn plain_end(input: &str, from: usize, unicode: bool, allow_nul: bool) -> usize
-    requires { IsCharBoundary input.now from }
-    ensures { (byte_escapes : Bool) →
-        IsPlainRun (switches unicode byte_escapes allow_nul) input.now from result }
+pub(crate) fn plain_end(
+    input: &str,
+    from: usize,
+    unicode: bool,
+    allow_nul: bool,
+    marked: Marked,
+) -> (usize, Marked)
+    requires at { IsCharBoundary input.now from }
+    requires after { marked.start ≤ from }
+    requires marked { IsMarked (stops unicode allow_nul) input.now marked }
+    ensures run { (byte_escapes : Bool) →
+        IsPlainRun (switches unicode byte_escapes allow_nul) input.now from result.0 }
+    ensures after { result.1.start ≤ result.0 }
+    ensures marked { IsMarked (stops unicode allow_nul) input.now result.1 }
 {
     let what = Special {
         backslash: true,
@@ -271,8 +292,8 @@ pub(crate) fn plain_end(input: &str, from: usize, unicode: bool, allow_nul: bool
     let bytes = input.as_bytes();
     match bytes.get(from) {
         // One escape follows another.
-        Some(b'\\') => from,
-        _ => next_special(bytes, from, what),
+        Some(b'\\') => (from, marked),
+        _ => next_marked(bytes, from, what, marked),
     }
 }
 

@@ -2,20 +2,27 @@
 ghost use Rattle.std.specs.Prelude.{◌≡◌, ◌≤◌, ◌+◌, ◌-◌, ◌++◌, [], length, take, drop, IsFalse};
 ghost use Rattle.litrs_lex.specs.QuotedItems.{item_bytes};
 ghost use Rattle.litrs_lex.specs.ShortValue.{Short, Takes};
-ghost use Rattle.litrs_lex.specs.declared.short_value.TheConstants.{ROOM};
 
 use litrs_base::Unescape;
 use std::marker::Model;
 
-/// How many bytes there is room for.
-const ROOM: usize = 80;
+/// How many bytes there is room for beside a text that is as short.
+pub(crate) const SHORT: usize = 80;
+
+/// The same beside longer texts. Room is set to zero before a value is put together, so that less
+/// is better where less serves.
+pub(crate) const LONG: usize = 1024;
+
+/// The most room. A value that is longer is read twice.
+pub(crate) const LONGEST: usize = 8192;
 
 /// The length in bytes of the one copy that serves for each run of at most so many bytes.
 const MOVED: usize = 16;
 
-/// The bytes of a value, put together without an allocation while there is room for them.
+/// The bytes of a value, put together without an allocation while there is room for them: for
+/// `ROOM` bytes.
 #[derive(Drop)]
-pub(crate) struct ShortValue {
+pub(crate) struct ShortValue<const ROOM: usize> {
     /// The bytes, and after them what may be written over.
     room: [u8; ROOM],
     /// How many bytes there are.
@@ -24,7 +31,7 @@ pub(crate) struct ShortValue {
     is_whole: bool,
 }
 
-impl Model for ShortValue {
+impl<const ROOM: usize> Model for ShortValue<ROOM> {
     ghost Value = { Short };
 
     ghost view = { λ s. record { bytes = take s.len s.room; is_whole = s.is_whole } };
@@ -32,10 +39,10 @@ impl Model for ShortValue {
     ghost invariant = { λ s. s.len ≤ ROOM };
 }
 
-impl ShortValue {
+impl<const ROOM: usize> ShortValue<ROOM> {
     /// An empty one.
     #[inline(always)]
-    pub(crate) fn new() -> ShortValue
+    pub(crate) fn new() -> ShortValue<ROOM>
         ensures { result.bytes ≡ [] }
     {
         ShortValue {
@@ -47,7 +54,7 @@ impl ShortValue {
 
     /// One that is not whole, where the bytes are not asked for.
     #[inline(always)]
-    pub(crate) fn unused() -> ShortValue
+    pub(crate) fn unused() -> ShortValue<ROOM>
         ensures { IsFalse result.is_whole }
     {
         ShortValue {
@@ -80,7 +87,7 @@ impl ShortValue {
         ensures { Takes self.old self.new (take (end - start) (drop start text.now)) }
     {
         let count = end - start;
-        if count <= MOVED && text.len() - start >= MOVED && self.len <= ROOM - MOVED {
+        if count <= MOVED && text.len() - start >= MOVED && ROOM - self.len >= MOVED {
             // A move of a fixed length costs less than one of as many bytes as there are.
             copy_at(&mut self.room, self.len, &text[start..start + MOVED]);
             self.len += count;
@@ -125,8 +132,8 @@ impl ShortValue {
 
 /// Copies bytes over those from a place on.
 #[inline(always)]
-fn copy_at(room: &mut [u8; ROOM], place: usize, bytes: &[u8])
-    requires { place + length bytes.now ≤ ROOM }
+fn copy_at(room: &mut [u8], place: usize, bytes: &[u8])
+    requires { place + length bytes.now ≤ length room.old }
     ensures { take (place + length bytes.now) room.new ≡ take place room.old ++ bytes.now }
 {
     room[place..place + bytes.len()].copy_from_slice(bytes);

@@ -5,15 +5,17 @@ ghost use Rattle.litrs_grammar.specs.Quoted.{QuotedParts, IsQuoted, body_value};
 ghost use Rattle.litrs_lex.specs.Container.{is_pushable};
 ghost use Rattle.litrs_lex.specs.QuotedItems.{IsPlainRun, item_bytes};
 ghost use Rattle.litrs_lex.specs.QuotedCut.{IsQuotedRefused, IsQuotedValue, IsQuotedOutOfMemory};
+ghost use Rattle.litrs_lex.specs.declared.short_value.TheConstants.{LONGEST};
 ghost use Rattle.litrs_parts.specs.Unescaped.{switches, grammar_switches};
 
 use crate::container::EscapeContainer;
 use crate::quoted::{
     ItemsEnd, cut_at_end, ends_items, first_plain_end, more_items_end, next_item, plain_end,
 };
-use crate::short_value::ShortValue;
+use crate::short_value::{LONG, LONGEST, SHORT, ShortValue};
 use litrs_base::{ParseError, ParseErrorKind, Unescape};
 use litrs_parts::Switches;
+use litrs_search::Marked;
 use std::alloc::{AllocError, Global};
 
 /// Unescapes a quoted literal whose body begins at `offset`: the value, where the body has a
@@ -65,7 +67,8 @@ pub fn unescape_string<C: EscapeContainer>(
     }
 }
 
-/// [`unescape_string`] of a body whose plain characters at its front end at `from`.
+/// [`unescape_string`] of a body whose plain characters at its front end at `from`. There is room
+/// for values that are as long as the text, up to a limit.
 #[inline(never)]
 fn unescape_more<C: EscapeContainer>(
     alloc: Global,
@@ -84,7 +87,37 @@ fn unescape_more<C: EscapeContainer>(
         IsQuotedRefused (grammar_switches allowed) input.now offset e
         ⊎ IsQuotedOutOfMemory (grammar_switches allowed) input.now offset e) }
 {
-    let mut short = ShortValue::new();
+    let len = input.len();
+    if len <= SHORT {
+        unescape_within::<C, SHORT>(alloc, input, offset, from, allowed)
+    } else if len <= LONG {
+        unescape_within::<C, LONG>(alloc, input, offset, from, allowed)
+    } else {
+        unescape_within::<C, LONGEST>(alloc, input, offset, from, allowed)
+    }
+}
+
+/// [`unescape_more`] with room for values of so many bytes; longer ones are read twice.
+#[inline(never)]
+fn unescape_within<C: EscapeContainer, const ROOM: usize>(
+    alloc: Global,
+    input: &str,
+    offset: usize,
+    from: usize,
+    allowed: Switches,
+) -> Result<(Option<C>, usize), ParseError>
+    requires at { IsCharBoundary input.now offset }
+    requires run { IsPlainRun (grammar_switches allowed) input.now offset from }
+    requires fits { IsTrue (not allowed.byte_escapes || C.TAKES_BYTES) }
+    requires room { ROOM ≤ LONGEST }
+    ensures ok { IfOk result (λ read.
+        IsQuotedValue (grammar_switches allowed) input.now offset
+        (option_map C.contents read.0) read.1) }
+    ensures refused { IfErr result (λ e.
+        IsQuotedRefused (grammar_switches allowed) input.now offset e
+        ⊎ IsQuotedOutOfMemory (grammar_switches allowed) input.now offset e) }
+{
+    let mut short = ShortValue::<ROOM>::new();
     let end = more_items_end(input, offset, from, allowed, &mut short);
     let cut = cut_at_end(input, offset, end, allowed)?;
     if !cut.has_escape {
@@ -118,8 +151,8 @@ fn copy_short<C: EscapeContainer>(alloc: Global, bytes: &[u8], room: usize) -> R
 }
 
 /// The value of the quoted literal whose body begins at `offset`, in a container with room for this
-/// many bytes.
-#[inline(never)]
+/// many bytes. There is one piece for each kind of literal.
+#[inline(always)]
 fn copy_value<C: EscapeContainer>(
     alloc: Global,
     input: &str,
@@ -134,11 +167,43 @@ fn copy_value<C: EscapeContainer>(
         (chars input.now) q →
         C.contents value ≡ body_value q.items) }
 {
+    let bytes = allowed.byte_escapes;
+    match (allowed.unicode, allowed.allow_nul) {
+        (true, true) => copy_items::<C, true, true>(alloc, input, offset, room, bytes),
+        (true, false) => copy_items::<C, true, false>(alloc, input, offset, room, bytes),
+        (false, true) => copy_items::<C, false, true>(alloc, input, offset, room, bytes),
+        (false, false) => copy_items::<C, false, false>(alloc, input, offset, room, bytes),
+    }
+}
+
+/// [`copy_value`], from item to item.
+#[inline(never)]
+fn copy_items<C: EscapeContainer, const UNICODE: bool, const ALLOW_NUL: bool>(
+    alloc: Global,
+    input: &str,
+    offset: usize,
+    room: usize,
+    byte_escapes: bool,
+) -> Result<C, AllocError>
+    requires at { IsCharBoundary input.now offset }
+    requires fits { IsTrue (not byte_escapes || C.TAKES_BYTES) }
+    ensures { IfOk result (λ value. (q : QuotedParts) →
+        IsQuoted (chars (take offset input.now)) (switches UNICODE byte_escapes ALLOW_NUL)
+        (chars input.now) q →
+        C.contents value ≡ body_value q.items) }
+{
+    let allowed = Switches {
+        unicode: UNICODE,
+        byte_escapes,
+        allow_nul: ALLOW_NUL,
+    };
     let mut value = C::new(alloc);
     value.reserve(room)?;
     let mut at = offset;
+    let mut marked = Marked::nothing_at(offset);
     loop {
-        let end = plain_end(input, at, allowed.unicode, allowed.allow_nul);
+        let (end, next) = plain_end(input, at, UNICODE, ALLOW_NUL, marked);
+        marked = next;
         push_run(&mut value, &input[at..end])?;
         match next_item(&input[end..], allowed) {
             Some(item) => {

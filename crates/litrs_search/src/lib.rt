@@ -3,8 +3,10 @@
 #![tactic(auto)]
 
 pub use closing::next_closing;
+pub use marked::{Marked, next_marked};
 pub use search::{Run, Special, next_special, run_end};
 
 pub mod closing;
 mod lanes;
+pub mod marked;
 pub mod search;

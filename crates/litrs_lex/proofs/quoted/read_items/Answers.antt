@@ -11,6 +11,8 @@ loop-item-init g c = (
   omega arith,
   short_start _ c.args.input.now _ c.args.value.now c.utf8.input c.requires.at c.requires.empty,
   c.requires.run,
+  (let run = c.requires.run in let size = run.size in let start = c.nothing_at-marked.ensures.start in omega arith),
+  c.nothing_at-marked.ensures.marked _ _ c.requires.run.boundary.0,
 )
 
 pub loop-item-preserved : goal.loop-item-preserved
@@ -25,8 +27,16 @@ loop-item-preserved g c =
           (short_run _ _ _ c.args.input.now _ _ _ _ _ _ _ c.utf8.input c.loop-item.invariant.0 run
           (ap (λ (l : List ℕ). take (c.loop-item.place - c.loop-item.at) (drop c.loop-item.at l)) c.as_bytes.ensures.value)
           c.push_run.ensures refl c.loop-item.invariant.2),
-      c.plain_end-place.ensures c.args.byte_escapes,
+      c.plain_end-next.ensures.run c.args.byte_escapes,
+      c.plain_end-next.ensures.after,
+      c.plain_end-next.ensures.marked,
     )
+
+pub plain_end-next-requires-clause-after : goal.plain_end-next-requires-clause-after
+plain_end-next-requires-clause-after g c = let before = c.loop-item.invariant.4 in omega arith
+
+pub plain_end-next-requires-clause-marked : goal.plain_end-next-requires-clause-marked
+plain_end-next-requires-clause-marked g c = c.loop-item.invariant.5
 
 pub returns-in-None : goal.returns-in-None
 returns-in-None g c =

@@ -5,8 +5,8 @@ use Rattle.litrs_lex.specs.ShortValue.{Short}
 use Rattle.litrs_lex.proofs.ShortValues.{run_moved}
 use Rattle.litrs_lex.proofs.short_value.ShortValue.push_run.Goals as goal
 
-pub returns-then-self : goal.returns-then-self
-returns-then-self c =
+pub returns-then-self-ge-MOVED : goal.returns-then-self-ge-MOVED
+returns-then-self-ge-MOVED g c =
     let before = take c.self.inside.len c.self.inside.room in
     let fits = c.self.invariant in let told = c.self.told in
     let held : before ≡ c.args.self.now.bytes = ap (λ (s : Short). s.bytes) c.self.view_is in

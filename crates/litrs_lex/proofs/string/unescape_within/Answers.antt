@@ -4,8 +4,8 @@ use Rattle.std.specs.Str.{IsUtf8}
 use Rattle.std.proofs.lemmas.Result.{IfOk-at_ok}
 use Rattle.litrs_lex.proofs.QuotedValues.{room_fits, true_by}
 use Rattle.litrs_lex.proofs.ShortValues.{short_is_utf8}
-use Rattle.litrs_lex.proofs.string.unescape_more.Goals as goal
-use Rattle.litrs_lex.proofs.string.unescape_more.Goals.{then-is_whole, else-is_whole}
+use Rattle.litrs_lex.proofs.string.unescape_within.Goals as goal
+use Rattle.litrs_lex.proofs.string.unescape_within.Goals.{then-is_whole, else-is_whole}
 
 pub overflow_add-room : goal.overflow_add-room
 overflow_add-room g c =
@@ -39,3 +39,12 @@ returns-in-Err-clause-refused g c = inr (record {
   has_escape = sym (true_by c.in_ok-cut.cut.has_escape c.if-not-cut.false);
   error = c.new.ensures.refusal;
 })
+
+pub new-short-requires : goal.new-short-requires
+new-short-requires g c = let small = c.requires.room in omega arith
+
+pub is_whole-requires : goal.is_whole-requires
+is_whole-requires g c = let small = c.requires.room in omega arith
+
+pub as_bytes-requires : goal.as_bytes-requires
+as_bytes-requires g c = let small = c.requires.room in omega arith

@@ -1,0 +1,4 @@
+use Rattle.litrs_lex.proofs.quoted.piece_end.Goals as goal
+
+pub plain_end-requires-clause-marked : goal.plain_end-requires-clause-marked
+plain_end-requires-clause-marked g c = c.nothing_at.ensures.marked _ _ c.requires.0
