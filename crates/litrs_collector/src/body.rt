@@ -109,8 +109,7 @@ fn quoted_line(text: &str, kind: StringKind, place: usize) -> Option<Open>
     ensures unfinished { IfSome result (λ _. IsUnfinished text.now) }
     ensures next { IfSome result (IsOpen (text.now ++ line_feed ∷ [])) }
 {
-    let w = kind.switches();
-    let end = items_end(text, place, w.unicode, w.byte_escapes, w.allow_nul).place;
+    let end = items_end(text, place, kind.switches()).place;
     if is_escape_or_empty(&text[end..], kind) {
         Some(Open {
             kind,
