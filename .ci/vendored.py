@@ -151,9 +151,11 @@ def main():
         folder = pathlib.Path(room)
         subprocess.run(["git", "init", "-q", folder], check=True)
         vendor(folder)
-        faults = list(faults_of_copies(folder)) or faults_of_callers(folder)
+        copies = list(faults_of_copies(folder))
+        faults = copies or faults_of_callers(folder)
     print(*faults, sep="\n", end="\n" if faults else "")
-    print(f"vendored: {len(CALLERS) + 2 - len(faults)} passed, {len(faults)} failed")
+    passed = 0 if copies else len(CALLERS) + 2 - len(faults)
+    print(f"vendored: {passed} passed, {len(faults)} failed")
     return 1 if faults else 0
 
 
