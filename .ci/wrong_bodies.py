@@ -171,11 +171,22 @@ class Crate(libraries.Crate):
         return [*words, "--jobs", "1", "--incremental", str(work)]
 
 
+def messages_of(output):
+    """The lines of a check, each with the indented lines below it, by which a long message goes on."""
+    messages = []
+    for line in output.rstrip("\n").split("\n"):
+        if line.startswith("  ") and messages:
+            messages[-1] += line
+        else:
+            messages.append(line)
+    return messages
+
+
 class Answer:
     """What a check said: which functions are proved, and of which a goal is open."""
 
     def __init__(self, crate, texts, output):
-        lines = output.rstrip("\n").split("\n")
+        lines = messages_of(output)
         # (the last line counts the functions that were checked)
         self.is_verdict = lines[-1].startswith("only=")
         self.lines, self.goals, self.proved = lines, {}, set()
