@@ -3,27 +3,28 @@
 
     .ci/c_library.py
 
-At the top of the repository, after `rt ci`, over the libraries that it built: builds the static
-library of crates/litrs_c, the C program .ci/c_library.c, and a shared object for ctypes. Each row
-of the table of `litrs_vectors` that is about literals of any kind, or about what texts begin, and
-whose text has at most 65,536 bytes, has to be answered as it says by both, with the descriptions
-and marks that docs/GRAMMAR.md has; each prefix of its text, at each byte, has to be refused as not
-UTF-8 where Python does not decode it, and answered alike by both. The samples of
-crates/litrs_c/README.md have to print what stands below them.
+After `rt ci`: proves crates/litrs_c over the libraries that it left, and builds its archive, the C
+program .ci/c_library.c, and a shared object for ctypes. Each row of the table of `litrs_vectors`
+that is about literals of any kind, or about what texts begin, and whose text has at most 65,536
+bytes, has to be answered as it says by both, with the descriptions and marks that docs/GRAMMAR.md
+has; each prefix of its text, at each byte, has to be refused as not UTF-8 where Python does not
+decode it, and answered alike by both. The samples of crates/litrs_c/README.md have to print what
+stands below them.
 """
 import concurrent.futures
 import ctypes
 import dataclasses
+import os
 import pathlib
 import re
 import subprocess
 import sys
 import tempfile
 
-TOP = pathlib.Path(__file__).resolve().parent.parent
+import libraries
+from libraries import KIT, TOP
+
 CRATE = TOP / "crates/litrs_c"
-KIT = pathlib.Path(subprocess.check_output(["rt", "doc"], text=True).strip()).parent
-ARCHIVES = [CRATE / "out/liblitrs_c.a", KIT / "c/liblibc_c.a"]
 WARNINGS = ["-std=c99", "-O1", "-Wall", "-Wextra", "-Werror", "-pedantic", "-I", CRATE / "include"]
 LITERAL, REFUSED, NOT_UTF8, OUT_OF_MEMORY, NO_STRING = range(5)
 KINDS = "bool integer float char byte string bytestring cstring".split()
@@ -245,13 +246,32 @@ def faults_of(wanted, from_c, from_python):
         yield f"{refused} with every allocation refused, for {given}"
 
 
-def try_texts(folder):
+def build(folder):
+    """Proves the crate and builds its archive and a shared object. Returns the archives that a
+    program is linked with."""
+    crates = libraries.crates_of(TOP)
+    crate = crates[CRATE.name]
+    libraries.stop_unless_built(crate.below(crates))
+    archives = [folder / "liblitrs_c.a", KIT / "c/liblibc_c.a"]
+    words = libraries.words_of("build", crate, crates, "src/lib.rt")
+    words += ["--crate-type", "staticlib", "--backend", "llvm", "--toolchain", f"{KIT}/toolchain"]
+    words += ["--jobs", str(len(os.sched_getaffinity(0))), "-o", archives[0]]
+    how = {"cwd": CRATE, "stdout": subprocess.PIPE, "stderr": subprocess.STDOUT, "text": True}
+    ran = subprocess.run(words, check=False, **how)
+    if ran.returncode:
+        sys.exit(f"{ran.stdout[-2000:]}c library: its archive was not built")
+    whole = ["-Wl,--whole-archive", archives[0], "-Wl,--no-whole-archive", archives[1]]
+    subprocess.run(["cc", "-shared", "-o", folder / "liblitrs.so", *whole], check=True)
+    return archives
+
+
+def try_texts(folder, archives):
     """Tries all texts from C, and from Python by some threads at once. Returns how many there are,
     and the faults."""
     program, shared = folder / "program", folder / "liblitrs.so"
     wrap = ["-Wl,--wrap=malloc,--wrap=realloc,--wrap=free"]
     source = TOP / ".ci/c_library.c"
-    subprocess.run(["cc", *WARNINGS, *wrap, "-o", program, source, *ARCHIVES], check=True)
+    subprocess.run(["cc", *WARNINGS, *wrap, "-o", program, source, *archives], check=True)
     rows = list(wanted_of_rows(kinds_of_refusals()))
     wanted = rows + list(wanted_of_prefixes(rows))
     lines = "".join(f"{it.text.hex()}\n" for it in wanted)
@@ -267,7 +287,7 @@ def try_texts(folder):
     return len(wanted), faults
 
 
-def try_samples(folder):
+def try_samples(folder, archives):
     """Runs the samples of the page of the crate. Each stands before a block with what it prints."""
     page = (CRATE / "README.md").read_text()
     blocks = re.findall(r"^```(c|python)\n(.*?)^```\n+```text\n(.*?)^```", page, re.M | re.S)
@@ -277,7 +297,7 @@ def try_samples(folder):
         run = [sys.executable, source]
         if language == "c":
             run = [folder / "sample"]
-            subprocess.run(["cc", *WARNINGS, "-o", run[0], source, *ARCHIVES], check=True)
+            subprocess.run(["cc", *WARNINGS, "-o", run[0], source, *archives], check=True)
         how = {"capture_output": True, "text": True, "check": False, "cwd": folder}
         ran = subprocess.run(run, **how)
         if (ran.stdout, ran.stderr, ran.returncode) != (printed, "", 0):
@@ -287,14 +307,11 @@ def try_samples(folder):
 
 
 def main():
-    subprocess.run(["rt", "lib"], cwd=CRATE, check=True, stdout=subprocess.DEVNULL)
     with tempfile.TemporaryDirectory(prefix="c-library-") as room:
         folder = pathlib.Path(room)
-        whole = ["-Wl,--whole-archive", ARCHIVES[0], "-Wl,--no-whole-archive", ARCHIVES[1]]
-        shared = ["cc", "-shared", "-o", folder / "liblitrs.so", *whole]
-        subprocess.run(shared, check=True)
-        number, faults = try_texts(folder)
-        faults += try_samples(folder)
+        archives = build(folder)
+        number, faults = try_texts(folder, archives)
+        faults += try_samples(folder, archives)
     print(*faults[:20], sep="\n", end="\n" if faults else "")
     print(f"c library: {number + 2 - len(faults)} passed, {len(faults)} failed")
     return 1 if faults else 0

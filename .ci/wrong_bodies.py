@@ -23,7 +23,8 @@ import subprocess
 import sys
 import tempfile
 
-KIT = pathlib.Path(subprocess.check_output(["rt", "doc"], text=True).strip()).parent
+import libraries
+
 SECONDS = 900
 
 FUNCTION = re.compile(r'\s*(?:pub(?:\(\w+\))? )?(?:(?:const|unsafe|final|extern "C") )*fn (\w+)')
@@ -150,12 +151,11 @@ def read_edit(path, originals, is_wrong=True):
     return WrongBody(path.stem, changes, owners, is_wrong)
 
 
-class Crate:
-    """A crate with its wrong bodies, and a copy of it that is checked."""
+class Crate(libraries.Crate):
+    """A crate with its wrong bodies."""
 
-    def __init__(self, line):
-        name, deps = line.split("#")[0].split(":")
-        self.name, self.deps = name.split()[0], deps.split()
+    def __init__(self, crate):
+        super().__init__(**vars(crate))
         self.folder = pathlib.Path("crates", self.name)
         sources = sorted(self.folder.glob("src/**/*.rt"))
         self.originals = {str(it.relative_to(self.folder)): it.read_text() for it in sources}
@@ -164,35 +164,29 @@ class Crate:
         if harmless.exists():
             self.bodies.append(read_edit(harmless, self.originals, is_wrong=False))
 
-    def below(self, crates):
-        """The crates of the repository that this one stands on."""
-        found = {it for it in self.deps if it in crates}
-        return sorted(found.union(*(crates[it].below(crates) for it in found)))
-
     def command(self, crates, work):
         """The words of a check of the crate, over what earlier checks left in the folder `work`."""
-        library = "main.rt" if (self.folder / "src/main.rt").exists() else "lib.rt"
-        words = [f"{KIT}/bin/rattle", "check", "--crate-name", self.name, f"src/{library}"]
-        for dep in ["std", *self.deps]:
-            top = f"{KIT}/rlibs" if dep not in crates else library_folder(dep)
-            words += ["--extern", f"{dep}={top}/{dep}.rlib"]
-        words += ["-L", f"dependency={KIT}/rlibs"]
-        for dep in self.below(crates):
-            words += ["-L", f"dependency={library_folder(dep)}"]
-        words += ["--antt-project", f"{KIT}/rattle/logic/antt-project.json"]
-        words += ["--logic-built", f"{KIT}/logic_built", "--links", f"{self.name}="]
+        root = "src/main.rt" if "src/main.rt" in self.originals else "src/lib.rt"
+        words = libraries.words_of("check", self, crates, root)
         return [*words, "--jobs", "1", "--incremental", str(work)]
 
 
-def library_folder(name):
-    return pathlib.Path("crates", name, "out/rlib").absolute()
+def messages_of(output):
+    """The lines of a check, each with the indented lines below it, by which a long message goes on."""
+    messages = []
+    for line in output.rstrip("\n").split("\n"):
+        if line.startswith("  ") and messages:
+            messages[-1] += line
+        else:
+            messages.append(line)
+    return messages
 
 
 class Answer:
     """What a check said: which functions are proved, and of which a goal is open."""
 
     def __init__(self, crate, texts, output):
-        lines = output.rstrip("\n").split("\n")
+        lines = messages_of(output)
         # (the last line counts the functions that were checked)
         self.is_verdict = lines[-1].startswith("only=")
         self.lines, self.goals, self.proved = lines, {}, set()
@@ -317,14 +311,11 @@ class Trial:
 
 
 def main(names):
-    lines = pathlib.Path("crates.txt").read_text().splitlines()
-    crates = [Crate(it) for it in lines if ":" in it.split("#")[0]]
-    crates = {it.name: it for it in crates}
-    tried = [it for it in crates.values() if it.bodies and (not names or it.name in names)]
+    crates = libraries.crates_of(libraries.TOP)
+    tried = [Crate(it) for it in crates.values() if not names or it.name in names]
+    tried = [it for it in tried if it.bodies]
     for crate in tried:
-        for dep in crate.below(crates):
-            if not (library_folder(dep) / f"{dep}.rlib").exists():
-                sys.exit(f"{dep} is not built: run rt ci first")
+        libraries.stop_unless_built(crate.below(crates))
     tried.sort(key=lambda it: -len(it.bodies) * sum(map(len, it.originals.values())))
     reports = []
     with tempfile.TemporaryDirectory(prefix="wrong-bodies-") as room:

@@ -2,20 +2,20 @@
 //!
 //! What is known of the lines that are held stays known with more lines after them, so that only
 //! the next line is read.
-ghost use Rattle.std.specs.Prelude.{◌≡◌, ◌≤◌, ◌&&◌, not, ◌∷◌, [], ◌++◌, length, drop, IfSome, IsTrue};
-ghost use Rattle.std.specs.List.{list_all, prefix_len};
+ghost use Rattle.std.specs.Prelude.{◌≡◌, ◌≤◌, ◌∷◌, [], ◌++◌, length, drop, IfSome, IsTrue};
 ghost use Rattle.std.specs.Str.{chars, IsUtf8};
-ghost use Rattle.litrs_base.specs.Characters.{line_feed, backslash, is_blank};
-ghost use Rattle.litrs_base.specs.Text.{first_passes, begins_with};
+ghost use Rattle.litrs_base.specs.Characters.{line_feed, backslash};
+ghost use Rattle.litrs_base.specs.Text.{begins_with};
 ghost use Rattle.litrs_grammar.specs.StringKind.{switches_of};
-ghost use Rattle.litrs_grammar.specs.Raw.{hashes, hash_len, is_hash, is_quote, raw_closing, raw_front};
+ghost use Rattle.litrs_grammar.specs.Raw.{raw_front};
 ghost use Rattle.litrs_lex.specs.RawCut.{IsStop};
 ghost use Rattle.litrs_parts.specs.Front.{grammar_kind};
 ghost use Rattle.litrs_collector.specs.Open.{IsEscapeOrEmpty, IsOpen, IsKnown, IsQuotedTo, IsContinuedTo, IsRawTo};
 ghost use Rattle.litrs_collector.specs.Steps.{IsUnfinished};
 
 use litrs_lex::quoted::items_end;
-use litrs_lex::{Special, next_special, unescape};
+use litrs_lex::{Run, Special, next_special, run_end, unescape};
+use litrs_parts::hashes::{MAX_HASHES, hash_len, is_inner_quote};
 use litrs_parts::{Front, StringKind};
 
 /// What goes on at a place in a string.
@@ -77,7 +77,7 @@ fn raw_opening(text: &str, kind: StringKind) -> Option<Open>
     let front = kind.front_len();
     let hashes = hash_len(&bytes[front..]);
     let opening = front + hashes;
-    if hashes > 255 || opening == bytes.len() || bytes[opening] != b'"' {
+    if hashes > MAX_HASHES || opening == bytes.len() || bytes[opening] != b'"' {
         return None;
     }
     Some(Open {
@@ -109,8 +109,7 @@ fn quoted_line(text: &str, kind: StringKind, place: usize) -> Option<Open>
     ensures unfinished { IfSome result (λ _. IsUnfinished text.now) }
     ensures next { IfSome result (IsOpen (text.now ++ line_feed ∷ [])) }
 {
-    let w = kind.switches();
-    let end = items_end(text, place, w.unicode, w.byte_escapes, w.allow_nul).place;
+    let end = items_end(text, place, kind.switches()).place;
     if is_escape_or_empty(&text[end..], kind) {
         Some(Open {
             kind,
@@ -159,7 +158,7 @@ fn continued_line(text: &str, kind: StringKind, place: usize) -> Option<Open>
     ensures unfinished { IfSome result (λ _. IsUnfinished text.now) }
     ensures next { IfSome result (IsOpen (text.now ++ line_feed ∷ [])) }
 {
-    let end = place + blanks_len(&text.as_bytes()[place..]);
+    let end = place + run_end(&text.as_bytes()[place..], Run::Blanks);
     if end == text.len() {
         Some(Open {
             kind,
@@ -207,48 +206,4 @@ fn raw_body_end(bytes: &[u8], start: usize, hashes: usize, unicode: bool, allow_
         place = next_special(bytes, place + 1, what);
     }
     place
-}
-
-/// Whether `"` stands first, with fewer hashes after it.
-fn is_inner_quote(bytes: &[u8], hashes: usize) -> bool
-    ensures { result
-        ≡ (first_passes is_quote bytes.now && not (begins_with (raw_closing hashes) bytes.now)) }
-{
-    match bytes {
-        [b'"', behind @ ..] => !begins_with_hashes(behind, hashes),
-        _ => false,
-    }
-}
-
-/// Whether so many hashes stand first.
-fn begins_with_hashes(bytes: &[u8], count: usize) -> bool
-    ensures { result ≡ begins_with (hashes count) bytes.now }
-{
-    count <= bytes.len() && are_hashes(&bytes[..count])
-}
-
-/// Whether all are hashes.
-fn are_hashes(bytes: &[u8]) -> bool
-    ensures { result ≡ list_all is_hash bytes.now }
-{
-    bytes.iter().all(|b| *b == b'#')
-}
-
-/// How many hashes stand first.
-fn hash_len(bytes: &[u8]) -> usize
-    ensures len { result ≡ hash_len bytes.now }
-    ensures within { result ≤ length bytes.now }
-{
-    bytes.iter().take_while(|b| **b == b'#').count()
-}
-
-/// How many spaces, tabs and LFs stand first.
-fn blanks_len(bytes: &[u8]) -> usize
-    ensures count { result ≡ prefix_len is_blank bytes.now }
-    ensures within { result ≤ length bytes.now }
-{
-    bytes
-        .iter()
-        .take_while(|b| matches!(**b, b' ' | b'\t' | b'\n'))
-        .count()
 }

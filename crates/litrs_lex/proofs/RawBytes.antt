@@ -1,11 +1,11 @@
 -- Raw strings: what the search in the bytes says of the characters.
-use Rattle.std.proofs.Common.{◌≡◌, ℕ, zero, suc, ◌+◌, ◌-◌, ◌<◌, ◌≤◌, Bool, true, false, cond, not, eqb, ltb, ◌&&◌, ◌||◌, List, [], ◌∷◌, ◌++◌, length, take, drop, get_or, slice_range, Option, Some, None, refl, sym, ap, subst, ◌∙◌, eq-eqb, inl, inr, arith}
+use Rattle.std.proofs.Common.{◌≡◌, ℕ, zero, suc, ◌+◌, ◌-◌, ◌<◌, ◌≤◌, Bool, true, false, cond, not, ltb, ◌&&◌, ◌||◌, List, [], ◌∷◌, ◌++◌, length, take, drop, get_or, slice_range, Option, Some, None, refl, sym, ap, subst, ◌∙◌, eq-eqb, inl, inr, arith}
 use Rattle.std.specs.Prelude.{◌==◌, if◌then◌else◌, IfSome}
 use Rattle.std.specs.declared.ops.Range.{Range}
 use Rattle.std.specs.Str.{chars, IsUtf8, IsCharBoundary}
 use Rattle.std.specs.List.{prefix_len, list_all, slice_index}
 use Rattle.std.proofs.Math.Seq.{drop-append-add}
-use Rattle.std.proofs.lemmas.Bool.{and_parts, and_from, ltb-true, ne_eqb, eqb-true, not-true, not-false, cases_Bool, cases_lt, lt-ltb, le-ltb, true≢false, false≢true}
+use Rattle.std.proofs.lemmas.Bool.{and_parts, and_from, ltb-true, ne_eqb, eqb-true, not-true, not-false, cases_lt, lt-ltb, le-ltb, true≢false, false≢true}
 use Rattle.std.proofs.lemmas.List.{length-append, length-drop, length-take-le, drop_more, drop_all, drop-drop, take_at, append_assoc, append_cancel_right, take-append-drop}
 use Rattle.std.proofs.lemmas.Str.{chars-nil, chars-append, encodes-chars, IsUtf8-take, IsUtf8-drop, IsCharBoundary-from_drop}
 use Rattle.litrs_base.specs.declared.err.ParseErrorKind.{ParseErrorKind}
@@ -545,28 +545,6 @@ none_at bytes text place same is = ap (λ k. drop k text) (is ∙ ap length same
 -- where a quote stands that the search stops at, it closes
 pub closes_there : (n : ℕ) (rest : List ℕ) → (first_passes is_quote rest && not (begins_with (raw_closing n) rest)) ≡ false → first_passes is_quote rest ≡ true → begins_with (raw_closing n) rest ≡ true
 closes_there n rest outer quote = not-false _ (ap (λ v. v && not (begins_with (raw_closing n) rest)) (sym quote) ∙ outer)
-
--- hashes at the front
-
-eqb_other_way : (a b : ℕ) → eqb a b ≡ eqb b a
-eqb_other_way a b = elim (cases_Bool (eqb a b)) [
-  | inl same ↦ same ∙ sym (eq-eqb b a (sym (eqb-true a b same)))
-  | inr other ↦ other ∙ sym (ne_eqb b a (λ e. true≢false (sym (eq-eqb a b (sym e)) ∙ other)))
-]
-
-pub hashes_front : (n : ℕ) (bs : List ℕ) → n ≤ length bs → list_all is_hash (take n bs) ≡ begins_with (hashes n) bs
-hashes_front zero bs fits = refl
-hashes_front (suc n) [] fits = absurd (omega arith)
-hashes_front (suc n) (b ∷ bs) fits = let more = hashes_front n bs (omega arith) in λ j. eqb_other_way b 35 j && more j
-
-pub hashes_longer : (n : ℕ) (bs : List ℕ) → length bs < n → begins_with (hashes n) bs ≡ false
-hashes_longer zero bs over = absurd (omega arith)
-hashes_longer (suc n) [] over = refl
-hashes_longer (suc n) (b ∷ bs) over = ap (λ v. eqb 35 b && v) (hashes_longer n bs (omega arith)) ∙ no_more (eqb 35 b)
-  where
-    no_more : (v : Bool) → (v && false) ≡ false
-    no_more true = refl
-    no_more false = refl
 
 -- The same of the bytes that the code looks at
 

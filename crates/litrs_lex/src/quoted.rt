@@ -65,7 +65,7 @@ pub fn cut_quoted(
         byte_escapes,
         allow_nul,
     };
-    let end = items_end_with(input, offset, allowed);
+    let end = items_end(input, offset, allowed);
     cut_at_end(input, offset, end, allowed)
 }
 
@@ -111,27 +111,7 @@ pub struct ItemsEnd {
 ///
 /// The place and the switches are those of [`cut_quoted`].
 #[inline(always)]
-pub fn items_end(
-    input: &str,
-    offset: usize,
-    unicode: bool,
-    byte_escapes: bool,
-    allow_nul: bool,
-) -> ItemsEnd
-    requires { IsCharBoundary input.now offset }
-    ensures { IsItemsEnd (switches unicode byte_escapes allow_nul) input.now offset result }
-{
-    let allowed = Switches {
-        unicode,
-        byte_escapes,
-        allow_nul,
-    };
-    items_end_with(input, offset, allowed)
-}
-
-/// [`items_end`] by what is allowed.
-#[inline(always)]
-pub fn items_end_with(input: &str, offset: usize, allowed: Switches) -> ItemsEnd
+pub fn items_end(input: &str, offset: usize, allowed: Switches) -> ItemsEnd
     requires { IsCharBoundary input.now offset }
     ensures { IsItemsEnd (grammar_switches allowed) input.now offset result }
 {

@@ -1,16 +1,16 @@
 //! Raw strings of the three kinds.
-ghost use Rattle.std.specs.Prelude.{◌≡◌, ◌&&◌, ◌≤◌, ◌<◌, ℕ, not, slice_index, length, drop, IsTrue, IfOk, IfErr, Some};
-ghost use Rattle.std.specs.List.{list_all};
+ghost use Rattle.std.specs.Prelude.{◌≡◌, ◌≤◌, ◌<◌, ℕ, slice_index, length, drop, IsTrue, IfOk, IfErr, Some};
 ghost use Rattle.std.specs.Str.{chars, IsUtf8, IsCharBoundary};
 ghost use Rattle.litrs_base.specs.Refusal.{refusal};
 ghost use Rattle.litrs_base.specs.Text.{first_passes, begins_with};
-ghost use Rattle.litrs_grammar.specs.Raw.{hashes, hash_len, is_hash, is_quote, raw_closing, raw_char_refusal, raw_body_refusal, raw_refusal};
+ghost use Rattle.litrs_grammar.specs.Raw.{is_quote, raw_closing, raw_char_refusal, raw_body_refusal, raw_refusal};
 ghost use Rattle.litrs_lex.specs.RawCut.{IsRawCut, IsRawRefused, IsStop, IsBodyCut, is_inner_at};
 ghost use Rattle.litrs_search.specs.Special.{is_special};
 
 use litrs_base::{ParseError, ParseErrorKind};
+use litrs_parts::hashes::{MAX_HASHES, hash_len, is_inner_quote};
 use litrs_parts::{Switches, check_suffix};
-use litrs_search::{Run, Special, next_closing, next_special, run_end};
+use litrs_search::{Special, next_closing, next_special};
 use std::ops::Range;
 
 /// Cuts the rest of a raw literal, from after its `r` on, into hashes, body and suffix.
@@ -68,7 +68,7 @@ fn cut_raw(
     if opening == bytes.len() {
         return Err((None, ParseErrorKind::InvalidLiteral));
     }
-    if hashes > 255 {
+    if hashes > MAX_HASHES {
         return Err((Some(offset..opening), ParseErrorKind::TooManyHashes));
     }
     if bytes[opening] != b'"' {
@@ -146,43 +146,6 @@ fn next_stop(bytes: &[u8], from: usize, hashes: usize, what: Special) -> usize
         next_special(bytes, from, what)
     } else {
         next_closing(bytes, from, hashes, what)
-    }
-}
-
-/// Whether `"` stands first, with fewer hashes after it.
-fn is_inner_quote(bytes: &[u8], hashes: usize) -> bool
-    ensures { result
-        ≡ (first_passes is_quote bytes.now && not (begins_with (raw_closing hashes) bytes.now)) }
-{
-    match bytes {
-        [b'"', behind @ ..] => !begins_with_hashes(behind, hashes),
-        _ => false,
-    }
-}
-
-/// Whether so many hashes stand first.
-fn begins_with_hashes(bytes: &[u8], count: usize) -> bool
-    ensures { result ≡ begins_with (hashes count) bytes.now }
-{
-    count <= bytes.len() && are_hashes(&bytes[..count])
-}
-
-/// Whether all are hashes.
-fn are_hashes(bytes: &[u8]) -> bool
-    ensures { result ≡ list_all is_hash bytes.now }
-{
-    hash_len(bytes) == bytes.len()
-}
-
-/// How many hashes stand first.
-fn hash_len(bytes: &[u8]) -> usize
-    ensures len { result ≡ hash_len bytes.now }
-    ensures within { result ≤ length bytes.now }
-{
-    match bytes {
-        // A search by lanes costs more than a comparison of each where there are few.
-        [b'#', b'#', b'#', b'#', ..] => run_end(bytes, Run::Hashes),
-        _ => bytes.iter().take_while(|b| **b == b'#').count(),
     }
 }
 

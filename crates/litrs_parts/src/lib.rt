@@ -17,6 +17,7 @@ mod bool;
 pub mod char;
 pub mod escape;
 pub mod float;
+pub mod hashes;
 pub mod integer;
 pub mod kind;
 pub mod number;

@@ -7,7 +7,7 @@ use lib.Lanes.{zip2, mask_l, top, Each1}
 use Rattle.litrs_base.specs.declared.integer.IntegerBase.TheVariants.{Binary, Octal, Decimal, Hexadecimal}
 use Rattle.litrs_search.proofs.Marks.{mark, either, both, marked}
 use Rattle.litrs_search.specs.declared.search.Run.{Run}
-use Rattle.litrs_search.specs.declared.search.Run.TheVariants.{Digits, Identifier, Underscores, Blanks, Hashes}
+use Rattle.litrs_search.specs.declared.search.Run.TheVariants.{Digits, Identifier, Blanks, Hashes}
 use Rattle.litrs_search.specs.Run.{is_in_run, last_digit, last_letter, first_other, second_other, third_other}
 
 -- a letter as a small one
@@ -27,7 +27,6 @@ found (Digits Octal) = refl
 found (Digits Decimal) = refl
 found (Digits Hexadecimal) = refl
 found Identifier = refl
-found Underscores = refl
 found Blanks = refl
 found Hashes = refl
 

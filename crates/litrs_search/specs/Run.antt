@@ -6,14 +6,13 @@ use Rattle.litrs_base.specs.Characters.{underscore, space, tab, line_feed, hash,
 use Rattle.litrs_base.specs.Base.{is_digit_or_underscore}
 use Rattle.litrs_base.specs.declared.integer.IntegerBase.TheVariants.{Binary, Octal, Decimal, Hexadecimal}
 use Rattle.litrs_search.specs.declared.search.Run.{Run}
-use Rattle.litrs_search.specs.declared.search.Run.TheVariants.{Digits, Identifier, Underscores, Blanks, Hashes}
+use Rattle.litrs_search.specs.declared.search.Run.TheVariants.{Digits, Identifier, Blanks, Hashes}
 
 -- the bytes of a run: the digits of the base and `_`; or ASCII letters, decimal digits and `_`; or
--- `_` alone; or space, tab and LF; or `#`
+-- space, tab and LF; or `#`
 abbrev pub is_in_run : Run → ℕ → Bool
 is_in_run (Digits base) b = is_digit_or_underscore base b
 is_in_run Identifier b = is_ascii_alphanumeric b || (b == underscore)
-is_in_run Underscores b = b == underscore
 is_in_run Blanks b = is_blank b
 is_in_run Hashes b = b == hash
 
@@ -24,7 +23,6 @@ last_digit (Digits Octal) = 55
 last_digit (Digits Decimal) = 57
 last_digit (Digits Hexadecimal) = 57
 last_digit Identifier = 57
-last_digit Underscores = 47
 last_digit Blanks = 47
 last_digit Hashes = 47
 
@@ -35,7 +33,6 @@ last_letter (Digits Octal) = 96
 last_letter (Digits Decimal) = 96
 last_letter (Digits Hexadecimal) = 102
 last_letter Identifier = 122
-last_letter Underscores = 96
 last_letter Blanks = 96
 last_letter Hashes = 96
 
@@ -43,21 +40,18 @@ last_letter Hashes = 96
 abbrev pub first_other : Run → ℕ
 first_other (Digits base) = underscore
 first_other Identifier = underscore
-first_other Underscores = underscore
 first_other Blanks = space
 first_other Hashes = hash
 
 abbrev pub second_other : Run → ℕ
 second_other (Digits base) = underscore
 second_other Identifier = underscore
-second_other Underscores = underscore
 second_other Blanks = tab
 second_other Hashes = hash
 
 abbrev pub third_other : Run → ℕ
 third_other (Digits base) = underscore
 third_other Identifier = underscore
-third_other Underscores = underscore
 third_other Blanks = line_feed
 third_other Hashes = hash
 
@@ -68,6 +62,5 @@ classes (Digits Octal) = 0x22
 classes (Digits Decimal) = 0x24
 classes (Digits Hexadecimal) = 0x28
 classes Identifier = 0x34
-classes Underscores = 0x20
 classes Blanks = 0x40
 classes Hashes = 0x80

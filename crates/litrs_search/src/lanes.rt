@@ -86,7 +86,7 @@ fn last_digit(run: Run) -> u8
         Run::Digits(IntegerBase::Binary) => b'1',
         Run::Digits(IntegerBase::Octal) => b'7',
         Run::Digits(_) | Run::Identifier => b'9',
-        Run::Underscores | Run::Blanks | Run::Hashes => b'/',
+        Run::Blanks | Run::Hashes => b'/',
     }
 }
 

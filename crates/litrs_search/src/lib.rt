@@ -1,5 +1,5 @@
 //! Searches bytes for the end of a run: of plain characters in a quoted literal, of digits, of an
-//! identifier, or of underscores, blanks or hashes; and for what may close a raw literal.
+//! identifier, or of blanks or hashes; and for what may close a raw literal.
 #![tactic(auto)]
 
 pub use closing::next_closing;

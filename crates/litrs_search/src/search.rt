@@ -28,8 +28,6 @@ pub enum Run {
     Digits(IntegerBase),
     /// ASCII letters, decimal digits and underscores.
     Identifier,
-    /// Underscores.
-    Underscores,
     /// Spaces, tabs and LFs.
     Blanks,
     /// `#`.
@@ -87,7 +85,6 @@ fn classes(run: Run) -> u8
         Run::Digits(IntegerBase::Decimal) => 0x24,
         Run::Digits(IntegerBase::Hexadecimal) => 0x28,
         Run::Identifier => 0x34,
-        Run::Underscores => 0x20,
         Run::Blanks => 0x40,
         Run::Hashes => 0x80,
     }
@@ -215,7 +212,6 @@ pub fn next_special(bytes: &[u8], from: usize, what: Special) -> usize
 /// assert_eq!(rt; run_end(b"1_0a2", Run::Digits(IntegerBase::Decimal)), 3);
 /// assert_eq!(rt; run_end(b"1_0a2", Run::Digits(IntegerBase::Hexadecimal)), 5);
 /// assert_eq!(rt; run_end("größe".as_bytes(), Run::Identifier), 2);
-/// assert_eq!(rt; run_end(b"__1_", Run::Underscores), 2);
 /// assert_eq!(rt; run_end(b" \t\na", Run::Blanks), 3);
 /// assert_eq!(rt; run_end(b"##\"#", Run::Hashes), 2);
 /// ```

@@ -14,7 +14,7 @@ ghost use Rattle.litrs.specs.Begins.{IsClosed};
 use crate::going_on::escape::escape_goes_on;
 use crate::going_on::front::begins_with;
 use crate::going_on::suffix::suffix_goes_on;
-use litrs_lex::quoted::items_end_with;
+use litrs_lex::quoted::items_end;
 use litrs_parts::{StringKind, Switches};
 
 /// Whether a text that begins as a quoted string of the kind begins a string of it.
@@ -23,7 +23,7 @@ pub(crate) fn quoted_goes_on(text: &str, kind: StringKind) -> bool
     ensures { IsTrue result ↔ BeginsBy (IsString (grammar_kind kind)) (chars text.now) }
 {
     let allowed = kind.switches();
-    let end = items_end_with(text, kind.front_len(), allowed);
+    let end = items_end(text, kind.front_len(), allowed);
     rest_goes_on(&text[end.place..], allowed)
 }
 

@@ -11,6 +11,7 @@ ghost use Rattle.litrs_parts.specs.Front.{grammar_kind};
 ghost use Rattle.litrs.specs.LastUnderscore.{points_at_last_underscore};
 
 use litrs_lex::scan_raw_string;
+use litrs_parts::hashes::{MAX_HASHES, are_hashes};
 use litrs_parts::{ParseError, ParseErrorKind, StringKind, Switches};
 
 /// Whether a text that begins as a raw string of the kind begins a string of it.
@@ -43,14 +44,7 @@ fn hashes_go_on(text: &str, offset: usize, allowed: Switches) -> bool
 fn are_opening_hashes(bytes: &[u8]) -> bool
     ensures { result ≡ (nat_le (length bytes.now) 255 && list_all is_hash bytes.now) }
 {
-    bytes.len() <= 255 && are_hashes(bytes)
-}
-
-/// Whether all are hashes.
-fn are_hashes(bytes: &[u8]) -> bool
-    ensures { result ≡ list_all is_hash bytes.now }
-{
-    bytes.iter().all(|b| *b == b'#')
+    bytes.len() <= MAX_HASHES && are_hashes(bytes)
 }
 
 /// Whether the refusal points at an underscore that ends the text: a suffix that lacks its letters.

@@ -13,7 +13,7 @@ returns-then-is_escape_or_empty-clause-unfinished c =
     let kind = grammar_kind c.args.kind in
     let text : List ℕ = c.args.text.now in
     let place : ℕ = c.items_end-end.result.place in
-    let read = subst (λ (w : Switches). IsItemsEnd w text c.args.place c.items_end-end.result) c.switches-w.ensures c.items_end-end.ensures in
+    let read = subst (λ (w : Switches). IsItemsEnd w text c.args.place c.items_end-end.result) c.switches.ensures c.items_end-end.ensures in
     let s = quoted_reads kind c.args.place text c.items_end-end.result c.utf8.text c.requires read in
     quoted_unfinished kind place text c.utf8.text s (escape_left (switches_of kind) (drop place text) c.range_from.result.now c.range_from.ensures.value (c.is_escape_or_empty.ensures c.if-is_escape_or_empty.true))
 
@@ -22,7 +22,7 @@ returns-then-is_escape_or_empty-clause-next c =
     let kind = grammar_kind c.args.kind in
     let text : List ℕ = c.args.text.now in
     let place : ℕ = c.items_end-end.result.place in
-    let read = subst (λ (w : Switches). IsItemsEnd w text c.args.place c.items_end-end.result) c.switches-w.ensures c.items_end-end.ensures in
+    let read = subst (λ (w : Switches). IsItemsEnd w text c.args.place c.items_end-end.result) c.switches.ensures c.items_end-end.ensures in
     let s = quoted_reads kind c.args.place text c.items_end-end.result c.utf8.text c.requires read in
     quoted_next kind place text c.utf8.text s
 
@@ -31,7 +31,7 @@ returns-then-is_backslash-clause-unfinished c =
     let kind = grammar_kind c.args.kind in
     let text : List ℕ = c.args.text.now in
     let place : ℕ = c.items_end-end.result.place in
-    let read = subst (λ (w : Switches). IsItemsEnd w text c.args.place c.items_end-end.result) c.switches-w.ensures c.items_end-end.ensures in
+    let read = subst (λ (w : Switches). IsItemsEnd w text c.args.place c.items_end-end.result) c.switches.ensures c.items_end-end.ensures in
     let s = quoted_reads kind c.args.place text c.items_end-end.result c.utf8.text c.requires read in
     let lone = backslash_left text place (sym (rest_is c.as_bytes.result.now text place c.as_bytes.ensures.value) ∙ c.is_backslash.ensures c.if-is_backslash.true) in
     quoted_unfinished kind place text c.utf8.text s (inr (inl lone))
@@ -41,7 +41,7 @@ returns-then-is_backslash-clause-next c =
     let kind = grammar_kind c.args.kind in
     let text : List ℕ = c.args.text.now in
     let place : ℕ = c.items_end-end.result.place in
-    let read = subst (λ (w : Switches). IsItemsEnd w text c.args.place c.items_end-end.result) c.switches-w.ensures c.items_end-end.ensures in
+    let read = subst (λ (w : Switches). IsItemsEnd w text c.args.place c.items_end-end.result) c.switches.ensures c.items_end-end.ensures in
     let s = quoted_reads kind c.args.place text c.items_end-end.result c.utf8.text c.requires read in
     let lone = backslash_left text place (sym (rest_is c.as_bytes.result.now text place c.as_bytes.ensures.value) ∙ c.is_backslash.ensures c.if-is_backslash.true) in
     continuation_next kind place (length text) text c.utf8.text refl s lone

@@ -21,5 +21,5 @@ returns c =
     let few : n ≤ length (drop front text) = subst (λ (l : List ℕ). n ≤ length l) left c.hash_len-hashes.ensures.within in
     let at = raw_boundary kind text c.utf8.text c.requires in
     let low : front ≤ length text = omega (arith, at.0, c.front_len-front.ensures.raw) in
-    raw_opened kind front n text c.utf8.text c.requires c.front_len-front.ensures.raw count (omega (arith, c.if-hashes-gt255.false))
+    raw_opened kind front n text c.utf8.text c.requires c.front_len-front.ensures.raw count (omega (arith, c.if-hashes-gt-MAX_HASHES.false))
     (cons_at bytes text (front + n) 34 same (hashes_within text front n low few) c.if-opening-bytes.false c.if-bytes-opening-ne34.false)

@@ -1,9 +1,9 @@
 -- The table is held against the definition at each of the 256 bytes, by computing.
-use Rattle.std.proofs.Common.{◌≡◌, ℕ, ◌<◌, true, not, eqb, get_or, bit_and, refl, ap, ◌∙◌}
+use Rattle.std.proofs.Common.{◌≡◌, true, not, eqb, get_or, bit_and, refl, ap, ◌∙◌}
 use Rattle.std.proofs.lemmas.Bool.{agree_below, agree_below_at}
 use Rattle.litrs_base.specs.declared.integer.IntegerBase.TheVariants.{Binary, Octal, Decimal, Hexadecimal}
 use Rattle.litrs_search.specs.declared.search.Run.{Run}
-use Rattle.litrs_search.specs.declared.search.Run.TheVariants.{Digits, Identifier, Underscores, Blanks, Hashes}
+use Rattle.litrs_search.specs.declared.search.Run.TheVariants.{Digits, Identifier, Blanks, Hashes}
 use Rattle.litrs_search.specs.declared.search.TheConstants.{CLASSES}
 use Rattle.litrs_search.specs.Run.{classes, is_in_run}
 use Rattle.litrs_search.proofs.search.is_in_run.Goals as goal
@@ -14,7 +14,6 @@ found (Digits Octal) = refl
 found (Digits Decimal) = refl
 found (Digits Hexadecimal) = refl
 found Identifier = refl
-found Underscores = refl
 found Blanks = refl
 found Hashes = refl
 

@@ -7,16 +7,16 @@ use Rattle.litrs.proofs.QuotedEnds.{quoted_decided}
 use Rattle.litrs.proofs.StringEnds.{quoted_string}
 use Rattle.litrs.proofs.going_on.quoted.quoted_goes_on.Goals as goal
 
-pub items_end_with-end-requires : goal.items_end_with-end-requires
-items_end_with-end-requires c =
+pub items_end-end-requires : goal.items_end-end-requires
+items_end-end-requires c =
     rw (c.front_len.ensures.quoted)
     (quoted_boundary (grammar_kind c.args.kind) c.args.text.now c.utf8.text c.requires)
 
 pub returns : goal.returns
 returns c =
     let kind = grammar_kind c.args.kind in
-    let end = rw (c.front_len.ensures.quoted, c.switches-allowed.ensures) at c.items_end_with-end.ensures in
+    let end = rw (c.front_len.ensures.quoted, c.switches-allowed.ensures) at c.items_end-end.ensures in
     let goes = rw (c.switches-allowed.ensures) at c.rest_goes_on.ensures in
     quoted_string kind c.args.text.now c.rest_goes_on.result c.utf8.text c.requires
     (quoted_decided (switches_of kind) c.args.text.now c.range_from.result.now _
-    c.items_end_with-end.result c.rest_goes_on.result end c.range_from.ensures.value goes)
+    c.items_end-end.result c.rest_goes_on.result end c.range_from.ensures.value goes)

@@ -4,7 +4,7 @@ use Rattle.std.specs.List.{list_all, prefix_len}
 use Rattle.std.proofs.lemmas.Bool.{eq-eqb, ne_eqb, false≢true}
 use Rattle.litrs_base.proofs.Runs.{prefix_len_all, all_from_prefix_len}
 use Rattle.litrs_grammar.specs.Raw.{is_hash}
-use Rattle.litrs_lex.proofs.raw.are_hashes.Goals as goal
+use Rattle.litrs_parts.proofs.hashes.are_hashes.Goals as goal
 
 whole : (p : ℕ → Bool) (xs : List ℕ) (v : Bool) → list_all p xs ≡ v → eqb (prefix_len p xs) (length xs) ≡ v
 whole p xs true all = eq-eqb _ _ (prefix_len_all p xs all)
