@@ -3,7 +3,7 @@
 #![tactic(auto)]
 
 pub use closing::next_closing;
-pub use search::{Run, Special, next_special, run_end};
+pub use search::{Run, Special, has_byte, next_special, run_end};
 
 pub mod closing;
 mod lanes;

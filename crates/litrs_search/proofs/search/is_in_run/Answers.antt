@@ -1,5 +1,5 @@
 -- The table is held against the definition at each of the 256 bytes, by computing.
-use Rattle.std.proofs.Common.{◌≡◌, ℕ, ◌<◌, true, not, eqb, get_or, bit_and, refl, ap, ◌∙◌}
+use Rattle.std.proofs.Common.{◌≡◌, true, not, eqb, get_or, bit_and, refl, ap, ◌∙◌}
 use Rattle.std.proofs.lemmas.Bool.{agree_below, agree_below_at}
 use Rattle.litrs_base.specs.declared.integer.IntegerBase.TheVariants.{Binary, Octal, Decimal, Hexadecimal}
 use Rattle.litrs_search.specs.declared.search.Run.{Run}
