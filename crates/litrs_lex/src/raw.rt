@@ -112,22 +112,46 @@ fn cut_body(
 
 /// The first place from `start` on where the body is closed, or where a byte stands that may not
 /// stand in it; else the end of the text.
+#[inline(always)]
 fn body_end(bytes: &[u8], start: usize, hashes: usize, allowed: Switches) -> usize
     requires { (start ≤ length bytes.now) × IsUtf8 (drop start bytes.now) }
     ensures stop { IsStop allowed.unicode allowed.allow_nul hashes start bytes.now result }
     ensures closing { IsTrue (first_passes is_quote (drop result bytes.now))
         → IsTrue (begins_with (raw_closing hashes) (drop result bytes.now)) }
 {
+    match (allowed.unicode, allowed.allow_nul) {
+        (true, true) => closing_place::<true, true>(bytes, start, hashes),
+        (true, false) => closing_place::<true, false>(bytes, start, hashes),
+        (false, true) => closing_place::<false, true>(bytes, start, hashes),
+        (false, false) => closing_place::<false, false>(bytes, start, hashes),
+    }
+}
+
+/// [`body_end`] in the literals of one kind, so that the search has no switch to test.
+#[inline(never)]
+fn closing_place<const UNICODE: bool, const ALLOW_NUL: bool>(
+    bytes: &[u8],
+    start: usize,
+    hashes: usize,
+) -> usize
+    requires { (start ≤ length bytes.now) × IsUtf8 (drop start bytes.now) }
+    ensures stop { IsStop UNICODE ALLOW_NUL hashes start bytes.now result }
+    ensures closing { IsTrue (first_passes is_quote (drop result bytes.now))
+        → IsTrue (begins_with (raw_closing hashes) (drop result bytes.now)) }
+{
     let what = Special {
         backslash: false,
-        nul: !allowed.allow_nul,
-        non_ascii: !allowed.unicode,
+        nul: !ALLOW_NUL,
+        non_ascii: !UNICODE,
     };
-    let mut place = next_stop(bytes, start, hashes, what);
-    while is_inner_quote(&bytes[place..], hashes) {
-        place = next_stop(bytes, place + 1, hashes, what);
+    let mut from = start;
+    loop {
+        let place = next_stop(bytes, from, hashes, what);
+        if !is_inner_quote(&bytes[place..], hashes) {
+            return place;
+        }
+        from = place + 1;
     }
-    place
 }
 
 /// A place from `from` on with a special byte, or the end of the text: before it stand no special

@@ -14,6 +14,7 @@ ghost use Rattle.litrs_parts.specs.CharCut.{char_parts_at, kind_if, IsItemRead, 
 use crate::escape::unescape;
 use crate::parse::{check_suffix, split_first_char};
 use litrs_base::{ParseError, ParseErrorKind, Unescape};
+use litrs_search::has_byte;
 use memchr::memchr;
 
 /// Cuts a char, a text that begins with `'`: its value, and the place in bytes where its suffix
@@ -185,11 +186,18 @@ fn begins_with_quote(bytes: &[u8]) -> bool
     matches!(bytes.first(), Some(b'\''))
 }
 
-/// Whether `'` is among the bytes.
+/// Whether `'` is among the bytes. `memchr` is fast where they are many.
+///
+/// A call, so that the cut of a char stays small.
+#[inline(never)]
 fn has_quote(bytes: &[u8]) -> bool
     ensures { result ≡ list_any (λ c. c == single_quote) bytes.now }
 {
-    memchr(b'\'', bytes).is_some()
+    if bytes.len() < 128 {
+        has_byte(bytes, b'\'')
+    } else {
+        memchr(b'\'', bytes).is_some()
+    }
 }
 
 /// The refusal of a literal that is not closed.

@@ -1,0 +1,10 @@
+-- The search ends before the end if and only if the byte is there.
+use Rattle.std.proofs.Common.{◌≡◌, ◌<◌, ℕ, Bool, true, false, not, ltb, List, length, refl, sym, ap, ◌∙◌, zero-add, arith}
+use Rattle.std.specs.Prelude.{◌==◌}
+use Rattle.std.specs.List.{prefix_len, list_any}
+use Rattle.litrs_search.proofs.MarkedRuns.{run_is_any}
+use Rattle.litrs_search.proofs.search.has_byte.Goals as goal
+
+pub returns : goal.returns
+returns c =
+    ap (λ n. ltb n (length c.args.bytes.now)) (c.next_target.ensures.place ∙ zero-add _) ∙ run_is_any (λ b. b == c.args.wanted) c.args.bytes.now
