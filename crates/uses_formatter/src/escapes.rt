@@ -2,34 +2,17 @@
 
 use std::alloc::AllocError;
 
-/// The escape of two characters for an ASCII character that needs one, or has one, between these
-/// quotes.
-fn short_escape(c: char, quote: char) -> Option<&'static str> {
-    match c {
-        '\0' => Some("\\0"),
-        '\t' => Some("\\t"),
-        '\n' => Some("\\n"),
-        '\r' => Some("\\r"),
-        '\\' => Some("\\\\"),
-        '\'' if quote == '\'' => Some("\\'"),
-        '"' if quote == '"' => Some("\\\""),
-        _ => None,
-    }
-}
-
 /// Adds a character as it stands between these quotes.
 pub fn push_char(out: &mut String, c: char, quote: char) -> Result<(), AllocError> {
-    if let Some(escape) = short_escape(c, quote) {
-        return out.push_str(escape);
-    }
-    if !c.is_control() {
-        return out.push(c);
-    }
-    let code = c as u32;
-    if c.is_ascii() {
-        write!(out, "\\x{code:02x}")
-    } else {
-        write!(out, "\\u{{{code:x}}}")
+    match c {
+        '\0' => out.push_str("\\0"),
+        '\t' => out.push_str("\\t"),
+        '\n' => out.push_str("\\n"),
+        '\r' => out.push_str("\\r"),
+        _ if c == quote || c == '\\' => write!(out, "\\{c}"),
+        _ if !c.is_control() => out.push(c),
+        _ if c.is_ascii() => write!(out, "\\x{:02x}", c as u32),
+        _ => write!(out, "\\u{{{:x}}}", c as u32),
     }
 }
 

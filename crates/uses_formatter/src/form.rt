@@ -6,7 +6,7 @@ ghost use Rattle.litrs.specs.LiteralDerivation.{derivation};
 ghost use Rattle.uses_formatter.specs.Keeps.{Keeps};
 
 use crate::escapes::{push_byte, push_char};
-use crate::keep::keeps;
+use crate::keep::{digits, keeps};
 use litrs::{IntegerBase, IntegerLit, Literal, ParseErrorKind};
 use std::alloc::{AllocError, Global};
 
@@ -64,25 +64,11 @@ fn written(alloc: Global, lit: &Literal<&str>) -> Result<String, AllocError> {
         Literal::Bool(lit) => write!(out, "{lit}")?,
         Literal::Integer(lit) => push_integer(alloc, &mut out, lit)?,
         Literal::Float(lit) => out.push_str(lit.number_part())?,
-        Literal::Char(lit) => {
-            out.push('\'')?;
-            push_char(&mut out, lit.value(), '\'')?;
-            out.push('\'')?;
-        }
-        Literal::Byte(lit) => {
-            out.push_str("b'")?;
-            push_byte(&mut out, lit.value(), '\'')?;
-            out.push('\'')?;
-        }
-        Literal::String(lit) => push_string(&mut out, lit.value())?,
-        Literal::ByteString(lit) => {
-            out.push('b')?;
-            push_bytes(&mut out, lit.value())?;
-        }
-        Literal::CString(lit) => {
-            out.push('c')?;
-            push_bytes(&mut out, lit.value().to_bytes())?;
-        }
+        Literal::Char(lit) => push_text(&mut out, '\'', lit.value().encode_utf8(&mut [0; 4]))?,
+        Literal::Byte(lit) => push_bytes(&mut out, 'b', '\'', &[lit.value()])?,
+        Literal::String(lit) => push_text(&mut out, '"', lit.value())?,
+        Literal::ByteString(lit) => push_bytes(&mut out, 'b', '"', lit.value())?,
+        Literal::CString(lit) => push_bytes(&mut out, 'c', '"', lit.value().to_bytes())?,
     }
     out.push_str(lit.suffix())?;
     Ok(out)
@@ -90,44 +76,37 @@ fn written(alloc: Global, lit: &Literal<&str>) -> Result<String, AllocError> {
 
 /// Adds the prefix, the digits in groups, and the `_` before a suffix.
 fn push_integer(alloc: Global, out: &mut String, lit: &IntegerLit<&str>) -> Result<(), AllocError> {
-    let mut digits = String::new(alloc);
-    for c in lit.raw_main_part().chars() {
-        if c != '_' {
-            digits.push(c.to_ascii_lowercase())?;
-        }
-    }
-    let (group, len) = match lit.base() {
-        IntegerBase::Decimal => (3, digits.len()),
-        _ => (4, digits.len()),
+    let digits = digits(alloc, lit.raw_main_part())?;
+    let group = if lit.base() == IntegerBase::Decimal {
+        3
+    } else {
+        4
     };
     out.push_str(lit.base().prefix())?;
-    for (i, digit) in digits.as_str().char_indices() {
-        if i > 0 && len.saturating_sub(i) % group == 0 {
+    for (i, digit) in digits.iter().enumerate() {
+        if i > 0 && digits.len().saturating_sub(i) % group == 0 {
             out.push('_')?;
         }
-        out.push(digit)?;
+        out.push(*digit as char)?;
     }
-    if lit.suffix().is_empty() {
-        Ok(())
-    } else {
-        out.push('_')
-    }
+    out.push_str(if lit.suffix().is_empty() { "" } else { "_" })
 }
 
-/// Adds a quoted string of the value.
-fn push_string(out: &mut String, value: &str) -> Result<(), AllocError> {
-    out.push('"')?;
-    for c in value.chars() {
-        push_char(out, c, '"')?;
+/// Adds the text between these quotes.
+fn push_text(out: &mut String, quote: char, text: &str) -> Result<(), AllocError> {
+    out.push(quote)?;
+    for c in text.chars() {
+        push_char(out, c, quote)?;
     }
-    out.push('"')
+    out.push(quote)
 }
 
-/// Adds a quoted string of the bytes.
-fn push_bytes(out: &mut String, value: &[u8]) -> Result<(), AllocError> {
-    out.push('"')?;
-    for byte in value {
-        push_byte(out, *byte, '"')?;
+/// Adds the bytes between these quotes, after a letter.
+fn push_bytes(out: &mut String, letter: char, quote: char, bytes: &[u8]) -> Result<(), AllocError> {
+    out.push(letter)?;
+    out.push(quote)?;
+    for byte in bytes {
+        push_byte(out, *byte, quote)?;
     }
-    out.push('"')
+    out.push(quote)
 }

@@ -83,7 +83,7 @@ fn main_digits(alloc: Global, lit: &IntegerLit<&str>) -> Result<Vec<u8>, AllocEr
 
 /// The digits of a text without underscores, letters in lower case.
 #[tactic(auto, using(crate::proofs::DigitLemmas::one_more, crate::proofs::DigitLemmas::none_more))]
-fn digits(alloc: Global, main: &str) -> Result<Vec<u8>, AllocError>
+pub fn digits(alloc: Global, main: &str) -> Result<Vec<u8>, AllocError>
     ensures { IfOk result (λ digits. digits.items ≡ digits_of main.now) }
 {
     let mut digits = Vec::new(alloc);

@@ -16,10 +16,8 @@ use std::io;
 fn main(rt: HostRuntime) -> io::Result<()> {
     for line in rt.lines(rt.alloc()) {
         let line = line?;
-        match formatted(rt.alloc(), line.as_str())? {
-            Some(text) => println!(rt; "{text}")?,
-            None => println!(rt; "{line}")?,
-        }
+        let form = formatted(rt.alloc(), line.as_str())?;
+        println!(rt; "{}", form.unwrap_or(line))?;
     }
     Ok(())
 }
