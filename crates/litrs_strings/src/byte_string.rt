@@ -1,5 +1,5 @@
 //! Byte string literals.
-ghost use Rattle.std.specs.Prelude.{◌≡◌, ◌↔◌, ◌⊎◌, false, IsTrue, IsOk, IfOk, IfErr, Some, nat_eq, vec_items};
+ghost use Rattle.std.specs.Prelude.{◌≡◌, ◌↔◌, ◌⊎◌, false, IsTrue, IsOk, IfOk, IfErr, Some, nat_eq, option_map, vec_items, is_some};
 ghost use Rattle.std.specs.Cmp.{on_per, on_equiv, partial_equiv_from_equiv};
 ghost use Rattle.std.specs.Cmp.Lexicographic.{pointwise, nat_list_eq_equiv};
 ghost use Rattle.std.specs.Str.{chars};
@@ -11,10 +11,9 @@ ghost use Rattle.litrs_grammar.specs.Strings.{StringDerivation, is_raw};
 ghost use Rattle.litrs_grammar.specs.Refused.{IsRefusedOrOutOfMemory};
 ghost use Rattle.litrs_grammar.proofs.StringDerivations.{string_derivation-prop};
 ghost use Rattle.litrs_parts.specs.Front.{IsFront};
-ghost use Rattle.litrs_strings.specs.StringLiteral.{StringLiteral, IsStringAt, kept_map, is_owned};
+ghost use Rattle.litrs_strings.specs.StringLiteral.{StringLiteral, IsStringAt};
 
-use crate::cut::parse_string;
-use crate::kept::KeptValue;
+use crate::cut::{StringCut, parse_string};
 use litrs_parts::{Buffer, Front, ParseError, StringKind, Text};
 use std::alloc::{AllocError, Global};
 use std::fmt;
@@ -28,8 +27,8 @@ use std::marker::Model;
 #[derive(Drop)]
 pub struct ByteStringLit<B: Text> {
     raw: B,
-    value: KeptValue<Vec<u8>>,
-    start_suffix: usize,
+    value: Option<Vec<u8>>,
+    cut: StringCut,
     ghost derived: { StringDerivation byte_string_kind (chars (B.bytes raw)) } by { string_derivation-prop byte_string_kind (chars (B.bytes raw)) },
 }
 
@@ -39,7 +38,7 @@ impl<B: Text> Model for ByteStringLit<B> {
     ghost view = { λ s. record { buffer = s.raw; raw = B.bytes s.raw; parts = s.derived.0 } };
 
     ghost invariant = { λ s.
-        IsStringAt (kept_map vec_items s.value) s.start_suffix (B.bytes s.raw) s.derived.0 };
+        IsStringAt s.cut (option_map vec_items s.value) (B.bytes s.raw) s.derived.0 };
 }
 
 impl<B: Text> ByteStringLit<B> {
@@ -87,12 +86,11 @@ impl<B: Text> ByteStringLit<B> {
         ensures refused { IfErr result
             (IsRefusedOrOutOfMemory (kind_parse byte_string_literal) (chars (B.bytes input))) }
     {
-        let kind = StringKind::ByteString;
-        let (value, start_suffix) = parse_string(alloc, input.as_str(), kind, front)?;
+        let (value, cut) = parse_string(alloc, input.as_str(), StringKind::ByteString, front)?;
         Ok(ByteStringLit {
             raw: input,
             value,
-            start_suffix,
+            cut,
         })
     }
 
@@ -101,8 +99,8 @@ impl<B: Text> ByteStringLit<B> {
         ensures { result.now ≡ string_value self.now.parts }
     {
         match &self.value {
-            KeptValue::InText(place) => &self.raw.as_str().as_bytes()[place.start..place.end],
-            KeptValue::Owned(value) => value.as_slice(),
+            Some(value) => value.as_slice(),
+            None => &self.raw.as_str().as_bytes()[self.cut.start_body..self.cut.end_body],
         }
     }
 
@@ -110,17 +108,14 @@ impl<B: Text> ByteStringLit<B> {
     pub fn is_raw_byte_string(&self) -> bool
         ensures { result ≡ is_raw self.now.parts }
     {
-        match &self.value {
-            KeptValue::InText(place) => place.is_raw,
-            KeptValue::Owned(_) => false,
-        }
+        self.cut.is_raw
     }
 
     /// The suffix, empty where there is none: `u8` of `b"foo"u8`.
     pub fn suffix(&self) -> &str
         ensures { chars result.now ≡ string_suffix self.now.parts }
     {
-        &self.raw.as_str()[self.start_suffix..]
+        &self.raw.as_str()[self.cut.start_suffix..]
     }
 
     /// The text that was parsed, as `b"foo"u8`. It is a byte string, with the parts that the
@@ -148,7 +143,7 @@ impl<B: Text> ByteStringLit<B> {
         Ok(ByteStringLit {
             raw,
             value,
-            start_suffix: self.start_suffix,
+            cut: self.cut,
         })
     }
 
@@ -161,7 +156,7 @@ impl<B: Text> ByteStringLit<B> {
         let ByteStringLit {
             raw,
             value: _,
-            start_suffix: _,
+            cut: _,
         } = self;
         raw
     }
@@ -176,14 +171,10 @@ impl<B: Buffer> ByteStringLit<B> {
         ensures owned { B.byte_cow_owned result
             ↔ (IsTrue B.owns ⊎ IsTrue (has_escapes self.parts)) }
     {
-        let ByteStringLit {
-            raw,
-            value,
-            start_suffix: _,
-        } = self;
+        let ByteStringLit { raw, value, cut } = self;
         match value {
-            KeptValue::InText(place) => raw.cut(place.start..place.end).into_byte_cow(),
-            KeptValue::Owned(value) => B::byte_cow_from(value),
+            Some(value) => B::byte_cow_from(value),
+            None => raw.cut(cut.start_body..cut.end_body).into_byte_cow(),
         }
     }
 }
@@ -198,33 +189,25 @@ impl ByteStringLit<&str> {
         ensures raw { IfOk result (λ owned. owned.raw ≡ self.entry.raw) }
         ensures parts { IfOk result (λ owned. owned.parts ≡ self.entry.parts) }
     {
-        let ByteStringLit {
-            raw,
-            value,
-            start_suffix,
-        } = self;
+        let ByteStringLit { raw, value, cut } = self;
         let raw = String::from_str(alloc, raw)?;
-        Ok(ByteStringLit {
-            raw,
-            value,
-            start_suffix,
-        })
+        Ok(ByteStringLit { raw, value, cut })
     }
 }
 
 /// The same value again.
-fn copy_value(alloc: Global, value: &KeptValue<Vec<u8>>) -> Result<KeptValue<Vec<u8>>, AllocError>
+fn copy_value(alloc: Global, value: &Option<Vec<u8>>) -> Result<Option<Vec<u8>>, AllocError>
     ensures bytes { IfOk result (λ copy.
-        kept_map vec_items copy ≡ kept_map vec_items value.now) }
-    ensures succeeds { is_owned value.now ≡ false → IsOk result }
+        option_map vec_items copy ≡ option_map vec_items value.now) }
+    ensures succeeds { is_some value.now ≡ false → IsOk result }
 {
     match value {
-        KeptValue::Owned(value) => {
+        Some(value) => {
             let mut copy = Vec::with_capacity(alloc, value.len())?;
             copy.extend_from_slice(value)?;
-            Ok(KeptValue::Owned(copy))
+            Ok(Some(copy))
         }
-        KeptValue::InText(place) => Ok(KeptValue::InText(*place)),
+        None => Ok(None),
     }
 }
 

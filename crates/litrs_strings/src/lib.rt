@@ -11,5 +11,4 @@ pub use string::StringLit;
 mod byte_string;
 mod c_string;
 mod cut;
-mod kept;
 mod string;
