@@ -1,6 +1,6 @@
 -- The plain characters at the front are all, or the loop goes on after them.
 use Rattle.litrs_lex.proofs.QuotedScan.{plain_items_end}
-use Rattle.litrs_lex.proofs.quoted.items_end_with.Goals as goal
+use Rattle.litrs_lex.proofs.quoted.body_end.Goals as goal
 
 pub returns-then-ends_items : goal.returns-then-ends_items
 returns-then-ends_items c =
