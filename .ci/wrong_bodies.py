@@ -55,7 +55,7 @@ def segment_of(header):
             depth += (letter == "<") - (letter == ">")
             if not depth:
                 break
-        params = re.findall(r"(?:^<|, ?)(\w+)", rest[: end + 1])
+        params = re.findall(r"(?:^<|, ?)(?:const )?(\w+)", rest[: end + 1])
         rest = rest[end + 1 :]
     rest = rest.split(" where ")[0].strip(" {\n")
     if " for " in rest:
