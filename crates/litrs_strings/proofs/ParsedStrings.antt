@@ -1,5 +1,5 @@
 -- Where a string is cut, by its only derivation.
-use Rattle.std.proofs.Common.{◌≡◌, ℕ, ◌+◌, ◌-◌, Bool, true, List, ◌++◌, length, Option, None, refl, sym, ap, ◌∙◌, subst}
+use Rattle.std.proofs.Common.{◌≡◌, ℕ, ◌+◌, ◌-◌, Bool, true, List, ◌++◌, length, refl, sym, ap, ◌∙◌, subst}
 use Rattle.std.specs.Str.{chars, IsUtf8}
 use Rattle.std.proofs.lemmas.Str.{encodes-chars, IsUtf8-between}
 use Rattle.litrs_base.specs.Derivations.{IsOnlyDerivation}
@@ -13,24 +13,27 @@ use Rattle.litrs_grammar.specs.Strings.{StringDerivation}
 use Rattle.litrs_grammar.proofs.Laws.Literal.{only_string}
 use Rattle.litrs_lex.proofs.StringFronts.{raw_begins, quoted_before, raw_behind}
 use Rattle.litrs_lex.specs.RawCut.{IsRawCut, raw_parts_at}
-use Rattle.litrs_strings.specs.declared.cut.StringCut.{StringCut}
+use Rattle.litrs_strings.specs.declared.kept.BodyPlace.{BodyPlace}
+use Rattle.litrs_strings.specs.declared.kept.KeptValue.{KeptValue}
+use Rattle.litrs_strings.specs.declared.kept.KeptValue.TheVariants.{InText}
 use Rattle.litrs_strings.specs.StringLiteral.{IsStringAt, IsCStringAt}
 use Rattle.litrs_strings.specs.ParsedStrings.{IsParsedQuoted, IsParsedRaw, IsParsedString}
 
 -- A quoted or a raw string is a string of its kind.
 
-pub parsed_quoted : (kind : StringKind) (bs : List ℕ) (value : Option (List ℕ)) (cut : StringCut) → IsUtf8 bs →
-    begins_with (quoted_front kind) bs ≡ true → IsParsedQuoted (switches_of kind) bs (length (quoted_front kind)) value cut →
-    IsParsedString kind bs value cut
-parsed_quoted kind bs value cut u begins parsed = record {
+pub parsed_quoted : (kind : StringKind) (bs : List ℕ) (kept : KeptValue (List ℕ)) (start_suffix : ℕ) → IsUtf8 bs →
+    begins_with (quoted_front kind) bs ≡ true → IsParsedQuoted (switches_of kind) bs (length (quoted_front kind)) kept start_suffix →
+    IsParsedString kind bs kept start_suffix
+parsed_quoted kind bs kept start_suffix u begins parsed = record {
   parts = quoted_parts parsed.parts;
   derives = subst (λ (front : List ℕ). IsQuoted front (switches_of kind) (chars bs) parsed.parts) (quoted_before kind bs u begins) parsed.derives;
   at = parsed.at;
 }
 
-pub parsed_raw : (kind : StringKind) (bs : List ℕ) (cut : StringCut) → IsUtf8 bs → begins_with (raw_front kind) bs ≡ true →
-    IsParsedRaw (has_unicode kind) (allows_nul kind) (length (raw_front kind)) bs cut → IsParsedString kind bs None cut
-parsed_raw kind bs cut u begins parsed = record {
+pub parsed_raw : (kind : StringKind) (bs : List ℕ) (place : BodyPlace) (start_suffix : ℕ) → IsUtf8 bs → begins_with (raw_front kind) bs ≡ true →
+    IsParsedRaw (has_unicode kind) (allows_nul kind) (length (raw_front kind)) bs place start_suffix →
+    IsParsedString kind bs (InText place) start_suffix
+parsed_raw kind bs place start_suffix u begins parsed = record {
   parts = raw_parts parsed.parts;
   derives = record {
     spells = ap (λ (t : List ℕ). raw_front kind ++ t) (parsed.derives.spells ∙ sym (raw_behind kind bs u begins))
@@ -44,18 +47,16 @@ parsed_raw kind bs cut u begins parsed = record {
 pub parsed_raw_cut : (unicode allow_nul : Bool) (offset : ℕ) (bs : List ℕ) (hashes start_suffix : ℕ) → IsUtf8 bs →
     IsRawCut unicode allow_nul offset bs (hashes, start_suffix) →
     IsParsedRaw unicode allow_nul offset bs
-    (record { start_body = offset + (hashes + 1); end_body = start_suffix - (hashes + 1); start_suffix = start_suffix; is_raw = true })
+    (record { start = offset + (hashes + 1); end = start_suffix - (hashes + 1); is_raw = true }) start_suffix
 parsed_raw_cut unicode allow_nul offset bs hashes start_suffix u cut = record {
   parts = raw_parts_at offset bs (hashes, start_suffix);
   derives = cut.only.0;
   at = record {
-    in_order = cut.in_order;
-    start = cut.start;
-    end = cut.end;
+    placed = record { in_order = cut.in_order; start = cut.start; end = cut.end };
     suffix_place = cut.suffix;
     suffix = refl;
     raw = refl;
-    kept = refl;
+    owned = refl;
     is_value = sym (encodes-chars _ (IsUtf8-between bs (offset + (hashes + 1)) (start_suffix - (hashes + 1)) u cut.in_order cut.start cut.end));
   };
 }
@@ -75,12 +76,12 @@ transported : (kind : StringKind) (P : List ℕ → StringParts → Type 0) (byt
 transported kind P bytes b d e same r s p =
     subst (λ (parts : StringParts). P b parts) (sym (same_parts kind bytes b d e same r s)) (subst (λ (t : List ℕ). P t d) (sym same) p)
 
-pub at_copy : (kind : StringKind) (cut : StringCut) (value v : Option (List ℕ)) (bytes b : List ℕ) (d e : StringParts) → b ≡ bytes → v ≡ value →
-    IsString kind (chars bytes) d → IsString kind (chars b) e → IsStringAt cut value bytes d → IsStringAt cut v b e
-at_copy kind cut value v bytes b d e same also r s at =
-    transported kind (IsStringAt cut v) bytes b d e same r s (subst (λ (o : Option (List ℕ)). IsStringAt cut o bytes d) (sym also) at)
+pub at_copy : (kind : StringKind) (start_suffix : ℕ) (kept k : KeptValue (List ℕ)) (bytes b : List ℕ) (d e : StringParts) → b ≡ bytes → k ≡ kept →
+    IsString kind (chars bytes) d → IsString kind (chars b) e → IsStringAt kept start_suffix bytes d → IsStringAt k start_suffix b e
+at_copy kind start_suffix kept k bytes b d e same also r s at =
+    transported kind (IsStringAt k start_suffix) bytes b d e same r s (subst (λ (o : KeptValue (List ℕ)). IsStringAt o start_suffix bytes d) (sym also) at)
 
-pub c_at_copy : (start : ℕ) (raw : Bool) (value v bytes b : List ℕ) (d e : StringParts) → b ≡ bytes → v ≡ value →
-    IsString c_string_kind (chars bytes) d → IsString c_string_kind (chars b) e → IsCStringAt start raw value bytes d → IsCStringAt start raw v b e
-c_at_copy start raw value v bytes b d e same also r s at =
-    transported c_string_kind (IsCStringAt start raw v) bytes b d e same r s (subst (λ (o : List ℕ). IsCStringAt start raw o bytes d) (sym also) at)
+pub c_at_copy : (start_suffix : ℕ) (value v bytes b : List ℕ) (d e : StringParts) → b ≡ bytes → v ≡ value →
+    IsString c_string_kind (chars bytes) d → IsString c_string_kind (chars b) e → IsCStringAt value start_suffix bytes d → IsCStringAt v start_suffix b e
+c_at_copy start_suffix value v bytes b d e same also r s at =
+    transported c_string_kind (IsCStringAt v start_suffix) bytes b d e same r s (subst (λ (o : List ℕ). IsCStringAt o start_suffix bytes d) (sym also) at)

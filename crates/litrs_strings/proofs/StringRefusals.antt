@@ -1,8 +1,6 @@
 -- The error of a text that is no string, or whose value finds no memory.
-use Rattle.std.proofs.Common.{◌≡◌, ◌⊎◌, inl, inr, ℕ, suc, true, false, List, [], ◌∷◌, length, Some, refl, sym, ap, ◌∙◌, subst, arith}
-use Rattle.std.specs.Prelude.{slice_get}
+use Rattle.std.proofs.Common.{◌≡◌, ◌⊎◌, inl, inr, ℕ, true, false, List, [], ◌∷◌, length, refl, sym, ap, ◌∙◌, subst}
 use Rattle.std.specs.Str.{chars, IsUtf8}
-use Rattle.std.proofs.lemmas.Bool.{and_left, ne_eqb}
 use Rattle.std.proofs.lemmas.Str.{chars-nil}
 use Rattle.litrs_base.specs.declared.err.ParseError.{ParseError}
 use Rattle.litrs_base.specs.declared.err.ParseErrorKind.TheVariants.{Empty}
@@ -10,7 +8,6 @@ use Rattle.litrs_base.specs.Refusal.{Refusal, plain, refusal_of, HasCharSpan}
 use Rattle.litrs_base.specs.Text.{is_empty, begins_with}
 use Rattle.litrs_base.proofs.Begins.{begins_with-split}
 use Rattle.litrs_base.proofs.CharEnds.{no_span}
-use Rattle.litrs_base.proofs.Chars.{chars_empty}
 use Rattle.litrs_base.proofs.ListTests.{if_false}
 use Rattle.litrs_grammar.specs.StringKind.{StringKind, string_kind, byte_string_kind, c_string_kind, switches_of}
 use Rattle.litrs_grammar.specs.Quoted.{quoted_front, IsQuoted, IsQuotedRefusal}

@@ -1,5 +1,5 @@
 //! Byte string literals.
-ghost use Rattle.std.specs.Prelude.{◌≡◌, ◌↔◌, ◌⊎◌, false, IsTrue, IsOk, IfOk, IfErr, Some, nat_eq, option_map, vec_items, is_some};
+ghost use Rattle.std.specs.Prelude.{◌≡◌, ◌↔◌, ◌⊎◌, false, IsTrue, IsOk, IfOk, IfErr, Some, nat_eq, vec_items};
 ghost use Rattle.std.specs.Cmp.{on_per, on_equiv, partial_equiv_from_equiv};
 ghost use Rattle.std.specs.Cmp.Lexicographic.{pointwise, nat_list_eq_equiv};
 ghost use Rattle.std.specs.Str.{chars};
@@ -11,9 +11,10 @@ ghost use Rattle.litrs_grammar.specs.Strings.{StringDerivation, is_raw};
 ghost use Rattle.litrs_grammar.specs.Refused.{IsRefusedOrOutOfMemory};
 ghost use Rattle.litrs_grammar.proofs.StringDerivations.{string_derivation-prop};
 ghost use Rattle.litrs_parts.specs.Front.{IsFront};
-ghost use Rattle.litrs_strings.specs.StringLiteral.{StringLiteral, IsStringAt};
+ghost use Rattle.litrs_strings.specs.StringLiteral.{StringLiteral, IsStringAt, kept_map, is_owned};
 
-use crate::cut::{StringCut, parse_string};
+use crate::cut::parse_string;
+use crate::kept::KeptValue;
 use litrs_parts::{Buffer, Front, ParseError, StringKind, Text};
 use std::alloc::{AllocError, Global};
 use std::fmt;
@@ -27,8 +28,8 @@ use std::marker::Model;
 #[derive(Drop)]
 pub struct ByteStringLit<B: Text> {
     raw: B,
-    value: Option<Vec<u8>>,
-    cut: StringCut,
+    value: KeptValue<Vec<u8>>,
+    start_suffix: usize,
     ghost derived: { StringDerivation byte_string_kind (chars (B.bytes raw)) } by { string_derivation-prop byte_string_kind (chars (B.bytes raw)) },
 }
 
@@ -38,7 +39,7 @@ impl<B: Text> Model for ByteStringLit<B> {
     ghost view = { λ s. record { buffer = s.raw; raw = B.bytes s.raw; parts = s.derived.0 } };
 
     ghost invariant = { λ s.
-        IsStringAt s.cut (option_map vec_items s.value) (B.bytes s.raw) s.derived.0 };
+        IsStringAt (kept_map vec_items s.value) s.start_suffix (B.bytes s.raw) s.derived.0 };
 }
 
 impl<B: Text> ByteStringLit<B> {
@@ -86,11 +87,12 @@ impl<B: Text> ByteStringLit<B> {
         ensures refused { IfErr result
             (IsRefusedOrOutOfMemory (kind_parse byte_string_literal) (chars (B.bytes input))) }
     {
-        let (value, cut) = parse_string(alloc, input.as_str(), StringKind::ByteString, front)?;
+        let kind = StringKind::ByteString;
+        let (value, start_suffix) = parse_string(alloc, input.as_str(), kind, front)?;
         Ok(ByteStringLit {
             raw: input,
             value,
-            cut,
+            start_suffix,
         })
     }
 
@@ -99,8 +101,8 @@ impl<B: Text> ByteStringLit<B> {
         ensures { result.now ≡ string_value self.now.parts }
     {
         match &self.value {
-            Some(value) => value.as_slice(),
-            None => &self.raw.as_str().as_bytes()[self.cut.start_body..self.cut.end_body],
+            KeptValue::InText(place) => &self.raw.as_str().as_bytes()[place.start..place.end],
+            KeptValue::Owned(value) => value.as_slice(),
         }
     }
 
@@ -108,14 +110,17 @@ impl<B: Text> ByteStringLit<B> {
     pub fn is_raw_byte_string(&self) -> bool
         ensures { result ≡ is_raw self.now.parts }
     {
-        self.cut.is_raw
+        match &self.value {
+            KeptValue::InText(place) => place.is_raw,
+            KeptValue::Owned(_) => false,
+        }
     }
 
     /// The suffix, empty where there is none: `u8` of `b"foo"u8`.
     pub fn suffix(&self) -> &str
         ensures { chars result.now ≡ string_suffix self.now.parts }
     {
-        &self.raw.as_str()[self.cut.start_suffix..]
+        &self.raw.as_str()[self.start_suffix..]
     }
 
     /// The text that was parsed, as `b"foo"u8`. It is a byte string, with the parts that the
@@ -143,7 +148,7 @@ impl<B: Text> ByteStringLit<B> {
         Ok(ByteStringLit {
             raw,
             value,
-            cut: self.cut,
+            start_suffix: self.start_suffix,
         })
     }
 
@@ -156,7 +161,7 @@ impl<B: Text> ByteStringLit<B> {
         let ByteStringLit {
             raw,
             value: _,
-            cut: _,
+            start_suffix: _,
         } = self;
         raw
     }
@@ -171,10 +176,14 @@ impl<B: Buffer> ByteStringLit<B> {
         ensures owned { B.byte_cow_owned result
             ↔ (IsTrue B.owns ⊎ IsTrue (has_escapes self.parts)) }
     {
-        let ByteStringLit { raw, value, cut } = self;
+        let ByteStringLit {
+            raw,
+            value,
+            start_suffix: _,
+        } = self;
         match value {
-            Some(value) => B::byte_cow_from(value),
-            None => raw.cut(cut.start_body..cut.end_body).into_byte_cow(),
+            KeptValue::InText(place) => raw.cut(place.start..place.end).into_byte_cow(),
+            KeptValue::Owned(value) => B::byte_cow_from(value),
         }
     }
 }
@@ -189,25 +198,33 @@ impl ByteStringLit<&str> {
         ensures raw { IfOk result (λ owned. owned.raw ≡ self.entry.raw) }
         ensures parts { IfOk result (λ owned. owned.parts ≡ self.entry.parts) }
     {
-        let ByteStringLit { raw, value, cut } = self;
+        let ByteStringLit {
+            raw,
+            value,
+            start_suffix,
+        } = self;
         let raw = String::from_str(alloc, raw)?;
-        Ok(ByteStringLit { raw, value, cut })
+        Ok(ByteStringLit {
+            raw,
+            value,
+            start_suffix,
+        })
     }
 }
 
 /// The same value again.
-fn copy_value(alloc: Global, value: &Option<Vec<u8>>) -> Result<Option<Vec<u8>>, AllocError>
+fn copy_value(alloc: Global, value: &KeptValue<Vec<u8>>) -> Result<KeptValue<Vec<u8>>, AllocError>
     ensures bytes { IfOk result (λ copy.
-        option_map vec_items copy ≡ option_map vec_items value.now) }
-    ensures succeeds { is_some value.now ≡ false → IsOk result }
+        kept_map vec_items copy ≡ kept_map vec_items value.now) }
+    ensures succeeds { is_owned value.now ≡ false → IsOk result }
 {
     match value {
-        Some(value) => {
+        KeptValue::Owned(value) => {
             let mut copy = Vec::with_capacity(alloc, value.len())?;
             copy.extend_from_slice(value)?;
-            Ok(Some(copy))
+            Ok(KeptValue::Owned(copy))
         }
-        None => Ok(None),
+        KeptValue::InText(place) => Ok(KeptValue::InText(*place)),
     }
 }
 

@@ -1,8 +1,7 @@
 //! C string literals, and their values.
-ghost use Rattle.std.specs.Prelude.{◌≡◌, ◌<◌, ℕ, List, [], ◌∷◌, ◌++◌, IsFalse, IsOk, IfOk, IfErr, Some, nat_eq, option_map, vec_items, vec_len, vec_capacity};
+ghost use Rattle.std.specs.Prelude.{◌≡◌, ◌<◌, ℕ, List, [], ◌∷◌, ◌++◌, IsFalse, IsOk, IfOk, IfErr, Some, nat_eq, vec_items, vec_len, vec_capacity};
 ghost use Rattle.std.specs.Cmp.{on_per, on_equiv, partial_equiv_from_equiv};
 ghost use Rattle.std.specs.Cmp.Lexicographic.{pointwise, nat_list_eq_equiv};
-ghost use Rattle.std.specs.Option.{unwrap_or};
 ghost use Rattle.std.specs.Str.{chars};
 ghost use Rattle.litrs_base.specs.Derivations.{IsOnlyDerivation};
 ghost use Rattle.litrs_base.specs.Characters.{nul};
@@ -13,10 +12,11 @@ ghost use Rattle.litrs_grammar.specs.Refused.{IsRefusedOrOutOfMemory};
 ghost use Rattle.litrs_grammar.proofs.StringDerivations.{string_derivation-prop};
 ghost use Rattle.litrs_parts.specs.Front.{IsFront};
 ghost use Rattle.litrs_strings.specs.CString.{before_zero, has_nul, IsClosed};
-ghost use Rattle.litrs_strings.specs.StringLiteral.{StringLiteral, IsCStringAt};
+ghost use Rattle.litrs_strings.specs.StringLiteral.{StringLiteral, IsCStringAt, IsPlaced, kept_map, kept_value};
 ghost use Rattle.litrs_strings.specs.ParsedStrings.{IsParsedCString};
 
-use crate::cut::{StringCut, parse_string};
+use crate::cut::parse_string;
+use crate::kept::KeptValue;
 use litrs_parts::{Front, ParseError, ParseErrorKind, StringKind, Text};
 use std::alloc::{AllocError, Global};
 use std::fmt;
@@ -113,7 +113,6 @@ pub struct CStringLit<B: Text> {
     raw: B,
     value: CString,
     start_suffix: usize,
-    is_raw: bool,
     ghost derived: { StringDerivation c_string_kind (chars (B.bytes raw)) } by { string_derivation-prop c_string_kind (chars (B.bytes raw)) },
 }
 
@@ -123,7 +122,7 @@ impl<B: Text> Model for CStringLit<B> {
     ghost view = { λ s. record { buffer = s.raw; raw = B.bytes s.raw; parts = s.derived.0 } };
 
     ghost invariant = { λ s.
-        IsCStringAt s.start_suffix s.is_raw s.value (B.bytes s.raw) s.derived.0 };
+        IsCStringAt s.value s.start_suffix (B.bytes s.raw) s.derived.0 };
 }
 
 impl<B: Text> CStringLit<B> {
@@ -171,12 +170,11 @@ impl<B: Text> CStringLit<B> {
         ensures refused { IfErr result
             (IsRefusedOrOutOfMemory (kind_parse c_string_literal) (chars (B.bytes input))) }
     {
-        let (value, cut) = parse_text(alloc, input.as_str(), front)?;
+        let (value, start_suffix) = parse_text(alloc, input.as_str(), front)?;
         Ok(CStringLit {
             raw: input,
             value,
-            start_suffix: cut.start_suffix,
-            is_raw: cut.is_raw,
+            start_suffix,
         })
     }
 
@@ -195,7 +193,6 @@ impl<B: Text> CStringLit<B> {
             raw: _,
             value,
             start_suffix: _,
-            is_raw: _,
         } = self;
         value
     }
@@ -204,7 +201,8 @@ impl<B: Text> CStringLit<B> {
     pub fn is_raw_c_string(&self) -> bool
         ensures { result ≡ is_raw self.now.parts }
     {
-        self.is_raw
+        // After the `c` stands an `r` or the opening quote.
+        self.raw.as_str().as_bytes()[1] == b'r'
     }
 
     /// The suffix, empty where there is none: `u8` of `c"foo"u8`.
@@ -238,7 +236,6 @@ impl<B: Text> CStringLit<B> {
             raw,
             value,
             start_suffix: self.start_suffix,
-            is_raw: self.is_raw,
         })
     }
 
@@ -252,7 +249,6 @@ impl<B: Text> CStringLit<B> {
             raw,
             value: _,
             start_suffix: _,
-            is_raw: _,
         } = self;
         raw
     }
@@ -272,44 +268,43 @@ impl CStringLit<&str> {
             raw,
             value,
             start_suffix,
-            is_raw,
         } = self;
         let raw = String::from_str(alloc, raw)?;
         Ok(CStringLit {
             raw,
             value,
             start_suffix,
-            is_raw,
         })
     }
 }
 
-/// The value, and where the text is cut, if it, which begins so, is a C string.
+/// The value, and where the suffix begins, if the text, which begins so, is a C string.
 #[inline(always)]
-fn parse_text(alloc: Global, input: &str, front: Front) -> Result<(CString, StringCut), ParseError>
+fn parse_text(alloc: Global, input: &str, front: Front) -> Result<(CString, usize), ParseError>
     requires { IsFront front input.now }
     ensures ok { IfOk result (λ parsed. IsParsedCString input.now parsed.0 parsed.1) }
     ensures refused { IfErr result
         (IsRefusedOrOutOfMemory (kind_parse c_string_literal) (chars input.now)) }
 {
-    let (unescaped, cut) = parse_string(alloc, input, StringKind::CString, front)?;
-    let body = &input.as_bytes()[cut.start_body..cut.end_body];
-    match close_body(alloc, unescaped, body) {
-        Ok(value) => Ok((value, cut)),
+    let (kept, start_suffix) = parse_string(alloc, input, StringKind::CString, front)?;
+    match close_value(alloc, input, kept) {
+        Ok(value) => Ok((value, start_suffix)),
         Err(_) => Err(ParseError::new(None, ParseErrorKind::OutOfMemory)),
     }
 }
 
-/// The value with its closing zero: what was unescaped, or else the body itself.
+/// The value that a text keeps so, with a closing zero.
 #[inline(always)]
-fn close_body(alloc: Global, unescaped: Option<Vec<u8>>, body: &[u8]) -> Result<CString, AllocError>
-    requires { IsFalse (has_nul (unwrap_or (option_map vec_items unescaped) body.now)) }
-    ensures { IfOk result (λ value.
-        value ≡ unwrap_or (option_map vec_items unescaped) body.now) }
+fn close_value(alloc: Global, text: &str, kept: KeptValue<Vec<u8>>) -> Result<CString, AllocError>
+    requires placed { IsPlaced text.now (kept_map vec_items kept) }
+    requires no_nul { IsFalse (has_nul (kept_value text.now (kept_map vec_items kept))) }
+    ensures { IfOk result (λ value. value ≡ kept_value text.now (kept_map vec_items kept)) }
 {
-    match unescaped {
-        Some(bytes) => CString::close(bytes),
-        None => CString::copy_of(alloc, body),
+    match kept {
+        KeptValue::InText(place) => {
+            CString::copy_of(alloc, &text.as_bytes()[place.start..place.end])
+        }
+        KeptValue::Owned(bytes) => CString::close(bytes),
     }
 }
 

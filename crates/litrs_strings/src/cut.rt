@@ -1,5 +1,5 @@
 //! Where strings of the three kinds are cut.
-ghost use Rattle.std.specs.Prelude.{◌≡◌, ◌⊎◌, ◌||◌, not, option_map, IfOk, IfErr, IsTrue};
+ghost use Rattle.std.specs.Prelude.{◌≡◌, ◌⊎◌, ◌||◌, not, IfOk, IfErr, IsTrue};
 ghost use Rattle.std.specs.Str.{chars, IsCharBoundary};
 ghost use Rattle.litrs_base.specs.Refusal.{refusal_of, HasCharSpan};
 ghost use Rattle.litrs_grammar.specs.Literal.{kind_parse};
@@ -11,37 +11,26 @@ ghost use Rattle.litrs_lex.specs.RawCut.{IsRawRefused};
 ghost use Rattle.litrs_parts.specs.Front.{grammar_kind, string_literal_of, IsFront};
 ghost use Rattle.litrs_parts.specs.Unescaped.{grammar_switches};
 ghost use Rattle.litrs_strings.specs.ParsedStrings.{IsParsedQuoted, IsParsedRaw, IsParsedString};
+ghost use Rattle.litrs_strings.specs.StringLiteral.{kept_map};
 
+use crate::kept::{BodyPlace, KeptValue};
 use litrs_lex::{EscapeContainer, scan_raw_string, unescape_string};
 use litrs_parts::{Front, ParseError, ParseErrorKind, StringKind, Switches};
 use std::alloc::Global;
 
-/// Where a string is cut, in bytes.
-#[derive(Clone, Copy, Debug, PartialEq, Eq)]
-pub struct StringCut {
-    /// Where the body begins, after the opening quote.
-    pub start_body: usize,
-    /// Where the body ends, at the closing quote.
-    pub end_body: usize,
-    /// Where the suffix begins.
-    pub start_suffix: usize,
-    /// Whether the string is raw.
-    pub is_raw: bool,
-}
-
-/// Parses a text that begins so as a string of the kind: the value, where it is quoted and its body
-/// has a backslash, and where it is cut.
+/// Parses a text that begins so as a string of the kind: its value, or where that stands, and where
+/// its suffix begins, in bytes.
 #[inline(always)]
 pub(crate) fn parse_string<C: EscapeContainer>(
     alloc: Global,
     input: &str,
     kind: StringKind,
     front: Front,
-) -> Result<(Option<C>, StringCut), ParseError>
+) -> Result<(KeptValue<C>, usize), ParseError>
     requires front { IsFront front input.now }
     requires fits { IsTrue (not (switches_of (grammar_kind kind)).byte_escapes || C.TAKES_BYTES) }
     ensures ok { IfOk result (λ parsed.
-        IsParsedString (grammar_kind kind) input.now (option_map C.contents parsed.0) parsed.1) }
+        IsParsedString (grammar_kind kind) input.now (kept_map C.contents parsed.0) parsed.1) }
     ensures refused { IfErr result (IsRefusedOrOutOfMemory
         (kind_parse (string_literal_of (grammar_kind kind))) (chars input.now)) }
 {
@@ -50,8 +39,8 @@ pub(crate) fn parse_string<C: EscapeContainer>(
     match front {
         Front::Quoted(found) if found == kind => { parse_quoted(alloc, input, offset, allowed) }
         Front::Raw(found) if found == kind => {
-            let cut = cut_raw(input, offset, allowed)?;
-            Ok((None, cut))
+            let (place, start_suffix) = cut_raw(input, offset, allowed)?;
+            Ok((KeptValue::InText(place), start_suffix))
         }
         Front::Empty => Err(ParseError::new(None, ParseErrorKind::Empty)),
         _ => Err(start_refusal(input, kind)),
@@ -75,20 +64,21 @@ fn start_refusal(input: &str, kind: StringKind) -> ParseError
     }
 }
 
-/// Parses a quoted string whose body begins at `offset`: the value, where the body has a backslash,
-/// and where the string is cut. `offset` and the switches are those of [`unescape_string`].
+/// Parses a quoted string whose body begins at `offset`: its value, where the body has a backslash,
+/// or else where the body stands, and where the suffix begins. `offset` and the switches are those
+/// of [`unescape_string`].
 #[inline(always)]
 fn parse_quoted<C: EscapeContainer>(
     alloc: Global,
     input: &str,
     offset: usize,
     allowed: Switches,
-) -> Result<(Option<C>, StringCut), ParseError>
+) -> Result<(KeptValue<C>, usize), ParseError>
     requires at { IsCharBoundary input.now offset }
     requires fits { IsTrue (not allowed.byte_escapes || C.TAKES_BYTES) }
     ensures ok { IfOk result (λ parsed.
         IsParsedQuoted (grammar_switches allowed) input.now offset
-        (option_map C.contents parsed.0) parsed.1) }
+        (kept_map C.contents parsed.0) parsed.1) }
     ensures refused { IfErr result (λ e.
         IsQuotedRefused (grammar_switches allowed) input.now offset e
         ⊎ IsQuotedOutOfMemory (grammar_switches allowed) input.now offset e) }
@@ -101,21 +91,26 @@ fn parse_quoted<C: EscapeContainer>(
         allowed.byte_escapes,
         allowed.allow_nul,
     )?;
-    let cut = StringCut {
-        start_body: offset,
-        end_body: start_suffix - 1,
-        start_suffix,
-        is_raw: false,
-    };
-    Ok((value, cut))
+    match value {
+        Some(value) => Ok((KeptValue::Owned(value), start_suffix)),
+        None => {
+            let place = BodyPlace {
+                start: offset,
+                end: start_suffix - 1,
+                is_raw: false,
+            };
+            Ok((KeptValue::InText(place), start_suffix))
+        }
+    }
 }
 
-/// Cuts a raw string whose `r` ends at `offset`. `offset` and the switches are those of
-/// [`scan_raw_string`].
+/// Cuts a raw string whose `r` ends at `offset`: where its body stands and its suffix begins.
+/// `offset` and the switches are those of [`scan_raw_string`].
 #[inline(never)]
-fn cut_raw(input: &str, offset: usize, allowed: Switches) -> Result<StringCut, ParseError>
+fn cut_raw(input: &str, offset: usize, allowed: Switches) -> Result<(BodyPlace, usize), ParseError>
     requires { IsCharBoundary input.now offset }
-    ensures ok { IfOk result (IsParsedRaw allowed.unicode allowed.allow_nul offset input.now) }
+    ensures ok { IfOk result (λ parsed.
+        IsParsedRaw allowed.unicode allowed.allow_nul offset input.now parsed.0 parsed.1) }
     ensures refused { IfErr result
         (IsRawRefused allowed.unicode allowed.allow_nul offset input.now) }
 {
@@ -127,10 +122,10 @@ fn cut_raw(input: &str, offset: usize, allowed: Switches) -> Result<StringCut, P
     )?;
     // The quote and the hashes.
     let closing = hashes as usize + 1;
-    Ok(StringCut {
-        start_body: offset + closing,
-        end_body: start_suffix - closing,
-        start_suffix,
+    let place = BodyPlace {
+        start: offset + closing,
+        end: start_suffix - closing,
         is_raw: true,
-    })
+    };
+    Ok((place, start_suffix))
 }

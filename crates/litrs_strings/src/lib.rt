@@ -11,4 +11,5 @@ pub use string::StringLit;
 mod byte_string;
 mod c_string;
 mod cut;
+mod kept;
 mod string;

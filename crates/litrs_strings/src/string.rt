@@ -1,5 +1,5 @@
 //! String literals.
-ghost use Rattle.std.specs.Prelude.{◌≡◌, ◌↔◌, ◌⊎◌, false, IsTrue, IsOk, IfOk, IfErr, Some, nat_eq, option_map, string_bytes, is_some};
+ghost use Rattle.std.specs.Prelude.{◌≡◌, ◌↔◌, ◌⊎◌, false, IsTrue, IsOk, IfOk, IfErr, Some, nat_eq, string_bytes};
 ghost use Rattle.std.specs.Cmp.{on_per, on_equiv, partial_equiv_from_equiv};
 ghost use Rattle.std.specs.Cmp.Lexicographic.{pointwise, nat_list_eq_equiv};
 ghost use Rattle.std.specs.Str.{chars};
@@ -11,9 +11,10 @@ ghost use Rattle.litrs_grammar.specs.Strings.{StringDerivation, is_raw};
 ghost use Rattle.litrs_grammar.specs.Refused.{IsRefusedOrOutOfMemory};
 ghost use Rattle.litrs_grammar.proofs.StringDerivations.{string_derivation-prop};
 ghost use Rattle.litrs_parts.specs.Front.{IsFront};
-ghost use Rattle.litrs_strings.specs.StringLiteral.{StringLiteral, IsStringAt};
+ghost use Rattle.litrs_strings.specs.StringLiteral.{StringLiteral, IsStringAt, kept_map, is_owned};
 
-use crate::cut::{StringCut, parse_string};
+use crate::cut::parse_string;
+use crate::kept::KeptValue;
 use litrs_parts::{Buffer, Front, ParseError, StringKind, Text};
 use std::alloc::{AllocError, Global};
 use std::fmt;
@@ -27,8 +28,8 @@ use std::marker::Model;
 #[derive(Drop)]
 pub struct StringLit<B: Text> {
     raw: B,
-    value: Option<String>,
-    cut: StringCut,
+    value: KeptValue<String>,
+    start_suffix: usize,
     ghost derived: { StringDerivation string_kind (chars (B.bytes raw)) } by { string_derivation-prop string_kind (chars (B.bytes raw)) },
 }
 
@@ -38,7 +39,7 @@ impl<B: Text> Model for StringLit<B> {
     ghost view = { λ s. record { buffer = s.raw; raw = B.bytes s.raw; parts = s.derived.0 } };
 
     ghost invariant = { λ s.
-        IsStringAt s.cut (option_map string_bytes s.value) (B.bytes s.raw) s.derived.0 };
+        IsStringAt (kept_map string_bytes s.value) s.start_suffix (B.bytes s.raw) s.derived.0 };
 }
 
 impl<B: Text> StringLit<B> {
@@ -86,11 +87,11 @@ impl<B: Text> StringLit<B> {
         ensures refused { IfErr result
             (IsRefusedOrOutOfMemory (kind_parse string_literal) (chars (B.bytes input))) }
     {
-        let (value, cut) = parse_string(alloc, input.as_str(), StringKind::String, front)?;
+        let (value, start_suffix) = parse_string(alloc, input.as_str(), StringKind::String, front)?;
         Ok(StringLit {
             raw: input,
             value,
-            cut,
+            start_suffix,
         })
     }
 
@@ -99,8 +100,8 @@ impl<B: Text> StringLit<B> {
         ensures { result.now ≡ string_value self.now.parts }
     {
         match &self.value {
-            Some(value) => value.as_str(),
-            None => &self.raw.as_str()[self.cut.start_body..self.cut.end_body],
+            KeptValue::InText(place) => &self.raw.as_str()[place.start..place.end],
+            KeptValue::Owned(value) => value.as_str(),
         }
     }
 
@@ -108,14 +109,17 @@ impl<B: Text> StringLit<B> {
     pub fn is_raw_string(&self) -> bool
         ensures { result ≡ is_raw self.now.parts }
     {
-        self.cut.is_raw
+        match &self.value {
+            KeptValue::InText(place) => place.is_raw,
+            KeptValue::Owned(_) => false,
+        }
     }
 
     /// The suffix, empty where there is none: `u8` of `"foo"u8`.
     pub fn suffix(&self) -> &str
         ensures { chars result.now ≡ string_suffix self.now.parts }
     {
-        &self.raw.as_str()[self.cut.start_suffix..]
+        &self.raw.as_str()[self.start_suffix..]
     }
 
     /// The text that was parsed, as `"foo"u8`. It is a string, with the parts that the accessors
@@ -143,7 +147,7 @@ impl<B: Text> StringLit<B> {
         Ok(StringLit {
             raw,
             value,
-            cut: self.cut,
+            start_suffix: self.start_suffix,
         })
     }
 
@@ -156,7 +160,7 @@ impl<B: Text> StringLit<B> {
         let StringLit {
             raw,
             value: _,
-            cut: _,
+            start_suffix: _,
         } = self;
         raw
     }
@@ -169,10 +173,14 @@ impl<B: Buffer> StringLit<B> {
         ensures text { B.cow_bytes result ≡ string_value self.parts }
         ensures owned { B.cow_owned result ↔ (IsTrue B.owns ⊎ IsTrue (has_escapes self.parts)) }
     {
-        let StringLit { raw, value, cut } = self;
+        let StringLit {
+            raw,
+            value,
+            start_suffix: _,
+        } = self;
         match value {
-            Some(value) => B::cow_from(value),
-            None => raw.cut(cut.start_body..cut.end_body).into_cow(),
+            KeptValue::InText(place) => raw.cut(place.start..place.end).into_cow(),
+            KeptValue::Owned(value) => B::cow_from(value),
         }
     }
 }
@@ -187,21 +195,32 @@ impl StringLit<&str> {
         ensures raw { IfOk result (λ owned. owned.raw ≡ self.entry.raw) }
         ensures parts { IfOk result (λ owned. owned.parts ≡ self.entry.parts) }
     {
-        let StringLit { raw, value, cut } = self;
+        let StringLit {
+            raw,
+            value,
+            start_suffix,
+        } = self;
         let raw = String::from_str(alloc, raw)?;
-        Ok(StringLit { raw, value, cut })
+        Ok(StringLit {
+            raw,
+            value,
+            start_suffix,
+        })
     }
 }
 
 /// The same value again.
-fn copy_value(alloc: Global, value: &Option<String>) -> Result<Option<String>, AllocError>
+fn copy_value(alloc: Global, value: &KeptValue<String>) -> Result<KeptValue<String>, AllocError>
     ensures bytes { IfOk result (λ copy.
-        option_map string_bytes copy ≡ option_map string_bytes value.now) }
-    ensures succeeds { is_some value.now ≡ false → IsOk result }
+        kept_map string_bytes copy ≡ kept_map string_bytes value.now) }
+    ensures succeeds { is_owned value.now ≡ false → IsOk result }
 {
     match value {
-        Some(value) => Ok(Some(String::from_str(alloc, value.as_str())?)),
-        None => Ok(None),
+        KeptValue::Owned(value) => {
+            let copy = String::from_str(alloc, value.as_str())?;
+            Ok(KeptValue::Owned(copy))
+        }
+        KeptValue::InText(place) => Ok(KeptValue::InText(*place)),
     }
 }
 

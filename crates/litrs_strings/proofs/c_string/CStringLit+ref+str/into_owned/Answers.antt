@@ -6,7 +6,7 @@ use Rattle.litrs_strings.proofs.c_string.CStringLit+ref+str.into_owned.Goals as 
 
 pub invariant_of-result-2 : goal.invariant_of-result-2
 invariant_of-result-2 c =
-    c_at_copy _ _ _ _ _ _ _ _ c.in_ok-raw.ensures.ok refl c.self.inside.derived.1 c.result-1.given.0.1 c.self.invariant
+    c_at_copy _ _ _ _ _ _ _ c.in_ok-raw.ensures.ok refl c.self.inside.derived.1 c.result-1.given.0.1 c.self.invariant
 
 pub returns-clause-parts : goal.returns-clause-parts
 returns-clause-parts c =

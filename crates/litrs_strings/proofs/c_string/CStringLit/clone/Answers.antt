@@ -7,7 +7,7 @@ use Rattle.litrs_strings.proofs.c_string.CStringLit.clone.Goals as goal
 
 pub invariant_of-result-2 : goal.invariant_of-result-2
 invariant_of-result-2 g c =
-    c_at_copy _ _ _ _ _ _ _ _ c.in_ok-raw.ensures.ok c.in_ok-value.ensures c.self.inside.derived.1 c.result-1.given.0.1 c.self.invariant
+    c_at_copy _ _ _ _ _ _ _ c.in_ok-raw.ensures.ok c.in_ok-value.ensures c.self.inside.derived.1 c.result-1.given.0.1 c.self.invariant
 
 pub returns-clause-parts : goal.returns-clause-parts
 returns-clause-parts g c =

@@ -6,7 +6,7 @@ use Rattle.litrs_strings.proofs.c_string.CStringLit.parse_with_front.Goals as go
 
 pub invariant_of-result-2 : goal.invariant_of-result-2
 invariant_of-result-2 g c = let parsed = c.in_ok-value.ensures.ok in
-    c_at_copy _ _ _ _ _ _ _ _ (sym c.as_str.ensures) refl parsed.derives c.result-1.given.0.1 parsed.at
+    c_at_copy _ _ _ _ _ _ _ (sym c.as_str.ensures) refl parsed.derives c.result-1.given.0.1 parsed.at
 
 pub returns-clause-ok : goal.returns-clause-ok
 returns-clause-ok g c = only_derivation c_string_kind _ c.result-1.given.0

@@ -7,9 +7,9 @@ use Rattle.litrs_strings.proofs.string.StringLit.clone.Goals as goal
 
 pub invariant_of-result-2 : goal.invariant_of-result-2
 invariant_of-result-2 g c =
-    at_copy string_kind _ _ _ _ _ _ _ c.in_ok-raw.ensures.ok c.in_ok-value.ensures.bytes c.self.inside.derived.1 c.result-2-1.given.0.1 c.self.invariant
+    at_copy string_kind _ _ _ _ _ _ _ c.in_ok-raw.ensures.ok c.in_ok-value.ensures.bytes c.self.inside.derived.1 c.result-1.given.0.1 c.self.invariant
 
 pub returns-clause-parts : goal.returns-clause-parts
 returns-clause-parts g c =
-    same_parts string_kind _ _ _ _ c.in_ok-raw.ensures.ok c.self.inside.derived.1 c.result-2-1.given.0.1
+    same_parts string_kind _ _ _ _ c.in_ok-raw.ensures.ok c.self.inside.derived.1 c.result-1.given.0.1
     ∙ ap (λ (lit : StringLiteral g.row.B.Denot). lit.parts) c.self.view_is

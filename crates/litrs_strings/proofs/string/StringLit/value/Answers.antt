@@ -1,5 +1,5 @@
 use Rattle.std.proofs.Common.{rules}
 use Rattle.litrs_strings.proofs.string.StringLit.value.Goals as goal
 
-pub returns-in-Some : goal.returns-in-Some
-returns-in-Some g c = search rules
+pub returns-in-Owned : goal.returns-in-Owned
+returns-in-Owned g c = search rules
