@@ -1,7 +1,7 @@
 //! Tests of what no contract says, over the public calls of all crates: that calls that allocate
 //! succeed while there is memory, what is printed at a width or a precision, how often devices are
-//! called, and the documentation samples. Each public call is made at least once, here or by the
-//! program `litrs_vectors`.
+//! called, the sizes of types, and the documentation samples. Each public call is made at least
+//! once, here or by the program `litrs_vectors`.
 #![tactic(auto)]
 
 #[cfg(test)]
@@ -24,5 +24,7 @@ mod printing;
 mod samples;
 #[cfg(test)]
 mod searches;
+#[cfg(test)]
+mod sizes;
 #[cfg(test)]
 mod tokens;
