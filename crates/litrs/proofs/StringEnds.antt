@@ -1,5 +1,5 @@
 -- What begins a string of each kind, by its front.
-use Rattle.std.proofs.Common.{◌≡◌, ℕ, Bool, true, false, ◌&&◌, ◌||◌, ltb, List, [], ◌∷◌, ◌++◌, length, take, drop, refl, sym, ap, ◌∙◌, subst, arith}
+use Rattle.std.proofs.Common.{◌≡◌, ℕ, Bool, true, false, ◌&&◌, ltb, List, [], ◌∷◌, ◌++◌, length, take, drop, refl, sym, ap, ◌∙◌, subst, arith}
 use Rattle.std.specs.Prelude.{◌↔◌, ◌==◌, IsTrue, codes}
 use Rattle.std.specs.List.{list_all}
 use Rattle.std.specs.Str.{chars, IsUtf8}
@@ -11,13 +11,12 @@ use Rattle.litrs_grammar.specs.StringKind.{StringKind, string_kind, byte_string_
 use Rattle.litrs_grammar.specs.Quoted.{quoted_front, IsQuoted}
 use Rattle.litrs_grammar.specs.Raw.{raw_front, has_unicode, allows_nul, IsRawOf, IsRawLiteral}
 use Rattle.litrs_grammar.specs.Continuation.{BeginsBy}
-use Rattle.litrs_grammar.specs.Literal.{IsString, string_literal, byte_string_literal, c_string_literal, literal_parse, kind_parse, Begins}
+use Rattle.litrs_grammar.specs.Literal.{IsString, string_literal, byte_string_literal, c_string_literal, literal_parse, kind_parse, Begins, string_literal_of}
 use Rattle.litrs_grammar.specs.LiteralRefusals.{parsed_as, dispatch, refused_start, quoted_start, raw_start, string_start, string_start_refusal}
 use Rattle.litrs_grammar.specs.GoesOn.String.{start_goes_on}
 use Rattle.litrs_grammar.proofs.Laws.Literal.{start_quoted, start_raw}
 use Rattle.litrs_grammar.proofs.LongerTexts.Literal.{chain, back, begins_kind, raw_begins_behind}
 use Rattle.litrs_grammar.proofs.LongerTexts.String.{quoted_string_begins, raw_string_begins, start_begins}
-use Rattle.litrs_parts.specs.Front.{string_literal_of}
 use Rattle.litrs_parts.proofs.Dispatch.{dispatch-chars}
 use Rattle.litrs.proofs.Begins.{answer_is, begins_parsed}
 use Rattle.litrs.proofs.Fronts.{front_chars, front_taken}

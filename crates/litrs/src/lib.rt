@@ -67,7 +67,7 @@
 //! ```
 #![tactic(auto)]
 
-ghost use Rattle.std.specs.Prelude.{◌≡◌, false, nat_eq, IsTrue, IsOk, IfOk, OnErr, IfErr, Some};
+ghost use Rattle.std.specs.Prelude.{◌≡◌, false, nat_eq, IsTrue, IsOk, IfOk, IfErr, Some};
 ghost use Rattle.std.specs.Cmp.{on_per, on_equiv, partial_equiv_from_equiv};
 ghost use Rattle.std.specs.Cmp.Lexicographic.{pointwise, nat_list_eq_equiv};
 ghost use Rattle.std.specs.Char.{is_ascii_digit};
@@ -75,11 +75,11 @@ ghost use Rattle.std.specs.Str.{chars};
 ghost use Rattle.litrs_base.specs.Derivations.{IsOnlyDerivation};
 ghost use Rattle.litrs_base.specs.Refusal.{plain};
 ghost use Rattle.litrs_base.specs.Text.{first_passes};
-ghost use Rattle.litrs_grammar.specs.Literal.{IsLiteral, suffix_of, literal_parse, kind_parse};
+ghost use Rattle.litrs_grammar.specs.Literal.{IsLiteral, suffix_of, literal_parse, kind_parse, string_literal_of};
 ghost use Rattle.litrs_grammar.specs.Allocation.{allocates};
 ghost use Rattle.litrs_grammar.specs.LiteralRefusals.{IsRefusal};
 ghost use Rattle.litrs_grammar.specs.Refused.{IsRefused, IsRefusedOrOutOfMemory};
-ghost use Rattle.litrs_parts.specs.Front.{grammar_kind, string_literal_of, IsFront};
+ghost use Rattle.litrs_parts.specs.Front.{grammar_kind, IsFront};
 ghost use Rattle.litrs_parts.specs.NumberCut.{number_kind};
 ghost use Rattle.litrs.specs.LiteralDerivation.{literal_raw, derivation};
 

@@ -1,5 +1,5 @@
 //! Why a text is refused.
-ghost use Rattle.std.specs.Prelude.{◌≡◌, ◌+◌, ◌≤◌, ◌<◌, ◌^◌};
+ghost use Rattle.std.specs.Prelude.{◌≡◌, ◌+◌, ◌≤◌, ◌<◌};
 ghost use Rattle.std.specs.Str.{chars};
 ghost use Rattle.litrs_base.specs.CharEnd.{IsCharEnd};
 ghost use Rattle.litrs_base.specs.Kind.{kind_text};
@@ -20,7 +20,7 @@ pub struct ParseError {
 }
 
 impl ParseError {
-    ghost use Rattle.std.specs.Prelude.{true, false, IsTrue, IfSome};
+    ghost use Rattle.std.specs.Prelude.{true, false, IfSome};
     ghost use Rattle.litrs_base.specs.Refusal.{refusal, refusal_of, kind_of, span_of, char_span_of, marked_span, HasCharSpan, moved, moved_span, MovesWithin};
     ghost use Rattle.litrs_base.specs.CharEnd.{PointsAtCharacters, IsCutBy};
     ghost use Rattle.litrs_base.specs.Finality.{is_final, is_open};

@@ -23,7 +23,7 @@ use Rattle.litrs_grammar.proofs.Laws.Quoted.{body_text-append}
 use Rattle.litrs_grammar.proofs.RawCuts.{HashCut, hash_cut, hash_len-append, behind_hashes, length-hashes}
 use Rattle.litrs_grammar.proofs.RawScans.{raw_scans_go_on}
 use Rattle.litrs_grammar.proofs.LongerTexts.Quoted.{quoted_items_stay}
-use Rattle.litrs_parts.specs.Unescaped.{switches, IsUnescaped}
+use Rattle.litrs_parts.specs.Unescaped.{IsUnescaped}
 use Rattle.litrs_parts.proofs.FloatBytes.{chars_behind, boundary_behind}
 use Rattle.litrs_lex.specs.declared.quoted.ItemsEnd.{ItemsEnd}
 use Rattle.litrs_lex.specs.QuotedItems.{IsItemsEnd}

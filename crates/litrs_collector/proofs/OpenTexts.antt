@@ -19,9 +19,9 @@ use Rattle.litrs_grammar.specs.Escape.{Switches, Escape, escape_text, IsEscape}
 use Rattle.litrs_grammar.specs.Quoted.{Item, plain_item, escape_item, quoted_front, body_text, stand_before, QuotedParts, rest_refusal, IsQuotedLiteral, IsQuotedRefusal, IsQuotedLiteralRefusal}
 use Rattle.litrs_grammar.specs.GoesOn.Quoted.{IsOpenRest}
 use Rattle.litrs_grammar.specs.Raw.{hashes, occurs, raw_closing, raw_front, has_unicode, allows_nul, is_raw_char, IsRawBody, RawParts, raw_refusal}
-use Rattle.litrs_grammar.specs.Literal.{quoted_parts, raw_parts, IsString, a_string, a_byte_string, a_c_string, IsLiteral, literal_parse, Begins}
+use Rattle.litrs_grammar.specs.Literal.{quoted_parts, raw_parts, IsString, a_string, a_byte_string, a_c_string, IsLiteral, literal_parse, Begins, string_literal_of}
 use Rattle.litrs_grammar.specs.LiteralRefusals.{StringStart, quoted_start, raw_start, string_start, IsRefusalOfStart, IsStringRefusal, IsKindRefusal, parsed_as, dispatch, IsRefusalOfDispatch, IsRefusal}
-use Rattle.litrs_grammar.proofs.Laws.Literal.{string_literal_of, start_quoted, start_raw, literals_are_not_refused}
+use Rattle.litrs_grammar.proofs.Laws.Literal.{start_quoted, start_raw, literals_are_not_refused}
 use Rattle.litrs_grammar.proofs.Laws.Quoted.{body_text-append, quoted_refusals_are_unique, quoted_texts_are_decided}
 use Rattle.litrs_grammar.proofs.LongerTexts.OpenRows.{shut_suffix}
 use Rattle.litrs_grammar.proofs.QuotedItems.{body_stands}

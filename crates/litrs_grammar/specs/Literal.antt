@@ -84,6 +84,12 @@ literal_kind (a_string d) = string_literal
 literal_kind (a_byte_string d) = byte_string_literal
 literal_kind (a_c_string d) = c_string_literal
 
+-- the kind of literals that the strings of a kind are
+abbrev pub string_literal_of : StringKind → LiteralKind
+string_literal_of string_kind = string_literal
+string_literal_of byte_string_kind = byte_string_literal
+string_literal_of c_string_kind = c_string_literal
+
 -- The nine parses: that of literals of any kind, and that of each kind alone.
 pub data Parse : Type 0 where
   literal_parse : Parse

@@ -3,7 +3,6 @@ ghost use Rattle.std.specs.Prelude.{Bool, not, ◌-◌, [], take, drop, codes, �
 ghost use Rattle.std.specs.List.{prefix_len};
 ghost use Rattle.std.specs.Str.{chars, IsCharBoundary};
 ghost use Rattle.litrs_base.specs.Characters.{backslash, double_quote, line_feed, is_blank};
-ghost use Rattle.litrs_base.specs.Refusal.{refusal_of, HasCharSpan};
 ghost use Rattle.litrs_base.specs.Text.{first_passes};
 ghost use Rattle.litrs_grammar.specs.Quoted.{QuotedParts, IsQuoted, body_value, is_plain, without_last, rest_refusal};
 ghost use Rattle.litrs_lex.specs.QuotedCut.{IsQuotedCut, IsQuotedRefused};

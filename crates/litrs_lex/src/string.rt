@@ -1,5 +1,5 @@
 //! The values of quoted strings, byte strings and C strings.
-ghost use Rattle.std.specs.Prelude.{◌≡◌, ◌≤◌, ◌⊎◌, ◌||◌, ◌++◌, not, length, take, option_map, IfOk, IfErr, IfSome, IsTrue, IsFalse};
+ghost use Rattle.std.specs.Prelude.{◌≡◌, ◌≤◌, ◌⊎◌, ◌||◌, ◌++◌, not, take, option_map, IfOk, IfErr, IfSome, IsTrue, IsFalse};
 ghost use Rattle.std.specs.Str.{chars, IsUtf8, IsCharBoundary};
 ghost use Rattle.litrs_grammar.specs.Quoted.{QuotedParts, IsQuoted, body_value};
 ghost use Rattle.litrs_lex.specs.Container.{is_pushable};

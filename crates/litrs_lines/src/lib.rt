@@ -3,7 +3,6 @@
 
 ghost use Rattle.std.specs.Prelude.{◌≡◌, ◌≢◌, ◌↔◌, ◌∷◌, [], ◌++◌, ℕ, List, true, false, Some, IsSome, IfSome, IfErr, IsErrOf, OnOk, OnErr, position, string_bytes};
 ghost use Rattle.std.specs.Io.KnownBytes.{Appends, IsAtEnd};
-ghost use Rattle.litrs_base.specs.Characters.{line_feed};
 ghost use Rattle.litrs_lines.specs.Stopped.{AppendsBeginning, StopsWithin};
 ghost use Rattle.litrs_lines.specs.Lines.{is_line_feed, HasNoLineFeed, without_return, ended_lines, open_line, unless_empty, lines_of};
 ghost use Rattle.litrs_lines.specs.Ended.{AreEndedReports, AreLastReports};

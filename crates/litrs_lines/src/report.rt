@@ -1,5 +1,5 @@
 //! The report on a literal, and on a refusal.
-ghost use Rattle.std.specs.Prelude.{◌≡◌, ◌≢◌, ◌↔◌, ◌<◌, ◌∷◌, [], ◌++◌, true, false, OnOk, OnErr, IsErrOf, string_bytes, codes};
+ghost use Rattle.std.specs.Prelude.{◌≡◌, ◌≢◌, ◌↔◌, ◌<◌, ◌∷◌, [], ◌++◌, true, false, OnOk, OnErr, IsErrOf, string_bytes};
 ghost use Rattle.std.specs.Char.{digit_char};
 ghost use Rattle.litrs.specs.LiteralDerivation.{derivation};
 ghost use Rattle.litrs_grammar.specs.Integer.{integer_value};

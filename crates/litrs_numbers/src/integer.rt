@@ -1,8 +1,8 @@
 //! Integer literals.
-ghost use Rattle.std.specs.Prelude.{◌≡◌, ◌≤◌, ℕ, length, take, Bool, false, IsTrue, MatchOption, slice_index, IsOk, IfOk, IfErr, Some, nat_eq, ⊤};
+ghost use Rattle.std.specs.Prelude.{◌≡◌, ◌≤◌, length, take, false, IsTrue, IsOk, IfOk, IfErr, Some, nat_eq, ⊤};
 ghost use Rattle.std.specs.Cmp.{on_per, on_equiv, partial_equiv_from_equiv};
 ghost use Rattle.std.specs.Cmp.Lexicographic.{pointwise, nat_list_eq_equiv};
-ghost use Rattle.std.specs.List.{prefix_len, list_all, list_any};
+ghost use Rattle.std.specs.List.{list_all};
 ghost use Rattle.std.specs.Option.{SomeIff};
 ghost use Rattle.std.specs.Str.{chars};
 ghost use Rattle.litrs_base.specs.Base.{base_value, is_digit_or_underscore};
@@ -12,7 +12,7 @@ ghost use Rattle.litrs_grammar.specs.Integer.{integer_value};
 ghost use Rattle.litrs_base.specs.Derivations.{IsOnlyDerivation};
 ghost use Rattle.litrs_grammar.specs.Literal.{kind_parse, integer_literal};
 ghost use Rattle.litrs_grammar.specs.Refused.{IsRefused};
-ghost use Rattle.litrs_parts.specs.IntegerCut.{parts_at, IsWithin, IsIntegerAt, IsDigitsCut};
+ghost use Rattle.litrs_parts.specs.IntegerCut.{parts_at, IsWithin, IsIntegerAt};
 ghost use Rattle.litrs_grammar.specs.Integer.{IsIntegerOf};
 
 use litrs_base::FromIntegerLiteral;

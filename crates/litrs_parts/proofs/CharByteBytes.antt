@@ -1,5 +1,5 @@
 -- Chars and bytes: what their bytes say of the characters.
-use Rattle.std.proofs.Common.{◌≡◌, ℕ, suc, ◌+◌, ◌-◌, ◌^◌, ◌<◌, ◌≤◌, Bool, true, false, not, ◌||◌, List, [], ◌∷◌, ◌++◌, length, take, drop, slice_range, slice_get, append-nil, Option, Some, None, refl, sym, ap, ◌∙◌, subst, arith, append_assoc, length-append}
+use Rattle.std.proofs.Common.{◌≡◌, ℕ, ◌+◌, ◌-◌, ◌^◌, ◌<◌, ◌≤◌, Bool, true, false, not, ◌||◌, List, [], ◌∷◌, ◌++◌, length, take, drop, slice_range, slice_get, append-nil, Option, Some, None, refl, sym, ap, ◌∙◌, subst, arith, append_assoc, length-append}
 use Rattle.std.specs.Prelude.{◌==◌, Result, Ok, Err, IfOk, IfErr, encode_utf8, encode_utf8_all, option_map, is_some}
 use Rattle.std.specs.List.{list_any}
 use Rattle.std.specs.Char.{len_utf8}
@@ -18,7 +18,7 @@ use Rattle.litrs_base.specs.Text.{byte_len, first_passes, is_empty, begins_with}
 use Rattle.litrs_base.proofs.Begins.{begins_with-split, begins_with-append}
 use Rattle.litrs_base.proofs.ByteLen.{byte_len_one_ascii}
 use Rattle.litrs_base.proofs.CharEnds.{char_span_moved, moves_within, no_span}
-use Rattle.litrs_base.proofs.Chars.{OnlyAscii, begins_with-chars, chars_ascii, chars_wide, chars_empty, utf8_behind_ascii, first_passes-chars}
+use Rattle.litrs_base.proofs.Chars.{OnlyAscii, begins_with-chars, chars_ascii, chars_wide, utf8_behind_ascii, first_passes-chars}
 use Rattle.litrs_base.proofs.ListTests.{if_true, if_false}
 use Rattle.litrs_base.proofs.Spans.{byte_len-append}
 use Rattle.litrs_grammar.specs.Escape.{Switches, Escape, simple_escape, hex_escape, unicode_escape, is_escape, is_simple, escape_text, escape_value, escape_refusal}

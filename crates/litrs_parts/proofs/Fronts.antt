@@ -7,7 +7,7 @@ use Rattle.litrs_base.specs.declared.err.ParseErrorKind.TheVariants.{Empty, Inva
 use Rattle.litrs_base.specs.Refusal.{plain}
 use Rattle.litrs_base.specs.Text.{is_empty, begins_with}
 use Rattle.litrs_base.proofs.Begins.{begins_with-split}
-use Rattle.litrs_grammar.specs.Literal.{LiteralKind, bool_literal, integer_literal, float_literal, char_literal, byte_literal, string_literal, byte_string_literal, c_string_literal}
+use Rattle.litrs_grammar.specs.Literal.{bool_literal, integer_literal, float_literal, char_literal, byte_literal, string_literal, byte_string_literal, c_string_literal, string_literal_of}
 use Rattle.litrs_grammar.specs.LiteralRefusals.{Dispatch, refused_as, parsed_as, begins_float, dispatch}
 use Rattle.litrs_grammar.specs.Quoted.{quoted_front}
 use Rattle.litrs_grammar.specs.Raw.{raw_front}
@@ -16,7 +16,7 @@ use Rattle.litrs_parts.specs.declared.kind.Front.{Front}
 use Rattle.litrs_parts.specs.declared.kind.Front.TheVariants as front
 use Rattle.litrs_parts.specs.declared.kind.StringKind.{StringKind as CodeKind}
 use Rattle.litrs_parts.specs.declared.kind.StringKind.TheVariants as code
-use Rattle.litrs_parts.specs.Front.{grammar_kind, string_literal_of, row_of, BeginsAs, IsFront}
+use Rattle.litrs_parts.specs.Front.{grammar_kind, row_of, BeginsAs, IsFront}
 
 -- the kind of a refusal that is a row
 abbrev row_error : Dispatch → ParseErrorKind

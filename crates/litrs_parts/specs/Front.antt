@@ -5,7 +5,7 @@ use Rattle.litrs_base.specs.declared.err.ParseErrorKind.TheVariants.{Empty, Inva
 use Rattle.litrs_base.specs.Refusal.{plain}
 use Rattle.litrs_base.specs.Text.{is_empty, first_passes, begins_with}
 use Rattle.litrs_grammar.specs.Bool.{bool_text}
-use Rattle.litrs_grammar.specs.Literal.{LiteralKind, bool_literal, integer_literal, float_literal, char_literal, byte_literal, string_literal, byte_string_literal, c_string_literal}
+use Rattle.litrs_grammar.specs.Literal.{bool_literal, integer_literal, float_literal, char_literal, byte_literal, c_string_literal, string_literal_of}
 use Rattle.litrs_grammar.specs.LiteralRefusals.{begins_float, Dispatch, refused_as, parsed_as, dispatch}
 use Rattle.litrs_grammar.specs.Quoted.{quoted_front}
 use Rattle.litrs_grammar.specs.Raw.{raw_front}
@@ -20,12 +20,6 @@ abbrev pub grammar_kind : CodeKind → StringKind
 grammar_kind code.String = string_kind
 grammar_kind code.ByteString = byte_string_kind
 grammar_kind code.CString = c_string_kind
-
--- the same among the kinds of literals
-abbrev pub string_literal_of : StringKind → LiteralKind
-string_literal_of string_kind = string_literal
-string_literal_of byte_string_kind = byte_string_literal
-string_literal_of c_string_kind = c_string_literal
 
 -- the row of the dispatch for the text with these bytes, which begins so
 abbrev pub row_of : Front → List ℕ → Dispatch

@@ -1,5 +1,5 @@
 //! Where a char or a byte is cut.
-ghost use Rattle.std.specs.Prelude.{◌≡◌, ◌≢◌, ◌+◌, ◌≤◌, ◌==◌, ◌∷◌, [], codes, drop, length, not, IsTrue, IsFalse, IfOk, IfErr, MatchResult, None, Some};
+ghost use Rattle.std.specs.Prelude.{◌≡◌, ◌≢◌, ◌+◌, ◌==◌, ◌∷◌, [], codes, drop, IsTrue, IfOk, IfErr, None, Some};
 ghost use Rattle.std.specs.List.{list_any};
 ghost use Rattle.std.specs.Str.{chars, IsCharBoundary};
 ghost use Rattle.litrs_base.specs.Characters.{single_quote, backslash};

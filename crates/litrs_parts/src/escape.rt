@@ -1,12 +1,12 @@
 //! Escapes.
-ghost use Rattle.std.specs.Prelude.{◌≡◌, ◌≢◌, [], ◌∷◌, ◌+◌, ◌<◌, ◌≤◌, Bool, true, ◌&&◌, ◌||◌, ◌==◌, not, codes, drop, length, IfOk, IfErr, IsTrue, IsFalse};
+ghost use Rattle.std.specs.Prelude.{◌≡◌, ◌≢◌, [], ◌∷◌, ◌+◌, ◌<◌, ◌≤◌, Bool, true, ◌&&◌, ◌||◌, ◌==◌, codes, drop, length, IfOk, IfErr, IsTrue, IsFalse};
 ghost use Rattle.std.specs.Char.{is_ascii_hexdigit};
 ghost use Rattle.std.specs.List.{list_any};
 ghost use Rattle.std.specs.Option.{SomeIff};
 ghost use Rattle.std.specs.Str.{chars};
 ghost use Rattle.litrs_base.specs.Characters.{backslash, letter_x, letter_u, underscore, open_brace, close_brace, is_ascii, is_no_nul_unless};
 ghost use Rattle.litrs_base.specs.Text.{first_passes, is_empty, begins_with};
-ghost use Rattle.litrs_grammar.specs.Escape.{is_simple, simple_value, pair_value, hex_value};
+ghost use Rattle.litrs_grammar.specs.Escape.{is_simple, simple_value, pair_value};
 ghost use Rattle.litrs_parts.specs.Unescaped.{switches, grammar_switches, IsUnescaped, IsEscapeRefused, IsHexDigits};
 
 use crate::parse::hex_digit_value;

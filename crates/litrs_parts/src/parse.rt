@@ -1,6 +1,6 @@
 //! Suffixes and digits.
 ghost use Rattle.std.specs.Prelude.{◌≡◌, ◌≤◌, length, [], ◌∷◌, ◌||◌, ◌==◌, is_ok, IsTrue, IfErr, IfSome, IfNone, MatchResult, slice_get};
-ghost use Rattle.std.specs.Char.{digit_value, is_ascii_hexdigit, is_ascii_alphanumeric};
+ghost use Rattle.std.specs.Char.{digit_value, is_ascii_hexdigit};
 ghost use Rattle.std.specs.List.{list_all, prefix_len};
 ghost use Rattle.std.specs.Option.{SomeIff};
 ghost use Rattle.std.specs.Str.{chars, IsUtf8};

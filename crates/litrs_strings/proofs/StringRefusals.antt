@@ -12,11 +12,11 @@ use Rattle.litrs_base.proofs.ListTests.{if_false}
 use Rattle.litrs_grammar.specs.StringKind.{StringKind, string_kind, byte_string_kind, c_string_kind, switches_of}
 use Rattle.litrs_grammar.specs.Quoted.{quoted_front, IsQuoted, IsQuotedRefusal}
 use Rattle.litrs_grammar.specs.Raw.{raw_front, has_unicode, allows_nul, raw_refusal}
-use Rattle.litrs_grammar.specs.Literal.{StringParts, quoted_parts, Derivation, a_string, a_byte_string, a_c_string, IsString, kind_parse, IsLiteralOf}
+use Rattle.litrs_grammar.specs.Literal.{StringParts, quoted_parts, Derivation, a_string, a_byte_string, a_c_string, IsString, kind_parse, IsLiteralOf, string_literal_of}
 use Rattle.litrs_grammar.specs.LiteralRefusals.{StringStart, refused_start, quoted_start, raw_start, string_start, string_start_refusal, IsRefusalOfStart, IsStringRefusal, IsKindRefusal}
 use Rattle.litrs_grammar.specs.Allocation.{has_escapes, allocates}
 use Rattle.litrs_grammar.specs.Refused.{IsRefused, IsOutOfMemory, IsRefusedOrOutOfMemory}
-use Rattle.litrs_grammar.proofs.Laws.Literal.{string_literal_of, start_quoted, start_raw}
+use Rattle.litrs_grammar.proofs.Laws.Literal.{start_quoted, start_raw}
 use Rattle.litrs_grammar.proofs.Refused.{is_refused}
 use Rattle.litrs_parts.proofs.Dispatch.{is_empty-chars}
 use Rattle.litrs_lex.specs.QuotedCut.{IsQuotedRefused, IsQuotedOutOfMemory}

@@ -2,13 +2,13 @@
 ghost use Rattle.std.specs.Prelude.{◌≡◌, ◌⊎◌, ◌||◌, not, IfOk, IfErr, IsTrue};
 ghost use Rattle.std.specs.Str.{chars, IsCharBoundary};
 ghost use Rattle.litrs_base.specs.Refusal.{refusal_of, HasCharSpan};
-ghost use Rattle.litrs_grammar.specs.Literal.{kind_parse};
+ghost use Rattle.litrs_grammar.specs.Literal.{kind_parse, string_literal_of};
 ghost use Rattle.litrs_grammar.specs.LiteralRefusals.{string_start_refusal};
 ghost use Rattle.litrs_grammar.specs.Refused.{IsRefusedOrOutOfMemory};
 ghost use Rattle.litrs_grammar.specs.StringKind.{switches_of};
 ghost use Rattle.litrs_lex.specs.QuotedCut.{IsQuotedRefused, IsQuotedOutOfMemory};
 ghost use Rattle.litrs_lex.specs.RawCut.{IsRawRefused};
-ghost use Rattle.litrs_parts.specs.Front.{grammar_kind, string_literal_of, IsFront};
+ghost use Rattle.litrs_parts.specs.Front.{grammar_kind, IsFront};
 ghost use Rattle.litrs_parts.specs.Unescaped.{grammar_switches};
 ghost use Rattle.litrs_strings.specs.ParsedStrings.{IsParsedQuoted, IsParsedRaw, IsParsedString};
 ghost use Rattle.litrs_strings.specs.StringLiteral.{kept_map};

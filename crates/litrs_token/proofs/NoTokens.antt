@@ -1,6 +1,6 @@
 -- A text is a literal of one kind alone, told by how it begins: where it is none of that kind, it
 -- is none at all, a bool aside.
-use Rattle.std.proofs.Common.{◌≡◌, ℕ, Bool, true, false, List, ◌++◌, refl, sym, ap, ◌∙◌, ◌⊎◌, inl, inr, subst}
+use Rattle.std.proofs.Common.{◌≡◌, ℕ, Bool, true, false, List, refl, sym, ap, ◌∙◌, ◌⊎◌, inl, inr, subst}
 use Rattle.std.specs.Prelude.{◌≢◌, codes, if◌then◌else◌}
 use Rattle.std.specs.Char.{is_ascii_digit}
 use Rattle.std.specs.Str.{chars, IsUtf8}
@@ -12,7 +12,7 @@ use Rattle.litrs_base.specs.Refusal.{plain}
 use Rattle.litrs_base.specs.Text.{first_passes, begins_with}
 use Rattle.litrs_base.proofs.Begins.{begins_with-split}
 use Rattle.litrs_base.proofs.Chars.{begins_with-chars}
-use Rattle.litrs_grammar.specs.Literal.{Derivation, a_bool, an_integer, a_float, a_char, a_byte, a_string, a_byte_string, a_c_string, StringParts, quoted_parts, raw_parts, IsString, IsLiteral, LiteralKind, bool_literal, integer_literal, float_literal, char_literal, byte_literal, c_string_literal, literal_kind, kind_parse, IsLiteralOf}
+use Rattle.litrs_grammar.specs.Literal.{Derivation, a_bool, an_integer, a_float, a_char, a_byte, a_string, a_byte_string, a_c_string, StringParts, quoted_parts, raw_parts, IsString, IsLiteral, LiteralKind, bool_literal, integer_literal, float_literal, char_literal, byte_literal, c_string_literal, literal_kind, kind_parse, IsLiteralOf, string_literal_of}
 use Rattle.litrs_grammar.specs.LiteralRefusals.{Dispatch, begins_float, refused_as, parsed_as, dispatch}
 use Rattle.litrs_grammar.specs.Quoted.{quoted_front}
 use Rattle.litrs_grammar.specs.Raw.{raw_front}
@@ -24,7 +24,7 @@ use Rattle.litrs_grammar.proofs.Laws.Literal.{dispatch_literal, is_bool-digit}
 use Rattle.litrs_parts.proofs.IntegerBytes.{digit-chars}
 use Rattle.litrs_parts.specs.declared.kind.Front.{Front}
 use Rattle.litrs_parts.specs.declared.kind.Front.TheVariants as front
-use Rattle.litrs_parts.specs.Front.{string_literal_of, IsFront}
+use Rattle.litrs_parts.specs.Front.{IsFront}
 use Rattle.litrs_parts.specs.NumberCut.{number_kind}
 use Rattle.litrs_parts.proofs.Dispatch.{dispatch-chars}
 use Rattle.litrs_parts.proofs.Fronts.{char_row, byte_row, quoted_row, raw_row}

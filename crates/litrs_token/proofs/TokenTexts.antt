@@ -3,11 +3,10 @@ use Rattle.std.proofs.Common.{ℕ, List, refl}
 use Rattle.litrs_grammar.specs.CharByte.{CharParts, char_kind, byte_kind, IsCharLiteral}
 use Rattle.litrs_grammar.specs.Float.{FloatParts, IsFloatOf}
 use Rattle.litrs_grammar.specs.Integer.{IntegerParts, IsIntegerOf}
-use Rattle.litrs_grammar.specs.Literal.{an_integer, a_float, a_char, a_byte, a_string, a_byte_string, a_c_string}
+use Rattle.litrs_grammar.specs.Literal.{an_integer, a_float, a_char, a_byte, a_string, a_byte_string, a_c_string, string_literal_of}
 use Rattle.litrs_grammar.specs.StringKind.{StringKind, string_kind, byte_string_kind, c_string_kind}
 use Rattle.litrs_grammar.specs.Strings.{StringDerivation}
 use Rattle.litrs_token.specs.declared.kind.TokenKind.TheVariants as token
-use Rattle.litrs_parts.specs.Front.{string_literal_of}
 use Rattle.litrs_token.specs.LiteralToken.{token_kind, IsLiteralToken}
 
 pub integer_token : (t : List ℕ) (d : IntegerParts) → IsIntegerOf t d →

@@ -5,7 +5,8 @@ ghost use Rattle.std.specs.Str.{chars};
 ghost use Rattle.litrs_base.specs.Text.{first_passes, begins_with};
 ghost use Rattle.litrs_grammar.specs.Quoted.{quoted_front};
 ghost use Rattle.litrs_grammar.specs.Raw.{raw_front};
-ghost use Rattle.litrs_parts.specs.Front.{grammar_kind, string_literal_of};
+ghost use Rattle.litrs_grammar.specs.Literal.{string_literal_of};
+ghost use Rattle.litrs_parts.specs.Front.{grammar_kind};
 ghost use Rattle.litrs_token.specs.LiteralToken.{token_kind, IsLiteralToken, IsNoLiteralToken};
 
 use litrs_lex::{cut_quoted, scan_raw_string};

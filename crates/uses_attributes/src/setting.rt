@@ -1,5 +1,5 @@
 //! Where the settings of a line stand.
-ghost use Rattle.std.specs.Prelude.{◌≡◌, ◌+◌, ◌<◌, ◌≤◌, ◌^◌, length, take, IfOk, IfSome, All};
+ghost use Rattle.std.specs.Prelude.{◌+◌, ◌<◌, ◌^◌, length, take, IfOk, IfSome, All};
 ghost use Rattle.std.specs.Str.{chars, IsCharBoundary};
 ghost use Rattle.litrs.specs.Literal.{literal_parse, Begins};
 ghost use Rattle.uses_attributes.specs.Stands.{IsEndOf, StandsAt};

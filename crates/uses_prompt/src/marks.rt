@@ -1,5 +1,5 @@
 //! What is underlined of a refused text.
-ghost use Rattle.std.specs.Prelude.{◌≡◌, ◌++◌, ◌≤◌, ◌<◌, ◌+◌};
+ghost use Rattle.std.specs.Prelude.{◌≡◌, ◌++◌, ◌<◌, ◌+◌};
 ghost use Rattle.std.specs.Str.{chars};
 ghost use Rattle.litrs.specs.Literal.{literal_parse};
 ghost use Rattle.litrs.specs.Refusal.{marked_span};

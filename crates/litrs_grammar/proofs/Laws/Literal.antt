@@ -14,7 +14,7 @@ use Rattle.litrs_grammar.specs.Float.{FloatParts, IsFloatOf, float_refusal}
 use Rattle.litrs_grammar.specs.CharByte.{CharKind, char_kind, byte_kind, CharParts, IsCharLiteral, char_kind_refusal}
 use Rattle.litrs_grammar.specs.Quoted.{QuotedParts, quoted_front, IsQuotedLiteral}
 use Rattle.litrs_grammar.specs.Raw.{RawParts, raw_front, IsRawLiteral, raw_literal_refusal}
-use Rattle.litrs_grammar.specs.Literal.{StringParts, quoted_parts, raw_parts, IsString, Derivation, a_bool, an_integer, a_float, a_char, a_byte, a_string, a_byte_string, a_c_string, IsLiteral, LiteralKind, bool_literal, integer_literal, float_literal, char_literal, byte_literal, string_literal, byte_string_literal, c_string_literal, literal_kind, literal_parse, kind_parse, IsLiteralOf}
+use Rattle.litrs_grammar.specs.Literal.{StringParts, quoted_parts, raw_parts, IsString, Derivation, a_bool, an_integer, a_float, a_char, a_byte, a_string, a_byte_string, a_c_string, IsLiteral, LiteralKind, bool_literal, integer_literal, float_literal, char_literal, byte_literal, string_literal, byte_string_literal, c_string_literal, literal_kind, literal_parse, kind_parse, IsLiteralOf, string_literal_of}
 use Rattle.litrs_grammar.specs.LiteralRefusals.{StringStart, refused_start, quoted_start, raw_start, string_start, string_start_refusal, IsRefusalOfStart, IsStringRefusal, IsKindRefusal, begins_float, Dispatch, refused_as, parsed_as, dispatch, IsRefusalOfDispatch}
 use Rattle.litrs_grammar.specs.Laws.Literal.{LiteralsAreUnique, TextsAreDecided, LiteralsAreNotRefused, RefusalsAreUnique}
 use Rattle.litrs_grammar.proofs.Laws.Bool.{same_bool}
@@ -89,11 +89,6 @@ dispatch_char t d r = ap dispatch (sym r.spells)
 dispatch_byte : (t : List ℕ) (d : CharParts) → IsCharLiteral byte_kind t d → dispatch t ≡ parsed_as byte_literal
 unfolding dispatch
 dispatch_byte t d r = ap dispatch (sym r.spells)
-
-abbrev pub string_literal_of : StringKind → LiteralKind
-string_literal_of string_kind = string_literal
-string_literal_of byte_string_kind = byte_string_literal
-string_literal_of c_string_kind = c_string_literal
 
 dispatch_quoted : (kind : StringKind) (x : List ℕ) → dispatch (quoted_front kind ++ x) ≡ parsed_as (string_literal_of kind)
 unfolding dispatch

@@ -1,7 +1,7 @@
 -- The text is a literal if and only if what stands after its items is not refused.
-use Rattle.std.proofs.Common.{◌×◌, ◌≡◌, ℕ, List, ◌<◌, ◌^◌, length, drop, arith, ◌∙◌, sym, ap, refl, subst, Some}
+use Rattle.std.proofs.Common.{ℕ, List, ◌<◌, ◌^◌, length, drop, arith, ◌∙◌, sym, ap, refl, subst}
 use Rattle.std.specs.Str.{chars}
-use Rattle.litrs_base.specs.Refusal.{HasCharSpan, refusal_of}
+use Rattle.litrs_base.specs.Refusal.{HasCharSpan}
 use Rattle.litrs_grammar.specs.Quoted.{rest_refusal}
 use Rattle.litrs_parts.specs.Unescaped.{grammar_switches}
 use Rattle.litrs_lex.specs.declared.quoted.BodyEnd.{BodyEnd}

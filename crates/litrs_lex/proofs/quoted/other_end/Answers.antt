@@ -2,7 +2,6 @@
 use Rattle.std.proofs.Common.{◌≡◌, ℕ, get_or, length, refl, ap, sym, ◌∙◌, arith, Some, rules}
 use Rattle.std.proofs.lemmas.Bool.{ne_eqb}
 use Rattle.litrs_base.specs.Refusal.{at}
-use Rattle.litrs_base.specs.Text.{first_passes}
 use Rattle.litrs_lex.proofs.QuotedBytes.{first_of, end_refused, quote_starts, return_refused, nul_refused, wide_refused, no_slash}
 use Rattle.litrs_lex.proofs.quoted.other_end.Goals as goal
 use Rattle.litrs_lex.proofs.quoted.other_end.Goals.{in-13, in-0, in_default-first}

@@ -1,5 +1,5 @@
 -- A run and an item are parsed in each turn.
-use Rattle.std.proofs.Common.{ℕ, ◌-◌, List, arith, ◌∙◌, ap, refl, sym, subst, drop, take}
+use Rattle.std.proofs.Common.{ℕ, ◌-◌, List, arith, ◌∙◌, ap, refl, sym, drop, take}
 use Rattle.std.proofs.lemmas.List.{drop-drop}
 use Rattle.litrs_lex.proofs.QuotedBytes.{end_ends}
 use Rattle.litrs_lex.proofs.QuotedScan.{boundary_later, items_end}

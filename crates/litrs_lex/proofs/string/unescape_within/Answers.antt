@@ -1,5 +1,5 @@
 -- The value of the only derivation.
-use Rattle.std.proofs.Common.{◌+◌, ◌≤◌, arith, ◌∙◌, refl, sym, subst, inr, rules}
+use Rattle.std.proofs.Common.{◌+◌, ◌≤◌, arith, ◌∙◌, refl, sym, subst, inr}
 use Rattle.std.specs.Str.{IsUtf8}
 use Rattle.std.proofs.lemmas.Result.{IfOk-at_ok}
 use Rattle.litrs_lex.proofs.QuotedValues.{room_fits, true_by}

@@ -3,7 +3,7 @@ use Rattle.std.proofs.Common.{◌+◌, ◌*◌, take, get_or, sym, ap, ◌∙◌
 use Rattle.std.specs.Char.{digit_value}
 use Rattle.litrs_base.specs.Base.{base_value}
 use Rattle.litrs_base.specs.Numeral.{numeral}
-use Rattle.litrs_parts.proofs.NumeralLemmas.{numeral-nil, numeral_take, numeral_digit, positive_base}
+use Rattle.litrs_parts.proofs.NumeralLemmas.{numeral_take, numeral_digit, positive_base}
 use Rattle.litrs_numbers.proofs.integer.value_from.Goals as goal
 
 pub loop-i-init : goal.loop-i-init

@@ -1,5 +1,5 @@
 -- As in the search by lanes; and the marks of the last load are kept.
-use Rattle.std.proofs.Common.{◌≡◌, ◌-◌, ◌/◌, ◌^◌, not, length, refl, sym, ap, ◌∙◌, arith, map, drop}
+use Rattle.std.proofs.Common.{◌-◌, ◌/◌, ◌^◌, not, length, sym, ap, ◌∙◌, arith, map, drop}
 use Rattle.std.proofs.lemmas.List.{take_all, length-drop}
 use lib.Lanes.{mask_l}
 use Rattle.litrs_search.specs.Special.{is_special}

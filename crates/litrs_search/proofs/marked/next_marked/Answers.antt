@@ -1,6 +1,5 @@
 -- The marks that are left of an earlier load, and after them a new one.
-use Rattle.std.proofs.Common.{◌≡◌, ◌+◌, ◌-◌, ◌/◌, ◌^◌, not, length, drop, map, sym, ap, subst, ◌∙◌, arith, ℕ}
-use lib.Lanes.{chunk, mask_l}
+use Rattle.std.proofs.Common.{◌≡◌, ◌+◌, ◌-◌, not, drop, subst, ◌∙◌, arith, ℕ}
 use Rattle.std.specs.List.{prefix_len}
 use Rattle.litrs_search.specs.Special.{is_special, is_ordinary}
 use Rattle.litrs_search.proofs.MarkedRuns.{run_through, run_stops, run_bound, rest_marks}

@@ -1,7 +1,6 @@
 -- The search ends before the end if and only if the byte is there.
-use Rattle.std.proofs.Common.{◌≡◌, ◌<◌, ℕ, Bool, true, false, not, ltb, List, length, refl, sym, ap, ◌∙◌, zero-add, arith}
+use Rattle.std.proofs.Common.{ltb, length, ap, ◌∙◌, zero-add}
 use Rattle.std.specs.Prelude.{◌==◌}
-use Rattle.std.specs.List.{prefix_len, list_any}
 use Rattle.litrs_search.proofs.MarkedRuns.{run_is_any}
 use Rattle.litrs_search.proofs.search.has_byte.Goals as goal
 

@@ -1,6 +1,4 @@
 -- The cut decides, where the front is that of a quoted string.
-use Rattle.std.proofs.Common.{length, sym, ap}
-use Rattle.litrs_grammar.specs.StringKind.{switches_of}
 use Rattle.litrs_parts.specs.Front.{grammar_kind}
 use Rattle.litrs_lex.proofs.StringFronts.{quoted_boundary}
 use Rattle.litrs_token.proofs.StringTests.{quoted_derivation, quoted_none}

@@ -1,5 +1,4 @@
 -- The rest decides.
-use Rattle.std.proofs.Common.{ap}
 use Rattle.litrs_grammar.specs.StringKind.{switches_of}
 use Rattle.litrs_parts.specs.Front.{grammar_kind}
 use Rattle.litrs_lex.proofs.StringFronts.{quoted_boundary}
