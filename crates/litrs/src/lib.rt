@@ -152,9 +152,7 @@ impl<B: Text> Literal<B> {
             Front::Quoted(kind) => {
                 Ok(Literal::parse_string(alloc, input, kind, Front::Quoted(kind))?)
             }
-            Front::Raw(kind) => {
-                Ok(Literal::parse_raw_string(alloc, input, kind, Front::Raw(kind))?)
-            }
+            Front::Raw(kind) => Literal::parse_raw_string(alloc, input, kind, Front::Raw(kind)),
             Front::Other => Err(ParseError::new(None, other_refusal(input.as_str()))),
         }
     }

@@ -382,7 +382,7 @@ fn end_refusal(rest: &str, end: BodyEnd) -> Option<ParseError>
     ensures refusal { IfSome result (λ e. (unicode byte_escapes allow_nul : Bool) →
         IsBodyEnd (switches unicode byte_escapes allow_nul) (chars rest.now) end →
         IsBodyEnd (switches unicode byte_escapes allow_nul) (chars rest.now)
-            (BodyEnd.Refused e)) }
+        (BodyEnd.Refused e)) }
 {
     match end {
         BodyEnd::Refused(e) => Some(e),

@@ -29,6 +29,7 @@ use std::ops::Range;
 /// follows the closing is no suffix, at its first byte. All spans count from the start of the text.
 ///
 /// [ref]: https://doc.rust-lang.org/reference/tokens.html#raw-string-literals
+#[inline(always)]
 pub fn scan_raw_string(
     input: &str,
     offset: usize,
@@ -51,6 +52,7 @@ pub fn scan_raw_string(
 }
 
 /// The same; or why it is no raw literal, and where.
+#[inline(always)]
 fn cut_raw(
     input: &str,
     offset: usize,
@@ -80,6 +82,7 @@ fn cut_raw(
 
 /// Where the suffix begins after a body from `start` on and its closing with so many hashes; or
 /// why they end no raw literal, and where.
+#[inline(always)]
 fn cut_body(
     input: &str,
     start: usize,
