@@ -112,6 +112,13 @@ impl Collector {
         feed_text(&mut self.held, &mut self.known, line)
     }
 
+    /// Whether no line is held.
+    pub fn is_empty(&self) -> bool
+        ensures { IsTrue result ↔ (self.now ≡ []) }
+    {
+        self.held.is_empty()
+    }
+
     /// The refusal of the lines that are held, joined by LF; None if and only if none is held. It
     /// does not allocate.
     pub fn finish(self) -> Option<ParseError>

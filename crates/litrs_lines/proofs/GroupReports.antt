@@ -1,16 +1,20 @@
 -- The reports on the groups that end with lines: each list of lines has them, and how they go on from line to line.
 use Rattle.std.proofs.Common.{◌≡◌, ◌∙◌, inl, inr, ℕ, List, [], ◌∷◌, ◌++◌, refl, sym, ap, subst, append_assoc, append-nil}
 use Rattle.std.specs.Prelude.{map, codes, Option, Result, Ok, Err, OnOk, is_ok, if◌then◌else◌}
-use Rattle.std.specs.Str.{IsUtf8}
+use Rattle.std.specs.Str.{chars, IsUtf8}
 use Rattle.litrs_base.specs.declared.err.ParseError.{ParseError}
-use Rattle.litrs_base.specs.Refusal.{refusal_of}
+use Rattle.std.proofs.lemmas.Bool.{false≢true}
+use Rattle.litrs_base.specs.Finality.{is_final}
+use Rattle.litrs_base.specs.Refusal.{Refusal, refusal_of, kind_of}
+use Rattle.litrs_grammar.specs.Literal.{Derivation, IsLiteral, IsLiteralOf, literal_parse}
+use Rattle.litrs_grammar.specs.Refused.{IsRefusedOrOutOfMemory}
 use Rattle.litrs.specs.LiteralDerivation.{derivation}
 use Rattle.litrs_collector.specs.declared.Step.{Step}
 use Rattle.litrs_collector.specs.declared.Step.TheVariants.{More, Literal, Refused}
 use Rattle.litrs_collector.specs.Held.{IsRefusalOfHeld}
 use Rattle.litrs_collector.specs.Steps.{IsStep, held_after}
-use Rattle.litrs_lines.specs.Groups.{joined, IsNoText}
-use Rattle.litrs_lines.specs.Report.{literal_report, refusal_report}
+use Rattle.litrs_lines.specs.Groups.{joined, IsNoText, IsFinished}
+use Rattle.litrs_lines.specs.Report.{literal_report, refusal_report, IsTextReport}
 use Rattle.litrs_lines.specs.Reports.{AreReports, AreGroupReports}
 use Rattle.litrs_lines.specs.ReportLaws.{LinesHaveReports, ReportsAreUnique}
 use Rattle.litrs_lines.specs.Ended.{unless_held, AreEndedReports, AreLastReports}
@@ -190,6 +194,50 @@ step_adds held line left step a b old new s sends = (step_bytes step, step_repor
 pub step_stops : (held line left : List ℕ) (step : Step) (a b : Option (List ℕ)) (old : List ℕ) → Steps held line left step →
     AppendsBeginning a b (old ++ step_bytes step) → Stops held (line ∷ []) a old b
 step_stops held line left step a b old s part = (left, (step_bytes step, step_reports held line left step s.text s.whole s.is s.after, part))
+
+-- ---- a line by itself, whose literal or refusal is known
+
+-- it is a group, and r is the report on it
+group_ends : (line r : List ℕ) → IsUtf8 line → IsFinished line → IsTextReport (chars line) r → AreEndedReports [] (line ∷ []) [] (r ++ 10 ∷ [])
+group_ends line r text is report =
+    (line ∷ [], LinesEnd-one [] line (line ∷ []) [] (inr (inl (text, is, refl, refl))), AreReports-one line r (inl (text, report)))
+
+-- the line is finished, and this is the report on it
+pub record Finishes (held line r : List ℕ) : Type 0 where
+  pub nothing : held ≡ []
+  pub text : IsUtf8 line
+  pub finished : IsFinished line
+  pub report : IsTextReport (chars line) r
+
+pub first_adds : (held line : List ℕ) (a b : Option (List ℕ)) (old new r : List ℕ) → Finishes held line r → Sends a old b new (r ++ 10 ∷ []) →
+    Adds held (line ∷ []) held a old b new
+first_adds held line a b old new r is sends =
+    subst (λ (h : List ℕ). Adds h (line ∷ []) h a old b new) (sym is.nothing) (r ++ 10 ∷ [], group_ends line r is.text is.finished is.report, sends)
+
+pub first_stops : (held line : List ℕ) (a b : Option (List ℕ)) (old r : List ℕ) → Finishes held line r → AppendsBeginning a b (old ++ (r ++ 10 ∷ [])) →
+    Stops held (line ∷ []) a old b
+first_stops held line a b old r is part =
+    subst (λ (h : List ℕ). Stops h (line ∷ []) a old b) (sym is.nothing) ([], (r ++ 10 ∷ [], group_ends line r is.text is.finished is.report, part))
+
+pub literal_finishes : (held line : List ℕ) (d : Derivation) → held ≡ [] → IsUtf8 line → IsLiteral (chars line) d → Finishes held line (literal_report d)
+literal_finishes held line d none text is = record {
+  nothing = none;
+  text = text;
+  finished = inl (d, is);
+  report = inl (d, is, refl);
+}
+
+-- after a final kind no line makes a literal of it
+pub refusal_finishes : (held line : List ℕ) (e : ParseError) → held ≡ [] → IsUtf8 line → IsRefusedOrOutOfMemory literal_parse (chars line) e → is_final (kind_of e) ≡ true →
+    Finishes held line (refusal_report (refusal_of e))
+refusal_finishes held line e none text (inl refused) final = record {
+  nothing = none;
+  text = text;
+  finished = inr (λ begins. refused.final final (10 ∷ begins.0) begins.1
+      (subst (λ (t : List ℕ). IsLiteralOf literal_parse t begins.1) (append_assoc (chars line) (10 ∷ []) begins.0) begins.3));
+  report = inr (refusal_of e, refused.table, refl);
+}
+refusal_finishes held line e none text (inr lack) final = absurd (false≢true (sym (ap (λ (r : Refusal). is_final r.kind) lack.error) ∙ final))
 
 -- the report on lines that are held
 pub held_adds : (old new held : List ℕ) (e : ParseError) → IsRefusalOfHeld held e → new ≡ old ++ (refusal_report (refusal_of e) ++ 10 ∷ []) → AddsHeld held old new

@@ -7,6 +7,7 @@ ghost use Rattle.litrs_lines.specs.Sent.{SendsReports, StopsReports};
 use crate::RunError;
 use crate::device::Output;
 use crate::report::{report_literal, report_refusal};
+use litrs::{Literal, ParseErrorKind};
 use litrs_collector::{Collector, Step};
 use std::alloc::AllocError;
 use std::{mem, str};
@@ -39,6 +40,62 @@ pub(crate) fn take_line<O: Output>(
 
 /// [`take_line`] of a line that is a text.
 fn take_text<O: Output>(
+    collector: &mut Collector,
+    reports: &mut String,
+    writer: &mut O,
+    line: &str,
+) -> Result<(), RunError>
+    requires works { O.has_failed writer.old ≡ false }
+    ensures ok { OnOk result (SendsReports
+        (AreEndedReports collector.old (line.now ∷ []) collector.new)
+        (O.contents writer.old) (string_bytes reports.old)
+        (O.contents writer.new) (string_bytes reports.new)) }
+    ensures err { OnErr result ((left : List ℕ) × StopsReports
+        (AreEndedReports collector.old (line.now ∷ []) left)
+        (O.contents writer.old) (string_bytes reports.old) (O.contents writer.new)) }
+    ensures works { OnOk result (O.has_failed writer.new ≡ false) }
+    ensures read { result ≢ Err RunError.Read }
+    ensures write { IsErrOf result RunError.Write ↔ (O.has_failed writer.new ≡ true) }
+{
+    if collector.is_empty() {
+        take_first(collector, reports, writer, line)
+    } else {
+        take_next(collector, reports, writer, line)
+    }
+}
+
+/// [`take_text`] where no line is held. The text of a literal is not copied, and the line is read
+/// again only where its refusal is not final.
+fn take_first<O: Output>(
+    collector: &mut Collector,
+    reports: &mut String,
+    writer: &mut O,
+    line: &str,
+) -> Result<(), RunError>
+    requires works { O.has_failed writer.old ≡ false }
+    requires first { collector.old ≡ [] }
+    ensures ok { OnOk result (SendsReports
+        (AreEndedReports collector.old (line.now ∷ []) collector.new)
+        (O.contents writer.old) (string_bytes reports.old)
+        (O.contents writer.new) (string_bytes reports.new)) }
+    ensures err { OnErr result ((left : List ℕ) × StopsReports
+        (AreEndedReports collector.old (line.now ∷ []) left)
+        (O.contents writer.old) (string_bytes reports.old) (O.contents writer.new)) }
+    ensures works { OnOk result (O.has_failed writer.new ≡ false) }
+    ensures read { result ≢ Err RunError.Read }
+    ensures write { IsErrOf result RunError.Write ↔ (O.has_failed writer.new ≡ true) }
+{
+    let alloc = *reports.allocator();
+    match Literal::parse(alloc, line) {
+        Ok(lit) => report_literal(reports, writer, &lit),
+        Err(e) if e.kind() == ParseErrorKind::OutOfMemory => Err(RunError::Memory),
+        Err(e) if e.is_final() => Ok(report_refusal(reports, &e)?),
+        Err(_) => take_next(collector, reports, writer, line),
+    }
+}
+
+/// [`take_text`] by the collector.
+fn take_next<O: Output>(
     collector: &mut Collector,
     reports: &mut String,
     writer: &mut O,

@@ -40,10 +40,10 @@ fn push_refusal_report(out: &mut String, error: &ParseError) -> Result<(), Alloc
 }
 
 /// Adds the report on a literal, and an LF. Where its value is long, it is written in pieces.
-pub(crate) fn report_literal<O: Output>(
+pub(crate) fn report_literal<B: Buffer, O: Output>(
     reports: &mut String,
     writer: &mut O,
-    lit: &Literal<String>,
+    lit: &Literal<B>,
 ) -> Result<(), RunError>
     requires { O.has_failed writer.old ≡ false }
     ensures ok { OnOk result (Sends (O.contents writer.old) (string_bytes reports.old)

@@ -5,4 +5,4 @@ use Rattle.litrs_lex.proofs.quoted.body_end.Goals as goal
 
 pub returns-else-begins_with_backslash-clause-items : goal.returns-else-begins_with_backslash-clause-items
 returns-else-begins_with_backslash-clause-items c =
-    plain_items_end _ c.args.input.now _ _ _ c.utf8.input c.requires c.first_plain_end-place.ensures c.range_from.ensures.value (end_ends _ _ _ c.other_end.ensures)
+    plain_items_end _ c.args.input.now _ _ _ c.utf8.input c.requires c.first_plain_end-place.ensures c.range_from-rest.ensures.value (end_ends _ _ _ c.other_end.ensures)

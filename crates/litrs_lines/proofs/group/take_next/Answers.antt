@@ -8,7 +8,7 @@ use Rattle.litrs_lines.specs.Stopped.{AppendsBeginning}
 use Rattle.litrs_lines.proofs.LinesLemmas.{OnOk-map, OnErr-map, OnErr-holds}
 use Rattle.litrs_lines.proofs.Sending.{adds}
 use Rattle.litrs_lines.proofs.GroupReports.{Steps, step_bytes, step_adds, step_stops, stops-none}
-use Rattle.litrs_lines.proofs.group.take_text.Goals as goal
+use Rattle.litrs_lines.proofs.group.take_next.Goals as goal
 
 pub returns-in_err-feed-clause-err : goal.returns-in_err-feed-clause-err
 returns-in_err-feed-clause-err g c = OnErr-holds _ (stops-none c.args.collector.now (c.args.line.now ∷ []) (g.O.Output.contents c.args.writer.now) (string_bytes c.args.reports.now))
