@@ -1,5 +1,5 @@
 -- What is an error of the parse of a kind is one of the parse of all kinds, where the text is dispatched to that kind.
-use Rattle.std.proofs.Common.{◌≡◌, inl, inr, ℕ, Bool, true, false, List, refl, sym, ap, subst, ◌∙◌}
+use Rattle.std.proofs.Common.{◌≡◌, ◌⊎◌, inl, inr, ℕ, Bool, true, false, List, refl, sym, ap, subst, ◌∙◌}
 use Rattle.std.specs.Prelude.{codes, if◌then◌else◌}
 use Rattle.std.specs.Str.{chars, IsUtf8}
 use Rattle.litrs_base.specs.declared.err.ParseError.{ParseError}
@@ -11,7 +11,7 @@ use Rattle.litrs_base.specs.Derivations.{IsOnlyDerivation}
 use Rattle.litrs_base.proofs.CharEnds.{no_span}
 use Rattle.litrs_base.proofs.Chars.{begins_with-chars}
 use Rattle.litrs_base.proofs.ListTests.{if_false}
-use Rattle.litrs_grammar.specs.Literal.{Derivation, IsLiteral, LiteralKind, integer_literal, float_literal, c_string_literal, literal_parse, kind_parse}
+use Rattle.litrs_grammar.specs.Literal.{Derivation, IsLiteral, LiteralKind, integer_literal, float_literal, c_string_literal, string_literal_of, literal_parse, kind_parse}
 use Rattle.litrs_grammar.specs.LiteralRefusals.{StringStart, refused_start, string_start, IsRefusalOfStart, Dispatch, refused_as, parsed_as, begins_float, dispatch, IsRefusalOfDispatch, IsRefusal}
 use Rattle.litrs_grammar.specs.Refused.{IsRefused, IsRefusedOrOutOfMemory}
 use Rattle.litrs_grammar.specs.StringKind.{c_string_kind}
@@ -19,8 +19,10 @@ use Rattle.litrs_grammar.proofs.Laws.Literal.{literals_are_unique}
 use Rattle.litrs_grammar.proofs.Refused.{is_refused}
 use Rattle.litrs_parts.specs.NumberCut.{number_kind}
 use Rattle.litrs_parts.proofs.NumberBytes.{kind_by_bytes}
+use Rattle.litrs_parts.specs.declared.kind.Front.{Front}
 use Rattle.litrs_parts.specs.declared.kind.Front.TheVariants as front
-use Rattle.litrs_parts.specs.Front.{IsFront}
+use Rattle.litrs_parts.specs.declared.kind.StringKind.{StringKind as CodeKind}
+use Rattle.litrs_parts.specs.Front.{grammar_kind, row_of, IsFront}
 use Rattle.litrs_parts.proofs.Dispatch.{is_empty-chars, dispatch-chars}
 use Rattle.litrs_parts.proofs.Fronts.{some_text}
 
@@ -51,6 +53,12 @@ pub kind_error_at : (kind : LiteralKind) (bytes text : List ℕ) (e f : ParseErr
     f ≡ e → IsRefusedOrOutOfMemory (kind_parse kind) (chars bytes) e → IsRefusedOrOutOfMemory literal_parse (chars bytes) f
 kind_error_at kind bytes text e f u same is copy error =
     subst (IsRefusedOrOutOfMemory literal_parse (chars bytes)) (sym copy) (kind_error kind (chars bytes) e (row_at bytes text (parsed_as kind) u same is) error)
+
+-- what begins as a quoted or a raw string of a kind is dispatched to it
+pub string_row : (f : Front) (kind : CodeKind) (bs : List ℕ) → (f ≡ front.Quoted kind) ⊎ (f ≡ front.Raw kind) → row_of f bs ≡ dispatch bs →
+    parsed_as (string_literal_of (grammar_kind kind)) ≡ dispatch bs
+string_row f kind bs (inl quoted) row = sym (ap (λ (g : Front). row_of g bs) quoted) ∙ row
+string_row f kind bs (inr raw) row = sym (ap (λ (g : Front). row_of g bs) raw) ∙ row
 
 -- a number is dispatched by its bytes to the kind that its characters name
 number_row : (bs : List ℕ) (v : Bool) → IsUtf8 bs → begins_float bs ≡ v →

@@ -133,8 +133,8 @@ impl<B: Text> Literal<B> {
     /// `0 `; `InvalidLiteral` where no kind begins so. `OutOfMemory`, with no span, where the text
     /// is a literal and there is no memory for its value.
     // Inlined, with the parse of each kind, so that a literal is made where the caller keeps it:
-    // passed through memory, bools and chars took twice the time. What cuts a text is a call, and
-    // so is the parse of raw strings, so that this stays small.
+    // passed through memory, bools and chars took twice the time. What cuts a text is a call, so
+    // that this stays small: inlining ends where it would grow very large.
     #[inline(always)]
     pub fn parse(alloc: Global, input: B) -> Result<Literal<B>, ParseError>
         ensures raw { IfOk result (λ lit. literal_raw lit ≡ B.bytes input) }
@@ -143,16 +143,16 @@ impl<B: Text> Literal<B> {
         ensures refused { IfErr result
             (IsRefusedOrOutOfMemory literal_parse (chars (B.bytes input))) }
     {
-        match Front::of(input.as_str()) {
+        let front = Front::of(input.as_str());
+        match front {
             Front::Empty => Err(ParseError::new(None, ParseErrorKind::Empty)),
             Front::Bool(value) => Ok(Literal::Bool(BoolLit::new(value))),
             Front::Number => Ok(Literal::parse_number(input)?),
             Front::Char => Ok(Literal::Char(CharLit::parse_with_front(input, Front::Char)?)),
             Front::Byte => Ok(Literal::Byte(ByteLit::parse_with_front(input, Front::Byte)?)),
-            Front::Quoted(kind) => {
-                Ok(Literal::parse_string(alloc, input, kind, Front::Quoted(kind))?)
+            Front::Quoted(kind) | Front::Raw(kind) => {
+                Ok(Literal::parse_string(alloc, input, kind, front)?)
             }
-            Front::Raw(kind) => Literal::parse_raw_string(alloc, input, kind, Front::Raw(kind)),
             Front::Other => Err(ParseError::new(None, other_refusal(input.as_str()))),
         }
     }
@@ -197,24 +197,6 @@ impl<B: Text> Literal<B> {
                 Ok(Literal::CString(CStringLit::parse_with_front(alloc, input, front)?))
             }
         }
-    }
-
-    /// The same for one that begins as a raw string. It is not inlined: with all strings in it
-    /// twice, `parse` was not inlined, and each text took 9 ns more.
-    #[inline(never)]
-    fn parse_raw_string(
-        alloc: Global,
-        input: B,
-        kind: StringKind,
-        front: Front,
-    ) -> Result<Literal<B>, ParseError>
-        requires { IsFront front (B.bytes input) }
-        ensures raw { IfOk result (λ lit. literal_raw lit ≡ B.bytes input) }
-        ensures literal { IfOk result (λ lit. IsLiteral (chars (B.bytes input)) (derivation lit)) }
-        ensures refused { IfErr result (IsRefusedOrOutOfMemory
-            (kind_parse (string_literal_of (grammar_kind kind))) (chars (B.bytes input))) }
-    {
-        Literal::parse_string(alloc, input, kind, front)
     }
 
     /// The suffix, empty where there is none: `u8` of `0xFF_u8`. A bool has none.

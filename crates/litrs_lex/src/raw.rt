@@ -149,7 +149,7 @@ fn closing_place<const UNICODE: bool, const ALLOW_NUL: bool>(
     };
     let mut from = start;
     loop {
-        let place = next_stop(bytes, from, hashes, what);
+        let place = next_stop(bytes, from, hashes, what, from == start);
         if !is_inner_quote(&bytes[place..], hashes) {
             return place;
         }
@@ -159,8 +159,10 @@ fn closing_place<const UNICODE: bool, const ALLOW_NUL: bool>(
 
 /// A place from `from` on with a special byte, or the end of the text: before it stand no special
 /// bytes but quotes that do not close the body.
+///
+/// The search for what closes a body costs more to begin, so it begins after a first inner quote.
 #[inline(always)]
-fn next_stop(bytes: &[u8], from: usize, hashes: usize, what: Special) -> usize
+fn next_stop(bytes: &[u8], from: usize, hashes: usize, what: Special, is_first: bool) -> usize
     requires { from ≤ length bytes.now }
     ensures from { from ≤ result }
     ensures within { result ≤ length bytes.now }
@@ -169,7 +171,7 @@ fn next_stop(bytes: &[u8], from: usize, hashes: usize, what: Special) -> usize
     ensures stops { result < length bytes.now →
         IsTrue (is_special what (slice_index bytes.now result)) }
 {
-    if hashes == 0 {
+    if is_first || hashes == 0 {
         next_special(bytes, from, what)
     } else {
         next_closing(bytes, from, hashes, what)

@@ -106,7 +106,7 @@ fn parse_quoted<C: EscapeContainer>(
 
 /// Cuts a raw string whose `r` ends at `offset`: where its body stands and its suffix begins.
 /// `offset` and the switches are those of [`scan_raw_string`].
-#[inline(always)]
+#[inline(never)]
 fn cut_raw(input: &str, offset: usize, allowed: Switches) -> Result<(BodyPlace, usize), ParseError>
     requires { IsCharBoundary input.now offset }
     ensures ok { IfOk result (λ parsed.

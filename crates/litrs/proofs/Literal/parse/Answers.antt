@@ -1,7 +1,7 @@
 -- Each arm is the parse of its kind.
 use Rattle.std.proofs.Common.{inl, refl, sym, ap, ◌∙◌}
 use Rattle.std.specs.Str.{chars}
-use Rattle.std.proofs.lemmas.Result.{IfOk-weaker, MatchResult-weaker, err_from_is_err_and}
+use Rattle.std.proofs.lemmas.Result.{err_from_is_err_and}
 use Rattle.litrs_base.specs.declared.err.ParseErrorKind.TheVariants.{Empty}
 use Rattle.litrs_base.specs.Refusal.{plain}
 use Rattle.litrs_grammar.specs.Bool.{bool_text}
@@ -11,7 +11,7 @@ use Rattle.litrs_scalars.specs.BoolLiteral.{bool_value}
 use Rattle.litrs_scalars.specs.CharLiteral.{char_parts, byte_parts}
 use Rattle.litrs_parts.specs.Front.{grammar_kind}
 use Rattle.litrs.specs.LiteralDerivation.{derivation}
-use Rattle.litrs.proofs.KindErrors.{only_literal, kind_error_at, number_error_at, start_refused, start_error_at}
+use Rattle.litrs.proofs.KindErrors.{only_literal, kind_error_at, string_row, number_error_at, start_refused, start_error_at}
 use Rattle.litrs.proofs.Literal.parse.Goals as goal
 
 pub returns-in-Empty-clause-refused : goal.returns-in-Empty-clause-refused
@@ -71,31 +71,14 @@ returns-in_err-parse_with_front-in-Byte-clause-refused g c =
 pub returns-in_ok-parse_with_front-in-Byte-clause-ok : goal.returns-in_ok-parse_with_front-in-Byte-clause-ok
 returns-in_ok-parse_with_front-in-Byte-clause-ok g c = only_literal _ (a_byte (byte_parts c.in_ok-parse_with_front-in-Byte.field-0)) c.in_ok-parse_with_front-in-Byte.ensures.ok.0
 
-pub parse_string-requires : goal.parse_string-requires
-parse_string-requires g c = rw (c.as_str.ensures) at c.in-Quoted.ensures
-
 pub returns-in_err-parse_string-in-Quoted-clause-refused : goal.returns-in_err-parse_string-in-Quoted-clause-refused
 returns-in_err-parse_string-in-Quoted-clause-refused g c =
-    let is = c.in-Quoted.ensures in
     let p = err_from_is_err_and c.from_residual-in_err-parse_string-in-Quoted.result c.from_residual-in_err-parse_string-in-Quoted.ensures.1 in
     rw (p.1) (kind_error_at (string_literal_of (grammar_kind c.in-Quoted.kind)) _ c.as_str.result.now c.in_err-parse_string-in-Quoted.field-0.0 _ c.as_str.utf8 c.as_str.ensures
-    is.row p.2 c.in_err-parse_string-in-Quoted.ensures.refused)
+    (string_row c.of-front.result c.in-Quoted.kind c.as_str.result.now c.in-Quoted.is c.of-front.ensures.row) p.2 c.in_err-parse_string-in-Quoted.ensures.refused)
 
 pub returns-in_ok-parse_string-in-Quoted-clause-ok : goal.returns-in_ok-parse_string-in-Quoted-clause-ok
 returns-in_ok-parse_string-in-Quoted-clause-ok g c = only_literal _ (derivation c.in_ok-parse_string-in-Quoted.field-0) c.in_ok-parse_string-in-Quoted.ensures.literal
-
-pub parse_raw_string-requires : goal.parse_raw_string-requires
-parse_raw_string-requires g c = rw (c.as_str.ensures) at c.in-Raw.ensures
-
-pub returns-in-Raw-clause-ok : goal.returns-in-Raw-clause-ok
-returns-in-Raw-clause-ok g c =
-    IfOk-weaker c.parse_raw_string.result _ _ (λ lit is. only_literal _ (derivation lit) is) c.parse_raw_string.ensures.literal
-
-pub returns-in-Raw-clause-refused : goal.returns-in-Raw-clause-refused
-returns-in-Raw-clause-refused g c =
-    let is = c.in-Raw.ensures in
-    MatchResult-weaker c.parse_raw_string.result c.parse_raw_string.ensures.refused (λ _ done. done)
-    (λ e error. kind_error_at (string_literal_of (grammar_kind c.in-Raw.kind)) _ c.as_str.result.now e e c.as_str.utf8 c.as_str.ensures is.row refl error)
 
 pub other_refusal-requires : goal.other_refusal-requires
 other_refusal-requires g c = let is = rw (c.as_str.ensures) at c.in-Other.ensures in rw (c.as_str-in-Other.ensures) is
