@@ -1,5 +1,5 @@
 -- The reports on the groups that end with lines: each list of lines has them, and how they go on from line to line.
-use Rattle.std.proofs.Common.{◌≡◌, ◌∙◌, inl, inr, ℕ, List, [], ◌∷◌, ◌++◌, refl, sym, ap, subst, append_assoc, append-nil}
+use Rattle.std.proofs.Common.{◌≡◌, ◌∙◌, true, inl, inr, ℕ, List, [], ◌∷◌, ◌++◌, refl, sym, ap, subst, append_assoc, append-nil}
 use Rattle.std.specs.Prelude.{map, codes, Option, Result, Ok, Err, OnOk, is_ok, if◌then◌else◌}
 use Rattle.std.specs.Str.{chars, IsUtf8}
 use Rattle.litrs_base.specs.declared.err.ParseError.{ParseError}
