@@ -27,7 +27,7 @@ pub refusal_moves : (parse : Parse) (bs : List ℕ) (e : ParseError) (offset : �
     IsRefused parse (chars bs) e → MovesWithin offset e
 refusal_moves parse bs e offset utf8 small r =
     let size : byte_len (chars bs) ≡ length bs = ap length (encodes-chars bs utf8) in
-    within (chars bs) offset (omega arith) (span_of e) e.char_end r.span r.char_span
+    within (chars bs) offset (omega arith) e.span e.char_end r.span r.char_span
 
 -- of a parse that may allocate
 pub error_moves : (parse : Parse) (bs : List ℕ) (e : ParseError) (offset : ℕ) → IsUtf8 bs → offset + length bs < 2 ^ 64 →

@@ -10,12 +10,12 @@ use Rattle.litrs_base.specs.declared.err.ParseErrorKind.{ParseErrorKind}
 use Rattle.litrs_base.specs.declared.err.ParseError.{ParseError}
 use Rattle.litrs_base.specs.Text.{byte_len, PointsInto}
 use Rattle.litrs_base.specs.CharEnd.{IsBoundaryOf, IsCharEnd, PointsAtCharacters, IsCutBy}
-use Rattle.litrs_base.specs.Refusal.{Refusal, refusal_of, span_of, IsInText, plain, moved, moved_span, char_span_of, marked_span, HasCharSpan, MovesWithin}
+use Rattle.litrs_base.specs.Refusal.{Refusal, refusal_of, IsInText, plain, moved, moved_span, char_span_of, marked_span, HasCharSpan, MovesWithin}
 use Rattle.litrs_base.proofs.Spans.{byte_len-append}
 
 -- a refusal with no span
 pub no_span : (t : List ℕ) (e : ParseError) (kind : ParseErrorKind) → refusal_of e ≡ plain kind → HasCharSpan t e
-no_span t e kind same = let none : span_of e ≡ None = ap (λ (r : Refusal). r.span) same in rw none tt
+no_span t e kind same = let none : e.span ≡ None = ap (λ (r : Refusal). r.span) same in rw none tt
 
 -- the boundary that is found in the bytes of a text
 pub char_end_within : (bs : List ℕ) (end place : ℕ) → IsUtf8 bs → end ≤ length bs → (end ≤ length bs → end ≤ place) → IsCharBoundary bs place →
@@ -86,7 +86,7 @@ moved_end front t (Some s) p a b same ends is =
 -- a refusal of what follows a front, moved by it
 pub char_span_moved : (front t : List ℕ) (e f : ParseError) → refusal_of f ≡ moved (byte_len front) (refusal_of e) →
     char_span_of f ≡ moved_span (byte_len front) (char_span_of e) → HasCharSpan t e → HasCharSpan (front ++ t) f
-char_span_moved front t e f same ends is = moved_end front t (span_of e) (span_of f) e.char_end f.char_end (ap (λ (r : Refusal). r.span) same) ends is
+char_span_moved front t e f same ends is = moved_end front t e.span f.span e.char_end f.char_end (ap (λ (r : Refusal). r.span) same) ends is
 
 -- Character spans
 
@@ -115,7 +115,7 @@ front_boundary t front rest cut =
     (boundary_before (encode_utf8_all front) (encode_utf8_all rest) (byte_len front) 0 (omega arith) (starts_character rest)))
 
 pub char_span_points : (t : List ℕ) (e : ParseError) → IsInText t (refusal_of e) → HasCharSpan t e → IfSome (char_span_of e) (PointsAtCharacters t)
-char_span_points t e = points (span_of e) e.char_end
+char_span_points t e = points e.span e.char_end
   where
     points : (o : Option (Range ℕ)) (place : ℕ) → IfSome o (PointsInto t) → IfSome o (λ span. IsCharEnd t span.end place) →
         IfSome (option_map (λ (span : Range ℕ). record { start = span.start; end = place }) o) (PointsAtCharacters t)
@@ -157,7 +157,7 @@ char_end_on t x end place inside is =
 
 -- a refusal that points into a text, of a text that goes on
 pub char_span_on : (t x : List ℕ) (e : ParseError) → IsInText t (refusal_of e) → HasCharSpan t e → HasCharSpan (t ++ x) e
-char_span_on t x e = on (span_of e) e.char_end
+char_span_on t x e = on e.span e.char_end
   where
     on : (o : Option (Range ℕ)) (place : ℕ) → IfSome o (PointsInto t) → IfSome o (λ span. IsCharEnd t span.end place) → IfSome o (λ span. IsCharEnd (t ++ x) span.end place)
     on None place inside is = tt
@@ -166,7 +166,7 @@ char_span_on t x e = on (span_of e) e.char_end
 -- the refusal of what follows a front may be moved by it, where the text is not too long
 pub moves_within : (front t : List ℕ) (e : ParseError) → IsInText (front ++ t) (moved (byte_len front) (refusal_of e)) → HasCharSpan t e → byte_len (front ++ t) < 2 ^ 64 →
     MovesWithin (byte_len front) e
-moves_within front t e inside is small = within (span_of e) e.char_end inside is
+moves_within front t e inside is small = within e.span e.char_end inside is
   where
     within : (o : Option (Range ℕ)) (place : ℕ) → IfSome (moved_span (byte_len front) o) (PointsInto (front ++ t)) → IfSome o (λ span. IsCharEnd t span.end place) →
         ForSome o (λ span. (span.start + byte_len front < 2 ^ 64) × (span.end + byte_len front < 2 ^ 64) × (place + byte_len front < 2 ^ 64))
@@ -191,7 +191,7 @@ points_cut bs span utf8 at =
 
 -- the same of its character span, or all of it where there is none
 pub marked_span_cuts : (bs : List ℕ) (e : ParseError) → IsUtf8 bs → IfSome (char_span_of e) (PointsAtCharacters (chars bs)) → IsCutBy bs (marked_span (chars bs) e)
-marked_span_cuts bs e utf8 = cuts (span_of e) e.char_end
+marked_span_cuts bs e utf8 = cuts e.span e.char_end
   where
     cuts : (o : Option (Range ℕ)) (place : ℕ) → IfSome (option_map (λ (span : Range ℕ). record { start = span.start; end = place }) o) (PointsAtCharacters (chars bs)) →
         IsCutBy bs (unwrap_or (option_map (λ (span : Range ℕ). record { start = span.start; end = place }) o) (record { start = 0; end = byte_len (chars bs) }))

@@ -1,5 +1,5 @@
 -- Refusals: a kind, and perhaps a span in the text, in bytes. The Rust Reference has none.
-use Rattle.std.specs.Prelude.{ℕ, ◌+◌, ◌<◌, ◌^◌, Bool, true, false, List, [], ◌++◌, Option, Some, None, IfSome, option_map, unwrap_or, codes}
+use Rattle.std.specs.Prelude.{ℕ, ◌+◌, ◌<◌, ◌^◌, List, [], ◌++◌, Option, Some, None, IfSome, option_map, unwrap_or, codes}
 use Rattle.std.specs.Option.{ForSome}
 use Rattle.std.specs.Fmt.{decimal}
 use Rattle.std.specs.declared.ops.Range.{Range}
@@ -56,14 +56,9 @@ refusal_text r = kind_text r.kind ++ span_text r.span
 
 -- Errors: what the code answers holds a refusal, and where its span ends in whole characters.
 
--- the span with these ends, where there is one
-abbrev pub span_if : Bool → ℕ → ℕ → Option (Range ℕ)
-span_if false start end = None
-span_if true start end = Some (record { start = start; end = end })
-
 -- the refusal that an error holds
 abbrev pub refusal_of : ParseError → Refusal
-refusal_of e = record { span = span_if e.has_span e.start e.end; kind = e.kind }
+refusal_of e = record { span = e.span; kind = e.kind }
 
 -- its parts
 abbrev pub kind_of : ParseError → ParseErrorKind

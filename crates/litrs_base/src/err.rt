@@ -1,5 +1,5 @@
 //! Why a text is refused.
-ghost use Rattle.std.specs.Prelude.{◌≡◌, ◌+◌, ◌≤◌, ◌<◌};
+ghost use Rattle.std.specs.Prelude.{◌≡◌, ◌+◌, ◌≤◌, ◌<◌, ◌^◌};
 ghost use Rattle.std.specs.Str.{chars};
 ghost use Rattle.litrs_base.specs.CharEnd.{IsCharEnd};
 ghost use Rattle.litrs_base.specs.Kind.{kind_text};
@@ -9,18 +9,15 @@ use std::fmt;
 use std::ops::Range;
 
 /// A refusal: what is wrong with a text, and where.
-// The span is kept as its ends, which take 8 bytes less than an `Option`.
 #[derive(Debug, Drop)]
 pub struct ParseError {
-    pub(crate) start: usize,
-    pub(crate) end: usize,
+    pub(crate) span: Option<Range<usize>>,
     pub(crate) char_end: usize,
-    pub(crate) has_span: bool,
     pub(crate) kind: ParseErrorKind,
 }
 
 impl ParseError {
-    ghost use Rattle.std.specs.Prelude.{true, false, IfSome};
+    ghost use Rattle.std.specs.Prelude.{IfSome};
     ghost use Rattle.litrs_base.specs.Refusal.{refusal, refusal_of, kind_of, span_of, char_span_of, marked_span, HasCharSpan, moved, moved_span, MovesWithin};
     ghost use Rattle.litrs_base.specs.CharEnd.{PointsAtCharacters, IsCutBy};
     ghost use Rattle.litrs_base.specs.Finality.{is_final, is_open};
@@ -31,9 +28,14 @@ impl ParseError {
         ensures refusal { refusal_of result ≡ refusal span kind }
         ensures char_span { char_span_of result ≡ span }
     {
-        match span {
-            Some(span) => ParseError::over(span.start, span.end, span.end, kind),
-            None => ParseError::plain(kind),
+        let char_end = match &span {
+            Some(span) => span.end,
+            None => 0,
+        };
+        ParseError {
+            span,
+            char_end,
+            kind,
         }
     }
 
@@ -45,50 +47,13 @@ impl ParseError {
         ensures refusal { refusal_of result ≡ refusal span kind }
         ensures char_span { HasCharSpan (chars text.now) result }
     {
-        match span {
-            Some(span) => {
-                let char_end = char_end_of(text, span.end);
-                ParseError::over(span.start, span.end, char_end, kind)
-            }
-            None => ParseError::plain(kind),
-        }
-    }
-
-    /// A refusal of this kind that points at the bytes from `start` up to `end`, and in whole
-    /// characters up to `char_end`.
-    fn over(start: usize, end: usize, char_end: usize, kind: ParseErrorKind) -> ParseError
-        ensures { result ≡ record {
-          start = start;
-          end = end;
-          char_end = char_end;
-          has_span = true;
-          kind = kind;
-        } }
-    {
+        let char_end = match &span {
+            Some(span) => char_end_of(text, span.end),
+            None => 0,
+        };
         ParseError {
-            start,
-            end,
+            span,
             char_end,
-            has_span: true,
-            kind,
-        }
-    }
-
-    /// A refusal of this kind that points at no part of the text.
-    fn plain(kind: ParseErrorKind) -> ParseError
-        ensures { result ≡ record {
-          start = 0;
-          end = 0;
-          char_end = 0;
-          has_span = false;
-          kind = kind;
-        } }
-    {
-        ParseError {
-            start: 0,
-            end: 0,
-            char_end: 0,
-            has_span: false,
             kind,
         }
     }
@@ -117,10 +82,9 @@ impl ParseError {
     pub fn span(&self) -> Option<Range<usize>>
         ensures { result ≡ span_of self.now }
     {
-        if self.has_span {
-            Some(self.start..self.end)
-        } else {
-            None
+        match &self.span {
+            Some(span) => Some(span.start..span.end),
+            None => None,
         }
     }
 
@@ -129,10 +93,9 @@ impl ParseError {
     pub fn char_span(&self) -> Option<Range<usize>>
         ensures { result ≡ char_span_of self.now }
     {
-        if self.has_span {
-            Some(self.start..self.char_end)
-        } else {
-            None
+        match &self.span {
+            Some(span) => Some(span.start..self.char_end),
+            None => None,
         }
     }
 
@@ -193,14 +156,22 @@ impl ParseError {
         ensures refusal { refusal_of result ≡ moved offset (refusal_of self) }
         ensures char_span { char_span_of result ≡ moved_span offset (char_span_of self) }
     {
-        match self.span() {
-            Some(span) => ParseError::over(
-                span.start + offset,
-                span.end + offset,
-                self.char_end + offset,
-                self.kind,
-            ),
-            None => self,
+        let Self {
+            span,
+            char_end,
+            kind,
+        } = self;
+        match span {
+            Some(span) => ParseError {
+                span: Some(span.start + offset..span.end + offset),
+                char_end: char_end + offset,
+                kind,
+            },
+            None => ParseError {
+                span: None,
+                char_end,
+                kind,
+            },
         }
     }
 
@@ -209,11 +180,9 @@ impl ParseError {
         ensures { result ≡ self.now }
     {
         ParseError {
-            start: self.start,
-            end: self.end,
+            span: self.span(),
             char_end: self.char_end,
-            has_span: self.has_span,
-            kind: self.kind,
+            kind: self.kind(),
         }
     }
 }
@@ -237,9 +206,9 @@ impl fmt::Display for ParseError {
 
     fn fmt<W: fmt::Write>(&self, f: &mut fmt::Formatter<W>) -> fmt::Result {
         self.kind.fmt(f)?;
-        if self.has_span {
-            let start = self.start;
-            let end = self.end;
+        if let Some(span) = &self.span {
+            let start = span.start;
+            let end = span.end;
             write!(f, " (at {start}..{end})")?;
         }
         Ok(())

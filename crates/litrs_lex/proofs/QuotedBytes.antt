@@ -15,7 +15,7 @@ use Rattle.litrs_base.specs.declared.err.ParseErrorKind.TheVariants.{Unterminate
 use Rattle.litrs_base.specs.declared.escape.Unescape.{Unescape}
 use Rattle.litrs_base.specs.CharEnd.{IsCharEnd}
 use Rattle.litrs_base.specs.Characters.{is_blank, is_ascii, is_ascii_unless}
-use Rattle.litrs_base.specs.Refusal.{Refusal, refusal_of, span_of, HasCharSpan, plain, at}
+use Rattle.litrs_base.specs.Refusal.{Refusal, refusal_of, HasCharSpan, plain, at}
 use Rattle.litrs_base.specs.Text.{byte_len, first_passes, is_empty}
 use Rattle.litrs_base.proofs.ByteLen.{byte_len_one_ascii, length-le-byte_len, byte_len_all_ascii}
 use Rattle.litrs_base.proofs.CharEnds.{char_span_on}
@@ -252,7 +252,7 @@ span_by : (w : Switches) (cut t : List ℕ) (d : ℕ) (e : ParseError) → cut +
 span_by w [] t d e whole refused =
     let first : 92 ≡ d = cc in
     subst (λ (c : ℕ). HasCharSpan (c ∷ []) e) first
-    (single_span (span_of e) e.char_end (ap (λ (r : Refusal). r.span) (first_row w (refusal_of e) refused.table)) refused.char_span)
+    (single_span e.span e.char_end (ap (λ (r : Refusal). r.span) (first_row w (refusal_of e) refused.table)) refused.char_span)
 span_by w (c ∷ cut) t d e whole refused = char_span_on (c ∷ cut) (d ∷ []) e (refused.span refl) refused.char_span
 
 pub escape_span : (w : Switches) (bytes bs cut : List ℕ) (e : ParseError) → bytes ≡ 92 ∷ bs → chars cut ≡ without_last (chars bytes) → IsEscapeRefused w (chars cut) e →

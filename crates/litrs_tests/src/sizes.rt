@@ -4,7 +4,7 @@ use litrs::{
     ParseError, StringLit,
 };
 
-const _: () = prove!(size_of::<ParseError>() == 32);
+const _: () = prove!(size_of::<ParseError>() == 40);
 
 const _: () = prove!(size_of::<Literal<&str>>() == 64);
 
