@@ -1,5 +1,5 @@
 //! Why a text is refused.
-ghost use Rattle.std.specs.Prelude.{◌≡◌, ◌+◌, ◌≤◌, ◌<◌, ◌^◌};
+ghost use Rattle.std.specs.Prelude.{◌≡◌, ◌+◌, ◌≤◌, ◌<◌};
 ghost use Rattle.std.specs.Str.{chars};
 ghost use Rattle.litrs_base.specs.CharEnd.{IsCharEnd};
 ghost use Rattle.litrs_base.specs.Kind.{kind_text};
