@@ -22,6 +22,10 @@ MAPPED = {
     ("crates/litrs_strings/src/c_string.rt", OUT_OF_MEMORY),
     ("crates/litrs_collector/src/lib.rt", "ParseErrorKind::OutOfMemory => Err(AllocError),"),
     ("crates/litrs_token/src/from_token.rt", "ParseErrorKind::OutOfMemory => Err(AllocError),"),
+    (
+        "crates/litrs_lines/src/group.rt",
+        "Err(e) if e.kind() == ParseErrorKind::OutOfMemory => Err(RunError::Memory),",
+    ),
     ("crates/uses_lexer/src/literal.rt", "ParseErrorKind::OutOfMemory => Err(AllocError),"),
     ("crates/uses_formatter/src/form.rt", "ParseErrorKind::OutOfMemory => Err(AllocError),"),
     # The program of rows, which ends where memory of its own was refused.
