@@ -18,6 +18,7 @@ use crate::device::Output;
 use crate::{RunError, write_all};
 use litrs::{Buffer, ByteLit, CharLit, FloatLit, IntegerLit, Literal, ParseError};
 use std::alloc::AllocError;
+use std::str;
 
 /// The most bytes of a value whose report is held before it is written.
 const PIECE_LEN: usize = 4096;
@@ -277,18 +278,19 @@ fn push_hex(out: &mut String, bytes: &[u8]) -> Result<(), AllocError>
 fn push_hex_byte(out: &mut String, byte: u8) -> Result<(), AllocError>
     ensures { OnOk result (string_bytes out.new ≡ string_bytes out.old ++ hex_byte byte) }
 {
-    out.push(hex_digit(byte / 16))?;
-    out.push(hex_digit(byte % 16))
+    let digits = [hex_digit(byte / 16), hex_digit(byte % 16)];
+    out.push_str(unsafe { str::from_utf8_unchecked(&digits) })
 }
 
 /// The hex digit, in lower case.
-fn hex_digit(value: u8) -> char
+fn hex_digit(value: u8) -> u8
     requires { value < 16 }
-    ensures { result ≡ digit_char value }
+    ensures digit { result ≡ digit_char value }
+    ensures ascii { result < 128 }
 {
     if value < 10 {
-        (b'0' + value) as char
+        b'0' + value
     } else {
-        (b'a' - 10 + value) as char
+        b'a' - 10 + value
     }
 }
