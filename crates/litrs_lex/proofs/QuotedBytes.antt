@@ -28,9 +28,7 @@ use Rattle.litrs_grammar.specs.Quoted.{Item, plain_item, escape_item, continuati
 use Rattle.litrs_grammar.proofs.Laws.Escape.{by_simple, refusal_escape}
 use Rattle.litrs_grammar.proofs.QuotedItems.{last_of, without_last-append}
 use Rattle.litrs_grammar.proofs.Laws.Quoted.{quoted_values_fit_bodies}
-use Rattle.litrs_lex.specs.QuotedItems.{IsItemAt, IsBodyEnd, EndsItems, item_bytes}
-use Rattle.litrs_lex.specs.declared.quoted.BodyEnd.{BodyEnd}
-use Rattle.litrs_lex.specs.declared.quoted.BodyEnd.TheVariants.{Quote, Refused}
+use Rattle.litrs_lex.specs.QuotedItems.{IsItemAt, EndsItems, item_bytes}
 use Rattle.litrs_lex.specs.Container.{is_pushable}
 use Rattle.litrs_parts.specs.Unescaped.{IsUnescaped, IsEscapeRefused}
 use Rattle.litrs_lex.proofs.PlainRuns.{utf8_behind, list_all-take, plain_alike, stops_at}
@@ -398,11 +396,8 @@ continuation_free w bytes bs k is u count other =
     longer_of n t (c ∷ x) is h = let size = ap length is in omega (arith, length-drop n t)
 
 -- the closing quote
-pub quote_starts : (bytes bs : List ℕ) → bytes ≡ 34 ∷ bs → first_passes (λ c. c == 34) (chars bytes) ≡ true
-quote_starts bytes bs is = ap (λ l. first_passes (λ c. c == 34) (chars l)) is ∙ ap (first_passes (λ c. c == 34)) (chars_ascii 34 bs (omega arith))
-
 pub quote_ends : (w : Switches) (bytes bs : List ℕ) → bytes ≡ 34 ∷ bs → EndsItems w (chars bytes)
-quote_ends w bytes bs is = inl (quote_starts bytes bs is)
+quote_ends w bytes bs is = inl (ap (λ l. first_passes (λ c. c == 34) (chars l)) is ∙ ap (first_passes (λ c. c == 34)) (chars_ascii 34 bs (omega arith)))
 
 free_row : (w : Switches) (t : List ℕ) → is_suffix t ≡ true → rest_refusal w (34 ∷ t) ≡ None
 unfolding rest_refusal
@@ -436,25 +431,6 @@ told_suffix w s false is none = let some = quote_row w s is in cc
 first_is : (t : List ℕ) → first_passes (λ c. c == 34) t ≡ true → 34 ∷ drop 1 t ≡ t
 first_is [] h = absurd (false≢true h)
 first_is (c ∷ t) h = ap (λ n. n ∷ t) (sym (eqb-true c 34 h))
-
-quote_ascii : OnlyAscii (λ c. c == 34)
-quote_ascii c high = ne_eqb c 34 (λ e. omega arith)
-
-pub quote_first : (bytes : List ℕ) → IsUtf8 bytes → first_passes (λ c. c == 34) (chars bytes) ≡ true → bytes ≡ 34 ∷ drop 1 bytes
-quote_first bytes u h = sym (first_is bytes (sym (first_passes-chars _ bytes quote_ascii u) ∙ h))
-
--- the first byte is a backslash or another one
-pub slash_first : (bytes : List ℕ) → first_passes (λ c. c == 92) bytes ≡ true → bytes ≡ 92 ∷ drop 1 bytes
-slash_first [] h = absurd (false≢true h)
-slash_first (b ∷ bytes) h = ap (λ n. n ∷ bytes) (eqb-true b 92 h)
-
-pub no_slash : (bytes bs : List ℕ) (b : ℕ) → bytes ≡ b ∷ bs → first_passes (λ c. c == 92) bytes ≡ false → (b == 92) ≡ false
-no_slash bytes bs b is h = ap (first_passes (λ c. c == 92)) (sym is) ∙ h
-
--- what stands where the items end ends them
-pub end_ends : (w : Switches) (rest : List ℕ) (end : BodyEnd) → IsBodyEnd w rest end → EndsItems w rest
-end_ends w rest Quote is = inl is
-end_ends w rest (Refused e) is = inr (refusal_of e, is.0)
 
 pub closed_of : (w : Switches) (rest : List ℕ) → EndsItems w rest → rest_refusal w rest ≡ None → (34 ∷ drop 1 rest ≡ rest) × (is_suffix (drop 1 rest) ≡ true)
 closed_of w rest (inl quote) free =

@@ -4,14 +4,12 @@ use Rattle.std.specs.List.{list_all}
 use Rattle.std.specs.Str.{chars, IsCharBoundary}
 use Rattle.litrs_base.specs.declared.escape.Unescape.{Unescape}
 use Rattle.litrs_base.specs.Characters.{double_quote}
-use Rattle.litrs_base.specs.Refusal.{Refusal, refusal_of, HasCharSpan}
+use Rattle.litrs_base.specs.Refusal.{Refusal}
 use Rattle.litrs_base.specs.Text.{byte_len, first_passes}
 use Rattle.litrs_grammar.specs.Escape.{Switches, value_bytes}
 use Rattle.litrs_grammar.specs.Quoted.{Item, item_text, item_value, is_item, is_taken_before, is_plain, body_text, body_value, stand_before, rest_refusal}
 use Rattle.litrs_search.specs.declared.search.Special.{Special}
 use Rattle.litrs_lex.specs.Container.{is_pushable}
-use Rattle.litrs_lex.specs.declared.quoted.BodyEnd.{BodyEnd}
-use Rattle.litrs_lex.specs.declared.quoted.BodyEnd.TheVariants.{Quote, Refused}
 use Rattle.litrs_lex.specs.declared.quoted.ItemsEnd.{ItemsEnd}
 
 -- The bytes beside `"` and CR at which the plain characters of a body end. Where only ASCII is
@@ -56,12 +54,6 @@ abbrev pub EndsItems : Switches → List ℕ → Type 0
 EndsItems w rest =
     IsTrue (first_passes (λ c. c == double_quote) rest)
     ⊎ ((e : Refusal) × (rest_refusal w rest ≡ Some e))
-
--- What stands at the front of the rest, where no item does: the closing quote, or what the table
--- refuses.
-abbrev pub IsBodyEnd : Switches → List ℕ → BodyEnd → Type 0
-IsBodyEnd w rest Quote = IsTrue (first_passes (λ c. c == double_quote) rest)
-IsBodyEnd w rest (Refused e) = (rest_refusal w rest ≡ Some (refusal_of e)) × HasCharSpan rest e
 
 -- After the front, which ends at `offset`, stand items up to the place, which stand for so many
 -- bytes; and there they end.

@@ -1,12 +1,13 @@
 //! Where a quoted string, byte string or C string is cut.
-ghost use Rattle.std.specs.Prelude.{Bool, not, ◌-◌, [], take, drop, codes, ◌≡◌, ◌≤◌, ◌==◌, true, false, length, IfOk, IfErr, IfSome, IfNone, Some, None, IsTrue, IsFalse};
+ghost use Rattle.std.specs.Prelude.{Bool, not, ◌-◌, [], take, codes, ◌≡◌, ◌≤◌, ◌==◌, true, false, length, IfOk, IfErr, IfSome, IfNone, Some, None, IsTrue, IsFalse};
 ghost use Rattle.std.specs.List.{prefix_len};
 ghost use Rattle.std.specs.Str.{chars, IsCharBoundary};
-ghost use Rattle.litrs_base.specs.Characters.{backslash, double_quote, line_feed, is_blank};
+ghost use Rattle.litrs_base.specs.Characters.{line_feed, is_blank};
+ghost use Rattle.litrs_base.specs.Refusal.{refusal_of, HasCharSpan};
 ghost use Rattle.litrs_base.specs.Text.{first_passes};
 ghost use Rattle.litrs_grammar.specs.Quoted.{QuotedParts, IsQuoted, body_value, is_plain, without_last, rest_refusal};
 ghost use Rattle.litrs_lex.specs.QuotedCut.{IsQuotedCut, IsQuotedRefused};
-ghost use Rattle.litrs_lex.specs.QuotedItems.{IsPlainRun, IsItemAt, IsItemsEnd, IsBodyEnd, item_bytes, stops};
+ghost use Rattle.litrs_lex.specs.QuotedItems.{IsPlainRun, IsItemAt, IsItemsEnd, EndsItems, item_bytes, stops};
 ghost use Rattle.litrs_search.specs.Marked.{IsMarked};
 ghost use Rattle.litrs_parts.specs.Unescaped.{switches, grammar_switches};
 
@@ -64,37 +65,35 @@ pub fn cut_quoted(
         byte_escapes,
         allow_nul,
     };
-    let (items, end) = body_end(input, offset, allowed);
-    cut_at_end(input, offset, items, end, allowed)
+    let end = items_end(input, offset, allowed);
+    cut_at_end(input, offset, end, allowed)
 }
 
-/// [`cut_quoted`] where the items of the body end there, with this.
+/// [`cut_quoted`] where the items of the body end there.
 #[inline(always)]
 pub(crate) fn cut_at_end(
     input: &str,
     offset: usize,
-    items: ItemsEnd,
-    end: BodyEnd,
+    end: ItemsEnd,
     allowed: Switches,
 ) -> Result<QuotedCut, ParseError>
     requires at { IsCharBoundary input.now offset }
-    requires items { IsItemsEnd (grammar_switches allowed) input.now offset items }
-    requires end { IsBodyEnd (grammar_switches allowed) (chars (drop items.place input.now)) end }
+    requires end { IsItemsEnd (grammar_switches allowed) input.now offset end }
     ensures ok { IfOk result
         (IsQuotedCut (grammar_switches allowed) input.now offset) }
     ensures refused { IfErr result
         (IsQuotedRefused (grammar_switches allowed) input.now offset) }
     ensures has_escape { IfOk result (λ cut.
-        cut.has_escape ≡ not (items.value_len == items.place - offset)) }
+        cut.has_escape ≡ not (end.value_len == end.place - offset)) }
 {
-    match end_refusal(&input[items.place..], end) {
+    match end_refusal(&input[end.place..], allowed) {
         // A value is shorter than its body where the body has a backslash.
         None => Ok(QuotedCut {
-            value_len: items.value_len,
-            has_escape: items.value_len != items.place - offset,
-            start_suffix: items.place + 1,
+            value_len: end.value_len,
+            has_escape: end.value_len != end.place - offset,
+            start_suffix: end.place + 1,
         }),
-        Some(e) => Err(e.offset_span(items.place)),
+        Some(e) => Err(e.offset_span(end.place)),
     }
 }
 
@@ -116,34 +115,15 @@ pub fn items_end(input: &str, offset: usize, allowed: Switches) -> ItemsEnd
     requires { IsCharBoundary input.now offset }
     ensures { IsItemsEnd (grammar_switches allowed) input.now offset result }
 {
-    body_end(input, offset, allowed).0
-}
-
-/// What stands where the items of a quoted body end.
-#[derive(Debug, Drop)]
-pub(crate) enum BodyEnd {
-    /// The closing quote.
-    Quote,
-    /// What is refused; the places count from there.
-    Refused(ParseError),
-}
-
-/// [`items_end`], and what stands there.
-#[inline(always)]
-pub(crate) fn body_end(input: &str, offset: usize, allowed: Switches) -> (ItemsEnd, BodyEnd)
-    requires { IsCharBoundary input.now offset }
-    ensures items { IsItemsEnd (grammar_switches allowed) input.now offset result.0 }
-    ensures end { IsBodyEnd (grammar_switches allowed) (chars (drop result.0.place input.now))
-        result.1 }
-{
     let place = first_plain_end(input, offset, allowed);
-    let rest = &input[place..];
-    if begins_with_backslash(rest) {
+    if ends_items(&input[place..], allowed) {
+        ItemsEnd {
+            place,
+            value_len: place - offset,
+        }
+    } else {
         let mut value = ShortValue::<SHORT>::unused();
         more_items_end(input, offset, place, allowed, &mut value)
-    } else {
-        let value_len = place - offset;
-        (ItemsEnd { place, value_len }, other_end(rest, allowed))
     }
 }
 
@@ -172,34 +152,18 @@ fn piece_end<const UNICODE: bool, const ALLOW_NUL: bool>(input: &str, from: usiz
     plain_end(input, from, UNICODE, ALLOW_NUL, Marked::nothing_at(from)).0
 }
 
-/// Whether a backslash stands first: else no item does where no plain character stands.
+/// Whether no backslash begins a text that begins with no plain character: then no item does.
 #[inline(always)]
-pub(crate) fn begins_with_backslash(rest: &str) -> bool
-    ensures { result ≡ first_passes (λ b. b == backslash) rest.now }
-{
-    matches!(rest.as_bytes(), [b'\\', ..])
-}
-
-/// What ends the items at the front of a text that begins with no plain character and with no
-/// backslash.
-#[inline(always)]
-pub(crate) fn other_end(rest: &str, allowed: Switches) -> BodyEnd
-    requires plain { IsFalse
+pub(crate) fn ends_items(rest: &str, allowed: Switches) -> bool
+    requires { IsFalse
         (first_passes (is_plain (grammar_switches allowed)) (chars rest.now)) }
-    requires other { IsFalse (first_passes (λ b. b == backslash) rest.now) }
-    ensures { IsBodyEnd (grammar_switches allowed) (chars rest.now) result }
+    ensures { IsTrue result →
+        EndsItems (grammar_switches allowed) (chars rest.now) }
 {
     let [first, ..] = rest.as_bytes() else {
-        let kind = ParseErrorKind::UnterminatedString;
-        return BodyEnd::Refused(ParseError::new(None, kind));
+        return true;
     };
-    let kind = match *first {
-        b'"' => return BodyEnd::Quote,
-        b'\r' => ParseErrorKind::CarriageReturn,
-        0 => ParseErrorKind::NulByte,
-        _ => ParseErrorKind::NonAsciiInByteLiteral,
-    };
-    BodyEnd::Refused(ParseError::in_text(rest, Some(0..1), kind))
+    *first != b'\\'
 }
 
 /// [`items_end`] of a body whose plain characters at its front end at `from`. The value, empty
@@ -213,13 +177,11 @@ pub(crate) fn more_items_end<const ROOM: usize>(
     from: usize,
     allowed: Switches,
     value: &mut ShortValue<ROOM>,
-) -> (ItemsEnd, BodyEnd)
+) -> ItemsEnd
     requires at { IsCharBoundary input.now offset }
     requires run { IsPlainRun (grammar_switches allowed) input.now offset from }
     requires empty { IsTrue value.old.is_whole → value.old.bytes ≡ [] }
-    ensures items { IsItemsEnd (grammar_switches allowed) input.now offset result.0 }
-    ensures end { IsBodyEnd (grammar_switches allowed) (chars (drop result.0.place input.now))
-        result.1 }
+    ensures end { IsItemsEnd (grammar_switches allowed) input.now offset result }
     ensures value { IsTrue value.new.is_whole → (q : QuotedParts) →
         IsQuoted (chars (take offset input.now)) (grammar_switches allowed)
         (chars input.now) q →
@@ -248,13 +210,11 @@ fn read_items<const UNICODE: bool, const ALLOW_NUL: bool, const ROOM: usize>(
     from: usize,
     byte_escapes: bool,
     value: &mut ShortValue<ROOM>,
-) -> (ItemsEnd, BodyEnd)
+) -> ItemsEnd
     requires at { IsCharBoundary input.now offset }
     requires run { IsPlainRun (switches UNICODE byte_escapes ALLOW_NUL) input.now offset from }
     requires empty { IsTrue value.old.is_whole → value.old.bytes ≡ [] }
-    ensures items { IsItemsEnd (switches UNICODE byte_escapes ALLOW_NUL) input.now offset result.0 }
-    ensures end { IsBodyEnd (switches UNICODE byte_escapes ALLOW_NUL)
-        (chars (drop result.0.place input.now)) result.1 }
+    ensures end { IsItemsEnd (switches UNICODE byte_escapes ALLOW_NUL) input.now offset result }
     ensures value { IsTrue value.new.is_whole → (q : QuotedParts) →
         IsQuoted (chars (take offset input.now)) (switches UNICODE byte_escapes ALLOW_NUL)
         (chars input.now) q →
@@ -273,7 +233,7 @@ fn read_items<const UNICODE: bool, const ALLOW_NUL: bool, const ROOM: usize>(
         value.push_run(input.as_bytes(), at, place);
         value_len += place - at;
         match next_item(&input[place..], allowed) {
-            Ok(item) => {
+            Some(item) => {
                 value.push(item.value);
                 value_len += item.value_len();
                 at = place + item.len;
@@ -281,7 +241,7 @@ fn read_items<const UNICODE: bool, const ALLOW_NUL: bool, const ROOM: usize>(
                 place = next.0;
                 marked = next.1;
             }
-            Err(end) => return (ItemsEnd { place, value_len }, end),
+            None => return ItemsEnd { place, value_len },
         }
     }
 }
@@ -340,57 +300,56 @@ impl Escaped {
     }
 }
 
-/// The escape or the continuation at the front of a text that begins with no plain character; or
-/// what ends the items there.
+/// The escape or the continuation at the front of a text that begins with no plain character; None
+/// where the items of the body end.
 #[inline(always)]
-pub(crate) fn next_item(rest: &str, allowed: Switches) -> Result<Escaped, BodyEnd>
+pub(crate) fn next_item(rest: &str, allowed: Switches) -> Option<Escaped>
     requires { IsFalse
         (first_passes (is_plain (grammar_switches allowed)) (chars rest.now)) }
-    ensures item { IfOk result (λ item.
+    ensures item { IfSome result (λ item.
         IsItemAt (grammar_switches allowed) rest.now item.len item.value) }
-    ensures end { IfErr result (IsBodyEnd (grammar_switches allowed) (chars rest.now)) }
+    ensures none { IfNone result
+        (EndsItems (grammar_switches allowed) (chars rest.now)) }
 {
-    if !begins_with_backslash(rest) {
-        return Err(other_end(rest, allowed));
-    }
-    let after = &rest.as_bytes()[1..];
-    if begins_with_line_feed(after) {
-        let len = 2 + blanks_len(&after[1..]);
-        if len == rest.len() {
-            let kind = ParseErrorKind::UnterminatedString;
-            return Err(BodyEnd::Refused(ParseError::new(None, kind)));
+    let [first, behind @ ..] = rest.as_bytes() else {
+        return None;
+    };
+    match *first {
+        b'\\' if begins_with_line_feed(behind) => {
+            let len = 2 + blanks_len(&behind[1..]);
+            if len == rest.len() {
+                None
+            } else {
+                Some(Escaped { len, value: None })
+            }
         }
-        return Ok(Escaped { len, value: None });
-    }
-    match unescape_with(without_last(rest), allowed) {
-        Ok((value, len)) => Ok(Escaped {
-            len,
-            value: Some(value),
-        }),
-        Err(e) => Err(BodyEnd::Refused(e)),
+        b'\\' => match unescape_with(without_last(rest), allowed) {
+            Ok((value, len)) => Some(Escaped {
+                len,
+                value: Some(value),
+            }),
+            Err(_) => None,
+        },
+        _ => None,
     }
 }
 
-/// What is refused of a text that begins with this end; None where a suffix follows the closing
-/// quote. Nothing is read where the quote ends the text.
+/// [`rest_refusal`], and nothing else to be read where the closing quote ends the text.
 #[inline(always)]
-fn end_refusal(rest: &str, end: BodyEnd) -> Option<ParseError>
-    requires { end ≡ BodyEnd.Quote →
-        IsTrue (first_passes (λ c. c == double_quote) (chars rest.now)) }
-    ensures none { IfNone result ((unicode byte_escapes allow_nul : Bool) →
-        rest_refusal (switches unicode byte_escapes allow_nul) (chars rest.now) ≡ None) }
-    ensures refusal { IfSome result (λ e. (unicode byte_escapes allow_nul : Bool) →
-        IsBodyEnd (switches unicode byte_escapes allow_nul) (chars rest.now) end →
-        IsBodyEnd (switches unicode byte_escapes allow_nul) (chars rest.now)
-        (BodyEnd.Refused e)) }
+fn end_refusal(rest: &str, allowed: Switches) -> Option<ParseError>
+    requires { IsFalse
+        (first_passes (is_plain (grammar_switches allowed)) (chars rest.now)) }
+    ensures none { IfNone result
+        (rest_refusal (grammar_switches allowed) (chars rest.now) ≡ None) }
+    ensures refusal { IfSome result (λ e.
+        rest_refusal (grammar_switches allowed) (chars rest.now)
+        ≡ Some (refusal_of e)) }
+    ensures char_span { IfSome result (HasCharSpan (chars rest.now)) }
 {
-    match end {
-        BodyEnd::Refused(e) => Some(e),
-        BodyEnd::Quote if is_quote(rest.as_bytes()) => None,
-        BodyEnd::Quote => match check_suffix(&rest[1..]) {
-            Ok(()) => None,
-            Err(kind) => Some(ParseError::in_text(rest, Some(1..2), kind)),
-        },
+    if is_quote(rest.as_bytes()) {
+        None
+    } else {
+        rest_refusal(rest, allowed)
     }
 }
 
@@ -400,6 +359,45 @@ fn is_quote(bytes: &[u8]) -> bool
     ensures { IsTrue result → bytes.now ≡ codes "\"" }
 {
     matches!(bytes, [b'"'])
+}
+
+/// Why no item and no closing quote with a suffix stands at the front of a text that begins with no
+/// plain character; None where one does.
+#[inline(never)]
+fn rest_refusal(rest: &str, allowed: Switches) -> Option<ParseError>
+    requires { IsFalse
+        (first_passes (is_plain (grammar_switches allowed)) (chars rest.now)) }
+    ensures none { IfNone result
+        (rest_refusal (grammar_switches allowed) (chars rest.now) ≡ None) }
+    ensures refusal { IfSome result (λ e.
+        rest_refusal (grammar_switches allowed) (chars rest.now)
+        ≡ Some (refusal_of e)) }
+    ensures char_span { IfSome result (HasCharSpan (chars rest.now)) }
+{
+    let [first, behind @ ..] = rest.as_bytes() else {
+        return Some(ParseError::new(None, ParseErrorKind::UnterminatedString));
+    };
+    match *first {
+        b'"' => match check_suffix(&rest[1..]) {
+            Ok(()) => None,
+            Err(kind) => Some(ParseError::in_text(rest, Some(1..2), kind)),
+        },
+        b'\\' if begins_with_line_feed(behind) => {
+            let len = 2 + blanks_len(&behind[1..]);
+            if len == rest.len() {
+                Some(ParseError::new(None, ParseErrorKind::UnterminatedString))
+            } else {
+                None
+            }
+        }
+        b'\\' => match unescape_with(without_last(rest), allowed) {
+            Ok(_) => None,
+            Err(e) => Some(e),
+        },
+        b'\r' => Some(ParseError::in_text(rest, Some(0..1), ParseErrorKind::CarriageReturn)),
+        0 => Some(ParseError::in_text(rest, Some(0..1), ParseErrorKind::NulByte)),
+        _ => Some(ParseError::in_text(rest, Some(0..1), ParseErrorKind::NonAsciiInByteLiteral)),
+    }
 }
 
 /// Whether LF stands first.

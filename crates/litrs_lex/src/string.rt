@@ -10,8 +10,7 @@ ghost use Rattle.litrs_parts.specs.Unescaped.{switches, grammar_switches};
 
 use crate::container::EscapeContainer;
 use crate::quoted::{
-    ItemsEnd, begins_with_backslash, cut_at_end, first_plain_end, more_items_end, next_item,
-    other_end, plain_end,
+    ItemsEnd, cut_at_end, ends_items, first_plain_end, more_items_end, next_item, plain_end,
 };
 use crate::short_value::{LONG, LONGEST, SHORT, ShortValue};
 use litrs_base::{ParseError, ParseErrorKind, Unescape};
@@ -58,14 +57,14 @@ pub fn unescape_string<C: EscapeContainer>(
         allow_nul,
     };
     let place = first_plain_end(input, offset, allowed);
-    let rest = &input[place..];
-    if begins_with_backslash(rest) {
-        return unescape_more(alloc, input, offset, place, allowed);
+    if ends_items(&input[place..], allowed) {
+        let value_len = place - offset;
+        let end = ItemsEnd { place, value_len };
+        let plain = cut_at_end(input, offset, end, allowed)?;
+        Ok((None, plain.start_suffix))
+    } else {
+        unescape_more(alloc, input, offset, place, allowed)
     }
-    let value_len = place - offset;
-    let items = ItemsEnd { place, value_len };
-    let plain = cut_at_end(input, offset, items, other_end(rest, allowed), allowed)?;
-    Ok((None, plain.start_suffix))
 }
 
 /// [`unescape_string`] of a body whose plain characters at its front end at `from`. There is room
@@ -119,8 +118,8 @@ fn unescape_within<C: EscapeContainer, const ROOM: usize>(
         ⊎ IsQuotedOutOfMemory (grammar_switches allowed) input.now offset e) }
 {
     let mut short = ShortValue::<ROOM>::new();
-    let (items, end) = more_items_end(input, offset, from, allowed, &mut short);
-    let cut = cut_at_end(input, offset, items, end, allowed)?;
+    let end = more_items_end(input, offset, from, allowed, &mut short);
+    let cut = cut_at_end(input, offset, end, allowed)?;
     if !cut.has_escape {
         return Ok((None, cut.start_suffix));
     }
@@ -207,11 +206,11 @@ fn copy_items<C: EscapeContainer, const UNICODE: bool, const ALLOW_NUL: bool>(
         marked = next;
         push_run(&mut value, &input[at..end])?;
         match next_item(&input[end..], allowed) {
-            Ok(item) => {
+            Some(item) => {
                 push_value(&mut value, item.value)?;
                 at = end + item.len;
             }
-            Err(_) => return Ok(value),
+            None => return Ok(value),
         }
     }
 }

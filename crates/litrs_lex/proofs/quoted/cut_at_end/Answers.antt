@@ -1,40 +1,31 @@
--- The text is a literal if and only if what stands after its items is not refused.
-use Rattle.std.proofs.Common.{ℕ, List, ◌<◌, ◌^◌, length, drop, arith, ◌∙◌, sym, ap, refl, subst}
+-- The text is a literal if and only if the rest after its items is not refused.
+use Rattle.std.proofs.Common.{ℕ, List, ◌<◌, ◌^◌, length, arith, ◌∙◌, sym, ap, refl, subst}
 use Rattle.std.specs.Str.{chars}
 use Rattle.litrs_base.specs.Refusal.{HasCharSpan}
 use Rattle.litrs_grammar.specs.Quoted.{rest_refusal}
 use Rattle.litrs_parts.specs.Unescaped.{grammar_switches}
-use Rattle.litrs_lex.specs.declared.quoted.BodyEnd.{BodyEnd}
-use Rattle.litrs_lex.specs.QuotedItems.{IsBodyEnd}
 use Rattle.litrs_lex.proofs.QuotedCuts.{is_quoted_cut, refused_cut, may_move, from_offset}
 use Rattle.litrs_lex.proofs.quoted.cut_at_end.Goals as goal
 
 pub overflow_sub-result : goal.overflow_sub-result
-overflow_sub-result c = from_offset _ c.args.input.now _ _ c.utf8.input c.requires.at c.requires.items
-
-pub end_refusal-requires : goal.end_refusal-requires
-end_refusal-requires c = λ is.
-    subst (λ (l : List ℕ). IsBodyEnd (grammar_switches c.args.allowed) (chars l) BodyEnd.Quote) (sym c.range_from.ensures.value)
-    (subst (λ (e : BodyEnd). IsBodyEnd (grammar_switches c.args.allowed) (chars (drop c.args.items.place c.args.input.now)) e) is c.requires.end)
+overflow_sub-result c = from_offset _ c.args.input.now _ _ c.utf8.input c.requires.at c.requires.end
 
 pub offset_span-requires : goal.offset_span-requires
 offset_span-requires c =
-    let told = c.in-Some.ensures.refusal _ _ _ (subst (λ (l : List ℕ). IsBodyEnd (grammar_switches c.args.allowed) (chars l) c.args.end) (sym c.range_from.ensures.value) c.requires.end) in
-    may_move _ c.args.input.now _ _ c.in-Some.e c.utf8.input c.requires.items
-    (ap (λ (l : List ℕ). rest_refusal (grammar_switches c.args.allowed) (chars l)) (sym c.range_from.ensures.value) ∙ told.0)
-    (subst (λ (l : List ℕ). HasCharSpan (chars l) c.in-Some.e) c.range_from.ensures.value told.1)
+    may_move _ c.args.input.now _ _ c.in-Some.e c.utf8.input c.requires.end
+    (ap (λ (l : List ℕ). rest_refusal (grammar_switches c.args.allowed) (chars l)) (sym c.range_from.ensures.value) ∙ c.in-Some.ensures.refusal)
+    (subst (λ (l : List ℕ). HasCharSpan (chars l) c.in-Some.e) c.range_from.ensures.value c.in-Some.ensures.char_span)
     (let small : length c.args.input.now < 2 ^ 64 = omega arith in small)
 
 pub returns-in-None-clause-ok : goal.returns-in-None-clause-ok
 returns-in-None-clause-ok c =
-    is_quoted_cut _ c.args.input.now _ c.args.items _ c.utf8.input c.requires.at c.requires.items
-    (ap (λ (l : List ℕ). rest_refusal (grammar_switches c.args.allowed) (chars l)) (sym c.range_from.ensures.value) ∙ c.in-None.ensures.none _ _ _)
+    is_quoted_cut _ c.args.input.now _ c.args.end _ c.utf8.input c.requires.at c.requires.end
+    (ap (λ (l : List ℕ). rest_refusal (grammar_switches c.args.allowed) (chars l)) (sym c.range_from.ensures.value) ∙ c.in-None.ensures.none)
     refl
 
 pub returns-in-Some-clause-refused : goal.returns-in-Some-clause-refused
 returns-in-Some-clause-refused c =
-    let told = c.in-Some.ensures.refusal _ _ _ (subst (λ (l : List ℕ). IsBodyEnd (grammar_switches c.args.allowed) (chars l) c.args.end) (sym c.range_from.ensures.value) c.requires.end) in
-    refused_cut _ c.args.input.now _ c.args.items c.in-Some.e c.offset_span.result c.requires.items
-    (ap (λ (l : List ℕ). rest_refusal (grammar_switches c.args.allowed) (chars l)) (sym c.range_from.ensures.value) ∙ told.0)
-    (subst (λ (l : List ℕ). HasCharSpan (chars l) c.in-Some.e) c.range_from.ensures.value told.1)
+    refused_cut _ c.args.input.now _ c.args.end c.in-Some.e c.offset_span.result c.requires.end
+    (ap (λ (l : List ℕ). rest_refusal (grammar_switches c.args.allowed) (chars l)) (sym c.range_from.ensures.value) ∙ c.in-Some.ensures.refusal)
+    (subst (λ (l : List ℕ). HasCharSpan (chars l) c.in-Some.e) c.range_from.ensures.value c.in-Some.ensures.char_span)
     c.offset_span.ensures.refusal c.offset_span.ensures.char_span

@@ -1,7 +1,6 @@
 -- A run and an item are parsed in each turn.
-use Rattle.std.proofs.Common.{ℕ, ◌-◌, List, arith, ◌∙◌, ap, refl, sym, drop, take}
+use Rattle.std.proofs.Common.{ℕ, ◌-◌, List, arith, ◌∙◌, ap, refl, drop, take}
 use Rattle.std.proofs.lemmas.List.{drop-drop}
-use Rattle.litrs_lex.proofs.QuotedBytes.{end_ends}
 use Rattle.litrs_lex.proofs.QuotedScan.{boundary_later, items_end}
 use Rattle.litrs_lex.proofs.ShortValues.{short_start, short_run, short_item, whole_short}
 use Rattle.litrs_lex.proofs.quoted.read_items.Goals as goal
@@ -19,12 +18,12 @@ loop-item-init g c = (
 pub loop-item-preserved : goal.loop-item-preserved
 loop-item-preserved g c =
     let run = c.loop-item.invariant.3 in
-    let size = run.size in let fits = c.in-Ok.ensures.item.fits in let before = c.loop-item.invariant.1 in
+    let size = run.size in let fits = c.in-Some.ensures.item.fits in let before = c.loop-item.invariant.1 in
     let more = c.value_len-value_len.ensures in (
-      boundary_later c.args.input.now _ _ _ c.utf8.input run.boundary c.range_from.ensures.value c.in-Ok.ensures.item.boundary,
+      boundary_later c.args.input.now _ _ _ c.utf8.input run.boundary c.range_from.ensures.value c.in-Some.ensures.item.boundary,
       omega arith,
-      short_item _ _ _ c.args.input.now _ _ _ _ _ _ _ _ _ _ _ c.in-Ok.ensures.item c.range_from.ensures.value
-          (ap (drop c.in-Ok.item.len) c.range_from.ensures.value ∙ drop-drop c.in-Ok.item.len c.loop-item.place c.args.input.now) refl more refl c.push.ensures
+      short_item _ _ _ c.args.input.now _ _ _ _ _ _ _ _ _ _ _ c.in-Some.ensures.item c.range_from.ensures.value
+          (ap (drop c.in-Some.item.len) c.range_from.ensures.value ∙ drop-drop c.in-Some.item.len c.loop-item.place c.args.input.now) refl more refl c.push.ensures
           (short_run _ _ _ c.args.input.now _ _ _ _ _ _ _ c.utf8.input c.loop-item.invariant.0 run
           (ap (λ (l : List ℕ). take (c.loop-item.place - c.loop-item.at) (drop c.loop-item.at l)) c.as_bytes.ensures.value)
           c.push_run.ensures refl c.loop-item.invariant.2),
@@ -39,15 +38,13 @@ plain_end-next-requires-clause-after g c = let before = c.loop-item.invariant.4 
 pub plain_end-next-requires-clause-marked : goal.plain_end-next-requires-clause-marked
 plain_end-next-requires-clause-marked g c = c.loop-item.invariant.5
 
-pub returns-in-Err : goal.returns-in-Err
-returns-in-Err g c =
+pub returns-in-None : goal.returns-in-None
+returns-in-None g c =
     let read = c.loop-item.invariant.2 in
     let run = c.loop-item.invariant.3 in
-    let ends = end_ends _ _ _ c.in-Err.ensures.end in
     let last = short_run _ _ _ c.args.input.now _ _ _ _ _ _ _ c.utf8.input c.loop-item.invariant.0 run
     (ap (λ (l : List ℕ). take (c.loop-item.place - c.loop-item.at) (drop c.loop-item.at l)) c.as_bytes.ensures.value)
     c.push_run.ensures refl read in record {
-      items = items_end _ c.args.input.now _ read.value _ _ _ _ run read.reads read.size c.range_from.ensures.value ends;
-      end = rw (sym c.range_from.ensures.value) c.in-Err.ensures.end;
-      value = λ whole q is. whole_short _ _ _ c.args.input.now _ _ _ _ q last c.range_from.ensures.value ends whole is;
+      end = items_end _ c.args.input.now _ read.value _ _ _ _ run read.reads read.size c.range_from.ensures.value c.in-None.ensures.none;
+      value = λ whole q is. whole_short _ _ _ c.args.input.now _ _ _ _ q last c.range_from.ensures.value c.in-None.ensures.none whole is;
     }

@@ -1,7 +1,6 @@
 -- A run and an item are copied in each turn.
 use Rattle.std.proofs.Common.{◌∙◌, ap, refl, drop, arith}
 use Rattle.std.proofs.lemmas.List.{drop-drop}
-use Rattle.litrs_lex.proofs.QuotedBytes.{end_ends}
 use Rattle.litrs_lex.proofs.QuotedScan.{boundary_later}
 use Rattle.litrs_lex.proofs.QuotedValues.{copy_start, copy_run, copy_item, whole_value, fits}
 use Rattle.litrs_lex.proofs.string.copy_items.Goals as goal
@@ -16,9 +15,9 @@ loop-value-init g c = (
 
 pub loop-value-preserved : goal.loop-value-preserved
 loop-value-preserved g c = let run = c.plain_end-end.ensures.run c.args.byte_escapes in (
-  boundary_later c.args.input.now _ _ _ c.utf8.input run.boundary c.range_from.ensures.value c.in-Ok.ensures.item.boundary,
-  copy_item _ _ _ c.args.input.now _ _ _ _ _ _ _ _ c.in-Ok.ensures.item c.range_from.ensures.value
-      (ap (drop c.in-Ok.item.len) c.range_from.ensures.value ∙ drop-drop c.in-Ok.item.len c.plain_end-end.result.0 c.args.input.now) refl c.in_ok-push_value-in-Ok.ensures
+  boundary_later c.args.input.now _ _ _ c.utf8.input run.boundary c.range_from.ensures.value c.in-Some.ensures.item.boundary,
+  copy_item _ _ _ c.args.input.now _ _ _ _ _ _ _ _ c.in-Some.ensures.item c.range_from.ensures.value
+      (ap (drop c.in-Some.item.len) c.range_from.ensures.value ∙ drop-drop c.in-Some.item.len c.plain_end-end.result.0 c.args.input.now) refl c.in_ok-push_value-in-Some.ensures
       (copy_run _ _ _ c.args.input.now _ _ _ _ _ c.utf8.input c.loop-value.invariant.0 (c.plain_end-end.ensures.run c.args.byte_escapes) c.range.ensures.value c.in_ok-push_run.ensures c.loop-value.invariant.1),
   (let after = c.plain_end-end.ensures.after in omega arith),
   c.plain_end-end.ensures.marked,
@@ -49,10 +48,10 @@ next_item-requires g c =
     rw (c.range_from.ensures.value) run.stops
 
 pub push_value-requires : goal.push_value-requires
-push_value-requires g c = fits c.args.byte_escapes g.C.EscapeContainer.TAKES_BYTES c.in-Ok.item.value c.requires.fits c.in-Ok.ensures.item.pushable
+push_value-requires g c = fits c.args.byte_escapes g.C.EscapeContainer.TAKES_BYTES c.in-Some.item.value c.requires.fits c.in-Some.ensures.item.pushable
 
-pub returns-in-Err : goal.returns-in-Err
-returns-in-Err g c = λ q is.
+pub returns-in-None : goal.returns-in-None
+returns-in-None g c = λ q is.
     whole_value _ _ _ c.args.input.now _ _ _ q
     (copy_run _ _ _ c.args.input.now _ _ _ _ _ c.utf8.input c.loop-value.invariant.0 (c.plain_end-end.ensures.run c.args.byte_escapes) c.range.ensures.value c.in_ok-push_run.ensures c.loop-value.invariant.1)
-    c.range_from.ensures.value (end_ends _ _ _ c.in-Err.ensures.end) is
+    c.range_from.ensures.value c.in-None.ensures.none is
