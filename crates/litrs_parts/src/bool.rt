@@ -20,43 +20,50 @@ pub fn cut_bool(input: &str) -> Option<bool>
         return None;
     };
     let value = matches!(bytes, [b't', ..]);
-    if is_word(bytes, bool_text(value).as_bytes()) {
+    if is_bool_text(bytes, value) {
         Some(value)
     } else {
         None
     }
 }
 
-/// How the bool is written.
-#[inline(always)]
-fn bool_text(value: bool) -> &'static str
-    ensures { result.now ≡ bool_text value }
-{
-    if value { "true" } else { "false" }
-}
-
-/// Whether the bytes are this word of four or five bytes.
+/// Whether the bytes are this bool.
 ///
-/// It is `bytes == word` without a call, and without a branch on which of the two words it is: with
-/// one, which a mix of both mispredicts, bools took a fifth longer. So the fourth byte of `true` is
-/// compared twice.
+/// It is an equality of texts without a call, and without a branch on which of the two it is: with
+/// one, which a mix of both mispredicts, bools took a fifth longer.
 #[inline(always)]
-fn is_word(bytes: &[u8], word: &[u8]) -> bool
-    requires least { 4 ≤ length word.now }
-    requires most { length word.now ≤ 5 }
-    ensures same { IsTrue result → bytes.now ≡ word.now }
-    ensures other { IsFalse result → bytes.now ≢ word.now }
+fn is_bool_text(bytes: &[u8], value: bool) -> bool
+    ensures same { IsTrue result → bytes.now ≡ bool_text value }
+    ensures other { IsFalse result → bytes.now ≢ bool_text value }
 {
-    if bytes.len() != word.len() {
+    let len = bool_len(value);
+    if bytes.len() != len {
         return false;
     }
-    let last = word.len() - 1;
-    if bytes[last] != word[last] {
+    // Both end so, and the first four bytes are all others.
+    if bytes[len - 1] != b'e' {
         return false;
     }
     let found = first_four(bytes);
-    let wanted = first_four(word);
+    let wanted = bool_front(value);
     found == wanted
+}
+
+/// How many bytes the bool has.
+#[inline(always)]
+fn bool_len(value: bool) -> usize
+    ensures len { result ≡ length (bool_text value) }
+    ensures least { 4 ≤ result }
+{
+    if value { 4 } else { 5 }
+}
+
+/// Its first four bytes, `true` or `fals`, as one number.
+#[inline(always)]
+fn bool_front(value: bool) -> u32
+    ensures { result ≡ from_le_bytes w32 (take 4 (bool_text value)) }
+{
+    if value { 0x6575_7274 } else { 0x736c_6166 }
 }
 
 /// The first four bytes as one number, so that they are compared at once.
