@@ -4,8 +4,8 @@
  * litrs_answer in their order, what litrs_goes_on answers, and the status, length and bytes in hex
  * of litrs_value and of litrs_message; then the same of litrs_parse, litrs_value and litrs_message,
  * by their status alone, with every allocation refused; and at last how often memory was asked for
- * by litrs_parse, litrs_goes_on and litrs_value. It ends with status 2 where a call wrote outside
- * of its room or kept memory.
+ * by litrs_parse, litrs_value, litrs_message and litrs_goes_on. It ends with status 2 where a call
+ * wrote outside of its room or kept memory.
  *
  * It is linked with --wrap for malloc, realloc and free. */
 #include "litrs.h"
@@ -93,14 +93,18 @@ static void print_answer(litrs_answer answer) {
 }
 
 static void print_text(const uint8_t *text, size_t len, uint8_t *room) {
-    size_t before = held, from = asked, by_parse, by_goes_on, by_value;
+    size_t before = held, by_parse, by_value, by_message, by_goes_on;
     bool goes_on;
-    litrs_answer answer = litrs_parse(text, len);
-    by_parse = asked - from;
-    goes_on = litrs_goes_on(text, len);
-    by_goes_on = asked - from - by_parse;
+    litrs_answer answer;
+    asked = 0;
+    answer = litrs_parse(text, len);
+    by_parse = asked;
     litrs_value(text, len, room, 0);
-    by_value = asked - from - by_parse - by_goes_on;
+    by_value = asked - by_parse;
+    litrs_message(text, len, room, 0);
+    by_message = asked - by_parse - by_value;
+    goes_on = litrs_goes_on(text, len);
+    by_goes_on = asked - by_parse - by_value - by_message;
     print_answer(answer);
     printf(" %d", goes_on);
     print_written(litrs_value, text, len, room);
@@ -110,7 +114,7 @@ static void print_text(const uint8_t *text, size_t len, uint8_t *room) {
     printf(" %u", (unsigned)litrs_value(text, len, room, 0).status);
     printf(" %u", (unsigned)litrs_message(text, len, room, 0).status);
     refuses = false;
-    printf(" %zu %zu %zu\n", by_parse, by_goes_on, by_value);
+    printf(" %zu %zu %zu %zu\n", by_parse, by_value, by_message, by_goes_on);
     hold(held == before, "memory is kept");
 }
 

@@ -104,7 +104,7 @@ class Library:
 @dataclasses.dataclass
 class Wanted:
     """What is to be answered of a text: the fields, None where nothing is known of one, and how
-    often memory may be asked for by litrs_parse."""
+    often memory is to be asked for by each call but litrs_goes_on."""
 
     text: bytes
     fields: list
@@ -233,14 +233,15 @@ def status_without_memory(status, needs_memory):
 
 def faults_of(wanted, from_c, from_python):
     """What is wrong of the answers on a text."""
-    fields, (*refused, by_parse, by_goes_on, by_value) = fields_of(from_c)
+    fields, (*refused, by_parse, by_value, by_message, by_goes_on) = fields_of(from_c)
     if fields != from_python:
         yield f"C answers {fields}, Python {from_python}"
     if any(it is not None and it != got for it, got in zip(wanted.fields, fields)):
         yield f"wanted {wanted.fields}, got {fields}"
-    if wanted.asked is not None and (by_parse, by_value, by_goes_on) != (wanted.asked,) * 2 + (0,):
-        yield f"memory was asked for {by_parse}, {by_goes_on} and {by_value} times"
-    needs = [by_parse > 0, by_value > 0, by_parse > 0 or fields[0] == REFUSED]
+    asked = [by_parse, by_value, by_message]
+    if wanted.asked is not None and [*asked, by_goes_on] != [wanted.asked] * 3 + [0]:
+        yield f"memory was asked for {asked} times, and {by_goes_on} times by litrs_goes_on"
+    needs = [it > 0 for it in asked]
     given = [fields[0], fields[25], fields[28]]
     if refused != [status_without_memory(*it) for it in zip(given, needs)]:
         yield f"{refused} with every allocation refused, for {given}"

@@ -19,7 +19,7 @@ enum litrs_status {
     LITRS_LITERAL = 0,       /* the text is a literal */
     LITRS_REFUSED = 1,       /* it is none */
     LITRS_NOT_UTF8 = 2,      /* the bytes are not UTF-8 */
-    LITRS_OUT_OF_MEMORY = 3, /* there was no memory for the value of a literal, or for a message */
+    LITRS_OUT_OF_MEMORY = 3, /* it is a literal, and there was no memory for its value */
     LITRS_NO_STRING = 4      /* by litrs_value: it is a literal of another kind than strings */
 };
 
@@ -132,7 +132,7 @@ litrs_answer litrs_parse(const uint8_t *text, size_t len);
 litrs_written litrs_value(const uint8_t *text, size_t len, uint8_t *room, size_t room_len);
 
 /* Writes the message on a refused text, as much as fits, where the status is LITRS_REFUSED. It is
- * ASCII, and has no closing zero. */
+ * ASCII, and has no closing zero. No memory is asked for on a refused text. */
 litrs_written litrs_message(const uint8_t *text, size_t len, uint8_t *room, size_t room_len);
 
 /* Whether the text, or the text with some text appended, is a literal. */

@@ -4,3 +4,5 @@ pub mod Sizes
 pub mod PartPlaces
 -- allocation failures
 pub mod Memory
+-- parts that are written one after the other
+pub mod Rooms

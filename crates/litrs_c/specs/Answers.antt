@@ -1,5 +1,5 @@
 -- What the calls answer of a text, which is a list of characters, or of bytes.
-use Rattle.std.specs.Prelude.{◌≡◌, ℕ, List, ◌++◌, Some, length, take, drop}
+use Rattle.std.specs.Prelude.{◌≡◌, ℕ, ◌+◌, List, ◌++◌, Some, length, take, drop}
 use Rattle.litrs_base.specs.declared.err.ParseError.{ParseError}
 use Rattle.litrs_base.specs.Derivations.{IsOnlyDerivation}
 use Rattle.litrs_base.specs.Refusal.{refusal_of, refusal_text}
@@ -27,6 +27,15 @@ filled bytes room = take (length room) bytes ++ drop (length bytes) room
 pub record IsWritten (bytes old new : List ℕ) (wanted : ℕ) : Type 0 where
   pub len : wanted ≡ length bytes
   pub room : new ≡ filled bytes old
+
+-- the same of a part of the room, from a place on
+abbrev pub filled_from : ℕ → (bytes room : List ℕ) → List ℕ
+filled_from place bytes room = take place room ++ filled bytes (drop place room)
+
+-- a part that begins at a place of the room and ends at another was written, as much as fits
+pub record IsWrittenFrom (place : ℕ) (bytes old new : List ℕ) (end : ℕ) : Type 0 where
+  pub ends : end ≡ place + length bytes
+  pub room : new ≡ filled_from place bytes old
 
 -- nothing was written
 abbrev pub IsKept : (old new : List ℕ) → ℕ → Type 0

@@ -5,24 +5,26 @@
 //! between calls, and nothing has to be freed.
 #![tactic(auto)]
 
-ghost use Rattle.std.specs.Prelude.{◌≡◌, ◌≢◌, ◌≤◌, ◌↔◌, ⊤, IsTrue, length, Some, None, option_map, IfOk, string_bytes};
+ghost use Rattle.std.specs.Prelude.{◌≡◌, ◌≢◌, ◌≤◌, ◌↔◌, ⊤, IsTrue, length, Some, None, option_map};
 ghost use Rattle.std.specs.Str.{chars, IsUtf8};
 ghost use Rattle.litrs_base.specs.Derivations.{HasNoDerivation};
-ghost use Rattle.litrs_base.specs.Refusal.{refusal_of, refusal_text};
 ghost use Rattle.litrs_grammar.specs.Literal.{IsLiteral, literal_parse, Begins};
 ghost use Rattle.litrs.specs.LiteralDerivation.{derivation};
 ghost use Rattle.litrs_c.specs.LiteralFields.{IsLiteralFields, bytes_of};
 ghost use Rattle.litrs_c.specs.RefusalFields.{IsRefusalFields};
-ghost use Rattle.litrs_c.specs.Answers.{IsLiteralAnd, IsRefusedAnd, LacksMemory, IsWritten, IsKept, WritesValue, WritesMessage};
+ghost use Rattle.litrs_c.specs.Answers.{IsLiteralAnd, IsRefusedAnd, LacksMemory, IsKept, WritesValue, WritesMessage};
 
 use literals::{NO_LITERAL, literal_fields};
-use litrs::{Literal, ParseError, ParseErrorKind};
+use litrs::{Literal, ParseErrorKind};
+use message::write_refusal;
 use refusals::{NO_REFUSAL, refusal_fields};
-use std::alloc::{AllocError, Global};
+use std::alloc::Global;
 use std::str;
 
 mod literals;
+mod message;
 mod refusals;
+mod room;
 
 /// The text is a literal.
 pub const LITERAL: u32 = 0;
@@ -30,7 +32,7 @@ pub const LITERAL: u32 = 0;
 pub const REFUSED: u32 = 1;
 /// The bytes are not UTF-8.
 pub const NOT_UTF8: u32 = 2;
-/// The text is a literal, and there was no memory for its value, or there was none for a message.
+/// The text is a literal, and there was no memory for its value.
 pub const OUT_OF_MEMORY: u32 = 3;
 /// The text is a literal of another kind than strings, byte strings and C strings.
 pub const NO_STRING: u32 = 4;
@@ -223,7 +225,10 @@ fn write_value(alloc: Global, text: &str, room: &mut [u8]) -> Written
 {
     match Literal::parse(alloc, text) {
         Ok(lit) => match value_bytes(&lit) {
-            Some(bytes) => filled(room, bytes, LITERAL),
+            Some(bytes) => Written {
+                status: LITERAL,
+                len: room::write(room, bytes),
+            },
             None => nothing(NO_STRING),
         },
         Err(e) => match e.kind() {
@@ -247,7 +252,7 @@ fn value_bytes<'a>(lit: &'a Literal<&str>) -> Option<&'a [u8]>
 
 /// Writes the message on a text that is refused to the room, as much as fits: what is wrong, and
 /// the span, if there is one, as ` (at 3..4)`. The rest of the room is left as it is, and all of it
-/// where the text is not refused. The message is allocated, and freed before the call returns.
+/// where the text is not refused. It allocates as [`litrs_parse`] does, and nothing for the message.
 #[unsafe(no_mangle)]
 pub extern "C" fn litrs_message(alloc: Global, text: &[u8], room: &mut [u8]) -> Written
     ensures statuses { result.status ≤ OUT_OF_MEMORY }
@@ -255,6 +260,7 @@ pub extern "C" fn litrs_message(alloc: Global, text: &[u8], room: &mut [u8]) -> 
     ensures literal { result.status ≡ LITERAL → IsLiteralAnd (chars text.now) (λ _. ⊤) }
     ensures message { result.status ≡ REFUSED →
         IsRefusedAnd (chars text.now) (WritesMessage room.old room.new result.len) }
+    ensures memory { result.status ≡ OUT_OF_MEMORY → LacksMemory (chars text.now) }
     ensures kept { result.status ≢ REFUSED → IsKept room.old room.new result.len }
 {
     match str::from_utf8(text) {
@@ -270,38 +276,18 @@ fn write_message(alloc: Global, text: &str, room: &mut [u8]) -> Written
     ensures literal { result.status ≡ LITERAL → IsLiteralAnd (chars text.now) (λ _. ⊤) }
     ensures message { result.status ≡ REFUSED →
         IsRefusedAnd (chars text.now) (WritesMessage room.old room.new result.len) }
+    ensures memory { result.status ≡ OUT_OF_MEMORY → LacksMemory (chars text.now) }
     ensures kept { result.status ≢ REFUSED → IsKept room.old room.new result.len }
 {
     match Literal::parse(alloc, text) {
         Ok(_) => nothing(LITERAL),
         Err(e) => match e.kind() {
             ParseErrorKind::OutOfMemory => nothing(OUT_OF_MEMORY),
-            _ => match message(alloc, &e) {
-                Ok(message) => filled(room, message.as_bytes(), REFUSED),
-                Err(_) => nothing(OUT_OF_MEMORY),
+            _ => Written {
+                status: REFUSED,
+                len: write_refusal(room, &e),
             },
         },
-    }
-}
-
-/// What is printed of the refusal.
-fn message(alloc: Global, error: &ParseError) -> Result<String, AllocError>
-    ensures { IfOk result (λ message.
-        string_bytes message ≡ refusal_text (refusal_of error.now)) }
-{
-    format!(in alloc; "{error}")
-}
-
-/// Writes bytes to the room, as many as fit.
-fn filled(room: &mut [u8], bytes: &[u8], status: u32) -> Written
-    ensures status { result.status ≡ status }
-    ensures written { IsWritten bytes.now room.old room.new result.len }
-{
-    let fits = bytes.len().min(room.len());
-    room[..fits].copy_from_slice(&bytes[..fits]);
-    Written {
-        status,
-        len: bytes.len(),
     }
 }
 

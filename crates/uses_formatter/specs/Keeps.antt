@@ -23,14 +23,10 @@ HaveSameValue _ _ = ⊥
 abbrev pub AreAlike : Derivation → Derivation → Type 0
 AreAlike d e = HaveSameValue d e × (suffix_of d ≡ suffix_of e)
 
--- some text is the literal
-abbrev pub HasText : Derivation → Type 0
-HasText d = (t : List ℕ) × IsLiteral t d
+-- the text is a literal of this kind, with this value and this suffix
+abbrev pub IsLike : Derivation → List ℕ → Type 0
+IsLike d t = (e : Derivation) × IsLiteral t e × AreAlike d e
 
 -- both texts are literals, of one kind, with the same value and the same suffix
-pub record Keeps (before after : List ℕ) : Type 0 where
-  pub reads : Derivation
-  pub writes : Derivation
-  pub is_literal : IsLiteral before reads
-  pub is_written : IsLiteral after writes
-  pub alike : AreAlike reads writes
+abbrev pub Keeps : (before after : List ℕ) → Type 0
+Keeps before after = (d : Derivation) × IsLiteral before d × IsLike d after

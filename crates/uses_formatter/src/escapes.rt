@@ -1,4 +1,4 @@
-//! The shortest way to write a character or a byte between quotes.
+//! The shortest way to write a character between quotes.
 
 use std::alloc::AllocError;
 
@@ -13,14 +13,5 @@ pub fn push_char(out: &mut String, c: char, quote: char) -> Result<(), AllocErro
         _ if !c.is_control() => out.push(c),
         _ if c.is_ascii() => write!(out, "\\x{:02x}", c as u32),
         _ => write!(out, "\\u{{{:x}}}", c as u32),
-    }
-}
-
-/// Adds a byte as it stands between these quotes.
-pub fn push_byte(out: &mut String, byte: u8, quote: char) -> Result<(), AllocError> {
-    if byte.is_ascii() {
-        push_char(out, byte as char, quote)
-    } else {
-        write!(out, "\\x{byte:02x}")
     }
 }

@@ -1,52 +1,48 @@
 //! The one form of each literal.
-ghost use Rattle.std.specs.Prelude.{IfOk, IfSome, IsTrue, string_bytes};
+ghost use Rattle.std.specs.Prelude.{IfOk, IsTrue, MatchOption, string_bytes};
 ghost use Rattle.std.specs.Str.{chars};
+ghost use Rattle.litrs.specs.Derivations.{HasNoDerivation};
 ghost use Rattle.litrs.specs.Literal.{IsLiteral};
 ghost use Rattle.litrs.specs.LiteralDerivation.{derivation};
-ghost use Rattle.uses_formatter.specs.Keeps.{Keeps};
+ghost use Rattle.uses_formatter.specs.Keeps.{IsLike, Keeps};
 
-use crate::escapes::{push_byte, push_char};
-use crate::keep::{digits, keeps};
+use crate::escapes::push_char;
+use crate::keep::{are_alike, digits};
 use litrs::{IntegerBase, IntegerLit, Literal, ParseErrorKind};
 use std::alloc::{AllocError, Global};
 
-/// The literal in its form, None where the text is no literal. What was written is read again, so
-/// that only a literal like the one before is answered.
+/// The literal in its form, None where the text is no literal. What was written is read again: if it
+/// were no literal like the one before, the text would stay as it is.
 pub fn formatted(alloc: Global, text: &str) -> Result<Option<String>, AllocError>
-    ensures { IfOk result (λ form. IfSome form (λ written.
-        Keeps (chars text.now) (chars (string_bytes written)))) }
+    ensures { IfOk result (λ form. MatchOption form
+        (HasNoDerivation (IsLiteral (chars text.now)))
+        (λ written. Keeps (chars text.now) (chars (string_bytes written)))) }
 {
     let Some(before) = parse(alloc, text)? else {
         return Ok(None);
     };
     let written = written(alloc, &before)?;
-    if is_kept(alloc, &before, text, written.as_str())? {
-        Ok(Some(written))
-    } else {
-        Ok(None)
+    if is_like(alloc, &before, written.as_str())? {
+        return Ok(Some(written));
     }
+    Ok(Some(String::from_str(alloc, text)?))
 }
 
-/// Whether what was written for a literal of this text is a literal like it.
-fn is_kept(
-    alloc: Global,
-    before: &Literal<&str>,
-    text: &str,
-    written: &str,
-) -> Result<bool, AllocError>
-    requires { IsLiteral (chars text.now) (derivation before.now) }
-    ensures { IfOk result (λ kept. IsTrue kept → Keeps (chars text.now) (chars written.now)) }
+/// Whether the text is a literal of the same kind, with the same value and suffix.
+fn is_like(alloc: Global, before: &Literal<&str>, text: &str) -> Result<bool, AllocError>
+    ensures { IfOk result (λ like. IsTrue like → IsLike (derivation before.now) (chars text.now)) }
 {
-    match parse(alloc, written)? {
-        Some(after) => keeps(alloc, before, &after),
+    match parse(alloc, text)? {
+        Some(after) => are_alike(alloc, before, &after),
         None => Ok(false),
     }
 }
 
-/// The literal that the text is.
+/// The literal that the text is, None where it is none.
 fn parse(alloc: Global, text: &str) -> Result<Option<Literal<&str>>, AllocError>
-    ensures { IfOk result (λ parsed. IfSome parsed (λ lit.
-        IsLiteral (chars text.now) (derivation lit))) }
+    ensures { IfOk result (λ parsed. MatchOption parsed
+        (HasNoDerivation (IsLiteral (chars text.now)))
+        (λ lit. IsLiteral (chars text.now) (derivation lit))) }
 {
     match Literal::parse(alloc, text) {
         Ok(lit) => Ok(Some(lit)),
@@ -77,17 +73,16 @@ fn written(alloc: Global, lit: &Literal<&str>) -> Result<String, AllocError> {
 /// Adds the prefix, the digits in groups, and the `_` before a suffix.
 fn push_integer(alloc: Global, out: &mut String, lit: &IntegerLit<&str>) -> Result<(), AllocError> {
     let digits = digits(alloc, lit.raw_main_part())?;
-    let group = if lit.base() == IntegerBase::Decimal {
-        3
-    } else {
-        4
+    let group = match lit.base() {
+        IntegerBase::Decimal => 3,
+        _ => 4,
     };
     out.push_str(lit.base().prefix())?;
     for (i, digit) in digits.iter().enumerate() {
         if i > 0 && digits.len().saturating_sub(i) % group == 0 {
             out.push('_')?;
         }
-        out.push(*digit as char)?;
+        out.push(*digit)?;
     }
     out.push_str(if lit.suffix().is_empty() { "" } else { "_" })
 }
@@ -106,7 +101,11 @@ fn push_bytes(out: &mut String, letter: char, quote: char, bytes: &[u8]) -> Resu
     out.push(letter)?;
     out.push(quote)?;
     for byte in bytes {
-        push_byte(out, *byte, quote)?;
+        if byte.is_ascii() {
+            push_char(out, *byte as char, quote)?;
+        } else {
+            write!(out, "\\x{byte:02x}")?;
+        }
     }
     out.push(quote)
 }

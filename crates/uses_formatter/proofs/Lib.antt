@@ -1,2 +1,0 @@
--- digits, one more at a time
-pub mod DigitLemmas
