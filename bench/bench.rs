@@ -10,6 +10,7 @@ use std::time::Instant;
 mod allocations;
 mod going_on;
 mod held_out;
+mod limits;
 mod lines;
 mod several_lines;
 
@@ -562,6 +563,7 @@ fn main() {
         }
     }
     held_out::main();
+    limits::main();
     lines::main();
     several_lines::main();
     going_on::main(&rows.iter().map(|(kind, name, _, texts)| (*kind, *name, &texts[..])).collect::<Vec<_>>());

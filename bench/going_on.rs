@@ -8,7 +8,7 @@ use std::time::Instant;
 const ROUNDS: usize = 100;
 
 /// The least time of a round over the texts, in nanoseconds a text.
-fn least(call: Call, texts: &[&str]) -> f64 {
+pub fn least(call: Call, texts: &[&str]) -> f64 {
     let mut least = f64::INFINITY;
     for _ in 0..ROUNDS {
         let start = Instant::now();

@@ -106,6 +106,12 @@ fn texts_of(place: usize, size: usize) -> Vec<String> {
     texts
 }
 
+/// The sizes of the shape with this name, and its texts of each.
+pub fn texts_named(name: &str) -> Vec<(usize, Vec<String>)> {
+    let place = SWEEPS.iter().position(|sweep| sweep.1 == name).expect("a name of a shape");
+    SWEEPS[place].3.iter().map(|size| (*size, texts_of(place, *size))).collect()
+}
+
 /// Prints the table.
 pub fn main() {
     println!("\nNanoseconds a text of other shapes, by the size after their name: up to {TEXTS} texts each.");
