@@ -252,7 +252,7 @@ fn value_bytes<'a>(lit: &'a Literal<&str>) -> Option<&'a [u8]>
 
 /// Writes the message on a text that is refused to the room, as much as fits: what is wrong, and
 /// the span, if there is one, as ` (at 3..4)`. The rest of the room is left as it is, and all of it
-/// where the text is not refused. It allocates as [`litrs_parse`] does, and nothing for the message.
+/// where the text is not refused. It allocates as [`litrs_parse`] does, and nothing for a message.
 #[unsafe(no_mangle)]
 pub extern "C" fn litrs_message(alloc: Global, text: &[u8], room: &mut [u8]) -> Written
     ensures statuses { result.status ≤ OUT_OF_MEMORY }

@@ -11,8 +11,8 @@ use crate::keep::{are_alike, digits};
 use litrs::{IntegerBase, IntegerLit, Literal, ParseErrorKind};
 use std::alloc::{AllocError, Global};
 
-/// The literal in its form, None where the text is no literal. What was written is read again: if it
-/// were no literal like the one before, the text would stay as it is.
+/// The literal in its form, None where the text is no literal. What was written is read again: if
+/// it were no literal like the one before, the text would stay as it is.
 pub fn formatted(alloc: Global, text: &str) -> Result<Option<String>, AllocError>
     ensures { IfOk result (λ form. MatchOption form
         (HasNoDerivation (IsLiteral (chars text.now)))

@@ -1,2 +1,4 @@
 -- what tokens spell
 pub mod Spelled
+-- the texts of tokens
+pub mod Texts

@@ -1,5 +1,7 @@
 //! Names, and the characters that they are made of.
-ghost use Rattle.std.specs.Prelude.{◌≤◌, length};
+ghost use Rattle.std.specs.Prelude.{take};
+ghost use Rattle.std.specs.Str.{IsCharBoundary, NoCharPasses};
+ghost use Rattle.uses_lexer.specs.Tokens.{ends_name};
 
 use unicode_ident::{is_xid_continue, is_xid_start};
 
@@ -10,7 +12,8 @@ pub fn begins_name(c: char) -> bool {
 
 /// How many bytes at the front of the text are a name, 0 where there is none.
 pub fn name_len(text: &str) -> usize
-    ensures { result ≤ length text.now }
+    ensures boundary { IsCharBoundary text.now result }
+    ensures name { NoCharPasses ends_name (take result text.now) }
 {
     match text.chars().next() {
         Some(c) if begins_name(c) => match text.find(|c: char| !is_xid_continue(c)) {

@@ -1,7 +1,7 @@
 //! Tokens.
-ghost use Rattle.std.specs.Prelude.{◌≡◌, ◌≢◌, ◌<◌, ◌++◌, length, IfOk, All};
-ghost use Rattle.uses_lexer.specs.Tokens.{spelled, IsToken};
-ghost use Rattle.uses_lexer.specs.declared.token.TokenKind.TheVariants as kind;
+ghost use Rattle.std.specs.Prelude.{◌≡◌, ◌<◌, ◌++◌, ℕ, List, ◌∷◌, length, take, IfOk, All};
+ghost use Rattle.std.specs.Str.{IsCharBoundary};
+ghost use Rattle.uses_lexer.specs.Tokens.{spelled, is_quote_or_digit, IsTextOf, IsToken};
 
 use crate::literal::first_literal;
 use crate::name::name_len;
@@ -31,7 +31,8 @@ pub struct Token<'a> {
     pub text: &'a str,
 }
 
-/// The tokens of a line. They spell it, and each literal token is a literal of the grammar.
+/// The tokens of a line. They spell it, and each is what its kind says: white space, a name, a
+/// literal of the grammar, and so on.
 pub fn tokens(alloc: Global, line: &str) -> Result<Vec<Token<'_>>, AllocError>
     ensures spells { IfOk result (λ found. spelled found.items ≡ line.now) }
     ensures tokens { IfOk result (λ found. All IsToken found.items) }
@@ -65,29 +66,49 @@ fn first_token(alloc: Global, text: &str) -> Result<(Token<'_>, &str), AllocErro
         }
     }
     let (kind, len) = kind_and_len(text);
-    let (text, rest) = text.split_at(text.ceil_char_boundary(len.max(1)));
+    let (text, rest) = text.split_at(len);
     Ok((Token { kind, text }, rest))
 }
 
 /// The kind of the first token, where it is no literal, and how many bytes it has.
 fn kind_and_len(text: &str) -> (TokenKind, usize)
-    ensures { result.0 ≢ kind.Literal }
+    requires { 0 < length text.now }
+    ensures long { 0 < result.1 }
+    ensures boundary { IsCharBoundary text.now result.1 }
+    ensures text { IsTextOf result.0 (take result.1 text.now) }
 {
     let blanks = text.len() - text.trim_start().len();
-    let name = name_len(text);
-    match text.as_bytes() {
-        _ if blanks > 0 => (TokenKind::Blank, blanks),
-        _ if name > 0 => (TokenKind::Name, name),
-        [b'\'', ..] => match text.get(1..) {
-            Some(rest) if name_len(rest) > 0 => {
-                (
-                    TokenKind::Lifetime,
-                    text.len() - rest.len() + name_len(rest),
-                )
-            }
-            _ => (TokenKind::Unknown, text.len()),
-        },
-        [b'"' | b'0'..=b'9', ..] => (TokenKind::Unknown, text.len()),
-        _ => (TokenKind::Punctuation, 1),
+    if blanks > 0 {
+        return (TokenKind::Blank, blanks);
     }
+    let name = name_len(text);
+    if name > 0 {
+        return (TokenKind::Name, name);
+    }
+    match text.chars().next() {
+        Some('\'') => quote_and_len(text),
+        Some(c) if is_quote_or_digit(c) => (TokenKind::Unknown, text.len()),
+        Some(c) => (TokenKind::Punctuation, c.len_utf8()),
+        None => unreachable!(),
+    }
+}
+
+/// The same of a text that begins with `'`.
+fn quote_and_len(text: &str) -> (TokenKind, usize)
+    requires { (rest : List ℕ) × (text.now ≡ 39 ∷ rest) }
+    ensures long { 0 < result.1 }
+    ensures boundary { IsCharBoundary text.now result.1 }
+    ensures text { IsTextOf result.0 (take result.1 text.now) }
+{
+    match text.get(1..) {
+        Some(rest) if name_len(rest) > 0 => (TokenKind::Lifetime, 1 + name_len(rest)),
+        _ => (TokenKind::Unknown, text.len()),
+    }
+}
+
+/// Whether the character is a quote of either kind or a decimal digit.
+fn is_quote_or_digit(c: char) -> bool
+    ensures { result ≡ is_quote_or_digit c }
+{
+    c == '"' || c == '\'' || c.is_ascii_digit()
 }
