@@ -343,7 +343,9 @@ impl ParseErrorKind {
         }
     }
 
-    fn description(self) -> &'static str
+    /// What is wrong, in words: `unterminated (byte) string literal` of `UnterminatedString`. It is
+    /// what `Display` prints.
+    pub fn description(self) -> &'static str
         ensures { result.now ≡ kind_text self }
     {
         match self {

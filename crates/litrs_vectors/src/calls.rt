@@ -213,8 +213,9 @@ pub fn try_collector(trial: &mut Trial, text: &str, is_literal: bool) {
     for line in text.split('\n') {
         is_found = is_fed(trial, &mut collector, line, text);
     }
+    let is_empty = collector.is_empty();
     let is_held = collector.finish().is_some();
-    let holds = is_found == is_literal && !(is_literal && is_held);
+    let holds = is_found == is_literal && is_empty != is_held && !(is_literal && is_held);
     trial.check(holds, "is something else to a collector");
 }
 
