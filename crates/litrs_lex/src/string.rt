@@ -87,18 +87,42 @@ fn unescape_more<C: EscapeContainer>(
         IsQuotedRefused (grammar_switches allowed) input.now offset e
         ⊎ IsQuotedOutOfMemory (grammar_switches allowed) input.now offset e) }
 {
-    let len = input.len();
-    if len <= SHORT {
+    if input.len() <= SHORT {
         unescape_within::<C, SHORT>(alloc, input, offset, from, allowed)
-    } else if len <= LONG {
+    } else {
+        unescape_longer(alloc, input, offset, from, allowed)
+    }
+}
+
+/// [`unescape_more`] of a text for whose value more room is made.
+#[inline(never)]
+fn unescape_longer<C: EscapeContainer>(
+    alloc: Global,
+    input: &str,
+    offset: usize,
+    from: usize,
+    allowed: Switches,
+) -> Result<(Option<C>, usize), ParseError>
+    requires at { IsCharBoundary input.now offset }
+    requires run { IsPlainRun (grammar_switches allowed) input.now offset from }
+    requires fits { IsTrue (not allowed.byte_escapes || C.TAKES_BYTES) }
+    ensures ok { IfOk result (λ read.
+        IsQuotedValue (grammar_switches allowed) input.now offset
+        (option_map C.contents read.0) read.1) }
+    ensures refused { IfErr result (λ e.
+        IsQuotedRefused (grammar_switches allowed) input.now offset e
+        ⊎ IsQuotedOutOfMemory (grammar_switches allowed) input.now offset e) }
+{
+    if input.len() <= LONG {
         unescape_within::<C, LONG>(alloc, input, offset, from, allowed)
     } else {
         unescape_within::<C, LONGEST>(alloc, input, offset, from, allowed)
     }
 }
 
-/// [`unescape_more`] with room for values of so many bytes; longer ones are read twice.
-#[inline(never)]
+/// [`unescape_more`] with room for values of so many bytes; longer ones are read twice. Inlined, so
+/// that a short text takes one call less.
+#[inline(always)]
 fn unescape_within<C: EscapeContainer, const ROOM: usize>(
     alloc: Global,
     input: &str,
