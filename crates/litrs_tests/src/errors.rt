@@ -50,8 +50,8 @@ const KINDS: &[ParseErrorKind] = &[
     OutOfMemory,
 ];
 
-/// Whether a kind has a description and is printed, and refusals of the kind without a span and with
-/// the greatest one.
+/// Whether a kind has a description and is printed, and refusals of the kind without a span and
+/// with the greatest one.
 fn is_printed(alloc: Global, kind: ParseErrorKind) -> bool {
     let refusal = ParseError::new(None, kind);
     let placed = ParseError::new(Some(0..usize::MAX), kind);
