@@ -5,7 +5,7 @@ use std::hint::black_box;
 use std::time::Instant;
 
 /// Rounds over a text.
-const ROUNDS: usize = 60;
+const ROUNDS: usize = 100;
 
 /// The most that the time may grow by where there are twice as many lines.
 const MOST_GROWTH: f64 = 2.2;
@@ -34,17 +34,45 @@ fn text_of((_, front, end, closing): (&str, &str, &str, &str), lines: usize) -> 
     format!("{front}{}{closing}", line.repeat(lines))
 }
 
+unsafe extern "C" {
+    /// Sets a parameter of the C library's allocator.
+    fn mallopt(param: i32, value: i32) -> i32;
+}
+
+/// Makes the allocator keep what is freed: else the system gives pages anew for each text, whose zeroing takes up
+/// to half of the time, and less for short ones.
+fn keep_memory() {
+    const TRIM_THRESHOLD: i32 = -1;
+    const MMAP_THRESHOLD: i32 = -3;
+    for param in [TRIM_THRESHOLD, MMAP_THRESHOLD] {
+        assert_eq!(unsafe { mallopt(param, 1 << 30) }, 1);
+    }
+}
+
+/// The time of so many calls, in nanoseconds.
+fn time(call: Call, text: &str, calls: usize) -> f64 {
+    let start = Instant::now();
+    for _ in 0..calls {
+        black_box(answer(call, black_box(text)));
+    }
+    start.elapsed().as_nanos() as f64
+}
+
 /// The least time of so many calls, in nanoseconds.
 fn least(call: Call, text: &str, calls: usize) -> f64 {
-    let mut least = f64::INFINITY;
+    (0..ROUNDS).map(|_| time(call, text, calls)).fold(f64::INFINITY, f64::min)
+}
+
+/// By how much the least time of feeding a text, with splitting it, grows at most from one to the next. The texts
+/// take turns, so that none of them stays in the caches.
+fn growth(texts: &[String; 3]) -> f64 {
+    let mut least = [f64::INFINITY; 3];
     for _ in 0..ROUNDS {
-        let start = Instant::now();
-        for _ in 0..calls {
-            black_box(answer(call, black_box(text)));
+        for (least, text) in least.iter_mut().zip(texts) {
+            *least = least.min(time(ours::feed, text, 1));
         }
-        least = least.min(start.elapsed().as_nanos() as f64);
     }
-    least
+    (least[1] / least[0]).max(least[2] / least[1])
 }
 
 /// Prints, of each shape, the time of a line where there are 10,000, 20,000 and 40,000, and of a line
@@ -53,20 +81,20 @@ pub fn main() {
     println!("\nNanoseconds a line of `feed` of 10,000, 20,000 and 40,000 lines of one literal, less those of splitting");
     println!("the text alone; by how much the whole, with splitting, grows at most by a step; a `parse` of one line alone");
     println!("as a literal; the ratio; a line's share of a `parse` of the whole; splitting. The least of {ROUNDS} rounds.");
+    keep_memory();
     for shape in SHAPES {
         let texts = COUNTS.map(|lines| text_of(*shape, lines));
         assert_eq!(answer(ours::feed, &texts[0]), answer(ours::parse, &texts[0]), "{}", shape.0);
         let split = texts.each_ref().map(|text| least(ours::split, text, 1));
         let whole = texts.each_ref().map(|text| least(ours::feed, text, 1));
-        let times: Vec<f64> = whole.iter().zip(split).map(|(whole, split)| whole - split).collect();
-        let growth = (whole[1] / whole[0]).max(whole[2] / whole[1]);
+        let growth = growth(&texts);
         let alone = least(ours::parse, &text_of(*shape, 1), 1000) / 1000.0;
         let share = least(ours::parse, &texts[2], 1) / COUNTS[2] as f64;
         print!("String     {:<32}", shape.0);
-        for (time, lines) in times.iter().zip(COUNTS) {
-            print!("{:>8.1}", time / lines as f64);
+        for ((whole, split), lines) in whole.iter().zip(split).zip(COUNTS) {
+            print!("{:>8.1}", (whole - split) / lines as f64);
         }
-        let line = times[2] / COUNTS[2] as f64;
+        let line = (whole[2] - split[2]) / COUNTS[2] as f64;
         print!("{growth:>6.2}{alone:>8.1}{:>6.2}{share:>8.1}", line / alone);
         print!("{:>8.1}", split[2] / COUNTS[2] as f64);
         println!("{}", if growth > MOST_GROWTH { "  grows" } else { "" });
