@@ -8,6 +8,7 @@ use std::hint::black_box;
 use std::time::Instant;
 
 mod allocations;
+mod corpus;
 mod going_on;
 mod held_out;
 mod limits;

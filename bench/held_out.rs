@@ -2,7 +2,7 @@
 //! literals of given lengths.
 
 use crate::Texts::{Refused, Valued};
-use crate::{Numbers, Row, Texts, row, times_of};
+use crate::{Numbers, Row, Texts, corpus, row, times_of};
 
 /// The texts of a shape of one size, and the bytes that they have at most, together.
 const TEXTS: usize = 1000;
@@ -120,6 +120,9 @@ pub fn main() {
         for size in *sizes {
             rows.push((*kind, format!("{name} {size}"), *shape, texts_of(place, *size)));
         }
+    }
+    if let Ok(folder) = std::env::var("LITRS_BENCH_SOURCES") {
+        rows.extend(corpus::rows(&folder).into_iter().map(|(kind, name, shape, texts)| (kind, name.to_string(), shape, texts)));
     }
     let rows: Vec<Row> = rows
         .iter()

@@ -1,0 +1,134 @@
+//! The literals of Rattle's own sources, which are read where the toolchain has them.
+
+use crate::Texts::{self, Parsed, Valued};
+use crate::{Call, REFUSED, answer, ours};
+use std::fs;
+use std::path::Path;
+
+/// The texts of a shape at most.
+const TEXTS: usize = 20_000;
+
+/// The Rust files of the folder and those below it, in the order of their names.
+fn sources(folder: &Path, found: &mut Vec<String>) {
+    let Ok(entries) = fs::read_dir(folder) else {
+        return;
+    };
+    let mut paths: Vec<_> = entries.filter_map(|entry| Some(entry.ok()?.path())).collect();
+    paths.sort();
+    for path in paths {
+        if path.is_dir() {
+            sources(&path, found);
+        } else if path.extension().is_some_and(|it| it == "rt") {
+            found.extend(fs::read_to_string(&path));
+        }
+    }
+}
+
+/// The length of a quoted body with its closing quote, 0 where it has none.
+fn quoted_len(rest: &str, quote: u8) -> usize {
+    let mut escaped = false;
+    for (i, byte) in rest.bytes().enumerate() {
+        if byte == quote && !escaped {
+            return i + 1;
+        }
+        escaped = byte == b'\\' && !escaped;
+    }
+    0
+}
+
+/// The length of what is after the `r` of a raw string, 0 where it is none.
+fn raw_len(rest: &str) -> usize {
+    let hashes = rest.len() - rest.trim_start_matches('#').len();
+    let closing = format!("\"{}", "#".repeat(hashes));
+    match rest[hashes..].strip_prefix('"').and_then(|body| body.find(&closing)) {
+        Some(end) => hashes + 1 + end + closing.len(),
+        None => 0,
+    }
+}
+
+/// The length of a number, with a fraction and a suffix.
+fn number_len(rest: &str) -> usize {
+    let word = |text: &str| text.find(|c: char| c != '_' && !c.is_alphanumeric()).unwrap_or(text.len());
+    let len = word(rest);
+    match rest[len..].strip_prefix('.') {
+        Some(fraction) if fraction.starts_with(|c: char| c.is_ascii_digit()) => len + 1 + word(fraction),
+        _ => len,
+    }
+}
+
+/// How many bytes at the front of the text are one token, or may be a literal.
+fn token_len(rest: &str) -> usize {
+    let after = |front: &str, len: fn(&str) -> usize| match len(&rest[front.len()..]) {
+        0 => front.len(),
+        len => front.len() + len,
+    };
+    for front in ["br", "cr", "r"] {
+        if rest.starts_with(&format!("{front}\"")) || rest.starts_with(&format!("{front}#")) {
+            return after(front, raw_len);
+        }
+    }
+    for front in ["b\"", "c\"", "\""] {
+        if rest.starts_with(front) {
+            return after(front, |rest| quoted_len(rest, b'"'));
+        }
+    }
+    for front in ["b'", "'"] {
+        let mut chars = rest.strip_prefix(front).unwrap_or("").chars();
+        if let (Some(first), Some(second)) = (chars.next(), chars.next())
+            && (first == '\\' || second == '\'')
+        {
+            return after(front, |rest| quoted_len(rest, b'\''));
+        }
+    }
+    match rest.chars().next() {
+        Some(c) if c.is_ascii_digit() => number_len(rest),
+        Some(c) if c == '_' || c.is_alphabetic() => {
+            rest.find(|c: char| c != '_' && !c.is_alphanumeric()).unwrap_or(rest.len())
+        }
+        Some(c) => c.len_utf8(),
+        None => 0,
+    }
+}
+
+/// The literals of a source, in their order.
+fn literals_of(mut rest: &str, found: &mut Vec<String>) {
+    while !rest.is_empty() {
+        if rest.starts_with("//") {
+            rest = &rest[rest.find('\n').unwrap_or(rest.len())..];
+            continue;
+        }
+        let (token, next) = rest.split_at(token_len(rest));
+        if answer(ours::parse as Call, token) & REFUSED == 0 {
+            found.push(token.to_string());
+        }
+        rest = next;
+    }
+}
+
+/// The shapes, and which of the literals are of each.
+type Class = (&'static str, &'static str, Texts, fn(&str) -> bool);
+
+const CLASSES: &[Class] = &[
+    ("", "sources: all in turn", Parsed, |_| true),
+    ("String", "sources: plain", Valued, |text| text.starts_with('"') && !text.contains('\\')),
+    ("String", "sources: with escapes", Valued, |text| text.starts_with('"') && text.contains('\\')),
+    ("Integer", "sources: integers", Valued, |text| is_number(text) && !is_float(text)),
+    ("Float", "sources: floats", Parsed, |text| is_number(text) && is_float(text)),
+];
+
+fn is_number(text: &str) -> bool {
+    text.starts_with(|c: char| c.is_ascii_digit())
+}
+
+fn is_float(text: &str) -> bool {
+    !text.starts_with("0x") && text.contains(['.', 'e', 'E']) && !text.ends_with("size")
+}
+
+/// The rows of the literals of the sources below the folder.
+pub fn rows(folder: &str) -> Vec<(&'static str, &'static str, Texts, Vec<String>)> {
+    let (mut texts, mut found) = (Vec::new(), Vec::new());
+    sources(Path::new(folder), &mut texts);
+    texts.iter().for_each(|text| literals_of(text, &mut found));
+    let of = |is: fn(&str) -> bool| found.iter().filter(|text| is(text)).take(TEXTS).cloned().collect();
+    CLASSES.iter().map(|(kind, name, shape, is)| (*kind, *name, *shape, of(*is))).collect()
+}
