@@ -28,10 +28,18 @@ const SHAPES: &[(&str, &str, &str, &str)] = &[
     ("a byte string", "b\"", "\\x00", "\""),
 ];
 
-/// A literal of so many lines.
+/// A literal of so many lines. It takes one allocation, so that no free memory is left between texts, where what is
+/// collected would be kept at first, and moved out of when it has grown.
 fn text_of((_, front, end, closing): (&str, &str, &str, &str), lines: usize) -> String {
-    let line = format!("{}{end}\n", "x".repeat(LINE_LEN - end.len()));
-    format!("{front}{}{closing}", line.repeat(lines))
+    let mut text = String::with_capacity(front.len() + (LINE_LEN + 1) * lines + closing.len());
+    text.push_str(front);
+    for _ in 0..lines {
+        text.extend(std::iter::repeat_n('x', LINE_LEN - end.len()));
+        text.push_str(end);
+        text.push('\n');
+    }
+    text.push_str(closing);
+    text
 }
 
 unsafe extern "C" {

@@ -157,6 +157,7 @@ fn begins(alloc: Global, text: &str) -> bool
 
 /// Decides what the text is that is held, to which a line was added, by a parse of all of it. After
 /// an error it may have an LF at its end.
+#[inline(never)]
 fn read_held(held: &mut String) -> Result<Step, AllocError>
     ensures step { IfOk result (IsStep (string_bytes held.old)) }
     ensures held { IfOk result (λ step.

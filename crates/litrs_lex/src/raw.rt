@@ -174,7 +174,14 @@ fn next_stop(bytes: &[u8], from: usize, hashes: usize, what: Special, is_first: 
     if is_first || hashes == 0 {
         next_special(bytes, from, what)
     } else {
-        next_closing(bytes, from, hashes, what)
+        // A call gets the address of what it is given. Of `what` itself none is known, so that the
+        // switches stay constants in the search above.
+        let again = Special {
+            backslash: what.backslash,
+            nul: what.nul,
+            non_ascii: what.non_ascii,
+        };
+        next_closing(bytes, from, hashes, again)
     }
 }
 

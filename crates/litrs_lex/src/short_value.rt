@@ -14,7 +14,7 @@ pub(crate) const SHORT: usize = 80;
 pub(crate) const LONG: usize = 1024;
 
 /// The most room. A value that is longer is read twice.
-pub(crate) const LONGEST: usize = 8192;
+pub(crate) const LONGEST: usize = 16384;
 
 /// The length in bytes of the one copy that serves for each run of at most so many bytes.
 const MOVED: usize = 16;

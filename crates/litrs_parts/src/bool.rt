@@ -66,7 +66,7 @@ fn bool_front(value: bool) -> u32
     if value { 0x6575_7274 } else { 0x736c_6166 }
 }
 
-/// The first four bytes as one number, so that they are compared at once.
+/// The first four bytes as one number, so that one comparison serves for all of them.
 #[inline(always)]
 fn first_four(bytes: &[u8]) -> u32
     requires { 4 ≤ length bytes.now }

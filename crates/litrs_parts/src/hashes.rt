@@ -36,13 +36,24 @@ pub fn are_hashes(bytes: &[u8]) -> bool
 }
 
 /// How many hashes stand first.
+#[inline(always)]
 pub fn hash_len(bytes: &[u8]) -> usize
     ensures len { result ≡ hash_len bytes.now }
     ensures within { result ≤ length bytes.now }
 {
     match bytes {
         // A search by lanes costs more than a comparison of each where there are few.
-        [b'#', b'#', b'#', b'#', ..] => run_end(bytes, Run::Hashes),
+        [b'#', b'#', b'#', b'#', ..] => hash_len_of_many(bytes),
         _ => bytes.iter().take_while(|b| **b == b'#').count(),
     }
+}
+
+/// [`hash_len`] by a search. It is not inlined, so that callers hold no more than what few hashes
+/// take.
+#[inline(never)]
+fn hash_len_of_many(bytes: &[u8]) -> usize
+    ensures len { result ≡ hash_len bytes.now }
+    ensures within { result ≤ length bytes.now }
+{
+    run_end(bytes, Run::Hashes)
 }

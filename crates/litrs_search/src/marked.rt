@@ -7,7 +7,7 @@ ghost use Rattle.litrs_search.specs.Marked.{IsMarked};
 use crate::lanes::special_marks;
 use crate::search::{Special, first_marked, next_special};
 
-/// How many bytes are marked at once.
+/// How many bytes one load marks.
 const LOAD: usize = 32;
 
 /// Which bytes of a part of a text are special, as far as a search has found out. Places count
