@@ -1,7 +1,7 @@
 //! Times small forms in Rust over some texts of `held_out`: what a part of the work takes by itself.
 
 use crate::going_on::least;
-use crate::{Call, held_out, ours};
+use crate::{Call, corpus, held_out, ours};
 use std::hint::black_box;
 
 /// The text at this address.
@@ -41,23 +41,152 @@ unsafe extern "C" fn raw_end(text: *const u8, len: usize) -> u64 {
     if closing.bytes().all(|byte| byte == b'#') { suffix.len() as u64 + 1 } else { 0 }
 }
 
+/// The value of the hex digits and underscores, and how many bytes they have.
+fn hex(digits: &str) -> (u32, usize) {
+    let len = digits.find(|c: char| c != '_' && !c.is_ascii_hexdigit()).unwrap_or(digits.len());
+    let digits = digits[..len].chars().filter_map(|c| c.to_digit(16));
+    (digits.fold(0, |value, digit| 16 * value + digit), len)
+}
+
+/// Adds what the escape or continuation at the front stands for, and gives how many bytes it has.
+fn push_item(rest: &str, value: &mut Vec<u8>) -> usize {
+    let byte = match rest.as_bytes()[1] {
+        b'\n' => return rest.len() - rest[1..].trim_start_matches([' ', '\t', '\n']).len(),
+        b'x' => {
+            value.push(hex(&rest[2..4]).0 as u8);
+            return 4;
+        }
+        b'u' => {
+            let (number, len) = hex(&rest[3..]);
+            let mut buffer = [0; 4];
+            let character = char::from_u32(number).unwrap_or(' ').encode_utf8(&mut buffer);
+            value.extend_from_slice(character.as_bytes());
+            return 4 + len;
+        }
+        b'n' => b'\n',
+        b't' => b'\t',
+        b'r' => b'\r',
+        b'0' => 0,
+        other => other,
+    };
+    value.push(byte);
+    2
+}
+
+/// Puts the value of a quoted string together, with room for as many bytes as the text has, and frees it. It tests
+/// neither the escapes nor the characters nor what follows the closing quote.
+unsafe extern "C" fn unescaped(text: *const u8, len: usize) -> u64 {
+    let text = unsafe { text_at(text, len) };
+    let mut rest = &text[text.find('"').map_or(0, |quote| quote + 1)..];
+    let mut value = Vec::with_capacity(len);
+    while let Some(run) = rest.find(['\\', '"']) {
+        value.extend_from_slice(&rest.as_bytes()[..run]);
+        rest = &rest[run..];
+        if rest.starts_with('"') {
+            break;
+        }
+        rest = &rest[push_item(rest, &mut value)..];
+    }
+    black_box(value).len() as u64
+}
+
+/// A refusal, in as many bytes as ours.
+#[allow(dead_code)]
+struct Refusal {
+    span: Option<std::ops::Range<usize>>,
+    char_end: usize,
+    kind: u8,
+}
+
+/// The refusal of the first escape, if it is `\xNN` and passes 7F or is 0.
+#[inline(never)]
+fn first_escape(text: &str) -> Result<usize, Refusal> {
+    let Some(place) = text.find('\\') else {
+        return Ok(0);
+    };
+    match text.as_bytes()[place + 1] {
+        b'x' => match hex(&text[place + 2..place + 4]).0 {
+            1..=0x7F => Ok(place),
+            _ => Err(Refusal { span: Some(place..place + 4), char_end: place + 4, kind: 1 }),
+        },
+        _ => Ok(place),
+    }
+}
+
+/// Where the first escape is refused.
+unsafe extern "C" fn refused_escape(text: *const u8, len: usize) -> u64 {
+    match first_escape(unsafe { text_at(text, len) }) {
+        Ok(place) => place as u64,
+        Err(refusal) => refusal.span.map_or(0, |span| (span.start + span.end) as u64),
+    }
+}
+
+/// How many bytes the parts of a decimal number have, in one number.
+unsafe extern "C" fn number_parts(text: *const u8, len: usize) -> u64 {
+    let text = unsafe { text_at(text, len) };
+    let digits = |rest: &str| rest.find(|c: char| c != '_' && !c.is_ascii_digit()).unwrap_or(rest.len());
+    let integer = digits(text);
+    let mut end = integer;
+    if text[end..].starts_with('.') {
+        end += 1 + digits(&text[end + 1..]);
+    }
+    if text[end..].starts_with(['e', 'E']) {
+        end += 1;
+        end += usize::from(text[end..].starts_with(['+', '-']));
+        end += digits(&text[end..]);
+    }
+    (integer + (end << 8) + ((len - end) << 16)) as u64
+}
+
+const VALUE: &str = "its value, put together and freed";
+
 /// Texts of `held_out`, what a form does of them, and the form.
 const FORMS: &[(&str, &str, Call)] = &[
     ("only true", "which bool it is", which_bool),
     ("only false", "which bool it is", which_bool),
     ("refused: long, no end", "where a quote stands", quote_place),
     ("one escape among characters", "a copy, and its release", copied),
+    ("one escape among characters", VALUE, unescaped),
+    ("escape each 2 bytes", VALUE, unescaped),
+    ("escape each 20 bytes", VALUE, unescaped),
+    ("unicode escapes", VALUE, unescaped),
+    ("continuation of blanks", VALUE, unescaped),
+    ("continuations", VALUE, unescaped),
+    ("only \\xNN", VALUE, unescaped),
+    ("table of bytes", VALUE, unescaped),
     ("raw, hashes", "where the suffix begins", raw_end),
+    ("refused: \\xff after", "where the escape is refused", refused_escape),
+    ("refused: \\x00 after", "where the escape is refused", refused_escape),
 ];
+
+/// The same of literals of real sources.
+const SOURCE_FORMS: &[(&str, &str, Call)] = &[
+    ("sources: with escapes", VALUE, unescaped),
+    ("sources: integers", "how long its parts are", number_parts),
+    ("sources: floats", "how long its parts are", number_parts),
+];
+
+/// Prints the row of a form.
+fn row(name: &str, texts: &[String], what: &str, form: Call) {
+    let texts: Vec<&str> = texts.iter().map(String::as_str).collect();
+    let [ours, form] = [ours::parse as Call, form].map(|call| least(call, &texts));
+    println!("{name:<43}{ours:>10.1}{form:>10.1}  {what}");
+}
 
 /// Prints the table.
 pub fn main() {
     println!("\nNanoseconds a text of `parse`, and of a form in Rust that does a part of it.");
     for (name, what, form) in FORMS {
         for (size, texts) in held_out::texts_named(name) {
-            let texts: Vec<&str> = texts.iter().map(String::as_str).collect();
-            let [ours, form] = [ours::parse as Call, *form].map(|call| least(call, &texts));
-            println!("{:<43}{ours:>10.1}{form:>10.1}  {what}", format!("{name} {size}"));
+            row(&format!("{name} {size}"), &texts, what, *form);
+        }
+    }
+    let Ok(folder) = std::env::var("LITRS_BENCH_SOURCES") else {
+        return;
+    };
+    for (_, name, _, texts) in corpus::rows(&folder) {
+        for (_, what, form) in SOURCE_FORMS.iter().filter(|form| form.0 == name) {
+            row(name, &texts, what, *form);
         }
     }
 }

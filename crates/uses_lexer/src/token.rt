@@ -8,7 +8,7 @@ use crate::name::name_len;
 use std::alloc::{AllocError, Global};
 
 /// What a token is.
-#[derive(Clone, Copy, PartialEq, Eq)]
+#[derive(Clone, Copy)]
 pub enum TokenKind {
     /// White space.
     Blank,
