@@ -149,3 +149,9 @@ extends_more old line mid new u is longer = (
   IsUtf8-append line longer.0 u longer.1,
   longer.2 ∙ ap (λ (x : List ℕ). x ++ longer.0) is ∙ append_assoc old line longer.0,
 )
+
+-- a text with a line after it has it after what stands before the place where it was added
+pub added_line : (old line new : List ℕ) (len : ℕ) → IsUtf8 line → new ≡ old ++ line → len ≡ length old → Extends (take len new) new
+added_line old line new len u is n =
+    let front : take len new ≡ old = ap (λ (k : ℕ). take k new) n ∙ (ap (take (length old)) is ∙ take-append_seam old line) in
+    (line, u, is ∙ ap (λ (x : List ℕ). x ++ line) (sym front))

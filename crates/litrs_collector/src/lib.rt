@@ -5,7 +5,7 @@
 //! begin one, or neither.
 #![tactic(auto)]
 
-ghost use Rattle.std.specs.Prelude.{◌≡◌, ◌↔◌, ◌∷◌, ◌++◌, [], IsTrue, IsFalse, IfOk, OnOk, OnErr, IfSome, IfNone, MatchResult, string_bytes};
+ghost use Rattle.std.specs.Prelude.{◌≡◌, ◌≤◌, ◌↔◌, ◌∷◌, ◌++◌, [], length, take, IsTrue, IsFalse, IfOk, OnOk, OnErr, IfSome, IfNone, MatchResult, string_bytes};
 ghost use Rattle.std.specs.Str.{chars, IsUtf8};
 ghost use Rattle.litrs_base.specs.Characters.{line_feed};
 ghost use Rattle.litrs_grammar.specs.Literal.{literal_parse, Begins};
@@ -218,13 +218,29 @@ fn add_line(held: &mut String, known: &mut Option<Open>, line: &str) -> Result<S
 {
     let len = held.len();
     match push_line(held, known, line) {
-        Ok(true) => return Ok(Step::More),
-        Ok(false) => {}
+        Ok(true) => Ok(Step::More),
+        Ok(false) => read_added(held, known, len),
         Err(error) => {
             held.truncate(len);
-            return Err(error);
+            Err(error)
         }
     }
+}
+
+/// [`read_held`] where all from this place on was just added, which is taken off after an error.
+///
+/// It is not inlined, so that a line after which a string goes on costs no room for a literal.
+#[inline(never)]
+fn read_added(held: &mut String, known: &mut Option<Open>, len: usize) -> Result<Step, AllocError>
+    requires within { len ≤ length (string_bytes held.old) }
+    requires added { Extends (take len (string_bytes held.old)) (string_bytes held.old) }
+    requires known { IsKnown (take len (string_bytes held.old)) known.old }
+    ensures step { IfOk result (IsStep (string_bytes held.old)) }
+    ensures held { IfOk result (λ step.
+        string_bytes held.new ≡ held_after (string_bytes held.old) step) }
+    ensures err { OnErr result (string_bytes held.new ≡ take len (string_bytes held.old)) }
+    ensures known { IsKnown (string_bytes held.new) known.new }
+{
     match read_held(held) {
         Ok(step) => {
             *known = None;
@@ -250,10 +266,26 @@ fn feed_text(held: &mut String, known: &mut Option<Open>, line: &str) -> Result<
     ensures is_known { IsKnown (string_bytes held.new) known.new }
 {
     if held.is_empty() {
-        let alloc = *held.allocator();
-        if let Ok(lit) = read(alloc, line)? {
-            return Ok(Step::Literal(lit));
-        }
+        feed_first(held, known, line)
+    } else {
+        add_line(held, known, line)
+    }
+}
+
+/// [`feed_text`] where nothing is held.
+#[inline(never)]
+fn feed_first(held: &mut String, known: &mut Option<Open>, line: &str) -> Result<Step, AllocError>
+    requires none { string_bytes held.old ≡ [] }
+    requires known { IsKnown (string_bytes held.old) known.old }
+    ensures step { IfOk result (IsStep (string_bytes held.old ++ line.now)) }
+    ensures held { IfOk result (λ step.
+        string_bytes held.new ≡ held_after (string_bytes held.old ++ line.now) step) }
+    ensures err { OnErr result (string_bytes held.new ≡ string_bytes held.old) }
+    ensures known { IsKnown (string_bytes held.new) known.new }
+{
+    let alloc = *held.allocator();
+    if let Ok(lit) = read(alloc, line)? {
+        return Ok(Step::Literal(lit));
     }
     add_line(held, known, line)
 }
