@@ -18,6 +18,42 @@ unsafe extern "C" fn which_bool(text: *const u8, len: usize) -> u64 {
     }
 }
 
+/// What a text is parsed as, in as many bytes as a literal.
+#[allow(dead_code)]
+enum Parsed<'a> {
+    Bool(bool),
+    Number(&'a str, [usize; 5]),
+    Text(&'a str, [usize; 5], bool),
+}
+
+/// A number or a text, by its length: a call, as that of what cuts a literal.
+#[inline(never)]
+fn parsed(text: &str) -> Result<Parsed<'_>, Refusal> {
+    let places = [text.len(); 5];
+    match text.as_bytes() {
+        [b'0'..=b'9', ..] => Ok(Parsed::Number(text, places)),
+        [.., b'"'] => Ok(Parsed::Text(text, places, false)),
+        _ => Err(Refusal { span: Some(0..1), char_end: 1, kind: 0 }),
+    }
+}
+
+/// Which bool the text is, where the texts of other kinds are told from it first, each in a call of its own kind.
+unsafe extern "C" fn bool_among_kinds(text: *const u8, len: usize) -> u64 {
+    let text = unsafe { text_at(text, len) };
+    let answer = match text.as_bytes() {
+        [b'0'..=b'9' | b'\'' | b'"' | b'r', ..] | [b'b' | b'c', b'\'' | b'"' | b'r', ..] => parsed(text),
+        b"true" => Ok(Parsed::Bool(true)),
+        b"false" => Ok(Parsed::Bool(false)),
+        _ => Err(Refusal { span: None, char_end: 0, kind: 2 }),
+    };
+    match answer {
+        Ok(Parsed::Bool(value)) => 1 + u64::from(value),
+        Ok(Parsed::Number(text, places)) => (text.len() + places[0]) as u64,
+        Ok(Parsed::Text(text, places, is_raw)) => (text.len() + places[1]) as u64 + u64::from(is_raw),
+        Err(refusal) => refusal.span.map_or(0, |span| span.end as u64),
+    }
+}
+
 /// Where a quote stands after the first byte.
 unsafe extern "C" fn quote_place(text: *const u8, len: usize) -> u64 {
     let text = unsafe { text_at(text, len) };
@@ -144,6 +180,8 @@ const VALUE: &str = "its value, put together and freed";
 const FORMS: &[(&str, &str, Call)] = &[
     ("only true", "which bool it is", which_bool),
     ("only false", "which bool it is", which_bool),
+    ("only true", "which bool it is, after the other kinds", bool_among_kinds),
+    ("only false", "which bool it is, after the other kinds", bool_among_kinds),
     ("refused: long, no end", "where a quote stands", quote_place),
     ("one escape among characters", "a copy, and its release", copied),
     ("one escape among characters", VALUE, unescaped),

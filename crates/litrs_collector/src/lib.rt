@@ -253,7 +253,7 @@ fn read_added(held: &mut String, known: &mut Option<Open>, len: usize) -> Result
     }
 }
 
-/// The same, without a copy of a line that is a literal by itself.
+/// [`add_line`], without a copy of a line that is a literal by itself.
 fn feed_text(held: &mut String, known: &mut Option<Open>, line: &str) -> Result<Step, AllocError>
     requires held { IsHeld (string_bytes held.old) }
     requires known { IsKnown (string_bytes held.old) known.old }

@@ -1,7 +1,7 @@
-use Rattle.std.proofs.Common.{◌-◌, take, get_or, length, sym, ap, ◌∙◌, arith}
+use Rattle.std.proofs.Common.{◌-◌, take, get_or, sym, ap, ◌∙◌, arith}
 use Rattle.std.specs.Int.{w32, from_le_bytes}
 use Rattle.std.proofs.lemmas.Bool.{eqb-true, eq-eqb, true≢false}
-use Rattle.litrs_parts.proofs.Words.{same_bool, last_letter}
+use Rattle.litrs_parts.proofs.Words.{same_bool}
 use Rattle.litrs_parts.proofs.bool.is_bool_text.Goals as goal
 
 pub returns-clause-same : goal.returns-clause-same
