@@ -531,6 +531,10 @@ fn times_of(rows: &[Row]) -> Vec<[f64; CALLS.len()]> {
 }
 
 fn main() {
+    if std::env::args().nth(1).as_deref() == Some("several_lines") {
+        several_lines::main();
+        return;
+    }
     println!("Nanoseconds a text, the least of {} rounds over up to {TEXTS} texts a shape.", PASSES * ROUNDS);
     if cfg!(all(upstream, check_suffix)) {
         println!("Upstream is built with its feature check_suffix.");
@@ -566,7 +570,6 @@ fn main() {
     held_out::main();
     limits::main();
     lines::main();
-    several_lines::main();
     going_on::main(&rows.iter().map(|(kind, name, _, texts)| (*kind, *name, &texts[..])).collect::<Vec<_>>());
     println!();
     allocations::main(&rows.iter().map(|(kind, name, _, texts)| (*kind, *name, &texts[..])).collect::<Vec<_>>());

@@ -66,21 +66,32 @@ fn time(call: Call, text: &str, calls: usize) -> f64 {
     start.elapsed().as_nanos() as f64
 }
 
-/// The least time of so many calls, in nanoseconds.
-fn least(call: Call, text: &str, calls: usize) -> f64 {
-    (0..ROUNDS).map(|_| time(call, text, calls)).fold(f64::INFINITY, f64::min)
+/// The least times of a shape, in nanoseconds.
+struct Least {
+    /// Of feeding each text, with splitting it.
+    whole: [f64; 3],
+    /// Of splitting each text.
+    split: [f64; 3],
+    /// Of a `parse` of one line that is a literal by itself.
+    alone: f64,
+    /// Of a `parse` of the longest text.
+    parse: f64,
 }
 
-/// By how much the least time of feeding a text, with splitting it, grows at most from one to the next. The texts
-/// take turns, so that none of them stays in the caches.
-fn growth(texts: &[String; 3]) -> f64 {
-    let mut least = [f64::INFINITY; 3];
+/// The least times. All calls take turns, so that no text stays in the caches, and what else the machine does meets
+/// all of them.
+fn least_of(texts: &[String; 3], line: &str) -> Least {
+    let [whole, split] = [[f64::INFINITY; 3]; 2];
+    let mut least = Least { whole, split, alone: f64::INFINITY, parse: f64::INFINITY };
     for _ in 0..ROUNDS {
-        for (least, text) in least.iter_mut().zip(texts) {
-            *least = least.min(time(ours::feed, text, 1));
+        for (i, text) in texts.iter().enumerate() {
+            least.whole[i] = least.whole[i].min(time(ours::feed, text, 1));
+            least.split[i] = least.split[i].min(time(ours::split, text, 1));
         }
+        least.alone = least.alone.min(time(ours::parse, line, 1000) / 1000.0);
+        least.parse = least.parse.min(time(ours::parse, &texts[2], 1));
     }
-    (least[1] / least[0]).max(least[2] / least[1])
+    least
 }
 
 /// Prints, of each shape, the time of a line where there are 10,000, 20,000 and 40,000, and of a line
@@ -93,11 +104,9 @@ pub fn main() {
     for shape in SHAPES {
         let texts = COUNTS.map(|lines| text_of(*shape, lines));
         assert_eq!(answer(ours::feed, &texts[0]), answer(ours::parse, &texts[0]), "{}", shape.0);
-        let split = texts.each_ref().map(|text| least(ours::split, text, 1));
-        let whole = texts.each_ref().map(|text| least(ours::feed, text, 1));
-        let growth = growth(&texts);
-        let alone = least(ours::parse, &text_of(*shape, 1), 1000) / 1000.0;
-        let share = least(ours::parse, &texts[2], 1) / COUNTS[2] as f64;
+        let Least { whole, split, alone, parse } = least_of(&texts, &text_of(*shape, 1));
+        let growth = (whole[1] / whole[0]).max(whole[2] / whole[1]);
+        let share = parse / COUNTS[2] as f64;
         print!("String     {:<32}", shape.0);
         for ((whole, split), lines) in whole.iter().zip(split).zip(COUNTS) {
             print!("{:>8.1}", (whole - split) / lines as f64);
