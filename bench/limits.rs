@@ -174,6 +174,25 @@ unsafe extern "C" fn number_parts(text: *const u8, len: usize) -> u64 {
     (integer + (end << 8) + ((len - end) << 16)) as u64
 }
 
+/// What is told first of a literal of any kind: how long the parts of a number are, the value of a quoted string with
+/// a backslash, where the suffix of a raw string begins, and where the closing quote of any other text stands.
+unsafe extern "C" fn parts_by_kind(text: *const u8, len: usize) -> u64 {
+    let bytes = unsafe { text_at(text, len) }.as_bytes();
+    let front = match bytes {
+        [b'0'..=b'9', ..] => return unsafe { number_parts(text, len) },
+        [b't' | b'f', ..] => return unsafe { which_bool(text, len) },
+        [b'r', ..] | [b'b' | b'c', b'r', ..] => return unsafe { raw_end(text, len) },
+        [b'"' | b'\'', ..] => 1,
+        _ => 2,
+    };
+    let rest = unsafe { text_at(text.add(front), len - front) };
+    match rest.find(['\\', char::from(bytes[front - 1])]) {
+        Some(place) if rest.as_bytes()[place] == b'\\' => unsafe { unescaped(text, len) },
+        Some(place) => place as u64,
+        None => 0,
+    }
+}
+
 const VALUE: &str = "its value, put together and freed";
 
 /// Texts of `held_out`, what a form does of them, and the form.
@@ -199,6 +218,7 @@ const FORMS: &[(&str, &str, Call)] = &[
 
 /// The same of literals of real sources.
 const SOURCE_FORMS: &[(&str, &str, Call)] = &[
+    ("sources: all in turn", "the parts or the value of each kind", parts_by_kind),
     ("sources: with escapes", VALUE, unescaped),
     ("sources: integers", "how long its parts are", number_parts),
     ("sources: floats", "how long its parts are", number_parts),

@@ -87,10 +87,40 @@ fn unescape_more<C: EscapeContainer>(
         IsQuotedRefused (grammar_switches allowed) input.now offset e
         ⊎ IsQuotedOutOfMemory (grammar_switches allowed) input.now offset e) }
 {
-    if input.len() <= SHORT {
+    let rest = &input[from..];
+    // A first escape that may well be refused is read before room for a value is set to zero.
+    if !is_rarely_refused(rest.as_bytes(), allowed) && next_item(rest, allowed).is_none() {
+        let value_len = from - offset;
+        let end = ItemsEnd {
+            place: from,
+            value_len,
+        };
+        let here = cut_at_end(input, offset, end, allowed)?;
+        Ok((None, here.start_suffix))
+    } else if input.len() <= SHORT {
         unescape_within::<C, SHORT>(alloc, input, offset, from, allowed)
     } else {
         unescape_longer(alloc, input, offset, from, allowed)
+    }
+}
+
+/// Whether an escape that begins so is refused in few texts: a simple one, one with braces or with
+/// hex digits that are allowed, or a continuation. Any answer is right: where this is false, the
+/// escape is read once more.
+#[inline(always)]
+fn is_rarely_refused(bytes: &[u8], allowed: Switches) -> bool {
+    match bytes {
+        [_, b'x', digit, ..] => if allowed.byte_escapes {
+            allowed.allow_nul || *digit != b'0'
+        } else {
+            (b'1'..=b'7').contains(digit)
+        },
+        [
+            _,
+            b'0' | b'n' | b'r' | b't' | b'"' | b'\'' | b'\\' | b'u' | b'\n',
+            ..
+        ] => true,
+        _ => false,
     }
 }
 
