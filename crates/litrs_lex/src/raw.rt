@@ -174,8 +174,8 @@ fn next_stop(bytes: &[u8], from: usize, hashes: usize, what: Special, is_first: 
     if is_first || hashes == 0 {
         next_special(bytes, from, what)
     } else {
-        // A call gets the address of what it is given. Of `what` itself none is known, so that the
-        // switches stay constants in the search above.
+        // `next_closing` is a call that is passed an address. With that of a copy the switches of
+        // `what` stay constants in the search above.
         let again = Special {
             backslash: what.backslash,
             nul: what.nul,
