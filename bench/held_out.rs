@@ -24,7 +24,7 @@ const SWEEPS: &[Sweep] = &[
     ("Char", "underscores in an escape", Valued, &[0, 1, 8, 100], |_, len| {
         format!("'\\u{{1{}2}}'", "_".repeat(len))
     }),
-    ("String", "underscores in an escape", Valued, &[0, 1, 8, 16, 100], |_, len| {
+    ("String", "underscores in one escape", Valued, &[0, 1, 8, 16, 100], |_, len| {
         format!("\"\\u{{1{}2}}\"", "_".repeat(len))
     }),
     ("String", "one escape among characters", Valued, &[0, 1, 2, 3, 4], |n, len| {

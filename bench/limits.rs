@@ -204,6 +204,7 @@ const FORMS: &[(&str, &str, Call)] = &[
     ("refused: long, no end", "where a quote stands", quote_place),
     ("one escape among characters", "a copy, and its release", copied),
     ("one escape among characters", VALUE, unescaped),
+    ("underscores in one escape", VALUE, unescaped),
     ("escape each 2 bytes", VALUE, unescaped),
     ("escape each 20 bytes", VALUE, unescaped),
     ("unicode escapes", VALUE, unescaped),

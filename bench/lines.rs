@@ -27,6 +27,7 @@ const LINES: &[Lines] = &[
         let len = n.below(32) as usize;
         format!("c\"{}\"", n.many(len, |n| if n.below(8) == 0 { n.escape() } else { n.plain() }))
     }),
+    ("String", "strings of 10,000 bytes", |n| format!("\"{}\"", n.many(10_000, Numbers::plain))),
     ("Integer", "refused: 1-2", |n| format!("{}-{}", n.digits(5), n.digits(5))),
     ("", "refused: long lines", |n| format!("x{}", n.many(100_000, Numbers::plain))),
 ];
@@ -44,7 +45,7 @@ fn text_of(place: usize) -> (String, usize) {
     (text, count)
 }
 
-/// The same program over the Rust crate: lines by a buffered reader, reports by `write!`.
+/// The same program over the Rust crate: lines by a buffered reader, reports by `write!`, hex by a table.
 #[cfg(upstream)]
 mod upstream {
     use crate::REFUSED;
@@ -55,8 +56,9 @@ mod upstream {
     fn write_hex(out: &mut Vec<u8>, name: &str, raw: bool, suffix: &str, bytes: &[u8]) {
         let raw = if raw { "yes" } else { "no" };
         write!(out, "{name} raw={raw} suffix={suffix} value=").unwrap();
+        const DIGITS: &[u8; 16] = b"0123456789abcdef";
         for byte in bytes {
-            write!(out, "{byte:02x}").unwrap();
+            out.extend_from_slice(&[DIGITS[usize::from(byte >> 4)], DIGITS[usize::from(byte & 15)]]);
         }
     }
 

@@ -1,5 +1,5 @@
 -- The cut of a quoted literal, and its refusal, from where its items end.
-use Rattle.std.proofs.Common.{◌≡◌, ℕ, ◌+◌, ◌-◌, ◌≤◌, ◌<◌, ◌^◌, ◌==◌, Bool, true, false, not, List, [], ◌∷◌, ◌++◌, length, drop, take, refl, sym, ap, subst, ◌∙◌, append_assoc, arith, Some, None}
+use Rattle.std.proofs.Common.{◌≡◌, ℕ, ◌+◌, ◌-◌, ◌≤◌, ◌<◌, ◌^◌, ◌==◌, Bool, true, false, not, List, [], ◌∷◌, ◌++◌, length, drop, take, refl, sym, ap, subst, ◌∙◌, append_assoc, arith, Some, None, inr}
 use Rattle.std.specs.Prelude.{encode_utf8_all, slice_range}
 use Rattle.std.specs.Str.{chars, IsUtf8, IsCharBoundary}
 use Rattle.std.proofs.lemmas.Bool.{ne_eqb, eq-eqb, true≢false}
@@ -22,9 +22,9 @@ use Rattle.litrs_grammar.proofs.RefusalKinds.{quoted_of_text}
 use Rattle.litrs_grammar.proofs.Laws.Value.{plain_bodies_are_their_values}
 use Rattle.litrs_lex.specs.declared.quoted.ItemsEnd.{ItemsEnd}
 use Rattle.litrs_lex.specs.QuotedCut.{IsQuotedCut, IsQuotedRefused}
-use Rattle.litrs_lex.specs.QuotedItems.{IsItemsEnd}
+use Rattle.litrs_lex.specs.QuotedItems.{IsPlainRun, IsItemsEnd}
 use Rattle.litrs_lex.proofs.QuotedBytes.{cut_at, closed_of}
-use Rattle.litrs_lex.proofs.QuotedScan.{front_splits}
+use Rattle.litrs_lex.proofs.QuotedScan.{front_splits, plain_items_end}
 
 -- The refusal
 
@@ -85,6 +85,18 @@ may_move w bytes offset end e u read told ends small =
     (quoted_spans_lie_in_text (chars (take offset bytes)) w (chars bytes) (moved (byte_len front) (refusal_of e)) table) in
     let size : byte_len (front ++ rest) ≡ length bytes = ap byte_len (front_of w bytes offset end read) ∙ ap length (encodes-chars bytes u) in
     subst (λ (n : ℕ). MovesWithin n e) (sym read.place) (moves_within front rest e inside ends (omega arith))
+
+-- where the rest after the plain characters at the front is refused, the text is, and its refusal may be moved so far
+pub plain_refused : (w : Switches) (bytes rest : List ℕ) (offset place : ℕ) (e : ParseError) → IsUtf8 bytes → IsCharBoundary bytes offset → IsPlainRun w bytes offset place →
+    rest ≡ drop place bytes → rest_refusal w (chars rest) ≡ Some (refusal_of e) → HasCharSpan (chars rest) e → length bytes < 2 ^ 64 →
+    MovesWithin place e
+    × ((f : ParseError) → refusal_of f ≡ moved place (refusal_of e) → char_span_of f ≡ moved_span place (char_span_of e) → IsQuotedRefused w bytes offset f)
+plain_refused w bytes rest offset place e u at run is told ends small =
+    let end : ItemsEnd = record { place = place; value_len = place - offset } in
+    let read : IsItemsEnd w bytes offset end = plain_items_end w bytes rest offset place u at run is (inr (_, told)) in
+    let here : rest_refusal w (chars (drop place bytes)) ≡ Some (refusal_of e) = ap (λ (l : List ℕ). rest_refusal w (chars l)) (sym is) ∙ told in
+    let there : HasCharSpan (chars (drop place bytes)) e = subst (λ (l : List ℕ). HasCharSpan (chars l) e) is ends in
+    (may_move w bytes offset end e u read here there small, λ f same span. refused_cut w bytes offset end e f read here there same span)
 
 pub from_offset : (w : Switches) (bytes : List ℕ) (offset : ℕ) (end : ItemsEnd) → IsUtf8 bytes → IsCharBoundary bytes offset → IsItemsEnd w bytes offset end → offset ≤ end.place
 from_offset w bytes offset end u start read =

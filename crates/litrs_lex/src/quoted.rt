@@ -367,7 +367,7 @@ fn is_quote(bytes: &[u8]) -> bool
 // one value that held the refusal, `Literal::parse` grew past what is inlined, and every literal
 // took 8 ns more.
 #[inline(never)]
-fn rest_refusal(rest: &str, allowed: Switches) -> Option<ParseError>
+pub(crate) fn rest_refusal(rest: &str, allowed: Switches) -> Option<ParseError>
     requires { IsFalse
         (first_passes (is_plain (grammar_switches allowed)) (chars rest.now)) }
     ensures none { IfNone result

@@ -11,6 +11,7 @@ ghost use Rattle.litrs_parts.specs.Unescaped.{switches, grammar_switches};
 use crate::container::EscapeContainer;
 use crate::quoted::{
     ItemsEnd, cut_at_end, ends_items, first_plain_end, more_items_end, next_item, plain_end,
+    rest_refusal,
 };
 use crate::short_value::{LONG, LONGEST, SHORT, ShortValue};
 use litrs_base::{ParseError, ParseErrorKind, Unescape};
@@ -89,14 +90,10 @@ fn unescape_more<C: EscapeContainer>(
 {
     let rest = &input[from..];
     // A first escape that may well be refused is read before room for a value is set to zero.
-    if !is_rarely_refused(rest.as_bytes(), allowed) && next_item(rest, allowed).is_none() {
-        let value_len = from - offset;
-        let end = ItemsEnd {
-            place: from,
-            value_len,
-        };
-        let here = cut_at_end(input, offset, end, allowed)?;
-        Ok((None, here.start_suffix))
+    if !is_rarely_refused(rest.as_bytes(), allowed)
+        && let Some(e) = rest_refusal(rest, allowed)
+    {
+        Err(e.offset_span(from))
     } else if input.len() <= SHORT {
         unescape_within::<C, SHORT>(alloc, input, offset, from, allowed)
     } else {
@@ -104,22 +101,20 @@ fn unescape_more<C: EscapeContainer>(
     }
 }
 
-/// Whether an escape that begins so is refused in few texts: a simple one, one with braces or with
-/// hex digits that are allowed, or a continuation. Any answer is right: where this is false, the
-/// escape is read once more.
+/// Whether an escape that begins so is refused in few texts: a simple one, one with a hex digit that
+/// is allowed after `\x` or `\u{`, or a continuation. Any answer is right: where this is false, the
+/// escape is read once more unless it is refused.
 #[inline(always)]
 fn is_rarely_refused(bytes: &[u8], allowed: Switches) -> bool {
     match bytes {
+        [_, b'n' | b'r' | b't' | b'"' | b'\'' | b'\\' | b'\n', ..] => true,
+        [_, b'0', ..] => allowed.allow_nul,
         [_, b'x', digit, ..] => if allowed.byte_escapes {
             allowed.allow_nul || *digit != b'0'
         } else {
             (b'1'..=b'7').contains(digit)
         },
-        [
-            _,
-            b'0' | b'n' | b'r' | b't' | b'"' | b'\'' | b'\\' | b'u' | b'\n',
-            ..
-        ] => true,
+        [_, b'u', b'{', digit, ..] => allowed.unicode && digit.is_ascii_hexdigit(),
         _ => false,
     }
 }
