@@ -316,7 +316,9 @@ def main(names):
     tried = [it for it in tried if it.bodies]
     for crate in tried:
         libraries.stop_unless_built(crate.below(crates))
-    tried.sort(key=lambda it: -len(it.bodies) * sum(map(len, it.originals.values())))
+    # Those that take long come first: programs, whose check reads every library, and large crates.
+    size = {it.name: len(it.bodies) * sum(map(len, it.originals.values())) for it in tried}
+    tried.sort(key=lambda it: ("src/main.rt" not in it.originals, -size[it.name]))
     reports = []
     with tempfile.TemporaryDirectory(prefix="wrong-bodies-") as room:
         with concurrent.futures.ThreadPoolExecutor(len(os.sched_getaffinity(0))) as pool:

@@ -360,7 +360,7 @@ const SHAPES: &[Shape] = &[
         format!("r#\"{}\"#", n.many(len, Numbers::plain))
     }),
     ("String", "raw, 10,000 bytes", Valued, |n| format!("r\"{}\"", n.many(10_000, Numbers::plain))),
-    ("String", "raw, 10,000 bytes, quote each 100", Valued, |n| {
+    ("String", "raw, 10,000 bytes, 100 quotes", Valued, |n| {
         format!("r##\"{}\"##", n.many(100, |n| format!("{}\" ", n.many(98, Numbers::plain))))
     }),
     ("String", "refused: no closing quote", Refused, |n| {

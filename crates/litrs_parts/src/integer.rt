@@ -173,6 +173,8 @@ fn digits_len(base: IntegerBase, bytes: &[u8]) -> usize
 /// [`digits_len`] of any base, by a search of its own for each, so that its bytes are compared with
 /// constants. It is not inlined, so that they stand once; ten has the search of
 /// [`end_dec_digits`].
+// One search for the three bases took texts of one base up to a third longer; texts that mix them
+// mispredict which search it is, and take a sixth longer than they did by one.
 #[inline(never)]
 fn end_digits(base: IntegerBase, bytes: &[u8]) -> usize
     ensures { result ≡ prefix_len (is_digit_or_underscore base) bytes.now }
