@@ -102,8 +102,8 @@ fn unescape_more<C: EscapeContainer>(
 }
 
 /// Whether an escape that begins so is refused in few texts: a simple one, one with a hex digit
-/// that is allowed after `\x` or `\u{`, or a continuation. Any answer is right: where this is false,
-/// the escape is read once more unless it is refused.
+/// that is allowed after `\x` or `\u{`, or a continuation. Any answer is right: where this is
+/// false, the escape is read once more unless it is refused.
 #[inline(always)]
 fn is_rarely_refused(bytes: &[u8], allowed: Switches) -> bool {
     match bytes {
