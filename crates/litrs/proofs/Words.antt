@@ -1,17 +1,20 @@
 -- Which words begin a literal.
-use Rattle.std.proofs.Common.{◌≡◌, inl, inr, ◌<◌, ℕ, Bool, true, false, ltb, ◌&&◌, List, [], ◌∷◌, refl, sym, ap, ◌∙◌, arith, ◌⊎◌, subst}
+use Rattle.std.proofs.Common.{◌≡◌, inl, inr, ◌<◌, ◌≤◌, ℕ, Bool, true, false, ltb, ◌&&◌, List, [], ◌∷◌, ◌++◌, length, refl, sym, ap, ◌∙◌, arith, ◌⊎◌, subst}
 use Rattle.std.specs.Prelude.{◌↔◌, ◌==◌, ◌||◌, codes, IsTrue, if◌then◌else◌}
 use Rattle.std.specs.List.{list_all}
 use Rattle.std.specs.Str.{chars, IsUtf8}
 use Rattle.std.proofs.Math.Bool.{or-false}
-use Rattle.std.proofs.lemmas.Bool.{and_parts, and_left, cases_lt, both_ways, eqb-true, ltb-true, ne_eqb}
+use Rattle.std.proofs.lemmas.List.{drop_all, append-nil}
+use Rattle.std.proofs.lemmas.Bool.{false_from_ne_true, and_parts, and_left, cases_lt, both_ways, eqb-true, ltb-true, ne_eqb}
 use Rattle.std.proofs.lemmas.Str.{chars-nil}
 use Rattle.litrs_base.specs.declared.err.ParseErrorKind.TheVariants.{Empty, InvalidLiteral}
 use Rattle.litrs_base.specs.Refusal.{Refusal, plain}
 use Rattle.litrs_base.specs.Text.{is_empty, first_passes, begins_with}
 use Rattle.litrs_base.proofs.Chars.{chars_ascii, chars_wide, utf8_behind_ascii}
-use Rattle.litrs_grammar.specs.Literal.{a_bool, literal_parse, c_string_literal, IsLiteralOf, Begins}
+use Rattle.litrs_grammar.specs.Literal.{a_bool, literal_parse, bool_literal, c_string_literal, IsLiteralOf, Begins}
 use Rattle.litrs_grammar.specs.LiteralRefusals.{refused_as, parsed_as, dispatch}
+use Rattle.litrs_grammar.specs.Bool.{bool_text}
+use Rattle.litrs_base.proofs.Begins.{begins_with-split}
 use Rattle.litrs_grammar.specs.GoesOn.Unnamed.{unnamed_goes_on}
 use Rattle.litrs_grammar.specs.StringKind.{c_string_kind}
 use Rattle.litrs_grammar.proofs.Laws.Bool.{chars-bool_text}
@@ -76,6 +79,39 @@ pub other_word : (word : List ℕ) → is_empty word
     unnamed_goes_on word || begins_with word (codes "c") ≡ false
 other_word [] none = cc
 other_word (c ∷ cs) none = other_letter (c == 116) (c == 102) (c == 98) (c == 99) _ _ _ _ none
+
+-- nor does a longer one, or another one of five letters than `false`
+no_front : (front word : List ℕ) → length front ≤ length word → (word ≡ front → ⊥) →
+    begins_with word front ≡ false
+no_front front word long other = false_from_ne_true (begins_with word front) (λ begins. other
+    (sym (append-nil word) ∙ ap (λ l. word ++ l) (sym (drop_all (length word) front long))
+    ∙ begins_with-split word front begins))
+
+shorter : (front word : List ℕ) → length front < 5 → 5 ≤ length word →
+    begins_with word front ≡ false
+shorter front word short long = no_front front word (omega arith) (λ e. omega (arith, ap length e))
+
+pub long_word : (word : List ℕ) → 5 ≤ length word → (word ≡ bool_text false → ⊥) →
+    unnamed_goes_on word || begins_with word (codes "c") ≡ false
+long_word word long other = rw (
+  shorter (codes "true") word (omega arith) long,
+  no_front (bool_text false) word long other,
+  shorter (codes "b") word (omega arith) long,
+  shorter (codes "c") word (omega arith) long,
+) refl
+
+-- what begins as no literal is not `false`
+false_row : dispatch (bool_text false) ≡ parsed_as bool_literal
+unfolding dispatch
+false_row = refl
+
+pub other_is_no_bool : (word bs : List ℕ) → IsFront front.Other bs → word ≡ bs →
+    word ≡ bool_text false → ⊥
+other_is_no_bool word bs is same e = no_row (subst (λ l. IsFront front.Other l) (sym same ∙ e) is)
+  where
+    no_row : IsFront front.Other (bool_text false) → ⊥
+    no_row other = absurd (let f : refused_as (plain InvalidLiteral) ≡ parsed_as bool_literal =
+        other.row ∙ false_row in cc)
 
 -- The fronts of no kind
 

@@ -7,11 +7,13 @@ pub fn equality_is_of_texts()
 {}
 
 /// No two integer types have one name, so that the name of a type leads back to it alone.
+#[tactic(auto, using(litrs_base::proofs::NameLemmas::same_type))]
 pub fn type_names_are_distinct()
     ensures { TypeNamesAreDistinct }
 {}
 
 /// No two floating-point types have one name.
+#[tactic(auto, using(litrs_base::proofs::NameLemmas::same_float_type))]
 pub fn float_type_names_are_distinct()
     ensures { FloatTypeNamesAreDistinct }
 {}

@@ -2,6 +2,7 @@
 ghost use Rattle.litrs_grammar.specs.Laws.Quoted.{QuotedLiteralsAreUnique, QuotedTextsAreUnique, QuotedRefusalsAreUnique, QuotedTextsAreDecided, QuotedTextsAreNotRefused, QuotedSpansLieInText, NoQuotedTextEndsWithLineFeed, QuotedBodiesAreUnique, QuotedBodiesJoin, QuotedValuesFitBodies, NoNulInQuotedCStrings};
 
 /// A text has at most one derivation as a quoted literal, over all three kinds together.
+#[tactic(auto, using(crate::proofs::Laws::Quoted::quoted_literals_are_unique))]
 pub fn quoted_literals_are_unique()
     ensures { QuotedLiteralsAreUnique }
 {}
@@ -32,11 +33,13 @@ pub fn quoted_spans_lie_in_text()
 {}
 
 /// No quoted literal ends with LF.
+#[tactic(auto, using(crate::proofs::Laws::Quoted::no_quoted_text_ends_with_line_feed))]
 pub fn no_quoted_text_ends_with_line_feed()
     ensures { NoQuotedTextEndsWithLineFeed }
 {}
 
 /// A text is that of at most one quoted body.
+#[tactic(auto, using(crate::proofs::Laws::Quoted::quoted_bodies_are_unique))]
 pub fn quoted_bodies_are_unique()
     ensures { QuotedBodiesAreUnique }
 {}
@@ -48,11 +51,13 @@ pub fn quoted_bodies_join()
 {}
 
 /// A value has no more bytes than its body, and as many exactly where the body has no backslash.
+#[tactic(auto, using(crate::proofs::Laws::Quoted::quoted_values_fit_bodies))]
 pub fn quoted_values_fit_bodies()
     ensures { QuotedValuesFitBodies }
 {}
 
 /// No byte of a C string's value is zero.
+#[tactic(auto, using(crate::proofs::Laws::Quoted::no_nul_in_quoted_c_strings))]
 pub fn no_nul_in_quoted_c_strings()
     ensures { NoNulInQuotedCStrings }
 {}

@@ -3,6 +3,7 @@ ghost use Rattle.litrs_grammar.specs.Laws.Raw.{RawLiteralsAreUnique, RawLiterals
 ghost use Rattle.litrs_grammar.specs.Laws.RawScan.{HashCountsStay, FirstClosingsStay, RawScansStay, StoppedBodiesAreRefused, FinalRawRefusalsStay, ClosingsBeginAtQuotes, ClosingsAreFound, QuotesArePassed};
 
 /// A text has at most one derivation as a raw literal, over all three kinds together.
+#[tactic(auto, using(crate::proofs::RawKinds::only_raw_literal))]
 pub fn raw_literals_are_unique()
     ensures { RawLiteralsAreUnique }
 {}
@@ -14,11 +15,13 @@ pub fn raw_literals_are_decided()
 {}
 
 /// The span of each refusal lies within the text and starts on a character boundary.
+#[tactic(auto, using(crate::proofs::RawKinds::literal_refusal_within))]
 pub fn raw_spans_lie_in_text()
     ensures { RawSpansLieInText }
 {}
 
 /// What follows a front has at most one derivation under the same switches.
+#[tactic(auto, using(crate::proofs::Laws::Raw::only_raw))]
 pub fn raw_texts_are_unique()
     ensures { RawTextsAreUnique }
 {}
@@ -31,16 +34,19 @@ pub fn raw_texts_are_decided()
 
 /// Its spans, counted from the start of the text, lie within the text and start on a character
 /// boundary.
+#[tactic(auto, using(crate::proofs::Spans::Raw::raw_refusal_within))]
 pub fn raw_text_spans_lie_in_text()
     ensures { RawTextSpansLieInText }
 {}
 
 /// No raw literal ends with LF.
+#[tactic(auto, using(crate::proofs::RawKinds::no_literal_with_line_feed))]
 pub fn no_raw_literal_ends_with_line_feed()
     ensures { NoRawLiteralEndsWithLineFeed }
 {}
 
 /// No byte of a raw C string's value is zero.
+#[tactic(auto, using(crate::proofs::RawKinds::c_string_no_nul))]
 pub fn no_nul_in_raw_c_strings()
     ensures { NoNulInRawCStrings }
 {}
@@ -51,22 +57,26 @@ pub fn raw_values_are_as_long_as_bodies()
 {}
 
 /// The number of hashes stays that of every longer text, where any character follows them.
+#[tactic(auto, using(crate::proofs::RawClosings::hash_counts_stay))]
 pub fn hash_counts_stay()
     ensures { HashCountsStay }
 {}
 
 /// The first closing stays that of every longer text.
+#[tactic(auto, using(crate::proofs::RawClosings::first_closings_stay))]
 pub fn first_closings_stay()
     ensures { FirstClosingsStay }
 {}
 
 /// The number of hashes, where any character follows them, and the first closing after them and
 /// the quote stay those of every longer text.
+#[tactic(auto, using(crate::proofs::RawClosings::raw_scans_stay))]
 pub fn raw_scans_stay()
     ensures { RawScansStay }
 {}
 
 /// The first character that may not stand in a body is refused, whatever follows.
+#[tactic(auto, using(crate::proofs::LongerTexts::Raw::stopped_at))]
 pub fn stopped_bodies_are_refused()
     ensures { StoppedBodiesAreRefused }
 {}
@@ -82,11 +92,13 @@ pub fn closings_begin_at_quotes()
 {}
 
 /// At a `"` that as many hashes follow the first closing stands.
+#[tactic(auto, using(crate::proofs::RawClosings::closings_are_found))]
 pub fn closings_are_found()
     ensures { ClosingsAreFound }
 {}
 
 /// A `"` that fewer hashes follow is passed.
+#[tactic(auto, using(crate::proofs::RawClosings::quotes_are_passed))]
 pub fn quotes_are_passed()
     ensures { QuotesArePassed }
 {}
@@ -99,6 +111,7 @@ pub fn raw_scans_go_on()
 
 /// After such a front, whose characters a body may have, the rest has the refusal, further on by
 /// the bytes of the front.
+#[tactic(auto, using(crate::proofs::RawScans::raw_refusals_go_on))]
 pub fn raw_refusals_go_on()
     ensures { RawRefusalsGoOn }
 {}

@@ -70,13 +70,15 @@ whole_short w front t bytes rest at value_len short q read is ends whole quoted 
     read.held whole ∙ whole_value w front t bytes rest read.value at q read.reads is ends quoted
 
 -- where more bytes are copied than are added, those after them are no part of the value
-pub run_moved : (room before text piece : List ℕ) (len start count moved : ℕ) → piece ≡ take moved (drop start text) → count ≤ moved → moved ≤ length text - start → length before ≡ len →
-    take (len + length piece) room ≡ before ++ piece → take (len + count) room ≡ before ++ take count (drop start text)
-run_moved room before text piece len start count moved is fits within size copied =
-    let whole : length piece ≡ moved = ap length is ∙ length-take-le moved (drop start text) (omega (arith, length-drop start text)) in
+pub run_moved : (room before text piece : List ℕ) (len start count moved : ℕ) →
+    take (length text - start) piece ≡ take moved (drop start text) → count ≤ moved → count ≤ length text - start → length before ≡ len →
+    take (len + length piece) room ≡ before ++ piece → length piece ≡ moved → take (len + count) room ≡ before ++ take count (drop start text)
+run_moved room before text piece len start count moved is fits within size copied long =
+    let whole : take count piece ≡ take count (drop start text) =
+    sym (take-take count (length text - start) piece within) ∙ (ap (take count) is ∙ take-take count moved (drop start text) fits) in
     sym (take-take (len + count) (len + length piece) room (omega arith)) ∙ (ap (take (len + count)) copied
     ∙ (ap (λ n. take (n + count) (before ++ piece)) (sym size) ∙ (take-append-add before piece count
-    ∙ ap (λ l. before ++ l) (ap (take count) is ∙ take-take count moved (drop start text) fits))))
+    ∙ ap (λ l. before ++ l) whole)))
 
 -- What is UTF-8
 

@@ -16,7 +16,7 @@ pub(crate) const LONG: usize = 1024;
 /// The most room. A value that is longer is read twice.
 pub(crate) const LONGEST: usize = 16384;
 
-/// The length in bytes of the one copy that serves for each run of at most so many bytes.
+/// The most bytes that a move of a fixed length copies.
 const MOVED: usize = 16;
 
 /// The bytes of a value, put together without an allocation while there is room for them: for
@@ -80,19 +80,54 @@ impl<const ROOM: usize> ShortValue<ROOM> {
         &self.room[..self.len]
     }
 
-    /// Adds the bytes of a text from one place up to another.
+    /// Adds the bytes of a text from one place up to another. A move of a fixed length costs less
+    /// than one of as many bytes as there are, so it is one of those where it may be.
     #[inline(always)]
     pub(crate) fn push_run(&mut self, text: &[u8], start: usize, end: usize)
         requires { (start ≤ end) × (end ≤ length text.now) }
         ensures { Takes self.old self.new (take (end - start) (drop start text.now)) }
     {
+        // None stand between two escapes.
+        if start == end {
+            return;
+        }
+        match text.len() {
+            0..=3 => self.push_bytes(&text[start..end]),
+            4..=7 => self.push_moved::<4>(text, start, end),
+            8..=15 => self.push_moved::<8>(text, start, end),
+            _ => self.push_moved::<MOVED>(text, start, end),
+        }
+    }
+
+    /// [`push_run`](ShortValue::push_run) by a move of N bytes, if no more are added and there is
+    /// room for so many.
+    #[inline(always)]
+    fn push_moved<const N: usize>(&mut self, text: &[u8], start: usize, end: usize)
+        requires run { (start ≤ end) × (end ≤ length text.now) }
+        requires moved { (N ≤ length text.now) × (N ≤ 16) }
+        ensures { Takes self.old self.new (take (end - start) (drop start text.now)) }
+    {
         let count = end - start;
-        if count <= MOVED && text.len() - start >= MOVED && ROOM - self.len >= MOVED {
-            // A move of a fixed length costs less than one of as many bytes as there are.
-            copy_at(&mut self.room, self.len, &text[start..start + MOVED]);
+        if count <= N && ROOM - self.len >= N {
+            let moved = bytes_from::<N>(text, start);
+            copy_at(&mut self.room, self.len, &moved);
             self.len += count;
         } else {
             self.push_bytes(&text[start..end]);
+        }
+    }
+
+    /// Adds the bytes of a character: for each length there is a move of its own.
+    #[inline(always)]
+    fn push_character(&mut self, bytes: &[u8])
+        ensures { Takes self.old self.new bytes.now }
+    {
+        match bytes {
+            [one] => self.push_bytes(&[*one]),
+            [one, two] => self.push_bytes(&[*one, *two]),
+            [one, two, three] => self.push_bytes(&[*one, *two, *three]),
+            [one, two, three, four] => self.push_bytes(&[*one, *two, *three, *four]),
+            _ => self.push_bytes(bytes),
         }
     }
 
@@ -101,10 +136,6 @@ impl<const ROOM: usize> ShortValue<ROOM> {
     fn push_bytes(&mut self, bytes: &[u8])
         ensures { Takes self.old self.new bytes.now }
     {
-        // None stand between two escapes: no copy then.
-        if bytes.is_empty() {
-            return;
-        }
         if bytes.len() <= ROOM - self.len {
             copy_at(&mut self.room, self.len, bytes);
             self.len += bytes.len();
@@ -124,10 +155,29 @@ impl<const ROOM: usize> ShortValue<ROOM> {
             Some(Unescape::Unicode(character)) => {
                 let mut buffer = [0; 4];
                 let text = character.encode_utf8(&mut buffer);
-                self.push_bytes(text.as_bytes());
+                self.push_character(text.as_bytes());
             }
         }
     }
+}
+
+/// The N bytes from a place of a longer text on, and others after the end of the text.
+#[inline(always)]
+fn bytes_from<const N: usize>(text: &[u8], start: usize) -> [u8; N]
+    requires { (start ≤ length text.now) × (N ≤ length text.now) × (N ≤ 16) }
+    ensures bytes { take (length text.now - start) result ≡ take N (drop start text.now) }
+    ensures len { length result ≡ N }
+{
+    let left = text.len() - start;
+    let mut bytes = [0; N];
+    if left >= N {
+        bytes.copy_from_slice(&text[start..start + N]);
+    } else {
+        let mut last = [0; 2 * MOVED];
+        last[..N].copy_from_slice(&text[text.len() - N..]);
+        bytes.copy_from_slice(&last[N - left..N - left + N]);
+    }
+    bytes
 }
 
 /// Copies bytes over those from a place on.

@@ -1,10 +1,10 @@
 //! Where an integer is cut.
-ghost use Rattle.std.specs.Prelude.{◌≡◌, ◌∷◌, [], IsTrue, IfOk, IfErr, option_map, Some};
+ghost use Rattle.std.specs.Prelude.{◌≡◌, ◌+◌, ◌≤◌, ◌∷◌, [], length, drop, IsTrue, IfOk, IfErr, option_map, Some};
 ghost use Rattle.std.specs.Char.{is_ascii_digit};
 ghost use Rattle.std.specs.List.{prefix_len, list_any};
 ghost use Rattle.std.specs.Str.{chars};
 ghost use Rattle.litrs_base.specs.Characters.{digit_zero};
-ghost use Rattle.litrs_base.specs.Base.{is_digit_or_underscore};
+ghost use Rattle.litrs_base.specs.Base.{prefix, is_digit_or_underscore};
 ghost use Rattle.litrs_base.specs.Numeral.{is_no_underscore};
 ghost use Rattle.litrs_base.specs.Refusal.{refusal};
 ghost use Rattle.litrs_base.specs.Derivations.{IsOnlyDerivation};
@@ -17,7 +17,7 @@ ghost use Rattle.litrs_parts.specs.IntegerCut.{parts_at, IsWithin, IsDigitsCut};
 use crate::parse::{check_suffix, end_dec_digits};
 use litrs_base::IntegerBase::{Binary, Decimal, Hexadecimal, Octal};
 use litrs_base::{IntegerBase, ParseError, ParseErrorKind};
-use litrs_search::{Run, run_end};
+use litrs_search::digits_end;
 use std::ops::Range;
 
 /// Where an integer is cut: places in bytes.
@@ -75,7 +75,7 @@ pub(crate) fn cut_digits(input: &str) -> IntegerCut
     let bytes = input.as_bytes();
     let base = base_of(bytes);
     let start_main = base.prefix().len();
-    let end_main = start_main + digits_len(base, &bytes[start_main..]);
+    let end_main = main_end(base, bytes, start_main);
     IntegerCut {
         start_main,
         end_main,
@@ -147,44 +147,67 @@ fn base_of(bytes: &[u8]) -> IntegerBase
     }
 }
 
-/// [`base_of`] a text that begins with `0` and this byte.
+/// What the letter after a `0` indicates, from `b` to `x`.
+static BASES: [IntegerBase; 23] = [
+    Binary,
+    Decimal,
+    Decimal,
+    Decimal,
+    Decimal,
+    Decimal,
+    Decimal,
+    Decimal,
+    Decimal,
+    Decimal,
+    Decimal,
+    Decimal,
+    Decimal,
+    Octal,
+    Decimal,
+    Decimal,
+    Decimal,
+    Decimal,
+    Decimal,
+    Decimal,
+    Decimal,
+    Decimal,
+    Hexadecimal,
+];
+
+/// [`base_of`] a text that begins with `0` and this byte. It is a table, as a mix of bases would
+/// mispredict a branch on the letter.
 fn base_of_letter(letter: u8) -> IntegerBase
     ensures { result ≡ base_of (digit_zero ∷ letter ∷ []) }
 {
     match letter {
-        b'b' => Binary,
-        b'o' => Octal,
-        b'x' => Hexadecimal,
+        b'b'..=b'x' => BASES[(letter - b'b') as usize],
         _ => Decimal,
     }
 }
 
-/// How many digits of this base and underscores stand at the front, in bytes.
+/// Where the digits of this base and underscores end that follow the prefix.
 #[inline(always)]
-fn digits_len(base: IntegerBase, bytes: &[u8]) -> usize
-    ensures { result ≡ prefix_len (is_digit_or_underscore base) bytes.now }
+fn main_end(base: IntegerBase, bytes: &[u8], start_main: usize) -> usize
+    requires start { start_main ≡ length (prefix base) }
+    requires within { start_main ≤ length bytes.now }
+    ensures { result ≡ start_main
+        + prefix_len (is_digit_or_underscore base) (drop start_main bytes.now) }
 {
     match base {
         IntegerBase::Decimal => end_dec_digits(bytes),
-        _ => end_digits(base, bytes),
+        _ => end_digits(base, bytes, start_main),
     }
 }
 
-/// [`digits_len`] of any base, by a search of its own for each, so that its bytes are compared with
-/// constants. It is not inlined, so that they stand once; ten has the search of
-/// [`end_dec_digits`].
-// One search for the three bases took texts of one base up to a third longer; texts that mix them
-// mispredict which search it is, and take a sixth longer than they did by one.
+/// [`main_end`] by one search for all bases, so that no branch asks for the base. It is not
+/// inlined, so that it stands once; ten has the search of [`end_dec_digits`], by constants.
 #[inline(never)]
-fn end_digits(base: IntegerBase, bytes: &[u8]) -> usize
-    ensures { result ≡ prefix_len (is_digit_or_underscore base) bytes.now }
+fn end_digits(base: IntegerBase, bytes: &[u8], start_main: usize) -> usize
+    requires { start_main ≤ length bytes.now }
+    ensures { result ≡ start_main
+        + prefix_len (is_digit_or_underscore base) (drop start_main bytes.now) }
 {
-    match base {
-        IntegerBase::Binary => run_end(bytes, Run::Digits(IntegerBase::Binary)),
-        IntegerBase::Octal => run_end(bytes, Run::Digits(IntegerBase::Octal)),
-        IntegerBase::Decimal => run_end(bytes, Run::Digits(IntegerBase::Decimal)),
-        IntegerBase::Hexadecimal => run_end(bytes, Run::Digits(IntegerBase::Hexadecimal)),
-    }
+    digits_end(bytes, start_main, base)
 }
 
 /// Whether one of these digits and underscores is a digit.

@@ -5,9 +5,9 @@ ghost use Rattle.litrs_search.specs.Special.{is_ordinary};
 ghost use Rattle.litrs_search.specs.Marked.{IsMarked};
 
 use crate::lanes::special_marks;
-use crate::search::{Special, first_marked, next_special};
+use crate::search::{Special, Target, all_marks, by_bytes, first_marked};
 
-/// How many bytes one load marks.
+/// How many bytes one load marks in a long text.
 const LOAD: usize = 32;
 
 /// Which bytes of a part of a text are special, as far as a search has found out. Places count
@@ -38,8 +38,9 @@ impl Marked {
     }
 }
 
-/// [`next_special`], and what is marked then. Where a special byte is known from an earlier search,
-/// nothing is read: so special bytes that stand close to each other cost one load.
+/// [`next_special`](crate::next_special), and what is marked then. Where a special byte is known
+/// from an earlier search, nothing is read: so special bytes that stand close to each other cost
+/// one load.
 ///
 /// `from` may not pass the length, nor stand before what is marked.
 ///
@@ -70,8 +71,8 @@ pub fn next_marked(bytes: &[u8], from: usize, what: Special, marked: Marked) -> 
     load_marked(bytes, unread, what, marked)
 }
 
-/// The same where nothing from `from` on is marked: by so many bytes a step, and in shorter texts
-/// with nothing newly marked.
+/// The same where nothing from `from` on is marked: all of a short text is newly marked, and up to
+/// 32 bytes of a longer one.
 #[inline(always)]
 fn load_marked(bytes: &[u8], from: usize, what: Special, marked: Marked) -> (usize, Marked)
     requires from { from ≤ length bytes.now }
@@ -82,10 +83,41 @@ fn load_marked(bytes: &[u8], from: usize, what: Special, marked: Marked) -> (usi
     ensures after { result.1.start ≤ result.0 }
     ensures marked { IsMarked what bytes.now result.1 }
 {
-    let len = bytes.len();
-    if len < LOAD {
-        return (next_special(bytes, from, what), marked);
+    match bytes.len() {
+        0..=3 => (by_bytes(bytes, from, Target::Special(what)), marked),
+        4..=7 => mark_all::<4>(bytes, from, what),
+        8..=15 => mark_all::<8>(bytes, from, what),
+        16..=31 => mark_all::<16>(bytes, from, what),
+        _ => mark_by_lanes(bytes, from, what),
     }
+}
+
+/// [`load_marked`] of N to 2 N bytes.
+#[inline(always)]
+fn mark_all<const N: usize>(bytes: &[u8], from: usize, what: Special) -> (usize, Marked)
+    requires { (from ≤ length bytes.now) × (N ≤ length bytes.now)
+        × (length bytes.now ≤ N + N) × (N ≤ 16) }
+    ensures place { result.0 ≡ from + prefix_len (is_ordinary what) (drop from bytes.now) }
+    ensures within { result.0 ≤ length bytes.now }
+    ensures after { result.1.start ≤ result.0 }
+    ensures marked { IsMarked what bytes.now result.1 }
+{
+    let bits = all_marks::<N>(bytes, Target::Special(what)) >> from;
+    let (start, end) = (from, bytes.len());
+    (first_marked(bits, start, end), Marked { start, end, bits })
+}
+
+/// [`load_marked`] of at least 32 bytes, by so many a step. The last load is of the last 32, and
+/// the marks of those before what is left are shifted out.
+#[inline(always)]
+fn mark_by_lanes(bytes: &[u8], from: usize, what: Special) -> (usize, Marked)
+    requires { (from ≤ length bytes.now) × (32 ≤ length bytes.now) }
+    ensures place { result.0 ≡ from + prefix_len (is_ordinary what) (drop from bytes.now) }
+    ensures within { result.0 ≤ length bytes.now }
+    ensures after { result.1.start ≤ result.0 }
+    ensures marked { IsMarked what bytes.now result.1 }
+{
+    let len = bytes.len();
     let mut start = from;
     while len - start >= LOAD {
         let bits = special_marks::<LOAD>(bytes, start, what);
@@ -98,7 +130,6 @@ fn load_marked(bytes: &[u8], from: usize, what: Special, marked: Marked) -> (usi
         }
         start += LOAD;
     }
-    // The last load is of the last bytes; the marks of those before `start` are shifted out.
     let bits = special_marks::<LOAD>(bytes, len - LOAD, what) >> (LOAD - (len - start));
     let end = len;
     (first_marked(bits, start, len), Marked { start, end, bits })

@@ -14,6 +14,7 @@ use crate::going_on::suffix::suffix_goes_on;
 use litrs_parts::{Switches, unescape_with};
 
 /// Whether a text that begins with `'` begins a char.
+#[inline(never)]
 pub(crate) fn char_goes_on(text: &str) -> bool
     requires { IsTrue (begins_with (codes "'") text.now) }
     ensures { IsTrue result ↔ Begins (kind_parse char_literal) (chars text.now) }
@@ -22,6 +23,7 @@ pub(crate) fn char_goes_on(text: &str) -> bool
 }
 
 /// Whether a text that begins with `b'` begins a byte.
+#[inline(never)]
 pub(crate) fn byte_goes_on(text: &str) -> bool
     requires { IsTrue (begins_with (codes "b'") text.now) }
     ensures { IsTrue result ↔ Begins (kind_parse byte_literal) (chars text.now) }

@@ -12,6 +12,7 @@ use litrs_parts::{ParseError, ParseErrorKind, cut_number};
 
 /// Whether a text that begins with a decimal digit begins a number of the kind that it is parsed
 /// as.
+#[inline(never)]
 pub(crate) fn number_goes_on(text: &str) -> bool
     requires { IsTrue (first_passes is_ascii_digit text.now) }
     ensures { IsTrue result

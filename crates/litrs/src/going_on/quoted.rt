@@ -18,6 +18,7 @@ use litrs_lex::quoted::items_end;
 use litrs_parts::{StringKind, Switches};
 
 /// Whether a text that begins as a quoted string of the kind begins a string of it.
+#[inline(never)]
 pub(crate) fn quoted_goes_on(text: &str, kind: StringKind) -> bool
     requires { IsTrue (begins_with (quoted_front (grammar_kind kind)) text.now) }
     ensures { IsTrue result ↔ BeginsBy (IsString (grammar_kind kind)) (chars text.now) }

@@ -15,6 +15,7 @@ use litrs_parts::hashes::{MAX_HASHES, are_hashes};
 use litrs_parts::{ParseError, ParseErrorKind, StringKind, Switches};
 
 /// Whether a text that begins as a raw string of the kind begins a string of it.
+#[inline(never)]
 pub(crate) fn raw_goes_on(text: &str, kind: StringKind) -> bool
     requires { IsTrue (begins_with (raw_front (grammar_kind kind)) text.now) }
     ensures { IsTrue result ↔ BeginsBy (IsString (grammar_kind kind)) (chars text.now) }

@@ -1,16 +1,22 @@
 //! Texts that begin with the front of no kind.
-ghost use Rattle.std.specs.Prelude.{◌≡◌, ◌==◌, ◌||◌, codes};
+ghost use Rattle.std.specs.Prelude.{◌≡◌, ◌≢◌, ◌==◌, ◌||◌, false, codes};
 ghost use Rattle.litrs_base.specs.Text.{is_empty, first_passes, begins_with};
+ghost use Rattle.litrs_grammar.specs.Bool.{bool_text};
 ghost use Rattle.litrs_grammar.specs.GoesOn.Unnamed.{unnamed_goes_on};
 
 use crate::going_on::front::begins_with;
 
 /// Whether `true` or `false` begins with the word, or it is `b` or `c`, which bytes, byte strings
-/// and C strings begin with. The empty word is one of them.
+/// and C strings begin with. The empty word is one of them. `false` itself was looked for before.
 #[inline(always)]
 pub(crate) fn word_goes_on(word: &[u8]) -> bool
+    requires { word.now ≢ bool_text false }
     ensures { result ≡ (unnamed_goes_on word.now || begins_with word.now (codes "c")) }
 {
+    // The other words are shorter, and most names are not.
+    if word.len() > 4 {
+        return false;
+    }
     begins_like_a_word(word) && is_front_of_a_word(word)
 }
 

@@ -12,6 +12,7 @@ use Rattle.litrs_base.specs.Refusal.{plain, at, over, Refusal}
 use Rattle.litrs_base.specs.Text.{is_empty, byte_len, first_passes}
 use Rattle.litrs_grammar.specs.Suffix.{is_suffix, suffix_refusal}
 use Rattle.litrs_grammar.specs.Integer.{is_e}
+use Rattle.litrs_grammar.specs.Laws.Float.{FloatsAreDecided}
 use Rattle.litrs_grammar.specs.Float.{FloatParts, fraction_text, float_text, is_decimal_char, is_underscore, is_period, is_sign, is_decimal_literal, is_exponent_number, sign_len, is_exponent, is_float_form, IsFloat, IsFloatOf, float_cut, has_wrong_fraction, float_cut_refusal, float_refusal}
 use Rattle.litrs_base.specs.Derivations.{IsOnlyDerivation, HasNoDerivation}
 use Rattle.litrs_grammar.proofs.Laws.Integer.{number_rows-None, number_rows}
@@ -274,3 +275,7 @@ only_cut t h =
 -- a text that the table refuses has none
 pub refused : (t : List ℕ) (e : Refusal) → float_refusal t ≡ Some e → HasNoDerivation (IsFloatOf t)
 refused t e h d r = absurd (let none : Some e ≡ None = sym h ∙ refusal_free t d r in cc)
+
+-- a text is a float, or the table refuses it, and never both
+pub floats_are_decided : FloatsAreDecided
+floats_are_decided t = (derivable t, λ r. refusal_free t r.0 r.1)

@@ -9,7 +9,7 @@ use Rattle.litrs_parts.proofs.Dispatch.{dispatch-chars}
 use Rattle.litrs.proofs.Begins.{begins_parsed}
 use Rattle.litrs.proofs.Numbers.{number_named}
 use Rattle.litrs.proofs.StringEnds.{string_parsed}
-use Rattle.litrs.proofs.Words.{whole_decided, other_decided}
+use Rattle.litrs.proofs.Words.{whole_decided, other_decided, other_is_no_bool}
 use Rattle.litrs.proofs.going_on.goes_on.Goals as goal
 
 pub returns-in-Empty : goal.returns-in-Empty
@@ -43,6 +43,10 @@ pub returns-in-Raw : goal.returns-in-Raw
 returns-in-Raw c = let is = c.in-Raw.ensures in
     string_parsed (grammar_kind c.in-Raw.kind) c.args.text.now c.raw_goes_on.result c.utf8.text is.row
     c.raw_goes_on.ensures
+
+pub word_goes_on-requires : goal.word_goes_on-requires
+word_goes_on-requires c =
+    other_is_no_bool c.as_bytes.result.now c.args.text.now c.in-Other.ensures c.as_bytes.ensures.value
 
 pub returns-in-Other : goal.returns-in-Other
 returns-in-Other c =

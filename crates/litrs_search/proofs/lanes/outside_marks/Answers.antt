@@ -1,5 +1,5 @@
-use Rattle.std.proofs.Common.{w8, arith}
-use Rattle.std.proofs.lemmas.Simd.{length-chunk, chunk-fits}
+use Rattle.std.proofs.Common.{arith}
+use Rattle.std.proofs.lemmas.Simd.{length-chunk}
 use lib.Lanes.{chunk}
 use Rattle.litrs_search.proofs.Outside.{marks_outside}
 use Rattle.litrs_search.proofs.lanes.outside_marks.Goals as goal
@@ -7,6 +7,4 @@ use Rattle.litrs_search.proofs.lanes.outside_marks.Goals as goal
 pub returns : goal.returns
 returns g c =
     let bytes = c.args.bytes.now in
-    let others = c.other_bytes-first.ensures in
-    marks_outside c.args.run (chunk c.args.at g.row.N bytes) g.row.N _ _ _ _ _ (length-chunk c.args.at g.row.N bytes c.requires.0) (omega arith)
-    (chunk-fits w8 c.args.at g.row.N bytes c.type_inv.bytes) c.last_digit.ensures c.last_letter.ensures others.first others.second others.third
+    marks_outside c.args.limits (chunk c.args.at g.row.N bytes) g.row.N (length-chunk c.args.at g.row.N bytes c.requires.0) (omega arith)

@@ -1,7 +1,10 @@
--- Another first letter begins no word.
-use Rattle.std.proofs.Common.{sym, ◌∙◌}
-use Rattle.litrs.proofs.Words.{other_word}
+-- A longer word, or another first letter, begins no word.
+use Rattle.std.proofs.Common.{sym, ◌∙◌, arith}
+use Rattle.litrs.proofs.Words.{long_word, other_word}
 use Rattle.litrs.proofs.going_on.word.word_goes_on.Goals as goal
+
+pub returns-then-word-gt4 : goal.returns-then-word-gt4
+returns-then-word-gt4 c = sym (long_word c.args.word.now (omega arith) c.requires)
 
 pub returns-else-begins_like_a_word : goal.returns-else-begins_like_a_word
 returns-else-begins_like_a_word c =

@@ -1,5 +1,0 @@
-use Rattle.litrs_grammar.proofs.Laws.Quoted.{quoted_literals_are_unique}
-use Rattle.litrs_grammar.proofs.quoted.quoted_literals_are_unique.Goals as goal
-
-pub returns : goal.returns
-returns c = quoted_literals_are_unique
