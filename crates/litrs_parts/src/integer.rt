@@ -199,8 +199,8 @@ fn main_end(base: IntegerBase, bytes: &[u8], start_main: usize) -> usize
     }
 }
 
-/// [`main_end`] by one search for all bases, so that no branch asks for the base. It is not
-/// inlined, so that it stands once; ten has the search of [`end_dec_digits`], by constants.
+/// [`main_end`] of any base. It is not inlined, so that the search stands once; ten has that of
+/// [`end_dec_digits`].
 #[inline(never)]
 fn end_digits(base: IntegerBase, bytes: &[u8], start_main: usize) -> usize
     requires { start_main ≤ length bytes.now }

@@ -10,7 +10,7 @@ ghost use Rattle.litrs_base.specs.Refusal.{refusal_of, plain};
 ghost use Rattle.litrs_grammar.specs.Suffix.{starts_identifier, is_suffix, is_ascii_symbol, suffix_refusal};
 
 use litrs_base::{IntegerBase, ParseError, ParseErrorKind};
-use litrs_search::{Run, digits_end, run_end};
+use litrs_search::{Run, run_end};
 
 /// How many decimal digits and underscores stand at the front, in bytes: 4 of `1_0_a2`.
 // Not inlined, so that the search stands once.
@@ -19,7 +19,7 @@ pub fn end_dec_digits(input: &[u8]) -> usize
     ensures run { result ≡ prefix_len (is_digit_or_underscore IntegerBase.Decimal) input.now }
     ensures within { result ≤ length input.now }
 {
-    digits_end(input, 0, IntegerBase::Decimal)
+    run_end(input, Run::Digits(IntegerBase::Decimal))
 }
 
 /// The value of each byte as a hex digit, 16 where it is none.

@@ -3,12 +3,12 @@ use Rattle.std.specs.Prelude.{ℕ, Bool, not, ◌==◌}
 use Rattle.litrs_search.specs.declared.search.Target.{Target}
 use Rattle.litrs_search.specs.declared.search.Target.TheVariants as target
 use Rattle.litrs_search.specs.Special.{is_special}
-use Rattle.litrs_search.specs.Limits.{is_outside}
+use Rattle.litrs_search.specs.Run.{is_in_run}
 
--- a special byte, or one outside a run with these limits, or this byte
+-- a special byte, or one outside a run, or this byte
 abbrev pub is_target : Target → ℕ → Bool
 is_target (target.Special what) b = is_special what b
-is_target (target.Outside limits) b = is_outside limits b
+is_target (target.Outside run) b = not (is_in_run run b)
 is_target (target.Byte wanted) b = b == wanted
 
 abbrev pub is_passed : Target → ℕ → Bool

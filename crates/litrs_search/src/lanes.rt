@@ -1,10 +1,10 @@
 //! The bytes of one load that a search looks for.
-ghost use Rattle.std.specs.Prelude.{◌≡◌, ◌==◌, ◌+◌, ◌≤◌, length, map, if◌then◌else◌};
+ghost use Rattle.std.specs.Prelude.{◌≡◌, ◌==◌, ◌+◌, ◌≤◌, length, map, not, if◌then◌else◌};
 ghost use Rattle.std.specs.Simd.Lanes.{mask_l, chunk};
 ghost use Rattle.litrs_base.specs.Characters.{carriage_return, backslash, nul};
 ghost use Rattle.litrs_search.specs.Special.{is_special};
 ghost use Rattle.litrs_search.specs.Closing.{may_close, pairs};
-ghost use Rattle.litrs_search.specs.Limits.{is_outside, base_limits, run_limits};
+ghost use Rattle.litrs_search.specs.Run.{is_in_run, last_digit, last_letter, first_other, second_other, third_other, IsEnd};
 
 use crate::{Run, Special};
 use litrs_base::IntegerBase;
@@ -77,17 +77,89 @@ pub(crate) fn closing_marks<const N: usize>(
         | byte.simd_gt(Simd::splat(limit))).to_bitmask()
 }
 
-/// What ends a run: a byte past its digits and past its letters that is none of three others.
+/// The digits of a run end here: at `/`, which stands before `0`, where it has no digit.
+#[inline(always)]
+fn last_digit(run: Run) -> u8
+    ensures { result ≡ last_digit run }
+{
+    match run {
+        Run::Digits(IntegerBase::Binary) => b'1',
+        Run::Digits(IntegerBase::Octal) => b'7',
+        Run::Digits(_) | Run::Identifier => b'9',
+        Run::Blanks | Run::Hashes => b'/',
+    }
+}
+
+/// The small letters of a run end here: at the backquote, which stands before `a`, where it has no
+/// letter.
+#[inline(always)]
+fn last_letter(run: Run) -> u8
+    ensures { result ≡ last_letter run }
+{
+    match run {
+        Run::Digits(IntegerBase::Hexadecimal) => b'f',
+        Run::Identifier => b'z',
+        _ => b'`',
+    }
+}
+
+/// The bytes of a run that are neither digits nor letters: three, or one of them more than once.
 #[derive(Clone, Copy)]
-pub(crate) struct Limits {
-    /// The last of its digits; `/`, which stands before `0`, where it has none.
-    digit: u8,
-    /// The last of its small letters; the backquote, which stands before `a`, where it has none.
-    letter: u8,
-    /// Its bytes that are neither digits nor letters: three, or one of them more than once.
+struct Others {
     first: u8,
     second: u8,
     third: u8,
+}
+
+#[inline(always)]
+fn other_bytes(run: Run) -> Others
+    ensures first { result.first ≡ first_other run }
+    ensures second { result.second ≡ second_other run }
+    ensures third { result.third ≡ third_other run }
+{
+    let (first, second, third) = match run {
+        Run::Blanks => (b' ', b'\t', b'\n'),
+        Run::Hashes => (b'#', b'#', b'#'),
+        _ => (b'_', b'_', b'_'),
+    };
+    Others {
+        first,
+        second,
+        third,
+    }
+}
+
+/// The bytes outside a run that ends so, among the N from `at` on, in the same way.
+///
+/// Letters are compared as small ones: 20 is the bit that a capital one lacks.
+#[inline(always)]
+fn marks_past<const N: usize>(bytes: &[u8], at: usize, digit: u8, letter: u8, others: Others) -> u64
+    requires { (at + N ≤ length bytes.now) × (N ≤ 64) }
+    ensures { (run : Run) → IsEnd run digit letter others →
+        result ≡ mask_l (map (λ b. not (is_in_run run b)) (chunk at N bytes.now)) }
+{
+    let v = Simd::<u8, N>::from_slice(&bytes[at..]);
+    let small = v | Simd::splat(0x20);
+    ((v.simd_lt(Simd::splat(b'0')) | v.simd_gt(Simd::splat(digit)))
+        & (small.simd_lt(Simd::splat(b'a')) | small.simd_gt(Simd::splat(letter)))
+        & v.simd_ne(Simd::splat(others.first))
+        & v.simd_ne(Simd::splat(others.second))
+        & v.simd_ne(Simd::splat(others.third))).to_bitmask()
+}
+
+/// The bytes outside the run among the N from `at` on, in the same way.
+#[inline(always)]
+pub(crate) fn outside_marks<const N: usize>(bytes: &[u8], at: usize, run: Run) -> u64
+    requires { (at + N ≤ length bytes.now) × (N ≤ 64) }
+    ensures { result ≡ mask_l (map (λ b. not (is_in_run run b)) (chunk at N bytes.now)) }
+{
+    marks_past::<N>(
+        bytes,
+        at,
+        last_digit(run),
+        last_letter(run),
+        other_bytes(run),
+    )
 }
 
 /// The last decimal digit of each base. In a table, so that a search whose base is not constant has
@@ -97,65 +169,33 @@ static LAST_DIGITS: [u8; 4] = *b"1799";
 /// The last letter among the digits of each base, in the same way.
 static LAST_LETTERS: [u8; 4] = *b"```f";
 
-/// The limits of the digits of a base and underscores.
 #[inline(always)]
-pub(crate) fn base_limits(base: IntegerBase) -> Limits
-    ensures { result ≡ base_limits base }
+fn base_digit(base: IntegerBase) -> u8
+    ensures { result ≡ last_digit (Run.Digits base) }
 {
-    Limits {
-        digit: LAST_DIGITS[base as usize],
-        letter: LAST_LETTERS[base as usize],
+    LAST_DIGITS[base as usize]
+}
+
+#[inline(always)]
+fn base_letter(base: IntegerBase) -> u8
+    ensures { result ≡ last_letter (Run.Digits base) }
+{
+    LAST_LETTERS[base as usize]
+}
+
+/// [`outside_marks`] of the digits of a base that is not constant.
+#[inline(always)]
+pub(crate) fn no_digit_marks<const N: usize>(bytes: &[u8], at: usize, base: IntegerBase) -> u64
+    requires { (at + N ≤ length bytes.now) × (N ≤ 64) }
+    ensures { result ≡ mask_l (map (λ b. not (is_in_run (Run.Digits base) b))
+        (chunk at N bytes.now)) }
+{
+    let others = Others {
         first: b'_',
         second: b'_',
         third: b'_',
-    }
-}
-
-#[inline(always)]
-pub(crate) fn run_limits(run: Run) -> Limits
-    ensures { result ≡ run_limits run }
-{
-    let (digit, letter, [first, second, third]) = match run {
-        Run::Identifier => (b'9', b'z', *b"___"),
-        Run::Blanks => (b'/', b'`', *b" \t\n"),
-        Run::Hashes => (b'/', b'`', *b"###"),
     };
-    Limits {
-        digit,
-        letter,
-        first,
-        second,
-        third,
-    }
-}
-
-/// Whether the byte is outside a run with these limits. Letters are compared as small ones: 20 is
-/// the bit that a capital one lacks.
-#[inline(always)]
-pub(crate) fn is_outside(byte: u8, limits: Limits) -> bool
-    ensures { result ≡ is_outside limits byte }
-{
-    let small = byte | 0x20;
-    (byte < b'0' || byte > limits.digit)
-        && (small < b'a' || small > limits.letter)
-        && byte != limits.first
-        && byte != limits.second
-        && byte != limits.third
-}
-
-/// The bytes outside a run with these limits among the N from `at` on, in the same way.
-#[inline(always)]
-pub(crate) fn outside_marks<const N: usize>(bytes: &[u8], at: usize, limits: Limits) -> u64
-    requires { (at + N ≤ length bytes.now) × (N ≤ 64) }
-    ensures { result ≡ mask_l (map (is_outside limits) (chunk at N bytes.now)) }
-{
-    let v = Simd::<u8, N>::from_slice(&bytes[at..]);
-    let small = v | Simd::splat(0x20);
-    ((v.simd_lt(Simd::splat(b'0')) | v.simd_gt(Simd::splat(limits.digit)))
-        & (small.simd_lt(Simd::splat(b'a')) | small.simd_gt(Simd::splat(limits.letter)))
-        & v.simd_ne(Simd::splat(limits.first))
-        & v.simd_ne(Simd::splat(limits.second))
-        & v.simd_ne(Simd::splat(limits.third))).to_bitmask()
+    marks_past::<N>(bytes, at, base_digit(base), base_letter(base), others)
 }
 
 /// The bytes that are this one among the N from `at` on, in the same way.

@@ -1,11 +1,12 @@
 //! The search for one special byte after the other.
-ghost use Rattle.std.specs.Prelude.{◌≡◌, ◌+◌, ◌≤◌, List, ℕ, length, drop};
+ghost use Rattle.std.specs.Prelude.{◌≡◌, ◌+◌, ◌≤◌, List, ℕ, length, drop, map};
+ghost use Rattle.std.specs.Simd.Lanes.{mask_l};
 ghost use Rattle.std.specs.List.{prefix_len};
-ghost use Rattle.litrs_search.specs.Special.{is_ordinary};
+ghost use Rattle.litrs_search.specs.Special.{is_special, is_ordinary};
 ghost use Rattle.litrs_search.specs.Marked.{IsMarked};
 
 use crate::lanes::special_marks;
-use crate::search::{Special, Target, all_marks, by_bytes, first_marked};
+use crate::search::{Special, Target, by_bytes, first_marked};
 
 /// How many bytes one load marks in a long text.
 const LOAD: usize = 32;
@@ -92,6 +93,18 @@ fn load_marked(bytes: &[u8], from: usize, what: Special, marked: Marked) -> (usi
     }
 }
 
+/// The special bytes among N to 2 N: bit i is that of the byte at i. There is one load of the first
+/// N bytes, and one of the last, whose marks of the first N are shifted out.
+#[inline(always)]
+fn all_special_marks<const N: usize>(bytes: &[u8], what: Special) -> u64
+    requires { (N ≤ length bytes.now) × (length bytes.now ≤ N + N) × (N ≤ 16) }
+    ensures { result ≡ mask_l (map (is_special what) bytes.now) }
+{
+    let len = bytes.len();
+    let last = special_marks::<N>(bytes, len - N, what) >> (N + N - len);
+    special_marks::<N>(bytes, 0, what) + (last << N)
+}
+
 /// [`load_marked`] of N to 2 N bytes.
 #[inline(always)]
 fn mark_all<const N: usize>(bytes: &[u8], from: usize, what: Special) -> (usize, Marked)
@@ -102,7 +115,7 @@ fn mark_all<const N: usize>(bytes: &[u8], from: usize, what: Special) -> (usize,
     ensures after { result.1.start ≤ result.0 }
     ensures marked { IsMarked what bytes.now result.1 }
 {
-    let bits = all_marks::<N>(bytes, Target::Special(what)) >> from;
+    let bits = all_special_marks::<N>(bytes, what) >> from;
     let (start, end) = (from, bytes.len());
     (first_marked(bits, start, end), Marked { start, end, bits })
 }

@@ -1,16 +1,14 @@
 //! The search for the next special byte of a quoted body, and for the end of a run.
-ghost use Rattle.std.specs.Prelude.{◌≡◌, ◌==◌, ◌+◌, ◌≤◌, ◌<◌, length, drop, map, if◌then◌else◌};
+ghost use Rattle.std.specs.Prelude.{◌≡◌, ◌==◌, ◌+◌, ◌≤◌, ◌<◌, not, length, drop, map, if◌then◌else◌};
 ghost use Rattle.std.specs.List.{prefix_len, list_any};
 ghost use Rattle.std.specs.Int.{w64, trailing_zeros};
 ghost use Rattle.std.specs.Simd.Lanes.{mask_l, chunk};
 ghost use Rattle.litrs_base.specs.Base.{is_digit_or_underscore};
 ghost use Rattle.litrs_search.specs.Special.{is_special, is_ordinary};
-ghost use Rattle.litrs_search.specs.Run.{is_in_run};
+ghost use Rattle.litrs_search.specs.Run.{classes, is_in_run};
 ghost use Rattle.litrs_search.specs.Target.{is_target, is_passed};
 
-use crate::lanes::{
-    Limits, base_limits, byte_marks, is_outside, outside_marks, run_limits, special_marks,
-};
+use crate::lanes::{byte_marks, no_digit_marks, outside_marks, special_marks};
 use litrs_base::IntegerBase;
 
 /// Which bytes are special beside `"` and CR, which always are.
@@ -27,6 +25,8 @@ pub struct Special {
 /// What a run is made of.
 #[derive(Clone, Copy, Debug, PartialEq, Eq)]
 pub enum Run {
+    /// Digits of the base, and underscores.
+    Digits(IntegerBase),
     /// ASCII letters, decimal digits and underscores.
     Identifier,
     /// Spaces, tabs and LFs.
@@ -40,8 +40,8 @@ pub enum Run {
 pub(crate) enum Target {
     /// The special bytes.
     Special(Special),
-    /// Those outside of a run with these limits.
-    Outside(Limits),
+    /// Those outside of the run.
+    Outside(Run),
     /// This byte.
     Byte(u8),
 }
@@ -57,13 +57,56 @@ pub(crate) fn is_special(byte: u8, what: Special) -> bool
         || what.non_ascii && !byte.is_ascii()
 }
 
+/// What each byte is, one bit each: a digit of base 2, 8, 10 or 16, an ASCII letter, an underscore,
+/// a blank, `#`.
+static CLASSES: [u8; 256] = *b"\
+    \x00\x00\x00\x00\x00\x00\x00\x00\x00\x40\x40\x00\x00\x00\x00\x00\
+    \x00\x00\x00\x00\x00\x00\x00\x00\x00\x00\x00\x00\x00\x00\x00\x00\
+    \x40\x00\x00\x80\x00\x00\x00\x00\x00\x00\x00\x00\x00\x00\x00\x00\
+    \x0f\x0f\x0e\x0e\x0e\x0e\x0e\x0e\x0c\x0c\x00\x00\x00\x00\x00\x00\
+    \x00\x18\x18\x18\x18\x18\x18\x10\x10\x10\x10\x10\x10\x10\x10\x10\
+    \x10\x10\x10\x10\x10\x10\x10\x10\x10\x10\x10\x00\x00\x00\x00\x20\
+    \x00\x18\x18\x18\x18\x18\x18\x10\x10\x10\x10\x10\x10\x10\x10\x10\
+    \x10\x10\x10\x10\x10\x10\x10\x10\x10\x10\x10\x00\x00\x00\x00\x00\
+    \x00\x00\x00\x00\x00\x00\x00\x00\x00\x00\x00\x00\x00\x00\x00\x00\
+    \x00\x00\x00\x00\x00\x00\x00\x00\x00\x00\x00\x00\x00\x00\x00\x00\
+    \x00\x00\x00\x00\x00\x00\x00\x00\x00\x00\x00\x00\x00\x00\x00\x00\
+    \x00\x00\x00\x00\x00\x00\x00\x00\x00\x00\x00\x00\x00\x00\x00\x00\
+    \x00\x00\x00\x00\x00\x00\x00\x00\x00\x00\x00\x00\x00\x00\x00\x00\
+    \x00\x00\x00\x00\x00\x00\x00\x00\x00\x00\x00\x00\x00\x00\x00\x00\
+    \x00\x00\x00\x00\x00\x00\x00\x00\x00\x00\x00\x00\x00\x00\x00\x00\
+    \x00\x00\x00\x00\x00\x00\x00\x00\x00\x00\x00\x00\x00\x00\x00\x00";
+
+/// The bits of [`CLASSES`] that the bytes of the run have, at least one of them.
+#[inline(always)]
+fn classes(run: Run) -> u8
+    ensures { result ≡ classes run }
+{
+    match run {
+        Run::Digits(IntegerBase::Binary) => 0x21,
+        Run::Digits(IntegerBase::Octal) => 0x22,
+        Run::Digits(IntegerBase::Decimal) => 0x24,
+        Run::Digits(IntegerBase::Hexadecimal) => 0x28,
+        Run::Identifier => 0x34,
+        Run::Blanks => 0x40,
+        Run::Hashes => 0x80,
+    }
+}
+
+#[inline(always)]
+fn is_in_run(byte: u8, run: Run) -> bool
+    ensures { result ≡ is_in_run run byte }
+{
+    CLASSES[byte as usize] & classes(run) != 0
+}
+
 #[inline(always)]
 fn is_target(byte: u8, target: Target) -> bool
     ensures { result ≡ is_target target byte }
 {
     match target {
         Target::Special(what) => is_special(byte, what),
-        Target::Outside(limits) => is_outside(byte, limits),
+        Target::Outside(run) => !is_in_run(byte, run),
         Target::Byte(wanted) => byte == wanted,
     }
 }
@@ -90,7 +133,7 @@ fn marks<const N: usize>(bytes: &[u8], at: usize, target: Target) -> u64
 {
     match target {
         Target::Special(what) => special_marks::<N>(bytes, at, what),
-        Target::Outside(limits) => outside_marks::<N>(bytes, at, limits),
+        Target::Outside(run) => outside_marks::<N>(bytes, at, run),
         Target::Byte(wanted) => byte_marks::<N>(bytes, at, wanted),
     }
 }
@@ -107,30 +150,6 @@ pub(crate) fn first_marked(marks: u64, from: usize, end: usize) -> usize
     } else {
         from + marks.trailing_zeros() as usize
     }
-}
-
-/// The targets among N to 2 N bytes: bit i is that of the byte at i. There is one load of the first
-/// N bytes, and one of the last, whose marks of the first N are shifted out.
-#[inline(always)]
-pub(crate) fn all_marks<const N: usize>(bytes: &[u8], target: Target) -> u64
-    requires { (N ≤ length bytes.now) × (length bytes.now ≤ N + N) × (N ≤ 16) }
-    ensures { result ≡ mask_l (map (is_target target) bytes.now) }
-{
-    let len = bytes.len();
-    let last = marks::<N>(bytes, len - N, target) >> (N + N - len);
-    marks::<N>(bytes, 0, target) + (last << N)
-}
-
-/// The search in N to 2 N bytes, without a branch on where a target stands. Where such a branch is
-/// not mispredicted, [`by_lanes`] takes less time.
-#[inline(always)]
-fn by_two_loads<const N: usize>(bytes: &[u8], from: usize, target: Target) -> usize
-    requires { (from ≤ length bytes.now) × (N ≤ length bytes.now)
-        × (length bytes.now ≤ N + N) × (N ≤ 16) }
-    ensures { result ≡ from + prefix_len (is_passed target) (drop from bytes.now) }
-{
-    let left = all_marks::<N>(bytes, target) >> from;
-    first_marked(left, from, bytes.len())
 }
 
 /// The search by N bytes a step. The last load is of the last N bytes, and its marks of the places
@@ -170,23 +189,6 @@ fn next_target(bytes: &[u8], from: usize, target: Target) -> usize
     }
 }
 
-/// The same where its place in a short text is likely to be mispredicted.
-#[inline(always)]
-#[tactic(auto, using(crate::proofs::MarkedRuns::run_bound))]
-fn next_without_branch(bytes: &[u8], from: usize, target: Target) -> usize
-    requires { from ≤ length bytes.now }
-    ensures place { result ≡ from + prefix_len (is_passed target) (drop from bytes.now) }
-    ensures within { result ≤ length bytes.now }
-{
-    match bytes.len() {
-        0..=3 => by_bytes(bytes, from, target),
-        4..=7 => by_two_loads::<4>(bytes, from, target),
-        8..=15 => by_two_loads::<8>(bytes, from, target),
-        16..=31 => by_lanes::<16>(bytes, from, target),
-        _ => by_lanes::<32>(bytes, from, target),
-    }
-}
-
 /// The least place at or after `from` whose byte is special: `"`, CR, or another of `what`; the
 /// length where there is none. Places count bytes.
 ///
@@ -209,40 +211,86 @@ pub fn next_special(bytes: &[u8], from: usize, what: Special) -> usize
     next_target(bytes, from, Target::Special(what))
 }
 
+/// How many bytes at the front are of the run.
+///
+/// ```
+/// assert_eq!(rt; run_end(b"1_0a2", Run::Digits(IntegerBase::Decimal)), 3);
+/// assert_eq!(rt; run_end(b"1_0a2", Run::Digits(IntegerBase::Hexadecimal)), 5);
+/// assert_eq!(rt; run_end("größe".as_bytes(), Run::Identifier), 2);
+/// assert_eq!(rt; run_end(b" \t\na", Run::Blanks), 3);
+/// assert_eq!(rt; run_end(b"##\"#", Run::Hashes), 2);
+/// ```
+///
+/// The Rust Reference, Tokens, Integer literals, String literals and Raw string literals, and
+/// Identifiers.
+#[inline(always)]
+pub fn run_end(bytes: &[u8], run: Run) -> usize
+    ensures run { result ≡ prefix_len (is_in_run run) bytes.now }
+    ensures within { result ≤ length bytes.now }
+{
+    next_target(bytes, 0, Target::Outside(run))
+}
+
+/// The bytes among N to 2 N that are outside the digits of the base: bit i is that of the byte at i.
+/// There is one load of the first N bytes, and one of the last, whose marks of the first N are
+/// shifted out.
+#[inline(always)]
+fn all_no_digit_marks<const N: usize>(bytes: &[u8], base: IntegerBase) -> u64
+    requires { (N ≤ length bytes.now) × (length bytes.now ≤ N + N) × (N ≤ 16) }
+    ensures { result ≡ mask_l (map (λ b. not (is_in_run (Run.Digits base) b)) bytes.now) }
+{
+    let len = bytes.len();
+    let last = no_digit_marks::<N>(bytes, len - N, base) >> (N + N - len);
+    no_digit_marks::<N>(bytes, 0, base) + (last << N)
+}
+
+/// Where the digits end in N to 2 N bytes. No branch asks for the place or for the base: both would
+/// be mispredicted.
+#[inline(always)]
+fn digits_end_in<const N: usize>(bytes: &[u8], from: usize, base: IntegerBase) -> usize
+    requires { (from ≤ length bytes.now) × (N ≤ length bytes.now)
+        × (length bytes.now ≤ N + N) × (N ≤ 16) }
+    ensures { result ≡ from + prefix_len (is_digit_or_underscore base) (drop from bytes.now) }
+{
+    let left = all_no_digit_marks::<N>(bytes, base) >> from;
+    first_marked(left, from, bytes.len())
+}
+
 /// Where the digits of the base and underscores end that stand from `from` on. Places count bytes.
 ///
 /// `from` may not pass the length.
 ///
 /// ```
-/// assert_eq!(rt; digits_end(b"1_0a2", 0, IntegerBase::Decimal), 3);
 /// assert_eq!(rt; digits_end(b"0x1_fg", 2, IntegerBase::Hexadecimal), 5);
+/// assert_eq!(rt; digits_end(b"0b1_02", 2, IntegerBase::Binary), 5);
 /// ```
 ///
 /// The Rust Reference, Tokens, Integer literals.
 #[inline(always)]
 pub fn digits_end(bytes: &[u8], from: usize, base: IntegerBase) -> usize
     requires { from ≤ length bytes.now }
-    ensures place { result ≡ from + prefix_len (is_digit_or_underscore base) (drop from bytes.now) }
-    ensures within { result ≤ length bytes.now }
+    ensures { result ≡ from + prefix_len (is_digit_or_underscore base) (drop from bytes.now) }
 {
-    next_without_branch(bytes, from, Target::Outside(base_limits(base)))
+    match bytes.len() {
+        4..=7 => digits_end_in::<4>(bytes, from, base),
+        8..=15 => digits_end_in::<8>(bytes, from, base),
+        _ => from + digits_len(&bytes[from..], base),
+    }
 }
 
-/// How many bytes at the front are of the run.
-///
-/// ```
-/// assert_eq!(rt; run_end("größe".as_bytes(), Run::Identifier), 2);
-/// assert_eq!(rt; run_end(b" \t\na", Run::Blanks), 3);
-/// assert_eq!(rt; run_end(b"##\"#", Run::Hashes), 2);
-/// ```
-///
-/// The Rust Reference, Tokens, String literals and Raw string literals, and Identifiers.
+/// How many digits of the base and underscores stand at the front, by a search for each base, so
+/// that its bytes are compared with constants.
 #[inline(always)]
-pub fn run_end(bytes: &[u8], run: Run) -> usize
-    ensures run { result ≡ prefix_len (is_in_run run) bytes.now }
+fn digits_len(bytes: &[u8], base: IntegerBase) -> usize
+    ensures digits { result ≡ prefix_len (is_digit_or_underscore base) bytes.now }
     ensures within { result ≤ length bytes.now }
 {
-    next_target(bytes, 0, Target::Outside(run_limits(run)))
+    match base {
+        IntegerBase::Binary => run_end(bytes, Run::Digits(IntegerBase::Binary)),
+        IntegerBase::Octal => run_end(bytes, Run::Digits(IntegerBase::Octal)),
+        IntegerBase::Decimal => run_end(bytes, Run::Digits(IntegerBase::Decimal)),
+        IntegerBase::Hexadecimal => run_end(bytes, Run::Digits(IntegerBase::Hexadecimal)),
+    }
 }
 
 /// Whether the byte is among the bytes.

@@ -1,10 +1,10 @@
-use Rattle.std.proofs.Common.{arith}
-use Rattle.std.proofs.lemmas.Simd.{length-chunk}
-use lib.Lanes.{chunk}
-use Rattle.litrs_search.proofs.Outside.{marks_outside}
 use Rattle.litrs_search.proofs.lanes.outside_marks.Goals as goal
 
 pub returns : goal.returns
-returns g c =
-    let bytes = c.args.bytes.now in
-    marks_outside c.args.limits (chunk c.args.at g.row.N bytes) g.row.N (length-chunk c.args.at g.row.N bytes c.requires.0) (omega arith)
+returns g c = c.marks_past.ensures c.args.run (record {
+  is_digit = c.last_digit.ensures;
+  is_letter = c.last_letter.ensures;
+  is_first = c.other_bytes.ensures.first;
+  is_second = c.other_bytes.ensures.second;
+  is_third = c.other_bytes.ensures.third;
+})
