@@ -272,6 +272,7 @@ pub fn digits_end(bytes: &[u8], from: usize, base: IntegerBase) -> usize
     ensures { result ≡ from + prefix_len (is_digit_or_underscore base) (drop from bytes.now) }
 {
     match bytes.len() {
+        0..=3 => by_bytes(bytes, from, Target::Outside(Run::Digits(base))),
         4..=7 => digits_end_in::<4>(bytes, from, base),
         8..=15 => digits_end_in::<8>(bytes, from, base),
         _ => from + digits_len(&bytes[from..], base),
