@@ -231,8 +231,8 @@ pub fn run_end(bytes: &[u8], run: Run) -> usize
     next_target(bytes, 0, Target::Outside(run))
 }
 
-/// The bytes among N to 2 N that are outside the digits of the base: bit i is that of the byte at i.
-/// There is one load of the first N bytes, and one of the last, whose marks of the first N are
+/// The bytes among N to 2 N that are outside the digits of the base: bit i is that of the byte at
+/// i. There is one load of the first N bytes, and one of the last, whose marks of the first N are
 /// shifted out.
 #[inline(always)]
 fn all_no_digit_marks<const N: usize>(bytes: &[u8], base: IntegerBase) -> u64
