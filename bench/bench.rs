@@ -531,7 +531,8 @@ fn times_of(rows: &[Row]) -> Vec<[f64; CALLS.len()]> {
 }
 
 fn main() {
-    if std::env::args().nth(1).as_deref() == Some("several_lines") {
+    let part = std::env::args().nth(1);
+    if part.as_deref() == Some("several_lines") {
         several_lines::main();
         return;
     }
@@ -559,6 +560,9 @@ fn main() {
     let mut slower = Vec::new();
     for ((kind, name, shape, texts), times) in rows.iter().zip(&times) {
         slower.extend(row(kind, name, *shape, texts, times));
+    }
+    if part.as_deref() == Some("shapes") {
+        return;
     }
     if cfg!(upstream) {
         slower.sort_by(|(one, _), (other, _)| other.total_cmp(one));

@@ -11,7 +11,7 @@ pub use litrs_parts::{
     cut_byte, cut_char, cut_float, cut_integer, cut_number, end_dec_digits, first_byte_or_empty,
     hex_digit_value, unescape, unescape_with,
 };
-pub use litrs_search::{Run, Special, digits_end, next_closing, next_special, run_end};
+pub use litrs_search::{Run, Special, next_closing, next_special, run_end};
 pub use quoted::{QuotedCut, cut_quoted};
 pub use raw::scan_raw_string;
 pub use string::unescape_string;

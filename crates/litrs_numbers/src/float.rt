@@ -23,8 +23,10 @@ use std::marker::Model;
 ///
 /// [ref]: https://doc.rust-lang.org/reference/tokens.html#floating-point-literals
 pub struct FloatLit<B: Text> {
-    raw: B,
     cut: FloatCut,
+    // Last, where a refusal has its kind in the `Result` of a parse. What was worked out is read in
+    // pieces if it stands there.
+    raw: B,
 }
 
 impl<B: Text> Model for FloatLit<B> {

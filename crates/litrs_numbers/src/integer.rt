@@ -32,8 +32,10 @@ use std::marker::Model;
 ///
 /// [ref]: https://doc.rust-lang.org/reference/tokens.html#integer-literals
 pub struct IntegerLit<B: Text> {
-    raw: B,
     cut: IntegerCut,
+    // Last, where a refusal has its kind in the `Result` of a parse. What was worked out is read in
+    // pieces if it stands there.
+    raw: B,
 }
 
 impl<B: Text> Model for IntegerLit<B> {

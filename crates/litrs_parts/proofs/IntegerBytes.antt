@@ -213,27 +213,20 @@ places_of_cut cut bs u h =
 pub within_bytes : (bs : List ℕ) → IsUtf8 bs → (start_of bs ≤ length bs) × (start_of bs + run_of bs ≤ length bs)
 within_bytes bs u = ((prefix_front bs u).within, (number_front bs u).within)
 
--- the prefix stands in the bytes
-pub prefix_within : (bs bytes front : List ℕ) (base : IntegerBase) → IsUtf8 bs → bytes ≡ bs → base ≡ base_of bytes → front ≡ prefix base → length front ≤ length bytes
-prefix_within bs bytes front base u same is_base is_front =
-    let start : length front ≡ start_of bs = ap length is_front ∙ ap (λ b. length (prefix b)) (is_base ∙ ap base_of same) in
-    let inside = (within_bytes bs u).0 in
-    omega (arith, start, ap length same)
-
 -- what the code computes of the bytes is a cut
-pub digits_cut_made : (bs bytes front : List ℕ) (base : IntegerBase) (end : ℕ) → IsUtf8 bs → bytes ≡ bs → base ≡ base_of bytes → front ≡ prefix base →
-    end ≡ length front + prefix_len (is_digit_or_underscore base) (drop (length front) bytes) →
-    IsDigitsCut (record { start_main = length front; end_main = end; base = base }) bs
-digits_cut_made bs bytes front base end u same is_base is_front is_end =
+pub digits_cut_made : (bs bytes front : List ℕ) (base : IntegerBase) (n : ℕ) → IsUtf8 bs → bytes ≡ bs → base ≡ base_of bytes → front ≡ prefix base →
+    n ≡ prefix_len (is_digit_or_underscore base) (take (length bytes - length front) (drop (length front) bytes)) →
+    IsDigitsCut (record { start_main = length front; end_main = length front + n; base = base }) bs
+digits_cut_made bs bytes front base n u same is_base is_front is_run =
     let base_is : base ≡ base_of bs = is_base ∙ ap base_of same in
     let start : length front ≡ length (prefix base) = ap length is_front in
-    let ends : end ≡ length front + prefix_len (is_digit_or_underscore base) (drop (length front) bs) =
-    is_end ∙ ap (λ t. length front + prefix_len (is_digit_or_underscore base) (drop (length front) t)) same in
+    let run : n ≡ prefix_len (is_digit_or_underscore base) (drop (length front) bs) =
+    is_run ∙ (ap (prefix_len (is_digit_or_underscore base)) (take_rest bytes (length front)) ∙ ap (λ t. prefix_len (is_digit_or_underscore base) (drop (length front) t)) same) in
     let start_is : length front ≡ start_of bs = start ∙ ap (λ b. length (prefix b)) base_is in
-    let run_is : prefix_len (is_digit_or_underscore base) (drop (length front) bs) ≡ run_of bs = ap (λ b. prefix_len (is_digit_or_underscore b) (drop (length front) bs)) base_is
-    ∙ ap (λ k. prefix_len (is_digit_or_underscore (base_of bs)) (drop k bs)) start_is in
+    let run_is : n ≡ run_of bs = run ∙ (ap (λ b. prefix_len (is_digit_or_underscore b) (drop (length front) bs)) base_is
+    ∙ ap (λ k. prefix_len (is_digit_or_underscore (base_of bs)) (drop k bs)) start_is) in
     let inside = (within_bytes bs u).1 in
-    record { base = base_is; start = start; end = ends; within = omega arith }
+    record { base = base_is; start = start; end = ap (λ k. length front + k) run; within = omega arith }
 
 -- a text that has a first byte is not empty
 pub filled_by_first : (bs : List ℕ) (b : ℕ) → IsUtf8 bs → slice_get bs 0 ≡ Some b → is_empty (chars bs) ≡ false

@@ -186,11 +186,22 @@ fn begins_with_quote(bytes: &[u8]) -> bool
     matches!(bytes.first(), Some(b'\''))
 }
 
-/// Whether `'` is among the bytes. `memchr` is fast where they are many.
+/// Whether `'` is among the bytes.
+fn has_quote(bytes: &[u8]) -> bool
+    ensures { result ≡ list_any (λ c. c == single_quote) bytes.now }
+{
+    if bytes.len() < 8 {
+        bytes.iter().any(|b| *b == b'\'')
+    } else {
+        has_quote_in_many(bytes)
+    }
+}
+
+/// [`has_quote`] of many bytes. `memchr` is fast where they are very many.
 ///
 /// A call, so that the cut of a char stays small.
 #[inline(never)]
-fn has_quote(bytes: &[u8]) -> bool
+fn has_quote_in_many(bytes: &[u8]) -> bool
     ensures { result ≡ list_any (λ c. c == single_quote) bytes.now }
 {
     if bytes.len() < 128 {

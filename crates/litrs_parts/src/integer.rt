@@ -1,10 +1,10 @@
 //! Where an integer is cut.
-ghost use Rattle.std.specs.Prelude.{◌≡◌, ◌+◌, ◌≤◌, ◌∷◌, [], length, drop, IsTrue, IfOk, IfErr, option_map, Some};
+ghost use Rattle.std.specs.Prelude.{◌≡◌, ◌∷◌, [], IsTrue, IfOk, IfErr, option_map, Some};
 ghost use Rattle.std.specs.Char.{is_ascii_digit};
 ghost use Rattle.std.specs.List.{prefix_len, list_any};
 ghost use Rattle.std.specs.Str.{chars};
 ghost use Rattle.litrs_base.specs.Characters.{digit_zero};
-ghost use Rattle.litrs_base.specs.Base.{prefix, is_digit_or_underscore};
+ghost use Rattle.litrs_base.specs.Base.{is_digit_or_underscore};
 ghost use Rattle.litrs_base.specs.Numeral.{is_no_underscore};
 ghost use Rattle.litrs_base.specs.Refusal.{refusal};
 ghost use Rattle.litrs_base.specs.Derivations.{IsOnlyDerivation};
@@ -17,7 +17,7 @@ ghost use Rattle.litrs_parts.specs.IntegerCut.{parts_at, IsWithin, IsDigitsCut};
 use crate::parse::{check_suffix, end_dec_digits};
 use litrs_base::IntegerBase::{Binary, Decimal, Hexadecimal, Octal};
 use litrs_base::{IntegerBase, ParseError, ParseErrorKind};
-use litrs_search::digits_end;
+use litrs_search::{Run, run_end};
 use std::ops::Range;
 
 /// Where an integer is cut: places in bytes.
@@ -75,7 +75,7 @@ pub(crate) fn cut_digits(input: &str) -> IntegerCut
     let bytes = input.as_bytes();
     let base = base_of(bytes);
     let start_main = base.prefix().len();
-    let end_main = main_end(base, bytes, start_main);
+    let end_main = start_main + digits_len(base, &bytes[start_main..]);
     IntegerCut {
         start_main,
         end_main,
@@ -174,8 +174,8 @@ static BASES: [IntegerBase; 23] = [
     Hexadecimal,
 ];
 
-/// [`base_of`] a text that begins with `0` and this byte. It is a table, as a mix of bases would
-/// mispredict a branch on the letter.
+/// [`base_of`] a text that begins with `0` and this byte. The table makes it one test for all
+/// bases.
 fn base_of_letter(letter: u8) -> IntegerBase
     ensures { result ≡ base_of (digit_zero ∷ letter ∷ []) }
 {
@@ -185,29 +185,44 @@ fn base_of_letter(letter: u8) -> IntegerBase
     }
 }
 
-/// Where the digits of this base and underscores end that follow the prefix.
+/// How many digits of this base and underscores stand at the front, in bytes.
 #[inline(always)]
-fn main_end(base: IntegerBase, bytes: &[u8], start_main: usize) -> usize
-    requires start { start_main ≡ length (prefix base) }
-    requires within { start_main ≤ length bytes.now }
-    ensures { result ≡ start_main
-        + prefix_len (is_digit_or_underscore base) (drop start_main bytes.now) }
+fn digits_len(base: IntegerBase, bytes: &[u8]) -> usize
+    ensures { result ≡ prefix_len (is_digit_or_underscore base) bytes.now }
 {
     match base {
         IntegerBase::Decimal => end_dec_digits(bytes),
-        _ => end_digits(base, bytes, start_main),
+        _ => end_digits(base, bytes),
     }
 }
 
-/// [`main_end`] of any base. It is not inlined, so that the search stands once; ten has that of
+/// [`digits_len`] of any base. It is not inlined, so that the search stands once; ten has that of
 /// [`end_dec_digits`].
+///
+/// One search serves all bases where there are few bytes: with one for each, texts that mix bases
+/// took a third longer.
 #[inline(never)]
-fn end_digits(base: IntegerBase, bytes: &[u8], start_main: usize) -> usize
-    requires { start_main ≤ length bytes.now }
-    ensures { result ≡ start_main
-        + prefix_len (is_digit_or_underscore base) (drop start_main bytes.now) }
+fn end_digits(base: IntegerBase, bytes: &[u8]) -> usize
+    ensures { result ≡ prefix_len (is_digit_or_underscore base) bytes.now }
 {
-    digits_end(bytes, start_main, base)
+    if bytes.len() >= 16 {
+        return end_many_digits(base, bytes);
+    }
+    run_end(bytes, Run::Digits(base))
+}
+
+/// [`end_digits`] of many bytes, by a search of its own for each base, which compares them with
+/// constants.
+#[inline(never)]
+fn end_many_digits(base: IntegerBase, bytes: &[u8]) -> usize
+    ensures { result ≡ prefix_len (is_digit_or_underscore base) bytes.now }
+{
+    match base {
+        IntegerBase::Binary => run_end(bytes, Run::Digits(IntegerBase::Binary)),
+        IntegerBase::Octal => run_end(bytes, Run::Digits(IntegerBase::Octal)),
+        IntegerBase::Decimal => run_end(bytes, Run::Digits(IntegerBase::Decimal)),
+        IntegerBase::Hexadecimal => run_end(bytes, Run::Digits(IntegerBase::Hexadecimal)),
+    }
 }
 
 /// Whether one of these digits and underscores is a digit.

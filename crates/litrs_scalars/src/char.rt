@@ -23,9 +23,11 @@ use std::marker::Model;
 ///
 /// [ref]: https://doc.rust-lang.org/reference/tokens.html#character-literals
 pub struct CharLit<B: Text> {
-    raw: B,
     value: char,
     start_suffix: usize,
+    // Last, where a refusal has its kind in the `Result` of a parse. What was worked out is read in
+    // pieces if it stands there.
+    raw: B,
 }
 
 impl<B: Text> Model for CharLit<B> {

@@ -1,11 +1,10 @@
 -- The runs that literals are made of. The Rust Reference, Tokens: "Integer literals", "Suffixes",
 -- "String literals", "Raw string literals"; Identifiers.
-use Rattle.std.specs.Prelude.{◌≡◌, ℕ, Bool, ◌==◌, ◌||◌}
+use Rattle.std.specs.Prelude.{ℕ, Bool, ◌==◌, ◌||◌}
 use Rattle.std.specs.Char.{is_ascii_alphanumeric}
 use Rattle.litrs_base.specs.Characters.{underscore, space, tab, line_feed, hash, is_blank}
 use Rattle.litrs_base.specs.Base.{is_digit_or_underscore}
 use Rattle.litrs_base.specs.declared.integer.IntegerBase.TheVariants.{Binary, Octal, Decimal, Hexadecimal}
-use Rattle.litrs_search.specs.declared.lanes.Others.{Others}
 use Rattle.litrs_search.specs.declared.search.Run.{Run}
 use Rattle.litrs_search.specs.declared.search.Run.TheVariants.{Digits, Identifier, Blanks, Hashes}
 
@@ -55,14 +54,6 @@ third_other (Digits base) = underscore
 third_other Identifier = underscore
 third_other Blanks = line_feed
 third_other Hashes = hash
-
--- a run ends so: by its last digit, its last letter, and its other bytes
-pub record IsEnd (run : Run) (digit letter : ℕ) (others : Others) : Type 0 where
-  pub is_digit : digit ≡ last_digit run
-  pub is_letter : letter ≡ last_letter run
-  pub is_first : others.first ≡ first_other run
-  pub is_second : others.second ≡ second_other run
-  pub is_third : others.third ≡ third_other run
 
 -- the bits of the table of classes that a byte of the run has one of
 abbrev pub classes : Run → ℕ

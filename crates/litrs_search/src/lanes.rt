@@ -4,7 +4,7 @@ ghost use Rattle.std.specs.Simd.Lanes.{mask_l, chunk};
 ghost use Rattle.litrs_base.specs.Characters.{carriage_return, backslash, nul};
 ghost use Rattle.litrs_search.specs.Special.{is_special};
 ghost use Rattle.litrs_search.specs.Closing.{may_close, pairs};
-ghost use Rattle.litrs_search.specs.Run.{is_in_run, last_digit, last_letter, first_other, second_other, third_other, IsEnd};
+ghost use Rattle.litrs_search.specs.Run.{is_in_run, last_digit, last_letter, first_other, second_other, third_other};
 
 use crate::{Run, Special};
 use litrs_base::IntegerBase;
@@ -77,15 +77,33 @@ pub(crate) fn closing_marks<const N: usize>(
         | byte.simd_gt(Simd::splat(limit))).to_bitmask()
 }
 
+/// The last decimal digit of each base, and the last letter among its digits, a backquote where it
+/// has none. In tables, since a search whose base is not constant branched on it else.
+static LAST_DIGITS: [u8; 4] = *b"1799";
+static LAST_LETTERS: [u8; 4] = *b"```f";
+
+#[inline(always)]
+fn base_digit(base: IntegerBase) -> u8
+    ensures { result ≡ last_digit (Run.Digits base) }
+{
+    LAST_DIGITS[base as usize]
+}
+
+#[inline(always)]
+fn base_letter(base: IntegerBase) -> u8
+    ensures { result ≡ last_letter (Run.Digits base) }
+{
+    LAST_LETTERS[base as usize]
+}
+
 /// The digits of a run end here: at `/`, which stands before `0`, where it has no digit.
 #[inline(always)]
 fn last_digit(run: Run) -> u8
     ensures { result ≡ last_digit run }
 {
     match run {
-        Run::Digits(IntegerBase::Binary) => b'1',
-        Run::Digits(IntegerBase::Octal) => b'7',
-        Run::Digits(_) | Run::Identifier => b'9',
+        Run::Digits(base) => base_digit(base),
+        Run::Identifier => b'9',
         Run::Blanks | Run::Hashes => b'/',
     }
 }
@@ -97,14 +115,13 @@ fn last_letter(run: Run) -> u8
     ensures { result ≡ last_letter run }
 {
     match run {
-        Run::Digits(IntegerBase::Hexadecimal) => b'f',
+        Run::Digits(base) => base_letter(base),
         Run::Identifier => b'z',
-        _ => b'`',
+        Run::Blanks | Run::Hashes => b'`',
     }
 }
 
 /// The bytes of a run that are neither digits nor letters: three, or one of them more than once.
-#[derive(Clone, Copy)]
 struct Others {
     first: u8,
     second: u8,
@@ -129,73 +146,26 @@ fn other_bytes(run: Run) -> Others
     }
 }
 
-/// The bytes outside a run that ends so, among the N from `at` on, in the same way.
+/// The bytes outside the run among the N from `at` on, in the same way.
 ///
 /// Letters are compared as small ones: 20 is the bit that a capital one lacks.
-#[inline(always)]
-fn marks_past<const N: usize>(bytes: &[u8], at: usize, digit: u8, letter: u8, others: Others) -> u64
-    requires { (at + N ≤ length bytes.now) × (N ≤ 64) }
-    ensures { (run : Run) → IsEnd run digit letter others →
-        result ≡ mask_l (map (λ b. not (is_in_run run b)) (chunk at N bytes.now)) }
-{
-    let v = Simd::<u8, N>::from_slice(&bytes[at..]);
-    let small = v | Simd::splat(0x20);
-    ((v.simd_lt(Simd::splat(b'0')) | v.simd_gt(Simd::splat(digit)))
-        & (small.simd_lt(Simd::splat(b'a')) | small.simd_gt(Simd::splat(letter)))
-        & v.simd_ne(Simd::splat(others.first))
-        & v.simd_ne(Simd::splat(others.second))
-        & v.simd_ne(Simd::splat(others.third))).to_bitmask()
-}
-
-/// The bytes outside the run among the N from `at` on, in the same way.
 #[inline(always)]
 pub(crate) fn outside_marks<const N: usize>(bytes: &[u8], at: usize, run: Run) -> u64
     requires { (at + N ≤ length bytes.now) × (N ≤ 64) }
     ensures { result ≡ mask_l (map (λ b. not (is_in_run run b)) (chunk at N bytes.now)) }
 {
-    marks_past::<N>(
-        bytes,
-        at,
-        last_digit(run),
-        last_letter(run),
-        other_bytes(run),
-    )
-}
-
-/// The last decimal digit of each base. In a table, so that a search whose base is not constant has
-/// no branch on it.
-static LAST_DIGITS: [u8; 4] = *b"1799";
-
-/// The last letter among the digits of each base, in the same way.
-static LAST_LETTERS: [u8; 4] = *b"```f";
-
-#[inline(always)]
-fn base_digit(base: IntegerBase) -> u8
-    ensures { result ≡ last_digit (Run.Digits base) }
-{
-    LAST_DIGITS[base as usize]
-}
-
-#[inline(always)]
-fn base_letter(base: IntegerBase) -> u8
-    ensures { result ≡ last_letter (Run.Digits base) }
-{
-    LAST_LETTERS[base as usize]
-}
-
-/// [`outside_marks`] of the digits of a base that is not constant.
-#[inline(always)]
-pub(crate) fn no_digit_marks<const N: usize>(bytes: &[u8], at: usize, base: IntegerBase) -> u64
-    requires { (at + N ≤ length bytes.now) × (N ≤ 64) }
-    ensures { result ≡ mask_l (map (λ b. not (is_in_run (Run.Digits base) b))
-        (chunk at N bytes.now)) }
-{
-    let others = Others {
-        first: b'_',
-        second: b'_',
-        third: b'_',
-    };
-    marks_past::<N>(bytes, at, base_digit(base), base_letter(base), others)
+    let Others {
+        first,
+        second,
+        third,
+    } = other_bytes(run);
+    let v = Simd::<u8, N>::from_slice(&bytes[at..]);
+    let small = v | Simd::splat(0x20);
+    ((v.simd_lt(Simd::splat(b'0')) | v.simd_gt(Simd::splat(last_digit(run))))
+        & (small.simd_lt(Simd::splat(b'a')) | small.simd_gt(Simd::splat(last_letter(run))))
+        & v.simd_ne(Simd::splat(first))
+        & v.simd_ne(Simd::splat(second))
+        & v.simd_ne(Simd::splat(third))).to_bitmask()
 }
 
 /// The bytes that are this one among the N from `at` on, in the same way.

@@ -4,7 +4,7 @@
 
 pub use closing::next_closing;
 pub use marked::{Marked, next_marked};
-pub use search::{Run, Special, digits_end, has_byte, next_special, run_end};
+pub use search::{Run, Special, has_byte, next_special, run_end};
 
 pub mod closing;
 mod lanes;

@@ -1,14 +1,13 @@
 //! The search for the next special byte of a quoted body, and for the end of a run.
-ghost use Rattle.std.specs.Prelude.{◌≡◌, ◌==◌, ◌+◌, ◌≤◌, ◌<◌, not, length, drop, map, if◌then◌else◌};
+ghost use Rattle.std.specs.Prelude.{◌≡◌, ◌==◌, ◌+◌, ◌≤◌, ◌<◌, length, drop, map, if◌then◌else◌};
 ghost use Rattle.std.specs.List.{prefix_len, list_any};
 ghost use Rattle.std.specs.Int.{w64, trailing_zeros};
 ghost use Rattle.std.specs.Simd.Lanes.{mask_l, chunk};
-ghost use Rattle.litrs_base.specs.Base.{is_digit_or_underscore};
 ghost use Rattle.litrs_search.specs.Special.{is_special, is_ordinary};
 ghost use Rattle.litrs_search.specs.Run.{classes, is_in_run};
 ghost use Rattle.litrs_search.specs.Target.{is_target, is_passed};
 
-use crate::lanes::{byte_marks, no_digit_marks, outside_marks, special_marks};
+use crate::lanes::{byte_marks, outside_marks, special_marks};
 use litrs_base::IntegerBase;
 
 /// Which bytes are special beside `"` and CR, which always are.
@@ -77,16 +76,24 @@ static CLASSES: [u8; 256] = *b"\
     \x00\x00\x00\x00\x00\x00\x00\x00\x00\x00\x00\x00\x00\x00\x00\x00\
     \x00\x00\x00\x00\x00\x00\x00\x00\x00\x00\x00\x00\x00\x00\x00\x00";
 
+/// The bits of [`CLASSES`] that the digits of each base and underscores have. In a table, since a
+/// search whose base is not constant branched on it else.
+static DIGIT_CLASSES: [u8; 4] = *b"\x21\x22\x24\x28";
+
+#[inline(always)]
+fn digit_classes(base: IntegerBase) -> u8
+    ensures { result ≡ classes (Run.Digits base) }
+{
+    DIGIT_CLASSES[base as usize]
+}
+
 /// The bits of [`CLASSES`] that the bytes of the run have, at least one of them.
 #[inline(always)]
 fn classes(run: Run) -> u8
     ensures { result ≡ classes run }
 {
     match run {
-        Run::Digits(IntegerBase::Binary) => 0x21,
-        Run::Digits(IntegerBase::Octal) => 0x22,
-        Run::Digits(IntegerBase::Decimal) => 0x24,
-        Run::Digits(IntegerBase::Hexadecimal) => 0x28,
+        Run::Digits(base) => digit_classes(base),
         Run::Identifier => 0x34,
         Run::Blanks => 0x40,
         Run::Hashes => 0x80,
@@ -229,69 +236,6 @@ pub fn run_end(bytes: &[u8], run: Run) -> usize
     ensures within { result ≤ length bytes.now }
 {
     next_target(bytes, 0, Target::Outside(run))
-}
-
-/// The bytes among N to 2 N that are outside the digits of the base: bit i is that of the byte at
-/// i. There is one load of the first N bytes, and one of the last, whose marks of the first N are
-/// shifted out.
-#[inline(always)]
-fn all_no_digit_marks<const N: usize>(bytes: &[u8], base: IntegerBase) -> u64
-    requires { (N ≤ length bytes.now) × (length bytes.now ≤ N + N) × (N ≤ 16) }
-    ensures { result ≡ mask_l (map (λ b. not (is_in_run (Run.Digits base) b)) bytes.now) }
-{
-    let len = bytes.len();
-    let last = no_digit_marks::<N>(bytes, len - N, base) >> (N + N - len);
-    no_digit_marks::<N>(bytes, 0, base) + (last << N)
-}
-
-/// Where the digits end in N to 2 N bytes. No branch asks for the place or for the base: both would
-/// be mispredicted.
-#[inline(always)]
-fn digits_end_in<const N: usize>(bytes: &[u8], from: usize, base: IntegerBase) -> usize
-    requires { (from ≤ length bytes.now) × (N ≤ length bytes.now)
-        × (length bytes.now ≤ N + N) × (N ≤ 16) }
-    ensures { result ≡ from + prefix_len (is_digit_or_underscore base) (drop from bytes.now) }
-{
-    let left = all_no_digit_marks::<N>(bytes, base) >> from;
-    first_marked(left, from, bytes.len())
-}
-
-/// Where the digits of the base and underscores end that stand from `from` on. Places count bytes.
-///
-/// `from` may not pass the length.
-///
-/// ```
-/// assert_eq!(rt; digits_end(b"0x1_fg", 2, IntegerBase::Hexadecimal), 5);
-/// assert_eq!(rt; digits_end(b"0b1_02", 2, IntegerBase::Binary), 5);
-/// ```
-///
-/// The Rust Reference, Tokens, Integer literals.
-#[inline(always)]
-pub fn digits_end(bytes: &[u8], from: usize, base: IntegerBase) -> usize
-    requires { from ≤ length bytes.now }
-    ensures { result ≡ from + prefix_len (is_digit_or_underscore base) (drop from bytes.now) }
-{
-    match bytes.len() {
-        0..=3 => by_bytes(bytes, from, Target::Outside(Run::Digits(base))),
-        4..=7 => digits_end_in::<4>(bytes, from, base),
-        8..=15 => digits_end_in::<8>(bytes, from, base),
-        _ => from + digits_len(&bytes[from..], base),
-    }
-}
-
-/// How many digits of the base and underscores stand at the front, by a search for each base, so
-/// that its bytes are compared with constants.
-#[inline(always)]
-fn digits_len(bytes: &[u8], base: IntegerBase) -> usize
-    ensures digits { result ≡ prefix_len (is_digit_or_underscore base) bytes.now }
-    ensures within { result ≤ length bytes.now }
-{
-    match base {
-        IntegerBase::Binary => run_end(bytes, Run::Digits(IntegerBase::Binary)),
-        IntegerBase::Octal => run_end(bytes, Run::Digits(IntegerBase::Octal)),
-        IntegerBase::Decimal => run_end(bytes, Run::Digits(IntegerBase::Decimal)),
-        IntegerBase::Hexadecimal => run_end(bytes, Run::Digits(IntegerBase::Hexadecimal)),
-    }
 }
 
 /// Whether the byte is among the bytes.

@@ -27,9 +27,11 @@ use std::marker::Model;
 /// [ref]: https://doc.rust-lang.org/reference/tokens.html#byte-string-literals
 #[derive(Drop)]
 pub struct ByteStringLit<B: Text> {
-    raw: B,
     value: KeptValue<Vec<u8>>,
     start_suffix: usize,
+    // Last, where a refusal has its kind in the `Result` of a parse. What was worked out is read in
+    // pieces if it stands there.
+    raw: B,
     ghost derived: { StringDerivation byte_string_kind (chars (B.bytes raw)) } by { string_derivation-prop byte_string_kind (chars (B.bytes raw)) },
 }
 

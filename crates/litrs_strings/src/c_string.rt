@@ -110,9 +110,11 @@ impl CString {
 /// [ref]: https://doc.rust-lang.org/reference/tokens.html#c-string-literals
 #[derive(Drop)]
 pub struct CStringLit<B: Text> {
-    raw: B,
     value: CString,
     start_suffix: usize,
+    // Last, where a refusal has its kind in the `Result` of a parse. What was worked out is read in
+    // pieces if it stands there.
+    raw: B,
     ghost derived: { StringDerivation c_string_kind (chars (B.bytes raw)) } by { string_derivation-prop c_string_kind (chars (B.bytes raw)) },
 }
 
