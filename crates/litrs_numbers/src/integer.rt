@@ -33,8 +33,7 @@ use std::marker::Model;
 /// [ref]: https://doc.rust-lang.org/reference/tokens.html#integer-literals
 pub struct IntegerLit<B: Text> {
     cut: IntegerCut,
-    // Last, where a refusal has its kind in the `Result` of a parse. What was worked out is read in
-    // pieces if it stands there.
+    // Last: a place that stood where a refusal has its kind would be read in pieces.
     raw: B,
 }
 

@@ -199,8 +199,8 @@ fn digits_len(base: IntegerBase, bytes: &[u8]) -> usize
 /// [`digits_len`] of any base. It is not inlined, so that the search stands once; ten has that of
 /// [`end_dec_digits`].
 ///
-/// One search serves all bases where there are few bytes: with one for each, texts that mix bases
-/// took a third longer.
+/// One search serves all bases where there are few bytes: with one for each, refused texts that mix
+/// bases took a sixth longer, and octal numbers alone a fifth less.
 #[inline(never)]
 fn end_digits(base: IntegerBase, bytes: &[u8]) -> usize
     ensures { result ≡ prefix_len (is_digit_or_underscore base) bytes.now }

@@ -25,8 +25,7 @@ use std::marker::Model;
 pub struct CharLit<B: Text> {
     value: char,
     start_suffix: usize,
-    // Last, where a refusal has its kind in the `Result` of a parse. What was worked out is read in
-    // pieces if it stands there.
+    // Last: a place that stood where a refusal has its kind would be read in pieces.
     raw: B,
 }
 

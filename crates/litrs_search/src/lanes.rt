@@ -77,9 +77,11 @@ pub(crate) fn closing_marks<const N: usize>(
         | byte.simd_gt(Simd::splat(limit))).to_bitmask()
 }
 
-/// The last decimal digit of each base, and the last letter among its digits, a backquote where it
-/// has none. In tables, since a search whose base is not constant branched on it else.
+/// The last decimal digit of each base. In a table, since a search whose base is not constant
+/// branched on it else.
 static LAST_DIGITS: [u8; 4] = *b"1799";
+
+/// The last letter among the digits of each base, a backquote where it has none, in the same way.
 static LAST_LETTERS: [u8; 4] = *b"```f";
 
 #[inline(always)]

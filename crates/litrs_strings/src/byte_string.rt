@@ -29,8 +29,7 @@ use std::marker::Model;
 pub struct ByteStringLit<B: Text> {
     value: KeptValue<Vec<u8>>,
     start_suffix: usize,
-    // Last, where a refusal has its kind in the `Result` of a parse. What was worked out is read in
-    // pieces if it stands there.
+    // Last: a place that stood where a refusal has its kind would be read in pieces.
     raw: B,
     ghost derived: { StringDerivation byte_string_kind (chars (B.bytes raw)) } by { string_derivation-prop byte_string_kind (chars (B.bytes raw)) },
 }

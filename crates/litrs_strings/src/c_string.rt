@@ -112,8 +112,7 @@ impl CString {
 pub struct CStringLit<B: Text> {
     value: CString,
     start_suffix: usize,
-    // Last, where a refusal has its kind in the `Result` of a parse. What was worked out is read in
-    // pieces if it stands there.
+    // Last: a place that stood where a refusal has its kind would be read in pieces.
     raw: B,
     ghost derived: { StringDerivation c_string_kind (chars (B.bytes raw)) } by { string_derivation-prop c_string_kind (chars (B.bytes raw)) },
 }
