@@ -46,10 +46,10 @@ MAPPED = {
 # The lines that ask for memory by a number of bytes, and how often each stands in its file. The
 # number is the length of a text or a value that was measured, or given by the caller.
 RESERVED = {
-    ("crates/litrs_lex/src/container.rt", "String::reserve(self, additional)"): 1,
-    ("crates/litrs_lex/src/container.rt", "Vec::reserve(self, additional)"): 1,
+    ("crates/litrs_lex/src/container.rt", "String::with_capacity(alloc, bytes)"): 1,
+    ("crates/litrs_lex/src/container.rt", "Vec::with_capacity(alloc, bytes)"): 1,
     # `room` is the length of the value, or one more.
-    ("crates/litrs_lex/src/string.rt", "value.reserve(room)?;"): 2,
+    ("crates/litrs_lex/src/string.rt", "let mut value = C::with_capacity(alloc, room)?;"): 2,
     (
         "crates/litrs_strings/src/byte_string.rt",
         "let mut copy = Vec::with_capacity(alloc, value.len())?;",
@@ -66,7 +66,10 @@ RESERVED = {
     # The caller gives the room.
     ("crates/litrs_lines/src/mem_output.rt", "bytes: Vec::with_capacity(alloc, room)?,"): 1,
     # `LONGEST` is the length of the longest text that the program of rows tries so.
-    ("crates/litrs_vectors/src/calls.rt", "_ => container.reserve(LONGEST),"): 1,
+    (
+        "crates/litrs_vectors/src/calls.rt",
+        'again!(trial, "with_capacity", C::with_capacity(trial.alloc, LONGEST).is_err());',
+    ): 1,
     ("crates/litrs_vectors/src/prefixes.rt", "trial.own(longer.reserve(2 * LONGEST));"): 1,
 }
 RESERVES = (

@@ -126,6 +126,53 @@ unsafe extern "C" fn unescaped(text: *const u8, len: usize) -> u64 {
     black_box(value).len() as u64
 }
 
+/// The byte that a simple escape or `\xNN` stands for, and how many bytes it has; None where it is refused.
+#[inline(always)]
+fn escaped_byte(rest: &[u8]) -> Option<(u8, usize)> {
+    let byte = match *rest.get(1)? {
+        b'n' => b'\n',
+        b't' => b'\t',
+        b'r' => b'\r',
+        b'0' => 0,
+        quoted @ (b'\\' | b'"' | b'\'') => quoted,
+        b'x' => {
+            let digit = |place: usize| char::from(*rest.get(place)?).to_digit(16);
+            return Some(((16 * digit(2)? + digit(3)?) as u8, 4)).filter(|(byte, _)| byte.is_ascii());
+        }
+        _ => return None,
+    };
+    Some((byte, 2))
+}
+
+/// Puts the value of a quoted string of few bytes together, and frees it, where the text is one: it is put together
+/// on the stack while its characters and escapes are tested, and copied once the text ends with the closing quote.
+unsafe extern "C" fn tested(text: *const u8, len: usize) -> u64 {
+    let text = unsafe { text_at(text, len) }.as_bytes();
+    let mut room = [0; 80];
+    let (mut at, mut used) = (1, 0);
+    loop {
+        let (byte, len) = match text.get(at) {
+            Some(b'"') => break,
+            None | Some(b'\r') => return 0,
+            Some(b'\\') => match escaped_byte(&text[at..]) {
+                Some(item) => item,
+                None => return 0,
+            },
+            Some(plain) => (*plain, 1),
+        };
+        let Some(place) = room.get_mut(used) else {
+            return 0;
+        };
+        *place = byte;
+        used += 1;
+        at += len;
+    }
+    if at + 1 != text.len() {
+        return 0;
+    }
+    black_box(room[..used].to_vec()).len() as u64
+}
+
 /// A refusal, in as many bytes as ours.
 #[allow(dead_code)]
 struct Refusal {
@@ -194,6 +241,7 @@ unsafe extern "C" fn parts_by_kind(text: *const u8, len: usize) -> u64 {
 }
 
 const VALUE: &str = "its value, put together and freed";
+const TESTED: &str = "its value, tested and put together on the stack, copied and freed";
 
 /// Texts of `held_out`, what a form does of them, and the form.
 const FORMS: &[(&str, &str, Call)] = &[
@@ -204,6 +252,7 @@ const FORMS: &[(&str, &str, Call)] = &[
     ("refused: long, no end", "where a quote stands", quote_place),
     ("one escape among characters", "a copy, and its release", copied),
     ("one escape among characters", VALUE, unescaped),
+    ("one escape among characters", TESTED, tested),
     ("underscores in one escape", VALUE, unescaped),
     ("escape each 2 bytes", VALUE, unescaped),
     ("escape each 20 bytes", VALUE, unescaped),

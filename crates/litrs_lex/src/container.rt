@@ -1,5 +1,5 @@
 //! What unescaped values are put into.
-ghost use Rattle.std.specs.Prelude.{◌≡◌, ◌+◌, ◌≤◌, ℕ, Bool, true, false, List, [], ◌++◌, length, string_bytes, string_capacity, vec_capacity, IsTrue, IsFalse, IsOk, IfOk, OnOk, OnErr};
+ghost use Rattle.std.specs.Prelude.{◌≡◌, ◌+◌, ◌≤◌, ℕ, Bool, true, false, List, [], ◌++◌, length, string_bytes, string_capacity, vec_capacity, IsTrue, IsFalse, IsOk, IfOk, OnErr};
 ghost use Rattle.std.specs.Str.{IsUtf8};
 ghost use Rattle.litrs_grammar.specs.Escape.{value_bytes};
 ghost use Rattle.litrs_lex.specs.Container.{is_pushable};
@@ -26,6 +26,16 @@ pub trait EscapeContainer: Drop {
     /// An empty one. It keeps the allocator and does not allocate.
     fn new(alloc: Global) -> Self
         ensures { contents result ≡ [] };
+
+    /// An empty one with room for this many bytes. With room for none it does not allocate.
+    ///
+    /// # Errors
+    ///
+    /// `AllocError` where there is no memory for them.
+    fn with_capacity(alloc: Global, bytes: usize) -> Result<Self, AllocError>
+        ensures contents { IfOk result (λ made. contents made ≡ []) }
+        ensures room { IfOk result (λ made. bytes ≤ capacity made) }
+        ensures succeeds { bytes ≡ 0 → IsOk result };
 
     /// Adds the value of an escape: the byte, or the UTF-8 of the character.
     ///
@@ -66,18 +76,6 @@ pub trait EscapeContainer: Drop {
         ensures kept { capacity self.old ≤ capacity self.new }
         ensures succeeds { length (contents self.old) + length bytes.now
             ≤ capacity self.old → IsOk result };
-
-    /// Makes room for this many more bytes.
-    ///
-    /// # Errors
-    ///
-    /// `AllocError` where there is no memory for them.
-    fn reserve(&mut self, additional: usize) -> Result<(), AllocError>
-        ensures contents { contents self.new ≡ contents self.old }
-        ensures room { OnOk result (length (contents self.new) + additional ≤ capacity self.new) }
-        ensures kept { capacity self.old ≤ capacity self.new }
-        ensures succeeds { length (contents self.old) + additional
-            ≤ capacity self.old → IsOk result };
 }
 
 impl EscapeContainer for String {
@@ -93,6 +91,10 @@ impl EscapeContainer for String {
         String::new(alloc)
     }
 
+    fn with_capacity(alloc: Global, bytes: usize) -> Result<String, AllocError> {
+        String::with_capacity(alloc, bytes)
+    }
+
     fn push(&mut self, value: Unescape) -> Result<(), AllocError> {
         match value {
             Unescape::Byte(byte) => String::push(self, byte as char),
@@ -106,12 +108,7 @@ impl EscapeContainer for String {
 
     fn push_bytes(&mut self, bytes: &[u8]) -> Result<(), AllocError> {
         String::push_str(self, unsafe { str::from_utf8_unchecked(bytes) })
-    }
-
-    fn reserve(&mut self, additional: usize) -> Result<(), AllocError> {
-        String::reserve(self, additional)
-    }
-}
+    }}
 
 impl EscapeContainer for Vec<u8> {
     ghost contents = { λ bytes. bytes.items };
@@ -124,6 +121,10 @@ impl EscapeContainer for Vec<u8> {
 
     fn new(alloc: Global) -> Vec<u8> {
         Vec::new(alloc)
+    }
+
+    fn with_capacity(alloc: Global, bytes: usize) -> Result<Vec<u8>, AllocError> {
+        Vec::with_capacity(alloc, bytes)
     }
 
     fn push(&mut self, value: Unescape) -> Result<(), AllocError> {
@@ -146,9 +147,4 @@ impl EscapeContainer for Vec<u8> {
 
     fn push_bytes(&mut self, bytes: &[u8]) -> Result<(), AllocError> {
         self.extend_from_slice(bytes)
-    }
-
-    fn reserve(&mut self, additional: usize) -> Result<(), AllocError> {
-        Vec::reserve(self, additional)
-    }
-}
+    }}

@@ -193,8 +193,7 @@ fn copy_short<C: EscapeContainer>(alloc: Global, bytes: &[u8], room: usize) -> R
     requires { IsFalse C.TAKES_BYTES → IsUtf8 bytes.now }
     ensures { IfOk result (λ value. C.contents value ≡ bytes.now) }
 {
-    let mut value = C::new(alloc);
-    value.reserve(room)?;
+    let mut value = C::with_capacity(alloc, room)?;
     value.push_bytes(bytes)?;
     Ok(value)
 }
@@ -246,8 +245,7 @@ fn copy_items<C: EscapeContainer, const UNICODE: bool, const ALLOW_NUL: bool>(
         byte_escapes,
         allow_nul: ALLOW_NUL,
     };
-    let mut value = C::new(alloc);
-    value.reserve(room)?;
+    let mut value = C::with_capacity(alloc, room)?;
     let mut at = offset;
     let mut marked = Marked::nothing_at(offset);
     loop {

@@ -19,13 +19,13 @@ fn push_values<C: EscapeContainer>(container: &mut C, count: usize) -> Result<()
         container.push_str("é")?;
         container.push_bytes(b"abc")?;
     }
-    container.reserve(count)
+    Ok(())
 }
 
-/// Whether a container with nothing reserved takes them.
+/// Whether an empty container takes them, and one with room for as many bytes is made.
 fn takes_values<C: EscapeContainer>(alloc: Global, count: usize) -> bool {
     let mut container = C::new(alloc);
-    push_values(&mut container, count).is_ok()
+    push_values(&mut container, count).is_ok() && C::with_capacity(alloc, 10 * count).is_ok()
 }
 
 /// Containers take values while there is memory, up to a mebibyte.

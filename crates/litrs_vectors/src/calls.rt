@@ -105,21 +105,21 @@ fn is_value(lit: &Literal<&str>, found: &[u8]) -> bool {
     }
 }
 
-/// The calls that add to a container, or make room in it.
-const ADDING: [&str; 4] = ["push_str", "push", "push_bytes", "reserve"];
+/// The calls that add to a container.
+const ADDING: [&str; 3] = ["push_str", "push", "push_bytes"];
 
 /// Makes the call of this name with a text, and with a character.
 fn add<C: EscapeContainer>(container: &mut C, call: &str, text: &str) -> Result<(), AllocError> {
     match call {
         "push_str" => container.push_str(text),
         "push" => container.push(Unescape::Unicode('é')),
-        "push_bytes" => container.push_bytes(text.as_bytes()),
-        _ => container.reserve(LONGEST),
+        _ => container.push_bytes(text.as_bytes()),
     }
 }
 
 /// Tries a container: one call after the other.
 fn try_container<C: EscapeContainer + AsSlice<u8>>(trial: &mut Trial, text: &str) {
+    again!(trial, "with_capacity", C::with_capacity(trial.alloc, LONGEST).is_err());
     let whole = format!(in trial.alloc; "{text}é{text}");
     if let Some(whole) = trial.own(whole) {
         try_adding(trial, &mut C::new(trial.alloc), text, whole.as_bytes());

@@ -8,7 +8,7 @@ use Rattle.litrs_lex.proofs.string.copy_items.Goals as goal
 pub loop-value-init : goal.loop-value-init
 loop-value-init g c = (
   c.requires.at,
-  copy_start _ c.args.input.now _ _ c.utf8.input c.requires.at (c.reserve.ensures.contents ∙ c.new-value.ensures),
+  copy_start _ c.args.input.now _ _ c.utf8.input c.requires.at (c.in_ok-value.ensures.contents),
   (let start = c.nothing_at-marked.ensures.start in omega arith),
   c.nothing_at-marked.ensures.marked _ _ c.requires.at.0,
 )
