@@ -68,7 +68,7 @@ RESERVED = {
     # `LONGEST` is the length of the longest text that the program of rows tries so.
     (
         "crates/litrs_vectors/src/calls.rt",
-        'again!(trial, "with_capacity", C::with_capacity(trial.alloc, LONGEST).is_err());',
+        "C::with_capacity(trial.alloc, LONGEST).is_err()",
     ): 1,
     ("crates/litrs_vectors/src/prefixes.rt", "trial.own(longer.reserve(2 * LONGEST));"): 1,
 }

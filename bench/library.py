@@ -1,9 +1,9 @@
 #!/usr/bin/env python3
 """Proves and builds the static library of the benchmark, by what was proved before: bench/library.py OUT
 
-Some processors of Intel decode a jump anew each time where it crosses a 32-byte boundary or ends at one (erratum
-SKX102), so that one piece of code takes up to a quarter longer by where it lies. So the library is compiled without
-such jumps, by the toolchain's own compiler with one flag more.
+Some processors of Intel do not keep a jump in decoded form that crosses a 32-byte boundary or ends at one, so that
+one piece of code takes up to a quarter longer by where it lies. So the library is compiled without such jumps, by the
+toolchain's own compiler with one flag more.
 """
 import os
 import pathlib

@@ -108,7 +108,8 @@ impl EscapeContainer for String {
 
     fn push_bytes(&mut self, bytes: &[u8]) -> Result<(), AllocError> {
         String::push_str(self, unsafe { str::from_utf8_unchecked(bytes) })
-    }}
+    }
+}
 
 impl EscapeContainer for Vec<u8> {
     ghost contents = { λ bytes. bytes.items };
@@ -147,4 +148,5 @@ impl EscapeContainer for Vec<u8> {
 
     fn push_bytes(&mut self, bytes: &[u8]) -> Result<(), AllocError> {
         self.extend_from_slice(bytes)
-    }}
+    }
+}

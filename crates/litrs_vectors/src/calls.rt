@@ -119,7 +119,11 @@ fn add<C: EscapeContainer>(container: &mut C, call: &str, text: &str) -> Result<
 
 /// Tries a container: one call after the other.
 fn try_container<C: EscapeContainer + AsSlice<u8>>(trial: &mut Trial, text: &str) {
-    again!(trial, "with_capacity", C::with_capacity(trial.alloc, LONGEST).is_err());
+    again!(
+        trial,
+        "with_capacity",
+        C::with_capacity(trial.alloc, LONGEST).is_err()
+    );
     let whole = format!(in trial.alloc; "{text}é{text}");
     if let Some(whole) = trial.own(whole) {
         try_adding(trial, &mut C::new(trial.alloc), text, whole.as_bytes());
