@@ -22,10 +22,10 @@ fn push_values<C: EscapeContainer>(container: &mut C, count: usize) -> Result<()
     Ok(())
 }
 
-/// Whether an empty container takes them, and one with room for as many bytes is made.
+/// Whether an empty container takes them, and one with room for so many bytes is made.
 fn takes_values<C: EscapeContainer>(alloc: Global, count: usize) -> bool {
     let mut container = C::new(alloc);
-    push_values(&mut container, count).is_ok() && C::with_capacity(alloc, 10 * count).is_ok()
+    push_values(&mut container, count).is_ok() && C::with_capacity(alloc, count).is_ok()
 }
 
 /// Containers take values while there is memory, up to a mebibyte.
