@@ -62,7 +62,7 @@ def calls():
         for buffer in ["&str", "String"]:
             yield f"{kind}::into_token over {buffer}"
     for container in ["String", "Vec<u8>"]:
-        for call in ["push", "push_str", "push_bytes", "reserve"]:
+        for call in ["push", "push_str", "push_bytes", "with_capacity"]:
             yield f"EscapeContainer::{call} over {container}"
     yield "String::copy over String"
     yield "CString::clone over CString"
