@@ -54,6 +54,79 @@ unsafe extern "C" fn bool_among_kinds(text: *const u8, len: usize) -> u64 {
     }
 }
 
+/// What is cut of a text of another kind: the places of its parts, and a value of its own where it has one. Each is
+/// a call, as what cuts a literal of ours is.
+struct Cut {
+    places: [usize; 3],
+    value: Option<String>,
+}
+
+#[inline(never)]
+fn cut_number(text: &str) -> Result<[usize; 4], Refusal> {
+    let end = text.bytes().position(|byte| !byte.is_ascii_digit()).unwrap_or(text.len());
+    if end < 40 { Ok([0, end, end, text.len()]) } else { Err(Refusal { span: Some(end..end + 1), char_end: end + 1, kind: 3 }) }
+}
+
+#[inline(never)]
+fn cut_char(text: &str, front: usize) -> Result<(char, usize), Refusal> {
+    match text[front..].chars().next() {
+        Some(character) => Ok((character, front + character.len_utf8() + 1)),
+        None => Err(Refusal { span: None, char_end: 0, kind: 4 }),
+    }
+}
+
+#[inline(never)]
+fn cut_text(text: &str, front: usize) -> Result<Cut, Refusal> {
+    match text[front..].find(['"', '\\']) {
+        Some(place) if text.as_bytes()[front + place] == b'"' => {
+            Ok(Cut { places: [front, front + place, front + place + 1], value: None })
+        }
+        Some(place) => Ok(Cut { places: [front, place, text.len()], value: Some(text.to_string()) }),
+        None => Err(Refusal { span: None, char_end: 0, kind: 5 }),
+    }
+}
+
+/// What a text is parsed as, where what is cut is put together in the function that asks for it.
+enum Whole<'a> {
+    Bool(bool),
+    Number(&'a str, [usize; 4]),
+    Char(&'a str, char, usize),
+    Byte(&'a str, char, usize),
+    Text(&'a str, Cut),
+}
+
+/// The literal that the text is, by its first byte.
+#[inline(always)]
+fn whole(text: &str) -> Result<Whole<'_>, Refusal> {
+    match text.as_bytes() {
+        [b'0'..=b'9', ..] => Ok(Whole::Number(text, cut_number(text)?)),
+        [b'\'', ..] => cut_char(text, 1).map(|(value, end)| Whole::Char(text, value, end)),
+        [b'"', ..] => Ok(Whole::Text(text, cut_text(text, 1)?)),
+        [b'r', ..] => Ok(Whole::Text(text, cut_text(text, 2)?)),
+        [b'b', b'\'', ..] => cut_char(text, 2).map(|(value, end)| Whole::Byte(text, value, end)),
+        [b'b' | b'c', b'"', ..] => Ok(Whole::Text(text, cut_text(text, 2)?)),
+        [b'b' | b'c', b'r', ..] => Ok(Whole::Text(text, cut_text(text, 3)?)),
+        b"true" => Ok(Whole::Bool(true)),
+        b"false" => Ok(Whole::Bool(false)),
+        _ => Err(Refusal { span: None, char_end: 0, kind: 2 }),
+    }
+}
+
+/// Which bool the text is, where a literal of another kind is put together here, from what a call has cut.
+unsafe extern "C" fn bool_beside_kinds(text: *const u8, len: usize) -> u64 {
+    match whole(unsafe { text_at(text, len) }) {
+        Ok(Whole::Bool(value)) => 1 + u64::from(value),
+        Ok(Whole::Number(text, places)) => (places[1] + places[2] + text.len() - places[3]) as u64,
+        Ok(Whole::Char(text, value, end)) => u64::from(u32::from(value)) + (text.len() - end) as u64,
+        Ok(Whole::Byte(text, value, end)) => 2 * u64::from(u32::from(value)) + (text.len() - end) as u64,
+        Ok(Whole::Text(text, Cut { places, value })) => match value {
+            Some(value) => (value.len() + text.len() - places[2]) as u64,
+            None => (places[1] - places[0] + text.len() - places[2]) as u64,
+        },
+        Err(refusal) => refusal.span.map_or(0, |span| span.end as u64) + u64::from(refusal.kind),
+    }
+}
+
 /// Where a quote stands after the first byte.
 unsafe extern "C" fn quote_place(text: *const u8, len: usize) -> u64 {
     let text = unsafe { text_at(text, len) };
@@ -249,6 +322,8 @@ const FORMS: &[(&str, &str, Call)] = &[
     ("only false", "which bool it is", which_bool),
     ("only true", "which bool it is, after the other kinds", bool_among_kinds),
     ("only false", "which bool it is, after the other kinds", bool_among_kinds),
+    ("only true", "which bool it is, where the other kinds are put together too", bool_beside_kinds),
+    ("only false", "which bool it is, where the other kinds are put together too", bool_beside_kinds),
     ("refused: long, no end", "where a quote stands", quote_place),
     ("one escape among characters", "a copy, and its release", copied),
     ("one escape among characters", VALUE, unescaped),

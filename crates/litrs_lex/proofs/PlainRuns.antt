@@ -194,15 +194,15 @@ special_run u e n text bytes from end is place =
     ap (λ (l : List ℕ). prefix_len (is_plain (switches u e n)) (drop from l)) is in
     omega arith
 
--- no plain character stands at a backslash
-slash_first : (w : Switches) (bytes : List ℕ) (n : ℕ) → n < length bytes → get_or bytes n 0 ≡ 92 → prefix_len (is_plain w) (drop n bytes) ≡ 0
-slash_first w [] n inside h = absurd (omega arith)
-slash_first w (b ∷ bytes) zero inside h = ap (λ c. prefix_len (is_plain w) (c ∷ bytes)) h
-slash_first w (b ∷ bytes) (suc n) inside h = slash_first w bytes n (omega arith) h
+-- no character is plain before a byte at which the plain ones end
+stop_first : (w : Switches) (c : ℕ) (bytes : List ℕ) (n : ℕ) → is_plain w c ≡ false → n < length bytes → get_or bytes n 0 ≡ c → prefix_len (is_plain w) (drop n bytes) ≡ 0
+stop_first w c [] n other inside h = absurd (omega arith)
+stop_first w c (b ∷ bytes) zero other inside h = ap (λ x. prefix_len (is_plain w) (x ∷ bytes)) h ∙ rw other refl
+stop_first w c (b ∷ bytes) (suc n) other inside h = stop_first w c bytes n other (omega arith) h
 
-pub empty_run : (w : Switches) (bytes seen : List ℕ) (from : ℕ) → IsUtf8 bytes → IsCharBoundary bytes from → seen ≡ bytes → from < length seen → get_or seen from 0 ≡ 92 →
-    IsPlainRun w bytes from from
-empty_run w bytes seen from u start same inside slash =
+pub empty_run : (w : Switches) (c : ℕ) (bytes seen : List ℕ) (from : ℕ) → is_plain w c ≡ false → IsUtf8 bytes → IsCharBoundary bytes from → seen ≡ bytes → from < length seen →
+    get_or seen from 0 ≡ c → IsPlainRun w bytes from from
+empty_run w c bytes seen from other u start same inside stop =
     let size = ap length same in
-    let none : prefix_len (is_plain w) (drop from bytes) ≡ 0 = slash_first w bytes from (omega arith) (ap (λ (l : List ℕ). get_or l from 0) (sym same) ∙ slash) in
+    let none : prefix_len (is_plain w) (drop from bytes) ≡ 0 = stop_first w c bytes from other (omega arith) (ap (λ (l : List ℕ). get_or l from 0) (sym same) ∙ stop) in
     plain_run w bytes from from u start (omega arith)

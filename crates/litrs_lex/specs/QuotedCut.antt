@@ -72,6 +72,10 @@ pub record IsQuotedValue
   pub given : is_some value ≡ cut.has_escape
   pub is_value : IfSome value (λ v. v ≡ body_value is_cut.parts.items)
 
+-- the error says that there was no memory
+abbrev pub IsOutOfMemory : ParseError → Type 0
+IsOutOfMemory e = refusal_of e ≡ plain OutOfMemory
+
 -- The text is a quoted literal whose body has a backslash, and the error says that there was no
 -- memory for its value.
 pub record IsQuotedOutOfMemory (w : Switches) (bytes : List ℕ) (offset : ℕ) (e : ParseError)
@@ -79,4 +83,4 @@ pub record IsQuotedOutOfMemory (w : Switches) (bytes : List ℕ) (offset : ℕ) 
   pub cut : QuotedCut
   pub is_cut : IsQuotedCut w bytes offset cut
   pub has_escape : IsTrue cut.has_escape
-  pub error : refusal_of e ≡ plain OutOfMemory
+  pub error : IsOutOfMemory e

@@ -17,6 +17,7 @@ pub use raw::scan_raw_string;
 pub use string::unescape_string;
 
 pub mod container;
+mod lone_escape;
 pub mod quoted;
 pub mod raw;
 mod short_value;

@@ -3,6 +3,7 @@ ghost use Rattle.std.specs.Prelude.{Bool, not, ◌-◌, [], take, codes, ◌≡�
 ghost use Rattle.std.specs.List.{prefix_len};
 ghost use Rattle.std.specs.Str.{chars, IsCharBoundary};
 ghost use Rattle.litrs_base.specs.Characters.{line_feed, is_blank};
+ghost use Rattle.litrs_base.specs.declared.escape.Unescape.TheVariants.{Byte};
 ghost use Rattle.litrs_base.specs.Refusal.{refusal_of, HasCharSpan};
 ghost use Rattle.litrs_base.specs.Text.{first_passes};
 ghost use Rattle.litrs_grammar.specs.Quoted.{QuotedParts, IsQuoted, body_value, is_plain, without_last, rest_refusal};
@@ -15,6 +16,9 @@ use crate::short_value::{SHORT, ShortValue};
 use litrs_base::{ParseError, ParseErrorKind, Unescape};
 use litrs_parts::{Switches, check_suffix, unescape_with};
 use litrs_search::{Marked, Run, Special, next_marked, run_end};
+
+/// A text of so many bytes is searched by several loads.
+const LOAD: usize = 32;
 
 /// Where a quoted literal is cut: sizes and places in bytes.
 #[derive(Clone, Copy, Debug, PartialEq, Eq)]
@@ -129,7 +133,7 @@ pub fn items_end(input: &str, offset: usize, allowed: Switches) -> ItemsEnd
 
 /// [`plain_end`] in one piece for each kind of literal, so that callers stay small and the search
 /// has no switch to test.
-#[inline(always)]
+#[inline]
 pub(crate) fn first_plain_end(input: &str, from: usize, allowed: Switches) -> usize
     requires { IsCharBoundary input.now from }
     ensures { IsPlainRun (grammar_switches allowed) input.now from result }
@@ -149,7 +153,22 @@ fn piece_end<const UNICODE: bool, const ALLOW_NUL: bool>(input: &str, from: usiz
     ensures { (byte_escapes : Bool) →
         IsPlainRun (switches UNICODE byte_escapes ALLOW_NUL) input.now from result }
 {
-    plain_end(input, from, UNICODE, ALLOW_NUL, Marked::nothing_at(from)).0
+    let unread = Marked::nothing_at(from);
+    if input.len() >= LOAD || may_need_no_search(&input.as_bytes()[from..]) {
+        plain_end(input, from, UNICODE, ALLOW_NUL, unread).0
+    } else {
+        search_end(input, from, UNICODE, ALLOW_NUL, unread).0
+    }
+}
+
+/// Whether the first byte of the body of a short text is looked at before a search: where the body
+/// may be one escape alone, or begin with `\x` or `\u`. Any answer is right.
+///
+/// As other escapes stand first in some bodies and not in others, that branch is mispredicted, which
+/// costs more than a search.
+#[inline(always)]
+fn may_need_no_search(body: &[u8]) -> bool {
+    body.len() == 3 || matches!(body.get(1), Some(b'x' | b'u'))
 }
 
 /// Whether no backslash begins a text that begins with no plain character: then no item does.
@@ -246,10 +265,33 @@ fn read_items<const UNICODE: bool, const ALLOW_NUL: bool, const ROOM: usize>(
     }
 }
 
+/// [`search_end`] where another escape may well follow, which costs no search.
+#[inline(always)]
+pub(crate) fn plain_end(
+    input: &str,
+    from: usize,
+    unicode: bool,
+    allow_nul: bool,
+    marked: Marked,
+) -> (usize, Marked)
+    requires at { IsCharBoundary input.now from }
+    requires after { marked.start ≤ from }
+    requires marked { IsMarked (stops unicode allow_nul) input.now marked }
+    ensures run { (byte_escapes : Bool) →
+        IsPlainRun (switches unicode byte_escapes allow_nul) input.now from result.0 }
+    ensures after { result.1.start ≤ result.0 }
+    ensures marked { IsMarked (stops unicode allow_nul) input.now result.1 }
+{
+    match input.as_bytes().get(from) {
+        Some(b'\\') => (from, marked),
+        _ => search_end(input, from, unicode, allow_nul, marked),
+    }
+}
+
 /// Where the plain characters end that stand from `from` on, and what is marked then of the bytes
 /// that a search stops at.
 #[inline(always)]
-pub(crate) fn plain_end(
+pub(crate) fn search_end(
     input: &str,
     from: usize,
     unicode: bool,
@@ -269,12 +311,7 @@ pub(crate) fn plain_end(
         nul: !allow_nul,
         non_ascii: !unicode,
     };
-    let bytes = input.as_bytes();
-    match bytes.get(from) {
-        // One escape follows another.
-        Some(b'\\') => (from, marked),
-        _ => next_marked(bytes, from, what, marked),
-    }
+    next_marked(input.as_bytes(), from, what, marked)
 }
 
 /// An item that begins with a backslash.
@@ -296,6 +333,18 @@ impl Escaped {
             None => 0,
             Some(Unescape::Byte(_)) => 1,
             Some(Unescape::Unicode(c)) => c.len_utf8(),
+        }
+    }
+
+    /// The byte that it stands for, where it is an escape of two bytes.
+    #[inline(always)]
+    pub(crate) fn simple_byte(&self) -> Option<u8>
+        ensures { IfSome result (λ byte.
+            (self.now.len ≡ 2) × (self.now.value ≡ Some (Byte byte))) }
+    {
+        match self.value {
+            Some(Unescape::Byte(byte)) if self.len == 2 => Some(byte),
+            _ => None,
         }
     }
 }
@@ -349,7 +398,12 @@ fn end_refusal(rest: &str, allowed: Switches) -> Option<ParseError>
     if is_quote(rest.as_bytes()) {
         None
     } else {
-        rest_refusal(rest, allowed)
+        let Switches {
+            unicode,
+            byte_escapes,
+            allow_nul,
+        } = allowed;
+        rest_refusal(rest, unicode, byte_escapes, allow_nul)
     }
 }
 
@@ -366,17 +420,30 @@ fn is_quote(bytes: &[u8]) -> bool
 // A refused escape is read a second time here. Where `next_item` answered what ends the items, as
 // one value that held the refusal, `Literal::parse` grew past what is inlined, and every literal
 // took 8 ns more.
+//
+// The switches are passed one by one, in registers: a struct of three bools would be written to
+// memory at each call, and read back in other pieces than it was written, which stalls.
 #[inline(never)]
-pub(crate) fn rest_refusal(rest: &str, allowed: Switches) -> Option<ParseError>
+pub(crate) fn rest_refusal(
+    rest: &str,
+    unicode: bool,
+    byte_escapes: bool,
+    allow_nul: bool,
+) -> Option<ParseError>
     requires { IsFalse
-        (first_passes (is_plain (grammar_switches allowed)) (chars rest.now)) }
+        (first_passes (is_plain (switches unicode byte_escapes allow_nul)) (chars rest.now)) }
     ensures none { IfNone result
-        (rest_refusal (grammar_switches allowed) (chars rest.now) ≡ None) }
+        (rest_refusal (switches unicode byte_escapes allow_nul) (chars rest.now) ≡ None) }
     ensures refusal { IfSome result (λ e.
-        rest_refusal (grammar_switches allowed) (chars rest.now)
+        rest_refusal (switches unicode byte_escapes allow_nul) (chars rest.now)
         ≡ Some (refusal_of e)) }
     ensures char_span { IfSome result (HasCharSpan (chars rest.now)) }
 {
+    let allowed = Switches {
+        unicode,
+        byte_escapes,
+        allow_nul,
+    };
     let [first, behind @ ..] = rest.as_bytes() else {
         return Some(ParseError::new(None, ParseErrorKind::UnterminatedString));
     };

@@ -182,7 +182,7 @@ fn bytes_from<const N: usize>(text: &[u8], start: usize) -> [u8; N]
 
 /// Copies bytes over those from a place on.
 #[inline(always)]
-fn copy_at(room: &mut [u8], place: usize, bytes: &[u8])
+pub(crate) fn copy_at(room: &mut [u8], place: usize, bytes: &[u8])
     requires { place + length bytes.now ≤ length room.old }
     ensures { take (place + length bytes.now) room.new ≡ take place room.old ++ bytes.now }
 {

@@ -1,17 +1,18 @@
 //! The values of quoted strings, byte strings and C strings.
-ghost use Rattle.std.specs.Prelude.{◌≡◌, ◌≤◌, ◌⊎◌, ◌||◌, ◌++◌, not, take, option_map, IfOk, IfErr, IfSome, IsTrue, IsFalse};
+ghost use Rattle.std.specs.Prelude.{◌≡◌, ◌≤◌, ◌<◌, ◌+◌, ◌-◌, ◌⊎◌, ◌||◌, ◌++◌, not, take, if◌then◌else◌, option_map, IfOk, IfErr, IfSome, IsTrue, IsFalse};
 ghost use Rattle.std.specs.Str.{chars, IsUtf8, IsCharBoundary};
 ghost use Rattle.litrs_grammar.specs.Quoted.{QuotedParts, IsQuoted, body_value};
 ghost use Rattle.litrs_lex.specs.Container.{is_pushable};
-ghost use Rattle.litrs_lex.specs.QuotedItems.{IsPlainRun, item_bytes};
-ghost use Rattle.litrs_lex.specs.QuotedCut.{IsQuotedRefused, IsQuotedValue, IsQuotedOutOfMemory};
+ghost use Rattle.litrs_lex.specs.QuotedItems.{IsPlainRun, IsItemsEnd, item_bytes};
+ghost use Rattle.litrs_lex.specs.QuotedCut.{IsQuotedRefused, IsQuotedValue, IsOutOfMemory, IsQuotedOutOfMemory};
 ghost use Rattle.litrs_lex.specs.declared.short_value.TheConstants.{LONGEST};
 ghost use Rattle.litrs_parts.specs.Unescaped.{switches, grammar_switches};
 
 use crate::container::EscapeContainer;
+use crate::lone_escape::{ROOM, lone_escape_end};
 use crate::quoted::{
-    ItemsEnd, cut_at_end, ends_items, first_plain_end, more_items_end, next_item, plain_end,
-    rest_refusal,
+    ItemsEnd, QuotedCut, cut_at_end, ends_items, first_plain_end, more_items_end, next_item,
+    plain_end, rest_refusal,
 };
 use crate::short_value::{LONG, LONGEST, SHORT, ShortValue};
 use litrs_base::{ParseError, ParseErrorKind, Unescape};
@@ -68,9 +69,9 @@ pub fn unescape_string<C: EscapeContainer>(
     }
 }
 
-/// [`unescape_string`] of a body whose plain characters at its front end at `from`. There is room
-/// for values that are as long as the text, up to a limit.
-#[inline(never)]
+/// [`unescape_string`] of a body whose plain characters at its front end at `from`, in one piece for
+/// each kind of literal.
+#[inline(always)]
 fn unescape_more<C: EscapeContainer>(
     alloc: Global,
     input: &str,
@@ -88,26 +89,104 @@ fn unescape_more<C: EscapeContainer>(
         IsQuotedRefused (grammar_switches allowed) input.now offset e
         ⊎ IsQuotedOutOfMemory (grammar_switches allowed) input.now offset e) }
 {
-    let rest = &input[from..];
-    // A first escape that may well be refused is read before room for a value is set to zero.
-    if !is_rarely_refused(rest.as_bytes(), allowed)
-        && let Some(e) = rest_refusal(rest, allowed)
-    {
-        Err(e.offset_span(from))
-    } else if input.len() <= SHORT {
-        unescape_within::<C, SHORT>(alloc, input, offset, from, allowed)
-    } else {
-        unescape_longer(alloc, input, offset, from, allowed)
+    let bytes = allowed.byte_escapes;
+    match (allowed.unicode, allowed.allow_nul) {
+        (true, true) => unescape_piece::<C, true, true>(alloc, input, offset, from, bytes),
+        (true, false) => unescape_piece::<C, true, false>(alloc, input, offset, from, bytes),
+        (false, true) => unescape_piece::<C, false, true>(alloc, input, offset, from, bytes),
+        (false, false) => unescape_piece::<C, false, false>(alloc, input, offset, from, bytes),
     }
 }
 
-/// Whether an escape that begins so is refused in few texts: a simple one, one with a hex digit
-/// that is allowed after `\x` or `\u{`, or a continuation. Any answer is right: where this is
-/// false, the escape is read once more unless it is refused.
+/// [`unescape_more`] in the literals of one kind. In most texts of few bytes one item alone has a
+/// backslash. There is room for values that are as long as the text, up to a limit.
+#[inline(never)]
+fn unescape_piece<C: EscapeContainer, const UNICODE: bool, const ALLOW_NUL: bool>(
+    alloc: Global,
+    input: &str,
+    offset: usize,
+    from: usize,
+    byte_escapes: bool,
+) -> Result<(Option<C>, usize), ParseError>
+    requires at { IsCharBoundary input.now offset }
+    requires run { IsPlainRun (switches UNICODE byte_escapes ALLOW_NUL) input.now offset from }
+    requires fits { IsTrue (not byte_escapes || C.TAKES_BYTES) }
+    ensures ok { IfOk result (λ read.
+        IsQuotedValue (switches UNICODE byte_escapes ALLOW_NUL) input.now offset
+        (option_map C.contents read.0) read.1) }
+    ensures refused { IfErr result (λ e.
+        IsQuotedRefused (switches UNICODE byte_escapes ALLOW_NUL) input.now offset e
+        ⊎ IsQuotedOutOfMemory (switches UNICODE byte_escapes ALLOW_NUL) input.now offset e) }
+{
+    let allowed = Switches {
+        unicode: UNICODE,
+        byte_escapes,
+        allow_nul: ALLOW_NUL,
+    };
+    let rest = &input[from..];
+    if begins_simply(rest.as_bytes()) {
+        let mut room = [0; ROOM];
+        if let Some(end) = lone_escape_end(input, offset, from, allowed, &mut room) {
+            return unescape_lone(alloc, input, offset, end, allowed, &room[..end.value_len]);
+        }
+    } else if !is_rarely_refused(rest.as_bytes(), allowed)
+        && let Some(e) = rest_refusal(rest, UNICODE, byte_escapes, ALLOW_NUL)
+    {
+        // It is read before room for a value is set to zero.
+        return Err(e.offset_span(from));
+    }
+    if input.len() <= SHORT {
+        unescape_within::<C, SHORT>(alloc, input, offset, from, allowed)
+    } else {
+        unescape_longer::<C, UNICODE, ALLOW_NUL>(alloc, input, offset, from, byte_escapes)
+    }
+}
+
+/// [`unescape_more`] where the items end there, and stand for these bytes.
+#[inline(always)]
+fn unescape_lone<C: EscapeContainer>(
+    alloc: Global,
+    input: &str,
+    offset: usize,
+    end: ItemsEnd,
+    allowed: Switches,
+    value: &[u8],
+) -> Result<(Option<C>, usize), ParseError>
+    requires at { IsCharBoundary input.now offset }
+    requires fits { IsTrue (not allowed.byte_escapes || C.TAKES_BYTES) }
+    requires end { IsItemsEnd (grammar_switches allowed) input.now offset end }
+    requires value { (q : QuotedParts) →
+        IsQuoted (chars (take offset input.now)) (grammar_switches allowed)
+        (chars input.now) q →
+        value.now ≡ body_value q.items }
+    requires has_escape { end.value_len < end.place - offset }
+    ensures ok { IfOk result (λ read.
+        IsQuotedValue (grammar_switches allowed) input.now offset
+        (option_map C.contents read.0) read.1) }
+    ensures refused { IfErr result (λ e.
+        IsQuotedRefused (grammar_switches allowed) input.now offset e
+        ⊎ IsQuotedOutOfMemory (grammar_switches allowed) input.now offset e) }
+{
+    let whole = cut_at_end(input, offset, end, allowed)?;
+    match or_out_of_memory(copy_short(alloc, value, room_for(whole, allowed))) {
+        Ok(copied) => Ok((Some(copied), whole.start_suffix)),
+        Err(e) => Err(e),
+    }
+}
+
+/// Whether an escape begins so that stands for one byte, and is refused in no literal.
+#[inline(always)]
+fn begins_simply(bytes: &[u8]) -> bool {
+    matches!(bytes, [_, b'n' | b'r' | b't' | b'"' | b'\'' | b'\\', ..])
+}
+
+/// Whether any other escape that begins so is refused in few texts: one with a hex digit that is
+/// allowed after `\x` or `\u{`, or a continuation. Any answer is right: where this is false, the
+/// escape is read once more unless it is refused.
 #[inline(always)]
 fn is_rarely_refused(bytes: &[u8], allowed: Switches) -> bool {
     match bytes {
-        [_, b'n' | b'r' | b't' | b'"' | b'\'' | b'\\' | b'\n', ..] => true,
+        [_, b'\n', ..] => true,
         [_, b'0', ..] => allowed.allow_nul,
         [_, b'x', digit, ..] => if allowed.byte_escapes {
             allowed.allow_nul || *digit != b'0'
@@ -119,25 +198,30 @@ fn is_rarely_refused(bytes: &[u8], allowed: Switches) -> bool {
     }
 }
 
-/// [`unescape_more`] of a text for whose value more room is made.
+/// [`unescape_piece`] of a text for whose value more room is made.
 #[inline(never)]
-fn unescape_longer<C: EscapeContainer>(
+fn unescape_longer<C: EscapeContainer, const UNICODE: bool, const ALLOW_NUL: bool>(
     alloc: Global,
     input: &str,
     offset: usize,
     from: usize,
-    allowed: Switches,
+    byte_escapes: bool,
 ) -> Result<(Option<C>, usize), ParseError>
     requires at { IsCharBoundary input.now offset }
-    requires run { IsPlainRun (grammar_switches allowed) input.now offset from }
-    requires fits { IsTrue (not allowed.byte_escapes || C.TAKES_BYTES) }
+    requires run { IsPlainRun (switches UNICODE byte_escapes ALLOW_NUL) input.now offset from }
+    requires fits { IsTrue (not byte_escapes || C.TAKES_BYTES) }
     ensures ok { IfOk result (λ read.
-        IsQuotedValue (grammar_switches allowed) input.now offset
+        IsQuotedValue (switches UNICODE byte_escapes ALLOW_NUL) input.now offset
         (option_map C.contents read.0) read.1) }
     ensures refused { IfErr result (λ e.
-        IsQuotedRefused (grammar_switches allowed) input.now offset e
-        ⊎ IsQuotedOutOfMemory (grammar_switches allowed) input.now offset e) }
+        IsQuotedRefused (switches UNICODE byte_escapes ALLOW_NUL) input.now offset e
+        ⊎ IsQuotedOutOfMemory (switches UNICODE byte_escapes ALLOW_NUL) input.now offset e) }
 {
+    let allowed = Switches {
+        unicode: UNICODE,
+        byte_escapes,
+        allow_nul: ALLOW_NUL,
+    };
     if input.len() <= LONG {
         unescape_within::<C, LONG>(alloc, input, offset, from, allowed)
     } else {
@@ -172,19 +256,40 @@ fn unescape_within<C: EscapeContainer, const ROOM: usize>(
     if !cut.has_escape {
         return Ok((None, cut.start_suffix));
     }
-    let room = if allowed.allow_nul {
-        cut.value_len
-    } else {
-        cut.value_len + 1
-    };
+    let room = room_for(cut, allowed);
     let copied = if short.is_whole() {
         copy_short(alloc, short.as_bytes(), room)
     } else {
         copy_value(alloc, input, offset, room, allowed)
     };
-    match copied {
+    match or_out_of_memory(copied) {
         Ok(value) => Ok((Some(value), cut.start_suffix)),
+        Err(e) => Err(e),
+    }
+}
+
+/// The value, or the refusal where there was no memory for it.
+#[inline(always)]
+fn or_out_of_memory<C: EscapeContainer>(copied: Result<C, AllocError>) -> Result<C, ParseError>
+    ensures ok { IfOk result (λ value. copied ≡ Ok value) }
+    ensures refused { IfErr result IsOutOfMemory }
+{
+    match copied {
+        Ok(value) => Ok(value),
         Err(_) => Err(ParseError::new(None, ParseErrorKind::OutOfMemory)),
+    }
+}
+
+/// How many bytes the value takes, with the closing zero of a C string.
+#[inline(always)]
+fn room_for(cut: QuotedCut, allowed: Switches) -> usize
+    requires { cut.value_len < usize.MAX }
+    ensures { result ≡ if allowed.allow_nul then cut.value_len else (cut.value_len + 1) }
+{
+    if allowed.allow_nul {
+        cut.value_len
+    } else {
+        cut.value_len + 1
     }
 }
 

@@ -72,5 +72,7 @@ fn first_four(bytes: &[u8]) -> u32
     requires { 4 ≤ length bytes.now }
     ensures { result ≡ from_le_bytes w32 (take 4 bytes.now) }
 {
-    u32::from_le_bytes([bytes[0], bytes[1], bytes[2], bytes[3]])
+    let mut four = [0; 4];
+    four.copy_from_slice(&bytes[..4]);
+    u32::from_le_bytes(four)
 }

@@ -7,8 +7,8 @@ use Rattle.litrs_lex.proofs.ShortValues.{short_is_utf8}
 use Rattle.litrs_lex.proofs.string.unescape_within.Goals as goal
 use Rattle.litrs_lex.proofs.string.unescape_within.Goals.{then-is_whole, else-is_whole}
 
-pub overflow_add-room : goal.overflow_add-room
-overflow_add-room g c =
+pub room_for-room-requires : goal.room_for-room-requires
+room_for-room-requires g c =
     let room : c.in_ok-cut.cut.value_len + 1 ≤ c.in_ok-cut.cut.start_suffix = room_fits _ _ _ _ c.in_ok-cut.ensures.ok in
     let inside = c.in_ok-cut.ensures.ok.boundary.0 in omega arith
 
@@ -25,10 +25,10 @@ returns-in-Ok-clause-ok g c = record {
   given = true_by c.in_ok-cut.cut.has_escape c.if-not-cut.false;
   is_value = elim c.if-is_whole.branch [
     | then-is_whole w ↦
-        IfOk-at_ok _ (sym w.copied-is ∙ c.in-Ok.is) w.copy_short-copied.ensures
+        IfOk-at_ok _ (sym w.copied-is ∙ c.in-Ok.ensures.ok) w.copy_short-copied.ensures
         ∙ (w.as_bytes.ensures ∙ c.more_items_end-end.ensures.value (sym c.is_whole.ensures ∙ w.if-is_whole.true) c.in_ok-cut.ensures.ok.parts c.in_ok-cut.ensures.ok.only.0)
     | else-is_whole w ↦
-        IfOk-at_ok _ (sym w.copied-is ∙ c.in-Ok.is) w.copy_value-copied.ensures c.in_ok-cut.ensures.ok.parts c.in_ok-cut.ensures.ok.only.0
+        IfOk-at_ok _ (sym w.copied-is ∙ c.in-Ok.ensures.ok) w.copy_value-copied.ensures c.in_ok-cut.ensures.ok.parts c.in_ok-cut.ensures.ok.only.0
   ];
 }
 
@@ -37,7 +37,7 @@ returns-in-Err-clause-refused g c = inr (record {
   cut = c.in_ok-cut.cut;
   is_cut = c.in_ok-cut.ensures.ok;
   has_escape = sym (true_by c.in_ok-cut.cut.has_escape c.if-not-cut.false);
-  error = c.new.ensures.refusal;
+  error = c.in-Err.ensures.refused;
 })
 
 pub new-short-requires : goal.new-short-requires

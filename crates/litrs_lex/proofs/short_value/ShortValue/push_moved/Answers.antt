@@ -1,5 +1,5 @@
 -- More bytes are moved than are added.
-use Rattle.std.proofs.Common.{◌≡◌, ◌+◌, ◌-◌, ◌++◌, length, take, drop, ◌∙◌, ap, sym, arith}
+use Rattle.std.proofs.Common.{◌≡◌, ◌-◌, ◌++◌, length, take, drop, ◌∙◌, ap, sym, arith}
 use Rattle.std.proofs.lemmas.List.{length-take-le}
 use Rattle.litrs_lex.specs.ShortValue.{Short}
 use Rattle.litrs_lex.proofs.ShortValues.{run_moved}

@@ -1,0 +1,31 @@
+-- A run, an escape, and a run after it.
+use Rattle.std.proofs.Common.{◌≡◌, ◌≤◌, ◌∙◌, ℕ, List, length, take, drop, ap, subst, arith, Option}
+use Rattle.std.proofs.lemmas.List.{length-drop}
+use Rattle.litrs_base.specs.declared.escape.Unescape.{Unescape}
+use Rattle.litrs_parts.specs.Unescaped.{grammar_switches}
+use Rattle.litrs_lex.specs.QuotedItems.{IsItemAt}
+use Rattle.litrs_lex.proofs.LoneEscapes.{lone_end, joined_front}
+use Rattle.litrs_lex.proofs.lone_escape.lone_escape_end.Goals as goal
+
+pub returns : goal.returns
+returns c =
+    let w = grammar_switches c.args.allowed in
+    let text = c.args.input.now in
+    let run = c.requires.run in
+    let rest = c.rest_end-place.ensures in
+    let byte = c.in_ok-byte.ensures in
+    let item = subst (λ (v : Option Unescape). IsItemAt w c.range_from.result.now 2 v) byte.1
+    (subst (λ (n : ℕ). IsItemAt w c.range_from.result.now n c.in_ok-item.item.value) byte.0 c.in_ok-item.ensures.item) in
+    let both = lone_end w text c.range_from.result.now c.range_from-2.result.now c.args.offset c.args.from c.rest_end-place.result c.in_ok-byte.byte
+    c.utf8.input c.requires.at run item c.range_from.ensures.value rest c.range_from-2.ensures.value (c.ends_items.ensures c.if-not-ends_items.false) in
+    let size = run.size in let long = rest.size in let inside = rest.boundary.0 in
+    let padded = subst (λ (l : List ℕ). take (length l) c.pad.new.text ≡ l) c.as_bytes-bytes.ensures.value c.pad.ensures in
+    let few : length text ≤ 16 = omega (arith, ap length c.as_bytes-bytes.ensures.value) in
+    let kept = c.pad.auto.text in
+    let room : 16 ≤ length (drop c.args.offset c.pad.new.text) = omega (arith, length-drop c.args.offset c.pad.new.text) in record {
+      end = both.0;
+      value = λ q quoted. joined_front c.join.new.room text c.pad.new.text c.args.offset c.args.from c.rest_end-place.result c.in_ok-byte.byte padded
+          (omega arith) (omega arith) inside few room c.join.ensures ∙ both.1 q quoted;
+      within = omega arith;
+      has_escape = omega arith;
+    }
