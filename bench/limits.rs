@@ -133,6 +133,15 @@ unsafe extern "C" fn quote_place(text: *const u8, len: usize) -> u64 {
     text[1..].find('\'').unwrap_or(len) as u64
 }
 
+/// Where the closing quote of a quoted string stands, if it has neither a backslash nor a CR, by one byte after another.
+unsafe extern "C" fn closing_quote(text: *const u8, len: usize) -> u64 {
+    let body = &unsafe { text_at(text, len) }.as_bytes()[1..];
+    match body.iter().position(|byte| matches!(byte, b'"' | b'\\' | b'\r')) {
+        Some(place) if body[place] == b'"' => place as u64 + 1,
+        _ => 0,
+    }
+}
+
 /// Copies the text to memory of its own, and frees that.
 unsafe extern "C" fn copied(text: *const u8, len: usize) -> u64 {
     black_box(unsafe { text_at(text, len) }.to_string()).len() as u64
@@ -344,6 +353,7 @@ const FORMS: &[(&str, &str, Call)] = &[
 /// The same of literals of real sources.
 const SOURCE_FORMS: &[(&str, &str, Call)] = &[
     ("sources: all in turn", "the parts or the value of each kind", parts_by_kind),
+    ("sources: plain", "where its closing quote stands", closing_quote),
     ("sources: with escapes", VALUE, unescaped),
     ("sources: integers", "how long its parts are", number_parts),
     ("sources: floats", "how long its parts are", number_parts),

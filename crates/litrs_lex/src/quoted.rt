@@ -164,8 +164,8 @@ fn piece_end<const UNICODE: bool, const ALLOW_NUL: bool>(input: &str, from: usiz
 /// Whether the first byte of the body of a short text is looked at before a search: where the body
 /// may be one escape alone, or begin with `\x` or `\u`. Any answer is right.
 ///
-/// As other escapes stand first in some bodies and not in others, that branch is mispredicted, which
-/// costs more than a search.
+/// As other escapes stand first in some bodies and not in others, that branch is mispredicted,
+/// which costs more than a search.
 #[inline(always)]
 fn may_need_no_search(body: &[u8]) -> bool {
     body.len() == 3 || matches!(body.get(1), Some(b'x' | b'u'))

@@ -69,8 +69,8 @@ pub fn unescape_string<C: EscapeContainer>(
     }
 }
 
-/// [`unescape_string`] of a body whose plain characters at its front end at `from`, in one piece for
-/// each kind of literal.
+/// [`unescape_string`] of a body whose plain characters at its front end at `from`, in one piece
+/// for each kind of literal.
 #[inline(always)]
 fn unescape_more<C: EscapeContainer>(
     alloc: Global,
