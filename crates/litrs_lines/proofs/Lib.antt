@@ -4,4 +4,5 @@ pub mod GroupLemmas
 pub mod ReportLemmas
 pub mod LinesLemmas
 pub mod ReportExamples
+pub mod HexDigits
 pub mod LineEnds

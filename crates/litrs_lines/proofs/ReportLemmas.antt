@@ -1,10 +1,8 @@
 -- The reports of texts, by their derivations or refusals: each text has one, and no two.
-use Rattle.std.proofs.Common.{◌≡◌, inl, inr, ℕ, ◌+◌, ◌<◌, length, get_or, take, List, [], ◌∷◌, ◌++◌, refl, sym, ap, subst, ◌∙◌, append_assoc, append-nil, Bool, true, false, Option, Some}
+use Rattle.std.proofs.Common.{◌≡◌, inl, inr, ℕ, List, [], ◌∷◌, ◌++◌, refl, sym, ap, subst, ◌∙◌, append_assoc, append-nil, Bool, true, false, Option, Some}
 use Rattle.std.specs.Prelude.{codes, decimal, Result, Ok, Err, OnOk, is_ok, if◌then◌else◌}
 use Rattle.std.specs.Str.{chars, is_utf8, IsUtf8, encode_utf8_all}
 use Rattle.std.proofs.lemmas.Str.{encodes-chars, is_utf8-from_IsUtf8, IsUtf8-from_is_utf8}
-use Rattle.std.proofs.lemmas.Grind.{flat_map-append}
-use Rattle.std.proofs.lemmas.List.{take_more}
 use Rattle.litrs_base.specs.Base.{base_value}
 use Rattle.litrs_grammar.specs.Integer.{IntegerParts, integer_value}
 use Rattle.litrs_grammar.specs.CharByte.{CharParts, char_value}
@@ -12,7 +10,7 @@ use Rattle.litrs_grammar.specs.Float.{FloatParts}
 use Rattle.litrs_grammar.specs.Literal.{StringParts, string_suffix, Derivation, a_bool, an_integer, a_float, a_char, a_byte, a_string, a_byte_string, a_c_string, literal_parse}
 use Rattle.litrs_grammar.specs.Strings.{is_raw}
 use Rattle.litrs_grammar.proofs.Laws.Literal.{literals_are_unique, literals_are_not_refused, refusals_are_unique, texts_are_decided}
-use Rattle.litrs_lines.specs.Report.{value_text, integer_front, fraction_field, float_report, char_report, raw_field, hex_byte, hex_bytes, string_front, literal_report, refusal_report, IsTextReport, IsReport}
+use Rattle.litrs_lines.specs.Report.{value_text, integer_front, fraction_field, float_report, char_report, raw_field, hex_bytes, string_front, literal_report, refusal_report, IsTextReport, IsReport}
 use Rattle.litrs_lines.specs.ReportParts.{front_of_string, literal_front, hex_value}
 use Rattle.litrs_lines.specs.Reports.{AreReports}
 use Rattle.litrs_lines.specs.Sent.{Sends}
@@ -184,12 +182,3 @@ report_stops a b p q value d is front part =
 pub report_stops_at_end : (a b : Option (List ℕ)) (p q r value : List ℕ) (d : Derivation) → value ≡ hex_value d → q ≡ p ++ literal_front d →
     Sends a q b r (hex_bytes value) → AppendsBeginning a b (p ++ (literal_report d ++ 10 ∷ []))
 report_stops_at_end a b p q r value d is front hex = report_stops a b p q value d is front (stops_now a b q r (hex_bytes value) hex)
-
--- one more byte of a value
-pub hex_step : (old now next bytes : List ℕ) (i : ℕ) → i < length bytes → now ≡ old ++ hex_bytes (take i bytes) →
-    next ≡ now ++ hex_byte (get_or bytes i 0) → next ≡ old ++ hex_bytes (take (i + 1) bytes)
-hex_step old now next bytes i below so_far more =
-    let front = hex_bytes (take i bytes) in
-    let last = hex_byte (get_or bytes i 0) in
-    more ∙ (ap (λ (xs : List ℕ). xs ++ last) so_far ∙ (append_assoc old front last
-    ∙ ap (λ (xs : List ℕ). old ++ xs) (sym (ap hex_bytes (take_more bytes i 0 below) ∙ flat_map-append hex_byte (take i bytes) (get_or bytes i 0 ∷ [])))))

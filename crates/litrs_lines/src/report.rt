@@ -1,13 +1,12 @@
 //! The report on a literal, and on a refusal.
-ghost use Rattle.std.specs.Prelude.{◌≡◌, ◌≢◌, ◌↔◌, ◌<◌, ◌∷◌, [], ◌++◌, true, false, OnOk, OnErr, IsErrOf, string_bytes};
-ghost use Rattle.std.specs.Char.{digit_char};
+ghost use Rattle.std.specs.Prelude.{◌≡◌, ◌≢◌, ◌↔◌, ◌≤◌, length, ◌∷◌, [], ◌++◌, true, false, OnOk, OnErr, IsErrOf, string_bytes};
 ghost use Rattle.litrs.specs.LiteralDerivation.{derivation};
 ghost use Rattle.litrs_grammar.specs.Integer.{integer_value};
 ghost use Rattle.litrs_scalars.specs.CharLiteral.{char_parts, byte_parts};
 ghost use Rattle.litrs_numbers.specs.FloatLiteral.{float_parts};
 ghost use Rattle.litrs_numbers.specs.IntegerLiteral.{integer_parts};
 ghost use Rattle.litrs_grammar.specs.Literal.{an_integer, a_float, a_char, a_byte};
-ghost use Rattle.litrs_lines.specs.Report.{value_text, integer_front, fraction_field, float_report, char_report, raw_field, hex_byte, hex_bytes, string_front, literal_report, refusal_report};
+ghost use Rattle.litrs_lines.specs.Report.{value_text, integer_front, fraction_field, float_report, char_report, raw_field, hex_bytes, string_front, literal_report, refusal_report};
 ghost use Rattle.litrs_lines.specs.ReportParts.{literal_front, hex_value};
 ghost use Rattle.litrs_lines.specs.Sent.{Sends};
 ghost use Rattle.litrs_lines.specs.Stopped.{AppendsBeginning};
@@ -22,6 +21,9 @@ use std::str;
 
 /// The most bytes of a value whose report is held before it is written.
 const PIECE_LEN: usize = 4096;
+
+/// The most bytes of a value that are put into hex at a time.
+const HEX_LEN: usize = 32;
 
 /// Adds the report on a refusal, and an LF.
 pub(crate) fn report_refusal(out: &mut String, error: &ParseError) -> Result<(), AllocError>
@@ -268,29 +270,21 @@ fn send_hex<O: Output>(reports: &mut String, writer: &mut O, bytes: &[u8]) -> Re
 fn push_hex(out: &mut String, bytes: &[u8]) -> Result<(), AllocError>
     ensures { OnOk result (string_bytes out.new ≡ string_bytes out.old ++ hex_bytes bytes.now) }
 {
-    for byte in bytes {
-        push_hex_byte(out, *byte)?;
+    for piece in bytes.chunks(HEX_LEN) {
+        push_hex_piece(out, piece)?;
     }
     Ok(())
 }
 
-/// Adds a byte in hex.
-fn push_hex_byte(out: &mut String, byte: u8) -> Result<(), AllocError>
-    ensures { OnOk result (string_bytes out.new ≡ string_bytes out.old ++ hex_byte byte) }
+/// Adds at most `HEX_LEN` bytes in hex.
+fn push_hex_piece(out: &mut String, bytes: &[u8]) -> Result<(), AllocError>
+    requires { length bytes.now ≤ 32 }
+    ensures { OnOk result (string_bytes out.new ≡ string_bytes out.old ++ hex_bytes bytes.now) }
 {
-    let digits = [hex_digit(byte / 16), hex_digit(byte % 16)];
-    out.push_str(unsafe { str::from_utf8_unchecked(&digits) })
-}
-
-/// The hex digit, in lower case.
-fn hex_digit(value: u8) -> u8
-    requires { value < 16 }
-    ensures digit { result ≡ digit_char value }
-    ensures ascii { result < 128 }
-{
-    if value < 10 {
-        b'0' + value
-    } else {
-        b'a' - 10 + value
+    let mut room = [0; 2 * HEX_LEN];
+    let digits = &mut room[..2 * bytes.len()];
+    match hex::encode_to_slice(bytes, digits) {
+        Ok(()) => out.push_str(unsafe { str::from_utf8_unchecked(digits) }),
+        Err(_) => unreachable!(),
     }
 }
