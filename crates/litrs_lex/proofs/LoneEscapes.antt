@@ -1,12 +1,17 @@
 -- The value of a body of few bytes in which one escape is the only item with a backslash.
-use Rattle.std.proofs.Common.{◌≡◌, ◌≤◌, ℕ, ◌+◌, ◌-◌, List, [], ◌∷◌, ◌++◌, length, drop, take, refl, sym, ap, subst, ◌∙◌, arith, length-append, Some}
+use Rattle.std.proofs.Common.{◌≡◌, ◌≤◌, ◌<◌, inl, get_or, ℕ, ◌+◌, ◌-◌, List, [], ◌∷◌, ◌++◌, length, drop, take, refl, sym, ap, subst, ◌∙◌, arith, length-append, Some}
 use Rattle.std.specs.Str.{chars, IsUtf8, IsCharBoundary}
-use Rattle.std.proofs.lemmas.List.{take-take, drop-take, drop-drop, length-take-le, length-drop}
+use Rattle.std.specs.Prelude.{◌==◌}
+use Rattle.std.proofs.lemmas.Str.{chars-IsAscii}
+use Rattle.std.proofs.lemmas.Str.Ascii.{IsAscii-nil, IsAscii-cons}
+use Rattle.std.proofs.lemmas.List.{get_or-drop, take-take, drop-take, drop-drop, length-take-le, length-drop}
 use Rattle.std.proofs.Math.Seq.{take-append-add}
 use Rattle.litrs_base.specs.declared.escape.Unescape.TheVariants.{Byte}
 use Rattle.litrs_grammar.specs.Escape.{Switches}
 use Rattle.litrs_grammar.specs.Quoted.{QuotedParts, IsQuoted, body_value}
 use Rattle.litrs_lex.specs.QuotedItems.{IsPlainRun, IsItemAt, IsItemsEnd, EndsItems}
+use Rattle.litrs_base.specs.Text.{first_passes}
+use Rattle.litrs_lex.proofs.PlainRuns.{empty_run}
 use Rattle.litrs_lex.proofs.QuotedScan.{ReadsSome, reads_start, boundary_later, items_end}
 use Rattle.litrs_lex.proofs.QuotedValues.{copy_run, copy_item, whole_value}
 
@@ -68,4 +73,30 @@ lone_end w bytes rest tail offset from place byte u at run item is last behind e
       subst (λ (n : ℕ). IsItemsEnd w bytes offset (record { place = place; value_len = n })) sum
           (items_end w bytes tail (before ++ (byte ∷ [])) offset (from + 2) place (from - offset + 1) last two len behind ends),
       λ q quoted. whole_value w front (chars bytes) bytes tail (before ++ (byte ∷ []) ++ after) place q all behind ends quoted,
+    )
+
+-- The same where the escape has the two bytes between quotes that end the text.
+pub alone_end : (w : Switches) (bytes rest : List ℕ) (offset from byte : ℕ) → IsUtf8 bytes → IsCharBoundary bytes offset → IsPlainRun w bytes offset from →
+    IsItemAt w rest 2 (Some (Byte byte)) → rest ≡ drop from bytes → from ≡ offset → drop (offset + 2) bytes ≡ 34 ∷ [] →
+    IsItemsEnd w bytes offset (record { place = from + 2; value_len = 1 })
+    × ((q : QuotedParts) → IsQuoted (chars (take offset bytes)) w (chars bytes) q → byte ∷ [] ≡ body_value q.items)
+alone_end w bytes rest offset from byte u at run item is alone quote =
+    let there = boundary_later bytes rest from 2 u run.boundary is item.boundary in
+    let tail : drop (from + 2) bytes ≡ 34 ∷ [] = ap (λ n. drop (n + 2) bytes) alone ∙ quote in
+    let left : length (drop (from + 2) bytes) ≡ 1 = ap length tail in
+    let inside : from + 2 < length bytes = omega (arith, left, length-drop (from + 2) bytes) in
+    let place : from + 2 + 0 ≡ from + 2 = omega arith in
+    let first : get_or bytes (from + 2) 0 ≡ 34 = ap (λ n. get_or bytes n 0) (sym place) ∙ (sym (get_or-drop (from + 2) bytes 0 0) ∙ ap (λ (l : List ℕ). get_or l 0 0) tail) in
+    let last = empty_run w 34 bytes bytes (from + 2) refl u there refl inside first in
+    let closed : chars (drop (from + 2) bytes) ≡ 34 ∷ [] = ap chars tail ∙ chars-IsAscii (34 ∷ []) (IsAscii-cons 34 [] (omega arith) IsAscii-nil) in
+    let ends : EndsItems w (chars (drop (from + 2) bytes)) = inl (ap (first_passes (λ c. c == 34)) closed) in
+    let both = lone_end w bytes rest (drop (from + 2) bytes) offset from (from + 2) byte u at run item is last refl ends in
+    let one : from + 2 - offset - 1 ≡ 1 = omega arith in
+    let before : from - offset ≡ 0 = omega arith in
+    let after : from + 2 - (from + 2) ≡ 0 = omega arith in
+    let value : take (from - offset) (drop offset bytes) ++ (byte ∷ []) ++ take (from + 2 - (from + 2)) (drop (from + 2) bytes) ≡ byte ∷ [] =
+    ap (λ n. take n (drop offset bytes) ++ (byte ∷ []) ++ take (from + 2 - (from + 2)) (drop (from + 2) bytes)) before
+    ∙ ap (λ n. (byte ∷ []) ++ take n (drop (from + 2) bytes)) after in (
+      subst (λ (n : ℕ). IsItemsEnd w bytes offset (record { place = from + 2; value_len = n })) one both.0,
+      λ q quoted. sym value ∙ both.1 q quoted,
     )

@@ -1,14 +1,13 @@
 //! Quoted bodies of few bytes in which one escape is the only item with a backslash.
-ghost use Rattle.std.specs.Prelude.{◌≡◌, ◌≤◌, ◌<◌, ◌+◌, ◌-◌, ◌++◌, [], ◌∷◌, length, take, drop, IfSome};
+ghost use Rattle.std.specs.Prelude.{◌≡◌, ◌≤◌, ◌<◌, ◌+◌, ◌-◌, ◌++◌, [], ◌∷◌, length, take, drop, codes, IfSome, IsTrue};
 ghost use Rattle.std.specs.Str.{chars, IsCharBoundary};
 ghost use Rattle.litrs_grammar.specs.Quoted.{QuotedParts, IsQuoted, body_value};
-ghost use Rattle.litrs_lex.specs.QuotedItems.{IsPlainRun, IsItemsEnd};
+ghost use Rattle.litrs_lex.specs.QuotedItems.{AreMarks, IsPlainRun, IsItemsEnd, stops};
 ghost use Rattle.litrs_parts.specs.Unescaped.{grammar_switches};
 
-use crate::quoted::{ItemsEnd, ends_items, next_item, search_end};
+use crate::quoted::{ItemsEnd, ends_items, is_quote, marked_from, next_item, search_end};
 use crate::short_value::copy_at;
 use litrs_parts::Switches;
-use litrs_search::Marked;
 
 /// How many bytes one move copies. A text of few bytes has at most so many.
 const MOVED: usize = 16;
@@ -27,10 +26,12 @@ pub(crate) fn lone_escape_end(
     offset: usize,
     from: usize,
     allowed: Switches,
+    marks: u64,
     room: &mut [u8; ROOM],
 ) -> Option<ItemsEnd>
     requires at { IsCharBoundary input.now offset }
     requires run { IsPlainRun (grammar_switches allowed) input.now offset from }
+    requires marks { AreMarks (stops allowed.unicode allowed.allow_nul) input.now offset marks }
     ensures end { IfSome result (IsItemsEnd (grammar_switches allowed) input.now offset) }
     ensures value { IfSome result (λ end. (q : QuotedParts) →
         IsQuoted (chars (take offset input.now)) (grammar_switches allowed)
@@ -49,7 +50,14 @@ pub(crate) fn lone_escape_end(
     let item = next_item(&input[from..], allowed)?;
     let byte = item.simple_byte()?;
     let at = from + 2;
-    let place = rest_end(input, offset, at, allowed);
+    if is_alone(bytes, offset, from) {
+        room[0] = byte;
+        return Some(ItemsEnd {
+            place: at,
+            value_len: 1,
+        });
+    }
+    let place = rest_end(input, offset, at, allowed, marks);
     if !ends_items(&input[place..], allowed) {
         return None;
     }
@@ -60,22 +68,27 @@ pub(crate) fn lone_escape_end(
     })
 }
 
-/// Where the plain characters end after an escape; of a text that is one in quotes, as `"\n"`,
-/// without a search.
+/// Whether the item at `from` has the two bytes between quotes that end the text, as in `"\n"`.
 #[inline(always)]
-fn rest_end(input: &str, offset: usize, at: usize, allowed: Switches) -> usize
+fn is_alone(bytes: &[u8], offset: usize, from: usize) -> bool
+    requires { offset ≤ length bytes.now }
+    ensures { IsTrue result →
+        (from ≡ offset) × (drop (offset + 2) bytes.now ≡ codes "\"") }
+{
+    bytes.len() - offset == 3 && from == offset && is_quote(&bytes[offset + 2..])
+}
+
+/// Where the plain characters end after an escape, by the marks of
+/// [`first_plain_end`](crate::quoted).
+#[inline(always)]
+fn rest_end(input: &str, offset: usize, at: usize, allowed: Switches, marks: u64) -> usize
     requires at { IsCharBoundary input.now at }
-    requires some { 3 ≤ length input.now }
+    requires after { offset ≤ at }
+    requires marks { AreMarks (stops allowed.unicode allowed.allow_nul) input.now offset marks }
     ensures { IsPlainRun (grammar_switches allowed) input.now at result }
 {
-    let bytes = input.as_bytes();
-    match bytes.get(at) {
-        Some(b'"') if bytes.len() - 3 == offset => at,
-        _ => {
-            let unread = Marked::nothing_at(at);
-            search_end(input, at, allowed.unicode, allowed.allow_nul, unread).0
-        }
-    }
+    let marked = marked_from(input, offset, marks);
+    search_end(input, at, allowed.unicode, allowed.allow_nul, marked).0
 }
 
 /// Copies a text of at least 4 bytes by one move of its first bytes and one of its last.

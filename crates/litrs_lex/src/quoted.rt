@@ -1,5 +1,5 @@
 //! Where a quoted string, byte string or C string is cut.
-ghost use Rattle.std.specs.Prelude.{Bool, not, ◌-◌, [], take, codes, ◌≡◌, ◌≤◌, ◌==◌, true, false, length, IfOk, IfErr, IfSome, IfNone, Some, None, IsTrue, IsFalse};
+ghost use Rattle.std.specs.Prelude.{Bool, not, ◌-◌, [], take, codes, ◌≡◌, ◌≢◌, ◌≤◌, ◌<◌, ◌==◌, true, false, length, IfOk, IfErr, IfSome, IfNone, Some, None, IsTrue, IsFalse};
 ghost use Rattle.std.specs.List.{prefix_len};
 ghost use Rattle.std.specs.Str.{chars, IsCharBoundary};
 ghost use Rattle.litrs_base.specs.Characters.{line_feed, is_blank};
@@ -8,8 +8,9 @@ ghost use Rattle.litrs_base.specs.Refusal.{refusal_of, HasCharSpan};
 ghost use Rattle.litrs_base.specs.Text.{first_passes};
 ghost use Rattle.litrs_grammar.specs.Quoted.{QuotedParts, IsQuoted, body_value, is_plain, without_last, rest_refusal};
 ghost use Rattle.litrs_lex.specs.QuotedCut.{IsQuotedCut, IsQuotedRefused};
-ghost use Rattle.litrs_lex.specs.QuotedItems.{IsPlainRun, IsItemAt, IsItemsEnd, EndsItems, item_bytes, stops};
-ghost use Rattle.litrs_search.specs.Marked.{IsMarked};
+ghost use Rattle.litrs_lex.specs.QuotedItems.{AreMarks, IsPlainRun, IsItemAt, IsItemsEnd, EndsItems, item_bytes, stops};
+ghost use Rattle.litrs_search.specs.Marked.{IsMarked, MarksAll};
+ghost use Rattle.litrs_search.specs.declared.search.Special.{Special};
 ghost use Rattle.litrs_parts.specs.Unescaped.{switches, grammar_switches};
 
 use crate::short_value::{SHORT, ShortValue};
@@ -17,8 +18,8 @@ use litrs_base::{ParseError, ParseErrorKind, Unescape};
 use litrs_parts::{Switches, check_suffix, unescape_with};
 use litrs_search::{Marked, Run, Special, next_marked, run_end};
 
-/// A text of so many bytes is searched by several loads.
-const LOAD: usize = 32;
+/// In a text of so many bytes an escape that stands first costs no search.
+const LONG: usize = 32;
 
 /// Where a quoted literal is cut: sizes and places in bytes.
 #[derive(Clone, Copy, Debug, PartialEq, Eq)]
@@ -119,24 +120,57 @@ pub fn items_end(input: &str, offset: usize, allowed: Switches) -> ItemsEnd
     requires { IsCharBoundary input.now offset }
     ensures { IsItemsEnd (grammar_switches allowed) input.now offset result }
 {
-    let place = first_plain_end(input, offset, allowed);
+    let (place, _) = first_plain_end(input, offset, allowed);
     if ends_items(&input[place..], allowed) {
         ItemsEnd {
             place,
             value_len: place - offset,
         }
     } else {
-        let mut value = ShortValue::<SHORT>::unused();
-        more_items_end(input, offset, place, allowed, &mut value)
+        let Switches {
+            unicode,
+            byte_escapes,
+            allow_nul,
+        } = allowed;
+        later_items_end(input, offset, place, unicode, byte_escapes, allow_nul)
     }
 }
 
-/// [`plain_end`] in one piece for each kind of literal, so that callers stay small and the search
-/// has no switch to test.
+/// [`items_end`] of a body whose plain characters at its front end at `from`, where its value is
+/// not asked for. It is a call, so that callers keep little on the stack for plain texts.
+#[inline(never)]
+fn later_items_end(
+    input: &str,
+    offset: usize,
+    from: usize,
+    unicode: bool,
+    byte_escapes: bool,
+    allow_nul: bool,
+) -> ItemsEnd
+    requires at { IsCharBoundary input.now offset }
+    requires run { IsPlainRun (switches unicode byte_escapes allow_nul) input.now offset from }
+    ensures { IsItemsEnd (switches unicode byte_escapes allow_nul) input.now offset result }
+{
+    let allowed = Switches {
+        unicode,
+        byte_escapes,
+        allow_nul,
+    };
+    let mut value = ShortValue::<SHORT>::unused();
+    more_items_end(input, offset, from, allowed, &mut value)
+}
+
+/// Where the plain characters at the front of a body end, which begins at `from`, and the marks of
+/// the bytes from there on: bit i is set where a search stops at the byte at `from + i`; 0 where
+/// they are not known.
+///
+/// There is one piece for each kind of literal, so that callers stay small and the search has no
+/// switch to test.
 #[inline]
-pub(crate) fn first_plain_end(input: &str, from: usize, allowed: Switches) -> usize
+pub(crate) fn first_plain_end(input: &str, from: usize, allowed: Switches) -> (usize, u64)
     requires { IsCharBoundary input.now from }
-    ensures { IsPlainRun (grammar_switches allowed) input.now from result }
+    ensures run { IsPlainRun (grammar_switches allowed) input.now from result.0 }
+    ensures marks { AreMarks (stops allowed.unicode allowed.allow_nul) input.now from result.1 }
 {
     match (allowed.unicode, allowed.allow_nul) {
         (true, true) => piece_end::<true, true>(input, from),
@@ -146,26 +180,59 @@ pub(crate) fn first_plain_end(input: &str, from: usize, allowed: Switches) -> us
     }
 }
 
-/// [`plain_end`] in the literals of one kind.
+/// [`first_plain_end`] in the literals of one kind.
 #[inline(never)]
-fn piece_end<const UNICODE: bool, const ALLOW_NUL: bool>(input: &str, from: usize) -> usize
+fn piece_end<const UNICODE: bool, const ALLOW_NUL: bool>(input: &str, from: usize) -> (usize, u64)
     requires { IsCharBoundary input.now from }
-    ensures { (byte_escapes : Bool) →
-        IsPlainRun (switches UNICODE byte_escapes ALLOW_NUL) input.now from result }
+    ensures run { (byte_escapes : Bool) →
+        IsPlainRun (switches UNICODE byte_escapes ALLOW_NUL) input.now from result.0 }
+    ensures marks { AreMarks (stops UNICODE ALLOW_NUL) input.now from result.1 }
 {
     let unread = Marked::nothing_at(from);
-    if input.len() >= LOAD || may_need_no_search(&input.as_bytes()[from..]) {
-        plain_end(input, from, UNICODE, ALLOW_NUL, unread).0
+    if input.len() >= LONG {
+        let (end, _) = plain_end(input, from, UNICODE, ALLOW_NUL, unread);
+        (end, 0)
+    } else if may_need_no_search(&input.as_bytes()[from..]) && begins_escape(input, from) {
+        (from, 0)
     } else {
-        search_end(input, from, UNICODE, ALLOW_NUL, unread).0
+        let (end, marked) = search_end(input, from, UNICODE, ALLOW_NUL, unread);
+        (end, marked.bits)
+    }
+}
+
+/// Whether a backslash stands there: then no plain character does.
+#[inline(always)]
+fn begins_escape(input: &str, from: usize) -> bool
+    requires { IsCharBoundary input.now from }
+    ensures { IsTrue result → (unicode byte_escapes allow_nul : Bool) →
+        IsPlainRun (switches unicode byte_escapes allow_nul) input.now from from }
+{
+    matches!(input.as_bytes().get(from), Some(b'\\'))
+}
+
+/// What is marked by the marks of a body that begins at `offset`.
+#[inline(always)]
+pub(crate) fn marked_from(input: &str, offset: usize, marks: u64) -> Marked
+    requires within { offset ≤ length input.now }
+    ensures start { result.start ≡ offset }
+    ensures marked { (what : Special) → AreMarks what input.now offset marks →
+        IsMarked what input.now result }
+{
+    match marks {
+        0 => Marked::nothing_at(offset),
+        _ => Marked {
+            start: offset,
+            end: input.len(),
+            bits: marks,
+        },
     }
 }
 
 /// Whether the first byte of the body of a short text is looked at before a search: where the body
 /// may be one escape alone, or begin with `\x` or `\u`. Any answer is right.
 ///
-/// As other escapes stand first in some bodies and not in others, that branch is mispredicted,
-/// which costs more than a search.
+/// As other escapes stand first in some bodies and not in others, that branch cost more than a
+/// search, likely by misprediction.
 #[inline(always)]
 fn may_need_no_search(body: &[u8]) -> bool {
     body.len() == 3 || matches!(body.get(1), Some(b'x' | b'u'))
@@ -282,9 +349,10 @@ pub(crate) fn plain_end(
     ensures after { result.1.start ≤ result.0 }
     ensures marked { IsMarked (stops unicode allow_nul) input.now result.1 }
 {
-    match input.as_bytes().get(from) {
-        Some(b'\\') => (from, marked),
-        _ => search_end(input, from, unicode, allow_nul, marked),
+    if begins_escape(input, from) {
+        (from, marked)
+    } else {
+        search_end(input, from, unicode, allow_nul, marked)
     }
 }
 
@@ -305,6 +373,8 @@ pub(crate) fn search_end(
         IsPlainRun (switches unicode byte_escapes allow_nul) input.now from result.0 }
     ensures after { result.1.start ≤ result.0 }
     ensures marked { IsMarked (stops unicode allow_nul) input.now result.1 }
+    ensures short { length input.now < 32 → marked.end ≤ from →
+        MarksAll input.now from marked result.1 }
 {
     let what = Special {
         backslash: true,
@@ -409,8 +479,9 @@ fn end_refusal(rest: &str, allowed: Switches) -> Option<ParseError>
 
 /// Whether a quote is all there is. It is the equality of texts, without a call.
 #[inline(always)]
-fn is_quote(bytes: &[u8]) -> bool
-    ensures { IsTrue result → bytes.now ≡ codes "\"" }
+pub fn is_quote(bytes: &[u8]) -> bool
+    ensures quote { IsTrue result → bytes.now ≡ codes "\"" }
+    ensures other { IsFalse result → bytes.now ≢ codes "\"" }
 {
     matches!(bytes, [b'"'])
 }

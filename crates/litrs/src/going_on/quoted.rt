@@ -8,13 +8,13 @@ ghost use Rattle.litrs_grammar.specs.Quoted.{quoted_front};
 ghost use Rattle.litrs_grammar.specs.GoesOn.Quoted.{RestGoesOn};
 ghost use Rattle.litrs_lex.specs.QuotedItems.{EndsItems};
 ghost use Rattle.litrs_parts.specs.Front.{grammar_kind};
-ghost use Rattle.litrs_parts.specs.Unescaped.{grammar_switches};
+ghost use Rattle.litrs_parts.specs.Unescaped.{switches, grammar_switches};
 ghost use Rattle.litrs.specs.Begins.{IsClosed};
 
 use crate::going_on::escape::escape_goes_on;
 use crate::going_on::front::begins_with;
 use crate::going_on::suffix::suffix_goes_on;
-use litrs_lex::quoted::items_end;
+use litrs_lex::quoted::{is_quote, items_end};
 use litrs_parts::{StringKind, Switches};
 
 /// Whether a text that begins as a quoted string of the kind begins a string of it.
@@ -28,12 +28,38 @@ pub(crate) fn quoted_goes_on(text: &str, kind: StringKind) -> bool
     rest_goes_on(&text[end.place..], allowed)
 }
 
-/// Whether a quoted literal goes on, by what stands where its items end.
+/// Whether a quoted literal goes on, by what stands where its items end: most often the closing
+/// quote alone.
+#[inline(always)]
 fn rest_goes_on(rest: &str, allowed: Switches) -> bool
     requires { EndsItems (grammar_switches allowed) (chars rest.now) }
     ensures { IsTrue result ↔ (IsClosed (chars rest.now)
         ⊎ RestGoesOn (grammar_switches allowed) (chars rest.now)) }
 {
+    if is_quote(rest.as_bytes()) {
+        true
+    } else {
+        let Switches {
+            unicode,
+            byte_escapes,
+            allow_nul,
+        } = allowed;
+        other_rest_goes_on(rest, unicode, byte_escapes, allow_nul)
+    }
+}
+
+/// [`rest_goes_on`] of any rest, in a call.
+#[inline(never)]
+fn other_rest_goes_on(rest: &str, unicode: bool, byte_escapes: bool, allow_nul: bool) -> bool
+    requires { EndsItems (switches unicode byte_escapes allow_nul) (chars rest.now) }
+    ensures { IsTrue result ↔ (IsClosed (chars rest.now)
+        ⊎ RestGoesOn (switches unicode byte_escapes allow_nul) (chars rest.now)) }
+{
+    let allowed = Switches {
+        unicode,
+        byte_escapes,
+        allow_nul,
+    };
     let mut chars = rest.chars();
     match chars.next() {
         None => true,

@@ -1,10 +1,10 @@
--- A run, an escape, and a run after it.
-use Rattle.std.proofs.Common.{◌≡◌, ◌≤◌, ◌∙◌, ℕ, List, length, take, drop, ap, subst, arith, Option}
-use Rattle.std.proofs.lemmas.List.{length-drop}
+-- A run, an escape, and a run after it; or an escape alone.
+use Rattle.std.proofs.Common.{◌≡◌, ◌≤◌, ◌∙◌, ◌+◌, sym, ℕ, List, length, take, drop, ap, subst, arith, Option}
+use Rattle.std.proofs.lemmas.List.{length-drop, take_more_set}
 use Rattle.litrs_base.specs.declared.escape.Unescape.{Unescape}
 use Rattle.litrs_parts.specs.Unescaped.{grammar_switches}
 use Rattle.litrs_lex.specs.QuotedItems.{IsItemAt}
-use Rattle.litrs_lex.proofs.LoneEscapes.{lone_end, joined_front}
+use Rattle.litrs_lex.proofs.LoneEscapes.{lone_end, alone_end, joined_front}
 use Rattle.litrs_lex.proofs.lone_escape.lone_escape_end.Goals as goal
 
 pub returns : goal.returns
@@ -28,4 +28,21 @@ returns c =
           (omega arith) (omega arith) inside few room c.join.ensures ∙ both.1 q quoted;
       within = omega arith;
       has_escape = omega arith;
+    }
+
+pub returns-then-is_alone : goal.returns-then-is_alone
+returns-then-is_alone c =
+    let w = grammar_switches c.args.allowed in
+    let byte = c.in_ok-byte.ensures in
+    let found = c.in_ok-item.item in
+    let item = subst (λ (v : Option Unescape). IsItemAt w c.range_from.result.now 2 v) byte.1
+    (subst (λ (n : ℕ). IsItemAt w c.range_from.result.now n found.value) byte.0 c.in_ok-item.ensures.item) in
+    let alone = c.is_alone.ensures c.if-is_alone.true in
+    let quote = ap (drop (c.args.offset + 2)) (sym c.as_bytes-bytes.ensures.value) ∙ alone.1 in
+    let both = alone_end w c.args.input.now c.range_from.result.now c.args.offset c.args.from c.in_ok-byte.byte c.utf8.input c.requires.at c.requires.run item
+    c.range_from.ensures.value alone.0 quote in record {
+      end = both.0;
+      value = λ q quoted. take_more_set c.args.room.now 0 c.in_ok-byte.byte (omega arith) ∙ both.1 q quoted;
+      within = omega arith;
+      has_escape = omega (arith, alone.0);
     }

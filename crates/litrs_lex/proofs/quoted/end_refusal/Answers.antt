@@ -7,4 +7,4 @@ use Rattle.litrs_lex.proofs.QuotedBytes.{quote_free}
 use Rattle.litrs_lex.proofs.quoted.end_refusal.Goals as goal
 
 pub returns-then-is_quote-clause-none : goal.returns-then-is_quote-clause-none
-returns-then-is_quote-clause-none c = quote_free _ c.args.rest.now _ _ (sym c.as_bytes.ensures.value ∙ c.is_quote.ensures c.if-is_quote.true) refl (ap is_suffix chars-nil ∙ is_suffix-nil)
+returns-then-is_quote-clause-none c = quote_free _ c.args.rest.now _ _ (sym c.as_bytes.ensures.value ∙ c.is_quote.ensures.quote c.if-is_quote.true) refl (ap is_suffix chars-nil ∙ is_suffix-nil)

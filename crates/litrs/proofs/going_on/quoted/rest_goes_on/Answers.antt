@@ -1,58 +1,14 @@
--- By the first character.
-use Rattle.std.proofs.Common.{[], ◌∷◌, ◌++◌, refl, sym, ap, ◌∙◌}
-use Rattle.std.specs.Char.{encode_utf8}
+-- A closing quote that ends the text.
+use Rattle.std.proofs.Common.{◌≡◌, inl, [], ◌∷◌, sym, ap, ◌∙◌, arith}
 use Rattle.std.specs.Str.{chars}
-use Rattle.std.proofs.lemmas.Str.{chars_past_char}
-use Rattle.litrs_base.specs.Text.{begins_with}
-use Rattle.litrs_base.proofs.Chars.{begins_with-chars}
-use Rattle.litrs_parts.specs.Unescaped.{grammar_switches}
-use Rattle.litrs.proofs.Begins.{answer_is}
-use Rattle.litrs.proofs.QuotedEnds.{quote_rest, continued_rest, slash_rest, other_rest}
+use Rattle.std.proofs.lemmas.Str.{chars-IsAscii}
+use Rattle.std.proofs.lemmas.Str.Ascii.{IsAscii-nil, IsAscii-cons}
+use Rattle.litrs_grammar.proofs.LongerTexts.Suffix.{is_suffix-nil}
+use Rattle.litrs.proofs.Begins.{yes}
 use Rattle.litrs.proofs.going_on.quoted.rest_goes_on.Goals as goal
 
-pub returns-in-Some-eq34 : goal.returns-in-Some-eq34
-returns-in-Some-eq34 c =
-    quote_rest (grammar_switches c.args.allowed)
-    (chars c.args.rest.now) (chars c.as_str.result.now) c.in-Some-eq34.field-0
-    c.suffix_goes_on.result
-    (chars_past_char c.args.rest.now c.as_str.result.now c.in-Some-eq34.field-0 c.utf8.rest
-    (sym c.chars-chars.ensures.rest
-    ∙ (c.in-Some-eq34.ensures.steps.0 ∙ ap (λ rest. encode_utf8 c.in-Some-eq34.field-0 ++ rest)
-    (sym c.as_str.ensures))))
-    c.in-Some-eq34.field-0-test c.suffix_goes_on.ensures
-
-pub returns-then-begins_with : goal.returns-then-begins_with
-returns-then-begins_with c =
-    let behind = c.as_str-in-Some-eq92.result.now in
-    answer_is c.begins_with.result _ c.if-begins_with.true
-    (continued_rest (grammar_switches c.args.allowed)
-    (chars c.args.rest.now) (chars behind) c.in-Some-eq92.field-0 c.requires
-    (chars_past_char c.args.rest.now behind c.in-Some-eq92.field-0 c.utf8.rest
-    (sym c.chars-chars.ensures.rest
-    ∙ (c.in-Some-eq92.ensures.steps.0 ∙ ap (λ rest. encode_utf8 c.in-Some-eq92.field-0 ++ rest)
-    (sym c.as_str-in-Some-eq92.ensures))))
-    c.in-Some-eq92.field-0-test
-    (begins_with-chars (10 ∷ []) behind refl c.as_str-in-Some-eq92.utf8
-    ∙ ap (begins_with (10 ∷ [])) (sym c.as_bytes.ensures.value) ∙ sym c.if-begins_with.ensures))
-
-pub returns-else-begins_with : goal.returns-else-begins_with
-returns-else-begins_with c =
-    let behind = c.as_str-in-Some-eq92.result.now in
-    slash_rest (grammar_switches c.args.allowed)
-    (chars c.args.rest.now) (chars behind) c.in-Some-eq92.field-0 c.escape_goes_on.result
-    (chars_past_char c.args.rest.now behind c.in-Some-eq92.field-0 c.utf8.rest
-    (sym c.chars-chars.ensures.rest
-    ∙ (c.in-Some-eq92.ensures.steps.0 ∙ ap (λ rest. encode_utf8 c.in-Some-eq92.field-0 ++ rest)
-    (sym c.as_str-in-Some-eq92.ensures))))
-    c.in-Some-eq92.field-0-test
-    (begins_with-chars (10 ∷ []) behind refl c.as_str-in-Some-eq92.utf8
-    ∙ ap (begins_with (10 ∷ [])) (sym c.as_bytes.ensures.value) ∙ sym c.if-begins_with.ensures)
-    c.escape_goes_on.ensures
-
-pub returns-in-Some : goal.returns-in-Some
-returns-in-Some c =
-    other_rest (grammar_switches c.args.allowed)
-    (chars c.args.rest.now) (chars c.next.new.self.rest.now) c.in-Some.field-0
-    (chars_past_char c.args.rest.now c.next.new.self.rest.now c.in-Some.field-0 c.utf8.rest
-    (sym c.chars-chars.ensures.rest ∙ c.in-Some.ensures.steps.0))
-    c.in-Some.field-0-test.0.1 c.in-Some.field-0-test.1
+pub returns-then-is_quote : goal.returns-then-is_quote
+returns-then-is_quote c =
+    let bytes : c.args.rest.now ≡ 34 ∷ [] = sym c.as_bytes.ensures.value ∙ c.is_quote.ensures.quote c.if-is_quote.true in
+    let rest : chars c.args.rest.now ≡ 34 ∷ [] = ap chars bytes ∙ chars-IsAscii (34 ∷ []) (IsAscii-cons 34 [] (omega arith) IsAscii-nil) in
+    yes (inl ([], rest, is_suffix-nil))
