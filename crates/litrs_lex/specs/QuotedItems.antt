@@ -9,7 +9,6 @@ use Rattle.litrs_base.specs.Text.{byte_len, first_passes}
 use Rattle.litrs_grammar.specs.Escape.{Switches, value_bytes}
 use Rattle.litrs_grammar.specs.Quoted.{Item, item_text, item_value, is_item, is_taken_before, is_plain, body_text, body_value, stand_before, rest_refusal}
 use Rattle.litrs_search.specs.declared.search.Special.{Special}
-use Rattle.litrs_search.specs.Marked.{IsMarked}
 use Rattle.litrs_lex.specs.Container.{is_pushable}
 use Rattle.litrs_lex.specs.declared.quoted.ItemsEnd.{ItemsEnd}
 
@@ -18,13 +17,6 @@ use Rattle.litrs_lex.specs.declared.quoted.ItemsEnd.{ItemsEnd}
 abbrev pub stops : (unicode allow_nul : Bool) → Special
 stops unicode allow_nul =
     record { backslash = true; nul = not allow_nul; non_ascii = not unicode }
-
--- The marks of the bytes from the place on: bit i is set where the byte at `from + i` is special;
--- 0 where they are not known.
-abbrev pub AreMarks : (what : Special) (bytes : List ℕ) (from marks : ℕ) → Type 0
-AreMarks what bytes from marks =
-    (marks ≡ 0)
-    ⊎ IsMarked what bytes (record { start = from; end = length bytes; bits = marks })
 
 -- From the one place up to the other stand characters that stand for themselves, and after them
 -- none.

@@ -2,12 +2,13 @@
 ghost use Rattle.std.specs.Prelude.{◌≡◌, ◌≤◌, ◌<◌, ◌+◌, ◌-◌, ◌++◌, [], ◌∷◌, length, take, drop, codes, IfSome, IsTrue};
 ghost use Rattle.std.specs.Str.{chars, IsCharBoundary};
 ghost use Rattle.litrs_grammar.specs.Quoted.{QuotedParts, IsQuoted, body_value};
-ghost use Rattle.litrs_lex.specs.QuotedItems.{AreMarks, IsPlainRun, IsItemsEnd, stops};
+ghost use Rattle.litrs_lex.specs.QuotedItems.{IsPlainRun, IsItemsEnd};
 ghost use Rattle.litrs_parts.specs.Unescaped.{grammar_switches};
 
-use crate::quoted::{ItemsEnd, ends_items, is_quote, marked_from, next_item, search_end};
+use crate::quoted::{ItemsEnd, ends_items, is_quote, next_item, search_end};
 use crate::short_value::copy_at;
 use litrs_parts::Switches;
+use litrs_search::Marked;
 
 /// How many bytes one move copies. A text of few bytes has at most so many.
 const MOVED: usize = 16;
@@ -26,12 +27,10 @@ pub(crate) fn lone_escape_end(
     offset: usize,
     from: usize,
     allowed: Switches,
-    marks: u64,
     room: &mut [u8; ROOM],
 ) -> Option<ItemsEnd>
     requires at { IsCharBoundary input.now offset }
     requires run { IsPlainRun (grammar_switches allowed) input.now offset from }
-    requires marks { AreMarks (stops allowed.unicode allowed.allow_nul) input.now offset marks }
     ensures end { IfSome result (IsItemsEnd (grammar_switches allowed) input.now offset) }
     ensures value { IfSome result (λ end. (q : QuotedParts) →
         IsQuoted (chars (take offset input.now)) (grammar_switches allowed)
@@ -57,7 +56,7 @@ pub(crate) fn lone_escape_end(
             value_len: 1,
         });
     }
-    let place = rest_end(input, offset, at, allowed, marks);
+    let place = rest_end(input, at, allowed);
     if !ends_items(&input[place..], allowed) {
         return None;
     }
@@ -78,17 +77,14 @@ fn is_alone(bytes: &[u8], offset: usize, from: usize) -> bool
     bytes.len() - offset == 3 && from == offset && is_quote(&bytes[offset + 2..])
 }
 
-/// Where the plain characters end after an escape, by the marks of
-/// [`first_plain_end`](crate::quoted).
+/// Where the plain characters end after an escape.
 #[inline(always)]
-fn rest_end(input: &str, offset: usize, at: usize, allowed: Switches, marks: u64) -> usize
-    requires at { IsCharBoundary input.now at }
-    requires after { offset ≤ at }
-    requires marks { AreMarks (stops allowed.unicode allowed.allow_nul) input.now offset marks }
+fn rest_end(input: &str, at: usize, allowed: Switches) -> usize
+    requires { IsCharBoundary input.now at }
     ensures { IsPlainRun (grammar_switches allowed) input.now at result }
 {
-    let marked = marked_from(input, offset, marks);
-    search_end(input, at, allowed.unicode, allowed.allow_nul, marked).0
+    let unread = Marked::nothing_at(at);
+    search_end(input, at, allowed.unicode, allowed.allow_nul, unread).0
 }
 
 /// Copies a text of at least 4 bytes by one move of its first bytes and one of its last.

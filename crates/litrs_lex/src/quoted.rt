@@ -1,5 +1,5 @@
 //! Where a quoted string, byte string or C string is cut.
-ghost use Rattle.std.specs.Prelude.{Bool, not, ◌-◌, [], take, codes, ◌≡◌, ◌≢◌, ◌≤◌, ◌<◌, ◌==◌, true, false, length, IfOk, IfErr, IfSome, IfNone, Some, None, IsTrue, IsFalse};
+ghost use Rattle.std.specs.Prelude.{Bool, not, ◌-◌, [], take, codes, ◌≡◌, ◌≢◌, ◌≤◌, ◌==◌, true, false, length, IfOk, IfErr, IfSome, IfNone, Some, None, IsTrue, IsFalse};
 ghost use Rattle.std.specs.List.{prefix_len};
 ghost use Rattle.std.specs.Str.{chars, IsCharBoundary};
 ghost use Rattle.litrs_base.specs.Characters.{line_feed, is_blank};
@@ -8,9 +8,8 @@ ghost use Rattle.litrs_base.specs.Refusal.{refusal_of, HasCharSpan};
 ghost use Rattle.litrs_base.specs.Text.{first_passes};
 ghost use Rattle.litrs_grammar.specs.Quoted.{QuotedParts, IsQuoted, body_value, is_plain, without_last, rest_refusal};
 ghost use Rattle.litrs_lex.specs.QuotedCut.{IsQuotedCut, IsQuotedRefused};
-ghost use Rattle.litrs_lex.specs.QuotedItems.{AreMarks, IsPlainRun, IsItemAt, IsItemsEnd, EndsItems, item_bytes, stops};
-ghost use Rattle.litrs_search.specs.Marked.{IsMarked, MarksAll};
-ghost use Rattle.litrs_search.specs.declared.search.Special.{Special};
+ghost use Rattle.litrs_lex.specs.QuotedItems.{IsPlainRun, IsItemAt, IsItemsEnd, EndsItems, item_bytes, stops};
+ghost use Rattle.litrs_search.specs.Marked.{IsMarked};
 ghost use Rattle.litrs_parts.specs.Unescaped.{switches, grammar_switches};
 
 use crate::short_value::{SHORT, ShortValue};
@@ -120,7 +119,7 @@ pub fn items_end(input: &str, offset: usize, allowed: Switches) -> ItemsEnd
     requires { IsCharBoundary input.now offset }
     ensures { IsItemsEnd (grammar_switches allowed) input.now offset result }
 {
-    let (place, _) = first_plain_end(input, offset, allowed);
+    let place = first_plain_end(input, offset, allowed);
     if ends_items(&input[place..], allowed) {
         ItemsEnd {
             place,
@@ -160,17 +159,12 @@ fn later_items_end(
     more_items_end(input, offset, from, allowed, &mut value)
 }
 
-/// Where the plain characters at the front of a body end, which begins at `from`, and the marks of
-/// the bytes from there on: bit i is set where a search stops at the byte at `from + i`; 0 where
-/// they are not known.
-///
-/// There is one piece for each kind of literal, so that callers stay small and the search has no
-/// switch to test.
+/// [`plain_end`] in one piece for each kind of literal, so that callers stay small and the search
+/// has no switch to test.
 #[inline]
-pub(crate) fn first_plain_end(input: &str, from: usize, allowed: Switches) -> (usize, u64)
+pub(crate) fn first_plain_end(input: &str, from: usize, allowed: Switches) -> usize
     requires { IsCharBoundary input.now from }
-    ensures run { IsPlainRun (grammar_switches allowed) input.now from result.0 }
-    ensures marks { AreMarks (stops allowed.unicode allowed.allow_nul) input.now from result.1 }
+    ensures { IsPlainRun (grammar_switches allowed) input.now from result }
 {
     match (allowed.unicode, allowed.allow_nul) {
         (true, true) => piece_end::<true, true>(input, from),
@@ -180,23 +174,20 @@ pub(crate) fn first_plain_end(input: &str, from: usize, allowed: Switches) -> (u
     }
 }
 
-/// [`first_plain_end`] in the literals of one kind.
+/// [`plain_end`] in the literals of one kind.
 #[inline(never)]
-fn piece_end<const UNICODE: bool, const ALLOW_NUL: bool>(input: &str, from: usize) -> (usize, u64)
+fn piece_end<const UNICODE: bool, const ALLOW_NUL: bool>(input: &str, from: usize) -> usize
     requires { IsCharBoundary input.now from }
-    ensures run { (byte_escapes : Bool) →
-        IsPlainRun (switches UNICODE byte_escapes ALLOW_NUL) input.now from result.0 }
-    ensures marks { AreMarks (stops UNICODE ALLOW_NUL) input.now from result.1 }
+    ensures { (byte_escapes : Bool) →
+        IsPlainRun (switches UNICODE byte_escapes ALLOW_NUL) input.now from result }
 {
     let unread = Marked::nothing_at(from);
     if input.len() >= LONG {
-        let (end, _) = plain_end(input, from, UNICODE, ALLOW_NUL, unread);
-        (end, 0)
+        plain_end(input, from, UNICODE, ALLOW_NUL, unread).0
     } else if may_need_no_search(&input.as_bytes()[from..]) && begins_escape(input, from) {
-        (from, 0)
+        from
     } else {
-        let (end, marked) = search_end(input, from, UNICODE, ALLOW_NUL, unread);
-        (end, marked.bits)
+        search_end(input, from, UNICODE, ALLOW_NUL, unread).0
     }
 }
 
@@ -208,24 +199,6 @@ fn begins_escape(input: &str, from: usize) -> bool
         IsPlainRun (switches unicode byte_escapes allow_nul) input.now from from }
 {
     matches!(input.as_bytes().get(from), Some(b'\\'))
-}
-
-/// What is marked by the marks of a body that begins at `offset`.
-#[inline(always)]
-pub(crate) fn marked_from(input: &str, offset: usize, marks: u64) -> Marked
-    requires within { offset ≤ length input.now }
-    ensures start { result.start ≡ offset }
-    ensures marked { (what : Special) → AreMarks what input.now offset marks →
-        IsMarked what input.now result }
-{
-    match marks {
-        0 => Marked::nothing_at(offset),
-        _ => Marked {
-            start: offset,
-            end: input.len(),
-            bits: marks,
-        },
-    }
 }
 
 /// Whether the first byte of the body of a short text is looked at before a search: where the body
@@ -373,8 +346,6 @@ pub(crate) fn search_end(
         IsPlainRun (switches unicode byte_escapes allow_nul) input.now from result.0 }
     ensures after { result.1.start ≤ result.0 }
     ensures marked { IsMarked (stops unicode allow_nul) input.now result.1 }
-    ensures short { length input.now < 32 → marked.end ≤ from →
-        MarksAll input.now from marked result.1 }
 {
     let what = Special {
         backslash: true,

@@ -3,7 +3,7 @@ ghost use Rattle.std.specs.Prelude.{◌≡◌, ◌≤◌, ◌<◌, ◌+◌, ◌-
 ghost use Rattle.std.specs.Str.{chars, IsUtf8, IsCharBoundary};
 ghost use Rattle.litrs_grammar.specs.Quoted.{QuotedParts, IsQuoted, body_value};
 ghost use Rattle.litrs_lex.specs.Container.{is_pushable};
-ghost use Rattle.litrs_lex.specs.QuotedItems.{AreMarks, IsPlainRun, IsItemsEnd, item_bytes, stops};
+ghost use Rattle.litrs_lex.specs.QuotedItems.{IsPlainRun, IsItemsEnd, item_bytes};
 ghost use Rattle.litrs_lex.specs.QuotedCut.{IsQuotedRefused, IsQuotedValue, IsOutOfMemory, IsQuotedOutOfMemory};
 ghost use Rattle.litrs_lex.specs.declared.short_value.TheConstants.{LONGEST};
 ghost use Rattle.litrs_parts.specs.Unescaped.{switches, grammar_switches};
@@ -58,19 +58,19 @@ pub fn unescape_string<C: EscapeContainer>(
         byte_escapes,
         allow_nul,
     };
-    let (place, marks) = first_plain_end(input, offset, allowed);
+    let place = first_plain_end(input, offset, allowed);
     if ends_items(&input[place..], allowed) {
         let value_len = place - offset;
         let end = ItemsEnd { place, value_len };
         let plain = cut_at_end(input, offset, end, allowed)?;
         Ok((None, plain.start_suffix))
     } else {
-        unescape_more(alloc, input, offset, place, allowed, marks)
+        unescape_more(alloc, input, offset, place, allowed)
     }
 }
 
 /// [`unescape_string`] of a body whose plain characters at its front end at `from`, in one piece
-/// for each kind of literal. The marks are those of [`first_plain_end`].
+/// for each kind of literal.
 #[inline(always)]
 fn unescape_more<C: EscapeContainer>(
     alloc: Global,
@@ -78,11 +78,9 @@ fn unescape_more<C: EscapeContainer>(
     offset: usize,
     from: usize,
     allowed: Switches,
-    marks: u64,
 ) -> Result<(Option<C>, usize), ParseError>
     requires at { IsCharBoundary input.now offset }
     requires run { IsPlainRun (grammar_switches allowed) input.now offset from }
-    requires marks { AreMarks (stops allowed.unicode allowed.allow_nul) input.now offset marks }
     requires fits { IsTrue (not allowed.byte_escapes || C.TAKES_BYTES) }
     ensures ok { IfOk result (λ read.
         IsQuotedValue (grammar_switches allowed) input.now offset
@@ -93,12 +91,10 @@ fn unescape_more<C: EscapeContainer>(
 {
     let bytes = allowed.byte_escapes;
     match (allowed.unicode, allowed.allow_nul) {
-        (true, true) => unescape_piece::<C, true, true>(alloc, input, offset, from, bytes, marks),
-        (true, false) => unescape_piece::<C, true, false>(alloc, input, offset, from, bytes, marks),
-        (false, true) => unescape_piece::<C, false, true>(alloc, input, offset, from, bytes, marks),
-        (false, false) => unescape_piece::<C, false, false>(
-            alloc, input, offset, from, bytes, marks,
-        ),
+        (true, true) => unescape_piece::<C, true, true>(alloc, input, offset, from, bytes),
+        (true, false) => unescape_piece::<C, true, false>(alloc, input, offset, from, bytes),
+        (false, true) => unescape_piece::<C, false, true>(alloc, input, offset, from, bytes),
+        (false, false) => unescape_piece::<C, false, false>(alloc, input, offset, from, bytes),
     }
 }
 
@@ -111,11 +107,9 @@ fn unescape_piece<C: EscapeContainer, const UNICODE: bool, const ALLOW_NUL: bool
     offset: usize,
     from: usize,
     byte_escapes: bool,
-    marks: u64,
 ) -> Result<(Option<C>, usize), ParseError>
     requires at { IsCharBoundary input.now offset }
     requires run { IsPlainRun (switches UNICODE byte_escapes ALLOW_NUL) input.now offset from }
-    requires marks { AreMarks (stops UNICODE ALLOW_NUL) input.now offset marks }
     requires fits { IsTrue (not byte_escapes || C.TAKES_BYTES) }
     ensures ok { IfOk result (λ read.
         IsQuotedValue (switches UNICODE byte_escapes ALLOW_NUL) input.now offset
@@ -132,7 +126,7 @@ fn unescape_piece<C: EscapeContainer, const UNICODE: bool, const ALLOW_NUL: bool
     let rest = &input[from..];
     if begins_simply(rest.as_bytes()) {
         let mut room = [0; ROOM];
-        if let Some(end) = lone_escape_end(input, offset, from, allowed, marks, &mut room) {
+        if let Some(end) = lone_escape_end(input, offset, from, allowed, &mut room) {
             return unescape_lone(alloc, input, offset, end, allowed, &room[..end.value_len]);
         }
     } else if !is_rarely_refused(rest.as_bytes(), allowed)

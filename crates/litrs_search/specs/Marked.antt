@@ -1,5 +1,5 @@
 -- Which bytes of a part are special.
-use Rattle.std.specs.Prelude.{◌≡◌, ◌⊎◌, ℕ, ◌+◌, ◌-◌, ◌≤◌, List, length, map}
+use Rattle.std.specs.Prelude.{◌≡◌, ℕ, ◌+◌, ◌-◌, ◌≤◌, List, length, map}
 use Rattle.std.specs.Simd.Lanes.{mask_l, chunk}
 use Rattle.litrs_search.specs.declared.marked.Marked.{Marked}
 use Rattle.litrs_search.specs.declared.search.Special.{Special}
@@ -12,8 +12,3 @@ pub record IsMarked (what : Special) (bytes : List ℕ) (m : Marked) : Type 0 wh
   pub within : m.end ≤ length bytes
   pub few : m.end ≤ m.start + 32
   pub bits : m.bits ≡ mask_l (map (is_special what) (chunk m.start (m.end - m.start) bytes))
-
--- what is marked is as before, or all bytes from the place on are marked
-abbrev pub MarksAll : (bytes : List ℕ) (from : ℕ) (old new : Marked) → Type 0
-MarksAll bytes from old new =
-    (new ≡ old) ⊎ ((new.start ≡ from) × (new.end ≡ length bytes))

