@@ -25,6 +25,10 @@ const PASSES: usize = 4;
 
 const REFUSED: u64 = 1 << 63;
 
+/// A refusal without a span, or no value.
+#[cfg(upstream)]
+const NONE: u64 = u64::MAX;
+
 mod ours {
     #[link(name = "litrs_bench", kind = "static")]
     #[link(name = "libc_c", kind = "static")]
@@ -54,7 +58,7 @@ mod ours {
 
 #[cfg(upstream)]
 mod upstream {
-    use super::REFUSED;
+    use super::{NONE, REFUSED};
     use litrs::{Buffer, Literal, ParseError};
 
     #[inline(always)]
@@ -93,7 +97,7 @@ mod upstream {
     fn place(e: &ParseError) -> u64 {
         match e.span() {
             Some(span) => with(with(1, span.start), span.end) | REFUSED,
-            None => REFUSED,
+            None => NONE,
         }
     }
 
@@ -122,14 +126,14 @@ mod upstream {
             Ok(Literal::Bool(lit)) => u64::from(lit.value()),
             Ok(Literal::Integer(lit)) => match lit.value::<u128>() {
                 Some(number) => (number ^ (number >> 64)) as u64,
-                None => REFUSED,
+                None => NONE,
             },
             Ok(Literal::Char(lit)) => u64::from(u32::from(lit.value())),
             Ok(Literal::Byte(lit)) => u64::from(lit.value()),
             Ok(Literal::String(lit)) => lit.value().len() as u64,
             Ok(Literal::ByteString(lit)) => lit.value().len() as u64,
             Ok(Literal::CString(lit)) => lit.value().to_bytes().len() as u64,
-            _ => REFUSED,
+            _ => NONE,
         }
     }
 

@@ -1,5 +1,5 @@
 -- The hex digits of an escape, one by one.
-use Rattle.std.proofs.Common.{◌≡◌, ℕ, ◌+◌, ◌^◌, ◌<◌, ◌≤◌, Bool, true, cond, List, [], ◌∷◌, length, take, get_or, refl, ap, ◌∙◌, arith}
+use Rattle.std.proofs.Common.{◌≡◌, ℕ, zero, suc, ◌+◌, ◌^◌, ◌<◌, ◌≤◌, Bool, true, cond, List, [], ◌∷◌, length, take, get_or, refl, ap, subst, ◌∙◌, arith}
 use Rattle.std.specs.Prelude.{count_by}
 use Rattle.std.proofs.Math.Nat.{pow-le-pow_right}
 use Rattle.std.specs.Char.{is_ascii_hexdigit, digit_value}
@@ -11,7 +11,8 @@ use Rattle.std.proofs.lemmas.List.Sums.{sum_by-cons, sum_by-append}
 use Rattle.litrs_base.specs.Text.{first_passes}
 use Rattle.litrs_base.proofs.Chars.{OnlyAscii}
 use Rattle.litrs_base.proofs.Runs.{list_all-append}
-use Rattle.litrs_grammar.specs.Escape.{is_hex_or_underscore}
+use Rattle.litrs_grammar.specs.Escape.{is_hex_or_underscore, hex_value}
+use Rattle.litrs_parts.proofs.NumeralLemmas.{numeral_underscore}
 
 pub hexdigit_only : OnlyAscii is_ascii_hexdigit
 hexdigit_only c high = grind (arith, nat_tests)
@@ -22,6 +23,9 @@ hex_or_underscore_only c high = grind (arith, nat_tests)
 -- one more byte of the digits
 pub digit_small : (c : ℕ) → is_ascii_hexdigit c ≡ true → digit_value c < 16
 digit_small c h = grind (arith, nat_tests)
+
+pub digit_no_underscore : (c : ℕ) → is_ascii_hexdigit c ≡ true → c ≡ 95 → ⊥
+digit_no_underscore c h e = grind (arith, nat_tests)
 
 pub all_more : (p : ℕ → Bool) (t : List ℕ) (i : ℕ) → i < length t → list_all p (take i t) ≡ true → p (get_or t i 0) ≡ true → list_all p (take (i + 1) t) ≡ true
 all_more p t i h all passes = ap (list_all p) (take_more t i 0 h) ∙ list_all-append p (take i t) (get_or t i 0 ∷ []) all (and_from _ _ passes refl)
@@ -36,6 +40,26 @@ count_one p t i h =
 pub digit_or_underscore : (l : List ℕ) → first_passes is_ascii_hexdigit l ≡ true → first_passes is_hex_or_underscore l ≡ true
 digit_or_underscore [] h = h
 digit_or_underscore (c ∷ l) h = or_left _ _ h
+
+-- the bytes up to one place, and up to another after underscores: no digit more, and the same number
+abbrev Same : List ℕ → ℕ → ℕ → Type 0
+Same t i j =
+    (list_all is_hex_or_underscore (take j t) ≡ true) × (count_by is_ascii_hexdigit (take j t) ≡ count_by is_ascii_hexdigit (take i t))
+    × (hex_value (take j t) ≡ hex_value (take i t))
+
+pub underscores_more : (t : List ℕ) (i n : ℕ) → i + n ≤ length t → ((k : ℕ) → k < n → get_or t (i + k) 0 ≡ 95) → list_all is_hex_or_underscore (take i t) ≡ true → Same t i (i + n)
+underscores_more t i zero long are all = let none : i ≡ i + 0 = omega arith in subst (Same t i) none (all, refl, refl)
+underscores_more t i (suc n) long are all =
+    let fewer = underscores_more t i n (omega arith) (λ k h. are k (omega arith)) all in
+    let last : get_or t (i + n) 0 ≡ 95 = are n (omega arith) in
+    let no_digit : cond {A = ℕ} (is_ascii_hexdigit (get_or t (i + n) 0)) 1 0 ≡ 0 = ap (λ c. cond {A = ℕ} (is_ascii_hexdigit c) 1 0) last in
+    let more = count_one is_ascii_hexdigit t (i + n) (omega arith) in
+    let one : i + n + 1 ≡ i + suc n = omega arith in
+    subst (Same t i) one (
+      all_more is_hex_or_underscore t (i + n) (omega arith) fewer.0 (ap is_hex_or_underscore last),
+      omega (arith, fewer.1),
+      numeral_underscore 16 t (i + n) (omega arith) last ∙ fewer.2,
+    )
 
 -- fewer than six digits leave room for one more
 pub six_digits : (value count : ℕ) → value < 16 ^ count → count < 6 → value < 16 ^ 5

@@ -1,5 +1,5 @@
 //! Escapes.
-ghost use Rattle.std.specs.Prelude.{◌≡◌, ◌≢◌, [], ◌∷◌, ◌+◌, ◌<◌, ◌≤◌, Bool, true, ◌&&◌, ◌||◌, ◌==◌, codes, drop, length, IfOk, IfErr, IsTrue, IsFalse};
+ghost use Rattle.std.specs.Prelude.{◌≡◌, ◌≢◌, [], ◌∷◌, ◌+◌, ◌<◌, ◌≤◌, Bool, true, ◌&&◌, ◌||◌, ◌==◌, ℕ, codes, drop, length, slice_index, IfOk, IfErr, IsTrue, IsFalse};
 ghost use Rattle.std.specs.Char.{is_ascii_hexdigit};
 ghost use Rattle.std.specs.List.{list_any};
 ghost use Rattle.std.specs.Option.{SomeIff};
@@ -275,21 +275,43 @@ pub fn hex_digits(bytes: &[u8]) -> HexDigits
 {
     let mut count: usize = 0;
     let mut value = 0;
-    for (len, byte) in bytes.iter().enumerate() {
-        if *byte == b'_' {
-            continue;
-        }
-        match hex_digit_value(*byte) {
+    let mut len = 0;
+    while len < bytes.len() {
+        let byte = bytes[len];
+        match hex_digit_value(byte) {
             Some(digit) if count < 6 => {
                 count += 1;
                 value = 16 * value + u32::from(digit);
+                len += 1;
             }
-            _ => return HexDigits { len, value },
+            None if byte == b'_' => len += underscores_len(&bytes[len..]),
+            _ => break,
         }
     }
-    HexDigits {
-        len: bytes.len(),
-        value,
+    HexDigits { len, value }
+}
+
+/// Eight underscores as one number.
+const EIGHT_UNDERSCORES: u64 = 0x5f5f_5f5f_5f5f_5f5f;
+
+/// How many underscores of those that stand first are read in one step, where one stands first:
+/// eight, or one.
+#[inline(always)]
+fn underscores_len(bytes: &[u8]) -> usize
+    requires { IsTrue (first_passes (λ c. c == underscore) bytes.now) }
+    ensures some { 0 < result }
+    ensures within { result ≤ length bytes.now }
+    ensures all { (k : ℕ) → k < result → slice_index bytes.now k ≡ underscore }
+{
+    if bytes.len() < 8 {
+        return 1;
+    }
+    let mut eight = [0; 8];
+    eight.copy_from_slice(&bytes[..8]);
+    if u64::from_le_bytes(eight) == EIGHT_UNDERSCORES {
+        8
+    } else {
+        1
     }
 }
 
