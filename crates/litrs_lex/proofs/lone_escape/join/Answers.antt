@@ -1,5 +1,5 @@
 -- Each lane by the clauses.
-use Rattle.std.proofs.Common.{◌≡◌, ◌-◌, ◌∙◌, ℕ, get_or, ap, arith}
+use Rattle.std.proofs.Common.{◌∙◌, get_or, ap, arith}
 use Rattle.litrs_lex.proofs.LoneEscapes.{joined_text}
 use Rattle.litrs_lex.proofs.lone_escape.join.Goals as goal
 

@@ -1,6 +1,6 @@
 -- A run, an escape, and a run after it; or an escape alone.
-use Rattle.std.proofs.Common.{◌≡◌, ◌≤◌, ◌∙◌, ◌+◌, ◌-◌, ◌++◌, ◌∷◌, sym, ℕ, List, length, take, drop, ap, subst, arith, Option}
-use Rattle.std.proofs.lemmas.List.{length-drop, take_more_set}
+use Rattle.std.proofs.Common.{◌≡◌, ◌∙◌, ◌+◌, ◌-◌, ◌++◌, ◌∷◌, sym, ℕ, List, length, take, drop, ap, subst, arith, Option}
+use Rattle.std.proofs.lemmas.List.{take_more_set}
 use Rattle.litrs_base.specs.declared.escape.Unescape.{Unescape}
 use Rattle.litrs_parts.specs.Unescaped.{grammar_switches}
 use Rattle.litrs_lex.specs.QuotedItems.{IsItemAt}
