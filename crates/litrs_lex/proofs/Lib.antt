@@ -5,7 +5,6 @@ pub mod QuotedBytes
 pub mod QuotedCuts
 pub mod QuotedValues
 pub mod ShortValues
-pub mod Lanes
 pub mod LoneEscapes
 pub mod CharRuns
 pub mod RawBytes

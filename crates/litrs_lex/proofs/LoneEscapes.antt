@@ -1,11 +1,10 @@
 -- The value of a body of few bytes in which one escape is the only item with a backslash.
-use Rattle.std.proofs.Common.{◌≡◌, ◌≤◌, ◌<◌, inl, inr, get_or, ℕ, suc, ◌+◌, ◌-◌, List, [], ◌∷◌, ◌++◌, length, drop, take, refl, sym, ap, subst, ◌∙◌, arith, length-append, Some}
+use Rattle.std.proofs.Common.{◌≡◌, ◌≤◌, ◌<◌, inl, get_or, ℕ, ◌+◌, ◌-◌, List, [], ◌∷◌, ◌++◌, length, drop, take, refl, sym, ap, subst, ◌∙◌, arith, length-append, Some}
 use Rattle.std.specs.Str.{chars, IsUtf8, IsCharBoundary}
 use Rattle.std.specs.Prelude.{◌==◌}
 use Rattle.std.proofs.lemmas.Str.{chars-IsAscii}
 use Rattle.std.proofs.lemmas.Str.Ascii.{IsAscii-nil, IsAscii-cons}
-use Rattle.std.proofs.lemmas.Bool.{cases_lt}
-use Rattle.std.proofs.lemmas.List.{append_assoc, ext_get_or, get_or-take, get_or-drop, get_or_append_left, get_or-append-add, take-take, drop-drop, length-take-le, length-drop}
+use Rattle.std.proofs.lemmas.List.{get_or-drop, take-take, drop-take, drop-drop, length-take-le, length-drop}
 use Rattle.std.proofs.Math.Seq.{take-append-add}
 use Rattle.litrs_base.specs.declared.escape.Unescape.TheVariants.{Byte}
 use Rattle.litrs_grammar.specs.Escape.{Switches}
@@ -16,63 +15,38 @@ use Rattle.litrs_lex.proofs.PlainRuns.{empty_run}
 use Rattle.litrs_lex.proofs.QuotedScan.{ReadsSome, reads_start, boundary_later, items_end}
 use Rattle.litrs_lex.proofs.QuotedValues.{copy_run, copy_item, whole_value}
 
--- A byte of a text by the lane that it is read from, in a vector of the text's halves.
-pub text_lane : (text halves read places : List ℕ) (half gap k : ℕ) → length text + gap ≡ half + half → half ≤ length text → half ≤ 8 →
-    ((i : ℕ) → i < half → get_or halves i 0 ≡ get_or text i 0) → ((i : ℕ) → i < half → get_or halves (half + i) 0 ≡ get_or text (length text - half + i) 0) →
-    ((i : ℕ) → i < 16 → get_or places i 0 < half → half ≤ 16 → get_or read i 0 ≡ get_or halves (get_or places i 0) 0) →
-    ((i : ℕ) → i < 16 → half ≤ get_or places i 0 → get_or places i 0 + gap < 16 → get_or read i 0 ≡ get_or halves (get_or places i 0 + gap) 0) →
-    k < 16 → get_or places k 0 < length text → get_or read k 0 ≡ get_or text (get_or places k 0) 0
-text_lane text halves read places half gap k size long few first last low high h within =
-    let p = get_or places k 0 in
-    elim (cases_lt p half) [
-      | inl front ↦ low k h front (omega arith) ∙ first p front
-      | inr back ↦ (let i = p + gap - half in
-          let there : p + gap ≡ half + i = omega arith in
-          let at : length text - half + i ≡ p = omega arith in
-          high k h back (omega arith) ∙ (ap (λ j. get_or halves j 0) there ∙ (last i (omega arith) ∙ ap (λ j. get_or text j 0) at)))
-    ]
+-- three moves, each over what the one before it copied too much
+pub joined : (one two room before text tail : List ℕ) (k byte : ℕ) →
+    take 16 one ≡ before → take k before ≡ text → k ≤ 16 →
+    take (k + 1) two ≡ take k one ++ (byte ∷ []) → take (k + 1 + 16) room ≡ take (k + 1) two ++ tail →
+    take (k + 1 + 16) room ≡ text ++ (byte ∷ []) ++ tail
+joined one two room before text tail k byte first front low second third =
+    let start : take k one ≡ text = sym (take-take k 16 one low) ∙ (ap (take k) first ∙ front) in
+    third ∙ ap (λ l. l ++ tail) (second ∙ ap (λ l. l ++ (byte ∷ [])) start)
 
--- What is joined, from lane to lane.
-pub joined_text : (text room : List ℕ) (start from byte : ℕ) → start ≤ from → from + 2 ≤ length text → length text ≤ 16 → length room ≡ 16 →
-    ((k : ℕ) → k < from - start → get_or room k 0 ≡ get_or text (start + k) 0) → get_or room (from - start) 0 ≡ byte →
-    ((k : ℕ) → from - start < k → k < length text - start - 1 → get_or room k 0 ≡ get_or text (start + k + 1) 0) →
-    take (length text - start - 1) room ≡ take (from - start) (drop start text) ++ (byte ∷ drop (from + 2) text)
-joined_text text room start from byte order inside few wide before at after =
-    let run = take (from - start) (drop start text) in
-    let tail = drop (from + 2) text in
-    let n = length text - start - 1 in
-    let size : length run ≡ from - start = length-take-le (from - start) (drop start text) (omega (arith, length-drop start text)) in
-    let left : length tail ≡ length text - (from + 2) = length-drop (from + 2) text in
-    let long : length (take n room) ≡ n = length-take-le n room (omega arith) in
-    ext_get_or 0 (take n room) (run ++ (byte ∷ tail)) (omega (arith, length-append run (byte ∷ tail))) (λ i h. get_or-take n room i 0 (omega arith)
-    ∙ elim (cases_lt i (from - start)) [
-      | inl low ↦ before i low ∙ sym (get_or_append_left run (byte ∷ tail) 0 i (omega arith) ∙ (get_or-take (from - start) (drop start text) i 0 low ∙ get_or-drop start text i 0))
-      | inr high ↦ (let j = i - (from - start) in
-          let place : length run + j ≡ i = omega arith in
-          let right : get_or (run ++ (byte ∷ tail)) i 0 ≡ get_or (byte ∷ tail) j 0 =
-          ap (λ m. get_or (run ++ (byte ∷ tail)) m 0) (sym place) ∙ get_or-append-add run (byte ∷ tail) j 0 in
-          elim (cases_lt (from - start) i) [
-            | inl past ↦ (let one : suc (j - 1) ≡ j = omega arith in
-                let there : from + 2 + (j - 1) ≡ start + i + 1 = omega arith in
-                after i past (omega arith) ∙ sym (right ∙ (ap (λ m. get_or (byte ∷ tail) m 0) (sym one) ∙ (get_or-drop (from + 2) text (j - 1) 0 ∙ ap (λ m. get_or text m 0) there))))
-            | inr same ↦ (let first : j ≡ 0 = omega arith in
-                let here : i ≡ from - start = omega arith in
-                ap (λ m. get_or room m 0) here ∙ (at ∙ sym (right ∙ ap (λ m. get_or (byte ∷ tail) m 0) first)))
-          ])
-    ])
+-- a run that is moved from a text with other bytes after it
+pub padded_run : (padded text : List ℕ) (start end : ℕ) → take (length text) padded ≡ text → start ≤ end → end ≤ length text →
+    take (end - start) (drop start padded) ≡ take (end - start) (drop start text)
+padded_run padded text start end is order within =
+    let split : start + (length text - start) ≡ length text = omega arith in
+    let rest : drop start text ≡ take (length text - start) (drop start padded) =
+    ap (drop start) (sym is) ∙ (ap (λ n. drop start (take n padded)) (sym split) ∙ drop-take start (length text - start) padded) in
+    sym (ap (take (end - start)) rest ∙ take-take (end - start) (length text - start) (drop start padded) (omega arith))
 
 -- the front of what was joined
-pub joined_front : (room text : List ℕ) (start from place byte : ℕ) → start ≤ from → from + 2 ≤ place → place ≤ length text →
-    take (length text - start - 1) room ≡ take (from - start) (drop start text) ++ (byte ∷ drop (from + 2) text) →
+pub joined_front : (room text padded : List ℕ) (start from place byte : ℕ) → take (length text) padded ≡ text → start ≤ from → from + 2 ≤ place → place ≤ length text → length text ≤ 16 →
+    16 ≤ length (drop start padded) →
+    take (from - start + 1 + 16) room ≡ take (from - start) (drop start padded) ++ (byte ∷ []) ++ take 16 (drop (from + 2) padded) →
     take (place - start - 1) room ≡ take (from - start) (drop start text) ++ (byte ∷ []) ++ take (place - (from + 2)) (drop (from + 2) text)
-joined_front room text start from place byte order after within whole =
-    let run = take (from - start) (drop start text) in
-    let tail = drop (from + 2) text in
-    let front = run ++ (byte ∷ []) in
-    let size : length front ≡ from - start + 1 = omega (arith, length-append run (byte ∷ []), length-take-le (from - start) (drop start text) (omega (arith, length-drop start text))) in
+joined_front room text padded start from place byte is order after within few long whole =
+    let front = take (from - start) (drop start padded) ++ (byte ∷ []) in
+    let size : length front ≡ from - start + 1 = omega (arith, length-append (take (from - start) (drop start padded)) (byte ∷ []), length-take-le (from - start) (drop start padded) (omega arith)) in
     let total : place - start - 1 ≡ length front + (place - (from + 2)) = omega arith in
-    sym (take-take (place - start - 1) (length text - start - 1) room (omega arith)) ∙ (ap (take (place - start - 1)) (whole ∙ sym (append_assoc run (byte ∷ []) tail))
-    ∙ (ap (λ n. take n (front ++ tail)) total ∙ take-append-add front tail (place - (from + 2))))
+    let cut : take (place - start - 1) room ≡ front ++ take (place - (from + 2)) (take 16 (drop (from + 2) padded)) =
+    sym (take-take (place - start - 1) (from - start + 1 + 16) room (omega arith)) ∙ (ap (take (place - start - 1)) whole
+    ∙ (ap (λ n. take n (front ++ take 16 (drop (from + 2) padded))) total ∙ take-append-add front (take 16 (drop (from + 2) padded)) (place - (from + 2)))) in
+    cut ∙ (ap (λ l. front ++ l) (take-take (place - (from + 2)) 16 (drop (from + 2) padded) (omega arith) ∙ padded_run padded text (from + 2) place is after within)
+    ∙ ap (λ l. l ++ (byte ∷ []) ++ take (place - (from + 2)) (drop (from + 2) text)) (padded_run padded text start from is order (omega arith)))
 
 -- The items of a body whose only item with a backslash is an escape of two bytes, and its value.
 pub lone_end : (w : Switches) (bytes rest tail : List ℕ) (offset from place byte : ℕ) → IsUtf8 bytes → IsCharBoundary bytes offset → IsPlainRun w bytes offset from →

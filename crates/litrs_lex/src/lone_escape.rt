@@ -1,17 +1,20 @@
 //! Quoted bodies of few bytes in which one escape is the only item with a backslash.
-ghost use Rattle.std.specs.Prelude.{◌≡◌, ◌≢◌, ◌≤◌, ◌<◌, ◌+◌, ◌-◌, ◌++◌, ℕ, [], ◌∷◌, length, take, drop, codes, slice_index, IfSome, IsTrue};
+ghost use Rattle.std.specs.Prelude.{◌≡◌, ◌≤◌, ◌<◌, ◌+◌, ◌-◌, ◌++◌, [], ◌∷◌, length, take, drop, codes, IfSome, IsTrue};
 ghost use Rattle.std.specs.Str.{chars, IsCharBoundary};
 ghost use Rattle.litrs_grammar.specs.Quoted.{QuotedParts, IsQuoted, body_value};
 ghost use Rattle.litrs_lex.specs.QuotedItems.{IsPlainRun, IsItemsEnd};
 ghost use Rattle.litrs_parts.specs.Unescaped.{grammar_switches};
 
 use crate::quoted::{ItemsEnd, ends_items, is_quote, next_item, search_end};
+use crate::short_value::copy_at;
 use litrs_parts::Switches;
 use litrs_search::Marked;
-use std::simd::prelude::*;
 
-/// The most bytes that a text of few bytes has, and a value that is put together of it.
-pub(crate) const ROOM: usize = 16;
+/// How many bytes one move copies. A text of few bytes has at most so many.
+const MOVED: usize = 16;
+
+/// Room for a text of few bytes, and for what a move copies from after its end; and for a value.
+pub(crate) const ROOM: usize = 32;
 
 /// Where the items of a body end in a text of few bytes, if the item at `from` is an escape of two
 /// bytes, and no other has a backslash; the bytes that they stand for are put at the front of the
@@ -33,13 +36,16 @@ pub(crate) fn lone_escape_end(
         IsQuoted (chars (take offset input.now)) (grammar_switches allowed)
         (chars input.now) q →
         take end.value_len room.new ≡ body_value q.items) }
-    ensures within { IfSome result (λ end. end.value_len ≤ 16) }
+    ensures within { IfSome result (λ end. end.value_len ≤ 32) }
     ensures has_escape { IfSome result (λ end. end.value_len < end.place - offset) }
 {
     let bytes = input.as_bytes();
-    if bytes.len() < 4 || bytes.len() > ROOM {
+    if bytes.len() < 4 || bytes.len() > MOVED {
         return None;
     }
+    // Copied this early, since the moves wait until the copy is written.
+    let mut text = [0; ROOM];
+    pad(bytes, &mut text);
     let item = next_item(&input[from..], allowed)?;
     let byte = item.simple_byte()?;
     let at = from + 2;
@@ -54,7 +60,7 @@ pub(crate) fn lone_escape_end(
     if !ends_items(&input[place..], allowed) {
         return None;
     }
-    join(bytes, offset, from, byte).copy_to_slice(room);
+    join(&text, offset, from, byte, room);
     Some(ItemsEnd {
         place,
         value_len: place - offset - 1,
@@ -81,114 +87,41 @@ fn rest_end(input: &str, at: usize, allowed: Switches) -> usize
     search_end(input, at, allowed.unicode, allowed.allow_nul, unread).0
 }
 
-/// The bytes of a text of few bytes from `start` up to `from`, this byte, and those that follow the
-/// escape of two bytes at `from`; and other bytes after them.
-///
-/// They are put together in a register: a move of 16 bytes would wait for the moves that wrote
-/// them.
+/// Copies a text of at least 4 bytes by one move of its first bytes and one of its last.
 #[inline(always)]
-fn join(text: &[u8], start: usize, from: usize, byte: u8) -> u8x16
-    requires few { (4 ≤ length text.now) × (length text.now ≤ 16) }
-    requires order { (start ≤ from) × (from + 2 ≤ length text.now) }
-    ensures len { length result ≡ 16 }
-    ensures joined { take (length text.now - start - 1) result
-        ≡ take (from - start) (drop start text.now) ++ byte ∷ drop (from + 2) text.now }
+fn pad(bytes: &[u8], text: &mut [u8])
+    requires { (4 ≤ length bytes.now) × (length bytes.now ≤ 16) × (length text.old ≡ 32) }
+    ensures { take (length bytes.now) text.new ≡ bytes.now }
 {
-    let count = (from - start) as u8;
-    with_byte(
-        text_bytes(text, joined_places(start as u8, count)),
-        count,
-        byte,
-    )
-}
-
-/// The bytes of a text of few bytes at these places, in the lanes whose places are within it.
-#[inline(always)]
-fn text_bytes(text: &[u8], places: u8x16) -> u8x16
-    requires few { (4 ≤ length text.now) × (length text.now ≤ 16) }
-    requires places { length places ≡ 16 }
-    ensures len { length result ≡ 16 }
-    ensures bytes { (k : ℕ) → k < 16 → slice_index places k < length text.now →
-        slice_index result k ≡ slice_index text.now (slice_index places k) }
-{
-    if text.len() < 8 {
-        return bytes_at(halves_of_four(text), places, 4, (8 - text.len()) as u8);
+    match bytes.len() {
+        0..=7 => pad_by::<4>(bytes, text),
+        _ => pad_by::<8>(bytes, text),
     }
-    bytes_at(halves_of_eight(text), places, 8, (16 - text.len()) as u8)
 }
 
-/// The numbers of the lanes.
-const LANES: [u8; 16] = [0, 1, 2, 3, 4, 5, 6, 7, 8, 9, 10, 11, 12, 13, 14, 15];
-
-/// Which places of a text are joined: those from `start` on, but for the one after the first
-/// `count`. The lane with this number keeps the place for a byte that is put in.
+/// [`pad`] by moves of N bytes.
 #[inline(always)]
-fn joined_places(start: u8, count: u8) -> u8x16
-    requires { start ≤ 16 }
-    ensures len { length result ≡ 16 }
-    ensures before { (k : ℕ) → k < count → k < 16 → slice_index result k ≡ start + k }
-    ensures after { (k : ℕ) → count < k → k < 16 → slice_index result k ≡ start + k + 1 }
+fn pad_by<const N: usize>(bytes: &[u8], text: &mut [u8])
+    requires { (N ≤ length bytes.now) × (length bytes.now ≤ N + N) × (N ≤ 8)
+        × (length text.old ≡ 32) }
+    ensures { take (length bytes.now) text.new ≡ bytes.now }
 {
-    let lanes = u8x16::from_array(LANES);
-    let passed = lanes
-        .simd_gt(u8x16::splat(count))
-        .select(u8x16::splat(start + 1), u8x16::splat(start));
-    lanes + passed
+    let last = bytes.len() - N;
+    copy_at(text, 0, &bytes[..N]);
+    copy_at(text, last, &bytes[last..]);
 }
 
-/// The first four bytes of a text, and after them its last four.
+/// Puts the bytes of a text from `start` up to `from` into the room, this byte after them, and then
+/// those that follow the escape of two bytes at `from`.
 #[inline(always)]
-fn halves_of_four(text: &[u8]) -> u8x16
-    requires { 4 ≤ length text.now }
-    ensures len { length result ≡ 16 }
-    ensures first { (k : ℕ) → k < 4 → slice_index result k ≡ slice_index text.now k }
-    ensures last { (k : ℕ) → k < 4 →
-        slice_index result (4 + k) ≡ slice_index text.now (length text.now - 4 + k) }
+fn join(text: &[u8], start: usize, from: usize, byte: u8, room: &mut [u8])
+    requires { (start ≤ from) × (from ≤ 14) × (length text.now ≡ 32) × (length room.old ≡ 32) }
+    ensures { take (from - start + 1 + 16) room.new
+        ≡ take (from - start) (drop start text.now) ++ (byte ∷ [])
+        ++ take 16 (drop (from + 2) text.now) }
 {
-    let last = u8x4::from_slice(&text[text.len() - 4..]);
-    u8x4::from_slice(text).shuffle(last, [0, 1, 2, 3, 4, 5, 6, 7, 0, 0, 0, 0, 0, 0, 0, 0])
-}
-
-/// The first eight bytes of a text, and after them its last eight.
-#[inline(always)]
-fn halves_of_eight(text: &[u8]) -> u8x16
-    requires { 8 ≤ length text.now }
-    ensures len { length result ≡ 16 }
-    ensures first { (k : ℕ) → k < 8 → slice_index result k ≡ slice_index text.now k }
-    ensures last { (k : ℕ) → k < 8 →
-        slice_index result (8 + k) ≡ slice_index text.now (length text.now - 8 + k) }
-{
-    let last = u8x8::from_slice(&text[text.len() - 8..]);
-    u8x8::from_slice(text).shuffle(last, [0, 1, 2, 3, 4, 5, 6, 7, 8, 9, 10, 11, 12, 13, 14, 15])
-}
-
-/// The bytes that a text has at these places, where its halves are these, and `gap` bytes are in
-/// both.
-#[inline(always)]
-fn bytes_at(halves: u8x16, places: u8x16, half: u8, gap: u8) -> u8x16
-    requires { (length halves ≡ 16) × (length places ≡ 16) }
-    ensures len { length result ≡ 16 }
-    ensures first { (k : ℕ) → k < 16 → slice_index places k < half → half ≤ 16 →
-        slice_index result k ≡ slice_index halves (slice_index places k) }
-    ensures last { (k : ℕ) → k < 16 → half ≤ slice_index places k →
-        slice_index places k + gap < 16 →
-        slice_index result k ≡ slice_index halves (slice_index places k + gap) }
-{
-    let passed = places
-        .simd_lt(u8x16::splat(half))
-        .select(u8x16::splat(0), u8x16::splat(gap));
-    halves.swizzle_dyn((places + passed).simd_min(u8x16::splat(15)))
-}
-
-/// The bytes, with this one in a lane.
-#[inline(always)]
-fn with_byte(bytes: u8x16, lane: u8, byte: u8) -> u8x16
-    requires { length bytes ≡ 16 }
-    ensures len { length result ≡ 16 }
-    ensures byte { lane < 16 → slice_index result lane ≡ byte }
-    ensures others { (k : ℕ) → k < 16 → k ≢ lane → slice_index result k ≡ slice_index bytes k }
-{
-    u8x16::from_array(LANES)
-        .simd_eq(u8x16::splat(lane))
-        .select(u8x16::splat(byte), bytes)
+    let len = from - start;
+    copy_at(room, 0, &text[start..start + MOVED]);
+    copy_at(room, len, &[byte]);
+    copy_at(room, len + 1, &text[from + 2..from + 2 + MOVED]);
 }

@@ -1,20 +1,11 @@
--- Each lane by the clauses.
-use Rattle.std.proofs.Common.{◌∙◌, get_or, ap, arith}
-use Rattle.litrs_lex.proofs.LoneEscapes.{joined_text}
+-- Each move by its clause.
+use Rattle.std.proofs.Common.{◌-◌, drop, take, arith, rules}
+use Rattle.std.proofs.lemmas.List.{take-take}
+use Rattle.litrs_lex.proofs.LoneEscapes.{joined}
 use Rattle.litrs_lex.proofs.lone_escape.join.Goals as goal
 
-pub returns-clause-joined : goal.returns-clause-joined
-returns-clause-joined c =
-    let text = c.args.text.now in
-    let start = c.args.start in
-    let places = c.joined_places.ensures in
-    let bytes = c.text_bytes.ensures in
-    let set = c.with_byte.ensures in
-    joined_text text c.with_byte.result start c.args.from c.args.byte c.requires.order.0 c.requires.order.1 c.requires.few.1 set.len
-    (λ k h.
-    let place = places.before k h (omega arith) in
-    set.others k (omega arith) (λ same. omega arith) ∙ (bytes.bytes k (omega arith) (omega arith) ∙ ap (λ n. get_or text n 0) place))
-    (set.byte (omega arith))
-    (λ k past h.
-    let place = places.after k past (omega arith) in
-    set.others k (omega arith) (λ same. omega arith) ∙ (bytes.bytes k (omega arith) (omega arith) ∙ ap (λ n. get_or text n 0) place))
+pub returns : goal.returns
+returns c =
+    let k = c.args.from - c.args.start in
+    joined c.copy_at.new.room c.copy_at-2.new.room c.copy_at-3.new.room (take 16 (drop c.args.start c.args.text.now)) _ _ k c.args.byte
+    (search rules) (take-take k 16 (drop c.args.start c.args.text.now) (omega arith)) (omega arith) (search rules) (search rules)

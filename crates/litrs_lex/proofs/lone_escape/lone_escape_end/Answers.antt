@@ -1,10 +1,9 @@
 -- A run, an escape, and a run after it; or an escape alone.
-use Rattle.std.proofs.Common.{◌≡◌, ◌∙◌, ◌+◌, ◌-◌, ◌++◌, ◌∷◌, sym, ℕ, List, length, take, drop, ap, subst, arith, Option}
-use Rattle.std.proofs.lemmas.List.{take_more_set}
+use Rattle.std.proofs.Common.{◌≡◌, ◌≤◌, ◌∙◌, ◌+◌, sym, ℕ, List, length, take, drop, ap, subst, arith, Option}
+use Rattle.std.proofs.lemmas.List.{length-drop, take_more_set}
 use Rattle.litrs_base.specs.declared.escape.Unescape.{Unescape}
 use Rattle.litrs_parts.specs.Unescaped.{grammar_switches}
 use Rattle.litrs_lex.specs.QuotedItems.{IsItemAt}
-use Rattle.std.proofs.lemmas.Simd.{put_chunk_whole}
 use Rattle.litrs_lex.proofs.LoneEscapes.{lone_end, alone_end, joined_front}
 use Rattle.litrs_lex.proofs.lone_escape.lone_escape_end.Goals as goal
 
@@ -20,12 +19,13 @@ returns c =
     let both = lone_end w text c.range_from.result.now c.range_from-2.result.now c.args.offset c.args.from c.rest_end-place.result c.in_ok-byte.byte
     c.utf8.input c.requires.at run item c.range_from.ensures.value rest c.range_from-2.ensures.value (c.ends_items.ensures c.if-not-ends_items.false) in
     let size = run.size in let long = rest.size in let inside = rest.boundary.0 in
-    let joined = subst (λ (l : List ℕ). take (length l - c.args.offset - 1) c.join.result ≡ take (c.args.from - c.args.offset) (drop c.args.offset l) ++ (c.in_ok-byte.byte ∷ drop (c.args.from + 2) l))
-    c.as_bytes-bytes.ensures.value c.join.ensures.joined in
-    let written = put_chunk_whole c.args.room.now c.join.result (omega (arith, c.join.ensures.len)) in record {
+    let padded = subst (λ (l : List ℕ). take (length l) c.pad.new.text ≡ l) c.as_bytes-bytes.ensures.value c.pad.ensures in
+    let few : length text ≤ 16 = omega (arith, ap length c.as_bytes-bytes.ensures.value) in
+    let kept = c.pad.auto.text in
+    let room : 16 ≤ length (drop c.args.offset c.pad.new.text) = omega (arith, length-drop c.args.offset c.pad.new.text) in record {
       end = both.0;
-      value = λ q quoted. ap (take (c.rest_end-place.result - c.args.offset - 1)) written ∙ (joined_front c.join.result text c.args.offset c.args.from c.rest_end-place.result c.in_ok-byte.byte
-          (omega arith) (omega arith) inside joined ∙ both.1 q quoted);
+      value = λ q quoted. joined_front c.join.new.room text c.pad.new.text c.args.offset c.args.from c.rest_end-place.result c.in_ok-byte.byte padded
+          (omega arith) (omega arith) inside few room c.join.ensures ∙ both.1 q quoted;
       within = omega arith;
       has_escape = omega arith;
     }

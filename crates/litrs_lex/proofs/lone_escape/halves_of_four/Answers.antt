@@ -1,5 +1,0 @@
-use Rattle.litrs_lex.proofs.Lanes.{last_of_four}
-use Rattle.litrs_lex.proofs.lone_escape.halves_of_four.Goals as goal
-
-pub returns-clause-last : goal.returns-clause-last
-returns-clause-last c = λ k h. last_of_four c.args.text.now k c.requires h
