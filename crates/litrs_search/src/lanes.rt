@@ -1,5 +1,5 @@
 //! The bytes of one load that a search looks for.
-ghost use Rattle.std.specs.Prelude.{◌≡◌, ◌==◌, ◌+◌, ◌≤◌, length, map, not, if◌then◌else◌};
+ghost use Rattle.std.specs.Prelude.{◌≡◌, ◌==◌, ◌+◌, ◌-◌, ◌++◌, ◌≤◌, length, map, take, not, if◌then◌else◌};
 ghost use Rattle.std.specs.Simd.Lanes.{mask_l, chunk};
 ghost use Rattle.litrs_base.specs.Characters.{carriage_return, backslash, nul};
 ghost use Rattle.litrs_search.specs.Special.{is_special};
@@ -32,23 +32,57 @@ fn needles(what: Special) -> Sought
     }
 }
 
-/// The special bytes among the N from `at` on: bit i is that of the byte at `at + i`.
+/// The special bytes of a vector: bit i is that of lane i.
 #[inline(always)]
-pub(crate) fn special_marks<const N: usize>(bytes: &[u8], at: usize, what: Special) -> u64
-    requires { (at + N ≤ length bytes.now) × (N ≤ 64) }
-    ensures { result ≡ mask_l (map (is_special what) (chunk at N bytes.now)) }
+fn lane_marks<const N: usize>(lanes: Simd<u8, N>, what: Special) -> u64
+    requires { N ≤ 64 }
+    ensures { result ≡ mask_l (map (is_special what) lanes.entry) }
 {
     let Sought {
         second,
         third,
         limit,
     } = needles(what);
-    let v = Simd::<u8, N>::from_slice(&bytes[at..]);
-    (v.simd_eq(Simd::splat(b'"'))
-        | v.simd_eq(Simd::splat(b'\r'))
-        | v.simd_eq(Simd::splat(second))
-        | v.simd_eq(Simd::splat(third))
-        | v.simd_gt(Simd::splat(limit))).to_bitmask()
+    (lanes.simd_eq(Simd::splat(b'"'))
+        | lanes.simd_eq(Simd::splat(b'\r'))
+        | lanes.simd_eq(Simd::splat(second))
+        | lanes.simd_eq(Simd::splat(third))
+        | lanes.simd_gt(Simd::splat(limit))).to_bitmask()
+}
+
+/// The special bytes among the N from `at` on: bit i is that of the byte at `at + i`.
+#[inline(always)]
+pub(crate) fn special_marks<const N: usize>(bytes: &[u8], at: usize, what: Special) -> u64
+    requires { (at + N ≤ length bytes.now) × (N ≤ 64) }
+    ensures { result ≡ mask_l (map (is_special what) (chunk at N bytes.now)) }
+{
+    lane_marks::<N>(Simd::from_slice(&bytes[at..]), what)
+}
+
+/// The special bytes among the first four, and after them those among the last four: both halves
+/// are compared at once.
+#[inline(always)]
+pub(crate) fn marks_of_fours(bytes: &[u8], what: Special) -> u64
+    requires { 4 ≤ length bytes.now }
+    ensures { result ≡ mask_l (map (is_special what) (take 4 bytes.now
+        ++ chunk (length bytes.now - 4) 4 bytes.now)) }
+{
+    let first = u8x4::from_slice(bytes);
+    let last = u8x4::from_slice(&bytes[bytes.len() - 4..]);
+    lane_marks::<8>(first.shuffle(last, [0, 1, 2, 3, 4, 5, 6, 7]), what)
+}
+
+/// [`marks_of_fours`] of the first eight bytes and the last eight.
+#[inline(always)]
+pub(crate) fn marks_of_eights(bytes: &[u8], what: Special) -> u64
+    requires { 8 ≤ length bytes.now }
+    ensures { result ≡ mask_l (map (is_special what) (take 8 bytes.now
+        ++ chunk (length bytes.now - 8) 8 bytes.now)) }
+{
+    let first = u8x8::from_slice(bytes);
+    let last = u8x8::from_slice(&bytes[bytes.len() - 8..]);
+    let both = first.shuffle(last, [0, 1, 2, 3, 4, 5, 6, 7, 8, 9, 10, 11, 12, 13, 14, 15]);
+    lane_marks::<16>(both, what)
 }
 
 /// The places among the N from `at` on where a raw body may be closed, or whose byte is special and

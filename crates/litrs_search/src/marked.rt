@@ -1,11 +1,11 @@
 //! The search for one special byte after the other.
-ghost use Rattle.std.specs.Prelude.{◌≡◌, ◌+◌, ◌≤◌, List, ℕ, length, drop, map};
-ghost use Rattle.std.specs.Simd.Lanes.{mask_l};
+ghost use Rattle.std.specs.Prelude.{◌≡◌, ◌+◌, ◌-◌, ◌≤◌, List, ℕ, length, drop, map};
+ghost use Rattle.std.specs.Simd.Lanes.{mask_l, chunk};
 ghost use Rattle.std.specs.List.{prefix_len};
 ghost use Rattle.litrs_search.specs.Special.{is_special, is_ordinary};
 ghost use Rattle.litrs_search.specs.Marked.{IsMarked};
 
-use crate::lanes::special_marks;
+use crate::lanes::{marks_of_eights, marks_of_fours, special_marks};
 use crate::search::{Special, Target, by_bytes, first_marked};
 
 /// How many bytes one load marks in a long text.
@@ -93,16 +93,41 @@ fn load_marked(bytes: &[u8], from: usize, what: Special, marked: Marked) -> (usi
     }
 }
 
-/// The special bytes among N to 2 N: bit i is that of the byte at i. There is one load of the first
-/// N bytes, and one of the last, whose marks of the first N are shifted out.
+/// The special bytes among the first N, and those among the last N: bit i is that of the ith of
+/// them. Fewer than 16 are compared at once with the others.
+#[inline(always)]
+fn end_marks<const N: usize>(bytes: &[u8], what: Special) -> (u64, u64)
+    requires { (N ≤ length bytes.now) × (N ≤ 64) }
+    ensures first { result.0 ≡ mask_l (map (is_special what) (chunk 0 N bytes.now)) }
+    ensures last { result.1
+        ≡ mask_l (map (is_special what) (chunk (length bytes.now - N) N bytes.now)) }
+{
+    match N {
+        4 => {
+            let marks = marks_of_fours(bytes, what);
+            (marks % 16, marks >> 4)
+        }
+        8 => {
+            let marks = marks_of_eights(bytes, what);
+            (marks % 256, marks >> 8)
+        }
+        _ => (
+            special_marks::<N>(bytes, 0, what),
+            special_marks::<N>(bytes, bytes.len() - N, what),
+        ),
+    }
+}
+
+/// The special bytes among N to 2 N: bit i is that of the byte at i. Of the marks of the last N
+/// those of the first N are shifted out.
 #[inline(always)]
 fn all_special_marks<const N: usize>(bytes: &[u8], what: Special) -> u64
     requires { (N ≤ length bytes.now) × (length bytes.now ≤ N + N) × (N ≤ 16) }
     ensures { result ≡ mask_l (map (is_special what) bytes.now) }
 {
-    let len = bytes.len();
-    let last = special_marks::<N>(bytes, len - N, what) >> (N + N - len);
-    special_marks::<N>(bytes, 0, what) + (last << N)
+    let (first, last) = end_marks::<N>(bytes, what);
+    let after = last >> (N + N - bytes.len());
+    first + (after << N)
 }
 
 /// [`load_marked`] of N to 2 N bytes.

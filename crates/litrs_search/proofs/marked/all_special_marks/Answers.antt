@@ -6,9 +6,9 @@ use Rattle.litrs_search.proofs.marked.all_special_marks.Goals as goal
 pub overflow_add-result : goal.overflow_add-result
 overflow_add-result g c =
     let d = c.args.bytes.now in
-    let sum = two_loads (is_special c.args.what) d g.row.N c.special_marks-2.result c.special_marks.result c.special_marks-2.ensures c.special_marks.ensures (omega arith) (omega arith) (omega arith) in
+    let sum = two_loads (is_special c.args.what) d g.row.N c.end_marks-first.result.0 c.end_marks-first.result.1 c.end_marks-first.ensures.first c.end_marks-first.ensures.last (omega arith) (omega arith) (omega arith) in
     let small = all_small (is_special c.args.what) d (omega arith) in omega arith
 
 pub returns : goal.returns
 returns g c =
-    two_loads (is_special c.args.what) c.args.bytes.now g.row.N c.special_marks-2.result c.special_marks.result c.special_marks-2.ensures c.special_marks.ensures (omega arith) (omega arith) (omega arith)
+    two_loads (is_special c.args.what) c.args.bytes.now g.row.N c.end_marks-first.result.0 c.end_marks-first.result.1 c.end_marks-first.ensures.first c.end_marks-first.ensures.last (omega arith) (omega arith) (omega arith)
