@@ -4,7 +4,7 @@ use Rattle.std.specs.Str.{chars, IsUtf8, IsCharBoundary}
 use Rattle.std.specs.Prelude.{◌==◌}
 use Rattle.std.proofs.lemmas.Str.{chars-IsAscii}
 use Rattle.std.proofs.lemmas.Str.Ascii.{IsAscii-nil, IsAscii-cons}
-use Rattle.std.proofs.lemmas.List.{get_or-drop, take-take, drop-take, drop-drop, length-take-le, length-drop}
+use Rattle.std.proofs.lemmas.List.{get_or-drop, take-take, drop-take, drop-drop, length-take-le, length-drop, take_all}
 use Rattle.std.proofs.Math.Seq.{take-append-add}
 use Rattle.litrs_base.specs.declared.escape.Unescape.TheVariants.{Byte}
 use Rattle.litrs_grammar.specs.Escape.{Switches}
@@ -47,6 +47,11 @@ joined_front room text padded start from place byte is order after within few lo
     ∙ (ap (λ n. take n (front ++ take 16 (drop (from + 2) padded))) total ∙ take-append-add front (take 16 (drop (from + 2) padded)) (place - (from + 2)))) in
     cut ∙ (ap (λ l. front ++ l) (take-take (place - (from + 2)) 16 (drop (from + 2) padded) (omega arith) ∙ padded_run padded text (from + 2) place is after within)
     ∙ ap (λ l. l ++ (byte ∷ []) ++ take (place - (from + 2)) (drop (from + 2) text)) (padded_run padded text start from is order (omega arith)))
+
+-- what is left of a text from a place on
+pub all_left : (bytes text rest : List ℕ) (place : ℕ) → bytes ≡ text → take (length bytes - place) (drop place bytes) ≡ rest → drop place text ≡ rest
+all_left bytes text rest place same left =
+    ap (drop place) (sym same) ∙ (sym (take_all (length bytes - place) (drop place bytes) (omega (arith, length-drop place bytes))) ∙ left)
 
 -- The items of a body whose only item with a backslash is an escape of two bytes, and its value.
 pub lone_end : (w : Switches) (bytes rest tail : List ℕ) (offset from place byte : ℕ) → IsUtf8 bytes → IsCharBoundary bytes offset → IsPlainRun w bytes offset from →

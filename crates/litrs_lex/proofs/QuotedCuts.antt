@@ -1,18 +1,21 @@
 -- The cut of a quoted literal, and its refusal, from where its items end.
-use Rattle.std.proofs.Common.{◌≡◌, ℕ, ◌+◌, ◌-◌, ◌≤◌, ◌<◌, ◌^◌, ◌==◌, Bool, true, false, not, List, [], ◌∷◌, ◌++◌, length, drop, take, refl, sym, ap, subst, ◌∙◌, append_assoc, arith, Some, None, inr}
+use Rattle.std.proofs.Common.{◌≡◌, inl, ℕ, ◌+◌, ◌-◌, ◌≤◌, ◌<◌, ◌^◌, ◌==◌, Bool, true, false, not, List, [], ◌∷◌, ◌++◌, length, drop, take, refl, sym, ap, subst, ◌∙◌, append_assoc, arith, Some, None, inr}
 use Rattle.std.specs.Prelude.{encode_utf8_all, slice_range}
 use Rattle.std.specs.Str.{chars, IsUtf8, IsCharBoundary}
 use Rattle.std.proofs.lemmas.Bool.{ne_eqb, eq-eqb, true≢false}
-use Rattle.std.proofs.lemmas.Str.{encodes-chars, encodes-append, chars_from_encodes, IsUtf8-drop, IsUtf8-take}
+use Rattle.std.proofs.lemmas.Str.{chars-nil, chars-IsAscii, encodes-chars, encodes-append, chars_from_encodes, IsUtf8-drop, IsUtf8-take}
+use Rattle.std.proofs.lemmas.Str.Ascii.{IsAscii-nil, IsAscii-cons}
 use Rattle.std.proofs.Math.Seq.{take-append_seam}
 use Rattle.litrs_base.specs.declared.err.ParseError.{ParseError}
 use Rattle.litrs_base.specs.Refusal.{Refusal, refusal_of, IsInText, moved, moved_span, char_span_of, HasCharSpan, MovesWithin}
-use Rattle.litrs_base.specs.Text.{byte_len}
+use Rattle.litrs_base.specs.Text.{byte_len, first_passes}
 use Rattle.litrs_base.proofs.ByteLen.{byte_len_one_ascii}
 use Rattle.litrs_base.proofs.CharEnds.{char_span_points, char_span_moved, moves_within}
 use Rattle.litrs_base.proofs.Spans.{byte_len-append}
 use Rattle.litrs_grammar.specs.Escape.{Switches}
 use Rattle.litrs_grammar.specs.Allocation.{has_backslash}
+use Rattle.litrs_grammar.specs.Suffix.{is_suffix}
+use Rattle.litrs_grammar.proofs.LongerTexts.Suffix.{is_suffix-nil}
 use Rattle.litrs_grammar.specs.Quoted.{Item, body_text, body_value, stand_before, is_body, QuotedParts, IsQuoted, IsQuotedRefusal, rest_refusal}
 use Rattle.litrs_grammar.proofs.QuotedItems.{body_stands, stands_body}
 use Rattle.litrs_grammar.proofs.Laws.Quoted.{quoted_texts_are_unique, quoted_texts_are_not_refused, quoted_refusals_are_unique, quoted_values_fit_bodies}
@@ -22,8 +25,8 @@ use Rattle.litrs_grammar.proofs.RefusalKinds.{quoted_of_text}
 use Rattle.litrs_grammar.proofs.Laws.Value.{plain_bodies_are_their_values}
 use Rattle.litrs_lex.specs.declared.quoted.ItemsEnd.{ItemsEnd}
 use Rattle.litrs_lex.specs.QuotedCut.{IsQuotedCut, IsQuotedRefused}
-use Rattle.litrs_lex.specs.QuotedItems.{IsPlainRun, IsItemsEnd}
-use Rattle.litrs_lex.proofs.QuotedBytes.{cut_at, closed_of}
+use Rattle.litrs_lex.specs.QuotedItems.{IsPlainRun, IsItemsEnd, EndsItems}
+use Rattle.litrs_lex.proofs.QuotedBytes.{cut_at, closed_of, quote_free}
 use Rattle.litrs_lex.proofs.QuotedScan.{front_splits, plain_items_end}
 
 -- The refusal
@@ -137,6 +140,13 @@ slice_of bytes t rest from u start split =
 behind_front : (front x y : List ℕ) → front ++ x ≡ front ++ y → x ≡ y
 behind_front [] x y h = h
 behind_front (c ∷ front) x y h = behind_front front x y (let same : front ++ x ≡ front ++ y = cc in same)
+
+-- the closing quote ends the text, and the empty text is a suffix
+pub lone_quote_free : (w : Switches) (rest : List ℕ) → rest ≡ 34 ∷ [] → rest_refusal w (chars rest) ≡ None
+lone_quote_free w rest is = quote_free w rest _ _ is refl (ap is_suffix chars-nil ∙ is_suffix-nil)
+
+pub lone_quote_ends : (w : Switches) (rest : List ℕ) → rest ≡ 34 ∷ [] → EndsItems w (chars rest)
+lone_quote_ends w rest is = inl (ap (first_passes (λ c. c == 34)) (ap chars is ∙ chars-IsAscii (34 ∷ []) (IsAscii-cons 34 [] (omega arith) IsAscii-nil)))
 
 pub is_quoted_cut : (w : Switches) (bytes : List ℕ) (offset : ℕ) (end : ItemsEnd) (has_escape : Bool) → IsUtf8 bytes → IsCharBoundary bytes offset → IsItemsEnd w bytes offset end →
     rest_refusal w (chars (drop end.place bytes)) ≡ None → has_escape ≡ not (end.value_len == end.place - offset) →

@@ -5,20 +5,20 @@ ghost use Rattle.litrs_grammar.specs.Quoted.{QuotedParts, IsQuoted, body_value};
 ghost use Rattle.litrs_lex.specs.QuotedItems.{IsPlainRun, IsItemsEnd};
 ghost use Rattle.litrs_parts.specs.Unescaped.{grammar_switches};
 
-use crate::quoted::{ItemsEnd, ends_items, is_quote, next_item, search_end};
+use crate::quoted::{ItemsEnd, is_quote, next_item, search_end};
 use crate::short_value::copy_at;
 use litrs_parts::Switches;
 use litrs_search::Marked;
 
 /// How many bytes one move copies. A text of few bytes has at most so many.
-const MOVED: usize = 16;
+pub(crate) const MOVED: usize = 16;
 
 /// Room for a text of few bytes, and for what a move copies from after its end; and for a value.
 pub(crate) const ROOM: usize = 32;
 
 /// Where the items of a body end in a text of few bytes, if the item at `from` is an escape of two
-/// bytes, and no other has a backslash; the bytes that they stand for are put at the front of the
-/// room. None for every other text.
+/// bytes, no other has a backslash, and the closing quote ends the text; the bytes that they stand
+/// for are put at the front of the room. None for every other text.
 ///
 /// Where the escape stands decides no branch, so that none is mispredicted.
 #[inline(always)]
@@ -31,7 +31,9 @@ pub(crate) fn lone_escape_end(
 ) -> Option<ItemsEnd>
     requires at { IsCharBoundary input.now offset }
     requires run { IsPlainRun (grammar_switches allowed) input.now offset from }
+    requires few { length input.now ≤ 16 }
     ensures end { IfSome result (IsItemsEnd (grammar_switches allowed) input.now offset) }
+    ensures closed { IfSome result (λ end. drop end.place input.now ≡ codes "\"") }
     ensures value { IfSome result (λ end. (q : QuotedParts) →
         IsQuoted (chars (take offset input.now)) (grammar_switches allowed)
         (chars input.now) q →
@@ -40,7 +42,7 @@ pub(crate) fn lone_escape_end(
     ensures has_escape { IfSome result (λ end. end.value_len < end.place - offset) }
 {
     let bytes = input.as_bytes();
-    if bytes.len() < 4 || bytes.len() > MOVED {
+    if bytes.len() < 4 {
         return None;
     }
     // Copied this early, since the moves wait until the copy is written.
@@ -57,7 +59,7 @@ pub(crate) fn lone_escape_end(
         });
     }
     let place = rest_end(input, at, allowed);
-    if !ends_items(&input[place..], allowed) {
+    if !is_quote(&bytes[place..]) {
         return None;
     }
     join(&text, offset, from, byte, room);

@@ -1,11 +1,12 @@
 //! Where a quoted string, byte string or C string is cut.
-ghost use Rattle.std.specs.Prelude.{Bool, not, ◌-◌, [], take, codes, ◌≡◌, ◌≢◌, ◌≤◌, ◌==◌, true, false, length, IfOk, IfErr, IfSome, IfNone, Some, None, IsTrue, IsFalse};
+ghost use Rattle.std.specs.Prelude.{Bool, not, ◌-◌, [], take, drop, codes, ◌≡◌, ◌≢◌, ◌≤◌, ◌<◌, ◌==◌, true, false, length, IfOk, IfErr, IfSome, IfNone, Some, None, IsTrue, IsFalse};
 ghost use Rattle.std.specs.List.{prefix_len};
 ghost use Rattle.std.specs.Str.{chars, IsCharBoundary};
 ghost use Rattle.litrs_base.specs.Characters.{line_feed, is_blank};
 ghost use Rattle.litrs_base.specs.declared.escape.Unescape.TheVariants.{Byte};
 ghost use Rattle.litrs_base.specs.Refusal.{refusal_of, HasCharSpan};
 ghost use Rattle.litrs_base.specs.Text.{first_passes};
+ghost use Rattle.litrs_grammar.specs.Escape.{Switches as GrammarSwitches};
 ghost use Rattle.litrs_grammar.specs.Quoted.{QuotedParts, IsQuoted, body_value, is_plain, without_last, rest_refusal};
 ghost use Rattle.litrs_lex.specs.QuotedCut.{IsQuotedCut, IsQuotedRefused};
 ghost use Rattle.litrs_lex.specs.QuotedItems.{IsPlainRun, IsItemAt, IsItemsEnd, EndsItems, item_bytes, stops};
@@ -90,14 +91,37 @@ pub(crate) fn cut_at_end(
     ensures has_escape { IfOk result (λ cut.
         cut.has_escape ≡ not (end.value_len == end.place - offset)) }
 {
-    match end_refusal(&input[end.place..], allowed) {
-        // A value is shorter than its body where the body has a backslash.
-        None => Ok(QuotedCut {
-            value_len: end.value_len,
-            has_escape: end.value_len != end.place - offset,
-            start_suffix: end.place + 1,
-        }),
+    let rest = &input[end.place..];
+    if is_quote(rest.as_bytes()) {
+        return Ok(cut_at_quote(input, offset, end));
+    }
+    let Switches {
+        unicode,
+        byte_escapes,
+        allow_nul,
+    } = allowed;
+    match rest_refusal(rest, unicode, byte_escapes, allow_nul) {
+        None => Ok(cut_at_quote(input, offset, end)),
         Some(e) => Err(e.offset_span(end.place)),
+    }
+}
+
+/// [`cut_at_end`] where the closing quote follows the items, and a suffix or nothing follows it.
+#[inline(always)]
+pub(crate) fn cut_at_quote(input: &str, offset: usize, end: ItemsEnd) -> QuotedCut
+    requires at { IsCharBoundary input.now offset }
+    requires order { offset ≤ end.place }
+    requires within { end.place ≤ length input.now }
+    ensures cut { (w : GrammarSwitches) → IsItemsEnd w input.now offset end →
+        rest_refusal w (chars (drop end.place input.now)) ≡ None →
+        IsQuotedCut w input.now offset result }
+    ensures has_escape { result.has_escape ≡ not (end.value_len == end.place - offset) }
+{
+    // A value is shorter than its body where the body has a backslash.
+    QuotedCut {
+        value_len: end.value_len,
+        has_escape: end.value_len != end.place - offset,
+        start_suffix: end.place + 1,
     }
 }
 
@@ -421,30 +445,6 @@ pub(crate) fn next_item(rest: &str, allowed: Switches) -> Option<Escaped>
             Err(_) => None,
         },
         _ => None,
-    }
-}
-
-/// [`rest_refusal`], and nothing else to be read where the closing quote ends the text.
-#[inline(always)]
-fn end_refusal(rest: &str, allowed: Switches) -> Option<ParseError>
-    requires { IsFalse
-        (first_passes (is_plain (grammar_switches allowed)) (chars rest.now)) }
-    ensures none { IfNone result
-        (rest_refusal (grammar_switches allowed) (chars rest.now) ≡ None) }
-    ensures refusal { IfSome result (λ e.
-        rest_refusal (grammar_switches allowed) (chars rest.now)
-        ≡ Some (refusal_of e)) }
-    ensures char_span { IfSome result (HasCharSpan (chars rest.now)) }
-{
-    if is_quote(rest.as_bytes()) {
-        None
-    } else {
-        let Switches {
-            unicode,
-            byte_escapes,
-            allow_nul,
-        } = allowed;
-        rest_refusal(rest, unicode, byte_escapes, allow_nul)
     }
 }
 
