@@ -1,14 +1,14 @@
 -- What stands at the front of the rest of a quoted body, by its bytes.
 use Rattle.std.proofs.Common.{◌≡◌, ℕ, ◌+◌, ◌≤◌, ◌<◌, Bool, true, false, not, ◌||◌, List, [], ◌∷◌, ◌++◌, ◌-◌, length, drop, take, get_or, refl, sym, ap, subst, ◌∙◌, append_assoc, length-append, arith, suc, Some, None, Option, inl, inr}
-use Rattle.std.specs.Prelude.{encode_utf8, encode_utf8_all, ◌==◌, IfSome, IsTrue}
+use Rattle.std.specs.Prelude.{slice_range, encode_utf8, encode_utf8_all, ◌==◌, IfSome, IsTrue}
 use Rattle.std.specs.List.{list_all, prefix_len}
 use Rattle.std.specs.Option.{MatchOption}
 use Rattle.std.specs.Str.{chars, IsUtf8, IsCharBoundary}
 use Rattle.std.specs.declared.ops.Range.{Range}
 use Rattle.std.proofs.lemmas.Bool.{and_parts, and_from, not_from_false, ne_eqb, cases_lt, cases_eq, or_right, eqb-true, both_ways, false≢true, lt-ltb, le-ltb}
-use Rattle.std.proofs.lemmas.List.{append-nil, take-append-drop, length-drop}
+use Rattle.std.proofs.lemmas.List.{append-nil, take-append-drop, length-drop, take_all, take_more}
 use Rattle.std.proofs.lemmas.List.Sums.{prefix_len-le-length}
-use Rattle.std.proofs.lemmas.Str.{chars-nil, chars_from_encodes, encodes-chars, encodes-append, IsCharBoundary-from_drop}
+use Rattle.std.proofs.lemmas.Str.{chars-nil, encode_ascii, chars_from_encodes, encodes-chars, encodes-append, IsCharBoundary-from_drop}
 use Rattle.std.proofs.Math.Seq.{take-length, drop-append_seam, drop-length}
 use Rattle.litrs_base.specs.declared.err.ParseError.{ParseError}
 use Rattle.litrs_base.specs.declared.err.ParseErrorKind.TheVariants.{UnterminatedString, UnterminatedEscape, CarriageReturn, NulByte, NonAsciiInByteLiteral}
@@ -360,6 +360,21 @@ last_cut text t c u is v =
     let spelled : encode_utf8_all (chars t ++ c ∷ []) ≡ text =
     encodes-append (chars t) (c ∷ []) ∙ (ap (λ l. l ++ encode_utf8_all (c ∷ [])) (encodes-chars t v) ∙ (ap (λ l. t ++ l) (append-nil (encode_utf8 c)) ∙ sym is)) in
     sym (without_last_char (chars t) c) ∙ ap without_last (chars_from_encodes (chars t ++ c ∷ []) text u spelled)
+
+-- an ASCII character is its last byte
+pub ascii_cut : (text bytes t : List ℕ) → IsUtf8 text → IsUtf8 t → bytes ≡ text → 0 < length bytes → get_or bytes (length bytes - 1) 0 < 128 → t ≡ slice_range text 0 (length bytes - 1) →
+    chars t ≡ without_last (chars text)
+ascii_cut text bytes t u v same some low is =
+    let n = length bytes - 1 in
+    let c = get_or text n 0 in
+    let size : length bytes ≡ length text = ap length same in
+    let low : c < 128 = omega (arith, ap (λ (l : List ℕ). get_or l n 0) same) in
+    let all : n + 1 ≡ length text = omega arith in
+    let none : n - 0 ≡ n = omega arith in
+    let front : t ≡ take n text = is ∙ ap (λ k. take k text) none in
+    let split : text ≡ t ++ encode_utf8 c =
+    sym (take_all (n + 1) text (omega arith)) ∙ (take_more text n 0 (omega arith) ∙ (ap (λ l. l ++ (c ∷ [])) (sym front) ∙ ap (λ l. t ++ l) (sym (encode_ascii c low)))) in
+    last_cut text t c u split v
 
 -- one step from the back leaves the text without its last character
 pub stepped_back : (text t : List ℕ) (r : Option ℕ) → IsUtf8 text → IsUtf8 t → MatchOption r ((length text ≡ 0) × (t ≡ text)) (λ c. text ≡ t ++ encode_utf8 c) →

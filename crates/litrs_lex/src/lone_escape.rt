@@ -11,7 +11,7 @@ use litrs_parts::Switches;
 use litrs_search::Marked;
 
 /// How many bytes one move copies. A text of few bytes has at most so many.
-pub(crate) const MOVED: usize = 16;
+const MOVED: usize = 16;
 
 /// Room for a text of few bytes, and for what a move copies from after its end; and for a value.
 pub(crate) const ROOM: usize = 32;
@@ -31,7 +31,6 @@ pub(crate) fn lone_escape_end(
 ) -> Option<ItemsEnd>
     requires at { IsCharBoundary input.now offset }
     requires run { IsPlainRun (grammar_switches allowed) input.now offset from }
-    requires few { length input.now ≤ 16 }
     ensures end { IfSome result (IsItemsEnd (grammar_switches allowed) input.now offset) }
     ensures closed { IfSome result (λ end. drop end.place input.now ≡ codes "\"") }
     ensures value { IfSome result (λ end. (q : QuotedParts) →
@@ -42,7 +41,7 @@ pub(crate) fn lone_escape_end(
     ensures has_escape { IfSome result (λ end. end.value_len < end.place - offset) }
 {
     let bytes = input.as_bytes();
-    if bytes.len() < 4 {
+    if bytes.len() < 4 || bytes.len() > MOVED {
         return None;
     }
     // Copied this early, since the moves wait until the copy is written.

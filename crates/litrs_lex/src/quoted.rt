@@ -91,16 +91,7 @@ pub(crate) fn cut_at_end(
     ensures has_escape { IfOk result (λ cut.
         cut.has_escape ≡ not (end.value_len == end.place - offset)) }
 {
-    let rest = &input[end.place..];
-    if is_quote(rest.as_bytes()) {
-        return Ok(cut_at_quote(input, offset, end));
-    }
-    let Switches {
-        unicode,
-        byte_escapes,
-        allow_nul,
-    } = allowed;
-    match rest_refusal(rest, unicode, byte_escapes, allow_nul) {
+    match end_refusal(&input[end.place..], allowed) {
         None => Ok(cut_at_quote(input, offset, end)),
         Some(e) => Err(e.offset_span(end.place)),
     }
@@ -448,6 +439,30 @@ pub(crate) fn next_item(rest: &str, allowed: Switches) -> Option<Escaped>
     }
 }
 
+/// [`rest_refusal`], and nothing else to be read where the closing quote ends the text.
+#[inline(always)]
+fn end_refusal(rest: &str, allowed: Switches) -> Option<ParseError>
+    requires { IsFalse
+        (first_passes (is_plain (grammar_switches allowed)) (chars rest.now)) }
+    ensures none { IfNone result
+        (rest_refusal (grammar_switches allowed) (chars rest.now) ≡ None) }
+    ensures refusal { IfSome result (λ e.
+        rest_refusal (grammar_switches allowed) (chars rest.now)
+        ≡ Some (refusal_of e)) }
+    ensures char_span { IfSome result (HasCharSpan (chars rest.now)) }
+{
+    if is_quote(rest.as_bytes()) {
+        None
+    } else {
+        let Switches {
+            unicode,
+            byte_escapes,
+            allow_nul,
+        } = allowed;
+        rest_refusal(rest, unicode, byte_escapes, allow_nul)
+    }
+}
+
 /// Whether a quote is all there is. It is the equality of texts, without a call.
 #[inline(always)]
 pub fn is_quote(bytes: &[u8]) -> bool
@@ -528,9 +543,22 @@ fn blanks_len(bytes: &[u8]) -> usize
     run_end(bytes, Run::Blanks)
 }
 
-/// The text without its last character.
+/// The text without its last character. One that is ASCII, as a closing quote is, is cut off
+/// without a call.
 #[inline(always)]
 fn without_last(text: &str) -> &str
+    ensures { chars result.now ≡ without_last (chars text.now) }
+{
+    let bytes = text.as_bytes();
+    if bytes.len() > 0 && bytes[bytes.len() - 1] < 128 {
+        return &text[..bytes.len() - 1];
+    }
+    without_last_of_any(text)
+}
+
+/// [`without_last`] of a text that may end with a character beyond ASCII.
+#[inline(never)]
+fn without_last_of_any(text: &str) -> &str
     ensures { chars result.now ≡ without_last (chars text.now) }
 {
     let mut chars = text.chars();

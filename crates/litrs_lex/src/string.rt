@@ -3,13 +3,13 @@ ghost use Rattle.std.specs.Prelude.{◌≡◌, ◌≤◌, ◌<◌, ◌+◌, ◌-
 ghost use Rattle.std.specs.Str.{chars, IsUtf8, IsCharBoundary};
 ghost use Rattle.litrs_grammar.specs.Quoted.{QuotedParts, IsQuoted, body_value};
 ghost use Rattle.litrs_lex.specs.Container.{is_pushable};
-ghost use Rattle.litrs_lex.specs.QuotedItems.{EndsItems, IsPlainRun, IsItemsEnd, item_bytes};
+ghost use Rattle.litrs_lex.specs.QuotedItems.{IsPlainRun, IsItemsEnd, item_bytes};
 ghost use Rattle.litrs_lex.specs.QuotedCut.{IsQuotedRefused, IsQuotedValue, IsOutOfMemory, IsQuotedOutOfMemory};
 ghost use Rattle.litrs_lex.specs.declared.short_value.TheConstants.{LONGEST};
 ghost use Rattle.litrs_parts.specs.Unescaped.{switches, grammar_switches};
 
 use crate::container::EscapeContainer;
-use crate::lone_escape::{MOVED, ROOM, lone_escape_end};
+use crate::lone_escape::{ROOM, lone_escape_end};
 use crate::quoted::{
     ItemsEnd, QuotedCut, cut_at_end, cut_at_quote, ends_items, first_plain_end, is_quote,
     more_items_end, next_item, plain_end, rest_refusal,
@@ -59,53 +59,18 @@ pub fn unescape_string<C: EscapeContainer>(
         allow_nul,
     };
     let place = first_plain_end(input, offset, allowed);
-    let rest = &input[place..];
-    if is_quote(rest.as_bytes()) {
+    if ends_items(&input[place..], allowed) {
         let value_len = place - offset;
-        let plain = cut_at_quote(input, offset, ItemsEnd { place, value_len });
+        let end = ItemsEnd { place, value_len };
+        let plain = cut_at_end(input, offset, end, allowed)?;
         Ok((None, plain.start_suffix))
-    } else if ends_items(rest, allowed) {
-        cut_plain(input, offset, place, unicode, byte_escapes, allow_nul)
     } else {
         unescape_more(alloc, input, offset, place, allowed)
     }
 }
 
-/// [`unescape_string`] of a body without a backslash whose characters end there. It is a call, so
-/// that callers keep no room on the stack for a refusal where the closing quote ends the text.
-#[inline(never)]
-fn cut_plain<C: EscapeContainer>(
-    input: &str,
-    offset: usize,
-    place: usize,
-    unicode: bool,
-    byte_escapes: bool,
-    allow_nul: bool,
-) -> Result<(Option<C>, usize), ParseError>
-    requires at { IsCharBoundary input.now offset }
-    requires run { IsPlainRun (switches unicode byte_escapes allow_nul) input.now offset place }
-    requires ends { EndsItems (switches unicode byte_escapes allow_nul)
-        (chars (drop place input.now)) }
-    ensures ok { IfOk result (λ read.
-        IsQuotedValue (switches unicode byte_escapes allow_nul) input.now offset
-        (option_map C.contents read.0) read.1) }
-    ensures refused { IfErr result (λ e.
-        IsQuotedRefused (switches unicode byte_escapes allow_nul) input.now offset e
-        ⊎ IsQuotedOutOfMemory (switches unicode byte_escapes allow_nul) input.now offset e) }
-{
-    let allowed = Switches {
-        unicode,
-        byte_escapes,
-        allow_nul,
-    };
-    let value_len = place - offset;
-    let end = ItemsEnd { place, value_len };
-    let plain = cut_at_end(input, offset, end, allowed)?;
-    Ok((None, plain.start_suffix))
-}
-
-/// [`unescape_string`] of a body whose plain characters at its front end at `from`. In most texts
-/// of few bytes one item alone has a backslash.
+/// [`unescape_string`] of a body whose plain characters at its front end at `from`, in one piece
+/// for each kind of literal.
 #[inline(always)]
 fn unescape_more<C: EscapeContainer>(
     alloc: Global,
@@ -124,45 +89,19 @@ fn unescape_more<C: EscapeContainer>(
         IsQuotedRefused (grammar_switches allowed) input.now offset e
         ⊎ IsQuotedOutOfMemory (grammar_switches allowed) input.now offset e) }
 {
-    if input.len() <= MOVED && begins_simply(&input.as_bytes()[from..]) {
-        unescape_few(alloc, input, offset, from, allowed)
-    } else {
-        unescape_many(alloc, input, offset, from, allowed)
-    }
-}
-
-/// [`unescape_more`] of a text of few bytes, in one piece for each kind of literal.
-#[inline(always)]
-fn unescape_few<C: EscapeContainer>(
-    alloc: Global,
-    input: &str,
-    offset: usize,
-    from: usize,
-    allowed: Switches,
-) -> Result<(Option<C>, usize), ParseError>
-    requires at { IsCharBoundary input.now offset }
-    requires run { IsPlainRun (grammar_switches allowed) input.now offset from }
-    requires few { length input.now ≤ 16 }
-    requires fits { IsTrue (not allowed.byte_escapes || C.TAKES_BYTES) }
-    ensures ok { IfOk result (λ read.
-        IsQuotedValue (grammar_switches allowed) input.now offset
-        (option_map C.contents read.0) read.1) }
-    ensures refused { IfErr result (λ e.
-        IsQuotedRefused (grammar_switches allowed) input.now offset e
-        ⊎ IsQuotedOutOfMemory (grammar_switches allowed) input.now offset e) }
-{
     let bytes = allowed.byte_escapes;
     match (allowed.unicode, allowed.allow_nul) {
-        (true, true) => few_piece::<C, true, true>(alloc, input, offset, from, bytes),
-        (true, false) => few_piece::<C, true, false>(alloc, input, offset, from, bytes),
-        (false, true) => few_piece::<C, false, true>(alloc, input, offset, from, bytes),
-        (false, false) => few_piece::<C, false, false>(alloc, input, offset, from, bytes),
+        (true, true) => unescape_piece::<C, true, true>(alloc, input, offset, from, bytes),
+        (true, false) => unescape_piece::<C, true, false>(alloc, input, offset, from, bytes),
+        (false, true) => unescape_piece::<C, false, true>(alloc, input, offset, from, bytes),
+        (false, false) => unescape_piece::<C, false, false>(alloc, input, offset, from, bytes),
     }
 }
 
-/// [`unescape_few`] in the literals of one kind.
+/// [`unescape_more`] in the literals of one kind. In most texts of few bytes one item alone has a
+/// backslash. There is room for values that are as long as the text, up to a limit.
 #[inline(never)]
-fn few_piece<C: EscapeContainer, const UNICODE: bool, const ALLOW_NUL: bool>(
+fn unescape_piece<C: EscapeContainer, const UNICODE: bool, const ALLOW_NUL: bool>(
     alloc: Global,
     input: &str,
     offset: usize,
@@ -171,7 +110,6 @@ fn few_piece<C: EscapeContainer, const UNICODE: bool, const ALLOW_NUL: bool>(
 ) -> Result<(Option<C>, usize), ParseError>
     requires at { IsCharBoundary input.now offset }
     requires run { IsPlainRun (switches UNICODE byte_escapes ALLOW_NUL) input.now offset from }
-    requires few { length input.now ≤ 16 }
     requires fits { IsTrue (not byte_escapes || C.TAKES_BYTES) }
     ensures ok { IfOk result (λ read.
         IsQuotedValue (switches UNICODE byte_escapes ALLOW_NUL) input.now offset
@@ -185,10 +123,22 @@ fn few_piece<C: EscapeContainer, const UNICODE: bool, const ALLOW_NUL: bool>(
         byte_escapes,
         allow_nul: ALLOW_NUL,
     };
-    let mut room = [0; ROOM];
-    match lone_escape_end(input, offset, from, allowed, &mut room) {
-        Some(end) => unescape_lone(alloc, input, offset, end, allowed, &room[..end.value_len]),
-        None => unescape_piece::<C, UNICODE, ALLOW_NUL>(alloc, input, offset, from, byte_escapes),
+    let rest = &input[from..];
+    if begins_simply(rest.as_bytes()) {
+        let mut room = [0; ROOM];
+        if let Some(end) = lone_escape_end(input, offset, from, allowed, &mut room) {
+            return unescape_lone(alloc, input, offset, end, allowed, &room[..end.value_len]);
+        }
+    } else if !is_rarely_refused(rest.as_bytes(), allowed)
+        && let Some(e) = rest_refusal(rest, UNICODE, byte_escapes, ALLOW_NUL)
+    {
+        // It is read before room for a value is set to zero.
+        return Err(e.offset_span(from));
+    }
+    if input.len() <= SHORT {
+        unescape_within::<C, SHORT>(alloc, input, offset, from, allowed)
+    } else {
+        unescape_longer::<C, UNICODE, ALLOW_NUL>(alloc, input, offset, from, byte_escapes)
     }
 }
 
@@ -226,86 +176,18 @@ fn unescape_lone<C: EscapeContainer>(
     }
 }
 
-/// [`unescape_more`] of any other text, in one piece for each kind of literal.
-#[inline(always)]
-fn unescape_many<C: EscapeContainer>(
-    alloc: Global,
-    input: &str,
-    offset: usize,
-    from: usize,
-    allowed: Switches,
-) -> Result<(Option<C>, usize), ParseError>
-    requires at { IsCharBoundary input.now offset }
-    requires run { IsPlainRun (grammar_switches allowed) input.now offset from }
-    requires fits { IsTrue (not allowed.byte_escapes || C.TAKES_BYTES) }
-    ensures ok { IfOk result (λ read.
-        IsQuotedValue (grammar_switches allowed) input.now offset
-        (option_map C.contents read.0) read.1) }
-    ensures refused { IfErr result (λ e.
-        IsQuotedRefused (grammar_switches allowed) input.now offset e
-        ⊎ IsQuotedOutOfMemory (grammar_switches allowed) input.now offset e) }
-{
-    let bytes = allowed.byte_escapes;
-    match (allowed.unicode, allowed.allow_nul) {
-        (true, true) => unescape_piece::<C, true, true>(alloc, input, offset, from, bytes),
-        (true, false) => unescape_piece::<C, true, false>(alloc, input, offset, from, bytes),
-        (false, true) => unescape_piece::<C, false, true>(alloc, input, offset, from, bytes),
-        (false, false) => unescape_piece::<C, false, false>(alloc, input, offset, from, bytes),
-    }
-}
-
-/// [`unescape_many`] in the literals of one kind. There is room for values that are as long as the
-/// text, up to a limit.
-#[inline(never)]
-fn unescape_piece<C: EscapeContainer, const UNICODE: bool, const ALLOW_NUL: bool>(
-    alloc: Global,
-    input: &str,
-    offset: usize,
-    from: usize,
-    byte_escapes: bool,
-) -> Result<(Option<C>, usize), ParseError>
-    requires at { IsCharBoundary input.now offset }
-    requires run { IsPlainRun (switches UNICODE byte_escapes ALLOW_NUL) input.now offset from }
-    requires fits { IsTrue (not byte_escapes || C.TAKES_BYTES) }
-    ensures ok { IfOk result (λ read.
-        IsQuotedValue (switches UNICODE byte_escapes ALLOW_NUL) input.now offset
-        (option_map C.contents read.0) read.1) }
-    ensures refused { IfErr result (λ e.
-        IsQuotedRefused (switches UNICODE byte_escapes ALLOW_NUL) input.now offset e
-        ⊎ IsQuotedOutOfMemory (switches UNICODE byte_escapes ALLOW_NUL) input.now offset e) }
-{
-    let allowed = Switches {
-        unicode: UNICODE,
-        byte_escapes,
-        allow_nul: ALLOW_NUL,
-    };
-    let rest = &input[from..];
-    if !is_rarely_refused(rest.as_bytes(), allowed)
-        && let Some(e) = rest_refusal(rest, UNICODE, byte_escapes, ALLOW_NUL)
-    {
-        // It is read before room for a value is set to zero.
-        return Err(e.offset_span(from));
-    }
-    if input.len() <= SHORT {
-        unescape_within::<C, SHORT>(alloc, input, offset, from, allowed)
-    } else {
-        unescape_longer::<C, UNICODE, ALLOW_NUL>(alloc, input, offset, from, byte_escapes)
-    }
-}
-
 /// Whether an escape begins so that stands for one byte, and is refused in no literal.
 #[inline(always)]
 fn begins_simply(bytes: &[u8]) -> bool {
     matches!(bytes, [_, b'n' | b'r' | b't' | b'"' | b'\'' | b'\\', ..])
 }
 
-/// Whether an escape that begins so is refused in few texts or none: a simple one, one with a hex
-/// digit that is allowed after `\x` or `\u{`, or a continuation. Any answer is right: where this is
-/// false, the escape is read once more unless it is refused.
+/// Whether any other escape that begins so is refused in few texts: one with a hex digit that is
+/// allowed after `\x` or `\u{`, or a continuation. Any answer is right: where this is false, the
+/// escape is read once more unless it is refused.
 #[inline(always)]
 fn is_rarely_refused(bytes: &[u8], allowed: Switches) -> bool {
     match bytes {
-        _ if begins_simply(bytes) => true,
         [_, b'\n', ..] => true,
         [_, b'0', ..] => allowed.allow_nul,
         [_, b'x', digit, ..] => if allowed.byte_escapes {

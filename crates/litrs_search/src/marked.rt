@@ -86,61 +86,70 @@ fn load_marked(bytes: &[u8], from: usize, what: Special, marked: Marked) -> (usi
 {
     match bytes.len() {
         0..=3 => (by_bytes(bytes, from, Target::Special(what)), marked),
-        4..=7 => mark_all::<4>(bytes, from, what),
-        8..=15 => mark_all::<8>(bytes, from, what),
-        16..=31 => mark_all::<16>(bytes, from, what),
+        4..=7 => mark_all(bytes, from, what, all_by_fours(bytes, what)),
+        8..=15 => mark_all(bytes, from, what, all_by_eights(bytes, what)),
+        16..=31 => mark_all(bytes, from, what, all_by_sixteens(bytes, what)),
         _ => mark_by_lanes(bytes, from, what),
     }
 }
 
-/// The special bytes among the first N, and those among the last N: bit i is that of the ith of
-/// them. Fewer than 16 are compared at once with the others.
+/// The special bytes of a text of four to seven bytes: bit i is that of the byte at i.
 #[inline(always)]
-fn end_marks<const N: usize>(bytes: &[u8], what: Special) -> (u64, u64)
-    requires { (N ≤ length bytes.now) × (N ≤ 64) }
-    ensures first { result.0 ≡ mask_l (map (is_special what) (chunk 0 N bytes.now)) }
-    ensures last { result.1
-        ≡ mask_l (map (is_special what) (chunk (length bytes.now - N) N bytes.now)) }
-{
-    match N {
-        4 => {
-            let marks = marks_of_fours(bytes, what);
-            (marks % 16, marks >> 4)
-        }
-        8 => {
-            let marks = marks_of_eights(bytes, what);
-            (marks % 256, marks >> 8)
-        }
-        _ => (
-            special_marks::<N>(bytes, 0, what),
-            special_marks::<N>(bytes, bytes.len() - N, what),
-        ),
-    }
-}
-
-/// The special bytes among N to 2 N: bit i is that of the byte at i. Of the marks of the last N
-/// those of the first N are shifted out.
-#[inline(always)]
-fn all_special_marks<const N: usize>(bytes: &[u8], what: Special) -> u64
-    requires { (N ≤ length bytes.now) × (length bytes.now ≤ N + N) × (N ≤ 16) }
+fn all_by_fours(bytes: &[u8], what: Special) -> u64
+    requires { (4 ≤ length bytes.now) × (length bytes.now ≤ 8) }
     ensures { result ≡ mask_l (map (is_special what) bytes.now) }
 {
-    let (first, last) = end_marks::<N>(bytes, what);
+    let ends = marks_of_fours(bytes, what);
+    joined_marks::<4>(bytes, what, ends % 16, ends >> 4)
+}
+
+/// [`all_by_fours`] of eight to 15 bytes.
+#[inline(always)]
+fn all_by_eights(bytes: &[u8], what: Special) -> u64
+    requires { (8 ≤ length bytes.now) × (length bytes.now ≤ 16) }
+    ensures { result ≡ mask_l (map (is_special what) bytes.now) }
+{
+    let ends = marks_of_eights(bytes, what);
+    joined_marks::<8>(bytes, what, ends % 256, ends >> 8)
+}
+
+/// [`all_by_fours`] of 16 to 31 bytes.
+#[inline(always)]
+fn all_by_sixteens(bytes: &[u8], what: Special) -> u64
+    requires { (16 ≤ length bytes.now) × (length bytes.now ≤ 32) }
+    ensures { result ≡ mask_l (map (is_special what) bytes.now) }
+{
+    let first = special_marks::<16>(bytes, 0, what);
+    let last = special_marks::<16>(bytes, bytes.len() - 16, what);
+    joined_marks::<16>(bytes, what, first, last)
+}
+
+/// The special bytes among N to 2 N, where these are those of the first N and of the last: the
+/// marks of the last that the first have too are shifted out.
+#[inline(always)]
+fn joined_marks<const N: usize>(bytes: &[u8], what: Special, first: u64, last: u64) -> u64
+    requires size { (N ≤ length bytes.now) × (length bytes.now ≤ N + N) × (N ≤ 16) }
+    requires first { first ≡ mask_l (map (is_special what) (chunk 0 N bytes.now)) }
+    requires last { last
+        ≡ mask_l (map (is_special what) (chunk (length bytes.now - N) N bytes.now)) }
+    ensures { result ≡ mask_l (map (is_special what) bytes.now) }
+{
     let after = last >> (N + N - bytes.len());
     first + (after << N)
 }
 
-/// [`load_marked`] of N to 2 N bytes.
+/// [`load_marked`] of a short text, where these are the marks of all of it.
 #[inline(always)]
-fn mark_all<const N: usize>(bytes: &[u8], from: usize, what: Special) -> (usize, Marked)
-    requires { (from ≤ length bytes.now) × (N ≤ length bytes.now)
-        × (length bytes.now ≤ N + N) × (N ≤ 16) }
+fn mark_all(bytes: &[u8], from: usize, what: Special, all: u64) -> (usize, Marked)
+    requires within { from ≤ length bytes.now }
+    requires few { length bytes.now ≤ 32 }
+    requires all { all ≡ mask_l (map (is_special what) bytes.now) }
     ensures place { result.0 ≡ from + prefix_len (is_ordinary what) (drop from bytes.now) }
     ensures within { result.0 ≤ length bytes.now }
     ensures after { result.1.start ≤ result.0 }
     ensures marked { IsMarked what bytes.now result.1 }
 {
-    let bits = all_special_marks::<N>(bytes, what) >> from;
+    let bits = all >> from;
     let (start, end) = (from, bytes.len());
     (first_marked(bits, start, end), Marked { start, end, bits })
 }
