@@ -7,7 +7,7 @@ ghost use Rattle.std.specs.Str.{chars};
 ghost use Rattle.litrs_base.specs.Characters.{backslash, letter_x, letter_u, underscore, open_brace, close_brace, is_ascii, is_no_nul_unless};
 ghost use Rattle.litrs_base.specs.Text.{first_passes, is_empty, begins_with};
 ghost use Rattle.litrs_grammar.specs.Escape.{is_simple, simple_value, pair_value};
-ghost use Rattle.litrs_parts.specs.Unescaped.{switches, grammar_switches, IsUnescaped, IsEscapeRefused, IsHexDigits};
+ghost use Rattle.litrs_parts.specs.Unescaped.{switches, grammar_switches, IsUnescaped, IsEscapeRefused, IsHexFront, IsHexDigits};
 
 use crate::parse::hex_digit_value;
 use litrs_base::{ParseError, ParseErrorKind, Unescape};
@@ -275,7 +275,34 @@ pub fn hex_digits(bytes: &[u8]) -> HexDigits
 {
     let mut count: usize = 0;
     let mut value = 0;
-    let mut len = 0;
+    for (len, byte) in bytes.iter().enumerate() {
+        if *byte == b'_' {
+            return later_hex_digits(bytes, len, count, value);
+        }
+        match hex_digit_value(*byte) {
+            Some(digit) if count < 6 => {
+                count += 1;
+                value = 16 * value + u32::from(digit);
+            }
+            _ => return HexDigits { len, value },
+        }
+    }
+    HexDigits {
+        len: bytes.len(),
+        value,
+    }
+}
+
+/// [`hex_digits`] from a place on before which `count` digits with this value stand. It is a call,
+/// so that digits without an underscore, which are most, take no test for eight of them.
+#[inline(never)]
+fn later_hex_digits(bytes: &[u8], from: usize, count: usize, value: u32) -> HexDigits
+    requires { IsHexFront bytes.now from count value }
+    ensures { IsHexDigits bytes.now result }
+{
+    let mut len = from;
+    let mut count = count;
+    let mut value = value;
     while len < bytes.len() {
         let byte = bytes[len];
         match hex_digit_value(byte) {
