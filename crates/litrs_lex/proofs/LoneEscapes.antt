@@ -1,17 +1,14 @@
 -- The value of a body of few bytes in which one escape is the only item with a backslash.
-use Rattle.std.proofs.Common.{◌≡◌, ◌≤◌, ◌<◌, inl, get_or, ℕ, ◌+◌, ◌-◌, List, [], ◌∷◌, ◌++◌, length, drop, take, refl, sym, ap, subst, ◌∙◌, arith, length-append, Some}
+use Rattle.std.proofs.Common.{◌≡◌, ◌≤◌, ◌<◌, get_or, ℕ, ◌+◌, ◌-◌, List, [], ◌∷◌, ◌++◌, length, drop, take, refl, sym, ap, subst, ◌∙◌, arith, length-append, Some}
 use Rattle.std.specs.Str.{chars, IsUtf8, IsCharBoundary}
-use Rattle.std.specs.Prelude.{◌==◌}
-use Rattle.std.proofs.lemmas.Str.{chars-IsAscii}
-use Rattle.std.proofs.lemmas.Str.Ascii.{IsAscii-nil, IsAscii-cons}
 use Rattle.std.proofs.lemmas.List.{get_or-drop, take-take, drop-take, drop-drop, length-take-le, length-drop, take_all}
 use Rattle.std.proofs.Math.Seq.{take-append-add}
 use Rattle.litrs_base.specs.declared.escape.Unescape.TheVariants.{Byte}
 use Rattle.litrs_grammar.specs.Escape.{Switches}
 use Rattle.litrs_grammar.specs.Quoted.{QuotedParts, IsQuoted, body_value}
 use Rattle.litrs_lex.specs.QuotedItems.{IsPlainRun, IsItemAt, IsItemsEnd, EndsItems}
-use Rattle.litrs_base.specs.Text.{first_passes}
 use Rattle.litrs_lex.proofs.PlainRuns.{empty_run}
+use Rattle.litrs_lex.proofs.QuotedCuts.{lone_quote_ends}
 use Rattle.litrs_lex.proofs.QuotedScan.{ReadsSome, reads_start, boundary_later, items_end}
 use Rattle.litrs_lex.proofs.QuotedValues.{copy_run, copy_item, whole_value}
 
@@ -93,8 +90,7 @@ alone_end w bytes rest offset from byte u at run item is alone quote =
     let place : from + 2 + 0 ≡ from + 2 = omega arith in
     let first : get_or bytes (from + 2) 0 ≡ 34 = ap (λ n. get_or bytes n 0) (sym place) ∙ (sym (get_or-drop (from + 2) bytes 0 0) ∙ ap (λ (l : List ℕ). get_or l 0 0) tail) in
     let last = empty_run w 34 bytes bytes (from + 2) refl u there refl inside first in
-    let closed : chars (drop (from + 2) bytes) ≡ 34 ∷ [] = ap chars tail ∙ chars-IsAscii (34 ∷ []) (IsAscii-cons 34 [] (omega arith) IsAscii-nil) in
-    let ends : EndsItems w (chars (drop (from + 2) bytes)) = inl (ap (first_passes (λ c. c == 34)) closed) in
+    let ends : EndsItems w (chars (drop (from + 2) bytes)) = lone_quote_ends w (drop (from + 2) bytes) tail in
     let both = lone_end w bytes rest (drop (from + 2) bytes) offset from (from + 2) byte u at run item is last refl ends in
     let one : from + 2 - offset - 1 ≡ 1 = omega arith in
     let before : from - offset ≡ 0 = omega arith in

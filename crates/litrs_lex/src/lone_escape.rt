@@ -68,7 +68,8 @@ pub(crate) fn lone_escape_end(
     })
 }
 
-/// Whether the item at `from` has the two bytes between quotes that end the text, as in `"\n"`.
+/// Whether the item at `from` has the two bytes between quotes that end the text, as in `"\n"`. The
+/// answer false says nothing: a search finds the end.
 #[inline(always)]
 fn is_alone(bytes: &[u8], offset: usize, from: usize) -> bool
     requires { offset ≤ length bytes.now }

@@ -206,7 +206,8 @@ fn piece_end<const UNICODE: bool, const ALLOW_NUL: bool>(input: &str, from: usiz
     }
 }
 
-/// Whether a backslash stands there: then no plain character does.
+/// Whether a backslash stands there: then no plain character does. The answer false says nothing: a
+/// search finds out.
 #[inline(always)]
 fn begins_escape(input: &str, from: usize) -> bool
     requires { IsCharBoundary input.now from }
@@ -479,7 +480,8 @@ pub fn is_quote(bytes: &[u8]) -> bool
 // took 8 ns more.
 //
 // The switches are passed one by one, in registers: a struct of three bools would be written to
-// memory at each call, and read back in other pieces than it was written, which stalls.
+// memory at each call, and read back in other pieces than it was written. Refused escapes took 3 to
+// 4 ns more so.
 #[inline(never)]
 pub(crate) fn rest_refusal(
     rest: &str,
