@@ -1,5 +1,5 @@
 //! Where a quoted string, byte string or C string is cut.
-ghost use Rattle.std.specs.Prelude.{Bool, not, ◌-◌, [], take, drop, codes, ◌≡◌, ◌≢◌, ◌≤◌, ◌<◌, ◌==◌, true, false, length, IfOk, IfErr, IfSome, IfNone, Some, None, IsTrue, IsFalse};
+ghost use Rattle.std.specs.Prelude.{Bool, not, ◌-◌, [], take, drop, codes, ◌≡◌, ◌≢◌, ◌≤◌, ◌==◌, true, false, length, IfOk, IfErr, IfSome, IfNone, Some, None, IsTrue, IsFalse};
 ghost use Rattle.std.specs.List.{prefix_len};
 ghost use Rattle.std.specs.Str.{chars, IsCharBoundary};
 ghost use Rattle.litrs_base.specs.Characters.{line_feed, is_blank};

@@ -1,5 +1,5 @@
 //! The values of quoted strings, byte strings and C strings.
-ghost use Rattle.std.specs.Prelude.{◌≡◌, ◌≤◌, ◌<◌, ◌+◌, ◌-◌, ◌⊎◌, ◌||◌, ◌++◌, not, codes, drop, length, take, if◌then◌else◌, option_map, IfOk, IfErr, IfSome, IsTrue, IsFalse};
+ghost use Rattle.std.specs.Prelude.{◌≡◌, ◌≤◌, ◌<◌, ◌+◌, ◌-◌, ◌⊎◌, ◌||◌, ◌++◌, not, codes, drop, take, if◌then◌else◌, option_map, IfOk, IfErr, IfSome, IsTrue, IsFalse};
 ghost use Rattle.std.specs.Str.{chars, IsUtf8, IsCharBoundary};
 ghost use Rattle.litrs_grammar.specs.Quoted.{QuotedParts, IsQuoted, body_value};
 ghost use Rattle.litrs_lex.specs.Container.{is_pushable};
@@ -11,8 +11,8 @@ ghost use Rattle.litrs_parts.specs.Unescaped.{switches, grammar_switches};
 use crate::container::EscapeContainer;
 use crate::lone_escape::{ROOM, lone_escape_end};
 use crate::quoted::{
-    ItemsEnd, QuotedCut, cut_at_end, cut_at_quote, ends_items, first_plain_end, is_quote,
-    more_items_end, next_item, plain_end, rest_refusal,
+    ItemsEnd, QuotedCut, cut_at_end, cut_at_quote, ends_items, first_plain_end, more_items_end,
+    next_item, plain_end, rest_refusal,
 };
 use crate::short_value::{LONG, LONGEST, SHORT, ShortValue};
 use litrs_base::{ParseError, ParseErrorKind, Unescape};
