@@ -59,8 +59,8 @@ pub(crate) fn special_marks<const N: usize>(bytes: &[u8], at: usize, what: Speci
     lane_marks::<N>(Simd::from_slice(&bytes[at..]), what)
 }
 
-/// The special bytes among the first four, and after them those among the last four: both halves
-/// are compared at once.
+/// The special bytes among the first four, and after them those among the last four: one comparison
+/// serves for both halves.
 #[inline(always)]
 pub(crate) fn marks_of_fours(bytes: &[u8], what: Special) -> u64
     requires { 4 ≤ length bytes.now }
