@@ -1,5 +1,5 @@
 //! The values of quoted strings, byte strings and C strings.
-ghost use Rattle.std.specs.Prelude.{◌≡◌, ◌≤◌, ◌<◌, ◌+◌, ◌-◌, ◌⊎◌, ◌||◌, ◌++◌, not, codes, drop, take, if◌then◌else◌, option_map, IfOk, IfErr, IfSome, IsTrue, IsFalse};
+ghost use Rattle.std.specs.Prelude.{◌≡◌, ◌≤◌, ◌<◌, ◌+◌, ◌-◌, ◌⊎◌, ◌||◌, ◌++◌, not, codes, drop, take, if◌then◌else◌, option_map, IsErr, IfOk, IfErr, IfSome, IsTrue, IsFalse};
 ghost use Rattle.std.specs.Str.{chars, IsUtf8, IsCharBoundary};
 ghost use Rattle.litrs_grammar.specs.Quoted.{QuotedParts, IsQuoted, body_value};
 ghost use Rattle.litrs_lex.specs.Container.{is_pushable};
@@ -275,6 +275,7 @@ fn unescape_within<C: EscapeContainer, const ROOM: usize>(
 fn or_out_of_memory<C: EscapeContainer>(copied: Result<C, AllocError>) -> Result<C, ParseError>
     ensures ok { IfOk result (λ value. copied ≡ Ok value) }
     ensures refused { IfErr result IsOutOfMemory }
+    ensures failed { IfErr result (λ _. IsErr copied) }
 {
     match copied {
         Ok(value) => Ok(value),
