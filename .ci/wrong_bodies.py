@@ -28,7 +28,7 @@ import libraries
 SECONDS = 900
 
 FUNCTION = re.compile(r'\s*(?:pub(?:\(\w+\))? )?(?:(?:const|unsafe|final|extern "C") )*fn (\w+)')
-CONSTANT = re.compile(r"\s*(?:pub(?:\(\w+\))? )?(?:const|static) (\w+):")
+CONSTANT = re.compile(r"\s*(?:pub(?:\(\w+\))? )?(?:const|static) (\w+): .*=")
 GHOST = re.compile(r"\s*ghost (\w+) ")
 STATUS = re.compile(r"(?:fn|impl) (\S+): (.*)")
 ERROR = re.compile(r"(?:\./)?(proofs|src)/(\S+?):(\d+):\d+: error: (.*)")

@@ -24,7 +24,7 @@ use Rattle.litrs_grammar.proofs.Spans.Quoted.{quoted_spans_lie_in_text}
 use Rattle.litrs_grammar.proofs.RefusalKinds.{quoted_of_text}
 use Rattle.litrs_grammar.proofs.Laws.Value.{plain_bodies_are_their_values}
 use Rattle.litrs_lex.specs.declared.quoted.ItemsEnd.{ItemsEnd}
-use Rattle.litrs_lex.specs.QuotedCut.{IsQuotedCut, IsQuotedRefused}
+use Rattle.litrs_lex.specs.QuotedCut.{IsQuotedCut, IsQuotedRefused, IsQuotedValue}
 use Rattle.litrs_lex.specs.QuotedItems.{IsPlainRun, IsItemsEnd, EndsItems}
 use Rattle.litrs_lex.proofs.QuotedBytes.{cut_at, closed_of, quote_free}
 use Rattle.litrs_lex.proofs.QuotedScan.{front_splits, plain_items_end}
@@ -192,3 +192,14 @@ is_quoted_cut w bytes offset end has_escape u start read free is_escape =
       plain = λ none. taken ∙ (slice.is_bytes ∙ sym (plain_bodies_are_their_values w body items (record { spells = refl; body = good }) (sym told ∙ none)));
       items_stay = λ more. body_stands w items (s ++ more) good;
     }
+
+-- the value of a body of plain characters is the body itself
+pub plain_value : (w : Switches) (bytes : List ℕ) (offset place : ℕ) → IsUtf8 bytes → IsCharBoundary bytes offset →
+    IsItemsEnd w bytes offset (record { place = place; value_len = place - offset }) → rest_refusal w (chars (drop place bytes)) ≡ None → IsQuotedValue w bytes offset None (place + 1)
+plain_value w bytes offset place u at end free = record {
+  cut = record { value_len = place - offset; has_escape = false; start_suffix = place + 1 };
+  is_cut = is_quoted_cut w bytes offset (record { place = place; value_len = place - offset }) false u at end free (sym (ap not (eq-eqb (place - offset) (place - offset) refl)));
+  place = refl;
+  given = refl;
+  is_value = tt;
+}

@@ -91,6 +91,31 @@ pub(crate) fn cut_at_end(
     ensures has_escape { IfOk result (λ cut.
         cut.has_escape ≡ not (end.value_len == end.place - offset)) }
 {
+    // Asked first: where the quote ends the text, no room is needed for a refusal.
+    if is_quote(input[end.place..].as_bytes()) {
+        Ok(cut_at_quote(input, offset, end))
+    } else {
+        cut_at_rest(input, offset, end, allowed)
+    }
+}
+
+/// [`cut_at_end`] where the closing quote does not end the text.
+#[inline(always)]
+fn cut_at_rest(
+    input: &str,
+    offset: usize,
+    end: ItemsEnd,
+    allowed: Switches,
+) -> Result<QuotedCut, ParseError>
+    requires at { IsCharBoundary input.now offset }
+    requires end { IsItemsEnd (grammar_switches allowed) input.now offset end }
+    ensures ok { IfOk result
+        (IsQuotedCut (grammar_switches allowed) input.now offset) }
+    ensures refused { IfErr result
+        (IsQuotedRefused (grammar_switches allowed) input.now offset) }
+    ensures has_escape { IfOk result (λ cut.
+        cut.has_escape ≡ not (end.value_len == end.place - offset)) }
+{
     match end_refusal(&input[end.place..], allowed) {
         None => Ok(cut_at_quote(input, offset, end)),
         Some(e) => Err(e.offset_span(end.place)),
@@ -440,9 +465,10 @@ pub(crate) fn next_item(rest: &str, allowed: Switches) -> Option<Escaped>
     }
 }
 
-/// [`rest_refusal`], and nothing else to be read where the closing quote ends the text.
+/// [`rest_refusal`] by these switches. The room for its answer is set to zero where this is inlined,
+/// and not at the front of the caller.
 #[inline(always)]
-fn end_refusal(rest: &str, allowed: Switches) -> Option<ParseError>
+pub(crate) fn end_refusal(rest: &str, allowed: Switches) -> Option<ParseError>
     requires { IsFalse
         (first_passes (is_plain (grammar_switches allowed)) (chars rest.now)) }
     ensures none { IfNone result
@@ -452,16 +478,12 @@ fn end_refusal(rest: &str, allowed: Switches) -> Option<ParseError>
         ≡ Some (refusal_of e)) }
     ensures char_span { IfSome result (HasCharSpan (chars rest.now)) }
 {
-    if is_quote(rest.as_bytes()) {
-        None
-    } else {
-        let Switches {
-            unicode,
-            byte_escapes,
-            allow_nul,
-        } = allowed;
-        rest_refusal(rest, unicode, byte_escapes, allow_nul)
-    }
+    let Switches {
+        unicode,
+        byte_escapes,
+        allow_nul,
+    } = allowed;
+    rest_refusal(rest, unicode, byte_escapes, allow_nul)
 }
 
 /// Whether a quote is all there is. It is the equality of texts, without a call.

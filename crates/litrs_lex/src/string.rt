@@ -3,7 +3,7 @@ ghost use Rattle.std.specs.Prelude.{◌≡◌, ◌≤◌, ◌<◌, ◌+◌, ◌-
 ghost use Rattle.std.specs.Str.{chars, IsUtf8, IsCharBoundary};
 ghost use Rattle.litrs_grammar.specs.Quoted.{QuotedParts, IsQuoted, body_value};
 ghost use Rattle.litrs_lex.specs.Container.{is_pushable};
-ghost use Rattle.litrs_lex.specs.QuotedItems.{IsPlainRun, IsItemsEnd, item_bytes};
+ghost use Rattle.litrs_lex.specs.QuotedItems.{IsPlainRun, IsItemsEnd, EndsItems, item_bytes};
 ghost use Rattle.litrs_lex.specs.QuotedCut.{IsQuotedRefused, IsQuotedValue, IsOutOfMemory, IsQuotedOutOfMemory};
 ghost use Rattle.litrs_lex.specs.declared.short_value.TheConstants.{LONGEST};
 ghost use Rattle.litrs_parts.specs.Unescaped.{switches, grammar_switches};
@@ -11,8 +11,8 @@ ghost use Rattle.litrs_parts.specs.Unescaped.{switches, grammar_switches};
 use crate::container::EscapeContainer;
 use crate::lone_escape::{ROOM, lone_escape_end};
 use crate::quoted::{
-    ItemsEnd, QuotedCut, cut_at_end, cut_at_quote, ends_items, first_plain_end, more_items_end,
-    next_item, plain_end, rest_refusal,
+    ItemsEnd, QuotedCut, cut_at_end, cut_at_quote, end_refusal, ends_items, first_plain_end,
+    is_quote, more_items_end, next_item, plain_end,
 };
 use crate::short_value::{LONG, LONGEST, SHORT, ShortValue};
 use litrs_base::{ParseError, ParseErrorKind, Unescape};
@@ -59,13 +59,37 @@ pub fn unescape_string<C: EscapeContainer>(
         allow_nul,
     };
     let place = first_plain_end(input, offset, allowed);
-    if ends_items(&input[place..], allowed) {
-        let value_len = place - offset;
-        let end = ItemsEnd { place, value_len };
-        let plain = cut_at_end(input, offset, end, allowed)?;
-        Ok((None, plain.start_suffix))
+    let rest = &input[place..];
+    // Asked first, so that most strings take no room for a refusal.
+    if is_quote(rest.as_bytes()) {
+        Ok((None, place + 1))
+    } else if ends_items(rest, allowed) {
+        cut_plain(input, offset, place, allowed)
     } else {
         unescape_more(alloc, input, offset, place, allowed)
+    }
+}
+
+/// [`unescape_string`] of a body of plain characters alone, which end at `place`.
+#[inline(always)]
+fn cut_plain<C: EscapeContainer>(
+    input: &str,
+    offset: usize,
+    place: usize,
+    allowed: Switches,
+) -> Result<(Option<C>, usize), ParseError>
+    requires at { IsCharBoundary input.now offset }
+    requires run { IsPlainRun (grammar_switches allowed) input.now offset place }
+    requires ends { EndsItems (grammar_switches allowed) (chars (drop place input.now)) }
+    ensures ok { IfOk result (λ read.
+        IsQuotedValue (grammar_switches allowed) input.now offset
+        (option_map C.contents read.0) read.1) }
+    ensures refused { IfErr result
+        (IsQuotedRefused (grammar_switches allowed) input.now offset) }
+{
+    match end_refusal(&input[place..], allowed) {
+        None => Ok((None, place + 1)),
+        Some(e) => Err(e.offset_span(place)),
     }
 }
 
@@ -130,7 +154,7 @@ fn unescape_piece<C: EscapeContainer, const UNICODE: bool, const ALLOW_NUL: bool
             return unescape_lone(alloc, input, offset, end, allowed, &room[..end.value_len]);
         }
     } else if !is_rarely_refused(rest.as_bytes(), allowed)
-        && let Some(e) = rest_refusal(rest, UNICODE, byte_escapes, ALLOW_NUL)
+        && let Some(e) = end_refusal(rest, allowed)
     {
         // It is read before room for a value is set to zero.
         return Err(e.offset_span(from));
@@ -201,7 +225,7 @@ fn is_rarely_refused(bytes: &[u8], allowed: Switches) -> bool {
 }
 
 /// [`unescape_piece`] of a text for whose value more room is made.
-#[inline(never)]
+#[inline(always)]
 fn unescape_longer<C: EscapeContainer, const UNICODE: bool, const ALLOW_NUL: bool>(
     alloc: Global,
     input: &str,
@@ -219,16 +243,44 @@ fn unescape_longer<C: EscapeContainer, const UNICODE: bool, const ALLOW_NUL: boo
         IsQuotedRefused (switches UNICODE byte_escapes ALLOW_NUL) input.now offset e
         ⊎ IsQuotedOutOfMemory (switches UNICODE byte_escapes ALLOW_NUL) input.now offset e) }
 {
+    if input.len() <= LONG {
+        unescape_apart::<C, LONG, UNICODE, ALLOW_NUL>(alloc, input, offset, from, byte_escapes)
+    } else {
+        unescape_apart::<C, LONGEST, UNICODE, ALLOW_NUL>(alloc, input, offset, from, byte_escapes)
+    }
+}
+
+/// [`unescape_within`] in a call of its own, whose answer takes no room in a shorter text.
+#[inline(never)]
+fn unescape_apart<
+    C: EscapeContainer,
+    const ROOM: usize,
+    const UNICODE: bool,
+    const ALLOW_NUL: bool,
+>(
+    alloc: Global,
+    input: &str,
+    offset: usize,
+    from: usize,
+    byte_escapes: bool,
+) -> Result<(Option<C>, usize), ParseError>
+    requires at { IsCharBoundary input.now offset }
+    requires run { IsPlainRun (switches UNICODE byte_escapes ALLOW_NUL) input.now offset from }
+    requires fits { IsTrue (not byte_escapes || C.TAKES_BYTES) }
+    requires room { ROOM ≤ LONGEST }
+    ensures ok { IfOk result (λ read.
+        IsQuotedValue (switches UNICODE byte_escapes ALLOW_NUL) input.now offset
+        (option_map C.contents read.0) read.1) }
+    ensures refused { IfErr result (λ e.
+        IsQuotedRefused (switches UNICODE byte_escapes ALLOW_NUL) input.now offset e
+        ⊎ IsQuotedOutOfMemory (switches UNICODE byte_escapes ALLOW_NUL) input.now offset e) }
+{
     let allowed = Switches {
         unicode: UNICODE,
         byte_escapes,
         allow_nul: ALLOW_NUL,
     };
-    if input.len() <= LONG {
-        unescape_within::<C, LONG>(alloc, input, offset, from, allowed)
-    } else {
-        unescape_within::<C, LONGEST>(alloc, input, offset, from, allowed)
-    }
+    unescape_within::<C, ROOM>(alloc, input, offset, from, allowed)
 }
 
 /// [`unescape_more`] with room for values of so many bytes; longer ones are read twice. Inlined, so
