@@ -465,8 +465,8 @@ pub(crate) fn next_item(rest: &str, allowed: Switches) -> Option<Escaped>
     }
 }
 
-/// [`rest_refusal`] by these switches. The room for its answer is set to zero where this is inlined,
-/// and not at the front of the caller.
+/// [`rest_refusal`] by these switches. The room for its answer is set to zero where this is
+/// inlined, and not at the front of the caller.
 #[inline(always)]
 pub(crate) fn end_refusal(rest: &str, allowed: Switches) -> Option<ParseError>
     requires { IsFalse

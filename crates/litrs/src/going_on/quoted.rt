@@ -5,6 +5,7 @@ ghost use Rattle.litrs_base.specs.Text.{begins_with};
 ghost use Rattle.litrs_grammar.specs.Continuation.{BeginsBy};
 ghost use Rattle.litrs_grammar.specs.Literal.{IsString};
 ghost use Rattle.litrs_grammar.specs.Quoted.{quoted_front};
+ghost use Rattle.litrs_grammar.specs.StringKind.{string_kind, byte_string_kind, c_string_kind};
 ghost use Rattle.litrs_grammar.specs.GoesOn.Quoted.{RestGoesOn};
 ghost use Rattle.litrs_lex.specs.QuotedItems.{EndsItems};
 ghost use Rattle.litrs_parts.specs.Front.{grammar_kind};
@@ -18,8 +19,48 @@ use litrs_lex::quoted::{is_quote, items_end};
 use litrs_parts::{StringKind, Switches};
 
 /// Whether a text that begins as a quoted string of the kind begins a string of it.
-#[inline(never)]
+#[inline(always)]
 pub(crate) fn quoted_goes_on(text: &str, kind: StringKind) -> bool
+    requires { IsTrue (begins_with (quoted_front (grammar_kind kind)) text.now) }
+    ensures { IsTrue result ↔ BeginsBy (IsString (grammar_kind kind)) (chars text.now) }
+{
+    match kind {
+        StringKind::String => string_goes_on(text),
+        StringKind::ByteString => byte_string_goes_on(text),
+        StringKind::CString => c_string_goes_on(text),
+    }
+}
+
+/// [`quoted_goes_on`] of strings, in a call of their own, which asks for no kind.
+#[inline(never)]
+fn string_goes_on(text: &str) -> bool
+    requires { IsTrue (begins_with (quoted_front string_kind) text.now) }
+    ensures { IsTrue result ↔ BeginsBy (IsString string_kind) (chars text.now) }
+{
+    body_goes_on(text, StringKind::String)
+}
+
+/// [`quoted_goes_on`] of byte strings, as [`string_goes_on`].
+#[inline(never)]
+fn byte_string_goes_on(text: &str) -> bool
+    requires { IsTrue (begins_with (quoted_front byte_string_kind) text.now) }
+    ensures { IsTrue result ↔ BeginsBy (IsString byte_string_kind) (chars text.now) }
+{
+    body_goes_on(text, StringKind::ByteString)
+}
+
+/// [`quoted_goes_on`] of C strings, as [`string_goes_on`].
+#[inline(never)]
+fn c_string_goes_on(text: &str) -> bool
+    requires { IsTrue (begins_with (quoted_front c_string_kind) text.now) }
+    ensures { IsTrue result ↔ BeginsBy (IsString c_string_kind) (chars text.now) }
+{
+    body_goes_on(text, StringKind::CString)
+}
+
+/// [`quoted_goes_on`], by what stands where the items of the body end.
+#[inline(always)]
+fn body_goes_on(text: &str, kind: StringKind) -> bool
     requires { IsTrue (begins_with (quoted_front (grammar_kind kind)) text.now) }
     ensures { IsTrue result ↔ BeginsBy (IsString (grammar_kind kind)) (chars text.now) }
 {

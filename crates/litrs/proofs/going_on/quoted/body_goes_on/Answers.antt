@@ -4,7 +4,7 @@ use Rattle.litrs_parts.specs.Front.{grammar_kind}
 use Rattle.litrs_lex.proofs.StringFronts.{quoted_boundary}
 use Rattle.litrs.proofs.QuotedEnds.{quoted_decided}
 use Rattle.litrs.proofs.StringEnds.{quoted_string}
-use Rattle.litrs.proofs.going_on.quoted.quoted_goes_on.Goals as goal
+use Rattle.litrs.proofs.going_on.quoted.body_goes_on.Goals as goal
 
 pub items_end-end-requires : goal.items_end-end-requires
 items_end-end-requires c =
