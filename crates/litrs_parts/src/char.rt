@@ -1,5 +1,5 @@
 //! Where a char or a byte is cut.
-ghost use Rattle.std.specs.Prelude.{◌≡◌, ◌≢◌, ◌+◌, ◌==◌, ◌∷◌, [], codes, drop, IsTrue, IfOk, IfErr, None, Some};
+ghost use Rattle.std.specs.Prelude.{◌≡◌, ◌≢◌, ◌+◌, ◌==◌, ◌∷◌, [], codes, drop, IsTrue, IsFalse, IfOk, IfErr, None, Some};
 ghost use Rattle.std.specs.List.{list_any};
 ghost use Rattle.std.specs.Str.{chars, IsCharBoundary};
 ghost use Rattle.litrs_base.specs.Characters.{single_quote, backslash};
@@ -158,6 +158,9 @@ fn check_closing(rest: &str, len: usize, is_byte: bool) -> Result<usize, ParseEr
     ensures char_span { IfErr result (HasCharSpan (chars rest.now)) }
 {
     let behind = &rest[len..];
+    if is_quote(behind.as_bytes()) {
+        return Ok(len + 1);
+    }
     if !begins_with_quote(behind.as_bytes()) {
         let kind = if has_quote(behind.as_bytes()) {
             overlong_kind(is_byte)
@@ -177,6 +180,15 @@ fn is_special_whitespace(byte: u8) -> bool
     ensures { result ≡ is_special_whitespace byte }
 {
     matches!(byte, b'\n' | b'\t' | b'\r')
+}
+
+/// Whether `'` is all there is.
+#[inline(always)]
+fn is_quote(bytes: &[u8]) -> bool
+    ensures quote { IsTrue result → bytes.now ≡ single_quote ∷ [] }
+    ensures other { IsFalse result → bytes.now ≢ single_quote ∷ [] }
+{
+    matches!(bytes, [b'\''])
 }
 
 /// Whether `'` stands first.
