@@ -153,47 +153,47 @@ refused_item kind t r refused =
 
 -- the same by the first character after the front
 
-abbrev BeginsBehind : CharKind → List ℕ → Type 0
-BeginsBehind kind t = BeginsBy (IsCharLiteral kind) (char_front kind ++ t)
+abbrev BeginsAfter : CharKind → List ℕ → Type 0
+BeginsAfter kind t = BeginsBy (IsCharLiteral kind) (char_front kind ++ t)
 
-pub nothing_behind : (kind : CharKind) (t : List ℕ) → t ≡ [] →
+pub nothing_after : (kind : CharKind) (t : List ℕ) → t ≡ [] →
     IsTrue true ↔ BeginsBy (IsCharLiteral kind) (char_front kind ++ t)
-nothing_behind kind t none = yes (subst (BeginsBehind kind) (sym none) (front_begins kind))
+nothing_after kind t none = yes (subst (BeginsAfter kind) (sym none) (front_begins kind))
 
-pub plain_behind : (kind : CharKind) (t s : List ℕ) (c : ℕ) (b : Bool) → t ≡ c ∷ s →
+pub plain_after : (kind : CharKind) (t s : List ℕ) (c : ℕ) (b : Bool) → t ≡ c ∷ s →
     is_char_item kind (plain_char c) ≡ true → IsTrue b ↔ BeginsClosing s →
     IsTrue b ↔ BeginsBy (IsCharLiteral kind) (char_front kind ++ t)
-plain_behind kind t s c b same item is =
-    chain is (subst (λ (l : List ℕ). BeginsClosing s ↔ BeginsBehind kind l) (sym same)
+plain_after kind t s c b same item is =
+    chain is (subst (λ (l : List ℕ). BeginsClosing s ↔ BeginsAfter kind l) (sym same)
     (item_begins kind (plain_char c) s item))
 
-pub other_behind : (kind : CharKind) (t s : List ℕ) (c : ℕ) → t ≡ c ∷ s →
+pub other_after : (kind : CharKind) (t s : List ℕ) (c : ℕ) → t ≡ c ∷ s →
     is_char_item kind (plain_char c) ≡ false → (c ≡ 92 → ⊥) →
     IsTrue false ↔ BeginsBy (IsCharLiteral kind) (char_front kind ++ t)
-other_behind kind t s c same none other =
-    no (λ begins. no_item kind c s none other (subst (BeginsBehind kind) same begins))
+other_after kind t s c same none other =
+    no (λ begins. no_item kind c s none other (subst (BeginsAfter kind) same begins))
 
 -- and where it is a backslash, by what `unescape` answers
 
-pub escape_behind : (is_byte : Bool) (bs rest : List ℕ) (value : Unescape) (len : ℕ) (b : Bool) →
+pub escape_after : (is_byte : Bool) (bs rest : List ℕ) (value : Unescape) (len : ℕ) (b : Bool) →
     IsUnescaped (switches (not is_byte) is_byte true) bs value len → rest ≡ drop len bs →
     IsTrue b ↔ BeginsClosing (chars rest) →
     IsTrue b ↔ BeginsBy (IsCharLiteral (kind_if is_byte)) (char_front (kind_if is_byte) ++ chars bs)
-escape_behind is_byte bs rest value len b read is_rest is =
+escape_after is_byte bs rest value len b read is_rest is =
     let kind = kind_if is_byte in
-    let behind : chars rest ≡ read.rest = ap chars is_rest ∙ read.behind in
+    let after : chars rest ≡ read.rest = ap chars is_rest ∙ read.after in
     let item : is_char_item kind (escaped_char read.escape) ≡ true =
     subst (λ (w : Switches). is_escape w read.escape ≡ true) (same_switches is_byte) read.grammar in
-    chain (subst (λ (l : List ℕ). IsTrue b ↔ BeginsClosing l) behind is)
-    (subst (λ (l : List ℕ). BeginsClosing read.rest ↔ BeginsBehind kind l) read.spells
+    chain (subst (λ (l : List ℕ). IsTrue b ↔ BeginsClosing l) after is)
+    (subst (λ (l : List ℕ). BeginsClosing read.rest ↔ BeginsAfter kind l) read.spells
     (item_begins kind (escaped_char read.escape) read.rest item))
 
-pub refused_behind : (is_byte : Bool) (bs : List ℕ) (e : ParseError) (b : Bool) → IsUtf8 bs →
+pub refused_after : (is_byte : Bool) (bs : List ℕ) (e : ParseError) (b : Bool) → IsUtf8 bs →
     first_passes (λ c. c == 92) bs ≡ true →
     IsEscapeRefused (switches (not is_byte) is_byte true) (chars bs) e →
     b ≡ escape_goes_on (switches (not is_byte) is_byte true) (chars (drop 1 bs)) →
     IsTrue b ↔ BeginsBy (IsCharLiteral (kind_if is_byte)) (char_front (kind_if is_byte) ++ chars bs)
-refused_behind is_byte bs e b u first refused is =
+refused_after is_byte bs e b u first refused is =
     let kind = kind_if is_byte in
     let w = char_switches_of kind in
     let at = slash_chars bs u first in
@@ -204,7 +204,7 @@ refused_behind is_byte bs e b u first refused is =
     (same_switches is_byte) refused.table in
     answer_is b (escape_goes_on w t)
     (is ∙ ap (λ (w : Switches). escape_goes_on w t) (same_switches is_byte))
-    (subst (λ (l : List ℕ). (escape_goes_on w t ≡ true) ↔ BeginsBehind kind l) (sym at)
+    (subst (λ (l : List ℕ). (escape_goes_on w t ≡ true) ↔ BeginsAfter kind l) (sym at)
     (refused_item kind t (refusal_of e) table))
 
 -- the whole text

@@ -14,7 +14,7 @@ use Rattle.litrs_base.specs.declared.err.ParseError.{ParseError}
 use Rattle.litrs_base.specs.declared.escape.Unescape.{Unescape}
 use Rattle.litrs_base.specs.Refusal.{refusal_of}
 use Rattle.litrs_base.specs.Text.{is_empty, first_passes}
-use Rattle.litrs_base.proofs.Chars.{OnlyAscii, chars_empty, chars_ascii, chars_wide, utf8_behind_ascii, first_passes-chars, ascii_by_test, ascii_from_test}
+use Rattle.litrs_base.proofs.Chars.{OnlyAscii, chars_empty, chars_ascii, chars_wide, utf8_after_ascii, first_passes-chars, ascii_by_test, ascii_from_test}
 use Rattle.litrs_grammar.specs.Escape.{Switches, unicode_escape, escape_text, is_escape, escape_refusal, is_hex_or_underscore}
 use Rattle.litrs_grammar.specs.GoesOn.Escape.{BeginsEscape, escape_goes_on, hex_goes_on, braces_go_on, inner_goes_on}
 use Rattle.litrs_grammar.proofs.Laws.Escape.{same_escape}
@@ -41,7 +41,7 @@ whole_escape w bs value len n b read is_len is = answer_is b (len == n) is (to, 
     to same =
         let all : length bs ≤ len = (let at = eqb-true len n same in omega arith) in
         let none : read.rest ≡ [] =
-        sym read.behind ∙ ap chars (drop_all len bs all) ∙ chars-nil in (
+        sym read.after ∙ ap chars (drop_all len bs all) ∙ chars-nil in (
           read.escape,
           [],
           append-nil (chars bs) ∙ sym read.spells
@@ -55,7 +55,7 @@ whole_escape w bs value len n b read is_len is = answer_is b (len == n) is (to, 
         let both = same_escape w read.escape e (read.rest ++ more) [] read.grammar grammar
         (sym (append_assoc (escape_text read.escape) read.rest more)
         ∙ ap (λ l. l ++ more) read.spells ∙ same ∙ sym (append-nil (escape_text e))) in
-        let none : chars (drop len bs) ≡ [] = read.behind ∙ no_front read.rest more both.1 in
+        let none : chars (drop len bs) ≡ [] = read.after ∙ no_front read.rest more both.1 in
         let short : length (drop len bs) ≡ 0 =
         eqb-true _ _ (sym (chars_empty (drop len bs) read.utf8) ∙ ap is_empty none) in
         let within = read.within in
@@ -83,7 +83,7 @@ pub all-chars : (p : ℕ → Bool) (bs : List ℕ) → OnlyAscii p → IsUtf8 bs
 all-chars p [] only u = ap (list_all p) chars-nil
 all-chars p (b ∷ bs) only u = elim (cases_lt b 128) [
   | inl low ↦ ap (list_all p) (chars_ascii b bs low)
-      ∙ ap (λ v. p b && v) (all-chars p bs only (utf8_behind_ascii b bs low u))
+      ∙ ap (λ v. p b && v) (all-chars p bs only (utf8_after_ascii b bs low u))
   | inr high ↦ (let wide = chars_wide b bs high u in
       ap (list_all p) wide.is ∙ and_left (p wide.first) _ (only wide.first wide.wide)
       ∙ sym (and_left (p b) _ (only b high)))
@@ -129,7 +129,7 @@ braces-chars : (w : Switches) (bs : List ℕ) → IsUtf8 bs →
 braces-chars w [] u = ap (braces_go_on w) chars-nil
 braces-chars w (b ∷ bs) u = elim (cases_lt b 128) [
   | inl low ↦ ap (braces_go_on w) (chars_ascii b bs low)
-      ∙ ap (λ v. (b == 123) && v) (inner-chars w bs (utf8_behind_ascii b bs low u))
+      ∙ ap (λ v. (b == 123) && v) (inner-chars w bs (utf8_after_ascii b bs low u))
   | inr high ↦ (let wide = chars_wide b bs high u in
       ap (braces_go_on w) wide.is ∙ and_left (wide.first == 123) _
       (wide_not wide.first 123 (omega arith) wide.wide)
@@ -144,7 +144,7 @@ hex_stops w c (d ∷ t) high = refl
 hex-chars : (w : Switches) (bs : List ℕ) → IsUtf8 bs → hex_goes_on w (chars bs) ≡ hex_goes_on w bs
 hex-chars w [] u = ap (hex_goes_on w) chars-nil
 hex-chars w (b ∷ bs) u = elim (cases_lt b 128) [
-  | inl low ↦ ap (hex_goes_on w) (chars_ascii b bs low) ∙ behind bs (utf8_behind_ascii b bs low u)
+  | inl low ↦ ap (hex_goes_on w) (chars_ascii b bs low) ∙ after bs (utf8_after_ascii b bs low u)
   | inr high ↦ (let wide = chars_wide b bs high u in ap (hex_goes_on w) wide.is
       ∙ hex_stops w wide.first wide.rest wide.wide ∙ sym (hex_stops w b bs high))
 ]
@@ -153,21 +153,21 @@ hex-chars w (b ∷ bs) u = elim (cases_lt b 128) [
     two [] some = cc
     two (d ∷ t) some = refl
 
-    behind : (bs : List ℕ) → IsUtf8 bs → hex_goes_on w (b ∷ chars bs) ≡ hex_goes_on w (b ∷ bs)
-    behind [] u = ap (λ l. hex_goes_on w (b ∷ l)) chars-nil
-    behind (d ∷ bs) u = two (chars (d ∷ bs))
+    after : (bs : List ℕ) → IsUtf8 bs → hex_goes_on w (b ∷ chars bs) ≡ hex_goes_on w (b ∷ bs)
+    after [] u = ap (λ l. hex_goes_on w (b ∷ l)) chars-nil
+    after (d ∷ bs) u = two (chars (d ∷ bs))
         (chars_empty (d ∷ bs) u ∙ ne_eqb (length (d ∷ bs)) 0 (λ h. omega arith))
 
 pub goes_on-chars : (w : Switches) (bs : List ℕ) → IsUtf8 bs →
     escape_goes_on w (chars bs) ≡ escape_goes_on w bs
 goes_on-chars w [] u = ap (escape_goes_on w) chars-nil
 goes_on-chars w (b ∷ bs) u = elim (cases_lt b 128) [
-  | inl low ↦ (let behind = utf8_behind_ascii b bs low u in
+  | inl low ↦ (let after = utf8_after_ascii b bs low u in
       ap (escape_goes_on w) (chars_ascii b bs low)
       ∙ ap (λ v. ((b == 120) && v) || ((b == 117) && (w.unicode && braces_go_on w (chars bs))))
-      (hex-chars w bs behind)
+      (hex-chars w bs after)
       ∙ ap (λ v. ((b == 120) && hex_goes_on w bs) || ((b == 117) && (w.unicode && v)))
-      (braces-chars w bs behind))
+      (braces-chars w bs after))
   | inr high ↦ (let wide = chars_wide b bs high u in ap (escape_goes_on w) wide.is
       ∙ stops wide.first wide.rest wide.wide ∙ sym (stops b bs high))
 ]
@@ -194,19 +194,19 @@ pub slash_chars : (bs : List ℕ) → IsUtf8 bs → first_passes (λ c. c == 92)
     chars bs ≡ 92 ∷ chars (drop 1 bs)
 slash_chars bs u first = ap chars (slash_byte bs first) ∙ chars_ascii 92 (drop 1 bs) (omega arith)
 
-behind_slash : (bs : List ℕ) → IsUtf8 bs → first_passes (λ c. c == 92) bs ≡ true →
+after_slash : (bs : List ℕ) → IsUtf8 bs → first_passes (λ c. c == 92) bs ≡ true →
     IsUtf8 (drop 1 bs)
-behind_slash bs u first = utf8_behind_ascii 92 (drop 1 bs) (omega arith)
+after_slash bs u first = utf8_after_ascii 92 (drop 1 bs) (omega arith)
     (subst (λ (l : List ℕ). IsUtf8 l) (slash_byte bs first) u)
 
 -- what the bytes after it say of the characters
-pub behind_goes_on : (w : Switches) (text bs : List ℕ) (b : Bool) → IsUtf8 bs → text ≡ bs →
+pub after_goes_on : (w : Switches) (text bs : List ℕ) (b : Bool) → IsUtf8 bs → text ≡ bs →
     first_passes (λ c. c == 92) bs ≡ true →
     b ≡ escape_goes_on w (take (length text - 1) (drop 1 text)) →
     b ≡ escape_goes_on w (chars (drop 1 bs))
-behind_goes_on w text bs b u same first is =
+after_goes_on w text bs b u same first is =
     is ∙ ap (escape_goes_on w) (rest_is text bs 1 same)
-    ∙ sym (goes_on-chars w (drop 1 bs) (behind_slash bs u first))
+    ∙ sym (goes_on-chars w (drop 1 bs) (after_slash bs u first))
 
 pub refused_escape : (w : Switches) (bs : List ℕ) (e : ParseError) (b : Bool) → IsUtf8 bs →
     first_passes (λ c. c == 92) bs ≡ true → IsEscapeRefused w (chars bs) e →

@@ -23,7 +23,7 @@ use Rattle.litrs_grammar.specs.Literal.{LiteralKind, an_integer, a_float, intege
 use Rattle.litrs_grammar.specs.LiteralRefusals.{is_float_mark, begins_float, parsed_as, dispatch}
 use Rattle.litrs_grammar.specs.Refused.{IsRefused}
 use Rattle.litrs_grammar.proofs.Laws.Integer.{integer_rows, number_rows, integer_cut-is, cut-spells, refusal_of_digit}
-use Rattle.litrs_grammar.proofs.FloatCuts.{IsCut, CutOf, cut_of, cut_of_text, behind_decimals, fraction_stops, number_part-suffix}
+use Rattle.litrs_grammar.proofs.FloatCuts.{IsCut, CutOf, cut_of, cut_of_text, after_decimals, fraction_stops, number_part-suffix}
 use Rattle.litrs_grammar.proofs.Laws.Float.{float_rows, cut_rows, refusal_of_cut}
 use Rattle.litrs_grammar.proofs.Spans.Float.{number_part_ascii}
 use Rattle.litrs_grammar.proofs.LongerTexts.Literal.{chain, back, refused_texts_go_on}
@@ -41,9 +41,9 @@ use Rattle.litrs_parts.specs.declared.kind.Front.TheVariants as front
 use Rattle.litrs.proofs.Begins.{answer_is, begins_now}
 
 -- nothing stands after a front that is as long as the text
-nothing_behind : (a b : List ℕ) → byte_len a ≡ byte_len (a ++ b) → b ≡ []
-nothing_behind a [] same = refl
-nothing_behind a (c ∷ b) same =
+nothing_after : (a b : List ℕ) → byte_len a ≡ byte_len (a ++ b) → b ≡ []
+nothing_after a [] same = refl
+nothing_after a (c ∷ b) same =
     let sum = byte_len-append a (c ∷ b) in
     let some = byte_len-cons c b in
     absurd (omega arith)
@@ -112,7 +112,7 @@ integer_lacks d r h = (to, from)
 
     to : lacks_digits r len ≡ true → d.suffix ≡ []
     to lacks =
-        nothing_behind number d.suffix
+        nothing_after number d.suffix
         (integer_row (byte_len (prefix d.base)) (byte_len number) len (is_suffix d.suffix)
         (first_passes is_ascii_digit d.suffix) (first_passes is_e d.suffix)
         (list_any (is_digit d.base) d.main)
@@ -213,15 +213,15 @@ no_mark d cut begins none = by d.fraction d.exponent refl refl none
         (is_some f || not (is_empty p)) ≡ false → ⊥
     by (Some f) p is_f is_p h = cc
     by None (c ∷ p) is_f is_p h = cc
-    by None [] is_f is_p h = behind d.suffix refl
+    by None [] is_f is_p h = after d.suffix refl
       where
         rest : drop (prefix_len is_decimal_char (float_text d)) (float_text d) ≡ d.suffix
-        rest = behind_decimals d cut ∙ (λ j. fraction_text (is_f j) ++ (is_p j ++ d.suffix))
+        rest = after_decimals d cut ∙ (λ j. fraction_text (is_f j) ++ (is_p j ++ d.suffix))
 
-        behind : (s : List ℕ) → d.suffix ≡ s → ⊥
-        behind [] is = false≢true (ap (first_passes is_float_mark) (sym is)
+        after : (s : List ℕ) → d.suffix ≡ s → ⊥
+        after [] is = false≢true (ap (first_passes is_float_mark) (sym is)
             ∙ ap (first_passes is_float_mark) (sym rest) ∙ begins)
-        behind (c ∷ s) is =
+        after (c ∷ s) is =
             let period : is_period c ≡ false = ap (first_passes is_period) (sym is)
             ∙ cut.no_period is_f is_p in
             let letter : is_e c ≡ false = ap (first_passes is_e) (sym is) ∙ cut.no_letter is_p in
@@ -295,7 +295,7 @@ float_lacks d r cut digit begins h = (to, from)
         let row = float_row i f n len (suffix_refusal d.suffix) wrong (is_some d.fraction)
         (not (is_empty d.exponent)) (list_any is_ascii_digit d.exponent) (is_suffix d.suffix) r
         (suffix_kind d.suffix) rows lacks in
-        let none : d.suffix ≡ [] = nothing_behind (number_part d) d.suffix
+        let none : d.suffix ≡ [] = nothing_after (number_part d) d.suffix
         (number_len d cut ∙ row.1 ∙ ap byte_len (sym (number_part-suffix d))) in
         record {
           start = or_right (is_empty (float_text d)) _

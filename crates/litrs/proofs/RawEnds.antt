@@ -45,9 +45,9 @@ data RawRow (unicode allow_nul : Bool) (start : ℕ) (t : List ℕ) (r : Refusal
       is_quote c ≡ false → plain InvalidLiteral ≡ r → RawRow unicode allow_nul start t r
   final_row : is_final r.kind ≡ true → RawRow unicode allow_nul start t r
   open_row : plain UnterminatedRawString ≡ r → RawRow unicode allow_nul start t r
-  closed_row : (n : ℕ) (s behind : List ℕ) → n ≤ 255 → hashes n ++ 34 ∷ s ≡ t →
-      (x : IsClosedRaw unicode allow_nul n s behind) →
-      at (start + (n + 1) + (byte_len x.body + (1 + n))) (suffix_refusal behind) ≡ r →
+  closed_row : (n : ℕ) (s after : List ℕ) → n ≤ 255 → hashes n ++ 34 ∷ s ≡ t →
+      (x : IsClosedRaw unicode allow_nul n s after) →
+      at (start + (n + 1) + (byte_len x.body + (1 + n))) (suffix_refusal after) ≡ r →
       RawRow unicode allow_nul start t r
 
 char_final : (c : ℕ) → is_final (raw_char_refusal c) ≡ true
@@ -72,15 +72,15 @@ raw_row unicode allow_nul start t r h = by cut.rest cut.spells cut.stops
     cut : HashCut t
     cut = hash_cut t
 
-    behind_body : (n : ℕ) (s behind : List ℕ) → n ≤ 255 → hashes n ++ 34 ∷ s ≡ t →
-        (x : IsClosedRaw unicode allow_nul n s behind) (b : Bool) →
+    after_body : (n : ℕ) (s after : List ℕ) → n ≤ 255 → hashes n ++ 34 ∷ s ≡ t →
+        (x : IsClosedRaw unicode allow_nul n s after) (b : Bool) →
         (if not b
-        then Some (at (start + (n + 1) + (byte_len x.body + (1 + n))) (suffix_refusal behind))
+        then Some (at (start + (n + 1) + (byte_len x.body + (1 + n))) (suffix_refusal after))
         else None) ≡ Some r → RawRow unicode allow_nul start t r
-    behind_body n s behind few spells x true g = cc
-    behind_body n s behind few spells x false g =
-        closed_row n s behind few spells x
-        (let same : at (start + (n + 1) + (byte_len x.body + (1 + n))) (suffix_refusal behind) ≡ r =
+    after_body n s after few spells x true g = cc
+    after_body n s after few spells x false g =
+        closed_row n s after few spells x
+        (let same : at (start + (n + 1) + (byte_len x.body + (1 + n))) (suffix_refusal after) ≡ r =
         cc in same)
 
     scanned : (n : ℕ) (s : List ℕ) → n ≤ 255 → hashes n ++ 34 ∷ s ≡ t →
@@ -91,9 +91,9 @@ raw_row unicode allow_nul start t r h = by cut.rest cut.spells cut.stops
         (at (start + (n + 1) + byte_len x.front) (raw_char_refusal x.character)) r
         (char_final x.character)
         (sym (stopped_refusal unicode allow_nul n (start + (n + 1)) s x) ∙ g)
-    scanned n s few spells g (closed behind x) =
-        behind_body n s behind few spells x (is_suffix behind)
-        (sym (closed_refusal unicode allow_nul n (start + (n + 1)) s behind x) ∙ g)
+    scanned n s few spells g (closed after x) =
+        after_body n s after few spells x (is_suffix after)
+        (sym (closed_refusal unicode allow_nul n (start + (n + 1)) s after x) ∙ g)
     scanned n s few spells g (unclosed grammar) =
         open_row (let told : Some (plain UnterminatedRawString) ≡ Some r =
         sym (unclosed_refusal unicode allow_nul n (start + (n + 1)) s grammar) ∙ g in
@@ -240,8 +240,8 @@ hashes_decided unicode allow_nul start text offset seen r b u same h kind is =
     by (final_row final) = not_kind InvalidLiteral r refl kind final
     by (open_row at_row) = absurd (let told : UnterminatedRawString ≡ InvalidLiteral =
         ap (λ (e : Refusal). e.kind) at_row ∙ kind in cc)
-    by (closed_row n s behind few spells x at_row) =
-        not_invalid behind (ap (λ (e : Refusal). e.kind) at_row ∙ kind)
+    by (closed_row n s after few spells x at_row) =
+        not_invalid after (ap (λ (e : Refusal). e.kind) at_row ∙ kind)
 
 -- No suffix after the closing
 
@@ -257,35 +257,35 @@ before_len n body =
     let inner = byte_len-append body (raw_closing n) in
     omega (arith, hashes_bytes n, quoted_bytes n)
 
-before_spells : (unicode allow_nul : Bool) (n : ℕ) (s behind : List ℕ)
-    (x : IsClosedRaw unicode allow_nul n s behind) → before n x.body ++ behind ≡ hashes n ++ 34 ∷ s
+before_spells : (unicode allow_nul : Bool) (n : ℕ) (s after : List ℕ)
+    (x : IsClosedRaw unicode allow_nul n s after) → before n x.body ++ after ≡ hashes n ++ 34 ∷ s
 unfolding before
-before_spells unicode allow_nul n s behind x =
-    append_assoc (hashes n) (34 ∷ (x.body ++ raw_closing n)) behind
-    ∙ ap (λ l. hashes n ++ 34 ∷ l) (append_assoc x.body (raw_closing n) behind ∙ x.spells)
+before_spells unicode allow_nul n s after x =
+    append_assoc (hashes n) (34 ∷ (x.body ++ raw_closing n)) after
+    ∙ ap (λ l. hashes n ++ 34 ∷ l) (append_assoc x.body (raw_closing n) after ∙ x.spells)
 
 -- what stands after the closing of a text
-behind_is : (unicode allow_nul : Bool) (n : ℕ) (s behind : List ℕ)
-    (x : IsClosedRaw unicode allow_nul n s behind) →
-    drop (length_before (raw_closing n) s + (1 + n)) s ≡ behind
-behind_is unicode allow_nul n s behind x =
+after_is : (unicode allow_nul : Bool) (n : ℕ) (s after : List ℕ)
+    (x : IsClosedRaw unicode allow_nul n s after) →
+    drop (length_before (raw_closing n) s + (1 + n)) s ≡ after
+after_is unicode allow_nul n s after x =
     let body : length_before (raw_closing n) s ≡ length x.body =
     ap (length_before (raw_closing n)) (sym x.spells)
-    ∙ length_before-body n x.body behind x.grammar.unclosed in
+    ∙ length_before-body n x.body after x.grammar.unclosed in
     let size : length (x.body ++ raw_closing n) ≡ length_before (raw_closing n) s + (1 + n) =
     length-append x.body (raw_closing n) ∙ omega (arith, length-hashes n, body) in
     ap (drop (length_before (raw_closing n) s + (1 + n)))
-    (sym x.spells ∙ sym (append_assoc x.body (raw_closing n) behind))
-    ∙ drop_at (x.body ++ raw_closing n) behind (length_before (raw_closing n) s + (1 + n)) size
+    (sym x.spells ∙ sym (append_assoc x.body (raw_closing n) after))
+    ∙ drop_at (x.body ++ raw_closing n) after (length_before (raw_closing n) s + (1 + n)) size
 
-lone_goes : (unicode allow_nul : Bool) (n : ℕ) (s behind : List ℕ) →
-    IsClosedRaw unicode allow_nul n s behind → CutGoesOn unicode allow_nul n (34 ∷ s) →
-    behind ≡ 95 ∷ []
-lone_goes unicode allow_nul n s behind x (few, (quote, inl grammar)) =
+lone_goes : (unicode allow_nul : Bool) (n : ℕ) (s after : List ℕ) →
+    IsClosedRaw unicode allow_nul n s after → CutGoesOn unicode allow_nul n (34 ∷ s) →
+    after ≡ 95 ∷ []
+lone_goes unicode allow_nul n s after x (few, (quote, inl grammar)) =
     absurd (both_ways (occurs (raw_closing n) s) grammar.unclosed
-    (ap (occurs (raw_closing n)) (sym x.spells) ∙ occurs-body n x.body behind))
-lone_goes unicode allow_nul n s behind x (few, (quote, inr y)) =
-    sym (behind_is unicode allow_nul n s behind x) ∙ behind_is unicode allow_nul n s (95 ∷ []) y
+    (ap (occurs (raw_closing n)) (sym x.spells) ∙ occurs-body n x.body after))
+lone_goes unicode allow_nul n s after x (few, (quote, inr y)) =
+    sym (after_is unicode allow_nul n s after x) ∙ after_is unicode allow_nul n s (95 ∷ []) y
 
 pub suffix_decided : (unicode allow_nul : Bool) (text : List ℕ) (offset : ℕ) (e : ParseError)
     (b : Bool) → IsUtf8 (drop offset text) →
@@ -304,12 +304,12 @@ suffix_decided unicode allow_nul text offset e b u h kind is =
     r : Refusal
     r = refusal_of e
 
-    lone : (n : ℕ) (s behind : List ℕ) → n ≤ 255 → hashes n ++ 34 ∷ s ≡ t →
-        (x : IsClosedRaw unicode allow_nul n s behind) →
-        at (offset + (n + 1) + (byte_len x.body + (1 + n))) (suffix_refusal behind) ≡ r →
+    lone : (n : ℕ) (s after : List ℕ) → n ≤ 255 → hashes n ++ 34 ∷ s ≡ t →
+        (x : IsClosedRaw unicode allow_nul n s after) →
+        at (offset + (n + 1) + (byte_len x.body + (1 + n))) (suffix_refusal after) ≡ r →
         IsTrue b ↔ BeginsBy (IsRawOf unicode allow_nul) t
-    lone n s behind few spells x at_row =
-        answer_is b (is_text (95 ∷ []) behind) (is ∙ pointed) (to, from)
+    lone n s after few spells x at_row =
+        answer_is b (is_text (95 ∷ []) after) (is ∙ pointed) (to, from)
       where
         place : ℕ
         place = offset + (n + 1) + (byte_len x.body + (1 + n))
@@ -317,35 +317,35 @@ suffix_decided unicode allow_nul text offset e b u h kind is =
         len : ℕ
         len = byte_len (before n x.body)
 
-        cut : IsCut bs (before n x.body) behind
-        cut = cut_at bs (before n x.body) behind u
-            (sym (before_spells unicode allow_nul n s behind x ∙ spells))
+        cut : IsCut bs (before n x.body) after
+        cut = cut_at bs (before n x.body) after u
+            (sym (before_spells unicode allow_nul n s after x ∙ spells))
 
         there : drop place text ≡ drop len bs
         there = ap (λ k. drop k text) (let size = before_len n x.body in omega arith)
             ∙ sym (drop-drop len offset text)
 
-        pointed : points_at_last_underscore (span_of e) text ≡ is_text (95 ∷ []) behind
+        pointed : points_at_last_underscore (span_of e) text ≡ is_text (95 ∷ []) after
         pointed =
             ap (λ (k : Refusal). points_at_last_underscore k.span text) (sym at_row)
             ∙ ap (is_text (95 ∷ [])) there
             ∙ sym (is_text-chars (95 ∷ []) (drop len bs) refl cut.utf8)
             ∙ ap (is_text (95 ∷ [])) cut.rest
 
-        to : is_text (95 ∷ []) behind ≡ true → BeginsBy (IsRawOf unicode allow_nul) t
+        to : is_text (95 ∷ []) after ≡ true → BeginsBy (IsRawOf unicode allow_nul) t
         to holds =
-            let alone : behind ≡ 95 ∷ [] = sym (is_text-is (95 ∷ []) behind holds) in
+            let alone : after ≡ 95 ∷ [] = sym (is_text-is (95 ∷ []) after holds) in
             (raw_begins unicode allow_nul offset t r h).1
             (subst (RawGoesOn unicode allow_nul) spells
             (from_cut unicode allow_nul n (34 ∷ s) refl
             (few, (refl, inr (subst (IsClosedRaw unicode allow_nul n s) alone x)))))
 
-        from : BeginsBy (IsRawOf unicode allow_nul) t → is_text (95 ∷ []) behind ≡ true
+        from : BeginsBy (IsRawOf unicode allow_nul) t → is_text (95 ∷ []) after ≡ true
         from begins =
             let goes = to_cut unicode allow_nul n (34 ∷ s) refl
             (subst (RawGoesOn unicode allow_nul) (sym spells)
             ((raw_begins unicode allow_nul offset t r h).0 begins)) in
-            ap (is_text (95 ∷ [])) (lone_goes unicode allow_nul n s behind x goes)
+            ap (is_text (95 ∷ [])) (lone_goes unicode allow_nul n s after x goes)
 
     by : RawRow unicode allow_nul offset t r → IsTrue b ↔ BeginsBy (IsRawOf unicode allow_nul) t
     by (hashes_alone n spells at_row) =
@@ -357,7 +357,7 @@ suffix_decided unicode allow_nul text offset e b u h kind is =
     by (final_row final) = not_kind InvalidSuffix r refl kind final
     by (open_row at_row) = absurd (let told : UnterminatedRawString ≡ InvalidSuffix =
         ap (λ (k : Refusal). k.kind) at_row ∙ kind in cc)
-    by (closed_row n s behind few spells x at_row) = lone n s behind few spells x at_row
+    by (closed_row n s after few spells x at_row) = lone n s after few spells x at_row
 
 -- Every other refusal is final.
 
@@ -384,8 +384,8 @@ other_decided unicode allow_nul start t r h no_literal no_open no_suffix =
         absurd (no_literal (ap (λ (k : Refusal). k.kind) (sym at_row)))
     by (final_row final) = ends final
     by (open_row at_row) = absurd (no_open (ap (λ (k : Refusal). k.kind) (sym at_row)))
-    by (closed_row n s behind few spells x at_row) =
-        suffix (first_passes is_ascii_symbol behind) (ap (λ (k : Refusal). k.kind) at_row)
+    by (closed_row n s after few spells x at_row) =
+        suffix (first_passes is_ascii_symbol after) (ap (λ (k : Refusal). k.kind) at_row)
 
 -- where a refusal points, the text may be cut
 pub span_starts : (bs : List ℕ) (e : ParseError) (span : Range ℕ) → IsUtf8 bs →

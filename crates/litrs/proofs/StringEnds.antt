@@ -6,7 +6,7 @@ use Rattle.std.specs.Str.{chars, IsUtf8}
 use Rattle.std.proofs.lemmas.Bool.{and_left, or_from, eqb-true, eq-eqb, ne_eqb, both_ways}
 use Rattle.std.proofs.lemmas.Str.{chars-nil}
 use Rattle.litrs_base.specs.Text.{is_empty, begins_with}
-use Rattle.litrs_base.proofs.Chars.{chars_ascii, chars_empty, begins_with-chars, utf8_behind_ascii}
+use Rattle.litrs_base.proofs.Chars.{chars_ascii, chars_empty, begins_with-chars, utf8_after_ascii}
 use Rattle.litrs_grammar.specs.StringKind.{StringKind, string_kind, byte_string_kind, c_string_kind, switches_of}
 use Rattle.litrs_grammar.specs.Quoted.{quoted_front, IsQuoted}
 use Rattle.litrs_grammar.specs.Raw.{raw_front, has_unicode, allows_nul, IsRawOf, IsRawLiteral}
@@ -15,7 +15,7 @@ use Rattle.litrs_grammar.specs.Literal.{IsString, string_literal, byte_string_li
 use Rattle.litrs_grammar.specs.LiteralRefusals.{parsed_as, dispatch, refused_start, quoted_start, raw_start, string_start, string_start_refusal}
 use Rattle.litrs_grammar.specs.GoesOn.String.{start_goes_on}
 use Rattle.litrs_grammar.proofs.Laws.Literal.{start_quoted, start_raw}
-use Rattle.litrs_grammar.proofs.LongerTexts.Literal.{chain, back, begins_kind, raw_begins_behind}
+use Rattle.litrs_grammar.proofs.LongerTexts.Literal.{chain, back, begins_kind, raw_begins_after}
 use Rattle.litrs_grammar.proofs.LongerTexts.String.{quoted_string_begins, raw_string_begins, start_begins}
 use Rattle.litrs_parts.proofs.Dispatch.{dispatch-chars}
 use Rattle.litrs.proofs.Begins.{answer_is, begins_parsed}
@@ -71,11 +71,11 @@ raw_string kind bs b u begins is =
     front_chars (raw_front kind) bs (raw_low kind) u begins in
     let start : string_start kind (chars bs) ≡ raw_start = ap (string_start kind) (sym whole)
     ∙ start_raw kind t in
-    let behind : BeginsBy (IsRawOf (has_unicode kind) (allows_nul kind)) t
+    let after : BeginsBy (IsRawOf (has_unicode kind) (allows_nul kind)) t
     ↔ BeginsBy (IsRawLiteral kind) (chars bs) =
     subst (λ (l : List ℕ). BeginsBy (IsRawOf (has_unicode kind) (allows_nul kind)) t
-    ↔ BeginsBy (IsRawLiteral kind) l) whole (back (raw_begins_behind kind t)) in
-    chain is (chain behind (back (raw_string_begins kind (chars bs) start)))
+    ↔ BeginsBy (IsRawLiteral kind) l) whole (back (raw_begins_after kind t)) in
+    chain is (chain after (back (raw_string_begins kind (chars bs) start)))
 
 -- Neither
 
@@ -112,7 +112,7 @@ lone_goes t (b ∷ d ∷ bs) same u first quote raw = by (chars (d ∷ bs)) refl
     whole = same ∙ ap (λ k. chars (k ∷ d ∷ bs)) at ∙ chars_ascii 99 (d ∷ bs) (omega arith)
 
     some : is_empty (chars (d ∷ bs)) ≡ false
-    some = chars_empty (d ∷ bs) (utf8_behind_ascii b (d ∷ bs) (omega (arith, at)) u)
+    some = chars_empty (d ∷ bs) (utf8_after_ascii b (d ∷ bs) (omega (arith, at)) u)
         ∙ ne_eqb (length (d ∷ bs)) 0 (λ h. omega arith)
 
     by : (s : List ℕ) → chars (d ∷ bs) ≡ s →

@@ -10,7 +10,7 @@ use Rattle.std.proofs.lemmas.Str.{chars-nil}
 use Rattle.litrs_base.specs.declared.err.ParseErrorKind.TheVariants.{Empty, InvalidLiteral}
 use Rattle.litrs_base.specs.Refusal.{Refusal, plain}
 use Rattle.litrs_base.specs.Text.{is_empty, first_passes, begins_with}
-use Rattle.litrs_base.proofs.Chars.{chars_ascii, chars_wide, utf8_behind_ascii}
+use Rattle.litrs_base.proofs.Chars.{chars_ascii, chars_wide, utf8_after_ascii}
 use Rattle.litrs_grammar.specs.Literal.{a_bool, literal_parse, bool_literal, c_string_literal, IsLiteralOf, Begins}
 use Rattle.litrs_grammar.specs.LiteralRefusals.{refused_as, parsed_as, dispatch}
 use Rattle.litrs_grammar.specs.Bool.{bool_text}
@@ -41,7 +41,7 @@ fronts-chars (c ∷ word) (b ∷ bs) low u =
     let small : c < 128 = ltb-true c 128 parts.0 in
     elim (cases_lt b 128) [
       | inl low_b ↦ ap (λ t. begins_with t (c ∷ word)) (chars_ascii b bs low_b)
-          ∙ ap (λ v. (b == c) && v) (fronts-chars word bs parts.1 (utf8_behind_ascii b bs low_b u))
+          ∙ ap (λ v. (b == c) && v) (fronts-chars word bs parts.1 (utf8_after_ascii b bs low_b u))
       | inr high ↦ (let wide = chars_wide b bs high u in
           let above = wide.wide in
           ap (λ t. begins_with t (c ∷ word)) wide.is

@@ -42,8 +42,8 @@
 //!
 //! A [`ParseError`] has a kind and mostly a span: of `0b12` by [`IntegerLit::parse`] `InvalidDigit`
 //! at 3..4. Spans count bytes; `char_span` ends after a whole character, so that the text can be
-//! cut there. After a kind that `is_final` no longer text is accepted, and after one that `is_open`
-//! the text is accepted with its closing quote, and the hashes of a raw string, after it.
+//! cut there. After a kind that `is_final` no extension of the text is accepted, and after one that
+//! `is_open` the text is accepted with its closing quote, and the hashes of a raw string, after it.
 //!
 //! # Prompts
 //!

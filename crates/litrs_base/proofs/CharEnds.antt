@@ -46,10 +46,10 @@ boundary_tail b i l h = (omega (arith, h.0), λ within. h.1 (omega arith))
 boundary_cons : (b i : ℕ) (l : List ℕ) → IsCharBoundary l i → IsCharBoundary (b ∷ l) (suc i)
 boundary_cons b i l h = (omega (arith, h.0), λ within. h.1 (omega arith))
 
-boundary_behind : (x y : List ℕ) (n m : ℕ) → n ≡ m + length x → IsCharBoundary (x ++ y) n → IsCharBoundary y m
-boundary_behind [] y n m same h = subst (IsCharBoundary y) (let s : n ≡ m = omega arith in s) h
-boundary_behind (b ∷ x) y zero m same h = absurd (omega arith)
-boundary_behind (b ∷ x) y (suc n) m same h = boundary_behind x y n m (omega arith) (boundary_tail b n (x ++ y) h)
+boundary_after : (x y : List ℕ) (n m : ℕ) → n ≡ m + length x → IsCharBoundary (x ++ y) n → IsCharBoundary y m
+boundary_after [] y n m same h = subst (IsCharBoundary y) (let s : n ≡ m = omega arith in s) h
+boundary_after (b ∷ x) y zero m same h = absurd (omega arith)
+boundary_after (b ∷ x) y (suc n) m same h = boundary_after x y n m (omega arith) (boundary_tail b n (x ++ y) h)
 
 boundary_before : (x y : List ℕ) (n m : ℕ) → n ≡ m + length x → IsCharBoundary y m → IsCharBoundary (x ++ y) n
 boundary_before [] y n m same h = subst (IsCharBoundary y) (let s : m ≡ n = omega arith in s) h
@@ -65,7 +65,7 @@ char_end_moved front t end place is =
       at_or_after = omega arith;
       boundary = λ fits. subst (λ (b : List ℕ). IsCharBoundary b (place + byte_len front)) (sym both) (boundary_before (encode_utf8_all front) (encode_utf8_all t) _ place refl (is.boundary (omega arith)));
       least = λ n low high on. is.least (n - byte_len front) (omega arith) (omega arith)
-          (boundary_behind (encode_utf8_all front) (encode_utf8_all t) n (n - byte_len front) (omega arith) (subst (λ (b : List ℕ). IsCharBoundary b n) both on));
+          (boundary_after (encode_utf8_all front) (encode_utf8_all t) n (n - byte_len front) (omega arith) (subst (λ (b : List ℕ). IsCharBoundary b n) both on));
       past = λ over. ap (λ (p : ℕ). p + byte_len front) (is.past (omega arith));
     }
 

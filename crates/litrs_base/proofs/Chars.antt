@@ -38,8 +38,8 @@ unfolding chars
 chars_ascii b [] low = rw (lt-ltb b 128 low) refl
 chars_ascii b (c ∷ bs) low = rw (lt-ltb b 128 low) refl
 
-pub utf8_behind_ascii : (b : ℕ) (bs : List ℕ) → b < 128 → IsUtf8 (b ∷ bs) → IsUtf8 bs
-utf8_behind_ascii b bs low u = IsUtf8-past_char (b ∷ bs) bs b u (ap (λ front. front ++ bs) (sym (encode_ascii b low)))
+pub utf8_after_ascii : (b : ℕ) (bs : List ℕ) → b < 128 → IsUtf8 (b ∷ bs) → IsUtf8 bs
+utf8_after_ascii b bs low u = IsUtf8-past_char (b ∷ bs) bs b u (ap (λ front. front ++ bs) (sym (encode_ascii b low)))
 
 -- A text that begins with a byte from 128 on begins with a character from 128 on.
 pub record IsWide (bs : List ℕ) : Type 0 where
@@ -91,7 +91,7 @@ ascii_from_test p c only passes = elim (cases_lt c 128) [ inl low ↦ low | inr 
 pub prefix_len-chars : (p : ℕ → Bool) (bs : List ℕ) → OnlyAscii p → IsUtf8 bs → prefix_len p (chars bs) ≡ prefix_len p bs
 prefix_len-chars p [] only u = ap (prefix_len p) chars-nil
 prefix_len-chars p (b ∷ bs) only u = elim (cases_lt b 128) [
-  | inl low ↦ ap (prefix_len p) (chars_ascii b bs low) ∙ ap (λ n. cond (p b) (1 + n) 0) (prefix_len-chars p bs only (utf8_behind_ascii b bs low u))
+  | inl low ↦ ap (prefix_len p) (chars_ascii b bs low) ∙ ap (λ n. cond (p b) (1 + n) 0) (prefix_len-chars p bs only (utf8_after_ascii b bs low u))
   | inr high ↦ (let w = chars_wide b bs high u in
       ap (prefix_len p) w.is ∙ (ap (λ v. cond v (1 + prefix_len p w.rest) 0) (only w.first w.wide) ∙ sym (ap (λ v. cond v (1 + prefix_len p bs) 0) (only b high))))
 ]
@@ -100,7 +100,7 @@ front_step : (p : ℕ → Bool) (b : ℕ) (bs : List ℕ) (v : Bool) → OnlyAsc
     (IsUtf8 bs → IsAsciiFront bs (prefix_len p bs)) → IsAsciiFront (b ∷ bs) (cond v (1 + prefix_len p bs) 0)
 front_step p b bs true only passes u more =
     let low : b < 128 = ascii_from_test p b only passes in
-    subst (λ (n : ℕ). IsAsciiFront (b ∷ bs) n) (omega arith) (front_suc b bs (prefix_len p bs) low (more (utf8_behind_ascii b bs low u)))
+    subst (λ (n : ℕ). IsAsciiFront (b ∷ bs) n) (omega arith) (front_suc b bs (prefix_len p bs) low (more (utf8_after_ascii b bs low u)))
 front_step p b bs false only passes u more = front_zero (b ∷ bs) u
 
 -- a text may be cut after the first bytes that pass
@@ -135,7 +135,7 @@ begins_with-chars (c ∷ front) (b ∷ bs) low u =
     let parts = and_parts (ltb c 128) (list_all (λ d. ltb d 128) front) low in
     let low_c = ltb-true c 128 parts.0 in
     elim (cases_lt b 128) [
-      | inl low_b ↦ ap (begins_with (c ∷ front)) (chars_ascii b bs low_b) ∙ ap (λ v. eqb c b && v) (begins_with-chars front bs parts.1 (utf8_behind_ascii b bs low_b u))
+      | inl low_b ↦ ap (begins_with (c ∷ front)) (chars_ascii b bs low_b) ∙ ap (λ v. eqb c b && v) (begins_with-chars front bs parts.1 (utf8_after_ascii b bs low_b u))
       | inr high ↦ (let w = chars_wide b bs high u in
           let wide = w.wide in
           ap (begins_with (c ∷ front)) w.is
@@ -150,7 +150,7 @@ begins_front (c ∷ front) (b ∷ bs) low e u =
     let parts = and_parts (ltb c 128) (list_all (λ d. ltb d 128) front) low in
     let same = and_parts (eqb c b) (begins_with front bs) e in
     let low_b : b < 128 = let low_c = ltb-true c 128 parts.0 in let is = eqb-true c b same.0 in omega arith in
-    front_suc b bs (length front) low_b (begins_front front bs parts.1 same.1 (utf8_behind_ascii b bs low_b u))
+    front_suc b bs (length front) low_b (begins_front front bs parts.1 same.1 (utf8_after_ascii b bs low_b u))
 
 -- a text of ASCII characters is the same as bytes
 pub is_text-chars : (word bs : List ℕ) → list_all (λ c. ltb c 128) word ≡ true → IsUtf8 bs → is_text word (chars bs) ≡ is_text word bs
@@ -164,7 +164,7 @@ is_text-chars (c ∷ word) (b ∷ bs) low u =
     let parts = and_parts (ltb c 128) (list_all (λ d. ltb d 128) word) low in
     let low_c = ltb-true c 128 parts.0 in
     elim (cases_lt b 128) [
-      | inl low_b ↦ ap (is_text (c ∷ word)) (chars_ascii b bs low_b) ∙ ap (λ v. eqb c b && v) (is_text-chars word bs parts.1 (utf8_behind_ascii b bs low_b u))
+      | inl low_b ↦ ap (is_text (c ∷ word)) (chars_ascii b bs low_b) ∙ ap (λ v. eqb c b && v) (is_text-chars word bs parts.1 (utf8_after_ascii b bs low_b u))
       | inr high ↦ (let w = chars_wide b bs high u in
           let wide = w.wide in
           ap (is_text (c ∷ word)) w.is

@@ -98,7 +98,7 @@ split_only p (x ∷ xs) (y ∷ ys) c d u v h g e f same =
 pub take_while_all : (p : ℕ → Bool) (xs : List ℕ) → list_all p xs ≡ true → take_while p xs ≡ xs
 take_while_all p xs h = rw (prefix_len_all p xs h) (take_all (length xs) xs (omega arith))
 
--- a longest front of passing elements that is not shorter is the whole list
+-- a longest prefix of passing elements that is not shorter is the whole list
 pub take_while_whole : (p : ℕ → Bool) (xs : List ℕ) → length xs ≤ length (take_while p xs) → list_all p xs ≡ true
 take_while_whole p [] h = refl
 take_while_whole p (x ∷ xs) h = go (p x) refl (take_while_whole p xs) (subst (λ l. length (x ∷ xs) ≤ length l) (take_while-cons p x xs) h)

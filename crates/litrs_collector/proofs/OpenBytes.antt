@@ -20,11 +20,11 @@ use Rattle.litrs_grammar.specs.Quoted.{Item, continuation, quoted_front, body_te
 use Rattle.litrs_grammar.specs.Raw.{hashes, hash_len, occurs, raw_closing, raw_front, has_unicode, allows_nul, is_raw_char}
 use Rattle.litrs_grammar.specs.Laws.Raw.{NoClosingIn}
 use Rattle.litrs_grammar.proofs.Laws.Quoted.{body_text-append}
-use Rattle.litrs_grammar.proofs.RawCuts.{HashCut, hash_cut, hash_len-append, behind_hashes, length-hashes}
+use Rattle.litrs_grammar.proofs.RawCuts.{HashCut, hash_cut, hash_len-append, after_hashes, length-hashes}
 use Rattle.litrs_grammar.proofs.RawScans.{raw_scans_go_on}
 use Rattle.litrs_grammar.proofs.LongerTexts.Quoted.{quoted_items_stay}
 use Rattle.litrs_parts.specs.Unescaped.{IsUnescaped}
-use Rattle.litrs_parts.proofs.FloatBytes.{chars_behind, boundary_behind}
+use Rattle.litrs_parts.proofs.FloatBytes.{chars_after, boundary_after}
 use Rattle.litrs_lex.specs.declared.quoted.ItemsEnd.{ItemsEnd}
 use Rattle.litrs_lex.specs.QuotedItems.{IsItemsEnd}
 use Rattle.litrs_lex.specs.RawCut.{IsStop}
@@ -137,7 +137,7 @@ begins_backslash bytes rest is = ap (λ (l : List ℕ). is_empty l || first_pass
 pub is_whole_escape : (w v : Switches) (bytes : List ℕ) (value : Unescape) (len : ℕ) → w ≡ v → IsUnescaped w bytes value len → (len == length bytes) ≡ true → IsEscapeOrEmpty v (chars bytes)
 is_whole_escape w v bytes value len same read whole =
     let at : len ≡ length bytes = eqb-true len (length bytes) whole in
-    let none : read.rest ≡ [] = sym read.behind ∙ ap (λ (k : ℕ). chars (drop k bytes)) at ∙ ap chars (drop-length bytes) ∙ chars-nil in
+    let none : read.rest ≡ [] = sym read.after ∙ ap (λ (k : ℕ). chars (drop k bytes)) at ∙ ap chars (drop-length bytes) ∙ chars-nil in
     let text : chars bytes ≡ escape_text read.escape = sym read.spells ∙ ap (λ (l : List ℕ). escape_text read.escape ++ l) none ∙ append-nil (escape_text read.escape) in
     inr (read.escape, text, subst (λ (s : Switches). IsEscape s read.escape) same read.grammar)
 
@@ -160,7 +160,7 @@ quoted_reads kind place bytes end u s read =
     let rest : List ℕ = chars (drop end.place bytes) in
     let whole = front_splits bytes place u s.boundary in
     let cut = front_splits bytes end.place u read.boundary in
-    let behind : chars (drop place bytes) ≡ body_text read.items ++ rest = append_cancel_left (chars (take place bytes)) _ _ (whole.0 ∙ sym read.spells) in
+    let after : chars (drop place bytes) ≡ body_text read.items ++ rest = append_cancel_left (chars (take place bytes)) _ _ (whole.0 ∙ sym read.spells) in
     let before : chars (take place bytes) ++ body_text read.items ≡ chars (take end.place bytes) =
     append_cancel_right _ _ rest (append_assoc (chars (take place bytes)) (body_text read.items) rest ∙ read.spells ∙ sym cut.0) in record {
       boundary = read.boundary;
@@ -168,7 +168,7 @@ quoted_reads kind place bytes end u s read =
       spells = ap (λ (l : List ℕ). quoted_front kind ++ l) (body_text-append s.items read.items)
           ∙ sym (append_assoc (quoted_front kind) (body_text s.items) (body_text read.items))
           ∙ ap (λ (l : List ℕ). l ++ body_text read.items) s.spells ∙ before;
-      taken = stand_before-append w s.items read.items rest (subst (λ (r : List ℕ). stand_before w r s.items ≡ true) behind s.taken) read.taken;
+      taken = stand_before-append w s.items read.items rest (subst (λ (r : List ℕ). stand_before w r s.items ≡ true) after s.taken) read.taken;
     }
 
 -- the whole text, by its items and the rest
@@ -261,13 +261,13 @@ continued_quoted kind place k bytes u s count inside =
     let at : place + m ≡ place + k = omega (arith, count) in
     let there : drop m bs ≡ drop (place + k) bytes = drop-drop m place bytes ∙ ap (λ (j : ℕ). drop j bytes) at in
     let rest : List ℕ = chars (drop (place + k) bytes) in
-    let behind : chars bs ≡ more ++ rest = sym (take-append-drop m (chars bs)) ∙ ap (λ (l : List ℕ). more ++ l) (front.rest ∙ ap chars there) in
+    let after : chars bs ≡ more ++ rest = sym (take-append-drop m (chars bs)) ∙ ap (λ (l : List ℕ). more ++ l) (front.rest ∙ ap chars there) in
     let left : IsUtf8 (drop (place + k) bytes) = subst (λ (l : List ℕ). IsUtf8 l) there front.utf8 in
     let boundary : IsCharBoundary bytes (place + k) = IsCharBoundary-from_drop bytes (place + k) (omega arith) left in
     let item : Item = continuation (s.blanks ++ more) in
     let text : List ℕ = 92 ∷ 10 ∷ (s.blanks ++ more) in
     let before : chars (take place bytes) ++ more ≡ chars (take (place + k) bytes) =
-    append_cancel_right _ _ rest (append_assoc (chars (take place bytes)) more rest ∙ ap (λ (l : List ℕ). chars (take place bytes) ++ l) (sym behind)
+    append_cancel_right _ _ rest (append_assoc (chars (take place bytes)) more rest ∙ ap (λ (l : List ℕ). chars (take place bytes) ++ l) (sym after)
     ∙ (front_splits bytes place u s.boundary).0 ∙ sym (front_splits bytes (place + k) u boundary).0) in
     let some : is_empty rest ≡ false = chars_empty (drop (place + k) bytes) left ∙ ne_eqb (length (drop (place + k) bytes)) 0 (λ e. omega (arith, length-drop (place + k) bytes)) in
     let stops : first_passes is_blank rest ≡ false =
@@ -360,7 +360,7 @@ hashes_split bs n count =
     let cut : HashCut bs = hash_cut bs in
     let same : n ≡ cut.count = count ∙ ap hash_len (sym cut.spells) ∙ hash_len-append cut.count cut.rest cut.stops in
     ap (λ (k : ℕ). hashes k ++ drop k bs) same ∙ ap (λ (l : List ℕ). hashes cut.count ++ drop cut.count l) (sym cut.spells)
-    ∙ ap (λ (l : List ℕ). hashes cut.count ++ l) (behind_hashes cut.count cut.rest) ∙ cut.spells
+    ∙ ap (λ (l : List ℕ). hashes cut.count ++ l) (after_hashes cut.count cut.rest) ∙ cut.spells
 
 pub raw_opened : (kind : StringKind) (front n : ℕ) (bytes : List ℕ) → IsUtf8 bytes → begins_with (raw_front kind) bytes ≡ true → front ≡ length (raw_front kind) →
     n ≡ hash_len (drop front bytes) → n ≤ 255 → drop (front + n) bytes ≡ 34 ∷ drop (front + n + 1) bytes → IsRawTo kind n (front + n + 1) bytes
@@ -368,19 +368,19 @@ raw_opened kind front n bytes u begins at_front count few quote =
     let rest : List ℕ = drop (front + n + 1) bytes in
     let opening : List ℕ = raw_front kind ++ (hashes n ++ 34 ∷ []) in
     let split : raw_front kind ++ drop front bytes ≡ bytes = ap (λ (k : ℕ). raw_front kind ++ drop k bytes) at_front ∙ begins_with-split (raw_front kind) bytes begins in
-    let behind : drop n (drop front bytes) ≡ 34 ∷ rest = drop-drop n front bytes ∙ quote in
-    let marks : hashes n ++ 34 ∷ rest ≡ drop front bytes = ap (λ (l : List ℕ). hashes n ++ l) (sym behind) ∙ hashes_split (drop front bytes) n count in
+    let after : drop n (drop front bytes) ≡ 34 ∷ rest = drop-drop n front bytes ∙ quote in
+    let marks : hashes n ++ 34 ∷ rest ≡ drop front bytes = ap (λ (l : List ℕ). hashes n ++ l) (sym after) ∙ hashes_split (drop front bytes) n count in
     let spelled : opening ++ rest ≡ bytes =
     append_assoc (raw_front kind) (hashes n ++ 34 ∷ []) rest ∙ ap (λ (l : List ℕ). raw_front kind ++ l) (append_assoc (hashes n) (34 ∷ []) rest ∙ marks) ∙ split in
     let ascii : list_all is_ascii_char opening ≡ true =
     list_all-append is_ascii_char (raw_front kind) (hashes n ++ 34 ∷ []) (front_ascii kind) (list_all-append is_ascii_char (hashes n) (34 ∷ []) (hashes_ascii n) refl) in
     let size : length opening ≡ front + n + 1 =
     omega (arith, at_front, length-append (raw_front kind) (hashes n ++ 34 ∷ []), length-append (hashes n) (34 ∷ []), length-hashes n) in record {
-      boundary = boundary_behind bytes opening rest (front + n + 1) spelled ascii size u;
+      boundary = boundary_after bytes opening rest (front + n + 1) spelled ascii size u;
       few = few;
       body = [];
       spells = sym (ap (λ (l : List ℕ). chars (take (front + n + 1) l)) (sym spelled) ∙ ap chars (take_at opening rest (front + n + 1) size)
-          ∙ ap chars (sym (append-nil opening)) ∙ chars_behind opening [] ascii ∙ ap (λ (l : List ℕ). opening ++ l) chars-nil ∙ append-nil opening);
+          ∙ ap chars (sym (append-nil opening)) ∙ chars_after opening [] ascii ∙ ap (λ (l : List ℕ). opening ++ l) chars-nil ∙ append-nil opening);
       allowed = refl;
       unclosed = λ more none. none;
     }

@@ -111,14 +111,14 @@ open_is_none : (kind : StringKind) (t : List ℕ) (q : QuotedParts) → IsQuoted
 open_is_none kind t q is line =
     let w = switches_of kind in
     let front = quoted_front kind in
-    let behind : List ℕ = q.suffix ++ 10 ∷ [] in
-    let closed : IsQuotedRefusal front w (t ++ 10 ∷ []) (moved (byte_len (front ++ body_text q.items)) (at 1 (suffix_refusal behind))) = record {
+    let after : List ℕ = q.suffix ++ 10 ∷ [] in
+    let closed : IsQuotedRefusal front w (t ++ 10 ∷ []) (moved (byte_len (front ++ body_text q.items)) (at 1 (suffix_refusal after))) = record {
       items = q.items;
-      rest = 34 ∷ behind;
-      cause = at 1 (suffix_refusal behind);
+      rest = 34 ∷ after;
+      cause = at 1 (suffix_refusal after);
       spells = more_after front (body_text q.items) (34 ∷ q.suffix) (10 ∷ []) t is.spells;
-      taken = body_stands w q.items behind is.body;
-      told = quote_refused kind behind (not_suffix q.suffix);
+      taken = body_stands w q.items after is.body;
+      told = quote_refused kind after (not_suffix q.suffix);
       placed = refl;
     } in
     let unclosed : IsQuotedRefusal front w (t ++ 10 ∷ []) (moved (byte_len (front ++ body_text line.items)) (plain UnterminatedString)) = record {
@@ -131,7 +131,7 @@ open_is_none kind t q is line =
       placed = refl;
     } in
     let same = quoted_refusals_are_unique front w (t ++ 10 ∷ []) _ _ closed unclosed in
-    both_ways (is_open (suffix_refusal behind)) (shut_suffix behind) (ap (λ (r : Refusal). is_open r.kind) same)
+    both_ways (is_open (suffix_refusal after)) (shut_suffix after) (ap (λ (r : Refusal). is_open r.kind) same)
 
 line_feed_stands : (kind : StringKind) → stand_before (switches_of kind) [] (plain_item 10 ∷ []) ≡ true
 line_feed_stands string_kind = refl
@@ -245,12 +245,12 @@ line_in_body kind body all = list_all-append (is_raw_char (has_unicode kind) (al
 pub raw_is_open : (kind : StringKind) (n : ℕ) (t body : List ℕ) → n ≤ 255 → raw_front kind ++ (hashes n ++ 34 ∷ body) ≡ t →
     IsRawBody (has_unicode kind) (allows_nul kind) n body → IsOpenText t
 raw_is_open kind n t body few spells grammar =
-    let behind : drop (length (raw_front kind)) t ≡ hashes n ++ 34 ∷ body = ap (drop (length (raw_front kind))) (sym spells) ∙ drop_at (raw_front kind) _ (length (raw_front kind)) refl in
+    let after : drop (length (raw_front kind)) t ≡ hashes n ++ 34 ∷ body = ap (drop (length (raw_front kind))) (sym spells) ∙ drop_at (raw_front kind) _ (length (raw_front kind)) refl in
     let longer : IsRawBody (has_unicode kind) (allows_nul kind) n (body ++ 10 ∷ []) =
     record { allowed = line_in_body kind body grammar.allowed; unclosed = none_over_line n body [] grammar.unclosed refl } in
     let parts : RawParts = record { hash_count = n; body = body ++ 10 ∷ []; suffix = [] } in (
       no_literal kind raw_start t (plain UnterminatedRawString) (ap dispatch (sym spells) ∙ dispatch_raw kind _) (ap (string_start kind) (sym spells) ∙ start_raw kind _)
-          (ap (raw_refusal (has_unicode kind) (allows_nul kind) (length (raw_front kind))) behind ∙ raw_refused kind n body few grammar),
+          (ap (raw_refusal (has_unicode kind) (allows_nul kind) (length (raw_front kind))) after ∙ raw_refused kind n body few grammar),
       begins_literal kind (t ++ 10 ∷ []) (
         raw_closing n,
         raw_parts parts,

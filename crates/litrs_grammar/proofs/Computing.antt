@@ -82,10 +82,10 @@ pub quoted : {front : List ℕ} {w : Switches} {t : List ℕ} {q : QuotedParts} 
 quoted spells body suffix = record { spells = spells; body = body; suffix = suffix }
 
 -- a text that is refused as one: the items before the refused place, the rest, and why
-pub refused_behind : {front : List ℕ} {w : Switches} {t : List ℕ} {e : Refusal} (items : List Item) (rest : List ℕ) (cause : Refusal) →
+pub refused_after : {front : List ℕ} {w : Switches} {t : List ℕ} {e : Refusal} (items : List Item) (rest : List ℕ) (cause : Refusal) →
     front ++ (body_text items ++ rest) ≡ t → IsTrue (stand_before w rest items) → rest_refusal w rest ≡ Some cause →
     moved (byte_len (front ++ body_text items)) cause ≡ e → IsQuotedRefusal front w t e
-refused_behind items rest cause spells taken told placed =
+refused_after items rest cause spells taken told placed =
     record { items = items; rest = rest; cause = cause; spells = spells; taken = taken; told = told; placed = placed }
 
 -- a raw string of any kind

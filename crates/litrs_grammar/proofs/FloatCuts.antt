@@ -6,7 +6,7 @@ use Rattle.std.proofs.lemmas.Bool.Decides.{nat_tests}
 use Rattle.std.proofs.lemmas.List.{drop_at, append_assoc, take-append-drop, take-append-le, drop-append-le}
 use Rattle.litrs_base.specs.Text.{first_passes}
 use Rattle.litrs_grammar.specs.Integer.{is_e}
-use Rattle.litrs_grammar.specs.Float.{FloatParts, fraction_text, number_part, float_text, is_decimal_char, is_period, is_sign, sign_len, fraction_of, exponent_of, behind, float_cut}
+use Rattle.litrs_grammar.specs.Float.{FloatParts, fraction_text, number_part, float_text, is_decimal_char, is_period, is_sign, sign_len, fraction_of, exponent_of, after, float_cut}
 use Rattle.litrs_grammar.proofs.Laws.Integer.{prefix_len_front, take_while_front}
 use Rattle.litrs_base.proofs.Runs.{run_of}
 
@@ -55,9 +55,9 @@ fraction_stops None p x front stop = exponent_stops p x front stop
 fraction_stops (Some f) p x front stop = refl
 
 -- what follows the digits and `_` in front
-pub behind_decimals : (d : FloatParts) → IsCut d →
+pub after_decimals : (d : FloatParts) → IsCut d →
     drop (prefix_len is_decimal_char (float_text d)) (float_text d) ≡ fraction_text d.fraction ++ (d.exponent ++ d.suffix)
-behind_decimals d cut =
+after_decimals d cut =
     let r = fraction_text d.fraction ++ (d.exponent ++ d.suffix) in
     drop_at d.integer r (prefix_len is_decimal_char (d.integer ++ r))
     (sym (prefix_len_front is_decimal_char d.integer r cut.integer (fraction_stops d.fraction d.exponent d.suffix cut.exponent cut.stops)))
@@ -115,18 +115,18 @@ number_part-suffix d =
 
 -- a text is cut in one way
 
-behind_exponent : List ℕ → Option (List ℕ) → List ℕ → List ℕ → FloatParts
-behind_exponent i f p t = record { integer = i; fraction = f; exponent = p; suffix = behind (i ++ (fraction_text f ++ p)) t }
+after_exponent : List ℕ → Option (List ℕ) → List ℕ → List ℕ → FloatParts
+after_exponent i f p t = record { integer = i; fraction = f; exponent = p; suffix = after (i ++ (fraction_text f ++ p)) t }
 
-behind_fraction : List ℕ → Option (List ℕ) → List ℕ → FloatParts
-behind_fraction i f t = behind_exponent i f (exponent_of (behind (i ++ fraction_text f) t)) t
+after_fraction : List ℕ → Option (List ℕ) → List ℕ → FloatParts
+after_fraction i f t = after_exponent i f (exponent_of (after (i ++ fraction_text f) t)) t
 
-behind_integer : List ℕ → List ℕ → FloatParts
-behind_integer i t = behind_fraction i (fraction_of (behind i t)) t
+after_integer : List ℕ → List ℕ → FloatParts
+after_integer i t = after_fraction i (fraction_of (after i t)) t
 
 -- the parts of a text that is cut
 pub cut_of_text : (d : FloatParts) → IsCut d → float_cut (float_text d) ≡ d
-unfolding float_cut behind_integer behind_fraction behind_exponent
+unfolding float_cut after_integer after_fraction after_exponent
 cut_of_text d cut =
     let i = d.integer in
     let f = fraction_text d.fraction in
@@ -134,14 +134,14 @@ cut_of_text d cut =
     let x = d.suffix in
     let t = float_text d in
     let integer : take_while is_decimal_char t ≡ i = take_while_front is_decimal_char i (f ++ (p ++ x)) cut.integer (fraction_stops d.fraction p x cut.exponent cut.stops) in
-    let after_integer : behind i t ≡ f ++ (p ++ x) = drop_at i (f ++ (p ++ x)) (length i) refl in
-    let after_fraction : behind (i ++ f) t ≡ p ++ x = ap (behind (i ++ f)) (sym (append_assoc i f (p ++ x))) ∙ drop_at (i ++ f) (p ++ x) (length (i ++ f)) refl in
-    let after_number : behind (number_part d) t ≡ x = ap (behind (number_part d)) (sym (number_part-suffix d)) ∙ drop_at (number_part d) x (length (number_part d)) refl in
+    let integer_left : after i t ≡ f ++ (p ++ x) = drop_at i (f ++ (p ++ x)) (length i) refl in
+    let fraction_left : after (i ++ f) t ≡ p ++ x = ap (after (i ++ f)) (sym (append_assoc i f (p ++ x))) ∙ drop_at (i ++ f) (p ++ x) (length (i ++ f)) refl in
+    let after_number : after (number_part d) t ≡ x = ap (after (number_part d)) (sym (number_part-suffix d)) ∙ drop_at (number_part d) x (length (number_part d)) refl in
     let fraction = fraction_of-text d.fraction p x cut.fraction cut.exponent cut.stops cut.no_period in
     let exponent = exponent_of-text p x cut.exponent cut.stops cut.no_letter cut.no_sign in
-    ap (λ s. behind_integer s t) integer
-    ∙ (ap (λ s. behind_fraction i s t) (ap fraction_of after_integer ∙ fraction)
-    ∙ (ap (λ s. behind_exponent i d.fraction s t) (ap exponent_of after_fraction ∙ exponent)
+    ap (λ s. after_integer s t) integer
+    ∙ (ap (λ s. after_fraction i s t) (ap fraction_of integer_left ∙ fraction)
+    ∙ (ap (λ s. after_exponent i d.fraction s t) (ap exponent_of fraction_left ∙ exponent)
     ∙ (λ j. record { integer = i; fraction = d.fraction; exponent = p; suffix = after_number j })))
 
 pub same_cut : (d e : FloatParts) → IsCut d → IsCut e → float_text d ≡ float_text e → d ≡ e
@@ -210,9 +210,9 @@ exponent_signed c s cs letter sign = let r = run_of is_decimal_char cs in record
   all = λ e. absurd (let none : c ∷ s ∷ r.front ≡ [] = e in cc);
 }
 
-exponent_behind : (c : ℕ) (cs : List ℕ) → is_e c ≡ true → ExponentCut (c ∷ cs)
-exponent_behind c [] letter = exponent_plain c [] letter refl
-exponent_behind c (s ∷ cs) letter = elim (cases_Bool (is_sign s)) [
+exponent_after : (c : ℕ) (cs : List ℕ) → is_e c ≡ true → ExponentCut (c ∷ cs)
+exponent_after c [] letter = exponent_plain c [] letter refl
+exponent_after c (s ∷ cs) letter = elim (cases_Bool (is_sign s)) [
   | inl sign ↦ exponent_signed c s cs letter sign
   | inr no_sign ↦ exponent_plain c (s ∷ cs) letter no_sign
 ]
@@ -220,7 +220,7 @@ exponent_behind c (s ∷ cs) letter = elim (cases_Bool (is_sign s)) [
 exponent_cut : (r : List ℕ) → first_passes is_decimal_char r ≡ false → ExponentCut r
 exponent_cut [] stop = no_exponent [] refl refl
 exponent_cut (c ∷ cs) stop = elim (cases_Bool (is_e c)) [
-  | inl letter ↦ exponent_behind c cs letter
+  | inl letter ↦ exponent_after c cs letter
   | inr no_letter ↦ no_exponent (c ∷ cs) stop no_letter
 ]
 
@@ -245,12 +245,12 @@ fraction_cut : (t i : List ℕ) (cs : List ℕ) → i ++ (46 ∷ cs) ≡ t → l
 fraction_cut t i cs spells integer = let r = run_of is_decimal_char cs in
     whole_cut t i (Some r.front) r.rest (ap (λ t. i ++ (46 ∷ t)) r.spells ∙ spells) integer r.passes (λ e. absurd (let none : Some r.front ≡ None = e in cc)) (exponent_cut r.rest r.stops)
 
-behind_cut : (t i r : List ℕ) → i ++ r ≡ t → list_all is_decimal_char i ≡ true → first_passes is_decimal_char r ≡ false → CutOf t
-behind_cut t i [] spells integer stop = whole_cut t i None [] spells integer refl (λ e. refl) (exponent_cut [] refl)
-behind_cut t i (c ∷ cs) spells integer stop = elim (cases_Bool (is_period c)) [
+after_cut : (t i r : List ℕ) → i ++ r ≡ t → list_all is_decimal_char i ≡ true → first_passes is_decimal_char r ≡ false → CutOf t
+after_cut t i [] spells integer stop = whole_cut t i None [] spells integer refl (λ e. refl) (exponent_cut [] refl)
+after_cut t i (c ∷ cs) spells integer stop = elim (cases_Bool (is_period c)) [
   | inl period ↦ fraction_cut t i cs (ap (λ d. i ++ (d ∷ cs)) (sym (eqb-true c 46 period)) ∙ spells) integer
   | inr no_period ↦ whole_cut t i None (c ∷ cs) spells integer refl (λ e. no_period) (exponent_cut (c ∷ cs) stop)
 ]
 
 pub cut_of : (t : List ℕ) → CutOf t
-cut_of t = let r = run_of is_decimal_char t in behind_cut t r.front r.rest r.spells r.passes r.stops
+cut_of t = let r = run_of is_decimal_char t in after_cut t r.front r.rest r.spells r.passes r.stops

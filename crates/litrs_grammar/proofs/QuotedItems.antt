@@ -81,7 +81,7 @@ same_item w (continuation a) (continuation b) x y h g k l same =
 
 -- no item stands at the front of the text
 abbrev pub NoItem : Switches → List ℕ → Type 0
-NoItem w x = (a : Item) (behind : List ℕ) → is_item w a ≡ true → is_taken_before behind a ≡ true → item_text a ++ behind ≡ x → ⊥
+NoItem w x = (a : Item) (after : List ℕ) → is_item w a ≡ true → is_taken_before after a ≡ true → item_text a ++ after ≡ x → ⊥
 
 -- a text is divided in at most one way into items and a rest where none follows
 pub same_items : (w : Switches) (L M : List Item) (x y : List ℕ) → stand_before w x L ≡ true → stand_before w y M ≡ true → NoItem w x → NoItem w y →
@@ -111,9 +111,9 @@ heads_differ c d x y same differ = let at : c ≡ d = cc in both_ways (c == d) d
 
 -- the closing quote is no item
 pub quote_no_item : (w : Switches) (s : List ℕ) → NoItem w (34 ∷ s)
-quote_no_item w s (plain_item c) behind h k same = let at : c ≡ 34 = cc in not_plain w c 34 h at refl
-quote_no_item w s (escape_item e) behind h k same = let head = escape_head e behind in heads_differ 92 34 _ _ (sym head.2 ∙ same) refl
-quote_no_item w s (continuation b) behind h k same = heads_differ 92 34 _ _ same refl
+quote_no_item w s (plain_item c) after h k same = let at : c ≡ 34 = cc in not_plain w c 34 h at refl
+quote_no_item w s (escape_item e) after h k same = let head = escape_head e after in heads_differ 92 34 _ _ (sym head.2 ∙ same) refl
+quote_no_item w s (continuation b) after h k same = heads_differ 92 34 _ _ same refl
 
 -- the last character of a text that goes on after a part
 pub without_last-append : (t : List ℕ) (c : ℕ) (x : List ℕ) → without_last (t ++ c ∷ x) ≡ t ++ without_last (c ∷ x)
@@ -157,8 +157,8 @@ continuation_no_refusal : (w : Switches) (a : List ℕ) (c : ℕ) (t : List ℕ)
 unfolding rest_refusal
 continuation_no_refusal w a c t h = none_if _ _ _ (list_all-stop a c t h) refl
 
-pub item_no_refusal : (w : Switches) (a : Item) (behind : List ℕ) → is_item w a ≡ true → is_taken_before behind a ≡ true → rest_refusal w (item_text a ++ behind) ≡ None
-item_no_refusal w (plain_item c) behind h k = plain_no_refusal w c behind h
+pub item_no_refusal : (w : Switches) (a : Item) (after : List ℕ) → is_item w a ≡ true → is_taken_before after a ≡ true → rest_refusal w (item_text a ++ after) ≡ None
+item_no_refusal w (plain_item c) after h k = plain_no_refusal w c after h
 item_no_refusal w (escape_item e) [] h k = cc
 item_no_refusal w (escape_item e) (c ∷ t) h k = escape_no_refusal w e c t h
 item_no_refusal w (continuation a) [] h k = cc
@@ -166,18 +166,18 @@ item_no_refusal w (continuation a) (c ∷ t) h k = continuation_no_refusal w a c
 
 -- a refused rest begins with no item
 pub refused_no_item : (w : Switches) (x : List ℕ) (e : Refusal) → rest_refusal w x ≡ Some e → NoItem w x
-refused_no_item w x e told a behind h k same =
-    let none : rest_refusal w x ≡ None = subst (λ l. rest_refusal w l ≡ None) same (item_no_refusal w a behind h k) in
+refused_no_item w x e told a after h k same =
+    let none : rest_refusal w x ≡ None = subst (λ l. rest_refusal w l ≡ None) same (item_no_refusal w a after h k) in
     cc
 
 -- What stands at the front of a text: an item, a reason to refuse it, or the closing quote and a suffix.
-pub record HasItem (w : Switches) (t : List ℕ) (a : Item) (behind : List ℕ) : Type 0 where
-  pub spells : item_text a ++ behind ≡ t
+pub record HasItem (w : Switches) (t : List ℕ) (a : Item) (after : List ℕ) : Type 0 where
+  pub spells : item_text a ++ after ≡ t
   pub grammar : is_item w a ≡ true
-  pub taken : is_taken_before behind a ≡ true
+  pub taken : is_taken_before after a ≡ true
 
 abbrev pub SomeItem : Switches → List ℕ → Type 0
-SomeItem w t = (a : Item) × (behind : List ℕ) × HasItem w t a behind
+SomeItem w t = (a : Item) × (after : List ℕ) × HasItem w t a after
 
 abbrev pub Closes : List ℕ → Type 0
 Closes t = (s : List ℕ) × (34 ∷ s ≡ t) × (is_suffix s ≡ true)
@@ -231,9 +231,9 @@ escape_here w (c ∷ t) h =
 abbrev pub Front : Switches → List ℕ → Type 0
 Front w t = SomeItem w t ⊎ (((e : Refusal) × (rest_refusal w t ≡ Some e)) ⊎ Closes t)
 
-behind_backslash : (w : Switches) (t : List ℕ) → backslash_refusal w t ≡ None → SomeItem w (92 ∷ t)
-behind_backslash w [] h = escape_here w [] h
-behind_backslash w (c ∷ t) h = go (c == 10) refl h
+after_backslash : (w : Switches) (t : List ℕ) → backslash_refusal w t ≡ None → SomeItem w (92 ∷ t)
+after_backslash w [] h = escape_here w [] h
+after_backslash w (c ∷ t) h = go (c == 10) refl h
   where
     go : (b : Bool) → (c == 10) ≡ b →
         (if b then (if list_all is_blank (c ∷ t) then Some (plain UnterminatedString) else None) else escape_refusal w (without_last (92 ∷ c ∷ t))) ≡ None →
@@ -248,7 +248,7 @@ front_cons : (w : Switches) (c : ℕ) (t : List ℕ) (b q : Bool) → (c == 92) 
 unfolding rest_refusal
 front_cons w c t true q b_is q_is h =
     let at = eqb-true c 92 b_is in
-    inl (subst (λ n. SomeItem w (n ∷ t)) (sym at) (behind_backslash w t (sym (if_true _ _ _ b_is) ∙ h)))
+    inl (subst (λ n. SomeItem w (n ∷ t)) (sym at) (after_backslash w t (sym (if_true _ _ _ b_is) ∙ h)))
 front_cons w c t false true b_is q_is h =
     let a = none_from (c == 13) _ _ (sym (if_false _ _ _ b_is) ∙ h) in
     let b = unless_none (allows_value w c) _ _ a.1 in
@@ -293,15 +293,15 @@ pub record Derives (w : Switches) (t : List ℕ) (items : List Item) (rest : Lis
 abbrev pub SomeReading : Switches → List ℕ → Type 0
 SomeReading w t = (items : List Item) × (rest : List ℕ) × Derives w t items rest
 
-item_longer : (a : Item) (behind : List ℕ) → length behind < length (item_text a ++ behind)
-item_longer (plain_item c) behind = omega arith
-item_longer (escape_item (simple_escape c)) behind = omega arith
-item_longer (escape_item (hex_escape c d)) behind = omega arith
-item_longer (escape_item (unicode_escape inner)) behind = omega (arith, length-append (inner ++ 125 ∷ []) behind)
-item_longer (continuation a) behind = omega (arith, length-append a behind)
+item_longer : (a : Item) (after : List ℕ) → length after < length (item_text a ++ after)
+item_longer (plain_item c) after = omega arith
+item_longer (escape_item (simple_escape c)) after = omega arith
+item_longer (escape_item (hex_escape c d)) after = omega arith
+item_longer (escape_item (unicode_escape inner)) after = omega (arith, length-append (inner ++ 125 ∷ []) after)
+item_longer (continuation a) after = omega (arith, length-append a after)
 
-read_item : (w : Switches) (t : List ℕ) (a : Item) (behind : List ℕ) → HasItem w t a behind → SomeReading w behind → SomeReading w t
-read_item w t a behind here (items, rest, later) = (
+read_item : (w : Switches) (t : List ℕ) (a : Item) (after : List ℕ) → HasItem w t a after → SomeReading w after → SomeReading w t
+read_item w t a after here (items, rest, later) = (
   a ∷ items,
   rest,
   record {
@@ -316,10 +316,10 @@ read_within zero w t h = absurd (omega arith)
 read_within (suc n) w t h = go (front w t) (read_within n w)
   where
     go : Front w t → ((x : List ℕ) → length x < n → SomeReading w x) → SomeReading w t
-    go (inl (a, behind, here)) rec =
-        let longer = item_longer a behind in
-        let size : length (item_text a ++ behind) ≡ length t = ap length here.spells in
-        read_item w t a behind here (rec behind (omega arith))
+    go (inl (a, after, here)) rec =
+        let longer = item_longer a after in
+        let size : length (item_text a ++ after) ≡ length t = ap length here.spells in
+        read_item w t a after here (rec after (omega arith))
     go (inr ends) rec = ([], t, record { spells = refl; taken = refl; ends = ends })
 
 -- each text has items and a rest
@@ -355,10 +355,10 @@ stands_body w (a ∷ items) s h =
     and_from _ _ (and_from _ _ q.0 (item_stands a (body_text items) s q.1)) (stands_body w items s p.1)
 
 -- a text that ends with a quote and a suffix does not end with LF
-behind_quote_last : (x : List ℕ) (q : ℕ) (s : List ℕ) → is_line_feed q ≡ false → is_suffix s ≡ true → last_passes is_line_feed (x ++ q ∷ s) ≡ false
-behind_quote_last x q [] other h = last_passes-append is_line_feed x q [] ∙ other
-behind_quote_last x q (c ∷ s) other h = last_passes-append is_line_feed x q (c ∷ s) ∙ suffix_last (c ∷ s) h
+after_quote_last : (x : List ℕ) (q : ℕ) (s : List ℕ) → is_line_feed q ≡ false → is_suffix s ≡ true → last_passes is_line_feed (x ++ q ∷ s) ≡ false
+after_quote_last x q [] other h = last_passes-append is_line_feed x q [] ∙ other
+after_quote_last x q (c ∷ s) other h = last_passes-append is_line_feed x q (c ∷ s) ∙ suffix_last (c ∷ s) h
 
 pub closed_before_line_feed : (x : List ℕ) (q : ℕ) (s t : List ℕ) → is_line_feed q ≡ false → is_suffix s ≡ true → x ++ q ∷ s ≡ t ++ 10 ∷ [] → ⊥
 closed_before_line_feed x q s t other h same =
-    both_ways _ (behind_quote_last x q s other h) (ap (last_passes is_line_feed) same ∙ line_feed_last t)
+    both_ways _ (after_quote_last x q s other h) (ap (last_passes is_line_feed) same ∙ line_feed_last t)

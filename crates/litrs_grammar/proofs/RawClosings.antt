@@ -8,7 +8,7 @@ use Rattle.std.proofs.lemmas.List.{append_assoc}
 use Rattle.litrs_base.specs.Text.{is_empty, first_passes, begins_with}
 use Rattle.litrs_grammar.specs.Raw.{is_quote, is_hash, hashes, raw_closing, occurs, hash_len, length_before}
 use Rattle.litrs_grammar.specs.Laws.RawScan.{HashCountsStay, FirstClosingsStay, RawScansStay, ClosingsBeginAtQuotes, ClosingsAreFound, QuotesArePassed}
-use Rattle.litrs_grammar.proofs.RawCuts.{hash_len-append, behind_hashes, HashCut, hash_cut, closing_cut, length_before-body}
+use Rattle.litrs_grammar.proofs.RawCuts.{hash_len-append, after_hashes, HashCut, hash_cut, closing_cut, length_before-body}
 
 pub hash_counts_stay : HashCountsStay
 hash_counts_stay t more some = by cut.rest cut.spells cut.stops
@@ -19,8 +19,8 @@ hash_counts_stay t more some = by cut.rest cut.spells cut.stops
     by : (rest : List ℕ) → hashes cut.count ++ rest ≡ t → first_passes is_hash rest ≡ false → hash_len (t ++ more) ≡ hash_len t
     by [] spells stops =
         let count : hash_len (hashes cut.count ++ []) ≡ cut.count = hash_len-append cut.count [] refl in
-        let behind : drop (hash_len (hashes cut.count ++ [])) (hashes cut.count ++ []) ≡ [] = ap (λ k. drop k (hashes cut.count ++ [])) count ∙ behind_hashes cut.count [] in
-        absurd (true≢false (ap is_empty (sym behind) ∙ ap (λ l. is_empty (drop (hash_len l) l)) spells ∙ some))
+        let after : drop (hash_len (hashes cut.count ++ [])) (hashes cut.count ++ []) ≡ [] = ap (λ k. drop k (hashes cut.count ++ [])) count ∙ after_hashes cut.count [] in
+        absurd (true≢false (ap is_empty (sym after) ∙ ap (λ l. is_empty (drop (hash_len l) l)) spells ∙ some))
     by (c ∷ rest) spells stops =
         ap hash_len (ap (λ l. l ++ more) (sym spells) ∙ append_assoc (hashes cut.count) (c ∷ rest) more) ∙ hash_len-append cut.count (c ∷ (rest ++ more)) stops
         ∙ sym (hash_len-append cut.count (c ∷ rest) stops) ∙ ap hash_len spells
@@ -28,10 +28,10 @@ hash_counts_stay t more some = by cut.rest cut.spells cut.stops
 pub first_closings_stay : FirstClosingsStay
 first_closings_stay n t more some =
     let cut = closing_cut n t some in
-    let longer : cut.before ++ (raw_closing n ++ (cut.behind ++ more)) ≡ t ++ more =
-    ap (λ l. cut.before ++ l) (sym (append_assoc (raw_closing n) cut.behind more)) ∙ sym (append_assoc cut.before (raw_closing n ++ cut.behind) more) ∙ ap (λ l. l ++ more) cut.spells in
-    ap (length_before (raw_closing n)) (sym longer) ∙ length_before-body n cut.before (cut.behind ++ more) cut.unclosed
-    ∙ sym (length_before-body n cut.before cut.behind cut.unclosed) ∙ ap (length_before (raw_closing n)) cut.spells
+    let longer : cut.before ++ (raw_closing n ++ (cut.after ++ more)) ≡ t ++ more =
+    ap (λ l. cut.before ++ l) (sym (append_assoc (raw_closing n) cut.after more)) ∙ sym (append_assoc cut.before (raw_closing n ++ cut.after) more) ∙ ap (λ l. l ++ more) cut.spells in
+    ap (length_before (raw_closing n)) (sym longer) ∙ length_before-body n cut.before (cut.after ++ more) cut.unclosed
+    ∙ sym (length_before-body n cut.before cut.after cut.unclosed) ∙ ap (length_before (raw_closing n)) cut.spells
 
 -- what is dropped from a text is dropped from a longer one
 drop_longer : (k : ℕ) (t more : List ℕ) → is_empty (drop k t) ≡ false → drop k (t ++ more) ≡ drop k t ++ more

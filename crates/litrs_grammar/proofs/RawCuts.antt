@@ -22,8 +22,8 @@ length-hashes n = length-replicate n 35
 pub hash_len-append : (n : ℕ) (r : List ℕ) → first_passes is_hash r ≡ false → hash_len (hashes n ++ r) ≡ n
 hash_len-append n r stop = prefix_len_front is_hash (hashes n) r (hashes_pass n) stop ∙ length-hashes n
 
-pub behind_hashes : (n : ℕ) (r : List ℕ) → drop n (hashes n ++ r) ≡ r
-behind_hashes n r = drop_at (hashes n) r n (length-hashes n)
+pub after_hashes : (n : ℕ) (r : List ℕ) → drop n (hashes n ++ r) ≡ r
+after_hashes n r = drop_at (hashes n) r n (length-hashes n)
 
 all_hashes : (xs : List ℕ) → list_all is_hash xs ≡ true → xs ≡ hashes (length xs)
 all_hashes [] h = refl
@@ -81,24 +81,24 @@ occurs-body n (c ∷ cs) t = or_right (begins_with (raw_closing n) ((c ∷ cs) +
 -- a text in which a closing stands, cut there
 pub record ClosingCut (n : ℕ) (t : List ℕ) : Type 0 where
   pub before : List ℕ
-  pub behind : List ℕ
-  pub spells : before ++ (raw_closing n ++ behind) ≡ t
+  pub after : List ℕ
+  pub spells : before ++ (raw_closing n ++ after) ≡ t
   pub unclosed : occurs (raw_closing n) before ≡ false
 
 closing_here : (n : ℕ) (t : List ℕ) → begins_with (raw_closing n) t ≡ true → ClosingCut n t
-closing_here n t h = record { before = []; behind = drop (length (raw_closing n)) t; spells = begins_with-split (raw_closing n) t h; unclosed = refl }
+closing_here n t h = record { before = []; after = drop (length (raw_closing n)) t; spells = begins_with-split (raw_closing n) t h; unclosed = refl }
 
 closing_later : (n c : ℕ) (cs : List ℕ) → begins_with (raw_closing n) (c ∷ cs) ≡ false → ClosingCut n cs → ClosingCut n (c ∷ cs)
 closing_later n c cs not_here r = record {
   before = c ∷ r.before;
-  behind = r.behind;
+  after = r.after;
   spells = ap (λ t. c ∷ t) r.spells;
   unclosed = or_from _ _ (shorter (begins_with (raw_closing n) (c ∷ r.before)) refl) r.unclosed;
 }
   where
     shorter : (v : Bool) → begins_with (raw_closing n) (c ∷ r.before) ≡ v → v ≡ false
     shorter false e = refl
-    shorter true e = absurd (true≢false (sym (begins_with_longer (raw_closing n) (c ∷ r.before) (raw_closing n ++ r.behind) e) ∙ (ap (λ t. begins_with (raw_closing n) (c ∷ t)) r.spells ∙ not_here)))
+    shorter true e = absurd (true≢false (sym (begins_with_longer (raw_closing n) (c ∷ r.before) (raw_closing n ++ r.after) e) ∙ (ap (λ t. begins_with (raw_closing n) (c ∷ t)) r.spells ∙ not_here)))
 
 pub closing_cut : (n : ℕ) (t : List ℕ) → occurs (raw_closing n) t ≡ true → ClosingCut n t
 closing_cut n [] h = absurd (false≢true h)

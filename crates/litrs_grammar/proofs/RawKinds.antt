@@ -41,13 +41,13 @@ same_kind : (k l : StringKind) (s t : List ℕ) → raw_front k ++ s ≡ raw_fro
 same_kind k l s t e = same_first k l (sym (front_first k s) ∙ (ap (λ x. get_or x 0 0) e ∙ front_first l t))
 
 -- what follows the front
-pub behind_front : (kind : StringKind) (s t : List ℕ) (d : RawParts) → raw_front kind ++ s ≡ t → IsRawLiteral kind t d → IsRawOf (has_unicode kind) (allows_nul kind) s d
-behind_front kind s t d spells r = record { spells = append_cancel_left (raw_front kind) (raw_text d) s (r.spells ∙ sym spells); grammar = r.grammar }
+pub after_front : (kind : StringKind) (s t : List ℕ) (d : RawParts) → raw_front kind ++ s ≡ t → IsRawLiteral kind t d → IsRawOf (has_unicode kind) (allows_nul kind) s d
+after_front kind s t d spells r = record { spells = append_cancel_left (raw_front kind) (raw_text d) s (r.spells ∙ sym spells); grammar = r.grammar }
 
 same_parts : (k l : StringKind) → k ≡ l → (t : List ℕ) (d e : RawParts) → IsRawLiteral k t d → IsRawLiteral l t e → d ≡ e
 same_parts k l same t d e r s =
     let other : IsRawLiteral k t e = subst (λ (kind : StringKind). IsRawLiteral kind t e) (sym same) s in
-    only_raw (has_unicode k) (allows_nul k) (raw_text d) d e (record { spells = refl; grammar = r.grammar }) (behind_front k (raw_text d) t e r.spells other)
+    only_raw (has_unicode k) (allows_nul k) (raw_text d) d e (record { spells = refl; grammar = r.grammar }) (after_front k (raw_text d) t e r.spells other)
 
 pub only_raw_literal : (t : List ℕ) (k l : StringKind) (d e : RawParts) → IsRawLiteral k t d → IsRawLiteral l t e → (k ≡ l) × (d ≡ e)
 only_raw_literal t k l d e r s =
@@ -61,7 +61,7 @@ literal_derivable kind t front h = let r = derivable (has_unicode kind) (allows_
 pub literal_refusal_free : (kind : StringKind) (t : List ℕ) (d : RawParts) → begins_with (raw_front kind) t ≡ true → IsRawLiteral kind t d → raw_literal_refusal kind t ≡ None
 literal_refusal_free kind t d front r =
     refusal_free (has_unicode kind) (allows_nul kind) (length (raw_front kind)) (drop (length (raw_front kind)) t) d
-    (behind_front kind (drop (length (raw_front kind)) t) t d (begins_with-split (raw_front kind) t front) r)
+    (after_front kind (drop (length (raw_front kind)) t) t d (begins_with-split (raw_front kind) t front) r)
 
 front_bytes : (kind : StringKind) → byte_len (raw_front kind) ≡ length (raw_front kind)
 front_bytes string_kind = byte_len_ascii (raw_front string_kind) refl

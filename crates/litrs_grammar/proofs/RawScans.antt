@@ -26,15 +26,15 @@ raw_scans_go_on n (c ∷ front) t none =
     )
 
 -- as many characters pass as pass at the front, which all do, and after it
-prefix_len_behind : (p : ℕ → Bool) (front t : List ℕ) → list_all p front ≡ true → prefix_len p (front ++ t) ≡ length front + prefix_len p t
-prefix_len_behind p [] t all = omega arith
-prefix_len_behind p (c ∷ front) t all =
+prefix_len_after : (p : ℕ → Bool) (front t : List ℕ) → list_all p front ≡ true → prefix_len p (front ++ t) ≡ length front + prefix_len p t
+prefix_len_after p [] t all = omega arith
+prefix_len_after p (c ∷ front) t all =
     let parts = and_parts (p c) (list_all p front) all in
-    let more = prefix_len_behind p front t parts.1 in
+    let more = prefix_len_after p front t parts.1 in
     ap (λ v. cond v (1 + prefix_len p (front ++ t)) 0) parts.0 ∙ omega (arith, more)
 
-ltb_behind : (k a b : ℕ) → ltb (k + a) (k + b) ≡ ltb a b
-ltb_behind k a b = grind (arith, nat_tests)
+ltb_after : (k a b : ℕ) → ltb (k + a) (k + b) ≡ ltb a b
+ltb_after k a b = grind (arith, nat_tests)
 
 -- the rows of a body, by what they look at
 abbrev body_rows : Bool → ℕ → ℕ → Bool → List ℕ → ℕ → Option Refusal
@@ -44,9 +44,9 @@ body_rows refused place c closed suffix end =
     else if not (is_suffix suffix) then Some (at end (suffix_refusal suffix))
     else None
 
-same_rows : (b d : Bool) (place at c e : ℕ) (closed still : Bool) (suffix behind : List ℕ) (end stop : ℕ) → b ≡ d → place ≡ at → c ≡ e → closed ≡ still →
-    suffix ≡ behind → end ≡ stop → body_rows b place c closed suffix end ≡ body_rows d at e still behind stop
-same_rows b d place at c e closed still suffix behind end stop p q r s u v = λ i. body_rows (p i) (q i) (r i) (s i) (u i) (v i)
+same_rows : (b d : Bool) (place at c e : ℕ) (closed still : Bool) (suffix after : List ℕ) (end stop : ℕ) → b ≡ d → place ≡ at → c ≡ e → closed ≡ still →
+    suffix ≡ after → end ≡ stop → body_rows b place c closed suffix end ≡ body_rows d at e still after stop
+same_rows b d place at c e closed still suffix after end stop p q r s u v = λ i. body_rows (p i) (q i) (r i) (s i) (u i) (v i)
 
 pub raw_refusals_go_on : RawRefusalsGoOn
 unfolding raw_body_refusal
@@ -58,16 +58,16 @@ raw_refusals_go_on unicode allow_nul n start front t all none =
     let whole_is : whole ≡ front ++ body = ap (λ k. take k (front ++ t)) scan.0 ∙ take-append-add front t (length_before (raw_closing n) t) in
     let size : length whole ≡ length front + length body = ap length whole_is ∙ length-append front body in
     let bytes : byte_len whole ≡ byte_len front + byte_len body = ap byte_len whole_is ∙ byte_len-append front body in
-    let passed : prefix_len ok whole ≡ length front + prefix_len ok body = ap (prefix_len ok) whole_is ∙ prefix_len_behind ok front body all in
+    let passed : prefix_len ok whole ≡ length front + prefix_len ok body = ap (prefix_len ok) whole_is ∙ prefix_len_after ok front body all in
     let before : byte_len (take (prefix_len ok whole) (front ++ t)) ≡ byte_len front + byte_len (take (prefix_len ok body) t) =
     ap (λ k. byte_len (take k (front ++ t))) passed ∙ ap byte_len (take-append-add front t (prefix_len ok body)) ∙ byte_len-append front (take (prefix_len ok body) t) in
-    let behind : length whole + (1 + n) ≡ length front + (length body + (1 + n)) = omega (arith, size) in
+    let after : length whole + (1 + n) ≡ length front + (length body + (1 + n)) = omega (arith, size) in
     same_rows _ _ _ _ _ _ _ _ _ _ _ _
-    ((λ i. ltb (passed i) (size i)) ∙ ltb_behind (length front) (prefix_len ok body) (length body))
+    ((λ i. ltb (passed i) (size i)) ∙ ltb_after (length front) (prefix_len ok body) (length body))
     (omega (arith, before))
     (ap (λ k. get_or (front ++ t) k 0) passed ∙ get_or-append-add front t (prefix_len ok body) 0)
     scan.1
-    (ap (λ k. drop k (front ++ t)) behind ∙ drop-append-add front t (length body + (1 + n)))
+    (ap (λ k. drop k (front ++ t)) after ∙ drop-append-add front t (length body + (1 + n)))
     (omega (arith, bytes))
 
 pub raw_bodies_end_at_closings : RawBodiesEndAtClosings

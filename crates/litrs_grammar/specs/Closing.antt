@@ -11,14 +11,14 @@ use Rattle.litrs_grammar.specs.Raw.{raw_front, raw_closing, hashes, hash_len}
 use Rattle.litrs_grammar.specs.Literal.{StringParts, quoted_parts, raw_parts, string_suffix, Derivation, a_string, a_byte_string, a_c_string}
 
 -- what follows the front `r`, `br` or `cr` of a text that begins with one of them
-abbrev pub behind_raw_front : List ℕ → List ℕ
-behind_raw_front t = if begins_with (raw_front string_kind) t then drop 1 t else drop 2 t
+abbrev pub after_raw_front : List ℕ → List ℕ
+after_raw_front t = if begins_with (raw_front string_kind) t then drop 1 t else drop 2 t
 
 -- The closing text of a refused text: `"`, for a raw string with as many hashes as follow its
 -- front. Where the refusal is not open there is none.
 abbrev pub closing_text : List ℕ → ParseErrorKind → List ℕ
 closing_text t UnterminatedString = double_quote ∷ []
-closing_text t UnterminatedRawString = raw_closing (hash_len (behind_raw_front t))
+closing_text t UnterminatedRawString = raw_closing (hash_len (after_raw_front t))
 closing_text t _ = []
 
 -- that of a refusal

@@ -134,10 +134,10 @@ hex_refusal w t =
     else None
 
 -- the place of the first character that passes the test once n have passed it
-abbrev pub place_behind : ℕ → (ℕ → Bool) → List ℕ → ℕ
-place_behind n p [] = 0
-place_behind zero p (c ∷ t) = if p c then 0 else 1 + place_behind zero p t
-place_behind (suc n) p (c ∷ t) = 1 + place_behind (if p c then n else suc n) p t
+abbrev pub place_after : ℕ → (ℕ → Bool) → List ℕ → ℕ
+place_after n p [] = 0
+place_after zero p (c ∷ t) = if p c then 0 else 1 + place_after zero p t
+place_after (suc n) p (c ∷ t) = 1 + place_after (if p c then n else suc n) p t
 
 -- by what stands between `\u{` and the first `}`
 abbrev pub inner_refusal : Switches → List ℕ → Option Refusal
@@ -148,7 +148,7 @@ inner_refusal w inner =
     else if nat_lt (length digits) (length inner) && nat_le (count_by is_ascii_hexdigit digits) 6
     then Some (at (3 + length digits) NonHexDigitInUnicodeEscape)
     else if nat_lt 6 (count_by is_ascii_hexdigit inner)
-    then Some (at (3 + place_behind 6 is_ascii_hexdigit inner) TooManyDigitInUnicodeEscape)
+    then Some (at (3 + place_after 6 is_ascii_hexdigit inner) TooManyDigitInUnicodeEscape)
     else if not (allows_value w (hex_value inner))
     then Some (over 0 (4 + length inner) DisallowedNulEscape)
     else if not (is_scalar (hex_value inner))

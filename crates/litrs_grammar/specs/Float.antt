@@ -106,21 +106,21 @@ exponent_of (c ∷ cs) =
     else []
 
 -- what follows the front of a text
-abbrev pub behind : List ℕ → List ℕ → List ℕ
-behind front t = drop (length front) t
+abbrev pub after : List ℕ → List ℕ → List ℕ
+after front t = drop (length front) t
 
 -- the integer part is the digits and `_` that the text begins with, and the suffix what follows the
 -- other parts
 unfoldable pub float_cut : List ℕ → FloatParts
 float_cut t =
     let integer = take_while is_decimal_char t in
-    let fraction = fraction_of (behind integer t) in
-    let exponent = exponent_of (behind (integer ++ fraction_text fraction) t) in
+    let fraction = fraction_of (after integer t) in
+    let exponent = exponent_of (after (integer ++ fraction_text fraction) t) in
     record {
       integer = integer;
       fraction = fraction;
       exponent = exponent;
-      suffix = behind (integer ++ (fraction_text fraction ++ exponent)) t;
+      suffix = after (integer ++ (fraction_text fraction ++ exponent)) t;
     }
 
 -- a period, and after it something that is no decimal digit

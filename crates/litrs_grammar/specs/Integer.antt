@@ -66,20 +66,20 @@ base_of t = if begins_with (prefix Binary) t then Binary
     else Decimal
 
 -- what follows the prefix
-abbrev pub behind_prefix : List ℕ → List ℕ
-behind_prefix t = drop (length (prefix (base_of t))) t
+abbrev pub after_prefix : List ℕ → List ℕ
+after_prefix t = drop (length (prefix (base_of t))) t
 
 -- the main part: all digits of the base and underscores that follow the prefix
 abbrev pub main_of : List ℕ → List ℕ
-main_of t = take_while (is_digit_or_underscore (base_of t)) (behind_prefix t)
+main_of t = take_while (is_digit_or_underscore (base_of t)) (after_prefix t)
 
 -- what follows the main part
-abbrev pub behind_main : List ℕ → List ℕ
-behind_main t = drop (length (main_of t)) (behind_prefix t)
+abbrev pub after_main : List ℕ → List ℕ
+after_main t = drop (length (main_of t)) (after_prefix t)
 
 -- a text cut after the prefix and after the main part
 unfoldable pub integer_cut : List ℕ → IntegerParts
-integer_cut t = record { base = base_of t; main = main_of t; suffix = behind_main t }
+integer_cut t = record { base = base_of t; main = main_of t; suffix = after_main t }
 
 -- A text that begins with a decimal digit, by its main part and by what follows; the first row that
 -- fits decides.

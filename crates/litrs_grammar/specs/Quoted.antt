@@ -60,9 +60,9 @@ body_value (item ∷ items) = item_value item ++ body_value items
 
 -- no space, tab or LF follows a continuation: it has them all
 abbrev pub takes_all_blanks : Item → List ℕ → Bool
-takes_all_blanks (plain_item c) behind = true
-takes_all_blanks (escape_item e) behind = true
-takes_all_blanks (continuation blanks) behind = not (first_passes is_blank behind)
+takes_all_blanks (plain_item c) after = true
+takes_all_blanks (escape_item e) after = true
+takes_all_blanks (continuation blanks) after = not (first_passes is_blank after)
 
 -- A quoted body is a list of items. No item that begins with space, tab or LF follows a
 -- continuation.
@@ -101,10 +101,10 @@ IsQuotedLiteral kind = IsQuoted (quoted_front kind) (switches_of kind)
 -- An item is taken into the list by what follows it. A continuation has all spaces, tabs and LFs;
 -- and neither a continuation nor an escape is taken that ends the text: it belongs to the rest.
 abbrev pub is_taken_before : List ℕ → Item → Bool
-is_taken_before behind (plain_item c) = true
-is_taken_before behind (escape_item e) = not (is_empty behind)
-is_taken_before behind (continuation blanks) =
-    not (is_empty behind) && not (first_passes is_blank behind)
+is_taken_before after (plain_item c) = true
+is_taken_before after (escape_item e) = not (is_empty after)
+is_taken_before after (continuation blanks) =
+    not (is_empty after) && not (first_passes is_blank after)
 
 -- the items are taken into the list, where the rest follows them
 abbrev pub stand_before : Switches → List ℕ → List Item → Bool

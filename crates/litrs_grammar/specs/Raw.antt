@@ -130,11 +130,11 @@ raw_body_refusal unicode allow_nul n start t =
 unfoldable pub raw_refusal : (unicode allow_nul : Bool) (start : ℕ) → List ℕ → Option Refusal
 raw_refusal unicode allow_nul start t =
     let n = hash_len t in
-    let behind = drop n t in
-    if is_empty behind then Some (plain InvalidLiteral)
+    let after = drop n t in
+    if is_empty after then Some (plain InvalidLiteral)
     else if nat_lt 255 n then Some (over start (start + n) TooManyHashes)
-    else if not (first_passes is_quote behind) then Some (plain InvalidLiteral)
-    else raw_body_refusal unicode allow_nul n (start + (n + 1)) (drop 1 behind)
+    else if not (first_passes is_quote after) then Some (plain InvalidLiteral)
+    else raw_body_refusal unicode allow_nul n (start + (n + 1)) (drop 1 after)
 
 -- why a text that begins with the front of the kind is no raw literal of the kind
 abbrev pub raw_literal_refusal : StringKind → List ℕ → Option Refusal

@@ -56,25 +56,25 @@ pub lone_end : (w : Switches) (bytes rest tail : List ℕ) (offset from place by
     IsItemsEnd w bytes offset (record { place = place; value_len = place - offset - 1 })
     × ((q : QuotedParts) → IsQuoted (chars (take offset bytes)) w (chars bytes) q →
     take (from - offset) (drop offset bytes) ++ (byte ∷ []) ++ take (place - (from + 2)) (drop (from + 2) bytes) ≡ body_value q.items)
-lone_end w bytes rest tail offset from place byte u at run item is last behind ends =
+lone_end w bytes rest tail offset from place byte u at run item is last after ends =
     let front = chars (take offset bytes) in
     let before = take (from - offset) (drop offset bytes) in
-    let after = take (place - (from + 2)) (drop (from + 2) bytes) in
+    let moved = take (place - (from + 2)) (drop (from + 2) bytes) in
     let first : ReadsSome w front (chars bytes) (chars (drop from bytes)) from before =
     copy_run w front (chars bytes) bytes [] before before offset from u at run refl refl (reads_start w bytes offset u at) in
     let two : ReadsSome w front (chars bytes) (chars (drop (from + 2) bytes)) (from + 2) (before ++ (byte ∷ [])) =
     copy_item w front (chars bytes) bytes rest (drop (from + 2) bytes) before (before ++ (byte ∷ [])) from 2 (from + 2) (Some (Byte byte)) item is
     (ap (drop 2) is ∙ drop-drop 2 from bytes) refl refl first in
     let there = boundary_later bytes rest from 2 u run.boundary is item.boundary in
-    let all : ReadsSome w front (chars bytes) (chars (drop place bytes)) place (before ++ (byte ∷ []) ++ after) =
-    copy_run w front (chars bytes) bytes (before ++ (byte ∷ [])) after (before ++ (byte ∷ []) ++ after) (from + 2) place u there last refl refl two in
+    let all : ReadsSome w front (chars bytes) (chars (drop place bytes)) place (before ++ (byte ∷ []) ++ moved) =
+    copy_run w front (chars bytes) bytes (before ++ (byte ∷ [])) moved (before ++ (byte ∷ []) ++ moved) (from + 2) place u there last refl refl two in
     let size = run.size in let long = last.size in let inside = run.boundary.0 in
     let len : from - offset + 1 ≡ length (before ++ (byte ∷ [])) =
     omega (arith, length-append before (byte ∷ []), length-take-le (from - offset) (drop offset bytes) (omega (arith, length-drop offset bytes))) in
     let sum : from - offset + 1 + (place - (from + 2)) ≡ place - offset - 1 = omega arith in (
       subst (λ (n : ℕ). IsItemsEnd w bytes offset (record { place = place; value_len = n })) sum
-          (items_end w bytes tail (before ++ (byte ∷ [])) offset (from + 2) place (from - offset + 1) last two len behind ends),
-      λ q quoted. whole_value w front (chars bytes) bytes tail (before ++ (byte ∷ []) ++ after) place q all behind ends quoted,
+          (items_end w bytes tail (before ++ (byte ∷ [])) offset (from + 2) place (from - offset + 1) last two len after ends),
+      λ q quoted. whole_value w front (chars bytes) bytes tail (before ++ (byte ∷ []) ++ moved) place q all after ends quoted,
     )
 
 -- The same where the escape has the two bytes between quotes that end the text.

@@ -107,11 +107,11 @@ pub list_all-take : (p : ℕ → Bool) (cs : List ℕ) → list_all p (take_whil
 list_all-take p [] = refl
 list_all-take p (c ∷ cs) = list_all-step p c cs (p c) refl (list_all-take p cs)
 
-pub utf8_behind : (run bs rest : List ℕ) → IsUtf8 bs → bs ≡ encode_utf8_all run ++ rest → IsUtf8 rest
-utf8_behind [] bs rest u same = subst (λ (l : List ℕ). IsUtf8 l) same u
-utf8_behind (c ∷ run) bs rest u same =
+pub utf8_after : (run bs rest : List ℕ) → IsUtf8 bs → bs ≡ encode_utf8_all run ++ rest → IsUtf8 rest
+utf8_after [] bs rest u same = subst (λ (l : List ℕ). IsUtf8 l) same u
+utf8_after (c ∷ run) bs rest u same =
     let split : bs ≡ encode_utf8 c ++ (encode_utf8_all run ++ rest) = same ∙ append_assoc (encode_utf8 c) (encode_utf8_all run) rest in
-    utf8_behind run (encode_utf8_all run ++ rest) rest (IsUtf8-past_char bs (encode_utf8_all run ++ rest) c u split) refl
+    utf8_after run (encode_utf8_all run ++ rest) rest (IsUtf8-past_char bs (encode_utf8_all run ++ rest) c u split) refl
 
 -- the first byte after the run does not pass, nor does the first character
 first_stops : (p : ℕ → Bool) (b : ℕ) (bs : List ℕ) (v : Bool) → p b ≡ v → first_passes p (drop (prefix_len p bs) bs) ≡ false →
@@ -147,9 +147,9 @@ plain_run w bytes from end whole start is =
     let seam : drop (prefix_len p bs) bs ≡ encode_utf8_all (drop m cs) =
     ap (λ k. drop k bs) n ∙ (ap (drop (length (encode_utf8_all (take m cs)))) both ∙ drop-append_seam (encode_utf8_all (take m cs)) (encode_utf8_all (drop m cs))) in
     let same : drop (prefix_len p bs) bs ≡ drop end bytes = drop-drop (prefix_len p bs) from bytes ∙ ap (λ k. drop k bytes) (sym is) in
-    let behind : drop end bytes ≡ encode_utf8_all (drop m cs) = sym same ∙ seam in
-    let text : IsUtf8 (drop end bytes) = utf8_behind (take m cs) bs _ u (both ∙ ap (λ l. encode_utf8_all (take m cs) ++ l) (sym behind)) in
-    let rest : drop m cs ≡ chars (drop end bytes) = chars_from_encodes (drop m cs) _ text (sym behind) in
+    let after : drop end bytes ≡ encode_utf8_all (drop m cs) = sym same ∙ seam in
+    let text : IsUtf8 (drop end bytes) = utf8_after (take m cs) bs _ u (both ∙ ap (λ l. encode_utf8_all (take m cs) ++ l) (sym after)) in
+    let rest : drop m cs ≡ chars (drop end bytes) = chars_from_encodes (drop m cs) _ text (sym after) in
     let fits : end ≤ length bytes = omega (arith, prefix_len-le-length p bs, length-drop from bytes, start.0) in record {
       run = take m cs;
       split = sym (take-append-drop m cs) ∙ ap (λ l. take m cs ++ l) rest;

@@ -19,7 +19,7 @@ use Rattle.litrs_base.specs.Refusal.{Refusal, refusal_of, HasCharSpan, plain, at
 use Rattle.litrs_base.specs.Text.{byte_len, first_passes, is_empty}
 use Rattle.litrs_base.proofs.ByteLen.{byte_len_one_ascii, length-le-byte_len, byte_len_all_ascii}
 use Rattle.litrs_base.proofs.CharEnds.{char_span_on}
-use Rattle.litrs_base.proofs.Chars.{chars_ascii, chars_wide, chars_empty, OnlyAscii, passing_front, utf8_behind_ascii, ascii_from_test, prefix_len-chars, first_passes-chars}
+use Rattle.litrs_base.proofs.Chars.{chars_ascii, chars_wide, chars_empty, OnlyAscii, passing_front, utf8_after_ascii, ascii_from_test, prefix_len-chars, first_passes-chars}
 use Rattle.litrs_base.proofs.ListTests.{if_true, if_false}
 use Rattle.litrs_base.proofs.Runs.{prefix_len_all}
 use Rattle.litrs_grammar.specs.Escape.{Switches, Escape, escape_text, escape_value, value_bytes, simple_escape, hex_escape, unicode_escape, escape_refusal, allows_value, allows_byte, is_escape, is_simple, simple_value, pair_value}
@@ -31,7 +31,7 @@ use Rattle.litrs_grammar.proofs.Laws.Quoted.{quoted_values_fit_bodies}
 use Rattle.litrs_lex.specs.QuotedItems.{IsItemAt, EndsItems, item_bytes}
 use Rattle.litrs_lex.specs.Container.{is_pushable}
 use Rattle.litrs_parts.specs.Unescaped.{IsUnescaped, IsEscapeRefused}
-use Rattle.litrs_lex.proofs.PlainRuns.{utf8_behind, list_all-take, plain_alike, stops_at}
+use Rattle.litrs_lex.proofs.PlainRuns.{utf8_after, list_all-take, plain_alike, stops_at}
 use Rattle.litrs_lex.proofs.QuotedScan.{length-take-within}
 
 -- a text is cut where its characters are
@@ -44,11 +44,11 @@ pub record IsCut (bytes a b : List ℕ) : Type 0 where
 pub cut_at : (bytes a b : List ℕ) → IsUtf8 bytes → chars bytes ≡ a ++ b → IsCut bytes a b
 cut_at bytes a b u split =
     let both : bytes ≡ encode_utf8_all a ++ encode_utf8_all b = sym (encodes-chars bytes u) ∙ (ap encode_utf8_all split ∙ encodes-append a b) in
-    let behind : drop (byte_len a) bytes ≡ encode_utf8_all b = ap (drop (byte_len a)) both ∙ drop-append_seam (encode_utf8_all a) (encode_utf8_all b) in
-    let text : IsUtf8 (drop (byte_len a) bytes) = utf8_behind a bytes _ u (both ∙ ap (λ l. encode_utf8_all a ++ l) (sym behind)) in
+    let after : drop (byte_len a) bytes ≡ encode_utf8_all b = ap (drop (byte_len a)) both ∙ drop-append_seam (encode_utf8_all a) (encode_utf8_all b) in
+    let text : IsUtf8 (drop (byte_len a) bytes) = utf8_after a bytes _ u (both ∙ ap (λ l. encode_utf8_all a ++ l) (sym after)) in
     let size : length bytes ≡ byte_len a + byte_len b = ap length both ∙ length-append (encode_utf8_all a) (encode_utf8_all b) in
     let fits : byte_len a ≤ length bytes = omega arith in record {
-      rest = sym (chars_from_encodes b _ text (sym behind));
+      rest = sym (chars_from_encodes b _ text (sym after));
       utf8 = text;
       within = fits;
       boundary = IsCharBoundary-from_drop bytes (byte_len a) fits text;
@@ -148,9 +148,9 @@ not_empty bs u some = chars_empty bs u ∙ ne_eqb (length bs) 0 (λ e. omega ari
 blanks_all : (bs : List ℕ) → IsUtf8 bs → list_all is_blank (take (prefix_len is_blank bs) (chars bs)) ≡ true
 blanks_all bs u = ap (λ n. list_all is_blank (take n (chars bs))) (sym (prefix_len-chars is_blank bs blank_ascii u)) ∙ list_all-take is_blank (chars bs)
 
-behind_two : (bs bytes : List ℕ) → bytes ≡ 92 ∷ 10 ∷ bs → IsUtf8 bytes → IsUtf8 bs
-behind_two bs bytes is u =
-    utf8_behind_ascii 10 bs (omega arith) (utf8_behind_ascii 92 (10 ∷ bs) (omega arith) (subst (λ (l : List ℕ). IsUtf8 l) is u))
+after_two : (bs bytes : List ℕ) → bytes ≡ 92 ∷ 10 ∷ bs → IsUtf8 bytes → IsUtf8 bs
+after_two bs bytes is u =
+    utf8_after_ascii 10 bs (omega arith) (utf8_after_ascii 92 (10 ∷ bs) (omega arith) (subst (λ (l : List ℕ). IsUtf8 l) is u))
 
 fewer_of : (n m : ℕ) → n ≤ m → (n ≡ m → ⊥) → n < m
 fewer_of n m le other = elim (cases_lt n m) [ inl less ↦ less | inr more ↦ absurd (other (omega arith)) ]
@@ -160,7 +160,7 @@ pub continuation_at : (w : Switches) (bytes bs : List ℕ) (k : ℕ) → bytes �
 continuation_at w bytes bs k is u count other =
     let whole = ap length is in let le = prefix_len-le-length is_blank bs in
     let fewer : k < length bs = fewer_of k (length bs) (omega arith) (λ e. other (omega arith)) in
-    let text = behind_two bs bytes is u in
+    let text = after_two bs bytes is u in
     let n = prefix_len is_blank bs in
     let front = passing_front is_blank bs blank_ascii text in
     let blanks = take n (chars bs) in
@@ -197,7 +197,7 @@ blanks_row w t h = if_true (list_all is_blank t) _ _ h
 pub blanks_refused : (w : Switches) (bytes bs : List ℕ) (k : ℕ) → bytes ≡ 92 ∷ 10 ∷ bs → IsUtf8 bytes → k ≡ prefix_len is_blank bs → 2 + k ≡ length bytes →
     rest_refusal w (chars bytes) ≡ Some (plain UnterminatedString)
 blanks_refused w bytes bs k is u count whole =
-    let text = behind_two bs bytes is u in
+    let text = after_two bs bytes is u in
     ap (rest_refusal w) (ap chars is ∙ lf_chars bs) ∙ blanks_row w (chars bs) (blanks_only bs text (let size = ap length is in omega arith))
 
 escape_row : (w : Switches) (t : List ℕ) (o : Option Refusal) → first_passes (λ c. c == 10) t ≡ false → escape_refusal w (without_last (92 ∷ t)) ≡ o → rest_refusal w (92 ∷ t) ≡ o
@@ -210,7 +210,7 @@ lf_ascii c high = ne_eqb c 10 (λ e. omega arith)
 pub escape_refused : (w : Switches) (bytes bs cut : List ℕ) (e : ParseError) → bytes ≡ 92 ∷ bs → IsUtf8 bytes → first_passes (λ c. c == 10) bs ≡ false →
     chars cut ≡ without_last (chars bytes) → IsEscapeRefused w (chars cut) e → rest_refusal w (chars bytes) ≡ Some (refusal_of e)
 escape_refused w bytes bs cut e is u other is_cut refused =
-    let text = utf8_behind_ascii 92 bs (omega arith) (subst (λ (l : List ℕ). IsUtf8 l) is u) in
+    let text = utf8_after_ascii 92 bs (omega arith) (subst (λ (l : List ℕ). IsUtf8 l) is u) in
     let at = slash_chars bytes bs is in
     ap (rest_refusal w) at ∙ escape_row w (chars bs) (Some (refusal_of e)) (first_passes-chars _ bs lf_ascii text ∙ other)
     (ap (λ l. escape_refusal w (without_last l)) (sym at) ∙ (ap (escape_refusal w) (sym is_cut) ∙ refused.table))
@@ -219,7 +219,7 @@ escape_refused w bytes bs cut e is u other is_cut refused =
 pub escape_free : (w : Switches) (bytes bs cut : List ℕ) (value : Unescape) (n : ℕ) → bytes ≡ 92 ∷ bs → IsUtf8 bytes → first_passes (λ c. c == 10) bs ≡ false →
     chars cut ≡ without_last (chars bytes) → IsUnescaped w cut value n → rest_refusal w (chars bytes) ≡ None
 escape_free w bytes bs cut value n is u other is_cut read =
-    let text = utf8_behind_ascii 92 bs (omega arith) (subst (λ (l : List ℕ). IsUtf8 l) is u) in
+    let text = utf8_after_ascii 92 bs (omega arith) (subst (λ (l : List ℕ). IsUtf8 l) is u) in
     let at = slash_chars bytes bs is in
     ap (rest_refusal w) at ∙ escape_row w (chars bs) None (first_passes-chars _ bs lf_ascii text ∙ other)
     (ap (λ l. escape_refusal w (without_last l)) (sym at) ∙ (ap (escape_refusal w) (sym is_cut ∙ sym read.spells) ∙ refusal_escape w read.escape read.rest read.grammar))
@@ -270,12 +270,12 @@ quote_row w t h =
     ∙ (if_false (not (is_ascii_unless w.unicode 34)) _ _ (ap not (or_right w.unicode true refl))
     ∙ if_true (not (is_suffix t)) _ _ (not_from_false _ h))
 
-pub quote_chars : (bytes bs behind : List ℕ) → bytes ≡ 34 ∷ bs → behind ≡ bs → 34 ∷ chars behind ≡ chars bytes
-quote_chars bytes bs behind is same = ap (λ (l : List ℕ). 34 ∷ chars l) same ∙ (sym (chars_ascii 34 bs (omega arith)) ∙ ap chars (sym is))
+pub quote_chars : (bytes bs after : List ℕ) → bytes ≡ 34 ∷ bs → after ≡ bs → 34 ∷ chars after ≡ chars bytes
+quote_chars bytes bs after is same = ap (λ (l : List ℕ). 34 ∷ chars l) same ∙ (sym (chars_ascii 34 bs (omega arith)) ∙ ap chars (sym is))
 
-pub quote_refused : (w : Switches) (bytes bs behind : List ℕ) → bytes ≡ 34 ∷ bs → behind ≡ bs → is_suffix (chars behind) ≡ false →
-    rest_refusal w (chars bytes) ≡ Some (at 1 (suffix_refusal (chars behind)))
-quote_refused w bytes bs behind is same other = ap (rest_refusal w) (sym (quote_chars bytes bs behind is same)) ∙ quote_row w (chars behind) other
+pub quote_refused : (w : Switches) (bytes bs after : List ℕ) → bytes ≡ 34 ∷ bs → after ≡ bs → is_suffix (chars after) ≡ false →
+    rest_refusal w (chars bytes) ≡ Some (at 1 (suffix_refusal (chars after)))
+quote_refused w bytes bs after is same other = ap (rest_refusal w) (sym (quote_chars bytes bs after is same)) ∙ quote_row w (chars after) other
 
 return_row : (w : Switches) (t : List ℕ) → rest_refusal w (13 ∷ t) ≡ Some (at 0 CarriageReturn)
 unfolding rest_refusal
@@ -344,16 +344,16 @@ lf_first : (bs : List ℕ) → first_passes (λ c. c == 10) bs ≡ true → bs �
 lf_first [] h = absurd (false≢true h)
 lf_first (b ∷ bs) h = ap (λ n. n ∷ bs) (eqb-true b 10 h)
 
-pub behind_is : (bytes seen : List ℕ) → seen ≡ bytes → take (length seen - 1) (drop 1 seen) ≡ drop 1 bytes
-behind_is bytes seen same = ap (λ l. take (length l - 1) (drop 1 l)) same ∙ rest_is bytes
+pub after_is : (bytes seen : List ℕ) → seen ≡ bytes → take (length seen - 1) (drop 1 seen) ≡ drop 1 bytes
+after_is bytes seen same = ap (λ l. take (length l - 1) (drop 1 l)) same ∙ rest_is bytes
 
-pub two_of : (bytes behind more : List ℕ) → bytes ≡ 92 ∷ drop 1 bytes → behind ≡ drop 1 bytes → first_passes (λ c. c == 10) behind ≡ true → more ≡ drop 1 behind →
+pub two_of : (bytes after more : List ℕ) → bytes ≡ 92 ∷ drop 1 bytes → after ≡ drop 1 bytes → first_passes (λ c. c == 10) after ≡ true → more ≡ drop 1 after →
     bytes ≡ 92 ∷ 10 ∷ more
-two_of bytes behind more is same first rest = is ∙ ap (λ l. 92 ∷ l) (sym same ∙ (lf_first behind first ∙ ap (λ l. 10 ∷ l) (sym rest)))
+two_of bytes after more is same first rest = is ∙ ap (λ l. 92 ∷ l) (sym same ∙ (lf_first after first ∙ ap (λ l. 10 ∷ l) (sym rest)))
 
-pub some_behind : (bs : List ℕ) → first_passes (λ c. c == 10) bs ≡ true → 1 ≤ length bs
-some_behind [] h = absurd (false≢true h)
-some_behind (b ∷ bs) h = omega arith
+pub some_after : (bs : List ℕ) → first_passes (λ c. c == 10) bs ≡ true → 1 ≤ length bs
+some_after [] h = absurd (false≢true h)
+some_after (b ∷ bs) h = omega arith
 
 last_cut : (text t : List ℕ) (c : ℕ) → IsUtf8 text → text ≡ t ++ encode_utf8 c → IsUtf8 t → chars t ≡ without_last (chars text)
 last_cut text t c u is v =
@@ -397,13 +397,13 @@ pub continuation_free : (w : Switches) (bytes bs : List ℕ) (k : ℕ) → bytes
 continuation_free w bytes bs k is u count other =
     let whole = ap length is in let le = prefix_len-le-length is_blank bs in
     let fewer : k < length bs = fewer_of k (length bs) (omega arith) (λ e. other (omega arith)) in
-    let text = behind_two bs bytes is u in
+    let text = after_two bs bytes is u in
     let same = prefix_len-chars is_blank bs blank_ascii text in
     let front = passing_front is_blank bs blank_ascii text in
     let n = prefix_len is_blank bs in
     let some : 0 < length (drop n bs) = omega (arith, length-drop n bs) in
-    let behind : is_empty (chars (drop n bs)) ≡ false = not_empty (drop n bs) front.utf8 some in
-    let longer : n < length (chars bs) = longer_of n (chars bs) (chars (drop n bs)) front.rest behind in
+    let after : is_empty (chars (drop n bs)) ≡ false = not_empty (drop n bs) front.utf8 some in
+    let longer : n < length (chars bs) = longer_of n (chars bs) (chars (drop n bs)) front.rest after in
     ap (rest_refusal w) (ap chars is ∙ lf_chars bs) ∙ blanks_free_row w (chars bs) (not_all is_blank (chars bs) _ refl (omega arith))
   where
     longer_of : (n : ℕ) (t x : List ℕ) → drop n t ≡ x → is_empty x ≡ false → n < length t
@@ -421,8 +421,8 @@ free_row w t h =
     ∙ (if_false (not (is_ascii_unless w.unicode 34)) _ _ (ap not (or_right w.unicode true refl))
     ∙ if_false (not (is_suffix t)) _ _ (ap not h))
 
-pub quote_free : (w : Switches) (bytes bs behind : List ℕ) → bytes ≡ 34 ∷ bs → behind ≡ bs → is_suffix (chars behind) ≡ true → rest_refusal w (chars bytes) ≡ None
-quote_free w bytes bs behind is same h = ap (rest_refusal w) (sym (quote_chars bytes bs behind is same)) ∙ free_row w (chars behind) h
+pub quote_free : (w : Switches) (bytes bs after : List ℕ) → bytes ≡ 34 ∷ bs → after ≡ bs → is_suffix (chars after) ≡ true → rest_refusal w (chars bytes) ≡ None
+quote_free w bytes bs after is same h = ap (rest_refusal w) (sym (quote_chars bytes bs after is same)) ∙ free_row w (chars after) h
 
 -- what is no plain character and no backslash ends the items
 pub others_end : (w : Switches) (bytes bs : List ℕ) (b : ℕ) → bytes ≡ b ∷ bs → IsUtf8 bytes → (b == 92) ≡ false → first_passes (is_plain w) (chars bytes) ≡ false →

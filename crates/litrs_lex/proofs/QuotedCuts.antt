@@ -137,9 +137,9 @@ slice_of bytes t rest from u start split =
       is_chars = sym (chars_from_encodes t (take (byte_len t) (drop from bytes)) (IsUtf8-take (drop from bytes) (byte_len t) v cut.boundary) (sym same));
     }
 
-behind_front : (front x y : List ℕ) → front ++ x ≡ front ++ y → x ≡ y
-behind_front [] x y h = h
-behind_front (c ∷ front) x y h = behind_front front x y (let same : front ++ x ≡ front ++ y = cc in same)
+after_front : (front x y : List ℕ) → front ++ x ≡ front ++ y → x ≡ y
+after_front [] x y h = h
+after_front (c ∷ front) x y h = after_front front x y (let same : front ++ x ≡ front ++ y = cc in same)
 
 -- the closing quote ends the text, and the empty text is a suffix
 pub lone_quote_free : (w : Switches) (rest : List ℕ) → rest ≡ 34 ∷ [] → rest_refusal w (chars rest) ≡ None
@@ -176,7 +176,7 @@ is_quoted_cut w bytes offset end has_escape u start read free is_escape =
     byte_len-append front (body ++ 34 ∷ []) ∙ (ap (λ n. byte_len front + n) (byte_len-append body (34 ∷ [])) ∙ (let f = front_cut.1 in let one = byte_len_one_ascii 34 [] (omega arith) in omega arith)) in
     let cut = cut_at bytes (front ++ (body ++ 34 ∷ [])) s u whole in
     let split : chars (drop offset bytes) ≡ body ++ rest =
-    behind_front front (chars (drop offset bytes)) (body ++ rest) (front_cut.0 ∙ sym read.spells) in
+    after_front front (chars (drop offset bytes)) (body ++ rest) (front_cut.0 ∙ sym read.spells) in
     let slice = slice_of bytes body rest offset u start split in
     let taken : slice_range bytes offset (end.place + 1 - 1) ≡ take (byte_len body) (drop offset bytes) =
     ap (λ n. take n (drop offset bytes)) (let e : end.place + 1 - 1 - offset ≡ byte_len body = omega arith in e) in record {

@@ -38,9 +38,9 @@ stand_before-append w [] more rest h g = g
 stand_before-append w (a ∷ items) more rest h g =
     let p = and_parts _ (stand_before w (body_text more ++ rest) items) h in
     let q = and_parts (is_item w a) _ p.0 in
-    let behind : body_text items ++ (body_text more ++ rest) ≡ body_text (items ++ more) ++ rest =
+    let after : body_text items ++ (body_text more ++ rest) ≡ body_text (items ++ more) ++ rest =
     sym (append_assoc (body_text items) (body_text more) rest) ∙ ap (λ l. l ++ rest) (sym (body_text-append items more)) in
-    and_from _ _ (and_from _ _ q.0 (subst (λ l. is_taken_before l a ≡ true) behind q.1)) (stand_before-append w items more rest p.1 g)
+    and_from _ _ (and_from _ _ q.0 (subst (λ l. is_taken_before l a ≡ true) after q.1)) (stand_before-append w items more rest p.1 g)
 
 reads_more : (w : Switches) (front t rest : List ℕ) (at : ℕ) (value : List ℕ) (more : List Item) → ReadsSome w front t (body_text more ++ rest) at value →
     stand_before w rest more ≡ true → ReadsSome w front t rest (at + byte_len (body_text more)) (value ++ body_value more)
@@ -97,12 +97,12 @@ length-take-within n bytes h = omega (arith, length-take n bytes)
 pub front_splits : (bytes : List ℕ) (n : ℕ) → IsUtf8 bytes → IsCharBoundary bytes n →
     (chars (take n bytes) ++ chars (drop n bytes) ≡ chars bytes) × (byte_len (chars (take n bytes)) ≡ n)
 front_splits bytes n u at =
-    let behind = IsUtf8-drop bytes n u at in
+    let after = IsUtf8-drop bytes n u at in
     let front = utf8_front bytes n u at in
     let spelled : encode_utf8_all (chars (take n bytes) ++ chars (drop n bytes)) ≡ bytes =
     encodes-append (chars (take n bytes)) (chars (drop n bytes))
     ∙ (ap (λ l. l ++ encode_utf8_all (chars (drop n bytes))) (encodes-chars (take n bytes) front)
-    ∙ (ap (λ l. take n bytes ++ l) (encodes-chars (drop n bytes) behind) ∙ take-append-drop n bytes)) in (
+    ∙ (ap (λ l. take n bytes ++ l) (encodes-chars (drop n bytes) after) ∙ take-append-drop n bytes)) in (
       chars_from_encodes _ bytes u spelled,
       ap length (encodes-chars (take n bytes) front) ∙ length-take-within n bytes at.0,
     )
@@ -122,23 +122,23 @@ reads_run w front t bytes value at end run read =
     (plain_value run.run) (plain_stand w (chars (drop end bytes)) run.run run.plain)
 
 -- an escape or a continuation
-pub reads_item : (w : Switches) (front t bytes rest behind value : List ℕ) (at len end : ℕ) (v : Option Unescape) → IsItemAt w rest len v → rest ≡ drop at bytes →
-    drop len rest ≡ behind → at + len ≡ end → ReadsSome w front t (chars (drop at bytes)) at value → ReadsSome w front t (chars behind) end (value ++ item_bytes v)
-reads_item w front t bytes rest behind value at len end v item is behind_is on read =
-    let tail : chars (drop len rest) ≡ chars behind = ap chars behind_is in
-    let stand : stand_before w (chars behind) (item.item ∷ []) ≡ true =
+pub reads_item : (w : Switches) (front t bytes rest after value : List ℕ) (at len end : ℕ) (v : Option Unescape) → IsItemAt w rest len v → rest ≡ drop at bytes →
+    drop len rest ≡ after → at + len ≡ end → ReadsSome w front t (chars (drop at bytes)) at value → ReadsSome w front t (chars after) end (value ++ item_bytes v)
+reads_item w front t bytes rest after value at len end v item is after_is on read =
+    let tail : chars (drop len rest) ≡ chars after = ap chars after_is in
+    let stand : stand_before w (chars after) (item.item ∷ []) ≡ true =
     subst (λ (l : List ℕ). stand_before w l (item.item ∷ []) ≡ true) tail (and_from _ _ (and_from _ _ item.grammar item.taken) refl) in
-    reads_items w front t (chars (drop at bytes)) (chars behind) (item_text item.item) (item_bytes v) at end value (item.item ∷ []) read
+    reads_items w front t (chars (drop at bytes)) (chars after) (item_text item.item) (item_bytes v) at end value (item.item ∷ []) read
     (ap chars (sym is) ∙ (item.split ∙ ap (λ l. item_text item.item ++ l) tail))
     (append-nil (item_text item.item)) (ap (λ n. at + n) item.size ∙ on) (append-nil (item_value item.item) ∙ item.is_value) stand
 
 -- a boundary of what follows a place
 pub boundary_later : (bytes rest : List ℕ) (n m : ℕ) → IsUtf8 bytes → IsCharBoundary bytes n → rest ≡ drop n bytes → IsCharBoundary rest m → IsCharBoundary bytes (n + m)
 boundary_later bytes rest n m u start is at =
-    let behind : IsCharBoundary (drop n bytes) m = subst (λ (l : List ℕ). IsCharBoundary l m) is at in
+    let after : IsCharBoundary (drop n bytes) m = subst (λ (l : List ℕ). IsCharBoundary l m) is at in
     let text : IsUtf8 (drop (n + m) bytes) =
-    subst (λ (l : List ℕ). IsUtf8 l) (drop-drop m n bytes) (IsUtf8-drop (drop n bytes) m (IsUtf8-drop bytes n u start) behind) in
-    IsCharBoundary-from_drop bytes (n + m) (omega (arith, behind.0, start.0, length-drop n bytes)) text
+    subst (λ (l : List ℕ). IsUtf8 l) (drop-drop m n bytes) (IsUtf8-drop (drop n bytes) m (IsUtf8-drop bytes n u start) after) in
+    IsCharBoundary-from_drop bytes (n + m) (omega (arith, after.0, start.0, length-drop n bytes)) text
 
 -- after a last run stands what ends the items
 pub items_end : (w : Switches) (bytes rest value : List ℕ) (offset at place value_len : ℕ) → IsPlainRun w bytes at place →

@@ -38,10 +38,10 @@ copy_run w front t bytes value pushed new at end u start run is grown read =
     subst (λ (l : List ℕ). ReadsSome w front t (chars (drop end bytes)) end l) (ap (λ l. value ++ l) (run_bytes w bytes pushed at end u start run is) ∙ sym grown)
     (reads_run w front t bytes value at end run read)
 
-pub copy_item : (w : Switches) (front t bytes rest behind value new : List ℕ) (at len end : ℕ) (v : Option Unescape) → IsItemAt w rest len v → rest ≡ drop at bytes →
-    drop len rest ≡ behind → at + len ≡ end → new ≡ value ++ item_bytes v → ReadsSome w front t (chars (drop at bytes)) at value → ReadsSome w front t (chars behind) end new
-copy_item w front t bytes rest behind value new at len end v item is behind_is on grown read =
-    subst (λ (l : List ℕ). ReadsSome w front t (chars behind) end l) (sym grown) (reads_item w front t bytes rest behind value at len end v item is behind_is on read)
+pub copy_item : (w : Switches) (front t bytes rest after value new : List ℕ) (at len end : ℕ) (v : Option Unescape) → IsItemAt w rest len v → rest ≡ drop at bytes →
+    drop len rest ≡ after → at + len ≡ end → new ≡ value ++ item_bytes v → ReadsSome w front t (chars (drop at bytes)) at value → ReadsSome w front t (chars after) end new
+copy_item w front t bytes rest after value new at len end v item is after_is on grown read =
+    subst (λ (l : List ℕ). ReadsSome w front t (chars after) end l) (sym grown) (reads_item w front t bytes rest after value at len end v item is after_is on read)
 
 -- where the items of a literal end, its whole value is copied
 value_by : (w : Switches) (front t rest value : List ℕ) (at : ℕ) (q : QuotedParts) (o : Option Refusal) → ReadsSome w front t rest at value → EndsItems w rest →

@@ -17,7 +17,7 @@ use Rattle.litrs_base.specs.Refusal.{Refusal, refusal, refusal_of, plain, over, 
 use Rattle.litrs_base.specs.Text.{is_empty, byte_len, first_passes, begins_with}
 use Rattle.litrs_base.proofs.Begins.{begins_with-split, begins_with-append}
 use Rattle.litrs_base.proofs.CharEnds.{char_span_points}
-use Rattle.litrs_base.proofs.Chars.{OnlyAscii, chars_ascii, chars_wide, chars_empty, utf8_behind_ascii, passing_front, prefix_len-chars, first_passes-chars, begins_with-chars}
+use Rattle.litrs_base.proofs.Chars.{OnlyAscii, chars_ascii, chars_wide, chars_empty, utf8_after_ascii, passing_front, prefix_len-chars, first_passes-chars, begins_with-chars}
 use Rattle.litrs_base.proofs.Runs.{list_all-append, list_all-weaken}
 use Rattle.litrs_base.proofs.Spans.{is_ascii_char, byte_len-append}
 use Rattle.litrs_search.specs.Special.{is_ordinary}
@@ -26,13 +26,13 @@ use Rattle.litrs_grammar.specs.Raw.{is_quote, is_hash, hashes, raw_closing, occu
 use Rattle.litrs_grammar.specs.Laws.Raw.{NoClosingIn}
 use Rattle.litrs_grammar.proofs.LongerTexts.Raw.{raw_final, raw_finality, raw_open}
 use Rattle.litrs_grammar.proofs.RawClosings.{raw_scans_stay}
-use Rattle.litrs_grammar.proofs.Laws.Raw.{raw_rows, refusal_of_closed, behind_closing, length_closing, only_parts, parts_of, refused}
+use Rattle.litrs_grammar.proofs.Laws.Raw.{raw_rows, refusal_of_closed, after_closing, length_closing, only_parts, parts_of, refused}
 use Rattle.litrs_grammar.proofs.RawScans.{raw_scans_go_on, raw_refusals_go_on}
 use Rattle.litrs_grammar.proofs.Spans.Raw.{raw_refusal_within}
 use Rattle.litrs_lex.specs.RawCut.{raw_parts_at, IsRawCut, IsRawRefused, raw_special, IsPassed, IsStop, IsBodyCut}
 use Rattle.litrs_lex.proofs.PlainRuns.{AlikeFrom128}
 use Rattle.litrs_lex.proofs.CharRuns.{IsCharRun, char_run}
-use Rattle.litrs_parts.proofs.FloatBytes.{chars_behind, utf8_behind}
+use Rattle.litrs_parts.proofs.FloatBytes.{chars_after, utf8_after}
 use Rattle.litrs_parts.proofs.SuffixBytes.{is_suffix-nil}
 
 -- One character: the search stops at those that may not stand in a body, and at `"`.
@@ -119,7 +119,7 @@ no_closing_one n c rest none (suc i) below = absurd (omega arith)
 no_closing_more : (n : ℕ) (front more rest : List ℕ) → NoClosingIn n front (more ++ rest) → NoClosingIn n more rest → NoClosingIn n (front ++ more) rest
 no_closing_more n front more rest none after i below = elim (cases_lt i (length front)) [
   | inl inside ↦ ap (λ s. begins_with (raw_closing n) (drop i s)) (append_assoc front more rest) ∙ none i inside
-  | inr behind ↦ (let j : ℕ = i - length front in
+  | inr beyond ↦ (let j : ℕ = i - length front in
       let at_j : i ≡ length front + j = omega arith in
       ap (λ k. begins_with (raw_closing n) (drop k ((front ++ more) ++ rest))) at_j
       ∙ (ap (λ s. begins_with (raw_closing n) (drop (length front + j) s)) (append_assoc front more rest)
@@ -174,13 +174,13 @@ stop_made u a n start from place bytes low within utf8 s is =
       stops = ap (first_passes p) (sym there) ∙ r.stops;
     }
 
-pub record Behind (u a : Bool) (n start place : ℕ) (bytes : List ℕ) : Type 0 where
+pub record After (u a : Bool) (n start place : ℕ) (bytes : List ℕ) : Type 0 where
   pub within : place + 1 ≤ length bytes
   pub utf8 : IsUtf8 (drop (place + 1) bytes)
   pub passed : IsPassed u a n (chars (drop start bytes)) (chars (drop (place + 1) bytes))
 
 after_first : (u a : Bool) (n start place : ℕ) (bytes rest : List ℕ) → drop place bytes ≡ rest → place ≤ length bytes → IsUtf8 rest →
-    IsPassed u a n (chars (drop start bytes)) (chars rest) → (first_passes is_quote rest && not (begins_with (raw_closing n) rest)) ≡ true → Behind u a n start place bytes
+    IsPassed u a n (chars (drop start bytes)) (chars rest) → (first_passes is_quote rest && not (begins_with (raw_closing n) rest)) ≡ true → After u a n start place bytes
 after_first u a n start place bytes [] is within utf8 s inner = absurd (false≢true inner)
 after_first u a n start place bytes (b ∷ r) is within utf8 s inner =
     let parts = and_parts (is_quote b) (not (begins_with (raw_closing n) (b ∷ r))) inner in
@@ -190,13 +190,13 @@ after_first u a n start place bytes (b ∷ r) is within utf8 s inner =
     let text : IsUtf8 (34 ∷ r) = subst (λ (c : ℕ). IsUtf8 (c ∷ r)) quote utf8 in
     let passed : IsPassed u a n (chars (drop start bytes)) (chars (34 ∷ r)) = subst (λ (c : ℕ). IsPassed u a n (chars (drop start bytes)) (chars (c ∷ r))) quote s in record {
       within = omega (arith, ap length is, length-drop place bytes);
-      utf8 = subst (λ (l : List ℕ). IsUtf8 l) (sym there) (utf8_behind_ascii 34 r (omega arith) text);
+      utf8 = subst (λ (l : List ℕ). IsUtf8 l) (sym there) (utf8_after_ascii 34 r (omega arith) text);
       passed = subst (λ (l : List ℕ). IsPassed u a n (chars (drop start bytes)) (chars l)) (sym there) (passed_quote u a n (chars (drop start bytes)) r text passed none);
     }
 
 -- after a quote that closes nothing
 pub after_quote : (u a : Bool) (n start place : ℕ) (bytes : List ℕ) → IsStop u a n start bytes place →
-    (first_passes is_quote (drop place bytes) && not (begins_with (raw_closing n) (drop place bytes))) ≡ true → Behind u a n start place bytes
+    (first_passes is_quote (drop place bytes) && not (begins_with (raw_closing n) (drop place bytes))) ≡ true → After u a n start place bytes
 after_quote u a n start place bytes s inner = after_first u a n start place bytes (drop place bytes) refl s.within s.utf8 s.passed inner
 
 -- What stands at the end of the search
@@ -296,8 +296,8 @@ closing_at n place bytes within utf8 h =
     let split : raw_closing n ++ x ≡ rest = begins_with-split (raw_closing n) rest h in
     let there : x ≡ drop (place + 1 + n) bytes =
     drop-drop (length (raw_closing n)) place bytes ∙ ap (λ k. drop k bytes) (let len = length_closing n in let e : place + length (raw_closing n) ≡ place + 1 + n = omega arith in e) in record {
-      spells = ap (λ l. raw_closing n ++ chars l) (sym there) ∙ (sym (chars_behind (raw_closing n) x (closing_is_ascii n)) ∙ ap chars split);
-      utf8 = subst (λ (l : List ℕ). IsUtf8 l) there (utf8_behind (raw_closing n) x (closing_is_ascii n) (subst (λ (l : List ℕ). IsUtf8 l) (sym split) utf8));
+      spells = ap (λ l. raw_closing n ++ chars l) (sym there) ∙ (sym (chars_after (raw_closing n) x (closing_is_ascii n)) ∙ ap chars split);
+      utf8 = subst (λ (l : List ℕ). IsUtf8 l) there (utf8_after (raw_closing n) x (closing_is_ascii n) (subst (λ (l : List ℕ). IsUtf8 l) (sym split) utf8));
       within = omega (arith, length_closing n, ap length split, length-append (raw_closing n) x, length-drop place bytes);
     }
 
@@ -329,11 +329,11 @@ front_bytes u a n start place bytes utf8 s =
     let k : ℕ = place - start in
     let low = s.from in
     let at_place : start + k ≡ place = omega arith in
-    let behind : drop k bs ≡ drop place bytes = drop-drop k start bytes ∙ ap (λ m. drop m bytes) at_place in
+    let after : drop k bs ≡ drop place bytes = drop-drop k start bytes ∙ ap (λ m. drop m bytes) at_place in
     let fits : k ≤ length bs = omega (arith, s.within, length-drop start bytes) in
-    let text : IsUtf8 (take k bs) = IsUtf8-take bs k utf8 (IsCharBoundary-from_drop bs k fits (subst (λ (l : List ℕ). IsUtf8 l) (sym behind) s.utf8)) in
+    let text : IsUtf8 (take k bs) = IsUtf8-take bs k utf8 (IsCharBoundary-from_drop bs k fits (subst (λ (l : List ℕ). IsUtf8 l) (sym after) s.utf8)) in
     let both : s.passed.front ++ chars (drop place bytes) ≡ chars (take k bs) ++ chars (drop place bytes) =
-    s.passed.spells ∙ (ap chars (sym (take-append-drop k bs)) ∙ (chars-append (take k bs) (drop k bs) text ∙ ap (λ l. chars (take k bs) ++ chars l) behind)) in
+    s.passed.spells ∙ (ap chars (sym (take-append-drop k bs)) ∙ (chars-append (take k bs) (drop k bs) text ∙ ap (λ l. chars (take k bs) ++ chars l) after)) in
     append_cancel_right s.passed.front (chars (take k bs)) (chars (drop place bytes)) both
 
 pub body_cut : (u a : Bool) (n start place : ℕ) (bytes : List ℕ) → IsUtf8 (drop start bytes) → IsStop u a n start bytes place → Closing n place bytes →
@@ -353,7 +353,7 @@ body_cut u a n start place bytes utf8 s c ends =
       free = closed_refusal u a n start place bytes utf8 s c ∙ ap (λ v. if not v then Some (at (place + 1 + n) (suffix_refusal x)) else None) ends;
       body = ap (λ k. take k t) before ∙ (ap (take (length front)) (sym s.passed.spells) ∙ (take_at front (chars (drop place bytes)) (length front) refl
           ∙ (front_bytes u a n start place bytes utf8 s ∙ ap (λ k. chars (slice_range bytes start k)) (sym back))));
-      suffix = ap (λ k. drop (k + (1 + n)) t) before ∙ (ap (drop (length front + (1 + n))) (sym whole) ∙ behind_closing n front x);
+      suffix = ap (λ k. drop (k + (1 + n)) t) before ∙ (ap (drop (length front + (1 + n))) (sym whole) ∙ after_closing n front x);
       in_order = omega arith;
       body_end = subst (λ (k : ℕ). IsCharBoundary bytes k) (sym back) (IsCharBoundary-from_drop bytes place s.within s.utf8);
       suffix_start = IsCharBoundary-from_drop bytes (place + 1 + n) c.within c.utf8;
@@ -375,8 +375,8 @@ opening_is u a start bs utf8 =
     let n : ℕ = hash_len bs in
     let count : hash_len (chars bs) ≡ n = prefix_len-chars is_hash bs hash_is_ascii utf8 in
     let front = passing_front is_hash bs hash_is_ascii utf8 in
-    let behind : drop (hash_len (chars bs)) (chars bs) ≡ chars (drop n bs) = ap (λ k. drop k (chars bs)) count ∙ front.rest in
-    λ j. raw_rows start (count j) (raw_body_refusal u a (count j) (start + (count j + 1)) (drop 1 (behind j))) (is_empty (behind j)) (ltb 255 (count j)) (first_passes is_quote (behind j))
+    let after : drop (hash_len (chars bs)) (chars bs) ≡ chars (drop n bs) = ap (λ k. drop k (chars bs)) count ∙ front.rest in
+    λ j. raw_rows start (count j) (raw_body_refusal u a (count j) (start + (count j + 1)) (drop 1 (after j))) (is_empty (after j)) (ltb 255 (count j)) (first_passes is_quote (after j))
 
 some_char : (b : ℕ) (r : List ℕ) → IsUtf8 (b ∷ r) → is_empty (chars (b ∷ r)) ≡ false
 some_char b r utf8 = chars_empty (b ∷ r) utf8 ∙ ne_eqb (suc (length r)) 0 (λ e. omega arith)
@@ -418,8 +418,8 @@ opening_other u a start b bs r utf8 is few other =
     let o = opening_of bs b r utf8 is in
     opening_is u a start bs utf8 ∙ (λ j. raw_rows start n body (o.some j) (le-ltb 255 n few j) ((o.quote ∙ other) j))
 
-behind_quote : (bs : List ℕ) (b : ℕ) (r : List ℕ) → IsUtf8 bs → drop (hash_len bs) bs ≡ b ∷ r → b ≡ 34 → drop 1 (chars (drop (hash_len bs) bs)) ≡ chars r
-behind_quote bs b r utf8 is quote =
+after_opening_quote : (bs : List ℕ) (b : ℕ) (r : List ℕ) → IsUtf8 bs → drop (hash_len bs) bs ≡ b ∷ r → b ≡ 34 → drop 1 (chars (drop (hash_len bs) bs)) ≡ chars r
+after_opening_quote bs b r utf8 is quote =
     ap (λ l. drop 1 (chars l)) is ∙ (ap (λ c. drop 1 (chars (c ∷ r))) quote ∙ ap (drop 1) (chars_ascii 34 r (omega arith)))
 
 pub opening_quote : (u a : Bool) (start b : ℕ) (bs r : List ℕ) → IsUtf8 bs → drop (hash_len bs) bs ≡ b ∷ r → hash_len bs ≤ 255 → b ≡ 34 →
@@ -427,7 +427,7 @@ pub opening_quote : (u a : Bool) (start b : ℕ) (bs r : List ℕ) → IsUtf8 bs
 opening_quote u a start b bs r utf8 is few quote =
     let n : ℕ = hash_len bs in
     let o = opening_of bs b r utf8 is in
-    opening_is u a start bs utf8 ∙ (λ j. raw_rows start n (raw_body_refusal u a n (start + (n + 1)) (behind_quote bs b r utf8 is quote j)) (o.some j) (le-ltb 255 n few j) ((o.quote ∙ eq-eqb b 34 quote) j))
+    opening_is u a start bs utf8 ∙ (λ j. raw_rows start n (raw_body_refusal u a n (start + (n + 1)) (after_opening_quote bs b r utf8 is quote j)) (o.some j) (le-ltb 255 n few j) ((o.quote ∙ eq-eqb b 34 quote) j))
 
 -- The whole
 
@@ -438,7 +438,7 @@ pub record IsOpened (offset n start : ℕ) (bytes : List ℕ) : Type 0 where
   pub at_start : offset + (n + 1) ≡ start
   pub first : ℕ
   pub rest : List ℕ
-  pub behind : drop (hash_len (drop offset bytes)) (drop offset bytes) ≡ first ∷ rest
+  pub after : drop (hash_len (drop offset bytes)) (drop offset bytes) ≡ first ∷ rest
   pub quote : first ≡ 34
   pub rest_is : rest ≡ drop start bytes
 
@@ -451,7 +451,7 @@ opened offset n opening bytes b r utf8 boundary count few at_opening is quote = 
   at_start = omega arith;
   first = b;
   rest = r;
-  behind = drop-drop (hash_len (drop offset bytes)) offset bytes ∙ (ap (λ k. drop k bytes) (ap (λ m. offset + m) (sym count) ∙ sym at_opening) ∙ is);
+  after = drop-drop (hash_len (drop offset bytes)) offset bytes ∙ (ap (λ k. drop k bytes) (ap (λ m. offset + m) (sym count) ∙ sym at_opening) ∙ is);
   quote = quote;
   rest_is = ap (drop 1) (sym is) ∙ drop-drop 1 opening bytes;
 }
@@ -459,7 +459,7 @@ opened offset n opening bytes b r utf8 boundary count few at_opening is quote = 
 pub body_refusal_is : (u a : Bool) (offset n start : ℕ) (bytes : List ℕ) → IsOpened offset n start bytes →
     raw_refusal u a offset (chars (drop offset bytes)) ≡ raw_body_refusal u a n start (chars (drop start bytes))
 body_refusal_is u a offset n start bytes o =
-    opening_quote u a offset o.first (drop offset bytes) o.rest o.utf8 o.behind (subst (λ (k : ℕ). k ≤ 255) (sym o.count) o.few) o.quote
+    opening_quote u a offset o.first (drop offset bytes) o.rest o.utf8 o.after (subst (λ (k : ℕ). k ≤ 255) (sym o.count) o.few) o.quote
     ∙ (λ j. raw_body_refusal u a (o.count j) ((ap (λ k. offset + (k + 1)) o.count ∙ o.at_start) j) (chars (o.rest_is j)))
 
 pub raw_cut : (u a : Bool) (offset n start place : ℕ) (bytes : List ℕ) → IsOpened offset n start bytes → IsCharBoundary bytes start → IsBodyCut u a n start bytes place →
@@ -469,15 +469,15 @@ raw_cut u a offset n start place bytes o boundary b =
     let r = chars (drop start bytes) in
     let count : hash_len t ≡ n = prefix_len-chars is_hash (drop offset bytes) hash_is_ascii o.utf8 ∙ o.count in
     let front = passing_front is_hash (drop offset bytes) hash_is_ascii o.utf8 in
-    let behind : drop (suc (hash_len t)) t ≡ r =
+    let after : drop (suc (hash_len t)) t ≡ r =
     ap (λ k. drop k t) (ap suc (prefix_len-chars is_hash (drop offset bytes) hash_is_ascii o.utf8) ∙ one_more (hash_len (drop offset bytes)))
     ∙ (sym (drop-drop 1 (hash_len (drop offset bytes)) t) ∙ (ap (drop 1) front.rest
-    ∙ (behind_quote (drop offset bytes) o.first o.rest o.utf8 o.behind o.quote ∙ ap chars o.rest_is))) in
+    ∙ (after_opening_quote (drop offset bytes) o.first o.rest o.utf8 o.after o.quote ∙ ap chars o.rest_is))) in
     let parts : parts_of t ≡ raw_parts_at offset bytes (n, place) =
     (λ j. record {
       hash_count = count j;
-      body = take (length_before (raw_closing (count j)) (behind j)) (behind j);
-      suffix = drop (length_before (raw_closing (count j)) (behind j) + (1 + count j)) (behind j);
+      body = take (length_before (raw_closing (count j)) (after j)) (after j);
+      suffix = drop (length_before (raw_closing (count j)) (after j) + (1 + count j)) (after j);
     }) ∙ (λ j. record {
       hash_count = n;
       body = (b.body ∙ ap (λ k. chars (slice_range bytes k (place - (n + 1)))) (sym o.at_start)) j;
@@ -558,8 +558,8 @@ closing_of u a n start place bytes text same s closes inside quote =
     let there : begins_with (raw_closing n) (drop place bytes) ≡ true = closes (ap (first_passes is_quote) is) in
     subst (λ (l : List ℕ). Closing n place l) same (closing_at n place bytes s.within s.utf8 there)
 
-pub behind_hashes_is : (text : List ℕ) (offset n : ℕ) → n ≡ hash_len (drop offset text) → drop (hash_len (drop offset text)) (drop offset text) ≡ drop (offset + n) text
-behind_hashes_is text offset n count = drop-drop (hash_len (drop offset text)) offset text ∙ ap (λ k. drop (offset + k) text) (sym count)
+pub after_hashes_is : (text : List ℕ) (offset n : ℕ) → n ≡ hash_len (drop offset text) → drop (hash_len (drop offset text)) (drop offset text) ≡ drop (offset + n) text
+after_hashes_is text offset n count = drop-drop (hash_len (drop offset text)) offset text ∙ ap (λ k. drop (offset + k) text) (sym count)
 
 pub hashes_within : (text : List ℕ) (offset n : ℕ) → offset ≤ length text → n ≤ length (drop offset text) → offset + n ≤ length text
 hashes_within text offset n within few = omega (arith, length-drop offset text)

@@ -51,13 +51,13 @@ short_run w front t bytes pushed at end value_len sum old new u start run is too
           ∙ ap (λ l. read.value ++ l) (sym (run_bytes w bytes pushed at end u start run is)));
     }
 
-pub short_item : (w : Switches) (front t bytes rest behind : List ℕ) (at len end value_len more sum : ℕ) (v : Option Unescape) (old new : Short) → IsItemAt w rest len v →
-    rest ≡ drop at bytes → drop len rest ≡ behind → at + len ≡ end → more ≡ length (item_bytes v) → value_len + more ≡ sum → Takes old new (item_bytes v) →
-    ReadsShort w front t (chars (drop at bytes)) at value_len old → ReadsShort w front t (chars behind) end sum new
-short_item w front t bytes rest behind at len end value_len more sum v old new item is behind_is on size total took read =
+pub short_item : (w : Switches) (front t bytes rest after : List ℕ) (at len end value_len more sum : ℕ) (v : Option Unescape) (old new : Short) → IsItemAt w rest len v →
+    rest ≡ drop at bytes → drop len rest ≡ after → at + len ≡ end → more ≡ length (item_bytes v) → value_len + more ≡ sum → Takes old new (item_bytes v) →
+    ReadsShort w front t (chars (drop at bytes)) at value_len old → ReadsShort w front t (chars after) end sum new
+short_item w front t bytes rest after at len end value_len more sum v old new item is after_is on size total took read =
     let before = read.size in record {
       value = read.value ++ item_bytes v;
-      reads = reads_item w front t bytes rest behind read.value at len end v item is behind_is on read.reads;
+      reads = reads_item w front t bytes rest after read.value at len end v item is after_is on read.reads;
       size = omega (arith, length-append read.value (item_bytes v));
       held = λ whole. (took whole).1 ∙ ap (λ l. l ++ item_bytes v) (read.held (took whole).0);
     }

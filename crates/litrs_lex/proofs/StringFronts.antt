@@ -55,6 +55,6 @@ quoted_before kind bs u begins =
     ∙ (ap (take (length front)) (sym (begins_with-split front bs begins)) ∙ take-append_seam front (drop (length front) bs))
 
 -- what stands after the front of a raw one
-pub raw_behind : (kind : StringKind) (bs : List ℕ) → IsUtf8 bs → begins_with (raw_front kind) bs ≡ true →
+pub raw_after : (kind : StringKind) (bs : List ℕ) → IsUtf8 bs → begins_with (raw_front kind) bs ≡ true →
     drop (length (raw_front kind)) (chars bs) ≡ chars (drop (length (raw_front kind)) bs)
-raw_behind kind bs u begins = (begins_front (raw_front kind) bs (raw_low kind) begins u).rest
+raw_after kind bs u begins = (begins_front (raw_front kind) bs (raw_low kind) begins u).rest

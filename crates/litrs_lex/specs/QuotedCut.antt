@@ -41,8 +41,8 @@ pub record IsQuotedCut (w : Switches) (bytes : List ℕ) (offset : ℕ) (cut : Q
 -- error's kind and span for it and no other pair, and never that of an allocation failure; the span
 -- lies within the text and starts on a character boundary, and the character span ends on one.
 -- As to longer texts: the items before the rest that decides the refusal are taken before every
--- longer rest; where the kind is final, no longer text is such a literal, and the table has this
--- kind and span for each; where it is open, the closing quote makes the text one.
+-- longer rest; where the kind is final, no extension of the text is such a literal, and the table
+-- has this kind and span for each; where it is open, the closing quote makes the text one.
 pub record IsQuotedRefused (w : Switches) (bytes : List ℕ) (offset : ℕ) (e : ParseError)
     : Type 0 where
   pub none : HasNoDerivation (IsQuoted (chars (take offset bytes)) w (chars bytes))

@@ -42,9 +42,9 @@ pub record IsRawCut (unicode allow_nul : Bool) (offset : ℕ) (bytes : List ℕ)
 -- What follows the offset is refused with the error: no derivation exists, and the table has
 -- the error's kind and span. Both spans count from the start of the whole text and lie within it,
 -- and the character span begins and ends on character boundaries. As to longer texts: the hashes
--- and the first closing stay; where the kind is final, no longer text is such a literal, and the
--- table has this kind and span for each; where it is open, the closing with as many hashes makes
--- the text one, with all that follows the opening quote as its body.
+-- and the first closing stay; where the kind is final, no extension of the text is such a literal,
+-- and the table has this kind and span for each; where it is open, the closing with as many hashes
+-- makes the text one, with all that follows the opening quote as its body.
 pub record IsRawRefused (unicode allow_nul : Bool) (offset : ℕ) (bytes : List ℕ) (e : ParseError) :
     Type 0 where
   pub none : HasNoDerivation (IsRawOf unicode allow_nul (chars (drop offset bytes)))

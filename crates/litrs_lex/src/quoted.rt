@@ -442,12 +442,12 @@ pub(crate) fn next_item(rest: &str, allowed: Switches) -> Option<Escaped>
     ensures none { IfNone result
         (EndsItems (grammar_switches allowed) (chars rest.now)) }
 {
-    let [first, behind @ ..] = rest.as_bytes() else {
+    let [first, after @ ..] = rest.as_bytes() else {
         return None;
     };
     match *first {
-        b'\\' if begins_with_line_feed(behind) => {
-            let len = 2 + blanks_len(&behind[1..]);
+        b'\\' if begins_with_line_feed(after) => {
+            let len = 2 + blanks_len(&after[1..]);
             if len == rest.len() {
                 None
             } else {
@@ -525,7 +525,7 @@ pub(crate) fn rest_refusal(
         byte_escapes,
         allow_nul,
     };
-    let [first, behind @ ..] = rest.as_bytes() else {
+    let [first, after @ ..] = rest.as_bytes() else {
         return Some(ParseError::new(None, ParseErrorKind::UnterminatedString));
     };
     match *first {
@@ -533,8 +533,8 @@ pub(crate) fn rest_refusal(
             Ok(()) => None,
             Err(kind) => Some(ParseError::in_text(rest, Some(1..2), kind)),
         },
-        b'\\' if begins_with_line_feed(behind) => {
-            let len = 2 + blanks_len(&behind[1..]);
+        b'\\' if begins_with_line_feed(after) => {
+            let len = 2 + blanks_len(&after[1..]);
             if len == rest.len() {
                 Some(ParseError::new(None, ParseErrorKind::UnterminatedString))
             } else {

@@ -77,7 +77,7 @@ abbrev after_first : {A : Type 0} → List A → List A
 after_first [] = []
 after_first (x ∷ xs) = xs
 
--- a front of a list with one more is a front of the list, where something follows it
+-- a prefix of a list with one more is a prefix of the list, where something follows it
 shorter_front : {A : Type 0} (front rest list : List A) (last : A) → (rest ≡ [] → ⊥) → front ++ rest ≡ list ++ last ∷ [] → (more : List A) × (front ++ more ≡ list)
 shorter_front [] rest list last some is = (list, refl)
 shorter_front (x ∷ front) rest [] last some is =
@@ -89,15 +89,15 @@ shorter_front (x ∷ front) rest (y ∷ list) last some is =
     let shorter = shorter_front front rest list last some tail in
     (shorter.0, λ i. head i ∷ shorter.1 i)
 
--- of two fronts of a list one is a front of the other
-compare_fronts : {A : Type 0} (front after other behind : List A) → front ++ after ≡ other ++ behind →
-    ((more : List A) × (front ++ more ≡ other) × (after ≡ more ++ behind)) ⊎ ((more : List A) × (other ++ more ≡ front) × (behind ≡ more ++ after))
-compare_fronts [] after other behind is = inl (other, refl, is)
-compare_fronts (x ∷ front) after [] behind is = inr (x ∷ front, refl, sym is)
-compare_fronts (x ∷ front) after (y ∷ other) behind is =
+-- of two prefixes of a list one is a prefix of the other
+compare_fronts : {A : Type 0} (front after other after' : List A) → front ++ after ≡ other ++ after' →
+    ((more : List A) × (front ++ more ≡ other) × (after ≡ more ++ after')) ⊎ ((more : List A) × (other ++ more ≡ front) × (after' ≡ more ++ after))
+compare_fronts [] after other after' is = inl (other, refl, is)
+compare_fronts (x ∷ front) after [] after' is = inr (x ∷ front, refl, sym is)
+compare_fronts (x ∷ front) after (y ∷ other) after' is =
     let head : x ≡ y = ap (first_or x) is in
-    let tail : front ++ after ≡ other ++ behind = ap after_first is in
-    elim (compare_fronts front after other behind tail) [
+    let tail : front ++ after ≡ other ++ after' = ap after_first is in
+    elim (compare_fronts front after other after' tail) [
       | inl longer ↦ inl (longer.0, (λ i. head i ∷ longer.1 i), longer.2)
       | inr longer ↦ inr (longer.0, (λ i. sym head i ∷ longer.1 i), longer.2)
     ]
@@ -207,16 +207,16 @@ record Grouping (lines texts : List (List ℕ)) : Type 0 where
 abbrev GroupsFrom : (group lines : List (List ℕ)) → Type 0
 GroupsFrom group lines = (texts : List (List ℕ)) (left : List ℕ) → LinesEnd (with_ends group) lines texts left → Grouping (group ++ lines) (texts ++ unless_held left)
 
-module _ (line : List ℕ) (lines : List (List ℕ)) (behind : (group : List (List ℕ)) → IsOpen group → GroupsFrom group lines) where
+module _ (line : List ℕ) (lines : List (List ℕ)) (after : (group : List (List ℕ)) → IsOpen group → GroupsFrom group lines) where
   -- where nothing is held after the line
-  behind_nothing : (between : List ℕ) (texts : List (List ℕ)) (left : List ℕ) → between ≡ [] → LinesEnd between lines texts left → Grouping lines (texts ++ unless_held left)
-  behind_nothing between texts left none end = behind [] open_none texts left (subst (λ (h : List ℕ). LinesEnd h lines texts left) none end)
+  after_nothing : (between : List ℕ) (texts : List (List ℕ)) (left : List ℕ) → between ≡ [] → LinesEnd between lines texts left → Grouping lines (texts ++ unless_held left)
+  after_nothing between texts left none end = after [] open_none texts left (subst (λ (h : List ℕ). LinesEnd h lines texts left) none end)
 
   groups_at_more : (group : List (List ℕ)) (between : List ℕ) (texts : List (List ℕ)) (left : List ℕ) → IsOpen group → IsUtf8 line → IsUnfinished (with_ends group ++ line) →
       between ≡ (with_ends group ++ line) ++ 10 ∷ [] → LinesEnd between lines texts left → Grouping (group ++ line ∷ lines) (texts ++ unless_held left)
   groups_at_more group between texts left held text more is end =
       let unfinished : IsUnfinished (joined (group ++ line ∷ [])) = subst IsUnfinished (sym (joined-last group line)) more in
-      let rest = behind (group ++ line ∷ []) (open_more group line held text unfinished) texts left
+      let rest = after (group ++ line ∷ []) (open_more group line held text unfinished) texts left
       (subst (λ (h : List ℕ). LinesEnd h lines texts left) (is ∙ sym (with_ends-last group line)) end) in
       record {
         groups = rest.groups;
@@ -255,11 +255,11 @@ module _ (line : List ℕ) (lines : List (List ℕ)) (behind : (group : List (Li
       (groups_at_more group between rest left held more.0 more.1 more.3 end)
   groups_at group first between rest left held (inr (inl finished)) end =
       subst (λ (ts : List (List ℕ)). Grouping (group ++ line ∷ lines) ((ts ++ rest) ++ unless_held left)) (sym finished.2)
-      (groups_at_end group (rest ++ unless_held left) held finished.0 finished.1 (behind_nothing between rest left finished.3 end))
+      (groups_at_end group (rest ++ unless_held left) held finished.0 finished.1 (after_nothing between rest left finished.3 end))
   groups_at group first between rest left held (inr (inr other)) end =
       subst (λ (ts : List (List ℕ)). Grouping (group ++ line ∷ lines) ((ts ++ rest) ++ unless_held left)) (sym other.1)
       (subst (Grouping (group ++ line ∷ lines)) (sym (append_assoc (unless_held (with_ends group) ++ line ∷ []) rest (unless_held left)))
-      (groups_at_other group (rest ++ unless_held left) held other.0 (behind_nothing between rest left other.2 end)))
+      (groups_at_other group (rest ++ unless_held left) held other.0 (after_nothing between rest left other.2 end)))
 
 groups_of_held : (group : List (List ℕ)) → IsOpen group → Grouping (group ++ []) (unless_held (with_ends group))
 groups_of_held [] held = record { groups = []; are = refl; same = refl }
@@ -308,26 +308,26 @@ nothing_past_one (x ∷ group) more line is some longer =
     longer (nothing_after group more none)
 
 -- no next group is longer than another
-not_longer : (group more longer after behind : List (List ℕ)) → IsNextGroup group after → IsNextGroup longer behind → group ++ more ≡ longer → after ≡ more ++ behind → (more ≡ [] → ⊥) → ⊥
-not_longer group more longer after behind (inl short) (inl long) is rest some =
+not_longer : (group more longer after after' : List (List ℕ)) → IsNextGroup group after → IsNextGroup longer after' → group ++ more ≡ longer → after ≡ more ++ after' → (more ≡ [] → ⊥) → ⊥
+not_longer group more longer after after' (inl short) (inl long) is rest some =
     long.least group more is short.some some (subst (EndsGroup group) rest short.ends)
-not_longer group more longer after behind (inr short) (inl long) is rest some =
+not_longer group more longer after after' (inr short) (inl long) is rest some =
     short.2 (first_is_text group more longer short.0 short.1 is long.texts)
-not_longer group more longer after behind next (inr long) is rest some =
+not_longer group more longer after after' next (inr long) is rest some =
     nothing_past_one group more long.0 (is ∙ long.1) (some_lines group after next) some
 
-none_longer : (group more longer after behind : List (List ℕ)) → IsNextGroup group after → IsNextGroup longer behind → group ++ more ≡ longer → after ≡ more ++ behind → more ≡ []
-none_longer group [] longer after behind short long is rest = refl
-none_longer group (x ∷ more) longer after behind short long is rest =
-    absurd (not_longer group (x ∷ more) longer after behind short long is rest (λ none. cc))
+none_longer : (group more longer after after' : List (List ℕ)) → IsNextGroup group after → IsNextGroup longer after' → group ++ more ≡ longer → after ≡ more ++ after' → more ≡ []
+none_longer group [] longer after after' short long is rest = refl
+none_longer group (x ∷ more) longer after after' short long is rest =
+    absurd (not_longer group (x ∷ more) longer after after' short long is rest (λ none. cc))
 
-same_next : (group after other behind : List (List ℕ)) → IsNextGroup group after → IsNextGroup other behind → group ++ after ≡ other ++ behind → (group ≡ other) × (after ≡ behind)
-same_next group after other behind next next' is = elim (compare_fronts group after other behind is) [
+same_next : (group after other after' : List (List ℕ)) → IsNextGroup group after → IsNextGroup other after' → group ++ after ≡ other ++ after' → (group ≡ other) × (after ≡ after')
+same_next group after other after' next next' is = elim (compare_fronts group after other after' is) [
   | inl longer ↦
-      let none : longer.0 ≡ [] = none_longer group longer.0 other after behind next next' longer.1 longer.2 in
-      (sym (ap (λ (ls : List (List ℕ)). group ++ ls) none ∙ append-nil group) ∙ longer.1, longer.2 ∙ ap (λ (ls : List (List ℕ)). ls ++ behind) none)
+      let none : longer.0 ≡ [] = none_longer group longer.0 other after after' next next' longer.1 longer.2 in
+      (sym (ap (λ (ls : List (List ℕ)). group ++ ls) none ∙ append-nil group) ∙ longer.1, longer.2 ∙ ap (λ (ls : List (List ℕ)). ls ++ after') none)
   | inr longer ↦
-      let none : longer.0 ≡ [] = none_longer other longer.0 group behind after next' next longer.1 longer.2 in
+      let none : longer.0 ≡ [] = none_longer other longer.0 group after' after next' next longer.1 longer.2 in
       (sym (sym (ap (λ (ls : List (List ℕ)). other ++ ls) none ∙ append-nil other) ∙ longer.1), sym (longer.2 ∙ ap (λ (ls : List (List ℕ)). ls ++ after) none))
 ]
 

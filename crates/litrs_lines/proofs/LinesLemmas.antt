@@ -26,18 +26,18 @@ use Rattle.litrs_lines.specs.Lines.{is_line_feed, HasNoLineFeed, before_last_par
 -- the first part of a split, and those after it
 record Parts (parts : List (List ℕ)) : Type 0 where
   first : List ℕ
-  behind : List (List ℕ)
-  is : parts ≡ first ∷ behind
+  after : List (List ℕ)
+  is : parts ≡ first ∷ after
 
 onto_first-parts : (b : ℕ) (parts : List (List ℕ)) → Parts parts → Parts (onto_first b parts)
-onto_first-parts b parts some = record { first = b ∷ some.first; behind = some.behind; is = ap (onto_first b) some.is }
+onto_first-parts b parts some = record { first = b ∷ some.first; after = some.after; is = ap (onto_first b) some.is }
 
 split_parts : (bytes : List ℕ) → Parts (slice_split is_line_feed bytes)
-split_parts [] = record { first = []; behind = []; is = refl }
+split_parts [] = record { first = []; after = []; is = refl }
 split_parts (b ∷ bs) = split_cons b bs (is_line_feed b) refl (split_parts bs)
   where
     split_cons : (b : ℕ) (bs : List ℕ) (test : Bool) → is_line_feed b ≡ test → Parts (slice_split is_line_feed bs) → Parts (slice_split is_line_feed (b ∷ bs))
-    split_cons b bs true is some = record { first = []; behind = slice_split is_line_feed bs; is = slice_split-cons_yes is_line_feed b bs is }
+    split_cons b bs true is some = record { first = []; after = slice_split is_line_feed bs; is = slice_split-cons_yes is_line_feed b bs is }
     split_cons b bs false is some = subst Parts (sym (slice_split-cons_no is_line_feed b bs is)) (onto_first-parts b _ some)
 
 -- ---- a list that is split after an LF
@@ -54,41 +54,41 @@ onto_first-append : (b : ℕ) (parts more : List (List ℕ)) → Parts parts →
 onto_first-append b [] more some = cc (some.is)
 onto_first-append b (part ∷ parts) more some = refl
 
-slice_split-line_feed_cons : (b : ℕ) (bs behind : List ℕ) (test : Bool) → is_line_feed b ≡ test
-    → slice_split is_line_feed (bs ++ 10 ∷ behind) ≡ slice_split is_line_feed bs ++ slice_split is_line_feed behind
-    → slice_split is_line_feed (b ∷ (bs ++ 10 ∷ behind)) ≡ slice_split is_line_feed (b ∷ bs) ++ slice_split is_line_feed behind
-slice_split-line_feed_cons b bs behind true is same =
-    slice_split-cons_yes is_line_feed b (bs ++ 10 ∷ behind) is ∙ ap (λ ps. [] ∷ ps) same
-    ∙ ap (λ ps. ps ++ slice_split is_line_feed behind) (sym (slice_split-cons_yes is_line_feed b bs is))
-slice_split-line_feed_cons b bs behind false is same =
-    slice_split-cons_no is_line_feed b (bs ++ 10 ∷ behind) is ∙ ap (onto_first b) same
+slice_split-line_feed_cons : (b : ℕ) (bs after : List ℕ) (test : Bool) → is_line_feed b ≡ test
+    → slice_split is_line_feed (bs ++ 10 ∷ after) ≡ slice_split is_line_feed bs ++ slice_split is_line_feed after
+    → slice_split is_line_feed (b ∷ (bs ++ 10 ∷ after)) ≡ slice_split is_line_feed (b ∷ bs) ++ slice_split is_line_feed after
+slice_split-line_feed_cons b bs after true is same =
+    slice_split-cons_yes is_line_feed b (bs ++ 10 ∷ after) is ∙ ap (λ ps. [] ∷ ps) same
+    ∙ ap (λ ps. ps ++ slice_split is_line_feed after) (sym (slice_split-cons_yes is_line_feed b bs is))
+slice_split-line_feed_cons b bs after false is same =
+    slice_split-cons_no is_line_feed b (bs ++ 10 ∷ after) is ∙ ap (onto_first b) same
     ∙ onto_first-append b _ _ (split_parts bs)
-    ∙ ap (λ ps. ps ++ slice_split is_line_feed behind) (sym (slice_split-cons_no is_line_feed b bs is))
+    ∙ ap (λ ps. ps ++ slice_split is_line_feed after) (sym (slice_split-cons_no is_line_feed b bs is))
 
 -- an LF ends the parts before it
-slice_split-line_feed : (front behind : List ℕ) → slice_split is_line_feed (front ++ 10 ∷ behind) ≡ slice_split is_line_feed front ++ slice_split is_line_feed behind
-slice_split-line_feed [] behind = refl
-slice_split-line_feed (b ∷ bs) behind = slice_split-line_feed_cons b bs behind (is_line_feed b) refl (slice_split-line_feed bs behind)
+slice_split-line_feed : (front after : List ℕ) → slice_split is_line_feed (front ++ 10 ∷ after) ≡ slice_split is_line_feed front ++ slice_split is_line_feed after
+slice_split-line_feed [] after = refl
+slice_split-line_feed (b ∷ bs) after = slice_split-line_feed_cons b bs after (is_line_feed b) refl (slice_split-line_feed bs after)
 
-ended_parts_of-line_feed : (front behind : List ℕ) → ended_parts_of (front ++ 10 ∷ behind) ≡ slice_split is_line_feed front ++ ended_parts_of behind
+ended_parts_of-line_feed : (front after : List ℕ) → ended_parts_of (front ++ 10 ∷ after) ≡ slice_split is_line_feed front ++ ended_parts_of after
 unfolding ended_parts_of
-ended_parts_of-line_feed front behind =
-    let f = split_parts front in let b = split_parts behind in
-    ap ended_parts (slice_split-line_feed front behind)
-    ∙ ap (λ ps. ended_parts (ps ++ slice_split is_line_feed behind)) f.is
-    ∙ ap (λ ps. ended_parts ((f.first ∷ f.behind) ++ ps)) b.is
-    ∙ before_last_part-append f.first f.behind b.first b.behind
-    ∙ ap (λ ps. (f.first ∷ f.behind) ++ ended_parts ps) (sym b.is)
-    ∙ ap (λ ps. ps ++ ended_parts (slice_split is_line_feed behind)) (sym f.is)
+ended_parts_of-line_feed front after =
+    let f = split_parts front in let b = split_parts after in
+    ap ended_parts (slice_split-line_feed front after)
+    ∙ ap (λ ps. ended_parts (ps ++ slice_split is_line_feed after)) f.is
+    ∙ ap (λ ps. ended_parts ((f.first ∷ f.after) ++ ps)) b.is
+    ∙ before_last_part-append f.first f.after b.first b.after
+    ∙ ap (λ ps. (f.first ∷ f.after) ++ ended_parts ps) (sym b.is)
+    ∙ ap (λ ps. ps ++ ended_parts (slice_split is_line_feed after)) (sym f.is)
 
-open_line-line_feed : (front behind : List ℕ) → open_line (front ++ 10 ∷ behind) ≡ open_line behind
+open_line-line_feed : (front after : List ℕ) → open_line (front ++ 10 ∷ after) ≡ open_line after
 unfolding open_line
-open_line-line_feed front behind =
-    let f = split_parts front in let b = split_parts behind in
-    ap open_part (slice_split-line_feed front behind)
-    ∙ ap (λ ps. open_part (ps ++ slice_split is_line_feed behind)) f.is
-    ∙ ap (λ ps. open_part ((f.first ∷ f.behind) ++ ps)) b.is
-    ∙ last_part-append f.first f.behind b.first b.behind
+open_line-line_feed front after =
+    let f = split_parts front in let b = split_parts after in
+    ap open_part (slice_split-line_feed front after)
+    ∙ ap (λ ps. open_part (ps ++ slice_split is_line_feed after)) f.is
+    ∙ ap (λ ps. open_part ((f.first ∷ f.after) ++ ps)) b.is
+    ∙ last_part-append f.first f.after b.first b.after
     ∙ ap open_part (sym b.is)
 
 -- ---- a line that goes on
@@ -110,44 +110,44 @@ EndsNoLine b = is_line_feed b ≡ false
 -- the bytes up to the last LF, and those after it
 record Cut (bytes : List ℕ) : Type 0 where
   front : List ℕ
-  behind : List ℕ
-  is : bytes ≡ front ++ 10 ∷ behind
-  none : HasNoLineFeed behind
+  after : List ℕ
+  is : bytes ≡ front ++ 10 ∷ after
+  none : HasNoLineFeed after
 
 cut_at_byte : (b : ℕ) (bs : List ℕ) (test : Bool) → is_line_feed b ≡ test → HasNoLineFeed bs → HasNoLineFeed (b ∷ bs) ⊎ Cut (b ∷ bs)
-cut_at_byte b bs true is none = inr (record { front = []; behind = bs; is = ap (λ x. x ∷ bs) (eqb-true b 10 is); none = none })
+cut_at_byte b bs true is none = inr (record { front = []; after = bs; is = ap (λ x. x ∷ bs) (eqb-true b 10 is); none = none })
 cut_at_byte b bs false is none = inl (All-cons EndsNoLine b bs is none)
 
 cut_bytes : (bytes : List ℕ) → HasNoLineFeed bytes ⊎ Cut bytes
 cut_bytes [] = inl (All-nil EndsNoLine)
 cut_bytes (b ∷ bs) = elim (cut_bytes bs) [
   | inl none ↦ cut_at_byte b bs (is_line_feed b) refl none
-  | inr cut ↦ inr (record { front = b ∷ cut.front; behind = cut.behind; is = ap (λ xs. b ∷ xs) cut.is; none = cut.none })
+  | inr cut ↦ inr (record { front = b ∷ cut.front; after = cut.after; is = ap (λ xs. b ∷ xs) cut.is; none = cut.none })
 ]
 
 pub open_line-append : (bytes more : List ℕ) → open_line (bytes ++ more) ≡ open_line (open_line bytes ++ more)
 open_line-append bytes more = elim (cut_bytes bytes) [
   | inl none ↦ ap (λ line. open_line (line ++ more)) (sym (open_line-none bytes none))
   | inr cut ↦
-      ap (λ xs. open_line (xs ++ more)) cut.is ∙ ap open_line (append_assoc cut.front (10 ∷ cut.behind) more) ∙ open_line-line_feed cut.front (cut.behind ++ more)
-      ∙ ap (λ line. open_line (line ++ more)) (sym (ap open_line cut.is ∙ open_line-line_feed cut.front cut.behind ∙ open_line-none cut.behind cut.none))
+      ap (λ xs. open_line (xs ++ more)) cut.is ∙ ap open_line (append_assoc cut.front (10 ∷ cut.after) more) ∙ open_line-line_feed cut.front (cut.after ++ more)
+      ∙ ap (λ line. open_line (line ++ more)) (sym (ap open_line cut.is ∙ open_line-line_feed cut.front cut.after ∙ open_line-none cut.after cut.none))
 ]
 
 pub ended_parts_of-append : (bytes more : List ℕ) → ended_parts_of (bytes ++ more) ≡ ended_parts_of bytes ++ ended_parts_of (open_line bytes ++ more)
 ended_parts_of-append bytes more = elim (cut_bytes bytes) [
   | inl none ↦ ap (λ line. ended_parts_of (line ++ more)) (sym (open_line-none bytes none)) ∙ ap (λ ls. ls ++ ended_parts_of (open_line bytes ++ more)) (sym (ended_parts_of-none bytes none))
   | inr cut ↦
-      let line : open_line bytes ≡ cut.behind = ap open_line cut.is ∙ open_line-line_feed cut.front cut.behind ∙ open_line-none cut.behind cut.none in
+      let line : open_line bytes ≡ cut.after = ap open_line cut.is ∙ open_line-line_feed cut.front cut.after ∙ open_line-none cut.after cut.none in
       let ended : ended_parts_of bytes ≡ slice_split is_line_feed cut.front =
-      ap ended_parts_of cut.is ∙ ended_parts_of-line_feed cut.front cut.behind ∙ ap (λ ls. slice_split is_line_feed cut.front ++ ls) (ended_parts_of-none cut.behind cut.none) ∙ append-nil _ in
-      ap (λ xs. ended_parts_of (xs ++ more)) cut.is ∙ ap ended_parts_of (append_assoc cut.front (10 ∷ cut.behind) more) ∙ ended_parts_of-line_feed cut.front (cut.behind ++ more)
+      ap ended_parts_of cut.is ∙ ended_parts_of-line_feed cut.front cut.after ∙ ap (λ ls. slice_split is_line_feed cut.front ++ ls) (ended_parts_of-none cut.after cut.none) ∙ append-nil _ in
+      ap (λ xs. ended_parts_of (xs ++ more)) cut.is ∙ ap ended_parts_of (append_assoc cut.front (10 ∷ cut.after) more) ∙ ended_parts_of-line_feed cut.front (cut.after ++ more)
       ∙ ap (λ xs. slice_split is_line_feed cut.front ++ ended_parts_of (xs ++ more)) (sym line) ∙ ap (λ ls. ls ++ ended_parts_of (open_line bytes ++ more)) (sym ended)
 ]
 
 pub open_line-has_no_line_feed : (bytes : List ℕ) → HasNoLineFeed (open_line bytes)
 open_line-has_no_line_feed bytes = elim (cut_bytes bytes) [
   | inl none ↦ subst HasNoLineFeed (sym (open_line-none bytes none)) none
-  | inr cut ↦ subst HasNoLineFeed (sym (ap open_line cut.is ∙ open_line-line_feed cut.front cut.behind ∙ open_line-none cut.behind cut.none)) cut.none
+  | inr cut ↦ subst HasNoLineFeed (sym (ap open_line cut.is ∙ open_line-line_feed cut.front cut.after ∙ open_line-none cut.after cut.none)) cut.none
 ]
 
 -- ---- lines, each a part without one CR at its end
@@ -238,15 +238,15 @@ steps_on held all between left a b c old front new line rest line' end unended a
     let whole : List ℕ = without_return (line ++ take end rest) in
     let rest' = take (length rest - (end + 1)) (drop (end + 1) rest) in
     let empty : line' ++ rest' ≡ drop (end + 1) rest = ap (λ xs. xs ++ rest') none ∙ take_rest rest (end + 1) in
-    let behind : List (List ℕ) = ended_lines (drop (end + 1) rest) in
-    let after : behind ≡ ended_lines (line' ++ rest') = ap ended_lines (sym empty) in
+    let after : List (List ℕ) = ended_lines (drop (end + 1) rest) in
+    let same : after ≡ ended_lines (line' ++ rest') = ap ended_lines (sym empty) in
     record {
       unended = subst HasNoLineFeed (sym none) (All-nil EndsNoLine);
       leaves = step.leaves ∙ ap open_line (sym empty);
       takes = record {
         lines = so_far.lines ++ whole ∷ [];
         is = so_far.is ∙ ap (λ (ls : List (List ℕ)). so_far.lines ++ ls) step.lines
-            ∙ sym (append_assoc so_far.lines (whole ∷ []) behind) ∙ ap (λ (ls : List (List ℕ)). (so_far.lines ++ whole ∷ []) ++ ls) after;
+            ∙ sym (append_assoc so_far.lines (whole ∷ []) after) ∙ ap (λ (ls : List (List ℕ)). (so_far.lines ++ whole ∷ []) ++ ls) same;
         adds = adds-append held so_far.lines (whole ∷ []) between left a b c old front new so_far.adds more;
       };
     }
@@ -257,10 +257,10 @@ pub stops_on : (held : List ℕ) (all : List (List ℕ)) (between : List ℕ) (a
 stops_on held all between a b c old front line rest end unended at so_far part =
     let step = ends_line line rest end unended (sym at) in
     let whole : List ℕ = without_return (line ++ take end rest) in
-    let behind : List (List ℕ) = ended_lines (drop (end + 1) rest) in
-    let is : all ≡ (so_far.lines ++ whole ∷ []) ++ behind =
-    so_far.is ∙ ap (λ (ls : List (List ℕ)). so_far.lines ++ ls) step.lines ∙ sym (append_assoc so_far.lines (whole ∷ []) behind) in
-    subst (λ (ls : List (List ℕ)). Stops held ls a old c) (sym is) (stops-append held so_far.lines (whole ∷ []) behind between a b c old front so_far.adds part)
+    let after : List (List ℕ) = ended_lines (drop (end + 1) rest) in
+    let is : all ≡ (so_far.lines ++ whole ∷ []) ++ after =
+    so_far.is ∙ ap (λ (ls : List (List ℕ)). so_far.lines ++ ls) step.lines ∙ sym (append_assoc so_far.lines (whole ∷ []) after) in
+    subst (λ (ls : List (List ℕ)). Stops held ls a old c) (sym is) (stops-append held so_far.lines (whole ∷ []) after between a b c old front so_far.adds part)
 
 -- where none is left all were taken
 pub takes_all : (held : List ℕ) (all rest : List (List ℕ)) (left : List ℕ) (a : Option (List ℕ)) (old : List ℕ) (b : Option (List ℕ)) (new : List ℕ) → TakesOn held all rest left a old b new → rest ≡ [] → Adds held all left a old b new

@@ -63,7 +63,7 @@ impl Input for MemInput<'_> {
         ensures piece { piece_of self.new ≡ piece_of self.old }
 
         // What of the buffer stays.
-        ensures behind { IfOk result (λ count. drop count buffer.new ≡ drop count buffer.old) }
+        ensures after { IfOk result (λ count. drop count buffer.new ≡ drop count buffer.old) }
         ensures kept { OnErr result (buffer.new ≡ buffer.old) }
     {
         if self.calls.make().is_err() {

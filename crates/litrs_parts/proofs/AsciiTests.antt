@@ -9,7 +9,7 @@ use Rattle.std.proofs.lemmas.List.Folds.{list_any-append}
 use Rattle.std.proofs.lemmas.List.Recursion.{or_from_places}
 use Rattle.std.proofs.lemmas.Str.{inside_one, encodes-chars, encode_ascii}
 use Rattle.litrs_base.specs.Text.{first_passes}
-use Rattle.litrs_base.proofs.Chars.{OnlyAscii, IsAsciiFront, front_zero, front_suc, utf8_behind_ascii, ascii_from_test, first_passes-chars}
+use Rattle.litrs_base.proofs.Chars.{OnlyAscii, IsAsciiFront, front_zero, front_suc, utf8_after_ascii, ascii_from_test, first_passes-chars}
 
 pub only_char : (k : ℕ) → k < 128 → OnlyAscii (λ c. c == k)
 only_char k low c high = ne_eqb c k (λ e. omega arith)
@@ -44,7 +44,7 @@ ascii_front p [] (suc n) only u within all = absurd (omega arith)
 ascii_front p (b ∷ bs) (suc n) only u within all =
     let both = and_parts (p b) (list_all p (take n bs)) all in
     let low = ascii_from_test p b only both.0 in
-    front_suc b bs n low (ascii_front p bs n only (utf8_behind_ascii b bs low u) (omega arith) both.1)
+    front_suc b bs n low (ascii_front p bs n only (utf8_after_ascii b bs low u) (omega arith) both.1)
 
 pub first_next : (p : ℕ → Bool) (ys : List ℕ) (c : ℕ) (t : List ℕ) → OnlyAscii p → IsUtf8 ys → chars ys ≡ c ∷ t → p c ≡ first_passes p ys
 first_next p ys c t only u is = sym (ap (first_passes p) is) ∙ first_passes-chars p ys only u

@@ -18,7 +18,7 @@ use Rattle.litrs_base.specs.Text.{byte_len, first_passes, is_empty, begins_with}
 use Rattle.litrs_base.proofs.Begins.{begins_with-split, begins_with-append}
 use Rattle.litrs_base.proofs.ByteLen.{byte_len_one_ascii}
 use Rattle.litrs_base.proofs.CharEnds.{char_span_moved, moves_within, no_span}
-use Rattle.litrs_base.proofs.Chars.{OnlyAscii, begins_with-chars, chars_ascii, chars_wide, utf8_behind_ascii, first_passes-chars}
+use Rattle.litrs_base.proofs.Chars.{OnlyAscii, begins_with-chars, chars_ascii, chars_wide, utf8_after_ascii, first_passes-chars}
 use Rattle.litrs_base.proofs.ListTests.{if_true, if_false}
 use Rattle.litrs_base.proofs.Spans.{byte_len-append}
 use Rattle.litrs_grammar.specs.Escape.{Switches, Escape, simple_escape, hex_escape, unicode_escape, is_escape, is_simple, escape_text, escape_value, escape_refusal}
@@ -33,7 +33,7 @@ use Rattle.litrs_grammar.proofs.Spans.CharByte.{char_spans_lie_in_text}
 use Rattle.litrs_grammar.proofs.Laws.Escape.{by_simple, refusal_escape}
 use Rattle.litrs_grammar.proofs.QuotedItems.{escape_head}
 use Rattle.litrs_grammar.proofs.Refused.{is_refused}
-use Rattle.litrs_parts.specs.CharCut.{escape_written, item_written, char_parts_at, kind_if, unwraps_as, IsItemRead, IsItemRefused, IsCutBehind}
+use Rattle.litrs_parts.specs.CharCut.{escape_written, item_written, char_parts_at, kind_if, unwraps_as, IsItemRead, IsItemRefused, IsCutAfter}
 use Rattle.litrs_parts.specs.Unescaped.{switches, IsUnescaped, IsEscapeRefused}
 use Rattle.litrs_parts.proofs.Dispatch.{is_empty-chars}
 use Rattle.litrs_parts.proofs.CharCuts.{cut_at}
@@ -73,8 +73,8 @@ none_first bs seen same is = empty bs (is ∙ ap (λ l. slice_get l 0) same)
 front_chars : (bs : List ℕ) (b : ℕ) → b < 128 → bs ≡ b ∷ drop 1 bs → chars bs ≡ b ∷ chars (drop 1 bs)
 front_chars bs b low is = ap chars is ∙ chars_ascii b (drop 1 bs) low
 
-behind_utf8 : (bs : List ℕ) (b : ℕ) → b < 128 → IsUtf8 bs → bs ≡ b ∷ drop 1 bs → IsUtf8 (drop 1 bs)
-behind_utf8 bs b low u is = utf8_behind_ascii b (drop 1 bs) low (subst (λ (l : List ℕ). IsUtf8 l) is u)
+after_utf8 : (bs : List ℕ) (b : ℕ) → b < 128 → IsUtf8 bs → bs ≡ b ∷ drop 1 bs → IsUtf8 (drop 1 bs)
+after_utf8 bs b low u is = utf8_after_ascii b (drop 1 bs) low (subst (λ (l : List ℕ). IsUtf8 l) is u)
 
 quote_only : OnlyAscii (λ c. c == 39)
 quote_only = only_char 39 (omega arith)
@@ -84,7 +84,7 @@ quote_first : (kind : CharKind) (bs : List ℕ) → IsUtf8 bs → bs ≡ 39 ∷ 
     char_item_refusal kind (chars bs) ≡ Some (at 0 UnescapedSingleQuote)
 quote_first kind bs u is quote =
     ap (char_item_refusal kind) (front_chars bs 39 (omega arith) is)
-    ∙ if_true _ _ _ (first_passes-chars (λ c. c == 39) (drop 1 bs) quote_only (behind_utf8 bs 39 (omega arith) u is) ∙ quote)
+    ∙ if_true _ _ _ (first_passes-chars (λ c. c == 39) (drop 1 bs) quote_only (after_utf8 bs 39 (omega arith) u is) ∙ quote)
 
 pub quote_row : (kind : CharKind) (bs : List ℕ) → IsUtf8 bs → begins_with (39 ∷ []) bs ≡ true → first_passes (λ c. c == 39) (drop 1 bs) ≡ true →
     char_item_refusal kind (chars bs) ≡ Some (at 0 UnescapedSingleQuote)
@@ -95,7 +95,7 @@ pub empty_row : (kind : CharKind) (bs : List ℕ) → IsUtf8 bs → begins_with 
 empty_row kind bs u begins quote =
     let is = front_byte bs 39 begins in
     ap (char_item_refusal kind) (front_chars bs 39 (omega arith) is)
-    ∙ if_false _ _ _ (first_passes-chars (λ c. c == 39) (drop 1 bs) quote_only (behind_utf8 bs 39 (omega arith) u is) ∙ quote)
+    ∙ if_false _ _ _ (first_passes-chars (λ c. c == 39) (drop 1 bs) quote_only (after_utf8 bs 39 (omega arith) u is) ∙ quote)
 
 -- an escape
 pub same_switches : (is_byte : Bool) → switches (not is_byte) is_byte true ≡ char_switches_of (kind_if is_byte)
@@ -241,7 +241,7 @@ item_then kind (escaped_char e) rest h = escaped (escape_head e rest)
         let w = char_switches_of kind in
         let none : escape_refusal w (92 ∷ c ∷ r) ≡ None = subst (λ (l : List ℕ). escape_refusal w l ≡ None) head (refusal_escape w e rest h) in
         let size : escape_length (92 ∷ c ∷ r) ≡ length (escape_text e) = subst (λ (l : List ℕ). escape_length l ≡ length (escape_text e)) head (escape_length_is w e rest h) in
-        let behind : drop (length (escape_text e)) (92 ∷ c ∷ r) ≡ rest =
+        let after : drop (length (escape_text e)) (92 ∷ c ∷ r) ≡ rest =
         subst (λ (l : List ℕ). drop (length (escape_text e)) l ≡ rest) head (drop_at (escape_text e) rest (length (escape_text e)) refl) in
         let before : take (length (escape_text e)) (92 ∷ c ∷ r) ≡ escape_text e =
         subst (λ (l : List ℕ). take (length (escape_text e)) l ≡ escape_text e) head (take_at (escape_text e) rest (length (escape_text e)) refl) in
@@ -249,22 +249,22 @@ item_then kind (escaped_char e) rest h = escaped (escape_head e rest)
         ∙ (if_false _ _ _ (ap is_some none)
         ∙ (if_false _ _ _ (ap not (backslash_allowed kind))
         ∙ (ap (λ n. closing_refusal kind (byte_len (take n (92 ∷ c ∷ r))) (drop n (92 ∷ c ∷ r))) size
-        ∙ (ap (λ l. closing_refusal kind (byte_len l) (drop (length (escape_text e)) (92 ∷ c ∷ r))) before ∙ ap (closing_refusal kind (byte_len (escape_text e))) behind))))
+        ∙ (ap (λ l. closing_refusal kind (byte_len l) (drop (length (escape_text e)) (92 ∷ c ∷ r))) before ∙ ap (closing_refusal kind (byte_len (escape_text e))) after))))
 
-pub behind_item : (kind : CharKind) (bs : List ℕ) (value : Unescape) (len : ℕ) → IsUtf8 bs → IsItemRead kind bs value len →
+pub after_item : (kind : CharKind) (bs : List ℕ) (value : Unescape) (len : ℕ) → IsUtf8 bs → IsItemRead kind bs value len →
     char_item_refusal kind (chars bs) ≡ closing_refusal kind len (chars (drop len bs))
-behind_item kind bs value len u r =
+after_item kind bs value len u r =
     let cut = cut_at bs (char_item_text r.item) r.rest u (sym r.spells) in
     let rest : chars (drop len bs) ≡ r.rest = subst (λ (n : ℕ). chars (drop n bs) ≡ r.rest) r.size cut.rest in
     ap (char_item_refusal kind) (sym r.spells) ∙ (item_then kind r.item r.rest r.grammar ∙ (ap (λ n. closing_refusal kind n r.rest) r.size ∙ ap (closing_refusal kind len) (sym rest)))
 
 pub closing_refused : (kind : CharKind) (bs : List ℕ) (value : Unescape) (len : ℕ) (e : ParseError) → IsUtf8 bs → IsItemRead kind bs value len →
     closing_refusal kind len (chars (drop len bs)) ≡ Some (refusal_of e) → HasCharSpan (chars bs) e → IsItemRefused kind (chars bs) e
-closing_refused kind bs value len e u r table ends = record { table = behind_item kind bs value len u r ∙ table; char_span = ends }
+closing_refused kind bs value len e u r table ends = record { table = after_item kind bs value len u r ∙ table; char_span = ends }
 
-pub closed_behind : (kind : CharKind) (bs : List ℕ) (value : Unescape) (len start : ℕ) → IsUtf8 bs → IsItemRead kind bs value len →
-    closing_refusal kind len (chars (drop len bs)) ≡ None → start ≡ len + 1 → IsCutBehind kind bs value start
-closed_behind kind bs value len start u r none is_start =
+pub closed_after : (kind : CharKind) (bs : List ℕ) (value : Unescape) (len start : ℕ) → IsUtf8 bs → IsItemRead kind bs value len →
+    closing_refusal kind len (chars (drop len bs)) ≡ None → start ≡ len + 1 → IsCutAfter kind bs value start
+closed_after kind bs value len start u r none is_start =
     let cut = cut_at bs (char_item_text r.item) r.rest u (sym r.spells) in
     let rest : chars (drop len bs) ≡ r.rest = subst (λ (n : ℕ). chars (drop n bs) ≡ r.rest) r.size cut.rest in
     let closes = closing_read kind len (chars (drop len bs)) none in
@@ -321,12 +321,12 @@ pub record IsFronted (kind : CharKind) (bs rest : List ℕ) : Type 0 where
 pub fronted : (kind : CharKind) (bs : List ℕ) → IsUtf8 bs → begins_with (char_front kind) bs ≡ true → IsFronted kind bs (drop (length (char_front kind)) bs)
 fronted char_kind bs u begins =
     let is = front_byte bs 39 begins in
-    record { characters = front_chars bs 39 (omega arith) is; utf8 = behind_utf8 bs 39 (omega arith) u is; is_rest = refl }
+    record { characters = front_chars bs 39 (omega arith) is; utf8 = after_utf8 bs 39 (omega arith) u is; is_rest = refl }
 fronted byte_kind bs u begins =
     let is : bs ≡ 98 ∷ 39 ∷ drop 2 bs = sym (begins_with-split (98 ∷ 39 ∷ []) bs begins) in
     record {
       characters = ap chars is ∙ (chars_ascii 98 (39 ∷ drop 2 bs) (omega arith) ∙ ap (λ l. 98 ∷ l) (chars_ascii 39 (drop 2 bs) (omega arith)));
-      utf8 = utf8_behind_ascii 39 (drop 2 bs) (omega arith) (utf8_behind_ascii 98 (39 ∷ drop 2 bs) (omega arith) (subst (λ (l : List ℕ). IsUtf8 l) is u));
+      utf8 = utf8_after_ascii 39 (drop 2 bs) (omega arith) (utf8_after_ascii 98 (39 ∷ drop 2 bs) (omega arith) (subst (λ (l : List ℕ). IsUtf8 l) is u));
       is_rest = refl;
     }
 
@@ -336,9 +336,9 @@ pub front_row : (kind : CharKind) (bs rest : List ℕ) (r : Refusal) → IsFront
 unfolding char_kind_refusal
 front_row kind bs rest r f table =
     let begins : begins_with (char_front kind) (chars bs) ≡ true = ap (begins_with (char_front kind)) f.characters ∙ begins_with-append (char_front kind) (chars rest) in
-    let behind : drop (length (char_front kind)) (chars bs) ≡ chars rest =
+    let after : drop (length (char_front kind)) (chars bs) ≡ chars rest =
     ap (drop (length (char_front kind))) f.characters ∙ drop_at (char_front kind) (chars rest) (length (char_front kind)) refl in
-    if_true _ _ _ begins ∙ ap (option_map (moved (length (char_front kind)))) (ap (char_item_refusal kind) behind ∙ table)
+    if_true _ _ _ begins ∙ ap (option_map (moved (length (char_front kind)))) (ap (char_item_refusal kind) after ∙ table)
 
 -- an error after a front may be moved
 pub moves : (kind : CharKind) (bs rest : List ℕ) (e : ParseError) → IsUtf8 bs → IsFronted kind bs rest → IsItemRefused kind (chars rest) e → length bs < 2 ^ 64 →
@@ -406,7 +406,7 @@ pub record IsCharRead (kind : CharKind) (bs : List ℕ) (value start : ℕ) : Ty
   pub is_value : char_value (char_parts_at kind start bs).item ≡ value
   pub place : IsCharBoundary bs start
 
-pub char_read : (kind : CharKind) (bs rest : List ℕ) (value : Unescape) (start : ℕ) → IsUtf8 bs → IsFronted kind bs rest → IsCutBehind kind rest value start →
+pub char_read : (kind : CharKind) (bs rest : List ℕ) (value : Unescape) (start : ℕ) → IsUtf8 bs → IsFronted kind bs rest → IsCutAfter kind rest value start →
     IsCharRead kind bs (unescaped_number value) (length (char_front kind) + start)
 char_read kind bs rest value start u f r =
     let place = length (char_front kind) in
@@ -464,7 +464,7 @@ pub one_size : (c n : ℕ) → n ≡ len_utf8 c → n ≡ byte_len (c ∷ [])
 one_size c n is = is ∙ (sym (length-encode c) ∙ sym (ap length (append-nil (encode_utf8 c))))
 
 -- where the suffix starts lies within the text
-pub start_within : (kind : CharKind) (bs : List ℕ) (value : Unescape) (start : ℕ) → IsUtf8 bs → IsCutBehind kind bs value start → start ≤ length bs
+pub start_within : (kind : CharKind) (bs : List ℕ) (value : Unescape) (start : ℕ) → IsUtf8 bs → IsCutAfter kind bs value start → start ≤ length bs
 start_within kind bs value start u r =
     let text = char_item_text r.item in
     let all : byte_len (text ++ 39 ∷ r.suffix) ≡ length bs = ap byte_len r.spells ∙ ap length (encodes-chars bs u) in

@@ -17,7 +17,7 @@ use Rattle.litrs_base.specs.Text.{byte_len, first_passes, is_empty, begins_with}
 use Rattle.litrs_base.proofs.Begins.{begins_with-split}
 use Rattle.litrs_base.proofs.ByteLen.{byte_len_one_ascii}
 use Rattle.litrs_base.proofs.CharEnds.{char_span_points}
-use Rattle.litrs_base.proofs.Chars.{chars_ascii, chars_wide, chars_empty, utf8_behind_ascii, first_passes-chars}
+use Rattle.litrs_base.proofs.Chars.{chars_ascii, chars_wide, chars_empty, utf8_after_ascii, first_passes-chars}
 use Rattle.litrs_base.proofs.ListTests.{if_true, if_false}
 use Rattle.litrs_grammar.specs.Escape.{Switches, Escape, simple_escape, hex_escape, unicode_escape, is_escape, escape_text, escape_value, escape_refusal, is_simple, simple_value, allows_value}
 use Rattle.litrs_grammar.specs.Laws.Escape.{BeginsWithEscape}
@@ -42,7 +42,7 @@ unescaped w bytes e rest value len u spells grammar is_value size =
       size = size;
       within = subst (λ (n : ℕ). n ≤ length bytes) size cut.within;
       boundary = subst (λ (n : ℕ). IsCharBoundary bytes n) size cut.boundary;
-      behind = subst (λ (n : ℕ). chars (drop n bytes) ≡ rest) size cut.rest;
+      after = subst (λ (n : ℕ). chars (drop n bytes) ≡ rest) size cut.rest;
       utf8 = subst (λ (n : ℕ). IsUtf8 (drop n bytes)) size cut.utf8;
     }
 
@@ -118,7 +118,7 @@ pub begins_letter : (bs : List ℕ) (b : ℕ) → bs ≡ 92 ∷ b ∷ drop 2 bs 
 begins_letter bs b is = subst (λ (l : List ℕ). begins_with (92 ∷ b ∷ []) l ≡ true) (sym is) (rw (eq-eqb b b refl) refl)
 
 pub utf8_at : (bs : List ℕ) (b : ℕ) → b < 128 → IsUtf8 bs → bs ≡ 92 ∷ b ∷ drop 2 bs → IsUtf8 (drop 2 bs)
-utf8_at bs b low u is = utf8_behind_ascii b (drop 2 bs) low (utf8_behind_ascii 92 (b ∷ drop 2 bs) (omega arith) (subst (λ (l : List ℕ). IsUtf8 l) is u))
+utf8_at bs b low u is = utf8_after_ascii b (drop 2 bs) low (utf8_after_ascii 92 (b ∷ drop 2 bs) (omega arith) (subst (λ (l : List ℕ). IsUtf8 l) is u))
 
 -- fewer than two characters
 nothing_left : (bs : List ℕ) → length bs ≤ 1 → drop 1 bs ≡ []
@@ -159,7 +159,7 @@ pub unknown_row : (w : Switches) (bs : List ℕ) (b : ℕ) → IsUtf8 bs → bs 
     escape_refusal w (chars bs) ≡ Some (over 0 2 UnknownEscape)
 unknown_row w bs b u is no_hex no_unicode simple = elim (cases_lt b 128) [
   | inl low ↦ ap (escape_refusal w) (letter_chars bs b low is) ∙ unknown_at w b (chars (drop 2 bs)) (not_zero b simple) (ne_eqb b 120 no_hex) (ne_eqb b 117 no_unicode) simple
-  | inr high ↦ (let v = chars_wide b (drop 2 bs) high (utf8_behind_ascii 92 (b ∷ drop 2 bs) (omega arith) (subst (λ (l : List ℕ). IsUtf8 l) is u)) in
+  | inr high ↦ (let v = chars_wide b (drop 2 bs) high (utf8_after_ascii 92 (b ∷ drop 2 bs) (omega arith) (subst (λ (l : List ℕ). IsUtf8 l) is u)) in
       let wide = v.wide in
       ap (escape_refusal w) (ap chars is ∙ (chars_slash (b ∷ drop 2 bs) ∙ ap (λ l. 92 ∷ l) v.is))
       ∙ unknown_at w v.first v.rest (not_zero v.first (not_simple_wide v.first wide)) (ne_eqb v.first 120 (λ e. omega arith)) (ne_eqb v.first 117 (λ e. omega arith)) (not_simple_wide v.first wide))

@@ -18,10 +18,10 @@ use Rattle.litrs_base.specs.Refusal.{Refusal, refusal, plain, over, at}
 use Rattle.litrs_base.specs.Text.{is_empty, byte_len, first_passes}
 use Rattle.litrs_grammar.specs.Suffix.{is_suffix, suffix_refusal}
 use Rattle.litrs_grammar.specs.Integer.{is_e}
-use Rattle.litrs_grammar.specs.Float.{FloatParts, fraction_text, number_part, float_text, is_decimal_char, is_period, is_sign, fraction_of, exponent_of, behind, float_cut, has_wrong_fraction, float_cut_refusal, float_refusal}
+use Rattle.litrs_grammar.specs.Float.{FloatParts, fraction_text, number_part, float_text, is_decimal_char, is_period, is_sign, fraction_of, exponent_of, after, float_cut, has_wrong_fraction, float_cut_refusal, float_refusal}
 use Rattle.litrs_parts.specs.declared.float.FloatCut.{FloatCut}
 use Rattle.litrs_parts.specs.FloatCut.{fraction_at, float_parts_at, IsFloatWithin, IsFloatAt, IsPartsCut}
-use Rattle.litrs_base.proofs.Chars.{chars_empty, chars_wide, ascii_by_test, chars_ascii, utf8_behind_ascii, OnlyAscii, first_passes-chars}
+use Rattle.litrs_base.proofs.Chars.{chars_empty, chars_wide, ascii_by_test, chars_ascii, utf8_after_ascii, OnlyAscii, first_passes-chars}
 use Rattle.litrs_base.proofs.Spans.{is_ascii_char}
 use Rattle.litrs_base.proofs.Runs.{list_all-append}
 use Rattle.litrs_grammar.proofs.Laws.Integer.{not_empty_by_first}
@@ -30,25 +30,25 @@ use Rattle.litrs_grammar.proofs.Spans.Float.{number_part_ascii, float_refusal_wi
 use Rattle.litrs_parts.proofs.IntegerBytes.{digits_are_ascii, e_is_ascii, digit_is_ascii, filled_by_first, digit-chars}
 use Rattle.litrs_parts.proofs.SuffixBytes.{first_passes_at}
 
--- a text that ASCII stands in front of
+-- a text after ASCII
 
-pub chars_behind : (front bs : List ℕ) → list_all is_ascii_char front ≡ true → chars (front ++ bs) ≡ front ++ chars bs
-chars_behind [] bs all = refl
-chars_behind (c ∷ front) bs all =
+pub chars_after : (front bs : List ℕ) → list_all is_ascii_char front ≡ true → chars (front ++ bs) ≡ front ++ chars bs
+chars_after [] bs all = refl
+chars_after (c ∷ front) bs all =
     let parts : (is_ascii_char c ≡ true) × (list_all is_ascii_char front ≡ true) = and_parts _ _ all in
-    chars_ascii c (front ++ bs) (ltb-true c 128 parts.0) ∙ ap (λ t. c ∷ t) (chars_behind front bs parts.1)
+    chars_ascii c (front ++ bs) (ltb-true c 128 parts.0) ∙ ap (λ t. c ∷ t) (chars_after front bs parts.1)
 
-pub utf8_behind : (front bs : List ℕ) → list_all is_ascii_char front ≡ true → IsUtf8 (front ++ bs) → IsUtf8 bs
-utf8_behind [] bs all u = u
-utf8_behind (c ∷ front) bs all u =
+pub utf8_after : (front bs : List ℕ) → list_all is_ascii_char front ≡ true → IsUtf8 (front ++ bs) → IsUtf8 bs
+utf8_after [] bs all u = u
+utf8_after (c ∷ front) bs all u =
     let parts : (is_ascii_char c ≡ true) × (list_all is_ascii_char front ≡ true) = and_parts _ _ all in
-    utf8_behind front bs parts.1 (utf8_behind_ascii c (front ++ bs) (ltb-true c 128 parts.0) u)
+    utf8_after front bs parts.1 (utf8_after_ascii c (front ++ bs) (ltb-true c 128 parts.0) u)
 
 -- the boundary after it
-pub boundary_behind : (bs front rest : List ℕ) (n : ℕ) → front ++ rest ≡ bs → list_all is_ascii_char front ≡ true → length front ≡ n → IsUtf8 bs → IsCharBoundary bs n
-boundary_behind bs front rest n spells all len u =
+pub boundary_after : (bs front rest : List ℕ) (n : ℕ) → front ++ rest ≡ bs → list_all is_ascii_char front ≡ true → length front ≡ n → IsUtf8 bs → IsCharBoundary bs n
+boundary_after bs front rest n spells all len u =
     let left : drop n bs ≡ rest = ap (drop n) (sym spells) ∙ drop_at front rest n len in
-    let utf8 : IsUtf8 (drop n bs) = subst (λ (t : List ℕ). IsUtf8 t) (sym left) (utf8_behind front rest all (subst (λ (t : List ℕ). IsUtf8 t) (sym spells) u)) in
+    let utf8 : IsUtf8 (drop n bs) = subst (λ (t : List ℕ). IsUtf8 t) (sym left) (utf8_after front rest all (subst (λ (t : List ℕ). IsUtf8 t) (sym spells) u)) in
     let within : n ≤ length bs = omega (arith, ap length spells, length-append front rest) in
     IsCharBoundary-from_drop bs n within utf8
 
@@ -86,13 +86,13 @@ with_chars_cut d cut u = record {
 
 suffix_utf8 : (bs : List ℕ) (c : CutOf bs) → IsUtf8 bs → IsUtf8 c.parts.suffix
 suffix_utf8 bs c u =
-    utf8_behind (number_part c.parts) c.parts.suffix (number_part_ascii c.parts c.cut)
+    utf8_after (number_part c.parts) c.parts.suffix (number_part_ascii c.parts c.cut)
     (subst (λ (t : List ℕ). IsUtf8 t) (sym (number_part-suffix c.parts ∙ c.spells)) u)
 
 with_chars_text : (bs : List ℕ) (c : CutOf bs) → float_text (with_chars c.parts) ≡ chars bs
 with_chars_text bs c =
     sym (number_part-suffix (with_chars c.parts))
-    ∙ (sym (chars_behind (number_part c.parts) c.parts.suffix (number_part_ascii c.parts c.cut)) ∙ ap chars (number_part-suffix c.parts ∙ c.spells))
+    ∙ (sym (chars_after (number_part c.parts) c.parts.suffix (number_part_ascii c.parts c.cut)) ∙ ap chars (number_part-suffix c.parts ∙ c.spells))
 
 float_cut-chars : (bs : List ℕ) (c : CutOf bs) → IsUtf8 bs → float_cut (chars bs) ≡ with_chars c.parts
 float_cut-chars bs c u = ap float_cut (sym (with_chars_text bs c)) ∙ cut_of_text (with_chars c.parts) (with_chars_cut c.parts c.cut (suffix_utf8 bs c u))
@@ -103,13 +103,13 @@ integer_is : (bs : List ℕ) (d : FloatParts) → float_cut bs ≡ d → take_wh
 unfolding float_cut
 integer_is bs d e = ap (λ (p : FloatParts). p.integer) e
 
-fraction_is : (bs : List ℕ) (d : FloatParts) → float_cut bs ≡ d → fraction_of (behind d.integer bs) ≡ d.fraction
+fraction_is : (bs : List ℕ) (d : FloatParts) → float_cut bs ≡ d → fraction_of (after d.integer bs) ≡ d.fraction
 unfolding float_cut
-fraction_is bs d e = ap (λ (p : FloatParts). fraction_of (behind p.integer bs)) (sym e) ∙ ap (λ (p : FloatParts). p.fraction) e
+fraction_is bs d e = ap (λ (p : FloatParts). fraction_of (after p.integer bs)) (sym e) ∙ ap (λ (p : FloatParts). p.fraction) e
 
-exponent_is : (bs : List ℕ) (d : FloatParts) → float_cut bs ≡ d → exponent_of (behind (d.integer ++ fraction_text d.fraction) bs) ≡ d.exponent
+exponent_is : (bs : List ℕ) (d : FloatParts) → float_cut bs ≡ d → exponent_of (after (d.integer ++ fraction_text d.fraction) bs) ≡ d.exponent
 unfolding float_cut
-exponent_is bs d e = ap (λ (p : FloatParts). exponent_of (behind (p.integer ++ fraction_text p.fraction) bs)) (sym e) ∙ ap (λ (p : FloatParts). p.exponent) e
+exponent_is bs d e = ap (λ (p : FloatParts). exponent_of (after (p.integer ++ fraction_text p.fraction) bs)) (sym e) ∙ ap (λ (p : FloatParts). p.exponent) e
 
 record Places (cut : FloatCut) (d : FloatParts) : Type 0 where
   integer : length d.integer ≡ cut.end_integer
@@ -128,7 +128,7 @@ places_of cut bs c h =
     let exponent : exponent_of (drop cut.end_fraction bs) ≡ d.exponent = ap (λ n. exponent_of (drop n bs)) (sym front) ∙ exponent_is bs d same in
     record { integer = integer; fraction = end; exponent = ap (λ p. cut.end_fraction + length p) (sym exponent) ∙ sym h.exponent }
 
--- The parts of the text, in front of what follows each
+-- The parts of the text, before what follows each
 
 record Fronts (bs : List ℕ) (d : FloatParts) : Type 0 where
   integer : d.integer ++ (fraction_text d.fraction ++ (d.exponent ++ d.suffix)) ≡ bs
@@ -199,9 +199,9 @@ parts_of_cut cut bs u h =
     let d = c.parts in
     let p = places_of cut bs c h in
     let f = fronts_of bs c in
-    let behind_integer = fraction_text d.fraction ++ (d.exponent ++ d.suffix) in
+    let after_integer = fraction_text d.fraction ++ (d.exponent ++ d.suffix) in
     let integer : chars (slice_range bs 0 cut.end_integer) ≡ d.integer =
-    ap chars (part_at [] d.integer behind_integer bs 0 cut.end_integer f.integer refl (omega (arith, p.integer))) ∙ ascii_chars d.integer f.integer_ascii in
+    ap chars (part_at [] d.integer after_integer bs 0 cut.end_integer f.integer refl (omega (arith, p.integer))) ∙ ascii_chars d.integer f.integer_ascii in
     let fraction : fraction_at cut bs ≡ d.fraction =
     fraction_at-is cut bs d.integer d.fraction (d.exponent ++ d.suffix) f.integer p.integer p.fraction (all_rest is_ascii_char d.integer (fraction_text d.fraction) f.fraction_ascii) in
     let both : list_all is_ascii_char ((d.integer ++ fraction_text d.fraction) ++ d.exponent) ≡ true = ap (list_all is_ascii_char) (append_assoc d.integer (fraction_text d.fraction) d.exponent) ∙ f.number_ascii in
@@ -214,7 +214,7 @@ period_boundary : (bs i : List ℕ) (f : Option (List ℕ)) (r : List ℕ) (m n 
     m + length (fraction_text f) ≡ n → IsUtf8 bs → m < n → IsCharBoundary bs (m + 1)
 period_boundary bs i None r m n spells all at_m at_n u more = absurd (omega arith)
 period_boundary bs i (Some f) r m n spells all at_m at_n u more =
-    boundary_behind bs (i ++ (46 ∷ [])) (f ++ r) (m + 1) (append_assoc i (46 ∷ []) (f ++ r) ∙ spells) (list_all-append is_ascii_char i (46 ∷ []) all refl)
+    boundary_after bs (i ++ (46 ∷ [])) (f ++ r) (m + 1) (append_assoc i (46 ∷ []) (f ++ r) ∙ spells) (list_all-append is_ascii_char i (46 ∷ []) all refl)
     (length-append i (46 ∷ []) ∙ ap (λ n. n + 1) at_m) u
 
 pub places_of_cut : (cut : FloatCut) (bs : List ℕ) → IsUtf8 bs → IsPartsCut cut bs → IsFloatWithin cut bs
@@ -223,14 +223,14 @@ places_of_cut cut bs u h =
     let d = c.parts in
     let p = places_of cut bs c h in
     let f = fronts_of bs c in
-    let behind_integer = fraction_text d.fraction ++ (d.exponent ++ d.suffix) in
+    let after_integer = fraction_text d.fraction ++ (d.exponent ++ d.suffix) in
     record {
       integer_first = omega (arith, p.fraction);
       fraction_next = omega (arith, p.exponent);
-      integer = boundary_behind bs d.integer behind_integer cut.end_integer f.integer f.integer_ascii p.integer u;
-      behind_period = period_boundary bs d.integer d.fraction (d.exponent ++ d.suffix) cut.end_integer cut.end_fraction f.integer f.integer_ascii p.integer p.fraction u;
-      fraction = boundary_behind bs (d.integer ++ fraction_text d.fraction) (d.exponent ++ d.suffix) cut.end_fraction f.fraction f.fraction_ascii (front_len cut d p) u;
-      number = boundary_behind bs (number_part d) d.suffix cut.end_number f.number f.number_ascii (number_len cut d p) u;
+      integer = boundary_after bs d.integer after_integer cut.end_integer f.integer f.integer_ascii p.integer u;
+      after_period = period_boundary bs d.integer d.fraction (d.exponent ++ d.suffix) cut.end_integer cut.end_fraction f.integer f.integer_ascii p.integer p.fraction u;
+      fraction = boundary_after bs (d.integer ++ fraction_text d.fraction) (d.exponent ++ d.suffix) cut.end_fraction f.fraction f.fraction_ascii (front_len cut d p) u;
+      number = boundary_after bs (number_part d) d.suffix cut.end_number f.number f.number_ascii (number_len cut d p) u;
     }
 
 -- The refusals by the places
@@ -277,7 +277,7 @@ rest_is bytes bs n same = take_rest bytes n ∙ ap (drop n) same
 wrong_fraction-chars : (bs : List ℕ) → IsUtf8 bs → has_wrong_fraction (chars bs) ≡ has_wrong_fraction bs
 wrong_fraction-chars [] u = ap has_wrong_fraction chars-nil
 wrong_fraction-chars (b ∷ bs) u = elim (cases_lt b 128) [
-  | inl low ↦ (let v = utf8_behind_ascii b bs low u in
+  | inl low ↦ (let v = utf8_after_ascii b bs low u in
       ap has_wrong_fraction (chars_ascii b bs low)
       ∙ (ap (λ e. is_period b && (not e && not (first_passes is_ascii_digit (chars bs)))) (chars_empty bs v ∙ empty_by_length bs)
       ∙ ap (λ e. is_period b && (not (is_empty bs) && not e)) (first_passes-chars is_ascii_digit bs digit_is_ascii v)))
@@ -300,8 +300,8 @@ wrong_fraction_at cut bs d u f p =
     let left : drop cut.end_integer bs ≡ t ++ (d.exponent ++ d.suffix) = ap (drop cut.end_integer) (sym f.integer) ∙ drop_at d.integer (t ++ (d.exponent ++ d.suffix)) cut.end_integer p.integer in
     let ascii : list_all is_ascii_char (t ++ d.exponent) ≡ true = all_rest is_ascii_char d.integer (t ++ d.exponent) f.number_ascii in
     let spelled : chars (t ++ (d.exponent ++ d.suffix)) ≡ t ++ (d.exponent ++ chars d.suffix) =
-    ap chars (sym (append_assoc t d.exponent d.suffix)) ∙ (chars_behind (t ++ d.exponent) d.suffix ascii ∙ append_assoc t d.exponent (chars d.suffix)) in
-    let utf8 : IsUtf8 (t ++ (d.exponent ++ d.suffix)) = utf8_behind d.integer (t ++ (d.exponent ++ d.suffix)) f.integer_ascii (subst (λ (s : List ℕ). IsUtf8 s) (sym f.integer) u) in
+    ap chars (sym (append_assoc t d.exponent d.suffix)) ∙ (chars_after (t ++ d.exponent) d.suffix ascii ∙ append_assoc t d.exponent (chars d.suffix)) in
+    let utf8 : IsUtf8 (t ++ (d.exponent ++ d.suffix)) = utf8_after d.integer (t ++ (d.exponent ++ d.suffix)) f.integer_ascii (subst (λ (s : List ℕ). IsUtf8 s) (sym f.integer) u) in
     ap has_wrong_fraction (sym spelled) ∙ (wrong_fraction-chars (t ++ (d.exponent ++ d.suffix)) utf8 ∙ ap has_wrong_fraction (sym left))
 
 pub refusal_of_cut : (cut : FloatCut) (bs : List ℕ) → IsUtf8 bs → IsPartsCut cut bs → float_cut_refusal (float_cut (chars bs)) ≡

@@ -11,7 +11,7 @@ use Rattle.litrs_base.specs.declared.escape.Unescape.TheVariants.{Byte}
 use Rattle.litrs_base.specs.Refusal.{over}
 use Rattle.litrs_base.specs.Text.{byte_len, first_passes, begins_with}
 use Rattle.litrs_base.proofs.ByteLen.{byte_len_one_ascii, length-le-byte_len}
-use Rattle.litrs_base.proofs.Chars.{chars_ascii, chars_wide, utf8_behind_ascii, first_passes-chars}
+use Rattle.litrs_base.proofs.Chars.{chars_ascii, chars_wide, utf8_after_ascii, first_passes-chars}
 use Rattle.litrs_base.proofs.ListTests.{if_true, if_false}
 use Rattle.litrs_grammar.specs.Escape.{Switches, hex_escape, escape_refusal, hex_refusal, pair_value, allows_value, allows_byte, has_two_bytes}
 use Rattle.litrs_grammar.proofs.Laws.Escape.{hexdigit_ascii, two_bytes}
@@ -31,10 +31,10 @@ two_by (c ∷ d ∷ e ∷ a) b two = absurd (let long = length-le-byte_len (c �
 pub two_there : (r : List ℕ) → IsUtf8 r → IsCharBoundary r 2 → has_two_bytes (chars r) ≡ true
 two_there r u on =
     let front : IsUtf8 (take 2 r) = IsUtf8-take r 2 u on in
-    let behind : IsUtf8 (drop 2 r) = IsUtf8-drop r 2 u on in
+    let after : IsUtf8 (drop 2 r) = IsUtf8-drop r 2 u on in
     let spelled : encode_utf8_all (chars (take 2 r) ++ chars (drop 2 r)) ≡ r =
     encodes-append (chars (take 2 r)) (chars (drop 2 r)) ∙ (ap (λ l. l ++ encode_utf8_all (chars (drop 2 r))) (encodes-chars (take 2 r) front)
-    ∙ (ap (λ l. take 2 r ++ l) (encodes-chars (drop 2 r) behind) ∙ take-append-drop 2 r)) in
+    ∙ (ap (λ l. take 2 r ++ l) (encodes-chars (drop 2 r) after) ∙ take-append-drop 2 r)) in
     let split : chars (take 2 r) ++ chars (drop 2 r) ≡ chars r = chars_from_encodes (chars (take 2 r) ++ chars (drop 2 r)) r u spelled in
     let size : byte_len (chars (take 2 r)) ≡ 2 = ap length (encodes-chars (take 2 r) front) ∙ length-take-within r 2 on.0 in
     ap has_two_bytes (sym split) ∙ two_by (chars (take 2 r)) (chars (drop 2 r)) size
@@ -49,8 +49,8 @@ two_cut r (c ∷ d ∷ t) u is two = elim (or_cases (byte_len (c ∷ []) == 2) (
 ]
 
 -- a place in the text is one in what follows the backslash and the letter
-behind_two : (a b : ℕ) (r : List ℕ) → IsCharBoundary (a ∷ b ∷ r) 4 → IsCharBoundary r 2
-behind_two a b r on = (omega (arith, on.0), λ within. on.1 (omega arith))
+after_two : (a b : ℕ) (r : List ℕ) → IsCharBoundary (a ∷ b ∷ r) 4 → IsCharBoundary r 2
+after_two a b r on = (omega (arith, on.0), λ within. on.1 (omega arith))
 
 before_two : (a b : ℕ) (r : List ℕ) → IsCharBoundary r 2 → IsCharBoundary (a ∷ b ∷ r) 4
 before_two a b r on = (omega (arith, on.0), λ within. on.1 (omega arith))
@@ -69,7 +69,7 @@ are_digits t = is_ascii_hexdigit (get_or t 0 0) && is_ascii_hexdigit (get_or t 1
 pair_same : (r : List ℕ) → IsUtf8 r → are_digits (chars r) ≡ are_digits r
 pair_same [] u = ap are_digits chars-nil
 pair_same (b ∷ r) u = elim (cases_lt b 128) [
-  | inl low ↦ ap are_digits (chars_ascii b r low) ∙ ap (λ v. is_ascii_hexdigit b && v) (first_same r (utf8_behind_ascii b r low u))
+  | inl low ↦ ap are_digits (chars_ascii b r low) ∙ ap (λ v. is_ascii_hexdigit b && v) (first_same r (utf8_after_ascii b r low u))
   | inr high ↦ (let w = chars_wide b r high u in let wide = w.wide in
       ap are_digits w.is ∙ (and_left _ _ (hexdigit_only w.first wide) ∙ sym (and_left _ _ (hexdigit_only b high))))
 ]
@@ -107,7 +107,7 @@ hex_end_row w bs u begins off =
     ap (escape_refusal w) x.characters ∙ (to_hex w (chars r) ∙ (if_true _ _ _ (ap not never) ∙ ap (λ n. Some (over 0 n UnterminatedEscape)) size))
 
 there : (bs : List ℕ) → IsHexText bs → IsCharBoundary bs 4 → has_two_bytes (chars (drop 2 bs)) ≡ true
-there bs x on = two_there (drop 2 bs) x.utf8 (behind_two 92 120 (drop 2 bs) (subst (λ (l : List ℕ). IsCharBoundary l 4) x.is on))
+there bs x on = two_there (drop 2 bs) x.utf8 (after_two 92 120 (drop 2 bs) (subst (λ (l : List ℕ). IsCharBoundary l 4) x.is on))
 
 second_at : (bs : List ℕ) (k : ℕ) → bs ≡ 92 ∷ 120 ∷ drop 2 bs → get_or bs (suc (suc k)) 0 ≡ get_or (drop 2 bs) k 0
 second_at bs k is = ap (λ l. get_or l (suc (suc k)) 0) is

@@ -65,8 +65,8 @@ main_chars : (bs : List ℕ) → IsUtf8 bs →
     take_while (is_digit_or_underscore (base_of bs)) (chars (drop (start_of bs) bs)) ≡ take (run_of bs) (drop (start_of bs) bs)
 main_chars bs u =
     let p = is_digit_or_underscore (base_of bs) in
-    let behind = drop (start_of bs) bs in
-    ap (λ n. take n (chars behind)) (prefix_len-chars p behind (digits_are_ascii (base_of bs)) (prefix_front bs u).utf8) ∙ (digits_front bs u).taken
+    let after = drop (start_of bs) bs in
+    ap (λ n. take n (chars after)) (prefix_len-chars p after (digits_are_ascii (base_of bs)) (prefix_front bs u).utf8) ∙ (digits_front bs u).taken
 
 -- the cut of the characters is the cut of the bytes
 pub cut-chars : (bs : List ℕ) → IsUtf8 bs → integer_cut (chars bs) ≡ record {
@@ -76,13 +76,13 @@ pub cut-chars : (bs : List ℕ) → IsUtf8 bs → integer_cut (chars bs) ≡ rec
 }
 cut-chars bs u =
     let p = is_digit_or_underscore (base_of bs) in
-    let behind = drop (start_of bs) bs in
+    let after = drop (start_of bs) bs in
     let n = run_of bs in
     integer_cut-is (chars bs) ∙ (ap (λ b. cut_with b (chars bs)) (base_of-chars bs u)
     ∙ (ap (λ t. record { base = base_of bs; main = take_while p t; suffix = drop (length (take_while p t)) t }) (prefix_front bs u).rest
-    ∙ (ap (λ m. record { base = base_of bs; main = m; suffix = drop (length m) (chars behind) }) (main_chars bs u)
-    ∙ (ap (λ k. record { base = base_of bs; main = take n behind; suffix = drop k (chars behind) }) (length-prefix_len p behind)
-    ∙ ap (λ x. record { base = base_of bs; main = take n behind; suffix = x }) ((digits_front bs u).rest ∙ ap chars (drop-drop n (start_of bs) bs))))))
+    ∙ (ap (λ m. record { base = base_of bs; main = m; suffix = drop (length m) (chars after) }) (main_chars bs u)
+    ∙ (ap (λ k. record { base = base_of bs; main = take n after; suffix = drop k (chars after) }) (length-prefix_len p after)
+    ∙ ap (λ x. record { base = base_of bs; main = take n after; suffix = x }) ((digits_front bs u).rest ∙ ap chars (drop-drop n (start_of bs) bs))))))
 
 pub digit_is_ascii : OnlyAscii is_ascii_digit
 digit_is_ascii c high = grind (arith, nat_tests)

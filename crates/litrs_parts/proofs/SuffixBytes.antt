@@ -12,7 +12,7 @@ use Rattle.std.proofs.lemmas.Str.{chars-nil}
 use Rattle.unicode_ident.proofs.IdentLemmas.{is_xid_continue-ascii}
 use Rattle.std.proofs.lemmas.Bool.{le-ltb}
 use Rattle.litrs_base.specs.declared.err.ParseErrorKind.TheVariants.{UnexpectedChar, InvalidSuffix}
-use Rattle.litrs_base.proofs.Chars.{OnlyAscii, first_passes-chars, ascii_from_test, chars_ascii, utf8_behind_ascii}
+use Rattle.litrs_base.proofs.Chars.{OnlyAscii, first_passes-chars, ascii_from_test, chars_ascii, utf8_after_ascii}
 use Rattle.litrs_search.specs.declared.search.Run.TheVariants.{Identifier}
 use Rattle.litrs_search.specs.Run.{is_in_run}
 
@@ -61,13 +61,13 @@ continues_step b bs true is u more =
     let low : b < 128 = ascii_from_test is_word b words_are_ascii is in
     let one : 1 + prefix_len is_word bs ≡ suc (prefix_len is_word bs) = omega arith in
     ap (list_all is_xid_continue) (chars_ascii b bs low)
-    ∙ (ap (λ v. v && list_all is_xid_continue (chars bs)) (word_continues b low ∙ is) ∙ (more (utf8_behind_ascii b bs low u)
+    ∙ (ap (λ v. v && list_all is_xid_continue (chars bs)) (word_continues b low ∙ is) ∙ (more (utf8_after_ascii b bs low u)
     ∙ ap (λ n. list_all is_xid_continue (chars (drop n (b ∷ bs)))) (sym one)))
 continues_step b bs false is u more = refl
 
-pub continues_behind : (bs : List ℕ) → IsUtf8 bs → list_all is_xid_continue (chars bs) ≡ list_all is_xid_continue (chars (drop (prefix_len is_word bs) bs))
-continues_behind [] u = refl
-continues_behind (b ∷ bs) u = continues_step b bs (is_word b) refl u (continues_behind bs)
+pub continues_after : (bs : List ℕ) → IsUtf8 bs → list_all is_xid_continue (chars bs) ≡ list_all is_xid_continue (chars (drop (prefix_len is_word bs) bs))
+continues_after [] u = refl
+continues_after (b ∷ bs) u = continues_step b bs (is_word b) refl u (continues_after bs)
 
 pub nothing_continues : (bs : List ℕ) (n : ℕ) → length bs ≤ n → list_all is_xid_continue (chars (drop n bs)) ≡ true
 nothing_continues bs n past = ap (λ t. list_all is_xid_continue (chars t)) (drop_all n bs past) ∙ ap (list_all is_xid_continue) chars-nil

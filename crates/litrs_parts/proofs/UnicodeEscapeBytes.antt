@@ -15,11 +15,11 @@ use Rattle.litrs_base.specs.Refusal.{at, over}
 use Rattle.litrs_base.specs.Text.{byte_len, first_passes, is_empty, begins_with}
 use Rattle.litrs_base.proofs.Begins.{begins_with-split}
 use Rattle.litrs_base.proofs.ByteLen.{byte_len_one_ascii, byte_len_all_ascii}
-use Rattle.litrs_base.proofs.Chars.{OnlyAscii, chars_ascii, utf8_behind_ascii, first_passes-chars}
+use Rattle.litrs_base.proofs.Chars.{OnlyAscii, chars_ascii, utf8_after_ascii, first_passes-chars}
 use Rattle.litrs_base.proofs.ListTests.{if_true, if_false, Split, split_first, before_first-split, list_any-split}
 use Rattle.litrs_base.proofs.Runs.{list_all-weaken}
 use Rattle.litrs_base.proofs.Spans.{byte_len-append}
-use Rattle.litrs_grammar.specs.Escape.{Switches, unicode_escape, escape_refusal, unicode_refusal, inner_refusal, hex_value, is_hex_or_underscore, allows_value, place_behind}
+use Rattle.litrs_grammar.specs.Escape.{Switches, unicode_escape, escape_refusal, unicode_refusal, inner_refusal, hex_value, is_hex_or_underscore, allows_value, place_after}
 use Rattle.litrs_grammar.proofs.Laws.Escape.{hex_or_underscore_ascii, not_brace, starts_inner, no_stranger, has_stranger}
 use Rattle.litrs_parts.specs.declared.escape.HexDigits.{HexDigits}
 use Rattle.litrs_parts.specs.Unescaped.{switches, IsUnescaped, IsHexDigits}
@@ -51,11 +51,11 @@ pub braced : (bs : List ℕ) → IsUtf8 bs → begins_with (92 ∷ 117 ∷ 123 �
 braced bs u begins =
     let is : bs ≡ 92 ∷ 117 ∷ 123 ∷ drop 3 bs = sym (begins_with-split (92 ∷ 117 ∷ 123 ∷ []) bs begins) in
     let letter : bs ≡ 92 ∷ 117 ∷ drop 2 bs = is ∙ ap (λ l. 92 ∷ 117 ∷ l) (sym (ap (drop 2) is)) in
-    let behind : drop 2 bs ≡ 123 ∷ drop 3 bs = ap (drop 2) is in
-    let text : IsUtf8 (123 ∷ drop 3 bs) = subst (λ (l : List ℕ). IsUtf8 l) behind (utf8_at bs 117 (omega arith) u letter) in
+    let after : drop 2 bs ≡ 123 ∷ drop 3 bs = ap (drop 2) is in
+    let text : IsUtf8 (123 ∷ drop 3 bs) = subst (λ (l : List ℕ). IsUtf8 l) after (utf8_at bs 117 (omega arith) u letter) in
     record {
-      characters = letter_chars bs 117 (omega arith) letter ∙ ap (λ l. 92 ∷ 117 ∷ l) (ap chars behind ∙ chars_ascii 123 (drop 3 bs) (omega arith));
-      utf8 = utf8_behind_ascii 123 (drop 3 bs) (omega arith) text;
+      characters = letter_chars bs 117 (omega arith) letter ∙ ap (λ l. 92 ∷ 117 ∷ l) (ap chars after ∙ chars_ascii 123 (drop 3 bs) (omega arith));
+      utf8 = utf8_after_ascii 123 (drop 3 bs) (omega arith) text;
       size = ap length is ∙ omega arith;
       begins = first_slash bs 117 letter;
     }
@@ -107,18 +107,18 @@ start_row byte_escapes allow_nul bs b any wrong =
     ∙ start_inner (switches true byte_escapes allow_nul) found.0 (chars r) found.1 found.2 found.3 (first_passes-chars is_wrong_start r wrong_only b.utf8 ∙ wrong))
 
 -- the digits are the first characters between the braces
-behind_front : (xs inner : List ℕ) (c : ℕ) (zs ys : List ℕ) → list_all is_hex_or_underscore xs ≡ true → (c == 125) ≡ true → inner ++ c ∷ zs ≡ xs ++ ys →
+after_front : (xs inner : List ℕ) (c : ℕ) (zs ys : List ℕ) → list_all is_hex_or_underscore xs ≡ true → (c == 125) ≡ true → inner ++ c ∷ zs ≡ xs ++ ys →
     (us : List ℕ) × (inner ≡ xs ++ us) × (us ++ c ∷ zs ≡ ys)
-behind_front [] inner c zs ys all brace same = (inner, refl, same)
-behind_front (x ∷ xs) [] c zs ys all brace same =
+after_front [] inner c zs ys all brace same = (inner, refl, same)
+after_front (x ∷ xs) [] c zs ys all brace same =
     let head : c ≡ x = cc in
     let open_x = not_brace x (and_parts (is_hex_or_underscore x) _ all).0 in
     let is : (x == 125) ≡ true = ap (λ n. n == 125) (sym head) ∙ brace in
     absurd (true≢false (sym is ∙ not-true (x == 125) open_x))
-behind_front (x ∷ xs) (i ∷ inner) c zs ys all brace same =
+after_front (x ∷ xs) (i ∷ inner) c zs ys all brace same =
     let head : i ≡ x = cc in
     let rest : inner ++ c ∷ zs ≡ xs ++ ys = cc in
-    let more = behind_front xs inner c zs ys (and_parts (is_hex_or_underscore x) _ all).1 brace rest in
+    let more = after_front xs inner c zs ys (and_parts (is_hex_or_underscore x) _ all).1 brace rest in
     (more.0, ap (λ n. n ∷ inner) head ∙ ap (λ l. x ∷ l) more.1, more.2)
 
 or_right_false : (a b : Bool) → (a || b) ≡ false → b ≡ false
@@ -135,9 +135,9 @@ take_while_front p (x ∷ xs) l all =
     let both = and_parts (p x) (list_all p xs) all in
     take_while-cons p x (xs ++ l) ∙ (if_true (p x) _ _ both.0 ∙ ap (λ t. x ∷ t) (take_while_front p xs l both.1))
 
-some_behind : (xs : List ℕ) (u : ℕ) (us : List ℕ) → is_empty (xs ++ u ∷ us) ≡ false
-some_behind [] u us = refl
-some_behind (x ∷ xs) u us = refl
+some_after : (xs : List ℕ) (u : ℕ) (us : List ℕ) → is_empty (xs ++ u ∷ us) ≡ false
+some_after [] u us = refl
+some_after (x ∷ xs) u us = refl
 
 longer : (xs : List ℕ) (u : ℕ) (us : List ℕ) → length xs < length (xs ++ u ∷ us)
 longer xs u us = let e = length-append xs (u ∷ us) in omega arith
@@ -165,7 +165,7 @@ and_false : (a b : Bool) → b ≡ false → (a && b) ≡ false
 and_false true b h = h
 and_false false b h = refl
 
-place_at : (p : ℕ → Bool) (n : ℕ) (xs : List ℕ) (u : ℕ) (l : List ℕ) → p u ≡ true → count_by p xs ≡ n → place_behind n p (xs ++ u ∷ l) ≡ length xs
+place_at : (p : ℕ → Bool) (n : ℕ) (xs : List ℕ) (u : ℕ) (l : List ℕ) → p u ≡ true → count_by p xs ≡ n → place_after n p (xs ++ u ∷ l) ≡ length xs
 place_at p zero [] u l passes count = if_true _ _ _ passes
 place_at p (suc n) [] u l passes count = absurd (omega arith)
 place_at p n (x ∷ xs) u l passes count = go n (p x) refl (sym (sum_by-cons one x xs) ∙ count) (λ m c. place_at p m xs u l passes c)
@@ -173,8 +173,8 @@ place_at p n (x ∷ xs) u l passes count = go n (p x) refl (sym (sum_by-cons one
     one : ℕ → ℕ
     one c = cond (p c) 1 0
 
-    go : (n : ℕ) (b : Bool) → p x ≡ b → cond {A = ℕ} (p x) 1 0 + count_by p xs ≡ n → ((m : ℕ) → count_by p xs ≡ m → place_behind m p (xs ++ u ∷ l) ≡ length xs) →
-        place_behind n p (x ∷ (xs ++ u ∷ l)) ≡ suc (length xs)
+    go : (n : ℕ) (b : Bool) → p x ≡ b → cond {A = ℕ} (p x) 1 0 + count_by p xs ≡ n → ((m : ℕ) → count_by p xs ≡ m → place_after m p (xs ++ u ∷ l) ≡ length xs) →
+        place_after n p (x ∷ (xs ++ u ∷ l)) ≡ suc (length xs)
     go zero true is count rec = absurd (let is_one : cond {A = ℕ} (p x) 1 0 ≡ cond {A = ℕ} true 1 0 = ap (λ v. cond {A = ℕ} v 1 0) is in omega arith)
     go zero false is count rec =
         let is_none : cond {A = ℕ} (p x) 1 0 ≡ cond {A = ℕ} false 1 0 = ap (λ v. cond {A = ℕ} v 1 0) is in
@@ -183,11 +183,11 @@ place_at p n (x ∷ xs) u l passes count = go n (p x) refl (sym (sum_by-cons one
     go (suc n) true is count rec =
         let is_one : cond {A = ℕ} (p x) 1 0 ≡ cond {A = ℕ} true 1 0 = ap (λ v. cond {A = ℕ} v 1 0) is in
         let more = rec n (omega arith) in
-        ap (λ v. 1 + place_behind (if v then n else suc n) p (xs ++ u ∷ l)) is ∙ omega arith
+        ap (λ v. 1 + place_after (if v then n else suc n) p (xs ++ u ∷ l)) is ∙ omega arith
     go (suc n) false is count rec =
         let is_none : cond {A = ℕ} (p x) 1 0 ≡ cond {A = ℕ} false 1 0 = ap (λ v. cond {A = ℕ} v 1 0) is in
         let more = rec (suc n) (omega arith) in
-        ap (λ v. 1 + place_behind (if v then n else suc n) p (xs ++ u ∷ l)) is ∙ omega arith
+        ap (λ v. 1 + place_after (if v then n else suc n) p (xs ++ u ∷ l)) is ∙ omega arith
 
 -- a seventh digit
 many_inner : (w : Switches) (xs : List ℕ) (u : ℕ) (us : List ℕ) → list_all is_hex_or_underscore xs ≡ true → is_ascii_hexdigit u ≡ true → count_by is_ascii_hexdigit xs ≡ 6 →
@@ -254,8 +254,8 @@ pub stopped : (bs xs ys : List ℕ) → IsBraced bs → IsDigitText bs xs ys →
 stopped bs xs ys b d any right open_end =
     let r = drop 3 bs in
     let found = split_first (λ c. c == 125) (chars r) (list_any-chars (λ c. c == 125) r brace_only b.utf8 ∙ any) in
-    let behind = behind_front xs found.0 found.1 found.2 (chars ys) d.passes found.3.passes (found.3.spells ∙ d.characters) in
-    go found.0 found.1 found.2 found.3 behind.0 behind.1 behind.2
+    let after = after_front xs found.0 found.1 found.2 (chars ys) d.passes found.3.passes (found.3.spells ∙ d.characters) in
+    go found.0 found.1 found.2 found.3 after.0 after.1 after.2
   where
     wrong_chars : first_passes is_wrong_start (chars (drop 3 bs)) ≡ false
     wrong_chars = first_passes-chars is_wrong_start (drop 3 bs) wrong_only b.utf8 ∙ right
@@ -279,7 +279,7 @@ stopped bs xs ys b d any right open_end =
       more = us;
       inner_is = is;
       next_is = sym same;
-      right = right_start (xs ++ u ∷ us) (c ∷ zs) (ap (λ l. first_passes is_wrong_start (l ++ c ∷ zs)) (sym is) ∙ (ap (first_passes is_wrong_start) s.spells ∙ wrong_chars)) (some_behind xs u us);
+      right = right_start (xs ++ u ∷ us) (c ∷ zs) (ap (λ l. first_passes is_wrong_start (l ++ c ∷ zs)) (sym is) ∙ (ap (first_passes is_wrong_start) s.spells ∙ wrong_chars)) (some_after xs u us);
     }
 
 pub many_row : (byte_escapes allow_nul : Bool) (bs xs ys : List ℕ) → IsBraced bs → IsDigitText bs xs ys → IsStopped bs xs ys → count_by is_ascii_hexdigit xs ≡ 6 →

@@ -69,7 +69,7 @@ pub record IsItemRefused (kind : CharKind) (t : List ℕ) (e : ParseError) : Typ
   pub char_span : HasCharSpan t e
 
 -- an item, the closing quote and a suffix, which starts at the place
-pub record IsCutBehind (kind : CharKind) (bytes : List ℕ) (value : Unescape) (start : ℕ)
+pub record IsCutAfter (kind : CharKind) (bytes : List ℕ) (value : Unescape) (start : ℕ)
     : Type 0 where
   pub item : CharItem
   pub suffix : List ℕ

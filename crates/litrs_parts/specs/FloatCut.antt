@@ -26,7 +26,7 @@ pub record IsFloatWithin (cut : FloatCut) (bytes : List ℕ) : Type 0 where
   pub integer_first : cut.end_integer ≤ cut.end_fraction
   pub fraction_next : cut.end_fraction ≤ cut.end_number
   pub integer : IsCharBoundary bytes cut.end_integer
-  pub behind_period : cut.end_integer < cut.end_fraction →
+  pub after_period : cut.end_integer < cut.end_fraction →
       IsCharBoundary bytes (cut.end_integer + 1)
   pub fraction : IsCharBoundary bytes cut.end_fraction
   pub number : IsCharBoundary bytes cut.end_number

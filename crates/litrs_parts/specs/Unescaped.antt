@@ -37,7 +37,7 @@ pub record IsUnescaped (w : Switches) (bytes : List ℕ) (value : Unescape) (len
   pub size : byte_len (escape_text escape) ≡ len
   pub within : len ≤ length bytes
   pub boundary : IsCharBoundary bytes len
-  pub behind : chars (drop len bytes) ≡ rest
+  pub after : chars (drop len bytes) ≡ rest
   pub utf8 : IsUtf8 (drop len bytes)
 
 -- No escape stands at the front of the text, and the table of refusals has the error's kind and

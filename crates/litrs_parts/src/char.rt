@@ -9,7 +9,7 @@ ghost use Rattle.litrs_base.specs.Text.{begins_with, first_passes};
 ghost use Rattle.litrs_grammar.specs.CharByte.{char_kind, byte_kind, char_value, IsCharLiteral, is_special_whitespace, unterminated_kind, empty_kind, overlong_kind, closing_refusal};
 ghost use Rattle.litrs_grammar.specs.Literal.{kind_parse, char_literal, byte_literal};
 ghost use Rattle.litrs_grammar.specs.Refused.{IsRefused};
-ghost use Rattle.litrs_parts.specs.CharCut.{char_parts_at, kind_if, IsItemRead, IsItemRefused, IsCutBehind};
+ghost use Rattle.litrs_parts.specs.CharCut.{char_parts_at, kind_if, IsItemRead, IsItemRefused, IsCutAfter};
 
 use crate::escape::unescape;
 use crate::parse::{check_suffix, split_first_char};
@@ -44,7 +44,7 @@ pub fn cut_char(input: &str) -> Result<(char, usize), ParseError>
     ensures place { IfOk result (λ cut. IsCharBoundary input.now cut.1) }
     ensures refused { IfErr result (IsRefused (kind_parse char_literal) (chars input.now)) }
 {
-    match cut_behind(&input[1..], false) {
+    match cut_after(&input[1..], false) {
         Ok((value, start)) => Ok((value.unwrap_char(), 1 + start)),
         Err(e) => Err(e.offset_span(1)),
     }
@@ -77,7 +77,7 @@ pub fn cut_byte(input: &str) -> Result<(u8, usize), ParseError>
     ensures place { IfOk result (λ cut. IsCharBoundary input.now cut.1) }
     ensures refused { IfErr result (IsRefused (kind_parse byte_literal) (chars input.now)) }
 {
-    match cut_behind(&input[2..], true) {
+    match cut_after(&input[2..], true) {
         Ok((value, start)) => Ok((value.unwrap_byte(), 2 + start)),
         Err(e) => Err(e.offset_span(2)),
     }
@@ -85,8 +85,8 @@ pub fn cut_byte(input: &str) -> Result<(u8, usize), ParseError>
 
 /// What follows the front: the value, and where the suffix starts.
 #[inline(always)]
-fn cut_behind(rest: &str, is_byte: bool) -> Result<(Unescape, usize), ParseError>
-    ensures ok { IfOk result (λ cut. IsCutBehind (kind_if is_byte) rest.now cut.0 cut.1) }
+fn cut_after(rest: &str, is_byte: bool) -> Result<(Unescape, usize), ParseError>
+    ensures ok { IfOk result (λ cut. IsCutAfter (kind_if is_byte) rest.now cut.0 cut.1) }
     ensures refused { IfErr result (IsItemRefused (kind_if is_byte) (chars rest.now)) }
 {
     let (value, len) = read_item(rest, is_byte)?;
@@ -157,19 +157,19 @@ fn check_closing(rest: &str, len: usize, is_byte: bool) -> Result<usize, ParseEr
         closing_refusal (kind_if is_byte) len (chars (drop len rest.now)) ≡ Some (refusal_of e)) }
     ensures char_span { IfErr result (HasCharSpan (chars rest.now)) }
 {
-    let behind = &rest[len..];
-    if is_quote(behind.as_bytes()) {
+    let after = &rest[len..];
+    if is_quote(after.as_bytes()) {
         return Ok(len + 1);
     }
-    if !begins_with_quote(behind.as_bytes()) {
-        let kind = if has_quote(behind.as_bytes()) {
+    if !begins_with_quote(after.as_bytes()) {
+        let kind = if has_quote(after.as_bytes()) {
             overlong_kind(is_byte)
         } else {
             unterminated_kind(is_byte)
         };
         return Err(ParseError::new(None, kind));
     }
-    match check_suffix(&behind[1..]) {
+    match check_suffix(&after[1..]) {
         Ok(()) => Ok(len + 1),
         Err(kind) => Err(ParseError::in_text(rest, Some(len + 1..len + 2), kind)),
     }

@@ -16,7 +16,7 @@ pub fn is_inner_quote(bytes: &[u8], hashes: usize) -> bool
         ≡ (first_passes is_quote bytes.now && not (begins_with (raw_closing hashes) bytes.now)) }
 {
     match bytes {
-        [b'"', behind @ ..] => !begins_with_hashes(behind, hashes),
+        [b'"', after @ ..] => !begins_with_hashes(after, hashes),
         _ => false,
     }
 }

@@ -95,15 +95,15 @@ fn cut_refusal(cut: &IntegerCut, input: &str) -> Option<(Range<usize>, ParseErro
         ..
     } = *cut;
     let (number, suffix) = input.split_at(end_main);
-    let behind = suffix.as_bytes();
+    let after = suffix.as_bytes();
     if let Err(kind) = check_suffix(suffix) {
-        return Some(if begins_with_digit(behind) {
+        return Some(if begins_with_digit(after) {
             (end_main..end_main + 1, ParseErrorKind::InvalidDigit)
         } else {
             (end_main..input.len(), kind)
         });
     }
-    if begins_with_e(behind) {
+    if begins_with_e(after) {
         return Some((
             end_main..end_main + 1,
             ParseErrorKind::IntegerSuffixStartingWithE,

@@ -11,7 +11,7 @@ use Rattle.litrs_grammar.specs.Raw.{raw_front, has_unicode, allows_nul}
 use Rattle.litrs_grammar.specs.Literal.{StringParts, quoted_parts, raw_parts, IsString}
 use Rattle.litrs_grammar.specs.Strings.{StringDerivation}
 use Rattle.litrs_grammar.proofs.Laws.Literal.{only_string}
-use Rattle.litrs_lex.proofs.StringFronts.{raw_begins, quoted_before, raw_behind}
+use Rattle.litrs_lex.proofs.StringFronts.{raw_begins, quoted_before, raw_after}
 use Rattle.litrs_lex.specs.RawCut.{IsRawCut, raw_parts_at}
 use Rattle.litrs_strings.specs.declared.kept.BodyPlace.{BodyPlace}
 use Rattle.litrs_strings.specs.declared.kept.KeptValue.{KeptValue}
@@ -36,7 +36,7 @@ pub parsed_raw : (kind : StringKind) (bs : List ℕ) (place : BodyPlace) (start_
 parsed_raw kind bs place start_suffix u begins parsed = record {
   parts = raw_parts parsed.parts;
   derives = record {
-    spells = ap (λ (t : List ℕ). raw_front kind ++ t) (parsed.derives.spells ∙ sym (raw_behind kind bs u begins))
+    spells = ap (λ (t : List ℕ). raw_front kind ++ t) (parsed.derives.spells ∙ sym (raw_after kind bs u begins))
         ∙ begins_with-split (raw_front kind) (chars bs) (raw_begins kind bs u ∙ begins);
     grammar = parsed.derives.grammar;
   };

@@ -21,7 +21,7 @@ use Rattle.litrs_grammar.proofs.Refused.{is_refused}
 use Rattle.litrs_parts.proofs.Dispatch.{is_empty-chars}
 use Rattle.litrs_lex.specs.QuotedCut.{IsQuotedRefused, IsQuotedOutOfMemory}
 use Rattle.litrs_lex.specs.RawCut.{IsRawRefused}
-use Rattle.litrs_lex.proofs.StringFronts.{quoted_begins, raw_begins, quoted_before, raw_behind}
+use Rattle.litrs_lex.proofs.StringFronts.{quoted_begins, raw_begins, quoted_before, raw_after}
 
 -- the text is refused, or there was no memory for its value
 abbrev pub IsStringError : StringKind → List ℕ → ParseError → Type 0
@@ -110,5 +110,5 @@ pub raw_error : (kind : StringKind) (bs : List ℕ) (e : ParseError) → IsUtf8 
     IsRawRefused (has_unicode kind) (allows_nul kind) (length (raw_front kind)) bs e → IsStringError kind (chars bs) e
 raw_error kind bs e u begins refused =
     inl (refused_at kind raw_start (chars bs) e (starts_raw kind bs u begins)
-    (ap (raw_refusal (has_unicode kind) (allows_nul kind) (length (raw_front kind))) (raw_behind kind bs u begins) ∙ refused.table)
+    (ap (raw_refusal (has_unicode kind) (allows_nul kind) (length (raw_front kind))) (raw_after kind bs u begins) ∙ refused.table)
     refused.char_span)

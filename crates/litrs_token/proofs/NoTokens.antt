@@ -1,4 +1,4 @@
--- A text is a literal of one kind alone, told by how it begins: where it is none of that kind, it
+-- A text is a literal of one kind alone, decided by how it begins: where it is none of that kind, it
 -- is none at all, a bool aside.
 use Rattle.std.proofs.Common.{◌≡◌, ℕ, Bool, true, false, List, refl, sym, ap, ◌∙◌, ◌⊎◌, inl, inr, subst}
 use Rattle.std.specs.Prelude.{◌≢◌, codes, if◌then◌else◌}

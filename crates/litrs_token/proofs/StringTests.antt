@@ -15,7 +15,7 @@ use Rattle.litrs_grammar.proofs.RawKinds.{literal_refusal_free}
 use Rattle.litrs_lex.specs.declared.quoted.QuotedCut.{QuotedCut}
 use Rattle.litrs_lex.specs.QuotedCut.{IsQuotedCut, IsQuotedRefused}
 use Rattle.litrs_lex.specs.RawCut.{IsRawCut, IsRawRefused, raw_parts_at}
-use Rattle.litrs_lex.proofs.StringFronts.{quoted_begins, raw_begins, quoted_before, raw_behind}
+use Rattle.litrs_lex.proofs.StringFronts.{quoted_begins, raw_begins, quoted_before, raw_after}
 
 -- A text that begins so, cut after its front
 
@@ -66,7 +66,7 @@ raw_derivation kind bs cut u front is = (
   raw_parts (raw_parts_at (length (raw_front kind)) bs cut),
   record {
     spells = ap (λ (t : List ℕ). raw_front kind ++ t)
-        (is.only.0.spells ∙ sym (raw_behind kind bs u front)) ∙ raw_split kind bs u front;
+        (is.only.0.spells ∙ sym (raw_after kind bs u front)) ∙ raw_split kind bs u front;
     grammar = is.only.0.grammar;
   },
 )
@@ -78,7 +78,7 @@ pub raw_none : (kind : StringKind) (bs : List ℕ) (e : ParseError) → IsUtf8 b
 raw_none kind bs e u front refused (raw_parts d) r =
     let free = literal_refusal_free kind (chars bs) d (raw_begins kind bs u ∙ front) r in
     let row = ap (raw_refusal (has_unicode kind) (allows_nul kind) (length (raw_front kind)))
-    (raw_behind kind bs u front) ∙ refused.table in
+    (raw_after kind bs u front) ∙ refused.table in
     let both = sym free ∙ row in cc
 raw_none kind bs e u front refused (quoted_parts d) r =
     let raw = ap (string_start kind) (sym (raw_split kind bs u front)) ∙ start_raw kind _ in

@@ -7,7 +7,7 @@ use crate::trial::Trial;
 use crate::{calls, prefixes, tokens};
 use litrs::{Literal, ParseError, Text};
 
-/// The kinds of refusal after which no longer text is a literal for the same parse.
+/// The kinds of refusal after which no extension of the text is a literal for the same parse.
 const FINAL: &[&str] = &[
     "UnexpectedChar",
     "DoesNotStartWithDigit",

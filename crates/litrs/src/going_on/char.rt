@@ -69,10 +69,10 @@ fn is_plain(c: char, is_byte: bool) -> bool
 }
 
 /// Whether what follows the character begins the closing quote and a suffix.
-fn closing_goes_on(behind: &str) -> bool
-    ensures { IsTrue result ↔ BeginsClosing (chars behind.now) }
+fn closing_goes_on(after: &str) -> bool
+    ensures { IsTrue result ↔ BeginsClosing (chars after.now) }
 {
-    let mut chars = behind.chars();
+    let mut chars = after.chars();
     match chars.next() {
         None => true,
         Some('\'') => suffix_goes_on(chars.as_str()),

@@ -20,17 +20,17 @@ pub(crate) fn escape_goes_on(text: &str, allowed: Switches) -> bool
     match unescape_with(text, allowed) {
         Ok((_, len)) => len == text.len(),
         Err(_) => {
-            let behind = &text.as_bytes()[1..];
-            refused_escape_goes_on(behind, allowed)
+            let after = &text.as_bytes()[1..];
+            refused_escape_goes_on(after, allowed)
         }
     }
 }
 
 /// Whether a refused escape becomes one, by what follows the backslash.
-pub(crate) fn refused_escape_goes_on(behind: &[u8], allowed: Switches) -> bool
-    ensures { result ≡ escape_goes_on (grammar_switches allowed) behind.now }
+pub(crate) fn refused_escape_goes_on(after: &[u8], allowed: Switches) -> bool
+    ensures { result ≡ escape_goes_on (grammar_switches allowed) after.now }
 {
-    match behind {
+    match after {
         [] => true,
         [b'x', digits @ ..] => hex_goes_on(digits, allowed.byte_escapes),
         [b'u', braces @ ..] => allowed.unicode && braces_go_on(braces, allowed.allow_nul),

@@ -17,7 +17,7 @@ use Rattle.litrs_grammar.specs.Literal.{Derivation, quoted_parts, raw_parts, a_b
 use Rattle.litrs_grammar.specs.LiteralRefusals.{parsed_as, dispatch, IsRefusal}
 use Rattle.litrs_grammar.specs.Closing.{closing_of}
 use Rattle.litrs_grammar.specs.Allocation.{may_allocate}
-use Rattle.litrs_grammar.proofs.Computing.{computing, decimal, prefixed, float, char_or_byte, quoted, refused_behind, raw}
+use Rattle.litrs_grammar.proofs.Computing.{computing, decimal, prefixed, float, char_or_byte, quoted, refused_after, raw}
 
 -- the text is refused by the parse
 abbrev Refused : Parse → String → Refusal → Type 0
@@ -143,7 +143,7 @@ any-string :
     × Refused literal_parse "r" (plain kind.InvalidLiteral)
 unfolding computing
 any-string = (
-  refused_behind (plain_item 97 ∷ plain_item 98 ∷ []) ([]) (plain kind.UnterminatedString) refl refl refl refl,
+  refused_after (plain_item 97 ∷ plain_item 98 ∷ []) ([]) (plain kind.UnterminatedString) refl refl refl refl,
   refl,
   refl,
 )
@@ -160,7 +160,7 @@ any-byte_string :
     × Refused literal_parse "br" (plain kind.InvalidLiteral)
 unfolding computing
 any-byte_string = (
-  refused_behind (plain_item 10 ∷ []) (codes "é") (at 0 kind.NonAsciiInByteLiteral) refl refl refl refl,
+  refused_after (plain_item 10 ∷ []) (codes "é") (at 0 kind.NonAsciiInByteLiteral) refl refl refl refl,
   refl,
   refl,
 )
@@ -171,7 +171,7 @@ any-c_string :
     × Refused literal_parse "cat" (plain kind.InvalidCStringLiteralStart)
 unfolding computing
 any-c_string = (
-  refused_behind ([]) (codes "\0\"") (at 0 kind.NulByte) refl refl refl refl,
+  refused_after ([]) (codes "\0\"") (at 0 kind.NulByte) refl refl refl refl,
   refl,
   refl,
 )
@@ -226,7 +226,7 @@ one-string = (
   refl,
   refl,
   refl,
-  refused_behind (plain_item 97 ∷ []) ([]) (plain kind.UnterminatedString) refl refl refl refl,
+  refused_after (plain_item 97 ∷ []) ([]) (plain kind.UnterminatedString) refl refl refl refl,
 )
 
 one-byte_string :
@@ -241,7 +241,7 @@ one-byte_string = (
   refl,
   refl,
   refl,
-  refused_behind ([]) (codes "é") (at 0 kind.NonAsciiInByteLiteral) refl refl refl refl,
+  refused_after ([]) (codes "é") (at 0 kind.NonAsciiInByteLiteral) refl refl refl refl,
 )
 
 one-c_string :
@@ -256,7 +256,7 @@ one-c_string = (
   refl,
   refl,
   refl,
-  refused_behind ([]) (codes "\0") (at 0 kind.NulByte) refl refl refl refl,
+  refused_after ([]) (codes "\0") (at 0 kind.NulByte) refl refl refl refl,
 )
 
 -- Texts that begin literals
@@ -300,8 +300,8 @@ beginnings = (
 )
 
 -- what follows a beginning is a text
-behind_beginning : (parse : Parse) (t : List ℕ) (begins : Begins parse t) → IsText begins.0
-behind_beginning parse t begins = begins.2
+after_beginning : (parse : Parse) (t : List ℕ) (begins : Begins parse t) → IsText begins.0
+after_beginning parse t begins = begins.2
 
 -- Final and open refusals, and closing texts
 

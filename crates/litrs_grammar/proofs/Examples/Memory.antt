@@ -12,7 +12,7 @@ use Rattle.litrs_grammar.specs.LiteralRefusals.{IsRefusal}
 use Rattle.litrs_grammar.specs.Quoted.{plain_item, escape_item}
 use Rattle.litrs_grammar.specs.Refused.{IsOutOfMemory}
 use Rattle.litrs_grammar.proofs.Laws.Allocation.{allocation_is_by_parts}
-use Rattle.litrs_grammar.proofs.Computing.{computing, quoted, refused_behind}
+use Rattle.litrs_grammar.proofs.Computing.{computing, quoted, refused_after}
 use Rattle.litrs_grammar.proofs.Laws.Literal.{literals_are_not_refused}
 
 -- the value of a string with an escape is allocated
@@ -35,7 +35,7 @@ without_backslash e failed =
 -- a string that is not finished has no value
 unfinished_refusal : IsRefusal literal_parse (codes "\"a\\n") (over 2 3 kind.UnterminatedEscape)
 unfolding computing
-unfinished_refusal = refused_behind (plain_item 97 ∷ []) (codes "\\n") (at 0 kind.UnterminatedEscape) refl refl refl refl
+unfinished_refusal = refused_after (plain_item 97 ∷ []) (codes "\\n") (at 0 kind.UnterminatedEscape) refl refl refl refl
 
 unfinished : (e : ParseError) → ¬ IsOutOfMemory literal_parse (codes "\"a\\n") e
 unfinished e failed =

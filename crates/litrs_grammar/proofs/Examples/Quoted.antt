@@ -8,7 +8,7 @@ use Rattle.litrs_base.specs.Characters.{is_blank}
 use Rattle.litrs_grammar.specs.StringKind.{StringKind, string_kind, byte_string_kind, c_string_kind}
 use Rattle.litrs_grammar.specs.Escape.{Switches, string_switches, simple_escape, hex_escape, unicode_escape, byte_string_switches, c_string_switches}
 use Rattle.litrs_grammar.specs.Quoted.{Item, plain_item, escape_item, continuation, body_value, is_body, IsQuotedLiteral, IsQuotedLiteralRefusal, rest_refusal, stand_before, is_plain}
-use Rattle.litrs_grammar.proofs.Computing.{computing, quoted, refused_behind}
+use Rattle.litrs_grammar.proofs.Computing.{computing, quoted, refused_after}
 
 -- characters that stand for themselves
 abbrev plains : String → List Item
@@ -164,12 +164,12 @@ rows-unterminated_string :
     × Refused string_kind "\"\\\n\t\n" (plain kind.UnterminatedString)
 unfolding computing
 rows-unterminated_string = (
-  refused_behind (plains "foo") (codes "\\\n  ") (plain kind.UnterminatedString) refl refl refl refl,
-  refused_behind (plains "ab") [] (plain kind.UnterminatedString) refl refl refl refl,
-  refused_behind (escape_item (simple_escape 110) ∷ plain_item 10 ∷ []) [] (plain kind.UnterminatedString) refl refl refl refl,
-  refused_behind (plain_item 97 ∷ continuation (codes "  ") ∷ plain_item 98 ∷ []) [] (plain kind.UnterminatedString) refl refl refl refl,
-  refused_behind [] [] (plain kind.UnterminatedString) refl refl refl refl,
-  refused_behind [] (codes "\\\n\t\n") (plain kind.UnterminatedString) refl refl refl refl,
+  refused_after (plains "foo") (codes "\\\n  ") (plain kind.UnterminatedString) refl refl refl refl,
+  refused_after (plains "ab") [] (plain kind.UnterminatedString) refl refl refl refl,
+  refused_after (escape_item (simple_escape 110) ∷ plain_item 10 ∷ []) [] (plain kind.UnterminatedString) refl refl refl refl,
+  refused_after (plain_item 97 ∷ continuation (codes "  ") ∷ plain_item 98 ∷ []) [] (plain kind.UnterminatedString) refl refl refl refl,
+  refused_after [] [] (plain kind.UnterminatedString) refl refl refl refl,
+  refused_after [] (codes "\\\n\t\n") (plain kind.UnterminatedString) refl refl refl refl,
 )
 
 rows-unterminated_escape :
@@ -179,9 +179,9 @@ rows-unterminated_escape :
     × Refused string_kind "\"\\é" (over 1 2 kind.UnterminatedEscape)
 unfolding computing
 rows-unterminated_escape = (
-  refused_behind [] (codes "\\n") (at 0 kind.UnterminatedEscape) refl refl refl refl,
-  refused_behind [] (codes "\\") (at 0 kind.UnterminatedEscape) refl refl refl refl,
-  refused_behind [] (codes "\\é") (at 0 kind.UnterminatedEscape) refl refl refl refl,
+  refused_after [] (codes "\\n") (at 0 kind.UnterminatedEscape) refl refl refl refl,
+  refused_after [] (codes "\\") (at 0 kind.UnterminatedEscape) refl refl refl refl,
+  refused_after [] (codes "\\é") (at 0 kind.UnterminatedEscape) refl refl refl refl,
 )
 
 rows-non_ascii_x_escape :
@@ -189,8 +189,8 @@ rows-non_ascii_x_escape :
     × Refused string_kind "\"నక్క\\xB0\"" (over 13 17 kind.NonAsciiXEscape)
 unfolding computing
 rows-non_ascii_x_escape = (
-  refused_behind [] (codes "\\x80\"") (over 0 4 kind.NonAsciiXEscape) refl refl refl refl,
-  refused_behind (plains "నక్క") (codes "\\xB0\"") (over 0 4 kind.NonAsciiXEscape) refl refl refl refl,
+  refused_after [] (codes "\\x80\"") (over 0 4 kind.NonAsciiXEscape) refl refl refl refl,
+  refused_after (plains "నక్క") (codes "\\xB0\"") (over 0 4 kind.NonAsciiXEscape) refl refl refl refl,
 )
 
 rows-unterminated_unicode_escape :
@@ -199,18 +199,18 @@ rows-unterminated_unicode_escape :
     × Refused string_kind "\"\\u{_" (over 1 4 kind.UnterminatedUnicodeEscape)
 unfolding computing
 rows-unterminated_unicode_escape = (
-  refused_behind [] (codes "\\u{41}") (over 0 5 kind.UnterminatedUnicodeEscape) refl refl refl refl,
-  refused_behind [] (codes "\\u{12\"") (over 0 5 kind.UnterminatedUnicodeEscape) refl refl refl refl,
-  refused_behind [] (codes "\\u{_") (over 0 3 kind.UnterminatedUnicodeEscape) refl refl refl refl,
+  refused_after [] (codes "\\u{41}") (over 0 5 kind.UnterminatedUnicodeEscape) refl refl refl refl,
+  refused_after [] (codes "\\u{12\"") (over 0 5 kind.UnterminatedUnicodeEscape) refl refl refl refl,
+  refused_after [] (codes "\\u{_") (over 0 3 kind.UnterminatedUnicodeEscape) refl refl refl refl,
 )
 
 rows-invalid_start_of_unicode_escape : Refused string_kind "\"🦊\\u{}a\"" (over 8 9 kind.InvalidStartOfUnicodeEscape)
 unfolding computing
-rows-invalid_start_of_unicode_escape = refused_behind (plains "🦊") (codes "\\u{}a\"") (at 3 kind.InvalidStartOfUnicodeEscape) refl refl refl refl
+rows-invalid_start_of_unicode_escape = refused_after (plains "🦊") (codes "\\u{}a\"") (at 3 kind.InvalidStartOfUnicodeEscape) refl refl refl refl
 
 rows-too_many_digit_in_unicode_escape : Refused string_kind "\"నక్క\\u{1234567}🦊\"" (over 22 23 kind.TooManyDigitInUnicodeEscape)
 unfolding computing
-rows-too_many_digit_in_unicode_escape = refused_behind (plains "నక్క") (codes "\\u{1234567}🦊\"") (at 9 kind.TooManyDigitInUnicodeEscape) refl refl refl refl
+rows-too_many_digit_in_unicode_escape = refused_after (plains "నక్క") (codes "\\u{1234567}🦊\"") (at 9 kind.TooManyDigitInUnicodeEscape) refl refl refl refl
 
 rows-disallowed_nul_escape :
     Refused c_string_kind "c\"\\u{0}🦊\"" (over 2 7 kind.DisallowedNulEscape)
@@ -218,14 +218,14 @@ rows-disallowed_nul_escape :
     × Refused c_string_kind "c\"лиса\\u{0__}\"" (over 10 17 kind.DisallowedNulEscape)
 unfolding computing
 rows-disallowed_nul_escape = (
-  refused_behind [] (codes "\\u{0}🦊\"") (over 0 5 kind.DisallowedNulEscape) refl refl refl refl,
-  refused_behind (plains " ") (codes "\\u{00}\"") (over 0 6 kind.DisallowedNulEscape) refl refl refl refl,
-  refused_behind (plains "лиса") (codes "\\u{0__}\"") (over 0 7 kind.DisallowedNulEscape) refl refl refl refl,
+  refused_after [] (codes "\\u{0}🦊\"") (over 0 5 kind.DisallowedNulEscape) refl refl refl refl,
+  refused_after (plains " ") (codes "\\u{00}\"") (over 0 6 kind.DisallowedNulEscape) refl refl refl refl,
+  refused_after (plains "лиса") (codes "\\u{0__}\"") (over 0 7 kind.DisallowedNulEscape) refl refl refl refl,
 )
 
 rows-unknown_escape : Refused byte_string_kind "b\"a\\\r\"" (over 3 5 kind.UnknownEscape)
 unfolding computing
-rows-unknown_escape = refused_behind (plains "a") (codes "\\\r\"") (over 0 2 kind.UnknownEscape) refl refl refl refl
+rows-unknown_escape = refused_after (plains "a") (codes "\\\r\"") (over 0 2 kind.UnknownEscape) refl refl refl refl
 
 rows-carriage_return :
     Refused string_kind "\"a\r\"" (over 2 3 kind.CarriageReturn)
@@ -233,8 +233,8 @@ rows-carriage_return :
     × Refused string_kind "\"a\\\n\r\"" (at 4 kind.CarriageReturn)
 unfolding computing
 rows-carriage_return = (
-  refused_behind (plains "a") (codes "\r\"") (at 0 kind.CarriageReturn) refl refl refl refl,
-  refused_behind (plain_item 97 ∷ continuation [] ∷ []) (codes "\r\"") (at 0 kind.CarriageReturn) refl refl refl refl,
+  refused_after (plains "a") (codes "\r\"") (at 0 kind.CarriageReturn) refl refl refl refl,
+  refused_after (plain_item 97 ∷ continuation [] ∷ []) (codes "\r\"") (at 0 kind.CarriageReturn) refl refl refl refl,
 )
 
 -- where NUL and characters beyond ASCII are both not allowed
@@ -251,15 +251,15 @@ rows-first_character = (refl, refl, refl, refl)
 
 rows-nul_byte : Refused c_string_kind "c\"\0\"" (over 2 3 kind.NulByte)
 unfolding computing
-rows-nul_byte = refused_behind [] (0 ∷ 34 ∷ []) (at 0 kind.NulByte) refl refl refl refl
+rows-nul_byte = refused_after [] (0 ∷ 34 ∷ []) (at 0 kind.NulByte) refl refl refl refl
 
 rows-non_ascii_in_byte_literal :
     Refused byte_string_kind "b\"\\nJosé" (over 7 8 kind.NonAsciiInByteLiteral)
     × Refused byte_string_kind "b\"\u{80}" (at 2 kind.NonAsciiInByteLiteral)
 unfolding computing
 rows-non_ascii_in_byte_literal = (
-  refused_behind (escape_item (simple_escape 110) ∷ plains "Jos") (codes "é") (at 0 kind.NonAsciiInByteLiteral) refl refl refl refl,
-  refused_behind [] (codes "\u{80}") (at 0 kind.NonAsciiInByteLiteral) refl refl refl refl,
+  refused_after (escape_item (simple_escape 110) ∷ plains "Jos") (codes "é") (at 0 kind.NonAsciiInByteLiteral) refl refl refl refl,
+  refused_after [] (codes "\u{80}") (at 0 kind.NonAsciiInByteLiteral) refl refl refl refl,
 )
 
 rows-unexpected_char :
@@ -268,9 +268,9 @@ rows-unexpected_char :
     × Refused string_kind "\"a\"`x" (at 3 kind.UnexpectedChar)
 unfolding computing
 rows-unexpected_char = (
-  refused_behind (plains "a") (codes "\" ") (at 1 kind.UnexpectedChar) refl refl refl refl,
-  refused_behind [] (codes "\" ") (at 1 kind.UnexpectedChar) refl refl refl refl,
-  refused_behind (plains "a") (codes "\"`x") (at 1 kind.UnexpectedChar) refl refl refl refl,
+  refused_after (plains "a") (codes "\" ") (at 1 kind.UnexpectedChar) refl refl refl refl,
+  refused_after [] (codes "\" ") (at 1 kind.UnexpectedChar) refl refl refl refl,
+  refused_after (plains "a") (codes "\"`x") (at 1 kind.UnexpectedChar) refl refl refl refl,
 )
 
 rows-invalid_suffix :
@@ -281,9 +281,9 @@ rows-invalid_suffix :
     × Refused byte_string_kind "b\"\"é_ " (at 3 kind.InvalidSuffix)
 unfolding computing
 rows-invalid_suffix = (
-  refused_behind (plains "fox") (codes "\"peter\"") (at 1 kind.InvalidSuffix) refl refl refl refl,
-  refused_behind (plains "a") (codes "\"_") (at 1 kind.InvalidSuffix) refl refl refl refl,
-  refused_behind (escape_item (simple_escape 110) ∷ []) (codes "\"_") (at 1 kind.InvalidSuffix) refl refl refl refl,
-  refused_behind (plains "a") (codes "\"\u{80}") (at 1 kind.InvalidSuffix) refl refl refl refl,
-  refused_behind [] (codes "\"é_ ") (at 1 kind.InvalidSuffix) refl refl refl refl,
+  refused_after (plains "fox") (codes "\"peter\"") (at 1 kind.InvalidSuffix) refl refl refl refl,
+  refused_after (plains "a") (codes "\"_") (at 1 kind.InvalidSuffix) refl refl refl refl,
+  refused_after (escape_item (simple_escape 110) ∷ []) (codes "\"_") (at 1 kind.InvalidSuffix) refl refl refl refl,
+  refused_after (plains "a") (codes "\"\u{80}") (at 1 kind.InvalidSuffix) refl refl refl refl,
+  refused_after [] (codes "\"é_ ") (at 1 kind.InvalidSuffix) refl refl refl refl,
 )

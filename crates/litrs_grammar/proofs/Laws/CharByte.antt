@@ -79,8 +79,8 @@ closing_read kind place (c ∷ t) h =
     let d = unless_none (is_suffix t) _ None b.1 in
     (t, ap (λ n. n ∷ t) (sym (eqb-true c 39 b.0)), d.0)
 
-abbrev behind_item : CharKind → List ℕ → ℕ → Option Refusal
-behind_item kind t n = closing_refusal kind (byte_len (take n t)) (drop n t)
+abbrev after_item : CharKind → List ℕ → ℕ → Option Refusal
+after_item kind t n = closing_refusal kind (byte_len (take n t)) (drop n t)
 
 pub backslash_allowed : (kind : CharKind) → allows_char kind 92 ≡ true
 backslash_allowed char_kind = refl
@@ -106,7 +106,7 @@ item_none kind (plain_char c) s h g =
     (none_if _ _ _ (not-true _ r.0)
     (none_if _ _ _ (not-true _ q.1)
     (if_false _ _ _ (and_left _ _ (not-true _ r.1))
-    ∙ none_unless _ _ _ p.1 (subst (λ n. behind_item kind (c ∷ 39 ∷ s) n ≡ None) (sym one) (closing_none kind _ s g)))))
+    ∙ none_unless _ _ _ p.1 (subst (λ n. after_item kind (c ∷ 39 ∷ s) n ≡ None) (sym one) (closing_none kind _ s g)))))
 item_none kind (escaped_char e) s h g = escaped (escape_text e ++ 39 ∷ s) (escape_head e (39 ∷ s)) refl
   where
     escaped : (t : List ℕ) → (c : ℕ) × (r : List ℕ) × (t ≡ 92 ∷ c ∷ r) → t ≡ escape_text e ++ 39 ∷ s → char_item_refusal kind t ≡ None
@@ -115,12 +115,12 @@ item_none kind (escaped_char e) s h g = escaped (escape_text e ++ 39 ∷ s) (esc
         let w = char_switches_of kind in
         let none : escape_refusal w (92 ∷ c ∷ r) ≡ None = subst (λ l. escape_refusal w l ≡ None) whole (refusal_escape w e (39 ∷ s) h) in
         let size : escape_length (92 ∷ c ∷ r) ≡ length (escape_text e) = subst (λ l. escape_length l ≡ length (escape_text e)) whole (escape_length_is w e (39 ∷ s) h) in
-        let behind : drop (length (escape_text e)) (92 ∷ c ∷ r) ≡ 39 ∷ s = subst (λ l. drop (length (escape_text e)) l ≡ 39 ∷ s) whole (drop_at (escape_text e) (39 ∷ s) (length (escape_text e)) refl) in
+        let after : drop (length (escape_text e)) (92 ∷ c ∷ r) ≡ 39 ∷ s = subst (λ l. drop (length (escape_text e)) l ≡ 39 ∷ s) whole (drop_at (escape_text e) (39 ∷ s) (length (escape_text e)) refl) in
         subst (λ l. char_item_refusal kind l ≡ None) (sym head)
         (none_some true _ _ none
         (none_unless _ _ _ (backslash_allowed kind)
-        (subst (λ n. behind_item kind (92 ∷ c ∷ r) n ≡ None) (sym size)
-        (subst (λ l. closing_refusal kind (byte_len (take (length (escape_text e)) (92 ∷ c ∷ r))) l ≡ None) (sym behind) (closing_none kind _ s g)))))
+        (subst (λ n. after_item kind (92 ∷ c ∷ r) n ≡ None) (sym size)
+        (subst (λ l. closing_refusal kind (byte_len (take (length (escape_text e)) (92 ∷ c ∷ r))) l ≡ None) (sym after) (closing_none kind _ s g)))))
 
 -- where the table has no row, an item, the closing quote and a suffix stand there
 pub record HasChar (kind : CharKind) (t : List ℕ) (a : CharItem) (s : List ℕ) : Type 0 where
@@ -135,20 +135,20 @@ not_some : (o : Option Refusal) → is_some o ≡ false → o ≡ None
 not_some None h = refl
 not_some (Some e) h = cc
 
-escape_before : (kind : CharKind) (t : List ℕ) → escape_refusal (char_switches_of kind) (92 ∷ t) ≡ None → behind_item kind (92 ∷ t) (escape_length (92 ∷ t)) ≡ None → SomeChar kind (92 ∷ t)
+escape_before : (kind : CharKind) (t : List ℕ) → escape_refusal (char_switches_of kind) (92 ∷ t) ≡ None → after_item kind (92 ∷ t) (escape_length (92 ∷ t)) ≡ None → SomeChar kind (92 ∷ t)
 escape_before kind t none h = go (read_escape (char_switches_of kind) t none)
   where
     go : (e : Escape) × (rest : List ℕ) × HasEscape (char_switches_of kind) (92 ∷ t) e rest → SomeChar kind (92 ∷ t)
     go (e, rest, here) =
         let size : escape_length (92 ∷ t) ≡ length (escape_text e) =
         subst (λ l. escape_length l ≡ length (escape_text e)) here.spells (escape_length_is (char_switches_of kind) e rest here.grammar) in
-        let behind : drop (escape_length (92 ∷ t)) (92 ∷ t) ≡ rest =
+        let after : drop (escape_length (92 ∷ t)) (92 ∷ t) ≡ rest =
         ap (λ n. drop n (92 ∷ t)) size ∙ subst (λ l. drop (length (escape_text e)) l ≡ rest) here.spells (drop_at (escape_text e) rest (length (escape_text e)) refl) in
         let closes = closing_read kind _ _ h in (
           escaped_char e,
           closes.0,
           record {
-            spells = ap (λ l. escape_text e ++ l) (closes.1 ∙ behind) ∙ here.spells;
+            spells = ap (λ l. escape_text e ++ l) (closes.1 ∙ after) ∙ here.spells;
             item = here.grammar;
             suffix = closes.2;
           },
@@ -166,10 +166,10 @@ item_read kind (c ∷ t) h =
   where
     by_backslash : (b : Bool) → (c == 92) ≡ b → (c == 39) ≡ false → is_special_whitespace c ≡ false →
         ((c == 92) && is_some (escape_refusal (char_switches_of kind) (c ∷ t))) ≡ false → allows_char kind c ≡ true →
-        behind_item kind (c ∷ t) (char_item_length c (c ∷ t)) ≡ None → SomeChar kind (c ∷ t)
-    by_backslash false n quote special none allowed behind =
+        after_item kind (c ∷ t) (char_item_length c (c ∷ t)) ≡ None → SomeChar kind (c ∷ t)
+    by_backslash false n quote special none allowed after =
         let one : char_item_length c (c ∷ t) ≡ 1 = if_false _ _ _ n in
-        let closes = closing_read kind _ _ (subst (λ n. behind_item kind (c ∷ t) n ≡ None) one behind) in (
+        let closes = closing_read kind _ _ (subst (λ n. after_item kind (c ∷ t) n ≡ None) one after) in (
           plain_char c,
           closes.0,
           record {
@@ -178,13 +178,13 @@ item_read kind (c ∷ t) h =
             suffix = closes.2;
           },
         )
-    by_backslash true y quote special none allowed behind =
+    by_backslash true y quote special none allowed after =
         let at : c ≡ 92 = eqb-true c 92 y in
         let size : char_item_length c (c ∷ t) ≡ escape_length (c ∷ t) = if_true _ _ _ y in
         let never : is_some (escape_refusal (char_switches_of kind) (c ∷ t)) ≡ false = subst (λ b. (b && is_some (escape_refusal (char_switches_of kind) (c ∷ t))) ≡ false) y none in
         subst (λ n. SomeChar kind (n ∷ t)) (sym at)
         (escape_before kind t (subst (λ n. escape_refusal (char_switches_of kind) (n ∷ t) ≡ None) at (not_some _ never))
-        (subst (λ n. behind_item kind (n ∷ t) (escape_length (n ∷ t)) ≡ None) at (subst (λ n. behind_item kind (c ∷ t) n ≡ None) size behind)))
+        (subst (λ n. after_item kind (n ∷ t) (escape_length (n ∷ t)) ≡ None) at (subst (λ n. after_item kind (c ∷ t) n ≡ None) size after)))
 
 pub chars_are_decided : CharsAreDecided
 unfolding char_kind_refusal
@@ -218,5 +218,5 @@ chars_are_decided kind t = (read, refused_none)
     refused_none (d, h) =
         let inner = char_item_text d.item ++ 39 ∷ d.suffix in
         let begins : begins_with (char_front kind) t ≡ true = subst (λ l. begins_with (char_front kind) l ≡ true) h.spells (begins_with-append (char_front kind) inner) in
-        let behind : drop (length (char_front kind)) t ≡ inner = subst (λ l. drop (length (char_front kind)) l ≡ inner) h.spells (drop_at (char_front kind) inner (length (char_front kind)) refl) in
-        if_true _ _ _ begins ∙ ap (option_map (moved (length (char_front kind)))) (ap (char_item_refusal kind) behind ∙ item_none kind d.item d.suffix h.item h.suffix)
+        let after : drop (length (char_front kind)) t ≡ inner = subst (λ l. drop (length (char_front kind)) l ≡ inner) h.spells (drop_at (char_front kind) inner (length (char_front kind)) refl) in
+        if_true _ _ _ begins ∙ ap (option_map (moved (length (char_front kind)))) (ap (char_item_refusal kind) after ∙ item_none kind d.item d.suffix h.item h.suffix)

@@ -22,11 +22,11 @@ use Rattle.litrs_grammar.proofs.FloatCuts.{cut_of_text, letter_period, letter_de
 
 -- the rows by what is known of the parts: something else than a digit after a period; a period; an exponent; a digit in it;
 -- a suffix after the number
-abbrev pub float_rows : (fraction exponent suffix len : ℕ) (kind : ParseErrorKind) (wrong_fraction has_fraction has_exponent exponent_digit suffix_behind : Bool) → Option Refusal
-float_rows fraction exponent suffix len kind wrong_fraction has_fraction has_exponent exponent_digit suffix_behind =
+abbrev pub float_rows : (fraction exponent suffix len : ℕ) (kind : ParseErrorKind) (wrong_fraction has_fraction has_exponent exponent_digit suffix_after : Bool) → Option Refusal
+float_rows fraction exponent suffix len kind wrong_fraction has_fraction has_exponent exponent_digit suffix_after =
     if wrong_fraction then Some (at (fraction + 1) UnexpectedChar)
     else if has_exponent && not exponent_digit then Some (over exponent suffix NoExponentDigits)
-    else if not suffix_behind then Some (over suffix len kind)
+    else if not suffix_after then Some (over suffix len kind)
     else if not (has_fraction || has_exponent) then Some (plain UnexpectedIntegerLit)
     else None
 
@@ -206,9 +206,9 @@ integer_literal : (i r : List ℕ) → list_all is_decimal_char i ≡ true → f
 integer_literal [] r all stop digit = absurd (false≢true (sym (digit_from_decimal r stop) ∙ digit))
 integer_literal (c ∷ cs) r all stop digit = and_from _ _ digit all
 
-behind_sign : (cs : List ℕ) → list_any is_ascii_digit cs ≡ true → list_any is_ascii_digit (drop (sign_len cs) cs) ≡ true
-behind_sign [] h = h
-behind_sign (s ∷ ds) h = elim (cases_Bool (is_sign s)) [
+after_sign : (cs : List ℕ) → list_any is_ascii_digit cs ≡ true → list_any is_ascii_digit (drop (sign_len cs) cs) ≡ true
+after_sign [] h = h
+after_sign (s ∷ ds) h = elim (cases_Bool (is_sign s)) [
   | inl sign ↦ (let other : is_ascii_digit s ≡ false = grind (arith, nat_tests) in
       let rest : list_any is_ascii_digit ds ≡ true = ap (λ v. v || list_any is_ascii_digit ds) (sym other) ∙ h in
       ap (λ v. list_any is_ascii_digit (drop (cond v 1 0) (s ∷ ds))) sign ∙ rest)
@@ -223,22 +223,22 @@ exponent_from (c ∷ cs) some front row =
     let any : (is_ascii_digit c || list_any is_ascii_digit cs) ≡ true = not-false _ row in
     let other : is_ascii_digit c ≡ false = decimal_digit c (letter_decimal c parts.0) in
     let rest : list_any is_ascii_digit cs ≡ true = ap (λ v. v || list_any is_ascii_digit cs) (sym other) ∙ any in
-    and_from _ _ parts.0 (and_from _ _ parts.1 (behind_sign cs rest))
+    and_from _ _ parts.0 (and_from _ _ parts.1 (after_sign cs rest))
 
 empty_or_exponent : (p : List ℕ) → is_exponent_front p ≡ true → (not (is_empty p) && not (list_any is_ascii_digit p)) ≡ false → (is_empty p || is_exponent p) ≡ true
 empty_or_exponent [] front row = refl
 empty_or_exponent (c ∷ cs) front row = exponent_from (c ∷ cs) refl front row
 
-nothing_behind : (p x : List ℕ) → first_passes is_decimal_char (p ++ x) ≡ false → has_wrong_fraction (46 ∷ (p ++ x)) ≡ false → (is_empty p && is_empty x) ≡ true
-nothing_behind [] [] stop row = refl
-nothing_behind [] (y ∷ ys) stop row = absurd (true≢false (sym (ap not (decimal_digit y stop)) ∙ row))
-nothing_behind (y ∷ ys) x stop row = absurd (true≢false (sym (ap not (decimal_digit y stop)) ∙ row))
+nothing_after : (p x : List ℕ) → first_passes is_decimal_char (p ++ x) ≡ false → has_wrong_fraction (46 ∷ (p ++ x)) ≡ false → (is_empty p && is_empty x) ≡ true
+nothing_after [] [] stop row = refl
+nothing_after [] (y ∷ ys) stop row = absurd (true≢false (sym (ap not (decimal_digit y stop)) ∙ row))
+nothing_after (y ∷ ys) x stop row = absurd (true≢false (sym (ap not (decimal_digit y stop)) ∙ row))
 
 form_from : (f : Option (List ℕ)) (p x : List ℕ) → fraction_passes f ≡ true → is_exponent_front p ≡ true → first_passes is_decimal_char x ≡ false →
     has_wrong_fraction (fraction_text f ++ (p ++ x)) ≡ false → (not (is_empty p) && not (list_any is_ascii_digit p)) ≡ false → (is_some f || not (is_empty p)) ≡ true →
     is_float_form f p x ≡ true
 form_from None p x passes front stop row digits either = exponent_from p (not-true _ either) front digits
-form_from (Some []) p x passes front stop row digits either = nothing_behind p x (exponent_stops p x front stop) row
+form_from (Some []) p x passes front stop row digits either = nothing_after p x (exponent_stops p x front stop) row
 form_from (Some (c ∷ cs)) p x passes front stop row digits either =
     and_from (is_decimal_literal (c ∷ cs)) _ (and_from (is_ascii_digit c) _ (not-false _ row) passes) (empty_or_exponent p front digits)
 

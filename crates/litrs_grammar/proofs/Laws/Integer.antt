@@ -20,10 +20,10 @@ use Rattle.litrs_base.proofs.Begins.{begins_with-split}
 
 -- The rows of the refusals, by tests of the text
 
-abbrev pub integer_rows : (start end len : ℕ) (suffix_behind digit_behind : Bool) (kind : ParseErrorKind) (e_behind some_digit : Bool) → Option Refusal
-integer_rows start end len suffix_behind digit_behind kind e_behind some_digit =
-    if not suffix_behind then (if digit_behind then Some (at end InvalidDigit) else Some (over end len kind))
-    else if e_behind then Some (at end IntegerSuffixStartingWithE)
+abbrev pub integer_rows : (start end len : ℕ) (suffix_after digit_after : Bool) (kind : ParseErrorKind) (e_after some_digit : Bool) → Option Refusal
+integer_rows start end len suffix_after digit_after kind e_after some_digit =
+    if not suffix_after then (if digit_after then Some (at end InvalidDigit) else Some (over end len kind))
+    else if e_after then Some (at end IntegerSuffixStartingWithE)
     else if not some_digit then Some (over start end NoDigits)
     else None
 
@@ -102,9 +102,9 @@ integer_rows-None start end len false false kind e some h = cc
 
 abbrev pub cut_with : IntegerBase → List ℕ → IntegerParts
 cut_with base t =
-    let behind = drop (length (prefix base)) t in
-    let main = take_while (is_digit_or_underscore base) behind in
-    record { base = base; main = main; suffix = drop (length main) behind }
+    let after = drop (length (prefix base)) t in
+    let main = take_while (is_digit_or_underscore base) after in
+    record { base = base; main = main; suffix = drop (length main) after }
 
 pub integer_cut-is : (t : List ℕ) → integer_cut t ≡ cut_with (base_of t) t
 unfolding integer_cut
@@ -113,9 +113,9 @@ integer_cut-is t = refl
 pub cut_with-text : (d : IntegerParts) → IsInteger d → cut_with d.base (integer_text d) ≡ d
 cut_with-text d g =
     let p = is_digit_or_underscore d.base in
-    let behind : drop (length (prefix d.base)) (integer_text d) ≡ d.main ++ d.suffix = drop_at (prefix d.base) (d.main ++ d.suffix) (length (prefix d.base)) refl in
+    let after : drop (length (prefix d.base)) (integer_text d) ≡ d.main ++ d.suffix = drop_at (prefix d.base) (d.main ++ d.suffix) (length (prefix d.base)) refl in
     let main : take_while p (d.main ++ d.suffix) ≡ d.main = take_while_front p d.main d.suffix g.digits g.ends in
-    ap (λ u. record { base = d.base; main = take_while p u; suffix = drop (length (take_while p u)) u }) behind
+    ap (λ u. record { base = d.base; main = take_while p u; suffix = drop (length (take_while p u)) u }) after
     ∙ (ap (λ m. record { base = d.base; main = m; suffix = drop (length m) (d.main ++ d.suffix) }) main
     ∙ ap (λ x. record { base = d.base; main = d.main; suffix = x }) (drop_at d.main d.suffix (length d.main) refl))
 
@@ -181,8 +181,8 @@ base_of-is t = base_by t (begins_with (prefix Binary) t) (begins_with (prefix Oc
 
 pub cut-spells : (t : List ℕ) → integer_text (cut_with (base_of t) t) ≡ t
 cut-spells t =
-    let behind = drop (length (prefix (base_of t))) t in
-    ap (λ u. prefix (base_of t) ++ u) (take_while-append-rest (is_digit_or_underscore (base_of t)) behind) ∙ (base_of-is t).0
+    let after = drop (length (prefix (base_of t))) t in
+    ap (λ u. prefix (base_of t) ++ u) (take_while-append-rest (is_digit_or_underscore (base_of t)) after) ∙ (base_of-is t).0
 
 first_taken : (p q : ℕ → Bool) (t : List ℕ) → ((c : ℕ) → q c ≡ true → p c ≡ true) → first_passes q t ≡ true → first_passes q (take_while p t) ≡ true
 first_taken p q [] implies e = cc
@@ -206,14 +206,14 @@ derivable t free =
     let facts = integer_rows-None (byte_len (prefix d.base)) (byte_len (prefix d.base ++ d.main)) (byte_len (integer_text d))
     (is_suffix d.suffix) (first_passes is_ascii_digit d.suffix) (suffix_refusal d.suffix)
     (first_passes is_e d.suffix) (list_any (is_digit d.base) d.main) cut_free in
-    let behind = drop (length (prefix (base_of t))) t in
+    let after = drop (length (prefix (base_of t))) t in
     let p = is_digit_or_underscore (base_of t) in
     subst (λ (e : IntegerParts). IsIntegerOf t e) (sym (integer_cut-is t)) (record {
       spells = cut-spells t;
       grammar = record {
-        digits = list_all-take_while p behind;
+        digits = list_all-take_while p after;
         some_digit = facts.2;
-        ends = ap (λ n. first_passes p (drop n behind)) (length-prefix_len p behind) ∙ first_passes-rest p behind;
+        ends = ap (λ n. first_passes p (drop n after)) (length-prefix_len p after) ∙ first_passes-rest p after;
         suffix = facts.0;
         no_exponent = facts.1;
         decimal_digit = λ e. decimal_main t (base_of t) e rows.1;

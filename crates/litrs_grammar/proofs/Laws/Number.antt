@@ -12,7 +12,7 @@ use Rattle.litrs_grammar.specs.Integer.{IntegerParts, IsIntegerOf, is_e}
 use Rattle.litrs_grammar.specs.Float.{FloatParts, fraction_text, is_period, is_exponent, is_float_form, IsFloatOf}
 use Rattle.litrs_grammar.specs.LiteralRefusals.{is_float_mark, begins_float}
 use Rattle.litrs_grammar.proofs.Laws.Integer.{prefix_len_front}
-use Rattle.litrs_grammar.proofs.FloatCuts.{behind_decimals}
+use Rattle.litrs_grammar.proofs.FloatCuts.{after_decimals}
 use Rattle.litrs_grammar.proofs.Laws.Float.{float_is_cut, suffix_no_period}
 
 -- floats
@@ -29,7 +29,7 @@ form_mark (Some f) p x h = refl
 pub float_begins : (t : List ℕ) (d : FloatParts) → IsFloatOf t d → begins_float t ≡ true
 float_begins t d r =
     ap begins_float (sym r.spells)
-    ∙ (ap (first_passes is_float_mark) (behind_decimals d (float_is_cut d r.grammar)) ∙ form_mark d.fraction d.exponent d.suffix r.grammar.form)
+    ∙ (ap (first_passes is_float_mark) (after_decimals d (float_is_cut d r.grammar)) ∙ form_mark d.fraction d.exponent d.suffix r.grammar.form)
 
 -- integers
 
@@ -44,8 +44,8 @@ integer_mark Octal m x all ends suffix no_e = refl
 integer_mark Hexadecimal m x all ends suffix no_e = refl
 integer_mark Decimal m x all ends suffix no_e =
     let p = is_digit_or_underscore Decimal in
-    let behind : drop (prefix_len p (m ++ x)) (m ++ x) ≡ x = drop_at m x (prefix_len p (m ++ x)) (sym (prefix_len_front p m x all ends)) in
-    ap (first_passes is_float_mark) behind ∙ suffix_mark x suffix no_e
+    let after : drop (prefix_len p (m ++ x)) (m ++ x) ≡ x = drop_at m x (prefix_len p (m ++ x)) (sym (prefix_len_front p m x all ends)) in
+    ap (first_passes is_float_mark) after ∙ suffix_mark x suffix no_e
 
 pub integer_begins : (t : List ℕ) (d : IntegerParts) → IsIntegerOf t d → begins_float t ≡ false
 integer_begins t d r = let g = r.grammar in

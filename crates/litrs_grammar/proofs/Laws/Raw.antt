@@ -13,7 +13,7 @@ use Rattle.litrs_grammar.specs.Raw.{is_quote, is_hash, hashes, raw_closing, occu
 use Rattle.litrs_base.specs.Derivations.{IsOnlyDerivation, HasNoDerivation}
 use Rattle.litrs_base.proofs.Runs.{prefix_len_all, all_from_prefix_len}
 use Rattle.litrs_base.proofs.Spans.{none_from}
-use Rattle.litrs_grammar.proofs.RawCuts.{length-hashes, hash_len-append, behind_hashes, hash_cut, length_before-body, occurs-body, ClosingCut, closing_cut}
+use Rattle.litrs_grammar.proofs.RawCuts.{length-hashes, hash_len-append, after_hashes, hash_cut, length_before-body, occurs-body, ClosingCut, closing_cut}
 
 -- The rows after the opening quote, by what is known of the text: a character that may not stand in the body stands before
 -- the first closing; there is a closing; a suffix follows it.
@@ -40,8 +40,8 @@ pub refusal_of_hashes : (unicode allow_nul : Bool) (start n : ℕ) (rest : List 
 unfolding raw_refusal
 refusal_of_hashes unicode allow_nul start n rest stop =
     let count : hash_len (hashes n ++ rest) ≡ n = hash_len-append n rest stop in
-    let behind : drop (hash_len (hashes n ++ rest)) (hashes n ++ rest) ≡ rest = ap (λ k. drop k (hashes n ++ rest)) count ∙ behind_hashes n rest in
-    λ j. raw_rows start (count j) (raw_body_refusal unicode allow_nul (count j) (start + (count j + 1)) (drop 1 (behind j))) (is_empty (behind j)) (ltb 255 (count j)) (first_passes is_quote (behind j))
+    let after : drop (hash_len (hashes n ++ rest)) (hashes n ++ rest) ≡ rest = ap (λ k. drop k (hashes n ++ rest)) count ∙ after_hashes n rest in
+    λ j. raw_rows start (count j) (raw_body_refusal unicode allow_nul (count j) (start + (count j + 1)) (drop 1 (after j))) (is_empty (after j)) (ltb 255 (count j)) (first_passes is_quote (after j))
 
 -- what stands before the first closing, and after it
 pub before_closing : (n : ℕ) (body x : List ℕ) → occurs (raw_closing n) body ≡ false →
@@ -51,8 +51,8 @@ before_closing n body x none = take_at body (raw_closing n ++ x) (length_before 
 pub length_closing : (n : ℕ) → length (raw_closing n) ≡ 1 + n
 length_closing n = omega (arith, length-hashes n)
 
-pub behind_closing : (n : ℕ) (body x : List ℕ) → drop (length body + (1 + n)) (body ++ (raw_closing n ++ x)) ≡ x
-behind_closing n body x =
+pub after_closing : (n : ℕ) (body x : List ℕ) → drop (length body + (1 + n)) (body ++ (raw_closing n ++ x)) ≡ x
+after_closing n body x =
     ap (drop (length body + (1 + n))) (sym (append_assoc body (raw_closing n) x))
     ∙ drop_at (body ++ raw_closing n) x (length body + (1 + n)) (length-append body (raw_closing n) ∙ ap (λ k. length body + k) (length_closing n))
 
@@ -66,18 +66,18 @@ refusal_of_closed unicode allow_nul n start body x none =
     let ok = is_raw_char unicode allow_nul in
     let r : List ℕ = body ++ (raw_closing n ++ x) in
     let before : take (length_before (raw_closing n) r) r ≡ body = before_closing n body x none in
-    let behind : drop (length (take (length_before (raw_closing n) r) r) + (1 + n)) r ≡ x = ap (λ b. drop (length b + (1 + n)) r) before ∙ behind_closing n body x in
+    let after : drop (length (take (length_before (raw_closing n) r) r) + (1 + n)) r ≡ x = ap (λ b. drop (length b + (1 + n)) r) before ∙ after_closing n body x in
     let closed : occurs (raw_closing n) r ≡ true = occurs-body n body x in
     λ j. raw_body_rows (start + byte_len (take (prefix_len ok (before j)) r)) (start + (byte_len (before j) + (1 + n)))
-    (raw_char_refusal (slice_index r (prefix_len ok (before j)))) (suffix_refusal (behind j))
-    (ltb (prefix_len ok (before j)) (length (before j))) (closed j) (is_suffix (behind j))
+    (raw_char_refusal (slice_index r (prefix_len ok (before j)))) (suffix_refusal (after j))
+    (ltb (prefix_len ok (before j)) (length (before j))) (closed j) (is_suffix (after j))
 
 -- where no row fits
 
 record NoBodyRow (refused closed suffix : Bool) : Type 0 where
   allowed : refused ≡ false
   closing : closed ≡ true
-  behind : suffix ≡ true
+  after : suffix ≡ true
 
 no_body_row : (place suffix_place : ℕ) (kind suffix_kind : ParseErrorKind) (refused closed suffix : Bool) →
     raw_body_rows place suffix_place kind suffix_kind refused closed suffix ≡ None → NoBodyRow refused closed suffix
@@ -85,7 +85,7 @@ no_body_row place suffix_place kind suffix_kind refused closed suffix h =
     let a = none_from _ _ _ h in
     let b = none_from _ _ _ a.1 in
     let c = none_from _ _ _ b.1 in
-    record { allowed = a.0; closing = not-false _ b.0; behind = not-false _ c.0 }
+    record { allowed = a.0; closing = not-false _ b.0; after = not-false _ c.0 }
 
 record NoRow (body_refusal : Option Refusal) (nothing too_many quote : Bool) : Type 0 where
   something : nothing ≡ false
@@ -129,15 +129,15 @@ closed_from unicode allow_nul n start r h = (no_body_row _ _ _ _ _ _ _ h).closin
 derivable_closed : (unicode allow_nul : Bool) (start n : ℕ) (t r : List ℕ) → hashes n ++ (34 ∷ r) ≡ t → ltb 255 n ≡ false →
     raw_body_refusal unicode allow_nul n start r ≡ None → ClosingCut n r → (d : RawParts) × IsRawOf unicode allow_nul t d
 derivable_closed unicode allow_nul start n t r spells few h c =
-    let rows = no_body_row _ (start + (byte_len c.before + (1 + n))) _ (suffix_refusal c.behind) _ true (is_suffix c.behind) (sym (refusal_of_closed unicode allow_nul n start c.before c.behind c.unclosed) ∙ (ap (raw_body_refusal unicode allow_nul n start) c.spells ∙ h)) in
-    let d : RawParts = record { hash_count = n; body = c.before; suffix = c.behind } in (
+    let rows = no_body_row _ (start + (byte_len c.before + (1 + n))) _ (suffix_refusal c.after) _ true (is_suffix c.after) (sym (refusal_of_closed unicode allow_nul n start c.before c.after c.unclosed) ∙ (ap (raw_body_refusal unicode allow_nul n start) c.spells ∙ h)) in
+    let d : RawParts = record { hash_count = n; body = c.before; suffix = c.after } in (
       d,
       record {
         spells = ap (λ s. hashes n ++ (34 ∷ s)) c.spells ∙ spells;
         grammar = record {
           hash_count = ltb-false 255 n few;
           body = record { allowed = all_from_prefix_len (is_raw_char unicode allow_nul) c.before (ltb-false _ _ rows.allowed); unclosed = c.unclosed };
-          suffix = rows.behind;
+          suffix = rows.after;
         };
       },
     )
@@ -156,8 +156,8 @@ derivable unicode allow_nul start t h = let c = hash_cut t in
 
 -- one derivation at most
 
-behind_opening : (d : RawParts) → drop (suc (hash_len (raw_text d))) (raw_text d) ≡ d.body ++ (raw_closing d.hash_count ++ d.suffix)
-behind_opening d =
+after_opening : (d : RawParts) → drop (suc (hash_len (raw_text d))) (raw_text d) ≡ d.body ++ (raw_closing d.hash_count ++ d.suffix)
+after_opening d =
     let r = d.body ++ (raw_closing d.hash_count ++ d.suffix) in
     let n = d.hash_count in
     let count : hash_len (raw_text d) ≡ n = hash_len-append n (34 ∷ r) refl in
@@ -176,13 +176,13 @@ parts_of_text unicode allow_nul d g =
     let r = d.body ++ (raw_closing d.hash_count ++ d.suffix) in
     let n = d.hash_count in
     let count : hash_len (raw_text d) ≡ n = hash_len-append n (34 ∷ r) refl in
-    let rest : drop (suc (hash_len (raw_text d))) (raw_text d) ≡ r = behind_opening d in
+    let rest : drop (suc (hash_len (raw_text d))) (raw_text d) ≡ r = after_opening d in
     let before : take (length_before (raw_closing n) r) r ≡ d.body = before_closing n d.body d.suffix g.body.unclosed in
-    let behind : drop (length_before (raw_closing n) r + (1 + n)) r ≡ d.suffix =
-    ap (λ k. drop (k + (1 + n)) r) (length_before-body n d.body d.suffix g.body.unclosed) ∙ behind_closing n d.body d.suffix in
+    let after : drop (length_before (raw_closing n) r + (1 + n)) r ≡ d.suffix =
+    ap (λ k. drop (k + (1 + n)) r) (length_before-body n d.body d.suffix g.body.unclosed) ∙ after_closing n d.body d.suffix in
     let first : parts_of (raw_text d) ≡ record { hash_count = n; body = take (length_before (raw_closing n) r) r; suffix = drop (length_before (raw_closing n) r + (1 + n)) r } =
     (λ j. record { hash_count = count j; body = take (length_before (raw_closing (count j)) (rest j)) (rest j); suffix = drop (length_before (raw_closing (count j)) (rest j) + (1 + count j)) (rest j) }) in
-    first ∙ (λ j. record { hash_count = n; body = before j; suffix = behind j })
+    first ∙ (λ j. record { hash_count = n; body = before j; suffix = after j })
 
 pub only_raw : (unicode allow_nul : Bool) (t : List ℕ) (d e : RawParts) → IsRawOf unicode allow_nul t d → IsRawOf unicode allow_nul t e → d ≡ e
 only_raw unicode allow_nul t d e r s =

@@ -39,7 +39,7 @@ escape_begun kind (escaped_char e) rest more is same = inr (inl (e, more, sym sa
 pub char_longer : (kind : CharKind) (t more : List ℕ) (d : CharParts) → HasNoDerivation (IsCharLiteral kind t) → IsCharLiteral kind (t ++ more) d → CharGoesOn kind t
 char_longer kind t more d none lit = elim (front_of t (char_front kind) more inner (sym lit.spells)) [
   | inr (c, z, s) ↦ inl (ap (begins_with t) s ∙ begins_with-append t (c ∷ z))
-  | inl (z, s) ↦ behind z s (append_cancel_left (char_front kind) inner (z ++ more) (lit.spells ∙ ap (λ l. l ++ more) s ∙ append_assoc (char_front kind) z more))
+  | inl (z, s) ↦ after z s (append_cancel_left (char_front kind) inner (z ++ more) (lit.spells ∙ ap (λ l. l ++ more) s ∙ append_assoc (char_front kind) z more))
 ]
   where
     text : List ℕ
@@ -60,8 +60,8 @@ char_longer kind t more d none lit = elim (front_of t (char_front kind) more inn
         let lone : s ≡ 95 ∷ [] = suffix_freed s more suffix (ap is_suffix (sym longer) ∙ lit.suffix) in
         inr (z, sym is, inr (inr (d.item, lit.item, inside ∙ ap (λ l. text ++ 39 ∷ l) lone)))
 
-    behind : (z : List ℕ) → t ≡ char_front kind ++ z → inner ≡ z ++ more → CharGoesOn kind t
-    behind z is same = elim (front_of text z (39 ∷ d.suffix) more same) [
+    after : (z : List ℕ) → t ≡ char_front kind ++ z → inner ≡ z ++ more → CharGoesOn kind t
+    after z is same = elim (front_of text z (39 ∷ d.suffix) more same) [
       | inl (y, s) ↦ elim (escape_begun kind d.item z y lit.item s) [ inl empty ↦ front_alone z is empty | inr goes_on ↦ inr (z, sym is, goes_on) ]
       | inr (c, y, s) ↦ (let tails : 39 ∷ d.suffix ≡ c ∷ (y ++ more) = append_cancel_left text _ _ (same ∙ ap (λ l. l ++ more) s ∙ append_assoc text (c ∷ y) more) in
           let quote : 39 ≡ c = cc in
@@ -171,12 +171,12 @@ item_closing kind (escaped_char e) t is = escaped (escape_head e t)
         let none : escape_refusal w (92 ∷ c ∷ s) ≡ None = ap (escape_refusal w) (sym head) ∙ refusal_escape w e t is in
         let size : escape_length (92 ∷ c ∷ s) ≡ length (escape_text e) = ap escape_length (sym head) ∙ escape_length_is w e t is in
         let taken : take (length (escape_text e)) (92 ∷ c ∷ s) ≡ escape_text e = ap (take (length (escape_text e))) (sym head) ∙ take_at (escape_text e) t (length (escape_text e)) refl in
-        let behind : drop (length (escape_text e)) (92 ∷ c ∷ s) ≡ t = ap (drop (length (escape_text e))) (sym head) ∙ drop_at (escape_text e) t (length (escape_text e)) refl in
+        let after : drop (length (escape_text e)) (92 ∷ c ∷ s) ≡ t = ap (drop (length (escape_text e))) (sym head) ∙ drop_at (escape_text e) t (length (escape_text e)) refl in
         ap (char_item_refusal kind) head
         ∙ none_row true _ _ none
         ∙ if_false _ _ _ (ap not (backslash_allowed kind))
         ∙ ap (λ n. closing_refusal kind (byte_len (take n (92 ∷ c ∷ s))) (drop n (92 ∷ c ∷ s))) size
-        ∙ (λ j. closing_refusal kind (byte_len (taken j)) (behind j))
+        ∙ (λ j. closing_refusal kind (byte_len (taken j)) (after j))
 
 -- nothing closes it
 closing_nothing : (kind : CharKind) (item : CharItem) (t : List ℕ) → is_char_item kind item ≡ true → char_item_text item ≡ t → final_row (char_item_refusal kind t) ≡ false
@@ -216,10 +216,10 @@ begun_not_final w t more e same is = by (escape_refusal w t) refl
 
 -- an escape that is begun and not refused is whole
 whole_escape : (kind : CharKind) (rest more : List ℕ) (e : Escape) → (92 ∷ rest) ++ more ≡ escape_text e → is_escape (char_switches_of kind) e ≡ true →
-    (f : Escape) × (behind : List ℕ) × HasEscape (char_switches_of kind) (92 ∷ rest) f behind → final_row (char_item_refusal kind (92 ∷ rest)) ≡ false
-whole_escape kind rest more e same is (f, behind, has) =
-    let longer : escape_text f ++ (behind ++ more) ≡ escape_text e ++ [] = sym (append_assoc (escape_text f) behind more) ∙ ap (λ l. l ++ more) has.spells ∙ same ∙ sym (append-nil (escape_text e)) in
-    let none : behind ≡ [] = nothing_left behind more (same_escape (char_switches_of kind) f e (behind ++ more) [] has.grammar is longer).1 in
+    (f : Escape) × (after : List ℕ) × HasEscape (char_switches_of kind) (92 ∷ rest) f after → final_row (char_item_refusal kind (92 ∷ rest)) ≡ false
+whole_escape kind rest more e same is (f, after, has) =
+    let longer : escape_text f ++ (after ++ more) ≡ escape_text e ++ [] = sym (append_assoc (escape_text f) after more) ∙ ap (λ l. l ++ more) has.spells ∙ same ∙ sym (append-nil (escape_text e)) in
+    let none : after ≡ [] = nothing_left after more (same_escape (char_switches_of kind) f e (after ++ more) [] has.grammar is longer).1 in
     closing_nothing kind (escaped_char f) (92 ∷ rest) has.grammar (sym (append-nil (escape_text f)) ∙ ap (λ l. escape_text f ++ l) (sym none) ∙ has.spells)
   where
     nothing_left : (s t : List ℕ) → s ++ t ≡ [] → s ≡ []
@@ -257,11 +257,11 @@ unfolding char_kind_refusal
 goes_on_not_final kind t (inl begins) = front_not_final kind t (drop (length t) (char_front kind)) (begins_with-split t (char_front kind) begins)
 goes_on_not_final kind t (inr (rest, spells, goes_on)) =
     let begins : begins_with (char_front kind) t ≡ true = ap (begins_with (char_front kind)) (sym spells) ∙ begins_with-append (char_front kind) rest in
-    let behind : drop (length (char_front kind)) t ≡ rest = ap (drop (length (char_front kind))) (sym spells) ∙ drop_at (char_front kind) rest (length (char_front kind)) refl in
-    ap final_row (if_true _ _ _ begins ∙ ap (λ l. option_map (moved (length (char_front kind))) (char_item_refusal kind l)) behind)
+    let after : drop (length (char_front kind)) t ≡ rest = ap (drop (length (char_front kind))) (sym spells) ∙ drop_at (char_front kind) rest (length (char_front kind)) refl in
+    ap final_row (if_true _ _ _ begins ∙ ap (λ l. option_map (moved (length (char_front kind))) (char_item_refusal kind l)) after)
     ∙ moved_final (length (char_front kind)) (char_item_refusal kind rest) ∙ rest_not_final kind rest goes_on
 
--- after a final refusal no longer text is a char or a byte
+-- after a final refusal no extension of the text is a char or a byte
 pub char_finality : (kind : CharKind) (t : List ℕ) (r : Refusal) → char_kind_refusal kind t ≡ Some r → is_final r.kind ≡ true → EndsBy (IsCharLiteral kind) t
 char_finality kind t r h final more d lit =
     true≢false (sym final ∙ sym (ap final_row h) ∙ goes_on_not_final kind t (char_longer kind t more d (no_char kind t r h) lit))

@@ -188,7 +188,7 @@ number_named : (b : Bool) (e : Refusal) → (if b then parsed_as float_literal e
 number_named true e h = cc
 number_named false e h = cc
 
--- a text that no kind is named for begins a literal only where it is a front of a bool or `b`
+-- a text that no kind is named for begins a literal only where it is a prefix of a bool or `b`
 pub unnamed_front : (t x : List ℕ) (d : Derivation) (e : Refusal) → dispatch t ≡ refused_as e → IsLiteral (t ++ x) d → unnamed_goes_on t ≡ true
 unfolding dispatch
 unnamed_front [] x d e h lit = refl

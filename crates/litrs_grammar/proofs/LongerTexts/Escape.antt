@@ -116,7 +116,7 @@ escape_final w (c ∷ d ∷ t) x e f h =
     (keep (d == 120) _ _ _ _ e (hex_final w t x e f)
     (keep (d == 117) _ _ _ _ e (unicode_final w t x e f) (λ r. r))) h
 
--- after a final refusal no longer text begins with an escape
+-- after a final refusal no extension of the text begins with an escape
 pub escape_finality : (w : Switches) (t : List ℕ) (e : Refusal) → is_final e.kind ≡ true → escape_refusal w t ≡ Some e → (more : List ℕ) → ¬ BeginsWithEscape w (t ++ more)
 escape_finality w t e f h more (g, rest, spells, grammar) =
     let none : escape_refusal w (t ++ more) ≡ None = subst (λ (l : List ℕ). escape_refusal w l ≡ None) spells (refusal_escape w g rest grammar) in

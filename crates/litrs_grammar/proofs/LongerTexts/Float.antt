@@ -20,7 +20,7 @@ use Rattle.litrs_grammar.specs.Continuation.{BeginsBy, EndsBy}
 use Rattle.litrs_grammar.specs.GoesOn.Float.{FloatGoesOn}
 use Rattle.litrs_base.specs.Derivations.{IsOnlyDerivation, HasNoDerivation}
 use Rattle.litrs_grammar.proofs.LongerTexts.Suffix.{suffix_freed, is_suffix-nil}
-use Rattle.litrs_grammar.proofs.FloatCuts.{IsCut, is_exponent_front, fraction_passes, sign_len-append, sign_len_le, letter_decimal, CutOf, cut_of, cut_of_text, same_cut, behind_decimals, fraction_stops, number_part-suffix}
+use Rattle.litrs_grammar.proofs.FloatCuts.{IsCut, is_exponent_front, fraction_passes, sign_len-append, sign_len_le, letter_decimal, CutOf, cut_of, cut_of_text, same_cut, after_decimals, fraction_stops, number_part-suffix}
 use Rattle.litrs_grammar.proofs.Laws.Float.{float_is_cut, starts_digit, fraction_row, only_float, empty-true, refused, float_rows, cut_rows, refusal_of_cut}
 use Rattle.litrs_grammar.proofs.Spans.Float.{is_number_char, number_line_feed, number_part_chars}
 use Rattle.litrs_grammar.proofs.LineFeeds.{is_other, suffix_other, no_line_feed}
@@ -70,8 +70,8 @@ longer_text d c s more is =
     ∙ ap (λ l. d.integer ++ l) (sym (append_assoc f (d.exponent ++ d.suffix) more)) ∙ sym (append_assoc d.integer (f ++ (d.exponent ++ d.suffix)) more)
 
 -- ... and so nothing follows the number in a text that begins a float
-nothing_behind : (d e : FloatParts) (more : List ℕ) → IsCut d → ¬ IsFloat d → IsFloat e → float_text d ++ more ≡ float_text e → d.suffix ≡ []
-nothing_behind d e more cut none float same = by d.suffix refl
+nothing_after : (d e : FloatParts) (more : List ℕ) → IsCut d → ¬ IsFloat d → IsFloat e → float_text d ++ more ≡ float_text e → d.suffix ≡ []
+nothing_after d e more cut none float same = by d.suffix refl
   where
     by : (suffix : List ℕ) → d.suffix ≡ suffix → suffix ≡ []
     by [] is = refl
@@ -86,11 +86,11 @@ period_stops : (c : ℕ) → is_period c ≡ true → is_decimal_char c ≡ fals
 period_stops c h = grind (arith, nat_tests)
 
 -- what follows the digits and `_` in front
-abbrev behind_digits : List ℕ → List ℕ
-behind_digits t = drop (prefix_len is_decimal_char t) t
+abbrev after_digits : List ℕ → List ℕ
+after_digits t = drop (prefix_len is_decimal_char t) t
 
-behind_run : (front rest : List ℕ) → list_all is_decimal_char front ≡ true → first_passes is_decimal_char rest ≡ false → behind_digits (front ++ rest) ≡ rest
-behind_run front rest all stop = drop_at front rest (prefix_len is_decimal_char (front ++ rest)) (sym (prefix_len_front is_decimal_char front rest all stop))
+after_run : (front rest : List ℕ) → list_all is_decimal_char front ≡ true → first_passes is_decimal_char rest ≡ false → after_digits (front ++ rest) ≡ rest
+after_run front rest all stop = drop_at front rest (prefix_len is_decimal_char (front ++ rest)) (sym (prefix_len_front is_decimal_char front rest all stop))
 
 no_digit : (r : List ℕ) → first_passes is_decimal_char r ≡ false → first_passes is_ascii_digit r ≡ false
 no_digit [] stop = refl
@@ -119,9 +119,9 @@ no_wrong_fraction d e more cut float same none = by (has_wrong_fraction r) refl
         let spells : d.integer ++ (r ++ more) ≡ float_text e =
         ap (λ s. d.integer ++ (s ++ more)) (sym (append-nil r) ∙ append_assoc (fraction_text d.fraction) d.exponent [] ∙ ap (λ s. fraction_text d.fraction ++ (d.exponent ++ s)) (sym none))
         ∙ sym (append_assoc d.integer (fraction_text d.fraction ++ (d.exponent ++ d.suffix)) more) ∙ same in
-        let behind : r ++ more ≡ fraction_text e.fraction ++ (e.exponent ++ e.suffix) =
-        sym (behind_run d.integer (r ++ more) cut.integer (wrong_stops r more wrong)) ∙ ap behind_digits spells ∙ behind_decimals e (float_is_cut e float) in
-        absurd (true≢false (sym (wrong_more r more wrong) ∙ ap has_wrong_fraction behind ∙ fraction_row e.fraction e.exponent e.suffix float.form))
+        let after : r ++ more ≡ fraction_text e.fraction ++ (e.exponent ++ e.suffix) =
+        sym (after_run d.integer (r ++ more) cut.integer (wrong_stops r more wrong)) ∙ ap after_digits spells ∙ after_decimals e (float_is_cut e float) in
+        absurd (true≢false (sym (wrong_more r more wrong) ∙ ap has_wrong_fraction after ∙ fraction_row e.fraction e.exponent e.suffix float.form))
 
 starts_so : (t more : List ℕ) → first_passes is_ascii_digit (t ++ more) ≡ true → (is_empty t || first_passes is_ascii_digit t) ≡ true
 starts_so [] more digit = refl
@@ -140,7 +140,7 @@ integer_first d cut digit = by d.integer refl
 
 parts_go_on : (d e : FloatParts) (more : List ℕ) → IsCut d → ¬ IsFloat d → IsFloat e → float_text d ++ more ≡ float_text e → FloatGoesOn d
 parts_go_on d e more cut none float same =
-    let suffix : d.suffix ≡ [] = nothing_behind d e more cut none float same in
+    let suffix : d.suffix ≡ [] = nothing_after d e more cut none float same in
     let first = starts_digit e.integer (fraction_text e.fraction ++ (e.exponent ++ e.suffix)) float.integer in
     record {
       start = start (or_cases _ _ (starts_so (float_text d) more (ap (first_passes is_ascii_digit) same ∙ first.1)));
@@ -291,7 +291,7 @@ goes_on_row t goes_on =
     let c = cut_of t in
     ap final_row (ap float_refusal (sym c.spells) ∙ refusal_of_cut c.parts c.cut) ∙ cut_goes_on c.parts (subst FloatGoesOn (sym (cut_is t c)) goes_on)
 
--- after a final refusal no longer text is a float
+-- after a final refusal no extension of the text is a float
 pub float_finality : (t : List ℕ) (r : Refusal) → float_refusal t ≡ Some r → is_final r.kind ≡ true → EndsBy IsFloatOf t
 float_finality t r h final more d float =
     true≢false (sym final ∙ sym (ap final_row h) ∙ goes_on_row t (float_longer t more d (refused t r h) float))

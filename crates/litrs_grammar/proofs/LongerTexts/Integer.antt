@@ -30,9 +30,9 @@ pub cut_parts : (base : IntegerBase) (m x : List ℕ) → list_all (is_digit_or_
     cut_with base (prefix base ++ (m ++ x)) ≡ record { base = base; main = m; suffix = x }
 cut_parts base m x all stops =
     let p = is_digit_or_underscore base in
-    let behind : drop (length (prefix base)) (prefix base ++ (m ++ x)) ≡ m ++ x = drop_at (prefix base) (m ++ x) (length (prefix base)) refl in
+    let after : drop (length (prefix base)) (prefix base ++ (m ++ x)) ≡ m ++ x = drop_at (prefix base) (m ++ x) (length (prefix base)) refl in
     let main : take_while p (m ++ x) ≡ m = take_while_front p m x all stops in
-    ap (λ u. record { base = base; main = take_while p u; suffix = drop (length (take_while p u)) u }) behind
+    ap (λ u. record { base = base; main = take_while p u; suffix = drop (length (take_while p u)) u }) after
     ∙ (ap (λ n. record { base = base; main = n; suffix = drop (length n) (m ++ x) }) main
     ∙ ap (λ y. record { base = base; main = m; suffix = y }) (drop_at m x (length m) refl))
 
@@ -43,9 +43,9 @@ base_more c d t x = refl
 -- after the main part stands none of its characters
 cut_ends : (base : IntegerBase) (t : List ℕ) → first_passes (is_digit_or_underscore base) (cut_with base t).suffix ≡ false
 cut_ends base t =
-    let behind = drop (length (prefix base)) t in
+    let after = drop (length (prefix base)) t in
     let p = is_digit_or_underscore base in
-    ap (λ n. first_passes p (drop n behind)) (length-prefix_len p behind) ∙ first_passes-rest p behind
+    ap (λ n. first_passes p (drop n after)) (length-prefix_len p after) ∙ first_passes-rest p after
 
 cut_digits : (base : IntegerBase) (t : List ℕ) → list_all (is_digit_or_underscore base) (cut_with base t).main ≡ true
 cut_digits base t = list_all-take_while (is_digit_or_underscore base) (drop (length (prefix base)) t)
@@ -173,7 +173,7 @@ no_integer : (t : List ℕ) (x : List ℕ) (d : IntegerParts) → first_passes i
 no_integer [] x d h n reads = cc
 no_integer (c ∷ t) x d h n reads = both_ways _ h (starts_with_digit (c ∷ (t ++ x)) d reads)
 
--- after a final refusal no longer text is an integer
+-- after a final refusal no extension of the text is an integer
 pub integer_finality : (t : List ℕ) (e : Refusal) → integer_refusal t ≡ Some e → is_final e.kind ≡ true → EndsBy IsIntegerOf t
 unfolding integer_refusal
 integer_finality t e h f x d reads = go (is_empty t) (first_passes is_ascii_digit t) refl refl

@@ -16,7 +16,7 @@ use Rattle.litrs_grammar.specs.Quoted.{quoted_front, IsQuotedLiteralRefusal}
 use Rattle.litrs_grammar.specs.Raw.{raw_front, raw_closing, hashes, hash_len, RawParts, IsRawLiteral, IsRawOf, has_unicode, allows_nul, raw_refusal}
 use Rattle.litrs_grammar.specs.Literal.{StringParts, string_suffix, quoted_parts, raw_parts, IsString, Derivation, a_bool, an_integer, a_float, a_char, a_byte, a_string, a_byte_string, a_c_string, IsLiteral, LiteralKind, bool_literal, integer_literal, float_literal, char_literal, byte_literal, string_literal, byte_string_literal, c_string_literal, literal_kind, literal_parse, kind_parse, IsLiteralOf, Begins, string_literal_of}
 use Rattle.litrs_grammar.specs.LiteralRefusals.{StringStart, refused_start, quoted_start, raw_start, string_start, IsRefusalOfStart, IsStringRefusal, IsKindRefusal, Dispatch, refused_as, parsed_as, dispatch, IsRefusalOfDispatch}
-use Rattle.litrs_grammar.specs.Closing.{behind_raw_front, closing_text, closing_of, opening_text, written_body, IsClosedBy}
+use Rattle.litrs_grammar.specs.Closing.{after_raw_front, closing_text, closing_of, opening_text, written_body, IsClosedBy}
 use Rattle.litrs_grammar.specs.Continuation.{BeginsBy, EndsBy}
 use Rattle.litrs_grammar.specs.GoesOn.Raw.{raw_open_parts}
 use Rattle.litrs_grammar.specs.GoesOn.{StartGoesOn, KindGoesOn, DispatchedGoesOn}
@@ -24,7 +24,7 @@ use Rattle.litrs_grammar.specs.Laws.Continuation.{FinalRefusalsStay, OpenRefusal
 use Rattle.litrs_base.proofs.Runs.{last_passes, is_line_feed, line_feed_last}
 use Rattle.litrs_grammar.proofs.LongerTexts.OpenRows.{is_open_row, shut_if, shut_number, shut_suffix}
 use Rattle.litrs_grammar.proofs.Laws.Literal.{dispatch_literal, dispatch_refusal}
-use Rattle.litrs_grammar.proofs.RawKinds.{behind_front}
+use Rattle.litrs_grammar.proofs.RawKinds.{after_front}
 use Rattle.litrs_grammar.proofs.LongerTexts.Suffix.{front_of}
 use Rattle.litrs_grammar.proofs.LineFeeds.{is_other, no_line_feed}
 use Rattle.litrs_grammar.proofs.LongerTexts.Bool.{bool_begins, bool_line_end}
@@ -34,7 +34,7 @@ use Rattle.litrs_grammar.proofs.LongerTexts.CharByte.{char_begins, char_finality
 use Rattle.litrs_grammar.proofs.LongerTexts.Quoted.{quoted_finality, quoted_open, quoted_open_kind, quoted_begins, quoted_line_end}
 use Rattle.litrs_grammar.proofs.LongerTexts.Raw.{raw_finality, raw_begins, raw_open, raw_open_kind, raw_line_end}
 use Rattle.litrs_grammar.proofs.LongerTexts.Dispatch.{dispatch_stays, literal_begins, unnamed_begins, unnamed_line_end}
-use Rattle.litrs_grammar.proofs.LongerTexts.String.{behind_raw, quoted_string_ends, quoted_string_begins, raw_string_ends, raw_string_begins, start_begins, start_line_end, start_not_open, start_final, raw_other}
+use Rattle.litrs_grammar.proofs.LongerTexts.String.{after_raw, quoted_string_ends, quoted_string_begins, raw_string_ends, raw_string_begins, start_begins, start_line_end, start_not_open, start_final, raw_other}
 
 -- The parts of one kind
 
@@ -106,18 +106,18 @@ neither b shut none = (λ h. absurd (both_ways b shut h), λ a. absurd (none a))
 raw_literal : (kind : StringKind) (u x : List ℕ) (d : RawParts) → IsRawOf (has_unicode kind) (allows_nul kind) (u ++ x) d → IsRawLiteral kind ((raw_front kind ++ u) ++ x) d
 raw_literal kind u x d r = record { spells = ap (λ l. raw_front kind ++ l) r.spells ∙ sym (append_assoc (raw_front kind) u x); grammar = r.grammar }
 
-raw_behind : (kind : StringKind) (u x : List ℕ) (d : RawParts) → IsRawLiteral kind ((raw_front kind ++ u) ++ x) d → IsRawOf (has_unicode kind) (allows_nul kind) (u ++ x) d
-raw_behind kind u x d r = behind_front kind (u ++ x) ((raw_front kind ++ u) ++ x) d (sym (append_assoc (raw_front kind) u x)) r
+raw_after : (kind : StringKind) (u x : List ℕ) (d : RawParts) → IsRawLiteral kind ((raw_front kind ++ u) ++ x) d → IsRawOf (has_unicode kind) (allows_nul kind) (u ++ x) d
+raw_after kind u x d r = after_front kind (u ++ x) ((raw_front kind ++ u) ++ x) d (sym (append_assoc (raw_front kind) u x)) r
 
-pub raw_begins_behind : (kind : StringKind) (u : List ℕ) → BeginsBy (IsRawLiteral kind) (raw_front kind ++ u) ↔ BeginsBy (IsRawOf (has_unicode kind) (allows_nul kind)) u
-raw_begins_behind kind u = (
-  λ begins. (begins.0, begins.1, begins.2, raw_behind kind u begins.0 begins.1 begins.3),
+pub raw_begins_after : (kind : StringKind) (u : List ℕ) → BeginsBy (IsRawLiteral kind) (raw_front kind ++ u) ↔ BeginsBy (IsRawOf (has_unicode kind) (allows_nul kind)) u
+raw_begins_after kind u = (
+  λ begins. (begins.0, begins.1, begins.2, raw_after kind u begins.0 begins.1 begins.3),
   λ begins. (begins.0, begins.1, begins.2, raw_literal kind u begins.0 begins.1 begins.3),
 )
 
 -- LF ends what follows the front
-behind_line : (kind : StringKind) (u t : List ℕ) → raw_front kind ++ u ≡ t ++ 10 ∷ [] → (z : List ℕ) × (u ≡ z ++ 10 ∷ [])
-behind_line kind u t same = elim (front_of t (raw_front kind) (10 ∷ []) u (sym same)) [
+after_line : (kind : StringKind) (u t : List ℕ) → raw_front kind ++ u ≡ t ++ 10 ∷ [] → (z : List ℕ) × (u ≡ z ++ 10 ∷ [])
+after_line kind u t same = elim (front_of t (raw_front kind) (10 ∷ []) u (sym same)) [
   | inl (z, s) ↦ (z, append_cancel_left (raw_front kind) _ _ (same ∙ ap (λ l. l ++ 10 ∷ []) s ∙ append_assoc (raw_front kind) z (10 ∷ [])))
   | inr (c, z, s) ↦ absurd (
       let tails : 10 ∷ [] ≡ c ∷ (z ++ u) = append_cancel_left t _ _ (sym same ∙ ap (λ l. l ++ u) s ∙ append_assoc t (c ∷ z) u) in
@@ -134,7 +134,7 @@ start_ends kind raw_start t e is refused final =
     let u = drop (length (raw_front kind)) t in
     raw_string_ends kind t is (λ x d lit.
     raw_finality (has_unicode kind) (allows_nul kind) (length (raw_front kind)) u e refused final x d
-    (raw_behind kind u x d (subst (λ l. IsRawLiteral kind (l ++ x) d) (sym (behind_raw kind t is)) lit)))
+    (raw_after kind u x d (subst (λ l. IsRawLiteral kind (l ++ x) d) (sym (after_raw kind t is)) lit)))
 
 start_goes : (kind : StringKind) (start : StringStart) (t : List ℕ) (e : Refusal) → string_start kind t ≡ start → IsRefusalOfStart kind start t e → BeginsBy (IsString kind) t ↔ StartGoesOn kind start t
 start_goes kind (refused_start refusal) t e is refused = start_begins kind t refusal is
@@ -142,7 +142,7 @@ start_goes kind quoted_start t e is refused = chain (quoted_string_begins kind t
 start_goes kind raw_start t e is refused =
     let u = drop (length (raw_front kind)) t in
     chain (raw_string_begins kind t is)
-    (chain (subst (λ l. BeginsBy (IsRawLiteral kind) l ↔ BeginsBy (IsRawOf (has_unicode kind) (allows_nul kind)) u) (behind_raw kind t is) (raw_begins_behind kind u))
+    (chain (subst (λ l. BeginsBy (IsRawLiteral kind) l ↔ BeginsBy (IsRawOf (has_unicode kind) (allows_nul kind)) u) (after_raw kind t is) (raw_begins_after kind u))
     (raw_begins (has_unicode kind) (allows_nul kind) (length (raw_front kind)) u e refused))
 
 start_line : (kind : StringKind) (start : StringStart) (t : List ℕ) (e : Refusal) → string_start kind (t ++ 10 ∷ []) ≡ start → IsRefusalOfStart kind start (t ++ 10 ∷ []) e →
@@ -153,13 +153,13 @@ start_line kind quoted_start t e is refused =
     chain (quoted_line_end (quoted_front kind) (switches_of kind) t e refused) (back (quoted_string_begins kind (t ++ 10 ∷ []) is))
 start_line kind raw_start t e is refused =
     let u = drop (length (raw_front kind)) (t ++ 10 ∷ []) in
-    let spelled : raw_front kind ++ u ≡ t ++ 10 ∷ [] = behind_raw kind (t ++ 10 ∷ []) is in
-    let z = behind_line kind u t spelled in
+    let spelled : raw_front kind ++ u ≡ t ++ 10 ∷ [] = after_raw kind (t ++ 10 ∷ []) is in
+    let z = after_line kind u t spelled in
     let last : last_passes is_line_feed u ≡ true = ap (last_passes is_line_feed) z.1 ∙ line_feed_last z.0 in
     let at_line : (is_open e.kind ≡ true) ↔ BeginsBy (IsRawOf (has_unicode kind) (allows_nul kind)) u =
     raw_line_end (has_unicode kind) (allows_nul kind) (length (raw_front kind)) u e last refused in
     chain at_line
-    (chain (back (subst (λ l. BeginsBy (IsRawLiteral kind) l ↔ BeginsBy (IsRawOf (has_unicode kind) (allows_nul kind)) u) spelled (raw_begins_behind kind u)))
+    (chain (back (subst (λ l. BeginsBy (IsRawLiteral kind) l ↔ BeginsBy (IsRawOf (has_unicode kind) (allows_nul kind)) u) spelled (raw_begins_after kind u)))
     (back (raw_string_begins kind (t ++ 10 ∷ []) is)))
 
 -- a string of the kind without suffix, whose body is all of the text after the opening
@@ -175,10 +175,10 @@ quoted_closes kind t e refused is =
     subst (λ k. IsClosedString kind t (closing_text t k)) (quoted_open_kind (quoted_front kind) (switches_of kind) t e is refused)
     (record { parts = quoted_parts (record { items = shut.items; suffix = [] }); literal = shut.literal; no_suffix = refl; body = shut.body })
 
-behind_is : (kind : StringKind) (u : List ℕ) → behind_raw_front (raw_front kind ++ u) ≡ u
-behind_is string_kind u = refl
-behind_is byte_string_kind u = refl
-behind_is c_string_kind u = refl
+after_is : (kind : StringKind) (u : List ℕ) → after_raw_front (raw_front kind ++ u) ≡ u
+after_is string_kind u = refl
+after_is byte_string_kind u = refl
+after_is c_string_kind u = refl
 
 raw_closed : (kind : StringKind) (u : List ℕ) (e : Refusal) → raw_refusal (has_unicode kind) (allows_nul kind) (length (raw_front kind)) u ≡ Some e → is_open e.kind ≡ true →
     IsClosedString kind (raw_front kind ++ u) (closing_of (raw_front kind ++ u) e)
@@ -190,7 +190,7 @@ raw_closed kind u e refused is =
     append_assoc (hashes n) (34 ∷ body) (raw_closing n) ∙ ap (λ l. hashes n ++ 34 ∷ (body ++ l)) (sym (append-nil (raw_closing n))) ∙ shut.spells in
     let whole : hashes n ++ 34 ∷ body ≡ u = append_cancel_right _ _ (raw_closing n) spelled in
     subst (λ k. IsClosedString kind (raw_front kind ++ u) (closing_text (raw_front kind ++ u) k)) (raw_open_kind (has_unicode kind) (allows_nul kind) (length (raw_front kind)) u e is refused)
-    (subst (λ l. IsClosedString kind (raw_front kind ++ u) (raw_closing (hash_len l))) (sym (behind_is kind u))
+    (subst (λ l. IsClosedString kind (raw_front kind ++ u) (raw_closing (hash_len l))) (sym (after_is kind u))
     (record {
       parts = raw_parts (raw_open_parts u);
       literal = raw_literal kind u (raw_closing n) (raw_open_parts u) shut;
@@ -203,7 +203,7 @@ start_closes : (kind : StringKind) (start : StringStart) (t : List ℕ) (e : Ref
 start_closes kind (refused_start refusal) t e is refused shut = absurd (both_ways (is_open e.kind) (start_not_open kind t e (is ∙ ap refused_start refused)) shut)
 start_closes kind quoted_start t e is refused shut = quoted_closes kind t e refused shut
 start_closes kind raw_start t e is refused shut =
-    subst (λ l. IsClosedString kind l (closing_of l e)) (behind_raw kind t is) (raw_closed kind (drop (length (raw_front kind)) t) e refused shut)
+    subst (λ l. IsClosedString kind l (closing_of l e)) (after_raw kind t is) (raw_closed kind (drop (length (raw_front kind)) t) e refused shut)
 
 -- One kind
 

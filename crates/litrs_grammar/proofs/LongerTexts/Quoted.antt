@@ -430,7 +430,7 @@ quoted_line_end front w t e h = (shut, λ begins. go h.rest h.spells h.told (beg
         absurd (no_line_feed_last (c ∷ r) x (ap (list_all is_other) same ∙ escape_other w esc grammar) (feed c r spells))
     go (c ∷ r) spells told (inr (inr lone)) = absurd (false≢true (ap (last_passes is_line_feed) (sym lone) ∙ feed c r spells))
 
--- after a final refusal no longer text is a literal
+-- after a final refusal no extension of the text is a literal
 pub quoted_finality : (front : List ℕ) (w : Switches) (t : List ℕ) (e : Refusal) → IsQuotedRefusal front w t e → is_final e.kind ≡ true → EndsBy (IsQuoted front w) t
 quoted_finality front w t e h f x q quoted = quoted_texts_are_not_refused front w (t ++ x) q e quoted (quoted_final front w t x e f h)
 

@@ -22,7 +22,7 @@ use Rattle.litrs_grammar.proofs.Laws.Integer.{prefix_len_front}
 use Rattle.litrs_grammar.proofs.LongerTexts.Escape.{never, keep}
 use Rattle.litrs_grammar.proofs.LongerTexts.Suffix.{suffix_freed, suffix_final, is_suffix-nil, underscore_x}
 use Rattle.litrs_grammar.proofs.LongerTexts.OpenRows.{shut_kind_if, shut_suffix}
-use Rattle.litrs_grammar.proofs.RawCuts.{hashes_pass, length-hashes, hash_len-append, behind_hashes, HashCut, hash_cut, closing_cut}
+use Rattle.litrs_grammar.proofs.RawCuts.{hashes_pass, length-hashes, hash_len-append, after_hashes, HashCut, hash_cut, closing_cut}
 use Rattle.litrs_grammar.proofs.Laws.Raw.{raw_body_rows, raw_rows, refusal_of_hashes, refusal_of_closed, refused, refusal_free, only_raw}
 
 -- After n hashes and the quote: what a text is up to its first closing, or to the first character that may not stand there.
@@ -31,14 +31,14 @@ use Rattle.litrs_grammar.proofs.Laws.Raw.{raw_body_rows, raw_rows, refusal_of_ha
 pub record IsStopped (unicode allow_nul : Bool) (n : ℕ) (t : List ℕ) : Type 0 where
   pub front : List ℕ
   pub character : ℕ
-  pub behind : List ℕ
-  pub spells : front ++ character ∷ behind ≡ t
+  pub after : List ℕ
+  pub spells : front ++ character ∷ after ≡ t
   pub grammar : IsRawBody unicode allow_nul n front
   pub disallowed : is_raw_char unicode allow_nul character ≡ false
 
 pub data RawScan (unicode allow_nul : Bool) (n : ℕ) (t : List ℕ) : Type 0 where
   stopped : IsStopped unicode allow_nul n t → RawScan unicode allow_nul n t
-  closed : (behind : List ℕ) → IsClosedRaw unicode allow_nul n t behind → RawScan unicode allow_nul n t
+  closed : (after : List ℕ) → IsClosedRaw unicode allow_nul n t after → RawScan unicode allow_nul n t
   unclosed : IsRawBody unicode allow_nul n t → RawScan unicode allow_nul n t
 
 -- every text is one of the three
@@ -56,7 +56,7 @@ raw_scan unicode allow_nul n t = by (occurs (raw_closing n) run.front) refl
     at_rest (c ∷ rest) spells stops none = stopped (record {
       front = run.front;
       character = c;
-      behind = rest;
+      after = rest;
       spells = spells;
       grammar = record { allowed = run.passes; unclosed = none };
       disallowed = stops;
@@ -66,12 +66,12 @@ raw_scan unicode allow_nul n t = by (occurs (raw_closing n) run.front) refl
     by false none = at_rest run.rest run.spells run.stops none
     by true some =
         let cut = closing_cut n run.front some in
-        closed (cut.behind ++ run.rest) (record {
+        closed (cut.after ++ run.rest) (record {
           body = cut.before;
-          spells = ap (λ l. cut.before ++ l) (sym (append_assoc (raw_closing n) cut.behind run.rest)) ∙ sym (append_assoc cut.before (raw_closing n ++ cut.behind) run.rest)
+          spells = ap (λ l. cut.before ++ l) (sym (append_assoc (raw_closing n) cut.after run.rest)) ∙ sym (append_assoc cut.before (raw_closing n ++ cut.after) run.rest)
               ∙ ap (λ l. l ++ run.rest) cut.spells ∙ run.spells;
           grammar = record {
-            allowed = (and_parts _ _ (sym (all-append ok cut.before (raw_closing n ++ cut.behind)) ∙ ap (list_all ok) cut.spells ∙ run.passes)).0;
+            allowed = (and_parts _ _ (sym (all-append ok cut.before (raw_closing n ++ cut.after)) ∙ ap (list_all ok) cut.spells ∙ run.passes)).0;
             unclosed = cut.unclosed;
           };
         })
@@ -135,17 +135,17 @@ stopped_at unicode allow_nul n start front c t grammar bad =
 pub stopped_refusal : (unicode allow_nul : Bool) (n start : ℕ) (t : List ℕ) (x : IsStopped unicode allow_nul n t) →
     raw_body_refusal unicode allow_nul n start t ≡ Some (at (start + byte_len x.front) (raw_char_refusal x.character))
 stopped_refusal unicode allow_nul n start t x =
-    ap (raw_body_refusal unicode allow_nul n start) (sym x.spells) ∙ stopped_at unicode allow_nul n start x.front x.character x.behind x.grammar x.disallowed
+    ap (raw_body_refusal unicode allow_nul n start) (sym x.spells) ∙ stopped_at unicode allow_nul n start x.front x.character x.after x.grammar x.disallowed
 
-pub closed_refusal : (unicode allow_nul : Bool) (n start : ℕ) (t behind : List ℕ) (x : IsClosedRaw unicode allow_nul n t behind) →
-    raw_body_refusal unicode allow_nul n start t ≡ (if not (is_suffix behind) then Some (at (start + (byte_len x.body + (1 + n))) (suffix_refusal behind)) else None)
-closed_refusal unicode allow_nul n start t behind x =
+pub closed_refusal : (unicode allow_nul : Bool) (n start : ℕ) (t after : List ℕ) (x : IsClosedRaw unicode allow_nul n t after) →
+    raw_body_refusal unicode allow_nul n start t ≡ (if not (is_suffix after) then Some (at (start + (byte_len x.body + (1 + n))) (suffix_refusal after)) else None)
+closed_refusal unicode allow_nul n start t after x =
     let ok = is_raw_char unicode allow_nul in
     let all : ltb (prefix_len ok x.body) (length x.body) ≡ false = le-ltb _ _ (omega (arith, prefix_len_all ok x.body x.grammar.allowed)) in
     ap (raw_body_refusal unicode allow_nul n start) (sym x.spells)
-    ∙ refusal_of_closed unicode allow_nul n start x.body behind x.grammar.unclosed
-    ∙ (λ j. raw_body_rows (start + byte_len (take (prefix_len ok x.body) (x.body ++ (raw_closing n ++ behind)))) (start + (byte_len x.body + (1 + n)))
-    (raw_char_refusal (slice_index (x.body ++ (raw_closing n ++ behind)) (prefix_len ok x.body))) (suffix_refusal behind) (all j) true (is_suffix behind))
+    ∙ refusal_of_closed unicode allow_nul n start x.body after x.grammar.unclosed
+    ∙ (λ j. raw_body_rows (start + byte_len (take (prefix_len ok x.body) (x.body ++ (raw_closing n ++ after)))) (start + (byte_len x.body + (1 + n)))
+    (raw_char_refusal (slice_index (x.body ++ (raw_closing n ++ after)) (prefix_len ok x.body))) (suffix_refusal after) (all j) true (is_suffix after))
 
 length_before_all : (n : ℕ) (t : List ℕ) → occurs (raw_closing n) t ≡ false → length_before (raw_closing n) t ≡ length t
 length_before_all n [] none = refl
@@ -167,16 +167,16 @@ abbrev stopped_more : (unicode allow_nul : Bool) (n : ℕ) (t more : List ℕ) �
 stopped_more unicode allow_nul n t more x = record {
   front = x.front;
   character = x.character;
-  behind = x.behind ++ more;
-  spells = sym (append_assoc x.front (x.character ∷ x.behind) more) ∙ ap (λ l. l ++ more) x.spells;
+  after = x.after ++ more;
+  spells = sym (append_assoc x.front (x.character ∷ x.after) more) ∙ ap (λ l. l ++ more) x.spells;
   grammar = x.grammar;
   disallowed = x.disallowed;
 }
 
-abbrev closed_more : (unicode allow_nul : Bool) (n : ℕ) (t behind more : List ℕ) → IsClosedRaw unicode allow_nul n t behind → IsClosedRaw unicode allow_nul n (t ++ more) (behind ++ more)
-closed_more unicode allow_nul n t behind more x = record {
+abbrev closed_more : (unicode allow_nul : Bool) (n : ℕ) (t after more : List ℕ) → IsClosedRaw unicode allow_nul n t after → IsClosedRaw unicode allow_nul n (t ++ more) (after ++ more)
+closed_more unicode allow_nul n t after more x = record {
   body = x.body;
-  spells = ap (λ l. x.body ++ l) (sym (append_assoc (raw_closing n) behind more)) ∙ sym (append_assoc x.body (raw_closing n ++ behind) more) ∙ ap (λ l. l ++ more) x.spells;
+  spells = ap (λ l. x.body ++ l) (sym (append_assoc (raw_closing n) after more)) ∙ sym (append_assoc x.body (raw_closing n ++ after) more) ∙ ap (λ l. l ++ more) x.spells;
   grammar = x.grammar;
 }
 
@@ -197,9 +197,9 @@ body_final unicode allow_nul n start t more r final h = by (raw_scan unicode all
     by : RawScan unicode allow_nul n t → raw_body_refusal unicode allow_nul n start (t ++ more) ≡ Some r
     by (stopped x) =
         stopped_refusal unicode allow_nul n start (t ++ more) (stopped_more unicode allow_nul n t more x) ∙ sym (stopped_refusal unicode allow_nul n start t x) ∙ h
-    by (closed behind x) =
-        closed_refusal unicode allow_nul n start (t ++ more) (behind ++ more) (closed_more unicode allow_nul n t behind more x)
-        ∙ suffix_row (start + (byte_len x.body + (1 + n))) (is_suffix behind) behind more r refl final (sym (closed_refusal unicode allow_nul n start t behind x) ∙ h)
+    by (closed after x) =
+        closed_refusal unicode allow_nul n start (t ++ more) (after ++ more) (closed_more unicode allow_nul n t after more x)
+        ∙ suffix_row (start + (byte_len x.body + (1 + n))) (is_suffix after) after more r refl final (sym (closed_refusal unicode allow_nul n start t after x) ∙ h)
     by (unclosed grammar) = never (plain UnterminatedRawString) r refl final (sym (unclosed_refusal unicode allow_nul n start t grammar) ∙ h)
 
 -- the table for a text of n hashes and another character
@@ -227,7 +227,7 @@ raw_final unicode allow_nul start t more r final h = by cut.rest cut.spells cut.
         (keep (not (is_quote c)) _ _ _ _ r (λ e. e) (body_final unicode allow_nul cut.count (start + (cut.count + 1)) rest more r final))
         (sym (rows_of unicode allow_nul start cut.count c rest stops) ∙ ap (raw_refusal unicode allow_nul start) spells ∙ h)
 
--- after a final refusal no longer text is a raw literal
+-- after a final refusal no extension of the text is a raw literal
 pub raw_finality : (unicode allow_nul : Bool) (start : ℕ) (t : List ℕ) (r : Refusal) → raw_refusal unicode allow_nul start t ≡ Some r → is_final r.kind ≡ true →
     EndsBy (IsRawOf unicode allow_nul) t
 raw_finality unicode allow_nul start t r h final more d = refused unicode allow_nul start (t ++ more) r (raw_final unicode allow_nul start t more r final h) d
@@ -241,14 +241,14 @@ CutGoesOn unicode allow_nul n rest = (n ≤ 255) × RawRestGoesOn unicode allow_
 pub from_cut : (unicode allow_nul : Bool) (n : ℕ) (rest : List ℕ) → first_passes is_hash rest ≡ false → CutGoesOn unicode allow_nul n rest → RawGoesOn unicode allow_nul (hashes n ++ rest)
 from_cut unicode allow_nul n rest stops goes_on =
     let count : hash_len (hashes n ++ rest) ≡ n = hash_len-append n rest stops in
-    let behind : drop (hash_len (hashes n ++ rest)) (hashes n ++ rest) ≡ rest = ap (λ k. drop k (hashes n ++ rest)) count ∙ behind_hashes n rest in
-    subst (λ l. CutGoesOn unicode allow_nul (hash_len (hashes n ++ rest)) l) (sym behind) (subst (λ k. CutGoesOn unicode allow_nul k rest) (sym count) goes_on)
+    let after : drop (hash_len (hashes n ++ rest)) (hashes n ++ rest) ≡ rest = ap (λ k. drop k (hashes n ++ rest)) count ∙ after_hashes n rest in
+    subst (λ l. CutGoesOn unicode allow_nul (hash_len (hashes n ++ rest)) l) (sym after) (subst (λ k. CutGoesOn unicode allow_nul k rest) (sym count) goes_on)
 
 pub to_cut : (unicode allow_nul : Bool) (n : ℕ) (rest : List ℕ) → first_passes is_hash rest ≡ false → RawGoesOn unicode allow_nul (hashes n ++ rest) → CutGoesOn unicode allow_nul n rest
 to_cut unicode allow_nul n rest stops goes_on =
     let count : hash_len (hashes n ++ rest) ≡ n = hash_len-append n rest stops in
-    let behind : drop (hash_len (hashes n ++ rest)) (hashes n ++ rest) ≡ rest = ap (λ k. drop k (hashes n ++ rest)) count ∙ behind_hashes n rest in
-    subst (λ k. CutGoesOn unicode allow_nul k rest) count (subst (λ l. CutGoesOn unicode allow_nul (hash_len (hashes n ++ rest)) l) behind goes_on)
+    let after : drop (hash_len (hashes n ++ rest)) (hashes n ++ rest) ≡ rest = ap (λ k. drop k (hashes n ++ rest)) count ∙ after_hashes n rest in
+    subst (λ k. CutGoesOn unicode allow_nul k rest) count (subst (λ l. CutGoesOn unicode allow_nul (hash_len (hashes n ++ rest)) l) after goes_on)
 
 -- a longer text has no fewer hashes
 hash_len_least : (n : ℕ) (t : List ℕ) → n ≤ hash_len (hashes n ++ t)
@@ -271,11 +271,11 @@ body_longer unicode allow_nul n start t more r h free = by (raw_scan unicode all
     by (unclosed grammar) = inl grammar
     by (stopped x) =
         absurd (let none : Some _ ≡ None = sym (stopped_refusal unicode allow_nul n start (t ++ more) (stopped_more unicode allow_nul n t more x)) ∙ free in cc)
-    by (closed behind x) =
-        let here = no_suffix_row _ (is_suffix behind) behind r (sym (closed_refusal unicode allow_nul n start t behind x) ∙ h) in
-        let there = suffix_row_free _ (is_suffix (behind ++ more)) (behind ++ more)
-        (sym (closed_refusal unicode allow_nul n start (t ++ more) (behind ++ more) (closed_more unicode allow_nul n t behind more x)) ∙ free) in
-        inr (subst (IsClosedRaw unicode allow_nul n t) (suffix_freed behind more here there) x)
+    by (closed after x) =
+        let here = no_suffix_row _ (is_suffix after) after r (sym (closed_refusal unicode allow_nul n start t after x) ∙ h) in
+        let there = suffix_row_free _ (is_suffix (after ++ more)) (after ++ more)
+        (sym (closed_refusal unicode allow_nul n start (t ++ more) (after ++ more) (closed_more unicode allow_nul n t after more x)) ∙ free) in
+        inr (subst (IsClosedRaw unicode allow_nul n t) (suffix_freed after more here there) x)
 
 rows_longer : (start n : ℕ) (few quote : Bool) (o p : Option Refusal) (r : Refusal) → raw_rows start n o false few quote ≡ Some r → raw_rows start n p false few quote ≡ None →
     (few ≡ false) × (quote ≡ true) × (o ≡ Some r) × (p ≡ None)
@@ -376,11 +376,11 @@ open_body unicode allow_nul n start t r is h = by (raw_scan unicode allow_nul n 
     by (unclosed grammar) = grammar
     by (stopped x) =
         not_open (at (start + byte_len x.front) (raw_char_refusal x.character)) r (shut_character x.character) is (sym (stopped_refusal unicode allow_nul n start t x) ∙ h)
-    by (closed behind x) = suffix (is_suffix behind) (sym (closed_refusal unicode allow_nul n start t behind x) ∙ h)
+    by (closed after x) = suffix (is_suffix after) (sym (closed_refusal unicode allow_nul n start t after x) ∙ h)
       where
-        suffix : (b : Bool) → (if not b then Some (at (start + (byte_len x.body + (1 + n))) (suffix_refusal behind)) else None) ≡ Some r → IsRawBody unicode allow_nul n t
+        suffix : (b : Bool) → (if not b then Some (at (start + (byte_len x.body + (1 + n))) (suffix_refusal after)) else None) ≡ Some r → IsRawBody unicode allow_nul n t
         suffix true e = cc
-        suffix false e = not_open (at (start + (byte_len x.body + (1 + n))) (suffix_refusal behind)) r (shut_suffix behind) is e
+        suffix false e = not_open (at (start + (byte_len x.body + (1 + n))) (suffix_refusal after)) r (shut_suffix after) is e
 
 rows_open : (start n : ℕ) (few quote : Bool) (o : Option Refusal) (r : Refusal) → is_open r.kind ≡ true → raw_rows start n o false few quote ≡ Some r →
     (few ≡ false) × (quote ≡ true) × (o ≡ Some r)
@@ -422,9 +422,9 @@ raw_open unicode allow_nul start t r is h =
     let x = open_cut unicode allow_nul start t r is h in
     let n = x.hash_count in
     let count : hash_len t ≡ n = ap hash_len (sym x.spells) ∙ hash_len-append n (34 ∷ x.body) refl in
-    let behind : drop (n + 1) (hashes n ++ 34 ∷ x.body) ≡ x.body = ap (drop (n + 1)) (sym (append_assoc (hashes n) (34 ∷ []) x.body))
+    let after : drop (n + 1) (hashes n ++ 34 ∷ x.body) ≡ x.body = ap (drop (n + 1)) (sym (append_assoc (hashes n) (34 ∷ []) x.body))
     ∙ drop_at (hashes n ++ 34 ∷ []) x.body (n + 1) (length-append (hashes n) (34 ∷ []) ∙ omega (arith, length-hashes n)) in
-    let body : drop (hash_len t + 1) t ≡ x.body = ap (λ k. drop (k + 1) t) count ∙ ap (drop (n + 1)) (sym x.spells) ∙ behind in
+    let body : drop (hash_len t + 1) t ≡ x.body = ap (λ k. drop (k + 1) t) count ∙ ap (drop (n + 1)) (sym x.spells) ∙ after in
     subst (λ k. IsRawOf unicode allow_nul (t ++ raw_closing k) (record { hash_count = k; body = drop (hash_len t + 1) t; suffix = [] })) (sym count)
     (subst (λ b. IsRawOf unicode allow_nul (t ++ raw_closing n) (record { hash_count = n; body = b; suffix = [] })) (sym body)
     (closes unicode allow_nul n x.body t x.spells x.few x.grammar))

@@ -25,20 +25,20 @@ use Rattle.litrs_grammar.proofs.LineFeeds.{is_other, no_line_feed}
 -- Quoted and raw starts
 
 -- what follows the front that a text begins with
-pub behind_quoted : (kind : StringKind) (t : List ℕ) → string_start kind t ≡ quoted_start → quoted_front kind ++ drop (length (quoted_front kind)) t ≡ t
-behind_quoted kind t is = begins_with-split (quoted_front kind) t ((string_start_says kind t).0 is)
+pub after_quoted : (kind : StringKind) (t : List ℕ) → string_start kind t ≡ quoted_start → quoted_front kind ++ drop (length (quoted_front kind)) t ≡ t
+after_quoted kind t is = begins_with-split (quoted_front kind) t ((string_start_says kind t).0 is)
 
-pub behind_raw : (kind : StringKind) (t : List ℕ) → string_start kind t ≡ raw_start → raw_front kind ++ drop (length (raw_front kind)) t ≡ t
-behind_raw kind t is = begins_with-split (raw_front kind) t ((string_start_says kind t).1 is)
+pub after_raw : (kind : StringKind) (t : List ℕ) → string_start kind t ≡ raw_start → raw_front kind ++ drop (length (raw_front kind)) t ≡ t
+after_raw kind t is = begins_with-split (raw_front kind) t ((string_start_says kind t).1 is)
 
 quoted_stays : (kind : StringKind) (t x : List ℕ) → string_start kind t ≡ quoted_start → string_start kind (t ++ x) ≡ quoted_start
 quoted_stays kind t x is =
-    ap (λ l. string_start kind (l ++ x)) (sym (behind_quoted kind t is))
+    ap (λ l. string_start kind (l ++ x)) (sym (after_quoted kind t is))
     ∙ ap (string_start kind) (append_assoc (quoted_front kind) (drop (length (quoted_front kind)) t) x) ∙ start_quoted kind _
 
 raw_stays : (kind : StringKind) (t x : List ℕ) → string_start kind t ≡ raw_start → string_start kind (t ++ x) ≡ raw_start
 raw_stays kind t x is =
-    ap (λ l. string_start kind (l ++ x)) (sym (behind_raw kind t is))
+    ap (λ l. string_start kind (l ++ x)) (sym (after_raw kind t is))
     ∙ ap (string_start kind) (append_assoc (raw_front kind) (drop (length (raw_front kind)) t) x) ∙ start_raw kind _
 
 -- a string of the kind that a text begins is quoted where the text starts so
@@ -188,7 +188,7 @@ string_final (c ∷ r) e is final x d lit = elim (starts_front string_kind (c �
   | inr (k, z, s) ↦ no_longer 114 c k r z s
 ]
 
--- after a final refusal no longer text is a string
+-- after a final refusal no extension of the text is a string
 pub start_final : (kind : StringKind) (t : List ℕ) (e : Refusal) → string_start kind t ≡ refused_start e → is_final e.kind ≡ true → EndsBy (IsString kind) t
 start_final kind t e is final =
     let at = final_kind kind t e is final in

@@ -16,15 +16,15 @@ use Rattle.litrs_base.proofs.Begins.{begins_with-split}
 use Rattle.litrs_grammar.proofs.Spans.Quoted.{first_byte, some_no_suffix}
 
 -- after the item of a char
-closing_fits : (kind : CharKind) (before behind : List ℕ) → AllFit (before ++ behind) (closing_refusal kind (byte_len before) behind)
+closing_fits : (kind : CharKind) (before after : List ℕ) → AllFit (before ++ after) (closing_refusal kind (byte_len before) after)
 closing_fits kind before [] = tt
 closing_fits kind before (c ∷ t) =
     fit_unless _ (list_any (λ c. c == 39) (c ∷ t)) _ _ (λ _. tt)
     (λ _. fit_unless _ (c == 39) _ _ (λ _. tt)
-    (λ quote. fit_unless _ (is_suffix t) _ None (λ none. behind_quote quote none) (λ _. tt)))
+    (λ quote. fit_unless _ (is_suffix t) _ None (λ none. after_quote quote none) (λ _. tt)))
   where
-    behind_quote : (c == 39) ≡ true → is_suffix t ≡ false → Marks (before ++ c ∷ t) (byte_len before + 1) (byte_len before + 1 + 1)
-    behind_quote quote none =
+    after_quote : (c == 39) ≡ true → is_suffix t ≡ false → Marks (before ++ c ∷ t) (byte_len before + 1) (byte_len before + 1 + 1)
+    after_quote quote none =
         let ascii : c < 128 = (let at = eqb-true c 39 quote in omega arith) in
         let one = byte_len_one_ascii c [] ascii in
         let size : byte_len (before ++ c ∷ []) ≡ byte_len before + 1 = byte_len-append before (c ∷ []) ∙ ap (λ n. byte_len before + n) one in
@@ -56,9 +56,9 @@ start_fits kind [] = tt
 start_fits char_kind (c ∷ t) = first_byte c t
 start_fits byte_kind (c ∷ t) = tt
 
-fit_behind : (front t : List ℕ) (o : Option Refusal) → AllFit t o → AllFit (front ++ t) (option_map (moved (byte_len front)) o)
-fit_behind front t None h = tt
-fit_behind front t (Some e) h = fit_later front t e h
+fit_after : (front t : List ℕ) (o : Option Refusal) → AllFit t o → AllFit (front ++ t) (option_map (moved (byte_len front)) o)
+fit_after front t None h = tt
+fit_after front t (Some e) h = fit_later front t e h
 
 char_fits : (kind : CharKind) (t : List ℕ) → AllFit t (char_kind_refusal kind t)
 unfolding char_kind_refusal
@@ -68,7 +68,7 @@ char_fits kind t =
     begun : begins_with (char_front kind) t ≡ true → AllFit t (option_map (moved (length (char_front kind))) (char_item_refusal kind (drop (length (char_front kind)) t)))
     begun e =
         let rest = drop (length (char_front kind)) t in
-        let fits = fit_behind (char_front kind) rest (char_item_refusal kind rest) (item_fits kind rest) in
+        let fits = fit_after (char_front kind) rest (char_item_refusal kind rest) (item_fits kind rest) in
         let Text : List ℕ → Type 0 = λ l. AllFit l (option_map (moved (byte_len (char_front kind))) (char_item_refusal kind rest)) in
         let Place : ℕ → Type 0 = λ n. AllFit t (option_map (moved n) (char_item_refusal kind rest)) in
         subst Place (front_bytes kind) (subst Text (begins_with-split (char_front kind) t e) fits)

@@ -12,7 +12,7 @@ use Rattle.litrs_base.specs.Refusal.{Refusal, IsInText, moved, moved_span}
 use Rattle.litrs_base.specs.Characters.{is_scalar}
 use Rattle.std.specs.declared.ops.Range.{Range}
 use Rattle.litrs_base.specs.Text.{is_empty, PointsInto, byte_len, first_passes}
-use Rattle.litrs_grammar.specs.Escape.{Switches, escape_refusal, hex_refusal, unicode_refusal, inner_refusal, is_simple, is_hex_or_underscore, has_two_bytes, place_behind, allows_value, allows_byte, pair_value, hex_value}
+use Rattle.litrs_grammar.specs.Escape.{Switches, escape_refusal, hex_refusal, unicode_refusal, inner_refusal, is_simple, is_hex_or_underscore, has_two_bytes, place_after, allows_value, allows_byte, pair_value, hex_value}
 use Rattle.litrs_grammar.specs.Laws.Escape.{EscapeSpansLieInText}
 use Rattle.litrs_base.proofs.Spans.{byte_len-append}
 use Rattle.litrs_base.proofs.ByteLen.{byte_len_one_ascii, byte_len_all_ascii, length-le-byte_len}
@@ -28,11 +28,11 @@ pub marks_start : (t : List ℕ) (end : ℕ) → end ≤ byte_len t → Marks t 
 marks_start t end h = record { front = []; rest = t; cut = refl; start = refl; in_order = omega arith; within = h }
 
 -- the byte after some front
-pub marks_byte : (before behind t : List ℕ) (place : ℕ) → before ++ behind ≡ t → byte_len before ≡ place → 0 < length behind → Marks t place (place + 1)
-marks_byte before behind t place spells starts some =
-    let size : byte_len (before ++ behind) ≡ byte_len t = ap byte_len spells in
-    let more = length-le-byte_len behind in
-    record { front = before; rest = behind; cut = spells; start = sym starts; in_order = omega arith; within = omega (arith, byte_len-append before behind) }
+pub marks_byte : (before after t : List ℕ) (place : ℕ) → before ++ after ≡ t → byte_len before ≡ place → 0 < length after → Marks t place (place + 1)
+marks_byte before after t place spells starts some =
+    let size : byte_len (before ++ after) ≡ byte_len t = ap byte_len spells in
+    let more = length-le-byte_len after in
+    record { front = before; rest = after; cut = spells; start = sym starts; in_order = omega arith; within = omega (arith, byte_len-append before after) }
 
 -- the same span where the text goes on, and where it begins earlier
 pub marks_on : (t more : List ℕ) (start end : ℕ) → Marks t start end → Marks (t ++ more) start end
@@ -62,9 +62,9 @@ marks_later front t start end m =
     }
 
 -- what follows a part of a text is text
-behind_scalars : (xs ys : List ℕ) → scalars (xs ++ ys) ≡ true → scalars ys ≡ true
-behind_scalars [] ys h = h
-behind_scalars (x ∷ xs) ys h = let both = and_parts _ (scalars (xs ++ ys)) h in behind_scalars xs ys both.1
+after_scalars : (xs ys : List ℕ) → scalars (xs ++ ys) ≡ true → scalars ys ≡ true
+after_scalars [] ys h = h
+after_scalars (x ∷ xs) ys h = let both = and_parts _ (scalars (xs ++ ys)) h in after_scalars xs ys both.1
 
 -- the same of the bytes of a text
 pub marks_bytes : (bs : List ℕ) (start end : ℕ) → IsUtf8 bs → Marks (chars bs) start end → IsCharBoundary bs start × (start ≤ end) × (end ≤ length bs)
@@ -74,7 +74,7 @@ marks_bytes bs start end utf8 m =
     let size : byte_len (chars bs) ≡ length bs = ap length (encodes-chars bs utf8) in
     let within : end ≤ byte_len (chars bs) = m.within in
     let Boundary : ℕ → Type 0 = λ n. IsCharBoundary bs n in
-    (subst Boundary (sym m.start) (IsCharBoundary-at_seam bs (encode_utf8_all m.front) (encode_utf8_all m.rest) (sym whole) (m.rest, (behind_scalars m.front m.rest scalar, refl))), m.in_order, omega arith)
+    (subst Boundary (sym m.start) (IsCharBoundary-at_seam bs (encode_utf8_all m.front) (encode_utf8_all m.rest) (sym whole) (m.rest, (after_scalars m.front m.rest scalar, refl))), m.in_order, omega arith)
 
 -- each refusal that a table may give
 abbrev pub AllFit : List ℕ → Option Refusal → Type 0
@@ -146,7 +146,7 @@ take_while_passes p (x ∷ xs) = rw (take_while-cons p x xs) (go (p x) refl (tak
 
 -- the place after n digits, where the front of the text has more
 abbrev PlaceIn : ℕ → List ℕ → List ℕ → Type 0
-PlaceIn n front more = (a : List ℕ) × (c : ℕ) × (b : List ℕ) × (a ++ c ∷ b ≡ front) × (length a ≡ place_behind n is_ascii_hexdigit (front ++ more))
+PlaceIn n front more = (a : List ℕ) × (c : ℕ) × (b : List ℕ) × (a ++ c ∷ b ≡ front) × (length a ≡ place_after n is_ascii_hexdigit (front ++ more))
 
 count_yes : (c : ℕ) (t : List ℕ) → is_ascii_hexdigit c ≡ true → count_by is_ascii_hexdigit (c ∷ t) ≡ 1 + count_by is_ascii_hexdigit t
 count_yes c t e = sum_by-cons (λ c. cond (is_ascii_hexdigit c) 1 0) c t ∙ ap (λ b. cond b 1 0 + count_by is_ascii_hexdigit t) e
@@ -163,7 +163,7 @@ place_in zero (c ∷ front) more h = go (is_ascii_hexdigit c) refl (place_in zer
     go false e rec =
         let count = count_no c front e in
         let later = rec (omega arith) in
-        (c ∷ later.0, later.1, later.2, ap (λ l. c ∷ l) later.3, (let at = later.4 in let here : length (c ∷ later.0) ≡ 1 + place_behind 0 is_ascii_hexdigit (front ++ more) = omega arith in here ∙ sym (if_false _ _ _ e)))
+        (c ∷ later.0, later.1, later.2, ap (λ l. c ∷ l) later.3, (let at = later.4 in let here : length (c ∷ later.0) ≡ 1 + place_after 0 is_ascii_hexdigit (front ++ more) = omega arith in here ∙ sym (if_false _ _ _ e)))
 place_in (suc n) (c ∷ front) more h = go (is_ascii_hexdigit c) refl (place_in n front more) (place_in (suc n) front more)
   where
     go : (b : Bool) → is_ascii_hexdigit c ≡ b → (n < count_by is_ascii_hexdigit front → PlaceIn n front more) →
@@ -176,8 +176,8 @@ place_in (suc n) (c ∷ front) more h = go (is_ascii_hexdigit c) refl (place_in 
           later.1,
           later.2,
           ap (λ l. c ∷ l) later.3,
-          (let at = later.4 in let here : length (c ∷ later.0) ≡ 1 + place_behind n is_ascii_hexdigit (front ++ more) = omega arith in
-              here ∙ ap (λ k. 1 + place_behind k is_ascii_hexdigit (front ++ more)) (sym m)),
+          (let at = later.4 in let here : length (c ∷ later.0) ≡ 1 + place_after n is_ascii_hexdigit (front ++ more) = omega arith in
+              here ∙ ap (λ k. 1 + place_after k is_ascii_hexdigit (front ++ more)) (sym m)),
         )
     go false e rec other =
         let count = count_no c front e in
@@ -187,8 +187,8 @@ place_in (suc n) (c ∷ front) more h = go (is_ascii_hexdigit c) refl (place_in 
           later.1,
           later.2,
           ap (λ l. c ∷ l) later.3,
-          (let at = later.4 in let here : length (c ∷ later.0) ≡ 1 + place_behind (suc n) is_ascii_hexdigit (front ++ more) = omega arith in
-              here ∙ ap (λ k. 1 + place_behind k is_ascii_hexdigit (front ++ more)) (sym m)),
+          (let at = later.4 in let here : length (c ∷ later.0) ≡ 1 + place_after (suc n) is_ascii_hexdigit (front ++ more) = omega arith in
+              here ∙ ap (λ k. 1 + place_after k is_ascii_hexdigit (front ++ more)) (sym m)),
         )
 
 opening : (t : List ℕ) → byte_len (92 ∷ 117 ∷ 123 ∷ t) ≡ 3 + byte_len t
@@ -210,17 +210,17 @@ marks_inner inner c ys r a b spells cut passes =
 -- the front of hex digits and underscores that has the seventh digit
 seventh : (inner : List ℕ) (c : ℕ) (ys r : List ℕ) → inner ++ c ∷ ys ≡ r → (front more : List ℕ) → front ++ more ≡ inner → list_all is_hex_or_underscore front ≡ true →
     6 < count_by is_ascii_hexdigit front →
-    Marks (92 ∷ 117 ∷ 123 ∷ r) (3 + place_behind 6 is_ascii_hexdigit inner) (3 + place_behind 6 is_ascii_hexdigit inner + 1)
+    Marks (92 ∷ 117 ∷ 123 ∷ r) (3 + place_after 6 is_ascii_hexdigit inner) (3 + place_after 6 is_ascii_hexdigit inner + 1)
 seventh inner c ys r spells front more cut passes many =
     let at = place_in 6 front more many in
     let before = and_parts (list_all is_hex_or_underscore at.0) _ (sym (list_all-append is_hex_or_underscore at.0 (at.1 ∷ at.2)) ∙ ap (list_all is_hex_or_underscore) at.3 ∙ passes) in
-    let place : length at.0 ≡ place_behind 6 is_ascii_hexdigit inner = at.4 ∙ ap (place_behind 6 is_ascii_hexdigit) cut in
+    let place : length at.0 ≡ place_after 6 is_ascii_hexdigit inner = at.4 ∙ ap (place_after 6 is_ascii_hexdigit) cut in
     subst (λ n. Marks (92 ∷ 117 ∷ 123 ∷ r) (3 + n) (3 + n + 1)) place
     (marks_inner inner c ys r at.0 (at.1 ∷ at.2 ++ more) spells
     (sym (append_assoc at.0 (at.1 ∷ at.2) more) ∙ ap (λ l. l ++ more) at.3 ∙ cut) before.0)
 
 seventh_somewhere : (inner : List ℕ) (c : ℕ) (ys r : List ℕ) → inner ++ c ∷ ys ≡ r → has_stranger inner ≡ false → 6 < count_by is_ascii_hexdigit inner →
-    Marks (92 ∷ 117 ∷ 123 ∷ r) (3 + place_behind 6 is_ascii_hexdigit inner) (3 + place_behind 6 is_ascii_hexdigit inner + 1)
+    Marks (92 ∷ 117 ∷ 123 ∷ r) (3 + place_after 6 is_ascii_hexdigit inner) (3 + place_after 6 is_ascii_hexdigit inner + 1)
 seventh_somewhere inner c ys r spells none many =
     let digits = take_while is_hex_or_underscore inner in
     ⊎_elim

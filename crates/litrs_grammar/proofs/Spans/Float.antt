@@ -42,16 +42,16 @@ fraction_number : (f : Option (List ℕ)) → fraction_passes f ≡ true → lis
 fraction_number None h = refl
 fraction_number (Some f) h = decimals_number f h
 
-behind_letter : (cs : List ℕ) → list_all is_decimal_char (drop (sign_len cs) cs) ≡ true → list_all is_number_char cs ≡ true
-behind_letter [] h = refl
-behind_letter (s ∷ ds) h = elim (cases_Bool (is_sign s)) [
+after_letter : (cs : List ℕ) → list_all is_decimal_char (drop (sign_len cs) cs) ≡ true → list_all is_number_char cs ≡ true
+after_letter [] h = refl
+after_letter (s ∷ ds) h = elim (cases_Bool (is_sign s)) [
   | inl sign ↦ and_from _ _ (sign_number s sign) (decimals_number ds (sym (ap (λ v. list_all is_decimal_char (drop (cond v 1 0) (s ∷ ds))) sign) ∙ h))
   | inr no_sign ↦ decimals_number (s ∷ ds) (sym (ap (λ v. list_all is_decimal_char (drop (cond v 1 0) (s ∷ ds))) no_sign) ∙ h)
 ]
 
 exponent_number : (p : List ℕ) → is_exponent_front p ≡ true → list_all is_number_char p ≡ true
 exponent_number [] h = refl
-exponent_number (c ∷ cs) h = and_from _ _ (letter_number c (and_parts _ _ h).0) (behind_letter cs (and_parts _ _ h).1)
+exponent_number (c ∷ cs) h = and_from _ _ (letter_number c (and_parts _ _ h).0) (after_letter cs (and_parts _ _ h).1)
 
 -- all in front of the suffix is ASCII
 pub number_part_ascii : (d : FloatParts) → IsCut d → list_all is_ascii_char (number_part d) ≡ true

@@ -50,14 +50,14 @@ rest_fits w (c ∷ t) =
     (λ _. fit_if _ (c == 13) _ _ (λ _. first_byte c t)
     (λ _. fit_unless _ (allows_value w c) _ _ (λ _. first_byte c t)
     (λ _. fit_unless _ (is_ascii_unless w.unicode c) _ _ (λ _. first_byte c t)
-    (λ _. fit_if _ ((c == 34) && not (is_suffix t)) _ None (λ e. behind_quote e) (λ _. tt)))))
+    (λ _. fit_if _ ((c == 34) && not (is_suffix t)) _ None (λ e. after_quote e) (λ _. tt)))))
   where
     not_suffix : (b : Bool) → not b ≡ true → b ≡ false
     not_suffix false h = refl
     not_suffix true h = cc
 
-    behind_quote : ((c == 34) && not (is_suffix t)) ≡ true → Marks (c ∷ t) 1 2
-    behind_quote e =
+    after_quote : ((c == 34) && not (is_suffix t)) ≡ true → Marks (c ∷ t) 1 2
+    after_quote e =
         let both = and_parts (c == 34) (not (is_suffix t)) e in
         let ascii : c < 128 = (let at = eqb-true c 34 both.0 in omega arith) in
         marks_byte (c ∷ []) t (c ∷ t) 1 refl (byte_len_one_ascii c [] ascii) (some_no_suffix t (not_suffix _ both.1))

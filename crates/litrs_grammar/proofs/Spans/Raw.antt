@@ -18,7 +18,7 @@ use Rattle.litrs_base.proofs.Spans.{byte_len-append, is_ascii_char, byte_len_asc
 use Rattle.litrs_grammar.proofs.SuffixStart.{suffix_last}
 use Rattle.litrs_grammar.proofs.NoNul.{encode_no_nul}
 use Rattle.litrs_grammar.proofs.RawCuts.{hashes_pass, length-hashes, hash_cut, ClosingCut, closing_cut, length_before_le}
-use Rattle.litrs_grammar.proofs.Laws.Raw.{refusal_of_hashes, before_closing, behind_closing, raw_body_rows, raw_rows}
+use Rattle.litrs_grammar.proofs.Laws.Raw.{refusal_of_hashes, before_closing, after_closing, raw_body_rows, raw_rows}
 
 -- what holds of the refusal in each row holds of the tables
 
@@ -67,15 +67,15 @@ closed_span : (t front r : List ℕ) (start n : ℕ) (kind : ParseErrorKind) →
     is_suffix (drop (length (take (length_before (raw_closing n) r) r) + (1 + n)) r) ≡ false →
     IsInText t (at (start + (byte_len (take (length_before (raw_closing n) r) r) + (1 + n))) kind)
 closed_span t front r start n kind spells at_start c h =
-    let s : List ℕ = c.before ++ (raw_closing n ++ c.behind) in
+    let s : List ℕ = c.before ++ (raw_closing n ++ c.after) in
     let before : take (length_before (raw_closing n) r) r ≡ c.before =
-    ap (λ r. take (length_before (raw_closing n) r) r) (sym c.spells) ∙ before_closing n c.before c.behind c.unclosed in
-    let behind : drop (length (take (length_before (raw_closing n) r) r) + (1 + n)) r ≡ c.behind =
-    (λ j. drop (length (before j) + (1 + n)) (sym c.spells j)) ∙ behind_closing n c.before c.behind in
-    suffix_span t ((front ++ c.before) ++ raw_closing n) c.behind _ kind
-    (append_assoc (front ++ c.before) (raw_closing n) c.behind ∙ (append_assoc front c.before (raw_closing n ++ c.behind) ∙ (ap (λ s. front ++ s) c.spells ∙ spells)))
+    ap (λ r. take (length_before (raw_closing n) r) r) (sym c.spells) ∙ before_closing n c.before c.after c.unclosed in
+    let after : drop (length (take (length_before (raw_closing n) r) r) + (1 + n)) r ≡ c.after =
+    (λ j. drop (length (before j) + (1 + n)) (sym c.spells j)) ∙ after_closing n c.before c.after in
+    suffix_span t ((front ++ c.before) ++ raw_closing n) c.after _ kind
+    (append_assoc (front ++ c.before) (raw_closing n) c.after ∙ (append_assoc front c.before (raw_closing n ++ c.after) ∙ (ap (λ s. front ++ s) c.spells ∙ spells)))
     (byte_len-append (front ++ c.before) (raw_closing n) ∙ (ap (λ m. m + byte_len (raw_closing n)) (byte_len-append front c.before) ∙ omega (arith, quoted_bytes n, at_start, ap byte_len before)))
-    (ap is_suffix (sym behind) ∙ h)
+    (ap is_suffix (sym after) ∙ h)
 
 body_within : (unicode allow_nul : Bool) (t front r : List ℕ) (n start : ℕ) → front ++ r ≡ t → byte_len front ≡ start →
     ForSome (raw_body_refusal unicode allow_nul n start r) (IsInText t)

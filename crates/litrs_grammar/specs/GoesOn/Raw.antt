@@ -6,9 +6,9 @@ use Rattle.litrs_base.specs.Characters.{double_quote, underscore}
 use Rattle.litrs_grammar.specs.Raw.{raw_closing, hash_len, IsRawBody, RawParts}
 
 -- a raw body between n hashes, what closes it, and this after it
-pub record IsClosedRaw (unicode allow_nul : Bool) (n : ℕ) (t behind : List ℕ) : Type 0 where
+pub record IsClosedRaw (unicode allow_nul : Bool) (n : ℕ) (t after : List ℕ) : Type 0 where
   pub body : List ℕ
-  pub spells : body ++ (raw_closing n ++ behind) ≡ t
+  pub spells : body ++ (raw_closing n ++ after) ≡ t
   pub grammar : IsRawBody unicode allow_nul n body
 
 -- after n hashes: nothing, or the opening quote and then a raw body that is not closed, or one

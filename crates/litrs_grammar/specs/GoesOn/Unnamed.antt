@@ -4,7 +4,7 @@ use Rattle.std.specs.Prelude.{ℕ, Bool, ◌||◌, List, codes}
 use Rattle.litrs_base.specs.Text.{begins_with}
 use Rattle.litrs_grammar.specs.GoesOn.Bool.{bool_goes_on}
 
--- a front of `true` or `false`, which may be empty, or `b` alone, which a byte or a byte string
+-- a prefix of `true` or `false`, which may be empty, or `b` alone, which a byte or a byte string
 -- begins with
 abbrev pub unnamed_goes_on : List ℕ → Bool
 unnamed_goes_on t = bool_goes_on t || begins_with t (codes "b")

@@ -3,7 +3,7 @@ use Rattle.std.proofs.Common.{get_or, drop, take, ◌-◌, length, refl, sym, ap
 use Rattle.std.specs.Prelude.{◌==◌}
 use Rattle.std.proofs.lemmas.Bool.{ne_eqb}
 use Rattle.litrs_base.specs.Text.{first_passes}
-use Rattle.litrs_lex.proofs.QuotedBytes.{first_of, rest_is, two_of, end_refused, blanks_refused, behind_is, continuation_at, escape_at, escape_refused, begins_cut, others_end}
+use Rattle.litrs_lex.proofs.QuotedBytes.{first_of, rest_is, two_of, end_refused, blanks_refused, after_is, continuation_at, escape_at, escape_refused, begins_cut, others_end}
 use Rattle.litrs_lex.proofs.quoted.next_item.Goals as goal
 
 pub returns-in_default-clause-none : goal.returns-in_default-clause-none
@@ -19,7 +19,7 @@ returns-then-len-rest-clause-none c =
     inr (
       _,
       blanks_refused _ c.args.rest.now _ _
-          (two_of c.args.rest.now _ _ first (behind_is c.args.rest.now c.as_bytes.result.now c.as_bytes.ensures.value)
+          (two_of c.args.rest.now _ _ first (after_is c.args.rest.now c.as_bytes.result.now c.as_bytes.ensures.value)
           (sym c.begins_with_line_feed.ensures ∙ c.if-begins_with_line_feed.true) (rest_is (take (length c.as_bytes.result.now - 1) (drop 1 c.as_bytes.result.now))))
           c.utf8.rest c.blanks_len-len.ensures.count c.if-len-rest.true,
     )
@@ -28,7 +28,7 @@ pub returns-else-len-rest-clause-item : goal.returns-else-len-rest-clause-item
 returns-else-len-rest-clause-item c =
     let first = first_of c.args.rest.now c.as_bytes.result.now 92 c.as_bytes.ensures.value c.in-len1-up.len_at_least c.in-92.is in
     continuation_at _ c.args.rest.now _ _
-    (two_of c.args.rest.now _ _ first (behind_is c.args.rest.now c.as_bytes.result.now c.as_bytes.ensures.value)
+    (two_of c.args.rest.now _ _ first (after_is c.args.rest.now c.as_bytes.result.now c.as_bytes.ensures.value)
     (sym c.begins_with_line_feed.ensures ∙ c.if-begins_with_line_feed.true) (rest_is (take (length c.as_bytes.result.now - 1) (drop 1 c.as_bytes.result.now))))
     c.utf8.rest c.blanks_len-len.ensures.count c.if-len-rest.false
 
@@ -45,7 +45,7 @@ returns-in-Err-clause-none c =
       escape_refused _ c.args.rest.now _ c.without_last.result.now _
           (first_of c.args.rest.now c.as_bytes.result.now 92 c.as_bytes.ensures.value c.in-len1-up.len_at_least c.in-92.is)
           c.utf8.rest
-          (ap (first_passes (λ b. b == 10)) (sym (behind_is c.args.rest.now c.as_bytes.result.now c.as_bytes.ensures.value))
+          (ap (first_passes (λ b. b == 10)) (sym (after_is c.args.rest.now c.as_bytes.result.now c.as_bytes.ensures.value))
           ∙ (sym c.begins_with_line_feed.ensures ∙ c.if-begins_with_line_feed.false))
           c.without_last.ensures c.in-Err.ensures.refused,
     )

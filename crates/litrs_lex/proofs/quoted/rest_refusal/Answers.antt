@@ -5,7 +5,7 @@ use Rattle.std.proofs.lemmas.Bool.{ne_eqb}
 use Rattle.std.proofs.lemmas.Str.{IsCharBoundary-after_ascii}
 use Rattle.litrs_base.specs.Refusal.{at}
 use Rattle.litrs_base.specs.Text.{first_passes}
-use Rattle.litrs_lex.proofs.QuotedBytes.{first_of, rest_is, two_of, end_refused, quote_refused, quote_free, return_refused, nul_refused, wide_refused, blanks_refused, behind_is, continuation_free, escape_refused, escape_free, escape_span, begins_cut}
+use Rattle.litrs_lex.proofs.QuotedBytes.{first_of, rest_is, two_of, end_refused, quote_refused, quote_free, return_refused, nul_refused, wide_refused, blanks_refused, after_is, continuation_free, escape_refused, escape_free, escape_span, begins_cut}
 use Rattle.litrs_lex.proofs.quoted.rest_refusal.Goals as goal
 
 pub returns-in_default-clause-refusal : goal.returns-in_default-clause-refusal
@@ -33,7 +33,7 @@ pub returns-then-len-rest-clause-refusal : goal.returns-then-len-rest-clause-ref
 returns-then-len-rest-clause-refusal c =
     let first = first_of c.args.rest.now c.as_bytes.result.now 92 c.as_bytes.ensures.value c.in-len1-up.len_at_least c.in-92.is in
     blanks_refused _ c.args.rest.now _ _
-    (two_of c.args.rest.now _ _ first (behind_is c.args.rest.now c.as_bytes.result.now c.as_bytes.ensures.value)
+    (two_of c.args.rest.now _ _ first (after_is c.args.rest.now c.as_bytes.result.now c.as_bytes.ensures.value)
     (sym c.begins_with_line_feed.ensures ∙ c.if-begins_with_line_feed.true) (rest_is (take (length c.as_bytes.result.now - 1) (drop 1 c.as_bytes.result.now))))
     c.utf8.rest c.blanks_len-len.ensures.count c.if-len-rest.true
     ∙ ap Some (sym c.new-then-len-rest.ensures.refusal)
@@ -42,7 +42,7 @@ pub returns-else-len-rest-clause-none : goal.returns-else-len-rest-clause-none
 returns-else-len-rest-clause-none c =
     let first = first_of c.args.rest.now c.as_bytes.result.now 92 c.as_bytes.ensures.value c.in-len1-up.len_at_least c.in-92.is in
     continuation_free _ c.args.rest.now _ _
-    (two_of c.args.rest.now _ _ first (behind_is c.args.rest.now c.as_bytes.result.now c.as_bytes.ensures.value)
+    (two_of c.args.rest.now _ _ first (after_is c.args.rest.now c.as_bytes.result.now c.as_bytes.ensures.value)
     (sym c.begins_with_line_feed.ensures ∙ c.if-begins_with_line_feed.true) (rest_is (take (length c.as_bytes.result.now - 1) (drop 1 c.as_bytes.result.now))))
     c.utf8.rest c.blanks_len-len.ensures.count c.if-len-rest.false
 
@@ -51,7 +51,7 @@ returns-in-Ok-unescape_with-clause-none c =
     escape_free _ c.args.rest.now _ c.without_last.result.now _ _
     (first_of c.args.rest.now c.as_bytes.result.now 92 c.as_bytes.ensures.value c.in-len1-up.len_at_least c.in-92.is)
     c.utf8.rest
-    (ap (first_passes (λ b. b == 10)) (sym (behind_is c.args.rest.now c.as_bytes.result.now c.as_bytes.ensures.value))
+    (ap (first_passes (λ b. b == 10)) (sym (after_is c.args.rest.now c.as_bytes.result.now c.as_bytes.ensures.value))
     ∙ (sym c.begins_with_line_feed.ensures ∙ c.if-begins_with_line_feed.false))
     c.without_last.ensures c.in-Ok-unescape_with.ensures.ok
 
@@ -60,7 +60,7 @@ returns-in-Err-unescape_with-clause-refusal c =
     escape_refused _ c.args.rest.now _ c.without_last.result.now _
     (first_of c.args.rest.now c.as_bytes.result.now 92 c.as_bytes.ensures.value c.in-len1-up.len_at_least c.in-92.is)
     c.utf8.rest
-    (ap (first_passes (λ b. b == 10)) (sym (behind_is c.args.rest.now c.as_bytes.result.now c.as_bytes.ensures.value))
+    (ap (first_passes (λ b. b == 10)) (sym (after_is c.args.rest.now c.as_bytes.result.now c.as_bytes.ensures.value))
     ∙ (sym c.begins_with_line_feed.ensures ∙ c.if-begins_with_line_feed.false))
     c.without_last.ensures c.in-Err-unescape_with.ensures.refused
 

@@ -9,7 +9,7 @@ use Rattle.litrs_base.specs.declared.err.ParseErrorKind.TheVariants.{TooManyHash
 use Rattle.litrs_base.specs.Refusal.{refusal, over}
 use Rattle.litrs_grammar.specs.Raw.{hash_len}
 use Rattle.litrs_parts.proofs.FloatBytes.{rest_is}
-use Rattle.litrs_lex.proofs.RawBytes.{cons_at, none_at, behind_hashes_is, hashes_within, opening_nothing, opening_many, opening_other, opened, body_refusal_is, raw_cut, inside_text}
+use Rattle.litrs_lex.proofs.RawBytes.{cons_at, none_at, after_hashes_is, hashes_within, opening_nothing, opening_many, opening_other, opened, body_refusal_is, raw_cut, inside_text}
 use Rattle.litrs_lex.proofs.raw.cut_raw.Goals as goal
 
 pub returns-then-opening-bytes-clause-refused : goal.returns-then-opening-bytes-clause-refused
@@ -21,7 +21,7 @@ returns-then-opening-bytes-clause-refused c =
     let n = c.hash_len-hashes.result in
     let count : n ≡ hash_len (drop offset text) = c.hash_len-hashes.ensures.len ∙ ap hash_len (rest_is bytes text offset same) in
     opening_nothing c.args.allowed.unicode c.args.allowed.allow_nul offset (drop offset text) (IsUtf8-drop text offset c.utf8.input c.requires)
-    (behind_hashes_is text offset n count ∙ none_at bytes text (offset + n) same c.if-opening-bytes.true)
+    (after_hashes_is text offset n count ∙ none_at bytes text (offset + n) same c.if-opening-bytes.true)
 
 pub returns-then-hashes-gt-MAX_HASHES-clause-refused : goal.returns-then-hashes-gt-MAX_HASHES-clause-refused
 returns-then-hashes-gt-MAX_HASHES-clause-refused c =
@@ -32,7 +32,7 @@ returns-then-hashes-gt-MAX_HASHES-clause-refused c =
     let n = c.hash_len-hashes.result in
     let count : n ≡ hash_len (drop offset text) = c.hash_len-hashes.ensures.len ∙ ap hash_len (rest_is bytes text offset same) in
     let few : n ≤ length (drop offset text) = subst (λ (k : ℕ). n ≤ k) (ap length (rest_is bytes text offset same)) c.hash_len-hashes.ensures.within in
-    let is = behind_hashes_is text offset n count ∙ cons_at bytes text (offset + n) (get_or bytes (offset + n) 0) same (hashes_within text offset n c.requires.0 few) c.if-opening-bytes.false refl in
+    let is = after_hashes_is text offset n count ∙ cons_at bytes text (offset + n) (get_or bytes (offset + n) 0) same (hashes_within text offset n c.requires.0 few) c.if-opening-bytes.false refl in
     opening_many c.args.allowed.unicode c.args.allowed.allow_nul offset (get_or bytes (offset + n) 0) (drop offset text) (drop (offset + n + 1) text) (IsUtf8-drop text offset c.utf8.input c.requires) is
     (omega (arith, count, c.if-hashes-gt-MAX_HASHES.true))
     ∙ ap (λ k. Some (over offset (offset + k) TooManyHashes)) (sym count)
@@ -46,7 +46,7 @@ returns-then-bytes-opening-ne34-clause-refused c =
     let n = c.hash_len-hashes.result in
     let count : n ≡ hash_len (drop offset text) = c.hash_len-hashes.ensures.len ∙ ap hash_len (rest_is bytes text offset same) in
     let few : n ≤ length (drop offset text) = subst (λ (k : ℕ). n ≤ k) (ap length (rest_is bytes text offset same)) c.hash_len-hashes.ensures.within in
-    let is = behind_hashes_is text offset n count ∙ cons_at bytes text (offset + n) (get_or bytes (offset + n) 0) same (hashes_within text offset n c.requires.0 few) c.if-opening-bytes.false refl in
+    let is = after_hashes_is text offset n count ∙ cons_at bytes text (offset + n) (get_or bytes (offset + n) 0) same (hashes_within text offset n c.requires.0 few) c.if-opening-bytes.false refl in
     opening_other c.args.allowed.unicode c.args.allowed.allow_nul offset (get_or bytes (offset + n) 0) (drop offset text) (drop (offset + n + 1) text) (IsUtf8-drop text offset c.utf8.input c.requires) is
     (omega (arith, count, c.if-hashes-gt-MAX_HASHES.false)) (ne_eqb (get_or bytes (offset + n) 0) 34 c.if-bytes-opening-ne34.true)
 

@@ -16,30 +16,30 @@ use Rattle.litrs_parts.proofs.char.check_closing.Goals.{then-has_quote, else-has
 
 pub returns-then-not-begins_with_quote-clause-table : goal.returns-then-not-begins_with_quote-clause-table
 returns-then-not-begins_with_quote-clause-table c =
-    ap (λ l. closing_refusal (kind_if c.args.is_byte) c.args.len (chars l)) (sym c.range_from-behind.ensures.value)
+    ap (λ l. closing_refusal (kind_if c.args.is_byte) c.args.len (chars l)) (sym c.range_from-after.ensures.value)
     ∙ (elim c.if-has_quote.branch [
       | then-has_quote w ↦
-          overlong_row (kind_if c.args.is_byte) c.args.len c.range_from-behind.result.now c.range_from-behind.utf8
+          overlong_row (kind_if c.args.is_byte) c.args.len c.range_from-after.result.now c.range_from-after.utf8
           (ap (list_any (λ n. n == 39)) (sym c.as_bytes-then-not-begins_with_quote.ensures.value) ∙ sym w.if-has_quote.ensures)
           (ap (first_passes (λ n. n == 39)) (sym c.as_bytes-2.ensures.value) ∙ sym c.if-not-begins_with_quote.ensures)
           ∙ ap Some (ap plain (sym w.overlong_kind-kind.ensures ∙ sym w.kind-is) ∙ sym c.new.ensures.refusal)
       | else-has_quote w ↦
-          unterminated_row (kind_if c.args.is_byte) c.args.len c.range_from-behind.result.now c.range_from-behind.utf8
+          unterminated_row (kind_if c.args.is_byte) c.args.len c.range_from-after.result.now c.range_from-after.utf8
           (ap (list_any (λ n. n == 39)) (sym c.as_bytes-then-not-begins_with_quote.ensures.value) ∙ sym w.if-has_quote.ensures)
           ∙ ap Some (ap plain (sym w.unterminated_kind-kind.ensures ∙ sym w.kind-is) ∙ sym c.new.ensures.refusal)
     ])
 
 pub range_from-requires : goal.range_from-requires
 range_from-requires c = λ _.
-    let is = quote_begins c.range_from-behind.result.now (ap (first_passes (λ n. n == 39)) (sym c.as_bytes-2.ensures.value) ∙ sym c.if-not-begins_with_quote.ensures) in
+    let is = quote_begins c.range_from-after.result.now (ap (first_passes (λ n. n == 39)) (sym c.as_bytes-2.ensures.value) ∙ sym c.if-not-begins_with_quote.ensures) in
     let some = ap length is in
     let first = ap (λ l. get_or l 0 0) is in
-    IsCharBoundary-after_ascii c.range_from-behind.result.now 0 c.range_from-behind.utf8 (omega arith) (omega arith)
+    IsCharBoundary-after_ascii c.range_from-after.result.now 0 c.range_from-after.utf8 (omega arith) (omega arith)
 
 pub returns-in-Ok-clause-ok : goal.returns-in-Ok-clause-ok
 returns-in-Ok-clause-ok c = (
-  ap (λ l. closing_refusal (kind_if c.args.is_byte) c.args.len (chars l)) (sym c.range_from-behind.ensures.value)
-      ∙ closed_row (kind_if c.args.is_byte) c.args.len c.range_from-behind.result.now
+  ap (λ l. closing_refusal (kind_if c.args.is_byte) c.args.len (chars l)) (sym c.range_from-after.ensures.value)
+      ∙ closed_row (kind_if c.args.is_byte) c.args.len c.range_from-after.result.now
       (ap (first_passes (λ n. n == 39)) (sym c.as_bytes-2.ensures.value) ∙ sym c.if-not-begins_with_quote.ensures)
       (ap (λ l. is_suffix (chars l)) (sym c.range_from.ensures.value) ∙ sym c.in-Ok.ensures.ok),
   refl,
@@ -47,8 +47,8 @@ returns-in-Ok-clause-ok c = (
 
 pub returns-in-Err-clause-table : goal.returns-in-Err-clause-table
 returns-in-Err-clause-table c =
-    ap (λ l. closing_refusal (kind_if c.args.is_byte) c.args.len (chars l)) (sym c.range_from-behind.ensures.value)
-    ∙ (suffix_row (kind_if c.args.is_byte) c.args.len c.range_from-behind.result.now
+    ap (λ l. closing_refusal (kind_if c.args.is_byte) c.args.len (chars l)) (sym c.range_from-after.ensures.value)
+    ∙ (suffix_row (kind_if c.args.is_byte) c.args.len c.range_from-after.result.now
     (ap (first_passes (λ n. n == 39)) (sym c.as_bytes-2.ensures.value) ∙ sym c.if-not-begins_with_quote.ensures)
     (ap (λ l. is_suffix (chars l)) (sym c.range_from.ensures.value) ∙ sym c.in-Err.ensures.ok)
     ∙ (ap (λ l. Some (at (c.args.len + 1) (suffix_refusal (chars l)))) (sym c.range_from.ensures.value)
@@ -57,8 +57,8 @@ returns-in-Err-clause-table c =
 pub returns-then-is_quote-clause-ok : goal.returns-then-is_quote-clause-ok
 returns-then-is_quote-clause-ok c =
     let quote = sym c.as_bytes.ensures.value ∙ c.is_quote.ensures.quote c.if-is_quote.true in (
-      ap (λ l. closing_refusal (kind_if c.args.is_byte) c.args.len (chars l)) (sym c.range_from-behind.ensures.value)
-          ∙ closed_row (kind_if c.args.is_byte) c.args.len c.range_from-behind.result.now (ap (first_passes (λ n. n == 39)) quote)
+      ap (λ l. closing_refusal (kind_if c.args.is_byte) c.args.len (chars l)) (sym c.range_from-after.ensures.value)
+          ∙ closed_row (kind_if c.args.is_byte) c.args.len c.range_from-after.result.now (ap (first_passes (λ n. n == 39)) quote)
           (ap (λ l. is_suffix (chars (drop 1 l))) quote ∙ (ap is_suffix chars-nil ∙ is_suffix-nil)),
       refl,
     )

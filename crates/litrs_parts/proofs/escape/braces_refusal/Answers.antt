@@ -37,11 +37,11 @@ returns-then-begins_with_hex_digit c = λ byte_escapes allow_nul.
     let d = c.requires.digits in
     let digits = digit_text c.args.input.now c.args.digits b d in
     let size = length-take-within (drop 3 c.args.input.now) c.args.digits.len d.within in
-    let behind = slice_from (drop 3 c.args.input.now) _ c.args.digits.len same in
+    let after = slice_from (drop 3 c.args.input.now) _ c.args.digits.len same in
     let any = ap (list_any (λ n. n == 125)) (sym same) ∙ sym c.if-not-has_close_brace.ensures in
     let right = ap (first_passes is_wrong_start) (sym same) ∙ sym c.if-begins_wrongly.ensures in
     let digit : first_passes is_ascii_hexdigit (drop c.args.digits.len (drop 3 c.args.input.now)) ≡ true =
-    ap (first_passes is_ascii_hexdigit) (sym behind) ∙ sym c.if-begins_with_hex_digit.ensures in
+    ap (first_passes is_ascii_hexdigit) (sym after) ∙ sym c.if-begins_with_hex_digit.ensures in
     escape_is_refused _ _ c.in_text-then-begins_with_hex_digit.result b.begins
     (many_row byte_escapes allow_nul c.args.input.now _ _ b digits (stopped c.args.input.now _ _ b digits any right c.requires.open) (d.stops (digit_or_underscore (drop c.args.digits.len (drop 3 c.args.input.now)) digit)).1 digit
     ∙ (ap (λ n. Some (at (3 + n) TooManyDigitInUnicodeEscape)) size ∙ ap Some (sym c.in_text-then-begins_with_hex_digit.ensures.refusal)))
@@ -54,11 +54,11 @@ returns-else-begins_with_hex_digit c = λ byte_escapes allow_nul.
     let d = c.requires.digits in
     let digits = digit_text c.args.input.now c.args.digits b d in
     let size = length-take-within (drop 3 c.args.input.now) c.args.digits.len d.within in
-    let behind = slice_from (drop 3 c.args.input.now) _ c.args.digits.len same in
+    let after = slice_from (drop 3 c.args.input.now) _ c.args.digits.len same in
     let any = ap (list_any (λ n. n == 125)) (sym same) ∙ sym c.if-not-has_close_brace.ensures in
     let right = ap (first_passes is_wrong_start) (sym same) ∙ sym c.if-begins_wrongly.ensures in
     let none : first_passes is_ascii_hexdigit (drop c.args.digits.len (drop 3 c.args.input.now)) ≡ false =
-    ap (first_passes is_ascii_hexdigit) (sym behind) ∙ sym c.if-begins_with_hex_digit.ensures in
+    ap (first_passes is_ascii_hexdigit) (sym after) ∙ sym c.if-begins_with_hex_digit.ensures in
     escape_is_refused _ _ c.in_text-else-begins_with_hex_digit.result b.begins
     (nonhex_row byte_escapes allow_nul c.args.input.now _ _ b digits (stopped c.args.input.now _ _ b digits any right c.requires.open) d.few
     (fails _ (λ passes. true≢false (sym (d.stops passes).0 ∙ none)))

@@ -1,4 +1,4 @@
--- All pass if and only if the longest front of those that pass is the whole.
+-- All pass if and only if the longest prefix of those that pass is the whole.
 use Rattle.std.proofs.Common.{◌≡◌, ℕ, Bool, true, false, eqb, List, length, refl, sym, ap, ◌∙◌, arith}
 use Rattle.std.specs.List.{list_all, prefix_len}
 use Rattle.std.proofs.lemmas.Bool.{eq-eqb, ne_eqb, false≢true}

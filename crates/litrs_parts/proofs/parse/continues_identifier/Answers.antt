@@ -6,7 +6,7 @@ use Rattle.std.proofs.lemmas.Bool.{ltb-true}
 use Rattle.std.proofs.lemmas.Str.{IsCharBoundary-from_drop}
 use Rattle.unicode_ident.specs.Ident.{is_xid_continue}
 use Rattle.litrs_base.proofs.Chars.{passing_front}
-use Rattle.litrs_parts.proofs.SuffixBytes.{is_word, words_are_ascii, continues_behind, nothing_continues, ascii_stops}
+use Rattle.litrs_parts.proofs.SuffixBytes.{is_word, words_are_ascii, continues_after, nothing_continues, ascii_stops}
 use Rattle.litrs_parts.proofs.parse.continues_identifier.Goals as goal
 
 pub range_from-requires : goal.range_from-requires
@@ -21,14 +21,14 @@ returns-in-None c =
     let rest = c.args.rest.now in
     let end : c.run_end-end.result ≡ prefix_len is_word rest = c.run_end-end.ensures.run ∙ ap (prefix_len is_word) c.as_bytes-bytes.ensures.value in
     let past : length rest ≤ prefix_len is_word rest = omega (arith, end, ap length c.as_bytes-bytes.ensures.value, c.in-None.ensures.lookup.3) in
-    sym (continues_behind rest c.utf8.rest ∙ nothing_continues rest (prefix_len is_word rest) past)
+    sym (continues_after rest c.utf8.rest ∙ nothing_continues rest (prefix_len is_word rest) past)
 
 pub returns-then-not-is_ascii : goal.returns-then-not-is_ascii
 returns-then-not-is_ascii c =
     let rest = c.args.rest.now in
     let end : c.run_end-end.result ≡ prefix_len is_word rest = c.run_end-end.ensures.run ∙ ap (prefix_len is_word) c.as_bytes-bytes.ensures.value in
     c.continues_in_unicode.ensures ∙ (ap (λ t. list_all is_xid_continue (chars t)) c.range_from.ensures.value
-    ∙ (ap (λ n. list_all is_xid_continue (chars (drop n rest))) end ∙ sym (continues_behind rest c.utf8.rest)))
+    ∙ (ap (λ n. list_all is_xid_continue (chars (drop n rest))) end ∙ sym (continues_after rest c.utf8.rest)))
 
 pub returns-else-not-is_ascii : goal.returns-else-not-is_ascii
 returns-else-not-is_ascii c =
@@ -39,4 +39,4 @@ returns-else-not-is_ascii c =
     let there : get_or rest (prefix_len is_word rest) next ≡ next =
     sym (c.in-Some.ensures.lookup.1 ∙ (λ i. get_or (c.as_bytes-bytes.ensures.value i) (end i) next)) in
     ap not (c.is_ascii.ensures ∙ sym c.if-not-is_ascii.ensures)
-    ∙ sym (continues_behind rest c.utf8.rest ∙ ascii_stops rest next there (ltb-true next 128 (sym c.if-not-is_ascii.ensures)) within)
+    ∙ sym (continues_after rest c.utf8.rest ∙ ascii_stops rest next there (ltb-true next 128 (sym c.if-not-is_ascii.ensures)) within)

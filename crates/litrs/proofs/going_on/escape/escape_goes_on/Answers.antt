@@ -2,7 +2,7 @@
 use Rattle.std.proofs.Common.{length, refl}
 use Rattle.std.specs.Prelude.{◌==◌}
 use Rattle.litrs_parts.specs.Unescaped.{grammar_switches}
-use Rattle.litrs.proofs.Escapes.{whole_escape, refused_escape, behind_goes_on, starts_escape}
+use Rattle.litrs.proofs.Escapes.{whole_escape, refused_escape, after_goes_on, starts_escape}
 use Rattle.litrs.proofs.going_on.escape.escape_goes_on.Goals as goal
 
 pub unescape_with-requires : goal.unescape_with-requires
@@ -19,5 +19,5 @@ returns-in-Err c =
     let w = grammar_switches c.args.allowed in
     refused_escape w c.args.text.now _ c.refused_escape_goes_on.result c.utf8.text c.requires
     c.in-Err.ensures.refused
-    (behind_goes_on w c.as_bytes.result.now c.args.text.now c.refused_escape_goes_on.result
+    (after_goes_on w c.as_bytes.result.now c.args.text.now c.refused_escape_goes_on.result
     c.utf8.text c.as_bytes.ensures.value c.requires c.refused_escape_goes_on.ensures)

@@ -23,29 +23,29 @@ returns-in-Some-eq34 c =
 
 pub returns-then-begins_with : goal.returns-then-begins_with
 returns-then-begins_with c =
-    let behind = c.as_str-in-Some-eq92.result.now in
+    let after = c.as_str-in-Some-eq92.result.now in
     answer_is c.begins_with.result _ c.if-begins_with.true
     (continued_rest (switches c.args.unicode c.args.byte_escapes c.args.allow_nul)
-    (chars c.args.rest.now) (chars behind) c.in-Some-eq92.field-0 c.requires
-    (chars_past_char c.args.rest.now behind c.in-Some-eq92.field-0 c.utf8.rest
+    (chars c.args.rest.now) (chars after) c.in-Some-eq92.field-0 c.requires
+    (chars_past_char c.args.rest.now after c.in-Some-eq92.field-0 c.utf8.rest
     (sym c.chars-chars.ensures.rest
     ∙ (c.in-Some-eq92.ensures.steps.0 ∙ ap (λ rest. encode_utf8 c.in-Some-eq92.field-0 ++ rest)
     (sym c.as_str-in-Some-eq92.ensures))))
     c.in-Some-eq92.field-0-test
-    (begins_with-chars (10 ∷ []) behind refl c.as_str-in-Some-eq92.utf8
+    (begins_with-chars (10 ∷ []) after refl c.as_str-in-Some-eq92.utf8
     ∙ ap (begins_with (10 ∷ [])) (sym c.as_bytes.ensures.value) ∙ sym c.if-begins_with.ensures))
 
 pub returns-else-begins_with : goal.returns-else-begins_with
 returns-else-begins_with c =
-    let behind = c.as_str-in-Some-eq92.result.now in
+    let after = c.as_str-in-Some-eq92.result.now in
     slash_rest (switches c.args.unicode c.args.byte_escapes c.args.allow_nul)
-    (chars c.args.rest.now) (chars behind) c.in-Some-eq92.field-0 c.escape_goes_on.result
-    (chars_past_char c.args.rest.now behind c.in-Some-eq92.field-0 c.utf8.rest
+    (chars c.args.rest.now) (chars after) c.in-Some-eq92.field-0 c.escape_goes_on.result
+    (chars_past_char c.args.rest.now after c.in-Some-eq92.field-0 c.utf8.rest
     (sym c.chars-chars.ensures.rest
     ∙ (c.in-Some-eq92.ensures.steps.0 ∙ ap (λ rest. encode_utf8 c.in-Some-eq92.field-0 ++ rest)
     (sym c.as_str-in-Some-eq92.ensures))))
     c.in-Some-eq92.field-0-test
-    (begins_with-chars (10 ∷ []) behind refl c.as_str-in-Some-eq92.utf8
+    (begins_with-chars (10 ∷ []) after refl c.as_str-in-Some-eq92.utf8
     ∙ ap (begins_with (10 ∷ [])) (sym c.as_bytes.ensures.value) ∙ sym c.if-begins_with.ensures)
     c.escape_goes_on.ensures
 

@@ -4,8 +4,8 @@ use Rattle.std.proofs.lemmas.Result.{err_from_is_err_and}
 use Rattle.std.specs.Str.{chars}
 use Rattle.litrs_base.specs.declared.err.ParseError.{ParseError}
 use Rattle.litrs_parts.specs.CharCut.{kind_if, IsItemRefused}
-use Rattle.litrs_parts.proofs.CharByteBytes.{closing_refused, closed_behind}
-use Rattle.litrs_parts.proofs.char.cut_behind.Goals as goal
+use Rattle.litrs_parts.proofs.CharByteBytes.{closing_refused, closed_after}
+use Rattle.litrs_parts.proofs.char.cut_after.Goals as goal
 
 pub returns-in_err-start-clause-refused : goal.returns-in_err-start-clause-refused
 returns-in_err-start-clause-refused c =
@@ -17,4 +17,4 @@ returns-in_err-start-clause-refused c =
 
 pub returns-clause-ok : goal.returns-clause-ok
 returns-clause-ok c =
-    closed_behind (kind_if c.args.is_byte) c.args.rest.now c.in_ok-value.value c.in_ok-value.len c.in_ok-start.start c.utf8.rest c.in_ok-value.ensures.ok c.in_ok-start.ensures.ok.0 c.in_ok-start.ensures.ok.1
+    closed_after (kind_if c.args.is_byte) c.args.rest.now c.in_ok-value.value c.in_ok-value.len c.in_ok-start.start c.utf8.rest c.in_ok-value.ensures.ok c.in_ok-start.ensures.ok.0 c.in_ok-start.ensures.ok.1
