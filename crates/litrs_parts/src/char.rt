@@ -158,6 +158,7 @@ fn check_closing(rest: &str, len: usize, is_byte: bool) -> Result<usize, ParseEr
     ensures char_span { IfErr result (HasCharSpan (chars rest.now)) }
 {
     let after = &rest[len..];
+    // Asked first, as mostly nothing follows the quote.
     if is_quote(after.as_bytes()) {
         return Ok(len + 1);
     }
@@ -202,10 +203,12 @@ fn begins_with_quote(bytes: &[u8]) -> bool
 fn has_quote(bytes: &[u8]) -> bool
     ensures { result ≡ list_any (λ c. c == single_quote) bytes.now }
 {
-    if bytes.len() < 8 {
-        bytes.iter().any(|b| *b == b'\'')
-    } else {
-        has_quote_in_many(bytes)
+    match bytes {
+        [] => false,
+        // A literal that is too long mostly ends with its quote.
+        [.., b'\''] => true,
+        _ if bytes.len() < 8 => bytes.iter().any(|b| *b == b'\''),
+        _ => has_quote_in_many(bytes),
     }
 }
 
