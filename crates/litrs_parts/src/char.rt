@@ -203,12 +203,14 @@ fn begins_with_quote(bytes: &[u8]) -> bool
 fn has_quote(bytes: &[u8]) -> bool
     ensures { result ≡ list_any (λ c. c == single_quote) bytes.now }
 {
-    match bytes {
-        [] => false,
-        // A literal that is too long mostly ends with its quote.
-        [.., b'\''] => true,
-        _ if bytes.len() < 8 => bytes.iter().any(|b| *b == b'\''),
-        _ => has_quote_in_many(bytes),
+    // A literal that is too long mostly ends with its quote.
+    if matches!(bytes, [.., b'\'']) {
+        return true;
+    }
+    if bytes.len() < 8 {
+        bytes.iter().any(|b| *b == b'\'')
+    } else {
+        has_quote_in_many(bytes)
     }
 }
 
