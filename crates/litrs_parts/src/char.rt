@@ -203,25 +203,24 @@ fn begins_with_quote(bytes: &[u8]) -> bool
 fn has_quote(bytes: &[u8]) -> bool
     ensures { result ≡ list_any (λ c. c == single_quote) bytes.now }
 {
-    // A literal that is too long mostly ends with its quote.
-    if matches!(bytes, [.., b'\'']) {
-        return true;
-    }
-    if bytes.len() < 8 {
-        bytes.iter().any(|b| *b == b'\'')
-    } else {
-        has_quote_in_many(bytes)
+    match bytes {
+        [] => false,
+        // A literal that is too long mostly ends with its quote.
+        [.., b'\''] => true,
+        _ => finds_quote(bytes),
     }
 }
 
-/// [`has_quote`] of many bytes. `memchr` is fast where they are very many.
+/// [`has_quote`] by a search. `memchr` is fast where the bytes are very many.
 ///
 /// A call, so that the cut of a char stays small.
 #[inline(never)]
-fn has_quote_in_many(bytes: &[u8]) -> bool
+fn finds_quote(bytes: &[u8]) -> bool
     ensures { result ≡ list_any (λ c. c == single_quote) bytes.now }
 {
-    if bytes.len() < 128 {
+    if bytes.len() < 8 {
+        bytes.iter().any(|b| *b == b'\'')
+    } else if bytes.len() < 128 {
         has_byte(bytes, b'\'')
     } else {
         memchr(b'\'', bytes).is_some()
