@@ -1,10 +1,11 @@
 #!/usr/bin/env python3
 """Refuses each allocation of the program of rows in turn.
 
-.ci/refused.py [ROWS]
+.ci/refused.py [--seed SEED] [ROWS]
 
 Runs both builds of crates/litrs_vectors, which `rt ci` leaves in its out/, on each row of its table
-and of texts that are generated here, or on the rows of the file ROWS alone, a row a process. By
+and of texts that are generated here, or on the rows of the file ROWS alone, a row a process. Some of the lengths in generated texts are drawn anew in each run; SEED,
+which is printed, draws the same again. By
 .ci/refuse.c a process goes on from each of its allocations also as a copy in which that one is
 refused, and as one in which all from there on are.
 
@@ -12,12 +13,13 @@ Where one is refused, either a call of the library answered it, and the program 
 makes the call again and has all else to say as before; or it was one of the program's own, and it
 ends with `out of memory` and the status 1. Where all from there on are refused, it ends so.
 
-Last, each build runs with nothing refused on texts with parts of every length below 512, and every
-row has to hold.
+Last, each build runs with nothing refused on texts with parts of every length below 512 and of some
+that are drawn, and every row has to hold.
 
-Fails where a copy does anything else, where a call that is not listed below was refused, and where
-one that is listed never was.
+Fails where a copy does anything else, where a call that is not listed below was refused, where one
+that is listed never was, and where `feed` allocates more than once for a line that is no literal.
 """
+import argparse
 import collections
 import concurrent.futures
 import os
@@ -33,10 +35,15 @@ CRATE = TOP / "crates" / "litrs_vectors"
 STRINGS = ["StringLit", "ByteStringLit", "CStringLit"]
 OTHERS = ["IntegerLit", "FloatLit", "CharLit", "ByteLit"]
 HOLDS = b"1 rows hold\n"
+FEED = b"refused Collector::feed "
 ENDED = b"litrs_vectors: out of memory\n"
 REFUSED = re.compile("refused (.*) at line 1")
 # The most copies of a part in a text.
 LONGEST = 10_000
+# How many lengths of parts are drawn, below 5,000 with each allocation refused in turn, and below
+# `LONGEST` with nothing refused.
+DRAWN = 8
+DRAWN_UNREFUSED = 64
 # Below this number parts of every length are tried, with nothing refused.
 SHORT = 512
 SECONDS = 600
@@ -62,7 +69,7 @@ def calls():
         for buffer in ["&str", "String"]:
             yield f"{kind}::into_token over {buffer}"
     for container in ["String", "Vec<u8>"]:
-        for call in ["push", "push_str", "push_bytes", "with_capacity"]:
+        for call in ["push", "push_str", "push_bytes", "with_capacity", "reserve"]:
             yield f"EscapeContainer::{call} over {container}"
     yield "String::copy over String"
     yield "CString::clone over CString"
@@ -88,7 +95,7 @@ def some_lengths(draw):
     lengths = {0, 1, 5, 333, 1000, 5000}
     for constant in [8, 16, 32, 64, 80, 128, 1024, 8192, 16384]:
         lengths |= {constant - 1, constant, constant + 1}
-    return sorted(lengths | {draw.randrange(1000, 5000) for _ in range(4)})
+    return sorted(lengths | {draw.randrange(5000) for _ in range(DRAWN)})
 
 
 def generated(lengths, draw):
@@ -142,14 +149,18 @@ class Build:
         )
         if (done.stdout, done.stderr, done.returncode) != (HOLDS, b"", 0):
             self.fault(row, f"{done.stdout + done.stderr}, status {done.returncode}")
+        feeds = 0
         with open(records, "rb") as file:
             for head in file:
                 how, allocation, status, size = head.split()
                 printed = file.read(int(size) + 1)[:-1]
                 self.copies += 1
+                feeds += how == b"one" and printed.startswith(FEED)
                 if not self.is_right(how, printed, int(status)):
                     what = f"allocation {int(allocation)}, {how.decode()} refused"
                     self.fault(row, f"{what}: {printed}, status {int(status)}")
+        if feeds > most_feeds(row):
+            self.fault(row, f"feed allocates {feeds} times")
         records.unlink()
 
     def is_right(self, how, printed, status):
@@ -169,6 +180,15 @@ class Build:
 def is_short(row):
     """Whether no part of a row is repeated so often that a copy of the process takes long."""
     return all(int(count) <= LONGEST for count in re.findall(r"%\((\d+)\*", row))
+
+
+def most_feeds(row):
+    """How often a collector may allocate that is fed the lines of a row's text: once a line where
+    each is answered by `More` or `Refused`."""
+    fields = row.split("\t")
+    if fields[2] == "refused" and "%(" not in fields[1]:
+        return fields[1].count("%0A") + 1
+    return sys.maxsize
 
 
 def table_rows(path):
@@ -209,12 +229,18 @@ def report(build, wanted):
 
 
 def main():
-    draw = random.Random(1)
-    if len(sys.argv) > 1:
-        rows, wanted, every = list(table_rows(pathlib.Path(sys.argv[1]))), set(), []
+    words = argparse.ArgumentParser()
+    words.add_argument("--seed", type=int, default=random.SystemRandom().randrange(1 << 32))
+    words.add_argument("rows", nargs="?", type=pathlib.Path)
+    words = words.parse_args()
+    draw = random.Random(words.seed)
+    if words.rows:
+        rows, wanted, every = list(table_rows(words.rows)), set(), []
     else:
+        print(f"lengths drawn by --seed {words.seed}", flush=True)
         rows = [*table_rows(CRATE / "stdin"), *generated(some_lengths(draw), draw)]
-        wanted, every = set(calls()), list(generated(range(SHORT), draw))
+        drawn = [draw.randrange(LONGEST) for _ in range(DRAWN_UNREFUSED)]
+        wanted, every = set(calls()), list(generated([*range(SHORT), *drawn], draw))
     failed = False
     with tempfile.TemporaryDirectory() as name:
         folder = pathlib.Path(name)

@@ -1,5 +1,5 @@
 //! What unescaped values are put into.
-ghost use Rattle.std.specs.Prelude.{◌≡◌, ◌+◌, ◌≤◌, ℕ, Bool, true, false, List, [], ◌++◌, length, string_bytes, string_capacity, vec_capacity, IsTrue, IsFalse, IsOk, IfOk, OnErr};
+ghost use Rattle.std.specs.Prelude.{◌≡◌, ◌+◌, ◌≤◌, ℕ, Bool, true, false, List, [], ◌++◌, length, string_bytes, string_capacity, vec_capacity, IsTrue, IsFalse, IsOk, IfOk, OnOk, OnErr};
 ghost use Rattle.std.specs.Str.{IsUtf8};
 ghost use Rattle.litrs_grammar.specs.Escape.{value_bytes};
 ghost use Rattle.litrs_lex.specs.Container.{is_pushable};
@@ -27,15 +27,27 @@ pub trait EscapeContainer: Drop {
     fn new(alloc: Global) -> Self
         ensures { contents result ≡ [] };
 
-    /// An empty one with room for this many bytes. With room for none it does not allocate.
+    /// An empty one with room for just this many bytes. With room for none it does not allocate.
     ///
     /// # Errors
     ///
     /// `AllocError` where there is no memory for them.
     fn with_capacity(alloc: Global, bytes: usize) -> Result<Self, AllocError>
         ensures contents { IfOk result (λ made. contents made ≡ []) }
-        ensures room { IfOk result (λ made. bytes ≤ capacity made) }
+        ensures room { IfOk result (λ made. capacity made ≡ bytes) }
         ensures succeeds { bytes ≡ 0 → IsOk result };
+
+    /// Makes room for `n` bytes after those that it has. Where there is room for them it does not
+    /// allocate.
+    ///
+    /// # Errors
+    ///
+    /// `AllocError` where there is no memory for them.
+    fn reserve(&mut self, n: usize) -> Result<(), AllocError>
+        ensures contents { contents self.new ≡ contents self.old }
+        ensures room { OnOk result (length (contents self.new) + n ≤ capacity self.new) }
+        ensures kept { capacity self.old ≤ capacity self.new }
+        ensures succeeds { length (contents self.old) + n ≤ capacity self.old → IsOk result };
 
     /// Adds the value of an escape: the byte, or the UTF-8 of the character.
     ///
@@ -95,6 +107,10 @@ impl EscapeContainer for String {
         String::with_capacity(alloc, bytes)
     }
 
+    fn reserve(&mut self, n: usize) -> Result<(), AllocError> {
+        String::reserve(self, n)
+    }
+
     fn push(&mut self, value: Unescape) -> Result<(), AllocError> {
         match value {
             Unescape::Byte(byte) => String::push(self, byte as char),
@@ -126,6 +142,10 @@ impl EscapeContainer for Vec<u8> {
 
     fn with_capacity(alloc: Global, bytes: usize) -> Result<Vec<u8>, AllocError> {
         Vec::with_capacity(alloc, bytes)
+    }
+
+    fn reserve(&mut self, n: usize) -> Result<(), AllocError> {
+        Vec::reserve(self, n)
     }
 
     fn push(&mut self, value: Unescape) -> Result<(), AllocError> {

@@ -15,12 +15,12 @@ use Rattle.std.proofs.lemmas.Bool.{ltb-false}
 use Rattle.std.proofs.Common.{Option, Result, Ok, Err, OnOk, OnErr, IfSome, length-append}
 use Rattle.std.specs.Prelude.{is_ok, ◌==◌, slice_index, if◌then◌else◌}
 use Rattle.litrs_lines.specs.LinesLaws.{spelled, LinesSpellTheBytes, NoLineFeedInLines, LinesAreUnique, OneReturnEndsALine, LinesWithoutReturns}
-use Rattle.litrs_lines.specs.Stopped.{AppendsBeginning, StopsWithin}
+use Rattle.litrs_lines.specs.Stopped.{AppendsBeginning, whole_lines, StopsWithin}
 use Rattle.std.proofs.Common.{eqb-true, ltb, cond, add-one, get_or, take-append-drop, drop-cons, length-take}
 use Rattle.std.proofs.lemmas.List.{get_or-take, take_rest}
 use Rattle.litrs_lines.specs.Ended.{AreEndedReports, AreLastReports}
-use Rattle.litrs_lines.specs.Reports.{AppendsReports}
-use Rattle.litrs_lines.proofs.GroupReports.{group_reports, last_reports, ended-none, ended-append, last-append, Adds, Stops, adds-none, adds-append, stops-append}
+use Rattle.litrs_lines.specs.Reports.{AreGroupReports, AppendsReports}
+use Rattle.litrs_lines.proofs.GroupReports.{group_reports, last_reports, have_last_reports, ended-none, ended-append, last-append, Adds, Stops, adds-none, adds-append, stops-append}
 use Rattle.litrs_lines.specs.Lines.{is_line_feed, HasNoLineFeed, before_last_part, last_part, ended_parts, open_part, unless_empty, without_return, ended_parts_of, ended_lines, open_line, lines_of}
 
 -- the first part of a split, and those after it
@@ -322,6 +322,45 @@ unless_empty-some (b ∷ bs) some = refl
 pub nothing_last : (held line : List ℕ) (a : Option (List ℕ)) (old : List ℕ) → length line ≡ 0 → Adds held (unless_empty line) held a old a old
 nothing_last held line a old none = subst (λ (ls : List (List ℕ)). Adds held ls held a old a old) (sym (unless_empty-none line none)) (adds-none held a old)
 
+-- ---- reads
+
+-- no read was made, or these were
+abbrev pub AreReadsOrNone : {S : Type 0} → (ℕ → S → S → Type 0) → ℕ → S → S → Type 0
+AreReadsOrNone are_reads count first now = ((count ≡ 0) × (first ≡ now)) ⊎ are_reads count first now
+
+pub one_more_read : {S : Type 0} (are_reads : ℕ → S → S → Type 0) (count : ℕ) (first old new : S) → AreReadsOrNone are_reads count first old →
+    are_reads 1 old new → ((n : ℕ) (s : S) → are_reads n s old → are_reads (n + 1) s new) → AreReadsOrNone are_reads (count + 1) first new
+one_more_read are_reads count first old new (inl none) one more =
+    let is : 1 ≡ count + 1 = omega (arith, none.0) in
+    inr (subst (λ (n : ℕ). are_reads n first new) is (subst (λ s. are_reads 1 s new) (sym none.1) one))
+one_more_read are_reads count first old new (inr reads) one more = inr (more count first reads)
+
+pub many_reads : {S : Type 0} (are_reads : ℕ → S → S → Type 0) (count many : ℕ) (first now : S) → AreReadsOrNone are_reads count first now →
+    count ≡ many → 0 < many → are_reads many first now
+many_reads are_reads count many first now (inl none) is some = absurd (omega (arith, none.0))
+many_reads are_reads count many first now (inr reads) is some = subst (λ (n : ℕ). are_reads n first now) is reads
+
+-- ---- the whole lines
+
+-- the reports on all lines begin with those on the groups that ended
+all_reports : (taken held so_far : List ℕ) → AreEndedReports [] (ended_lines taken) held so_far → (last : List ℕ) × AreLastReports [] (lines_of taken) (so_far ++ last)
+unfolding lines_of
+all_reports taken held so_far ended =
+    let last = have_last_reports held (unless_empty (open_line taken)) in
+    (last.0, last-append [] (ended_lines taken) (unless_empty (open_line taken)) held so_far last.0 ended last.1)
+
+-- and so do those on the whole lines
+whole_reports : (left : Option (List ℕ)) (taken held so_far : List ℕ) → AreEndedReports [] (ended_lines taken) held so_far → (last : List ℕ) × AreLastReports [] (whole_lines left taken) (so_far ++ last)
+whole_reports None taken held so_far ended = all_reports taken held so_far ended
+whole_reports (Some []) taken held so_far ended = all_reports taken held so_far ended
+whole_reports (Some (b ∷ bs)) taken held so_far ended = last_reports [] (ended_lines taken) held so_far ended
+
+-- at the end of the input all lines are whole
+all_whole : (left : Option (List ℕ)) (taken : List ℕ) → IsAtEnd left → lines_of taken ≡ whole_lines left taken
+all_whole None taken at_end = refl
+all_whole (Some []) taken at_end = refl
+all_whole (Some (b ∷ bs)) taken at_end = cc
+
 -- ---- a run
 
 -- of the bytes taken so far all groups that ended were reported on, and each read took one at least
@@ -399,14 +438,12 @@ module _ {left_old left contents_old contents : Option (List ℕ)} {line held : 
   -- a read failed
   pub stops_at_read : (left_new : Option (List ℕ)) → Keeps left left_new → StopsWithin left_old left_new contents_old contents
   stops_at_read left_new kept =
-      let all = last_reports [] (ended_lines run.taken) held run.so_far run.reports in
+      let all = whole_reports left_new run.taken held run.so_far run.reports in
       record {
         taken = run.taken;
         takes = Consumes-kept left_old left left_new run.taken run.takes kept;
-        lines = ended_lines run.taken;
-        whole = inl refl;
         out = run.so_far ++ all.0;
-        reports = group_reports (ended_lines run.taken) (run.so_far ++ all.0) all.1;
+        reports = group_reports (whole_lines left_new run.taken) (run.so_far ++ all.0) all.1;
         writes = record { written = run.so_far; appends = run.writes; begins = take-append_seam run.so_far all.0 };
       }
 
@@ -414,14 +451,12 @@ module _ {left_old left contents_old contents : Option (List ℕ)} {line held : 
   pub stops_in_piece : (left_new contents_new : Option (List ℕ)) (piece left_held out : List ℕ) → Consumes left left_new piece
       → AreEndedReports held (ended_lines (line ++ piece)) left_held out → AppendsBeginning contents contents_new out → StopsWithin left_old left_new contents_old contents_new
   stops_in_piece left_new contents_new piece left_held out takes is writes =
-      let all = last_reports [] (ended_lines (run.taken ++ piece)) left_held (run.so_far ++ out) (reports_on_piece piece left_held out is) in
+      let all = whole_reports left_new (run.taken ++ piece) left_held (run.so_far ++ out) (reports_on_piece piece left_held out is) in
       record {
         taken = run.taken ++ piece;
         takes = Consumes-trans left_old left left_new run.taken piece run.takes takes;
-        lines = ended_lines (run.taken ++ piece);
-        whole = inl refl;
         out = (run.so_far ++ out) ++ all.0;
-        reports = group_reports (ended_lines (run.taken ++ piece)) ((run.so_far ++ out) ++ all.0) all.1;
+        reports = group_reports (whole_lines left_new (run.taken ++ piece)) ((run.so_far ++ out) ++ all.0) all.1;
         writes = writes_prefix contents_new out all.0 ((run.so_far ++ out) ++ all.0) writes (append_assoc run.so_far out all.0);
       }
 
@@ -435,10 +470,9 @@ module _ {left_old left contents_old contents : Option (List ℕ)} {line held : 
   stops_at_end left_new contents_new piece last out is takes none at_end all writes = record {
     taken = run.taken;
     takes = consumes_end left_new piece takes none;
-    lines = lines_of run.taken;
-    whole = inr (at_end, refl);
     out = run.so_far ++ out;
-    reports = group_reports (lines_of run.taken) (run.so_far ++ out) (reports_on_all last out is all);
+    reports = subst (λ (lines : List (List ℕ)). AreGroupReports lines (run.so_far ++ out)) (all_whole left_new run.taken at_end)
+        (group_reports (lines_of run.taken) (run.so_far ++ out) (reports_on_all last out is all));
     writes = writes_prefix contents_new out [] (run.so_far ++ out) writes (ap (λ xs. run.so_far ++ xs) (sym (append-nil out)));
   }
 

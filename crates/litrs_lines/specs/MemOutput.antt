@@ -27,6 +27,10 @@ calls_of output = output.calls
 abbrev pub failed_of : MemOutput → Bool
 failed_of output = output.failed
 
+-- a write has failed
+abbrev pub write_failed_of : MemOutput → Bool
+write_failed_of output = output.write_failed
+
 -- nothing was written after the last flush
 abbrev pub flushed_of : MemOutput → Bool
 flushed_of output = output.flushed

@@ -1,7 +1,7 @@
 -- What holds of a run that stops.
-use Rattle.std.specs.Prelude.{◌≡◌, ◌⊎◌, ℕ, List, Option}
+use Rattle.std.specs.Prelude.{ℕ, List, [], ◌∷◌, Option, None, Some}
 use Rattle.std.specs.Io.{StartsWith}
-use Rattle.std.specs.Io.KnownBytes.{Appends, Consumes, IsAtEnd}
+use Rattle.std.specs.Io.KnownBytes.{Appends, Consumes}
 use Rattle.litrs_lines.specs.Lines.{ended_lines, lines_of}
 use Rattle.litrs_lines.specs.Reports.{AreGroupReports}
 
@@ -11,19 +11,18 @@ pub record AppendsBeginning (old new : Option (List ℕ)) (bytes : List ℕ) : T
   pub appends : Appends old new written
   pub begins : StartsWith bytes written
 
--- these are the ended lines of what was taken from an input, or where the input is at its end all
--- of them
-abbrev pub AreWholeLines : Option (List ℕ) → List ℕ → List (List ℕ) → Type 0
-AreWholeLines left taken lines =
-    (lines ≡ ended_lines taken) ⊎ (IsAtEnd left × (lines ≡ lines_of taken))
+-- the whole lines of what was taken from an input: all, but where bytes are left only those that an
+-- LF ends
+abbrev pub whole_lines : (left : Option (List ℕ)) (taken : List ℕ) → List (List ℕ)
+whole_lines None taken = lines_of taken
+whole_lines (Some []) taken = lines_of taken
+whole_lines (Some (b ∷ bs)) taken = ended_lines taken
 
 -- what was written is a prefix of the reports on the groups of the whole lines that were taken
 pub record StopsWithin (left_old left_new contents_old contents_new : Option (List ℕ))
     : Type 0 where
   pub taken : List ℕ
   pub takes : Consumes left_old left_new taken
-  pub lines : List (List ℕ)
-  pub whole : AreWholeLines left_new taken lines
   pub out : List ℕ
-  pub reports : AreGroupReports lines out
+  pub reports : AreGroupReports (whole_lines left_new taken) out
   pub writes : AppendsBeginning contents_old contents_new out

@@ -1,5 +1,5 @@
 //! What lines are read from, and what reports are written to.
-ghost use Rattle.std.specs.Prelude.{◌≡◌, ℕ, ◌≤◌, ◌<◌, ◌^◌, Bool, true, [], List, Option, None, length, IfOk, IfSome, OnOk};
+ghost use Rattle.std.specs.Prelude.{◌≡◌, ℕ, ◌≤◌, ◌+◌, ◌<◌, ◌^◌, ⊤, Bool, true, [], List, Option, None, length, IfOk, IfSome, OnOk, OnErr};
 ghost use Rattle.std.specs.Io.KnownBytes.{Keeps, ReadConsumes, WriteAppends};
 ghost use Rattle.litrs_lines.specs.Devices.{RecordsFailure};
 
@@ -15,6 +15,9 @@ pub trait Input {
     /// A call has failed.
     ghost has_failed: { Self → Bool };
 
+    /// So many reads, one or more, led from the first input to the second, as far as is known.
+    ghost are_reads: { ℕ → Self → Self → Type 0 } = { λ _ _ _. ⊤ };
+
     /// Reads bytes into the front of `buffer` and answers their number.
     ///
     /// Of a known input these are the next bytes, and none only at its end or where `buffer` is
@@ -22,7 +25,10 @@ pub trait Input {
     fn read(&mut self, buffer: &mut [u8]) -> Result<usize, Failed>
         ensures bound { IfOk result (λ count. count ≤ length buffer.new) }
         ensures bytes { ReadConsumes (remaining self.old) (remaining self.new) result buffer.new }
-        ensures failed { RecordsFailure (has_failed self.old) (has_failed self.new) result };
+        ensures failed { RecordsFailure (has_failed self.old) (has_failed self.new) result }
+        ensures one_read { are_reads 1 self.old self.new }
+        ensures one_more { (count : ℕ) (first : Self) →
+            are_reads count first self.old → are_reads (count + 1) first self.new };
 
     /// Whether a call has failed.
     fn failed(&self) -> bool
@@ -40,6 +46,9 @@ pub trait Output {
     /// A call has failed.
     ghost has_failed: { Self → Bool };
 
+    /// A write has failed, as far as is known: false where only a flush has.
+    ghost write_failed: { Self → Bool } = { λ _. true };
+
     /// Nothing was written after the last flush, where that is known.
     ghost is_flushed: { Self → Bool } = { λ _. true };
 
@@ -49,7 +58,8 @@ pub trait Output {
         ensures bound { IfOk result (λ count. count ≤ length piece.now) }
         ensures some { IfOk result (λ count. count ≡ 0 → piece.now ≡ []) }
         ensures bytes { WriteAppends (contents self.old) (contents self.new) result piece.now }
-        ensures failed { RecordsFailure (has_failed self.old) (has_failed self.new) result };
+        ensures failed { RecordsFailure (has_failed self.old) (has_failed self.new) result }
+        ensures write_failed { OnErr result (write_failed self.new ≡ true) };
 
     /// Passes on what was written so far. It writes no byte itself.
     fn flush(&mut self) -> Result<(), Failed>

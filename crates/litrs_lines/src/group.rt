@@ -31,6 +31,7 @@ pub(crate) fn take_line<O: Output>(
     ensures works { OnOk result (O.has_failed writer.new ≡ false) }
     ensures read { result ≢ Err RunError.Read }
     ensures write { IsErrOf result RunError.Write ↔ (O.has_failed writer.new ≡ true) }
+    ensures write_failed { IsErrOf result RunError.Write → O.write_failed writer.new ≡ true }
 {
     match str::from_utf8(line) {
         Ok(text) => take_text(collector, reports, writer, text),
@@ -56,6 +57,7 @@ fn take_text<O: Output>(
     ensures works { OnOk result (O.has_failed writer.new ≡ false) }
     ensures read { result ≢ Err RunError.Read }
     ensures write { IsErrOf result RunError.Write ↔ (O.has_failed writer.new ≡ true) }
+    ensures write_failed { IsErrOf result RunError.Write → O.write_failed writer.new ≡ true }
 {
     if collector.is_empty() {
         take_first(collector, reports, writer, line)
@@ -84,6 +86,7 @@ fn take_first<O: Output>(
     ensures works { OnOk result (O.has_failed writer.new ≡ false) }
     ensures read { result ≢ Err RunError.Read }
     ensures write { IsErrOf result RunError.Write ↔ (O.has_failed writer.new ≡ true) }
+    ensures write_failed { IsErrOf result RunError.Write → O.write_failed writer.new ≡ true }
 {
     let alloc = *reports.allocator();
     match Literal::parse(alloc, line) {
@@ -112,6 +115,7 @@ fn take_next<O: Output>(
     ensures works { OnOk result (O.has_failed writer.new ≡ false) }
     ensures read { result ≢ Err RunError.Read }
     ensures write { IsErrOf result RunError.Write ↔ (O.has_failed writer.new ≡ true) }
+    ensures write_failed { IsErrOf result RunError.Write → O.write_failed writer.new ≡ true }
 {
     match collector.feed(line)? {
         Step::More => Ok(()),

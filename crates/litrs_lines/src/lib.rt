@@ -1,7 +1,7 @@
 //! Reads lines and writes a report on each literal that they are, and on each text that is none.
 #![tactic(auto)]
 
-ghost use Rattle.std.specs.Prelude.{◌≡◌, ◌≢◌, ◌↔◌, ◌∷◌, [], ◌++◌, ℕ, List, true, false, Some, IsSome, IfSome, IfErr, IsErrOf, OnOk, OnErr, position, string_bytes};
+ghost use Rattle.std.specs.Prelude.{◌≡◌, ◌≢◌, ◌↔◌, ◌⊎◌, ◌∷◌, [], ◌++◌, ◌-◌, ◌^◌, ℕ, List, true, false, Some, IsSome, IfSome, IfErr, IsErrOf, OnOk, OnErr, position, string_bytes};
 ghost use Rattle.std.specs.Io.KnownBytes.{Appends, IsAtEnd};
 ghost use Rattle.litrs_lines.specs.Stopped.{AppendsBeginning, StopsWithin};
 ghost use Rattle.litrs_lines.specs.Lines.{is_line_feed, HasNoLineFeed, without_return, ended_lines, open_line, unless_empty, lines_of};
@@ -113,6 +113,7 @@ fn end_line<O: Output>(
     ensures works { OnOk result (O.has_failed writer.new ≡ false) }
     ensures read { result ≢ Err RunError.Read }
     ensures write { IsErrOf result RunError.Write ↔ (O.has_failed writer.new ≡ true) }
+    ensures write_failed { IsErrOf result RunError.Write → O.write_failed writer.new ≡ true }
 {
     if line.is_empty() {
         return take_line(collector, reports, writer, without_return(end));
@@ -146,6 +147,7 @@ fn gather<O: Output>(
     ensures works { OnOk result (O.has_failed writer.new ≡ false) }
     ensures read { result ≢ Err RunError.Read }
     ensures write { IsErrOf result RunError.Write ↔ (O.has_failed writer.new ≡ true) }
+    ensures write_failed { IsErrOf result RunError.Write → O.write_failed writer.new ≡ true }
 {
     let mut rest = piece;
     while let Some(end) = line_end(rest) {
@@ -165,6 +167,7 @@ fn write_all<O: Output>(writer: &mut O, bytes: &[u8]) -> Result<(), RunError>
         bytes.now) }
     ensures failed { OnErr result (O.has_failed writer.new ≡ true) }
     ensures write { IfErr result (λ e. e ≡ RunError.Write) }
+    ensures write_failed { OnErr result (O.write_failed writer.new ≡ true) }
 {
     let mut rest = bytes;
     while !rest.is_empty() {
@@ -196,6 +199,7 @@ fn take_piece<O: Output>(
         × AppendsBeginning (O.contents writer.old) (O.contents writer.new) out) }
     ensures read { result ≢ Err RunError.Read }
     ensures write { IsErrOf result RunError.Write ↔ (O.has_failed writer.new ≡ true) }
+    ensures write_failed { IsErrOf result RunError.Write → O.write_failed writer.new ≡ true }
 {
     reports.clear();
     gather(line, collector, reports, writer, piece)?;
@@ -220,6 +224,7 @@ fn take_open_line<O: Output>(
     ensures works { OnOk result (O.has_failed writer.new ≡ false) }
     ensures read { result ≢ Err RunError.Read }
     ensures write { IsErrOf result RunError.Write ↔ (O.has_failed writer.new ≡ true) }
+    ensures write_failed { IsErrOf result RunError.Write → O.write_failed writer.new ≡ true }
 {
     if line.is_empty() {
         return Ok(());
@@ -246,6 +251,7 @@ fn report_last<O: Output>(
     ensures works { OnOk result (O.has_failed writer.new ≡ false) }
     ensures read { result ≢ Err RunError.Read }
     ensures write { IsErrOf result RunError.Write ↔ (O.has_failed writer.new ≡ true) }
+    ensures write_failed { IsErrOf result RunError.Write → O.write_failed writer.new ≡ true }
 {
     take_open_line(line, collector, reports, writer)?;
     report_held(collector, reports)?;
@@ -270,6 +276,9 @@ fn finish<O: Output>(
         × AppendsBeginning (O.contents writer.old) (O.contents writer.new) out) }
     ensures read { result ≢ Err RunError.Read }
     ensures write { IsErrOf result RunError.Write ↔ (O.has_failed writer.new ≡ true) }
+    ensures flush { IsErrOf result RunError.Write → O.write_failed writer.new ≡ false →
+        (out : List ℕ) × AreLastReports collector.old (unless_empty line.now) out
+        × Appends (O.contents writer.old) (O.contents writer.new) out }
 {
     reports.clear();
     report_last(line, collector, reports, writer)?;
@@ -313,11 +322,20 @@ pub fn run<I: Input, O: Output>(
         AppendsReports (lines_of bytes) (O.contents writer.old) (O.contents writer.new))) }
     ensures flushed { OnOk result (O.is_flushed writer.new ≡ true) }
 
-    // An input whose bytes are known never runs out of reads.
-    ensures read { IsErrOf result RunError.Read → IsSome (I.remaining reader.old)
+    // The reader failed, or there were 2^64 - 1 reads; an input whose bytes are known ends earlier.
+    ensures read { IsErrOf result RunError.Read →
+        (I.has_failed reader.new ≡ true) ⊎ I.are_reads (2 ^ 64 - 1) reader.old reader.new }
+    ensures read_known { IsErrOf result RunError.Read → IsSome (I.remaining reader.old)
         → I.has_failed reader.new ≡ true }
     ensures read_failed { I.has_failed reader.new ≡ true → IsErrOf result RunError.Read }
     ensures write { IsErrOf result RunError.Write ↔ (O.has_failed writer.new ≡ true) }
+
+    // Where no write has failed, the flush has, after all reports.
+    ensures flush { IsErrOf result RunError.Write → O.write_failed writer.new ≡ false →
+        IfSome (I.remaining reader.old) (λ bytes.
+        AppendsReports (lines_of bytes) (O.contents writer.old) (O.contents writer.new)) }
+
+    // What was written is a prefix of the reports on the whole lines that were read.
     ensures err { OnErr result (StopsWithin (I.remaining reader.old) (I.remaining reader.new)
         (O.contents writer.old) (O.contents writer.new)) }
 {

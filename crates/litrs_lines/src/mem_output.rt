@@ -16,6 +16,7 @@ pub struct MemOutput {
     piece: usize,
     calls: Calls,
     failed: bool,
+    write_failed: bool,
     flushed: bool,
     ghost some: { 0 < piece },
     ghost within: { vec_len bytes ≤ room },
@@ -23,7 +24,7 @@ pub struct MemOutput {
 }
 
 impl MemOutput {
-    ghost use Rattle.litrs_lines.specs.MemOutput.{bytes_of, room_of, piece_of, calls_of, failed_of, flushed_of};
+    ghost use Rattle.litrs_lines.specs.MemOutput.{bytes_of, room_of, piece_of, calls_of, failed_of, write_failed_of, flushed_of};
 
     /// An output with memory for `room` bytes, which takes at most `piece` of them in a call, and
     /// `piece` is at least 1. Its calls fail from number `fail_at` on, writes and flushes counted
@@ -44,6 +45,7 @@ impl MemOutput {
         ensures piece { IfOk result (λ output. piece_of output ≡ piece) }
         ensures calls { IfOk result (λ output. calls_of output ≡ fresh_calls fail_at) }
         ensures failed { IfOk result (λ output. failed_of output ≡ false) }
+        ensures write_failed { IfOk result (λ output. write_failed_of output ≡ false) }
         ensures flushed { IfOk result (λ output. flushed_of output ≡ true) }
         ensures succeeds { room ≡ 0 → IsOk result }
     {
@@ -53,6 +55,7 @@ impl MemOutput {
             piece,
             calls: Calls::new(fail_at),
             failed: false,
+            write_failed: false,
             flushed: true,
         })
     }
@@ -66,11 +69,13 @@ impl MemOutput {
 }
 
 impl Output for MemOutput {
-    ghost use Rattle.litrs_lines.specs.MemOutput.{bytes_of, room_of, room_left, piece_of, calls_of, failed_of, flushed_of};
+    ghost use Rattle.litrs_lines.specs.MemOutput.{bytes_of, room_of, room_left, piece_of, calls_of, failed_of, write_failed_of, flushed_of};
 
     ghost contents = { λ output. Some (bytes_of output) };
 
     ghost has_failed = { failed_of };
+
+    ghost write_failed = { write_failed_of };
 
     ghost is_flushed = { flushed_of };
 
@@ -80,6 +85,8 @@ impl Output for MemOutput {
         ensures bytes { WriteAppends (Some (bytes_of self.old)) (Some (bytes_of self.new))
             result piece.now }
         ensures failed { RecordsFailure (failed_of self.old) (failed_of self.new) result }
+        ensures write_failed { RecordsFailure (write_failed_of self.old) (write_failed_of self.new)
+            result }
 
         // How many bytes move, and when the call fails.
         ensures fails { IsErr result
@@ -95,6 +102,7 @@ impl Output for MemOutput {
         let room_left = self.room - self.bytes.len();
         if self.calls.make().is_err() || room_left == 0 {
             self.failed = true;
+            self.write_failed = true;
             return Err(Failed);
         }
         let count = piece.len().min(self.piece).min(room_left);
@@ -111,6 +119,7 @@ impl Output for MemOutput {
 
         // When the call fails, and that it then changes nothing else.
         ensures kept { OnErr result (flushed_of self.new ≡ flushed_of self.old) }
+        ensures write_failed { write_failed_of self.new ≡ write_failed_of self.old }
         ensures fails { IsErr result ↔ IsTrue (next_fails (calls_of self.old)) }
         ensures calls { calls_of self.new ≡ after_call (calls_of self.old) }
         ensures piece { piece_of self.new ≡ piece_of self.old }

@@ -57,6 +57,7 @@ pub(crate) fn report_literal<B: Buffer, O: Output>(
     ensures works { OnOk result (O.has_failed writer.new ≡ false) }
     ensures read { result ≢ Err RunError.Read }
     ensures write { IsErrOf result RunError.Write ↔ (O.has_failed writer.new ≡ true) }
+    ensures write_failed { IsErrOf result RunError.Write → O.write_failed writer.new ≡ true }
 {
     push_front(reports, lit)?;
     send_hex(reports, writer, hex_value(lit))?;
@@ -254,6 +255,7 @@ fn send_hex<O: Output>(reports: &mut String, writer: &mut O, bytes: &[u8]) -> Re
     ensures works { OnOk result (O.has_failed writer.new ≡ false) }
     ensures read { result ≢ Err RunError.Read }
     ensures write { IsErrOf result RunError.Write ↔ (O.has_failed writer.new ≡ true) }
+    ensures write_failed { IsErrOf result RunError.Write → O.write_failed writer.new ≡ true }
 {
     let mut rest = bytes;
     while rest.len() > PIECE_LEN {

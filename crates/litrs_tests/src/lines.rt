@@ -1,3 +1,4 @@
-//! `run` and its devices.
+//! `run` and its devices, and the collector.
+mod collector;
 mod devices;
 mod runs;

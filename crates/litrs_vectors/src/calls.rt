@@ -124,9 +124,29 @@ fn try_container<C: EscapeContainer + AsSlice<u8>>(trial: &mut Trial, text: &str
         "with_capacity",
         C::with_capacity(trial.alloc, LONGEST).is_err()
     );
+    try_reserve(trial, &mut C::new(trial.alloc), text);
     let whole = format!(in trial.alloc; "{text}é{text}");
     if let Some(whole) = trial.own(whole) {
         try_adding(trial, &mut C::new(trial.alloc), text, whole.as_bytes());
+    }
+}
+
+/// Tries that room is made after a text, which stays as it is also where room is refused.
+fn try_reserve<C: EscapeContainer + AsSlice<u8>>(
+    trial: &mut Trial,
+    container: &mut C,
+    text: &str,
+) {
+    let pushed = container.push_str(text);
+    if trial.own(pushed).is_some() {
+        again!(
+            trial,
+            "reserve",
+            container.reserve(LONGEST).is_err(),
+            container.as_slice() == text.as_bytes()
+        );
+        let holds = container.as_slice() == text.as_bytes();
+        trial.check(holds, "has other contents");
     }
 }
 

@@ -7,7 +7,7 @@ use litrs::{
     ParseError, StringLit, Text,
 };
 use litrs_token::{
-    FromToken, Ident, IdentError, IntoIdent, IntoToken, LiteralError, Span, TokenTree,
+    FromToken, Ident, IdentError, IntoIdent, IntoToken, LiteralError, Span, TokenError, TokenTree,
 };
 
 /// A token that is a literal.
@@ -36,6 +36,10 @@ fn try_answer(
             try_written(trial, parse, &row.text);
             trial.at = (parse.name(), "String");
             try_read_by(trial, parse, lit);
+            if matches!(parse, Parse::Literal) {
+                try_other_kind(trial, lit);
+                try_no_ident(trial, lit.raw_input());
+            }
         }
         Err(_) => trial.check(false, "is refused"),
     }
@@ -62,6 +66,46 @@ pub fn try_no_token(trial: &mut Trial, text: &str) {
         Err(e) => e == LiteralError::NotALiteral,
     };
     trial.check(holds, "is a token");
+}
+
+/// Tries that a literal's token is no literal of another kind, whose value would be allocated. That
+/// is answered whether or not there is memory.
+fn try_other_kind(trial: &mut Trial, lit: &Literal<String>) {
+    match lit {
+        Literal::String(_) => try_invalid::<CStringLit<String>>(trial, lit.raw_input()),
+        Literal::CString(_) => try_invalid::<ByteStringLit<String>>(trial, lit.raw_input()),
+        _ => try_invalid::<StringLit<String>>(trial, lit.raw_input()),
+    }
+}
+
+/// Tries the four conversions of a type of another kind on the token of a literal.
+fn try_invalid<L: FromToken<Error = TokenError>>(trial: &mut Trial, text: &str) {
+    if let Some(token) = token_of(trial, text) {
+        let read = L::from_literal_ref(trial.alloc, &token);
+        try_is_invalid(trial, read);
+        let tree = TokenTree::from(token);
+        let read = L::from_tree_ref(trial.alloc, &tree);
+        try_is_invalid(trial, read);
+        let read = L::from_tree(trial.alloc, tree);
+        try_is_invalid(trial, read);
+    }
+    if let Some(token) = token_of(trial, text) {
+        let read = L::from_literal(trial.alloc, token);
+        try_is_invalid(trial, read);
+    }
+}
+
+/// Tries that a token was refused for its kind.
+fn try_is_invalid<L: Drop>(trial: &mut Trial, read: Result<L, TokenError>) {
+    let holds = matches!(&read, Err(TokenError::Invalid(_)));
+    trial.check(holds, "is read as another kind");
+}
+
+/// Tries that a text is no identifier, whether or not there is memory.
+fn try_no_ident(trial: &mut Trial, text: &str) {
+    let answer = Ident::new(trial.alloc, text, Span::call_site());
+    let holds = matches!(&answer, Err(IdentError::NotAnIdent));
+    trial.check(holds, "is an identifier");
 }
 
 /// Tries the token that a literal is written as, by the type of its kind.

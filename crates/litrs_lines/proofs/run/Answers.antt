@@ -1,12 +1,13 @@
-use Rattle.std.proofs.Common.{arith, ◌∙◌, length-take, rules}
+use Rattle.std.proofs.Common.{◌≡◌, ◌^◌, ◌-◌, ℕ, inl, inr, refl, arith, ◌∙◌, length-take, rules}
 use Rattle.std.proofs.KnownBytes.{Keeps-refl}
-use Rattle.litrs_lines.proofs.LinesLemmas.{runs_none, line_unended, runs_more, stops_at_read, stops_in_piece, stops_at_end, ends_run, OnOk-map, OnErr-map, OnErr-holds, false_unless, ok_not_err, take_none}
+use Rattle.litrs_lines.proofs.LinesLemmas.{runs_none, line_unended, runs_more, stops_at_read, stops_in_piece, stops_at_end, ends_run, one_more_read, many_reads, OnOk-map, OnErr-map, OnErr-holds, false_unless, ok_not_err, take_none}
 use Rattle.litrs_lines.proofs.run.Goals as goal
 
 pub loop-turn-init : goal.loop-turn-init
 loop-turn-init g c = record {
   reader_works = c.requires.reader_works;
   writer_works = c.requires.writer_works;
+  reads = inl (refl, refl);
   runs = runs_none _ _ _ _ c.new-line.ensures.items c.new-collector.ensures;
 }
 
@@ -35,8 +36,21 @@ pub loop-turn-preserved : goal.loop-turn-preserved
 loop-turn-preserved g c = record {
   reader_works = c.in-Ok.ensures.failed ∙ c.loop-turn.invariant.reader_works;
   writer_works = false_unless _ (λ failed. ok_not_err (c.in_ok-take_piece.ensures.write.1 failed));
+  reads = one_more_read g.I.Input.are_reads _ _ _ _ c.loop-turn.invariant.reads c.read.ensures.one_read c.read.ensures.one_more;
   runs = runs_more c.loop-turn.invariant.runs _ _ _ _ _ c.in_ok-take_piece.ensures.ok.0 c.in-Ok.ensures.bytes.0 c.in_ok-take_piece.ensures.line c.in_ok-take_piece.ensures.ok.1 c.in_ok-take_piece.ensures.ok.2 (rw length-take (omega arith));
 }
+
+pub returns-then-count-eq0-clause-flush : goal.returns-then-count-eq0-clause-flush
+returns-then-count-eq0-clause-flush g c = λ failed other.
+    let read = c.in-Ok.ensures.bytes in
+    let all = c.finish.ensures.flush failed other in
+    ends_run c.loop-turn.invariant.runs _ _ _ _ all.0 c.as_slice-open_line.ensures.value read.0 (take_none _ _ (omega arith)) (read.1 (omega arith) (omega arith)) all.1 all.2
+
+pub returns-clause-read : goal.returns-clause-read
+returns-clause-read g c = λ _.
+    let many : ℕ = 2 ^ 64 - 1 in
+    let all : c.loop-turn._turn ≡ many = omega arith in
+    inr (many_reads g.I.Input.are_reads _ many _ _ c.loop-turn.invariant.reads all (omega arith))
 
 pub returns-clause-err : goal.returns-clause-err
 returns-clause-err g c = stops_at_read c.loop-turn.invariant.runs _ (Keeps-refl _)
