@@ -43,6 +43,7 @@ SHOWN = {
     "": ["those with a value in turn"],
 }
 KINDS = {"ByteString": "byte string", "CString": "C string"}
+SHAPES = {"those with a value in turn": "all kinds that have a value, in turn"}
 TOP_EDGE, STEP, LEFT, WIDTH, RATIO = 82, 17, 300, 540, 60
 AXIS_NAMES = ["1 ns", "10 ns", "100 ns", "1 µs", "10 µs", "100 µs", "1 ms", "10 ms"]
 OURS, UPSTREAM, AXIS, INK = "#1f6f50", "#b5651d", "#d8d8d8", "#222222"
@@ -69,7 +70,8 @@ class Row:
 
     def name(self):
         kind = KINDS.get(self.kind, self.kind.lower())
-        return f"{kind}: {self.shape}" if kind else self.shape
+        shape = SHAPES.get(self.shape, self.shape)
+        return f"{kind}: {shape}" if kind else shape
 
 
 def row_of(line, head):
