@@ -138,7 +138,7 @@ def fault_of_proof(folder, crate):
 
 
 def run_lines(lines, folder):
-    """What lines of the shell print in this folder, and why they ended as they should not, if so."""
+    """What lines of the shell print in this folder, and why they failed, if they did."""
     how = {"stdin": subprocess.DEVNULL, "capture_output": True, "text": True, "cwd": folder}
     ran = subprocess.run(["bash", "-e", "-o", "pipefail", "-c", lines], check=False, **how)
     if ran.returncode:

@@ -1,8 +1,8 @@
 #!/usr/bin/env python3
 """Draws the table of shapes of bench/README.md: both crates by shape, on a logarithmic axis.
 
-    bench/picture.py            draws docs/speed.svg, the shapes below, and bench/shapes.svg, all others
-    bench/picture.py --check    fails where either is not what the table gives
+    bench/picture.py            draws docs/speed.svg, of the shapes below, and bench/shapes.svg
+    bench/picture.py --check    fails where one of them is not what the table gives
 """
 import dataclasses
 import html
