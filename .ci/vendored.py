@@ -1,15 +1,20 @@
 #!/usr/bin/env python3
-"""Puts the libraries into an empty folder, and calls them there as another repository would.
+"""Puts crates into an absent folder, and calls them there as another repository would.
 
     .ci/vendored.py
 
-After `rt ci`. `bin/vendor` copies the libraries that have a page CALLING.md, twice: the second time
-over a copy that was changed. Each crate there must be ours, file by file, with our line in
-crates.txt, and there must be no other. So what `rt ci` proved of ours holds of the copies: the
-caller of each page is proved over the libraries that it left. The caller of `litrs` is also made a
-program there by one line of crates.txt, compiled from the copied sources, and run.
+After `rt ci`. `bin/vendor` copies the libraries that have a page CALLING.md, the C library and a
+program, twice: the second time over a copy that was changed. Each crate there must be ours, file by
+file, with our line in crates.txt, our version and no broken link, and there must be no other. So
+what `rt ci` proved of ours holds of the copies: the callers of each page are proved over the
+libraries that it left.
+
+The lines of README are run too, in their order, from an absent folder on: its program, compiled
+there from copied sources, must print what README says. The line that runs a program here must end
+with status 0.
 """
 import concurrent.futures
+import dataclasses
 import os
 import pathlib
 import re
@@ -20,51 +25,47 @@ import tempfile
 import libraries
 from libraries import TOP
 
-# The line of crates.txt for the caller of each page.
-CALLERS = {
-    "litrs": "app: litrs",
-    "litrs_token": "app_token: litrs litrs_token",
-    "litrs_lines": "app_lines: litrs_lines",
-}
-PROGRAM = "program: litrs"
-MAIN = """
-use std::io;
-
-fn main(rt: HostRuntime) -> io::Result<()> {
-    for text in ["0xFF_u8", "70_000", "0b12"] {
-        match number::<u16>(text, 4) {
-            Ok(Some(value)) => println!(rt; "{value}")?,
-            Ok(None) => println!(rt; "too great")?,
-            Err(e) => println!(rt; "{e}")?,
-        }
-    }
-    Ok(())
-}
-"""
-PRINTED = "255\ntoo great\ninteger literal contains a digit invalid for its base (at 7..8)\n"
+# The libraries that have a page CALLING.md.
+CALLED = ["litrs", "litrs_token", "litrs_lines"]
+COPIED = [*CALLED, "litrs_c", "litrs_lines_fails"]
+# What of a crate's folder is not copied.
+LEFT = {"out", "wrong", "must-fail"}
+BLOCK = re.compile(r"^```(\w+)\n(.*?)^```$", re.M | re.S)
+README = (TOP / "README.md").read_text()
+VERSION = re.search(r"^## \[(\d\S*)\]", (TOP / "CHANGELOG.md").read_text(), re.M)[1]
 
 
 def vendor(folder):
-    """Copies the libraries into the folder, and again over what is no longer as it was copied."""
-    words = [TOP / "bin/vendor", folder, *CALLERS]
+    """Copies the crates into the folder, and again over what is no longer as it was copied."""
+    words = [TOP / "bin/vendor", folder, *COPIED]
     subprocess.run(words, check=True)
     (folder / "crates/litrs/src/lib.rt").write_text("")
     (folder / "crates/litrs/src/older.rt").write_text("")
     lines = (folder / "crates.txt").read_text().replace("litrs:", "litrs: itoa")
+    lines = lines.replace("litrs_c staticlib:", "litrs_c:")
     (folder / "crates.txt").write_text(lines)
     subprocess.run(words, check=True)
 
 
-def files_of(crate, parts):
-    """The files in these parts of a crate's folder, by their paths in it."""
-    files = (it for part in parts for it in (crate / part).rglob("*"))
-    return {str(it.relative_to(crate)): it.read_bytes() for it in files if it.is_file()}
+def files_of(crate):
+    """The files of a crate's folder that are copied, by their paths in it."""
+    files = (it for it in crate.rglob("*") if it.is_file())
+    paths = {it.relative_to(crate): it for it in files}
+    return {str(path): it.read_bytes() for path, it in paths.items() if path.parts[0] not in LEFT}
 
 
 def names_of_copies():
-    """The libraries with a page, and those that they stand on."""
+    """The crates that are copied, and those that they stand on."""
     crates = libraries.crates_of(TOP)
-    return {it for name in CALLERS for it in [name, *crates[name].below(crates)]}
+    return {it for name in COPIED for it in [name, *crates[name].below(crates)]}
+
+
+def broken_links(crate):
+    """The links of a crate's pages to files that are not there."""
+    for page in crate.glob("*.md"):
+        for link in re.findall(r"\]\(([^)#:]+)\)", page.read_text()):
+            if not (crate / link).exists():
+                yield f"{crate.name}/{page.name}: {link}"
 
 
 def faults_of_copies(folder):
@@ -75,42 +76,53 @@ def faults_of_copies(folder):
     if folders != wanted or copied != {it: ours[it] for it in wanted}:
         yield f"crates {sorted(folders)}, of crates.txt {sorted(copied)}; wanted {sorted(wanted)}"
     for name in sorted(wanted & folders):
-        files = files_of(TOP / "crates" / name, ["src", "specs", "proofs"])
         licences = {it.name: it.read_bytes() for it in TOP.glob("LICENSE-*")}
-        copy = files_of(folder / "crates" / name, ["."])
-        differing = {it[0] for it in ({**files, **licences}.items() ^ copy.items())}
-        if differing:
+        copy = files_of(folder / "crates" / name)
+        version = copy.pop("VERSION", b"").decode()
+        if not re.fullmatch(re.escape(VERSION) + r"(\+[0-9a-f]+)?\n", version):
+            yield f"{name}: its version is {version!r}, and not {VERSION}"
+        files = files_of(TOP / "crates" / name) | licences
+        if differing := {it[0] for it in files.items() ^ copy.items()}:
             yield f"{name}: {len(differing)} files differ: {sorted(differing)[:5]}"
+        yield from broken_links(folder / "crates" / name)
 
 
-def block_of(page, language):
-    """The first block of a page in this language, None where it has none."""
-    found = re.search(rf"^```{language}\n(.*?)^```$", page, re.M | re.S)
-    return found and found[1]
+def blocks_of(page, language):
+    """The blocks of a page in this language."""
+    return [found[2] for found in BLOCK.finditer(page) if found[1] == language]
 
 
-def page_of(name):
-    return (TOP / "crates" / name / "CALLING.md").read_text()
+@dataclasses.dataclass
+class Caller:
+    """A crate that a page shows: its line of crates.txt, and its files by their paths."""
+
+    line: str
+    files: dict
 
 
-def add_crate(folder, line, root, code):
-    """Adds a crate of one file by its line of crates.txt. Returns its folder."""
-    crate = folder / "crates" / line.split(":")[0]
-    (crate / "src").mkdir(parents=True)
-    (crate / "src" / root).write_text(code)
+def callers_of(page):
+    """The callers of a page. Each is a block that begins with a line of tactics, below its line of
+    crates.txt; the blocks of its proofs and definitions follow, each below the path of its file."""
+    callers = []
+    for block in BLOCK.finditer(page):
+        spans = re.findall(r"`([^`\n]+)`", BLOCK.sub("", page[: block.start()]))
+        if block[1] == "rust" and block[2].startswith("#![tactic(auto)]"):
+            line = next(it for it in reversed(spans) if re.fullmatch(r"\w+: [\w ]+", it))
+            callers.append(Caller(line, {"src/lib.rt": block[2]}))
+        elif block[1] == "antt":
+            path = next(it for it in reversed(spans) if it.endswith(".antt"))
+            callers[-1].files[path] = block[2]
+    return callers
+
+
+def add_crate(folder, caller):
+    """Adds a crate to a repository. Returns its folder."""
+    crate = folder / "crates" / caller.line.split(":")[0]
+    for path, text in caller.files.items():
+        (crate / path).parent.mkdir(parents=True, exist_ok=True)
+        (crate / path).write_text(text)
     with (folder / "crates.txt").open("a") as lines:
-        lines.write(f"{line}\n")
-    return crate
-
-
-def add_caller(folder, name):
-    """Adds the caller of a page, with its answers. Returns its folder."""
-    code, answers = block_of(page_of(name), "rust"), block_of(page_of(name), "antt")
-    crate = add_crate(folder, CALLERS[name], "lib.rt", code)
-    if answers:
-        function = re.search(r"^pub fn (\w+)", code, re.M)[1]
-        (crate / "proofs" / function).mkdir(parents=True)
-        (crate / "proofs" / function / "Answers.antt").write_text(answers)
+        lines.write(f"{caller.line}\n")
     return crate
 
 
@@ -125,37 +137,57 @@ def fault_of_proof(folder, crate):
     return None
 
 
-def fault_of_program(crate):
-    """Why the program in this folder does not print what it has to, if it does not."""
-    how = {"cwd": crate, "stdin": subprocess.DEVNULL, "capture_output": True, "text": True}
-    ran = subprocess.run(["rt", "try"], check=False, **how)
-    if ran.stdout != PRINTED or ran.returncode:
-        return f"the program ended with {ran.returncode}: {ran.stdout}{ran.stderr[-2000:]}"
-    return None
+def run_lines(lines, folder):
+    """What lines of the shell print in this folder, and why they failed, if they did."""
+    how = {"stdin": subprocess.DEVNULL, "capture_output": True, "text": True, "cwd": folder}
+    ran = subprocess.run(["bash", "-e", "-o", "pipefail", "-c", lines], check=False, **how)
+    if ran.returncode:
+        return "", f"status {ran.returncode} of {lines}: {ran.stdout}{ran.stderr[-2000:]}"
+    return ran.stdout, None
 
 
-def faults_of_callers(folder):
-    """What fails of the callers, as many at once as there are processors."""
-    callers = [add_caller(folder, it) for it in CALLERS]
-    code = block_of(page_of("litrs"), "rust") + MAIN
-    program = add_crate(folder, PROGRAM, "main.rt", code)
+def fault_of_readme(room):
+    """Why README's lines do not make its program and print what it says, if they do not."""
+    set_up, run = (it.replace("../yours", str(room)) for it in blocks_of(README, "sh")[:2])
+    _, fault = run_lines(set_up, TOP)
+    if fault:
+        return fault
+    (room / "crates/app/src/main.rt").write_text(blocks_of(README, "rust")[0])
+    printed, fault = run_lines(run, room)
+    if not fault and printed != blocks_of(README, "text")[0]:
+        return f"README's program prints {printed}"
+    return fault
+
+
+def fault_of_line_here():
+    """Why README's line that runs a program of this repository fails, if it does."""
+    return run_lines(blocks_of(README, "sh")[2], TOP)[1]
+
+
+def faults_of_callers(folder, callers, room):
+    """What fails of the callers and of README, as many at once as there are processors."""
+    crates = [add_crate(folder, it) for it in callers]
     with concurrent.futures.ThreadPoolExecutor(len(os.sched_getaffinity(0))) as pool:
-        tried = [pool.submit(fault_of_program, program)]
-        tried += [pool.submit(fault_of_proof, folder, it) for it in callers]
+        tried = [pool.submit(fault_of_readme, room), pool.submit(fault_of_line_here)]
+        tried += [pool.submit(fault_of_proof, folder, it) for it in crates]
     return [it.result() for it in tried if it.result()]
 
 
 def main():
-    libraries.stop_unless_built(names_of_copies())
-    with tempfile.TemporaryDirectory(prefix="vendored-") as room:
-        folder = pathlib.Path(room)
-        subprocess.run(["git", "init", "-q", folder], check=True)
+    libraries.stop_unless_built(names_of_copies() - {"litrs_c", "litrs_lines_fails"})
+    pages = [(TOP / "crates" / it / "CALLING.md").read_text() for it in CALLED]
+    callers = [it for page in pages for it in callers_of(page)]
+    with tempfile.TemporaryDirectory(prefix="vendored-") as name:
+        folder, room = pathlib.Path(name, "copies"), pathlib.Path(name, "yours")
         vendor(folder)
-        copies = list(faults_of_copies(folder))
-        faults = copies or faults_of_callers(folder)
+        subprocess.run(["git", "init", "-q", folder], check=True)
+        faults = list(faults_of_copies(folder))
+        if VERSION not in README:
+            faults.append(f"README does not say the version {VERSION}")
+        tried = 1 if faults else len(callers) + 3
+        faults = faults or faults_of_callers(folder, callers, room)
     print(*faults, sep="\n", end="\n" if faults else "")
-    passed = 0 if copies else len(CALLERS) + 2 - len(faults)
-    print(f"vendored: {passed} passed, {len(faults)} failed")
+    print(f"vendored: {tried - len(faults)} passed, {len(faults)} failed")
     return 1 if faults else 0
 
 

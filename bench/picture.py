@@ -1,69 +1,176 @@
 #!/usr/bin/env python3
-"""Draws the table of `bench/run FOLDER` as an SVG: both crates by shape, on a logarithmic axis.
+"""Draws the table of shapes of bench/README.md: both crates by shape, on a logarithmic axis.
 
-    bench/picture.py < OUTPUT > docs/speed.svg
+    bench/picture.py            draws docs/speed.svg, of the shapes below, and bench/shapes.svg
+    bench/picture.py --check    fails where one of them is not what the table gives
 """
+import dataclasses
 import html
+import itertools
 import math
+import pathlib
 import re
 import sys
-import textwrap
 
-# Kind, shape, bytes, our time, upstream's, their ratio.
-ROW = re.compile(r"^(.{11})(.+?)\s+([\d.]+)\s+([\d.]+)\s+([\d.]+)\s+([\d.]+)\s")
-TOP, STEP, LEFT, WIDTH, LOW, HIGH = 46, 15, 290, 560, 1, 1e7
+TOP = pathlib.Path(__file__).resolve().parent.parent
+TABLE = TOP / "bench/README.md"
+# The shapes of the first page.
+SHOWN = {
+    "Bool": ["bool"],
+    "Integer": [
+        "decimal, 1 to 3 digits",
+        "decimal, 11 to 39 digits",
+        "decimal with a type",
+        "hexadecimal, underscores, type",
+        "refused: wrong digit (0b12)",
+    ],
+    "Float": ["with a fraction", "fraction, exponent, sign"],
+    "Char": ["plain, ASCII", "plain, not ASCII", "unicode escape"],
+    "Byte": ["plain", "refused: b'', b'ab', b'a, b'é'"],
+    "String": [
+        "up to 31 bytes",
+        "up to 31 items, escapes",
+        "16 escapes",
+        "1,000 bytes",
+        "10,000 bytes, escape each 100",
+        "1,000,000 bytes",
+        "raw, up to 31 bytes",
+        "raw, 10,000 bytes",
+        "refused: an escape",
+    ],
+    "ByteString": ["up to 31 items, escapes"],
+    "CString": ["up to 31 bytes"],
+    "": ["those with a value in turn"],
+}
+KINDS = {"ByteString": "byte string", "CString": "C string"}
+SHAPES = {"those with a value in turn": "all kinds that have a value, in turn"}
+TOP_EDGE, STEP, LEFT, WIDTH, RATIO = 82, 17, 300, 540, 60
+AXIS_NAMES = ["1 ns", "10 ns", "100 ns", "1 µs", "10 µs", "100 µs", "1 ms", "10 ms"]
 OURS, UPSTREAM, AXIS, INK = "#1f6f50", "#b5651d", "#d8d8d8", "#222222"
 
 
-def rows_of(lines):
-    """The rows of the first table of the output: kind, shape, our time and upstream's."""
-    rows = []
-    for line in lines:
-        if found := ROW.match(line):
-            rows.append((found[1].strip(), found[2].strip(), float(found[4]), float(found[5])))
-        elif rows and not line.strip():
-            break
-    return rows
+@dataclasses.dataclass
+class Row:
+    """A shape: the nanoseconds of a `parse` of one text, ours and upstream's, and their ratio as
+    the table has it, one number or that of each of two runs."""
+
+    kind: str
+    shape: str
+    ours: float
+    upstream: float
+    ratio: str
+
+    def is_shown(self):
+        return self.shape in SHOWN.get(self.kind, [])
+
+    def is_sound(self):
+        """Whether the times have the ratio that stands beside them."""
+        ends = [float(it) for it in self.ratio.split("-")]
+        return ends[0] - 0.02 <= self.ours / self.upstream <= ends[-1] + 0.02
+
+    def name(self):
+        kind = KINDS.get(self.kind, self.kind.lower())
+        shape = SHAPES.get(self.shape, self.shape)
+        return f"{kind}: {shape}" if kind else shape
+
+
+def row_of(line, head):
+    """The row of a line below this head. A kind and a shape begin below their names, and a number
+    ends below the end of its name."""
+    ends = [found.end() for found in re.finditer(r"\S+", head)]
+    start_shape, end_bytes = head.index("shape"), ends[2]
+    ours, upstream, ratio = (line[a:b].strip() for a, b in itertools.pairwise(ends[2:6]))
+    shape = line[start_shape:end_bytes].rsplit(None, 1)[0]
+    return Row(line[:start_shape].strip(), shape.strip(), float(ours), float(upstream), ratio)
+
+
+def read_table():
+    """The machine and the rows of the table of shapes."""
+    page = TABLE.read_text()
+    lines = iter(page.splitlines())
+    head = next(line for line in lines if line.split()[:3] == ["kind", "shape", "bytes"])
+    rows = [row_of(line, head) for line in itertools.takewhile(str.strip, lines)]
+    return re.search(r"^Machine: (.+)\.$", page, re.M)[1], rows
+
+
+def fault_of(rows):
+    """What is wrong with the rows, None where nothing is."""
+    if wrong := [it.name() for it in rows if not it.is_sound()]:
+        return f"the times do not have the ratio beside them: {wrong}"
+    wanted = {(kind, shape) for kind, shapes in SHOWN.items() for shape in shapes}
+    if missing := wanted - {(it.kind, it.shape) for it in rows}:
+        return f"shapes of the first page that the table lacks: {sorted(missing)}"
+    return None
 
 
 def across(time):
     """Where a time stands, from the left."""
-    share = (math.log10(time) - math.log10(LOW)) / (math.log10(HIGH) - math.log10(LOW))
-    return LEFT + WIDTH * share
+    return LEFT + WIDTH * math.log10(time) / (len(AXIS_NAMES) - 1)
 
 
-def text(x, y, words, anchor="start", colour=INK):
-    return f'<text x="{x:.0f}" y="{y:.0f}" text-anchor="{anchor}" fill="{colour}">{html.escape(words)}</text>'
+def text(x, y, words, anchor="start", colour=INK, size=11):
+    look = f'text-anchor="{anchor}" fill="{colour}" font-size="{size}"'
+    return f'<text x="{x:.0f}" y="{y:.0f}" {look}>{html.escape(words)}</text>'
+
+
+def head_of(machine):
+    """The title, and what the marks mean."""
+    yield text(14, 22, "Time of Literal::parse, one text a call", size=15)
+    yield text(14, 40, f"{machine}. The axis is logarithmic.")
+    yield text(LEFT, 58, "● this crate", colour=OURS)
+    yield text(LEFT + 100, 58, "● the Rust crate litrs 1.0.1", colour=UPSTREAM)
+    yield text(LEFT + WIDTH + RATIO, 58, "ours / theirs", "end")
 
 
 def axis(bottom):
     """The lines of the powers of ten, with their names above."""
-    names = ["1 ns", "10 ns", "100 ns", "1 µs", "10 µs", "100 µs", "1 ms", "10 ms"]
-    for power, name in enumerate(names):
+    for power, name in enumerate(AXIS_NAMES):
         x = across(10**power)
-        yield f'<line x1="{x:.0f}" y1="{TOP - 8}" x2="{x:.0f}" y2="{bottom}" stroke="{AXIS}"/>'
-        yield text(x, TOP - 12, name, "middle")
+        yield f'<line x1="{x:.0f}" y1="{TOP_EDGE - 4}" x2="{x:.0f}" y2="{bottom}" stroke="{AXIS}"/>'
+        yield text(x, TOP_EDGE - 8, name, "middle")
 
 
 def marks(rows):
-    """A row a shape: its name, and both times, joined by a line."""
-    for number, (kind, shape, ours, upstream) in enumerate(rows):
-        y = TOP + STEP * number + 6
-        yield text(LEFT - 14, y + 4, f"{kind}: {shape}" if kind else shape, "end")
-        yield f'<line x1="{across(ours):.1f}" y1="{y}" x2="{across(upstream):.1f}" y2="{y}" stroke="#999999"/>'
-        for time, colour in ((upstream, UPSTREAM), (ours, OURS)):
-            yield f'<circle cx="{across(time):.1f}" cy="{y}" r="4" fill="{colour}"/>'
+    """A line a shape: its name, both times, and their ratio."""
+    for number, row in enumerate(rows):
+        y = TOP_EDGE + STEP * number + 10
+        ours, upstream = across(row.ours), across(row.upstream)
+        yield text(LEFT - 14, y + 4, row.name(), "end")
+        yield f'<line x1="{ours:.1f}" y1="{y}" x2="{upstream:.1f}" y2="{y}" stroke="#999999"/>'
+        yield f'<circle cx="{upstream:.1f}" cy="{y}" r="4" fill="{UPSTREAM}"/>'
+        yield f'<circle cx="{ours:.1f}" cy="{y}" r="4" fill="{OURS}"/>'
+        yield text(LEFT + WIDTH + RATIO, y + 4, row.ratio, "end")
 
 
-def main():
-    rows = rows_of(textwrap.dedent(sys.stdin.read()).split("\n"))
-    bottom = TOP + STEP * len(rows) + 4
-    size = f'width="{LEFT + WIDTH + 30}" height="{bottom + 8}"'
-    print(f'<svg xmlns="http://www.w3.org/2000/svg" {size} font-family="sans-serif" font-size="11">')
-    print('<rect width="100%" height="100%" fill="white"/>')
-    print(text(LEFT, 16, "time of a parse: this crate", colour=OURS))
-    print(text(LEFT + 160, 16, "the Rust crate", colour=UPSTREAM))
-    print(*axis(bottom), *marks(rows), "</svg>", sep="\n")
+def picture(machine, rows):
+    """The picture of these rows."""
+    bottom = TOP_EDGE + STEP * len(rows) + 4
+    size = f'width="{LEFT + WIDTH + RATIO + 14}" height="{bottom + 8}"'
+    return "\n".join(
+        [
+            f'<svg xmlns="http://www.w3.org/2000/svg" {size} font-family="sans-serif">',
+            '<rect width="100%" height="100%" fill="white"/>',
+            *head_of(machine),
+            *axis(bottom),
+            *marks(rows),
+            "</svg>\n",
+        ]
+    )
 
 
-main()
+def main(is_check):
+    machine, rows = read_table()
+    if fault := fault_of(rows):
+        sys.exit(f"bench/picture.py: {fault}")
+    shown, others = ([it for it in rows if it.is_shown() == wanted] for wanted in (True, False))
+    pictures = {"docs/speed.svg": shown, "bench/shapes.svg": others}
+    for name, drawn in pictures.items():
+        if not is_check:
+            (TOP / name).write_text(picture(machine, drawn))
+        elif not (TOP / name).exists() or (TOP / name).read_text() != picture(machine, drawn):
+            sys.exit(f"{name} is not what bench/README.md gives: run bench/picture.py")
+    print(*(f"{name}: {len(drawn)} shapes" for name, drawn in pictures.items()), sep="\n")
+
+
+if __name__ == "__main__":
+    main(sys.argv[1:] == ["--check"])
