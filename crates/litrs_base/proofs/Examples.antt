@@ -1,11 +1,29 @@
--- The names of types, and what escapes stand for, by computation.
-use Rattle.std.specs.Prelude.{◌≡◌, refl, true, false}
+-- The only derivation, the names of types, and what escapes stand for, by computation.
+use Rattle.std.specs.Prelude.{◌≡◌, ℕ, refl, true, false}
 use Rattle.litrs_base.specs.declared.integer.IntegerType.{IntegerType}
 use Rattle.litrs_base.specs.declared.float.FloatType.{FloatType}
 use Rattle.litrs_base.specs.declared.escape.Unescape.TheVariants.{Byte, Unicode}
+use Rattle.litrs_base.specs.Derivations.{IsOnlyDerivation, HasNoDerivation}
 use Rattle.litrs_base.specs.IntegerTypes.{type_name, NamesNoType}
 use Rattle.litrs_base.specs.FloatTypes.{float_type_name, NamesNoFloatType}
 use Rattle.litrs_base.specs.Unescape.{unescaped_number, is_unescaped_char, is_unescaped_byte}
+
+-- Derivations
+
+apart : ¬ ◌≡◌ {A = ℕ} 2 3
+apart same = cc
+
+-- 2 is no derivation where 3 alone is one
+only_is_one : ¬ IsOnlyDerivation (λ (n : ℕ). n ≡ 3) 2
+only_is_one only = apart only.0
+
+-- 3 is not the only one where every number is one
+only_is_alone : ¬ IsOnlyDerivation (λ (n : ℕ). n ≡ n) 3
+only_is_alone only = apart (only.1 2 refl)
+
+-- there is one where 3 is one
+none_is_none : ¬ HasNoDerivation (λ (n : ℕ). n ≡ 3)
+none_is_none none = none 3 refl
 
 -- Names
 

@@ -6,3 +6,5 @@ pub mod PartPlaces
 pub mod Memory
 -- parts that are written one after the other
 pub mod Rooms
+-- examples
+pub mod Examples

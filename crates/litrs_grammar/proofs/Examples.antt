@@ -1,5 +1,6 @@
 -- Texts whose answers are known from outside, kind by kind.
 pub mod CharByte
+pub mod Closing
 pub mod Escape
 pub mod Float
 pub mod Integer

@@ -17,6 +17,8 @@ mod lexing;
 #[cfg(test)]
 mod lines;
 #[cfg(test)]
+mod mismatches;
+#[cfg(test)]
 mod numbers;
 #[cfg(test)]
 mod printing;
