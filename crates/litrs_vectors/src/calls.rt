@@ -124,7 +124,7 @@ fn try_container<C: EscapeContainer + AsSlice<u8>>(trial: &mut Trial, text: &str
         "with_capacity",
         C::with_capacity(trial.alloc, LONGEST).is_err()
     );
-    try_reserve(trial, &mut C::new(trial.alloc), text);
+    try_room_for_more(trial, &mut C::new(trial.alloc), text);
     let whole = format!(in trial.alloc; "{text}é{text}");
     if let Some(whole) = trial.own(whole) {
         try_adding(trial, &mut C::new(trial.alloc), text, whole.as_bytes());
@@ -132,7 +132,7 @@ fn try_container<C: EscapeContainer + AsSlice<u8>>(trial: &mut Trial, text: &str
 }
 
 /// Tries that room is made after a text, which stays as it is also where room is refused.
-fn try_reserve<C: EscapeContainer + AsSlice<u8>>(
+fn try_room_for_more<C: EscapeContainer + AsSlice<u8>>(
     trial: &mut Trial,
     container: &mut C,
     text: &str,
