@@ -24,6 +24,37 @@ const SWEEPS: &[Sweep] = &[
     ("Char", "underscores in an escape", Valued, &[0, 1, 8, 100], |_, len| {
         format!("'\\u{{1{}2}}'", "_".repeat(len))
     }),
+    ("", "refused: a long word", Refused, &[8, 40, 200], |_, len| format!("static_{}", "a".repeat(len - 7))),
+    ("String", "refused: \\n, text after", Refused, &[60, 300, 1025, 5000, 20_000], |n, len| {
+        format!("\"ab\\nc\" + {}", n.many(len, Numbers::plain))
+    }),
+    ("String", "refused: \\u, text after", Refused, &[60, 1025, 20_000], |n, len| {
+        format!("\"ab\\u{{e9}}c\" + {}", n.many(len, Numbers::plain))
+    }),
+    ("ByteString", "refused: \\xff, text after", Refused, &[60, 1025, 20_000], |n, len| {
+        format!("b\"ab\\xffc\" + {}", n.many(len, Numbers::plain))
+    }),
+    ("CString", "refused: \\xff, text after", Refused, &[60, 1025, 20_000], |n, len| {
+        format!("c\"ab\\xffc\" + {}", n.many(len, Numbers::plain))
+    }),
+    ("String", "refused: LF, text after", Refused, &[60, 1025, 20_000], |n, len| {
+        format!("\"\\\n\" + {}", n.many(len, Numbers::plain))
+    }),
+    ("String", "refused: \\u not closed", Refused, &[1, 5], |_, len| format!("\"\\u{{{}\"", "4".repeat(len))),
+    ("String", "refused: no digit in \\u", Refused, &[1, 5], |_, len| format!("\"\\u{{{}g}}\"", "4".repeat(len))),
+    ("String", "refused: \\x4", Refused, &[1], |_, _| "\"\\x4\"".to_string()),
+    ("CString", "refused: \\u{0}", Refused, &[1], |_, _| "c\"\\u{0}\"".to_string()),
+    ("String", "only LF continuations", Valued, &[4, 16, 64, 1000], |_, count| format!("\"{}\"", "\\\n".repeat(count))),
+    ("String", "\\n each, value of", Valued, &[17_000, 100_000], |_, len| format!("\"{}\"", "\\n".repeat(len))),
+    ("String", "a\\n each, value of", Valued, &[17_000, 100_000], |_, len| format!("\"{}\"", "a\\n".repeat(len / 2))),
+    ("String", "\\u{1} each, value of", Valued, &[17_000, 100_000], |_, len| format!("\"{}\"", "\\u{1}".repeat(len))),
+    ("String", "abc\\ each, value of", Valued, &[17_000, 100_000], |_, len| {
+        format!("\"{}\"", "abc\\\n    ".repeat(len / 3))
+    }),
+    ("String", "mixed escapes, value of", Valued, &[17_000, 100_000], |n, len| {
+        let body = |n: &mut Numbers| format!("{}{}", n.plain(), n.escape());
+        format!("\"{}\"", n.many(len / 2, body))
+    }),
     ("String", "underscores in one escape", Valued, &[0, 1, 8, 16, 100], |_, len| {
         format!("\"\\u{{1{}2}}\"", "_".repeat(len))
     }),
@@ -83,7 +114,7 @@ const SWEEPS: &[Sweep] = &[
     ("ByteString", "only \\xNN", Valued, &[1, 16, 81, 400], |n, count| {
         format!("b\"{}\"", n.many(count, |n| format!("\\x{:02x}", n.below(256))))
     }),
-    ("ByteString", "table of bytes", Valued, &[64, 256], |n, count| {
+    ("ByteString", "table of bytes", Valued, &[64, 256, 17_000], |n, count| {
         let byte = |n: &mut Numbers| match n.below(3) {
             0 => format!("\\x{:02x}", n.below(256)),
             1 => "\\0".to_string(),
