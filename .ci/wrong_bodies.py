@@ -256,7 +256,10 @@ class Trial:
     def settle(self, body, goal, how):
         """Notes what came of a wrong body."""
         holds = (goal is not None) == body.is_wrong
-        said = f"refused ({how}): {goal[:150]}" if goal else f"NOT REFUSED ({how})"
+        if body.is_wrong:
+            said = f"refused ({how}): {goal[:150]}" if goal else f"NOT REFUSED ({how})"
+        else:
+            said = f"harmless: REFUSED: {goal[:150]}" if goal else "harmless: not refused, as it must be"
         self.report.append((holds, f"{self.crate.name}/{body.name}: {said}"))
 
     def alone(self, body):
