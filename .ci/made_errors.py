@@ -22,6 +22,11 @@ import sys
 OUT_OF_MEMORY = "Err(_) => Err(ParseError::new(None, ParseErrorKind::OutOfMemory)),"
 MAPPED = {
     ("crates/litrs_lex/src/string.rt", OUT_OF_MEMORY),
+    # Where a container that is full answered the reading.
+    (
+        "crates/litrs_lex/src/string.rt",
+        "None => Err(ParseError::new(None, ParseErrorKind::OutOfMemory)),",
+    ),
     ("crates/litrs_strings/src/c_string.rt", OUT_OF_MEMORY),
     ("crates/litrs_collector/src/lib.rt", "ParseErrorKind::OutOfMemory => Err(AllocError),"),
     ("crates/litrs_token/src/from_token.rt", "ParseErrorKind::OutOfMemory => Err(AllocError),"),
@@ -54,7 +59,7 @@ RESERVED = {
     ("crates/litrs_lex/src/container.rt", "String::reserve(self, n)"): 1,
     ("crates/litrs_lex/src/container.rt", "Vec::reserve(self, n)"): 1,
     # `room` is the length of the value, or one more.
-    ("crates/litrs_lex/src/string.rt", "let mut value = C::with_capacity(alloc, room)?;"): 2,
+    ("crates/litrs_lex/src/string.rt", "let mut value = C::with_capacity(alloc, room)?;"): 1,
     (
         "crates/litrs_strings/src/byte_string.rt",
         "let mut copy = Vec::with_capacity(alloc, value.len())?;",

@@ -18,8 +18,8 @@ use Rattle.litrs_grammar.specs.GoesOn.Quoted.{RestGoesOn}
 use Rattle.litrs_grammar.specs.Continuation.{BeginsBy}
 use Rattle.litrs_grammar.proofs.QuotedItems.{escape_head}
 use Rattle.litrs_grammar.proofs.LongerTexts.Quoted.{stands_is_body, begins_rest, rest_begins}
-use Rattle.litrs_lex.specs.QuotedItems.{EndsItems, IsItemsEnd}
-use Rattle.litrs_lex.specs.declared.quoted.ItemsEnd.{ItemsEnd}
+use Rattle.litrs_lex.specs.QuotedItems.{EndsItems}
+use Rattle.litrs_lex.specs.Reading.{IsItemsEnd}
 use Rattle.litrs_grammar.proofs.LongerTexts.Literal.{chain}
 use Rattle.litrs.specs.Begins.{BeginsSuffix, IsClosed}
 use Rattle.litrs.proofs.Begins.{yes, no, begins_now}
@@ -182,10 +182,10 @@ quoted_goes front w t items rest spells taken ends = (to, from rest spells taken
         (by_suffix s (ap (λ n. front ++ (body_text items ++ n ∷ s)) (sym first) ∙ spelled)
         (subst (λ n. stand_before w (n ∷ s) items ≡ true) first stands) (is_suffix s) refl begins)
 
-pub quoted_decided : (w : Switches) (bytes rest : List ℕ) (offset : ℕ) (end : ItemsEnd) (b : Bool) →
-    IsItemsEnd w bytes offset end → rest ≡ drop end.place bytes → IsTrue b ↔ Goes w (chars rest) →
+pub quoted_decided : (w : Switches) (bytes rest : List ℕ) (offset place : ℕ) (h : List ℕ → Type 0) (b : Bool) →
+    IsItemsEnd w bytes offset h place → rest ≡ drop place bytes → IsTrue b ↔ Goes w (chars rest) →
     IsTrue b ↔ BeginsBy (IsQuoted (chars (take offset bytes)) w) (chars bytes)
-quoted_decided w bytes rest offset end b read is_rest is =
+quoted_decided w bytes rest offset place h b end is_rest is =
     chain (subst (λ (l : List ℕ). IsTrue b ↔ Goes w (chars l)) is_rest is)
-    (quoted_goes (chars (take offset bytes)) w (chars bytes) read.items
-    (chars (drop end.place bytes)) read.spells read.taken read.ends)
+    (quoted_goes (chars (take offset bytes)) w (chars bytes) end.read.items
+    (chars (drop place bytes)) end.read.spells end.read.taken end.ends)

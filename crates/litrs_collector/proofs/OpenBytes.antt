@@ -25,8 +25,7 @@ use Rattle.litrs_grammar.proofs.RawScans.{raw_scans_go_on}
 use Rattle.litrs_grammar.proofs.LongerTexts.Quoted.{quoted_items_stay}
 use Rattle.litrs_parts.specs.Unescaped.{IsUnescaped}
 use Rattle.litrs_parts.proofs.FloatBytes.{chars_after, boundary_after}
-use Rattle.litrs_lex.specs.declared.quoted.ItemsEnd.{ItemsEnd}
-use Rattle.litrs_lex.specs.QuotedItems.{IsItemsEnd}
+use Rattle.litrs_lex.specs.Reading.{IsItemsEnd}
 use Rattle.litrs_lex.specs.RawCut.{IsStop}
 use Rattle.litrs_lex.proofs.PlainRuns.{list_all-take, stops_at}
 use Rattle.litrs_lex.proofs.QuotedBytes.{blank_ascii}
@@ -153,15 +152,16 @@ before_end bytes place k low within other = elim (cases_lt (place + k) (length b
 -- Quoted bodies
 
 -- the items that are read in a line are items of the body
-pub quoted_reads : (kind : StringKind) (place : ℕ) (bytes : List ℕ) (end : ItemsEnd) → IsUtf8 bytes → IsQuotedTo kind place bytes → IsItemsEnd (switches_of kind) bytes place end →
-    IsQuotedTo kind end.place bytes
-quoted_reads kind place bytes end u s read =
+pub quoted_reads : (kind : StringKind) (place end : ℕ) (bytes : List ℕ) (h : List ℕ → Type 0) → IsUtf8 bytes → IsQuotedTo kind place bytes →
+    IsItemsEnd (switches_of kind) bytes place h end → IsQuotedTo kind end bytes
+quoted_reads kind place end bytes h u s ended =
     let w = switches_of kind in
-    let rest : List ℕ = chars (drop end.place bytes) in
+    let read = ended.read in
+    let rest : List ℕ = chars (drop end bytes) in
     let whole = front_splits bytes place u s.boundary in
-    let cut = front_splits bytes end.place u read.boundary in
+    let cut = front_splits bytes end u read.boundary in
     let after : chars (drop place bytes) ≡ body_text read.items ++ rest = append_cancel_left (chars (take place bytes)) _ _ (whole.0 ∙ sym read.spells) in
-    let before : chars (take place bytes) ++ body_text read.items ≡ chars (take end.place bytes) =
+    let before : chars (take place bytes) ++ body_text read.items ≡ chars (take end bytes) =
     append_cancel_right _ _ rest (append_assoc (chars (take place bytes)) (body_text read.items) rest ∙ read.spells ∙ sym cut.0) in record {
       boundary = read.boundary;
       items = s.items ++ read.items;

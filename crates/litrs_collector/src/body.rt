@@ -109,7 +109,7 @@ fn quoted_line(text: &str, kind: StringKind, place: usize) -> Option<Open>
     ensures unfinished { IfSome result (λ _. IsUnfinished text.now) }
     ensures next { IfSome result (IsOpen (text.now ++ line_feed ∷ [])) }
 {
-    let end = items_end(text, place, kind.switches()).place;
+    let end = items_end(text, place, kind.switches());
     if is_escape_or_empty(&text[end..], kind) {
         Some(Open {
             kind,

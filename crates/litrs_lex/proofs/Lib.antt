@@ -4,8 +4,9 @@ pub mod QuotedScan
 pub mod QuotedBytes
 pub mod QuotedCuts
 pub mod QuotedValues
-pub mod ShortValues
-pub mod LoneEscapes
+pub mod Quotes
+pub mod Readings
+pub mod Sinks
 pub mod CharRuns
 pub mod RawBytes
 pub mod RawSteps

@@ -3,8 +3,7 @@ use Rattle.std.proofs.Common.{◌≡◌, inl, ℕ, ◌+◌, ◌-◌, ◌≤◌, 
 use Rattle.std.specs.Prelude.{encode_utf8_all, slice_range}
 use Rattle.std.specs.Str.{chars, IsUtf8, IsCharBoundary}
 use Rattle.std.proofs.lemmas.Bool.{ne_eqb, eq-eqb, true≢false}
-use Rattle.std.proofs.lemmas.Str.{chars-nil, chars-IsAscii, encodes-chars, encodes-append, chars_from_encodes, IsUtf8-drop, IsUtf8-take}
-use Rattle.std.proofs.lemmas.Str.Ascii.{IsAscii-nil, IsAscii-cons}
+use Rattle.std.proofs.lemmas.Str.{chars-nil, encodes-chars, encodes-append, chars_from_encodes, IsUtf8-drop, IsUtf8-take}
 use Rattle.std.proofs.Math.Seq.{take-append_seam}
 use Rattle.litrs_base.specs.declared.err.ParseError.{ParseError}
 use Rattle.litrs_base.specs.Refusal.{Refusal, refusal_of, IsInText, moved, moved_span, char_span_of, HasCharSpan, MovesWithin}
@@ -16,24 +15,23 @@ use Rattle.litrs_grammar.specs.Escape.{Switches}
 use Rattle.litrs_grammar.specs.Allocation.{has_backslash}
 use Rattle.litrs_grammar.specs.Suffix.{is_suffix}
 use Rattle.litrs_grammar.proofs.LongerTexts.Suffix.{is_suffix-nil}
-use Rattle.litrs_grammar.specs.Quoted.{Item, body_text, body_value, stand_before, is_body, QuotedParts, IsQuoted, IsQuotedRefusal, rest_refusal}
+use Rattle.litrs_grammar.specs.Quoted.{Item, body_text, body_value, stand_before, is_body, is_plain, QuotedParts, IsQuoted, IsQuotedRefusal, rest_refusal}
 use Rattle.litrs_grammar.proofs.QuotedItems.{body_stands, stands_body}
 use Rattle.litrs_grammar.proofs.Laws.Quoted.{quoted_texts_are_unique, quoted_texts_are_not_refused, quoted_refusals_are_unique, quoted_values_fit_bodies}
 use Rattle.litrs_grammar.proofs.LongerTexts.Quoted.{quoted_final, quoted_finality, quoted_items_stay, quoted_open}
 use Rattle.litrs_grammar.proofs.Spans.Quoted.{quoted_spans_lie_in_text}
 use Rattle.litrs_grammar.proofs.RefusalKinds.{quoted_of_text}
 use Rattle.litrs_grammar.proofs.Laws.Value.{plain_bodies_are_their_values}
-use Rattle.litrs_lex.specs.declared.quoted.ItemsEnd.{ItemsEnd}
-use Rattle.litrs_lex.specs.QuotedCut.{IsQuotedCut, IsQuotedRefused, IsQuotedValue}
-use Rattle.litrs_lex.specs.QuotedItems.{IsPlainRun, IsItemsEnd, EndsItems}
+use Rattle.litrs_lex.specs.QuotedCut.{IsQuotedCut, IsQuotedRefused}
+use Rattle.litrs_lex.specs.Reading.{IsReadTo, IsReadBody, IsItemsEnd, IsBodyRefused, IsRestRefused}
 use Rattle.litrs_lex.proofs.QuotedBytes.{cut_at, closed_of, quote_free}
-use Rattle.litrs_lex.proofs.QuotedScan.{front_splits, plain_items_end}
+use Rattle.litrs_lex.proofs.QuotedScan.{front_splits}
 
 -- The refusal
 
-pub is_quoted_refused : (w : Switches) (bytes : List ℕ) (offset : ℕ) (e : ParseError) → IsQuotedRefusal (chars (take offset bytes)) w (chars bytes) (refusal_of e) →
-    HasCharSpan (chars bytes) e → IsQuotedRefused w bytes offset e
-is_quoted_refused w bytes offset e table ends =
+pub refused_of : (w : Switches) (bytes : List ℕ) (offset : ℕ) (e : ParseError) → IsBodyRefused w bytes offset e → IsQuotedRefused w bytes offset e
+refused_of w bytes offset e is =
+    let table = is.table in let ends = is.char_span in
     let front = chars (take offset bytes) in let t = chars bytes in record {
       none = λ q is. quoted_texts_are_not_refused front w t q (refusal_of e) is table;
       table = table;
@@ -48,63 +46,61 @@ is_quoted_refused w bytes offset e table ends =
       closes = λ shut. quoted_open front w t (refusal_of e) shut table;
     }
 
-pub refused_at : (w : Switches) (bytes : List ℕ) (offset : ℕ) (end : ItemsEnd) (e f : Refusal) → IsItemsEnd w bytes offset end →
-    rest_refusal w (chars (drop end.place bytes)) ≡ Some e → f ≡ moved end.place e → IsQuotedRefusal (chars (take offset bytes)) w (chars bytes) f
-refused_at w bytes offset end e f read told is = record {
+-- Where the rest after some items is refused, the text is
+
+pub refused_at : (w : Switches) (bytes : List ℕ) (offset place : ℕ) (h : List ℕ → Type 0) (e f : Refusal) → IsReadTo w bytes offset place h →
+    rest_refusal w (chars (drop place bytes)) ≡ Some e → f ≡ moved place e → IsQuotedRefusal (chars (take offset bytes)) w (chars bytes) f
+refused_at w bytes offset place h e f read told is = record {
   items = read.items;
-  rest = chars (drop end.place bytes);
+  rest = chars (drop place bytes);
   cause = e;
   spells = read.spells;
   taken = read.taken;
   told = told;
-  placed = ap (λ n. moved n e) (sym read.place) ∙ sym is;
+  placed = ap (λ n. moved n e) (sym read.size) ∙ sym is;
 }
 
--- the bytes before the items' end are those of the front and of the items
-pub front_of : (w : Switches) (bytes : List ℕ) (offset : ℕ) (end : ItemsEnd) → (read : IsItemsEnd w bytes offset end) →
-    (chars (take offset bytes) ++ body_text read.items) ++ chars (drop end.place bytes) ≡ chars bytes
-front_of w bytes offset end read = append_assoc (chars (take offset bytes)) (body_text read.items) (chars (drop end.place bytes)) ∙ read.spells
+-- the bytes before the place are those of the front and of the items
+pub front_of : (w : Switches) (bytes : List ℕ) (offset place : ℕ) (h : List ℕ → Type 0) → (read : IsReadTo w bytes offset place h) →
+    (chars (take offset bytes) ++ body_text read.items) ++ chars (drop place bytes) ≡ chars bytes
+front_of w bytes offset place h read = append_assoc (chars (take offset bytes)) (body_text read.items) (chars (drop place bytes)) ∙ read.spells
 
--- the refusal of the rest, moved by what stands before it
-pub refused_cut : (w : Switches) (bytes : List ℕ) (offset : ℕ) (end : ItemsEnd) (e f : ParseError) → IsItemsEnd w bytes offset end →
-    rest_refusal w (chars (drop end.place bytes)) ≡ Some (refusal_of e) → HasCharSpan (chars (drop end.place bytes)) e → refusal_of f ≡ moved end.place (refusal_of e) →
-    char_span_of f ≡ moved_span end.place (char_span_of e) → IsQuotedRefused w bytes offset f
-refused_cut w bytes offset end e f read told ends same span =
+-- the refusal of the rest may be moved so far, and is then that of the text
+pub refuses : (w : Switches) (bytes rest : List ℕ) (offset place : ℕ) (h : List ℕ → Type 0) (e : ParseError) → IsUtf8 bytes → length bytes < 2 ^ 64 →
+    IsReadTo w bytes offset place h → rest ≡ drop place bytes → IsRestRefused w (chars rest) e →
+    MovesWithin place e × ((f : ParseError) → refusal_of f ≡ moved place (refusal_of e) → char_span_of f ≡ moved_span place (char_span_of e) → IsBodyRefused w bytes offset f)
+refuses w bytes rest offset place h e u small read is told =
     let front = chars (take offset bytes) ++ body_text read.items in
-    let rest = chars (drop end.place bytes) in
-    is_quoted_refused w bytes offset f (refused_at w bytes offset end (refusal_of e) (refusal_of f) read told same)
-    (subst (λ (l : List ℕ). HasCharSpan l f) (front_of w bytes offset end read)
-    (char_span_moved front rest e f (same ∙ ap (λ n. moved n (refusal_of e)) read.place) (span ∙ ap (λ n. moved_span n (char_span_of e)) read.place) ends))
-
--- it may be moved so far
-pub may_move : (w : Switches) (bytes : List ℕ) (offset : ℕ) (end : ItemsEnd) (e : ParseError) → IsUtf8 bytes → IsItemsEnd w bytes offset end →
-    rest_refusal w (chars (drop end.place bytes)) ≡ Some (refusal_of e) → HasCharSpan (chars (drop end.place bytes)) e → length bytes < 2 ^ 64 → MovesWithin end.place e
-may_move w bytes offset end e u read told ends small =
-    let front = chars (take offset bytes) ++ body_text read.items in
-    let rest = chars (drop end.place bytes) in
-    let table = refused_at w bytes offset end (refusal_of e) (moved (byte_len front) (refusal_of e)) read told (ap (λ n. moved n (refusal_of e)) (sym read.place)) in
-    let inside : IsInText (front ++ rest) (moved (byte_len front) (refusal_of e)) =
-    subst (λ (l : List ℕ). IsInText l (moved (byte_len front) (refusal_of e))) (sym (front_of w bytes offset end read))
+    let rest_chars = chars (drop place bytes) in
+    let here : rest_refusal w rest_chars ≡ Some (refusal_of e) = ap (λ (l : List ℕ). rest_refusal w (chars l)) (sym is) ∙ told.table in
+    let ends : HasCharSpan rest_chars e = subst (λ (l : List ℕ). HasCharSpan (chars l) e) is told.char_span in
+    let whole = front_of w bytes offset place h read in
+    let table = refused_at w bytes offset place h (refusal_of e) (moved (byte_len front) (refusal_of e)) read here (ap (λ n. moved n (refusal_of e)) (sym read.size)) in
+    let inside : IsInText (front ++ rest_chars) (moved (byte_len front) (refusal_of e)) =
+    subst (λ (l : List ℕ). IsInText l (moved (byte_len front) (refusal_of e))) (sym whole)
     (quoted_spans_lie_in_text (chars (take offset bytes)) w (chars bytes) (moved (byte_len front) (refusal_of e)) table) in
-    let size : byte_len (front ++ rest) ≡ length bytes = ap byte_len (front_of w bytes offset end read) ∙ ap length (encodes-chars bytes u) in
-    subst (λ (n : ℕ). MovesWithin n e) (sym read.place) (moves_within front rest e inside ends (omega arith))
+    let size : byte_len (front ++ rest_chars) ≡ length bytes = ap byte_len whole ∙ ap length (encodes-chars bytes u) in (
+      subst (λ (n : ℕ). MovesWithin n e) (sym read.size) (moves_within front rest_chars e inside ends (omega arith)),
+      λ f same span. record {
+        table = refused_at w bytes offset place h (refusal_of e) (refusal_of f) read here same;
+        char_span = subst (λ (l : List ℕ). HasCharSpan l f) whole
+            (char_span_moved front rest_chars e f (same ∙ ap (λ n. moved n (refusal_of e)) read.size) (span ∙ ap (λ n. moved_span n (char_span_of e)) read.size) ends);
+      },
+    )
 
--- where the rest after the plain characters at the front is refused, the text is, and its refusal may be moved so far
-pub plain_refused : (w : Switches) (bytes rest : List ℕ) (offset place : ℕ) (e : ParseError) → IsUtf8 bytes → IsCharBoundary bytes offset → IsPlainRun w bytes offset place →
-    rest ≡ drop place bytes → rest_refusal w (chars rest) ≡ Some (refusal_of e) → HasCharSpan (chars rest) e → length bytes < 2 ^ 64 →
-    MovesWithin place e
-    × ((f : ParseError) → refusal_of f ≡ moved place (refusal_of e) → char_span_of f ≡ moved_span place (char_span_of e) → IsQuotedRefused w bytes offset f)
-plain_refused w bytes rest offset place e u at run is told ends small =
-    let end : ItemsEnd = record { place = place; value_len = place - offset } in
-    let read : IsItemsEnd w bytes offset end = plain_items_end w bytes rest offset place u at run is (inr (_, told)) in
-    let here : rest_refusal w (chars (drop place bytes)) ≡ Some (refusal_of e) = ap (λ (l : List ℕ). rest_refusal w (chars l)) (sym is) ∙ told in
-    let there : HasCharSpan (chars (drop place bytes)) e = subst (λ (l : List ℕ). HasCharSpan (chars l) e) is ends in
-    (may_move w bytes offset end e u read here there small, λ f same span. refused_cut w bytes offset end e f read here there same span)
+-- and the items end there
+pub ends_here : (w : Switches) (bytes rest : List ℕ) (offset place : ℕ) (h : List ℕ → Type 0) (e : ParseError) → IsReadTo w bytes offset place h →
+    first_passes (is_plain w) (chars (drop place bytes)) ≡ false → rest ≡ drop place bytes → IsRestRefused w (chars rest) e → IsItemsEnd w bytes offset h place
+ends_here w bytes rest offset place h e read stops is told = record {
+  read = read;
+  stops = stops;
+  ends = inr (_, ap (λ (l : List ℕ). rest_refusal w (chars l)) (sym is) ∙ told.table);
+}
 
-pub from_offset : (w : Switches) (bytes : List ℕ) (offset : ℕ) (end : ItemsEnd) → IsUtf8 bytes → IsCharBoundary bytes offset → IsItemsEnd w bytes offset end → offset ≤ end.place
-from_offset w bytes offset end u start read =
+pub from_offset : (w : Switches) (bytes : List ℕ) (offset place : ℕ) (h : List ℕ → Type 0) → IsUtf8 bytes → IsCharBoundary bytes offset → IsReadTo w bytes offset place h → offset ≤ place
+from_offset w bytes offset place h u start read =
     let cut = front_splits bytes offset u start in let size = cut.1 in
-    omega (arith, read.place, byte_len-append (chars (take offset bytes)) (body_text read.items))
+    omega (arith, read.size, byte_len-append (chars (take offset bytes)) (body_text read.items))
 
 -- The cut
 
@@ -145,19 +141,18 @@ after_front (c ∷ front) x y h = after_front front x y (let same : front ++ x �
 pub lone_quote_free : (w : Switches) (rest : List ℕ) → rest ≡ 34 ∷ [] → rest_refusal w (chars rest) ≡ None
 lone_quote_free w rest is = quote_free w rest _ _ is refl (ap is_suffix chars-nil ∙ is_suffix-nil)
 
-pub lone_quote_ends : (w : Switches) (rest : List ℕ) → rest ≡ 34 ∷ [] → EndsItems w (chars rest)
-lone_quote_ends w rest is = inl (ap (first_passes (λ c. c == 34)) (ap chars is ∙ chars-IsAscii (34 ∷ []) (IsAscii-cons 34 [] (omega arith) IsAscii-nil)))
-
-pub is_quoted_cut : (w : Switches) (bytes : List ℕ) (offset : ℕ) (end : ItemsEnd) (has_escape : Bool) → IsUtf8 bytes → IsCharBoundary bytes offset → IsItemsEnd w bytes offset end →
-    rest_refusal w (chars (drop end.place bytes)) ≡ None → has_escape ≡ not (end.value_len == end.place - offset) →
-    IsQuotedCut w bytes offset (record { value_len = end.value_len; has_escape = has_escape; start_suffix = end.place + 1 })
-is_quoted_cut w bytes offset end has_escape u start read free is_escape =
+-- the cut of a body that is read and closed
+pub cut_of : (w : Switches) (bytes : List ℕ) (offset place n : ℕ) (h : List ℕ → Type 0) → IsUtf8 bytes → IsCharBoundary bytes offset → (b : IsReadBody w bytes offset h place) →
+    n ≡ length (body_value b.read.items) → rest_refusal w (chars (drop place bytes)) ≡ None →
+    IsQuotedCut w bytes offset (record { value_len = n; has_escape = not (n == place - offset); start_suffix = place + 1 })
+cut_of w bytes offset place n h u start b value_len free =
+    let read = b.read in
     let front = chars (take offset bytes) in
-    let rest = chars (drop end.place bytes) in
+    let rest = chars (drop place bytes) in
     let s = drop 1 rest in
     let items = read.items in
     let body = body_text items in
-    let closed = closed_of w rest read.ends free in
+    let closed = closed_of w rest (inl b.quote) free in
     let front_cut = front_splits bytes offset u start in
     let q : QuotedParts = record { items = items; suffix = s } in
     let good : is_body w items ≡ true = stands_body w items s (subst (λ l. stand_before w l items ≡ true) (sym closed.0) read.taken) in
@@ -166,25 +161,25 @@ is_quoted_cut w bytes offset end has_escape u start read free is_escape =
       body = good;
       suffix = closed.1;
     } in
-    let place : end.place ≡ offset + byte_len body = read.place ∙ (byte_len-append front body ∙ ap (λ n. n + byte_len body) front_cut.1) in
-    let back : end.place + 1 - 1 ≡ end.place = omega arith in
-    let size : end.place - offset ≡ byte_len body = omega arith in
-    let told : has_escape ≡ has_backslash body = is_escape ∙ size_test w items end.value_len (end.place - offset) good read.value_len size in
+    let at_place : place ≡ offset + byte_len body = read.size ∙ (byte_len-append front body ∙ ap (λ n. n + byte_len body) front_cut.1) in
+    let back : place + 1 - 1 ≡ place = omega arith in
+    let size : place - offset ≡ byte_len body = omega arith in
+    let told : not (n == place - offset) ≡ has_backslash body = size_test w items n (place - offset) good value_len size in
     let whole : chars bytes ≡ (front ++ (body ++ 34 ∷ [])) ++ s =
     sym (append_assoc front (body ++ 34 ∷ []) s ∙ (ap (λ l. front ++ l) (append_assoc body (34 ∷ []) s) ∙ mine.spells)) in
-    let at : byte_len (front ++ (body ++ 34 ∷ [])) ≡ end.place + 1 =
+    let at : byte_len (front ++ (body ++ 34 ∷ [])) ≡ place + 1 =
     byte_len-append front (body ++ 34 ∷ []) ∙ (ap (λ n. byte_len front + n) (byte_len-append body (34 ∷ [])) ∙ (let f = front_cut.1 in let one = byte_len_one_ascii 34 [] (omega arith) in omega arith)) in
     let cut = cut_at bytes (front ++ (body ++ 34 ∷ [])) s u whole in
     let split : chars (drop offset bytes) ≡ body ++ rest =
     after_front front (chars (drop offset bytes)) (body ++ rest) (front_cut.0 ∙ sym read.spells) in
     let slice = slice_of bytes body rest offset u start split in
-    let taken : slice_range bytes offset (end.place + 1 - 1) ≡ take (byte_len body) (drop offset bytes) =
-    ap (λ n. take n (drop offset bytes)) (let e : end.place + 1 - 1 - offset ≡ byte_len body = omega arith in e) in record {
+    let taken : slice_range bytes offset (place + 1 - 1) ≡ take (byte_len body) (drop offset bytes) =
+    ap (λ n. take n (drop offset bytes)) (let e : place + 1 - 1 - offset ≡ byte_len body = omega arith in e) in record {
       parts = q;
       only = (mine, λ r is. quoted_texts_are_unique front w (chars bytes) r q is mine);
-      value_len = read.value_len;
+      value_len = value_len;
       has_escape = told;
-      start_suffix = ap (λ n. n + 1) place;
+      start_suffix = ap (λ m. m + 1) at_place;
       end_body = subst (λ (n : ℕ). IsCharBoundary bytes n) (sym back) read.boundary;
       boundary = subst (λ (n : ℕ). IsCharBoundary bytes n) at cut.boundary;
       body = ap chars taken ∙ slice.is_chars;
@@ -192,14 +187,3 @@ is_quoted_cut w bytes offset end has_escape u start read free is_escape =
       plain = λ none. taken ∙ (slice.is_bytes ∙ sym (plain_bodies_are_their_values w body items (record { spells = refl; body = good }) (sym told ∙ none)));
       items_stay = λ more. body_stands w items (s ++ more) good;
     }
-
--- the value of a body of plain characters is the body itself
-pub plain_value : (w : Switches) (bytes : List ℕ) (offset place : ℕ) → IsUtf8 bytes → IsCharBoundary bytes offset →
-    IsItemsEnd w bytes offset (record { place = place; value_len = place - offset }) → rest_refusal w (chars (drop place bytes)) ≡ None → IsQuotedValue w bytes offset None (place + 1)
-plain_value w bytes offset place u at end free = record {
-  cut = record { value_len = place - offset; has_escape = false; start_suffix = place + 1 };
-  is_cut = is_quoted_cut w bytes offset (record { place = place; value_len = place - offset }) false u at end free (sym (ap not (eq-eqb (place - offset) (place - offset) refl)));
-  place = refl;
-  given = refl;
-  is_value = tt;
-}

@@ -1,5 +1,5 @@
 -- The items of a quoted body that are parsed so far, and what follows them.
-use Rattle.std.proofs.Common.{◌≡◌, ℕ, ◌+◌, ◌-◌, ◌≤◌, true, List, [], ◌∷◌, ◌++◌, length, drop, take, refl, sym, ap, subst, ◌∙◌, append_assoc, length-append, arith, Option}
+use Rattle.std.proofs.Common.{◌≡◌, ℕ, ◌+◌, ◌≤◌, true, List, [], ◌∷◌, ◌++◌, length, drop, take, refl, sym, ap, subst, ◌∙◌, append_assoc, arith, Option}
 use Rattle.std.specs.Prelude.{encode_utf8, encode_utf8_all}
 use Rattle.std.specs.List.{list_all}
 use Rattle.std.specs.Str.{chars, IsUtf8, IsCharBoundary}
@@ -12,7 +12,7 @@ use Rattle.litrs_base.proofs.Spans.{byte_len-append}
 use Rattle.litrs_grammar.specs.Escape.{Switches}
 use Rattle.litrs_grammar.specs.Quoted.{Item, plain_item, item_text, item_value, is_item, is_taken_before, is_plain, body_text, body_value, stand_before}
 use Rattle.litrs_grammar.proofs.Laws.Quoted.{body_text-append, body_value-append}
-use Rattle.litrs_lex.specs.QuotedItems.{IsPlainRun, IsItemAt, IsItemsEnd, EndsItems, item_bytes}
+use Rattle.litrs_lex.specs.QuotedItems.{IsPlainRun, IsItemAt, item_bytes}
 
 -- After the front stand some items, up to this place and standing for these bytes, and then the rest.
 pub record ReadsSome (w : Switches) (front t rest : List ℕ) (at : ℕ) (value : List ℕ) : Type 0 where
@@ -139,27 +139,3 @@ boundary_later bytes rest n m u start is at =
     let text : IsUtf8 (drop (n + m) bytes) =
     subst (λ (l : List ℕ). IsUtf8 l) (drop-drop m n bytes) (IsUtf8-drop (drop n bytes) m (IsUtf8-drop bytes n u start) after) in
     IsCharBoundary-from_drop bytes (n + m) (omega (arith, after.0, start.0, length-drop n bytes)) text
-
--- after a last run stands what ends the items
-pub items_end : (w : Switches) (bytes rest value : List ℕ) (offset at place value_len : ℕ) → IsPlainRun w bytes at place →
-    ReadsSome w (chars (take offset bytes)) (chars bytes) (chars (drop at bytes)) at value → value_len ≡ length value → rest ≡ drop place bytes → EndsItems w (chars rest) →
-    IsItemsEnd w bytes offset (record { place = place; value_len = value_len + (place - at) })
-items_end w bytes rest value offset at place value_len run before is_len is ends =
-    let read = reads_run w (chars (take offset bytes)) (chars bytes) bytes value at place run before in let size = run.size in record {
-      items = read.items;
-      spells = read.spells;
-      taken = read.taken;
-      place = read.place;
-      value_len = omega (arith, length-append value (encode_utf8_all run.run)) ∙ ap length read.is_value;
-      boundary = run.boundary;
-      stops = run.stops;
-      ends = subst (λ (l : List ℕ). EndsItems w (chars l)) is ends;
-    }
-
--- the same where the run is all
-pub plain_items_end : (w : Switches) (bytes rest : List ℕ) (offset place : ℕ) → IsUtf8 bytes → IsCharBoundary bytes offset → IsPlainRun w bytes offset place →
-    rest ≡ drop place bytes → EndsItems w (chars rest) → IsItemsEnd w bytes offset (record { place = place; value_len = place - offset })
-plain_items_end w bytes rest offset place u at run is ends =
-    let none : 0 + (place - offset) ≡ place - offset = omega arith in
-    subst (λ (n : ℕ). IsItemsEnd w bytes offset (record { place = place; value_len = n })) none
-    (items_end w bytes rest [] offset offset place 0 run (reads_start w bytes offset u at) refl is ends)

@@ -1,95 +1,153 @@
--- The value of a quoted literal, copied item by item.
-use Rattle.std.proofs.Common.{◌≡◌, ℕ, ◌+◌, ◌-◌, ◌≤◌, Bool, true, false, not, ◌||◌, List, [], ◌++◌, drop, take, refl, sym, ap, subst, ◌∙◌, arith, Some, None, Option}
-use Rattle.std.specs.Prelude.{encode_utf8_all, IfSome, IsTrue}
+-- The value of a quoted literal, from what is read of its body.
+use Rattle.std.proofs.Common.{◌≡◌, ℕ, ◌+◌, ◌-◌, ◌==◌, Bool, true, false, not, ◌||◌, List, [], ◌∷◌, ◌++◌, length, drop, take, refl, sym, ap, subst, ◌∙◌, arith, inl, inr, Some, None, Option}
+use Rattle.std.specs.List.{list_all}
+use Rattle.std.specs.Prelude.{◌⊎◌}
 use Rattle.std.specs.Str.{chars, IsUtf8, IsCharBoundary}
-use Rattle.std.proofs.lemmas.Bool.{true≢false}
-use Rattle.litrs_base.specs.declared.escape.Unescape.{Unescape}
-use Rattle.litrs_base.specs.declared.escape.Unescape.TheVariants.{Byte, Unicode}
+use Rattle.std.proofs.Math.Utf8.{scalars}
+use Rattle.std.proofs.lemmas.Bool.{true≢false, and_parts, and_from, ne_eqb, eq-eqb}
+use Rattle.std.proofs.lemmas.List.{length-take-le, length-drop}
+use Rattle.std.proofs.lemmas.List.Folds.{list_all-append}
+use Rattle.std.proofs.lemmas.Str.{scalars-chars}
+use Rattle.litrs_base.specs.declared.err.ParseError.{ParseError}
+use Rattle.litrs_base.specs.Characters.{is_scalar}
 use Rattle.litrs_base.specs.Refusal.{Refusal}
-use Rattle.litrs_base.specs.Text.{byte_len}
+use Rattle.litrs_base.specs.Text.{is_empty, first_passes}
 use Rattle.litrs_grammar.specs.Escape.{Switches}
-use Rattle.litrs_grammar.specs.Quoted.{body_text, body_value, stand_before, QuotedParts, IsQuoted, rest_refusal}
+use Rattle.litrs_grammar.specs.Quoted.{Item, plain_item, escape_item, continuation, is_item, is_taken_before, takes_all_blanks, is_body, body_text, body_value, stand_before, QuotedParts, IsQuoted, rest_refusal}
 use Rattle.litrs_grammar.proofs.QuotedItems.{stands_body}
-use Rattle.litrs_grammar.proofs.Laws.Quoted.{quoted_texts_are_unique, quoted_texts_are_not_refused, quoted_values_fit_bodies}
-use Rattle.litrs_lex.specs.declared.quoted.QuotedCut.{QuotedCut}
-use Rattle.litrs_lex.specs.Container.{is_pushable}
-use Rattle.litrs_lex.specs.QuotedCut.{IsQuotedCut}
-use Rattle.litrs_lex.specs.QuotedItems.{IsPlainRun, IsItemAt, EndsItems, item_bytes}
+use Rattle.litrs_grammar.proofs.Laws.Quoted.{quoted_texts_are_unique, quoted_texts_are_not_refused}
+use Rattle.litrs_grammar.proofs.Laws.Value.{values_without_byte_escapes_are_utf8}
+use Rattle.litrs_lex.specs.QuotedCut.{IsQuotedRefused, IsQuotedValue, IsOutOfMemory, IsQuotedOutOfMemory}
+use Rattle.litrs_lex.specs.QuotedItems.{IsPlainRun}
+use Rattle.litrs_lex.specs.Reading.{IsReadTo, IsReadBody, IsBodyRefused}
 use Rattle.litrs_lex.proofs.QuotedBytes.{closed_of}
-use Rattle.litrs_lex.proofs.QuotedCuts.{slice_of}
-use Rattle.litrs_lex.proofs.QuotedScan.{ReadsSome, reads_start, reads_run, reads_item}
+use Rattle.litrs_lex.proofs.QuotedCuts.{cut_of, refused_of}
+use Rattle.litrs_lex.proofs.Readings.{read_none, read_run}
 
-pub copy_start : (w : Switches) (bytes value : List ℕ) (n : ℕ) → IsUtf8 bytes → IsCharBoundary bytes n → value ≡ [] →
-    ReadsSome w (chars (take n bytes)) (chars bytes) (chars (drop n bytes)) n value
-copy_start w bytes value n u at none =
-    subst (λ (l : List ℕ). ReadsSome w (chars (take n bytes)) (chars bytes) (chars (drop n bytes)) n l) (sym none) (reads_start w bytes n u at)
-
--- the bytes of a run of plain characters
-pub run_bytes : (w : Switches) (bytes pushed : List ℕ) (at end : ℕ) → IsUtf8 bytes → IsCharBoundary bytes at → (run : IsPlainRun w bytes at end) →
-    pushed ≡ take (end - at) (drop at bytes) → encode_utf8_all run.run ≡ pushed
-run_bytes w bytes pushed at end u start run is =
-    let slice = slice_of bytes run.run (chars (drop end bytes)) at u start run.split in
-    let size = run.size in
-    sym slice.is_bytes ∙ (ap (λ n. take n (drop at bytes)) (let e : byte_len run.run ≡ end - at = omega arith in e) ∙ sym is)
-
-pub copy_run : (w : Switches) (front t bytes value pushed new : List ℕ) (at end : ℕ) → IsUtf8 bytes → IsCharBoundary bytes at → IsPlainRun w bytes at end →
-    pushed ≡ take (end - at) (drop at bytes) → new ≡ value ++ pushed → ReadsSome w front t (chars (drop at bytes)) at value → ReadsSome w front t (chars (drop end bytes)) end new
-copy_run w front t bytes value pushed new at end u start run is grown read =
-    subst (λ (l : List ℕ). ReadsSome w front t (chars (drop end bytes)) end l) (ap (λ l. value ++ l) (run_bytes w bytes pushed at end u start run is) ∙ sym grown)
-    (reads_run w front t bytes value at end run read)
-
-pub copy_item : (w : Switches) (front t bytes rest after value new : List ℕ) (at len end : ℕ) (v : Option Unescape) → IsItemAt w rest len v → rest ≡ drop at bytes →
-    drop len rest ≡ after → at + len ≡ end → new ≡ value ++ item_bytes v → ReadsSome w front t (chars (drop at bytes)) at value → ReadsSome w front t (chars after) end new
-copy_item w front t bytes rest after value new at len end v item is after_is on grown read =
-    subst (λ (l : List ℕ). ReadsSome w front t (chars after) end l) (sym grown) (reads_item w front t bytes rest after value at len end v item is after_is on read)
-
--- where the items of a literal end, its whole value is copied
-value_by : (w : Switches) (front t rest value : List ℕ) (at : ℕ) (q : QuotedParts) (o : Option Refusal) → ReadsSome w front t rest at value → EndsItems w rest →
-    IsQuoted front w t q → rest_refusal w rest ≡ o → value ≡ body_value q.items
-value_by w front t rest value at q None read ends is free =
-    let closed = closed_of w rest ends free in
-    let mine : IsQuoted front w t (record { items = read.items; suffix = drop 1 rest }) = record {
-      spells = ap (λ l. front ++ (body_text read.items ++ l)) closed.0 ∙ read.spells;
-      body = stands_body w read.items (drop 1 rest) (subst (λ l. stand_before w l read.items ≡ true) (sym closed.0) read.taken);
+-- where the text is a literal, the items read are its own
+value_by : (w : Switches) (bytes : List ℕ) (offset place : ℕ) (h : List ℕ → Type 0) (q : QuotedParts) (o : Option Refusal) → (b : IsReadBody w bytes offset h place) →
+    IsQuoted (chars (take offset bytes)) w (chars bytes) q → rest_refusal w (chars (drop place bytes)) ≡ o → body_value b.read.items ≡ body_value q.items
+value_by w bytes offset place h q None b is free =
+    let front = chars (take offset bytes) in
+    let rest = chars (drop place bytes) in
+    let closed = closed_of w rest (inl b.quote) free in
+    let mine : IsQuoted front w (chars bytes) (record { items = b.read.items; suffix = drop 1 rest }) = record {
+      spells = ap (λ l. front ++ (body_text b.read.items ++ l)) closed.0 ∙ b.read.spells;
+      body = stands_body w b.read.items (drop 1 rest) (subst (λ l. stand_before w l b.read.items ≡ true) (sym closed.0) b.read.taken);
       suffix = closed.1;
     } in
-    read.is_value ∙ ap (λ (p : QuotedParts). body_value p.items) (quoted_texts_are_unique front w t _ q mine is)
-value_by w front t rest value at q (Some e) read ends is told =
-    absurd (quoted_texts_are_not_refused front w t q _ is (record {
-      items = read.items;
-      rest = rest;
+    ap (λ (p : QuotedParts). body_value p.items) (quoted_texts_are_unique front w (chars bytes) _ q mine is)
+value_by w bytes offset place h q (Some e) b is told =
+    absurd (quoted_texts_are_not_refused (chars (take offset bytes)) w (chars bytes) q _ is (record {
+      items = b.read.items;
+      rest = chars (drop place bytes);
       cause = e;
-      spells = read.spells;
-      taken = read.taken;
+      spells = b.read.spells;
+      taken = b.read.taken;
       told = told;
       placed = refl;
     }))
 
-pub whole_value : (w : Switches) (front t bytes rest value : List ℕ) (at : ℕ) (q : QuotedParts) → ReadsSome w front t (chars (drop at bytes)) at value → rest ≡ drop at bytes →
-    EndsItems w (chars rest) → IsQuoted front w t q → value ≡ body_value q.items
-whole_value w front t bytes rest value at q read is ends quoted =
-    value_by w front t (chars (drop at bytes)) value at q (rest_refusal w (chars (drop at bytes))) read (subst (λ (l : List ℕ). EndsItems w (chars l)) is ends) quoted refl
+pub whole_value : (w : Switches) (bytes : List ℕ) (offset place : ℕ) (h : List ℕ → Type 0) (q : QuotedParts) → (b : IsReadBody w bytes offset h place) →
+    IsQuoted (chars (take offset bytes)) w (chars bytes) q → body_value b.read.items ≡ body_value q.items
+whole_value w bytes offset place h q b is = value_by w bytes offset place h q (rest_refusal w (chars (drop place bytes))) b is refl
 
--- what may be pushed where byte escapes are on may be pushed into what takes bytes
-fits_container : (bytes takes : Bool) (v : Unescape) → (not bytes || takes) ≡ true → is_pushable bytes v ≡ true → is_pushable takes v ≡ true
-fits_container false false v h g = g
-fits_container false true (Byte b) h g = refl
-fits_container false true (Unicode c) h g = refl
-fits_container true true v h g = g
-fits_container true false v h g = cc
+pub whole_held : (w : Switches) (bytes value : List ℕ) (offset place : ℕ) (q : QuotedParts) → (b : IsReadBody w bytes offset (λ v. value ≡ v) place) →
+    IsQuoted (chars (take offset bytes)) w (chars bytes) q → value ≡ body_value q.items
+whole_held w bytes value offset place q b is = b.read.held ∙ whole_value w bytes offset place _ q b is
 
-pub fits : (bytes takes : Bool) (value : Option Unescape) → (not bytes || takes) ≡ true → IfSome value (λ v. IsTrue (is_pushable bytes v)) →
-    IfSome value (λ v. IsTrue (is_pushable takes v))
-fits bytes takes None h g = tt
-fits bytes takes (Some v) h g = fits_container bytes takes v h g
+-- a refused text is no literal
+pub none_refused : (w : Switches) (bytes : List ℕ) (offset : ℕ) (e : ParseError) (q : QuotedParts) → IsBodyRefused w bytes offset e →
+    IsQuoted (chars (take offset bytes)) w (chars bytes) q → ⊥
+none_refused w bytes offset e q refused is = quoted_texts_are_not_refused (chars (take offset bytes)) w (chars bytes) q _ is refused.table
 
--- the value is no longer than the text before the suffix
-pub room_fits : (w : Switches) (bytes : List ℕ) (offset : ℕ) (cut : QuotedCut) → IsQuotedCut w bytes offset cut → cut.value_len + 1 ≤ cut.start_suffix
-room_fits w bytes offset cut is =
-    let items = is.parts.items in
-    let fit = (quoted_values_fit_bodies w (body_text items) items (record { spells = refl; body = is.only.0.body })).0 in
-    let place = is.start_suffix in let size = is.value_len in omega arith
+-- the body has no backslash
+pub none_of : (w : Switches) (bytes : List ℕ) (offset place n : ℕ) (h : List ℕ → Type 0) → IsUtf8 bytes → IsCharBoundary bytes offset → (b : IsReadBody w bytes offset h place) →
+    n ≡ length (body_value b.read.items) → rest_refusal w (chars (drop place bytes)) ≡ None → n ≡ place - offset → IsQuotedValue w bytes offset None (place + 1)
+none_of w bytes offset place n h u at b is free same = record {
+  cut = record { value_len = n; has_escape = not (n == place - offset); start_suffix = place + 1 };
+  is_cut = cut_of w bytes offset place n h u at b is free;
+  place = refl;
+  given = sym (ap not (eq-eqb n (place - offset) same));
+  is_value = tt;
+}
 
-pub true_by : (b : Bool) → not b ≡ false → true ≡ b
-true_by true h = refl
-true_by false h = absurd (true≢false h)
+-- the body has one
+pub some_of : (w : Switches) (bytes : List ℕ) (offset place n : ℕ) (h : List ℕ → Type 0) → IsUtf8 bytes → IsCharBoundary bytes offset → (b : IsReadBody w bytes offset h place) →
+    n ≡ length (body_value b.read.items) → rest_refusal w (chars (drop place bytes)) ≡ None → (n ≡ place - offset → ⊥) → (v : List ℕ) →
+    ((q : QuotedParts) → IsQuoted (chars (take offset bytes)) w (chars bytes) q → v ≡ body_value q.items) → IsQuotedValue w bytes offset (Some v) (place + 1)
+some_of w bytes offset place n h u at b is free other v held =
+    let cut = cut_of w bytes offset place n h u at b is free in record {
+      cut = record { value_len = n; has_escape = not (n == place - offset); start_suffix = place + 1 };
+      is_cut = cut;
+      place = refl;
+      given = sym (ap not (ne_eqb n (place - offset) other));
+      is_value = held cut.parts cut.only.0;
+    }
+
+-- it has one, and there is no memory for its value
+pub no_memory_of : (w : Switches) (bytes : List ℕ) (offset place n : ℕ) (h : List ℕ → Type 0) (e : ParseError) → IsUtf8 bytes → IsCharBoundary bytes offset →
+    (b : IsReadBody w bytes offset h place) → n ≡ length (body_value b.read.items) → rest_refusal w (chars (drop place bytes)) ≡ None → (n ≡ place - offset → ⊥) → IsOutOfMemory e →
+    IsQuotedOutOfMemory w bytes offset e
+no_memory_of w bytes offset place n h e u at b is free other error = record {
+  cut = record { value_len = n; has_escape = not (n == place - offset); start_suffix = place + 1 };
+  is_cut = cut_of w bytes offset place n h u at b is free;
+  has_escape = ap not (ne_eqb n (place - offset) other);
+  error = error;
+}
+
+-- plain characters alone, and then the quote
+pub plain_of : (w : Switches) (bytes : List ℕ) (offset place : ℕ) → IsUtf8 bytes → IsCharBoundary bytes offset → IsPlainRun w bytes offset place →
+    first_passes (λ c. c == 34) (chars (drop place bytes)) ≡ true → rest_refusal w (chars (drop place bytes)) ≡ None → IsQuotedValue w bytes offset None (place + 1)
+plain_of w bytes offset place u at run quote free =
+    let size = run.size in let within = run.boundary.0 in
+    let len : length (take (place - offset) (drop offset bytes)) ≡ place - offset = length-take-le (place - offset) (drop offset bytes) (omega (arith, length-drop offset bytes)) in
+    let b : IsReadBody w bytes offset (λ v. place - offset ≡ length v) place = record {
+      read = read_run w bytes offset offset place (λ v. v ≡ []) (λ v. place - offset ≡ length v) u (read_none w bytes offset (λ v. v ≡ []) u at refl) run (λ v none. sym (ap (λ l. length (l ++ take (place - offset) (drop offset bytes))) none ∙ len));
+      quote = quote;
+      stops = run.stops;
+    } in
+    none_of w bytes offset place (place - offset) _ u at b b.read.held free refl
+
+-- The items read so far are a body of their own, whose value is UTF-8 where byte escapes are off
+
+alone : (a : Item) (x rest : List ℕ) → is_taken_before (x ++ rest) a ≡ true → takes_all_blanks a x ≡ true
+alone (plain_item c) x rest h = refl
+alone (escape_item e) x rest h = refl
+alone (continuation blanks) [] rest h = refl
+alone (continuation blanks) (c ∷ x) rest h = (and_parts (not (is_empty (c ∷ (x ++ rest)))) _ h).1
+
+body_alone : (w : Switches) (rest : List ℕ) (items : List Item) → stand_before w rest items ≡ true → is_body w items ≡ true
+body_alone w rest [] h = refl
+body_alone w rest (a ∷ items) h =
+    let p = and_parts _ (stand_before w rest items) h in
+    let q = and_parts (is_item w a) _ p.0 in
+    and_from _ _ (and_from _ _ q.0 (alone a (body_text items) rest q.1)) (body_alone w rest items p.1)
+
+scalars_are_text : (t : List ℕ) → scalars t ≡ true → list_all is_scalar t ≡ true
+scalars_are_text [] h = refl
+scalars_are_text (c ∷ t) h = let p = and_parts _ (scalars t) h in and_from _ _ p.0 (scalars_are_text t p.1)
+
+-- a part of a text is a text
+part_is_text : (a b c t : List ℕ) → a ++ (b ++ c) ≡ t → list_all is_scalar t ≡ true → list_all is_scalar b ≡ true
+part_is_text a b c t cut h =
+    let p = and_parts (list_all is_scalar a) (list_all is_scalar (b ++ c)) (sym (list_all-append is_scalar a (b ++ c)) ∙ ap (list_all is_scalar) cut ∙ h) in
+    (and_parts (list_all is_scalar b) (list_all is_scalar c) (sym (list_all-append is_scalar b c) ∙ p.1)).0
+
+off_by : (bytes takes : Bool) → (not bytes || takes) ≡ true → takes ≡ false → bytes ≡ false
+off_by false takes h g = refl
+off_by true takes h g = absurd (true≢false (sym h ∙ g))
+
+pub held_is_utf8 : (w : Switches) (bytes value : List ℕ) (offset at : ℕ) (takes : Bool) → IsUtf8 bytes → IsReadTo w bytes offset at (λ v. value ≡ v) →
+    (not w.byte_escapes || takes) ≡ true → takes ≡ false → IsUtf8 value
+held_is_utf8 w bytes value offset at takes u r fits none =
+    subst IsUtf8 (sym r.held)
+    (values_without_byte_escapes_are_utf8 w (body_text r.items) r.items (part_is_text _ (body_text r.items) _ (chars bytes) r.spells (scalars_are_text (chars bytes) (scalars-chars bytes u)))
+    (off_by w.byte_escapes takes fits none) (record { spells = refl; body = body_alone w (chars (drop at bytes)) r.items r.taken }))
+
+-- The refusal in full
+
+pub refused_or_memory : (w : Switches) (bytes : List ℕ) (offset : ℕ) (e : ParseError) → IsBodyRefused w bytes offset e ⊎ IsQuotedOutOfMemory w bytes offset e →
+    IsQuotedRefused w bytes offset e ⊎ IsQuotedOutOfMemory w bytes offset e
+refused_or_memory w bytes offset e (inl refused) = inl (refused_of w bytes offset e refused)
+refused_or_memory w bytes offset e (inr memory) = inr memory

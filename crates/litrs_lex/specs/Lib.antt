@@ -2,7 +2,7 @@
 pub mod Container
 -- quoted bodies
 pub mod QuotedItems
-pub mod ShortValue
 pub mod QuotedCut
+pub mod Reading
 -- raw bodies
 pub mod RawCut

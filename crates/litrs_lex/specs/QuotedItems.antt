@@ -1,5 +1,5 @@
 -- The items of a quoted body in the bytes of a text.
-use Rattle.std.specs.Prelude.{◌≡◌, ◌⊎◌, ℕ, Bool, true, not, ◌+◌, ◌≤◌, ◌<◌, ◌==◌, List, [], ◌++◌, length, drop, take, Option, Some, None, IfSome, IsTrue, IsFalse}
+use Rattle.std.specs.Prelude.{◌≡◌, ◌⊎◌, ℕ, Bool, true, not, ◌+◌, ◌≤◌, ◌<◌, ◌==◌, List, [], ◌++◌, length, drop, Option, Some, None, IfSome, IsTrue, IsFalse}
 use Rattle.std.specs.List.{list_all}
 use Rattle.std.specs.Str.{chars, IsCharBoundary}
 use Rattle.litrs_base.specs.declared.escape.Unescape.{Unescape}
@@ -7,10 +7,9 @@ use Rattle.litrs_base.specs.Characters.{double_quote}
 use Rattle.litrs_base.specs.Refusal.{Refusal}
 use Rattle.litrs_base.specs.Text.{byte_len, first_passes}
 use Rattle.litrs_grammar.specs.Escape.{Switches, value_bytes}
-use Rattle.litrs_grammar.specs.Quoted.{Item, item_text, item_value, is_item, is_taken_before, is_plain, body_text, body_value, stand_before, rest_refusal}
+use Rattle.litrs_grammar.specs.Quoted.{Item, item_text, item_value, is_item, is_taken_before, is_plain, rest_refusal}
 use Rattle.litrs_search.specs.declared.search.Special.{Special}
 use Rattle.litrs_lex.specs.Container.{is_pushable}
-use Rattle.litrs_lex.specs.declared.quoted.ItemsEnd.{ItemsEnd}
 
 -- The bytes beside `"` and CR at which the plain characters of a body end. Where only ASCII is
 -- allowed, each byte above 7F is one.
@@ -54,16 +53,3 @@ abbrev pub EndsItems : Switches → List ℕ → Type 0
 EndsItems w rest =
     IsTrue (first_passes (λ c. c == double_quote) rest)
     ⊎ ((e : Refusal) × (rest_refusal w rest ≡ Some e))
-
--- After the front, which ends at `offset`, stand items up to the place, which stand for so many
--- bytes; and there they end.
-pub record IsItemsEnd (w : Switches) (bytes : List ℕ) (offset : ℕ) (end : ItemsEnd) : Type 0 where
-  pub items : List Item
-  pub spells :
-      chars (take offset bytes) ++ (body_text items ++ chars (drop end.place bytes)) ≡ chars bytes
-  pub taken : IsTrue (stand_before w (chars (drop end.place bytes)) items)
-  pub place : end.place ≡ byte_len (chars (take offset bytes) ++ body_text items)
-  pub value_len : end.value_len ≡ length (body_value items)
-  pub boundary : IsCharBoundary bytes end.place
-  pub stops : IsFalse (first_passes (is_plain w) (chars (drop end.place bytes)))
-  pub ends : EndsItems w (chars (drop end.place bytes))

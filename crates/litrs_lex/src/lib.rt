@@ -4,6 +4,7 @@
 //! escapes are of `litrs_parts`, and the searches of `litrs_search`; both are re-exported.
 #![tactic(auto)]
 
+pub use allowed::{Allows, InByteString, InCString, InString};
 pub use container::EscapeContainer;
 pub use litrs_parts::{
     Buffer, FloatCut, FloatType, Front, IntegerBase, IntegerCut, IntegerType, NumberCut,
@@ -14,11 +15,15 @@ pub use litrs_parts::{
 pub use litrs_search::{Run, Special, next_closing, next_special, run_end};
 pub use quoted::{QuotedCut, cut_quoted};
 pub use raw::scan_raw_string;
-pub use string::unescape_string;
+pub use string::{unescape_string, unescape_string_with};
 
+pub mod allowed;
 pub mod container;
-mod lone_escape;
+mod filled;
 pub mod quoted;
 pub mod raw;
-mod short_value;
+pub mod reading;
+mod room;
+mod sink;
+mod stop;
 pub mod string;

@@ -5,7 +5,8 @@ ghost use Rattle.litrs_search.specs.Special.{is_special};
 ghost use Rattle.litrs_search.specs.Closing.{may_close, is_inner, pairs, may_close_at};
 
 use crate::lanes::closing_marks;
-use crate::search::{Special, first_marked, is_special, next_special};
+use crate::marked::next_special;
+use crate::search::{Special, first_marked, is_special};
 
 /// Whether a raw body may be closed at this byte, or the byte is special and no `"`. The other byte
 /// is the one that the last hash of a closing would be.

@@ -3,8 +3,8 @@
 #![tactic(auto)]
 
 pub use closing::next_closing;
-pub use marked::{Marked, next_marked};
-pub use search::{Run, Special, has_byte, next_special, run_end};
+pub use marked::{Marked, next_marked, next_special};
+pub use search::{Run, Special, has_byte, run_end};
 
 pub mod closing;
 mod lanes;

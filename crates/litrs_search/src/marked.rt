@@ -1,4 +1,4 @@
-//! The search for one special byte after the other.
+//! The search for the next special byte of a body, and for one after the other.
 ghost use Rattle.std.specs.Prelude.{◌≡◌, ◌+◌, ◌-◌, ◌≤◌, List, ℕ, length, drop, map};
 ghost use Rattle.std.specs.Simd.Lanes.{mask_l, chunk};
 ghost use Rattle.std.specs.List.{prefix_len};
@@ -39,7 +39,29 @@ impl Marked {
     }
 }
 
-/// [`next_special`](crate::next_special), and what is marked then. Where a special byte is known
+/// The least place at or after `from` whose byte is special: `"`, CR, or another of `what`; the
+/// length where there is none. Places count bytes.
+///
+/// `from` may not pass the length.
+///
+/// ```
+/// let what = Special { backslash: true, nul: false, non_ascii: false };
+/// assert_eq!(rt; next_special(b"ab\\n\"", 0, what), 2);
+/// assert_eq!(rt; next_special(b"ab\\n\"", 3, what), 4);
+/// assert_eq!(rt; next_special(b"ab", 1, what), 2);
+/// ```
+///
+/// The Rust Reference, Tokens, String literals: the characters that end a run of plain ones.
+#[inline(always)]
+pub fn next_special(bytes: &[u8], from: usize, what: Special) -> usize
+    requires { from ≤ length bytes.now }
+    ensures place { result ≡ from + prefix_len (is_ordinary what) (drop from bytes.now) }
+    ensures within { result ≤ length bytes.now }
+{
+    next_marked(bytes, from, what, Marked::nothing_at(from)).0
+}
+
+/// [`next_special`], and what is marked then. Where a special byte is known
 /// from an earlier search, nothing is read: so special bytes that stand close to each other cost
 /// one load.
 ///

@@ -1,9 +1,9 @@
-//! The search for the next special byte of a quoted body, and for the end of a run.
+//! The search for the end of a run, and for one byte.
 ghost use Rattle.std.specs.Prelude.{◌≡◌, ◌==◌, ◌+◌, ◌≤◌, ◌<◌, length, drop, map, if◌then◌else◌};
 ghost use Rattle.std.specs.List.{prefix_len, list_any};
 ghost use Rattle.std.specs.Int.{w64, trailing_zeros};
 ghost use Rattle.std.specs.Simd.Lanes.{mask_l, chunk};
-ghost use Rattle.litrs_search.specs.Special.{is_special, is_ordinary};
+ghost use Rattle.litrs_search.specs.Special.{is_special};
 ghost use Rattle.litrs_search.specs.Run.{classes, is_in_run};
 ghost use Rattle.litrs_search.specs.Target.{is_target, is_passed};
 
@@ -194,28 +194,6 @@ fn next_target(bytes: &[u8], from: usize, target: Target) -> usize
         16..=31 => by_lanes::<16>(bytes, from, target),
         _ => by_lanes::<32>(bytes, from, target),
     }
-}
-
-/// The least place at or after `from` whose byte is special: `"`, CR, or another of `what`; the
-/// length where there is none. Places count bytes.
-///
-/// `from` may not pass the length.
-///
-/// ```
-/// let what = Special { backslash: true, nul: false, non_ascii: false };
-/// assert_eq!(rt; next_special(b"ab\\n\"", 0, what), 2);
-/// assert_eq!(rt; next_special(b"ab\\n\"", 3, what), 4);
-/// assert_eq!(rt; next_special(b"ab", 1, what), 2);
-/// ```
-///
-/// The Rust Reference, Tokens, String literals: the characters that end a run of plain ones.
-#[inline(always)]
-pub fn next_special(bytes: &[u8], from: usize, what: Special) -> usize
-    requires { from ≤ length bytes.now }
-    ensures place { result ≡ from + prefix_len (is_ordinary what) (drop from bytes.now) }
-    ensures within { result ≤ length bytes.now }
-{
-    next_target(bytes, from, Target::Special(what))
 }
 
 /// How many bytes at the front are of the run.

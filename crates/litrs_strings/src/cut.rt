@@ -9,12 +9,14 @@ ghost use Rattle.litrs_grammar.specs.StringKind.{switches_of};
 ghost use Rattle.litrs_lex.specs.QuotedCut.{IsQuotedRefused, IsQuotedOutOfMemory};
 ghost use Rattle.litrs_lex.specs.RawCut.{IsRawRefused};
 ghost use Rattle.litrs_parts.specs.Front.{grammar_kind, IsFront};
-ghost use Rattle.litrs_parts.specs.Unescaped.{grammar_switches};
 ghost use Rattle.litrs_strings.specs.ParsedStrings.{IsParsedQuoted, IsParsedRaw, IsParsedString};
 ghost use Rattle.litrs_strings.specs.StringLiteral.{kept_map};
 
 use crate::kept::{BodyPlace, KeptValue};
-use litrs_lex::{EscapeContainer, scan_raw_string, unescape_string};
+use litrs_lex::{
+    Allows, EscapeContainer, InByteString, InCString, InString, scan_raw_string,
+    unescape_string_with,
+};
 use litrs_parts::{Front, ParseError, ParseErrorKind, StringKind, Switches};
 use std::alloc::Global;
 
@@ -34,12 +36,11 @@ pub(crate) fn parse_string<C: EscapeContainer>(
     ensures refused { IfErr result (IsRefusedOrOutOfMemory
         (kind_parse (string_literal_of (grammar_kind kind))) (chars input.now)) }
 {
-    let allowed = kind.switches();
     let offset = kind.front_len();
     match front {
-        Front::Quoted(found) if found == kind => { parse_quoted(alloc, input, offset, allowed) }
+        Front::Quoted(found) if found == kind => parse_quoted(alloc, input, offset, kind),
         Front::Raw(found) if found == kind => {
-            let (place, start_suffix) = cut_raw(input, offset, allowed)?;
+            let (place, start_suffix) = cut_raw(input, offset, kind.switches())?;
             Ok((KeptValue::InText(place), start_suffix))
         }
         Front::Empty => Err(ParseError::new(None, ParseErrorKind::Empty)),
@@ -64,33 +65,50 @@ fn start_refusal(input: &str, kind: StringKind) -> ParseError
     }
 }
 
-/// Parses a quoted string whose body begins at `offset`: its value, where the body has a backslash,
-/// or else where the body stands, and where the suffix begins. `offset` and the switches are those
-/// of [`unescape_string`].
+/// Parses a quoted string of the kind whose body begins at `offset`, a place as of
+/// [`unescape_string`](litrs_lex::unescape_string): by a call that is compiled for the kind.
 #[inline(always)]
 fn parse_quoted<C: EscapeContainer>(
     alloc: Global,
     input: &str,
     offset: usize,
-    allowed: Switches,
+    kind: StringKind,
 ) -> Result<(KeptValue<C>, usize), ParseError>
     requires at { IsCharBoundary input.now offset }
-    requires fits { IsTrue (not allowed.byte_escapes || C.TAKES_BYTES) }
+    requires fits { IsTrue (not (switches_of (grammar_kind kind)).byte_escapes || C.TAKES_BYTES) }
     ensures ok { IfOk result (λ parsed.
-        IsParsedQuoted (grammar_switches allowed) input.now offset
+        IsParsedQuoted (switches_of (grammar_kind kind)) input.now offset
         (kept_map C.contents parsed.0) parsed.1) }
     ensures refused { IfErr result (λ e.
-        IsQuotedRefused (grammar_switches allowed) input.now offset e
-        ⊎ IsQuotedOutOfMemory (grammar_switches allowed) input.now offset e) }
+        IsQuotedRefused (switches_of (grammar_kind kind)) input.now offset e
+        ⊎ IsQuotedOutOfMemory (switches_of (grammar_kind kind)) input.now offset e) }
 {
-    let (value, start_suffix) = unescape_string(
-        alloc,
-        input,
-        offset,
-        allowed.unicode,
-        allowed.byte_escapes,
-        allowed.allow_nul,
-    )?;
+    match kind {
+        StringKind::String => parse_body(alloc, input, offset, InString),
+        StringKind::ByteString => parse_body(alloc, input, offset, InByteString),
+        StringKind::CString => parse_body(alloc, input, offset, InCString),
+    }
+}
+
+/// The value of a quoted string, where its body has a backslash, or else where the body stands; and
+/// where the suffix begins.
+#[inline(always)]
+fn parse_body<C: EscapeContainer, A: Allows>(
+    alloc: Global,
+    input: &str,
+    offset: usize,
+    allowed: A,
+) -> Result<(KeptValue<C>, usize), ParseError>
+    requires at { IsCharBoundary input.now offset }
+    requires fits { IsTrue (not (A.allowed allowed).byte_escapes || C.TAKES_BYTES) }
+    ensures ok { IfOk result (λ parsed.
+        IsParsedQuoted (A.allowed allowed) input.now offset
+        (kept_map C.contents parsed.0) parsed.1) }
+    ensures refused { IfErr result (λ e.
+        IsQuotedRefused (A.allowed allowed) input.now offset e
+        ⊎ IsQuotedOutOfMemory (A.allowed allowed) input.now offset e) }
+{
+    let (value, start_suffix) = unescape_string_with(alloc, input, offset, allowed)?;
     match value {
         Some(value) => Ok((KeptValue::Owned(value), start_suffix)),
         None => {

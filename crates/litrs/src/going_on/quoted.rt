@@ -66,7 +66,7 @@ fn body_goes_on(text: &str, kind: StringKind) -> bool
 {
     let allowed = kind.switches();
     let end = items_end(text, kind.front_len(), allowed);
-    rest_goes_on(&text[end.place..], allowed)
+    rest_goes_on(&text[end..], allowed)
 }
 
 /// Whether a quoted literal goes on, by what stands where its items end: most often the closing

@@ -1,7 +1,9 @@
--- The plain characters at the front are all, or the loop goes on after them.
-use Rattle.litrs_lex.proofs.QuotedScan.{plain_items_end}
+-- At the quote, or where the body is refused.
+use Rattle.litrs_lex.proofs.Readings.{body_ends, end_held}
 use Rattle.litrs_lex.proofs.quoted.items_end.Goals as goal
 
-pub returns-then-ends_items : goal.returns-then-ends_items
-returns-then-ends_items c =
-    plain_items_end _ c.args.input.now _ _ _ c.utf8.input c.requires c.first_plain_end-place.ensures c.range_from.ensures.value (c.ends_items.ensures c.if-ends_items.true)
+pub returns-in-Quote : goal.returns-in-Quote
+returns-in-Quote g c = body_ends _ c.args.input.now _ _ _ c.in-Quote.ensures
+
+pub returns-in-Refused : goal.returns-in-Refused
+returns-in-Refused g c = end_held _ c.args.input.now _ _ _ c.in-Refused.ensures.0

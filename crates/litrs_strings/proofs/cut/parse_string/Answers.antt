@@ -87,7 +87,7 @@ returns-in-Quoted-clause-ok g c =
     let seen = same_true the_type (search rules) _ c.args.kind (sym c.if-eq.ensures) in
     let same : c.in-Quoted.found ≡ c.args.kind = cc in
     let begins = quoted_by c.in-Quoted.found c.args.kind c.args.front c.args.input.now c.requires.front c.in-Quoted.is same in
-    let ok = rw (c.front_len-offset.ensures.quoted, c.switches-allowed.ensures) at c.parse_quoted.ensures.ok in
+    let ok = rw (c.front_len-offset.ensures.quoted) at c.parse_quoted.ensures.ok in
     IfOk-weaker c.parse_quoted.result _ _
     (λ parsed is. parsed_quoted (grammar_kind c.args.kind) c.args.input.now _ parsed.1 c.utf8.input begins is) ok
 
@@ -96,7 +96,7 @@ returns-in-Quoted-clause-refused g c =
     let seen = same_true the_type (search rules) _ c.args.kind (sym c.if-eq.ensures) in
     let same : c.in-Quoted.found ≡ c.args.kind = cc in
     let begins = quoted_by c.in-Quoted.found c.args.kind c.args.front c.args.input.now c.requires.front c.in-Quoted.is same in
-    let refused = rw (c.front_len-offset.ensures.quoted, c.switches-allowed.ensures) at c.parse_quoted.ensures.refused in
+    let refused = rw (c.front_len-offset.ensures.quoted) at c.parse_quoted.ensures.refused in
     IfErr-weaker c.parse_quoted.result _ _
     (λ e is. quoted_error (grammar_kind c.args.kind) c.args.input.now e c.utf8.input begins is) refused
 
@@ -105,7 +105,7 @@ returns-in_err-place-in-Raw-clause-refused g c =
     let seen = same_true the_type (search rules) _ c.args.kind (sym c.if-eq-2.ensures) in
     let same : c.in-Raw.found ≡ c.args.kind = cc in
     let begins = raw_by c.in-Raw.found c.args.kind c.args.front c.args.input.now c.requires.front c.in-Raw.is same in
-    let refused = rw (c.front_len-offset.ensures.raw, ap (λ (w : Switches). w.unicode) c.switches-allowed.ensures, ap (λ (w : Switches). w.allow_nul) c.switches-allowed.ensures) at c.in_err-place-in-Raw.ensures.refused in
+    let refused = rw (c.front_len-offset.ensures.raw, ap (λ (w : Switches). w.unicode) c.switches.ensures, ap (λ (w : Switches). w.allow_nul) c.switches.ensures) at c.in_err-place-in-Raw.ensures.refused in
     let p = err_from_is_err_and c.from_residual.result c.from_residual.ensures.1 in
     rw (p.1, p.2) (raw_error (grammar_kind c.args.kind) c.args.input.now _ c.utf8.input begins refused)
 
@@ -114,7 +114,7 @@ returns-in_ok-place-in-Raw-clause-ok g c =
     let seen = same_true the_type (search rules) _ c.args.kind (sym c.if-eq-2.ensures) in
     let same : c.in-Raw.found ≡ c.args.kind = cc in
     let begins = raw_by c.in-Raw.found c.args.kind c.args.front c.args.input.now c.requires.front c.in-Raw.is same in
-    let ok = rw (c.front_len-offset.ensures.raw, ap (λ (w : Switches). w.unicode) c.switches-allowed.ensures, ap (λ (w : Switches). w.allow_nul) c.switches-allowed.ensures) at c.in_ok-place-in-Raw.ensures.ok in
+    let ok = rw (c.front_len-offset.ensures.raw, ap (λ (w : Switches). w.unicode) c.switches.ensures, ap (λ (w : Switches). w.allow_nul) c.switches.ensures) at c.in_ok-place-in-Raw.ensures.ok in
     parsed_raw (grammar_kind c.args.kind) c.args.input.now c.in_ok-place-in-Raw.place c.in_ok-place-in-Raw.start_suffix c.utf8.input begins ok
 
 pub returns-in-Empty-clause-refused : goal.returns-in-Empty-clause-refused

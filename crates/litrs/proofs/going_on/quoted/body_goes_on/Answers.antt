@@ -1,4 +1,5 @@
 -- The rest decides.
+use Rattle.std.specs.Prelude.{⊤}
 use Rattle.litrs_grammar.specs.StringKind.{switches_of}
 use Rattle.litrs_parts.specs.Front.{grammar_kind}
 use Rattle.litrs_lex.proofs.StringFronts.{quoted_boundary}
@@ -18,4 +19,4 @@ returns c =
     let goes = rw (c.switches-allowed.ensures) at c.rest_goes_on.ensures in
     quoted_string kind c.args.text.now c.rest_goes_on.result c.utf8.text c.requires
     (quoted_decided (switches_of kind) c.args.text.now c.range_from.result.now _
-    c.items_end-end.result c.rest_goes_on.result end c.range_from.ensures.value goes)
+    c.items_end-end.result (λ _. ⊤) c.rest_goes_on.result end c.range_from.ensures.value goes)

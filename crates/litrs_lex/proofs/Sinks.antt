@@ -1,0 +1,38 @@
+-- What is put into a room and into a container.
+use Rattle.std.proofs.Common.{◌≡◌, ℕ, ◌+◌, ◌-◌, ◌≤◌, Bool, true, false, ◌||◌, List, [], ◌∷◌, ◌++◌, length, drop, take, sym, ap, subst, ◌∙◌, append_assoc, arith}
+use Rattle.std.specs.Str.{IsUtf8}
+use Rattle.std.proofs.Math.Seq.{take-append-add}
+use Rattle.std.proofs.Math.Utf8.{low_scalar}
+use Rattle.std.proofs.lemmas.Bool.{ltb-true, true≢false}
+use Rattle.std.proofs.lemmas.List.{take-take, length-take-le, length-drop}
+use Rattle.std.proofs.lemmas.Str.{IsUtf8-encode, IsUtf8-append, encode_ascii}
+use Rattle.litrs_base.specs.Characters.{is_ascii}
+
+-- where 16 bytes are moved, those after the part are no part of the value
+pub part_moved : (room before text piece : List ℕ) (len start count : ℕ) → piece ≡ take (start + 16 - start) (drop start text) → count ≤ 16 → 16 ≤ length text - start →
+    length before ≡ len → take (len + length piece) room ≡ before ++ piece → take (len + count) room ≡ before ++ take count (drop start text)
+part_moved room before text piece len start count is few enough size copied =
+    let n : start + 16 - start ≡ 16 = omega arith in
+    let moved : piece ≡ take 16 (drop start text) = is ∙ ap (λ k. take k (drop start text)) n in
+    let long : length piece ≡ 16 = ap length moved ∙ length-take-le 16 (drop start text) (omega (arith, length-drop start text)) in
+    sym (take-take (len + count) (len + length piece) room (omega arith)) ∙ (ap (take (len + count)) copied
+    ∙ (ap (λ n. take (n + count) (before ++ piece)) (sym size) ∙ (take-append-add before piece count
+    ∙ ap (λ l. before ++ l) (ap (take count) moved ∙ take-take count 16 (drop start text) few))))
+
+-- a piece with more bytes
+pub piece_grows : (takes : Bool) (contents piece new v part : List ℕ) → new ≡ piece ++ part → (takes ≡ false → IsUtf8 part) → (contents ++ piece ≡ v) × (takes ≡ false → IsUtf8 piece) →
+    (contents ++ new ≡ v ++ part) × (takes ≡ false → IsUtf8 new)
+piece_grows takes contents piece new v part is text held = (
+  ap (λ l. contents ++ l) is ∙ (sym (append_assoc contents piece part) ∙ ap (λ l. l ++ part) held.0),
+  λ none. subst IsUtf8 (sym is) (IsUtf8-append piece part (held.1 none) (text none)),
+)
+
+-- a byte is a text where bytes above 7F are not taken
+pub byte_text : (takes : Bool) (b : ℕ) → (takes || is_ascii b) ≡ true → takes ≡ false → IsUtf8 (b ∷ [])
+byte_text true b h none = absurd (true≢false none)
+byte_text false b h none = let low = ltb-true b 128 h in subst IsUtf8 (encode_ascii b low) (IsUtf8-encode b (low_scalar b (omega arith)))
+
+-- the same bytes, said otherwise
+pub grown : (takes : Bool) (contents piece v a b : List ℕ) → a ≡ b → (contents ++ piece ≡ v ++ a) × (takes ≡ false → IsUtf8 piece) →
+    (contents ++ piece ≡ v ++ b) × (takes ≡ false → IsUtf8 piece)
+grown takes contents piece v a b is held = (held.0 ∙ ap (λ l. v ++ l) is, held.1)

@@ -1,7 +1,0 @@
--- The last byte is a character.
-use Rattle.litrs_lex.proofs.QuotedBytes.{ascii_cut}
-use Rattle.litrs_lex.proofs.quoted.without_last.Goals as goal
-
-pub returns-then-bytes-lt128 : goal.returns-then-bytes-lt128
-returns-then-bytes-lt128 c =
-    ascii_cut c.args.text.now c.as_bytes-bytes.result.now c.range.result.now c.utf8.text c.range.utf8 c.as_bytes-bytes.ensures.value c.if-bytes-gt0.true c.if-bytes-lt128.true c.range.ensures.value

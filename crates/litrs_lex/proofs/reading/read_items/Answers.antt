@@ -1,0 +1,79 @@
+-- A run and an item are read in each turn; the state goes on, or is handed on.
+use Rattle.std.proofs.Common.{◌≡◌, ◌<◌, ◌^◌, ◌||◌, not, true, sym, subst, arith, length}
+use Rattle.litrs_grammar.specs.Escape.{Switches}
+use Rattle.litrs_lex.specs.Reading.{IsReading, IsReadBody, IsItemsEnd, IsBodyRefused}
+use Rattle.litrs_lex.proofs.QuotedCuts.{refuses, ends_here}
+use Rattle.litrs_lex.proofs.Readings.{read_held, read_run, read_item, no_run, quote_of, item_of, value_small, fits}
+use Rattle.litrs_lex.proofs.reading.read_items.Goals as goal
+
+pub returns-in-Ok-Quote : goal.returns-in-Ok-Quote
+returns-in-Ok-Quote g c =
+    let s = c.loop-switches.invariant in
+    subst (λ (w : Switches). IsReadBody w c.args.input.now c.args.offset (g.S.Sink.holds c.push_run.new.self) c.loop-switches.place)
+    c.switches-switches.ensures (record {
+      read = read_run _ c.args.input.now _ _ _ _ _ c.utf8.input s.read s.run (c.push_run.ensures.taken c.if-not-push_run.false);
+      quote = quote_of _ c.args.input.now c.range_from.result.now _ c.in-Ok-Quote.field-0-is c.range_from.ensures.value c.in-Ok-Quote.ensures.ok;
+      stops = s.run.stops;
+    })
+
+pub push_run-requires-clause-small : goal.push_run-requires-clause-small
+push_run-requires-clause-small g c = let s = c.loop-switches.invariant in (_, (s.read.held, s.read.fits))
+
+pub push-requires-clause-small : goal.push-requires-clause-small
+push-requires-clause-small g c =
+    let s = c.loop-switches.invariant in
+    let small : length c.args.input.now < 2 ^ 64 = omega arith in
+    value_small _ c.args.input.now _ _ _ _ _ _ (read_run _ c.args.input.now _ _ _ _ (g.S.Sink.holds c.push_run.new.self) c.utf8.input s.read s.run (c.push_run.ensures.taken c.if-not-push_run.false))
+    c.range_from.ensures.value (item_of _ c.range_from.result.now c.in-Ok-Item.field-0-is c.in-Ok-Item.ensures.ok) small
+
+pub push-requires-clause-pushable : goal.push-requires-clause-pushable
+push-requires-clause-pushable g c =
+    fits _ g.S.Sink.takes_bytes c.in-Ok-Item.value (subst (λ (w : Switches). (not w.byte_escapes || g.S.Sink.takes_bytes) ≡ true) (sym c.switches-switches.ensures) c.requires.fits)
+    (item_of _ c.range_from.result.now c.in-Ok-Item.field-0-is c.in-Ok-Item.ensures.ok).pushable
+
+pub returns-then-not-push : goal.returns-then-not-push
+returns-then-not-push g c =
+    let s = c.loop-switches.invariant in
+    let kept = c.push.ensures.full c.if-not-push.true in (
+      kept.0,
+      subst (λ (w : Switches). IsReading w c.args.input.now c.args.offset (g.S.Sink.holds c.push.new.self) (record { at = c.loop-switches.place; place = c.loop-switches.place; marked = c.loop-switches.marked }))
+          c.switches-switches.ensures (record {
+            read = read_held _ c.args.input.now _ _ _ _
+                (read_run _ c.args.input.now _ _ _ _ (g.S.Sink.holds c.push_run.new.self) c.utf8.input s.read s.run (c.push_run.ensures.taken c.if-not-push_run.false))
+                kept.1;
+            run = no_run _ _ _ _ s.run;
+            after = s.after;
+            marked = s.marked;
+          }),
+    )
+
+pub loop-switches-preserved : goal.loop-switches-preserved
+loop-switches-preserved g c =
+    let s = c.loop-switches.invariant in record {
+      read = read_item _ c.args.input.now _ _ _ _ _ _ _ c.utf8.input
+          (read_run _ c.args.input.now _ _ _ _ (g.S.Sink.holds c.push_run.new.self) c.utf8.input s.read s.run (c.push_run.ensures.taken c.if-not-push_run.false))
+          c.range_from.ensures.value (item_of _ c.range_from.result.now c.in-Ok-Item.field-0-is c.in-Ok-Item.ensures.ok) (c.push.ensures.taken c.if-not-push.false);
+      run = c.plain_end.ensures.run;
+      after = c.plain_end.ensures.after;
+      marked = c.plain_end.ensures.marked;
+    }
+
+pub offset_span-requires : goal.offset_span-requires
+offset_span-requires g c =
+    let s = c.loop-switches.invariant in
+    let small : length c.args.input.now < 2 ^ 64 = omega arith in
+    (refuses _ c.args.input.now _ _ _ _ c.in-Err.e c.utf8.input small
+    (read_run _ c.args.input.now _ _ _ _ (g.S.Sink.holds c.push_run.new.self) c.utf8.input s.read s.run (c.push_run.ensures.taken c.if-not-push_run.false))
+    c.range_from.ensures.value c.in-Err.ensures.refused).0
+
+pub returns-in-Err : goal.returns-in-Err
+returns-in-Err g c =
+    let s = c.loop-switches.invariant in
+    let small : length c.args.input.now < 2 ^ 64 = omega arith in
+    let read = read_run _ c.args.input.now _ _ _ _ (g.S.Sink.holds c.push_run.new.self) c.utf8.input s.read s.run (c.push_run.ensures.taken c.if-not-push_run.false) in
+    subst (λ (w : Switches). IsItemsEnd w c.args.input.now c.args.offset (g.S.Sink.holds c.push_run.new.self) c.loop-switches.place × IsBodyRefused w c.args.input.now c.args.offset c.offset_span.result)
+    c.switches-switches.ensures (
+      ends_here _ c.args.input.now _ _ _ _ c.in-Err.e read s.run.stops c.range_from.ensures.value c.in-Err.ensures.refused,
+      (refuses _ c.args.input.now _ _ _ _ c.in-Err.e c.utf8.input small read c.range_from.ensures.value c.in-Err.ensures.refused).1
+          c.offset_span.result c.offset_span.ensures.refusal c.offset_span.ensures.char_span,
+    )

@@ -1,0 +1,14 @@
+-- The search finds the end of the run.
+use Rattle.std.proofs.Common.{◌∙◌, ap}
+use Rattle.std.specs.List.{prefix_len}
+use Rattle.std.specs.Prelude.{◌+◌, drop}
+use Rattle.litrs_search.specs.declared.search.Special.{Special}
+use Rattle.litrs_search.specs.Special.{is_ordinary}
+use Rattle.litrs_lex.proofs.PlainRuns.{plain_run, special_run}
+use Rattle.litrs_lex.proofs.stop.plain_end.Goals as goal
+
+pub returns-else-begins_escape-clause-run : goal.returns-else-begins_escape-clause-run
+returns-else-begins_escape-clause-run c =
+    plain_run _ c.args.input.now _ _ c.utf8.input c.requires.at
+    (special_run c.args.allowed.unicode c.args.allowed.byte_escapes c.args.allowed.allow_nul c.args.input.now c.as_bytes.result.now _ _ c.as_bytes.ensures.value
+    (c.next_marked.ensures.place ∙ ap (λ (s : Special). c.args.from + prefix_len (is_ordinary s) (drop c.args.from c.as_bytes.result.now)) c.special.ensures))

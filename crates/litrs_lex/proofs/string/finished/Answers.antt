@@ -1,0 +1,24 @@
+-- All fitted into the room.
+use Rattle.std.proofs.Common.{◌∙◌, ap, length, inr}
+use Rattle.litrs_lex.proofs.QuotedCuts.{from_offset}
+use Rattle.litrs_lex.proofs.QuotedValues.{held_is_utf8, whole_held, none_of, some_of, no_memory_of}
+use Rattle.litrs_lex.proofs.string.finished.Goals as goal
+
+pub overflow_sub-place : goal.overflow_sub-place
+overflow_sub-place g c = from_offset _ c.args.input.now _ _ _ c.utf8.input c.requires.at c.requires.read.read
+
+pub returns-then-value-place : goal.returns-then-value-place
+returns-then-value-place g c =
+    none_of _ c.args.input.now _ _ _ _ c.utf8.input c.requires.at c.requires.read (ap length c.requires.read.read.held) c.in_ok-closed.ensures.ok c.if-value-place.true
+
+pub copied-requires : goal.copied-requires
+copied-requires g c = λ none. held_is_utf8 _ c.args.input.now _ _ _ g.C.EscapeContainer.TAKES_BYTES c.utf8.input c.requires.read.read c.requires.fits none
+
+pub returns-in-Ok : goal.returns-in-Ok
+returns-in-Ok g c =
+    some_of _ c.args.input.now _ _ _ _ c.utf8.input c.requires.at c.requires.read (ap length c.requires.read.read.held) c.in_ok-closed.ensures.ok c.if-value-place.false _
+    (λ q is. c.in-Ok.ensures.contents ∙ whole_held _ c.args.input.now _ _ _ q c.requires.read is)
+
+pub returns-in-Err : goal.returns-in-Err
+returns-in-Err g c =
+    inr (no_memory_of _ c.args.input.now _ _ _ _ c.new.result c.utf8.input c.requires.at c.requires.read (ap length c.requires.read.read.held) c.in_ok-closed.ensures.ok c.if-value-place.false c.new.ensures.refusal)

@@ -1,0 +1,126 @@
+//! A value in a container.
+ghost use Rattle.std.specs.Prelude.{◌≡◌, ◌++◌, ⊤, [], List, ℕ, IfSome, IsTrue, IsFalse};
+ghost use Rattle.std.specs.Str.{IsUtf8};
+ghost use Rattle.litrs_grammar.specs.Escape.{value_bytes};
+ghost use Rattle.litrs_lex.specs.Container.{is_pushable};
+
+use crate::container::EscapeContainer;
+use crate::room::Room;
+use crate::sink::Sink;
+use litrs_base::Unescape;
+
+/// How many bytes are put into the container at a time.
+const PIECE: usize = 128;
+
+/// A container, and what is to be put into it next. It is full where there is no memory.
+#[derive(Drop)]
+pub(crate) struct Filled<C: EscapeContainer> {
+    /// What is not in the container yet.
+    pub(crate) piece: Room<PIECE>,
+    /// The container.
+    pub(crate) into: C,
+}
+
+impl<C: EscapeContainer> Filled<C> {
+    /// Puts the piece into the container; false where there is no memory.
+    #[inline(never)]
+    fn flush(&mut self) -> bool
+        requires { IsFalse C.TAKES_BYTES → IsUtf8 self.old.piece }
+        ensures done { IsTrue result →
+            (C.contents self.new.into ≡ C.contents self.old.into ++ self.old.piece)
+            × (self.new.piece ≡ []) }
+        ensures full { IsFalse result →
+            (C.contents self.new.into ≡ C.contents self.old.into)
+            × (self.new.piece ≡ self.old.piece) }
+    {
+        match self.into.push_bytes(self.piece.as_bytes()) {
+            Ok(()) => {
+                self.piece.clear();
+                true
+            }
+            Err(_) => false,
+        }
+    }
+
+    /// The container, with all bytes in it; None where there is no memory.
+    pub(crate) fn finish(mut self) -> Option<C>
+        requires { IsFalse C.TAKES_BYTES → IsUtf8 self.piece }
+        ensures { IfSome result (λ made. C.contents made ≡ C.contents self.into ++ self.piece) }
+    {
+        if self.flush() { Some(self.into) } else { None }
+    }
+
+    /// Adds bytes; false where there is no memory.
+    #[inline(always)]
+    fn push_bytes(&mut self, bytes: &[u8]) -> bool
+        requires bytes { IsFalse C.TAKES_BYTES → IsUtf8 bytes.now }
+        requires piece { IsFalse C.TAKES_BYTES → IsUtf8 self.old.piece }
+        ensures taken { IsTrue result → (v : List ℕ) →
+            (C.contents self.old.into ++ self.old.piece ≡ v)
+            × (IsFalse C.TAKES_BYTES → IsUtf8 self.old.piece) →
+            (C.contents self.new.into ++ self.new.piece ≡ v ++ bytes.now)
+            × (IsFalse C.TAKES_BYTES → IsUtf8 self.new.piece) }
+        ensures full { IsFalse result → (v : List ℕ) →
+            (C.contents self.old.into ++ self.old.piece ≡ v)
+            × (IsFalse C.TAKES_BYTES → IsUtf8 self.old.piece) →
+            (C.contents self.new.into ++ self.new.piece ≡ v)
+            × (IsFalse C.TAKES_BYTES → IsUtf8 self.new.piece) }
+    {
+        if self.piece.push_bytes(bytes) {
+            return true;
+        }
+        self.flush() && self.into.push_bytes(bytes).is_ok()
+    }
+
+    /// Adds the value of an escape; false where there is no memory.
+    #[inline(always)]
+    fn push_value(&mut self, value: Unescape) -> bool
+        requires value { IsTrue (is_pushable C.TAKES_BYTES value) }
+        requires piece { IsFalse C.TAKES_BYTES → IsUtf8 self.old.piece }
+        ensures taken { IsTrue result → (v : List ℕ) →
+            (C.contents self.old.into ++ self.old.piece ≡ v)
+            × (IsFalse C.TAKES_BYTES → IsUtf8 self.old.piece) →
+            (C.contents self.new.into ++ self.new.piece ≡ v ++ value_bytes value)
+            × (IsFalse C.TAKES_BYTES → IsUtf8 self.new.piece) }
+        ensures full { IsFalse result → (v : List ℕ) →
+            (C.contents self.old.into ++ self.old.piece ≡ v)
+            × (IsFalse C.TAKES_BYTES → IsUtf8 self.old.piece) →
+            (C.contents self.new.into ++ self.new.piece ≡ v)
+            × (IsFalse C.TAKES_BYTES → IsUtf8 self.new.piece) }
+    {
+        match value {
+            Unescape::Byte(byte) => self.push_bytes(&[byte]),
+            Unescape::Unicode(c) => {
+                let mut buffer = [0; 4];
+                let text = c.encode_utf8(&mut buffer);
+                self.push_bytes(text.as_bytes())
+            }
+        }
+    }
+}
+
+impl<C: EscapeContainer> Sink for Filled<C> {
+    ghost holds = { λ s v. (C.contents s.into ++ s.piece ≡ v)
+        × (IsFalse C.TAKES_BYTES → IsUtf8 s.piece) };
+
+    ghost takes_bytes = { C.TAKES_BYTES };
+
+    ghost can_fill = { ⊤ };
+
+    #[inline(always)]
+    fn push_run(&mut self, text: &str, start: usize, end: usize) -> bool {
+        let run = &text[start..end];
+        if self.piece.push_part(text.as_bytes(), start, end) {
+            return true;
+        }
+        self.flush() && self.into.push_str(run).is_ok()
+    }
+
+    #[inline(always)]
+    fn push(&mut self, value: Option<Unescape>) -> bool {
+        match value {
+            None => true,
+            Some(value) => self.push_value(value),
+        }
+    }
+}

@@ -1,0 +1,129 @@
+//! A value on the stack.
+ghost use Rattle.std.specs.Prelude.{◌≡◌, ◌≤◌, ◌+◌, ◌-◌, ◌++◌, ⊤, [], List, ℕ, true, length, take, drop, IsTrue, IsFalse};
+
+use crate::sink::Sink;
+use litrs_base::Unescape;
+use std::marker::Model;
+
+/// How many bytes a short run moves.
+const MOVED: usize = 16;
+
+/// The bytes of a value of at most `N` bytes.
+#[derive(Drop)]
+pub(crate) struct Room<const N: usize> {
+    /// The bytes, and after them what may be written over.
+    room: [u8; N],
+    /// How many bytes there are.
+    len: usize,
+}
+
+impl<const N: usize> Model for Room<N> {
+    ghost Value = { List ℕ };
+
+    ghost view = { λ s. take s.len s.room };
+
+    ghost invariant = { λ s. s.len ≤ N };
+}
+
+impl<const N: usize> Room<N> {
+    /// An empty one.
+    #[inline(always)]
+    pub(crate) fn new() -> Room<N>
+        ensures { result ≡ [] }
+    {
+        Room {
+            room: [0; N],
+            len: 0,
+        }
+    }
+
+    /// The bytes.
+    #[inline(always)]
+    pub(crate) fn as_bytes(&self) -> &[u8]
+        ensures { result.now ≡ self.now }
+    {
+        &self.room[..self.len]
+    }
+
+    /// Takes all bytes away.
+    #[inline(always)]
+    pub(crate) fn clear(&mut self)
+        ensures { self.new ≡ [] }
+    {
+        self.len = 0;
+    }
+
+    /// Adds bytes; false where there is no room for them.
+    #[inline(always)]
+    pub(crate) fn push_bytes(&mut self, bytes: &[u8]) -> bool
+        ensures taken { IsTrue result → self.new ≡ self.old ++ bytes.now }
+        ensures full { IsFalse result → self.new ≡ self.old }
+    {
+        if bytes.len() <= N - self.len {
+            copy_at(&mut self.room, self.len, bytes);
+            self.len += bytes.len();
+            true
+        } else {
+            false
+        }
+    }
+
+    /// Adds the bytes of a text from one place up to another; false where there is no room for
+    /// them.
+    ///
+    /// A run of at most 16 bytes is moved as 16, where the text and the room have so many left: the
+    /// bytes that are too many are written over by the next.
+    #[inline(always)]
+    pub(crate) fn push_part(&mut self, text: &[u8], start: usize, end: usize) -> bool
+        requires { (start ≤ end) × (end ≤ length text.now) }
+        ensures taken { IsTrue result →
+            self.new ≡ self.old ++ take (end - start) (drop start text.now) }
+        ensures full { IsFalse result → self.new ≡ self.old }
+    {
+        let count = end - start;
+        if count <= MOVED && text.len() - start >= MOVED && N - self.len >= MOVED {
+            let mut moved = [0; MOVED];
+            moved.copy_from_slice(&text[start..start + MOVED]);
+            copy_at(&mut self.room, self.len, &moved);
+            self.len += count;
+            true
+        } else {
+            self.push_bytes(&text[start..end])
+        }
+    }
+}
+
+/// Copies bytes over those from a place on.
+#[inline(always)]
+fn copy_at(room: &mut [u8], place: usize, bytes: &[u8])
+    requires { place + length bytes.now ≤ length room.old }
+    ensures { take (place + length bytes.now) room.new ≡ take place room.old ++ bytes.now }
+{
+    room[place..place + bytes.len()].copy_from_slice(bytes);
+}
+
+impl<const N: usize> Sink for Room<N> {
+    ghost holds = { λ s v. s ≡ v };
+
+    ghost takes_bytes = { true };
+
+    ghost can_fill = { ⊤ };
+
+    #[inline(always)]
+    fn push_run(&mut self, text: &str, start: usize, end: usize) -> bool {
+        self.push_part(text.as_bytes(), start, end)
+    }
+
+    #[inline(always)]
+    fn push(&mut self, value: Option<Unescape>) -> bool {
+        match value {
+            None => true,
+            Some(Unescape::Byte(byte)) => self.push_bytes(&[byte]),
+            Some(Unescape::Unicode(c)) => {
+                let mut buffer = [0; 4];
+                let text = c.encode_utf8(&mut buffer);
+                self.push_bytes(text.as_bytes())
+            }
+        }
+    }
+}

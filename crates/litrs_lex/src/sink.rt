@@ -1,0 +1,80 @@
+//! What the items of a quoted body are put into.
+ghost use Rattle.std.specs.Prelude.{◌≡◌, ◌≤◌, ◌<◌, ◌^◌, ◌+◌, ◌-◌, ◌++◌, ℕ, List, Bool, true, length, take, drop, IfSome, IsTrue, IsFalse};
+ghost use Rattle.std.specs.Str.{IsCharBoundary};
+ghost use Rattle.litrs_lex.specs.Container.{is_pushable};
+ghost use Rattle.litrs_lex.specs.QuotedItems.{item_bytes};
+
+use litrs_base::Unescape;
+
+/// What takes the value of a body, run by run and item by item. Where there is no room for one, it
+/// stays as it was.
+pub(crate) trait Sink {
+    /// Whether it holds this value, as far as it keeps any.
+    ghost holds: { Self → List ℕ → Type 0 };
+
+    /// Whether it takes bytes above 7F.
+    ghost takes_bytes: { Bool };
+
+    /// What is known where it is full: nothing, or that it never is.
+    ghost can_fill: { Type 0 };
+
+    /// Adds the bytes of a text from one place up to another; false where there is no room.
+    fn push_run(&mut self, text: &str, start: usize, end: usize) -> bool
+        requires order { start ≤ end }
+        requires start { IsCharBoundary text.now start }
+        requires end { IsCharBoundary text.now end }
+        requires small { (v : List ℕ) × (holds self.old v × (length v ≤ start)) }
+        ensures taken { IsTrue result → (v : List ℕ) → holds self.old v →
+            holds self.new (v ++ take (end - start) (drop start text.now)) }
+        ensures full { IsFalse result →
+            can_fill × ((v : List ℕ) → holds self.old v → holds self.new v) };
+
+    /// Adds the bytes that an item with a backslash stands for; false where there is no room.
+    fn push(&mut self, value: Option<Unescape>) -> bool
+        requires pushable { IfSome value (λ v. IsTrue (is_pushable takes_bytes v)) }
+        requires small { (v : List ℕ) × (holds self.old v
+            × (length v + length (item_bytes value) < 2 ^ 64)) }
+        ensures taken { IsTrue result → (v : List ℕ) → holds self.old v →
+            holds self.new (v ++ item_bytes value) }
+        ensures full { IsFalse result →
+            can_fill × ((v : List ℕ) → holds self.old v → holds self.new v) };
+}
+
+/// The length of a value, which is not kept. It is never full.
+#[derive(Clone, Copy)]
+pub(crate) struct Counted {
+    /// How many bytes the value has.
+    pub(crate) len: usize,
+}
+
+impl Sink for Counted {
+    ghost holds = { λ s v. s.len ≡ length v };
+
+    ghost takes_bytes = { true };
+
+    ghost can_fill = { ⊥ };
+
+    #[inline(always)]
+    fn push_run(&mut self, _text: &str, start: usize, end: usize) -> bool {
+        self.len += end - start;
+        true
+    }
+
+    #[inline(always)]
+    fn push(&mut self, value: Option<Unescape>) -> bool {
+        self.len += value_len(value);
+        true
+    }
+}
+
+/// How many bytes an item with a backslash stands for.
+#[inline(always)]
+fn value_len(value: Option<Unescape>) -> usize
+    ensures { result ≡ length (item_bytes value) }
+{
+    match value {
+        None => 0,
+        Some(Unescape::Byte(_)) => 1,
+        Some(Unescape::Unicode(c)) => c.len_utf8(),
+    }
+}

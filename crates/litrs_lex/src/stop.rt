@@ -1,0 +1,154 @@
+//! What stands where the plain characters of a body end.
+ghost use Rattle.std.specs.Prelude.{Bool, not, ◌≡◌, ◌≤◌, ◌==◌, length, IfOk, IfErr, IsTrue, IsFalse};
+ghost use Rattle.std.specs.List.{prefix_len};
+ghost use Rattle.std.specs.Str.{chars, IsCharBoundary};
+ghost use Rattle.litrs_base.specs.Characters.{line_feed, is_blank};
+ghost use Rattle.litrs_base.specs.Text.{first_passes};
+ghost use Rattle.litrs_grammar.specs.Quoted.{is_plain, without_last};
+ghost use Rattle.litrs_lex.specs.QuotedItems.{IsPlainRun, stops};
+ghost use Rattle.litrs_lex.specs.Reading.{IsRestRefused, StandsAt};
+ghost use Rattle.litrs_search.specs.Marked.{IsMarked};
+ghost use Rattle.litrs_parts.specs.Unescaped.{switches, grammar_switches};
+
+use crate::allowed::Allows;
+use litrs_base::{ParseError, ParseErrorKind, Unescape};
+use litrs_parts::{Switches, unescape_with};
+use litrs_search::{Marked, Run, Special, next_marked, next_special, run_end};
+
+/// What stands there.
+#[derive(Clone, Copy)]
+pub(crate) enum Stop {
+    /// The closing quote.
+    Quote,
+    /// An escape with its value, or a continuation with none, of so many bytes.
+    Item(Option<Unescape>, usize),
+}
+
+/// What stands at the front of a text that begins with no plain character.
+///
+/// # Errors
+///
+/// Why neither an item nor a quote stands there. The spans count from the front.
+#[inline(always)]
+pub(crate) fn stop_at(rest: &str, allowed: Switches) -> Result<Stop, ParseError>
+    requires { IsFalse (first_passes (is_plain (grammar_switches allowed)) (chars rest.now)) }
+    ensures ok { IfOk result (StandsAt (grammar_switches allowed) rest.now) }
+    ensures refused { IfErr result (IsRestRefused (grammar_switches allowed) (chars rest.now)) }
+{
+    let [first, after @ ..] = rest.as_bytes() else {
+        return Err(ParseError::new(None, ParseErrorKind::UnterminatedString));
+    };
+    match *first {
+        b'"' => Ok(Stop::Quote),
+        b'\\' if begins_with_line_feed(after) => {
+            let len = 2 + blanks_len(&after[1..]);
+            if len == rest.len() {
+                Err(ParseError::new(None, ParseErrorKind::UnterminatedString))
+            } else {
+                Ok(Stop::Item(None, len))
+            }
+        }
+        b'\\' => match unescape_with(without_last(rest), allowed) {
+            Ok((value, len)) => Ok(Stop::Item(Some(value), len)),
+            Err(e) => Err(e),
+        },
+        b'\r' => Err(ParseError::in_text(rest, Some(0..1), ParseErrorKind::CarriageReturn)),
+        0 => Err(ParseError::in_text(rest, Some(0..1), ParseErrorKind::NulByte)),
+        _ => Err(ParseError::in_text(rest, Some(0..1), ParseErrorKind::NonAsciiInByteLiteral)),
+    }
+}
+
+/// The bytes at which the plain characters of a body end, beside `"` and CR.
+#[inline(always)]
+fn special(allowed: Switches) -> Special
+    ensures { result ≡ stops allowed.unicode allowed.allow_nul }
+{
+    Special {
+        backslash: true,
+        nul: !allowed.allow_nul,
+        non_ascii: !allowed.unicode,
+    }
+}
+
+/// Where the plain characters end that stand from `from` on: the search that decides most strings,
+/// compiled for each kind.
+#[inline(never)]
+pub(crate) fn first_plain_end<A: Allows>(input: &str, from: usize, allowed: A) -> usize
+    requires { IsCharBoundary input.now from }
+    ensures { IsPlainRun (A.allowed allowed) input.now from result }
+{
+    let switches = allowed.switches();
+    next_special(input.as_bytes(), from, special(switches))
+}
+
+/// The same, and what is marked then, where it is known what was marked before. A backslash that
+/// stands there costs no search.
+#[inline(always)]
+pub(crate) fn plain_end(
+    input: &str,
+    from: usize,
+    allowed: Switches,
+    marked: Marked,
+) -> (usize, Marked)
+    requires at { IsCharBoundary input.now from }
+    requires after { marked.start ≤ from }
+    requires marked { IsMarked (stops allowed.unicode allowed.allow_nul) input.now marked }
+    ensures run { IsPlainRun (grammar_switches allowed) input.now from result.0 }
+    ensures after { result.1.start ≤ result.0 }
+    ensures marked { IsMarked (stops allowed.unicode allowed.allow_nul) input.now result.1 }
+{
+    if begins_escape(input, from) {
+        (from, marked)
+    } else {
+        next_marked(input.as_bytes(), from, special(allowed), marked)
+    }
+}
+
+/// Whether a backslash stands there: then no plain character does.
+#[inline(always)]
+fn begins_escape(input: &str, from: usize) -> bool
+    requires { IsCharBoundary input.now from }
+    ensures { IsTrue result → (unicode byte_escapes allow_nul : Bool) →
+        IsPlainRun (switches unicode byte_escapes allow_nul) input.now from from }
+{
+    matches!(input.as_bytes().get(from), Some(b'\\'))
+}
+
+/// Whether LF stands first.
+#[inline(always)]
+fn begins_with_line_feed(bytes: &[u8]) -> bool
+    ensures { result ≡ first_passes (λ c. c == line_feed) bytes.now }
+{
+    matches!(bytes, [b'\n', ..])
+}
+
+/// How many spaces, tabs and LFs stand at the front.
+fn blanks_len(bytes: &[u8]) -> usize
+    ensures count { result ≡ prefix_len is_blank bytes.now }
+    ensures within { result ≤ length bytes.now }
+{
+    run_end(bytes, Run::Blanks)
+}
+
+/// The text without its last character. One that is ASCII, as a closing quote is, is cut off
+/// without a call.
+#[inline(always)]
+fn without_last(text: &str) -> &str
+    ensures { chars result.now ≡ without_last (chars text.now) }
+{
+    let bytes = text.as_bytes();
+    if bytes.len() > 0 && bytes[bytes.len() - 1] < 128 {
+        return &text[..bytes.len() - 1];
+    }
+    without_last_of_any(text)
+}
+
+/// [`without_last`] of a text that may end with a character beyond ASCII.
+#[inline(never)]
+fn without_last_of_any(text: &str) -> &str
+    ensures { chars result.now ≡ without_last (chars text.now) }
+{
+    let mut chars = text.chars();
+    chars.next_back();
+    chars.as_str()
+}
