@@ -7,6 +7,7 @@ ghost use Rattle.litrs.specs.Refusal.{refusal_of, moved};
 ghost use Rattle.litrs.specs.declared.ParseError.{ParseError};
 ghost use Rattle.litrs.specs.Bool.{IsBool};
 ghost use Rattle.litrs.specs.Integer.{IntegerParts, IsIntegerOf, integer_value};
+ghost use Rattle.litrs.specs.LiteralDerivation.{literal_raw};
 ghost use Rattle.litrs.specs.Literal.{kind_parse, integer_literal, StringParts, IsString, string_value};
 ghost use Rattle.litrs.specs.StringKind.{string_kind};
 ghost use Rattle.litrs.specs.Refused.{IsRefused};
@@ -58,6 +59,7 @@ pub fn flag(text: &str, start: usize) -> Result<bool, ParseError>
 /// A literal of any kind.
 pub fn any(alloc: Global, text: &str, start: usize) -> Result<Literal<&str>, ParseError>
     requires { start + length text.now < 2 ^ 64 }
+    ensures { IfOk result (λ lit. literal_raw lit ≡ text.now) }
 {
     match Literal::parse(alloc, text) {
         Ok(lit) => Ok(lit),

@@ -1,2 +1,4 @@
 -- what formatting keeps
 pub mod Keeps
+-- how characters are written
+pub mod Escapes

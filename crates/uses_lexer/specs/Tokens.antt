@@ -2,7 +2,7 @@
 use Rattle.std.specs.Prelude.{◌≡◌, ◌==◌, ◌||◌, ℕ, not, Bool, IsTrue, List, [], ◌∷◌, ◌++◌}
 use Rattle.std.specs.Char.{encode_utf8, is_ascii_digit, is_not_whitespace}
 use Rattle.std.specs.Str.{chars, NoCharPasses}
-use Rattle.unicode_ident.specs.Ident.{is_xid_continue}
+use Rattle.unicode_ident.specs.Ident.{is_xid_start, is_xid_continue}
 use Rattle.litrs.specs.Literal.{Derivation, IsLiteral}
 use Rattle.uses_lexer.specs.declared.token.Token.{Token}
 use Rattle.uses_lexer.specs.declared.token.TokenKind.{TokenKind}
@@ -12,6 +12,10 @@ use Rattle.uses_lexer.specs.declared.token.TokenKind.TheVariants.{Blank, Name, L
 abbrev pub spelled : List Token → List ℕ
 spelled [] = []
 spelled (token ∷ tokens) = token.text.now ++ spelled tokens
+
+-- a name begins with the character
+abbrev pub begins_name : ℕ → Bool
+begins_name c = (c == 95) || is_xid_start c
 
 -- the character is none that a name goes on with
 abbrev pub ends_name : ℕ → Bool

@@ -1,12 +1,14 @@
 //! Names, and the characters that they are made of.
-ghost use Rattle.std.specs.Prelude.{take};
+ghost use Rattle.std.specs.Prelude.{◌≡◌, take};
 ghost use Rattle.std.specs.Str.{IsCharBoundary, NoCharPasses};
-ghost use Rattle.uses_lexer.specs.Tokens.{ends_name};
+ghost use Rattle.uses_lexer.specs.Tokens.{begins_name, ends_name};
 
 use unicode_ident::{is_xid_continue, is_xid_start};
 
 /// Whether a name may begin with the character.
-pub fn begins_name(c: char) -> bool {
+pub fn begins_name(c: char) -> bool
+    ensures { result ≡ begins_name c }
+{
     c == '_' || is_xid_start(c)
 }
 

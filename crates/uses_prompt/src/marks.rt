@@ -1,9 +1,10 @@
 //! What is underlined of a refused text.
-ghost use Rattle.std.specs.Prelude.{◌≡◌, ◌++◌, ◌<◌, ◌+◌};
+ghost use Rattle.std.specs.Prelude.{◌≡◌, ◌+◌, ◌<◌, ◌++◌, length, replicate, IfOk, OnOk, string_bytes};
 ghost use Rattle.std.specs.Str.{chars};
 ghost use Rattle.litrs.specs.Literal.{literal_parse};
 ghost use Rattle.litrs.specs.Refusal.{marked_span};
 ghost use Rattle.litrs.specs.Refused.{IsRefused};
+ghost use Rattle.uses_prompt.specs.Underlined.{IsUnderlined};
 
 use litrs::ParseError;
 use std::alloc::{AllocError, Global};
@@ -24,7 +25,10 @@ struct Marks<'a> {
 #[tactic(auto, using(litrs::proofs::SpanCuts::refusal_points))]
 fn cut<'a>(text: &'a str, error: &ParseError) -> Marks<'a>
     requires { IsRefused literal_parse (chars text.now) error.now }
-    ensures { text.now ≡ result.front.now ++ (result.marked.now ++ result.rest.now) }
+    ensures spells { text.now ≡ result.front.now ++ (result.marked.now ++ result.rest.now) }
+    ensures start { length result.front.now ≡ (marked_span (chars text.now) error.now).start }
+    ensures end { length result.front.now + length result.marked.now
+        ≡ (marked_span (chars text.now) error.now).end }
 {
     let span = error.marked_span(text);
     let (front, _) = text.split_at(span.start);
@@ -59,6 +63,7 @@ fn first_line(marks: Marks) -> Marks {
 /// The line of the text in which its refusal begins to point, and a line of carets below it.
 pub fn underlined(alloc: Global, text: &str, error: &ParseError) -> Result<String, AllocError>
     requires { IsRefused literal_parse (chars text.now) error.now }
+    ensures { IfOk result (λ written. IsUnderlined (string_bytes written)) }
 {
     let Marks {
         front,
@@ -94,8 +99,11 @@ fn push_columns(out: &mut String, text: &str, start: usize) -> Result<usize, All
     Ok(column)
 }
 
-/// Adds a character so many times.
-fn push_times(out: &mut String, c: char, count: usize) -> Result<(), AllocError> {
+/// Adds an ASCII character so many times.
+fn push_times(out: &mut String, c: char, count: usize) -> Result<(), AllocError>
+    requires { c < 128 }
+    ensures { OnOk result (string_bytes out.new ≡ string_bytes out.old ++ replicate count c) }
+{
     for _ in 0..count {
         out.push(c)?;
     }
