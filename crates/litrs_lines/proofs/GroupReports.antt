@@ -13,12 +13,13 @@ use Rattle.litrs_collector.specs.declared.Step.{Step}
 use Rattle.litrs_collector.specs.declared.Step.TheVariants.{More, Literal, Refused}
 use Rattle.litrs_collector.specs.Held.{IsRefusalOfHeld}
 use Rattle.litrs_collector.specs.Steps.{IsStep, held_after}
+use Rattle.litrs_lines.specs.declared.RunError.{RunError}
 use Rattle.litrs_lines.specs.Groups.{joined, IsNoText, IsFinished}
 use Rattle.litrs_lines.specs.Report.{literal_report, refusal_report, IsTextReport}
 use Rattle.litrs_lines.specs.Reports.{AreReports, AreGroupReports}
 use Rattle.litrs_lines.specs.ReportLaws.{LinesHaveReports, ReportsAreUnique}
 use Rattle.litrs_lines.specs.Ended.{unless_held, AreEndedReports, AreLastReports}
-use Rattle.litrs_lines.specs.Sent.{Sends, SendsReports, StopsReports}
+use Rattle.litrs_lines.specs.Sent.{AddsBytes, SendsReports, StopsReports, ReportsLines}
 use Rattle.litrs_lines.specs.Stopped.{AppendsBeginning}
 use Rattle.litrs_lines.proofs.Sending.{adds, sends_more, writes_nothing, stops_later, stops_longer, stops_now}
 use Rattle.litrs_lines.proofs.ReportLemmas.{texts_have_reports, AreReports-one, AreReports-append, one_list_of_reports}
@@ -187,13 +188,10 @@ pub record Steps (held line left : List ℕ) (step : Step) : Type 0 where
   pub is : IsStep (held ++ line) step
   pub after : left ≡ held_after (held ++ line) step
 
-pub step_adds : (held line left : List ℕ) (step : Step) (a b : Option (List ℕ)) (old new : List ℕ) → Steps held line left step →
-    Sends a old b new (step_bytes step) → Adds held (line ∷ []) left a old b new
-step_adds held line left step a b old new s sends = (step_bytes step, step_reports held line left step s.text s.whole s.is s.after, sends)
-
-pub step_stops : (held line left : List ℕ) (step : Step) (a b : Option (List ℕ)) (old : List ℕ) → Steps held line left step →
-    AppendsBeginning a b (old ++ step_bytes step) → Stops held (line ∷ []) a old b
-step_stops held line left step a b old s part = (left, (step_bytes step, step_reports held line left step s.text s.whole s.is s.after, part))
+pub step_reported : (result : Result (Unit {0}) RunError) (held line left : List ℕ) (step : Step) (a b : Option (List ℕ)) (old new : List ℕ) → Steps held line left step →
+    AddsBytes result (step_bytes step) a old b new → ReportsLines result held (line ∷ []) left a old b new
+step_reported (Ok _) held line left step a b old new s sends = (step_bytes step, step_reports held line left step s.text s.whole s.is s.after, sends)
+step_reported (Err _) held line left step a b old new s part = (left, (step_bytes step, step_reports held line left step s.text s.whole s.is s.after, part))
 
 -- ---- a line by itself, whose literal or refusal is known
 
@@ -209,14 +207,11 @@ pub record Finishes (held line r : List ℕ) : Type 0 where
   pub finished : IsFinished line
   pub report : IsTextReport (chars line) r
 
-pub first_adds : (held line : List ℕ) (a b : Option (List ℕ)) (old new r : List ℕ) → Finishes held line r → Sends a old b new (r ++ 10 ∷ []) →
-    Adds held (line ∷ []) held a old b new
-first_adds held line a b old new r is sends =
+pub first_reported : (result : Result (Unit {0}) RunError) (held line : List ℕ) (a b : Option (List ℕ)) (old new r : List ℕ) → Finishes held line r →
+    AddsBytes result (r ++ 10 ∷ []) a old b new → ReportsLines result held (line ∷ []) held a old b new
+first_reported (Ok _) held line a b old new r is sends =
     subst (λ (h : List ℕ). Adds h (line ∷ []) h a old b new) (sym is.nothing) (r ++ 10 ∷ [], group_ends line r is.text is.finished is.report, sends)
-
-pub first_stops : (held line : List ℕ) (a b : Option (List ℕ)) (old r : List ℕ) → Finishes held line r → AppendsBeginning a b (old ++ (r ++ 10 ∷ [])) →
-    Stops held (line ∷ []) a old b
-first_stops held line a b old r is part =
+first_reported (Err _) held line a b old new r is part =
     subst (λ (h : List ℕ). Stops h (line ∷ []) a old b) (sym is.nothing) ([], (r ++ 10 ∷ [], group_ends line r is.text is.finished is.report, part))
 
 pub literal_finishes : (held line : List ℕ) (d : Derivation) → held ≡ [] → IsUtf8 line → IsLiteral (chars line) d → Finishes held line (literal_report d)

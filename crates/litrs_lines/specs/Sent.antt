@@ -1,7 +1,18 @@
--- What a call adds to reports that are written later.
-use Rattle.std.specs.Prelude.{◌≡◌, ℕ, List, ◌++◌, Option}
+-- What a step of a run leaves: reports that are not yet written, and an output.
+use Rattle.std.specs.Prelude.{◌≡◌, ℕ, Bool, true, false, List, ◌++◌, Option, Result, Ok, Err}
 use Rattle.std.specs.Io.KnownBytes.{Appends}
+use Rattle.litrs_lines.specs.declared.RunError.{RunError}
+use Rattle.litrs_lines.specs.declared.RunError.TheVariants.{Read, Write, Memory}
+use Rattle.litrs_lines.specs.Ended.{AreEndedReports}
 use Rattle.litrs_lines.specs.Stopped.{AppendsBeginning}
+
+-- A step answers `Write` if and only if the output has failed, and then by a failed write. It never
+-- answers `Read`.
+abbrev pub NamesFailure : (result : Result (Unit {0}) RunError) (has_failed write_failed : Bool) → Type 0
+NamesFailure (Ok _) has_failed write_failed = has_failed ≡ false
+NamesFailure (Err Read) has_failed write_failed = ⊥
+NamesFailure (Err Write) has_failed write_failed = (has_failed ≡ true) × (write_failed ≡ true)
+NamesFailure (Err Memory) has_failed write_failed = has_failed ≡ false
 
 -- these bytes were added to what is not yet written, and a prefix of all that was then written
 pub record Sends (old : Option (List ℕ)) (unwritten_old : List ℕ) (new : Option (List ℕ))
@@ -9,6 +20,15 @@ pub record Sends (old : Option (List ℕ)) (unwritten_old : List ℕ) (new : Opt
   pub written : List ℕ
   pub spells : written ++ unwritten_new ≡ unwritten_old ++ bytes
   pub appends : Appends old new written
+
+-- A step adds these bytes: on `Ok` they were added, and on an error a prefix of what was not yet
+-- written and of them was written.
+abbrev pub AddsBytes : (result : Result (Unit {0}) RunError) (bytes : List ℕ) (old : Option (List ℕ))
+    (unwritten_old : List ℕ) (new : Option (List ℕ)) (unwritten_new : List ℕ) → Type 0
+AddsBytes (Ok _) bytes old unwritten_old new unwritten_new =
+    Sends old unwritten_old new unwritten_new bytes
+AddsBytes (Err _) bytes old unwritten_old new unwritten_new =
+    AppendsBeginning old new (unwritten_old ++ bytes)
 
 -- reports that are such were added
 abbrev pub SendsReports : (Are : List ℕ → Type 0) (old : Option (List ℕ))
@@ -21,3 +41,12 @@ abbrev pub StopsReports : (Are : List ℕ → Type 0) (old : Option (List ℕ))
     (unwritten_old : List ℕ) (new : Option (List ℕ)) → Type 0
 StopsReports Are old unwritten_old new =
     (out : List ℕ) × Are out × AppendsBeginning old new (unwritten_old ++ out)
+
+-- A step over these lines adds the reports on the groups that end with them.
+abbrev pub ReportsLines : (result : Result (Unit {0}) RunError) (held_old : List ℕ)
+    (lines : List (List ℕ)) (held_new : List ℕ) (old : Option (List ℕ)) (unwritten_old : List ℕ)
+    (new : Option (List ℕ)) (unwritten_new : List ℕ) → Type 0
+ReportsLines (Ok _) held_old lines held_new old unwritten_old new unwritten_new =
+    SendsReports (AreEndedReports held_old lines held_new) old unwritten_old new unwritten_new
+ReportsLines (Err _) held_old lines held_new old unwritten_old new unwritten_new =
+    (left : List ℕ) × StopsReports (AreEndedReports held_old lines left) old unwritten_old new

@@ -1,8 +1,8 @@
 //! The reports on the groups that lines make.
-ghost use Rattle.std.specs.Prelude.{◌≡◌, ◌≢◌, ◌↔◌, ◌++◌, ◌∷◌, [], ℕ, List, true, false, OnOk, OnErr, IsErrOf, string_bytes, codes};
-ghost use Rattle.litrs_lines.specs.Ended.{unless_held, AreEndedReports};
+ghost use Rattle.std.specs.Prelude.{◌≡◌, ◌++◌, ◌∷◌, [], ℕ, List, false, OnOk, string_bytes, codes};
+ghost use Rattle.litrs_lines.specs.Ended.{unless_held};
 ghost use Rattle.litrs_lines.specs.Reports.{AreReports};
-ghost use Rattle.litrs_lines.specs.Sent.{SendsReports, StopsReports};
+ghost use Rattle.litrs_lines.specs.Sent.{NamesFailure, ReportsLines};
 
 use crate::RunError;
 use crate::device::Output;
@@ -21,17 +21,10 @@ pub(crate) fn take_line<O: Output>(
     line: &[u8],
 ) -> Result<(), RunError>
     requires works { O.has_failed writer.old ≡ false }
-    ensures ok { OnOk result (SendsReports
-        (AreEndedReports collector.old (line.now ∷ []) collector.new)
+    ensures reports { ReportsLines result collector.old (line.now ∷ []) collector.new
         (O.contents writer.old) (string_bytes reports.old)
-        (O.contents writer.new) (string_bytes reports.new)) }
-    ensures err { OnErr result ((left : List ℕ) × StopsReports
-        (AreEndedReports collector.old (line.now ∷ []) left)
-        (O.contents writer.old) (string_bytes reports.old) (O.contents writer.new)) }
-    ensures works { OnOk result (O.has_failed writer.new ≡ false) }
-    ensures read { result ≢ Err RunError.Read }
-    ensures write { IsErrOf result RunError.Write ↔ (O.has_failed writer.new ≡ true) }
-    ensures write_failed { IsErrOf result RunError.Write → O.write_failed writer.new ≡ true }
+        (O.contents writer.new) (string_bytes reports.new) }
+    ensures failure { NamesFailure result (O.has_failed writer.new) (O.write_failed writer.new) }
 {
     match str::from_utf8(line) {
         Ok(text) => take_text(collector, reports, writer, text),
@@ -47,17 +40,10 @@ fn take_text<O: Output>(
     line: &str,
 ) -> Result<(), RunError>
     requires works { O.has_failed writer.old ≡ false }
-    ensures ok { OnOk result (SendsReports
-        (AreEndedReports collector.old (line.now ∷ []) collector.new)
+    ensures reports { ReportsLines result collector.old (line.now ∷ []) collector.new
         (O.contents writer.old) (string_bytes reports.old)
-        (O.contents writer.new) (string_bytes reports.new)) }
-    ensures err { OnErr result ((left : List ℕ) × StopsReports
-        (AreEndedReports collector.old (line.now ∷ []) left)
-        (O.contents writer.old) (string_bytes reports.old) (O.contents writer.new)) }
-    ensures works { OnOk result (O.has_failed writer.new ≡ false) }
-    ensures read { result ≢ Err RunError.Read }
-    ensures write { IsErrOf result RunError.Write ↔ (O.has_failed writer.new ≡ true) }
-    ensures write_failed { IsErrOf result RunError.Write → O.write_failed writer.new ≡ true }
+        (O.contents writer.new) (string_bytes reports.new) }
+    ensures failure { NamesFailure result (O.has_failed writer.new) (O.write_failed writer.new) }
 {
     if collector.is_empty() {
         take_first(collector, reports, writer, line)
@@ -76,17 +62,10 @@ fn take_first<O: Output>(
 ) -> Result<(), RunError>
     requires works { O.has_failed writer.old ≡ false }
     requires first { collector.old ≡ [] }
-    ensures ok { OnOk result (SendsReports
-        (AreEndedReports collector.old (line.now ∷ []) collector.new)
+    ensures reports { ReportsLines result collector.old (line.now ∷ []) collector.new
         (O.contents writer.old) (string_bytes reports.old)
-        (O.contents writer.new) (string_bytes reports.new)) }
-    ensures err { OnErr result ((left : List ℕ) × StopsReports
-        (AreEndedReports collector.old (line.now ∷ []) left)
-        (O.contents writer.old) (string_bytes reports.old) (O.contents writer.new)) }
-    ensures works { OnOk result (O.has_failed writer.new ≡ false) }
-    ensures read { result ≢ Err RunError.Read }
-    ensures write { IsErrOf result RunError.Write ↔ (O.has_failed writer.new ≡ true) }
-    ensures write_failed { IsErrOf result RunError.Write → O.write_failed writer.new ≡ true }
+        (O.contents writer.new) (string_bytes reports.new) }
+    ensures failure { NamesFailure result (O.has_failed writer.new) (O.write_failed writer.new) }
 {
     let alloc = *reports.allocator();
     match Literal::parse(alloc, line) {
@@ -105,17 +84,10 @@ fn take_next<O: Output>(
     line: &str,
 ) -> Result<(), RunError>
     requires works { O.has_failed writer.old ≡ false }
-    ensures ok { OnOk result (SendsReports
-        (AreEndedReports collector.old (line.now ∷ []) collector.new)
+    ensures reports { ReportsLines result collector.old (line.now ∷ []) collector.new
         (O.contents writer.old) (string_bytes reports.old)
-        (O.contents writer.new) (string_bytes reports.new)) }
-    ensures err { OnErr result ((left : List ℕ) × StopsReports
-        (AreEndedReports collector.old (line.now ∷ []) left)
-        (O.contents writer.old) (string_bytes reports.old) (O.contents writer.new)) }
-    ensures works { OnOk result (O.has_failed writer.new ≡ false) }
-    ensures read { result ≢ Err RunError.Read }
-    ensures write { IsErrOf result RunError.Write ↔ (O.has_failed writer.new ≡ true) }
-    ensures write_failed { IsErrOf result RunError.Write → O.write_failed writer.new ≡ true }
+        (O.contents writer.new) (string_bytes reports.new) }
+    ensures failure { NamesFailure result (O.has_failed writer.new) (O.write_failed writer.new) }
 {
     match collector.feed(line)? {
         Step::More => Ok(()),

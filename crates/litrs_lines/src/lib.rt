@@ -7,7 +7,7 @@ ghost use Rattle.litrs_lines.specs.Stopped.{AppendsBeginning, StopsWithin};
 ghost use Rattle.litrs_lines.specs.Lines.{is_line_feed, HasNoLineFeed, without_return, ended_lines, open_line, unless_empty, lines_of};
 ghost use Rattle.litrs_lines.specs.Ended.{AreEndedReports, AreLastReports};
 ghost use Rattle.litrs_lines.specs.Reports.{AppendsReports};
-ghost use Rattle.litrs_lines.specs.Sent.{SendsReports, StopsReports};
+ghost use Rattle.litrs_lines.specs.Sent.{NamesFailure, SendsReports, StopsReports, ReportsLines};
 
 pub use device::{Failed, Input, Output};
 use group::{report_held, take_line};
@@ -101,19 +101,11 @@ fn end_line<O: Output>(
 ) -> Result<(), RunError>
     requires works { O.has_failed writer.old ≡ false }
     ensures line { OnOk result (line.new.items ≡ []) }
-    ensures ok { OnOk result (SendsReports
-        (AreEndedReports collector.old
-        (without_return (line.old.items ++ end.now) ∷ []) collector.new)
+    ensures reports { ReportsLines result
+        collector.old (without_return (line.old.items ++ end.now) ∷ []) collector.new
         (O.contents writer.old) (string_bytes reports.old)
-        (O.contents writer.new) (string_bytes reports.new)) }
-    ensures err { OnErr result ((left : List ℕ) × StopsReports
-        (AreEndedReports collector.old
-        (without_return (line.old.items ++ end.now) ∷ []) left)
-        (O.contents writer.old) (string_bytes reports.old) (O.contents writer.new)) }
-    ensures works { OnOk result (O.has_failed writer.new ≡ false) }
-    ensures read { result ≢ Err RunError.Read }
-    ensures write { IsErrOf result RunError.Write ↔ (O.has_failed writer.new ≡ true) }
-    ensures write_failed { IsErrOf result RunError.Write → O.write_failed writer.new ≡ true }
+        (O.contents writer.new) (string_bytes reports.new) }
+    ensures failure { NamesFailure result (O.has_failed writer.new) (O.write_failed writer.new) }
 {
     if line.is_empty() {
         return take_line(collector, reports, writer, without_return(end));
@@ -135,19 +127,11 @@ fn gather<O: Output>(
     requires line { HasNoLineFeed line.old.items }
     requires works { O.has_failed writer.old ≡ false }
     ensures line { OnOk result (line.new.items ≡ open_line (line.old.items ++ piece.now)) }
-    ensures ok { OnOk result (SendsReports
-        (AreEndedReports collector.old
-        (ended_lines (line.old.items ++ piece.now)) collector.new)
+    ensures reports { ReportsLines result
+        collector.old (ended_lines (line.old.items ++ piece.now)) collector.new
         (O.contents writer.old) (string_bytes reports.old)
-        (O.contents writer.new) (string_bytes reports.new)) }
-    ensures err { OnErr result ((left : List ℕ) × StopsReports
-        (AreEndedReports collector.old
-        (ended_lines (line.old.items ++ piece.now)) left)
-        (O.contents writer.old) (string_bytes reports.old) (O.contents writer.new)) }
-    ensures works { OnOk result (O.has_failed writer.new ≡ false) }
-    ensures read { result ≢ Err RunError.Read }
-    ensures write { IsErrOf result RunError.Write ↔ (O.has_failed writer.new ≡ true) }
-    ensures write_failed { IsErrOf result RunError.Write → O.write_failed writer.new ≡ true }
+        (O.contents writer.new) (string_bytes reports.new) }
+    ensures failure { NamesFailure result (O.has_failed writer.new) (O.write_failed writer.new) }
 {
     let mut rest = piece;
     while let Some(end) = line_end(rest) {
@@ -162,12 +146,10 @@ fn gather<O: Output>(
 fn write_all<O: Output>(writer: &mut O, bytes: &[u8]) -> Result<(), RunError>
     requires { O.has_failed writer.old ≡ false }
     ensures ok { OnOk result (Appends (O.contents writer.old) (O.contents writer.new) bytes.now) }
-    ensures works { OnOk result (O.has_failed writer.new ≡ false) }
     ensures err { OnErr result (AppendsBeginning (O.contents writer.old) (O.contents writer.new)
         bytes.now) }
-    ensures failed { OnErr result (O.has_failed writer.new ≡ true) }
     ensures write { IfErr result (λ e. e ≡ RunError.Write) }
-    ensures write_failed { OnErr result (O.write_failed writer.new ≡ true) }
+    ensures failure { NamesFailure result (O.has_failed writer.new) (O.write_failed writer.new) }
 {
     let mut rest = bytes;
     while !rest.is_empty() {
@@ -197,9 +179,7 @@ fn take_piece<O: Output>(
     ensures err { OnErr result ((left : List ℕ) × (out : List ℕ)
         × AreEndedReports collector.old (ended_lines (line.old.items ++ piece.now)) left out
         × AppendsBeginning (O.contents writer.old) (O.contents writer.new) out) }
-    ensures read { result ≢ Err RunError.Read }
-    ensures write { IsErrOf result RunError.Write ↔ (O.has_failed writer.new ≡ true) }
-    ensures write_failed { IsErrOf result RunError.Write → O.write_failed writer.new ≡ true }
+    ensures failure { NamesFailure result (O.has_failed writer.new) (O.write_failed writer.new) }
 {
     reports.clear();
     gather(line, collector, reports, writer, piece)?;
@@ -214,17 +194,10 @@ fn take_open_line<O: Output>(
     writer: &mut O,
 ) -> Result<(), RunError>
     requires works { O.has_failed writer.old ≡ false }
-    ensures ok { OnOk result (SendsReports
-        (AreEndedReports collector.old (unless_empty line.now) collector.new)
+    ensures reports { ReportsLines result collector.old (unless_empty line.now) collector.new
         (O.contents writer.old) (string_bytes reports.old)
-        (O.contents writer.new) (string_bytes reports.new)) }
-    ensures err { OnErr result ((left : List ℕ) × StopsReports
-        (AreEndedReports collector.old (unless_empty line.now) left)
-        (O.contents writer.old) (string_bytes reports.old) (O.contents writer.new)) }
-    ensures works { OnOk result (O.has_failed writer.new ≡ false) }
-    ensures read { result ≢ Err RunError.Read }
-    ensures write { IsErrOf result RunError.Write ↔ (O.has_failed writer.new ≡ true) }
-    ensures write_failed { IsErrOf result RunError.Write → O.write_failed writer.new ≡ true }
+        (O.contents writer.new) (string_bytes reports.new) }
+    ensures failure { NamesFailure result (O.has_failed writer.new) (O.write_failed writer.new) }
 {
     if line.is_empty() {
         return Ok(());
@@ -248,10 +221,7 @@ fn report_last<O: Output>(
     ensures err { OnErr result (StopsReports
         (AreLastReports collector.old (unless_empty line.now))
         (O.contents writer.old) (string_bytes reports.old) (O.contents writer.new)) }
-    ensures works { OnOk result (O.has_failed writer.new ≡ false) }
-    ensures read { result ≢ Err RunError.Read }
-    ensures write { IsErrOf result RunError.Write ↔ (O.has_failed writer.new ≡ true) }
-    ensures write_failed { IsErrOf result RunError.Write → O.write_failed writer.new ≡ true }
+    ensures failure { NamesFailure result (O.has_failed writer.new) (O.write_failed writer.new) }
 {
     take_open_line(line, collector, reports, writer)?;
     report_held(collector, reports)?;

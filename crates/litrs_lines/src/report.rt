@@ -1,5 +1,5 @@
 //! The report on a literal, and on a refusal.
-ghost use Rattle.std.specs.Prelude.{◌≡◌, ◌≢◌, ◌↔◌, ◌≤◌, length, ◌∷◌, [], ◌++◌, true, false, OnOk, OnErr, IsErrOf, string_bytes};
+ghost use Rattle.std.specs.Prelude.{◌≡◌, ◌≤◌, length, ◌∷◌, [], ◌++◌, false, OnOk, string_bytes};
 ghost use Rattle.litrs.specs.LiteralDerivation.{derivation};
 ghost use Rattle.litrs_grammar.specs.Integer.{integer_value};
 ghost use Rattle.litrs_scalars.specs.CharLiteral.{char_parts, byte_parts};
@@ -8,8 +8,7 @@ ghost use Rattle.litrs_numbers.specs.IntegerLiteral.{integer_parts};
 ghost use Rattle.litrs_grammar.specs.Literal.{an_integer, a_float, a_char, a_byte};
 ghost use Rattle.litrs_lines.specs.Report.{value_text, integer_front, fraction_field, float_report, char_report, raw_field, hex_bytes, string_front, literal_report, refusal_report};
 ghost use Rattle.litrs_lines.specs.ReportParts.{literal_front, hex_value};
-ghost use Rattle.litrs_lines.specs.Sent.{Sends};
-ghost use Rattle.litrs_lines.specs.Stopped.{AppendsBeginning};
+ghost use Rattle.litrs_lines.specs.Sent.{NamesFailure, AddsBytes};
 ghost use Rattle.litrs_base.specs.Characters.{line_feed};
 ghost use Rattle.litrs_base.specs.Refusal.{refusal_of};
 
@@ -49,15 +48,10 @@ pub(crate) fn report_literal<B: Buffer, O: Output>(
     lit: &Literal<B>,
 ) -> Result<(), RunError>
     requires { O.has_failed writer.old ≡ false }
-    ensures ok { OnOk result (Sends (O.contents writer.old) (string_bytes reports.old)
-        (O.contents writer.new) (string_bytes reports.new)
-        (literal_report (derivation lit.now) ++ line_feed ∷ [])) }
-    ensures err { OnErr result (AppendsBeginning (O.contents writer.old) (O.contents writer.new)
-        (string_bytes reports.old ++ (literal_report (derivation lit.now) ++ line_feed ∷ []))) }
-    ensures works { OnOk result (O.has_failed writer.new ≡ false) }
-    ensures read { result ≢ Err RunError.Read }
-    ensures write { IsErrOf result RunError.Write ↔ (O.has_failed writer.new ≡ true) }
-    ensures write_failed { IsErrOf result RunError.Write → O.write_failed writer.new ≡ true }
+    ensures adds { AddsBytes result (literal_report (derivation lit.now) ++ line_feed ∷ [])
+        (O.contents writer.old) (string_bytes reports.old)
+        (O.contents writer.new) (string_bytes reports.new) }
+    ensures failure { NamesFailure result (O.has_failed writer.new) (O.write_failed writer.new) }
 {
     push_front(reports, lit)?;
     send_hex(reports, writer, hex_value(lit))?;
@@ -248,14 +242,10 @@ fn raw_field(is_raw: bool) -> &'static str
 /// Adds bytes in hex. Where these are many, they are written in pieces.
 fn send_hex<O: Output>(reports: &mut String, writer: &mut O, bytes: &[u8]) -> Result<(), RunError>
     requires { O.has_failed writer.old ≡ false }
-    ensures ok { OnOk result (Sends (O.contents writer.old) (string_bytes reports.old)
-        (O.contents writer.new) (string_bytes reports.new) (hex_bytes bytes.now)) }
-    ensures err { OnErr result (AppendsBeginning (O.contents writer.old) (O.contents writer.new)
-        (string_bytes reports.old ++ hex_bytes bytes.now)) }
-    ensures works { OnOk result (O.has_failed writer.new ≡ false) }
-    ensures read { result ≢ Err RunError.Read }
-    ensures write { IsErrOf result RunError.Write ↔ (O.has_failed writer.new ≡ true) }
-    ensures write_failed { IsErrOf result RunError.Write → O.write_failed writer.new ≡ true }
+    ensures adds { AddsBytes result (hex_bytes bytes.now)
+        (O.contents writer.old) (string_bytes reports.old)
+        (O.contents writer.new) (string_bytes reports.new) }
+    ensures failure { NamesFailure result (O.has_failed writer.new) (O.write_failed writer.new) }
 {
     let mut rest = bytes;
     while rest.len() > PIECE_LEN {

@@ -1,8 +1,9 @@
-use Rattle.std.proofs.Common.{arith, ◌≡◌, ◌∙◌, ℕ, List, [], ◌∷◌, ◌++◌, OnOk, OnErr, length, refl, sym, ap, subst}
+use Rattle.std.proofs.lemmas.Result.{err_from_is_err_and}
+use Rattle.std.proofs.Common.{arith, ◌≡◌, ◌∙◌, ℕ, List, [], ◌∷◌, ◌++◌, length, refl, sym, ap, subst}
 use Rattle.std.specs.Prelude.{string_bytes}
 use Rattle.std.proofs.lemmas.Bool.Decides.{nat_tests}
 use Rattle.litrs_lines.specs.Lines.{without_return}
-use Rattle.litrs_lines.proofs.LinesLemmas.{OnErr-holds}
+use Rattle.litrs_lines.specs.Sent.{ReportsLines}
 use Rattle.litrs_lines.proofs.GroupReports.{Adds, Stops, stops-none}
 use Rattle.litrs_lines.proofs.end_line.Goals as goal
 
@@ -14,31 +15,28 @@ nothing (b ∷ bs) none = absurd (omega arith)
 ended : (line end whole : List ℕ) → length line ≡ 0 → whole ≡ without_return end → whole ≡ without_return (line ++ end)
 ended line end whole none is = is ∙ ap (λ (xs : List ℕ). without_return (xs ++ end)) (sym (nothing line none))
 
-pub returns-then-is_empty-clause-ok : goal.returns-then-is_empty-clause-ok
-returns-then-is_empty-clause-ok g c =
+pub returns-then-is_empty-clause-reports : goal.returns-then-is_empty-clause-reports
+returns-then-is_empty-clause-reports g c =
     let none : length c.args.line.now.items ≡ 0 = grind (arith, nat_tests) in
-    subst (λ (l : List ℕ). OnOk c.take_line.result (Adds c.args.collector.now (l ∷ []) c.take_line.new.collector (g.O.Output.contents c.args.writer.now) (string_bytes c.args.reports.now) (g.O.Output.contents c.take_line.new.writer) (string_bytes c.take_line.new.reports)))
-    (ended c.args.line.now.items c.args.end.now c.without_return.result.now none c.without_return.ensures) c.take_line.ensures.ok
+    subst (λ (l : List ℕ). ReportsLines c.take_line.result c.args.collector.now (l ∷ []) c.take_line.new.collector (g.O.Output.contents c.args.writer.now) (string_bytes c.args.reports.now) (g.O.Output.contents c.take_line.new.writer) (string_bytes c.take_line.new.reports))
+    (ended c.args.line.now.items c.args.end.now c.without_return.result.now none c.without_return.ensures) c.take_line.ensures.reports
 
-pub returns-then-is_empty-clause-err : goal.returns-then-is_empty-clause-err
-returns-then-is_empty-clause-err g c =
-    let none : length c.args.line.now.items ≡ 0 = grind (arith, nat_tests) in
-    subst (λ (l : List ℕ). OnErr c.take_line.result (Stops c.args.collector.now (l ∷ []) (g.O.Output.contents c.args.writer.now) (string_bytes c.args.reports.now) (g.O.Output.contents c.take_line.new.writer)))
-    (ended c.args.line.now.items c.args.end.now c.without_return.result.now none c.without_return.ensures) c.take_line.ensures.err
+pub returns-in_err-extend_from_slice-clause-reports : goal.returns-in_err-extend_from_slice-clause-reports
+returns-in_err-extend_from_slice-clause-reports g c =
+    let p = err_from_is_err_and c.from_residual.result c.from_residual.ensures.1 in
+    rw p.1 (stops-none c.args.collector.now (without_return (c.args.line.now.items ++ c.args.end.now) ∷ []) (g.O.Output.contents c.args.writer.now) (string_bytes c.args.reports.now))
 
-pub returns-in_err-extend_from_slice-clause-err : goal.returns-in_err-extend_from_slice-clause-err
-returns-in_err-extend_from_slice-clause-err g c = OnErr-holds _ (stops-none c.args.collector.now (without_return (c.args.line.now.items ++ c.args.end.now) ∷ []) (g.O.Output.contents c.args.writer.now) (string_bytes c.args.reports.now))
-
-pub returns-in_err-take_line-clause-err : goal.returns-in_err-take_line-clause-err
-returns-in_err-take_line-clause-err g c =
+pub returns-in_err-take_line-clause-reports : goal.returns-in_err-take_line-clause-reports
+returns-in_err-take_line-clause-reports g c =
+    let p = err_from_is_err_and c.from_residual-in_err-take_line.result c.from_residual-in_err-take_line.ensures.1 in
     let line : c.without_return-2.result.now ≡ without_return (c.args.line.now.items ++ c.args.end.now) =
     c.without_return-2.ensures ∙ ap without_return (c.deref.ensures.value ∙ c.in_ok-extend_from_slice.ensures.items) in
-    OnErr-holds _ (subst (λ (l : List ℕ). Stops c.args.collector.now (l ∷ []) (g.O.Output.contents c.args.writer.now) (string_bytes c.args.reports.now) (g.O.Output.contents c.take_line-2.new.writer))
-    line c.in_err-take_line.ensures.err)
+    rw p.1 (subst (λ (l : List ℕ). Stops c.args.collector.now (l ∷ []) (g.O.Output.contents c.args.writer.now) (string_bytes c.args.reports.now) (g.O.Output.contents c.take_line-2.new.writer))
+    line c.in_err-take_line.ensures.reports)
 
-pub returns-clause-ok : goal.returns-clause-ok
-returns-clause-ok g c =
+pub returns-clause-reports : goal.returns-clause-reports
+returns-clause-reports g c =
     let line : c.without_return-2.result.now ≡ without_return (c.args.line.now.items ++ c.args.end.now) =
     c.without_return-2.ensures ∙ ap without_return (c.deref.ensures.value ∙ c.in_ok-extend_from_slice.ensures.items) in
     subst (λ (l : List ℕ). Adds c.args.collector.now (l ∷ []) c.take_line-2.new.collector (g.O.Output.contents c.args.writer.now) (string_bytes c.args.reports.now) (g.O.Output.contents c.take_line-2.new.writer) (string_bytes c.take_line-2.new.reports))
-    line c.in_ok-take_line.ensures.ok
+    line c.in_ok-take_line.ensures.reports

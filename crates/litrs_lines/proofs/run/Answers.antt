@@ -1,6 +1,6 @@
 use Rattle.std.proofs.Common.{◌≡◌, ◌^◌, ◌-◌, ℕ, inl, inr, refl, arith, ◌∙◌, length-take, rules}
 use Rattle.std.proofs.KnownBytes.{Keeps-refl}
-use Rattle.litrs_lines.proofs.LinesLemmas.{runs_none, line_unended, runs_more, stops_at_read, stops_in_piece, stops_at_end, ends_run, one_more_read, many_reads, OnOk-map, OnErr-map, OnErr-holds, false_unless, ok_not_err, take_none}
+use Rattle.litrs_lines.proofs.LinesLemmas.{runs_none, line_unended, runs_more, stops_at_read, stops_in_piece, stops_at_end, ends_run, one_more_read, many_reads, OnOk-map, OnErr-map, OnErr-holds, take_none}
 use Rattle.litrs_lines.proofs.run.Goals as goal
 
 pub loop-turn-init : goal.loop-turn-init
@@ -35,7 +35,7 @@ returns-in_err-take_piece-clause-err g c =
 pub loop-turn-preserved : goal.loop-turn-preserved
 loop-turn-preserved g c = record {
   reader_works = c.in-Ok.ensures.failed ∙ c.loop-turn.invariant.reader_works;
-  writer_works = false_unless _ (λ failed. ok_not_err (c.in_ok-take_piece.ensures.write.1 failed));
+  writer_works = c.in_ok-take_piece.ensures.failure;
   reads = one_more_read g.I.Input.are_reads _ _ _ _ c.loop-turn.invariant.reads c.read.ensures.one_read c.read.ensures.one_more;
   runs = runs_more c.loop-turn.invariant.runs _ _ _ _ _ c.in_ok-take_piece.ensures.ok.0 c.in-Ok.ensures.bytes.0 c.in_ok-take_piece.ensures.line c.in_ok-take_piece.ensures.ok.1 c.in_ok-take_piece.ensures.ok.2 (rw length-take (omega arith));
 }
