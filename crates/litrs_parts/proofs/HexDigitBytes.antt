@@ -41,24 +41,16 @@ pub digit_or_underscore : (l : List ℕ) → first_passes is_ascii_hexdigit l �
 digit_or_underscore [] h = h
 digit_or_underscore (c ∷ l) h = or_left _ _ h
 
--- the bytes up to one place, and up to another after underscores: no digit more, and the same number
-abbrev Same : List ℕ → ℕ → ℕ → Type 0
-Same t i j =
-    (list_all is_hex_or_underscore (take j t) ≡ true) × (count_by is_ascii_hexdigit (take j t) ≡ count_by is_ascii_hexdigit (take i t))
-    × (hex_value (take j t) ≡ hex_value (take i t))
-
-pub underscores_more : (t : List ℕ) (i n : ℕ) → i + n ≤ length t → ((k : ℕ) → k < n → get_or t (i + k) 0 ≡ 95) → list_all is_hex_or_underscore (take i t) ≡ true → Same t i (i + n)
-underscores_more t i zero long are all = let none : i ≡ i + 0 = omega arith in subst (Same t i) none (all, refl, refl)
-underscores_more t i (suc n) long are all =
-    let fewer = underscores_more t i n (omega arith) (λ k h. are k (omega arith)) all in
-    let last : get_or t (i + n) 0 ≡ 95 = are n (omega arith) in
-    let no_digit : cond {A = ℕ} (is_ascii_hexdigit (get_or t (i + n) 0)) 1 0 ≡ 0 = ap (λ c. cond {A = ℕ} (is_ascii_hexdigit c) 1 0) last in
-    let more = count_one is_ascii_hexdigit t (i + n) (omega arith) in
-    let one : i + n + 1 ≡ i + suc n = omega arith in
-    subst (Same t i) one (
-      all_more is_hex_or_underscore t (i + n) (omega arith) fewer.0 (ap is_hex_or_underscore last),
-      omega (arith, fewer.1),
-      numeral_underscore 16 t (i + n) (omega arith) last ∙ fewer.2,
+-- one underscore more: no digit more, and the same number
+pub underscore_more : (t : List ℕ) (i : ℕ) → i < length t → get_or t i 0 ≡ 95 → list_all is_hex_or_underscore (take i t) ≡ true →
+    (list_all is_hex_or_underscore (take (i + 1) t) ≡ true) × (count_by is_ascii_hexdigit (take (i + 1) t) ≡ count_by is_ascii_hexdigit (take i t))
+    × (hex_value (take (i + 1) t) ≡ hex_value (take i t))
+underscore_more t i inside is all =
+    let no_digit : cond {A = ℕ} (is_ascii_hexdigit (get_or t i 0)) 1 0 ≡ 0 = ap (λ c. cond {A = ℕ} (is_ascii_hexdigit c) 1 0) is in
+    let more = count_one is_ascii_hexdigit t i inside in (
+      all_more is_hex_or_underscore t i inside all (ap is_hex_or_underscore is),
+      omega arith,
+      numeral_underscore 16 t i inside is,
     )
 
 -- fewer than six digits leave room for one more

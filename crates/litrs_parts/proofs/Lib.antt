@@ -13,4 +13,3 @@ pub mod EscapeBytes
 pub mod HexEscapeBytes
 pub mod UnicodeEscapeBytes
 pub mod CharByteBytes
-pub mod Words

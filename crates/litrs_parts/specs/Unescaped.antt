@@ -55,16 +55,6 @@ pub record IsEscapeRefused (w : Switches) (t : List ℕ) (e : ParseError) : Type
   pub stays : IsTrue (is_final (kind_of e)) → (more : List ℕ) →
       escape_refusal w (t ++ more) ≡ Some (refusal_of e)
 
--- So many bytes at the front are hex digits and underscores, with so many digits, at most six, and
--- the digits have this value.
-pub record IsHexFront (bytes : List ℕ) (len digits number : ℕ) : Type 0 where
-  pub within : len ≤ length bytes
-  pub passes : IsTrue (list_all is_hex_or_underscore (take len bytes))
-  pub count : count_by is_ascii_hexdigit (take len bytes) ≡ digits
-  pub few : digits ≤ 6
-  pub value : hex_value (take len bytes) ≡ number
-  pub small : number < 16 ^ digits
-
 -- The hex digits and underscores at the front of the bytes: so many bytes, with this value. They go
 -- on to the first byte that is neither, or to the seventh digit.
 pub record IsHexDigits (bytes : List ℕ) (digits : HexDigits) : Type 0 where

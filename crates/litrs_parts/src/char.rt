@@ -14,7 +14,6 @@ ghost use Rattle.litrs_parts.specs.CharCut.{char_parts_at, kind_if, IsItemRead, 
 use crate::escape::unescape;
 use crate::parse::{check_suffix, split_first_char};
 use litrs_base::{ParseError, ParseErrorKind, Unescape};
-use litrs_search::has_byte;
 use memchr::memchr;
 
 /// Cuts a char, a text that begins with `'`: its value, and the place in bytes where its suffix
@@ -158,10 +157,6 @@ fn check_closing(rest: &str, len: usize, is_byte: bool) -> Result<usize, ParseEr
     ensures char_span { IfErr result (HasCharSpan (chars rest.now)) }
 {
     let after = &rest[len..];
-    // Asked first, as mostly nothing follows the quote.
-    if is_quote(after.as_bytes()) {
-        return Ok(len + 1);
-    }
     if !begins_with_quote(after.as_bytes()) {
         let kind = if has_quote(after.as_bytes()) {
             overlong_kind(is_byte)
@@ -183,15 +178,6 @@ fn is_special_whitespace(byte: u8) -> bool
     matches!(byte, b'\n' | b'\t' | b'\r')
 }
 
-/// Whether `'` is all there is.
-#[inline(always)]
-fn is_quote(bytes: &[u8]) -> bool
-    ensures quote { IsTrue result → bytes.now ≡ single_quote ∷ [] }
-    ensures other { IsFalse result → bytes.now ≢ single_quote ∷ [] }
-{
-    matches!(bytes, [b'\''])
-}
-
 /// Whether `'` stands first.
 fn begins_with_quote(bytes: &[u8]) -> bool
     ensures { result ≡ first_passes (λ c. c == single_quote) bytes.now }
@@ -200,31 +186,13 @@ fn begins_with_quote(bytes: &[u8]) -> bool
 }
 
 /// Whether `'` is among the bytes.
-fn has_quote(bytes: &[u8]) -> bool
-    ensures { result ≡ list_any (λ c. c == single_quote) bytes.now }
-{
-    match bytes {
-        [] => false,
-        // A literal that is too long mostly ends with its quote.
-        [.., b'\''] => true,
-        _ => finds_quote(bytes),
-    }
-}
-
-/// [`has_quote`] by a search. `memchr` is fast where the bytes are very many.
 ///
 /// A call, so that the cut of a char stays small.
 #[inline(never)]
-fn finds_quote(bytes: &[u8]) -> bool
+fn has_quote(bytes: &[u8]) -> bool
     ensures { result ≡ list_any (λ c. c == single_quote) bytes.now }
 {
-    if bytes.len() < 8 {
-        bytes.iter().any(|b| *b == b'\'')
-    } else if bytes.len() < 128 {
-        has_byte(bytes, b'\'')
-    } else {
-        memchr(b'\'', bytes).is_some()
-    }
+    memchr(b'\'', bytes).is_some()
 }
 
 /// The refusal of a literal that is not closed.

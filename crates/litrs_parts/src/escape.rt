@@ -7,7 +7,7 @@ ghost use Rattle.std.specs.Str.{chars};
 ghost use Rattle.litrs_base.specs.Characters.{backslash, letter_x, letter_u, underscore, open_brace, close_brace, is_ascii, is_no_nul_unless};
 ghost use Rattle.litrs_base.specs.Text.{first_passes, is_empty, begins_with};
 ghost use Rattle.litrs_grammar.specs.Escape.{is_simple, simple_value, pair_value};
-ghost use Rattle.litrs_parts.specs.Unescaped.{switches, grammar_switches, IsUnescaped, IsEscapeRefused, IsHexFront, IsHexDigits};
+ghost use Rattle.litrs_parts.specs.Unescaped.{switches, grammar_switches, IsUnescaped, IsEscapeRefused, IsHexDigits};
 
 use crate::parse::hex_digit_value;
 use litrs_base::{ParseError, ParseErrorKind, Unescape};
@@ -273,36 +273,9 @@ pub struct HexDigits {
 pub fn hex_digits(bytes: &[u8]) -> HexDigits
     ensures { IsHexDigits bytes.now result }
 {
+    let mut len = 0;
     let mut count: usize = 0;
     let mut value = 0;
-    for (len, byte) in bytes.iter().enumerate() {
-        if *byte == b'_' {
-            return later_hex_digits(bytes, len, count, value);
-        }
-        match hex_digit_value(*byte) {
-            Some(digit) if count < 6 => {
-                count += 1;
-                value = 16 * value + u32::from(digit);
-            }
-            _ => return HexDigits { len, value },
-        }
-    }
-    HexDigits {
-        len: bytes.len(),
-        value,
-    }
-}
-
-/// [`hex_digits`] from a place on before which `count` digits with this value stand. It is a call,
-/// so that digits without an underscore, which are most, take no test for eight of them.
-#[inline(never)]
-fn later_hex_digits(bytes: &[u8], from: usize, count: usize, value: u32) -> HexDigits
-    requires { IsHexFront bytes.now from count value }
-    ensures { IsHexDigits bytes.now result }
-{
-    let mut len = from;
-    let mut count = count;
-    let mut value = value;
     while len < bytes.len() {
         let byte = bytes[len];
         match hex_digit_value(byte) {
@@ -311,35 +284,11 @@ fn later_hex_digits(bytes: &[u8], from: usize, count: usize, value: u32) -> HexD
                 value = 16 * value + u32::from(digit);
                 len += 1;
             }
-            None if byte == b'_' => len += underscores_len(&bytes[len..]),
+            None if byte == b'_' => len += 1,
             _ => break,
         }
     }
     HexDigits { len, value }
-}
-
-/// Eight underscores as one number.
-const EIGHT_UNDERSCORES: u64 = 0x5f5f_5f5f_5f5f_5f5f;
-
-/// How many underscores of those that stand first are read in one step, where one stands first:
-/// eight, or one.
-#[inline(always)]
-fn underscores_len(bytes: &[u8]) -> usize
-    requires { IsTrue (first_passes (λ c. c == underscore) bytes.now) }
-    ensures some { 0 < result }
-    ensures within { result ≤ length bytes.now }
-    ensures all { (k : ℕ) → k < result → slice_index bytes.now k ≡ underscore }
-{
-    if bytes.len() < 8 {
-        return 1;
-    }
-    let mut eight = [0; 8];
-    eight.copy_from_slice(&bytes[..8]);
-    if u64::from_le_bytes(eight) == EIGHT_UNDERSCORES {
-        8
-    } else {
-        1
-    }
 }
 
 /// The escape of a text that begins with `\u{`, hex digits and `}`.

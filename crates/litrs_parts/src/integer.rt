@@ -147,80 +147,28 @@ fn base_of(bytes: &[u8]) -> IntegerBase
     }
 }
 
-/// What the letter after a `0` indicates, from `b` to `x`.
-static BASES: [IntegerBase; 23] = [
-    Binary,
-    Decimal,
-    Decimal,
-    Decimal,
-    Decimal,
-    Decimal,
-    Decimal,
-    Decimal,
-    Decimal,
-    Decimal,
-    Decimal,
-    Decimal,
-    Decimal,
-    Octal,
-    Decimal,
-    Decimal,
-    Decimal,
-    Decimal,
-    Decimal,
-    Decimal,
-    Decimal,
-    Decimal,
-    Hexadecimal,
-];
-
-/// [`base_of`] a text that begins with `0` and this byte. The table makes it one test for all
-/// bases: with a `match` on three letters, refused texts that mix bases took a fifth longer.
+/// [`base_of`] a text that begins with `0` and this byte.
 fn base_of_letter(letter: u8) -> IntegerBase
     ensures { result ≡ base_of (digit_zero ∷ letter ∷ []) }
 {
     match letter {
-        b'b'..=b'x' => BASES[(letter - b'b') as usize],
+        b'b' => Binary,
+        b'o' => Octal,
+        b'x' => Hexadecimal,
         _ => Decimal,
     }
 }
 
-/// How many digits of this base and underscores stand at the front, in bytes.
-#[inline(always)]
+/// How many digits of this base and underscores stand at the front, in bytes: by a search for each
+/// base, which compares them with constants.
+#[inline(never)]
 fn digits_len(base: IntegerBase, bytes: &[u8]) -> usize
-    ensures { result ≡ prefix_len (is_digit_or_underscore base) bytes.now }
-{
-    match base {
-        IntegerBase::Decimal => end_dec_digits(bytes),
-        _ => end_digits(base, bytes),
-    }
-}
-
-/// [`digits_len`] of any base. It is not inlined, so that the search stands once; ten has that of
-/// [`end_dec_digits`].
-///
-/// One search serves all bases where there are few bytes: with one for each, refused texts that mix
-/// bases took a sixth longer, and octal numbers alone a fifth less.
-#[inline(never)]
-fn end_digits(base: IntegerBase, bytes: &[u8]) -> usize
-    ensures { result ≡ prefix_len (is_digit_or_underscore base) bytes.now }
-{
-    if bytes.len() >= 16 {
-        return end_many_digits(base, bytes);
-    }
-    run_end(bytes, Run::Digits(base))
-}
-
-/// [`end_digits`] of many bytes, by a search of its own for each base, which compares them with
-/// constants.
-#[inline(never)]
-fn end_many_digits(base: IntegerBase, bytes: &[u8]) -> usize
     ensures { result ≡ prefix_len (is_digit_or_underscore base) bytes.now }
 {
     match base {
         IntegerBase::Binary => run_end(bytes, Run::Digits(IntegerBase::Binary)),
         IntegerBase::Octal => run_end(bytes, Run::Digits(IntegerBase::Octal)),
-        IntegerBase::Decimal => run_end(bytes, Run::Digits(IntegerBase::Decimal)),
+        IntegerBase::Decimal => end_dec_digits(bytes),
         IntegerBase::Hexadecimal => run_end(bytes, Run::Digits(IntegerBase::Hexadecimal)),
     }
 }

@@ -5,11 +5,10 @@ use Rattle.litrs_search.specs.declared.search.Target.TheVariants as target
 use Rattle.litrs_search.specs.Special.{is_special}
 use Rattle.litrs_search.specs.Run.{is_in_run}
 
--- a special byte, or one outside a run, or this byte
+-- a special byte, or one outside a run
 abbrev pub is_target : Target → ℕ → Bool
 is_target (target.Special what) b = is_special what b
 is_target (target.Outside run) b = not (is_in_run run b)
-is_target (target.Byte wanted) b = b == wanted
 
 abbrev pub is_passed : Target → ℕ → Bool
 is_passed target b = not (is_target target b)

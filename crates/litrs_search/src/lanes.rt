@@ -203,13 +203,3 @@ pub(crate) fn outside_marks<const N: usize>(bytes: &[u8], at: usize, run: Run) -
         & v.simd_ne(Simd::splat(second))
         & v.simd_ne(Simd::splat(third))).to_bitmask()
 }
-
-/// The bytes that are this one among the N from `at` on, in the same way.
-#[inline(always)]
-pub(crate) fn byte_marks<const N: usize>(bytes: &[u8], at: usize, wanted: u8) -> u64
-    requires { (at + N ≤ length bytes.now) × (N ≤ 64) }
-    ensures { result ≡ mask_l (map (λ b. b == wanted) (chunk at N bytes.now)) }
-{
-    let v = Simd::<u8, N>::from_slice(&bytes[at..]);
-    v.simd_eq(Simd::splat(wanted)).to_bitmask()
-}

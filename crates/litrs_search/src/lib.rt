@@ -4,7 +4,7 @@
 
 pub use closing::next_closing;
 pub use marked::{Marked, next_marked, next_special};
-pub use search::{Run, Special, has_byte, run_end};
+pub use search::{Run, Special, run_end};
 
 pub mod closing;
 mod lanes;

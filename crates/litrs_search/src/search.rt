@@ -1,13 +1,13 @@
-//! The search for the end of a run, and for one byte.
+//! The search for the end of a run.
 ghost use Rattle.std.specs.Prelude.{◌≡◌, ◌==◌, ◌+◌, ◌≤◌, ◌<◌, length, drop, map, if◌then◌else◌};
-ghost use Rattle.std.specs.List.{prefix_len, list_any};
+ghost use Rattle.std.specs.List.{prefix_len};
 ghost use Rattle.std.specs.Int.{w64, trailing_zeros};
 ghost use Rattle.std.specs.Simd.Lanes.{mask_l, chunk};
 ghost use Rattle.litrs_search.specs.Special.{is_special};
 ghost use Rattle.litrs_search.specs.Run.{classes, is_in_run};
 ghost use Rattle.litrs_search.specs.Target.{is_target, is_passed};
 
-use crate::lanes::{byte_marks, outside_marks, special_marks};
+use crate::lanes::{outside_marks, special_marks};
 use litrs_base::IntegerBase;
 
 /// Which bytes are special beside `"` and CR, which always are.
@@ -41,8 +41,6 @@ pub(crate) enum Target {
     Special(Special),
     /// Those outside of the run.
     Outside(Run),
-    /// This byte.
-    Byte(u8),
 }
 
 #[inline(always)]
@@ -114,7 +112,6 @@ fn is_target(byte: u8, target: Target) -> bool
     match target {
         Target::Special(what) => is_special(byte, what),
         Target::Outside(run) => !is_in_run(byte, run),
-        Target::Byte(wanted) => byte == wanted,
     }
 }
 
@@ -141,7 +138,6 @@ fn marks<const N: usize>(bytes: &[u8], at: usize, target: Target) -> u64
     match target {
         Target::Special(what) => special_marks::<N>(bytes, at, what),
         Target::Outside(run) => outside_marks::<N>(bytes, at, run),
-        Target::Byte(wanted) => byte_marks::<N>(bytes, at, wanted),
     }
 }
 
@@ -214,19 +210,4 @@ pub fn run_end(bytes: &[u8], run: Run) -> usize
     ensures within { result ≤ length bytes.now }
 {
     next_target(bytes, 0, Target::Outside(run))
-}
-
-/// Whether the byte is among the bytes.
-///
-/// ```
-/// assert!(rt; has_byte(b"ab'", b'\''));
-/// assert!(rt; !has_byte(b"ab\"", b'\''));
-/// ```
-///
-/// The Rust Reference, Tokens, Character literals: the quote that closes a char.
-#[inline(always)]
-pub fn has_byte(bytes: &[u8], wanted: u8) -> bool
-    ensures { result ≡ list_any (λ b. b == wanted) bytes.now }
-{
-    next_target(bytes, 0, Target::Byte(wanted)) < bytes.len()
 }

@@ -21,7 +21,7 @@ returns-then-not-begins_with_quote-clause-table c =
       | then-has_quote w ↦
           overlong_row (kind_if c.args.is_byte) c.args.len c.range_from-after.result.now c.range_from-after.utf8
           (ap (list_any (λ n. n == 39)) (sym c.as_bytes-then-not-begins_with_quote.ensures.value) ∙ sym w.if-has_quote.ensures)
-          (ap (first_passes (λ n. n == 39)) (sym c.as_bytes-2.ensures.value) ∙ sym c.if-not-begins_with_quote.ensures)
+          (ap (first_passes (λ n. n == 39)) (sym c.as_bytes.ensures.value) ∙ sym c.if-not-begins_with_quote.ensures)
           ∙ ap Some (ap plain (sym w.overlong_kind-kind.ensures ∙ sym w.kind-is) ∙ sym c.new.ensures.refusal)
       | else-has_quote w ↦
           unterminated_row (kind_if c.args.is_byte) c.args.len c.range_from-after.result.now c.range_from-after.utf8
@@ -31,7 +31,7 @@ returns-then-not-begins_with_quote-clause-table c =
 
 pub range_from-requires : goal.range_from-requires
 range_from-requires c = λ _.
-    let is = quote_begins c.range_from-after.result.now (ap (first_passes (λ n. n == 39)) (sym c.as_bytes-2.ensures.value) ∙ sym c.if-not-begins_with_quote.ensures) in
+    let is = quote_begins c.range_from-after.result.now (ap (first_passes (λ n. n == 39)) (sym c.as_bytes.ensures.value) ∙ sym c.if-not-begins_with_quote.ensures) in
     let some = ap length is in
     let first = ap (λ l. get_or l 0 0) is in
     IsCharBoundary-after_ascii c.range_from-after.result.now 0 c.range_from-after.utf8 (omega arith) (omega arith)
@@ -40,7 +40,7 @@ pub returns-in-Ok-clause-ok : goal.returns-in-Ok-clause-ok
 returns-in-Ok-clause-ok c = (
   ap (λ l. closing_refusal (kind_if c.args.is_byte) c.args.len (chars l)) (sym c.range_from-after.ensures.value)
       ∙ closed_row (kind_if c.args.is_byte) c.args.len c.range_from-after.result.now
-      (ap (first_passes (λ n. n == 39)) (sym c.as_bytes-2.ensures.value) ∙ sym c.if-not-begins_with_quote.ensures)
+      (ap (first_passes (λ n. n == 39)) (sym c.as_bytes.ensures.value) ∙ sym c.if-not-begins_with_quote.ensures)
       (ap (λ l. is_suffix (chars l)) (sym c.range_from.ensures.value) ∙ sym c.in-Ok.ensures.ok),
   refl,
 )
@@ -49,16 +49,7 @@ pub returns-in-Err-clause-table : goal.returns-in-Err-clause-table
 returns-in-Err-clause-table c =
     ap (λ l. closing_refusal (kind_if c.args.is_byte) c.args.len (chars l)) (sym c.range_from-after.ensures.value)
     ∙ (suffix_row (kind_if c.args.is_byte) c.args.len c.range_from-after.result.now
-    (ap (first_passes (λ n. n == 39)) (sym c.as_bytes-2.ensures.value) ∙ sym c.if-not-begins_with_quote.ensures)
+    (ap (first_passes (λ n. n == 39)) (sym c.as_bytes.ensures.value) ∙ sym c.if-not-begins_with_quote.ensures)
     (ap (λ l. is_suffix (chars l)) (sym c.range_from.ensures.value) ∙ sym c.in-Err.ensures.ok)
     ∙ (ap (λ l. Some (at (c.args.len + 1) (suffix_refusal (chars l)))) (sym c.range_from.ensures.value)
     ∙ (ap (λ k. Some (at (c.args.len + 1) k)) (sym c.in-Err.ensures.err) ∙ (let two : c.args.len + 1 + 1 ≡ c.args.len + 2 = omega arith in ap Some (ap (λ n. over (c.args.len + 1) n c.in-Err.kind) two ∙ sym c.in_text.ensures.refusal)))))
-
-pub returns-then-is_quote-clause-ok : goal.returns-then-is_quote-clause-ok
-returns-then-is_quote-clause-ok c =
-    let quote = sym c.as_bytes.ensures.value ∙ c.is_quote.ensures.quote c.if-is_quote.true in (
-      ap (λ l. closing_refusal (kind_if c.args.is_byte) c.args.len (chars l)) (sym c.range_from-after.ensures.value)
-          ∙ closed_row (kind_if c.args.is_byte) c.args.len c.range_from-after.result.now (ap (first_passes (λ n. n == 39)) quote)
-          (ap (λ l. is_suffix (chars (drop 1 l))) quote ∙ (ap is_suffix chars-nil ∙ is_suffix-nil)),
-      refl,
-    )
