@@ -1,6 +1,6 @@
 -- The reports on the groups that end with lines: each list of lines has them, and how they go on from line to line.
 use Rattle.std.proofs.Common.{◌≡◌, ◌∙◌, true, inl, inr, ℕ, List, [], ◌∷◌, ◌++◌, refl, sym, ap, subst, append_assoc, append-nil}
-use Rattle.std.specs.Prelude.{map, codes, Option, Result, Ok, Err, OnOk, is_ok, if◌then◌else◌}
+use Rattle.std.specs.Prelude.{map, codes, Option, Result, Ok, Err, OnOk, is_ok, if◌then◌else◌, string_bytes}
 use Rattle.std.specs.Str.{chars, IsUtf8}
 use Rattle.litrs_base.specs.declared.err.ParseError.{ParseError}
 use Rattle.std.proofs.lemmas.Bool.{false≢true}
@@ -14,6 +14,7 @@ use Rattle.litrs_collector.specs.declared.Step.TheVariants.{More, Literal, Refus
 use Rattle.litrs_collector.specs.Held.{IsRefusalOfHeld}
 use Rattle.litrs_collector.specs.Steps.{IsStep, held_after}
 use Rattle.litrs_lines.specs.declared.RunError.{RunError}
+use Rattle.litrs_lines.specs.declared.group.Reporter.{Reporter}
 use Rattle.litrs_lines.specs.Groups.{joined, IsNoText, IsFinished}
 use Rattle.litrs_lines.specs.Report.{literal_report, refusal_report, IsTextReport}
 use Rattle.litrs_lines.specs.Reports.{AreReports, AreGroupReports}
@@ -188,10 +189,10 @@ pub record Steps (held line left : List ℕ) (step : Step) : Type 0 where
   pub is : IsStep (held ++ line) step
   pub after : left ≡ held_after (held ++ line) step
 
-pub step_reported : (result : Result (Unit {0}) RunError) (held line left : List ℕ) (step : Step) (a b : Option (List ℕ)) (old new : List ℕ) → Steps held line left step →
-    AddsBytes result (step_bytes step) a old b new → ReportsLines result held (line ∷ []) left a old b new
-step_reported (Ok _) held line left step a b old new s sends = (step_bytes step, step_reports held line left step s.text s.whole s.is s.after, sends)
-step_reported (Err _) held line left step a b old new s part = (left, (step_bytes step, step_reports held line left step s.text s.whole s.is s.after, part))
+pub step_reported : (result : Result (Unit {0}) RunError) (old new : Reporter) (line : List ℕ) (step : Step) (a b : Option (List ℕ)) → Steps old.collector line new.collector step →
+    AddsBytes result (step_bytes step) a (string_bytes old.unwritten) b (string_bytes new.unwritten) → ReportsLines result old (line ∷ []) new a b
+step_reported (Ok _) old new line step a b s sends = (step_bytes step, step_reports old.collector line new.collector step s.text s.whole s.is s.after, sends)
+step_reported (Err _) old new line step a b s part = (new.collector, (step_bytes step, step_reports old.collector line new.collector step s.text s.whole s.is s.after, part))
 
 -- ---- a line by itself, whose literal or refusal is known
 
@@ -207,12 +208,13 @@ pub record Finishes (held line r : List ℕ) : Type 0 where
   pub finished : IsFinished line
   pub report : IsTextReport (chars line) r
 
-pub first_reported : (result : Result (Unit {0}) RunError) (held line : List ℕ) (a b : Option (List ℕ)) (old new r : List ℕ) → Finishes held line r →
-    AddsBytes result (r ++ 10 ∷ []) a old b new → ReportsLines result held (line ∷ []) held a old b new
-first_reported (Ok _) held line a b old new r is sends =
-    subst (λ (h : List ℕ). Adds h (line ∷ []) h a old b new) (sym is.nothing) (r ++ 10 ∷ [], group_ends line r is.text is.finished is.report, sends)
-first_reported (Err _) held line a b old new r is part =
-    subst (λ (h : List ℕ). Stops h (line ∷ []) a old b) (sym is.nothing) ([], (r ++ 10 ∷ [], group_ends line r is.text is.finished is.report, part))
+pub first_reported : (result : Result (Unit {0}) RunError) (old new : Reporter) (line : List ℕ) (a b : Option (List ℕ)) (r : List ℕ) → new.collector ≡ old.collector → Finishes old.collector line r →
+    AddsBytes result (r ++ 10 ∷ []) a (string_bytes old.unwritten) b (string_bytes new.unwritten) → ReportsLines result old (line ∷ []) new a b
+first_reported (Ok _) old new line a b r kept is sends =
+    subst (λ (h : List ℕ). Adds old.collector (line ∷ []) h a (string_bytes old.unwritten) b (string_bytes new.unwritten)) (sym kept)
+    (subst (λ (h : List ℕ). Adds h (line ∷ []) h a (string_bytes old.unwritten) b (string_bytes new.unwritten)) (sym is.nothing) (r ++ 10 ∷ [], group_ends line r is.text is.finished is.report, sends))
+first_reported (Err _) old new line a b r kept is part =
+    subst (λ (h : List ℕ). Stops h (line ∷ []) a (string_bytes old.unwritten) b) (sym is.nothing) ([], (r ++ 10 ∷ [], group_ends line r is.text is.finished is.report, part))
 
 pub literal_finishes : (held line : List ℕ) (d : Derivation) → held ≡ [] → IsUtf8 line → IsLiteral (chars line) d → Finishes held line (literal_report d)
 literal_finishes held line d none text is = record {

@@ -63,16 +63,29 @@ pub stops_now : (a b : Option (List ℕ)) (p q x : List ℕ) → Sends a p b q x
 stops_now a b p q x one =
     stops_later a b b p q x [] [] _ one (writes_nothing b (q ++ [])) (ap (λ l. p ++ l) (sym (append-nil x)))
 
--- where nothing was unwritten before, and then all that is unwritten is written
+-- all that is unwritten is written
+pub sends_all : (a b c : Option (List ℕ)) (p q s x : List ℕ) → Sends a p b q x → Appends b c q → s ≡ [] → Sends a p c s x
+sends_all a b c p q s x one writes none =
+    subst (λ l. Sends a p c l x) (sym none) (subst (Sends a p c []) (append-nil x) (sends_more a b c p q [] x [] one (writes_all b c q writes)))
+
+-- or a prefix of it
+pub writes_some : (a b c : Option (List ℕ)) (p q x : List ℕ) → Sends a p b q x → AppendsBeginning b c q → AppendsBeginning a c (p ++ x)
+writes_some a b c p q x one part =
+    stops_later a b c p q x [] [] _ one (subst (AppendsBeginning b c) (sym (append-nil q)) part) (ap (λ l. p ++ l) (sym (append-nil x)))
+
+-- where nothing was unwritten before, and nothing is then
+pub writes_these : (a b : Option (List ℕ)) (p q x : List ℕ) → Sends a p b q x → p ≡ [] → q ≡ [] → Appends a b x
+writes_these a b p q x one first last =
+    subst (Appends a b) (sym (append-nil one.written) ∙ ap (λ l. one.written ++ l) (sym last) ∙ one.spells ∙ ap (λ l. l ++ x) first) one.appends
+
+-- or all that is unwritten is then written
 pub writes_rest : (a b c : Option (List ℕ)) (p q x : List ℕ) → Sends a p b q x → p ≡ [] → Appends b c q → Appends a c x
-writes_rest a b c p q x one none writes =
-    subst (Appends a c) (one.spells ∙ ap (λ l. l ++ x) none) (Appends-trans a b c one.written q one.appends writes)
+writes_rest a b c p q x one none writes = writes_these a c p [] x (sends_all a b c p q [] x one writes refl) none refl
 
 -- or a prefix of it
 pub writes_some_rest : (a b c : Option (List ℕ)) (p q x : List ℕ) → Sends a p b q x → p ≡ [] → AppendsBeginning b c q → AppendsBeginning a c x
 writes_some_rest a b c p q x one none part =
-    stops_later a b c p q x [] [] x one (subst (AppendsBeginning b c) (sym (append-nil q)) part)
-    (sym (append-nil x) ∙ ap (λ l. l ++ (x ++ [])) (sym none))
+    subst (AppendsBeginning a c) (ap (λ l. l ++ x) none) (writes_some a b c p q x one part)
 
 -- or all of it
 pub writes_whole : (a c : Option (List ℕ)) (x : List ℕ) → Appends a c x → AppendsBeginning a c x

@@ -1,9 +1,10 @@
 -- What a step of a run leaves: reports that are not yet written, and an output.
-use Rattle.std.specs.Prelude.{◌≡◌, ℕ, Bool, true, false, List, ◌++◌, Option, Result, Ok, Err}
+use Rattle.std.specs.Prelude.{◌≡◌, ℕ, Bool, true, false, List, ◌++◌, Option, Result, Ok, Err, string_bytes}
 use Rattle.std.specs.Io.KnownBytes.{Appends}
 use Rattle.litrs_lines.specs.declared.RunError.{RunError}
+use Rattle.litrs_lines.specs.declared.group.Reporter.{Reporter}
 use Rattle.litrs_lines.specs.declared.RunError.TheVariants.{Read, Write, Memory}
-use Rattle.litrs_lines.specs.Ended.{AreEndedReports}
+use Rattle.litrs_lines.specs.Ended.{AreEndedReports, AreLastReports}
 use Rattle.litrs_lines.specs.Stopped.{AppendsBeginning}
 
 -- A step answers `Write` if and only if the output has failed, and then by a failed write. It never
@@ -42,11 +43,24 @@ abbrev pub StopsReports : (Are : List ℕ → Type 0) (old : Option (List ℕ))
 StopsReports Are old unwritten_old new =
     (out : List ℕ) × Are out × AppendsBeginning old new (unwritten_old ++ out)
 
--- A step over these lines adds the reports on the groups that end with them.
-abbrev pub ReportsLines : (result : Result (Unit {0}) RunError) (held_old : List ℕ)
-    (lines : List (List ℕ)) (held_new : List ℕ) (old : Option (List ℕ)) (unwritten_old : List ℕ)
-    (new : Option (List ℕ)) (unwritten_new : List ℕ) → Type 0
-ReportsLines (Ok _) held_old lines held_new old unwritten_old new unwritten_new =
-    SendsReports (AreEndedReports held_old lines held_new) old unwritten_old new unwritten_new
-ReportsLines (Err _) held_old lines held_new old unwritten_old new unwritten_new =
-    (left : List ℕ) × StopsReports (AreEndedReports held_old lines left) old unwritten_old new
+-- A step over these lines adds the reports on the groups that end with them: on `Ok` they were
+-- added, and on an error a prefix of what was not yet written and of them was written.
+abbrev pub ReportsLines : (result : Result (Unit {0}) RunError) (old : Reporter)
+    (lines : List (List ℕ)) (new : Reporter) (contents_old contents_new : Option (List ℕ)) → Type 0
+ReportsLines (Ok _) old lines new contents_old contents_new =
+    SendsReports (AreEndedReports old.collector lines new.collector)
+    contents_old (string_bytes old.unwritten) contents_new (string_bytes new.unwritten)
+ReportsLines (Err _) old lines new contents_old contents_new =
+    (left : List ℕ) × StopsReports (AreEndedReports old.collector lines left)
+    contents_old (string_bytes old.unwritten) contents_new
+
+-- The same where no line follows: the reports on lines that are held after them are among those
+-- that it adds.
+abbrev pub ReportsLastLines : (result : Result (Unit {0}) RunError) (old : Reporter)
+    (lines : List (List ℕ)) (new : Reporter) (contents_old contents_new : Option (List ℕ)) → Type 0
+ReportsLastLines (Ok _) old lines new contents_old contents_new =
+    SendsReports (AreLastReports old.collector lines)
+    contents_old (string_bytes old.unwritten) contents_new (string_bytes new.unwritten)
+ReportsLastLines (Err _) old lines new contents_old contents_new =
+    StopsReports (AreLastReports old.collector lines)
+    contents_old (string_bytes old.unwritten) contents_new

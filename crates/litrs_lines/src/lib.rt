@@ -5,12 +5,12 @@ ghost use Rattle.std.specs.Prelude.{◌≡◌, ◌≢◌, ◌↔◌, ◌⊎◌, 
 ghost use Rattle.std.specs.Io.KnownBytes.{Appends, IsAtEnd};
 ghost use Rattle.litrs_lines.specs.Stopped.{AppendsBeginning, StopsWithin};
 ghost use Rattle.litrs_lines.specs.Lines.{is_line_feed, HasNoLineFeed, without_return, ended_lines, open_line, unless_empty, lines_of};
-ghost use Rattle.litrs_lines.specs.Ended.{AreEndedReports, AreLastReports};
+ghost use Rattle.litrs_lines.specs.Ended.{AreLastReports};
 ghost use Rattle.litrs_lines.specs.Reports.{AppendsReports};
-ghost use Rattle.litrs_lines.specs.Sent.{NamesFailure, SendsReports, StopsReports, ReportsLines};
+ghost use Rattle.litrs_lines.specs.Sent.{NamesFailure, ReportsLines, ReportsLastLines};
 
 pub use device::{Failed, Input, Output};
-use group::{report_held, take_line};
+use group::Reporter;
 pub use litrs_collector::{Collector, Step};
 pub use mem_input::MemInput;
 pub use mem_output::MemOutput;
@@ -91,36 +91,33 @@ fn without_return(line: &[u8]) -> &[u8]
     }
 }
 
-/// Takes the line that `end` ends, without one CR at its end, and goes on with an empty one.
+/// Processes the line that `end` ends, without one CR at its end, and goes on with an empty one.
 fn end_line<O: Output>(
     line: &mut Vec<u8>,
-    collector: &mut Collector,
-    reports: &mut String,
+    reporter: &mut Reporter,
     writer: &mut O,
     end: &[u8],
 ) -> Result<(), RunError>
     requires works { O.has_failed writer.old ≡ false }
     ensures line { OnOk result (line.new.items ≡ []) }
     ensures reports { ReportsLines result
-        collector.old (without_return (line.old.items ++ end.now) ∷ []) collector.new
-        (O.contents writer.old) (string_bytes reports.old)
-        (O.contents writer.new) (string_bytes reports.new) }
+        reporter.old (without_return (line.old.items ++ end.now) ∷ []) reporter.new
+        (O.contents writer.old) (O.contents writer.new) }
     ensures failure { NamesFailure result (O.has_failed writer.new) (O.write_failed writer.new) }
 {
     if line.is_empty() {
-        return take_line(collector, reports, writer, without_return(end));
+        return reporter.process_line(writer, without_return(end));
     }
     line.extend_from_slice(end)?;
-    take_line(collector, reports, writer, without_return(line))?;
+    reporter.process_line(writer, without_return(line))?;
     line.clear();
     Ok(())
 }
 
-/// Takes the lines that end in `piece`, and keeps the one that goes on.
+/// Processes the lines that end in `piece`, and keeps the one that goes on.
 fn gather<O: Output>(
     line: &mut Vec<u8>,
-    collector: &mut Collector,
-    reports: &mut String,
+    reporter: &mut Reporter,
     writer: &mut O,
     piece: &[u8],
 ) -> Result<(), RunError>
@@ -128,14 +125,13 @@ fn gather<O: Output>(
     requires works { O.has_failed writer.old ≡ false }
     ensures line { OnOk result (line.new.items ≡ open_line (line.old.items ++ piece.now)) }
     ensures reports { ReportsLines result
-        collector.old (ended_lines (line.old.items ++ piece.now)) collector.new
-        (O.contents writer.old) (string_bytes reports.old)
-        (O.contents writer.new) (string_bytes reports.new) }
+        reporter.old (ended_lines (line.old.items ++ piece.now)) reporter.new
+        (O.contents writer.old) (O.contents writer.new) }
     ensures failure { NamesFailure result (O.has_failed writer.new) (O.write_failed writer.new) }
 {
     let mut rest = piece;
     while let Some(end) = line_end(rest) {
-        end_line(line, collector, reports, writer, &rest[..end])?;
+        end_line(line, reporter, writer, &rest[..end])?;
         rest = &rest[end + 1..];
     }
     line.extend_from_slice(rest)?;
@@ -161,98 +157,82 @@ fn write_all<O: Output>(writer: &mut O, bytes: &[u8]) -> Result<(), RunError>
     Ok(())
 }
 
-/// Takes the next piece of the input: writes the reports on the groups that end in it.
-fn take_piece<O: Output>(
+/// Processes the next piece of the input: writes the reports on the groups that end in it.
+fn process_piece<O: Output>(
     line: &mut Vec<u8>,
-    collector: &mut Collector,
-    reports: &mut String,
-    piece: &[u8],
+    reporter: &mut Reporter,
     writer: &mut O,
+    piece: &[u8],
 ) -> Result<(), RunError>
     requires line { HasNoLineFeed line.old.items }
     requires works { O.has_failed writer.old ≡ false }
     ensures line { OnOk result (line.new.items ≡ open_line (line.old.items ++ piece.now)) }
-    ensures ok { OnOk result ((out : List ℕ)
-        × AreEndedReports collector.old
-        (ended_lines (line.old.items ++ piece.now)) collector.new out
-        × Appends (O.contents writer.old) (O.contents writer.new) out) }
-    ensures err { OnErr result ((left : List ℕ) × (out : List ℕ)
-        × AreEndedReports collector.old (ended_lines (line.old.items ++ piece.now)) left out
-        × AppendsBeginning (O.contents writer.old) (O.contents writer.new) out) }
+    ensures reports { ReportsLines result
+        reporter.old (ended_lines (line.old.items ++ piece.now)) reporter.new
+        (O.contents writer.old) (O.contents writer.new) }
+    ensures written { OnOk result (string_bytes reporter.new.unwritten ≡ []) }
     ensures failure { NamesFailure result (O.has_failed writer.new) (O.write_failed writer.new) }
 {
-    reports.clear();
-    gather(line, collector, reports, writer, piece)?;
-    write_all(writer, reports.as_bytes())
+    gather(line, reporter, writer, piece)?;
+    write_all(writer, reporter.unwritten.as_bytes())?;
+    reporter.unwritten.clear();
+    Ok(())
 }
 
-/// Takes a last line that has no end, where it is not empty.
-fn take_open_line<O: Output>(
+/// Processes a last line that has no end, where it is not empty.
+fn process_open_line<O: Output>(
     line: &[u8],
-    collector: &mut Collector,
-    reports: &mut String,
+    reporter: &mut Reporter,
     writer: &mut O,
 ) -> Result<(), RunError>
     requires works { O.has_failed writer.old ≡ false }
-    ensures reports { ReportsLines result collector.old (unless_empty line.now) collector.new
-        (O.contents writer.old) (string_bytes reports.old)
-        (O.contents writer.new) (string_bytes reports.new) }
+    ensures reports { ReportsLines result reporter.old (unless_empty line.now) reporter.new
+        (O.contents writer.old) (O.contents writer.new) }
     ensures failure { NamesFailure result (O.has_failed writer.new) (O.write_failed writer.new) }
 {
     if line.is_empty() {
         return Ok(());
     }
-    take_line(collector, reports, writer, line)
+    reporter.process_line(writer, line)
 }
 
 /// Reports on a last line that has no end, where it is not empty, and on the lines that are then
 /// held.
 fn report_last<O: Output>(
     line: &[u8],
-    collector: &mut Collector,
-    reports: &mut String,
+    reporter: &mut Reporter,
     writer: &mut O,
 ) -> Result<(), RunError>
     requires works { O.has_failed writer.old ≡ false }
-    ensures ok { OnOk result (SendsReports
-        (AreLastReports collector.old (unless_empty line.now))
-        (O.contents writer.old) (string_bytes reports.old)
-        (O.contents writer.new) (string_bytes reports.new)) }
-    ensures err { OnErr result (StopsReports
-        (AreLastReports collector.old (unless_empty line.now))
-        (O.contents writer.old) (string_bytes reports.old) (O.contents writer.new)) }
+    ensures reports { ReportsLastLines result reporter.old (unless_empty line.now) reporter.new
+        (O.contents writer.old) (O.contents writer.new) }
     ensures failure { NamesFailure result (O.has_failed writer.new) (O.write_failed writer.new) }
 {
-    take_open_line(line, collector, reports, writer)?;
-    report_held(collector, reports)?;
+    process_open_line(line, reporter, writer)?;
+    reporter.report_held()?;
     Ok(())
 }
 
-/// Takes the end of the input: writes the reports on a last line that has no end and on the lines
-/// that are held, and flushes.
-fn finish<O: Output>(
-    line: &[u8],
-    collector: &mut Collector,
-    reports: &mut String,
-    writer: &mut O,
-) -> Result<(), RunError>
-    requires { O.has_failed writer.old ≡ false }
+/// Processes the end of the input: writes the reports on a last line that has no end and on the
+/// lines that are held, and flushes.
+fn finish<O: Output>(line: &[u8], reporter: &mut Reporter, writer: &mut O) -> Result<(), RunError>
+    requires none { string_bytes reporter.old.unwritten ≡ [] }
+    requires works { O.has_failed writer.old ≡ false }
     ensures ok { OnOk result ((out : List ℕ)
-        × AreLastReports collector.old (unless_empty line.now) out
+        × AreLastReports reporter.old.collector (unless_empty line.now) out
         × Appends (O.contents writer.old) (O.contents writer.new) out) }
     ensures flushed { OnOk result (O.is_flushed writer.new ≡ true) }
     ensures err { OnErr result ((out : List ℕ)
-        × AreLastReports collector.old (unless_empty line.now) out
+        × AreLastReports reporter.old.collector (unless_empty line.now) out
         × AppendsBeginning (O.contents writer.old) (O.contents writer.new) out) }
     ensures read { result ≢ Err RunError.Read }
     ensures write { IsErrOf result RunError.Write ↔ (O.has_failed writer.new ≡ true) }
     ensures flush { IsErrOf result RunError.Write → O.write_failed writer.new ≡ false →
-        (out : List ℕ) × AreLastReports collector.old (unless_empty line.now) out
+        (out : List ℕ) × AreLastReports reporter.old.collector (unless_empty line.now) out
         × Appends (O.contents writer.old) (O.contents writer.new) out }
 {
-    reports.clear();
-    report_last(line, collector, reports, writer)?;
-    write_all(writer, reports.as_bytes())?;
+    report_last(line, reporter, writer)?;
+    write_all(writer, reporter.unwritten.as_bytes())?;
     match writer.flush() {
         Ok(()) => Ok(()),
         Err(Failed) => Err(RunError::Write),
@@ -311,19 +291,16 @@ pub fn run<I: Input, O: Output>(
 {
     let mut buffer = [0; BUFFER_LEN];
     let mut line = Vec::new(alloc);
-    let mut collector = Collector::new(alloc);
-    let mut reports = String::new(alloc);
+    let mut reporter = Reporter::new(alloc);
     for _turn in 0..u64::MAX {
         let count = match reader.read(&mut buffer) {
             Ok(count) => count,
             Err(Failed) => return Err(RunError::Read),
         };
         if count == 0 {
-            let open_line = line.as_slice();
-            return finish(open_line, &mut collector, &mut reports, writer);
+            return finish(line.as_slice(), &mut reporter, writer);
         }
-        let piece = &buffer[..count];
-        take_piece(&mut line, &mut collector, &mut reports, piece, writer)?;
+        process_piece(&mut line, &mut reporter, writer, &buffer[..count])?;
     }
     Err(RunError::Read)
 }

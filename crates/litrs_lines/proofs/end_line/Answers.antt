@@ -18,25 +18,25 @@ ended line end whole none is = is ∙ ap (λ (xs : List ℕ). without_return (xs
 pub returns-then-is_empty-clause-reports : goal.returns-then-is_empty-clause-reports
 returns-then-is_empty-clause-reports g c =
     let none : length c.args.line.now.items ≡ 0 = grind (arith, nat_tests) in
-    subst (λ (l : List ℕ). ReportsLines c.take_line.result c.args.collector.now (l ∷ []) c.take_line.new.collector (g.O.Output.contents c.args.writer.now) (string_bytes c.args.reports.now) (g.O.Output.contents c.take_line.new.writer) (string_bytes c.take_line.new.reports))
-    (ended c.args.line.now.items c.args.end.now c.without_return.result.now none c.without_return.ensures) c.take_line.ensures.reports
+    subst (λ (l : List ℕ). ReportsLines c.process_line.result c.args.reporter.now (l ∷ []) c.process_line.new.self (g.O.Output.contents c.args.writer.now) (g.O.Output.contents c.process_line.new.writer))
+    (ended c.args.line.now.items c.args.end.now c.without_return.result.now none c.without_return.ensures) c.process_line.ensures.reports
 
 pub returns-in_err-extend_from_slice-clause-reports : goal.returns-in_err-extend_from_slice-clause-reports
 returns-in_err-extend_from_slice-clause-reports g c =
     let p = err_from_is_err_and c.from_residual.result c.from_residual.ensures.1 in
-    rw p.1 (stops-none c.args.collector.now (without_return (c.args.line.now.items ++ c.args.end.now) ∷ []) (g.O.Output.contents c.args.writer.now) (string_bytes c.args.reports.now))
+    rw p.1 (stops-none c.args.reporter.now.collector (without_return (c.args.line.now.items ++ c.args.end.now) ∷ []) (g.O.Output.contents c.args.writer.now) (string_bytes c.args.reporter.now.unwritten))
 
-pub returns-in_err-take_line-clause-reports : goal.returns-in_err-take_line-clause-reports
-returns-in_err-take_line-clause-reports g c =
-    let p = err_from_is_err_and c.from_residual-in_err-take_line.result c.from_residual-in_err-take_line.ensures.1 in
+pub returns-in_err-process_line-clause-reports : goal.returns-in_err-process_line-clause-reports
+returns-in_err-process_line-clause-reports g c =
+    let p = err_from_is_err_and c.from_residual-in_err-process_line.result c.from_residual-in_err-process_line.ensures.1 in
     let line : c.without_return-2.result.now ≡ without_return (c.args.line.now.items ++ c.args.end.now) =
     c.without_return-2.ensures ∙ ap without_return (c.deref.ensures.value ∙ c.in_ok-extend_from_slice.ensures.items) in
-    rw p.1 (subst (λ (l : List ℕ). Stops c.args.collector.now (l ∷ []) (g.O.Output.contents c.args.writer.now) (string_bytes c.args.reports.now) (g.O.Output.contents c.take_line-2.new.writer))
-    line c.in_err-take_line.ensures.reports)
+    rw p.1 (subst (λ (l : List ℕ). Stops c.args.reporter.now.collector (l ∷ []) (g.O.Output.contents c.args.writer.now) (string_bytes c.args.reporter.now.unwritten) (g.O.Output.contents c.process_line-2.new.writer))
+    line c.in_err-process_line.ensures.reports)
 
 pub returns-clause-reports : goal.returns-clause-reports
 returns-clause-reports g c =
     let line : c.without_return-2.result.now ≡ without_return (c.args.line.now.items ++ c.args.end.now) =
     c.without_return-2.ensures ∙ ap without_return (c.deref.ensures.value ∙ c.in_ok-extend_from_slice.ensures.items) in
-    subst (λ (l : List ℕ). Adds c.args.collector.now (l ∷ []) c.take_line-2.new.collector (g.O.Output.contents c.args.writer.now) (string_bytes c.args.reports.now) (g.O.Output.contents c.take_line-2.new.writer) (string_bytes c.take_line-2.new.reports))
-    line c.in_ok-take_line.ensures.reports
+    subst (λ (l : List ℕ). Adds c.args.reporter.now.collector (l ∷ []) c.process_line-2.new.self.collector (g.O.Output.contents c.args.writer.now) (string_bytes c.args.reporter.now.unwritten) (g.O.Output.contents c.process_line-2.new.writer) (string_bytes c.process_line-2.new.self.unwritten))
+    line c.in_ok-process_line.ensures.reports

@@ -17,12 +17,12 @@ pub returns-in_err-end_line-clause-reports : goal.returns-in_err-end_line-clause
 returns-in_err-end_line-clause-reports g c =
     let p = err_from_is_err_and c.from_residual.result c.from_residual.ensures.1 in
     let inv = c.loop-end.invariant in
-    rw p.1 (stops_on _ _ c.loop-end.collector _ _ _ _ (string_bytes c.loop-end.reports) c.loop-end.line.items c.loop-end.rest.now c.in-Some.end inv.unended c.in-Some.ensures inv.takes c.in_err-end_line.ensures.reports)
+    rw p.1 (stops_on _ _ c.loop-end.reporter.collector _ _ _ _ (string_bytes c.loop-end.reporter.unwritten) c.loop-end.line.items c.loop-end.rest.now c.in-Some.end inv.unended c.in-Some.ensures inv.takes c.in_err-end_line.ensures.reports)
 
 pub loop-end-preserved : goal.loop-end-preserved
 loop-end-preserved g c =
     let inv = c.loop-end.invariant in
-    let step = steps_on _ _ c.loop-end.collector c.end_line.new.collector _ _ _ _ (string_bytes c.loop-end.reports) (string_bytes c.end_line.new.reports) c.loop-end.line.items c.loop-end.rest.now c.end_line.new.line.items c.in-Some.end inv.unended c.in-Some.ensures
+    let step = steps_on _ _ c.loop-end.reporter.collector c.end_line.new.reporter.collector _ _ _ _ (string_bytes c.loop-end.reporter.unwritten) (string_bytes c.end_line.new.reporter.unwritten) c.loop-end.line.items c.loop-end.rest.now c.end_line.new.line.items c.in-Some.end inv.unended c.in-Some.ensures
     inv.takes c.in_ok-end_line.ensures.line c.in_ok-end_line.ensures.reports in
     record {
       works = c.in_ok-end_line.ensures.failure;
@@ -37,7 +37,7 @@ returns-in_err-extend_from_slice-clause-reports g c =
     let p = err_from_is_err_and c.from_residual-in_err-extend_from_slice.result c.from_residual-in_err-extend_from_slice.ensures.1 in
     let inv = c.loop-end.invariant in
     let last = goes_on c.loop-end.line.items c.loop-end.rest.now inv.unended (sym c.in_default.ensures) in
-    rw p.1 (stops-after c.args.collector.now (ended_lines (c.args.line.now.items ++ c.args.piece.now)) c.loop-end.collector (g.O.Output.contents c.args.writer.now) (g.O.Output.contents c.loop-end.writer) (string_bytes c.args.reports.now) (string_bytes c.loop-end.reports) (takes_all _ _ _ _ _ _ _ _ inv.takes last.lines))
+    rw p.1 (stops-after c.args.reporter.now.collector (ended_lines (c.args.line.now.items ++ c.args.piece.now)) c.loop-end.reporter.collector (g.O.Output.contents c.args.writer.now) (g.O.Output.contents c.loop-end.writer) (string_bytes c.args.reporter.now.unwritten) (string_bytes c.loop-end.reporter.unwritten) (takes_all _ _ _ _ _ _ _ _ inv.takes last.lines))
 
 pub returns-clause-line : goal.returns-clause-line
 returns-clause-line g c =

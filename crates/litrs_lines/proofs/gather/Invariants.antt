@@ -10,7 +10,7 @@ invariant-loop-end g l = record {
   within : length l.rest ≤ length l.piece;
   unended : HasNoLineFeed l.line.items;
   leaves : open_line (l.initial.line.items ++ l.piece) ≡ open_line (l.line.items ++ l.rest);
-  takes : TakesOn l.initial.collector (ended_lines (l.initial.line.items ++ l.piece)) (ended_lines (l.line.items ++ l.rest)) l.collector (g.O.Output.contents l.initial.writer) (string_bytes l.initial.reports) (g.O.Output.contents l.writer) (string_bytes l.reports);
+  takes : TakesOn l.initial.reporter.collector (ended_lines (l.initial.line.items ++ l.piece)) (ended_lines (l.line.items ++ l.rest)) l.reporter.collector (g.O.Output.contents l.initial.writer) (string_bytes l.initial.reporter.unwritten) (g.O.Output.contents l.writer) (string_bytes l.reporter.unwritten);
 }
 
 abbrev pub decreases-loop-end : goal.decreases-loop-end
