@@ -4,7 +4,8 @@
  * and in the second this one and all later ones; both go on to their end. What a copy prints, and
  * its status, are appended to the file that REFUSED names:
  *
- *     one 7 0 12        or `all`, the number of the allocation, the status, the bytes that follow
+ *     one 7 80 0 12     or `all`, the number of the allocation and how many bytes it is of, the
+ *                       status, the bytes that follow
  *     1 rows hold..     what it printed on both standard outputs, and a line end
  *
  * The process itself then goes on, and nothing is refused to it. */
@@ -25,6 +26,7 @@ void *__libc_memalign(size_t align, size_t size);
 
 static int records = -1;
 static unsigned long number;
+static size_t asked;
 static enum { COPIES, REFUSES_ALL, REFUSES_NONE } state = REFUSES_NONE;
 static char printed[1 << 16];
 
@@ -67,19 +69,21 @@ static int is_copy(const char *how) {
     if (waitpid(copy, &status, 0) != copy)
         fail();
     status = WIFEXITED(status) ? WEXITSTATUS(status) : 128 + WTERMSIG(status);
-    int length = snprintf(head, sizeof head, "%s %lu %d %zu\n", how, number, status, size);
+    const char *form = "%s %lu %zu %d %zu\n";
+    int length = snprintf(head, sizeof head, form, how, number, asked, status, size);
     printed[size] = '\n';
     if (write(records, head, length) != length || write(records, printed, size + 1) < 0)
         fail();
     return 0;
 }
 
-/* Whether the allocation that is asked for is refused. */
-static int is_refused(void) {
+/* Whether the allocation of so many bytes that is asked for is refused. */
+static int is_refused(size_t size) {
     if (state == REFUSES_NONE)
         return 0;
     if (state == COPIES) {
         number++;
+        asked = size;
         if (is_copy("one")) {
             state = REFUSES_NONE;
         } else if (is_copy("all")) {
@@ -93,23 +97,23 @@ static int is_refused(void) {
 }
 
 void *malloc(size_t size) {
-    return is_refused() ? NULL : __libc_malloc(size);
+    return is_refused(size) ? NULL : __libc_malloc(size);
 }
 
 void *calloc(size_t count, size_t size) {
-    return is_refused() ? NULL : __libc_calloc(count, size);
+    return is_refused(count * size) ? NULL : __libc_calloc(count, size);
 }
 
 void *realloc(void *block, size_t size) {
-    return is_refused() ? NULL : __libc_realloc(block, size);
+    return is_refused(size) ? NULL : __libc_realloc(block, size);
 }
 
 void *aligned_alloc(size_t align, size_t size) {
-    return is_refused() ? NULL : __libc_memalign(align, size);
+    return is_refused(size) ? NULL : __libc_memalign(align, size);
 }
 
 int posix_memalign(void **block, size_t align, size_t size) {
-    if (is_refused())
+    if (is_refused(size))
         return ENOMEM;
     *block = __libc_memalign(align, size);
     return *block == NULL ? ENOMEM : 0;

@@ -13,6 +13,10 @@ Where one is refused, either a call of the library answered it, and the program 
 makes the call again and has all else to say as before; or it was one of the program's own, and it
 ends with `out of memory` and the status 1. Where all from there on are refused, it ends so.
 
+Among the rows are strings of each kind whose values have every length up to 300. What a call asks
+for to hold such a value, over both buffers, has to be as many bytes as the value has, with its
+closing zero where it is a C string.
+
 Last, each build runs with nothing refused on texts with parts of every length below 512 and of some
 that are drawn, and every row has to hold.
 
@@ -46,6 +50,19 @@ DRAWN = 8
 DRAWN_UNREFUSED = 64
 # Below this number parts of every length are tried, with nothing refused.
 SHORT = 512
+# Values of every length up to this one are tried for how many bytes are asked for.
+SIZED = 300
+# The calls that ask for memory for a value alone.
+VALUES = {
+    "Literal::parse over &str",
+    "Literal::parse over String",
+    "Literal::clone over &str",
+    "Literal::from_literal over String",
+    "Literal::from_tree over String",
+    "CString::clone over CString",
+}
+# With this suffix a text is so long that the program tries no prefixes of it.
+SUFFIX = "u" + 1000 * "8"
 SECONDS = 600
 
 
@@ -125,6 +142,27 @@ def generated(lengths, draw):
             yield f"Literal,{parse}\t{quoted}\t{kind}\tu8\tescaped\t{begin}%0A{end}"
 
 
+def sized(draw):
+    """Rows of strings of each kind, with an escape, and of C strings without one, whose values have
+    every length up to `SIZED`; and how many bytes each value takes."""
+    for length in range(SIZED + 1):
+        plain = "".join(draw.choice("abcxyz019 _#'") for _ in range(length))
+        at = draw.randrange(length) if length else 0
+        begin, end = plain[:at], plain[at + 1 :]
+        # A continuation stands for nothing.
+        body, value = (f"{begin}\\n{end}", f"{begin}%0A{end}") if length else ("\\%0A", "")
+        for front, kind in [("", "string"), ("b", "bytestring"), ("c", "cstring")]:
+            row = f'Literal\t{front}"{body}"{SUFFIX}\t{kind}\t{SUFFIX}\tescaped\t{value}'
+            yield row, length + (kind == "cstring")
+        yield f'Literal\tc"{plain}"{SUFFIX}\tcstring\t{SUFFIX}\tplain\t{plain}', length + 1
+
+
+def refused_call(printed):
+    """The call of the library that a copy says was refused, or None."""
+    match = REFUSED.fullmatch(printed.partition(b"\n")[0].decode())
+    return match and match[1]
+
+
 class Build:
     """What was seen of one build."""
 
@@ -137,8 +175,9 @@ class Build:
         self.faults = []
 
     def try_row(self, task):
-        """Refuses each allocation of a row in turn."""
-        number, row = task
+        """Refuses each allocation of a row in turn. Where it is known how many bytes the value
+        takes, so many have to be asked for."""
+        number, (row, room) = task
         records = self.folder / f"{self.program.name}.{number}"
         done = subprocess.run(
             [self.program],
@@ -152,13 +191,16 @@ class Build:
         feeds = 0
         with open(records, "rb") as file:
             for head in file:
-                how, allocation, status, size = head.split()
+                how, allocation, asked, status, size = head.split()
                 printed = file.read(int(size) + 1)[:-1]
                 self.copies += 1
                 feeds += how == b"one" and printed.startswith(FEED)
                 if not self.is_right(how, printed, int(status)):
                     what = f"allocation {int(allocation)}, {how.decode()} refused"
                     self.fault(row, f"{what}: {printed}, status {int(status)}")
+                call = refused_call(printed)
+                if room is not None and call in VALUES and int(asked) != room:
+                    self.fault(row, f"{call} asks for {int(asked)} bytes, and not for {room}")
         if feeds > most_feeds(row):
             self.fault(row, f"feed allocates {feeds} times")
         records.unlink()
@@ -167,11 +209,11 @@ class Build:
         """Whether a copy did what it should, in which one allocation was refused, or all were."""
         if status == 1 and printed.endswith(ENDED):
             return True
-        line, _, rest = printed.partition(b"\n")
-        match = REFUSED.fullmatch(line.decode())
-        if match:
-            self.refused[match[1]] += 1
-        return how == b"one" and status == 0 and match is not None and rest == HOLDS
+        call = refused_call(printed)
+        if call:
+            self.refused[call] += 1
+        rest = printed.partition(b"\n")[2]
+        return how == b"one" and status == 0 and call is not None and rest == HOLDS
 
     def fault(self, row, what):
         self.faults.append(f"{row[:200]}: {what}")
@@ -198,7 +240,7 @@ def table_rows(path):
 
 
 def try_rows(name, rows, folder):
-    """Runs a build on all rows."""
+    """Runs a build on all rows, each with the bytes that its value takes where they are known."""
     build = Build(name, folder / "refuse.so", folder)
     with concurrent.futures.ThreadPoolExecutor(os.cpu_count()) as pool:
         for _ in pool.map(build.try_row, enumerate(rows)):
@@ -229,26 +271,30 @@ def report(build, wanted):
 
 
 def main():
-    words = argparse.ArgumentParser()
-    words.add_argument("--seed", type=int, default=random.SystemRandom().randrange(1 << 32))
-    words.add_argument("rows", nargs="?", type=pathlib.Path)
-    words = words.parse_args()
-    draw = random.Random(words.seed)
-    if words.rows:
-        rows, wanted, every = list(table_rows(words.rows)), set(), []
+    parser = argparse.ArgumentParser()
+    parser.add_argument("--seed", type=int, default=random.SystemRandom().randrange(1 << 32))
+    parser.add_argument("rows", nargs="?", type=pathlib.Path)
+    asked = parser.parse_args()
+    draw = random.Random(asked.seed)
+    values = []
+    if asked.rows:
+        rows, wanted, every = list(table_rows(asked.rows)), set(), []
     else:
-        print(f"lengths drawn by --seed {words.seed}", flush=True)
+        print(f"lengths drawn by --seed {asked.seed}", flush=True)
         rows = [*table_rows(CRATE / "stdin"), *generated(some_lengths(draw), draw)]
         drawn = [draw.randrange(LONGEST) for _ in range(DRAWN_UNREFUSED)]
         wanted, every = set(calls()), list(generated([*range(SHORT), *drawn], draw))
+        values = list(sized(draw))
     failed = False
     with tempfile.TemporaryDirectory() as name:
         folder = pathlib.Path(name)
         words = ["cc", "-O1", "-shared", "-fPIC", "-o", folder / "refuse.so"]
         subprocess.run([*words, TOP / ".ci" / "refuse.c"], check=True)
         for program in ["litrs_vectors", "litrs_vectors.by-rattle"]:
-            build = try_rows(program, rows, folder)
+            build = try_rows(program, [*((row, None) for row in rows), *values], folder)
             try_every_length(build, every)
+            # Both builds ask alike.
+            values = []
             failed |= report(build, wanted)
     sys.exit(1 if failed else 0)
 
