@@ -20,7 +20,7 @@ use Rattle.litrs_lines.specs.Report.{literal_report, refusal_report, IsTextRepor
 use Rattle.litrs_lines.specs.Reports.{AreReports, AreGroupReports}
 use Rattle.litrs_lines.specs.ReportLaws.{LinesHaveReports, ReportsAreUnique}
 use Rattle.litrs_lines.specs.Ended.{unless_held, AreEndedReports, AreLastReports}
-use Rattle.litrs_lines.specs.Sent.{AddsBytes, SendsReports, StopsReports, ReportsLines}
+use Rattle.litrs_lines.specs.Sent.{Sends, AddsBytes, ReportsLines}
 use Rattle.litrs_lines.specs.Stopped.{AppendsBeginning}
 use Rattle.litrs_lines.proofs.Sending.{adds, sends_more, writes_nothing, stops_later, stops_longer, stops_now}
 use Rattle.litrs_lines.proofs.ReportLemmas.{texts_have_reports, AreReports-one, AreReports-append, one_list_of_reports}
@@ -90,11 +90,11 @@ last-append held lines more between out next a b = (
 
 -- the reports on the groups that end with these lines were added
 abbrev pub Adds : (held : List ℕ) (lines : List (List ℕ)) (left : List ℕ) (a : Option (List ℕ)) (old : List ℕ) (b : Option (List ℕ)) (new : List ℕ) → Type 0
-Adds held lines left a old b new = SendsReports (AreEndedReports held lines left) a old b new
+Adds held lines left a old b new = (out : List ℕ) × AreEndedReports held lines left out × Sends a old b new out
 
 -- a prefix of them was written
 abbrev pub Stops : (held : List ℕ) (lines : List (List ℕ)) (a : Option (List ℕ)) (old : List ℕ) (b : Option (List ℕ)) → Type 0
-Stops held lines a old b = (left : List ℕ) × StopsReports (AreEndedReports held lines left) a old b
+Stops held lines a old b = (left : List ℕ) × (out : List ℕ) × AreEndedReports held lines left out × AppendsBeginning a b (old ++ out)
 
 pub adds-none : (held : List ℕ) (a : Option (List ℕ)) (old : List ℕ) → Adds held [] held a old a old
 adds-none held a old = ([], ended-none held, adds a old old [] (sym (append-nil old)))
@@ -108,26 +108,23 @@ adds-append held lines more between left a b c old front new x y =
 pub stops-none : (held : List ℕ) (lines : List (List ℕ)) (a : Option (List ℕ)) (old : List ℕ) → Stops held lines a old a
 stops-none held lines a old =
     let all = have_ended_reports held lines in
-    (all.0, (all.1, all.2, writes_nothing a (old ++ all.1)))
+    (all.0, all.1, all.2, writes_nothing a (old ++ all.1))
 
 -- what was added before a failure that writes nothing
 pub stops-after : (held : List ℕ) (lines : List (List ℕ)) (left : List ℕ) (a b : Option (List ℕ)) (old new : List ℕ) →
     Adds held lines left a old b new → Stops held lines a old b
-stops-after held lines left a b old new x = (left, (x.0, x.1, stops_now a b old new x.0 x.2))
+stops-after held lines left a b old new x = (left, x.0, x.1, stops_now a b old new x.0 x.2)
 
 -- a failure in lines that have some before and after them
 pub stops-append : (held : List ℕ) (lines more rest : List (List ℕ)) (between : List ℕ) (a b c : Option (List ℕ)) (old front : List ℕ) →
     Adds held lines between a old b front → Stops between more b front c → Stops held ((lines ++ more) ++ rest) a old c
 stops-append held lines more rest between a b c old front x y =
-    let part = y.1 in
     let all = have_ended_reports y.0 rest in
-    let front_lines : AreEndedReports held (lines ++ more) y.0 (x.0 ++ part.0) = ended-append held lines more between y.0 x.0 part.0 x.1 part.1 in (
+    let front_lines : AreEndedReports held (lines ++ more) y.0 (x.0 ++ y.1) = ended-append held lines more between y.0 x.0 y.1 x.1 y.2 in (
       all.0,
-      (
-        (x.0 ++ part.0) ++ all.1,
-        ended-append held (lines ++ more) rest y.0 all.0 (x.0 ++ part.0) all.1 front_lines all.2,
-        stops_later a b c old front x.0 part.0 all.1 _ x.2 part.2 (ap (λ (l : List ℕ). old ++ l) (append_assoc x.0 part.0 all.1)),
-      ),
+      (x.0 ++ y.1) ++ all.1,
+      ended-append held (lines ++ more) rest y.0 all.0 (x.0 ++ y.1) all.1 front_lines all.2,
+      stops_later a b c old front x.0 y.1 all.1 _ x.2 y.3 (ap (λ (l : List ℕ). old ++ l) (append_assoc x.0 y.1 all.1)),
     )
 
 -- the report on the group that is held was added
@@ -136,25 +133,23 @@ AddsHeld held old new = (out : List ℕ) × AreReports (unless_held held) out ×
 
 -- it comes last
 pub adds-last : (held : List ℕ) (lines : List (List ℕ)) (left : List ℕ) (a b : Option (List ℕ)) (old front new : List ℕ) → Adds held lines left a old b front → AddsHeld left front new →
-    SendsReports (AreLastReports held lines) a old b new
+    (out : List ℕ) × AreLastReports held lines out × Sends a old b new out
 adds-last held lines left a b old front new x y =
     (x.0 ++ y.0, (left, x.0, y.0, x.1, y.1, refl), sends_more a b b old front new x.0 y.0 x.2 (adds b front new y.0 y.2))
 
 -- a failure before it is added
-pub stops-last : (held : List ℕ) (lines : List (List ℕ)) (a c : Option (List ℕ)) (old : List ℕ) → Stops held lines a old c → StopsReports (AreLastReports held lines) a old c
+pub stops-last : (held : List ℕ) (lines : List (List ℕ)) (a c : Option (List ℕ)) (old : List ℕ) → Stops held lines a old c → (out : List ℕ) × AreLastReports held lines out × AppendsBeginning a c (old ++ out)
 stops-last held lines a c old y =
-    let part = y.1 in
-    let all = last_reports held lines y.0 part.0 part.1 in
-    (part.0 ++ all.0, all.1, stops_longer a c old part.0 all.0 part.2)
+    let all = last_reports held lines y.0 y.1 y.2 in
+    (y.1 ++ all.0, all.1, stops_longer a c old y.1 all.0 y.3)
 
 -- where nothing was unwritten before
 pub stops-first : (held : List ℕ) (lines : List (List ℕ)) (a c : Option (List ℕ)) (old : List ℕ) → Stops held lines a old c → old ≡ [] →
     (left : List ℕ) × (out : List ℕ) × AreEndedReports held lines left out × AppendsBeginning a c out
 stops-first held lines a c old y none =
-    let part = y.1 in
-    (y.0, part.0, part.1, subst (AppendsBeginning a c) (ap (λ (l : List ℕ). l ++ part.0) none) part.2)
+    (y.0, y.1, y.2, subst (AppendsBeginning a c) (ap (λ (l : List ℕ). l ++ y.1) none) y.3)
 
-pub stops-first_last : (held : List ℕ) (lines : List (List ℕ)) (a c : Option (List ℕ)) (old : List ℕ) → StopsReports (AreLastReports held lines) a old c → old ≡ [] →
+pub stops-first_last : (held : List ℕ) (lines : List (List ℕ)) (a c : Option (List ℕ)) (old : List ℕ) → (out : List ℕ) × AreLastReports held lines out × AppendsBeginning a c (old ++ out) → old ≡ [] →
     (out : List ℕ) × AreLastReports held lines out × AppendsBeginning a c out
 stops-first_last held lines a c old part none = (part.0, part.1, subst (AppendsBeginning a c) (ap (λ (l : List ℕ). l ++ part.0) none) part.2)
 
@@ -192,7 +187,7 @@ pub record Steps (held line left : List ℕ) (step : Step) : Type 0 where
 pub step_reported : (result : Result (Unit {0}) RunError) (old new : Reporter) (line : List ℕ) (step : Step) (a b : Option (List ℕ)) → Steps old.collector line new.collector step →
     AddsBytes result (step_bytes step) a (string_bytes old.unwritten) b (string_bytes new.unwritten) → ReportsLines result old (line ∷ []) new a b
 step_reported (Ok _) old new line step a b s sends = (step_bytes step, step_reports old.collector line new.collector step s.text s.whole s.is s.after, sends)
-step_reported (Err _) old new line step a b s part = (new.collector, (step_bytes step, step_reports old.collector line new.collector step s.text s.whole s.is s.after, part))
+step_reported (Err _) old new line step a b s part = (new.collector, step_bytes step, step_reports old.collector line new.collector step s.text s.whole s.is s.after, part)
 
 -- ---- a line by itself, whose literal or refusal is known
 
@@ -214,7 +209,7 @@ first_reported (Ok _) old new line a b r kept is sends =
     subst (λ (h : List ℕ). Adds old.collector (line ∷ []) h a (string_bytes old.unwritten) b (string_bytes new.unwritten)) (sym kept)
     (subst (λ (h : List ℕ). Adds h (line ∷ []) h a (string_bytes old.unwritten) b (string_bytes new.unwritten)) (sym is.nothing) (r ++ 10 ∷ [], group_ends line r is.text is.finished is.report, sends))
 first_reported (Err _) old new line a b r kept is part =
-    subst (λ (h : List ℕ). Stops h (line ∷ []) a (string_bytes old.unwritten) b) (sym is.nothing) ([], (r ++ 10 ∷ [], group_ends line r is.text is.finished is.report, part))
+    subst (λ (h : List ℕ). Stops h (line ∷ []) a (string_bytes old.unwritten) b) (sym is.nothing) ([], r ++ 10 ∷ [], group_ends line r is.text is.finished is.report, part)
 
 pub literal_finishes : (held line : List ℕ) (d : Derivation) → held ≡ [] → IsUtf8 line → IsLiteral (chars line) d → Finishes held line (literal_report d)
 literal_finishes held line d none text is = record {

@@ -1,12 +1,13 @@
 -- Reports of which a part is written: how what is added and what is written go together.
-use Rattle.std.proofs.Common.{◌≡◌, ℕ, List, [], ◌++◌, length, take, drop, Option, refl, sym, ap, subst, ◌∙◌, take-append-drop}
+use Rattle.std.proofs.Common.{◌≡◌, ℕ, List, [], ◌++◌, length, take, drop, Option, Result, Ok, Err, OnOk, OnErr, refl, sym, ap, subst, ◌∙◌, take-append-drop}
 use Rattle.std.proofs.lemmas.List.{append-nil, append_assoc}
 use Rattle.std.proofs.lemmas.Grind.{flat_map-append}
 use Rattle.std.proofs.KnownBytes.{Appends-nil, Appends-trans, starts_with_rest}
 use Rattle.std.proofs.Math.Seq.{take-append_seam}
 use Rattle.std.specs.Io.KnownBytes.{Appends}
 use Rattle.litrs_lines.specs.Report.{hex_byte, hex_bytes}
-use Rattle.litrs_lines.specs.Sent.{Sends}
+use Rattle.litrs_lines.specs.Sent.{Sends, WritesBytes}
+use Rattle.litrs_lines.specs.declared.RunError.{RunError}
 use Rattle.litrs_lines.specs.Stopped.{AppendsBeginning}
 
 -- what is added, and not yet written
@@ -91,6 +92,15 @@ writes_some_rest a b c p q x one none part =
 pub writes_whole : (a c : Option (List ℕ)) (x : List ℕ) → Appends a c x → AppendsBeginning a c x
 writes_whole a c x writes =
     subst (AppendsBeginning a c) (append-nil x) (record { written = x; appends = writes; begins = take-append_seam x [] })
+
+-- on Ok all, and on an error a prefix
+pub on_ok_written : (r : Result (Unit {0}) RunError) (bytes : List ℕ) (a b : Option (List ℕ)) → WritesBytes r bytes a b → OnOk r (Appends a b bytes)
+on_ok_written (Ok _) bytes a b writes = writes
+on_ok_written (Err _) bytes a b part = tt
+
+pub on_err_written : (r : Result (Unit {0}) RunError) (bytes : List ℕ) (a b : Option (List ℕ)) → WritesBytes r bytes a b → OnErr r (AppendsBeginning a b bytes)
+on_err_written (Ok _) bytes a b writes = tt
+on_err_written (Err _) bytes a b part = part
 
 -- ---- bytes in hex
 

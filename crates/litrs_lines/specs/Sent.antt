@@ -4,7 +4,7 @@ use Rattle.std.specs.Io.KnownBytes.{Appends}
 use Rattle.litrs_lines.specs.declared.RunError.{RunError}
 use Rattle.litrs_lines.specs.declared.group.Reporter.{Reporter}
 use Rattle.litrs_lines.specs.declared.RunError.TheVariants.{Read, Write, Memory}
-use Rattle.litrs_lines.specs.Ended.{AreEndedReports, AreLastReports}
+use Rattle.litrs_lines.specs.Ended.{AreEndedReports}
 use Rattle.litrs_lines.specs.Stopped.{AppendsBeginning}
 
 -- A step answers `Write` if and only if the output has failed, and then by a failed write. It never
@@ -22,6 +22,12 @@ pub record Sends (old : Option (List ℕ)) (unwritten_old : List ℕ) (new : Opt
   pub spells : written ++ unwritten_new ≡ unwritten_old ++ bytes
   pub appends : Appends old new written
 
+-- All of these bytes were appended to known ones, or on an error a prefix of them.
+abbrev pub WritesBytes : (result : Result (Unit {0}) RunError) (bytes : List ℕ)
+    (old new : Option (List ℕ)) → Type 0
+WritesBytes (Ok _) bytes old new = Appends old new bytes
+WritesBytes (Err _) bytes old new = AppendsBeginning old new bytes
+
 -- A step adds these bytes: on `Ok` they were added, and on an error a prefix of what was not yet
 -- written and of them was written.
 abbrev pub AddsBytes : (result : Result (Unit {0}) RunError) (bytes : List ℕ) (old : Option (List ℕ))
@@ -31,36 +37,13 @@ AddsBytes (Ok _) bytes old unwritten_old new unwritten_new =
 AddsBytes (Err _) bytes old unwritten_old new unwritten_new =
     AppendsBeginning old new (unwritten_old ++ bytes)
 
--- reports that are such were added
-abbrev pub SendsReports : (Are : List ℕ → Type 0) (old : Option (List ℕ))
-    (unwritten_old : List ℕ) (new : Option (List ℕ)) (unwritten_new : List ℕ) → Type 0
-SendsReports Are old unwritten_old new unwritten_new =
-    (out : List ℕ) × Are out × Sends old unwritten_old new unwritten_new out
-
--- a prefix of what was not yet written and of reports that are such was written
-abbrev pub StopsReports : (Are : List ℕ → Type 0) (old : Option (List ℕ))
-    (unwritten_old : List ℕ) (new : Option (List ℕ)) → Type 0
-StopsReports Are old unwritten_old new =
-    (out : List ℕ) × Are out × AppendsBeginning old new (unwritten_old ++ out)
-
--- A step over these lines adds the reports on the groups that end with them: on `Ok` they were
--- added, and on an error a prefix of what was not yet written and of them was written.
+-- A step over these lines adds the reports on the groups that end with them, and holds what is left
+-- of them.
 abbrev pub ReportsLines : (result : Result (Unit {0}) RunError) (old : Reporter)
     (lines : List (List ℕ)) (new : Reporter) (contents_old contents_new : Option (List ℕ)) → Type 0
 ReportsLines (Ok _) old lines new contents_old contents_new =
-    SendsReports (AreEndedReports old.collector lines new.collector)
-    contents_old (string_bytes old.unwritten) contents_new (string_bytes new.unwritten)
+    (out : List ℕ) × AreEndedReports old.collector lines new.collector out
+    × Sends contents_old (string_bytes old.unwritten) contents_new (string_bytes new.unwritten) out
 ReportsLines (Err _) old lines new contents_old contents_new =
-    (left : List ℕ) × StopsReports (AreEndedReports old.collector lines left)
-    contents_old (string_bytes old.unwritten) contents_new
-
--- The same where no line follows: the reports on lines that are held after them are among those
--- that it adds.
-abbrev pub ReportsLastLines : (result : Result (Unit {0}) RunError) (old : Reporter)
-    (lines : List (List ℕ)) (new : Reporter) (contents_old contents_new : Option (List ℕ)) → Type 0
-ReportsLastLines (Ok _) old lines new contents_old contents_new =
-    SendsReports (AreLastReports old.collector lines)
-    contents_old (string_bytes old.unwritten) contents_new (string_bytes new.unwritten)
-ReportsLastLines (Err _) old lines new contents_old contents_new =
-    StopsReports (AreLastReports old.collector lines)
-    contents_old (string_bytes old.unwritten) contents_new
+    (left : List ℕ) × (out : List ℕ) × AreEndedReports old.collector lines left out
+    × AppendsBeginning contents_old contents_new (string_bytes old.unwritten ++ out)

@@ -3,11 +3,11 @@
 
 ghost use Rattle.std.specs.Prelude.{◌≡◌, ◌≢◌, ◌↔◌, ◌⊎◌, ◌∷◌, [], ◌++◌, ◌-◌, ◌^◌, ℕ, List, true, false, Some, IsSome, IfSome, IfErr, IsErrOf, OnOk, OnErr, position, string_bytes};
 ghost use Rattle.std.specs.Io.KnownBytes.{Appends, IsAtEnd};
-ghost use Rattle.litrs_lines.specs.Stopped.{AppendsBeginning, StopsWithin};
+ghost use Rattle.litrs_lines.specs.Stopped.{StopsWithin};
 ghost use Rattle.litrs_lines.specs.Lines.{is_line_feed, HasNoLineFeed, without_return, ended_lines, open_line, unless_empty, lines_of};
 ghost use Rattle.litrs_lines.specs.Ended.{AreLastReports};
 ghost use Rattle.litrs_lines.specs.Reports.{AppendsReports};
-ghost use Rattle.litrs_lines.specs.Sent.{NamesFailure, ReportsLines, ReportsLastLines};
+ghost use Rattle.litrs_lines.specs.Sent.{NamesFailure, WritesBytes, AddsBytes, ReportsLines};
 
 pub use device::{Failed, Input, Output};
 use group::Reporter;
@@ -141,9 +141,7 @@ fn gather<O: Output>(
 /// Writes all of `bytes`.
 fn write_all<O: Output>(writer: &mut O, bytes: &[u8]) -> Result<(), RunError>
     requires { O.has_failed writer.old ≡ false }
-    ensures ok { OnOk result (Appends (O.contents writer.old) (O.contents writer.new) bytes.now) }
-    ensures err { OnErr result (AppendsBeginning (O.contents writer.old) (O.contents writer.new)
-        bytes.now) }
+    ensures bytes { WritesBytes result bytes.now (O.contents writer.old) (O.contents writer.new) }
     ensures write { IfErr result (λ e. e ≡ RunError.Write) }
     ensures failure { NamesFailure result (O.has_failed writer.new) (O.write_failed writer.new) }
 {
@@ -204,8 +202,10 @@ fn report_last<O: Output>(
     writer: &mut O,
 ) -> Result<(), RunError>
     requires works { O.has_failed writer.old ≡ false }
-    ensures reports { ReportsLastLines result reporter.old (unless_empty line.now) reporter.new
-        (O.contents writer.old) (O.contents writer.new) }
+    ensures reports { (out : List ℕ)
+        × AreLastReports reporter.old.collector (unless_empty line.now) out
+        × AddsBytes result out (O.contents writer.old) (string_bytes reporter.old.unwritten)
+        (O.contents writer.new) (string_bytes reporter.new.unwritten) }
     ensures failure { NamesFailure result (O.has_failed writer.new) (O.write_failed writer.new) }
 {
     process_open_line(line, reporter, writer)?;
@@ -218,13 +218,10 @@ fn report_last<O: Output>(
 fn finish<O: Output>(line: &[u8], reporter: &mut Reporter, writer: &mut O) -> Result<(), RunError>
     requires none { string_bytes reporter.old.unwritten ≡ [] }
     requires works { O.has_failed writer.old ≡ false }
-    ensures ok { OnOk result ((out : List ℕ)
+    ensures reports { (out : List ℕ)
         × AreLastReports reporter.old.collector (unless_empty line.now) out
-        × Appends (O.contents writer.old) (O.contents writer.new) out) }
+        × WritesBytes result out (O.contents writer.old) (O.contents writer.new) }
     ensures flushed { OnOk result (O.is_flushed writer.new ≡ true) }
-    ensures err { OnErr result ((out : List ℕ)
-        × AreLastReports reporter.old.collector (unless_empty line.now) out
-        × AppendsBeginning (O.contents writer.old) (O.contents writer.new) out) }
     ensures read { result ≢ Err RunError.Read }
     ensures write { IsErrOf result RunError.Write ↔ (O.has_failed writer.new ≡ true) }
     ensures flush { IsErrOf result RunError.Write → O.write_failed writer.new ≡ false →

@@ -2,7 +2,7 @@ use Rattle.std.proofs.Common.{◌≡◌, ◌^◌, ◌-◌, ℕ, inl, inr, refl, 
 use Rattle.std.proofs.KnownBytes.{Keeps-refl}
 use Rattle.litrs_lines.proofs.LinesLemmas.{runs_none, line_unended, runs_more, stops_at_read, stops_in_piece, stops_at_end, ends_run, one_more_read, many_reads, OnOk-map, OnErr-map, OnErr-holds, take_none}
 use Rattle.litrs_lines.proofs.GroupReports.{stops-first}
-use Rattle.litrs_lines.proofs.Sending.{writes_these}
+use Rattle.litrs_lines.proofs.Sending.{writes_these, on_ok_written, on_err_written}
 use Rattle.litrs_lines.proofs.run.Goals as goal
 
 pub loop-turn-init : goal.loop-turn-init
@@ -20,12 +20,16 @@ returns-in-Err-clause-err g c = stops_at_read c.loop-turn.invariant.runs _ c.in-
 pub returns-then-count-eq0-clause-ok : goal.returns-then-count-eq0-clause-ok
 returns-then-count-eq0-clause-ok g c =
     let read = c.in-Ok.ensures.bytes in
-    OnOk-map c.finish.result (λ all. ends_run c.loop-turn.invariant.runs _ _ _ _ all.0 c.as_slice.ensures.value read.0 (take_none _ _ (omega arith)) (read.1 (omega arith) (omega arith)) all.1 all.2) c.finish.ensures.ok
+    let all = c.finish.ensures.reports in
+    OnOk-map c.finish.result (λ wrote. ends_run c.loop-turn.invariant.runs _ _ _ _ all.0 c.as_slice.ensures.value read.0 (take_none _ _ (omega arith)) (read.1 (omega arith) (omega arith)) all.1 wrote)
+    (on_ok_written c.finish.result all.0 (g.O.Output.contents c.loop-turn.writer) (g.O.Output.contents c.finish.new.writer) all.2)
 
 pub returns-then-count-eq0-clause-err : goal.returns-then-count-eq0-clause-err
 returns-then-count-eq0-clause-err g c =
     let read = c.in-Ok.ensures.bytes in
-    OnErr-map c.finish.result (λ all. stops_at_end c.loop-turn.invariant.runs _ _ _ _ all.0 c.as_slice.ensures.value read.0 (take_none _ _ (omega arith)) (read.1 (omega arith) (omega arith)) all.1 all.2) c.finish.ensures.err
+    let all = c.finish.ensures.reports in
+    OnErr-map c.finish.result (λ part. stops_at_end c.loop-turn.invariant.runs _ _ _ _ all.0 c.as_slice.ensures.value read.0 (take_none _ _ (omega arith)) (read.1 (omega arith) (omega arith)) all.1 part)
+    (on_err_written c.finish.result all.0 (g.O.Output.contents c.loop-turn.writer) (g.O.Output.contents c.finish.new.writer) all.2)
 
 pub process_piece-requires-clause-line : goal.process_piece-requires-clause-line
 process_piece-requires-clause-line g c = line_unended c.loop-turn.invariant.runs

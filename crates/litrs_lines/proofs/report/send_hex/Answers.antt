@@ -20,11 +20,11 @@ returns-in_err-push_hex-clause-adds g c =
 pub returns-in_err-write_all-clause-adds : goal.returns-in_err-write_all-clause-adds
 returns-in_err-write_all-clause-adds g c =
     let p = err_from_is_err_and c.from_residual-in_err-write_all.result c.from_residual-in_err-write_all.ensures.1 in
-    rw p.1 (sends_stops _ _ _ _ _ (c.as_bytes.result.now) _ _ 4096 c.loop-rest.invariant.sends (c.as_bytes.ensures.value ∙ c.in_ok-push_hex.ensures) c.in_err-write_all.ensures.err)
+    rw p.1 (sends_stops _ _ _ _ _ (c.as_bytes.result.now) _ _ 4096 c.loop-rest.invariant.sends (c.as_bytes.ensures.value ∙ c.in_ok-push_hex.ensures) c.in_err-write_all.ensures.bytes)
 
 pub loop-rest-preserved : goal.loop-rest-preserved
 loop-rest-preserved g c = record {
   works = c.in_ok-write_all.ensures.failure;
   sends =
-      sends_piece _ _ _ _ _ c.as_bytes.result.now _ _ _ _ 4096 c.loop-rest.invariant.sends (c.as_bytes.ensures.value ∙ c.in_ok-push_hex.ensures) c.in_ok-write_all.ensures.ok c.clear.ensures.bytes (take_rest c.loop-rest.rest.now 4096);
+      sends_piece _ _ _ _ _ c.as_bytes.result.now _ _ _ _ 4096 c.loop-rest.invariant.sends (c.as_bytes.ensures.value ∙ c.in_ok-push_hex.ensures) c.in_ok-write_all.ensures.bytes c.clear.ensures.bytes (take_rest c.loop-rest.rest.now 4096);
 }
