@@ -168,3 +168,45 @@ fn a_program_has_a_status_and_a_message(rt: HostRuntime) {
     assert!(rt; ends_with(alloc, 3, NEVER, failed, "litrs_lines: read failed\n"));
     assert!(rt; ends_with(alloc, NEVER, 3, failed, "litrs_lines: write failed\n"));
 }
+
+/// A reader that fills each buffer, and a writer that takes each piece whole.
+#[derive(Drop)]
+struct Plenty;
+
+impl Read for Plenty {
+    fn read(&mut self, buf: &mut [u8]) -> io::Result<usize> {
+        Ok(buf.len())
+    }
+}
+
+impl Write for Plenty {
+    fn write(&mut self, buf: &[u8]) -> io::Result<usize> {
+        Ok(buf.len())
+    }
+
+    fn flush(&mut self) -> io::Result<()> {
+        Ok(())
+    }
+}
+
+/// Whether a piece is written whole, and read whole.
+fn is_passed_on(piece: &mut [u8]) -> bool {
+    let len = piece.len();
+    let is_written = match StdOutput::new(Plenty).write(piece) {
+        Ok(count) => count == len,
+        Err(_) => false,
+    };
+    let is_read = match StdInput::new(Plenty).read(piece) {
+        Ok(count) => count == len,
+        Err(_) => false,
+    };
+    is_written && is_read
+}
+
+#[test]
+fn pieces_of_every_length_are_passed_on(rt: HostRuntime) {
+    let mut bytes = [0; 10_000];
+    for len in 0..bytes.len() {
+        assert!(rt; is_passed_on(&mut bytes[..len]), "{len} bytes");
+    }
+}
