@@ -1,7 +1,7 @@
 -- The value of a quoted literal, from what is read of its body.
 use Rattle.std.proofs.Common.{◌≡◌, ℕ, ◌+◌, ◌-◌, ◌==◌, Bool, true, false, not, ◌||◌, List, [], ◌∷◌, ◌++◌, length, drop, take, refl, sym, ap, subst, ◌∙◌, arith, inl, inr, Some, None, Option}
 use Rattle.std.specs.List.{list_all}
-use Rattle.std.specs.Prelude.{◌⊎◌}
+use Rattle.std.specs.Prelude.{◌⊎◌, Result, Ok, Err, IfOk, IfErr, option_map}
 use Rattle.std.specs.Str.{chars, IsUtf8, IsCharBoundary}
 use Rattle.std.proofs.Math.Utf8.{scalars}
 use Rattle.std.proofs.lemmas.Bool.{true≢false, and_parts, and_from, ne_eqb, eq-eqb}
@@ -19,7 +19,7 @@ use Rattle.litrs_grammar.proofs.Laws.Quoted.{quoted_texts_are_unique, quoted_tex
 use Rattle.litrs_grammar.proofs.Laws.Value.{values_without_byte_escapes_are_utf8}
 use Rattle.litrs_lex.specs.QuotedCut.{IsQuotedRefused, IsQuotedValue, IsOutOfMemory, IsQuotedOutOfMemory}
 use Rattle.litrs_lex.specs.QuotedItems.{IsPlainRun}
-use Rattle.litrs_lex.specs.Reading.{IsReadTo, IsReadBody, IsBodyRefused}
+use Rattle.litrs_lex.specs.Reading.{IsReadTo, IsReadBody, IsBodyRefused, IsReadAsValue}
 use Rattle.litrs_lex.proofs.QuotedBytes.{closed_of}
 use Rattle.litrs_lex.proofs.QuotedCuts.{cut_of, refused_of}
 use Rattle.litrs_lex.proofs.Readings.{read_none, read_run}
@@ -145,9 +145,15 @@ held_is_utf8 w bytes value offset at takes u r fits none =
     (values_without_byte_escapes_are_utf8 w (body_text r.items) r.items (part_is_text _ (body_text r.items) _ (chars bytes) r.spells (scalars_are_text (chars bytes) (scalars-chars bytes u)))
     (off_by w.byte_escapes takes fits none) (record { spells = refl; body = body_alone w (chars (drop at bytes)) r.items r.taken }))
 
--- The refusal in full
+-- The value, and the refusal in full
 
-pub refused_or_memory : (w : Switches) (bytes : List ℕ) (offset : ℕ) (e : ParseError) → IsBodyRefused w bytes offset e ⊎ IsQuotedOutOfMemory w bytes offset e →
-    IsQuotedRefused w bytes offset e ⊎ IsQuotedOutOfMemory w bytes offset e
-refused_or_memory w bytes offset e (inl refused) = inl (refused_of w bytes offset e refused)
-refused_or_memory w bytes offset e (inr memory) = inr memory
+pub value_read : {C : Type 0} (contents : C → List ℕ) (w : Switches) (bytes : List ℕ) (offset : ℕ) (r : Result (Option C × ℕ) ParseError) → IsReadAsValue contents w bytes offset r →
+    IfOk r (λ read. IsQuotedValue w bytes offset (option_map contents read.0) read.1)
+value_read contents w bytes offset (Ok read) is = is
+value_read contents w bytes offset (Err e) is = tt
+
+pub refusal_read : {C : Type 0} (contents : C → List ℕ) (w : Switches) (bytes : List ℕ) (offset : ℕ) (r : Result (Option C × ℕ) ParseError) → IsReadAsValue contents w bytes offset r →
+    IfErr r (λ e. IsQuotedRefused w bytes offset e ⊎ IsQuotedOutOfMemory w bytes offset e)
+refusal_read contents w bytes offset (Ok read) is = tt
+refusal_read contents w bytes offset (Err e) (inl refused) = inl (refused_of w bytes offset e refused)
+refusal_read contents w bytes offset (Err e) (inr memory) = inr memory

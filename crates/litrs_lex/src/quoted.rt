@@ -15,7 +15,6 @@ use crate::sink::Counted;
 use crate::stop::first_plain_end;
 use litrs_base::ParseError;
 use litrs_parts::{Switches, check_suffix};
-use litrs_search::Marked;
 
 /// Where a quoted literal is cut: sizes and places in bytes.
 #[derive(Clone, Copy, Debug, PartialEq, Eq)]
@@ -101,17 +100,12 @@ pub fn items_end<A: Allows>(input: &str, offset: usize, allowed: A) -> usize
 
 /// The state at the front of a body, with its plain characters found.
 #[inline(always)]
-pub(crate) fn beginning<A: Allows>(input: &str, offset: usize, allowed: A) -> Reading
+fn beginning<A: Allows>(input: &str, offset: usize, allowed: A) -> Reading
     requires { IsCharBoundary input.now offset }
-    ensures at { result.at ≡ offset }
-    ensures reading { IsReading (A.allowed allowed) input.now offset (λ v. v ≡ []) result }
+    ensures { IsReading (A.allowed allowed) input.now offset (λ v. v ≡ []) result }
 {
     let place = first_plain_end(input, offset, allowed);
-    Reading {
-        at: offset,
-        place,
-        marked: Marked::nothing_at(place),
-    }
+    Reading::after_plain(input, offset, place, allowed)
 }
 
 /// Whether a suffix or nothing follows the closing quote.

@@ -19,6 +19,33 @@ pub struct Reading {
     pub marked: Marked,
 }
 
+impl Reading {
+    ghost use Rattle.std.specs.Prelude.{◌≡◌, []};
+    ghost use Rattle.std.specs.Str.{IsCharBoundary};
+    ghost use Rattle.litrs_lex.specs.QuotedItems.{IsPlainRun};
+    ghost use Rattle.litrs_lex.specs.Reading.{IsReading};
+
+    /// The state at the front of a body, whose plain characters there end at the place.
+    #[inline(always)]
+    pub(crate) fn after_plain<A: Allows>(
+        input: &str,
+        offset: usize,
+        place: usize,
+        _allowed: A,
+    ) -> Reading
+        requires at { IsCharBoundary input.now offset }
+        requires run { IsPlainRun (A.allowed _allowed) input.now offset place }
+        ensures { IsReading (A.allowed _allowed) input.now offset (λ v. v ≡ []) result }
+    {
+        let _text = input;
+        Reading {
+            at: offset,
+            place,
+            marked: Marked::nothing_at(place),
+        }
+    }
+}
+
 /// Where the reading ends.
 #[derive(Drop)]
 pub enum Reached {

@@ -80,6 +80,10 @@ impl<const N: usize> Room<N> {
             self.new ≡ self.old ++ take (end - start) (drop start text.now) }
         ensures full { IsFalse result → self.new ≡ self.old }
     {
+        // None stand between two escapes.
+        if start == end {
+            return true;
+        }
         let count = end - start;
         if count <= MOVED && text.len() - start >= MOVED && N - self.len >= MOVED {
             let mut moved = [0; MOVED];

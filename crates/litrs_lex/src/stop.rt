@@ -127,7 +127,19 @@ fn blanks_len(bytes: &[u8]) -> usize
     ensures count { result ≡ prefix_len is_blank bytes.now }
     ensures within { result ≤ length bytes.now }
 {
-    run_end(bytes, Run::Blanks)
+    match bytes {
+        // A search by lanes costs more than a comparison of each where there are few.
+        [
+            b' ' | b'\t' | b'\n',
+            b' ' | b'\t' | b'\n',
+            b' ' | b'\t' | b'\n',
+            ..
+        ] => { run_end(bytes, Run::Blanks) }
+        _ => bytes
+            .iter()
+            .take_while(|b| matches!(**b, b' ' | b'\t' | b'\n'))
+            .count(),
+    }
 }
 
 /// The text without its last character. One that is ASCII, as a closing quote is, is cut off

@@ -3,16 +3,18 @@ ghost use Rattle.std.specs.Prelude.{◌≡◌, ◌≤◌, ◌<◌, ◌+◌, [], 
 ghost use Rattle.std.specs.Str.{chars, IsUtf8, IsCharBoundary};
 ghost use Rattle.litrs_grammar.specs.Quoted.{QuotedParts, IsQuoted, body_value};
 ghost use Rattle.litrs_lex.specs.QuotedCut.{IsQuotedRefused, IsQuotedValue, IsQuotedOutOfMemory};
+ghost use Rattle.litrs_lex.specs.QuotedItems.{IsPlainRun};
 ghost use Rattle.litrs_lex.specs.Reading.{IsReading, IsReadBody, IsReadAsValue};
 ghost use Rattle.litrs_parts.specs.Unescaped.{switches};
 
 use crate::allowed::Allows;
 use crate::container::EscapeContainer;
 use crate::filled::Filled;
-use crate::quoted::{beginning, closed, is_quote};
+use crate::quoted::{closed, is_quote};
 use crate::reading::{Reached, Reading, read_items};
 use crate::room::Room;
 use crate::sink::Counted;
+use crate::stop::first_plain_end;
 use litrs_base::{ParseError, ParseErrorKind};
 use litrs_parts::Switches;
 use std::alloc::{AllocError, Global};
@@ -21,7 +23,7 @@ use std::alloc::{AllocError, Global};
 const SHORT: usize = 128;
 
 /// How many are where those do not do. A value that is longer is read twice.
-const LONG: usize = 1024;
+const LONG: usize = 4096;
 
 /// Unescapes a quoted literal whose body begins at `offset`: the value, where the body has a
 /// backslash, and the place in bytes where the suffix begins. Without a backslash the value is the
@@ -85,31 +87,30 @@ pub fn unescape_string_with<C: EscapeContainer, A: Allows>(
         IsQuotedRefused (A.allowed allowed) input.now offset e
         ⊎ IsQuotedOutOfMemory (A.allowed allowed) input.now offset e) }
 {
-    let from = beginning(input, offset, allowed);
+    let place = first_plain_end(input, offset, allowed);
     // Asked first: most strings end so, and take no room for a value or a refusal.
-    if is_quote(input[from.place..].as_bytes()) {
-        return Ok((None, from.place + 1));
-    }
-    match read_value(alloc, input, offset, from, allowed) {
-        Ok(read) => Ok(read),
-        Err(e) => Err(e),
+    if is_quote(input[place..].as_bytes()) {
+        Ok((None, place + 1))
+    } else {
+        read_value(alloc, input, offset, place, allowed)
     }
 }
 
-/// [`unescape_string_with`] from the front of the body on, whose plain characters are found.
+/// [`unescape_string_with`] of a body whose plain characters at its front end at `place`.
 #[inline(never)]
 fn read_value<C: EscapeContainer, A: Allows>(
     alloc: Global,
     input: &str,
     offset: usize,
-    from: Reading,
+    place: usize,
     allowed: A,
 ) -> Result<(Option<C>, usize), ParseError>
     requires at { IsCharBoundary input.now offset }
     requires fits { IsTrue (not (A.allowed allowed).byte_escapes || C.TAKES_BYTES) }
-    requires from { IsReading (A.allowed allowed) input.now offset (λ v. v ≡ []) from }
+    requires run { IsPlainRun (A.allowed allowed) input.now offset place }
     ensures { IsReadAsValue C.contents (A.allowed allowed) input.now offset result }
 {
+    let from = Reading::after_plain(input, offset, place, allowed);
     let mut room = Room::<SHORT>::new();
     match read_items(input, offset, from, allowed, &mut room) {
         Reached::Quote(place) => finished(alloc, input, offset, place, allowed, room.as_bytes()),

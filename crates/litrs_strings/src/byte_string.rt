@@ -15,6 +15,7 @@ ghost use Rattle.litrs_strings.specs.StringLiteral.{StringLiteral, IsStringAt, k
 
 use crate::cut::parse_string;
 use crate::kept::KeptValue;
+use litrs_lex::InByteString;
 use litrs_parts::{Buffer, Front, ParseError, StringKind, Text};
 use std::alloc::{AllocError, Global};
 use std::fmt;
@@ -89,7 +90,7 @@ impl<B: Text> ByteStringLit<B> {
             (IsRefusedOrOutOfMemory (kind_parse byte_string_literal) (chars (B.bytes input))) }
     {
         let kind = StringKind::ByteString;
-        let (value, start_suffix) = parse_string(alloc, input.as_str(), kind, front)?;
+        let (value, start_suffix) = parse_string(alloc, input.as_str(), kind, InByteString, front)?;
         Ok(ByteStringLit {
             raw: input,
             value,

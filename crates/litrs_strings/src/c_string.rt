@@ -17,6 +17,7 @@ ghost use Rattle.litrs_strings.specs.ParsedStrings.{IsParsedCString};
 
 use crate::cut::parse_string;
 use crate::kept::KeptValue;
+use litrs_lex::InCString;
 use litrs_parts::{Front, ParseError, ParseErrorKind, StringKind, Text};
 use std::alloc::{AllocError, Global};
 use std::fmt;
@@ -287,7 +288,7 @@ fn parse_text(alloc: Global, input: &str, front: Front) -> Result<(CString, usiz
     ensures refused { IfErr result
         (IsRefusedOrOutOfMemory (kind_parse c_string_literal) (chars input.now)) }
 {
-    let (kept, start_suffix) = parse_string(alloc, input, StringKind::CString, front)?;
+    let (kept, start_suffix) = parse_string(alloc, input, StringKind::CString, InCString, front)?;
     match close_value(alloc, input, kept) {
         Ok(value) => Ok((value, start_suffix)),
         Err(_) => Err(ParseError::new(None, ParseErrorKind::OutOfMemory)),

@@ -13,24 +13,23 @@ ghost use Rattle.litrs_strings.specs.ParsedStrings.{IsParsedQuoted, IsParsedRaw,
 ghost use Rattle.litrs_strings.specs.StringLiteral.{kept_map};
 
 use crate::kept::{BodyPlace, KeptValue};
-use litrs_lex::{
-    Allows, EscapeContainer, InByteString, InCString, InString, scan_raw_string,
-    unescape_string_with,
-};
+use litrs_lex::{Allows, EscapeContainer, scan_raw_string, unescape_string_with};
 use litrs_parts::{Front, ParseError, ParseErrorKind, StringKind, Switches};
 use std::alloc::Global;
 
 /// Parses a text that begins so as a string of the kind: its value, or where that stands, and where
-/// its suffix begins, in bytes.
+/// its suffix begins, in bytes. It is compiled for what the kind allows.
 #[inline(always)]
-pub(crate) fn parse_string<C: EscapeContainer>(
+pub(crate) fn parse_string<C: EscapeContainer, A: Allows>(
     alloc: Global,
     input: &str,
     kind: StringKind,
+    allowed: A,
     front: Front,
 ) -> Result<(KeptValue<C>, usize), ParseError>
     requires front { IsFront front input.now }
-    requires fits { IsTrue (not (switches_of (grammar_kind kind)).byte_escapes || C.TAKES_BYTES) }
+    requires same { A.allowed allowed ≡ switches_of (grammar_kind kind) }
+    requires fits { IsTrue (not (A.allowed allowed).byte_escapes || C.TAKES_BYTES) }
     ensures ok { IfOk result (λ parsed.
         IsParsedString (grammar_kind kind) input.now (kept_map C.contents parsed.0) parsed.1) }
     ensures refused { IfErr result (IsRefusedOrOutOfMemory
@@ -38,7 +37,7 @@ pub(crate) fn parse_string<C: EscapeContainer>(
 {
     let offset = kind.front_len();
     match front {
-        Front::Quoted(found) if found == kind => parse_quoted(alloc, input, offset, kind),
+        Front::Quoted(found) if found == kind => parse_quoted(alloc, input, offset, allowed),
         Front::Raw(found) if found == kind => {
             let (place, start_suffix) = cut_raw(input, offset, kind.switches())?;
             Ok((KeptValue::InText(place), start_suffix))
@@ -65,35 +64,11 @@ fn start_refusal(input: &str, kind: StringKind) -> ParseError
     }
 }
 
-/// Parses a quoted string of the kind whose body begins at `offset`, a place as of
-/// [`unescape_string`](litrs_lex::unescape_string): by a call that is compiled for the kind.
+/// Parses a quoted string whose body begins at `offset`: its value, where the body has a backslash,
+/// or else where the body stands, and where the suffix begins. `offset` is that of
+/// [`unescape_string`](litrs_lex::unescape_string).
 #[inline(always)]
-fn parse_quoted<C: EscapeContainer>(
-    alloc: Global,
-    input: &str,
-    offset: usize,
-    kind: StringKind,
-) -> Result<(KeptValue<C>, usize), ParseError>
-    requires at { IsCharBoundary input.now offset }
-    requires fits { IsTrue (not (switches_of (grammar_kind kind)).byte_escapes || C.TAKES_BYTES) }
-    ensures ok { IfOk result (λ parsed.
-        IsParsedQuoted (switches_of (grammar_kind kind)) input.now offset
-        (kept_map C.contents parsed.0) parsed.1) }
-    ensures refused { IfErr result (λ e.
-        IsQuotedRefused (switches_of (grammar_kind kind)) input.now offset e
-        ⊎ IsQuotedOutOfMemory (switches_of (grammar_kind kind)) input.now offset e) }
-{
-    match kind {
-        StringKind::String => parse_body(alloc, input, offset, InString),
-        StringKind::ByteString => parse_body(alloc, input, offset, InByteString),
-        StringKind::CString => parse_body(alloc, input, offset, InCString),
-    }
-}
-
-/// The value of a quoted string, where its body has a backslash, or else where the body stands; and
-/// where the suffix begins.
-#[inline(always)]
-fn parse_body<C: EscapeContainer, A: Allows>(
+fn parse_quoted<C: EscapeContainer, A: Allows>(
     alloc: Global,
     input: &str,
     offset: usize,

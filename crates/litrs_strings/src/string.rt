@@ -15,6 +15,7 @@ ghost use Rattle.litrs_strings.specs.StringLiteral.{StringLiteral, IsStringAt, k
 
 use crate::cut::parse_string;
 use crate::kept::KeptValue;
+use litrs_lex::InString;
 use litrs_parts::{Buffer, Front, ParseError, StringKind, Text};
 use std::alloc::{AllocError, Global};
 use std::fmt;
@@ -88,7 +89,13 @@ impl<B: Text> StringLit<B> {
         ensures refused { IfErr result
             (IsRefusedOrOutOfMemory (kind_parse string_literal) (chars (B.bytes input))) }
     {
-        let (value, start_suffix) = parse_string(alloc, input.as_str(), StringKind::String, front)?;
+        let (value, start_suffix) = parse_string(
+            alloc,
+            input.as_str(),
+            StringKind::String,
+            InString,
+            front,
+        )?;
         Ok(StringLit {
             raw: input,
             value,

@@ -87,7 +87,7 @@ returns-in-Quoted-clause-ok g c =
     let seen = same_true the_type (search rules) _ c.args.kind (sym c.if-eq.ensures) in
     let same : c.in-Quoted.found ≡ c.args.kind = cc in
     let begins = quoted_by c.in-Quoted.found c.args.kind c.args.front c.args.input.now c.requires.front c.in-Quoted.is same in
-    let ok = rw (c.front_len-offset.ensures.quoted) at c.parse_quoted.ensures.ok in
+    let ok = rw (c.front_len-offset.ensures.quoted, c.requires.same) at c.parse_quoted.ensures.ok in
     IfOk-weaker c.parse_quoted.result _ _
     (λ parsed is. parsed_quoted (grammar_kind c.args.kind) c.args.input.now _ parsed.1 c.utf8.input begins is) ok
 
@@ -96,7 +96,7 @@ returns-in-Quoted-clause-refused g c =
     let seen = same_true the_type (search rules) _ c.args.kind (sym c.if-eq.ensures) in
     let same : c.in-Quoted.found ≡ c.args.kind = cc in
     let begins = quoted_by c.in-Quoted.found c.args.kind c.args.front c.args.input.now c.requires.front c.in-Quoted.is same in
-    let refused = rw (c.front_len-offset.ensures.quoted) at c.parse_quoted.ensures.refused in
+    let refused = rw (c.front_len-offset.ensures.quoted, c.requires.same) at c.parse_quoted.ensures.refused in
     IfErr-weaker c.parse_quoted.result _ _
     (λ e is. quoted_error (grammar_kind c.args.kind) c.args.input.now e c.utf8.input begins is) refused
 
