@@ -24,6 +24,7 @@ from libraries import TOP
 CALLERS = {
     "litrs": "app: litrs",
     "litrs_token": "app_token: litrs litrs_token",
+    "litrs_prefix": "app_prefix: litrs litrs_prefix",
     "litrs_lines": "app_lines: litrs_lines",
 }
 PROGRAM = "program: litrs"
