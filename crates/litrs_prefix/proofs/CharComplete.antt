@@ -1,0 +1,118 @@
+-- A char or a byte at the front of a text is found.
+use Rattle.std.proofs.Common.{◌≡◌, ℕ, ◌+◌, true, false, not, ◌&&◌, List, [], ◌∷◌, ◌++◌, drop, take, length, Option, Some, None, refl, sym, ap, subst, ◌∙◌, append_assoc, append-nil, arith}
+use Rattle.std.specs.Prelude.{◌==◌, if◌then◌else◌, option_map, is_some}
+use Rattle.std.specs.Str.{chars, IsUtf8, IsCharBoundary}
+use Rattle.std.proofs.lemmas.Bool.{and_parts, and_left, not-true}
+use Rattle.std.proofs.lemmas.List.{drop_at}
+use Rattle.std.proofs.Math.Seq.{take-append_seam}
+use Rattle.unicode_ident.specs.Ident.{is_xid_continue}
+use Rattle.unicode_ident.proofs.IdentLemmas.{is_xid_start-ascii, is_xid_continue-ascii}
+use Rattle.litrs_base.specs.declared.err.ParseError.{ParseError}
+use Rattle.litrs_base.specs.declared.err.ParseErrorKind.{ParseErrorKind}
+use Rattle.litrs_base.specs.Text.{byte_len}
+use Rattle.litrs_base.specs.Refusal.{Refusal, at, moved, refusal_of}
+use Rattle.litrs_base.specs.Derivations.{HasNoDerivation}
+use Rattle.litrs_base.proofs.ListTests.{if_false}
+use Rattle.litrs_base.proofs.Spans.{byte_len-append, byte_len_ascii}
+use Rattle.litrs_grammar.specs.Suffix.{is_suffix, starts_identifier, suffix_refusal}
+use Rattle.litrs_grammar.specs.Escape.{escape_text, escape_refusal}
+use Rattle.litrs_grammar.specs.CharByte.{CharKind, char_kind, byte_kind, char_front, char_switches_of, CharItem, plain_char, escaped_char, char_item_text, is_special_whitespace, allows_char, is_char_item, CharParts, IsCharLiteral, escape_length, char_item_length, closing_refusal, char_item_refusal, char_kind_refusal}
+use Rattle.litrs_grammar.proofs.QuotedItems.{escape_head}
+use Rattle.litrs_grammar.proofs.Laws.Escape.{refusal_escape}
+use Rattle.litrs_grammar.proofs.Laws.CharByte.{escape_length_is, backslash_allowed}
+use Rattle.litrs_prefix.specs.Prefix.{ends_suffix}
+use Rattle.litrs_prefix.specs.Opens.{after_name}
+use Rattle.litrs_prefix.specs.Ends.{IsSuffixKind}
+use Rattle.litrs_prefix.proofs.Chars.{same_char, longer_char}
+use Rattle.litrs_prefix.proofs.Complete.{skip, here, name_after, no_suffix, suffix_kind, quote_place_39, PointsAtSuffix}
+
+abbrev refused_at : ℕ → List ℕ → Option Refusal
+refused_at place x = Some (at (place + 1) (suffix_refusal x))
+
+closing_refused : (kind : CharKind) (place : ℕ) (x : List ℕ) → is_suffix x ≡ false → closing_refusal kind place (39 ∷ x) ≡ refused_at place x
+closing_refused kind place x h = here (is_suffix x) _ _ h
+
+abbrev after_item : CharKind → List ℕ → ℕ → Option Refusal
+after_item kind t n = closing_refusal kind (byte_len (take n t)) (drop n t)
+
+pass_none : (o y z : Option Refusal) → o ≡ None → y ≡ z → (if true && is_some o then o else y) ≡ z
+pass_none o y z h g = rw h g
+
+-- an item, its quote, and what makes the suffix none
+item_refused : (kind : CharKind) (a : CharItem) (x : List ℕ) → is_char_item kind a ≡ true → is_suffix x ≡ false →
+    char_item_refusal kind (char_item_text a ++ 39 ∷ x) ≡ refused_at (byte_len (char_item_text a)) x
+item_refused kind (plain_char c) x h g =
+    let p = and_parts _ (allows_char kind c) h in
+    let q = and_parts _ (not (is_special_whitespace c)) p.0 in
+    let r = and_parts (not (c == 39)) (not (c == 92)) q.0 in
+    let one : char_item_length c (c ∷ 39 ∷ x) ≡ 1 = if_false _ _ _ (not-true _ r.1) in
+    if_false _ _ _ (and_left _ _ (not-true _ r.0))
+    ∙ (if_false _ _ _ (not-true _ r.0)
+    ∙ (if_false _ _ _ (not-true _ q.1)
+    ∙ (if_false _ _ _ (and_left _ _ (not-true _ r.1))
+    ∙ (skip (allows_char kind c) _ _ p.1
+    ∙ subst (λ n. after_item kind (c ∷ 39 ∷ x) n ≡ refused_at (byte_len (c ∷ [])) x) (sym one) (closing_refused kind _ x g)))))
+item_refused kind (escaped_char e) x h g = escaped (escape_text e ++ 39 ∷ x) (escape_head e (39 ∷ x)) refl
+  where
+    escaped : (t : List ℕ) → (c : ℕ) × (r : List ℕ) × (t ≡ 92 ∷ c ∷ r) → t ≡ escape_text e ++ 39 ∷ x → char_item_refusal kind t ≡ refused_at (byte_len (escape_text e)) x
+    escaped t (c, r, head) same =
+        let whole : escape_text e ++ 39 ∷ x ≡ 92 ∷ c ∷ r = sym same ∙ head in
+        let w = char_switches_of kind in
+        let none : escape_refusal w (92 ∷ c ∷ r) ≡ None = subst (λ l. escape_refusal w l ≡ None) whole (refusal_escape w e (39 ∷ x) h) in
+        let size : escape_length (92 ∷ c ∷ r) ≡ length (escape_text e) = subst (λ l. escape_length l ≡ length (escape_text e)) whole (escape_length_is w e (39 ∷ x) h) in
+        let after : drop (length (escape_text e)) (92 ∷ c ∷ r) ≡ 39 ∷ x = subst (λ l. drop (length (escape_text e)) l ≡ 39 ∷ x) whole (drop_at (escape_text e) (39 ∷ x) (length (escape_text e)) refl) in
+        let before : take (length (escape_text e)) (92 ∷ c ∷ r) ≡ escape_text e = subst (λ l. take (length (escape_text e)) l ≡ escape_text e) whole (take-append_seam (escape_text e) (39 ∷ x)) in
+        ap (char_item_refusal kind) head
+        ∙ pass_none _ _ _ none
+        (skip (allows_char kind 92) _ _ (backslash_allowed kind)
+        ∙ (ap (after_item kind (92 ∷ c ∷ r)) size
+        ∙ (ap (λ l. closing_refusal kind (byte_len l) (drop (length (escape_text e)) (92 ∷ c ∷ r))) before
+        ∙ (ap (closing_refusal kind (byte_len (escape_text e))) after ∙ closing_refused kind (byte_len (escape_text e)) x g))))
+
+kind_refused : (kind : CharKind) (inner : List ℕ) → char_kind_refusal kind (char_front kind ++ inner) ≡ option_map (moved (length (char_front kind))) (char_item_refusal kind inner)
+unfolding char_kind_refusal
+kind_refused char_kind inner = refl
+kind_refused byte_kind inner = refl
+
+front_ascii : (kind : CharKind) → byte_len (char_front kind) ≡ length (char_front kind)
+front_ascii char_kind = byte_len_ascii (char_front char_kind) refl
+front_ascii byte_kind = byte_len_ascii (char_front byte_kind) refl
+
+pub whole_char : (kind : CharKind) (t l r : List ℕ) (p d : CharParts) → IsCharLiteral kind t p → l ++ r ≡ t → IsCharLiteral kind l d → ends_suffix d.suffix r ≡ true →
+    after_name p.suffix ≡ r
+whole_char kind t l r p d whole spells h e =
+    let both = same_char kind t l [] r p d whole h refl e (append-nil t ∙ sym spells) in
+    ap after_name (sym (append-nil p.suffix)) ∙ (name_after p.suffix [] whole.suffix refl ∙ both.1)
+
+pub points_char : (kind : CharKind) (bs l r : List ℕ) (d : CharParts) (e : ParseError) → IsUtf8 bs → l ++ r ≡ chars bs → IsCharLiteral kind l d → ends_suffix d.suffix r ≡ true →
+    HasNoDerivation (IsCharLiteral kind (chars bs)) → char_kind_refusal kind (chars bs) ≡ Some (refusal_of e) → PointsAtSuffix bs r e
+points_char kind bs l [] d e u spells h f none table =
+    absurd (none d (subst (λ (t : List ℕ). IsCharLiteral kind t d) (sym (append-nil l) ∙ spells) h))
+points_char kind bs l (c ∷ r) d e u spells h f none table =
+    let x : List ℕ = d.suffix ++ c ∷ r in
+    let front : List ℕ = char_front kind in
+    let item : List ℕ = char_item_text d.item in
+    let inner : List ℕ = item ++ 39 ∷ x in
+    let text : chars bs ≡ front ++ inner = sym spells ∙ longer_char kind l (c ∷ r) d h in
+    let points : char_kind_refusal kind (chars bs) ≡ option_map (moved (length front)) (refused_at (byte_len item) x) =
+    ap (char_kind_refusal kind) text ∙ (kind_refused kind inner ∙ ap (option_map (moved (length front))) (item_refused kind d.item x h.item (no_suffix d.suffix c r f))) in
+    let some : Some (moved (length front) (at (byte_len item + 1) (suffix_refusal x))) ≡ Some (refusal_of e) = sym points ∙ table in
+    let same : moved (length front) (at (byte_len item + 1) (suffix_refusal x)) ≡ refusal_of e = cc in
+    let place = quote_place_39 bs (front ++ item) x u (text ∙ sym (append_assoc front item (39 ∷ x))) in
+    let len : 1 + byte_len (front ++ item) ≡ byte_len item + 1 + length front = omega (arith, byte_len-append front item, front_ascii kind) in
+    record {
+      span = record { start = byte_len item + 1 + length front; end = byte_len item + 1 + 1 + length front };
+      at = sym (ap (λ (z : Refusal). z.span) same);
+      kind = subst (λ (k : ParseErrorKind). IsSuffixKind k) (ap (λ (z : Refusal). z.kind) same) (suffix_kind x);
+      after = x;
+      boundary = subst (λ (n : ℕ). IsCharBoundary bs n) len place.0;
+      is = ap (λ (n : ℕ). chars (drop n bs)) (sym len) ∙ place.1;
+      name = name_after d.suffix (c ∷ r) h.suffix f;
+    }
+
+-- what no name goes on or begins with
+pub quote_stops : is_xid_continue 39 ≡ false
+quote_stops = is_xid_continue-ascii 39 (omega arith)
+
+pub backslash_stops : starts_identifier 92 ≡ false
+backslash_stops = is_xid_start-ascii 92 (omega arith)

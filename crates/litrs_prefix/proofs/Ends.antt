@@ -1,0 +1,44 @@
+-- Ends of texts, in bytes.
+use Rattle.std.proofs.Common.{◌≡◌, ℕ, ◌+◌, ◌-◌, ◌<◌, ◌≤◌, List, [], ◌++◌, length, take, drop, refl, sym, ap, subst, ◌∙◌, append_assoc, append-nil, length-append, arith}
+use Rattle.std.specs.Prelude.{encode_utf8}
+use Rattle.std.specs.Str.{IsUtf8, IsCharBoundary}
+use Rattle.std.proofs.lemmas.List.{drop_at, take-append-drop}
+use Rattle.std.proofs.lemmas.Str.{length-encode, len_utf8_bounds, IsCharBoundary-from_drop}
+use Rattle.litrs_prefix.specs.Ends.{IsEndOf}
+
+pub all : (t : List ℕ) → IsEndOf t t
+all t = ([], refl)
+
+pub nothing : (t : List ℕ) → IsEndOf t []
+nothing t = (t, append-nil t)
+
+pub end_of_end : (t x y : List ℕ) → IsEndOf t x → IsEndOf x y → IsEndOf t y
+end_of_end t x y h g = (h.0 ++ g.0, append_assoc h.0 g.0 y ∙ (ap (λ (l : List ℕ). h.0 ++ l) g.1 ∙ h.1))
+
+pub after_first : (t x after : List ℕ) (c : ℕ) → IsEndOf t x → x ≡ encode_utf8 c ++ after → IsEndOf t after
+after_first t x after c h is = end_of_end t x after h (encode_utf8 c, sym is)
+
+pub after_bytes : (t rest : List ℕ) (n : ℕ) → rest ≡ drop n t → IsEndOf t rest
+after_bytes t rest n is = (take n t, ap (λ (l : List ℕ). take n t ++ l) is ∙ take-append-drop n t)
+
+pub shorter : (bs : List ℕ) (c : ℕ) (after : List ℕ) → bs ≡ encode_utf8 c ++ after → length after < length bs
+shorter bs c after is =
+    let size : length bs ≡ length (encode_utf8 c) + length after = ap length is ∙ length-append (encode_utf8 c) after in
+    let least = (len_utf8_bounds c).0 in
+    omega (arith, length-encode c)
+
+pub not_longer : (t x : List ℕ) → IsEndOf t x → length x ≤ length t
+not_longer t x h =
+    let size : length t ≡ length h.0 + length x = ap length (sym h.1) ∙ length-append h.0 x in
+    omega arith
+
+-- where the end of a text begins
+pub end_at : (bs front after : List ℕ) → IsUtf8 after → front ++ after ≡ bs → IsCharBoundary bs (length bs - length after) × (drop (length bs - length after) bs ≡ after)
+end_at bs front after u is =
+    let size : length bs ≡ length front + length after = ap length (sym is) ∙ length-append front after in
+    let place : length bs - length after ≡ length front = omega arith in
+    let left : drop (length bs - length after) bs ≡ after = ap (drop (length bs - length after)) (sym is) ∙ drop_at front after (length bs - length after) (sym place) in
+    (IsCharBoundary-from_drop bs (length bs - length after) (omega arith) (subst (λ (l : List ℕ). IsUtf8 l) (sym left) u), left)
+
+pub end_boundary : (t rest : List ℕ) → IsUtf8 rest → IsEndOf t rest → IsCharBoundary t (length t - length rest)
+end_boundary t rest u h = (end_at t h.0 rest u h.1).0

@@ -1,0 +1,23 @@
+-- ends of texts
+pub mod Ends
+-- names, and that a literal at the front opens
+pub mod Names
+pub mod Opened
+-- what longer texts keep, and that the literal is the only one
+pub mod LongerTexts
+pub mod Suffixes
+pub mod Quoted
+pub mod Chars
+pub mod Numbers
+pub mod Unique
+pub mod MoreText
+-- that a literal at the front is found
+pub mod Complete
+pub mod RawComplete
+pub mod CharComplete
+pub mod NumberComplete
+pub mod Dispatched
+-- what was meant as a literal
+pub mod Pieces
+-- whether what was cut off is a literal
+pub mod Stands

@@ -1,0 +1,126 @@
+-- A piece at the front of a text that is refused.
+use Rattle.std.proofs.Common.{◌≡◌, ℕ, ◌+◌, ◌<◌, ◌^◌, List, ◌++◌, length, take, drop, None, true, sym, ap, subst, inl, inr, ◌∙◌, length-take, length-drop, [], ◌∷◌, ◌-◌, ◌≤◌, refl, arith}
+use Rattle.std.specs.Str.{chars, IsUtf8, IsCharBoundary}
+use Rattle.std.specs.Prelude.{encode_utf8, encode_utf8_all}
+use Rattle.std.proofs.lemmas.Str.{chars-append, chars-nil, encode_ascii, encodes-chars, encodes-IsAscii, IsUtf8-take}
+use Rattle.litrs_base.proofs.Chars.{ascii_by_test, chars_ascii}
+use Rattle.std.proofs.lemmas.Bool.{eqb-true, false≢true}
+use Rattle.std.proofs.lemmas.List.{take-append-drop, append_cancel_right}
+use Rattle.litrs_base.specs.declared.err.ParseError.{ParseError}
+use Rattle.litrs_base.specs.Text.{byte_len, first_passes}
+use Rattle.litrs_grammar.specs.Float.{is_period}
+use Rattle.litrs_base.specs.Derivations.{HasNoDerivation}
+use Rattle.litrs_grammar.specs.Literal.{Derivation, IsLiteral, literal_parse}
+use Rattle.litrs_grammar.specs.Refused.{IsRefused, IsRefusedOrOutOfMemory}
+use Rattle.litrs_base.specs.Refusal.{Refusal, span_of, MovesWithin}
+use Rattle.litrs_parts.proofs.CharCuts.{cut_at}
+use Rattle.litrs.proofs.MovedRefusals.{refusal_moves}
+use Rattle.litrs_prefix.specs.declared.MalformedPrefix.{MalformedPrefix}
+use Rattle.litrs_prefix.specs.Ends.{EndsBefore}
+use Rattle.litrs_prefix.specs.Malformed.{IsMalformed, IsMalformedOrOutOfMemory}
+use Rattle.litrs_prefix.specs.Opens.{opens}
+use Rattle.litrs_prefix.specs.Prefix.{HasPrefix, HasNoPrefix}
+use Rattle.litrs_prefix.proofs.Complete.{front_is}
+use Rattle.litrs_prefix.proofs.LongerTexts.{whole}
+use Rattle.litrs_prefix.proofs.Opened.{opened}
+
+-- the two parts of a text that is cut at a character
+pub parts_spell : (bs front rest : List ℕ) (n : ℕ) → IsUtf8 bs → IsCharBoundary bs n → front ≡ take n bs → rest ≡ drop n bs → chars front ++ chars rest ≡ chars bs
+parts_spell bs front rest n u bound before after =
+    ap (λ (l : List ℕ). chars l ++ chars rest) before
+    ∙ (ap (λ (l : List ℕ). chars (take n bs) ++ chars l) after
+    ∙ (sym (chars-append (take n bs) (drop n bs) (IsUtf8-take bs n u bound)) ∙ ap chars (take-append-drop n bs)))
+
+-- the literal at the front would be the piece
+pub piece_is : (bs front : List ℕ) (n : ℕ) (d : Derivation) (r : List ℕ) → IsUtf8 bs → front ≡ take n bs → EndsBefore bs r n → HasPrefix (chars bs) d r → IsLiteral (chars front) d
+piece_is bs front n d r u before place at =
+    subst (λ (t : List ℕ). IsLiteral t d) (sym (ap chars before ∙ front_is bs n at.front r u place.0 place.1 at.spells)) at.literal
+
+piece_len : (bs front : List ℕ) (n : ℕ) → IsUtf8 bs → IsCharBoundary bs n → front ≡ take n bs → length front ≡ n → byte_len (chars front) ≡ n
+piece_len bs front n u bound before size =
+    ap length (encodes-chars front (subst (λ (l : List ℕ). IsUtf8 l) (sym before) (IsUtf8-take bs n u bound))) ∙ size
+
+pub piece_refused : (bs front rest : List ℕ) (n : ℕ) (e : ParseError) → IsUtf8 bs → IsCharBoundary bs n → front ≡ take n bs → rest ≡ drop n bs → length front ≡ n →
+    opens (chars bs) ≡ true → IsRefusedOrOutOfMemory literal_parse (chars front) e → (HasNoDerivation (IsLiteral (chars front)) → HasNoPrefix (chars bs)) →
+    0 < n → IsMalformedOrOutOfMemory (chars bs) (record { error = e; len = n })
+piece_refused bs front rest n e u bound before after size opens_at (inl is) none some = inl (record {
+  front = chars front;
+  rest = chars rest;
+  spells = parts_spell bs front rest n u bound before after;
+  len = piece_len bs front n u bound before size;
+  some = some;
+  refused = is;
+  opens = opens_at;
+  none = none is.none;
+})
+piece_refused bs front rest n e u bound before after size opens_at (inr is) none some = inr (record {
+  front = chars front;
+  rest = chars rest;
+  spells = parts_spell bs front rest n u bound before after;
+  len = piece_len bs front n u bound before size;
+  refused = is;
+})
+
+-- what the spans of an error are moved by fits, where it is within the source text
+pub malformed_moves : (bs : List ℕ) (e : MalformedPrefix) (offset : ℕ) → IsUtf8 bs → offset + length bs < 2 ^ 64 → IsMalformedOrOutOfMemory (chars bs) e → MovesWithin offset e.error
+malformed_moves bs e offset u small (inl is) =
+    let cut = cut_at bs is.front is.rest u (sym is.spells) in
+    let front : chars (take (byte_len is.front) bs) ≡ is.front = front_is bs (byte_len is.front) is.front is.rest u cut.boundary cut.rest is.spells in
+    let utf8 : IsUtf8 (take (byte_len is.front) bs) = IsUtf8-take bs (byte_len is.front) u cut.boundary in
+    refusal_moves literal_parse (take (byte_len is.front) bs) e.error offset utf8 (omega (arith, length-take {A = ℕ}))
+    (subst (λ (t : List ℕ). IsRefused literal_parse t e.error) (sym front) is.refused)
+malformed_moves bs e offset u small (inr is) = λ x same. let none : span_of e.error ≡ None = ap (λ (r : Refusal). r.span) is.refused.error in cc
+
+-- no literal is empty, so that none ends where the text begins
+pub no_empty_piece : (bs : List ℕ) (d : Derivation) (r : List ℕ) → HasPrefix (chars bs) d r → EndsBefore bs r 0 → ⊥
+no_empty_piece bs d r at place =
+    let none : at.front ≡ [] = append_cancel_right at.front [] r (at.spells ∙ place.1) in
+    let empty = subst (λ (t : List ℕ). IsLiteral t d) none at.literal in
+    false≢true (opened [] d [] (whole [] d empty))
+
+-- a text where a literal opens is not empty
+pub some_bytes : (bs : List ℕ) → opens (chars bs) ≡ true → 0 < length bs
+some_bytes [] h = absurd (false≢true (sym (ap opens chars-nil) ∙ h))
+some_bytes (b ∷ bs) h = omega arith
+
+-- a text that ends with a period, in bytes
+pub last_period : (bs front : List ℕ) → IsUtf8 bs → front ++ 46 ∷ [] ≡ chars bs → IsCharBoundary bs (length bs - 1) × (drop (length bs - 1) bs ≡ 46 ∷ []) × (1 ≤ length bs)
+last_period bs front u is =
+    let cut = cut_at bs front (46 ∷ []) u (sym is) in
+    let n = byte_len front in
+    let last : drop n bs ≡ 46 ∷ [] = sym (encodes-chars (drop n bs) cut.utf8) ∙ (ap encode_utf8_all cut.rest ∙ encodes-IsAscii (46 ∷ []) (ascii_by_test (46 ∷ []) refl)) in
+    let one : length (drop n bs) ≡ 1 = ap length last in
+    let within = cut.within in
+    let place : n ≡ length bs - 1 = omega (arith, length-drop {A = ℕ}) in (
+      subst (λ (k : ℕ). IsCharBoundary bs k) place cut.boundary,
+      subst (λ (k : ℕ). drop k bs ≡ 46 ∷ []) place last,
+      omega (arith, length-drop {A = ℕ}),
+    )
+
+nothing_left : (l : List ℕ) → length l ≡ 0 → l ≡ []
+nothing_left [] h = refl
+nothing_left (x ∷ l) h = absurd (omega arith)
+
+-- one byte that begins with a period is a period
+pub one_period : (last : List ℕ) → IsUtf8 last → length last ≡ 1 → first_passes is_period (chars last) ≡ true → last ≡ 46 ∷ []
+one_period last u one h = go (chars last) refl h
+  where
+    go : (t : List ℕ) → chars last ≡ t → first_passes is_period t ≡ true → last ≡ 46 ∷ []
+    go [] is h = absurd (false≢true h)
+    go (c ∷ t) is h =
+        let same : c ≡ 46 = eqb-true c 46 h in
+        let bytes : last ≡ encode_utf8 c ++ encode_utf8_all t = sym (encodes-chars last u) ∙ ap encode_utf8_all is in
+        let first : encode_utf8 c ≡ 46 ∷ [] = ap encode_utf8 same ∙ encode_ascii 46 (omega arith) in
+        let whole : last ≡ 46 ∷ encode_utf8_all t = bytes ∙ ap (λ (l : List ℕ). l ++ encode_utf8_all t) first in
+        let size : length last ≡ length (46 ∷ encode_utf8_all t) = ap length whole in
+        let none : encode_utf8_all t ≡ [] = nothing_left (encode_utf8_all t) (omega arith) in
+        whole ∙ ap (λ (l : List ℕ). 46 ∷ l) none
+
+pub before_period : (bs front last : List ℕ) (n : ℕ) → IsUtf8 bs → IsCharBoundary bs n → front ≡ take n bs → last ≡ drop n bs → last ≡ 46 ∷ [] → chars front ++ 46 ∷ [] ≡ chars bs
+before_period bs front last n u bound before after is =
+    ap (λ (l : List ℕ). chars front ++ l) (sym (ap chars is ∙ (chars_ascii 46 [] (omega arith) ∙ ap (λ (l : List ℕ). 46 ∷ l) chars-nil)))
+    ∙ parts_spell bs front last n u bound before after
+
+-- what was meant as a literal ends at a character
+pub malformed_boundary : (bs : List ℕ) (e : MalformedPrefix) → IsUtf8 bs → IsMalformed (chars bs) e → IsCharBoundary bs e.len
+malformed_boundary bs e u is = subst (λ (n : ℕ). IsCharBoundary bs n) is.len (cut_at bs is.front is.rest u (sym is.spells)).boundary

@@ -1,0 +1,197 @@
+-- Whether a front is a literal that a rest may follow.
+use Rattle.std.proofs.Common.{◌≡◌, ◌⊎◌, inl, inr, ℕ, Bool, true, false, List, [], take, drop, refl, sym, ap, subst, ◌∙◌, append-nil}
+use Rattle.std.specs.Prelude.{◌&&◌, codes, if◌then◌else◌}
+use Rattle.std.specs.Str.{chars, IsUtf8, IsCharBoundary}
+use Rattle.std.proofs.lemmas.Bool.{true≢false}
+use Rattle.litrs_base.specs.declared.err.ParseErrorKind.TheVariants.{InvalidLiteral}
+use Rattle.litrs_base.specs.Derivations.{IsOnlyDerivation}
+use Rattle.litrs_base.specs.Refusal.{Refusal, plain}
+use Rattle.litrs_base.specs.Text.{begins_with}
+use Rattle.litrs_grammar.specs.CharByte.{CharParts, char_kind, byte_kind, IsCharLiteral}
+use Rattle.litrs_grammar.specs.Float.{FloatParts, IsFloatOf}
+use Rattle.litrs_grammar.specs.Integer.{IntegerParts, IsIntegerOf}
+use Rattle.litrs_grammar.specs.Literal.{Derivation, a_bool, an_integer, a_float, a_char, a_byte, a_string, a_byte_string, a_c_string, IsLiteral, IsString, StringParts, quoted_parts, raw_parts, string_suffix, bool_literal, integer_literal, float_literal, char_literal, byte_literal, c_string_literal, string_literal_of, literal_kind}
+use Rattle.litrs_grammar.specs.LiteralRefusals.{Dispatch, refused_as, parsed_as, begins_float}
+use Rattle.litrs_grammar.specs.Quoted.{IsQuotedLiteral}
+use Rattle.litrs_grammar.specs.Raw.{IsRawLiteral}
+use Rattle.litrs_grammar.specs.StringKind.{StringKind, string_kind, byte_string_kind, c_string_kind}
+use Rattle.litrs_grammar.proofs.Laws.Bool.{chars-bool_text}
+use Rattle.litrs_grammar.proofs.Laws.Literal.{dispatch_literal}
+use Rattle.litrs_parts.specs.declared.kind.Front.{Front}
+use Rattle.litrs_parts.specs.declared.kind.Front.TheVariants as front
+use Rattle.litrs_parts.specs.declared.kind.StringKind.{StringKind as CodeKind}
+use Rattle.litrs_parts.specs.Front.{grammar_kind, row_of, IsFront}
+use Rattle.litrs_parts.proofs.Dispatch.{dispatch-chars}
+use Rattle.litrs_lex.proofs.StringFronts.{quoted_begins, raw_begins}
+use Rattle.litrs_prefix.specs.Ends.{EndsBefore, StandsBy, StandsBefore}
+use Rattle.litrs_prefix.specs.Prefix.{may_follow, ends_bool, ends_suffix, ends_integer, ends_float, HasPrefix, HasNoPrefix}
+use Rattle.litrs_prefix.proofs.Dispatched.{only_quoted, only_raw, no_c_string}
+use Rattle.litrs_prefix.proofs.Pieces.{parts_spell, piece_is}
+
+-- by the only derivation
+pub by_only : {D : Type 0} (Derives : D → Type 0) (follows : D → Bool) (d : D) (b : Bool) → IsOnlyDerivation Derives d → follows d ≡ b → StandsBy Derives follows b
+by_only Derives follows d true only is = (d, only.0, is)
+by_only Derives follows d false only is = λ e h. ap follows (only.1 e h) ∙ is
+
+-- where a literal is of one kind alone, it stands if one of the kind does
+pub by_kind : {D : Type 0} (Derives : D → Type 0) (follows : D → Bool) (make : D → Derivation) (t r : List ℕ) (b : Bool) →
+    ((x : D) → Derives x → IsLiteral t (make x)) → ((x : D) → IsLiteral t (make x) → Derives x) → ((x : D) → may_follow (make x) r ≡ follows x) →
+    ((d : Derivation) → IsLiteral t d → (x : D) × (d ≡ make x)) → StandsBy Derives follows b → StandsBefore b t r
+by_kind Derives follows make t r true to from same only is = (make is.0, to is.0 is.1, same is.0 ∙ is.2)
+by_kind Derives follows make t r false to from same only none = λ d h.
+    let is = only d h in
+    ap (λ (e : Derivation). may_follow e r) is.1 ∙ (same is.0 ∙ none is.0 (from is.0 (subst (λ (e : Derivation). IsLiteral t e) is.1 h)))
+
+-- the kind of the literal that a text is, by how its bytes begin
+pub kind_at : (f : Front) (bs : List ℕ) (row : Dispatch) (d : Derivation) → IsUtf8 bs → IsFront f bs → row_of f bs ≡ row → IsLiteral (chars bs) d → parsed_as (literal_kind d) ≡ row
+kind_at f bs row d u is same h = sym (dispatch_literal (chars bs) d h) ∙ (dispatch-chars bs u ∙ (sym is.row ∙ same))
+
+bool_of : (d : Derivation) → parsed_as (literal_kind d) ≡ parsed_as bool_literal → (x : Bool) × (d ≡ a_bool x)
+bool_of (a_bool x) h = (x, refl)
+bool_of d h = absurd cc
+
+char_of : (d : Derivation) → parsed_as (literal_kind d) ≡ parsed_as char_literal → (x : CharParts) × (d ≡ a_char x)
+char_of (a_char x) h = (x, refl)
+char_of d h = absurd cc
+
+byte_of : (d : Derivation) → parsed_as (literal_kind d) ≡ parsed_as byte_literal → (x : CharParts) × (d ≡ a_byte x)
+byte_of (a_byte x) h = (x, refl)
+byte_of d h = absurd cc
+
+integer_of : (d : Derivation) → parsed_as (literal_kind d) ≡ parsed_as integer_literal → (x : IntegerParts) × (d ≡ an_integer x)
+integer_of (an_integer x) h = (x, refl)
+integer_of d h = absurd cc
+
+float_of : (d : Derivation) → parsed_as (literal_kind d) ≡ parsed_as float_literal → (x : FloatParts) × (d ≡ a_float x)
+float_of (a_float x) h = (x, refl)
+float_of d h = absurd cc
+
+-- a string of the kind, as a literal
+abbrev pub string_at : StringKind → StringParts → Derivation
+string_at string_kind x = a_string x
+string_at byte_string_kind x = a_byte_string x
+string_at c_string_kind x = a_c_string x
+
+string_of : (kind : StringKind) (d : Derivation) → parsed_as (literal_kind d) ≡ parsed_as (string_literal_of kind) → (x : StringParts) × (d ≡ string_at kind x)
+string_of string_kind (a_string x) h = (x, refl)
+string_of byte_string_kind (a_byte_string x) h = (x, refl)
+string_of c_string_kind (a_c_string x) h = (x, refl)
+string_of string_kind d h = absurd cc
+string_of byte_string_kind d h = absurd cc
+string_of c_string_kind d h = absurd cc
+
+to_string : (kind : StringKind) (t : List ℕ) (x : StringParts) → IsString kind t x → IsLiteral t (string_at kind x)
+to_string string_kind t x h = h
+to_string byte_string_kind t x h = h
+to_string c_string_kind t x h = h
+
+from_string : (kind : StringKind) (t : List ℕ) (x : StringParts) → IsLiteral t (string_at kind x) → IsString kind t x
+from_string string_kind t x h = h
+from_string byte_string_kind t x h = h
+from_string c_string_kind t x h = h
+
+string_follows : (kind : StringKind) (x : StringParts) (r : List ℕ) → may_follow (string_at kind x) r ≡ ends_suffix (string_suffix x) r
+string_follows string_kind x r = refl
+string_follows byte_string_kind x r = refl
+string_follows c_string_kind x r = refl
+
+-- each kind
+
+pub bool_before : (value : Bool) (bs r : List ℕ) (b : Bool) → IsUtf8 bs → IsFront (front.Bool value) bs → ends_bool r ≡ b → StandsBefore b (chars bs) r
+bool_before value bs r true u is e = (a_bool value, sym (ap chars is.begins ∙ chars-bool_text value), e)
+bool_before value bs r false u is e = λ d h.
+    let same = bool_of d (kind_at (front.Bool value) bs (parsed_as bool_literal) d u is refl h) in
+    ap (λ (x : Derivation). may_follow x r) same.1 ∙ e
+
+pub char_before : (bs r : List ℕ) (b : Bool) → IsUtf8 bs → IsFront front.Char bs → StandsBy (IsCharLiteral char_kind (chars bs)) (λ d. ends_suffix d.suffix r) b → StandsBefore b (chars bs) r
+char_before bs r b u is h =
+    by_kind (IsCharLiteral char_kind (chars bs)) (λ d. ends_suffix d.suffix r) a_char (chars bs) r b (λ x k. k) (λ x k. k) (λ x. refl)
+    (λ d k. char_of d (kind_at front.Char bs (parsed_as char_literal) d u is refl k)) h
+
+pub byte_before : (bs r : List ℕ) (b : Bool) → IsUtf8 bs → IsFront front.Byte bs → StandsBy (IsCharLiteral byte_kind (chars bs)) (λ d. ends_suffix d.suffix r) b → StandsBefore b (chars bs) r
+byte_before bs r b u is h =
+    by_kind (IsCharLiteral byte_kind (chars bs)) (λ d. ends_suffix d.suffix r) a_byte (chars bs) r b (λ x k. k) (λ x k. k) (λ x. refl)
+    (λ d k. byte_of d (kind_at front.Byte bs (parsed_as byte_literal) d u is refl k)) h
+
+pub quoted_before : (kind : CodeKind) (bs r : List ℕ) (b : Bool) → IsUtf8 bs → IsFront (front.Quoted kind) bs →
+    StandsBy (IsQuotedLiteral (grammar_kind kind) (chars bs)) (λ d. ends_suffix d.suffix r) b → StandsBefore b (chars bs) r
+quoted_before kind bs r b u is h =
+    let k = grammar_kind kind in
+    by_kind (IsQuotedLiteral k (chars bs)) (λ d. ends_suffix d.suffix r) (λ q. string_at k (quoted_parts q)) (chars bs) r b
+    (λ x j. to_string k (chars bs) (quoted_parts x) j) (λ x j. from_string k (chars bs) (quoted_parts x) j) (λ x. string_follows k (quoted_parts x) r)
+    (λ d j.
+    let x = string_of k d (kind_at (front.Quoted kind) bs (parsed_as (string_literal_of k)) d u is refl j) in
+    let q = only_quoted k (chars bs) x.0 (quoted_begins k bs u ∙ is.begins) (from_string k (chars bs) x.0 (subst (λ (e : Derivation). IsLiteral (chars bs) e) x.1 j)) in
+    (q.0, x.1 ∙ ap (string_at k) q.1))
+    h
+
+pub raw_before : (kind : CodeKind) (bs r : List ℕ) (b : Bool) → IsUtf8 bs → IsFront (front.Raw kind) bs →
+    StandsBy (IsRawLiteral (grammar_kind kind) (chars bs)) (λ d. ends_suffix d.suffix r) b → StandsBefore b (chars bs) r
+raw_before kind bs r b u is h =
+    let k = grammar_kind kind in
+    by_kind (IsRawLiteral k (chars bs)) (λ d. ends_suffix d.suffix r) (λ q. string_at k (raw_parts q)) (chars bs) r b
+    (λ x j. to_string k (chars bs) (raw_parts x) j) (λ x j. from_string k (chars bs) (raw_parts x) j) (λ x. string_follows k (raw_parts x) r)
+    (λ d j.
+    let x = string_of k d (kind_at (front.Raw kind) bs (parsed_as (string_literal_of k)) d u is refl j) in
+    let q = only_raw k (chars bs) x.0 (raw_begins k bs u ∙ is.begins) (from_string k (chars bs) x.0 (subst (λ (e : Derivation). IsLiteral (chars bs) e) x.1 j)) in
+    (q.0, x.1 ∙ ap (string_at k) q.1))
+    h
+
+number_kinds : (v : Bool) (d : Derivation) → parsed_as (literal_kind d) ≡ (if v then parsed_as float_literal else parsed_as integer_literal) →
+    (parsed_as (literal_kind d) ≡ parsed_as integer_literal) ⊎ (parsed_as (literal_kind d) ≡ parsed_as float_literal)
+number_kinds true d h = inr h
+number_kinds false d h = inl h
+
+pub integer_before : (t r : List ℕ) → StandsBy (IsIntegerOf t) (λ d. ends_suffix d.suffix r && ends_integer d r) true → StandsBefore true t r
+integer_before t r h = (an_integer h.0, h.1, h.2)
+
+pub number_before : (bs r : List ℕ) (b : Bool) → IsUtf8 bs → IsFront front.Number bs → StandsBy (IsIntegerOf (chars bs)) (λ d. ends_suffix d.suffix r && ends_integer d r) false →
+    StandsBy (IsFloatOf (chars bs)) (λ d. ends_suffix d.suffix r && ends_float d r) b → StandsBefore b (chars bs) r
+number_before bs r true u is integers floats = (a_float floats.0, floats.1, floats.2)
+number_before bs r false u is integers floats = λ d h.
+    elim (number_kinds (begins_float bs) d (kind_at front.Number bs (if begins_float bs then parsed_as float_literal else parsed_as integer_literal) d u is refl h)) [
+      | inl kind ↦ (let x = integer_of d kind in
+          ap (λ (e : Derivation). may_follow e r) x.1 ∙ integers x.0 (subst (λ (e : Derivation). IsLiteral (chars bs) e) x.1 h))
+      | inr kind ↦ (let x = float_of d kind in
+          ap (λ (e : Derivation). may_follow e r) x.1 ∙ floats x.0 (subst (λ (e : Derivation). IsLiteral (chars bs) e) x.1 h))
+    ]
+
+-- texts that begin as no literal
+
+refused_row : (d : Derivation) (r : Refusal) → parsed_as (literal_kind d) ≡ refused_as r → ⊥
+refused_row d r h = cc
+
+pub empty_before : (bs r : List ℕ) → IsUtf8 bs → IsFront front.Empty bs → StandsBefore false (chars bs) r
+empty_before bs r u is = λ d h. absurd (refused_row d _ (kind_at front.Empty bs _ d u is refl h))
+
+other_row : (bs : List ℕ) (v : Bool) (d : Derivation) → IsUtf8 bs → IsFront front.Other bs →
+    parsed_as (literal_kind d) ≡ (if v then parsed_as c_string_literal else refused_as (plain InvalidLiteral)) → IsLiteral (chars bs) d → ⊥
+other_row bs false d u is row h = refused_row d (plain InvalidLiteral) row
+other_row bs true d u is row h =
+    let x = string_of c_string_kind d row in
+    no_c_string (chars bs) (chars bs) [] x.0 (quoted_begins c_string_kind bs u ∙ is.begins.0) (raw_begins c_string_kind bs u ∙ is.begins.1) (append-nil (chars bs))
+    (subst (λ (e : Derivation). IsLiteral (chars bs) e) x.1 h)
+
+pub other_before : (bs r : List ℕ) → IsUtf8 bs → IsFront front.Other bs → StandsBefore false (chars bs) r
+other_before bs r u is = λ d h. absurd (other_row bs (begins_with (codes "c") bs) d u is (kind_at front.Other bs _ d u is refl h) h)
+
+-- what was cut off stands before what follows it, if and only if it is the literal at the front
+
+pub stands_prefix : (bs f rest : List ℕ) (n : ℕ) → IsUtf8 bs → IsCharBoundary bs n → f ≡ take n bs → rest ≡ drop n bs → StandsBefore true (chars f) (chars rest) →
+    (d : Derivation) × HasPrefix (chars bs) d (chars (drop n bs))
+stands_prefix bs f rest n u bound before after is = (
+  is.0,
+  subst (λ (l : List ℕ). HasPrefix (chars bs) is.0 (chars l)) after (record {
+    front = chars f;
+    spells = parts_spell bs f rest n u bound before after;
+    literal = is.1;
+    follows = is.2;
+  }),
+)
+
+pub stands_none : (bs f rest : List ℕ) (n : ℕ) → IsUtf8 bs → f ≡ take n bs → rest ≡ drop n bs → ((d : Derivation) (r : List ℕ) → HasPrefix (chars bs) d r → EndsBefore bs r n) →
+    StandsBefore false (chars f) (chars rest) → HasNoPrefix (chars bs)
+stands_none bs f rest n u before after ends none = λ d r at.
+    let place = ends d r at in
+    let same : chars rest ≡ r = ap chars after ∙ place.1 in
+    true≢false (sym at.follows ∙ (ap (may_follow d) (sym same) ∙ none d (piece_is bs f n d r u before place at)))

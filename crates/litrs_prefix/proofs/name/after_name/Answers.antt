@@ -1,0 +1,12 @@
+-- What follows the run is an end of the text.
+use Rattle.std.proofs.Common.{List, ℕ, ◌++◌, sym, ap, ◌∙◌, append_assoc}
+use Rattle.std.specs.Prelude.{encode_utf8}
+use Rattle.litrs_prefix.proofs.name.after_name.Goals as goal
+
+pub returns-then-begins_name-clause-end : goal.returns-then-begins_name-clause-end
+returns-then-begins_name-clause-end c =
+    let first = encode_utf8 c.in-Some.c in
+    let end = c.after_run.ensures.end in (
+      first ++ end.0,
+      append_assoc first end.0 c.after_run.result.now ∙ (ap (λ (l : List ℕ). first ++ l) end.1 ∙ sym c.in-Some.ensures.bytes),
+    )

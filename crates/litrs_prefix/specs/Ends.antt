@@ -1,0 +1,41 @@
+-- Where the code finds that a literal ends.
+use Rattle.std.specs.Prelude.{◌≡◌, ◌⊎◌, ℕ, Bool, true, false, List, ◌++◌, drop, IsTrue, IsFalse}
+use Rattle.std.specs.List.{prefix_len}
+use Rattle.std.specs.Str.{chars, IsCharBoundary}
+use Rattle.litrs_base.specs.declared.err.ParseErrorKind.{ParseErrorKind}
+use Rattle.litrs_base.specs.declared.err.ParseErrorKind.TheVariants.{UnexpectedChar, InvalidSuffix}
+use Rattle.litrs_grammar.specs.Float.{is_decimal_char}
+use Rattle.litrs_grammar.specs.Literal.{Derivation, a_bool, IsLiteral}
+use Rattle.litrs_prefix.specs.Prefix.{may_follow, HasPrefix}
+
+-- the second text is the end of the first
+abbrev pub IsEndOf : (text rest : List ℕ) → Type 0
+IsEndOf text rest = (front : List ℕ) × (front ++ rest ≡ text)
+
+-- no bool stands at the front, before this rest
+abbrev pub NoBoolBefore : (t rest : List ℕ) → Type 0
+NoBoolBefore t rest = (b : Bool) → HasPrefix t (a_bool b) rest → ⊥
+
+-- what is left of a text after the decimal digits and underscores at its front
+abbrev pub after_digits : List ℕ → List ℕ
+after_digits t = drop (prefix_len is_decimal_char t) t
+
+-- the kinds of refusals of what is no suffix
+abbrev pub IsSuffixKind : ParseErrorKind → Type 0
+IsSuffixKind kind = (kind ≡ UnexpectedChar) ⊎ (kind ≡ InvalidSuffix)
+
+-- the place in the text with these bytes is where this rest begins
+abbrev pub EndsBefore : (bytes rest : List ℕ) → ℕ → Type 0
+EndsBefore bytes rest end = IsCharBoundary bytes end × (chars (drop end bytes) ≡ rest)
+
+-- Whether the front is a literal that the rest may follow: where it is, one such; where it is not,
+-- none.
+abbrev pub StandsBefore : Bool → (front rest : List ℕ) → Type 0
+StandsBefore true front rest = (d : Derivation) × IsLiteral front d × IsTrue (may_follow d rest)
+StandsBefore false front rest = (d : Derivation) → IsLiteral front d → IsFalse (may_follow d rest)
+
+-- the same of the literals of one kind, whose parts are of type D
+abbrev pub StandsBy :
+    {D : Type 0} → (D → Type 0) → (D → Bool) → Bool → Type 0
+StandsBy {D} Derives follows true = (d : D) × Derives d × IsTrue (follows d)
+StandsBy {D} Derives follows false = (d : D) → Derives d → IsFalse (follows d)

@@ -1,0 +1,259 @@
+//! Where the literal ends that opens at the front of a text.
+ghost use Rattle.std.specs.Prelude.{◌≡◌, ◌++◌, ◌∷◌, ℕ, Bool, List, Some, codes, length, drop, ◌<◌, IsTrue, IsFalse, IfSome, IfNone};
+ghost use Rattle.std.specs.Str.{chars, IsCharBoundary};
+ghost use Rattle.std.specs.declared.ops.Range.{Range};
+ghost use Rattle.litrs_base.specs.Refusal.{kind_of, span_of};
+ghost use Rattle.std.specs.Char.{is_ascii_digit};
+ghost use Rattle.litrs_base.specs.Text.{begins_with, first_passes};
+ghost use Rattle.litrs_base.specs.Characters.{period};
+ghost use Rattle.litrs_grammar.specs.Bool.{bool_text};
+ghost use Rattle.litrs_grammar.specs.Literal.{Derivation};
+ghost use Rattle.litrs_grammar.specs.Integer.{IntegerParts, IsIntegerOf};
+ghost use Rattle.litrs_grammar.specs.Float.{FloatParts, IsFloatOf, is_period};
+ghost use Rattle.litrs_grammar.specs.CharByte.{CharParts, char_kind, byte_kind, IsCharLiteral};
+ghost use Rattle.litrs_grammar.specs.Quoted.{quoted_front, QuotedParts, IsQuotedLiteral};
+ghost use Rattle.litrs_grammar.specs.Raw.{raw_front, RawParts, IsRawLiteral};
+ghost use Rattle.litrs_parts.specs.Front.{grammar_kind};
+ghost use Rattle.litrs_prefix.specs.Ends.{after_digits, IsEndOf, NoBoolBefore, IsSuffixKind, EndsBefore};
+ghost use Rattle.litrs_prefix.specs.Opens.{after_name};
+ghost use Rattle.litrs_prefix.specs.Prefix.{ends_suffix, ends_integer, ends_float, ends_bool, is_bare, HasPrefix};
+
+use crate::follow::{begins_with_digit, keeps_period};
+use crate::malformed::{Body, malformed_end};
+use crate::name::{after_name, split_first_char, split_name};
+use litrs::{ParseError, ParseErrorKind};
+use litrs_lex::{
+    Front, NumberCut, StringKind, cut_bool, cut_byte, cut_char, cut_number, cut_quoted,
+    end_dec_digits, scan_raw_string,
+};
+
+/// Where the literal at the front of the text ends, suffix and all, if one stands there; else where
+/// ends what was meant as one: after the text, where nothing else stands first.
+pub fn literal_end(text: &str) -> usize
+    ensures boundary { IsCharBoundary text.now result }
+    ensures some { 0 < length text.now → 0 < result }
+    ensures literal { (d : Derivation) (r : List ℕ) → HasPrefix (chars text.now) d r →
+        EndsBefore text.now r result }
+{
+    match some_end(text) {
+        0 => text.len(),
+        end => end,
+    }
+}
+
+/// The same, where it may be 0 for a text at whose front no literal stands.
+fn some_end(text: &str) -> usize
+    ensures boundary { IsCharBoundary text.now result }
+    ensures literal { (d : Derivation) (r : List ℕ) → HasPrefix (chars text.now) d r →
+        EndsBefore text.now r result }
+{
+    match bool_end(text) {
+        Some(end) => end,
+        None => other_end(text),
+    }
+}
+
+/// Where a bool ends, if the name at the front is one.
+fn bool_end(text: &str) -> Option<usize>
+    ensures boundary { IfSome result (IsCharBoundary text.now) }
+    ensures literal { IfSome result (λ end. (b : Bool) (r : List ℕ) →
+        bool_text b ++ r ≡ chars text.now → IsTrue (ends_bool r) → EndsBefore text.now r end) }
+    ensures none { IfNone result ((b : Bool) (r : List ℕ) →
+        bool_text b ++ r ≡ chars text.now → IsFalse (ends_bool r)) }
+    ensures bool { IfSome result (λ end.
+        (b : Bool) × (r : List ℕ) × (bool_text b ++ r ≡ chars text.now)) }
+{
+    let (name, _) = split_name(text);
+    match cut_bool(name) {
+        Some(_) => Some(name.len()),
+        None => None,
+    }
+}
+
+/// Where another literal ends.
+fn other_end(text: &str) -> usize
+    requires { (r : List ℕ) → NoBoolBefore (chars text.now) r }
+    ensures boundary { IsCharBoundary text.now result }
+    ensures literal { (d : Derivation) (r : List ℕ) → HasPrefix (chars text.now) d r →
+        EndsBefore text.now r result }
+{
+    match Front::of(text) {
+        Front::Number => number_end(text),
+        Front::Char => char_end(text),
+        Front::Byte => byte_end(text),
+        Front::Quoted(kind) => quoted_end(text, kind),
+        Front::Raw(kind) => raw_end(text, kind),
+        Front::Empty => text.len(),
+        Front::Bool(_) => text.len(),
+        Front::Other => text.len(),
+    }
+}
+
+/// Where a literal ends that is refused for what follows it, since more than a suffix does: its
+/// suffix is the name at the place where the refusal points. Where it is refused for another cause,
+/// the end of what was meant as it.
+fn suffix_end(text: &str, e: &ParseError, body: Body) -> usize
+    ensures boundary { IsCharBoundary text.now result }
+    ensures literal { (span : Range ℕ) (x r : List ℕ) → span_of e.now ≡ Some span →
+        IsSuffixKind (kind_of e.now) → IsCharBoundary text.now span.start →
+        chars (drop span.start text.now) ≡ x → after_name x ≡ r → EndsBefore text.now r result }
+{
+    match suffix_start(e) {
+        Some(start) => end_from(text, start),
+        None => malformed_end(text, e, body),
+    }
+}
+
+/// Where the suffix would start of a literal that is refused there.
+fn suffix_start(e: &ParseError) -> Option<usize>
+    ensures { (span : Range ℕ) → span_of e.now ≡ Some span → IsSuffixKind (kind_of e.now) →
+        result ≡ Some span.start }
+{
+    match e.kind() {
+        ParseErrorKind::UnexpectedChar | ParseErrorKind::InvalidSuffix => Some(e.span()?.start),
+        _ => None,
+    }
+}
+
+/// Where the name ends that stands there.
+fn end_from(text: &str, start: usize) -> usize
+    ensures boundary { IsCharBoundary text.now result }
+    ensures name { (x r : List ℕ) → IsCharBoundary text.now start →
+        chars (drop start text.now) ≡ x → after_name x ≡ r → EndsBefore text.now r result }
+{
+    match text.split_at_checked(start) {
+        Some((_, rest)) => text.len() - after_name(rest).len(),
+        None => text.len(),
+    }
+}
+
+/// Where a number ends.
+fn number_end(text: &str) -> usize
+    requires { IsTrue (first_passes is_ascii_digit text.now) }
+    ensures boundary { IsCharBoundary text.now result }
+    ensures integer { (l r : List ℕ) (d : IntegerParts) → l ++ r ≡ chars text.now → IsIntegerOf l d →
+        IsTrue (ends_suffix d.suffix r) → IsTrue (ends_integer d r) → EndsBefore text.now r result }
+    ensures float { (l r : List ℕ) (d : FloatParts) → l ++ r ≡ chars text.now → IsFloatOf l d →
+        IsTrue (ends_suffix d.suffix r) → IsTrue (ends_float d r) → EndsBefore text.now r result }
+{
+    let digits = end_dec_digits(text.as_bytes());
+    let rest = &text[digits..];
+    match split_first_char(rest) {
+        Some((c, after)) => {
+            if c == '.' {
+                period_end(text, digits, after)
+            } else {
+                cut_end(text)
+            }
+        }
+        None => cut_end(text),
+    }
+}
+
+/// Where a number ends that has a period after its decimal digits: before the period, where
+/// another or a name follows, as in `1..2` and `1.max(2)`; after it, where no digit follows.
+fn period_end(text: &str, digits: usize, after: &str) -> usize
+    requires digit { IsTrue (first_passes is_ascii_digit text.now) }
+    requires period { after_digits (chars text.now) ≡ period ∷ chars after.now }
+    requires place { IsCharBoundary text.now digits }
+    requires rest { chars (drop digits text.now) ≡ after_digits (chars text.now) }
+    requires end { IsEndOf text.now after.now }
+    ensures boundary { IsCharBoundary text.now result }
+    ensures integer { (l r : List ℕ) (d : IntegerParts) → l ++ r ≡ chars text.now → IsIntegerOf l d →
+        IsTrue (ends_suffix d.suffix r) → IsTrue (ends_integer d r) → EndsBefore text.now r result }
+    ensures float { (l r : List ℕ) (d : FloatParts) → l ++ r ≡ chars text.now → IsFloatOf l d →
+        IsTrue (ends_suffix d.suffix r) → IsTrue (ends_float d r) → EndsBefore text.now r result }
+{
+    if keeps_period(after) {
+        digits
+    } else if begins_with_digit(after) {
+        cut_end(text)
+    } else {
+        text.len() - after.len()
+    }
+}
+
+/// Where a number ends that does not end with its period, by its cut.
+fn cut_end(text: &str) -> usize
+    requires { IsTrue (first_passes is_ascii_digit text.now) }
+    ensures boundary { IsCharBoundary text.now result }
+    ensures integer { (l r : List ℕ) (d : IntegerParts) → l ++ r ≡ chars text.now → IsIntegerOf l d →
+        IsTrue (ends_suffix d.suffix r) → IsTrue (ends_integer d r) →
+        IsFalse (first_passes is_period (after_digits (chars text.now))) →
+        EndsBefore text.now r result }
+    ensures float { (l r : List ℕ) (d : FloatParts) → l ++ r ≡ chars text.now → IsFloatOf l d →
+        IsTrue (ends_suffix d.suffix r) → IsTrue (ends_float d r) → IsFalse (is_bare d.fraction) →
+        EndsBefore text.now r result }
+{
+    match cut_number(text) {
+        Ok(NumberCut::Integer(cut)) => end_from(text, cut.end_main),
+        Ok(NumberCut::Float(cut)) => end_from(text, cut.end_number),
+        Err(e) => suffix_end(text, &e, Body::Number),
+    }
+}
+
+/// Where a char ends.
+fn char_end(text: &str) -> usize
+    requires { IsTrue (begins_with (codes "'") text.now) }
+    ensures boundary { IsCharBoundary text.now result }
+    ensures literal { (l r : List ℕ) (d : CharParts) → l ++ r ≡ chars text.now →
+        IsCharLiteral char_kind l d → IsTrue (ends_suffix d.suffix r) →
+        EndsBefore text.now r result }
+{
+    match cut_char(text) {
+        Ok((_, start)) => end_from(text, start),
+        Err(e) => suffix_end(text, &e, Body::Char(1)),
+    }
+}
+
+/// Where a byte ends.
+fn byte_end(text: &str) -> usize
+    requires { IsTrue (begins_with (codes "b'") text.now) }
+    ensures boundary { IsCharBoundary text.now result }
+    ensures literal { (l r : List ℕ) (d : CharParts) → l ++ r ≡ chars text.now →
+        IsCharLiteral byte_kind l d → IsTrue (ends_suffix d.suffix r) →
+        EndsBefore text.now r result }
+{
+    match cut_byte(text) {
+        Ok((_, start)) => end_from(text, start),
+        Err(e) => suffix_end(text, &e, Body::Char(2)),
+    }
+}
+
+/// Where a quoted string of the kind ends.
+fn quoted_end(text: &str, kind: StringKind) -> usize
+    requires { IsTrue (begins_with (quoted_front (grammar_kind kind)) text.now) }
+    ensures boundary { IsCharBoundary text.now result }
+    ensures literal { (l r : List ℕ) (q : QuotedParts) → l ++ r ≡ chars text.now →
+        IsQuotedLiteral (grammar_kind kind) l q → IsTrue (ends_suffix q.suffix r) →
+        EndsBefore text.now r result }
+{
+    let allowed = kind.switches();
+    let start = kind.front_len();
+    match cut_quoted(
+        text,
+        start,
+        allowed.unicode,
+        allowed.byte_escapes,
+        allowed.allow_nul,
+    ) {
+        Ok(cut) => end_from(text, cut.start_suffix),
+        Err(e) => suffix_end(text, &e, Body::Quoted(start)),
+    }
+}
+
+/// Where a raw string of the kind ends.
+fn raw_end(text: &str, kind: StringKind) -> usize
+    requires { IsTrue (begins_with (raw_front (grammar_kind kind)) text.now) }
+    ensures boundary { IsCharBoundary text.now result }
+    ensures literal { (l r : List ℕ) (d : RawParts) → l ++ r ≡ chars text.now →
+        IsRawLiteral (grammar_kind kind) l d → IsTrue (ends_suffix d.suffix r) →
+        EndsBefore text.now r result }
+{
+    let allowed = kind.switches();
+    let start = kind.front_len();
+    match scan_raw_string(text, start, allowed.unicode, allowed.allow_nul) {
+        Ok((_, start)) => end_from(text, start),
+        Err(e) => suffix_end(text, &e, Body::Raw(start)),
+    }
+}

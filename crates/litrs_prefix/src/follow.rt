@@ -1,0 +1,135 @@
+//! What may follow a literal that stands at the front of a longer text.
+ghost use Rattle.std.specs.Prelude.{◌≡◌, not, Bool};
+ghost use Rattle.std.specs.Char.{is_ascii_digit};
+ghost use Rattle.std.specs.Str.{chars};
+ghost use Rattle.litrs_base.specs.Text.{first_passes};
+ghost use Rattle.litrs_grammar.specs.Float.{is_period};
+ghost use Rattle.litrs_numbers.specs.FloatLiteral.{float_parts};
+ghost use Rattle.litrs_numbers.specs.IntegerLiteral.{integer_parts};
+ghost use Rattle.litrs.specs.LiteralDerivation.{derivation};
+ghost use Rattle.litrs_prefix.specs.Prefix.{is_of_suffix, ends_suffix, is_quote_or_hash, ends_bool, keeps_period, gives_period, ends_integer, is_bare, ends_float, may_follow};
+
+use crate::name::{begins_name, is_empty, split_first_char};
+use litrs::{FloatLit, IntegerLit, Literal};
+use unicode_ident::is_xid_continue;
+
+/// Whether the text may follow the literal, so that the literal ends there: ` + 1`, `.max()` and
+/// `..` may follow `2`, but `.5`, `_x`, `e+` and `3` may not.
+pub fn may_follow(literal: &Literal<&str>, rest: &str) -> bool
+    ensures { result ≡ may_follow (derivation literal.now) (chars rest.now) }
+{
+    match literal {
+        Literal::Bool(_) => ends_bool(rest),
+        Literal::Integer(lit) => ends_suffix(lit.suffix(), rest) && ends_integer(lit, rest),
+        Literal::Float(lit) => ends_suffix(lit.suffix(), rest) && ends_float(lit, rest),
+        Literal::Char(lit) => ends_suffix(lit.suffix(), rest),
+        Literal::String(lit) => ends_suffix(lit.suffix(), rest),
+        Literal::Byte(lit) => ends_suffix(lit.suffix(), rest),
+        Literal::ByteString(lit) => ends_suffix(lit.suffix(), rest),
+        Literal::CString(lit) => ends_suffix(lit.suffix(), rest),
+    }
+}
+
+/// Whether the suffix ends before the text.
+pub(crate) fn ends_suffix(suffix: &str, rest: &str) -> bool
+    ensures { result ≡ ends_suffix (chars suffix.now) (chars rest.now) }
+{
+    let none = is_empty(suffix);
+    match split_first_char(rest) {
+        Some((c, _)) => !is_of_suffix(none, c),
+        None => true,
+    }
+}
+
+/// Whether the character would be of the suffix: begin one, where there is none.
+fn is_of_suffix(none: bool, c: char) -> bool
+    ensures { result ≡ is_of_suffix none c }
+{
+    if none {
+        begins_name(c)
+    } else {
+        is_xid_continue(c)
+    }
+}
+
+/// Whether a bool ends before the text: it is a whole name, and no prefix.
+pub(crate) fn ends_bool(rest: &str) -> bool
+    ensures { result ≡ ends_bool (chars rest.now) }
+{
+    match split_first_char(rest) {
+        Some((c, _)) => !is_xid_continue(c) && !is_quote_or_hash(c),
+        None => true,
+    }
+}
+
+/// Whether it is `"`, `'` or `#`.
+fn is_quote_or_hash(c: char) -> bool
+    ensures { result ≡ is_quote_or_hash c }
+{
+    c == '"' || c == '\'' || c == '#'
+}
+
+/// Whether an integer ends before the text.
+pub(crate) fn ends_integer(lit: &IntegerLit<&str>, rest: &str) -> bool
+    ensures { result ≡ ends_integer (integer_parts lit.now) (chars rest.now) }
+{
+    let none = is_empty(lit.suffix());
+    !begins_with_digit(rest) && !(gives_period(rest) && none)
+}
+
+/// Whether a float ends before the text.
+pub(crate) fn ends_float(lit: &FloatLit<&str>, rest: &str) -> bool
+    ensures { result ≡ ends_float (float_parts lit.now) (chars rest.now) }
+{
+    !begins_with_digit(rest) && !(begins_with_period(rest) && is_bare(lit))
+}
+
+/// Whether the float ends with its period.
+fn is_bare(lit: &FloatLit<&str>) -> bool
+    ensures { result ≡ is_bare (float_parts lit.now).fraction }
+{
+    match lit.fractional_part() {
+        Some(fraction) => is_empty(fraction),
+        None => false,
+    }
+}
+
+/// Whether a decimal digit stands first.
+pub(crate) fn begins_with_digit(text: &str) -> bool
+    ensures { result ≡ first_passes is_ascii_digit (chars text.now) }
+{
+    match split_first_char(text) {
+        Some((c, _)) => c.is_ascii_digit(),
+        None => false,
+    }
+}
+
+/// Whether a period stands first.
+pub(crate) fn begins_with_period(text: &str) -> bool
+    ensures { result ≡ first_passes is_period (chars text.now) }
+{
+    match split_first_char(text) {
+        Some((c, _)) => c == '.',
+        None => false,
+    }
+}
+
+/// Whether a period stands first that an integer before it would take.
+fn gives_period(text: &str) -> bool
+    ensures { result ≡ gives_period (chars text.now) }
+{
+    match split_first_char(text) {
+        Some((c, after)) => c == '.' && !keeps_period(after),
+        None => false,
+    }
+}
+
+/// Whether a period before the text belongs to no number: another follows, or a name.
+pub(crate) fn keeps_period(text: &str) -> bool
+    ensures { result ≡ keeps_period (chars text.now) }
+{
+    match split_first_char(text) {
+        Some((c, _)) => c == '.' || begins_name(c),
+        None => false,
+    }
+}

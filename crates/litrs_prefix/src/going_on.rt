@@ -1,0 +1,66 @@
+//! Whether more text may give another literal at the front.
+ghost use Rattle.std.specs.Prelude.{◌≡◌, ◌↔◌, ◌∷◌, ◌++◌, [], ℕ, List, IsTrue, IfSome, IfNone};
+ghost use Rattle.std.specs.Str.{chars};
+ghost use Rattle.litrs_base.specs.Characters.{period};
+ghost use Rattle.litrs_prefix.specs.GoesOn.{IsBareInteger, IsIntegerAndPeriod, PrefixGoesOn};
+
+use crate::follow::begins_with_period;
+use crate::name::is_empty;
+use litrs::{IntegerLit, goes_on};
+
+/// Whether more text may give a literal at the front of the text, or another one than stands there.
+///
+/// It is true of the empty text, `12`, `tru`, `1.`, `1e+`, `"a`, `'a` and `0x1.`, and false of `12 `,
+/// `1..`, `true"`, `foo`, `0b12` and `"\q`. Where it is false, the answer of
+/// [`parse_prefix`](crate::parse_prefix) on the text stays for every longer one: so a reader of
+/// pieces asks for more text where it is true, and else takes the answer. It does not allocate.
+pub fn prefix_goes_on(text: &str) -> bool
+    ensures { IsTrue result ↔ PrefixGoesOn (chars text.now) }
+{
+    if goes_on(text) {
+        true
+    } else {
+        is_integer_and_period(text)
+    }
+}
+
+/// Whether the text is an integer without suffix and one period. It is a float, or none, as `0x1.`
+/// is, and `0x1..` has an integer at its front.
+fn is_integer_and_period(text: &str) -> bool
+    ensures { IsTrue result ↔ IsIntegerAndPeriod (chars text.now) }
+{
+    match without_period(text) {
+        Some(front) => is_integer_without_suffix(front),
+        None => false,
+    }
+}
+
+/// What stands before the period that ends the text.
+fn without_period(text: &str) -> Option<&str>
+    ensures some { IfSome result (λ front. chars front.now ++ period ∷ [] ≡ chars text.now) }
+    ensures none { IfNone result ((front : List ℕ) → front ++ period ∷ [] ≡ chars text.now → ⊥) }
+{
+    if text.is_empty() {
+        return None;
+    }
+    match text.split_at_checked(text.len() - 1) {
+        Some((front, last)) => {
+            if begins_with_period(last) {
+                Some(front)
+            } else {
+                None
+            }
+        }
+        None => None,
+    }
+}
+
+/// Whether the text is an integer without suffix.
+fn is_integer_without_suffix(text: &str) -> bool
+    ensures { IsTrue result ↔ IsBareInteger (chars text.now) }
+{
+    match IntegerLit::parse(text) {
+        Ok(lit) => is_empty(lit.suffix()),
+        Err(_) => false,
+    }
+}

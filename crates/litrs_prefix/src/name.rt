@@ -1,0 +1,90 @@
+//! Names at the front of a text, and the characters that they are made of.
+ghost use Rattle.std.specs.Prelude.{◌≡◌, ◌∷◌, ◌++◌, [], IfSome, IfNone};
+ghost use Rattle.std.specs.Char.{encode_utf8};
+ghost use Rattle.std.specs.Str.{chars, IsUtf8};
+ghost use Rattle.litrs_base.specs.Text.{is_empty};
+ghost use Rattle.litrs_grammar.specs.Suffix.{starts_identifier};
+ghost use Rattle.litrs_prefix.specs.Ends.{IsEndOf};
+ghost use Rattle.litrs_prefix.specs.Opens.{first_name, after_run, after_name, after_hashes};
+
+use unicode_ident::{is_xid_continue, is_xid_start};
+
+/// Whether a name may begin with the character.
+pub fn begins_name(c: char) -> bool
+    ensures { result ≡ starts_identifier c }
+{
+    c == '_' || is_xid_start(c)
+}
+
+/// The first character of the text and what follows it, or None where there is none.
+pub fn split_first_char(text: &str) -> Option<(char, &str)>
+    ensures empty { IfNone result (chars text.now ≡ []) }
+    ensures parts { IfSome result (λ parts. chars text.now ≡ parts.0 ∷ chars parts.1.now) }
+    ensures rest { IfSome result (λ parts. IsUtf8 parts.1.now) }
+    ensures bytes { IfSome result (λ parts. text.now ≡ encode_utf8 parts.0 ++ parts.1.now) }
+{
+    let mut chars = text.chars();
+    let first = chars.next()?;
+    Some((first, chars.as_str()))
+}
+
+/// Whether the text has no character.
+pub fn is_empty(text: &str) -> bool
+    ensures { result ≡ is_empty (chars text.now) }
+{
+    text.is_empty()
+}
+
+/// The name at the front of the text, empty where there is none, and what follows it.
+pub fn split_name(text: &str) -> (&str, &str)
+    ensures name { chars result.0.now ≡ first_name (chars text.now) }
+    ensures rest { chars result.1.now ≡ after_name (chars text.now) }
+    ensures spells { result.0.now ++ result.1.now ≡ text.now }
+    ensures utf8 { IsUtf8 result.0.now × IsUtf8 result.1.now }
+{
+    let rest = after_name(text);
+    text.split_at(text.len() - rest.len())
+}
+
+/// What follows the name at the front of the text: all of it, where there is none.
+pub fn after_name(text: &str) -> &str
+    ensures rest { chars result.now ≡ after_name (chars text.now) }
+    ensures end { IsEndOf text.now result.now }
+{
+    match split_first_char(text) {
+        Some((c, after)) => if begins_name(c) {
+            after_run(after)
+        } else {
+            text
+        },
+        None => text,
+    }
+}
+
+/// What follows the characters at the front of the text that a name goes on with.
+pub fn after_run(text: &str) -> &str
+    ensures rest { chars result.now ≡ after_run (chars text.now) }
+    ensures end { IsEndOf text.now result.now }
+{
+    let mut rest = text;
+    loop {
+        match split_first_char(rest) {
+            Some((c, after)) if is_xid_continue(c) => rest = after,
+            _ => return rest,
+        }
+    }
+}
+
+/// What follows the hashes at the front of the text.
+pub fn after_hashes(text: &str) -> &str
+    ensures rest { chars result.now ≡ after_hashes (chars text.now) }
+    ensures end { IsEndOf text.now result.now }
+{
+    let mut rest = text;
+    loop {
+        match split_first_char(rest) {
+            Some((c, after)) if c == '#' => rest = after,
+            _ => return rest,
+        }
+    }
+}
