@@ -96,6 +96,7 @@ def calls():
     yield "litrs_token::Literal::from_text over &str"
     yield "litrs_token::Literal::string over &str"
     yield "litrs_lex::unescape_string over &str"
+    yield "litrs_prefix::parse_prefix over &str"
     yield "MemOutput::new over &str"
     yield "litrs_lines::run over &str"
     yield "Collector::feed over &str"

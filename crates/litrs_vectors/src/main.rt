@@ -17,6 +17,7 @@ use trial::Trial;
 
 mod answers;
 mod calls;
+mod fronts;
 mod literals;
 mod parses;
 mod prefixes;
@@ -73,7 +74,9 @@ fn try_line(trial: &mut Trial, line: &str) -> Result<(), AllocError> {
 
 fn try_row(trial: &mut Trial, line: &str) -> Result<(), RowError> {
     let row = Row::read(trial.alloc, line)?;
-    if row.parses.is_empty() {
+    if line.starts_with("parse_prefix\t") {
+        fronts::try_front(trial, &row);
+    } else if row.parses.is_empty() {
         prefixes::try_goes_on(trial, &row);
     } else if row.answer.starts_with("refused\t".as_bytes()) {
         refusals::try_refusal(trial, &row);

@@ -26,7 +26,7 @@ impl<T: Drop> From<AllocFailed<T>> for RowError {
 /// A text, and what is said of it.
 #[derive(Drop)]
 pub struct Row {
-    /// The parses that answer so; none in a row on `goes_on`.
+    /// The parses that answer so; none in a row on `goes_on` or on `parse_prefix`.
     pub parses: Vec<Parse>,
     /// The text.
     pub text: String,
@@ -56,7 +56,7 @@ impl Row {
 
 fn read_parses(alloc: Global, names: &str) -> Result<Vec<Parse>, RowError> {
     let mut parses = Vec::new(alloc);
-    if names == "goes_on" {
+    if names == "goes_on" || names == "parse_prefix" {
         return Ok(parses);
     }
     for name in names.split(',') {
