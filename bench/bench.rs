@@ -13,6 +13,7 @@ mod going_on;
 mod held_out;
 mod limits;
 mod lines;
+mod prefix;
 mod several_lines;
 
 /// The texts of a shape, and the bytes that they have at most, together.
@@ -44,6 +45,10 @@ mod ours {
         pub fn contents(text: *const u8, len: usize) -> u64;
         #[link_name = "litrs_bench_goes_on"]
         pub fn goes_on(text: *const u8, len: usize) -> u64;
+        #[link_name = "litrs_bench_prefix"]
+        pub fn prefix(text: *const u8, len: usize) -> u64;
+        #[link_name = "litrs_bench_prefix_len"]
+        pub fn prefix_len(text: *const u8, len: usize) -> u64;
         #[link_name = "litrs_bench_feed"]
         pub fn feed(text: *const u8, len: usize) -> u64;
         #[link_name = "litrs_bench_split"]
@@ -577,6 +582,7 @@ fn main() {
     }
     held_out::main();
     limits::main();
+    prefix::main();
     lines::main();
     going_on::main(&rows.iter().map(|(kind, name, _, texts)| (*kind, *name, &texts[..])).collect::<Vec<_>>());
     println!();

@@ -124,6 +124,18 @@ fn is_float(text: &str) -> bool {
     !text.starts_with("0x") && text.contains(['.', 'e', 'E']) && !text.ends_with("size")
 }
 
+/// Sources below the folder, one after the other, up to so many bytes or a little more.
+pub fn text_of(folder: &str, len: usize) -> String {
+    let (mut texts, mut text) = (Vec::new(), String::new());
+    sources(Path::new(folder), &mut texts);
+    for source in texts {
+        if text.len() < len {
+            text.push_str(&source);
+        }
+    }
+    text
+}
+
 /// The rows of the literals of the sources below the folder.
 pub fn rows(folder: &str) -> Vec<(&'static str, &'static str, Texts, Vec<String>)> {
     let (mut texts, mut found) = (Vec::new(), Vec::new());

@@ -65,7 +65,7 @@ def words_of(crate, crates, out):
 
 def build(tree, out):
     """Builds OUT/litrs_bench/liblitrs_bench.a of the tree, after the libraries that it stands on."""
-    crates = crates_of(tree) | {NAME: Crate(NAME, [], ["litrs", "litrs_lines"])}
+    crates = crates_of(tree) | {NAME: Crate(NAME, [], ["litrs", "litrs_lines", "litrs_prefix"])}
     (out / NAME / "src").mkdir(parents=True, exist_ok=True)
     shutil.copy(TOP / f"bench/{NAME}.rt.in", out / NAME / "src/lib.rt")
     for name in in_order(NAME, crates):

@@ -1,7 +1,7 @@
 //! Rows on the literal at the front of a longer text.
 use crate::rows::Row;
 use crate::trial::{Trial, again};
-use litrs::ParseErrorKind::OutOfMemory;
+use litrs::ParseErrorKind;
 use litrs_prefix::{MalformedPrefix, Prefix, parse_prefix, prefix_len};
 
 /// What stands at the front of a text.
@@ -78,7 +78,7 @@ fn front_of(text: &str, prefix: &Prefix) -> Front {
 /// What the error says. A reader that goes on after no byte would never end.
 fn malformed_of(malformed: &MalformedPrefix) -> Front {
     match malformed.error.kind() {
-        OutOfMemory => Front::Refused,
+        ParseErrorKind::OutOfMemory => Front::Refused,
         _ if malformed.len == 0 => Front::None,
         _ => Front::Malformed,
     }
