@@ -1,17 +1,9 @@
-//! The samples of the documentation of the libraries, and of the README.
+//! The samples of the documentation of the libraries.
 use litrs::ParseErrorKind::OutOfMemory;
 use litrs::{BoolLit, IntegerLit, Literal, ParseError, goes_on};
 use litrs_token::{FromToken, Ident, Span, TokenError, TokenTree};
 use std::alloc::Global;
 use std::process::Abort;
-
-/// The value of an integer, where it fits 16 bits.
-fn mask(alloc: Global, text: &str) -> Result<Option<u16>, ParseError> {
-    match &Literal::parse(alloc, text)? {
-        Literal::Integer(lit) => Ok(lit.value::<u16>()),
-        _ => Ok(None),
-    }
-}
 
 /// How many bytes the value of a string of any kind has.
 fn value_len(alloc: Global, text: &str) -> Result<Option<usize>, ParseError> {
@@ -84,7 +76,6 @@ fn is_wrong(alloc: Global, text: &str) -> bool {
 
 #[test]
 fn answers_of_the_samples(rt: HostRuntime) {
-    assert!(rt; matches!(mask(rt.alloc(), "0xFF_u8"), Ok(Some(255))));
     assert!(rt; matches!(value_len(rt.alloc(), "\"a\\n\""), Ok(Some(2))));
     assert!(rt; matches!(line(rt.alloc(), "\"a"), Ok(None)));
     assert!(rt; is_wrong(rt.alloc(), "x"));
