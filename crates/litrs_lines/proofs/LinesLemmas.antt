@@ -14,14 +14,14 @@ use Rattle.std.proofs.lemmas.Option.{none-some}
 use Rattle.std.proofs.lemmas.Bool.{ltb-false}
 use Rattle.std.proofs.Common.{Option, Result, Ok, Err, OnOk, OnErr, IfSome, length-append}
 use Rattle.std.specs.Prelude.{is_ok, ◌==◌, slice_index, if◌then◌else◌}
-use Rattle.litrs_lines.specs.LinesLaws.{spelled, LinesSpellTheBytes, NoLineFeedInLines, LinesAreUnique, OneReturnEndsALine, LinesWithoutReturns}
+use Rattle.litrs_lines.specs.LinesLaws.{spelled, LinesSpellTheBytes, NoLineFeedInLines, LinesAreUnique, OneCrEndsALine, LinesWithoutCr}
 use Rattle.litrs_lines.specs.Stopped.{AppendsBeginning, whole_lines, StopsWithin}
 use Rattle.std.proofs.Common.{eqb-true, ltb, cond, add-one, get_or, take-append-drop, drop-cons, length-take}
 use Rattle.std.proofs.lemmas.List.{get_or-take, take_rest}
 use Rattle.litrs_lines.specs.Ended.{AreEndedReports, AreLastReports}
 use Rattle.litrs_lines.specs.Reports.{AreGroupReports, AppendsReports}
 use Rattle.litrs_lines.proofs.GroupReports.{group_reports, last_reports, have_last_reports, ended-none, ended-append, last-append, Adds, Stops, adds-none, adds-append, stops-append}
-use Rattle.litrs_lines.specs.Lines.{is_line_feed, HasNoLineFeed, before_last_part, last_part, ended_parts, open_part, unless_empty, without_return, ended_parts_of, ended_lines, open_line, lines_of}
+use Rattle.litrs_lines.specs.Lines.{is_line_feed, HasNoLineFeed, before_last_part, last_part, ended_parts, open_part, unless_empty, strip_cr, ended_parts_of, ended_lines, open_line, lines_of}
 
 -- the first part of a split, and those after it
 record Parts (parts : List (List ℕ)) : Type 0 where
@@ -153,14 +153,14 @@ open_line-has_no_line_feed bytes = elim (cut_bytes bytes) [
 -- ---- lines, each a part without one CR at its end
 
 pub ended_lines-none : (line : List ℕ) → HasNoLineFeed line → ended_lines line ≡ []
-ended_lines-none line h = ap (map without_return) (ended_parts_of-none line h)
+ended_lines-none line h = ap (map strip_cr) (ended_parts_of-none line h)
 
-map-append : (parts more : List (List ℕ)) → map without_return (parts ++ more) ≡ map without_return parts ++ map without_return more
+map-append : (parts more : List (List ℕ)) → map strip_cr (parts ++ more) ≡ map strip_cr parts ++ map strip_cr more
 map-append [] more = refl
-map-append (part ∷ parts) more = ap (λ (ls : List (List ℕ)). without_return part ∷ ls) (map-append parts more)
+map-append (part ∷ parts) more = ap (λ (ls : List (List ℕ)). strip_cr part ∷ ls) (map-append parts more)
 
 pub ended_lines-append : (bytes more : List ℕ) → ended_lines (bytes ++ more) ≡ ended_lines bytes ++ ended_lines (open_line bytes ++ more)
-ended_lines-append bytes more = ap (map without_return) (ended_parts_of-append bytes more) ∙ map-append (ended_parts_of bytes) (ended_parts_of (open_line bytes ++ more))
+ended_lines-append bytes more = ap (map strip_cr) (ended_parts_of-append bytes more) ∙ map-append (ended_parts_of bytes) (ended_parts_of (open_line bytes ++ more))
 
 -- ---- a piece, from the front: the line so far, and the rest of the piece
 
@@ -168,7 +168,7 @@ ended_lines-append bytes more = ap (map without_return) (ended_parts_of-append b
 pub record EndsLine (line rest : List ℕ) (end : ℕ) : Type 0 where
   pub within : end < length rest
   pub leaves : open_line (line ++ rest) ≡ open_line (drop (end + 1) rest)
-  pub lines : ended_lines (line ++ rest) ≡ without_return (line ++ take end rest) ∷ ended_lines (drop (end + 1) rest)
+  pub lines : ended_lines (line ++ rest) ≡ strip_cr (line ++ take end rest) ∷ ended_lines (drop (end + 1) rest)
 
 cut_at : (bytes : List ℕ) (end : ℕ) → end < length bytes → get_or bytes end 0 ≡ 10 → bytes ≡ take end bytes ++ 10 ∷ drop (end + 1) bytes
 cut_at bytes end within is =
@@ -201,7 +201,7 @@ ends_line line rest end held at =
       within = found.0;
       leaves = ap open_line joined ∙ open_line-line_feed (line ++ take end rest) (drop (end + 1) rest);
       lines =
-          ap (map without_return) (ap ended_parts_of joined ∙ ended_parts_of-line_feed (line ++ take end rest) (drop (end + 1) rest)
+          ap (map strip_cr) (ap ended_parts_of joined ∙ ended_parts_of-line_feed (line ++ take end rest) (drop (end + 1) rest)
           ∙ ap (λ ps. ps ++ ended_parts_of (drop (end + 1) rest)) (slice_split_none is_line_feed (line ++ take end rest) none));
     }
 
@@ -231,11 +231,11 @@ pub record StepsOn (held : List ℕ) (all : List (List ℕ)) (left : List ℕ) (
   pub takes : TakesOn held all (ended_lines (line' ++ rest')) left a old c new
 
 pub steps_on : (held : List ℕ) (all : List (List ℕ)) (between left : List ℕ) (a b c : Option (List ℕ)) (old front new line rest line' : List ℕ) (end : ℕ) → HasNoLineFeed line → Some end ≡ position is_line_feed rest
-    → TakesOn held all (ended_lines (line ++ rest)) between a old b front → line' ≡ [] → Adds between (without_return (line ++ take end rest) ∷ []) left b front c new
+    → TakesOn held all (ended_lines (line ++ rest)) between a old b front → line' ≡ [] → Adds between (strip_cr (line ++ take end rest) ∷ []) left b front c new
     → StepsOn held all left a old c new line rest line' (take (length rest - (end + 1)) (drop (end + 1) rest))
 steps_on held all between left a b c old front new line rest line' end unended at so_far none more =
     let step = ends_line line rest end unended (sym at) in
-    let whole : List ℕ = without_return (line ++ take end rest) in
+    let whole : List ℕ = strip_cr (line ++ take end rest) in
     let rest' = take (length rest - (end + 1)) (drop (end + 1) rest) in
     let empty : line' ++ rest' ≡ drop (end + 1) rest = ap (λ xs. xs ++ rest') none ∙ take_rest rest (end + 1) in
     let after : List (List ℕ) = ended_lines (drop (end + 1) rest) in
@@ -253,10 +253,10 @@ steps_on held all between left a b c old front new line rest line' end unended a
 
 -- a failure at a line that ends
 pub stops_on : (held : List ℕ) (all : List (List ℕ)) (between : List ℕ) (a b c : Option (List ℕ)) (old front line rest : List ℕ) (end : ℕ) → HasNoLineFeed line → Some end ≡ position is_line_feed rest
-    → TakesOn held all (ended_lines (line ++ rest)) between a old b front → Stops between (without_return (line ++ take end rest) ∷ []) b front c → Stops held all a old c
+    → TakesOn held all (ended_lines (line ++ rest)) between a old b front → Stops between (strip_cr (line ++ take end rest) ∷ []) b front c → Stops held all a old c
 stops_on held all between a b c old front line rest end unended at so_far part =
     let step = ends_line line rest end unended (sym at) in
-    let whole : List ℕ = without_return (line ++ take end rest) in
+    let whole : List ℕ = strip_cr (line ++ take end rest) in
     let after : List (List ℕ) = ended_lines (drop (end + 1) rest) in
     let is : all ≡ (so_far.lines ++ whole ∷ []) ++ after =
     so_far.is ∙ ap (λ (ls : List (List ℕ)). so_far.lines ++ ls) step.lines ∙ sym (append_assoc so_far.lines (whole ∷ []) after) in
@@ -295,10 +295,6 @@ OnOk-holds (Err e) p = tt
 pub OnOk-map : {T E P Q : Type 0} (r : Result T E) → (P → Q) → OnOk r P → OnOk r Q
 OnOk-map (Ok x) f p = f p
 OnOk-map (Err e) f p = tt
-
-pub OnOk-both : {T E P Q R : Type 0} (r : Result T E) → (P → Q → R) → OnOk r P → OnOk r Q → OnOk r R
-OnOk-both (Ok x) f p q = f p q
-OnOk-both (Err e) f p q = tt
 
 pub OnErr-holds : {T E P : Type 0} (r : Result T E) → P → OnErr r P
 OnErr-holds (Ok x) p = tt
@@ -486,15 +482,8 @@ module _ {left_old left contents_old contents : Option (List ℕ)} {line held : 
         appends = Appends-trans contents_old contents contents_new run.so_far out run.writes writes;
       })
 
-pub false_unless : (b : Bool) → (b ≡ true → ⊥) → b ≡ false
-false_unless true h = absurd (h refl)
-false_unless false h = refl
-
 pub take_none : (count : ℕ) (bytes : List ℕ) → count ≡ 0 → take count bytes ≡ []
 take_none count bytes none = ap (λ n. take n bytes) none
-
-pub ok_not_err : {T E : Type 0} {x : T} {e : E} → Ok x ≡ Err e → ⊥
-ok_not_err is = cc
 
 -- ---- bytes that are spelled by parts
 
@@ -574,15 +563,15 @@ lines_are_unique lines last each none = (ended_parts_of-spelled lines last each 
 -- ---- returns
 
 -- the byte is no CR
-abbrev NoReturn : ℕ → Type 0
-NoReturn b = b ≡ 13 → ⊥
+abbrev NoCr : ℕ → Type 0
+NoCr b = b ≡ 13 → ⊥
 
-kept_by_test : (b : ℕ) (short long : List ℕ) (test : Bool) → (b == 13) ≡ test → NoReturn b → (if test then short else long) ≡ long
+kept_by_test : (b : ℕ) (short long : List ℕ) (test : Bool) → (b == 13) ≡ test → NoCr b → (if test then short else long) ≡ long
 kept_by_test b short long true is other = absurd (other (eqb-true b 13 is))
 kept_by_test b short long false is other = refl
 
 -- without a CR at the end nothing is left out
-kept : (bytes : List ℕ) → NoReturn (slice_index bytes (length bytes - 1)) → without_return bytes ≡ bytes
+kept : (bytes : List ℕ) → NoCr (slice_index bytes (length bytes - 1)) → strip_cr bytes ≡ bytes
 kept bytes other = kept_by_test (slice_index bytes (length bytes - 1)) (take (length bytes - 1) bytes) bytes (slice_index bytes (length bytes - 1) == 13) refl other
 
 last_place : (line : List ℕ) (b : ℕ) → length (line ++ b ∷ []) - 1 ≡ length line
@@ -591,44 +580,44 @@ last_place line b = let long : length (line ++ b ∷ []) ≡ length line + 1 = l
 last_byte : (line : List ℕ) (b : ℕ) → slice_index (line ++ b ∷ []) (length (line ++ b ∷ []) - 1) ≡ b
 last_byte line b = ap (λ (i : ℕ). slice_index (line ++ b ∷ []) i) (last_place line b) ∙ get_or-append_seam line b [] 0
 
-last_kept : (line : List ℕ) (b : ℕ) → NoReturn b → without_return (line ++ b ∷ []) ≡ line ++ b ∷ []
+last_kept : (line : List ℕ) (b : ℕ) → NoCr b → strip_cr (line ++ b ∷ []) ≡ line ++ b ∷ []
 last_kept line b other = kept (line ++ b ∷ []) (λ is. other (sym (last_byte line b) ∙ is))
 
-return_left_out : (line : List ℕ) → without_return (line ++ 13 ∷ []) ≡ line
-return_left_out line =
+cr_left_out : (line : List ℕ) → strip_cr (line ++ 13 ∷ []) ≡ line
+cr_left_out line =
     let bytes : List ℕ = line ++ 13 ∷ [] in
-    let by_last : without_return bytes ≡ take (length bytes - 1) bytes =
+    let by_last : strip_cr bytes ≡ take (length bytes - 1) bytes =
     λ i. if last_byte line 13 i == 13 then take (length bytes - 1) bytes else bytes in
     by_last ∙ ap (λ (n : ℕ). take n bytes) (last_place line 13) ∙ take-append_seam line (13 ∷ [])
 
-pub one_return_ends_a_line : OneReturnEndsALine
-one_return_ends_a_line line = (return_left_out line, λ b other. last_kept line b other)
+pub one_cr_ends_a_line : OneCrEndsALine
+one_cr_ends_a_line line = (cr_left_out line, λ b other. last_kept line b other)
 
-nothing_left_out : (line : List ℕ) → All NoReturn line → without_return line ≡ line
+nothing_left_out : (line : List ℕ) → All NoCr line → strip_cr line ≡ line
 nothing_left_out [] all = refl
 nothing_left_out (b ∷ line) all = kept (b ∷ line) (all (length (b ∷ line) - 1) 0 (omega arith))
 
-All-front : (front rest : List ℕ) → All NoReturn (front ++ rest) → All NoReturn front
-All-front [] rest all = All-nil NoReturn
-All-front (b ∷ front) rest all = All-cons NoReturn b front (All-head NoReturn b (front ++ rest) all) (All-front front rest (All-tail NoReturn b (front ++ rest) all))
+All-front : (front rest : List ℕ) → All NoCr (front ++ rest) → All NoCr front
+All-front [] rest all = All-nil NoCr
+All-front (b ∷ front) rest all = All-cons NoCr b front (All-head NoCr b (front ++ rest) all) (All-front front rest (All-tail NoCr b (front ++ rest) all))
 
-All-after : (front rest : List ℕ) → All NoReturn (front ++ rest) → All NoReturn rest
+All-after : (front rest : List ℕ) → All NoCr (front ++ rest) → All NoCr rest
 All-after [] rest all = all
-All-after (b ∷ front) rest all = All-after front rest (All-tail NoReturn b (front ++ rest) all)
+All-after (b ∷ front) rest all = All-after front rest (All-tail NoCr b (front ++ rest) all)
 
 -- what holds of each byte holds of each of each part
-each_part : (parts : List (List ℕ)) (last : List ℕ) → All NoReturn (spelled parts last) → All (All NoReturn) parts
-each_part [] last all = All-nil (All NoReturn)
+each_part : (parts : List (List ℕ)) (last : List ℕ) → All NoCr (spelled parts last) → All (All NoCr) parts
+each_part [] last all = All-nil (All NoCr)
 each_part (part ∷ parts) last all =
-    let rest : All NoReturn (part ++ 10 ∷ spelled parts last) = subst (All NoReturn) (spelled-cons part parts last) all in
-    All-cons (All NoReturn) part parts (All-front part (10 ∷ spelled parts last) rest)
-    (each_part parts last (All-tail NoReturn 10 (spelled parts last) (All-after part (10 ∷ spelled parts last) rest)))
+    let rest : All NoCr (part ++ 10 ∷ spelled parts last) = subst (All NoCr) (spelled-cons part parts last) all in
+    All-cons (All NoCr) part parts (All-front part (10 ∷ spelled parts last) rest)
+    (each_part parts last (All-tail NoCr 10 (spelled parts last) (All-after part (10 ∷ spelled parts last) rest)))
 
-each_kept : (parts : List (List ℕ)) → All (All NoReturn) parts → map without_return parts ≡ parts
+each_kept : (parts : List (List ℕ)) → All (All NoCr) parts → map strip_cr parts ≡ parts
 each_kept [] all = refl
 each_kept (part ∷ parts) all =
-    λ i. nothing_left_out part (All-head (All NoReturn) part parts all) i ∷ each_kept parts (All-tail (All NoReturn) part parts all) i
+    λ i. nothing_left_out part (All-head (All NoCr) part parts all) i ∷ each_kept parts (All-tail (All NoCr) part parts all) i
 
-pub lines_without_returns : LinesWithoutReturns
-lines_without_returns bytes all =
-    each_kept (ended_parts_of bytes) (each_part (ended_parts_of bytes) (open_line bytes) (subst (All NoReturn) (sym (ended_parts_of-spell bytes)) all))
+pub lines_without_cr : LinesWithoutCr
+lines_without_cr bytes all =
+    each_kept (ended_parts_of bytes) (each_part (ended_parts_of bytes) (open_line bytes) (subst (All NoCr) (sym (ended_parts_of-spell bytes)) all))

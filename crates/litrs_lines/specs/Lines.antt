@@ -41,14 +41,14 @@ unfoldable pub ended_parts_of : List ℕ → List (List ℕ)
 ended_parts_of bytes = ended_parts (slice_split is_line_feed bytes)
 
 -- a part without one CR at its end
-abbrev pub without_return : List ℕ → List ℕ
-without_return bytes =
+abbrev pub strip_cr : List ℕ → List ℕ
+strip_cr bytes =
     if slice_index bytes (length bytes - 1) == carriage_return then take (length bytes - 1) bytes
     else bytes
 
 -- the ended lines: one CR right before an LF belongs to the line end
 abbrev pub ended_lines : List ℕ → List (List ℕ)
-ended_lines bytes = map without_return (ended_parts_of bytes)
+ended_lines bytes = map strip_cr (ended_parts_of bytes)
 
 -- what follows the last LF
 unfoldable pub open_line : List ℕ → List ℕ

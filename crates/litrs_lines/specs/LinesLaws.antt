@@ -1,7 +1,7 @@
 -- What holds of the lines of any bytes, and of the parts that they are cut from.
 use Rattle.std.specs.Prelude.{◌≡◌, ◌≢◌, ℕ, List, [], ◌∷◌, ◌++◌, All, flat_map}
 use Rattle.litrs_base.specs.Characters.{line_feed, carriage_return}
-use Rattle.litrs_lines.specs.Lines.{HasNoLineFeed, without_return, ended_parts_of, ended_lines, open_line}
+use Rattle.litrs_lines.specs.Lines.{HasNoLineFeed, strip_cr, ended_parts_of, ended_lines, open_line}
 
 -- each part with an LF after it, and then the last one
 abbrev pub spelled : List (List ℕ) → List ℕ → List ℕ
@@ -23,11 +23,11 @@ LinesAreUnique = (lines : List (List ℕ)) (last : List ℕ) →
     (ended_parts_of (spelled lines last) ≡ lines) × (open_line (spelled lines last) ≡ last)
 
 -- One CR at the end of a part is no part of its line, and nothing else is left out.
-abbrev pub OneReturnEndsALine : Type 0
-OneReturnEndsALine = (line : List ℕ) → (without_return (line ++ carriage_return ∷ []) ≡ line)
-    × ((b : ℕ) → b ≢ carriage_return → without_return (line ++ b ∷ []) ≡ line ++ b ∷ [])
+abbrev pub OneCrEndsALine : Type 0
+OneCrEndsALine = (line : List ℕ) → (strip_cr (line ++ carriage_return ∷ []) ≡ line)
+    × ((b : ℕ) → b ≢ carriage_return → strip_cr (line ++ b ∷ []) ≡ line ++ b ∷ [])
 
 -- in bytes without CR the lines are the parts
-abbrev pub LinesWithoutReturns : Type 0
-LinesWithoutReturns = (bytes : List ℕ) → All (λ b. b ≢ carriage_return) bytes →
+abbrev pub LinesWithoutCr : Type 0
+LinesWithoutCr = (bytes : List ℕ) → All (λ b. b ≢ carriage_return) bytes →
     ended_lines bytes ≡ ended_parts_of bytes

@@ -7,9 +7,10 @@ use Rattle.litrs_lines.specs.declared.RunError.TheVariants.{Read, Write, Memory}
 use Rattle.litrs_lines.specs.Ended.{AreEndedReports}
 use Rattle.litrs_lines.specs.Stopped.{AppendsBeginning}
 
--- A step answers `Write` if and only if the output has failed, and then by a failed write. It never
--- answers `Read`.
-abbrev pub NamesFailure : (result : Result (Unit {0}) RunError) (has_failed write_failed : Bool) → Type 0
+-- A step on an output that works answers `Write` if and only if the output has then failed, by a
+-- failed write. It never answers `Read`.
+abbrev pub NamesFailure : (result : Result (Unit {0}) RunError)
+    (has_failed write_failed : Bool) → Type 0
 NamesFailure (Ok _) has_failed write_failed = has_failed ≡ false
 NamesFailure (Err Read) has_failed write_failed = ⊥
 NamesFailure (Err Write) has_failed write_failed = (has_failed ≡ true) × (write_failed ≡ true)
@@ -30,15 +31,17 @@ WritesBytes (Err _) bytes old new = AppendsBeginning old new bytes
 
 -- A step adds these bytes: on `Ok` they were added, and on an error a prefix of what was not yet
 -- written and of them was written.
-abbrev pub AddsBytes : (result : Result (Unit {0}) RunError) (bytes : List ℕ) (old : Option (List ℕ))
-    (unwritten_old : List ℕ) (new : Option (List ℕ)) (unwritten_new : List ℕ) → Type 0
+abbrev pub AddsBytes : (result : Result (Unit {0}) RunError) (bytes : List ℕ)
+    (old : Option (List ℕ)) (unwritten_old : List ℕ) (new : Option (List ℕ))
+    (unwritten_new : List ℕ) → Type 0
 AddsBytes (Ok _) bytes old unwritten_old new unwritten_new =
     Sends old unwritten_old new unwritten_new bytes
 AddsBytes (Err _) bytes old unwritten_old new unwritten_new =
     AppendsBeginning old new (unwritten_old ++ bytes)
 
--- A step over these lines adds the reports on the groups that end with them, and holds what is left
--- of them.
+-- A step over these lines: on `Ok` the reports on the groups that end with them were added, and the
+-- group that goes on is held. On an error a prefix of what was not yet written and of these reports
+-- was written.
 abbrev pub ReportsLines : (result : Result (Unit {0}) RunError) (old : Reporter)
     (lines : List (List ℕ)) (new : Reporter) (contents_old contents_new : Option (List ℕ)) → Type 0
 ReportsLines (Ok _) old lines new contents_old contents_new =

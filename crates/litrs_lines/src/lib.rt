@@ -4,7 +4,7 @@
 ghost use Rattle.std.specs.Prelude.{◌≡◌, ◌≢◌, ◌↔◌, ◌⊎◌, ◌∷◌, [], ◌++◌, ◌-◌, ◌^◌, ℕ, List, true, false, Some, IsSome, IfSome, IfErr, IsErrOf, OnOk, OnErr, position, string_bytes};
 ghost use Rattle.std.specs.Io.KnownBytes.{Appends, IsAtEnd};
 ghost use Rattle.litrs_lines.specs.Stopped.{StopsWithin};
-ghost use Rattle.litrs_lines.specs.Lines.{is_line_feed, HasNoLineFeed, without_return, ended_lines, open_line, unless_empty, lines_of};
+ghost use Rattle.litrs_lines.specs.Lines.{is_line_feed, HasNoLineFeed, strip_cr, ended_lines, open_line, unless_empty, lines_of};
 ghost use Rattle.litrs_lines.specs.Ended.{AreLastReports};
 ghost use Rattle.litrs_lines.specs.Reports.{AppendsReports};
 ghost use Rattle.litrs_lines.specs.Sent.{NamesFailure, WritesBytes, AddsBytes, ReportsLines};
@@ -82,8 +82,8 @@ fn line_end(bytes: &[u8]) -> Option<usize>
 }
 
 /// The line without one CR at its end.
-fn without_return(line: &[u8]) -> &[u8]
-    ensures { result.now ≡ without_return line.now }
+fn strip_cr(line: &[u8]) -> &[u8]
+    ensures { result.now ≡ strip_cr line.now }
 {
     match line {
         [front @ .., b'\r'] => front,
@@ -101,15 +101,15 @@ fn end_line<O: Output>(
     requires works { O.has_failed writer.old ≡ false }
     ensures line { OnOk result (line.new.items ≡ []) }
     ensures reports { ReportsLines result
-        reporter.old (without_return (line.old.items ++ end.now) ∷ []) reporter.new
+        reporter.old (strip_cr (line.old.items ++ end.now) ∷ []) reporter.new
         (O.contents writer.old) (O.contents writer.new) }
     ensures failure { NamesFailure result (O.has_failed writer.new) (O.write_failed writer.new) }
 {
     if line.is_empty() {
-        return reporter.process_line(writer, without_return(end));
+        return reporter.process_line(writer, strip_cr(end));
     }
     line.extend_from_slice(end)?;
-    reporter.process_line(writer, without_return(line))?;
+    reporter.process_line(writer, strip_cr(line))?;
     line.clear();
     Ok(())
 }

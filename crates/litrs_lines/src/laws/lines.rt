@@ -1,5 +1,5 @@
 //! Laws of lines.
-ghost use Rattle.litrs_lines.specs.LinesLaws.{LinesSpellTheBytes, NoLineFeedInLines, LinesAreUnique, OneReturnEndsALine, LinesWithoutReturns};
+ghost use Rattle.litrs_lines.specs.LinesLaws.{LinesSpellTheBytes, NoLineFeedInLines, LinesAreUnique, OneCrEndsALine, LinesWithoutCr};
 
 /// The parts that an LF ends, with an LF after each, and what follows the last LF spell the bytes.
 pub fn lines_spell_the_bytes()
@@ -17,11 +17,11 @@ pub fn lines_are_unique()
 {}
 
 /// One CR right before an LF belongs to the line end, and nothing else does.
-pub fn one_return_ends_a_line()
-    ensures { OneReturnEndsALine }
+pub fn one_cr_ends_a_line()
+    ensures { OneCrEndsALine }
 {}
 
 /// Bytes without CR have the lines that an LF alone ends, and so their reports.
-pub fn lines_without_returns()
-    ensures { LinesWithoutReturns }
+pub fn lines_without_cr()
+    ensures { LinesWithoutCr }
 {}

@@ -1,5 +1,0 @@
-use Rattle.litrs_lines.proofs.LinesLemmas.{one_return_ends_a_line}
-use Rattle.litrs_lines.proofs.laws.lines.one_return_ends_a_line.Goals as goal
-
-pub returns : goal.returns
-returns c = one_return_ends_a_line
