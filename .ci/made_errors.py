@@ -34,7 +34,7 @@ MAPPED = {
         "crates/litrs_lines/src/group.rt",
         "Err(e) if e.kind() == ParseErrorKind::OutOfMemory => Err(RunError::Memory),",
     ),
-    ("crates/uses_lexer/src/literal.rt", "ParseErrorKind::OutOfMemory => Err(AllocError),"),
+    ("crates/uses_lexer/src/token.rt", "ParseErrorKind::OutOfMemory => Err(AllocError),"),
     ("crates/uses_formatter/src/form.rt", "ParseErrorKind::OutOfMemory => Err(AllocError),"),
     # The program of rows, which ends where memory of its own was refused.
     ("crates/litrs_vectors/src/main.rt", "Err(RowError::OutOfMemory) => return Err(AllocError),"),
@@ -46,6 +46,7 @@ MAPPED = {
         "crates/litrs_vectors/src/parses.rt",
         "Err(e) => e.kind() == ParseErrorKind::OutOfMemory,",
     ),
+    ("crates/litrs_vectors/src/fronts.rt", "use litrs::ParseErrorKind::OutOfMemory;"),
     ("crates/litrs_vectors/src/rows.rt", "OutOfMemory,"),
     ("crates/litrs_vectors/src/tokens.rt", "Err(IdentError::Memory) => true,"),
     ("crates/litrs_vectors/src/trial.rt", "refusal: Option<AllocError>,"),

@@ -180,7 +180,7 @@ integer_begins t l r d spells h e f period = no_float_mark (after_digits t) peri
 pub float_begins : (t l r : List ℕ) (d : FloatParts) → l ++ r ≡ t → IsFloatOf l d → ends_suffix d.suffix r ≡ true → ends_float d r ≡ true → begins_float t ≡ true
 float_begins t l r d spells h e f = some_float_mark (after_digits t) (ap has_mark (sym spells) ∙ float_mark l r d h e f)
 
--- a period behind the digits
+-- a period after the digits
 
 after_base : (base : IntegerBase) (m y a : List ℕ) → list_all (is_digit_or_underscore base) m ≡ true → first_passes (is_digit_or_underscore base) y ≡ false →
     after_digits (prefix base ++ (m ++ y)) ≡ 46 ∷ a → y ≡ 46 ∷ a

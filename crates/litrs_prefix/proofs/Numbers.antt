@@ -169,7 +169,7 @@ same_float s t r u d e h g f i k j same =
     let ends = same_suffix d.suffix e.suffix r u h.grammar.suffix g.grammar.suffix f k tails in
     (λ v. record { integer = integers v; fraction = fractions v; exponent = exponents v; suffix = ends.0 v }, ends.1)
 
--- What follows the decimal digits tells the two apart: `e` or `E`, or a period that an integer would take.
+-- What follows the decimal digits decides which of the two it is: `e` or `E`, or a period that an integer would take.
 abbrev pub is_mark : List ℕ → Bool
 is_mark t = first_passes is_e t || gives_period t
 

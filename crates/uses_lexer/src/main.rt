@@ -1,7 +1,6 @@
 //! Cuts lines of a language like Rust into tokens, and writes one token a line.
 #![tactic(auto)]
 
-mod literal;
 mod name;
 mod token;
 
@@ -17,10 +16,12 @@ fn report(alloc: Global, line: &str) -> Result<String, AllocError> {
         match token.kind {
             TokenKind::Blank => {}
             TokenKind::Name => writeln!(out, "  name {text}")?,
+            TokenKind::RawName => writeln!(out, "  raw name {text}")?,
             TokenKind::Lifetime => writeln!(out, "  lifetime {text}")?,
             TokenKind::Literal => writeln!(out, "  literal {text}")?,
             TokenKind::Punctuation => writeln!(out, "  punctuation {text}")?,
-            TokenKind::Unknown => writeln!(out, "  no token {text}")?,
+            TokenKind::ReservedPrefix => writeln!(out, "  reserved prefix {text}")?,
+            TokenKind::Malformed(kind) => writeln!(out, "  malformed {text}: {kind}")?,
         }
     }
     Ok(out)

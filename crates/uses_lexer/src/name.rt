@@ -1,6 +1,7 @@
 //! Names, and the characters that they are made of.
 ghost use Rattle.std.specs.Prelude.{◌≡◌, take};
 ghost use Rattle.std.specs.Str.{IsCharBoundary, NoCharPasses};
+ghost use Rattle.litrs_prefix.specs.Ends.{IsEndOf};
 ghost use Rattle.uses_lexer.specs.Tokens.{begins_name, ends_name};
 
 use unicode_ident::{is_xid_continue, is_xid_start};
@@ -24,4 +25,11 @@ pub fn name_len(text: &str) -> usize
         },
         _ => 0,
     }
+}
+
+/// What follows the name at the front of the text.
+pub fn after_name(text: &str) -> &str
+    ensures { IsEndOf text.now result.now }
+{
+    text.split_at(name_len(text)).1
 }

@@ -1,10 +1,15 @@
 //! Tokens.
-ghost use Rattle.std.specs.Prelude.{◌≡◌, ◌<◌, ◌++◌, ℕ, List, ◌∷◌, length, take, IfOk, All};
-ghost use Rattle.std.specs.Str.{IsCharBoundary};
-ghost use Rattle.uses_lexer.specs.Tokens.{spelled, is_quote_or_digit, IsTextOf, IsToken};
+ghost use Rattle.std.specs.Prelude.{◌≡◌, ◌<◌, ◌++◌, ℕ, List, [], ◌∷◌, length, take, drop, IsFalse, IfOk};
+ghost use Rattle.std.specs.Str.{chars, IsCharBoundary, NoCharPasses};
+ghost use Rattle.litrs.specs.Literal.{Derivation};
+ghost use Rattle.litrs_prefix.specs.Ends.{IsEndOf};
+ghost use Rattle.litrs_prefix.specs.Opens.{opens};
+ghost use Rattle.litrs_prefix.specs.Prefix.{HasPrefix};
+ghost use Rattle.uses_lexer.specs.Tokens.{spelled, ends_name, AreTokensBefore, IsTextOf, IsTokenBefore, MayBegin};
 
-use crate::literal::first_literal;
-use crate::name::name_len;
+use crate::name::{after_name, name_len};
+use litrs::ParseErrorKind;
+use litrs_prefix::{parse_prefix, prefix_len};
 use std::alloc::{AllocError, Global};
 
 /// What a token is.
@@ -14,14 +19,18 @@ pub enum TokenKind {
     Blank,
     /// An identifier or a keyword, but for `true` and `false`.
     Name,
+    /// `r#` and an identifier.
+    RawName,
     /// A quote and a name.
     Lifetime,
     /// A literal.
     Literal,
+    /// What opens as a literal and is none, and why.
+    Malformed(ParseErrorKind),
+    /// A name directly before a quote or `#`, which is reserved, with what is quoted.
+    ReservedPrefix,
     /// One character of any other kind.
     Punctuation,
-    /// A quote or a digit that begins no token, and all that follows it.
-    Unknown,
 }
 
 /// A token and its text.
@@ -31,11 +40,11 @@ pub struct Token<'a> {
     pub text: &'a str,
 }
 
-/// The tokens of a line. They spell it, and each is what its kind says: white space, a name, a
-/// literal of the grammar, and so on.
+/// The tokens of a line. They spell it, and each is what its kind says: each literal is the literal
+/// at its place in the line, and where one opens and none stands there, the token says so.
 pub fn tokens(alloc: Global, line: &str) -> Result<Vec<Token<'_>>, AllocError>
     ensures spells { IfOk result (λ found. spelled found.items ≡ line.now) }
-    ensures tokens { IfOk result (λ found. All IsToken found.items) }
+    ensures tokens { IfOk result (λ found. AreTokensBefore found.items []) }
 {
     let mut found = Vec::new(alloc);
     let mut rest = line;
@@ -50,65 +59,117 @@ pub fn tokens(alloc: Global, line: &str) -> Result<Vec<Token<'_>>, AllocError>
 /// The first token of a text that is not empty, and what follows it.
 fn first_token(alloc: Global, text: &str) -> Result<(Token<'_>, &str), AllocError>
     requires { 0 < length text.now }
-    ensures spells { IfOk result (λ first. text.now ≡ first.0.text.now ++ first.1.now) }
+    ensures spells { IfOk result (λ first. first.0.text.now ++ first.1.now ≡ text.now) }
     ensures shorter { IfOk result (λ first. length first.1.now < length text.now) }
-    ensures token { IfOk result (λ first. IsToken first.0) }
+    ensures token { IfOk result (λ first. IsTokenBefore first.0 first.1.now) }
 {
-    if let Some((literal, rest)) = first_literal(alloc, text)? {
-        if !literal.is_empty() {
-            return Ok((
-                Token {
-                    kind: TokenKind::Literal,
-                    text: literal,
-                },
-                rest,
-            ));
-        }
+    match parse_prefix(alloc, text) {
+        Ok(Some(prefix)) => Ok(literal_token(text, prefix.rest)),
+        Ok(None) => Ok(other_token(text)),
+        Err(malformed) => match malformed.error.kind() {
+            ParseErrorKind::OutOfMemory => Err(AllocError),
+            kind => Ok(cut(text, TokenKind::Malformed(kind), malformed.len)),
+        },
     }
-    let (kind, len) = kind_and_len(text);
-    let (text, rest) = text.split_at(len);
-    Ok((Token { kind, text }, rest))
 }
 
-/// The kind of the first token, where it is no literal, and how many bytes it has.
-fn kind_and_len(text: &str) -> (TokenKind, usize)
-    requires { 0 < length text.now }
-    ensures long { 0 < result.1 }
-    ensures boundary { IsCharBoundary text.now result.1 }
-    ensures text { IsTextOf result.0 (take result.1 text.now) }
+/// The literal before this rest of the text.
+fn literal_token<'a>(text: &'a str, rest: &str) -> (Token<'a>, &'a str)
+    requires end { IsEndOf text.now rest.now }
+    requires literal { (d : Derivation) × HasPrefix (chars text.now) d (chars rest.now) }
+    ensures spells { result.0.text.now ++ result.1.now ≡ text.now }
+    ensures shorter { length result.1.now < length text.now }
+    ensures token { IsTokenBefore result.0 result.1.now }
+{
+    cut(text, TokenKind::Literal, text.len() - rest.len())
+}
+
+/// A token of the first bytes, and what follows them.
+fn cut(text: &str, kind: TokenKind, len: usize) -> (Token<'_>, &str)
+    requires { IsCharBoundary text.now len }
+    ensures spells { result.0.text.now ++ result.1.now ≡ text.now }
+    ensures shorter { 0 < len → length result.1.now < length text.now }
+    ensures token { IsTextOf kind (take len text.now) (drop len text.now) →
+        MayBegin kind text.now → IsTokenBefore result.0 result.1.now }
+{
+    let (text, rest) = text.split_at(len);
+    (Token { kind, text }, rest)
+}
+
+/// The first token where no literal opens, and what follows it.
+fn other_token(text: &str) -> (Token<'_>, &str)
+    requires some { 0 < length text.now }
+    requires opens { IsFalse (opens (chars text.now)) }
+    ensures spells { result.0.text.now ++ result.1.now ≡ text.now }
+    ensures shorter { length result.1.now < length text.now }
+    ensures token { IsTokenBefore result.0 result.1.now }
 {
     let blanks = text.len() - text.trim_start().len();
     if blanks > 0 {
-        return (TokenKind::Blank, blanks);
+        return cut(text, TokenKind::Blank, blanks);
     }
     let name = name_len(text);
     if name > 0 {
-        return (TokenKind::Name, name);
+        return name_token(text, name);
     }
     match text.chars().next() {
-        Some('\'') => quote_and_len(text),
-        Some(c) if is_quote_or_digit(c) => (TokenKind::Unknown, text.len()),
-        Some(c) => (TokenKind::Punctuation, c.len_utf8()),
+        Some('\'') => quote_token(text),
+        Some(c) => cut(text, TokenKind::Punctuation, c.len_utf8()),
         None => unreachable!(),
     }
 }
 
-/// The same of a text that begins with `'`.
-fn quote_and_len(text: &str) -> (TokenKind, usize)
-    requires { (rest : List ℕ) × (text.now ≡ 39 ∷ rest) }
-    ensures long { 0 < result.1 }
-    ensures boundary { IsCharBoundary text.now result.1 }
-    ensures text { IsTextOf result.0 (take result.1 text.now) }
+/// The first token of a text that begins with a name of so many bytes.
+fn name_token(text: &str, name: usize) -> (Token<'_>, &str)
+    requires long { 0 < name }
+    requires boundary { IsCharBoundary text.now name }
+    requires name { NoCharPasses ends_name (take name text.now) }
+    requires opens { IsFalse (opens (chars text.now)) }
+    ensures spells { result.0.text.now ++ result.1.now ≡ text.now }
+    ensures shorter { length result.1.now < length text.now }
+    ensures token { IsTokenBefore result.0 result.1.now }
 {
-    match text.get(1..) {
-        Some(rest) if name_len(rest) > 0 => (TokenKind::Lifetime, 1 + name_len(rest)),
-        _ => (TokenKind::Unknown, text.len()),
+    let (front, after) = text.split_at(name);
+    let rest = after_quoted(after);
+    match after.as_bytes().first() {
+        Some(b'#') if front == "r" && name_len(rest) > 0 => {
+            cut(
+                text,
+                TokenKind::RawName,
+                text.len() - after_name(rest).len(),
+            )
+        }
+        Some(b'"' | b'\'' | b'#') => {
+            cut(text, TokenKind::ReservedPrefix, text.len() - rest.len())
+        }
+        _ => cut(text, TokenKind::Name, name),
     }
 }
 
-/// Whether the character is a quote of either kind or a decimal digit.
-fn is_quote_or_digit(c: char) -> bool
-    ensures { result ≡ is_quote_or_digit c }
+/// What follows a literal at the front, or the first character.
+fn after_quoted(text: &str) -> &str
+    ensures { IsEndOf text.now result.now }
 {
-    c == '"' || c == '\'' || c.is_ascii_digit()
+    match prefix_len(text) {
+        Some(len) => text.split_at(len).1,
+        None => {
+            let mut chars = text.chars();
+            let _ = chars.next();
+            chars.as_str()
+        }
+    }
+}
+
+/// The first token of a text that begins with `'`, where that begins no char.
+fn quote_token(text: &str) -> (Token<'_>, &str)
+    requires quote { (rest : List ℕ) × (text.now ≡ 39 ∷ rest) }
+    requires opens { IsFalse (opens (chars text.now)) }
+    ensures spells { result.0.text.now ++ result.1.now ≡ text.now }
+    ensures shorter { length result.1.now < length text.now }
+    ensures token { IsTokenBefore result.0 result.1.now }
+{
+    match text.get(1..) {
+        Some(rest) if name_len(rest) > 0 => cut(text, TokenKind::Lifetime, 1 + name_len(rest)),
+        _ => cut(text, TokenKind::Punctuation, 1),
+    }
 }

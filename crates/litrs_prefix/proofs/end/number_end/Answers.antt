@@ -1,4 +1,4 @@
--- What stands behind the decimal digits.
+-- What follows the decimal digits.
 use Rattle.std.proofs.Common.{◌≡◌, ℕ, List, ◌∷◌, ◌++◌, take, drop, false, sym, ap, subst, ◌∙◌, append_assoc}
 use Rattle.std.specs.Prelude.{encode_utf8}
 use Rattle.std.specs.List.{prefix_len}

@@ -1,4 +1,4 @@
--- How the text begins tells the kind.
+-- How the text begins decides the kind.
 use Rattle.std.proofs.Common.{◌≡◌, ℕ, true, subst, ◌∙◌}
 use Rattle.std.specs.Str.{chars}
 use Rattle.litrs_base.specs.Text.{begins_with}

@@ -1,4 +1,4 @@
--- What follows the period tells the two kinds apart.
+-- What follows the period decides the kind.
 use Rattle.std.proofs.Common.{sym, ap, ◌∙◌}
 use Rattle.std.specs.Str.{chars}
 use Rattle.std.proofs.lemmas.Bool.{true≢false}
