@@ -3,9 +3,10 @@
  * Standard input has a text a line, in hex. The line that is printed of a text has the fields of
  * litrs_answer in their order, what litrs_goes_on answers, and the status, length and bytes in hex
  * of litrs_value and of litrs_message; then the same of litrs_parse, litrs_value and litrs_message,
- * by their status alone, with every allocation refused; and at last how often memory was asked for
- * by litrs_parse, litrs_value, litrs_message and litrs_goes_on. It ends with status 2 where a call
- * wrote outside of its room or kept memory.
+ * by their status alone, with every allocation refused; then how often memory was asked for by
+ * litrs_parse, litrs_value, litrs_message and litrs_goes_on; and at last the fields of litrs_prefix
+ * in their order, its status with every allocation refused, and how often it asked for memory. It
+ * ends with status 2 where a call wrote outside of its room or kept memory.
  *
  * It is linked with --wrap for malloc, realloc and free. */
 #include "litrs.h"
@@ -93,9 +94,10 @@ static void print_answer(litrs_answer answer) {
 }
 
 static void print_text(const uint8_t *text, size_t len, uint8_t *room) {
-    size_t before = held, by_parse, by_value, by_message, by_goes_on;
+    size_t before = held, by_parse, by_value, by_message, by_goes_on, by_prefix;
     bool goes_on;
     litrs_answer answer;
+    litrs_prefix prefix;
     asked = 0;
     answer = litrs_parse(text, len);
     by_parse = asked;
@@ -105,6 +107,9 @@ static void print_text(const uint8_t *text, size_t len, uint8_t *room) {
     by_message = asked - by_parse - by_value;
     goes_on = litrs_goes_on(text, len);
     by_goes_on = asked - by_parse - by_value - by_message;
+    asked = 0;
+    prefix = litrs_parse_prefix(text, len);
+    by_prefix = asked;
     print_answer(answer);
     printf(" %d", goes_on);
     print_written(litrs_value, text, len, room);
@@ -114,7 +119,12 @@ static void print_text(const uint8_t *text, size_t len, uint8_t *room) {
     printf(" %u", (unsigned)litrs_value(text, len, room, 0).status);
     printf(" %u", (unsigned)litrs_message(text, len, room, 0).status);
     refuses = false;
-    printf(" %zu %zu %zu %zu\n", by_parse, by_value, by_message, by_goes_on);
+    printf(" %zu %zu %zu %zu ", by_parse, by_value, by_message, by_goes_on);
+    print_answer(prefix.answer);
+    refuses = true;
+    printf(" %zu %u", prefix.len, (unsigned)litrs_parse_prefix(text, len).answer.status);
+    refuses = false;
+    printf(" %zu\n", by_prefix);
     hold(held == before, "memory is kept");
 }
 

@@ -5,9 +5,9 @@
 
 After `rt ci`: proves crates/litrs_c over the libraries that it left, and builds its archive, the C
 program .ci/c_library.c, and a shared object for ctypes. Each row of the table of `litrs_vectors`
-that is about literals of any kind, or about what texts begin, and whose text has at most 65,536
-bytes, has to be answered as it says by both, with the descriptions and marks that docs/GRAMMAR.md
-has; each prefix of its text, at each byte, has to be refused as not UTF-8 where Python does not
+that is about literals of any kind, about what texts begin, or about what stands at their front, and
+whose text has at most 65,536 bytes, has to be answered as it says by both, with the descriptions and
+marks that docs/GRAMMAR.md has; each prefix of its text, at each byte, has to be refused as not UTF-8 where Python does not
 decode it, and answered alike by both. The samples of crates/litrs_c/README.md have to print what
 stands below them.
 """
@@ -26,7 +26,7 @@ from libraries import KIT, TOP
 
 CRATE = TOP / "crates/litrs_c"
 WARNINGS = ["-std=c99", "-O1", "-Wall", "-Wextra", "-Werror", "-pedantic", "-I", CRATE / "include"]
-LITERAL, REFUSED, NOT_UTF8, OUT_OF_MEMORY, NO_STRING = range(5)
+LITERAL, REFUSED, NOT_UTF8, OUT_OF_MEMORY, NO_STRING, NO_PREFIX = range(6)
 KINDS = "bool integer float char byte string bytestring cstring".split()
 # Longer texts are left to the program litrs_vectors; of those from the second length on no prefixes
 # are tried.
@@ -58,6 +58,10 @@ class Answer(ctypes.Structure):
     _fields_ = [("status", ctypes.c_uint32), ("literal", Literal), ("refusal", Refusal)]
 
 
+class Prefix(ctypes.Structure):
+    _fields_ = [("answer", Answer), ("len", ctypes.c_size_t)]
+
+
 class Written(ctypes.Structure):
     _fields_ = [("status", ctypes.c_uint32), ("len", ctypes.c_size_t)]
 
@@ -79,6 +83,7 @@ class Library:
         for name, result, more in (
             ("parse", Answer, []),
             ("goes_on", ctypes.c_bool, []),
+            ("parse_prefix", Prefix, []),
             ("value", Written, text),
             ("message", Written, text),
         ):
@@ -98,17 +103,20 @@ class Library:
         """The same fields as the C program prints them, up to the message."""
         fields = flat(self.calls["parse"](text, len(text)))
         fields.append(int(self.calls["goes_on"](text, len(text))))
-        return fields + self.written("value", text) + self.written("message", text)
+        fields += self.written("value", text) + self.written("message", text)
+        return fields + flat(self.calls["parse_prefix"](text, len(text)))
 
 
 @dataclasses.dataclass
 class Wanted:
-    """What is to be answered of a text: the fields, None where nothing is known of one, and how
-    often memory is to be asked for by each call but litrs_goes_on."""
+    """What is to be answered of a text: the fields, None where nothing is known of one, how often
+    memory is to be asked for by each call but litrs_goes_on, and the status and length of what
+    stands at its front."""
 
     text: bytes
     fields: list
     asked: object = None
+    front: tuple = (None, None)
 
 
 def bytes_of(field):
@@ -170,7 +178,7 @@ def wanted_of_literal(text, kind, suffix, parts):
     else:
         fields += [NO_STRING, 0, ""]
     allocates = kind == "cstring" or parts[0] == b"escaped"
-    return Wanted(text, fields + [LITERAL, 0, ""], int(allocates))
+    return Wanted(text, fields + [LITERAL, 0, ""], int(allocates), (LITERAL, len(text)))
 
 
 def wanted_of_refusal(text, kinds, name, spans, printed):
@@ -188,6 +196,15 @@ def wanted_of_refusal(text, kinds, name, spans, printed):
     return Wanted(text, fields, 0)
 
 
+def wanted_of_front(text, words):
+    """What a row on the front of a text wants: the last of its words decides."""
+    if words[-1].isdigit():
+        front = (LITERAL, int(words[-1]))
+    else:
+        front = (NO_PREFIX, 0) if words[-1] in (b"other", b"none") else (REFUSED, None)
+    return Wanted(text, [None] * 31, front=front)
+
+
 def wanted_of_rows(kinds):
     """What the rows of the table want of the calls."""
     table = (TOP / "crates/litrs_vectors/stdin").read_bytes()
@@ -200,6 +217,8 @@ def wanted_of_rows(kinds):
             continue
         if calls == b"goes_on" and fields[1] in (b"yes", b"no"):
             yield Wanted(fields[0], [None] * 24 + [int(fields[1] == b"yes")] + [None] * 6)
+        elif calls == b"parse_prefix":
+            yield wanted_of_front(fields[0], fields[1:])
         elif b"Literal" not in calls.split(b","):
             continue
         elif fields[1] == b"refused":
@@ -217,25 +236,42 @@ def wanted_of_prefixes(rows):
             text.decode()
             yield Wanted(text, [None] * 31)
         except UnicodeDecodeError:
-            yield Wanted(text, [NOT_UTF8, *[0] * 24, NOT_UTF8, 0, "", NOT_UTF8, 0, ""], 0)
+            fields = [NOT_UTF8, *[0] * 24, NOT_UTF8, 0, "", NOT_UTF8, 0, ""]
+            yield Wanted(text, fields, 0, (NOT_UTF8, 0))
 
 
 def fields_of(line):
-    """The fields that the C program printed of a text: those of `Library.answer`, and the rest."""
+    """The fields that the C program printed of a text: those of `Library.answer`, the statuses
+    with every allocation refused and how often memory was asked for, and the same of the front."""
     fields = [it if it.endswith(".") else int(it) for it in line.split()]
     fields = [it[:-1] if isinstance(it, str) else it for it in fields]
-    return fields[:31], fields[31:]
+    return fields[:31] + fields[38:-2], fields[31:38], fields[-2:]
 
 
 def status_without_memory(status, needs_memory):
     return OUT_OF_MEMORY if needs_memory else status
 
 
+def faults_of_front(wanted, fields, refused, asked):
+    """What is wrong of the answer on the front of a text."""
+    *answer, length = fields[31:]
+    if any(it is not None and it != got for it, got in zip(wanted.front, (answer[0], length))):
+        yield f"wanted {wanted.front} at the front, got {answer[0], length}"
+    if wanted.front == (LITERAL, len(wanted.text)) and answer != fields[: len(answer)]:
+        yield f"{answer} at the front, and {fields} of the whole"
+    if wanted.front[0] == REFUSED and not 0 < length <= len(wanted.text):
+        yield f"{length} bytes are meant as a literal"
+    if wanted.front[0] is not None and refused != status_without_memory(answer[0], asked > 0):
+        yield f"{refused} at the front with every allocation refused, for {answer[0]}"
+
+
 def faults_of(wanted, from_c, from_python):
     """What is wrong of the answers on a text."""
-    fields, (*refused, by_parse, by_value, by_message, by_goes_on) = fields_of(from_c)
+    fields, (*refused, by_parse, by_value, by_message, by_goes_on), front = fields_of(from_c)
     if fields != from_python:
         yield f"C answers {fields}, Python {from_python}"
+    yield from faults_of_front(wanted, fields, *front)
+    fields = fields[:31]
     if any(it is not None and it != got for it, got in zip(wanted.fields, fields)):
         yield f"wanted {wanted.fields}, got {fields}"
     asked = [by_parse, by_value, by_message]

@@ -20,7 +20,8 @@ enum litrs_status {
     LITRS_REFUSED = 1,       /* it is none */
     LITRS_NOT_UTF8 = 2,      /* the bytes are not UTF-8 */
     LITRS_OUT_OF_MEMORY = 3, /* it is a literal, and there was no memory for its value */
-    LITRS_NO_STRING = 4      /* by litrs_value: it is a literal of another kind than strings */
+    LITRS_NO_STRING = 4,     /* by litrs_value: it is a literal of another kind than strings */
+    LITRS_NO_PREFIX = 5      /* by litrs_parse_prefix: no literal opens at the front */
 };
 
 /* The kinds of literals. */
@@ -111,12 +112,18 @@ typedef struct {
     litrs_place char_span; /* the same up to the next end of a character */
 } litrs_refusal;
 
-/* What litrs_parse answers: the status is not LITRS_NO_STRING. */
+/* What litrs_parse answers: the status is neither LITRS_NO_STRING nor LITRS_NO_PREFIX. */
 typedef struct {
     uint32_t status;       /* enum litrs_status */
     litrs_literal literal; /* if the status is LITRS_LITERAL; else all is 0 */
     litrs_refusal refusal; /* if the status is LITRS_REFUSED; else all is 0 */
 } litrs_answer;
+
+/* What litrs_parse_prefix answers: the status is not LITRS_NO_STRING. */
+typedef struct {
+    litrs_answer answer; /* of the literal at the front, whose suffix ends it; or why none is there */
+    size_t len;          /* how many bytes that is, or was meant as one; 0 where none opens */
+} litrs_prefix;
 
 /* What the calls answer that write to the caller's room. */
 typedef struct {
@@ -126,6 +133,9 @@ typedef struct {
 
 /* Whether the text is a literal, and what it is made of, or why it is none. */
 litrs_answer litrs_parse(const uint8_t *text, size_t len);
+
+/* Which literal stands at the front of the text, and how many bytes it has. */
+litrs_prefix litrs_parse_prefix(const uint8_t *text, size_t len);
 
 /* Writes the bytes that a string, a byte string or a C string stands for, as many as fit, where the
  * status is LITRS_LITERAL. */

@@ -4,6 +4,8 @@ pub mod Sizes
 pub mod PartPlaces
 -- allocation failures
 pub mod Memory
+-- the front of a longer text
+pub mod Prefixes
 -- parts that are written one after the other
 pub mod Rooms
 -- examples

@@ -5,3 +5,5 @@ pub mod Places
 pub mod LiteralFields
 pub mod RefusalFields
 pub mod Answers
+-- what is answered of the front of a longer text
+pub mod Prefixes

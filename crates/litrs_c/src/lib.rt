@@ -1,28 +1,32 @@
 //! Rust literals, for C and for what calls C.
 //!
-//! A static library over [`litrs`]. `include/litrs.h` declares the four calls and what they answer,
+//! A static library over [`litrs`]. `include/litrs.h` declares the five calls and what they answer,
 //! and `README.md` says how to build and to call them. Each call reads a text anew: nothing is kept
 //! between calls, and nothing has to be freed.
 #![tactic(auto)]
 
-ghost use Rattle.std.specs.Prelude.{◌≡◌, ◌≢◌, ◌≤◌, ◌↔◌, ⊤, IsTrue, length, Some, None, option_map};
+ghost use Rattle.std.specs.Prelude.{◌≡◌, ◌≢◌, ◌≤◌, ◌↔◌, ⊤, IsTrue, IsFalse, length, Some, None, option_map};
 ghost use Rattle.std.specs.Str.{chars, IsUtf8};
 ghost use Rattle.litrs_base.specs.Derivations.{HasNoDerivation};
 ghost use Rattle.litrs_grammar.specs.Literal.{IsLiteral, literal_parse, Begins};
 ghost use Rattle.litrs.specs.LiteralDerivation.{derivation};
 ghost use Rattle.litrs_c.specs.LiteralFields.{IsLiteralFields, bytes_of};
 ghost use Rattle.litrs_c.specs.RefusalFields.{IsRefusalFields};
+ghost use Rattle.litrs_prefix.specs.Opens.{opens};
+ghost use Rattle.litrs_c.specs.Prefixes.{IsPrefixAnd, IsMalformedAnd, LacksMemoryAt};
 ghost use Rattle.litrs_c.specs.Answers.{IsLiteralAnd, IsRefusedAnd, LacksMemory, IsKept, WritesValue, WritesMessage};
 
 use literals::{NO_LITERAL, literal_fields};
 use litrs::{Literal, ParseErrorKind};
 use message::write_refusal;
+use prefix::parsed_prefix;
 use refusals::{NO_REFUSAL, refusal_fields};
 use std::alloc::Global;
 use std::str;
 
 mod literals;
 mod message;
+mod prefix;
 mod refusals;
 mod room;
 
@@ -36,6 +40,8 @@ pub const NOT_UTF8: u32 = 2;
 pub const OUT_OF_MEMORY: u32 = 3;
 /// The text is a literal of another kind than strings, byte strings and C strings.
 pub const NO_STRING: u32 = 4;
+/// No literal opens at the front of the text.
+pub const NO_PREFIX: u32 = 5;
 
 /// A part of a text: the bytes from `start` up to `end`.
 #[repr(C)]
@@ -102,6 +108,17 @@ pub struct Answer {
     pub literal: LiteralFields,
     /// The refusal, where the status says so; else all is 0.
     pub refusal: RefusalFields,
+}
+
+/// What stands at the front of a text.
+#[repr(C)]
+#[derive(Clone, Copy)]
+pub struct PrefixAnswer {
+    /// Of the literal there, or of what was meant as one. The status may also be that none opens.
+    /// The suffix of the literal ends it.
+    pub answer: Answer,
+    /// How many bytes the literal has, or what was meant as one; 0 where none opens.
+    pub len: usize,
 }
 
 /// What was written to the caller's room.
@@ -175,6 +192,36 @@ fn only_status(status: u32) -> Answer
         status,
         literal: NO_LITERAL,
         refusal: NO_REFUSAL,
+    }
+}
+
+/// Says which literal stands at the front of a text, and how many bytes it has; that none opens
+/// there, as before a name, a blank or punctuation; or why what was meant as one is none, and how
+/// many bytes that is. Spans count from the start of the text.
+///
+/// It allocates as [`litrs_parse`] does.
+#[unsafe(no_mangle)]
+pub extern "C" fn litrs_parse_prefix(alloc: Global, text: &[u8]) -> PrefixAnswer
+    ensures statuses { result.answer.status ≤ NO_PREFIX }
+    ensures no_string { result.answer.status ≢ NO_STRING }
+    ensures utf8 { result.answer.status ≢ NOT_UTF8 ↔ IsUtf8 text.now }
+    ensures literal { result.answer.status ≡ LITERAL → IsPrefixAnd text.now result.len
+        (λ d. IsLiteralFields result.len d result.answer.literal) }
+    ensures refused { result.answer.status ≡ REFUSED → IsMalformedAnd (chars text.now) result.len
+        (λ e. IsRefusalFields e result.answer.refusal) }
+    ensures none { result.answer.status ≡ NO_PREFIX → IsFalse (opens (chars text.now)) }
+    ensures no_len { result.answer.status ≡ NO_PREFIX → result.len ≡ 0 }
+    ensures memory { result.answer.status ≡ OUT_OF_MEMORY
+        → LacksMemoryAt (chars text.now) result.len }
+    ensures no_literal { result.answer.status ≢ LITERAL → result.answer.literal ≡ NO_LITERAL }
+    ensures no_refusal { result.answer.status ≢ REFUSED → result.answer.refusal ≡ NO_REFUSAL }
+{
+    match str::from_utf8(text) {
+        Ok(text) => parsed_prefix(alloc, text),
+        Err(_) => PrefixAnswer {
+            answer: only_status(NOT_UTF8),
+            len: 0,
+        },
     }
 }
 
