@@ -257,8 +257,11 @@ def faults_of_front(wanted, fields, refused, asked):
     *answer, length = fields[31:]
     if any(it is not None and it != got for it, got in zip(wanted.front, (answer[0], length))):
         yield f"wanted {wanted.front} at the front, got {answer[0], length}"
-    if wanted.front == (LITERAL, len(wanted.text)) and answer != fields[: len(answer)]:
-        yield f"{answer} at the front, and {fields} of the whole"
+    if wanted.front == (LITERAL, len(wanted.text)) and wanted.asked is not None:
+        if answer != fields[: len(answer)]:
+            yield f"{answer} at the front, and {fields} of the whole"
+        if asked != wanted.asked:
+            yield f"memory was asked for {asked} times by litrs_parse_prefix"
     if wanted.front[0] == REFUSED and not 0 < length <= len(wanted.text):
         yield f"{length} bytes are meant as a literal"
     if wanted.front[0] is not None and refused != status_without_memory(answer[0], asked > 0):
