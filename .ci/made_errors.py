@@ -35,6 +35,10 @@ MAPPED = {
         "Err(e) if e.kind() == ParseErrorKind::OutOfMemory => Err(RunError::Memory),",
     ),
     ("crates/uses_lexer/src/token.rt", "ParseErrorKind::OutOfMemory => Err(AllocError),"),
+    (
+        "crates/uses_attributes/src/setting.rt",
+        "Some(ParseErrorKind::OutOfMemory) => Err(AllocError),",
+    ),
     ("crates/uses_formatter/src/form.rt", "ParseErrorKind::OutOfMemory => Err(AllocError),"),
     # The program of rows, which ends where memory of its own was refused.
     ("crates/litrs_vectors/src/main.rt", "Err(RowError::OutOfMemory) => return Err(AllocError),"),
@@ -87,6 +91,10 @@ RESERVED = {
     ): 1,
     ("crates/litrs_vectors/src/prefixes.rt", "trial.own(longer.reserve(2 * LONGEST));"): 1,
     # As many as the digits that are kept.
+    (
+        "crates/uses_attributes/src/value.rt",
+        "let digits: Vec<u8> = part.iter().copied().filter(|&b| b != b'_').collect(alloc)?;",
+    ): 1,
     (
         "crates/uses_formatter/src/keep.rt",
         "digits.map(|c| c.to_ascii_lowercase()).collect(alloc)",

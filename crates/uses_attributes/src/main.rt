@@ -1,25 +1,35 @@
 //! Reads lists of settings, a list a line, as they stand in an attribute of Rust:
-//! `rename = "x", skip = true, max = 0x10u8`. Writes each setting with its value, or what is wrong
-//! with it and where in the line.
+//! `rename = "x", skip = true, max = 0x10u8, offset = -3`. Writes each setting with its value, and
+//! where a line goes on with none, what is wrong and at which byte of the line.
 #![tactic(auto)]
 
+mod describe;
 mod setting;
 mod value;
 
-use setting::read_settings;
+use describe::describe;
+use setting::{Fault, read_settings};
 use std::alloc::{AllocError, Global};
 use std::io;
-use value::describe;
 
 /// What is written on a line.
 fn report(alloc: Global, line: &str) -> Result<String, AllocError> {
     let mut out = String::new(alloc);
     let settings = read_settings(alloc, line)?;
     for setting in &settings.found {
-        describe(alloc, &mut out, setting)?;
+        let described = describe(alloc, setting)?;
+        out.push_str(described.as_str())?;
     }
-    if let Some(place) = settings.no_equals {
-        writeln!(out, "  no `=` after {place}")?;
+    match &settings.fault {
+        Some(Fault::NoEquals(place)) => writeln!(out, "  no `=` at {place}")?,
+        Some(Fault::NoLiteral(place)) => writeln!(out, "  no literal at {place}")?,
+        Some(Fault::NoNumber(place)) => writeln!(out, "  no number at {place}")?,
+        Some(Fault::NoComma(place)) => writeln!(out, "  no comma at {place}")?,
+        Some(Fault::Malformed(malformed)) => {
+            let error = &malformed.error;
+            writeln!(out, "  {error}")?;
+        }
+        None => {}
     }
     Ok(out)
 }

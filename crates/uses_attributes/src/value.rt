@@ -1,98 +1,69 @@
-//! The typed values of settings.
-ghost use Rattle.std.specs.Prelude.{◌≡◌, ◌+◌, ◌<◌, ◌≤◌, ◌^◌, length, IfOk, IfErr};
-ghost use Rattle.std.specs.Cow.{cow_str_bytes};
-ghost use Rattle.std.specs.Option.{SomeIff};
-ghost use Rattle.std.specs.Str.{chars};
-ghost use Rattle.litrs.specs.Refusal.{refusal_of, moved};
-ghost use Rattle.litrs.specs.declared.ParseError.{ParseError};
-ghost use Rattle.litrs.specs.Bool.{IsBool};
-ghost use Rattle.litrs.specs.Integer.{IntegerParts, IsIntegerOf, integer_value};
-ghost use Rattle.litrs.specs.LiteralDerivation.{literal_raw};
-ghost use Rattle.litrs.specs.Literal.{kind_parse, integer_literal, StringParts, IsString, string_value};
-ghost use Rattle.litrs.specs.StringKind.{string_kind};
-ghost use Rattle.litrs.specs.Refused.{IsRefused};
+//! The values of settings, at the types that are asked for.
+ghost use Rattle.std.specs.Prelude.{◌≡◌, IfOk, string_bytes};
+ghost use Rattle.std.specs.Option.{option_map};
+ghost use Rattle.litrs.specs.LiteralDerivation.{derivation};
+ghost use Rattle.uses_attributes.specs.Values.{IsNumberOf, IsSignedOf, IsFloatOf, string_of, flag_of};
 
 use crate::setting::Setting;
-use litrs::{BoolLit, FromIntegerLiteral, IntegerLit, Literal, ParseError, StringLit};
+use litrs::{FloatLit, Literal};
 use std::alloc::{AllocError, Global};
-use std::borrow::CowStr;
 
-/// The number of a text that stands `start` bytes into a line, None where `N` does not have it. A
-/// refusal points into the line.
-pub fn number<N: FromIntegerLiteral>(text: &str, start: usize) -> Result<Option<N>, ParseError>
-    requires { start + length text.now < 2 ^ 64 }
-    ensures value { IfOk result (λ v. (d : IntegerParts) × IsIntegerOf (chars text.now) d
-        × SomeIff v (integer_value d ≤ N.greatest) (N.of (integer_value d))) }
-    ensures refused { IfErr result (λ e. (r : ParseError)
-        × IsRefused (kind_parse integer_literal) (chars text.now) r
-        × (refusal_of e ≡ moved start (refusal_of r))) }
+/// The number of 16 bits, None where the value is none.
+pub fn number(setting: &Setting) -> Option<u16>
+    ensures { IsNumberOf setting.now.negative (derivation setting.now.literal) result }
 {
-    match IntegerLit::parse(text) {
-        Ok(lit) => Ok(lit.value::<N>()),
-        Err(e) => Err(e.offset_span(start)),
+    match &setting.literal {
+        Literal::Integer(lit) if !setting.negative => lit.value::<u16>(),
+        _ => None,
     }
 }
 
-/// The text that a string stands for, which is borrowed where it has no escape.
-pub fn string(alloc: Global, text: &str, start: usize) -> Result<CowStr<'_>, ParseError>
-    requires { start + length text.now < 2 ^ 64 }
-    ensures value { IfOk result (λ v. (d : StringParts) × IsString string_kind (chars text.now) d
-        × (cow_str_bytes v ≡ string_value d)) }
+/// The integer of 64 bits with its sign, None where the value is none.
+pub fn signed(setting: &Setting) -> Option<i64>
+    ensures { IsSignedOf setting.now.negative (derivation setting.now.literal) result }
 {
-    match StringLit::parse(alloc, text) {
-        Ok(lit) => Ok(lit.into_value()),
-        Err(e) => Err(e.offset_span(start)),
-    }
-}
-
-/// Whether the text is `true`.
-pub fn flag(text: &str, start: usize) -> Result<bool, ParseError>
-    requires { start + length text.now < 2 ^ 64 }
-    ensures value { IfOk result (λ b. IsBool (chars text.now) b) }
-{
-    match BoolLit::parse(text) {
-        Ok(lit) => Ok(lit.value()),
-        Err(e) => Err(e.offset_span(start)),
-    }
-}
-
-/// A literal of any kind.
-pub fn any(alloc: Global, text: &str, start: usize) -> Result<Literal<&str>, ParseError>
-    requires { start + length text.now < 2 ^ 64 }
-    ensures { IfOk result (λ lit. literal_raw lit ≡ text.now) }
-{
-    match Literal::parse(alloc, text) {
-        Ok(lit) => Ok(lit),
-        Err(e) => Err(e.offset_span(start)),
-    }
-}
-
-/// Writes a line on a setting: its value, or why its text is refused.
-pub fn describe(alloc: Global, out: &mut String, setting: &Setting) -> Result<(), AllocError> {
-    let name = setting.name;
-    let text = setting.text;
-    let start = setting.start;
-    let refusal = match name {
-        "max" => match number::<u16>(text, start) {
-            Ok(Some(number)) => return writeln!(out, "  {name} is {number}"),
-            Ok(None) => return writeln!(out, "  {name} is more than 65535"),
-            Err(e) => e,
-        },
-        "rename" => match string(alloc, text, start) {
-            Ok(value) => {
-                let value = value.as_str();
-                return writeln!(out, "  {name} is {value:?}");
-            }
-            Err(e) => e,
-        },
-        "skip" => match flag(text, start) {
-            Ok(value) => return writeln!(out, "  {name} is {value}"),
-            Err(e) => e,
-        },
-        _ => match any(alloc, text, start) {
-            Ok(lit) => return writeln!(out, "  {name} is {lit}"),
-            Err(e) => e,
-        },
+    let Literal::Integer(lit) = &setting.literal else {
+        return None;
     };
-    writeln!(out, "  {name}: {refusal}")
+    if !setting.negative {
+        return lit.value::<i64>();
+    }
+    let number = lit.value::<i128>()?;
+    i64::try_from(-number).ok()
+}
+
+/// The nearest `f64` of a float with its sign, None where the value is none.
+pub fn float(alloc: Global, setting: &Setting) -> Result<Option<f64>, AllocError>
+    ensures { IfOk result (IsFloatOf setting.now.negative (derivation setting.now.literal)) }
+{
+    let Literal::Float(lit) = &setting.literal else {
+        return Ok(None);
+    };
+    let part = lit.number_part().as_bytes();
+    let digits: Vec<u8> = part.iter().copied().filter(|&b| b != b'_').collect(alloc)?;
+    match fast_float::parse::<f64, _>(digits.as_slice()) {
+        Ok(value) if setting.negative => Ok(Some(-value)),
+        Ok(value) => Ok(Some(value)),
+        Err(_) => Ok(None),
+    }
+}
+
+/// The text that a string stands for, None where the value is no string.
+pub fn string<'b>(setting: &'b Setting) -> Option<&'b str>
+    ensures { option_map (λ text. text.now) result ≡ string_of (derivation setting.now.literal) }
+{
+    match &setting.literal {
+        Literal::String(lit) => Some(lit.value()),
+        _ => None,
+    }
+}
+
+/// The bool, None where the value is none.
+pub fn flag(setting: &Setting) -> Option<bool>
+    ensures { result ≡ flag_of (derivation setting.now.literal) }
+{
+    match &setting.literal {
+        Literal::Bool(lit) => Some(lit.value()),
+        _ => None,
+    }
 }

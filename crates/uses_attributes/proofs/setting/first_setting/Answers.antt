@@ -1,40 +1,108 @@
 -- Each part is cut off an end of the line.
-use Rattle.std.proofs.Common.{◌≡◌, ℕ, List, drop}
-use Rattle.uses_attributes.specs.Stands.{IsEndOf}
-use Rattle.uses_attributes.proofs.Ends.{cut_end, end_short, trimmed_stands}
+use Rattle.std.proofs.Common.{◌≡◌, ◌++◌, ◌+◌, ◌∷◌, ℕ, Bool, List, length, take, sym, ap, subst, ◌∙◌, length-append, arith}
+use Rattle.std.specs.Str.{chars, IsTrimStart}
+use Rattle.std.proofs.lemmas.List.{take-append-drop}
+use Rattle.litrs.specs.LiteralDerivation.{literal_raw, derivation}
+use Rattle.litrs_prefix.specs.Ends.{IsEndOf}
+use Rattle.litrs_prefix.specs.Prefix.{HasPrefix}
+use Rattle.litrs_prefix.proofs.Ends.{end_of_end, not_longer}
+use Rattle.uses_attributes.specs.Settings.{sign}
+use Rattle.uses_attributes.proofs.Places.{end_stands, after_byte, after_blanks, after_value}
 use Rattle.uses_attributes.proofs.setting.first_setting.Goals as goal
 
-value_end : (line rest after value : List ℕ) (j n : ℕ) → IsEndOf line rest → after ≡ drop j rest → value ≡ drop n after → IsEndOf line value
-value_end line rest after value j n ends is_after is_value = cut_end line after value n (cut_end line rest after j ends is_after) is_value
+-- the value, in the line
+value_end : (line rest front after value : List ℕ) → IsEndOf line rest → front ++ 61 ∷ after ≡ rest → IsTrimStart after value → IsEndOf line value
+value_end line rest front after value end cut blanks =
+    end_of_end line after value (end_of_end line rest after end (after_byte rest front after 61 cut)) (after_blanks after value blanks)
 
-pub overflow_sub-start : goal.overflow_sub-start
-overflow_sub-start c =
-    let split = c.in_ok-name.ensures.cases in
-    let blanks = c.trim_start-value.ensures.value in
-    end_short c.args.line.now c.trim_start-value.result.now
-    (value_end c.args.line.now c.args.rest.now c.in_ok-name.after.now c.trim_start-value.result.now split.1 blanks.0 c.requires split.4 blanks.1)
+-- the literal, in the line
+text_end : (line value text : List ℕ) (negative : Bool) → IsEndOf line value → sign negative ++ text ≡ value → IsEndOf line text
+text_end line value text negative end cut = end_of_end line value text end (sign negative, cut)
 
-pub returns-in-Some-clause-stands : goal.returns-in-Some-clause-stands
-returns-in-Some-clause-stands c =
-    let split = c.in_ok-name.ensures.cases in
-    let blanks = c.trim_start-value.ensures.value in
-    trimmed_stands c.args.line.now c.trim_start-value.result.now c.split_at.result.0.now c.trim_end.result.now c.value_len.result
-    (value_end c.args.line.now c.args.rest.now c.in_ok-name.after.now c.trim_start-value.result.now split.1 blanks.0 c.requires split.4 blanks.1)
-    c.split_at.ensures.front c.trim_end.ensures.value
+pub literal_at-requires : goal.literal_at-requires
+literal_at-requires c =
+    let value = c.trim_start-value.result.now in
+    text_end c.args.line.now value c.cut_sign-negative.result.1.now c.cut_sign-negative.result.0
+    (value_end c.args.line.now c.args.rest.now c.in_ok-name.ensures.cut.0 c.in_ok-name.after.now value c.requires c.in_ok-name.ensures.cut.1 c.trim_start-value.ensures.value)
+    c.cut_sign-negative.ensures
 
-pub returns-in-None-clause-stands : goal.returns-in-None-clause-stands
-returns-in-None-clause-stands c =
-    let split = c.in_ok-name.ensures.cases in
-    let blanks = c.trim_start-value.ensures.value in
-    trimmed_stands c.args.line.now c.trim_start-value.result.now c.split_at.result.0.now c.trim_end.result.now c.value_len.result
-    (value_end c.args.line.now c.args.rest.now c.in_ok-name.after.now c.trim_start-value.result.now split.1 blanks.0 c.requires split.4 blanks.1)
-    c.split_at.ensures.front c.trim_end.ensures.value
+pub after_comma-requires : goal.after_comma-requires
+after_comma-requires c =
+    let value = c.trim_start-value.result.now in
+    let text = c.cut_sign-negative.result.1.now in
+    end_of_end c.args.line.now text c.in_ok-prefix.prefix.rest.now
+    (text_end c.args.line.now value text c.cut_sign-negative.result.0
+    (value_end c.args.line.now c.args.rest.now c.in_ok-name.ensures.cut.0 c.in_ok-name.after.now value c.requires c.in_ok-name.ensures.cut.1 c.trim_start-value.ensures.value)
+    c.cut_sign-negative.ensures)
+    (literal_raw c.in_ok-prefix.prefix.literal, c.in_ok-prefix.ensures.spells)
 
-pub returns-in-Some-clause-rest : goal.returns-in-Some-clause-rest
-returns-in-Some-clause-rest c =
-    let split = c.in_ok-name.ensures.cases in
+pub returns-clause-setting : goal.returns-clause-setting
+returns-clause-setting c =
+    let value = c.trim_start-value.result.now in
+    let text = c.cut_sign-negative.result.1.now in
+    let negative = c.cut_sign-negative.result.0 in
+    let literal = c.in_ok-prefix.prefix.literal in
+    let after = c.in_ok-prefix.prefix.rest.now in
+    let spells : literal_raw literal ++ after ≡ text = c.in_ok-prefix.ensures.spells in
+    let end : IsEndOf c.args.line.now value = value_end c.args.line.now c.args.rest.now c.in_ok-name.ensures.cut.0 c.in_ok-name.after.now value c.requires c.in_ok-name.ensures.cut.1 c.trim_start-value.ensures.value in
+    let at = end_stands c.args.line.now value end in
+    record {
+      before = at.before;
+      after = after;
+      rest = c.in_ok-next.next.now;
+      spells = ap (λ (l : List ℕ). at.before ++ (sign negative ++ l)) spells ∙ (ap (λ (l : List ℕ). at.before ++ l) c.cut_sign-negative.ensures ∙ at.spells);
+      place = at.after;
+      literal = subst (λ (l : List ℕ). HasPrefix (chars l) (derivation literal) (chars after)) (sym spells) c.in_ok-prefix.ensures.literal;
+      signed = c.in_ok-prefix.ensures.signed;
+      ends = c.in_ok-next.ensures.ends;
+    }
+
+pub returns-clause-rest : goal.returns-clause-rest
+returns-clause-rest c =
+    let line = c.args.line.now in
+    let value = c.trim_start-value.result.now in
+    let text = c.cut_sign-negative.result.1.now in
+    let after = c.in_ok-prefix.prefix.rest.now in
+    let next = c.in_ok-next.next.now in
+    let end : IsEndOf line value = value_end line c.args.rest.now c.in_ok-name.ensures.cut.0 c.in_ok-name.after.now value c.requires c.in_ok-name.ensures.cut.1 c.trim_start-value.ensures.value in
+    let text_at : IsEndOf line text = text_end line value text c.cut_sign-negative.result.0 end c.cut_sign-negative.ensures in
+    let after_at : IsEndOf line after = end_of_end line text after text_at (literal_raw c.in_ok-prefix.prefix.literal, c.in_ok-prefix.ensures.spells) in
+    end_of_end line after next after_at (after_value after next c.in_ok-next.ensures.ends)
+
+pub returns-clause-shorter : goal.returns-clause-shorter
+returns-clause-shorter c =
+    let rest = c.args.rest.now in
+    let front = c.in_ok-name.ensures.cut.0 in
+    let behind = c.in_ok-name.after.now in
+    let value = c.trim_start-value.result.now in
+    let text = c.cut_sign-negative.result.1.now in
+    let after = c.in_ok-prefix.prefix.rest.now in
+    let next = c.in_ok-next.next.now in
+    let cut : length rest ≡ length front + length (61 ∷ behind) = ap length (sym c.in_ok-name.ensures.cut.1) ∙ length-append front (61 ∷ behind) in
+    let first = not_longer behind value (after_blanks behind value c.trim_start-value.ensures.value) in
+    let second = not_longer value text (sign c.cut_sign-negative.result.0, c.cut_sign-negative.ensures) in
+    let third = not_longer text after (literal_raw c.in_ok-prefix.prefix.literal, c.in_ok-prefix.ensures.spells) in
+    let fourth = not_longer after next (after_value after next c.in_ok-next.ensures.ends) in
+    omega arith
+
+pub returns-clause-begins : goal.returns-clause-begins
+returns-clause-begins c =
+    let front = c.in_ok-name.ensures.cut.0 in
+    let behind = c.in_ok-name.after.now in
+    let value = c.trim_start-value.result.now in
     let blanks = c.trim_start-value.ensures.value in
-    let value = value_end c.args.line.now c.args.rest.now c.in_ok-name.after.now c.trim_start-value.result.now split.1 blanks.0 c.requires split.4 blanks.1 in
-    let after_value = cut_end c.args.line.now c.trim_start-value.result.now c.split_at.result.1.now c.value_len.result value c.split_at.ensures.back in
-    let comma = c.in-Some.ensures.cases in
-    cut_end c.args.line.now c.split_at.result.1.now c.in-Some.next.now comma.0 after_value comma.2
+    let negative = c.cut_sign-negative.result.0 in
+    let after = c.in_ok-prefix.prefix.rest.now in
+    let signed : sign negative ++ (literal_raw c.in_ok-prefix.prefix.literal ++ after) ≡ value =
+    ap (λ (l : List ℕ). sign negative ++ l) c.in_ok-prefix.ensures.spells ∙ c.cut_sign-negative.ensures in
+    let whole : take blanks.0 behind ++ (sign negative ++ (literal_raw c.in_ok-prefix.prefix.literal ++ after)) ≡ behind =
+    ap (λ (l : List ℕ). take blanks.0 behind ++ l) (signed ∙ blanks.1) ∙ take-append-drop blanks.0 behind in
+    record {
+      front = front;
+      blanks = take blanks.0 behind;
+      after = after;
+      name = c.in_ok-name.ensures.cut.2;
+      blank = blanks.2;
+      spells = ap (λ (l : List ℕ). front ++ 61 ∷ l) whole ∙ c.in_ok-name.ensures.cut.1;
+      ends = c.in_ok-next.ensures.ends;
+    }
