@@ -27,8 +27,8 @@ MAPPED = {
         "crates/litrs_lex/src/string.rt",
         "None => Err(ParseError::new(None, ParseErrorKind::OutOfMemory)),",
     ),
-    ("crates/litrs_strings/src/c_string.rt", OUT_OF_MEMORY),
-    ("crates/litrs_collector/src/lib.rt", "ParseErrorKind::OutOfMemory => Err(AllocError),"),
+    ("crates/litrs/src/c_string.rt", OUT_OF_MEMORY),
+    ("crates/litrs_lines/src/collector.rt", "ParseErrorKind::OutOfMemory => Err(AllocError),"),
     ("crates/litrs_token/src/from_token.rt", "ParseErrorKind::OutOfMemory => Err(AllocError),"),
     (
         "crates/litrs_lines/src/group.rt",
@@ -66,18 +66,18 @@ RESERVED = {
     # `room` is the length of the value, or one more.
     ("crates/litrs_lex/src/string.rt", "let mut value = C::with_capacity(alloc, room)?;"): 1,
     (
-        "crates/litrs_strings/src/byte_string.rt",
+        "crates/litrs/src/byte_string.rt",
         "let mut copy = Vec::with_capacity(alloc, value.len())?;",
     ): 1,
     (
-        "crates/litrs_strings/src/c_string.rt",
+        "crates/litrs/src/c_string.rt",
         "let mut copy = Vec::with_capacity(alloc, bytes.len() + 1)?;",
     ): 1,
     (
-        "crates/litrs_strings/src/c_string.rt",
+        "crates/litrs/src/c_string.rt",
         "let mut bytes = Vec::with_capacity(alloc, self.bytes.len())?;",
     ): 1,
-    ("crates/litrs_collector/src/lib.rt", "held.reserve(line.len() + 1)?;"): 1,
+    ("crates/litrs_lines/src/collector.rt", "held.reserve(line.len() + 1)?;"): 1,
     # The caller gives the room.
     ("crates/litrs_lines/src/mem_output.rt", "bytes: Vec::with_capacity(alloc, room)?,"): 1,
     # `LONGEST` is the length of the longest text that the program of rows tries so.
@@ -124,7 +124,7 @@ BOUNDED = {
     ("crates/litrs_lex/src/short_value.rt", "pub(crate) const LONGEST: usize = 16384;"),
     # How often an input is read.
     ("crates/litrs_lines/src/lib.rt", "for _turn in 0..u64::MAX {"),
-    ("crates/litrs_numbers/src/integer.rt", "if number >= 1 << 60 {"),
+    ("crates/litrs/src/integer.rt", "if number >= 1 << 60 {"),
     # The room of an output is the caller's; `ROOM` is what the program of rows gives.
     (
         "crates/litrs_vectors/src/calls.rt",

@@ -21,9 +21,9 @@ use Rattle.litrs_grammar.proofs.LongerTexts.CharByte.{completed, char_completed}
 use Rattle.litrs_grammar.proofs.LongerTexts.Escape.{refused_escape_begins}
 use Rattle.litrs_grammar.proofs.LongerTexts.Literal.{chain, back, begins_kind}
 use Rattle.litrs_grammar.proofs.LongerTexts.Suffix.{front_of, is_suffix-nil}
-use Rattle.litrs_parts.specs.CharCut.{kind_if}
-use Rattle.litrs_parts.specs.Unescaped.{switches, IsUnescaped, IsEscapeRefused}
-use Rattle.litrs_parts.proofs.CharByteBytes.{same_switches}
+use Rattle.litrs_lex.specs.CharCut.{kind_if}
+use Rattle.litrs_lex.specs.Unescaped.{switches, IsUnescaped, IsEscapeRefused}
+use Rattle.litrs_lex.proofs.CharByteBytes.{same_switches}
 use Rattle.litrs.specs.Begins.{BeginsSuffix, BeginsClosing}
 use Rattle.litrs.proofs.Begins.{yes, no, answer_is}
 use Rattle.litrs.proofs.Escapes.{slash_chars}

@@ -20,10 +20,10 @@ use Rattle.litrs_grammar.specs.GoesOn.Escape.{BeginsEscape, escape_goes_on, hex_
 use Rattle.litrs_grammar.proofs.Laws.Escape.{same_escape}
 use Rattle.litrs_grammar.proofs.LongerTexts.Escape.{refused_escape_begins}
 use Rattle.litrs_grammar.proofs.LongerTexts.Literal.{back}
-use Rattle.litrs_parts.specs.declared.escape.HexDigits.{HexDigits}
-use Rattle.litrs_parts.specs.Unescaped.{IsUnescaped, IsEscapeRefused, IsHexDigits}
+use Rattle.litrs_lex.specs.declared.escape.HexDigits.{HexDigits}
+use Rattle.litrs_lex.specs.Unescaped.{IsUnescaped, IsEscapeRefused, IsHexDigits}
 use Rattle.litrs.proofs.Begins.{answer_is}
-use Rattle.litrs_parts.proofs.FloatBytes.{rest_is}
+use Rattle.litrs_lex.proofs.FloatBytes.{rest_is}
 
 -- Whole escapes
 

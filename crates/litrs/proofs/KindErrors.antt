@@ -17,14 +17,14 @@ use Rattle.litrs_grammar.specs.Refused.{IsRefused, IsRefusedOrOutOfMemory}
 use Rattle.litrs_grammar.specs.StringKind.{c_string_kind}
 use Rattle.litrs_grammar.proofs.Laws.Literal.{literals_are_unique}
 use Rattle.litrs_grammar.proofs.Refused.{is_refused}
-use Rattle.litrs_parts.specs.NumberCut.{number_kind}
-use Rattle.litrs_parts.proofs.NumberBytes.{kind_by_bytes}
-use Rattle.litrs_parts.specs.declared.kind.Front.{Front}
-use Rattle.litrs_parts.specs.declared.kind.Front.TheVariants as front
-use Rattle.litrs_parts.specs.declared.kind.StringKind.{StringKind as CodeKind}
-use Rattle.litrs_parts.specs.Front.{grammar_kind, row_of, IsFront}
-use Rattle.litrs_parts.proofs.Dispatch.{is_empty-chars, dispatch-chars}
-use Rattle.litrs_parts.proofs.Fronts.{some_text}
+use Rattle.litrs_lex.specs.NumberCut.{number_kind}
+use Rattle.litrs_lex.proofs.NumberBytes.{kind_by_bytes}
+use Rattle.litrs_lex.specs.declared.kind.Front.{Front}
+use Rattle.litrs_lex.specs.declared.kind.Front.TheVariants as front
+use Rattle.litrs_lex.specs.declared.kind.StringKind.{StringKind as CodeKind}
+use Rattle.litrs_lex.specs.Front.{grammar_kind, row_of, IsFront}
+use Rattle.litrs_lex.proofs.Dispatch.{is_empty-chars, dispatch-chars}
+use Rattle.litrs_lex.proofs.Fronts.{some_text}
 
 -- a literal is the only derivation of its text
 pub only_literal : (t : List ℕ) (d : Derivation) → IsLiteral t d → IsOnlyDerivation (IsLiteral t) d

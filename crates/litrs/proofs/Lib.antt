@@ -1,3 +1,6 @@
+pub mod ParsedStrings
+pub mod StringRefusals
+pub mod ParsedCStrings
 -- for users: where a refusal may be moved, and where a text may be cut
 pub mod MovedRefusals
 pub mod SpanCuts
@@ -6,7 +9,7 @@ pub mod WrittenParts
 -- for users: laws of the grammar
 pub use Rattle.litrs_grammar.proofs.Laws
 pub use Rattle.litrs_grammar.proofs.LiteralTexts
-pub use Rattle.litrs_parts.proofs.NumeralLemmas
+pub use Rattle.litrs_lex.proofs.NumeralLemmas
 -- refusals of one kind, as those of any
 pub mod KindErrors
 -- what begins a literal

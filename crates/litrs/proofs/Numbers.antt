@@ -29,15 +29,15 @@ use Rattle.litrs_grammar.proofs.Spans.Float.{number_part_ascii}
 use Rattle.litrs_grammar.proofs.LongerTexts.Literal.{chain, back, refused_texts_go_on}
 use Rattle.litrs_grammar.proofs.LongerTexts.Suffix.{is_suffix-nil}
 use Rattle.litrs_grammar.proofs.Laws.Number.{float_begins, integer_begins}
-use Rattle.litrs_parts.specs.declared.number.NumberCut.{NumberCut}
-use Rattle.litrs_parts.specs.declared.number.NumberCut.TheVariants as number
-use Rattle.litrs_parts.specs.NumberCut.{number_kind, IsNumberCut}
-use Rattle.litrs_parts.proofs.Dispatch.{dispatch-chars}
-use Rattle.litrs_parts.proofs.IntegerBytes.{digit-chars}
-use Rattle.litrs_parts.proofs.NumberBytes.{begins_float-chars}
+use Rattle.litrs_lex.specs.declared.number.NumberCut.{NumberCut}
+use Rattle.litrs_lex.specs.declared.number.NumberCut.TheVariants as number
+use Rattle.litrs_lex.specs.NumberCut.{number_kind, IsNumberCut}
+use Rattle.litrs_lex.proofs.Dispatch.{dispatch-chars}
+use Rattle.litrs_lex.proofs.IntegerBytes.{digit-chars}
+use Rattle.litrs_lex.proofs.NumberBytes.{begins_float-chars}
 use Rattle.litrs.specs.LacksDigits.{is_digits_kind, ends_at, lacks_digits}
-use Rattle.litrs_parts.specs.Front.{row_of}
-use Rattle.litrs_parts.specs.declared.kind.Front.TheVariants as front
+use Rattle.litrs_lex.specs.Front.{row_of}
+use Rattle.litrs_lex.specs.declared.kind.Front.TheVariants as front
 use Rattle.litrs.proofs.Begins.{answer_is, begins_now}
 
 -- nothing stands after a front that is as long as the text

@@ -30,8 +30,8 @@ use Rattle.litrs_grammar.proofs.Laws.Raw.{raw_rows}
 use Rattle.litrs_grammar.proofs.Spans.Raw.{hashes_bytes, quoted_bytes}
 use Rattle.litrs_grammar.proofs.LongerTexts.Raw.{RawScan, stopped, closed, unclosed, raw_scan, stopped_refusal, closed_refusal, unclosed_refusal, rows_of, rows_of_nothing, CutGoesOn, from_cut, to_cut, closing_is_text, raw_begins, raw_open, raw_finality}
 use Rattle.litrs_grammar.specs.GoesOn.Raw.{raw_open_parts}
-use Rattle.litrs_parts.proofs.CharCuts.{IsCut, cut_at}
-use Rattle.litrs_parts.proofs.FloatBytes.{rest_is}
+use Rattle.litrs_lex.proofs.CharCuts.{IsCut, cut_at}
+use Rattle.litrs_lex.proofs.FloatBytes.{rest_is}
 use Rattle.litrs.specs.LastUnderscore.{points_at_last_underscore}
 use Rattle.litrs.proofs.Begins.{yes, no, answer_is}
 use Rattle.litrs.proofs.Escapes.{all-chars}

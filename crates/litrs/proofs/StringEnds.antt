@@ -17,7 +17,7 @@ use Rattle.litrs_grammar.specs.GoesOn.String.{start_goes_on}
 use Rattle.litrs_grammar.proofs.Laws.Literal.{start_quoted, start_raw}
 use Rattle.litrs_grammar.proofs.LongerTexts.Literal.{chain, back, begins_kind, raw_begins_after}
 use Rattle.litrs_grammar.proofs.LongerTexts.String.{quoted_string_begins, raw_string_begins, start_begins}
-use Rattle.litrs_parts.proofs.Dispatch.{dispatch-chars}
+use Rattle.litrs_lex.proofs.Dispatch.{dispatch-chars}
 use Rattle.litrs.proofs.Begins.{answer_is, begins_parsed}
 use Rattle.litrs.proofs.Fronts.{front_chars, front_taken}
 

@@ -20,11 +20,11 @@ use Rattle.litrs_grammar.specs.StringKind.{c_string_kind}
 use Rattle.litrs_grammar.proofs.Laws.Bool.{chars-bool_text}
 use Rattle.litrs_grammar.proofs.LongerTexts.Dispatch.{unnamed_begins}
 use Rattle.litrs_grammar.proofs.LongerTexts.Literal.{back}
-use Rattle.litrs_parts.proofs.Dispatch.{dispatch-chars}
-use Rattle.litrs_parts.specs.declared.kind.Front.{Front}
-use Rattle.litrs_parts.specs.declared.kind.Front.TheVariants as front
-use Rattle.litrs_parts.specs.Front.{IsFront}
-use Rattle.litrs_parts.proofs.Fronts.{some_text}
+use Rattle.litrs_lex.proofs.Dispatch.{dispatch-chars}
+use Rattle.litrs_lex.specs.declared.kind.Front.{Front}
+use Rattle.litrs_lex.specs.declared.kind.Front.TheVariants as front
+use Rattle.litrs_lex.specs.Front.{IsFront}
+use Rattle.litrs_lex.proofs.Fronts.{some_text}
 use Rattle.litrs.proofs.Begins.{yes, answer_is, begins_now}
 use Rattle.litrs.proofs.StringEnds.{string_parsed, lone_string}
 

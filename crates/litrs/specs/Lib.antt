@@ -1,3 +1,14 @@
+-- what the literals hold
+pub mod IntegerLiteral
+pub mod FloatLiteral
+-- what literals hold
+pub mod BoolLiteral
+pub mod CharLiteral
+-- what the literals hold
+pub mod CString
+pub mod StringLiteral
+-- how a text is cut
+pub mod ParsedStrings
 -- what literals hold
 pub mod LiteralDerivation
 -- digits, however they are grouped
@@ -36,10 +47,5 @@ pub use Rattle.litrs_grammar.specs.Refused
 pub use Rattle.litrs_grammar.specs.StringKind
 pub use Rattle.litrs_grammar.specs.Strings
 pub use Rattle.litrs_grammar.specs.Suffix
+
 -- what the literals of each kind hold
-pub use Rattle.litrs_numbers.specs.FloatLiteral
-pub use Rattle.litrs_numbers.specs.IntegerLiteral
-pub use Rattle.litrs_scalars.specs.BoolLiteral
-pub use Rattle.litrs_scalars.specs.CharLiteral
-pub use Rattle.litrs_strings.specs.CString
-pub use Rattle.litrs_strings.specs.StringLiteral

@@ -3,10 +3,10 @@ use Rattle.std.specs.Prelude.{ℕ, List}
 use Rattle.litrs.specs.declared.Literal.{Literal}
 use Rattle.litrs.specs.declared.Literal.TheVariants.{Bool, Integer, Float, Char, String, Byte, ByteString, CString}
 use Rattle.litrs_grammar.specs.Bool.{bool_text}
-use Rattle.litrs_scalars.specs.BoolLiteral.{bool_value}
-use Rattle.litrs_numbers.specs.IntegerLiteral.{integer_parts}
-use Rattle.litrs_numbers.specs.FloatLiteral.{float_parts}
-use Rattle.litrs_scalars.specs.CharLiteral.{char_parts, byte_parts}
+use Rattle.litrs.specs.BoolLiteral.{bool_value}
+use Rattle.litrs.specs.IntegerLiteral.{integer_parts}
+use Rattle.litrs.specs.FloatLiteral.{float_parts}
+use Rattle.litrs.specs.CharLiteral.{char_parts, byte_parts}
 use Rattle.litrs_grammar.specs.Literal.{Derivation, a_bool, an_integer, a_float, a_char, a_byte, a_string, a_byte_string, a_c_string}
 
 -- the bytes of its text

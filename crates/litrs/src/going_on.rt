@@ -4,7 +4,7 @@ ghost use Rattle.std.specs.Str.{chars};
 ghost use Rattle.litrs_grammar.specs.Literal.{literal_parse, Begins};
 
 use char::{byte_goes_on, char_goes_on};
-use litrs_parts::Front;
+use litrs_lex::Front;
 use number::number_goes_on;
 use quoted::quoted_goes_on;
 use raw::raw_goes_on;

@@ -79,23 +79,39 @@ ghost use Rattle.litrs_grammar.specs.Literal.{IsLiteral, suffix_of, literal_pars
 ghost use Rattle.litrs_grammar.specs.Allocation.{allocates};
 ghost use Rattle.litrs_grammar.specs.LiteralRefusals.{IsRefusal};
 ghost use Rattle.litrs_grammar.specs.Refused.{IsRefused, IsRefusedOrOutOfMemory};
-ghost use Rattle.litrs_parts.specs.Front.{grammar_kind, IsFront};
-ghost use Rattle.litrs_parts.specs.NumberCut.{number_kind};
+ghost use Rattle.litrs_lex.specs.Front.{grammar_kind, IsFront};
+ghost use Rattle.litrs_lex.specs.NumberCut.{number_kind};
 ghost use Rattle.litrs.specs.LiteralDerivation.{literal_raw, derivation};
 
+pub use bool::BoolLit;
+pub use byte::ByteLit;
+pub use byte_string::ByteStringLit;
+pub use c_string::{CString, CStringLit};
+pub use char::CharLit;
+pub use float::FloatLit;
 use going_on::front::begins_with;
 pub use going_on::goes_on;
-pub use litrs_numbers::{FloatLit, FromIntegerLiteral, IntegerLit};
-pub use litrs_parts::{
+pub use integer::IntegerLit;
+pub use litrs_base::FromIntegerLiteral;
+pub use litrs_lex::{
     Buffer, FloatType, IntegerBase, IntegerType, ParseError, ParseErrorKind, Text,
 };
-use litrs_parts::{Front, NumberCut, StringKind, cut_number};
-pub use litrs_scalars::{BoolLit, ByteLit, CharLit};
-pub use litrs_strings::{ByteStringLit, CString, CStringLit, StringLit};
+use litrs_lex::{Front, NumberCut, StringKind, cut_number};
 use std::alloc::{AllocError, Global};
 use std::fmt;
+pub use string::StringLit;
 
+mod bool;
+mod byte;
+mod byte_string;
+mod c_string;
+mod char;
+mod cut;
+mod float;
 mod going_on;
+mod integer;
+mod kept;
+mod string;
 
 /// A literal of any kind. See [the reference][ref].
 ///

@@ -2,8 +2,8 @@
 ghost use Rattle.std.specs.Prelude.{◌≡◌, ◌+◌, ◌*◌, ◌^◌, ◌<◌, true, length};
 ghost use Rattle.std.specs.Str.{chars};
 ghost use Rattle.litrs_grammar.specs.Literal.{an_integer, a_float};
-ghost use Rattle.litrs_numbers.specs.IntegerLiteral.{integer_parts};
-ghost use Rattle.litrs_numbers.specs.FloatLiteral.{float_parts};
+ghost use Rattle.litrs.specs.IntegerLiteral.{integer_parts};
+ghost use Rattle.litrs.specs.FloatLiteral.{float_parts};
 ghost use Rattle.litrs.specs.LiteralDerivation.{derivation, literal_raw};
 ghost use Rattle.litrs_c.specs.Places.{fraction_place, exponent_place, place_of, IsSuffixPlace};
 ghost use Rattle.litrs_c.specs.LiteralFields.{IsLiteralFields};

@@ -5,7 +5,7 @@ use Rattle.std.specs.Str.{chars, IsUtf8}
 use Rattle.std.proofs.lemmas.List.{take-append-drop}
 use Rattle.std.proofs.lemmas.Str.{encodes-chars}
 use Rattle.litrs_base.specs.Text.{byte_len, first_passes}
-use Rattle.litrs_parts.proofs.CharCuts.{cut_at}
+use Rattle.litrs_lex.proofs.CharCuts.{cut_at}
 use Rattle.litrs_lex.proofs.PlainRuns.{AlikeFrom128, run_len, list_all-take, stops_at}
 
 -- The first n bytes are characters that pass, and the byte after them does not.

@@ -8,9 +8,9 @@ use Rattle.std.proofs.lemmas.Bool.{cases_lt}
 use Rattle.std.proofs.lemmas.List.{append-nil, take-append-drop, drop-drop, length-drop}
 use Rattle.std.proofs.lemmas.List.Sums.{prefix_len-le-length}
 use Rattle.std.proofs.Math.Seq.{drop-append_seam}
-use Rattle.litrs_search.specs.Special.{is_ordinary}
+use Rattle.litrs_lex.specs.Special.{is_ordinary}
 use Rattle.litrs_lex.specs.QuotedItems.{IsPlainRun}
-use Rattle.litrs_parts.specs.Unescaped.{switches}
+use Rattle.litrs_lex.specs.Unescaped.{switches}
 use Rattle.std.proofs.lemmas.Str.{chars-nil, encode_ascii, inside_one, length-encode, len_utf8_bounds, encodes-chars, encodes-append, chars_from_encodes, IsUtf8-past_char, IsCharBoundary-from_drop, IsUtf8-drop}
 use Rattle.litrs_base.specs.Text.{byte_len, first_passes}
 use Rattle.litrs_base.proofs.Chars.{chars_ascii, chars_wide}

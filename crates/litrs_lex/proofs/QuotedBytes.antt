@@ -30,7 +30,7 @@ use Rattle.litrs_grammar.proofs.QuotedItems.{last_of, without_last-append}
 use Rattle.litrs_grammar.proofs.Laws.Quoted.{quoted_values_fit_bodies}
 use Rattle.litrs_lex.specs.QuotedItems.{IsItemAt, EndsItems, item_bytes}
 use Rattle.litrs_lex.specs.Container.{is_pushable}
-use Rattle.litrs_parts.specs.Unescaped.{IsUnescaped, IsEscapeRefused}
+use Rattle.litrs_lex.specs.Unescaped.{IsUnescaped, IsEscapeRefused}
 use Rattle.litrs_lex.proofs.PlainRuns.{utf8_after, list_all-take, plain_alike, stops_at}
 use Rattle.litrs_lex.proofs.QuotedScan.{length-take-within}
 

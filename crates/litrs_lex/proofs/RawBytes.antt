@@ -20,7 +20,7 @@ use Rattle.litrs_base.proofs.CharEnds.{char_span_points}
 use Rattle.litrs_base.proofs.Chars.{OnlyAscii, chars_ascii, chars_wide, chars_empty, utf8_after_ascii, passing_front, prefix_len-chars, first_passes-chars, begins_with-chars}
 use Rattle.litrs_base.proofs.Runs.{list_all-append, list_all-weaken}
 use Rattle.litrs_base.proofs.Spans.{is_ascii_char, byte_len-append}
-use Rattle.litrs_search.specs.Special.{is_ordinary}
+use Rattle.litrs_lex.specs.Special.{is_ordinary}
 use Rattle.litrs_grammar.specs.Suffix.{is_suffix, suffix_refusal}
 use Rattle.litrs_grammar.specs.Raw.{is_quote, is_hash, hashes, raw_closing, occurs, is_raw_char, RawParts, IsRawOf, hash_len, length_before, raw_char_refusal, raw_body_refusal, raw_refusal}
 use Rattle.litrs_grammar.specs.Laws.Raw.{NoClosingIn}
@@ -32,8 +32,8 @@ use Rattle.litrs_grammar.proofs.Spans.Raw.{raw_refusal_within}
 use Rattle.litrs_lex.specs.RawCut.{raw_parts_at, IsRawCut, IsRawRefused, raw_special, IsPassed, IsStop, IsBodyCut}
 use Rattle.litrs_lex.proofs.PlainRuns.{AlikeFrom128}
 use Rattle.litrs_lex.proofs.CharRuns.{IsCharRun, char_run}
-use Rattle.litrs_parts.proofs.FloatBytes.{chars_after, utf8_after}
-use Rattle.litrs_parts.proofs.SuffixBytes.{is_suffix-nil}
+use Rattle.litrs_lex.proofs.FloatBytes.{chars_after, utf8_after}
+use Rattle.litrs_lex.proofs.SuffixBytes.{is_suffix-nil}
 
 -- One character: the search stops at those that may not stand in a body, and at `"`.
 

@@ -8,9 +8,9 @@ use Rattle.std.proofs.lemmas.List.{get_or-drop, length-drop, drop_more}
 use Rattle.std.proofs.lemmas.List.Sums.{prefix_len_passes, prefix_len_stops, prefix_len-le-length}
 use Rattle.litrs_base.specs.Text.{first_passes, begins_with}
 use Rattle.litrs_base.proofs.Begins.{begins_with-split}
-use Rattle.litrs_search.specs.declared.search.Special.{Special}
-use Rattle.litrs_search.specs.Special.{is_special, is_ordinary}
-use Rattle.litrs_search.specs.Closing.{may_close_at}
+use Rattle.litrs_lex.specs.declared.search.Special.{Special}
+use Rattle.litrs_lex.specs.Special.{is_special, is_ordinary}
+use Rattle.litrs_lex.specs.Closing.{may_close_at}
 use Rattle.litrs_grammar.specs.Raw.{is_quote, hashes, raw_closing}
 use Rattle.litrs_lex.specs.RawCut.{raw_special, IsPassed, IsStop, is_inner_at}
 use Rattle.litrs_lex.proofs.RawBytes.{stop_made, after_quote}

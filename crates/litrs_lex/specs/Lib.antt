@@ -1,3 +1,17 @@
+pub mod Special
+pub mod Run
+pub mod Target
+pub mod Closing
+pub mod Marked
+-- how a text begins
+pub mod Front
+-- what an escape holds
+pub mod Unescaped
+-- the parts that stand at the places of a cut
+pub mod IntegerCut
+pub mod FloatCut
+pub mod NumberCut
+pub mod CharCut
 -- what takes a value
 pub mod Container
 -- quoted bodies

@@ -8,7 +8,7 @@ use Rattle.litrs_base.specs.Refusal.{Refusal}
 use Rattle.litrs_base.specs.Text.{byte_len, first_passes}
 use Rattle.litrs_grammar.specs.Escape.{Switches, value_bytes}
 use Rattle.litrs_grammar.specs.Quoted.{Item, item_text, item_value, is_item, is_taken_before, is_plain, rest_refusal}
-use Rattle.litrs_search.specs.declared.search.Special.{Special}
+use Rattle.litrs_lex.specs.declared.search.Special.{Special}
 use Rattle.litrs_lex.specs.Container.{is_pushable}
 
 -- The bytes beside `"` and CR at which the plain characters of a body end. Where only ASCII is

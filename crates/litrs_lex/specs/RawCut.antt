@@ -9,8 +9,8 @@ use Rattle.litrs_base.specs.Finality.{is_final, is_open}
 use Rattle.litrs_base.specs.Refusal.{refusal_of, kind_of, char_span_of, IsInText, HasCharSpan}
 use Rattle.litrs_base.specs.Characters.{double_quote}
 use Rattle.litrs_base.specs.Text.{first_passes, begins_with}
-use Rattle.litrs_search.specs.declared.search.Special.{Special}
-use Rattle.litrs_search.specs.Special.{is_ordinary}
+use Rattle.litrs_lex.specs.declared.search.Special.{Special}
+use Rattle.litrs_lex.specs.Special.{is_ordinary}
 use Rattle.litrs_grammar.specs.Continuation.{EndsBy}
 use Rattle.litrs_grammar.specs.GoesOn.Raw.{raw_open_parts}
 use Rattle.litrs_grammar.specs.Laws.Raw.{NoClosingIn}

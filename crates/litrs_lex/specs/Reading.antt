@@ -7,7 +7,7 @@ use Rattle.litrs_base.specs.Refusal.{refusal_of, HasCharSpan}
 use Rattle.litrs_base.specs.Text.{byte_len, first_passes}
 use Rattle.litrs_grammar.specs.Escape.{Switches}
 use Rattle.litrs_grammar.specs.Quoted.{Item, body_text, body_value, is_plain, stand_before, rest_refusal, IsQuotedRefusal}
-use Rattle.litrs_search.specs.Marked.{IsMarked}
+use Rattle.litrs_lex.specs.Marked.{IsMarked}
 use Rattle.litrs_lex.specs.QuotedCut.{IsQuotedValue, IsQuotedOutOfMemory}
 use Rattle.litrs_lex.specs.QuotedItems.{IsPlainRun, IsItemAt, EndsItems, stops}
 use Rattle.litrs_lex.specs.declared.reading.Reading.{Reading}

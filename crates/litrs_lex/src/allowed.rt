@@ -1,9 +1,9 @@
 //! What a body may have, as one parameter.
 ghost use Rattle.std.specs.Prelude.{◌≡◌};
 ghost use Rattle.litrs_grammar.specs.Escape.{Switches as GrammarSwitches, string_switches, byte_string_switches, c_string_switches};
-ghost use Rattle.litrs_parts.specs.Unescaped.{grammar_switches};
+ghost use Rattle.litrs_lex.specs.Unescaped.{grammar_switches};
 
-use litrs_parts::Switches;
+use crate::Switches;
 
 /// What says what a body may have: a kind of literal, for which a call is compiled by itself, or
 /// the switches, where they are known only when it runs.

@@ -5,25 +5,45 @@
 #![tactic(auto)]
 
 pub use allowed::{Allows, InByteString, InCString, InString};
+pub use bool::cut_bool;
+pub use char::{cut_byte, cut_char};
+pub use closing::next_closing;
 pub use container::EscapeContainer;
-pub use litrs_parts::{
-    Buffer, FloatCut, FloatType, Front, IntegerBase, IntegerCut, IntegerType, NumberCut,
-    ParseError, ParseErrorKind, StringKind, Switches, Text, Unescape, check_suffix, cut_bool,
-    cut_byte, cut_char, cut_float, cut_integer, cut_number, end_dec_digits, first_byte_or_empty,
-    hex_digit_value, unescape, unescape_with,
+pub use escape::{Switches, unescape, unescape_with};
+pub use float::{FloatCut, cut_float};
+pub use integer::{IntegerCut, cut_integer};
+pub use kind::{Front, StringKind};
+pub use litrs_base::{
+    Buffer, FloatType, IntegerBase, IntegerType, ParseError, ParseErrorKind, Text, Unescape,
 };
-pub use litrs_search::{Run, Special, next_closing, next_special, run_end};
+pub use marked::{Marked, next_marked, next_special};
+pub use number::{NumberCut, cut_number};
+pub use parse::{check_suffix, end_dec_digits, first_byte_or_empty, hex_digit_value};
 pub use quoted::{QuotedCut, cut_quoted};
 pub use raw::scan_raw_string;
+pub use search::{Run, Special, run_end};
 pub use string::{unescape_string, unescape_string_with};
 
 pub mod allowed;
+mod bool;
+pub mod char;
+pub mod closing;
 pub mod container;
+pub mod escape;
 mod filled;
+pub mod float;
+pub mod hashes;
+pub mod integer;
+pub mod kind;
+mod lanes;
+pub mod marked;
+pub mod number;
+mod parse;
 pub mod quoted;
 pub mod raw;
 pub mod reading;
 mod room;
+pub mod search;
 mod sink;
 mod stop;
 pub mod string;

@@ -7,14 +7,14 @@ ghost use Rattle.litrs_grammar.specs.Escape.{Switches as GrammarSwitches};
 ghost use Rattle.litrs_grammar.specs.Quoted.{rest_refusal};
 ghost use Rattle.litrs_lex.specs.QuotedCut.{IsQuotedCut, IsQuotedRefused};
 ghost use Rattle.litrs_lex.specs.Reading.{IsReading, IsReadBody, IsBodyRefused, IsRestRefused, IsItemsEnd};
-ghost use Rattle.litrs_parts.specs.Unescaped.{switches};
+ghost use Rattle.litrs_lex.specs.Unescaped.{switches};
 
 use crate::allowed::Allows;
 use crate::reading::{Reached, Reading, read_items};
 use crate::sink::Counted;
 use crate::stop::first_plain_end;
+use crate::{Switches, check_suffix};
 use litrs_base::ParseError;
-use litrs_parts::{Switches, check_suffix};
 
 /// Where a quoted literal is cut: sizes and places in bytes.
 #[derive(Clone, Copy, Debug, PartialEq, Eq)]

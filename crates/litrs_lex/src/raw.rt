@@ -5,12 +5,11 @@ ghost use Rattle.litrs_base.specs.Refusal.{refusal};
 ghost use Rattle.litrs_base.specs.Text.{first_passes, begins_with};
 ghost use Rattle.litrs_grammar.specs.Raw.{is_quote, raw_closing, raw_char_refusal, raw_body_refusal, raw_refusal};
 ghost use Rattle.litrs_lex.specs.RawCut.{IsRawCut, IsRawRefused, IsStop, IsBodyCut, is_inner_at};
-ghost use Rattle.litrs_search.specs.Special.{is_special};
+ghost use Rattle.litrs_lex.specs.Special.{is_special};
 
+use crate::hashes::{MAX_HASHES, hash_len, is_inner_quote};
+use crate::{Special, Switches, check_suffix, next_closing, next_special};
 use litrs_base::{ParseError, ParseErrorKind};
-use litrs_parts::hashes::{MAX_HASHES, hash_len, is_inner_quote};
-use litrs_parts::{Switches, check_suffix};
-use litrs_search::{Special, next_closing, next_special};
 use std::ops::Range;
 
 /// Cuts the rest of a raw literal, from after its `r` on, into hashes, body and suffix.

@@ -2,11 +2,11 @@
 ghost use Rattle.std.specs.Prelude.{not, ◌||◌, IsTrue};
 ghost use Rattle.litrs_lex.specs.Reading.{IsReading, HasReached};
 
+use crate::Marked;
 use crate::allowed::Allows;
 use crate::sink::Sink;
 use crate::stop::{Stop, plain_end, stop_at};
 use litrs_base::ParseError;
-use litrs_search::Marked;
 
 /// How far a body is read. Places count bytes.
 #[derive(Clone, Copy)]

@@ -7,13 +7,12 @@ ghost use Rattle.litrs_base.specs.Text.{first_passes};
 ghost use Rattle.litrs_grammar.specs.Quoted.{is_plain, without_last};
 ghost use Rattle.litrs_lex.specs.QuotedItems.{IsPlainRun, stops};
 ghost use Rattle.litrs_lex.specs.Reading.{IsRestRefused, StandsAt};
-ghost use Rattle.litrs_search.specs.Marked.{IsMarked};
-ghost use Rattle.litrs_parts.specs.Unescaped.{switches, grammar_switches};
+ghost use Rattle.litrs_lex.specs.Marked.{IsMarked};
+ghost use Rattle.litrs_lex.specs.Unescaped.{switches, grammar_switches};
 
 use crate::allowed::Allows;
+use crate::{Marked, Run, Special, Switches, next_marked, next_special, run_end, unescape_with};
 use litrs_base::{ParseError, ParseErrorKind, Unescape};
-use litrs_parts::{Switches, unescape_with};
-use litrs_search::{Marked, Run, Special, next_marked, next_special, run_end};
 
 /// What stands there.
 #[derive(Clone, Copy)]

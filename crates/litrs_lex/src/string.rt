@@ -5,8 +5,9 @@ ghost use Rattle.litrs_grammar.specs.Quoted.{QuotedParts, IsQuoted, body_value};
 ghost use Rattle.litrs_lex.specs.QuotedCut.{IsQuotedRefused, IsQuotedValue, IsQuotedOutOfMemory};
 ghost use Rattle.litrs_lex.specs.QuotedItems.{IsPlainRun};
 ghost use Rattle.litrs_lex.specs.Reading.{IsReading, IsReadBody, IsReadAsValue};
-ghost use Rattle.litrs_parts.specs.Unescaped.{switches};
+ghost use Rattle.litrs_lex.specs.Unescaped.{switches};
 
+use crate::Switches;
 use crate::allowed::Allows;
 use crate::container::EscapeContainer;
 use crate::filled::Filled;
@@ -16,7 +17,6 @@ use crate::room::Room;
 use crate::sink::Counted;
 use crate::stop::first_plain_end;
 use litrs_base::{ParseError, ParseErrorKind};
-use litrs_parts::Switches;
 use std::alloc::{AllocError, Global};
 
 /// How many bytes of a value are put together on the stack at first.

@@ -4,9 +4,9 @@ use Rattle.std.specs.Prelude.{All, map}
 use Rattle.std.specs.Str.{IsUtf8, is_utf8}
 use Rattle.std.proofs.lemmas.Str.{is_utf8-from_IsUtf8, IsUtf8-from_is_utf8}
 use Rattle.std.proofs.lemmas.List.Elements.{All-nil, All-cons, All-append, All-head, All-tail}
-use Rattle.litrs_collector.specs.Steps.{IsUnfinished}
-use Rattle.litrs_collector.specs.StepLaws.{HasStep}
-use Rattle.litrs_collector.proofs.StepLemmas.{steps_are_decided, without_line_feed}
+use Rattle.litrs_lines.specs.Steps.{IsUnfinished}
+use Rattle.litrs_lines.specs.StepLaws.{HasStep}
+use Rattle.litrs_lines.proofs.StepLemmas.{steps_are_decided, without_line_feed}
 use Rattle.litrs_lines.specs.Groups.{IsNoText, joined, IsFinished, NoTextNext, EndsGroup, IsGroup, IsOtherLine, AreGroups}
 use Rattle.litrs_lines.specs.GroupsLaws.{LinesHaveGroups, GroupsAreUnique}
 use Rattle.litrs_lines.specs.Ended.{unless_held, LineEnds, LinesEnd}

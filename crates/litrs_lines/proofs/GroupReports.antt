@@ -9,10 +9,10 @@ use Rattle.litrs_base.specs.Refusal.{Refusal, refusal_of, kind_of}
 use Rattle.litrs_grammar.specs.Literal.{Derivation, IsLiteral, IsLiteralOf, literal_parse}
 use Rattle.litrs_grammar.specs.Refused.{IsRefusedOrOutOfMemory}
 use Rattle.litrs.specs.LiteralDerivation.{derivation}
-use Rattle.litrs_collector.specs.declared.Step.{Step}
-use Rattle.litrs_collector.specs.declared.Step.TheVariants.{More, Literal, Refused}
-use Rattle.litrs_collector.specs.Held.{IsRefusalOfHeld}
-use Rattle.litrs_collector.specs.Steps.{IsStep, held_after}
+use Rattle.litrs_lines.specs.declared.collector.Step.{Step}
+use Rattle.litrs_lines.specs.declared.collector.Step.TheVariants.{More, Literal, Refused}
+use Rattle.litrs_lines.specs.Held.{IsRefusalOfHeld}
+use Rattle.litrs_lines.specs.Steps.{IsStep, held_after}
 use Rattle.litrs_lines.specs.declared.RunError.{RunError}
 use Rattle.litrs_lines.specs.declared.group.Reporter.{Reporter}
 use Rattle.litrs_lines.specs.Groups.{joined, IsNoText, IsFinished}

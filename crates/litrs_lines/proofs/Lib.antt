@@ -1,3 +1,6 @@
+pub mod StepLemmas
+pub mod OpenTexts
+pub mod OpenBytes
 pub mod Sending
 pub mod GroupReports
 pub mod GroupLemmas

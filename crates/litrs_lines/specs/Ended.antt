@@ -5,7 +5,7 @@ use Rattle.std.specs.Prelude.{◌≡◌, ◌⊎◌, ℕ, List, [], ◌∷◌, �
 use Rattle.std.specs.Str.{IsUtf8}
 use Rattle.litrs_base.specs.Characters.{line_feed}
 use Rattle.litrs_grammar.specs.Quoted.{without_last}
-use Rattle.litrs_collector.specs.Steps.{IsUnfinished}
+use Rattle.litrs_lines.specs.Steps.{IsUnfinished}
 use Rattle.litrs_lines.specs.Groups.{IsNoText, IsFinished}
 use Rattle.litrs_lines.specs.Reports.{AreReports}
 

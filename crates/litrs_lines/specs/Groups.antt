@@ -4,7 +4,7 @@ use Rattle.std.specs.List.{join_with_byte}
 use Rattle.std.specs.Str.{chars, IsUtf8}
 use Rattle.litrs_base.specs.Characters.{line_feed}
 use Rattle.litrs_grammar.specs.Literal.{Derivation, IsLiteral}
-use Rattle.litrs_collector.specs.Steps.{BeginsByLine}
+use Rattle.litrs_lines.specs.Steps.{BeginsByLine}
 
 -- the line is no text
 abbrev pub IsNoText : List ℕ → Type 0

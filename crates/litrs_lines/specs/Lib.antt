@@ -1,3 +1,10 @@
+-- what a collector holds
+pub mod Held
+-- what it knows of that
+pub mod Open
+-- what it answers
+pub mod Steps
+pub mod StepLaws
 -- the calls of any device
 pub mod Devices
 -- devices over memory
@@ -25,8 +32,6 @@ pub mod Stopped
 pub mod Sent
 pub mod RunError
 -- The words of the contracts, so that users name this crate alone: of collectors
-pub use Rattle.litrs_collector.specs.Held
-pub use Rattle.litrs_collector.specs.Steps
 -- and of what they collect
 pub use Rattle.litrs_base.specs.Characters
 pub use Rattle.litrs_base.specs.Derivations

@@ -1,10 +1,10 @@
 //! The reports on the groups that lines make.
 
 use crate::RunError;
+use crate::collector::{Collector, Step};
 use crate::device::Output;
 use crate::report::{report_literal, report_refusal};
 use litrs::{Literal, ParseErrorKind};
-use litrs_collector::{Collector, Step};
 use std::alloc::{AllocError, Global};
 use std::{mem, str};
 

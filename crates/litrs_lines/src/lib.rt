@@ -9,9 +9,9 @@ ghost use Rattle.litrs_lines.specs.Ended.{AreLastReports};
 ghost use Rattle.litrs_lines.specs.Reports.{AppendsReports};
 ghost use Rattle.litrs_lines.specs.Sent.{NamesFailure, WritesBytes, AddsBytes, ReportsLines};
 
+pub use collector::{Collector, Step};
 pub use device::{Failed, Input, Output};
 use group::Reporter;
-pub use litrs_collector::{Collector, Step};
 pub use mem_input::MemInput;
 pub use mem_output::MemOutput;
 use memchr::memchr;
@@ -23,6 +23,7 @@ pub use std_input::StdInput;
 pub use std_output::StdOutput;
 
 mod calls;
+pub mod collector;
 mod device;
 mod group;
 pub mod laws;

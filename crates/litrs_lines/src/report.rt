@@ -2,9 +2,9 @@
 ghost use Rattle.std.specs.Prelude.{◌≡◌, ◌≤◌, length, ◌∷◌, [], ◌++◌, false, OnOk, string_bytes};
 ghost use Rattle.litrs.specs.LiteralDerivation.{derivation};
 ghost use Rattle.litrs_grammar.specs.Integer.{integer_value};
-ghost use Rattle.litrs_scalars.specs.CharLiteral.{char_parts, byte_parts};
-ghost use Rattle.litrs_numbers.specs.FloatLiteral.{float_parts};
-ghost use Rattle.litrs_numbers.specs.IntegerLiteral.{integer_parts};
+ghost use Rattle.litrs.specs.CharLiteral.{char_parts, byte_parts};
+ghost use Rattle.litrs.specs.FloatLiteral.{float_parts};
+ghost use Rattle.litrs.specs.IntegerLiteral.{integer_parts};
 ghost use Rattle.litrs_grammar.specs.Literal.{an_integer, a_float, a_char, a_byte};
 ghost use Rattle.litrs_lines.specs.Report.{value_text, integer_front, fraction_field, float_report, char_report, raw_field, hex_bytes, string_front, literal_report, refusal_report};
 ghost use Rattle.litrs_lines.specs.ReportParts.{literal_front, hex_value};

@@ -12,7 +12,7 @@ use Rattle.litrs_base.specs.declared.err.ParseError.{ParseError}
 use Rattle.litrs_base.specs.declared.err.ParseErrorKind.{ParseErrorKind}
 use Rattle.litrs_base.specs.Derivations.{HasNoDerivation}
 use Rattle.litrs_base.proofs.Spans.{byte_len-append, byte_len_ascii}
-use Rattle.litrs_parts.proofs.CharCuts.{cut_at}
+use Rattle.litrs_lex.proofs.CharCuts.{cut_at}
 use Rattle.litrs_grammar.specs.StringKind.{StringKind, switches_of}
 use Rattle.litrs_base.specs.declared.err.ParseErrorKind.TheVariants.{UnexpectedChar, InvalidSuffix}
 use Rattle.litrs_base.specs.Text.{first_passes, byte_len}

@@ -22,9 +22,9 @@ use Rattle.litrs_grammar.specs.LiteralRefusals.{Dispatch, refused_as, parsed_as,
 use Rattle.litrs_grammar.proofs.Laws.Integer.{starts_with_digit, first_passes-append, not_empty_by_first}
 use Rattle.litrs_grammar.proofs.Laws.Float.{starts_digit}
 use Rattle.litrs_grammar.proofs.Laws.Literal.{is_bool-digit}
-use Rattle.litrs_parts.specs.declared.kind.Front.{Front}
-use Rattle.litrs_parts.specs.Front.{IsFront, row_of}
-use Rattle.litrs_parts.proofs.Dispatch.{dispatch-chars}
+use Rattle.litrs_lex.specs.declared.kind.Front.{Front}
+use Rattle.litrs_lex.specs.Front.{IsFront, row_of}
+use Rattle.litrs_lex.proofs.Dispatch.{dispatch-chars}
 use Rattle.litrs_prefix.specs.Prefix.{ends_suffix, ends_integer, ends_float, ends_bool, HasPrefix}
 use Rattle.litrs_prefix.specs.Opens.{first_name, after_name}
 use Rattle.litrs_prefix.specs.Ends.{NoBoolBefore}

@@ -27,7 +27,7 @@ use Rattle.litrs_grammar.proofs.Laws.Integer.{prefix_len_front, first_passes-app
 use Rattle.litrs_grammar.proofs.Laws.Float.{float_rows, refusal_of_cut, fraction_row, starts_digit, float_is_cut, suffix_no_period}
 use Rattle.litrs_grammar.proofs.FloatCuts.{IsCut, after_decimals, letter_period, number_part-suffix}
 use Rattle.litrs_grammar.proofs.Spans.Float.{number_part_ascii}
-use Rattle.litrs_parts.proofs.CharCuts.{cut_at}
+use Rattle.litrs_lex.proofs.CharCuts.{cut_at}
 use Rattle.litrs_prefix.specs.Prefix.{ends_suffix, ends_integer, ends_float, is_bare, gives_period, keeps_period}
 use Rattle.litrs_prefix.specs.Opens.{after_name}
 use Rattle.litrs_prefix.specs.Ends.{after_digits, IsSuffixKind}

@@ -13,7 +13,7 @@ use Rattle.litrs_base.specs.Derivations.{HasNoDerivation}
 use Rattle.litrs_grammar.specs.Literal.{Derivation, IsLiteral, literal_parse}
 use Rattle.litrs_grammar.specs.Refused.{IsRefused, IsRefusedOrOutOfMemory}
 use Rattle.litrs_base.specs.Refusal.{Refusal, span_of, MovesWithin}
-use Rattle.litrs_parts.proofs.CharCuts.{cut_at}
+use Rattle.litrs_lex.proofs.CharCuts.{cut_at}
 use Rattle.litrs.proofs.MovedRefusals.{refusal_moves}
 use Rattle.litrs_prefix.specs.declared.MalformedPrefix.{MalformedPrefix}
 use Rattle.litrs_prefix.specs.Ends.{EndsBefore}

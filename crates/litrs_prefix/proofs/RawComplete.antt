@@ -18,7 +18,7 @@ use Rattle.litrs_grammar.specs.Raw.{RawParts, IsRaw, IsRawOf, IsRawLiteral, raw_
 use Rattle.litrs_grammar.proofs.Spans.Raw.{hashes_bytes, quoted_bytes}
 use Rattle.litrs_grammar.proofs.RawKinds.{after_front}
 use Rattle.litrs_grammar.proofs.Laws.Raw.{raw_rows, raw_body_rows, refusal_of_hashes, refusal_of_closed}
-use Rattle.litrs_parts.proofs.CharCuts.{cut_at}
+use Rattle.litrs_lex.proofs.CharCuts.{cut_at}
 use Rattle.litrs_lex.proofs.StringFronts.{raw_after}
 use Rattle.litrs_prefix.specs.Prefix.{ends_suffix}
 use Rattle.litrs_prefix.specs.Opens.{after_name}

@@ -17,11 +17,11 @@ use Rattle.litrs_grammar.specs.Raw.{IsRawLiteral}
 use Rattle.litrs_grammar.specs.StringKind.{StringKind, string_kind, byte_string_kind, c_string_kind}
 use Rattle.litrs_grammar.proofs.Laws.Bool.{chars-bool_text}
 use Rattle.litrs_grammar.proofs.Laws.Literal.{dispatch_literal}
-use Rattle.litrs_parts.specs.declared.kind.Front.{Front}
-use Rattle.litrs_parts.specs.declared.kind.Front.TheVariants as front
-use Rattle.litrs_parts.specs.declared.kind.StringKind.{StringKind as CodeKind}
-use Rattle.litrs_parts.specs.Front.{grammar_kind, row_of, IsFront}
-use Rattle.litrs_parts.proofs.Dispatch.{dispatch-chars}
+use Rattle.litrs_lex.specs.declared.kind.Front.{Front}
+use Rattle.litrs_lex.specs.declared.kind.Front.TheVariants as front
+use Rattle.litrs_lex.specs.declared.kind.StringKind.{StringKind as CodeKind}
+use Rattle.litrs_lex.specs.Front.{grammar_kind, row_of, IsFront}
+use Rattle.litrs_lex.proofs.Dispatch.{dispatch-chars}
 use Rattle.litrs_lex.proofs.StringFronts.{quoted_begins, raw_begins}
 use Rattle.litrs_prefix.specs.Ends.{EndsBefore, StandsBy, StandsBefore}
 use Rattle.litrs_prefix.specs.Prefix.{may_follow, ends_bool, ends_suffix, ends_integer, ends_float, HasPrefix, HasNoPrefix}

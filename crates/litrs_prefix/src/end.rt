@@ -13,7 +13,7 @@ ghost use Rattle.litrs_grammar.specs.Float.{FloatParts, IsFloatOf, is_period};
 ghost use Rattle.litrs_grammar.specs.CharByte.{CharParts, char_kind, byte_kind, IsCharLiteral};
 ghost use Rattle.litrs_grammar.specs.Quoted.{quoted_front, QuotedParts, IsQuotedLiteral};
 ghost use Rattle.litrs_grammar.specs.Raw.{raw_front, RawParts, IsRawLiteral};
-ghost use Rattle.litrs_parts.specs.Front.{grammar_kind};
+ghost use Rattle.litrs_lex.specs.Front.{grammar_kind};
 ghost use Rattle.litrs_prefix.specs.Ends.{after_digits, IsEndOf, NoBoolBefore, IsSuffixKind, EndsBefore};
 ghost use Rattle.litrs_prefix.specs.Opens.{after_name};
 ghost use Rattle.litrs_prefix.specs.Prefix.{ends_suffix, ends_integer, ends_float, ends_bool, is_bare, HasPrefix};

@@ -4,8 +4,8 @@ ghost use Rattle.std.specs.Char.{is_ascii_digit};
 ghost use Rattle.std.specs.Str.{chars};
 ghost use Rattle.litrs_base.specs.Text.{first_passes};
 ghost use Rattle.litrs_grammar.specs.Float.{is_period};
-ghost use Rattle.litrs_numbers.specs.FloatLiteral.{float_parts};
-ghost use Rattle.litrs_numbers.specs.IntegerLiteral.{integer_parts};
+ghost use Rattle.litrs.specs.FloatLiteral.{float_parts};
+ghost use Rattle.litrs.specs.IntegerLiteral.{integer_parts};
 ghost use Rattle.litrs.specs.LiteralDerivation.{derivation};
 ghost use Rattle.litrs_prefix.specs.Prefix.{is_of_suffix, ends_suffix, is_quote_or_hash, ends_bool, keeps_period, gives_period, ends_integer, is_bare, ends_float, may_follow};
 

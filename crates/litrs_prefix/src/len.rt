@@ -8,7 +8,7 @@ ghost use Rattle.litrs_grammar.specs.Integer.{IsIntegerOf};
 ghost use Rattle.litrs_grammar.specs.Literal.{Derivation};
 ghost use Rattle.litrs_grammar.specs.Quoted.{quoted_front, IsQuotedLiteral};
 ghost use Rattle.litrs_grammar.specs.Raw.{raw_front, IsRawLiteral};
-ghost use Rattle.litrs_parts.specs.Front.{grammar_kind, IsFront};
+ghost use Rattle.litrs_lex.specs.Front.{grammar_kind, IsFront};
 ghost use Rattle.litrs_prefix.specs.Ends.{StandsBefore, StandsBy};
 ghost use Rattle.litrs_prefix.specs.Prefix.{ends_suffix, ends_integer, ends_float, HasPrefix, HasNoPrefix};
 

@@ -1,8 +1,7 @@
 //! The calls that read an escape and the body of a string.
 use litrs_base::ParseErrorKind::DisallowedNulEscape;
 use litrs_base::Unescape;
-use litrs_lex::{cut_quoted, unescape_string};
-use litrs_parts::unescape;
+use litrs_lex::{cut_quoted, unescape, unescape_string};
 use std::alloc::Global;
 use std::process::Abort;
 

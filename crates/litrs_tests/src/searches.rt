@@ -1,5 +1,5 @@
 //! The search for the next special byte against a plain one, over each length up to three lanes.
-use litrs_search::{Special, next_special};
+use litrs_lex::{Special, next_special};
 use std::alloc::Global;
 use std::process::Abort;
 

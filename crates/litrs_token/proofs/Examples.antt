@@ -2,7 +2,7 @@
 use Rattle.std.specs.Prelude.{◌≡◌, ℕ, ◌+◌, List, [], ◌∷◌, IsTrue, IsFalse, Ok, Err, codes, refl}
 use Rattle.std.specs.Str.{chars}
 use Rattle.std.proofs.Common.{arith}
-use Rattle.litrs_scalars.specs.declared.bool.BoolLit.TheVariants.{False, True}
+use Rattle.litrs.specs.declared.bool.BoolLit.TheVariants.{False, True}
 use Rattle.litrs_token.specs.declared.err.InvalidToken.{InvalidToken}
 use Rattle.litrs_token.specs.declared.kind.TokenKind.{TokenKind}
 use Rattle.litrs_token.specs.declared.kind.TokenKind.TheVariants as token

@@ -21,13 +21,13 @@ use Rattle.litrs_grammar.specs.StringKind.{StringKind, string_kind, byte_string_
 use Rattle.litrs_grammar.specs.Strings.{StringDerivation}
 use Rattle.litrs_grammar.proofs.Laws.Integer.{not_empty_by_first}
 use Rattle.litrs_grammar.proofs.Laws.Literal.{dispatch_literal, is_bool-digit}
-use Rattle.litrs_parts.proofs.IntegerBytes.{digit-chars}
-use Rattle.litrs_parts.specs.declared.kind.Front.{Front}
-use Rattle.litrs_parts.specs.declared.kind.Front.TheVariants as front
-use Rattle.litrs_parts.specs.Front.{IsFront}
-use Rattle.litrs_parts.specs.NumberCut.{number_kind}
-use Rattle.litrs_parts.proofs.Dispatch.{dispatch-chars}
-use Rattle.litrs_parts.proofs.Fronts.{char_row, byte_row, quoted_row, raw_row}
+use Rattle.litrs_lex.proofs.IntegerBytes.{digit-chars}
+use Rattle.litrs_lex.specs.declared.kind.Front.{Front}
+use Rattle.litrs_lex.specs.declared.kind.Front.TheVariants as front
+use Rattle.litrs_lex.specs.Front.{IsFront}
+use Rattle.litrs_lex.specs.NumberCut.{number_kind}
+use Rattle.litrs_lex.proofs.Dispatch.{dispatch-chars}
+use Rattle.litrs_lex.proofs.Fronts.{char_row, byte_row, quoted_row, raw_row}
 use Rattle.litrs_token.specs.LiteralToken.{IsNoLiteralToken}
 use Rattle.litrs_token.proofs.StringTests.{quoted_split, raw_split}
 

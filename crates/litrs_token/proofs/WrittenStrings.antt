@@ -12,7 +12,7 @@ use Rattle.litrs_grammar.specs.Escape.{string_switches, simple_escape}
 use Rattle.litrs_grammar.specs.Literal.{IsLiteral, Derivation, a_string, quoted_parts}
 use Rattle.litrs_grammar.specs.Quoted.{Item, plain_item, escape_item, item_text, item_value, is_item, body_text, body_value, takes_all_blanks, is_body, QuotedParts}
 use Rattle.litrs_grammar.proofs.LiteralTexts.{literals_parse_back}
-use Rattle.litrs_parts.proofs.SuffixBytes.{is_suffix-nil}
+use Rattle.litrs_lex.proofs.SuffixBytes.{is_suffix-nil}
 use Rattle.litrs_token.specs.declared.kind.TokenKind.TheVariants as token
 use Rattle.litrs_token.specs.LiteralToken.{IsLiteralToken}
 use Rattle.litrs_token.specs.StringToken.{escaped, string_token, IsStringOf}

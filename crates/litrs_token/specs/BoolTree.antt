@@ -1,7 +1,7 @@
 -- Which trees are bools.
 use Rattle.std.specs.Prelude.{◌≡◌, ℕ, Bool, false, List, [], IsTrue, IsFalse, Result, MatchResult}
-use Rattle.litrs_scalars.specs.declared.bool.BoolLit.{BoolLit}
-use Rattle.litrs_scalars.specs.BoolLiteral.{bool_value}
+use Rattle.litrs.specs.declared.bool.BoolLit.{BoolLit}
+use Rattle.litrs.specs.BoolLiteral.{bool_value}
 use Rattle.litrs_grammar.specs.Bool.{bool_text, is_bool}
 use Rattle.litrs_token.specs.declared.err.InvalidToken.{InvalidToken}
 use Rattle.litrs_token.specs.declared.kind.TokenKind.TheVariants as token

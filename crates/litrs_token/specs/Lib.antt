@@ -24,5 +24,5 @@ pub use Rattle.litrs_grammar.specs.Quoted
 pub use Rattle.litrs_grammar.specs.Raw
 pub use Rattle.litrs_grammar.specs.StringKind
 pub use Rattle.litrs_grammar.specs.Suffix
-pub use Rattle.litrs_scalars.specs.BoolLiteral
+pub use Rattle.litrs.specs.BoolLiteral
 pub use Rattle.litrs.specs.LiteralDerivation

@@ -1,6 +1,6 @@
 //! Trees that are bools.
 ghost use Rattle.std.specs.Prelude.{◌≡◌, IfSome, is_some};
-ghost use Rattle.litrs_scalars.specs.BoolLiteral.{bool_value};
+ghost use Rattle.litrs.specs.BoolLiteral.{bool_value};
 ghost use Rattle.litrs_grammar.specs.Bool.{bool_text};
 ghost use Rattle.litrs_token.specs.BoolTree.{is_bool_ident, text_of};
 ghost use Rattle.litrs_token.specs.Tree.{shape_of};
@@ -8,7 +8,7 @@ ghost use Rattle.litrs_token.specs.Tree.{shape_of};
 use crate::err::InvalidToken;
 use crate::kind::TokenKind;
 use crate::tree::TokenTree;
-use litrs_scalars::BoolLit;
+use litrs::BoolLit;
 
 /// The bool that a tree is: the identifier `true` or `false`. Of any other tree it is None.
 pub fn bool_of(tree: &TokenTree) -> Option<BoolLit>

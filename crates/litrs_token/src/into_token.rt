@@ -66,7 +66,7 @@ pub trait IntoIdent: Drop {
 
 impl IntoIdent for BoolLit {
     ghost use Rattle.litrs_grammar.specs.Bool.{bool_text};
-    ghost use Rattle.litrs_scalars.specs.BoolLiteral.{bool_value};
+    ghost use Rattle.litrs.specs.BoolLiteral.{bool_value};
 
     ghost raw = { λ lit. bool_text (bool_value lit) };
 

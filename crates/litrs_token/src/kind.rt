@@ -6,11 +6,13 @@ ghost use Rattle.litrs_base.specs.Text.{first_passes, begins_with};
 ghost use Rattle.litrs_grammar.specs.Quoted.{quoted_front};
 ghost use Rattle.litrs_grammar.specs.Raw.{raw_front};
 ghost use Rattle.litrs_grammar.specs.Literal.{string_literal_of};
-ghost use Rattle.litrs_parts.specs.Front.{grammar_kind};
+ghost use Rattle.litrs_lex.specs.Front.{grammar_kind};
 ghost use Rattle.litrs_token.specs.LiteralToken.{token_kind, IsLiteralToken, IsNoLiteralToken};
 
-use litrs_lex::{cut_quoted, scan_raw_string};
-use litrs_parts::{Front, NumberCut, StringKind, Switches, cut_byte, cut_char, cut_number};
+use litrs_lex::{
+    Front, NumberCut, StringKind, Switches, cut_byte, cut_char, cut_number, cut_quoted,
+    scan_raw_string,
+};
 
 /// What a token is, and of a literal which kind.
 #[derive(Clone, Copy, Debug, PartialEq, Eq)]

@@ -4,7 +4,7 @@ ghost use Rattle.std.specs.Str.{chars};
 ghost use Rattle.litrs_token.specs.Tokens.{is_ident};
 
 use crate::place::Span;
-use litrs_parts::check_suffix;
+use litrs_lex::check_suffix;
 use std::alloc::{AllocError, Global};
 use std::error::Error;
 use std::fmt;

@@ -6,12 +6,12 @@ ghost use Rattle.litrs_base.specs.Text.{begins_with, first_passes};
 ghost use Rattle.litrs_grammar.specs.CharByte.{char_front, plain_char, is_char_item, IsCharLiteral};
 ghost use Rattle.litrs_grammar.specs.Continuation.{BeginsBy};
 ghost use Rattle.litrs_grammar.specs.Literal.{kind_parse, char_literal, byte_literal, Begins};
-ghost use Rattle.litrs_parts.specs.CharCut.{kind_if};
+ghost use Rattle.litrs_lex.specs.CharCut.{kind_if};
 ghost use Rattle.litrs.specs.Begins.{BeginsClosing};
 
 use crate::going_on::escape::refused_escape_goes_on;
 use crate::going_on::suffix::suffix_goes_on;
-use litrs_parts::{Switches, unescape_with};
+use litrs_lex::{Switches, unescape_with};
 
 /// Whether a text that begins with `'` begins a char.
 #[inline(never)]

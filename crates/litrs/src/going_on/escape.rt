@@ -5,10 +5,10 @@ ghost use Rattle.std.specs.Str.{chars};
 ghost use Rattle.litrs_base.specs.Characters.{backslash, is_scalar, is_no_nul_unless};
 ghost use Rattle.litrs_base.specs.Text.{first_passes};
 ghost use Rattle.litrs_grammar.specs.GoesOn.Escape.{BeginsEscape, escape_goes_on, hex_goes_on, braces_go_on, inner_goes_on};
-ghost use Rattle.litrs_parts.specs.Unescaped.{switches, grammar_switches};
+ghost use Rattle.litrs_lex.specs.Unescaped.{switches, grammar_switches};
 
-use litrs_parts::escape::hex_digits;
-use litrs_parts::{Switches, hex_digit_value, unescape_with};
+use litrs_lex::escape::hex_digits;
+use litrs_lex::{Switches, hex_digit_value, unescape_with};
 
 /// Whether a text that begins with a backslash begins an escape: it is one, or becomes one. The
 /// switches are those of [`unescape_with`].

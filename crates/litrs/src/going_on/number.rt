@@ -5,10 +5,10 @@ ghost use Rattle.std.specs.Str.{chars};
 ghost use Rattle.litrs_base.specs.Refusal.{refusal_of};
 ghost use Rattle.litrs_base.specs.Text.{first_passes};
 ghost use Rattle.litrs_grammar.specs.Literal.{kind_parse, Begins};
-ghost use Rattle.litrs_parts.specs.NumberCut.{number_kind};
+ghost use Rattle.litrs_lex.specs.NumberCut.{number_kind};
 ghost use Rattle.litrs.specs.LacksDigits.{lacks_digits};
 
-use litrs_parts::{ParseError, ParseErrorKind, cut_number};
+use litrs_lex::{ParseError, ParseErrorKind, cut_number};
 
 /// Whether a text that begins with a decimal digit begins a number of the kind that it is parsed
 /// as.

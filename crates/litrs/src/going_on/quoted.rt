@@ -8,15 +8,15 @@ ghost use Rattle.litrs_grammar.specs.Quoted.{quoted_front};
 ghost use Rattle.litrs_grammar.specs.StringKind.{string_kind, byte_string_kind, c_string_kind};
 ghost use Rattle.litrs_grammar.specs.GoesOn.Quoted.{RestGoesOn};
 ghost use Rattle.litrs_lex.specs.QuotedItems.{EndsItems};
-ghost use Rattle.litrs_parts.specs.Front.{grammar_kind};
-ghost use Rattle.litrs_parts.specs.Unescaped.{switches, grammar_switches};
+ghost use Rattle.litrs_lex.specs.Front.{grammar_kind};
+ghost use Rattle.litrs_lex.specs.Unescaped.{switches, grammar_switches};
 ghost use Rattle.litrs.specs.Begins.{IsClosed};
 
 use crate::going_on::escape::escape_goes_on;
 use crate::going_on::front::begins_with;
 use crate::going_on::suffix::suffix_goes_on;
 use litrs_lex::quoted::{is_quote, items_end};
-use litrs_parts::{StringKind, Switches};
+use litrs_lex::{StringKind, Switches};
 
 /// Whether a text that begins as a quoted string of the kind begins a string of it.
 #[inline(always)]

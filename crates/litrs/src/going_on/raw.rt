@@ -7,12 +7,11 @@ ghost use Rattle.litrs_base.specs.Text.{begins_with};
 ghost use Rattle.litrs_grammar.specs.Continuation.{BeginsBy};
 ghost use Rattle.litrs_grammar.specs.Literal.{IsString};
 ghost use Rattle.litrs_grammar.specs.Raw.{is_hash, raw_front, IsRawOf};
-ghost use Rattle.litrs_parts.specs.Front.{grammar_kind};
+ghost use Rattle.litrs_lex.specs.Front.{grammar_kind};
 ghost use Rattle.litrs.specs.LastUnderscore.{points_at_last_underscore};
 
-use litrs_lex::scan_raw_string;
-use litrs_parts::hashes::{MAX_HASHES, are_hashes};
-use litrs_parts::{ParseError, ParseErrorKind, StringKind, Switches};
+use litrs_lex::hashes::{MAX_HASHES, are_hashes};
+use litrs_lex::{ParseError, ParseErrorKind, StringKind, Switches, scan_raw_string};
 
 /// Whether a text that begins as a raw string of the kind begins a string of it.
 #[inline(never)]

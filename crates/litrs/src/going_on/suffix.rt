@@ -3,7 +3,7 @@ ghost use Rattle.std.specs.Prelude.{◌↔◌, IsTrue};
 ghost use Rattle.std.specs.Str.{chars};
 ghost use Rattle.litrs.specs.Begins.{BeginsSuffix};
 
-use litrs_parts::check_suffix;
+use litrs_lex::check_suffix;
 
 /// Whether the text begins a suffix: it is one, or the `_` that stands alone.
 pub(crate) fn suffix_goes_on(suffix: &str) -> bool

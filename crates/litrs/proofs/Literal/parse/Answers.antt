@@ -7,9 +7,9 @@ use Rattle.litrs_base.specs.Refusal.{plain}
 use Rattle.litrs_grammar.specs.Bool.{bool_text}
 use Rattle.litrs_grammar.specs.Literal.{a_bool, a_char, a_byte, char_literal, byte_literal, string_literal_of}
 use Rattle.litrs_grammar.proofs.Laws.Bool.{chars-bool_text}
-use Rattle.litrs_scalars.specs.BoolLiteral.{bool_value}
-use Rattle.litrs_scalars.specs.CharLiteral.{char_parts, byte_parts}
-use Rattle.litrs_parts.specs.Front.{grammar_kind}
+use Rattle.litrs.specs.BoolLiteral.{bool_value}
+use Rattle.litrs.specs.CharLiteral.{char_parts, byte_parts}
+use Rattle.litrs_lex.specs.Front.{grammar_kind}
 use Rattle.litrs.specs.LiteralDerivation.{derivation}
 use Rattle.litrs.proofs.KindErrors.{only_literal, kind_error_at, string_row, number_error_at, start_refused, start_error_at}
 use Rattle.litrs.proofs.Literal.parse.Goals as goal

@@ -3,9 +3,9 @@ use Rattle.std.proofs.Common.{sym, ◌∙◌}
 use Rattle.std.specs.Str.{chars}
 use Rattle.litrs_grammar.specs.Literal.{char_literal, byte_literal}
 use Rattle.litrs_grammar.proofs.LongerTexts.Literal.{chain}
-use Rattle.litrs_parts.specs.Front.{grammar_kind}
-use Rattle.litrs_parts.specs.NumberCut.{number_kind}
-use Rattle.litrs_parts.proofs.Dispatch.{dispatch-chars}
+use Rattle.litrs_lex.specs.Front.{grammar_kind}
+use Rattle.litrs_lex.specs.NumberCut.{number_kind}
+use Rattle.litrs_lex.proofs.Dispatch.{dispatch-chars}
 use Rattle.litrs.proofs.Begins.{begins_parsed}
 use Rattle.litrs.proofs.Numbers.{number_named}
 use Rattle.litrs.proofs.StringEnds.{string_parsed}

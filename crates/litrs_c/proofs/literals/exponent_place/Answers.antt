@@ -1,4 +1,4 @@
-use Rattle.litrs_numbers.specs.FloatLiteral.{float_parts}
+use Rattle.litrs.specs.FloatLiteral.{float_parts}
 use Rattle.litrs_c.proofs.PartPlaces.{exponent_fits, exponent_found}
 use Rattle.litrs_c.proofs.literals.exponent_place.Goals as goal
 

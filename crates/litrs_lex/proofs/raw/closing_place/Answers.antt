@@ -3,7 +3,7 @@ use Rattle.std.proofs.Common.{◌≡◌, true, false, not, eqb, ◌&&◌, drop, 
 use Rattle.std.specs.Str.{chars}
 use Rattle.litrs_base.specs.Text.{first_passes, begins_with}
 use Rattle.litrs_grammar.specs.Raw.{is_quote, raw_closing}
-use Rattle.litrs_parts.proofs.FloatBytes.{rest_is}
+use Rattle.litrs_lex.proofs.FloatBytes.{rest_is}
 use Rattle.litrs_lex.proofs.RawBytes.{passed_none, after_quote, closes_there}
 use Rattle.litrs_lex.proofs.RawSteps.{stop_past}
 use Rattle.litrs_lex.proofs.raw.closing_place.Goals as goal

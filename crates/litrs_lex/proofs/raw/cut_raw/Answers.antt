@@ -8,7 +8,7 @@ use Rattle.litrs_base.specs.declared.err.ParseErrorKind.{ParseErrorKind}
 use Rattle.litrs_base.specs.declared.err.ParseErrorKind.TheVariants.{TooManyHashes}
 use Rattle.litrs_base.specs.Refusal.{refusal, over}
 use Rattle.litrs_grammar.specs.Raw.{hash_len}
-use Rattle.litrs_parts.proofs.FloatBytes.{rest_is}
+use Rattle.litrs_lex.proofs.FloatBytes.{rest_is}
 use Rattle.litrs_lex.proofs.RawBytes.{cons_at, none_at, after_hashes_is, hashes_within, opening_nothing, opening_many, opening_other, opened, body_refusal_is, raw_cut, inside_text}
 use Rattle.litrs_lex.proofs.raw.cut_raw.Goals as goal
 

@@ -1,6 +1,6 @@
 -- The state of the loop is one that is handed on.
 use Rattle.std.proofs.Common.{◌-◌, length}
-use Rattle.litrs_parts.specs.Unescaped.{grammar_switches}
+use Rattle.litrs_lex.specs.Unescaped.{grammar_switches}
 use Rattle.litrs_lex.specs.Reading.{IsReading}
 use Rattle.litrs_lex.proofs.reading.read_items.Given as goal
 

@@ -2,8 +2,8 @@
 use Rattle.std.proofs.Common.{◌∙◌, ap}
 use Rattle.std.specs.List.{prefix_len}
 use Rattle.std.specs.Prelude.{◌+◌, drop}
-use Rattle.litrs_search.specs.declared.search.Special.{Special}
-use Rattle.litrs_search.specs.Special.{is_ordinary}
+use Rattle.litrs_lex.specs.declared.search.Special.{Special}
+use Rattle.litrs_lex.specs.Special.{is_ordinary}
 use Rattle.litrs_lex.proofs.PlainRuns.{plain_run, special_run}
 use Rattle.litrs_lex.proofs.stop.plain_end.Goals as goal
 

@@ -1,6 +1,6 @@
 -- The digits after the period are the fraction.
 use Rattle.std.proofs.Common.{rules}
-use Rattle.litrs_numbers.specs.FloatLiteral.{float_parts}
+use Rattle.litrs.specs.FloatLiteral.{float_parts}
 use Rattle.litrs_lines.proofs.ReportLemmas.{fraction_field-is}
 use Rattle.litrs_lines.proofs.report.fraction_field.Goals as goal
 

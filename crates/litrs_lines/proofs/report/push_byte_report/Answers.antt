@@ -2,7 +2,7 @@
 use Rattle.std.proofs.Common.{◌∙◌}
 use Rattle.std.proofs.lemmas.Result.{on_ok_weaker}
 use Rattle.std.specs.Prelude.{string_bytes, codes}
-use Rattle.litrs_scalars.specs.CharLiteral.{byte_parts}
+use Rattle.litrs.specs.CharLiteral.{byte_parts}
 use Rattle.litrs_lines.proofs.ReportLemmas.{char_report_made}
 use Rattle.litrs_lines.proofs.report.push_byte_report.Goals as goal
 

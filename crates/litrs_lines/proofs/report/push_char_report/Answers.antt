@@ -2,7 +2,7 @@
 use Rattle.std.proofs.Common.{◌∙◌}
 use Rattle.std.proofs.lemmas.Result.{on_ok_weaker}
 use Rattle.std.specs.Prelude.{string_bytes, codes}
-use Rattle.litrs_scalars.specs.CharLiteral.{char_parts}
+use Rattle.litrs.specs.CharLiteral.{char_parts}
 use Rattle.litrs_lines.proofs.ReportLemmas.{char_report_made}
 use Rattle.litrs_lines.proofs.report.push_char_report.Goals as goal
 

@@ -1,7 +1,7 @@
 -- The parts are written one after the other.
 use Rattle.std.proofs.lemmas.Result.{on_ok_weaker}
 use Rattle.std.specs.Prelude.{string_bytes}
-use Rattle.litrs_numbers.specs.FloatLiteral.{float_parts}
+use Rattle.litrs.specs.FloatLiteral.{float_parts}
 use Rattle.litrs_lines.proofs.ReportLemmas.{float_report_made}
 use Rattle.litrs_lines.proofs.report.push_float_report.Goals as goal
 

@@ -3,7 +3,7 @@ use Rattle.std.proofs.Common.{ℕ, ◌++◌, ap, ◌∙◌}
 use Rattle.std.proofs.lemmas.Result.{on_ok_weaker}
 use Rattle.std.specs.Prelude.{string_bytes}
 use Rattle.litrs_base.specs.Base.{base_value}
-use Rattle.litrs_numbers.specs.IntegerLiteral.{integer_parts}
+use Rattle.litrs.specs.IntegerLiteral.{integer_parts}
 use Rattle.litrs_lines.specs.Report.{integer_front}
 use Rattle.litrs_lines.proofs.ReportLemmas.{integer_report_made}
 use Rattle.litrs_lines.proofs.report.push_integer_report.Goals as goal

@@ -4,7 +4,7 @@ use Rattle.std.specs.Prelude.{if◌then◌else◌}
 use Rattle.std.specs.Str.{chars}
 use Rattle.litrs_grammar.specs.Literal.{an_integer, a_float, LiteralKind, integer_literal, float_literal, kind_parse}
 use Rattle.litrs_grammar.specs.Refused.{IsRefused}
-use Rattle.litrs_parts.specs.NumberCut.{number_kind}
+use Rattle.litrs_lex.specs.NumberCut.{number_kind}
 use Rattle.litrs_prefix.proofs.NumberComplete.{whole_integer, whole_float, no_whole_float, no_whole_integer, points_integer, points_float, integer_begins, float_begins}
 use Rattle.litrs_prefix.proofs.end.cut_end.Goals as goal
 

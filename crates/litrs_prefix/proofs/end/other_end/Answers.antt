@@ -6,8 +6,8 @@ use Rattle.litrs_grammar.specs.StringKind.{c_string_kind}
 use Rattle.litrs_grammar.specs.Quoted.{quoted_front}
 use Rattle.litrs_grammar.specs.Raw.{raw_front}
 use Rattle.litrs_grammar.specs.LiteralRefusals.{begins_float}
-use Rattle.litrs_parts.specs.declared.kind.Front.TheVariants as front
-use Rattle.litrs_parts.specs.Front.{grammar_kind}
+use Rattle.litrs_lex.specs.declared.kind.Front.TheVariants as front
+use Rattle.litrs_lex.specs.Front.{grammar_kind}
 use Rattle.litrs_lex.proofs.StringFronts.{quoted_begins, raw_begins}
 use Rattle.litrs_prefix.proofs.Dispatched.{IsRow, row_at, number_row, string_row, at_none, at_number, at_char, at_byte, at_string, at_other, pick_quoted, pick_raw}
 use Rattle.litrs_prefix.proofs.end.other_end.Goals as goal

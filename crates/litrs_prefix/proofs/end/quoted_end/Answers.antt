@@ -5,7 +5,7 @@ use Rattle.litrs_base.specs.Refusal.{Refusal, refusal_of}
 use Rattle.litrs_base.specs.Derivations.{HasNoDerivation}
 use Rattle.litrs_grammar.specs.StringKind.{switches_of}
 use Rattle.litrs_grammar.specs.Quoted.{IsQuoted, IsQuotedLiteral, IsQuotedRefusal}
-use Rattle.litrs_parts.specs.Front.{grammar_kind}
+use Rattle.litrs_lex.specs.Front.{grammar_kind}
 use Rattle.litrs_lex.proofs.StringFronts.{quoted_boundary, quoted_before}
 use Rattle.litrs_prefix.proofs.Complete.{whole_quoted, points_quoted}
 use Rattle.litrs_prefix.proofs.end.quoted_end.Goals as goal

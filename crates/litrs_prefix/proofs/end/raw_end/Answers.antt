@@ -4,7 +4,7 @@ use Rattle.std.specs.Str.{chars}
 use Rattle.litrs_base.specs.Text.{begins_with}
 use Rattle.litrs_grammar.specs.Escape.{Switches}
 use Rattle.litrs_grammar.specs.Raw.{raw_front}
-use Rattle.litrs_parts.specs.Front.{grammar_kind}
+use Rattle.litrs_lex.specs.Front.{grammar_kind}
 use Rattle.litrs_lex.proofs.StringFronts.{raw_boundary, raw_begins}
 use Rattle.litrs_prefix.proofs.RawComplete.{whole_raw, raw_whole, points_raw}
 use Rattle.litrs_prefix.proofs.end.raw_end.Goals as goal

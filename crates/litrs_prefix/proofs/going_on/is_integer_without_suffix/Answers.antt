@@ -4,7 +4,7 @@ use Rattle.std.proofs.lemmas.Bool.{false≢true}
 use Rattle.litrs_base.specs.Text.{is_empty}
 use Rattle.litrs_grammar.specs.Integer.{IntegerParts}
 use Rattle.litrs_grammar.specs.Literal.{an_integer}
-use Rattle.litrs_numbers.specs.IntegerLiteral.{integer_parts}
+use Rattle.litrs.specs.IntegerLiteral.{integer_parts}
 use Rattle.litrs_prefix.proofs.going_on.is_integer_without_suffix.Goals as goal
 
 pub returns-in-Ok : goal.returns-in-Ok

@@ -4,7 +4,7 @@ use Rattle.std.specs.Str.{chars}
 use Rattle.litrs_base.specs.Derivations.{IsOnlyDerivation, HasNoDerivation}
 use Rattle.litrs_grammar.specs.StringKind.{switches_of}
 use Rattle.litrs_grammar.specs.Quoted.{IsQuoted, IsQuotedLiteral}
-use Rattle.litrs_parts.specs.Front.{grammar_kind}
+use Rattle.litrs_lex.specs.Front.{grammar_kind}
 use Rattle.litrs_lex.proofs.StringFronts.{quoted_boundary, quoted_before}
 use Rattle.litrs_prefix.specs.Prefix.{ends_suffix}
 use Rattle.litrs_prefix.proofs.Stands.{by_only}

@@ -5,7 +5,7 @@ use Rattle.litrs_base.specs.Text.{begins_with}
 use Rattle.litrs_grammar.specs.Escape.{Switches}
 use Rattle.litrs_grammar.specs.Raw.{raw_front, raw_refusal, has_unicode, allows_nul, IsRawLiteral}
 use Rattle.litrs_grammar.proofs.RawKinds.{literal_refusal_free}
-use Rattle.litrs_parts.specs.Front.{grammar_kind}
+use Rattle.litrs_lex.specs.Front.{grammar_kind}
 use Rattle.litrs_lex.specs.RawCut.{raw_parts_at}
 use Rattle.litrs_lex.proofs.StringFronts.{raw_boundary, raw_begins, raw_after}
 use Rattle.litrs_prefix.specs.Prefix.{ends_suffix}

@@ -2,7 +2,7 @@
 use Rattle.std.proofs.Common.{sym, ap, ◌∙◌}
 use Rattle.litrs_grammar.specs.Bool.{is_bool}
 use Rattle.litrs_grammar.proofs.Laws.Literal.{is_bool-text}
-use Rattle.litrs_parts.proofs.Dispatch.{is_bool-chars}
+use Rattle.litrs_lex.proofs.Dispatch.{is_bool-chars}
 use Rattle.litrs_prefix.proofs.opening.is_bool.Goals as goal
 
 pub returns-in-Some : goal.returns-in-Some

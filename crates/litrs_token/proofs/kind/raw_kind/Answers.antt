@@ -1,7 +1,7 @@
 -- The cut decides, where the front is that of a raw string.
 use Rattle.std.proofs.Common.{ap}
 use Rattle.litrs_grammar.specs.Escape.{Switches}
-use Rattle.litrs_parts.specs.Front.{grammar_kind}
+use Rattle.litrs_lex.specs.Front.{grammar_kind}
 use Rattle.litrs_lex.proofs.StringFronts.{raw_boundary}
 use Rattle.litrs_token.proofs.StringTests.{raw_derivation, raw_none}
 use Rattle.litrs_token.proofs.TokenTexts.{string_token_of}

@@ -1,6 +1,6 @@
 -- What stands after an escape, or after the backslash of none.
 use Rattle.std.proofs.Common.{not, true}
-use Rattle.litrs_parts.specs.Unescaped.{switches}
+use Rattle.litrs_lex.specs.Unescaped.{switches}
 use Rattle.litrs.proofs.Chars.{escape_after, refused_after}
 use Rattle.litrs.proofs.Escapes.{after_goes_on, starts_escape}
 use Rattle.litrs.proofs.going_on.char.escaped_goes_on.Goals as goal

@@ -3,7 +3,7 @@ use Rattle.std.proofs.Common.{false, ◌++◌, length, sym, ap, ◌∙◌}
 use Rattle.std.specs.Char.{encode_utf8}
 use Rattle.std.specs.Str.{chars}
 use Rattle.std.proofs.lemmas.Str.{chars_past_char}
-use Rattle.litrs_parts.specs.CharCut.{kind_if}
+use Rattle.litrs_lex.specs.CharCut.{kind_if}
 use Rattle.litrs.proofs.Begins.{answer_is}
 use Rattle.litrs.proofs.Chars.{nothing_after, plain_after, other_after}
 use Rattle.litrs.proofs.Fronts.{nothing_chars}

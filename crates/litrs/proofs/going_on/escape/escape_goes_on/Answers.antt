@@ -1,7 +1,7 @@
 -- A whole escape, or what stands after the backslash of none.
 use Rattle.std.proofs.Common.{length, refl}
 use Rattle.std.specs.Prelude.{◌==◌}
-use Rattle.litrs_parts.specs.Unescaped.{grammar_switches}
+use Rattle.litrs_lex.specs.Unescaped.{grammar_switches}
 use Rattle.litrs.proofs.Escapes.{whole_escape, refused_escape, after_goes_on, starts_escape}
 use Rattle.litrs.proofs.going_on.escape.escape_goes_on.Goals as goal
 

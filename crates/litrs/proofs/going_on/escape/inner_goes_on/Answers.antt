@@ -1,7 +1,7 @@
 -- Something else than a digit or an underscore stands there, or a seventh digit.
 use Rattle.std.proofs.Common.{length, true, sym, ◌∙◌}
 use Rattle.std.proofs.lemmas.Bool.{ne_eqb}
-use Rattle.litrs_parts.specs.Unescaped.{switches}
+use Rattle.litrs_lex.specs.Unescaped.{switches}
 use Rattle.litrs.proofs.Escapes.{digits_stop, some_byte}
 use Rattle.litrs.proofs.going_on.escape.inner_goes_on.Goals as goal
 

@@ -1,7 +1,7 @@
 -- The rest decides.
 use Rattle.std.specs.Prelude.{⊤}
 use Rattle.litrs_grammar.specs.StringKind.{switches_of}
-use Rattle.litrs_parts.specs.Front.{grammar_kind}
+use Rattle.litrs_lex.specs.Front.{grammar_kind}
 use Rattle.litrs_lex.proofs.StringFronts.{quoted_boundary}
 use Rattle.litrs.proofs.QuotedEnds.{quoted_decided}
 use Rattle.litrs.proofs.StringEnds.{quoted_string}

@@ -5,7 +5,7 @@ use Rattle.std.specs.Str.{chars}
 use Rattle.std.proofs.lemmas.Str.{chars_past_char}
 use Rattle.litrs_base.specs.Text.{begins_with}
 use Rattle.litrs_base.proofs.Chars.{begins_with-chars}
-use Rattle.litrs_parts.specs.Unescaped.{switches}
+use Rattle.litrs_lex.specs.Unescaped.{switches}
 use Rattle.litrs.proofs.Begins.{answer_is}
 use Rattle.litrs.proofs.QuotedEnds.{quote_rest, continued_rest, slash_rest, other_rest}
 use Rattle.litrs.proofs.going_on.quoted.other_rest_goes_on.Goals as goal

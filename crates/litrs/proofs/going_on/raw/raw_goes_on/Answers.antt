@@ -1,7 +1,7 @@
 -- The hashes decide.
 use Rattle.std.proofs.Common.{ap}
 use Rattle.litrs_grammar.specs.Escape.{Switches}
-use Rattle.litrs_parts.specs.Front.{grammar_kind}
+use Rattle.litrs_lex.specs.Front.{grammar_kind}
 use Rattle.litrs_lex.proofs.StringFronts.{raw_boundary}
 use Rattle.litrs.proofs.StringEnds.{raw_string}
 use Rattle.litrs.proofs.going_on.raw.raw_goes_on.Goals as goal

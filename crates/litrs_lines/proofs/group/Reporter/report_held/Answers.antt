@@ -1,6 +1,6 @@
 use Rattle.std.proofs.Common.{◌∙◌, ℕ, List, sym, subst}
 use Rattle.std.specs.Prelude.{string_bytes}
-use Rattle.litrs_collector.specs.Held.{IsRefusalOfHeld}
+use Rattle.litrs_lines.specs.Held.{IsRefusalOfHeld}
 use Rattle.litrs_lines.proofs.LinesLemmas.{OnOk-map, OnOk-holds}
 use Rattle.litrs_lines.proofs.GroupReports.{held_adds, nothing_held_adds}
 use Rattle.litrs_lines.proofs.group.Reporter.report_held.Goals as goal

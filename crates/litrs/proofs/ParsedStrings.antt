@@ -1,0 +1,87 @@
+-- Where a string is cut, by its only derivation.
+use Rattle.std.proofs.Common.{◌≡◌, ℕ, ◌+◌, ◌-◌, Bool, true, List, ◌++◌, length, refl, sym, ap, ◌∙◌, subst}
+use Rattle.std.specs.Str.{chars, IsUtf8}
+use Rattle.std.proofs.lemmas.Str.{encodes-chars, IsUtf8-between}
+use Rattle.litrs_base.specs.Derivations.{IsOnlyDerivation}
+use Rattle.litrs_base.specs.Text.{begins_with}
+use Rattle.litrs_base.proofs.Begins.{begins_with-split}
+use Rattle.litrs_grammar.specs.StringKind.{StringKind, c_string_kind, switches_of}
+use Rattle.litrs_grammar.specs.Quoted.{quoted_front, IsQuoted}
+use Rattle.litrs_grammar.specs.Raw.{raw_front, has_unicode, allows_nul}
+use Rattle.litrs_grammar.specs.Literal.{StringParts, quoted_parts, raw_parts, IsString}
+use Rattle.litrs_grammar.specs.Strings.{StringDerivation}
+use Rattle.litrs_grammar.proofs.Laws.Literal.{only_string}
+use Rattle.litrs_lex.proofs.StringFronts.{raw_begins, quoted_before, raw_after}
+use Rattle.litrs_lex.specs.RawCut.{IsRawCut, raw_parts_at}
+use Rattle.litrs.specs.declared.kept.BodyPlace.{BodyPlace}
+use Rattle.litrs.specs.declared.kept.KeptValue.{KeptValue}
+use Rattle.litrs.specs.declared.kept.KeptValue.TheVariants.{InText}
+use Rattle.litrs.specs.StringLiteral.{IsStringAt, IsCStringAt}
+use Rattle.litrs.specs.ParsedStrings.{IsParsedQuoted, IsParsedRaw, IsParsedString}
+
+-- A quoted or a raw string is a string of its kind.
+
+pub parsed_quoted : (kind : StringKind) (bs : List ℕ) (kept : KeptValue (List ℕ)) (start_suffix : ℕ) → IsUtf8 bs →
+    begins_with (quoted_front kind) bs ≡ true → IsParsedQuoted (switches_of kind) bs (length (quoted_front kind)) kept start_suffix →
+    IsParsedString kind bs kept start_suffix
+parsed_quoted kind bs kept start_suffix u begins parsed = record {
+  parts = quoted_parts parsed.parts;
+  derives = subst (λ (front : List ℕ). IsQuoted front (switches_of kind) (chars bs) parsed.parts) (quoted_before kind bs u begins) parsed.derives;
+  at = parsed.at;
+}
+
+pub parsed_raw : (kind : StringKind) (bs : List ℕ) (place : BodyPlace) (start_suffix : ℕ) → IsUtf8 bs → begins_with (raw_front kind) bs ≡ true →
+    IsParsedRaw (has_unicode kind) (allows_nul kind) (length (raw_front kind)) bs place start_suffix →
+    IsParsedString kind bs (InText place) start_suffix
+parsed_raw kind bs place start_suffix u begins parsed = record {
+  parts = raw_parts parsed.parts;
+  derives = record {
+    spells = ap (λ (t : List ℕ). raw_front kind ++ t) (parsed.derives.spells ∙ sym (raw_after kind bs u begins))
+        ∙ begins_with-split (raw_front kind) (chars bs) (raw_begins kind bs u ∙ begins);
+    grammar = parsed.derives.grammar;
+  };
+  at = parsed.at;
+}
+
+-- the body of a raw string is its value
+pub parsed_raw_cut : (unicode allow_nul : Bool) (offset : ℕ) (bs : List ℕ) (hashes start_suffix : ℕ) → IsUtf8 bs →
+    IsRawCut unicode allow_nul offset bs (hashes, start_suffix) →
+    IsParsedRaw unicode allow_nul offset bs
+    (record { start = offset + (hashes + 1); end = start_suffix - (hashes + 1); is_raw = true }) start_suffix
+parsed_raw_cut unicode allow_nul offset bs hashes start_suffix u cut = record {
+  parts = raw_parts_at offset bs (hashes, start_suffix);
+  derives = cut.only.0;
+  at = record {
+    placed = record { in_order = cut.in_order; start = cut.start; end = cut.end };
+    suffix_place = cut.suffix;
+    suffix = refl;
+    raw = refl;
+    owned = refl;
+    is_value = sym (encodes-chars _ (IsUtf8-between bs (offset + (hashes + 1)) (start_suffix - (hashes + 1)) u cut.in_order cut.start cut.end));
+  };
+}
+
+-- The derivation of a literal is the one that was parsed.
+
+pub only_derivation : (kind : StringKind) (t : List ℕ) (d : StringDerivation kind t) → IsOnlyDerivation (IsString kind t) d.0
+only_derivation kind t d = (d.1, λ e r. only_string kind t e d.0 r d.1)
+
+-- the derivations of two literals of one text
+pub same_parts : (kind : StringKind) (bytes b : List ℕ) (d e : StringParts) → b ≡ bytes → IsString kind (chars bytes) d → IsString kind (chars b) e → e ≡ d
+same_parts kind bytes b d e same r s = only_string kind (chars b) e d s (subst (λ (t : List ℕ). IsString kind (chars t) d) (sym same) r)
+
+-- what is said of a text and its derivation, of a copy of the text
+transported : (kind : StringKind) (P : List ℕ → StringParts → Type 0) (bytes b : List ℕ) (d e : StringParts) → b ≡ bytes →
+    IsString kind (chars bytes) d → IsString kind (chars b) e → P bytes d → P b e
+transported kind P bytes b d e same r s p =
+    subst (λ (parts : StringParts). P b parts) (sym (same_parts kind bytes b d e same r s)) (subst (λ (t : List ℕ). P t d) (sym same) p)
+
+pub at_copy : (kind : StringKind) (start_suffix : ℕ) (kept k : KeptValue (List ℕ)) (bytes b : List ℕ) (d e : StringParts) → b ≡ bytes → k ≡ kept →
+    IsString kind (chars bytes) d → IsString kind (chars b) e → IsStringAt kept start_suffix bytes d → IsStringAt k start_suffix b e
+at_copy kind start_suffix kept k bytes b d e same also r s at =
+    transported kind (IsStringAt k start_suffix) bytes b d e same r s (subst (λ (o : KeptValue (List ℕ)). IsStringAt o start_suffix bytes d) (sym also) at)
+
+pub c_at_copy : (start_suffix : ℕ) (value v bytes b : List ℕ) (d e : StringParts) → b ≡ bytes → v ≡ value →
+    IsString c_string_kind (chars bytes) d → IsString c_string_kind (chars b) e → IsCStringAt value start_suffix bytes d → IsCStringAt v start_suffix b e
+c_at_copy start_suffix value v bytes b d e same also r s at =
+    transported c_string_kind (IsCStringAt v start_suffix) bytes b d e same r s (subst (λ (o : List ℕ). IsCStringAt o start_suffix bytes d) (sym also) at)

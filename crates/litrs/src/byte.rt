@@ -1,0 +1,229 @@
+//! Byte literals.
+ghost use Rattle.std.specs.Prelude.{◌≡◌, false, IsOk, IfOk, IfErr, Some, nat_eq, ⊤};
+ghost use Rattle.std.specs.Cmp.{on_per, on_equiv, partial_equiv_from_equiv};
+ghost use Rattle.std.specs.Cmp.Lexicographic.{pointwise, nat_list_eq_equiv};
+ghost use Rattle.std.specs.Str.{chars, IsCharBoundary};
+ghost use Rattle.litrs_base.specs.Derivations.{IsOnlyDerivation};
+ghost use Rattle.litrs_grammar.specs.CharByte.{byte_kind, char_value, IsCharLiteral};
+ghost use Rattle.litrs_grammar.specs.Literal.{kind_parse, byte_literal};
+ghost use Rattle.litrs_grammar.specs.Refused.{IsRefused};
+ghost use Rattle.litrs_lex.specs.Front.{IsFront};
+ghost use Rattle.litrs_lex.specs.CharCut.{char_parts_at, IsCharAt};
+ghost use Rattle.litrs.specs.CharLiteral.{CharLiteral, byte_parts};
+
+use litrs_lex::{Front, ParseError, ParseErrorKind, Text, cut_byte};
+use std::alloc::{AllocError, Global};
+use std::fmt;
+use std::marker::Model;
+
+/// A byte as it is written in Rust: `b'a'`, `b'\n'`, `b'\xff'`.
+///
+/// It is made of an ASCII character or an escape between single quotes, the first of them after a
+/// `b`, and a suffix, which may be empty. See [the reference][ref].
+///
+/// [ref]: https://doc.rust-lang.org/reference/tokens.html#byte-literals
+pub struct ByteLit<B: Text> {
+    value: u8,
+    start_suffix: usize,
+    // Last: a place that stood where a refusal has its kind would be read in pieces.
+    raw: B,
+}
+
+impl<B: Text> Model for ByteLit<B> {
+    ghost Value = { CharLiteral B };
+
+    ghost view = { λ s. record {
+      buffer = s.raw;
+      raw = B.bytes s.raw;
+      value = s.value;
+      start_suffix = s.start_suffix;
+    } };
+
+    ghost inverse = { λ lit.
+        record { raw = lit.buffer; value = lit.value; start_suffix = lit.start_suffix } };
+
+    ghost invariant = { λ s. IsCharAt byte_kind s.value s.start_suffix (B.bytes s.raw) };
+}
+
+impl<B: Text> ByteLit<B> {
+    /// Parses a text that is one byte. It does not allocate.
+    ///
+    /// `b'\xff'u8` has the value 255 and the suffix `u8`.
+    ///
+    /// # Errors
+    ///
+    /// `Empty`, `InvalidByteLiteralStart`, or as [`cut_byte`] refuses the text: `b''` is
+    /// `EmptyByteLiteral`, and a character beyond ASCII is `NonAsciiInByteLiteral` at its first
+    /// byte.
+    #[inline(always)]
+    pub fn parse(input: B) -> Result<ByteLit<B>, ParseError>
+        ensures buffer { IfOk result (λ lit. lit.buffer ≡ input) }
+        ensures raw { IfOk result (λ lit. lit.raw ≡ B.bytes input) }
+        ensures ok { IfOk result (λ lit.
+            IsOnlyDerivation (IsCharLiteral byte_kind (chars (B.bytes input))) (byte_parts lit)) }
+        ensures refused { IfErr result
+            (IsRefused (kind_parse byte_literal) (chars (B.bytes input))) }
+    {
+        let front = Front::of(input.as_str());
+        ByteLit::parse_with_front(input, front)
+    }
+
+    /// [`parse`](ByteLit::parse) of a text of which it is known how it begins.
+    ///
+    /// # Errors
+    ///
+    /// Those of [`parse`](ByteLit::parse).
+    #[inline(always)]
+    pub fn parse_with_front(input: B, front: Front) -> Result<ByteLit<B>, ParseError>
+        requires { IsFront front (B.bytes input) }
+        ensures buffer { IfOk result (λ lit. lit.buffer ≡ input) }
+        ensures raw { IfOk result (λ lit. lit.raw ≡ B.bytes input) }
+        ensures ok { IfOk result (λ lit.
+            IsOnlyDerivation (IsCharLiteral byte_kind (chars (B.bytes input))) (byte_parts lit)) }
+        ensures refused { IfErr result
+            (IsRefused (kind_parse byte_literal) (chars (B.bytes input))) }
+    {
+        let (value, start_suffix) = cut(input.as_str(), front)?;
+        Ok(ByteLit {
+            raw: input,
+            value,
+            start_suffix,
+        })
+    }
+
+    /// The byte that the literal stands for: 10 for `b'\n'`.
+    pub fn value(&self) -> u8
+        ensures { result ≡ char_value (byte_parts self.now).item }
+    {
+        self.value
+    }
+
+    /// The suffix, empty where there is none: `u8` of `b'a'u8`.
+    pub fn suffix(&self) -> &str
+        ensures { chars result.now ≡ (byte_parts self.now).suffix }
+    {
+        &self.raw.as_str()[self.start_suffix..]
+    }
+
+    /// The text that was parsed, as `b'a'u8`. It is a byte, of the value and with the suffix that
+    /// the accessors answer.
+    pub fn raw_input(&self) -> &str
+        ensures raw { result.now ≡ self.now.raw }
+        ensures literal { IsCharLiteral byte_kind (chars result.now) (byte_parts self.now) }
+    {
+        self.raw.as_str()
+    }
+
+    /// The same literal again. Over `&str` it does not allocate, and succeeds.
+    ///
+    /// # Errors
+    ///
+    /// `AllocError` where there is no memory for the text.
+    pub fn clone(&self, alloc: Global) -> Result<ByteLit<B>, AllocError>
+        ensures raw { IfOk result (λ copy. copy.raw ≡ self.now.raw) }
+        ensures parts { IfOk result (λ copy. byte_parts copy ≡ byte_parts self.now) }
+        ensures succeeds { B.owns ≡ false → IsOk result }
+    {
+        let raw = self.raw.copy(alloc)?;
+        Ok(ByteLit {
+            raw,
+            value: self.value,
+            start_suffix: self.start_suffix,
+        })
+    }
+
+    /// The text that was parsed, in its buffer: of a literal over `String` the `String` with
+    /// `b'a'`.
+    pub fn into_raw_input(self) -> B
+        ensures buffer { result ≡ self.buffer }
+        ensures text { B.bytes result ≡ self.raw }
+    {
+        let ByteLit { raw, .. } = self;
+        raw
+    }
+}
+
+impl<B: Text + Copy> ByteLit<B> {
+    /// The same literal again: the copy of a literal whose buffer is `Copy`.
+    pub fn copied(&self) -> Self
+        ensures { result ≡ self.now }
+    {
+        *self
+    }
+}
+
+impl ByteLit<&str> {
+    /// The same literal with a text of its own.
+    ///
+    /// # Errors
+    ///
+    /// `AllocError` where there is no memory for the text.
+    pub fn to_owned(&self, alloc: Global) -> Result<ByteLit<String>, AllocError>
+        ensures raw { IfOk result (λ owned. owned.raw ≡ self.now.raw) }
+        ensures parts { IfOk result (λ owned. byte_parts owned ≡ byte_parts self.now) }
+    {
+        let raw = String::from_str(alloc, self.raw)?;
+        Ok(ByteLit {
+            raw,
+            value: self.value,
+            start_suffix: self.start_suffix,
+        })
+    }
+}
+
+/// The value, and where the suffix starts, if the text, which begins so, is a byte.
+#[inline(always)]
+fn cut(input: &str, front: Front) -> Result<(u8, usize), ParseError>
+    requires { IsFront front input.now }
+    ensures ok { IfOk result (λ cut.
+        IsOnlyDerivation (IsCharLiteral byte_kind (chars input.now))
+        (char_parts_at byte_kind cut.1 input.now)) }
+    ensures value { IfOk result (λ cut.
+        char_value (char_parts_at byte_kind cut.1 input.now).item ≡ cut.0) }
+    ensures place { IfOk result (λ cut. IsCharBoundary input.now cut.1) }
+    ensures refused { IfErr result (IsRefused (kind_parse byte_literal) (chars input.now)) }
+{
+    match front {
+        Front::Byte => cut_byte(input),
+        Front::Empty => Err(ParseError::new(None, ParseErrorKind::Empty)),
+        _ => Err(ParseError::new(None, ParseErrorKind::InvalidByteLiteralStart)),
+    }
+}
+
+impl<B: Text> PartialEq for ByteLit<B> {
+    ghost eq = { λ x y. pointwise nat_eq x.raw y.raw };
+
+    ghost laws = { on_per (λ lit. lit.raw) (partial_equiv_from_equiv nat_list_eq_equiv) };
+
+    fn eq(&self, other: &ByteLit<B>) -> bool {
+        self.raw.as_str() == other.raw.as_str()
+    }
+}
+
+impl<B: Text> Eq for ByteLit<B> {
+    ghost laws = { on_equiv (λ lit. lit.raw) nat_list_eq_equiv };
+}
+
+impl<B: Text + Copy> Copy for ByteLit<B> {}
+
+impl<B: Text + Copy> Clone for ByteLit<B> {
+    ghost is_clone = { λ lit copy. copy ≡ lit };
+
+    ghost is_infallible = { λ _. ⊤ };
+
+    fn clone(&self) -> Result<ByteLit<B>, AllocError> {
+        Ok(ByteLit {
+            raw: self.raw,
+            value: self.value,
+            start_suffix: self.start_suffix,
+        })
+    }
+}
+
+impl<B: Text> fmt::Display for ByteLit<B> {
+    ghost output = { λ lit. Some lit.raw };
+
+    fn fmt<W: fmt::Write>(&self, f: &mut fmt::Formatter<W>) -> fmt::Result {
+        f.pad(self.raw.as_str())
+    }
+}

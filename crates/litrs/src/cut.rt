@@ -1,0 +1,126 @@
+//! Where strings of the three kinds are cut.
+ghost use Rattle.std.specs.Prelude.{◌≡◌, ◌⊎◌, ◌||◌, not, IfOk, IfErr, IsTrue};
+ghost use Rattle.std.specs.Str.{chars, IsCharBoundary};
+ghost use Rattle.litrs_base.specs.Refusal.{refusal_of, HasCharSpan};
+ghost use Rattle.litrs_grammar.specs.Literal.{kind_parse, string_literal_of};
+ghost use Rattle.litrs_grammar.specs.LiteralRefusals.{string_start_refusal};
+ghost use Rattle.litrs_grammar.specs.Refused.{IsRefusedOrOutOfMemory};
+ghost use Rattle.litrs_grammar.specs.StringKind.{switches_of};
+ghost use Rattle.litrs_lex.specs.QuotedCut.{IsQuotedRefused, IsQuotedOutOfMemory};
+ghost use Rattle.litrs_lex.specs.RawCut.{IsRawRefused};
+ghost use Rattle.litrs_lex.specs.Front.{grammar_kind, IsFront};
+ghost use Rattle.litrs.specs.ParsedStrings.{IsParsedQuoted, IsParsedRaw, IsParsedString};
+ghost use Rattle.litrs.specs.StringLiteral.{kept_map};
+
+use crate::kept::{BodyPlace, KeptValue};
+use litrs_lex::{
+    Allows, EscapeContainer, Front, ParseError, ParseErrorKind, StringKind, Switches,
+    scan_raw_string, unescape_string_with,
+};
+use std::alloc::Global;
+
+/// Parses a text that begins so as a string of the kind: its value, or where that stands, and where
+/// its suffix begins, in bytes. It is compiled for what the kind allows.
+#[inline(always)]
+pub(crate) fn parse_string<C: EscapeContainer, A: Allows>(
+    alloc: Global,
+    input: &str,
+    kind: StringKind,
+    allowed: A,
+    front: Front,
+) -> Result<(KeptValue<C>, usize), ParseError>
+    requires front { IsFront front input.now }
+    requires same { A.allowed allowed ≡ switches_of (grammar_kind kind) }
+    requires fits { IsTrue (not (A.allowed allowed).byte_escapes || C.TAKES_BYTES) }
+    ensures ok { IfOk result (λ parsed.
+        IsParsedString (grammar_kind kind) input.now (kept_map C.contents parsed.0) parsed.1) }
+    ensures refused { IfErr result (IsRefusedOrOutOfMemory
+        (kind_parse (string_literal_of (grammar_kind kind))) (chars input.now)) }
+{
+    let offset = kind.front_len();
+    match front {
+        Front::Quoted(found) if found == kind => parse_quoted(alloc, input, offset, allowed),
+        Front::Raw(found) if found == kind => {
+            let (place, start_suffix) = cut_raw(input, offset, kind.switches())?;
+            Ok((KeptValue::InText(place), start_suffix))
+        }
+        Front::Empty => Err(ParseError::new(None, ParseErrorKind::Empty)),
+        _ => Err(start_refusal(input, kind)),
+    }
+}
+
+/// Why a text that is not empty, and begins with neither front of the kind, is no string of it.
+fn start_refusal(input: &str, kind: StringKind) -> ParseError
+    ensures refusal { refusal_of result ≡ string_start_refusal (grammar_kind kind) }
+    ensures char_span { HasCharSpan (chars input.now) result }
+{
+    match kind {
+        StringKind::String => {
+            let span = Some(0..1);
+            ParseError::in_text(input, span, ParseErrorKind::InvalidStringLiteralStart)
+        }
+        StringKind::ByteString => {
+            ParseError::new(None, ParseErrorKind::InvalidByteStringLiteralStart)
+        }
+        StringKind::CString => ParseError::new(None, ParseErrorKind::InvalidCStringLiteralStart),
+    }
+}
+
+/// Parses a quoted string whose body begins at `offset`: its value, where the body has a backslash,
+/// or else where the body stands, and where the suffix begins. `offset` is that of
+/// [`unescape_string`](litrs_lex::unescape_string).
+#[inline(always)]
+fn parse_quoted<C: EscapeContainer, A: Allows>(
+    alloc: Global,
+    input: &str,
+    offset: usize,
+    allowed: A,
+) -> Result<(KeptValue<C>, usize), ParseError>
+    requires at { IsCharBoundary input.now offset }
+    requires fits { IsTrue (not (A.allowed allowed).byte_escapes || C.TAKES_BYTES) }
+    ensures ok { IfOk result (λ parsed.
+        IsParsedQuoted (A.allowed allowed) input.now offset
+        (kept_map C.contents parsed.0) parsed.1) }
+    ensures refused { IfErr result (λ e.
+        IsQuotedRefused (A.allowed allowed) input.now offset e
+        ⊎ IsQuotedOutOfMemory (A.allowed allowed) input.now offset e) }
+{
+    let (value, start_suffix) = unescape_string_with(alloc, input, offset, allowed)?;
+    match value {
+        Some(value) => Ok((KeptValue::Owned(value), start_suffix)),
+        None => {
+            let place = BodyPlace {
+                start: offset,
+                end: start_suffix - 1,
+                is_raw: false,
+            };
+            Ok((KeptValue::InText(place), start_suffix))
+        }
+    }
+}
+
+/// Cuts a raw string whose `r` ends at `offset`: where its body stands and its suffix begins.
+/// `offset` and the switches are those of [`scan_raw_string`].
+#[inline(never)]
+fn cut_raw(input: &str, offset: usize, allowed: Switches) -> Result<(BodyPlace, usize), ParseError>
+    requires { IsCharBoundary input.now offset }
+    ensures ok { IfOk result (λ parsed.
+        IsParsedRaw allowed.unicode allowed.allow_nul offset input.now parsed.0 parsed.1) }
+    ensures refused { IfErr result
+        (IsRawRefused allowed.unicode allowed.allow_nul offset input.now) }
+{
+    let (hashes, start_suffix) = scan_raw_string(
+        input,
+        offset,
+        allowed.unicode,
+        allowed.allow_nul,
+    )?;
+    // The quote and the hashes.
+    let closing = hashes as usize + 1;
+    let place = BodyPlace {
+        start: offset + closing,
+        end: start_suffix - closing,
+        is_raw: true,
+    };
+    Ok((place, start_suffix))
+}

@@ -1,3 +1,0 @@
-pub mod StepLemmas
-pub mod OpenTexts
-pub mod OpenBytes

@@ -1,5 +1,0 @@
-use Rattle.litrs_collector.proofs.StepLemmas.{steps_are_unique}
-use Rattle.litrs_collector.proofs.laws.steps_are_unique.Goals as goal
-
-pub returns : goal.returns
-returns c = steps_are_unique

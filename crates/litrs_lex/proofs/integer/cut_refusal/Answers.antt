@@ -1,0 +1,23 @@
+-- Each exit is a row of the refusals, by the tests on the bytes.
+use Rattle.std.proofs.Common.{arith}
+use Rattle.std.proofs.lemmas.Grind.{common_steps}
+use Rattle.litrs_lex.proofs.IntegerBytes.{places_of_cut, refusal_of_main}
+use Rattle.litrs_lex.proofs.integer.cut_refusal.Goals as goal
+
+pub split_at-requires : goal.split_at-requires
+split_at-requires c = (places_of_cut c.args.cut.now c.args.input.now c.utf8.input c.requires).end
+
+pub returns-then-begins_with_digit : goal.returns-then-begins_with_digit
+returns-then-begins_with_digit c = grind (arith, common_steps, refusal_of_main _ _ c.utf8.input c.requires)
+
+pub returns-else-begins_with_digit : goal.returns-else-begins_with_digit
+returns-else-begins_with_digit c = grind (arith, common_steps, refusal_of_main _ _ c.utf8.input c.requires)
+
+pub returns-then-begins_with_e : goal.returns-then-begins_with_e
+returns-then-begins_with_e c = grind (arith, common_steps, refusal_of_main _ _ c.utf8.input c.requires)
+
+pub returns-then-has_digit : goal.returns-then-has_digit
+returns-then-has_digit c = grind (arith, common_steps, refusal_of_main _ _ c.utf8.input c.requires)
+
+pub returns-else-has_digit : goal.returns-else-has_digit
+returns-else-has_digit c = grind (arith, common_steps, refusal_of_main _ _ c.utf8.input c.requires)

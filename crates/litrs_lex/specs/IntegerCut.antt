@@ -1,0 +1,34 @@
+-- Where an integer is cut, in bytes.
+use Rattle.std.specs.Prelude.{◌≡◌, ℕ, ◌+◌, ◌≤◌, List, length, slice_range, drop}
+use Rattle.std.specs.Str.{chars, IsCharBoundary}
+use Rattle.litrs_lex.specs.declared.integer.IntegerCut.{IntegerCut}
+use Rattle.std.specs.List.{prefix_len}
+use Rattle.litrs_base.specs.Base.{prefix, is_digit_or_underscore}
+use Rattle.litrs_grammar.specs.Integer.{IntegerParts, IsIntegerOf, base_of}
+
+-- the parts that a cut of the text with these bytes names
+abbrev pub parts_at : IntegerCut → List ℕ → IntegerParts
+parts_at cut bytes = record {
+  base = cut.base;
+  main = chars (slice_range bytes cut.start_main cut.end_main);
+  suffix = chars (drop cut.end_main bytes);
+}
+
+-- the places stand in order within the text, on character boundaries
+pub record IsWithin (cut : IntegerCut) (bytes : List ℕ) : Type 0 where
+  pub in_order : cut.start_main ≤ cut.end_main
+  pub start : IsCharBoundary bytes cut.start_main
+  pub end : IsCharBoundary bytes cut.end_main
+
+-- the text is an integer, cut at these places
+pub record IsIntegerAt (cut : IntegerCut) (bytes : List ℕ) : Type 0 where
+  pub places : IsWithin cut bytes
+  pub integer : IsIntegerOf (chars bytes) (parts_at cut bytes)
+
+-- cut after the prefix and after all digits of the base and underscores that follow
+pub record IsDigitsCut (cut : IntegerCut) (bytes : List ℕ) : Type 0 where
+  pub base : cut.base ≡ base_of bytes
+  pub start : cut.start_main ≡ length (prefix cut.base)
+  pub end : cut.end_main
+      ≡ cut.start_main + prefix_len (is_digit_or_underscore cut.base) (drop cut.start_main bytes)
+  pub within : cut.end_main ≤ length bytes

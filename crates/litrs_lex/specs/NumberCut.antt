@@ -1,0 +1,24 @@
+-- Where a number is cut: as an integer or as a float, by how the text begins.
+use Rattle.std.specs.Prelude.{ℕ, List, if◌then◌else◌}
+use Rattle.std.specs.Str.{chars}
+use Rattle.litrs_base.specs.Derivations.{IsOnlyDerivation}
+use Rattle.litrs_grammar.specs.Integer.{IsIntegerOf}
+use Rattle.litrs_grammar.specs.Float.{IsFloatOf}
+use Rattle.litrs_grammar.specs.Literal.{LiteralKind, integer_literal, float_literal}
+use Rattle.litrs_grammar.specs.LiteralRefusals.{begins_float}
+use Rattle.litrs_lex.specs.declared.number.NumberCut.{NumberCut}
+use Rattle.litrs_lex.specs.declared.number.NumberCut.TheVariants as number
+use Rattle.litrs_lex.specs.IntegerCut.{parts_at, IsWithin}
+use Rattle.litrs_lex.specs.FloatCut.{float_parts_at, IsFloatWithin}
+
+-- the kind of number that a text is parsed as
+abbrev pub number_kind : List ℕ → LiteralKind
+number_kind t = if begins_float t then float_literal else integer_literal
+
+-- the parts that the cut names are the only derivation of the text as a number of this kind
+abbrev pub IsNumberCut : NumberCut → List ℕ → Type 0
+IsNumberCut (number.Integer cut) bytes =
+    IsOnlyDerivation (IsIntegerOf (chars bytes)) (parts_at cut bytes) × IsWithin cut bytes
+IsNumberCut (number.Float cut) bytes =
+    IsOnlyDerivation (IsFloatOf (chars bytes)) (float_parts_at cut bytes)
+    × IsFloatWithin cut bytes

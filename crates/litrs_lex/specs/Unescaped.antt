@@ -1,0 +1,67 @@
+-- What `unescape` answers: the escape at the front of a text, or why none stands there. The Rust
+-- Reference, Tokens, Literals: the tables of escapes.
+use Rattle.std.specs.Prelude.{◌≡◌, ◌≤◌, ◌<◌, ◌^◌, ℕ, Bool, List, ◌++◌, Some, IfSome, IsTrue, IsFalse, length, take, drop, count_by}
+use Rattle.std.specs.Char.{is_ascii_hexdigit}
+use Rattle.std.specs.List.{list_all}
+use Rattle.std.specs.Str.{chars, IsUtf8, IsCharBoundary}
+use Rattle.litrs_base.specs.declared.err.ParseError.{ParseError}
+use Rattle.litrs_base.specs.declared.escape.Unescape.{Unescape}
+use Rattle.litrs_base.specs.CharEnd.{PointsAtCharacters}
+use Rattle.litrs_base.specs.Finality.{is_final}
+use Rattle.litrs_base.specs.Refusal.{refusal_of, kind_of, char_span_of, IsInText, HasCharSpan}
+use Rattle.litrs_base.specs.Text.{byte_len, first_passes, is_empty}
+use Rattle.litrs_grammar.specs.Escape.{Switches, Escape, IsEscape, escape_text, escape_value, escape_refusal, is_hex_or_underscore, hex_value}
+use Rattle.litrs_grammar.specs.Laws.Escape.{BeginsWithEscape}
+use Rattle.litrs_lex.specs.declared.escape.HexDigits.{HexDigits}
+use Rattle.litrs_lex.specs.declared.escape.Switches.{Switches as CodeSwitches}
+
+-- what a literal allows in its escapes, by the three tests
+abbrev pub switches : (unicode byte_escapes allow_nul : Bool) → Switches
+switches unicode byte_escapes allow_nul =
+    record { unicode = unicode; byte_escapes = byte_escapes; allow_nul = allow_nul }
+
+-- the same of the switches of the code
+abbrev pub grammar_switches : CodeSwitches → Switches
+grammar_switches w = switches w.unicode w.byte_escapes w.allow_nul
+
+-- The text of these bytes begins with an escape, and with no other. The escape stands for the value
+-- and has so many bytes, after which the text may be cut.
+pub record IsUnescaped (w : Switches) (bytes : List ℕ) (value : Unescape) (len : ℕ) : Type 0 where
+  pub escape : Escape
+  pub rest : List ℕ
+  pub spells : escape_text escape ++ rest ≡ chars bytes
+  pub grammar : IsEscape w escape
+  pub only : (e : Escape) (r : List ℕ) →
+      escape_text e ++ r ≡ chars bytes → IsEscape w e → e ≡ escape
+  pub is_value : escape_value escape ≡ value
+  pub size : byte_len (escape_text escape) ≡ len
+  pub within : len ≤ length bytes
+  pub boundary : IsCharBoundary bytes len
+  pub after : chars (drop len bytes) ≡ rest
+  pub utf8 : IsUtf8 (drop len bytes)
+
+-- No escape stands at the front of the text, and the table of refusals has the error's kind and
+-- span for it. The span lies within the text and starts on a character boundary, and the character
+-- span ends on one: all but in the empty text, which the span 0..1 passes. Where the kind is final,
+-- the same holds whatever is appended: no escape stands at the front, and the table has this kind
+-- and span.
+pub record IsEscapeRefused (w : Switches) (t : List ℕ) (e : ParseError) : Type 0 where
+  pub none : ¬ BeginsWithEscape w t
+  pub table : escape_refusal w t ≡ Some (refusal_of e)
+  pub span : IsFalse (is_empty t) → IsInText t (refusal_of e)
+  pub char_span : HasCharSpan t e
+  pub char_ends : IsFalse (is_empty t) → IfSome (char_span_of e) (PointsAtCharacters t)
+  pub final : IsTrue (is_final (kind_of e)) → (more : List ℕ) → ¬ BeginsWithEscape w (t ++ more)
+  pub stays : IsTrue (is_final (kind_of e)) → (more : List ℕ) →
+      escape_refusal w (t ++ more) ≡ Some (refusal_of e)
+
+-- The hex digits and underscores at the front of the bytes: so many bytes, with this value. They go
+-- on to the first byte that is neither, or to the seventh digit.
+pub record IsHexDigits (bytes : List ℕ) (digits : HexDigits) : Type 0 where
+  pub within : digits.len ≤ length bytes
+  pub passes : IsTrue (list_all is_hex_or_underscore (take digits.len bytes))
+  pub few : count_by is_ascii_hexdigit (take digits.len bytes) ≤ 6
+  pub value : hex_value (take digits.len bytes) ≡ digits.value
+  pub stops : IsTrue (first_passes is_hex_or_underscore (drop digits.len bytes)) →
+      IsTrue (first_passes is_ascii_hexdigit (drop digits.len bytes))
+      × (count_by is_ascii_hexdigit (take digits.len bytes) ≡ 6)

@@ -1,0 +1,363 @@
+//! Escapes.
+ghost use Rattle.std.specs.Prelude.{◌≡◌, ◌≢◌, [], ◌∷◌, ◌+◌, ◌<◌, ◌≤◌, Bool, true, ◌&&◌, ◌||◌, ◌==◌, ℕ, codes, drop, length, slice_index, IfOk, IfErr, IsTrue, IsFalse};
+ghost use Rattle.std.specs.Char.{is_ascii_hexdigit};
+ghost use Rattle.std.specs.List.{list_any};
+ghost use Rattle.std.specs.Option.{SomeIff};
+ghost use Rattle.std.specs.Str.{chars};
+ghost use Rattle.litrs_base.specs.Characters.{backslash, letter_x, letter_u, underscore, open_brace, close_brace, is_ascii, is_no_nul_unless};
+ghost use Rattle.litrs_base.specs.Text.{first_passes, is_empty, begins_with};
+ghost use Rattle.litrs_grammar.specs.Escape.{is_simple, simple_value, pair_value};
+ghost use Rattle.litrs_lex.specs.Unescaped.{switches, grammar_switches, IsUnescaped, IsEscapeRefused, IsHexDigits};
+
+use crate::parse::hex_digit_value;
+use litrs_base::{ParseError, ParseErrorKind, Unescape};
+use memchr::memchr;
+
+/// What a literal allows in its escapes, and of other characters in its body.
+#[derive(Clone, Copy, Debug, PartialEq, Eq)]
+pub struct Switches {
+    /// `\u{..}`, and characters beyond ASCII.
+    pub unicode: bool,
+    /// `\x80` to `\xff`.
+    pub byte_escapes: bool,
+    /// NUL, and escapes of value 0.
+    pub allow_nul: bool,
+}
+
+/// Parses the escape at the front of a text that is empty or begins with a backslash: what it
+/// stands for, and its length in bytes. Of `\n12` that is the byte 10, with length 2. See
+/// [the reference][ref].
+///
+/// `unicode` allows `\u{..}`, `byte_escapes` allows `\x80` to `\xff`, and `allow_nul` allows an
+/// escape of value 0.
+///
+/// # Errors
+///
+/// The spans count from the backslash.
+/// - `UnterminatedEscape` where the text has fewer than two characters, at 0..1, which passes the
+///   empty text; and where no character ends after the two bytes that follow `\x`, over the text.
+/// - `DisallowedNulEscape` for a value of 0 where it is not allowed, over the escape.
+/// - `InvalidXEscape` where `\x` is not followed by two hex digits, and `NonAsciiXEscape` where
+///   they pass 7F and may not, both at 0..4.
+/// - `UnicodeEscapeInByteLiteral` where `\u` is not allowed, and `UnicodeEscapeWithoutBrace` where
+///   no `{` follows it, both at 0..2.
+/// - `UnterminatedUnicodeEscape` where no `}` follows, over the text; then for what stands before
+///   the first `}`: `InvalidStartOfUnicodeEscape` where that is empty or begins with `_`, at 3..4;
+///   `NonHexDigitInUnicodeEscape` at the first character that is neither a hex digit nor `_`, and
+///   `TooManyDigitInUnicodeEscape` at the seventh digit, whichever is first, over its first byte;
+///   `InvalidUnicodeEscapeChar` where the value is no character, over the escape.
+/// - `UnknownEscape` where any other character follows the backslash, at 0..2.
+///
+/// [ref]: https://doc.rust-lang.org/reference/tokens.html#character-escapes
+#[inline(always)]
+pub fn unescape(
+    input: &str,
+    unicode: bool,
+    byte_escapes: bool,
+    allow_nul: bool,
+) -> Result<(Unescape, usize), ParseError>
+    requires { IsTrue (is_empty (chars input.now)
+        || first_passes (λ c. c == backslash) (chars input.now)) }
+    ensures ok { IfOk result (λ read.
+        IsUnescaped (switches unicode byte_escapes allow_nul) input.now read.0 read.1) }
+    ensures refused { IfErr result
+        (IsEscapeRefused (switches unicode byte_escapes allow_nul) (chars input.now)) }
+{
+    let allowed = Switches {
+        unicode,
+        byte_escapes,
+        allow_nul,
+    };
+    unescape_with(input, allowed)
+}
+
+/// [`unescape`] by what is allowed.
+///
+/// # Errors
+///
+/// Those of [`unescape`].
+#[inline(always)]
+pub fn unescape_with(input: &str, allowed: Switches) -> Result<(Unescape, usize), ParseError>
+    requires { IsTrue (is_empty (chars input.now)
+        || first_passes (λ c. c == backslash) (chars input.now)) }
+    ensures ok { IfOk result (λ read.
+        IsUnescaped (grammar_switches allowed) input.now read.0 read.1) }
+    ensures refused { IfErr result
+        (IsEscapeRefused (grammar_switches allowed) (chars input.now)) }
+{
+    let Some(letter) = input.as_bytes().get(1) else {
+        return Err(ParseError::in_text(input, Some(0..1), ParseErrorKind::UnterminatedEscape));
+    };
+    let unicode = allowed.unicode;
+    match *letter {
+        b'x' => unescape_hex(input, allowed),
+        b'u' => if unicode {
+            unescape_unicode(input, allowed)
+        } else {
+            let kind = ParseErrorKind::UnicodeEscapeInByteLiteral;
+            Err(ParseError::in_text(input, Some(0..2), kind))
+        },
+        letter => unescape_simple(input, letter, allowed),
+    }
+}
+
+/// The escape of a text that begins with a backslash and this letter, neither `x` nor `u`.
+#[inline(always)]
+fn unescape_simple(
+    input: &str,
+    letter: u8,
+    allowed: Switches,
+) -> Result<(Unescape, usize), ParseError>
+    requires begins { IsTrue (begins_with (backslash ∷ letter ∷ []) input.now) }
+    requires no_hex { letter ≢ letter_x }
+    requires no_unicode { letter ≢ letter_u }
+    ensures ok { IfOk result (λ read.
+        IsUnescaped (grammar_switches allowed) input.now read.0 read.1) }
+    ensures refused { IfErr result
+        (IsEscapeRefused (grammar_switches allowed) (chars input.now)) }
+{
+    let Some(value) = simple_value(letter) else {
+        return Err(ParseError::in_text(input, Some(0..2), ParseErrorKind::UnknownEscape));
+    };
+    if !allows_value(allowed, u32::from(value)) {
+        return Err(ParseError::in_text(input, Some(0..2), ParseErrorKind::DisallowedNulEscape));
+    }
+    Ok((Unescape::Byte(value), 2))
+}
+
+/// What a backslash and each letter stand for, 255 where they are no escape.
+static SIMPLE_VALUES: [u8; 256] = *b"\
+    \xff\xff\xff\xff\xff\xff\xff\xff\xff\xff\xff\xff\xff\xff\xff\xff\
+    \xff\xff\xff\xff\xff\xff\xff\xff\xff\xff\xff\xff\xff\xff\xff\xff\
+    \xff\xff\x22\xff\xff\xff\xff\x27\xff\xff\xff\xff\xff\xff\xff\xff\
+    \x00\xff\xff\xff\xff\xff\xff\xff\xff\xff\xff\xff\xff\xff\xff\xff\
+    \xff\xff\xff\xff\xff\xff\xff\xff\xff\xff\xff\xff\xff\xff\xff\xff\
+    \xff\xff\xff\xff\xff\xff\xff\xff\xff\xff\xff\xff\x5c\xff\xff\xff\
+    \xff\xff\xff\xff\xff\xff\xff\xff\xff\xff\xff\xff\xff\xff\x0a\xff\
+    \xff\xff\x0d\xff\x09\xff\xff\xff\xff\xff\xff\xff\xff\xff\xff\xff\
+    \xff\xff\xff\xff\xff\xff\xff\xff\xff\xff\xff\xff\xff\xff\xff\xff\
+    \xff\xff\xff\xff\xff\xff\xff\xff\xff\xff\xff\xff\xff\xff\xff\xff\
+    \xff\xff\xff\xff\xff\xff\xff\xff\xff\xff\xff\xff\xff\xff\xff\xff\
+    \xff\xff\xff\xff\xff\xff\xff\xff\xff\xff\xff\xff\xff\xff\xff\xff\
+    \xff\xff\xff\xff\xff\xff\xff\xff\xff\xff\xff\xff\xff\xff\xff\xff\
+    \xff\xff\xff\xff\xff\xff\xff\xff\xff\xff\xff\xff\xff\xff\xff\xff\
+    \xff\xff\xff\xff\xff\xff\xff\xff\xff\xff\xff\xff\xff\xff\xff\xff\
+    \xff\xff\xff\xff\xff\xff\xff\xff\xff\xff\xff\xff\xff\xff\xff\xff";
+
+/// What a backslash and this letter stand for, or None where they are no escape.
+#[inline(always)]
+fn simple_value(letter: u8) -> Option<u8>
+    ensures { SomeIff result (IsTrue (is_simple letter)) (simple_value letter) }
+{
+    let value = SIMPLE_VALUES[letter as usize];
+    if value < 128 { Some(value) } else { None }
+}
+
+/// The escape of a text that begins with `\x`.
+#[inline(always)]
+fn unescape_hex(input: &str, allowed: Switches) -> Result<(Unescape, usize), ParseError>
+    requires { IsTrue (begins_with (codes "\\x") input.now) }
+    ensures ok { IfOk result (λ read.
+        IsUnescaped (grammar_switches allowed) input.now read.0 read.1) }
+    ensures refused { IfErr result
+        (IsEscapeRefused (grammar_switches allowed) (chars input.now)) }
+{
+    if !input.is_char_boundary(4) {
+        let end = input.len();
+        return Err(ParseError::in_text(input, Some(0..end), ParseErrorKind::UnterminatedEscape));
+    }
+    let bytes = input.as_bytes();
+    let Some(value) = pair_value(bytes[2], bytes[3]) else {
+        return Err(ParseError::in_text(input, Some(0..4), ParseErrorKind::InvalidXEscape));
+    };
+    if !allows_byte(allowed, value) {
+        return Err(ParseError::in_text(input, Some(0..4), ParseErrorKind::NonAsciiXEscape));
+    }
+    if !allows_value(allowed, u32::from(value)) {
+        return Err(ParseError::in_text(input, Some(0..4), ParseErrorKind::DisallowedNulEscape));
+    }
+    Ok((Unescape::Byte(value), 4))
+}
+
+/// Whether `\x` may have this value.
+#[inline(always)]
+fn allows_byte(allowed: Switches, value: u8) -> bool
+    ensures { result ≡ (allowed.byte_escapes || is_ascii value) }
+{
+    allowed.byte_escapes || value < 128
+}
+
+/// Whether an escape may have this value.
+#[inline(always)]
+fn allows_value(allowed: Switches, value: u32) -> bool
+    ensures { result ≡ is_no_nul_unless allowed.allow_nul value }
+{
+    allowed.allow_nul || value != 0
+}
+
+/// The value of two hex digits, or None where one of the two is none.
+#[inline(always)]
+fn pair_value(high: u8, low: u8) -> Option<u8>
+    ensures { SomeIff result (IsTrue (is_ascii_hexdigit high && is_ascii_hexdigit low))
+        (pair_value high low) }
+{
+    let high = hex_digit_value(high)?;
+    let low = hex_digit_value(low)?;
+    Some(16 * high + low)
+}
+
+/// The escape of a text that begins with `\u`, where such escapes are allowed.
+#[inline(always)]
+fn unescape_unicode(input: &str, allowed: Switches) -> Result<(Unescape, usize), ParseError>
+    requires begins { IsTrue (begins_with (codes "\\u") input.now) }
+    requires unicode { IsTrue allowed.unicode }
+    ensures ok { IfOk result (λ read.
+        IsUnescaped (grammar_switches allowed) input.now read.0 read.1) }
+    ensures refused { IfErr result
+        (IsEscapeRefused (grammar_switches allowed) (chars input.now)) }
+{
+    let bytes = input.as_bytes();
+    if !opens_brace(bytes) {
+        let kind = ParseErrorKind::UnicodeEscapeWithoutBrace;
+        return Err(ParseError::in_text(input, Some(0..2), kind));
+    }
+    let inner = &bytes[3..];
+    let digits = hex_digits(inner);
+    if is_closed(inner, digits) {
+        unescape_digits(input, digits, allowed)
+    } else {
+        Err(braces_refusal(input, digits))
+    }
+}
+
+/// Whether `{` follows the first two bytes.
+#[inline(always)]
+fn opens_brace(bytes: &[u8]) -> bool
+    ensures { result ≡ first_passes (λ c. c == open_brace) (drop 2 bytes.now) }
+{
+    matches!(bytes.get(2), Some(b'{'))
+}
+
+/// Whether a hex digit stands first, and `}` after the digits.
+#[inline(always)]
+fn is_closed(inner: &[u8], digits: HexDigits) -> bool
+    requires { digits.len ≤ length inner.now }
+    ensures { result ≡ (first_passes is_ascii_hexdigit inner.now
+        && first_passes (λ c. c == close_brace) (drop digits.len inner.now)) }
+{
+    begins_with_hex_digit(inner) && matches!(inner.get(digits.len), Some(b'}'))
+}
+
+/// Whether a hex digit stands first.
+fn begins_with_hex_digit(bytes: &[u8]) -> bool
+    ensures { result ≡ first_passes is_ascii_hexdigit bytes.now }
+{
+    match bytes {
+        [first, ..] => first.is_ascii_hexdigit(),
+        [] => false,
+    }
+}
+
+/// Hex digits, at most six, and underscores.
+#[derive(Clone, Copy, Debug, PartialEq, Eq)]
+pub struct HexDigits {
+    /// How many bytes they have.
+    pub len: usize,
+    /// The number that they write.
+    pub value: u32,
+}
+
+/// The hex digits and underscores at the front, without the seventh digit and what follows it: of
+/// `1_F6}` 4 bytes and the number 502.
+#[inline(always)]
+pub fn hex_digits(bytes: &[u8]) -> HexDigits
+    ensures { IsHexDigits bytes.now result }
+{
+    let mut len = 0;
+    let mut count: usize = 0;
+    let mut value = 0;
+    while len < bytes.len() {
+        let byte = bytes[len];
+        match hex_digit_value(byte) {
+            Some(digit) if count < 6 => {
+                count += 1;
+                value = 16 * value + u32::from(digit);
+                len += 1;
+            }
+            None if byte == b'_' => len += 1,
+            _ => break,
+        }
+    }
+    HexDigits { len, value }
+}
+
+/// The escape of a text that begins with `\u{`, hex digits and `}`.
+#[inline(always)]
+fn unescape_digits(
+    input: &str,
+    digits: HexDigits,
+    allowed: Switches,
+) -> Result<(Unescape, usize), ParseError>
+    requires begins { IsTrue (begins_with (codes "\\u{") input.now) }
+    requires digits { IsHexDigits (drop 3 input.now) digits }
+    requires closed { IsTrue (first_passes is_ascii_hexdigit (drop 3 input.now)
+        && first_passes (λ c. c == close_brace) (drop digits.len (drop 3 input.now))) }
+    requires unicode { IsTrue allowed.unicode }
+    ensures ok { IfOk result (λ read.
+        IsUnescaped (grammar_switches allowed) input.now read.0 read.1) }
+    ensures refused { IfErr result
+        (IsEscapeRefused (grammar_switches allowed) (chars input.now)) }
+{
+    let end = 4 + digits.len;
+    if !allows_value(allowed, digits.value) {
+        let kind = ParseErrorKind::DisallowedNulEscape;
+        return Err(ParseError::in_text(input, Some(0..end), kind));
+    }
+    match char::from_u32(digits.value) {
+        Some(value) => Ok((Unescape::Unicode(value), end)),
+        None => {
+            let kind = ParseErrorKind::InvalidUnicodeEscapeChar;
+            Err(ParseError::in_text(input, Some(0..end), kind))
+        }
+    }
+}
+
+/// Why a text that begins with `\u{` has no hex digit after it or no `}` after these digits.
+fn braces_refusal(input: &str, digits: HexDigits) -> ParseError
+    requires begins { IsTrue (begins_with (codes "\\u{") input.now) }
+    requires digits { IsHexDigits (drop 3 input.now) digits }
+    requires open { IsFalse (first_passes is_ascii_hexdigit (drop 3 input.now)
+        && first_passes (λ c. c == close_brace) (drop digits.len (drop 3 input.now))) }
+    ensures { (byte_escapes allow_nul : Bool) →
+        IsEscapeRefused (switches true byte_escapes allow_nul) (chars input.now) result }
+{
+    let inner = &input.as_bytes()[3..];
+    let place = 3 + digits.len;
+    if !has_close_brace(inner) {
+        let kind = ParseErrorKind::UnterminatedUnicodeEscape;
+        ParseError::in_text(input, Some(0..input.len()), kind)
+    } else if begins_wrongly(inner) {
+        let kind = ParseErrorKind::InvalidStartOfUnicodeEscape;
+        ParseError::in_text(input, Some(3..4), kind)
+    } else if begins_with_hex_digit(&inner[digits.len..]) {
+        let kind = ParseErrorKind::TooManyDigitInUnicodeEscape;
+        ParseError::in_text(input, Some(place..place + 1), kind)
+    } else {
+        let kind = ParseErrorKind::NonHexDigitInUnicodeEscape;
+        ParseError::in_text(input, Some(place..place + 1), kind)
+    }
+}
+
+/// Whether `}` or `_` stands first.
+fn begins_wrongly(bytes: &[u8]) -> bool
+    ensures { result ≡ first_passes (λ c. (c == close_brace) || (c == underscore)) bytes.now }
+{
+    matches!(bytes.first(), Some(b'}' | b'_'))
+}
+
+/// Whether `}` is among the bytes.
+fn has_close_brace(bytes: &[u8]) -> bool
+    ensures { result ≡ list_any (λ c. c == close_brace) bytes.now }
+{
+    memchr(b'}', bytes).is_some()
+}

@@ -1,0 +1,179 @@
+//! Where a float is cut.
+ghost use Rattle.std.specs.Prelude.{◌≡◌, ◌≤◌, ◌&&◌, not, drop, length, IsTrue, IsFalse, IfOk, IfErr, option_map, Some};
+ghost use Rattle.std.specs.Char.{is_ascii_digit};
+ghost use Rattle.std.specs.List.{prefix_len, list_any};
+ghost use Rattle.std.specs.Str.{chars};
+ghost use Rattle.litrs_base.specs.Refusal.{refusal};
+ghost use Rattle.litrs_base.specs.Derivations.{IsOnlyDerivation};
+ghost use Rattle.litrs_base.specs.Text.{first_passes, is_empty};
+ghost use Rattle.litrs_grammar.specs.Float.{IsFloatOf, fraction_text, fraction_of, exponent_of, sign_len, is_decimal_char, has_wrong_fraction, float_cut, float_cut_refusal};
+ghost use Rattle.litrs_grammar.specs.Literal.{kind_parse, float_literal};
+ghost use Rattle.litrs_grammar.specs.Refused.{IsRefused};
+ghost use Rattle.litrs_lex.specs.FloatCut.{float_parts_at, IsFloatWithin, IsPartsCut};
+
+use crate::parse::{check_suffix, end_dec_digits};
+use litrs_base::{ParseError, ParseErrorKind};
+use std::ops::Range;
+
+/// Where a float is cut: places in bytes.
+#[derive(Clone, Copy, Debug, PartialEq, Eq)]
+pub struct FloatCut {
+    /// Where the integer part ends, which begins the text.
+    pub end_integer: usize,
+    /// Where the fraction ends: after the period and what follows it, or where the integer part
+    /// ends if there is no period.
+    pub end_fraction: usize,
+    /// Where the number ends and the suffix begins: after the exponent, or where the fraction ends
+    /// if there is none.
+    pub end_number: usize,
+}
+
+/// Cuts a float into integer part, fraction, exponent and suffix. The text begins with a decimal
+/// digit. `147.3_33__E3f64` is cut at 3, 10 and 12. See [the reference][ref].
+///
+/// # Errors
+///
+/// `UnexpectedChar` where something else than a decimal digit follows the period, at its first
+/// byte; `NoExponentDigits` where the exponent has no digit, over the exponent; the refusal of
+/// [`check_suffix`] where what follows is no suffix, from there to the end; `UnexpectedIntegerLit`
+/// where there is neither a period nor an exponent.
+///
+/// [ref]: https://doc.rust-lang.org/reference/tokens.html#floating-point-literals
+pub fn cut_float(input: &str) -> Result<FloatCut, ParseError>
+    requires { IsTrue (first_passes is_ascii_digit input.now) }
+    ensures ok { IfOk result (λ cut.
+        IsOnlyDerivation (IsFloatOf (chars input.now)) (float_parts_at cut input.now)) }
+    ensures places { IfOk result (λ cut. IsFloatWithin cut input.now) }
+    ensures refused { IfErr result (IsRefused (kind_parse float_literal) (chars input.now)) }
+{
+    cut_float_at(input, end_dec_digits(input.as_bytes()))
+}
+
+/// [`cut_float`] of a text whose integer part ends here.
+#[inline(always)]
+pub(crate) fn cut_float_at(input: &str, end_integer: usize) -> Result<FloatCut, ParseError>
+    requires digit { IsTrue (first_passes is_ascii_digit input.now) }
+    requires integer { end_integer ≡ prefix_len is_decimal_char input.now }
+    requires within { end_integer ≤ length input.now }
+    ensures ok { IfOk result (λ cut.
+        IsOnlyDerivation (IsFloatOf (chars input.now)) (float_parts_at cut input.now)) }
+    ensures places { IfOk result (λ cut. IsFloatWithin cut input.now) }
+    ensures refused { IfErr result (IsRefused (kind_parse float_literal) (chars input.now)) }
+{
+    if has_wrong_fraction(&input.as_bytes()[end_integer..]) {
+        let place = end_integer + 1;
+        let kind = ParseErrorKind::UnexpectedChar;
+        return Err(ParseError::in_text(input, Some(place..place + 1), kind));
+    }
+    let cut = cut_parts(input, end_integer);
+    match cut_refusal(&cut, input) {
+        None => Ok(cut),
+        Some((span, kind)) => Err(ParseError::in_text(input, span, kind)),
+    }
+}
+
+/// The text cut after the integer part, which ends here, the fraction and the exponent, each as
+/// far as it goes.
+fn cut_parts(input: &str, end_integer: usize) -> FloatCut
+    requires integer { end_integer ≡ prefix_len is_decimal_char input.now }
+    requires within { end_integer ≤ length input.now }
+    ensures { IsPartsCut result input.now }
+{
+    let bytes = input.as_bytes();
+    let end_fraction = end_integer + fraction_len(&bytes[end_integer..]);
+    let end_number = end_fraction + exponent_len(&bytes[end_fraction..]);
+    FloatCut {
+        end_integer,
+        end_fraction,
+        end_number,
+    }
+}
+
+/// Why a text that is cut so, with a digit or nothing after the period, is no float, and where;
+/// None where it is one.
+fn cut_refusal(cut: &FloatCut, input: &str) -> Option<(Option<Range<usize>>, ParseErrorKind)>
+    requires parts { IsPartsCut cut.now input.now }
+    requires fraction { IsFalse (has_wrong_fraction (drop cut.now.end_integer input.now)) }
+    ensures { option_map (λ r. refusal r.0 r.1) result
+        ≡ float_cut_refusal (float_cut (chars input.now)) }
+{
+    let FloatCut {
+        end_integer,
+        end_fraction,
+        end_number,
+    } = *cut;
+    if lacks_digits(&input.as_bytes()[end_fraction..end_number]) {
+        return Some((
+            Some(end_fraction..end_number),
+            ParseErrorKind::NoExponentDigits,
+        ));
+    }
+    let (_, suffix) = input.split_at(end_number);
+    if let Err(kind) = check_suffix(suffix) {
+        return Some((Some(end_number..input.len()), kind));
+    }
+    if end_integer == end_number {
+        return Some((None, ParseErrorKind::UnexpectedIntegerLit));
+    }
+    None
+}
+
+/// How many bytes the period and the fraction take, none where no period stands first.
+fn fraction_len(bytes: &[u8]) -> usize
+    ensures len { result ≡ length (fraction_text (fraction_of bytes.now)) }
+    ensures within { result ≤ length bytes.now }
+{
+    match bytes {
+        [b'.', digits @ ..] => 1 + end_dec_digits(digits),
+        _ => 0,
+    }
+}
+
+/// How many bytes the exponent takes, none where neither `e` nor `E` stands first.
+fn exponent_len(bytes: &[u8]) -> usize
+    ensures len { result ≡ length (exponent_of bytes.now) }
+    ensures within { result ≤ length bytes.now }
+{
+    match bytes {
+        [b'e' | b'E', number @ ..] => {
+            let sign = sign_len(number);
+            1 + sign + end_dec_digits(&number[sign..])
+        }
+        _ => 0,
+    }
+}
+
+/// How many bytes a sign takes, none where there is none.
+fn sign_len(bytes: &[u8]) -> usize
+    ensures len { result ≡ sign_len bytes.now }
+    ensures within { result ≤ length bytes.now }
+{
+    match bytes {
+        [b'+' | b'-', ..] => 1,
+        _ => 0,
+    }
+}
+
+/// Whether a period stands first, and after it something else than a decimal digit.
+fn has_wrong_fraction(bytes: &[u8]) -> bool
+    ensures { result ≡ has_wrong_fraction bytes.now }
+{
+    match bytes {
+        [b'.', next, ..] => !next.is_ascii_digit(),
+        _ => false,
+    }
+}
+
+/// Whether there is an exponent, and no decimal digit in it.
+fn lacks_digits(exponent: &[u8]) -> bool
+    ensures { result ≡ (not (is_empty exponent.now) && not (list_any is_ascii_digit exponent.now)) }
+{
+    !exponent.is_empty() && !has_digit(exponent)
+}
+
+/// Whether a decimal digit is among the bytes.
+fn has_digit(bytes: &[u8]) -> bool
+    ensures { result ≡ list_any is_ascii_digit bytes.now }
+{
+    bytes.iter().any(|b| b.is_ascii_digit())
+}

@@ -1,0 +1,181 @@
+//! Where an integer is cut.
+ghost use Rattle.std.specs.Prelude.{◌≡◌, ◌∷◌, [], IsTrue, IfOk, IfErr, option_map, Some};
+ghost use Rattle.std.specs.Char.{is_ascii_digit};
+ghost use Rattle.std.specs.List.{prefix_len, list_any};
+ghost use Rattle.std.specs.Str.{chars};
+ghost use Rattle.litrs_base.specs.Characters.{digit_zero};
+ghost use Rattle.litrs_base.specs.Base.{is_digit_or_underscore};
+ghost use Rattle.litrs_base.specs.Numeral.{is_no_underscore};
+ghost use Rattle.litrs_base.specs.Refusal.{refusal};
+ghost use Rattle.litrs_base.specs.Derivations.{IsOnlyDerivation};
+ghost use Rattle.litrs_base.specs.Text.{first_passes};
+ghost use Rattle.litrs_grammar.specs.Integer.{IsIntegerOf, cut_refusal, integer_cut, is_e, base_of};
+ghost use Rattle.litrs_grammar.specs.Literal.{kind_parse, integer_literal};
+ghost use Rattle.litrs_grammar.specs.Refused.{IsRefused};
+ghost use Rattle.litrs_lex.specs.IntegerCut.{parts_at, IsWithin, IsDigitsCut};
+
+use crate::parse::{check_suffix, end_dec_digits};
+use crate::{Run, run_end};
+use litrs_base::IntegerBase::{Binary, Decimal, Hexadecimal, Octal};
+use litrs_base::{IntegerBase, ParseError, ParseErrorKind};
+use std::ops::Range;
+
+/// Where an integer is cut: places in bytes.
+#[derive(Clone, Copy, Debug, PartialEq, Eq)]
+pub struct IntegerCut {
+    /// Where the main part begins, after the prefix.
+    pub start_main: usize,
+    /// Where the main part ends and the suffix begins.
+    pub end_main: usize,
+    /// What the prefix decides.
+    pub base: IntegerBase,
+}
+
+/// Cuts an integer into prefix, main part and suffix. The text begins with a decimal digit. Of
+/// `0x_7fu8` the main part goes from 2 to 5. See [the reference][ref].
+///
+/// # Errors
+///
+/// `InvalidDigit` where a decimal digit follows the main part, at that digit; the refusal of
+/// [`check_suffix`] where what follows is no suffix, from there to the end;
+/// `IntegerSuffixStartingWithE` where the suffix begins with `e` or `E`, at its first byte;
+/// `NoDigits` where the main part has no digit, over the main part.
+///
+/// [ref]: https://doc.rust-lang.org/reference/tokens.html#integer-literals
+pub fn cut_integer(input: &str) -> Result<IntegerCut, ParseError>
+    requires { IsTrue (first_passes is_ascii_digit input.now) }
+    ensures ok { IfOk result (λ cut.
+        IsOnlyDerivation (IsIntegerOf (chars input.now)) (parts_at cut input.now)) }
+    ensures places { IfOk result (λ cut. IsWithin cut input.now) }
+    ensures refused { IfErr result (IsRefused (kind_parse integer_literal) (chars input.now)) }
+{
+    cut_integer_at(input, cut_digits(input))
+}
+
+/// [`cut_integer`] of a text that is cut so already.
+#[inline(always)]
+pub(crate) fn cut_integer_at(input: &str, cut: IntegerCut) -> Result<IntegerCut, ParseError>
+    requires digit { IsTrue (first_passes is_ascii_digit input.now) }
+    requires cut { IsDigitsCut cut input.now }
+    ensures ok { IfOk result (λ cut.
+        IsOnlyDerivation (IsIntegerOf (chars input.now)) (parts_at cut input.now)) }
+    ensures places { IfOk result (λ cut. IsWithin cut input.now) }
+    ensures refused { IfErr result (IsRefused (kind_parse integer_literal) (chars input.now)) }
+{
+    match cut_refusal(&cut, input) {
+        None => Ok(cut),
+        Some((span, kind)) => Err(ParseError::in_text(input, Some(span), kind)),
+    }
+}
+
+/// The text cut after the prefix and after all digits of the base and underscores.
+pub(crate) fn cut_digits(input: &str) -> IntegerCut
+    ensures { IsDigitsCut result input.now }
+{
+    let bytes = input.as_bytes();
+    let base = base_of(bytes);
+    let start_main = base.prefix().len();
+    let end_main = start_main + digits_len(base, &bytes[start_main..]);
+    IntegerCut {
+        start_main,
+        end_main,
+        base,
+    }
+}
+
+/// Why a text that is cut so is no integer, and where; None where it is one.
+fn cut_refusal(cut: &IntegerCut, input: &str) -> Option<(Range<usize>, ParseErrorKind)>
+    requires { IsDigitsCut cut.now input.now }
+    ensures { option_map (λ r. refusal (Some r.0) r.1) result
+        ≡ cut_refusal (integer_cut (chars input.now)) }
+{
+    let IntegerCut {
+        start_main,
+        end_main,
+        ..
+    } = *cut;
+    let (number, suffix) = input.split_at(end_main);
+    let after = suffix.as_bytes();
+    if let Err(kind) = check_suffix(suffix) {
+        return Some(if begins_with_digit(after) {
+            (end_main..end_main + 1, ParseErrorKind::InvalidDigit)
+        } else {
+            (end_main..input.len(), kind)
+        });
+    }
+    if begins_with_e(after) {
+        return Some((
+            end_main..end_main + 1,
+            ParseErrorKind::IntegerSuffixStartingWithE,
+        ));
+    }
+    if has_digit(&number.as_bytes()[start_main..]) {
+        None
+    } else {
+        Some((start_main..end_main, ParseErrorKind::NoDigits))
+    }
+}
+
+/// Whether a decimal digit stands first.
+fn begins_with_digit(bytes: &[u8]) -> bool
+    ensures { result ≡ first_passes is_ascii_digit bytes.now }
+{
+    match bytes {
+        [first, ..] => first.is_ascii_digit(),
+        [] => false,
+    }
+}
+
+/// Whether `e` or `E` stands first.
+fn begins_with_e(bytes: &[u8]) -> bool
+    ensures { result ≡ first_passes is_e bytes.now }
+{
+    match bytes {
+        [first, ..] => *first == b'e' || *first == b'E',
+        [] => false,
+    }
+}
+
+/// The base, by the front of a text: `0b`, `0o` and `0x` are always the prefix, and
+/// everything else is decimal.
+fn base_of(bytes: &[u8]) -> IntegerBase
+    ensures { result ≡ base_of bytes.now }
+{
+    match bytes {
+        [b'0', letter, ..] => base_of_letter(*letter),
+        _ => Decimal,
+    }
+}
+
+/// [`base_of`] a text that begins with `0` and this byte.
+fn base_of_letter(letter: u8) -> IntegerBase
+    ensures { result ≡ base_of (digit_zero ∷ letter ∷ []) }
+{
+    match letter {
+        b'b' => Binary,
+        b'o' => Octal,
+        b'x' => Hexadecimal,
+        _ => Decimal,
+    }
+}
+
+/// How many digits of this base and underscores stand at the front, in bytes: by a search for each
+/// base, which compares them with constants.
+#[inline(never)]
+fn digits_len(base: IntegerBase, bytes: &[u8]) -> usize
+    ensures { result ≡ prefix_len (is_digit_or_underscore base) bytes.now }
+{
+    match base {
+        IntegerBase::Binary => run_end(bytes, Run::Digits(IntegerBase::Binary)),
+        IntegerBase::Octal => run_end(bytes, Run::Digits(IntegerBase::Octal)),
+        IntegerBase::Decimal => end_dec_digits(bytes),
+        IntegerBase::Hexadecimal => run_end(bytes, Run::Digits(IntegerBase::Hexadecimal)),
+    }
+}
+
+/// Whether one of these digits and underscores is a digit.
+fn has_digit(bytes: &[u8]) -> bool
+    ensures { result ≡ list_any is_no_underscore bytes.now }
+{
+    bytes.iter().any(|b| *b != b'_')
+}

@@ -1,0 +1,169 @@
+//! Suffixes and digits.
+ghost use Rattle.std.specs.Prelude.{◌≡◌, ◌≤◌, length, [], ◌∷◌, ◌||◌, ◌==◌, is_ok, IsTrue, IfErr, IfSome, IfNone, MatchResult, slice_get};
+ghost use Rattle.std.specs.Char.{digit_value, is_ascii_hexdigit};
+ghost use Rattle.std.specs.List.{list_all, prefix_len};
+ghost use Rattle.std.specs.Option.{SomeIff};
+ghost use Rattle.std.specs.Str.{chars, IsUtf8};
+ghost use Rattle.unicode_ident.specs.Ident.{is_xid_continue};
+ghost use Rattle.litrs_base.specs.Base.{is_digit_or_underscore};
+ghost use Rattle.litrs_base.specs.Refusal.{refusal_of, plain};
+ghost use Rattle.litrs_grammar.specs.Suffix.{starts_identifier, is_suffix, is_ascii_symbol, suffix_refusal};
+
+use crate::{Run, run_end};
+use litrs_base::{IntegerBase, ParseError, ParseErrorKind};
+
+/// How many decimal digits and underscores stand at the front, in bytes: 4 of `1_0_a2`.
+// Not inlined, so that the search stands once.
+#[inline(never)]
+pub fn end_dec_digits(input: &[u8]) -> usize
+    ensures run { result ≡ prefix_len (is_digit_or_underscore IntegerBase.Decimal) input.now }
+    ensures within { result ≤ length input.now }
+{
+    run_end(input, Run::Digits(IntegerBase::Decimal))
+}
+
+/// The value of each byte as a hex digit, 16 where it is none.
+static HEX_VALUES: [u8; 256] = *b"\
+    \x10\x10\x10\x10\x10\x10\x10\x10\x10\x10\x10\x10\x10\x10\x10\x10\
+    \x10\x10\x10\x10\x10\x10\x10\x10\x10\x10\x10\x10\x10\x10\x10\x10\
+    \x10\x10\x10\x10\x10\x10\x10\x10\x10\x10\x10\x10\x10\x10\x10\x10\
+    \x00\x01\x02\x03\x04\x05\x06\x07\x08\x09\x10\x10\x10\x10\x10\x10\
+    \x10\x0a\x0b\x0c\x0d\x0e\x0f\x10\x10\x10\x10\x10\x10\x10\x10\x10\
+    \x10\x10\x10\x10\x10\x10\x10\x10\x10\x10\x10\x10\x10\x10\x10\x10\
+    \x10\x0a\x0b\x0c\x0d\x0e\x0f\x10\x10\x10\x10\x10\x10\x10\x10\x10\
+    \x10\x10\x10\x10\x10\x10\x10\x10\x10\x10\x10\x10\x10\x10\x10\x10\
+    \x10\x10\x10\x10\x10\x10\x10\x10\x10\x10\x10\x10\x10\x10\x10\x10\
+    \x10\x10\x10\x10\x10\x10\x10\x10\x10\x10\x10\x10\x10\x10\x10\x10\
+    \x10\x10\x10\x10\x10\x10\x10\x10\x10\x10\x10\x10\x10\x10\x10\x10\
+    \x10\x10\x10\x10\x10\x10\x10\x10\x10\x10\x10\x10\x10\x10\x10\x10\
+    \x10\x10\x10\x10\x10\x10\x10\x10\x10\x10\x10\x10\x10\x10\x10\x10\
+    \x10\x10\x10\x10\x10\x10\x10\x10\x10\x10\x10\x10\x10\x10\x10\x10\
+    \x10\x10\x10\x10\x10\x10\x10\x10\x10\x10\x10\x10\x10\x10\x10\x10\
+    \x10\x10\x10\x10\x10\x10\x10\x10\x10\x10\x10\x10\x10\x10\x10\x10";
+
+/// The value of a hex digit of either case, 0 to 15, or None: `Some(10)` for `a`, None for `g`.
+pub fn hex_digit_value(digit: u8) -> Option<u8>
+    ensures { SomeIff result (IsTrue (is_ascii_hexdigit digit)) (digit_value digit) }
+{
+    let value = HEX_VALUES[digit as usize];
+    if value < 16 { Some(value) } else { None }
+}
+
+/// The first byte of the text: `0xC3` of `é`.
+///
+/// # Errors
+///
+/// `Empty` where there is none.
+pub fn first_byte_or_empty(s: &str) -> Result<u8, ParseError>
+    ensures { MatchResult result (λ b. slice_get s.now 0 ≡ Some b)
+        (λ e. (s.now ≡ []) × (refusal_of e ≡ plain ParseErrorKind.Empty)) }
+{
+    match s.as_bytes().first() {
+        Some(first) => Ok(*first),
+        None => Err(ParseError::new(None, ParseErrorKind::Empty)),
+    }
+}
+
+/// The first character of the text and what follows it, or None where there is none.
+pub(crate) fn split_first_char(s: &str) -> Option<(char, &str)>
+    ensures empty { IfNone result (chars s.now ≡ []) }
+    ensures parts { IfSome result (λ parts. chars s.now ≡ parts.0 ∷ chars parts.1.now) }
+    ensures rest { IfSome result (λ parts. IsUtf8 parts.1.now) }
+{
+    let mut chars = s.chars();
+    let first = chars.next()?;
+    Some((first, chars.as_str()))
+}
+
+/// Whether each character may continue an identifier: by bytes as far as it is ASCII.
+fn continues_identifier(rest: &str) -> bool
+    ensures { result ≡ list_all is_xid_continue (chars rest.now) }
+{
+    let bytes = rest.as_bytes();
+    let end = run_end(bytes, Run::Identifier);
+    match bytes.get(end) {
+        None => true,
+        Some(next) => !next.is_ascii() && continues_in_unicode(&rest[end..]),
+    }
+}
+
+/// Whether each character may continue an identifier, by the tables of Unicode.
+fn continues_in_unicode(rest: &str) -> bool
+    ensures { result ≡ list_all is_xid_continue (chars rest.now) }
+{
+    rest.chars().all(|c| unicode_ident::is_xid_continue(c))
+}
+
+/// Whether an identifier may begin with the character.
+fn starts_identifier(first: char) -> bool
+    ensures { result ≡ starts_identifier first }
+{
+    first == '_' || unicode_ident::is_xid_start(first)
+}
+
+/// Whether the text is a suffix.
+fn is_suffix(s: &str) -> bool
+    ensures { result ≡ is_suffix (chars s.now) }
+{
+    match split_first_char(s) {
+        None => true,
+        Some((first, rest)) => {
+            let is_lone = first == '_' && rest.is_empty();
+            starts_identifier(first) && continues_identifier(rest) && !is_lone
+        }
+    }
+}
+
+/// Whether the byte is ASCII, and neither a letter nor `_`.
+fn is_ascii_symbol(byte: u8) -> bool
+    ensures { result ≡ is_ascii_symbol byte }
+{
+    byte.is_ascii() && !(byte.is_ascii_alphabetic() || byte == b'_')
+}
+
+/// Why a text is no suffix.
+fn suffix_refusal(s: &str) -> ParseErrorKind
+    ensures { result ≡ suffix_refusal (chars s.now) }
+{
+    match s.as_bytes().first() {
+        Some(first) if is_ascii_symbol(*first) => ParseErrorKind::UnexpectedChar,
+        _ => ParseErrorKind::InvalidSuffix,
+    }
+}
+
+/// Whether a literal may end with this suffix: it is empty, or an identifier other than the lone
+/// `_`. The empty text, `u8` and `_x` are suffixes; `_` and `1x` are none. See
+/// [the reference][ref].
+///
+/// # Errors
+///
+/// `UnexpectedChar` where the text begins with an ASCII character that is neither a letter nor `_`,
+/// as `1x`; else `InvalidSuffix`, as `_`.
+///
+/// [ref]: https://doc.rust-lang.org/reference/tokens.html#suffixes
+#[inline(always)]
+pub fn check_suffix(s: &str) -> Result<(), ParseErrorKind>
+    ensures ok { is_ok result ≡ is_suffix (chars s.now) }
+    ensures err { IfErr result (λ kind. kind ≡ suffix_refusal (chars s.now)) }
+{
+    match s {
+        "" => Ok(()),
+        _ => check_some_suffix(s),
+    }
+}
+
+/// [`check_suffix`] of a text that is not empty.
+///
+/// It is not inlined, so that callers hold no more than the test for the empty text, which most
+/// suffixes are.
+#[inline(never)]
+fn check_some_suffix(s: &str) -> Result<(), ParseErrorKind>
+    ensures ok { is_ok result ≡ is_suffix (chars s.now) }
+    ensures err { IfErr result (λ kind. kind ≡ suffix_refusal (chars s.now)) }
+{
+    if is_suffix(s) {
+        Ok(())
+    } else {
+        Err(suffix_refusal(s))
+    }
+}

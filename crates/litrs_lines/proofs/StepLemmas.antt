@@ -1,0 +1,157 @@
+-- Texts that end with LF, the steps of texts, and texts that are held.
+use Rattle.std.proofs.Common.{◌≡◌, ◌∙◌, ◌⊎◌, inl, inr, ℕ, Bool, true, false, List, [], ◌∷◌, ◌++◌, refl, sym, ap, subst, append-nil, append_assoc, arith, length, take, ◌-◌, ◌+◌, ◌<◌, length-append, slice_index, Result, Ok, Err, OnErr}
+use Rattle.std.specs.Prelude.{IsTrue, ◌↔◌}
+use Rattle.std.specs.Str.{chars, IsUtf8, IsCharBoundary}
+use Rattle.std.specs.String.Boundary.{IsSplitPoint}
+use Rattle.std.proofs.Math.Seq.{take-append_seam, get_or-append_seam}
+use Rattle.std.proofs.lemmas.Str.{chars-append, IsUtf8-append, IsCharBoundary-at_seam}
+use Rattle.litrs_base.specs.Derivations.{HasNoDerivation}
+use Rattle.litrs_base.specs.Finality.{is_open}
+use Rattle.litrs_base.specs.Refusal.{Refusal, refusal_of}
+use Rattle.litrs_grammar.specs.Literal.{IsLiteral, literal_parse, Begins}
+use Rattle.litrs_grammar.specs.LiteralRefusals.{IsRefusal}
+use Rattle.litrs_grammar.proofs.Laws.Literal.{literals_are_not_refused, texts_are_decided}
+use Rattle.litrs_grammar.proofs.Spans.Literal.{no_literal_ends_with_line_feed}
+use Rattle.litrs_base.specs.declared.err.ParseError.{ParseError}
+use Rattle.litrs_grammar.specs.Refused.{IsRefused}
+use Rattle.litrs_grammar.specs.Quoted.{without_last}
+use Rattle.litrs_grammar.proofs.QuotedItems.{without_last-append}
+use Rattle.litrs_grammar.proofs.LongerTexts.Literal.{line_ends_are_decided}
+use Rattle.litrs.specs.LiteralDerivation.{derivation}
+use Rattle.litrs_lines.specs.declared.collector.Step.{Step}
+use Rattle.litrs_lines.specs.declared.collector.Step.TheVariants.{More, Literal, Refused}
+use Rattle.litrs_lines.specs.Held.{EndsWithLineFeed, Extends, IsHeld}
+use Rattle.litrs_lines.specs.Steps.{BeginsByLine, IsUnfinished, IsStep, held_after}
+use Rattle.litrs_lines.specs.StepLaws.{StepsAreDecided, StepsAreUnique}
+
+-- what holds anyway holds on an error
+pub OnErr-holds : {T E : Type 0} {P : Type 0} (r : Result T E) → P → OnErr r P
+OnErr-holds (Ok _) p = tt
+OnErr-holds (Err _) p = p
+
+-- a text that ends with LF is no literal
+pub line_is_no_literal : (t : List ℕ) → EndsWithLineFeed t → HasNoDerivation (IsLiteral t)
+line_is_no_literal t end d is = no_literal_ends_with_line_feed end.0 d (subst (λ (u : List ℕ). IsLiteral u d) (sym end.1) is)
+
+line_feed_char : chars (10 ∷ []) ≡ 10 ∷ []
+unfolding chars
+line_feed_char = refl
+
+-- the characters of a text with an LF after it
+pub chars-line_feed : (t : List ℕ) → IsUtf8 t → chars (t ++ 10 ∷ []) ≡ chars t ++ 10 ∷ []
+chars-line_feed t u = chars-append t (10 ∷ []) u ∙ ap (λ (c : List ℕ). chars t ++ c) line_feed_char
+
+-- a text with LF after it ends with LF
+pub ends_with_line_feed : (t whole : List ℕ) → IsUtf8 t → whole ≡ t ++ 10 ∷ [] → EndsWithLineFeed (chars whole)
+ends_with_line_feed t whole u is = (chars t, sym (ap chars is ∙ chars-line_feed t u))
+
+-- Whether a text with LF after it begins a literal is decided by its refusal.
+
+by_kind : (t : List ℕ) (test : Bool) (r : Refusal) → is_open r.kind ≡ test → IsRefusal literal_parse (chars t ++ 10 ∷ []) r → BeginsByLine t ⊎ (BeginsByLine t → ⊥)
+by_kind t true r is table = inl ((line_ends_are_decided literal_parse (chars t) r table).0 is)
+by_kind t false r is table = inr (λ begins. let both : true ≡ false = sym ((line_ends_are_decided literal_parse (chars t) r table).1 begins) ∙ is in cc)
+
+pub begins_by_line_or_not : (t : List ℕ) → BeginsByLine t ⊎ (BeginsByLine t → ⊥)
+begins_by_line_or_not t = elim (texts_are_decided literal_parse (chars t ++ 10 ∷ [])) [
+  | inl d ↦ absurd (no_literal_ends_with_line_feed (chars t) d.0 d.1)
+  | inr r ↦ by_kind t (is_open (r.0).kind) r.0 refl r.1
+]
+
+refused_step : (t : List ℕ) (r : Refusal) → IsRefusal literal_parse (chars t) r → BeginsByLine t ⊎ (BeginsByLine t → ⊥) →
+    IsUnfinished t ⊎ ((r : Refusal) × IsRefusal literal_parse (chars t) r × (BeginsByLine t → ⊥))
+refused_step t r table (inl begins) = inl ((λ d is. literals_are_not_refused literal_parse (chars t) d r is table), begins)
+refused_step t r table (inr none) = inr (r, table, none)
+
+pub steps_are_decided : StepsAreDecided
+steps_are_decided t = elim (texts_are_decided literal_parse (chars t)) [
+  | inl d ↦ inl d
+  | inr r ↦ inr (refused_step t r.0 r.1 (begins_by_line_or_not t))
+]
+
+pub steps_are_unique : StepsAreUnique
+steps_are_unique t More More a b = tt
+steps_are_unique t More (Literal lit) a b = a.0 (derivation lit) b.1.0
+steps_are_unique t More (Refused e) a b = b.1 a.1
+steps_are_unique t (Literal lit) More a b = b.0 (derivation lit) a.1.0
+steps_are_unique t (Literal lit) (Literal other) a b = (a.0 ∙ sym b.0, b.1.1 (derivation lit) a.1.0)
+steps_are_unique t (Literal lit) (Refused e) a b = b.0.none (derivation lit) a.1.0
+steps_are_unique t (Refused e) More a b = a.1 b.1
+steps_are_unique t (Refused e) (Literal lit) a b = a.0.none (derivation lit) b.1.0
+steps_are_unique t (Refused e) (Refused other) a b = b.0.only (refusal_of e) a.0.table
+
+-- Texts that are held
+
+-- the text without its LF
+pub without_line_feed : (t : List ℕ) → without_last (t ++ 10 ∷ []) ≡ t
+without_line_feed t = without_last-append t 10 [] ∙ append-nil t
+
+pub nothing_is_held : (held : List ℕ) → held ≡ [] → IsHeld held
+nothing_is_held held none some = absurd (some none)
+
+pub line_is_held : (t held : List ℕ) → held ≡ t ++ 10 ∷ [] → HasNoDerivation (IsLiteral (chars t)) → IsHeld held
+line_is_held t held is none some =
+    let front : without_last held ≡ t = ap without_last is ∙ without_line_feed t in
+    (ap (λ (x : List ℕ). x ++ 10 ∷ []) front ∙ sym is, subst (λ (x : List ℕ). HasNoDerivation (IsLiteral (chars x))) (sym front) none)
+
+-- the characters of a line that was read, and of the same with LF after it
+read_line : (t longer : List ℕ) → IsUtf8 t → longer ≡ t ++ 10 ∷ [] → chars longer ≡ chars t ++ 10 ∷ []
+read_line t longer u more = ap chars more ∙ chars-line_feed t u
+
+-- the text is unfinished: it was refused, and with LF after it begins a literal
+pub is_unfinished : (t text longer : List ℕ) (e : ParseError) (test : Bool) → IsUtf8 t → text ≡ t → longer ≡ t ++ 10 ∷ [] → IsRefused literal_parse (chars text) e →
+    IsTrue test ↔ Begins literal_parse (chars longer) → test ≡ true → IsUnfinished t
+is_unfinished t text longer e test u is more refused begins opened = (
+  subst (λ (x : List ℕ). HasNoDerivation (IsLiteral (chars x))) is refused.none,
+  subst (Begins literal_parse) (read_line t longer u more) (begins.0 opened),
+)
+
+-- the text is refused: with LF after it it begins no literal
+pub is_refused_step : (t text longer : List ℕ) (e : ParseError) (test : Bool) → IsUtf8 t → text ≡ t → longer ≡ t ++ 10 ∷ [] → IsRefused literal_parse (chars text) e →
+    IsTrue test ↔ Begins literal_parse (chars longer) → test ≡ false → IsStep t (Refused e)
+is_refused_step t text longer e test u is more refused begins closed = (
+  subst (λ (x : List ℕ). IsRefused literal_parse (chars x) e) is refused,
+  λ line. let both : true ≡ false = sym (begins.1 (subst (Begins literal_parse) (sym (read_line t longer u more)) line)) ∙ closed in cc,
+)
+
+-- what is held after a step
+pub step_is_held : (t held : List ℕ) (step : Step) → IsStep t step → held ≡ held_after t step → IsHeld held
+step_is_held t held More is after = line_is_held t held after is.0
+step_is_held t held (Literal lit) is after = nothing_is_held held after
+step_is_held t held (Refused e) is after = nothing_is_held held after
+
+-- the last character of a text that ends with LF is popped
+popped : (bytes front left : List ℕ) (n : ℕ) → n ≡ length bytes → front ++ 10 ∷ [] ≡ bytes →
+    (0 < n → slice_index bytes (n - 1) < 128 → left ≡ take (n - 1) bytes) → left ≡ front
+popped bytes front left n len is pops =
+    let long : n ≡ length front + 1 = len ∙ ap length (sym is) ∙ length-append front (10 ∷ []) in
+    let place : n - 1 ≡ length front = omega arith in
+    let last : slice_index bytes (n - 1) ≡ 10 = ap (λ (i : ℕ). slice_index bytes i) place ∙ ap (λ (x : List ℕ). slice_index x (length front)) (sym is) ∙ get_or-append_seam front 10 [] _ in
+    pops (omega arith) (omega arith) ∙ ap (λ (i : ℕ). take i bytes) place ∙ ap (take (length front)) (sym is) ∙ take-append_seam front (10 ∷ [])
+
+-- what is held without its last character: the lines
+pub lines_of_held : (held left : List ℕ) (n m : ℕ) → IsHeld held → n ≡ length held → m < n →
+    (0 < n → slice_index held (n - 1) < 128 → left ≡ take (n - 1) held) → (left ++ 10 ∷ [] ≡ held) × HasNoDerivation (IsLiteral (chars left))
+lines_of_held held left n m is len some pops =
+    let lines = is (λ none. let zero : length held ≡ 0 = ap length none in absurd (omega arith)) in
+    let same : left ≡ without_last held = popped held (without_last held) left n len lines.0 pops in
+    (ap (λ (x : List ℕ). x ++ 10 ∷ []) same ∙ lines.0, subst (λ (x : List ℕ). HasNoDerivation (IsLiteral (chars x))) (sym same) lines.1)
+
+-- the place where a longer text was one may be cut
+pub may_be_cut : (old new : List ℕ) (len : ℕ) → Extends old new → len ≡ length old → IsSplitPoint new len
+may_be_cut old new len longer is =
+    let boundary : IsCharBoundary new (length old) = IsCharBoundary-at_seam new old longer.0 longer.2 longer.1 in
+    subst (IsSplitPoint new) (sym is) (boundary.0, λ _ below. boundary.1 below)
+
+-- what has a line and more after it has that after it
+pub extends_more : (old line mid new : List ℕ) → IsUtf8 line → mid ≡ old ++ line → Extends mid new → Extends old new
+extends_more old line mid new u is longer = (
+  line ++ longer.0,
+  IsUtf8-append line longer.0 u longer.1,
+  longer.2 ∙ ap (λ (x : List ℕ). x ++ longer.0) is ∙ append_assoc old line longer.0,
+)
+
+-- a text with a line after it has it after what stands before the place where it was added
+pub added_line : (old line new : List ℕ) (len : ℕ) → IsUtf8 line → new ≡ old ++ line → len ≡ length old → Extends (take len new) new
+added_line old line new len u is n =
+    let front : take len new ≡ old = ap (λ (k : ℕ). take k new) n ∙ (ap (take (length old)) is ∙ take-append_seam old line) in
+    (line, u, is ∙ ap (λ (x : List ℕ). x ++ line) (sym front))

@@ -1,0 +1,62 @@
+-- Texts that begin a string whose body is open.
+use Rattle.std.specs.Prelude.{◌≡◌, ◌⊎◌, ◌≤◌, ℕ, List, [], ◌∷◌, ◌++◌, Option, Some, None, IsTrue, IsFalse, take, drop}
+use Rattle.std.specs.List.{list_all}
+use Rattle.std.specs.Str.{chars, IsCharBoundary}
+use Rattle.litrs_base.specs.Characters.{line_feed, double_quote, backslash, is_blank}
+use Rattle.litrs_grammar.specs.StringKind.{StringKind, switches_of}
+use Rattle.litrs_grammar.specs.Escape.{Switches, Escape, escape_text, IsEscape}
+use Rattle.litrs_grammar.specs.Quoted.{Item, quoted_front, body_text, stand_before}
+use Rattle.litrs_grammar.specs.Raw.{hashes, occurs, raw_closing, raw_front, has_unicode, allows_nul, is_raw_char}
+use Rattle.litrs_lex.specs.Front.{grammar_kind}
+use Rattle.litrs_lines.specs.declared.collector.body.Body.{Body}
+use Rattle.litrs_lines.specs.declared.collector.body.Body.TheVariants.{Quoted, Continuation, Raw}
+use Rattle.litrs_lines.specs.declared.collector.body.Open.{Open}
+
+-- the text is empty, or one escape
+abbrev pub IsEscapeOrEmpty : Switches → List ℕ → Type 0
+IsEscapeOrEmpty w t = (t ≡ []) ⊎ ((e : Escape) × (t ≡ escape_text e) × IsEscape w e)
+
+-- Up to the place the text is the front of the kind and items of a quoted body, which are taken
+-- before what follows.
+pub record IsQuotedTo (kind : StringKind) (place : ℕ) (bytes : List ℕ) : Type 0 where
+  pub boundary : IsCharBoundary bytes place
+  pub items : List Item
+  pub spells : quoted_front kind ++ body_text items ≡ chars (take place bytes)
+  pub taken : IsTrue (stand_before (switches_of kind) (chars (drop place bytes)) items)
+
+-- Up to the place it is the front, items, and a continuation so far.
+pub record IsContinuedTo (kind : StringKind) (place : ℕ) (bytes : List ℕ) : Type 0 where
+  pub boundary : IsCharBoundary bytes place
+  pub items : List Item
+  pub blanks : List ℕ
+  pub spells :
+      quoted_front kind ++ (body_text items ++ backslash ∷ line_feed ∷ blanks)
+      ≡ chars (take place bytes)
+  pub taken : IsTrue (stand_before (switches_of kind) (backslash ∷ line_feed ∷ blanks) items)
+  pub blank : IsTrue (list_all is_blank blanks)
+
+-- Up to the place it is the front, n hashes, the opening quote, and characters that may stand in a
+-- raw body, in which no closing stands, nor one that goes on after them.
+pub record IsRawTo (kind : StringKind) (n place : ℕ) (bytes : List ℕ) : Type 0 where
+  pub boundary : IsCharBoundary bytes place
+  pub few : n ≤ 255
+  pub body : List ℕ
+  pub spells : raw_front kind ++ (hashes n ++ double_quote ∷ body) ≡ chars (take place bytes)
+  pub allowed : IsTrue (list_all (is_raw_char (has_unicode kind) (allows_nul kind)) body)
+  pub unclosed : (more : List ℕ) → IsFalse (occurs (raw_closing n) more) →
+      IsFalse (occurs (raw_closing n) (body ++ more))
+
+-- the same of one of the three
+abbrev pub IsBodyTo : Body → StringKind → ℕ → List ℕ → Type 0
+IsBodyTo Quoted kind = IsQuotedTo kind
+IsBodyTo Continuation kind = IsContinuedTo kind
+IsBodyTo (Raw n) kind = IsRawTo kind n
+
+-- the text begins this string, which has been read up to its place
+abbrev pub IsOpen : List ℕ → Open → Type 0
+IsOpen bytes string = IsBodyTo string.body (grammar_kind string.kind) string.place bytes
+
+-- where something is known of the text, it begins this string
+abbrev pub IsKnown : List ℕ → Option Open → Type 0
+IsKnown bytes None = Unit {0}
+IsKnown bytes (Some string) = IsOpen bytes string

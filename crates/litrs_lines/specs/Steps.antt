@@ -1,0 +1,36 @@
+-- What a collector answers to the lines that it has, joined by LF.
+use Rattle.std.specs.Prelude.{◌≡◌, ℕ, List, [], ◌∷◌, ◌++◌}
+use Rattle.std.specs.Str.{chars}
+use Rattle.litrs.specs.declared.Literal.{Literal as AnyLiteral}
+use Rattle.litrs.specs.LiteralDerivation.{literal_raw, derivation}
+use Rattle.litrs_base.specs.Characters.{line_feed}
+use Rattle.litrs_base.specs.Derivations.{HasNoDerivation, IsOnlyDerivation}
+use Rattle.litrs_grammar.specs.Literal.{IsLiteral, literal_parse, Begins}
+use Rattle.litrs_grammar.specs.Refused.{IsRefused}
+use Rattle.litrs_lines.specs.declared.collector.Step.{Step}
+use Rattle.litrs_lines.specs.declared.collector.Step.TheVariants.{More, Literal, Refused}
+
+-- the text with an LF after it begins a literal
+abbrev pub BeginsByLine : List ℕ → Type 0
+BeginsByLine t = Begins literal_parse (chars t ++ line_feed ∷ [])
+
+-- the text is no literal, and with an LF after it begins one
+abbrev pub IsUnfinished : List ℕ → Type 0
+IsUnfinished t = HasNoDerivation (IsLiteral (chars t)) × BeginsByLine t
+
+-- the literal is what the text is, in the only way
+abbrev pub IsReadAs : {B : Type 0} → List ℕ → AnyLiteral B → Type 0
+IsReadAs t lit =
+    (literal_raw lit ≡ t) × IsOnlyDerivation (IsLiteral (chars t)) (derivation lit)
+
+-- The answer to a text: it is unfinished; it is a literal; or it is refused, and with an LF after
+-- it begins none.
+abbrev pub IsStep : List ℕ → Step → Type 0
+IsStep t More = IsUnfinished t
+IsStep t (Literal lit) = IsReadAs t lit
+IsStep t (Refused e) = IsRefused literal_parse (chars t) e × (BeginsByLine t → ⊥)
+
+-- what is held after it: the text with an LF after it where it is unfinished, and else nothing
+abbrev pub held_after : List ℕ → Step → List ℕ
+held_after t More = t ++ line_feed ∷ []
+held_after t _ = []

@@ -1,0 +1,303 @@
+//! Collects lines until they are a literal.
+//!
+//! A literal may have line breaks in it, as a string in which one stands. A [`Collector`] is fed
+//! one line after the other, and answers to each whether the lines that it then has are a literal,
+//! begin one, or neither.
+ghost use Rattle.std.specs.Prelude.{◌≡◌, ◌≤◌, ◌↔◌, ◌∷◌, ◌++◌, [], length, take, IsTrue, IsFalse, IfOk, OnOk, OnErr, IfSome, IfNone, MatchResult, string_bytes};
+ghost use Rattle.std.specs.Str.{chars, IsUtf8};
+ghost use Rattle.litrs_base.specs.Characters.{line_feed};
+ghost use Rattle.litrs_grammar.specs.Literal.{literal_parse, Begins};
+ghost use Rattle.litrs_grammar.specs.Refused.{IsRefused};
+ghost use Rattle.litrs_lines.specs.Held.{EndsWithLineFeed, Extends, IsHeld, IsRefusalOfHeld};
+ghost use Rattle.litrs_lines.specs.Open.{IsKnown};
+ghost use Rattle.litrs_lines.specs.Steps.{IsReadAs, IsUnfinished, IsStep, held_after};
+
+use crate::collector::body::{Open, open_after};
+use litrs::{Literal, ParseError, ParseErrorKind};
+use std::alloc::{AllocError, Global};
+use std::marker::Model;
+
+mod body;
+pub mod laws;
+
+/// What a [`Collector`] answers to a line.
+#[derive(Drop)]
+pub enum Step {
+    /// The lines are no literal, and begin one that goes on after the end of this line.
+    More,
+    /// The lines are this literal.
+    Literal(Literal<String>),
+    /// The lines are no literal, and no line after them makes them one.
+    Refused(ParseError),
+}
+
+/// Lines that begin a literal, in the order in which they were fed.
+///
+/// ```
+/// use litrs_lines::{Collector, Step};
+/// use std::alloc::{AllocError, Global};
+///
+/// /// Whether two lines are one literal.
+/// fn is_literal(alloc: Global, first: &str, second: &str) -> Result<bool, AllocError> {
+///     let mut collector = Collector::new(alloc);
+///     match collector.feed(first)? {
+///         Step::More => {}
+///         _ => return Ok(false),
+///     }
+///     match collector.feed(second)? {
+///         Step::Literal(_) => Ok(true),
+///         _ => Ok(false),
+///     }
+/// }
+/// // Of "a and b" it is Ok(true), of 'a and ' it is Ok(false).
+/// ```
+#[derive(Drop)]
+pub struct Collector {
+    held: String,
+    /// What is open at the end of the lines, where it is known.
+    known: Option<Open>,
+}
+
+impl Model for Collector {
+    ghost use Rattle.std.specs.Prelude.{ℕ, List, string_bytes};
+    ghost use Rattle.litrs_lines.specs.Held.{IsHeld};
+    ghost use Rattle.litrs_lines.specs.Open.{IsKnown};
+
+    // The lines that are held, with an LF after each.
+    ghost Value = { List ℕ };
+
+    ghost view = { λ c. string_bytes c.held };
+
+    ghost invariant = { λ c.
+        IsHeld (string_bytes c.held) × IsKnown (string_bytes c.held) c.known };
+}
+
+impl Collector {
+    /// A collector that holds no line. It does not allocate.
+    pub fn new(alloc: Global) -> Collector
+        ensures { result ≡ [] }
+    {
+        Collector {
+            held: String::new(alloc),
+            known: None,
+        }
+    }
+
+    /// Adds a line to those that are held, and decides what they are now, joined by LF.
+    ///
+    /// `Literal` if and only if they are a literal. `More` if and only if they are none and, with
+    /// an LF after them, begin one. `Refused` if and only if neither holds. After `Literal` and
+    /// `Refused` no line is held, after `More` all of them are.
+    ///
+    /// `line` has no LF at its end. An LF within it is part of the text, as the one between two
+    /// lines is: `"a`, LF, `b"` in one call is the literal that `"a` and `b"` in two are.
+    ///
+    /// `More` and `Refused` take at most one allocation.
+    ///
+    /// While the lines are a string that goes on, a call takes time in proportion to `line`: what
+    /// was fed before is not read again. `Literal` and `Refused` take time in proportion to all
+    /// lines.
+    ///
+    /// # Errors
+    ///
+    /// `AllocError` where an allocation failed. Then the lines held are those of before the call.
+    pub fn feed(&mut self, line: &str) -> Result<Step, AllocError>
+        ensures step { IfOk result (IsStep (self.old ++ line.now)) }
+        ensures utf8 { OnOk result (IsUtf8 (self.old ++ line.now)) }
+        ensures held { IfOk result (λ step. self.new ≡ held_after (self.old ++ line.now) step) }
+        ensures err { OnErr result (self.new ≡ self.old) }
+    {
+        feed_text(&mut self.held, &mut self.known, line)
+    }
+
+    /// Whether no line is held.
+    pub fn is_empty(&self) -> bool
+        ensures { IsTrue result ↔ (self.now ≡ []) }
+    {
+        self.held.is_empty()
+    }
+
+    /// The refusal of the lines that are held, joined by LF; None if and only if none is held. It
+    /// does not allocate.
+    pub fn finish(self) -> Option<ParseError>
+        ensures refusal { IfSome result (IsRefusalOfHeld self) }
+        ensures none { IfNone result (self ≡ []) }
+    {
+        refusal_of_held(self.held)
+    }
+}
+
+/// The literal that the text is, or its refusal.
+fn read(alloc: Global, text: &str) -> Result<Result<Literal<String>, ParseError>, AllocError>
+    ensures { IfOk result (λ read.
+        MatchResult read (IsReadAs text.now) (IsRefused literal_parse (chars text.now))) }
+{
+    match Literal::parse(alloc, text) {
+        Ok(lit) => Ok(Ok(lit.into_owned(alloc)?)),
+        Err(e) => match e.kind() {
+            ParseErrorKind::OutOfMemory => Err(AllocError),
+            _ => Ok(Err(e)),
+        },
+    }
+}
+
+/// Whether a text that ends with LF begins a literal. No such text is one, so nothing is allocated.
+fn begins(alloc: Global, text: &str) -> bool
+    requires { EndsWithLineFeed (chars text.now) }
+    ensures { IsTrue result ↔ Begins literal_parse (chars text.now) }
+{
+    let refusal = match Literal::parse(alloc, text) {
+        Ok(_) => return false,
+        Err(e) => e,
+    };
+    refusal.is_open()
+}
+
+/// Decides what the text is that is held, to which a line was added, by a parse of all of it. After
+/// an error it may have an LF at its end.
+#[inline(never)]
+fn read_held(held: &mut String) -> Result<Step, AllocError>
+    ensures step { IfOk result (IsStep (string_bytes held.old)) }
+    ensures held { IfOk result (λ step.
+        string_bytes held.new ≡ held_after (string_bytes held.old) step) }
+    ensures err { OnErr result (Extends (string_bytes held.old) (string_bytes held.new)) }
+{
+    let alloc = *held.allocator();
+    let refusal = match read(alloc, held.as_str()) {
+        Ok(Ok(lit)) => {
+            held.clear();
+            return Ok(Step::Literal(lit));
+        }
+        Ok(Err(e)) => e,
+        Err(error) => return Err(error),
+    };
+    held.push('\n')?;
+    if begins(alloc, held.as_str()) {
+        return Ok(Step::More);
+    }
+    held.clear();
+    Ok(Step::Refused(refusal))
+}
+
+/// Adds a line to the text that is held, and an LF where a string is then known to go on after it:
+/// true if one is. After an error the text may have some of the line at its end.
+#[inline(always)]
+fn push_line(held: &mut String, known: &mut Option<Open>, line: &str) -> Result<bool, AllocError>
+    requires { IsKnown (string_bytes held.old) known.old }
+    ensures goes_on { IfOk result (λ goes_on. IsTrue goes_on →
+        IsUnfinished (string_bytes held.old ++ line.now)
+        × (string_bytes held.new ≡ (string_bytes held.old ++ line.now) ++ line_feed ∷ [])
+        × IsKnown (string_bytes held.new) known.new) }
+    ensures other { IfOk result (λ goes_on. IsFalse goes_on →
+        (string_bytes held.new ≡ string_bytes held.old ++ line.now)
+        × (known.new ≡ known.old)) }
+    ensures err { OnErr result
+        (Extends (string_bytes held.old) (string_bytes held.new) × (known.new ≡ known.old)) }
+{
+    held.reserve(line.len() + 1)?;
+    held.push_str(line)?;
+    let Some(next) = open_after(held.as_str(), *known) else {
+        return Ok(false);
+    };
+    held.push('\n')?;
+    *known = Some(next);
+    Ok(true)
+}
+
+/// Adds a line to the text that is held, which is as before after an error.
+#[inline(always)]
+fn add_line(held: &mut String, known: &mut Option<Open>, line: &str) -> Result<Step, AllocError>
+    requires { IsKnown (string_bytes held.old) known.old }
+    ensures step { IfOk result (IsStep (string_bytes held.old ++ line.now)) }
+    ensures held { IfOk result (λ step.
+        string_bytes held.new ≡ held_after (string_bytes held.old ++ line.now) step) }
+    ensures err { OnErr result (string_bytes held.new ≡ string_bytes held.old) }
+    ensures known { IsKnown (string_bytes held.new) known.new }
+{
+    let len = held.len();
+    match push_line(held, known, line) {
+        Ok(true) => Ok(Step::More),
+        Ok(false) => read_added(held, known, len),
+        Err(error) => {
+            held.truncate(len);
+            Err(error)
+        }
+    }
+}
+
+/// [`read_held`] where all from this place on was just added, which is taken off after an error.
+///
+/// It is not inlined, so that a line after which a string goes on costs no room for a literal.
+#[inline(never)]
+fn read_added(held: &mut String, known: &mut Option<Open>, len: usize) -> Result<Step, AllocError>
+    requires within { len ≤ length (string_bytes held.old) }
+    requires added { Extends (take len (string_bytes held.old)) (string_bytes held.old) }
+    requires known { IsKnown (take len (string_bytes held.old)) known.old }
+    ensures step { IfOk result (IsStep (string_bytes held.old)) }
+    ensures held { IfOk result (λ step.
+        string_bytes held.new ≡ held_after (string_bytes held.old) step) }
+    ensures err { OnErr result (string_bytes held.new ≡ take len (string_bytes held.old)) }
+    ensures known { IsKnown (string_bytes held.new) known.new }
+{
+    match read_held(held) {
+        Ok(step) => {
+            *known = None;
+            Ok(step)
+        }
+        Err(error) => {
+            held.truncate(len);
+            Err(error)
+        }
+    }
+}
+
+/// [`add_line`], without a copy of a line that is a literal by itself.
+fn feed_text(held: &mut String, known: &mut Option<Open>, line: &str) -> Result<Step, AllocError>
+    requires held { IsHeld (string_bytes held.old) }
+    requires known { IsKnown (string_bytes held.old) known.old }
+    ensures step { IfOk result (IsStep (string_bytes held.old ++ line.now)) }
+    ensures utf8 { IsUtf8 (string_bytes held.old ++ line.now) }
+    ensures held { IfOk result (λ step.
+        string_bytes held.new ≡ held_after (string_bytes held.old ++ line.now) step) }
+    ensures err { OnErr result (string_bytes held.new ≡ string_bytes held.old) }
+    ensures is_held { IsHeld (string_bytes held.new) }
+    ensures is_known { IsKnown (string_bytes held.new) known.new }
+{
+    if held.is_empty() {
+        feed_first(held, known, line)
+    } else {
+        add_line(held, known, line)
+    }
+}
+
+/// [`feed_text`] where nothing is held.
+#[inline(never)]
+fn feed_first(held: &mut String, known: &mut Option<Open>, line: &str) -> Result<Step, AllocError>
+    requires none { string_bytes held.old ≡ [] }
+    requires known { IsKnown (string_bytes held.old) known.old }
+    ensures step { IfOk result (IsStep (string_bytes held.old ++ line.now)) }
+    ensures held { IfOk result (λ step.
+        string_bytes held.new ≡ held_after (string_bytes held.old ++ line.now) step) }
+    ensures err { OnErr result (string_bytes held.new ≡ string_bytes held.old) }
+    ensures known { IsKnown (string_bytes held.new) known.new }
+{
+    let alloc = *held.allocator();
+    if let Ok(lit) = read(alloc, line)? {
+        return Ok(Step::Literal(lit));
+    }
+    add_line(held, known, line)
+}
+
+/// The refusal of the lines that are held.
+fn refusal_of_held(mut held: String) -> Option<ParseError>
+    requires { IsHeld (string_bytes held) }
+    ensures refusal { IfSome result (IsRefusalOfHeld (string_bytes held)) }
+    ensures none { IfNone result (string_bytes held ≡ []) }
+{
+    let alloc = *held.allocator();
+    held.pop()?;
+    match Literal::parse(alloc, held.as_str()) {
+        Ok(_) => None,
+        Err(e) => Some(e),
+    }
+}

@@ -1,3 +1,0 @@
--- what the literals hold
-pub mod IntegerLiteral
-pub mod FloatLiteral

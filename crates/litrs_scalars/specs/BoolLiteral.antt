@@ -1,8 +1,0 @@
--- What a bool literal stands for.
-use Rattle.std.specs.Prelude.{Bool, true, false}
-use Rattle.litrs_scalars.specs.declared.bool.BoolLit.{BoolLit}
-use Rattle.litrs_scalars.specs.declared.bool.BoolLit.TheVariants.{False, True}
-
-abbrev pub bool_value : BoolLit → Bool
-bool_value False = false
-bool_value True = true

@@ -1,3 +1,0 @@
--- what literals hold
-pub mod BoolLiteral
-pub mod CharLiteral

@@ -1,3 +1,0 @@
-pub mod ParsedStrings
-pub mod StringRefusals
-pub mod ParsedCStrings
