@@ -1,15 +1,13 @@
--- what the literals hold
+-- what the literals of each kind hold
+pub mod BoolLiteral
 pub mod IntegerLiteral
 pub mod FloatLiteral
--- what literals hold
-pub mod BoolLiteral
 pub mod CharLiteral
--- what the literals hold
-pub mod CString
 pub mod StringLiteral
--- how a text is cut
+pub mod CString
+-- how a string is cut
 pub mod ParsedStrings
--- what literals hold
+-- what a literal of any kind holds
 pub mod LiteralDerivation
 -- digits, however they are grouped
 pub mod Digits
@@ -47,5 +45,3 @@ pub use Rattle.litrs_grammar.specs.Refused
 pub use Rattle.litrs_grammar.specs.StringKind
 pub use Rattle.litrs_grammar.specs.Strings
 pub use Rattle.litrs_grammar.specs.Suffix
-
--- what the literals of each kind hold

@@ -1,7 +1,9 @@
+-- what a search stops at
 pub mod Special
 pub mod Run
 pub mod Target
 pub mod Closing
+-- what a search has found out
 pub mod Marked
 -- how a text begins
 pub mod Front

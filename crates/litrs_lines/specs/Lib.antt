@@ -31,8 +31,7 @@ pub mod Ended
 pub mod Stopped
 pub mod Sent
 pub mod RunError
--- The words of the contracts, so that users name this crate alone: of collectors
--- and of what they collect
+-- The words of the contracts, so that users name this crate alone
 pub use Rattle.litrs_base.specs.Characters
 pub use Rattle.litrs_base.specs.Derivations
 pub use Rattle.litrs_base.specs.Refusal
