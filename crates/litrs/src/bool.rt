@@ -41,7 +41,7 @@ impl BoolLit {
 
     /// The literal of a bool: `BoolLit::True` of true.
     #[inline(always)]
-    pub fn new(value: bool) -> BoolLit
+    pub(crate) fn new(value: bool) -> BoolLit
         ensures { bool_value result ≡ value }
     {
         if value { BoolLit::True } else { BoolLit::False }

@@ -74,7 +74,7 @@ impl<B: Text> ByteLit<B> {
     ///
     /// Those of [`parse`](ByteLit::parse).
     #[inline(always)]
-    pub fn parse_with_front(input: B, front: Front) -> Result<ByteLit<B>, ParseError>
+    pub(crate) fn parse_with_front(input: B, front: Front) -> Result<ByteLit<B>, ParseError>
         requires { IsFront front (B.bytes input) }
         ensures buffer { IfOk result (λ lit. lit.buffer ≡ input) }
         ensures raw { IfOk result (λ lit. lit.raw ≡ B.bytes input) }

@@ -75,7 +75,7 @@ impl<B: Text> ByteStringLit<B> {
     ///
     /// Those of [`parse`](ByteStringLit::parse).
     #[inline(always)]
-    pub fn parse_with_front(
+    pub(crate) fn parse_with_front(
         alloc: Global,
         input: B,
         front: Front,

@@ -158,7 +158,7 @@ impl<B: Text> CStringLit<B> {
     ///
     /// Those of [`parse`](CStringLit::parse).
     #[inline(always)]
-    pub fn parse_with_front(
+    pub(crate) fn parse_with_front(
         alloc: Global,
         input: B,
         front: Front,

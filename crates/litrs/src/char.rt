@@ -73,7 +73,7 @@ impl<B: Text> CharLit<B> {
     ///
     /// Those of [`parse`](CharLit::parse).
     #[inline(always)]
-    pub fn parse_with_front(input: B, front: Front) -> Result<CharLit<B>, ParseError>
+    pub(crate) fn parse_with_front(input: B, front: Front) -> Result<CharLit<B>, ParseError>
         requires { IsFront front (B.bytes input) }
         ensures buffer { IfOk result (λ lit. lit.buffer ≡ input) }
         ensures raw { IfOk result (λ lit. lit.raw ≡ B.bytes input) }

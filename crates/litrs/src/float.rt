@@ -43,7 +43,7 @@ impl<B: Text> FloatLit<B> {
     /// [`cut_float`](litrs_lex::cut_float) or [`cut_number`](litrs_lex::cut_number) answers of
     /// this text.
     #[inline(always)]
-    pub fn new(raw: B, cut: FloatCut) -> FloatLit<B>
+    pub(crate) fn new(raw: B, cut: FloatCut) -> FloatLit<B>
         requires { IsFloatAt cut (B.bytes raw) }
         ensures raw { result.raw ≡ B.bytes raw }
         ensures literal { IsFloatOf (chars result.raw) (float_parts result) }

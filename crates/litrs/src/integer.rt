@@ -52,7 +52,7 @@ impl<B: Text> IntegerLit<B> {
     /// [`cut_integer`](litrs_lex::cut_integer) or [`cut_number`](litrs_lex::cut_number)
     /// answers of this text.
     #[inline(always)]
-    pub fn new(raw: B, cut: IntegerCut) -> IntegerLit<B>
+    pub(crate) fn new(raw: B, cut: IntegerCut) -> IntegerLit<B>
         requires { IsIntegerAt cut (B.bytes raw) }
         ensures raw { result.raw ≡ B.bytes raw }
         ensures literal { IsIntegerOf (chars result.raw) (integer_parts result) }

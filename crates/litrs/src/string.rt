@@ -75,7 +75,7 @@ impl<B: Text> StringLit<B> {
     ///
     /// Those of [`parse`](StringLit::parse).
     #[inline(always)]
-    pub fn parse_with_front(
+    pub(crate) fn parse_with_front(
         alloc: Global,
         input: B,
         front: Front,

@@ -86,7 +86,7 @@ fn closing_before_end(bytes: &[u8], from: usize, hashes: usize, what: Special) -
 ///
 /// The Rust Reference, Tokens, Raw string literals.
 #[inline(always)]
-pub(crate) fn next_closing(bytes: &[u8], from: usize, hashes: usize, what: Special) -> usize
+pub fn next_closing(bytes: &[u8], from: usize, hashes: usize, what: Special) -> usize
     requires { from ≤ length bytes.now }
     ensures from { from ≤ result }
     ensures within { result ≤ length bytes.now }

@@ -41,7 +41,7 @@ pub mod number;
 mod parse;
 pub mod quoted;
 pub mod raw;
-pub mod reading;
+mod reading;
 mod room;
 mod search;
 mod sink;

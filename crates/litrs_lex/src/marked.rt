@@ -14,19 +14,19 @@ const LOAD: usize = 32;
 /// Which bytes of a part of a text are special, as far as a search has found out. Places count
 /// bytes.
 #[derive(Clone, Copy, Debug, PartialEq, Eq)]
-pub(crate) struct Marked {
+pub struct Marked {
     /// Where the part starts.
-    pub(crate) start: usize,
+    pub start: usize,
     /// Where it ends, at most 32 bytes further on.
-    pub(crate) end: usize,
+    pub end: usize,
     /// Bit i is set where the byte at `start + i` is special.
-    pub(crate) bits: u64,
+    pub bits: u64,
 }
 
 impl Marked {
     /// An empty part at the place.
     #[inline(always)]
-    pub(crate) fn nothing_at(place: usize) -> Marked
+    pub fn nothing_at(place: usize) -> Marked
         ensures start { result.start ≡ place }
         ensures marked { (what : Special) (bytes : List ℕ) → place ≤ length bytes →
             IsMarked what bytes result }
@@ -74,12 +74,7 @@ pub fn next_special(bytes: &[u8], from: usize, what: Special) -> usize
 /// assert_eq!(rt; (first, second), (1, 3));
 /// ```
 #[inline(always)]
-pub(crate) fn next_marked(
-    bytes: &[u8],
-    from: usize,
-    what: Special,
-    marked: Marked,
-) -> (usize, Marked)
+pub fn next_marked(bytes: &[u8], from: usize, what: Special, marked: Marked) -> (usize, Marked)
     requires from { from ≤ length bytes.now }
     requires after { marked.start ≤ from }
     requires marked { IsMarked what bytes.now marked }

@@ -7,8 +7,9 @@ ghost use Rattle.litrs_grammar.specs.Raw.{is_quote, raw_closing, raw_char_refusa
 ghost use Rattle.litrs_lex.specs.RawCut.{IsRawCut, IsRawRefused, IsStop, IsBodyCut, is_inner_at};
 ghost use Rattle.litrs_lex.specs.Special.{is_special};
 
+use crate::closing::next_closing;
 use crate::hashes::{MAX_HASHES, hash_len, is_inner_quote};
-use crate::{Special, Switches, check_suffix, next_closing, next_special};
+use crate::{Special, Switches, check_suffix, next_special};
 use litrs_base::{ParseError, ParseErrorKind};
 use std::ops::Range;
 

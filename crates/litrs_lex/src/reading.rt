@@ -2,8 +2,8 @@
 ghost use Rattle.std.specs.Prelude.{not, ◌||◌, IsTrue};
 ghost use Rattle.litrs_lex.specs.Reading.{IsReading, HasReached};
 
-use crate::Marked;
 use crate::allowed::Allows;
+use crate::marked::Marked;
 use crate::sink::Sink;
 use crate::stop::{Stop, plain_end, stop_at};
 use litrs_base::ParseError;

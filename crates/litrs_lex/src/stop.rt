@@ -11,7 +11,8 @@ ghost use Rattle.litrs_lex.specs.Marked.{IsMarked};
 ghost use Rattle.litrs_lex.specs.Unescaped.{switches, grammar_switches};
 
 use crate::allowed::Allows;
-use crate::{Marked, Run, Special, Switches, next_marked, next_special, run_end, unescape_with};
+use crate::marked::{Marked, next_marked};
+use crate::{Run, Special, Switches, next_special, run_end, unescape_with};
 use litrs_base::{ParseError, ParseErrorKind, Unescape};
 
 /// What stands there.
