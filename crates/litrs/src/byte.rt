@@ -25,7 +25,7 @@ use std::marker::Model;
 pub struct ByteLit<B: Text> {
     value: u8,
     start_suffix: usize,
-    // Last: a place that stood where a refusal has its kind would be read in pieces.
+    // Last, as CONTRIBUTING.md says under "Layout and inlining".
     raw: B,
 }
 

@@ -46,7 +46,7 @@ impl CString {
     /// # Errors
     ///
     /// `AllocError` where there is no memory for the zero. The bytes are dropped then.
-    // A call of its own, as `copy_of` is.
+    // Not inlined; see `copy_of`.
     #[inline(never)]
     fn close(mut bytes: Vec<u8>) -> Result<CString, AllocError>
         requires { IsFalse (has_nul bytes.items) }
@@ -112,7 +112,7 @@ impl CString {
 pub struct CStringLit<B: Text> {
     value: CString,
     start_suffix: usize,
-    // Last: a place that stood where a refusal has its kind would be read in pieces.
+    // Last, as CONTRIBUTING.md says under "Layout and inlining".
     raw: B,
     ghost derived: { StringDerivation c_string_kind (chars (B.bytes raw)) } by { string_derivation-prop c_string_kind (chars (B.bytes raw)) },
 }

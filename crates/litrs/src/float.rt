@@ -24,7 +24,7 @@ use std::marker::Model;
 /// [ref]: https://doc.rust-lang.org/reference/tokens.html#floating-point-literals
 pub struct FloatLit<B: Text> {
     cut: FloatCut,
-    // Last: a place that stood where a refusal has its kind would be read in pieces.
+    // Last, as CONTRIBUTING.md says under "Layout and inlining".
     raw: B,
 }
 

@@ -33,7 +33,7 @@ use std::marker::Model;
 /// [ref]: https://doc.rust-lang.org/reference/tokens.html#integer-literals
 pub struct IntegerLit<B: Text> {
     cut: IntegerCut,
-    // Last: a place that stood where a refusal has its kind would be read in pieces.
+    // Last, as CONTRIBUTING.md says under "Layout and inlining".
     raw: B,
 }
 

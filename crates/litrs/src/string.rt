@@ -29,7 +29,7 @@ use std::marker::Model;
 pub struct StringLit<B: Text> {
     value: KeptValue<String>,
     start_suffix: usize,
-    // Last: a place that stood where a refusal has its kind would be read in pieces.
+    // Last, as CONTRIBUTING.md says under "Layout and inlining".
     raw: B,
     ghost derived: { StringDerivation string_kind (chars (B.bytes raw)) } by { string_derivation-prop string_kind (chars (B.bytes raw)) },
 }
