@@ -2,104 +2,32 @@
 """Fails where code makes an allocation failure or a formatting failure of its own, or asks for
 memory by a number that is not known to be a length of what it will hold.
 
-Outside tests an `AllocError` comes from the library alone, and so does a `fmt::Error`. Only
-`fn from(_: AllocError)` and the lines of `MAPPED` may make `OutOfMemory` or the `Memory` of an error
-of an `AllocError`, or one of these of `OutOfMemory`: elsewhere these stand in patterns and in the
-declarations of their enums.
+Outside tests an `AllocError` comes from the library alone, and so does a `fmt::Error`. A failure is
+an `AllocError`, an `OutOfMemory`, or the variant that some `fn from(_: AllocError)` makes, as
+`Memory`. It may stand in types, imports, clauses, declarations and patterns, beside `==` and `!=`,
+in the body of such a `from`, and in two more places:
 
-Outside tests memory is asked for by the number of bytes, or by as many items as an iterator gives,
-only in the lines of `RESERVED`: a contract says what is held in the end, and not how much was asked
-for. So that no other call asks for more than there is, no argument of a call that allocates has a
-number above `LARGE`, a constant or a repeated array, and no line has a number that is as good as
-unbounded, but for those of `BOUNDED`.
+- in the answer of a one-line arm whose pattern is one failure, as
+  `ParseErrorKind::OutOfMemory => Err(AllocError),`;
+- in a one-line arm of `Err(_)` or `None` below a comment that begins `// allocation failed: ` and
+  says what was refused there.
+
+Outside tests memory is asked for by a number, or by as many items as an iterator gives, only in a
+function that hands its own parameter on to the call of its name, and on a line below a comment that
+begins `// bounded by ` and says of which length the number is: a contract says what is held in the
+end, and not how much was asked for. So that no other call asks for more than there is, no argument
+of a call that allocates has a number above `LARGE`, a constant or a repeated array, and no line has
+a number that is as good as unbounded, but below such a comment.
+
+Each comment is for the next line alone, and one above a line that needs none is refused.
 """
 import collections
 import pathlib
 import re
 import sys
 
-# The lines that map, compare or declare one of these, each of which stands once in its file.
-OUT_OF_MEMORY = "Err(_) => Err(ParseError::new(None, ParseErrorKind::OutOfMemory)),"
-MAPPED = {
-    ("crates/litrs_lex/src/string.rt", OUT_OF_MEMORY),
-    # Where a container that is full answered the reading.
-    (
-        "crates/litrs_lex/src/string.rt",
-        "None => Err(ParseError::new(None, ParseErrorKind::OutOfMemory)),",
-    ),
-    ("crates/litrs/src/c_string.rt", OUT_OF_MEMORY),
-    ("crates/litrs_lines/src/collector.rt", "ParseErrorKind::OutOfMemory => Err(AllocError),"),
-    ("crates/litrs_token/src/from_token.rt", "ParseErrorKind::OutOfMemory => Err(AllocError),"),
-    (
-        "crates/litrs_lines/src/group.rt",
-        "Err(e) if e.kind() == ParseErrorKind::OutOfMemory => Err(RunError::Memory),",
-    ),
-    ("crates/uses_lexer/src/token.rt", "ParseErrorKind::OutOfMemory => Err(AllocError),"),
-    (
-        "crates/uses_attributes/src/setting.rt",
-        "Some(ParseErrorKind::OutOfMemory) => Err(AllocError),",
-    ),
-    ("crates/uses_formatter/src/form.rt", "ParseErrorKind::OutOfMemory => Err(AllocError),"),
-    # The program of rows, which ends where memory of its own was refused.
-    ("crates/litrs_vectors/src/main.rt", "Err(RowError::OutOfMemory) => return Err(AllocError),"),
-    (
-        "crates/litrs_vectors/src/parses.rt",
-        "None => Err(ParseError::new(None, ParseErrorKind::OutOfMemory)),",
-    ),
-    (
-        "crates/litrs_vectors/src/parses.rt",
-        "Err(e) => e.kind() == ParseErrorKind::OutOfMemory,",
-    ),
-    ("crates/litrs_vectors/src/fronts.rt", "use litrs::ParseErrorKind::OutOfMemory;"),
-    ("crates/litrs_vectors/src/rows.rt", "OutOfMemory,"),
-    ("crates/litrs_vectors/src/tokens.rt", "Err(IdentError::Memory) => true,"),
-    ("crates/litrs_vectors/src/trial.rt", "refusal: Option<AllocError>,"),
-}
+FAILED, BOUNDED = "// allocation failed: ", "// bounded by "
 
-# The lines that ask for memory by a number of bytes, and how often each stands in its file. The
-# number is the length of a text or a value that was measured, or given by the caller.
-RESERVED = {
-    ("crates/litrs_lex/src/container.rt", "String::with_capacity(alloc, bytes)"): 1,
-    ("crates/litrs_lex/src/container.rt", "Vec::with_capacity(alloc, bytes)"): 1,
-    ("crates/litrs_lex/src/container.rt", "String::reserve(self, n)"): 1,
-    ("crates/litrs_lex/src/container.rt", "Vec::reserve(self, n)"): 1,
-    # `room` is the length of the value, or one more.
-    ("crates/litrs_lex/src/string.rt", "let mut value = C::with_capacity(alloc, room)?;"): 1,
-    (
-        "crates/litrs/src/byte_string.rt",
-        "let mut copy = Vec::with_capacity(alloc, value.len())?;",
-    ): 1,
-    (
-        "crates/litrs/src/c_string.rt",
-        "let mut copy = Vec::with_capacity(alloc, bytes.len() + 1)?;",
-    ): 1,
-    (
-        "crates/litrs/src/c_string.rt",
-        "let mut bytes = Vec::with_capacity(alloc, self.bytes.len())?;",
-    ): 1,
-    ("crates/litrs_lines/src/collector.rt", "held.reserve(line.len() + 1)?;"): 1,
-    # The caller gives the room.
-    ("crates/litrs_lines/src/mem_output.rt", "bytes: Vec::with_capacity(alloc, room)?,"): 1,
-    # `LONGEST` is the length of the longest text that the program of rows tries so.
-    (
-        "crates/litrs_vectors/src/calls.rt",
-        "C::with_capacity(trial.alloc, LONGEST).is_err()",
-    ): 1,
-    (
-        "crates/litrs_vectors/src/calls.rt",
-        "container.reserve(LONGEST).is_err(),",
-    ): 1,
-    ("crates/litrs_vectors/src/prefixes.rt", "trial.own(longer.reserve(2 * LONGEST));"): 1,
-    # As many as the digits that are kept.
-    (
-        "crates/uses_attributes/src/value.rt",
-        "let digits: Vec<u8> = part.iter().copied().filter(|&b| b != b'_').collect(alloc)?;",
-    ): 1,
-    (
-        "crates/uses_formatter/src/keep.rt",
-        "digits.map(|c| c.to_ascii_lowercase()).collect(alloc)",
-    ): 1,
-}
 RESERVES = (
     r"(?<!fn )\b(try_)?(reserve(_exact)?|(with_capacity|resize|repeat|from_elem|new_zeroed)\w*)\("
     r"|\.(collect|extend|from_iter|from_fn|concat|join|cycle|repeat_n)(::<[^(]*>)?\("
@@ -113,40 +41,62 @@ GROWS = (
     r"\b(push|push_\w+|extend_from_slice|insert\w*|append|feed|write_all|writeln!|write!|format!)$"
 )
 # What makes an argument a number that may be greater than what it will hold.
-NUMBER = r"\b[A-Z][A-Z0-9_]+\b|::MAX\b|\b0x[0-9a-fA-F_]+\b|(?<![\w.])\d[\d_]*|;\s*[a-z]\w*\s*\]|<<|\.pow\("
+NUMBER = (
+    r"\b[A-Z][A-Z0-9_]+\b|::MAX\b|\b0x[0-9a-fA-F_]+\b|(?<![\w.])\d[\d_]*|;\s*[a-z]\w*\s*\]|<<|\.pow\("
+)
 # Numbers that are as good as unbounded, and such a width in a format.
 UNBOUNDED = r"::MAX\b|(?<!\w)\d[\d_]{4,}|\d\s*<<|\.pow\("
 WIDTH = r"\{[^{}]*:[^{}]*(\d{3,}|\$)[^{}]*\}"
-# The lines that have one, or a constant or a greater number in an argument, and ask for no memory
-# by it.
-BOUNDED = {
-    # The greatest room for a value on the stack.
-    ("crates/litrs_lex/src/short_value.rt", "pub(crate) const LONGEST: usize = 16384;"),
-    # How often an input is read.
-    ("crates/litrs_lines/src/lib.rt", "for _turn in 0..u64::MAX {"),
-    ("crates/litrs/src/integer.rt", "if number >= 1 << 60 {"),
-    # The room of an output is the caller's; `ROOM` is what the program of rows gives.
-    (
-        "crates/litrs_vectors/src/calls.rt",
-        "match MemOutput::new(trial.alloc, ROOM, PIECE, None) {",
-    ),
-}
+# Where such a number is no amount of memory: the turns of a loop, and a comparison.
+NO_AMOUNT = r"\s*(for \w+ in 0\.\.u64::MAX|if \w+ [<>]=? 1 << \d+) \{$"
 
+# The head of a function that makes the failure of an error from one that it is given.
+FROM = r"\s*fn from\(\w+: Alloc(?:Error|Failed<\w+>)\) -> \w+(?: \{)?$"
+# What is skipped as a whole, up to the closing brace under its first column.
+SKIPPED = rf"{FROM}|\s*(pub(\(\w+\))? )?(enum|struct) \w+[^;]*\{{$"
 # Where the names may stand: types, imports, clauses and patterns.
 ALLOWED = [
     r"//.*",
-    r"^\s*(pub )?use [^;]*\bAllocError\b(?! as)[^;]*;",
+    r"^\s*(pub )?use (?![^;]*\b(AllocError|OutOfMemory|Memory|Error) as\b)[^;]*;",
     r"Result<.*, AllocError>",
-    r"From<AllocError>",
+    r"(Option|From)<Alloc(Error|Failed<\w+>)>",
     r"type Error = AllocError;",
     r"\.OutOfMemory\b",
-    r"\|?\s*[\w:]*\bOutOfMemory( =>| \||$)",
-    r"\| [\w:]*\bOutOfMemory\b",
-    r"\b(\w+Error|Self)::Memory =>",
+    r"[=!]= [\w:]*\bOutOfMemory\b",
+    r"(\bErr\(|\bSome\()?[\w:]*\bOutOfMemory\)?( =>| \|)",
+    r"(^\s*|(?<=[\w)] ))\| [\w:]*\bOutOfMemory\b",
 ]
-MADE = r"\bAllocError\b|\bOutOfMemory\b|\b(\w+Error|Self)::Memory\b|\bfmt::(\{[^}]*\b)?Error\b"
-# What is skipped as a whole, from a line up to the closing brace under its first column.
-SKIPPED = r"\s*(pub enum ParseErrorKind \{|fn from\(_: AllocError\) -> Self \{)$"
+# An arm of one failure, and one below a comment; neither has another pattern beside it.
+FAILURE_ARM = r"^\s*[^|!]*FAILURE[^|!]* => (return )?Err\([^=]*FAILURE[^=]*\),$"
+MAPPING_ARM = r"^\s*(Err\(_\)|None) => Err\(.*FAILURE.*\),$"
+
+
+def sources():
+    """The source files outside tests."""
+    paths = sorted(pathlib.Path("crates").glob("*/src/**/*.rt"))
+    return {it: it.read_text() for it in paths if not is_test_file(it)}
+
+
+def is_test_file(path):
+    """Whether the file is a module that is declared under `#[cfg(test)]`, or below such a one."""
+    declared = f"#[cfg(test)]\nmod {path.stem};"
+    above = path.parent.with_suffix(".rt")
+    return any(declared in parent.read_text() for parent in path.parent.glob("*.rt")) or (
+        above.is_file() and is_test_file(above)
+    )
+
+
+def failures_of(texts):
+    """The failures, as a pattern: those of the library, and each that a `from` makes of one."""
+    names = {r"\bAllocError\b", r"\bOutOfMemory\b", r"\bAllocFailed\b"}
+    for text in texts:
+        lines = text.split("\n")
+        for number, line in enumerate(lines):
+            if re.match(FROM, line):
+                body = "\n".join(lines[number + 1 : number + 9]).split("\n    }\n")[0]
+                for owner, name in re.findall(r"\b([A-Z]\w*)::([A-Z]\w*)\b", body):
+                    names.add(rf"\b({owner}|Self)::{name}\b")
+    return "(" + "|".join(sorted(names)) + ")"
 
 
 def code_lines(text):
@@ -161,15 +111,6 @@ def code_lines(text):
             end = line[: len(line) - len(line.lstrip())] + "}"
         else:
             yield number, line
-
-
-def is_test_file(path):
-    """Whether the file is a module that is declared under `#[cfg(test)]`, or below such a one."""
-    declared = f"#[cfg(test)]\nmod {path.stem};"
-    above = path.parent.with_suffix(".rt")
-    return any(declared in parent.read_text() for parent in path.parent.glob("*.rt")) or (
-        above.is_file() and is_test_file(above)
-    )
 
 
 def arguments_of(text, start):
@@ -220,41 +161,94 @@ def large_arguments(lines):
             yield places[found.start()]
 
 
+def hands_on(head, line):
+    """Whether a line of the function with this head calls what has its name, with a parameter."""
+    named = re.match(r"\s*(?:pub )?fn (\w+)\(([^)]*)\)", head)
+    if not named:
+        return False
+    call = re.fullmatch(rf"\s*\w+::{named[1]}\(\w+, (\w+)\)\??", line)
+    return bool(call) and re.search(rf"\b{call[1]}: usize\b", named[2]) is not None
+
+
+class File:
+    """A source file, and what is wrong with it."""
+
+    def __init__(self, path, text, failures):
+        self.path, self.all, self.failures = path, text.split("\n"), failures
+        self.lines = list(code_lines(text))
+        self.large = set(large_arguments(self.lines))
+        self.used, self.faults = set(), []
+
+    def is_marked(self, number, mark):
+        """Whether the comment above this line begins with this mark, which then serves the line."""
+        above = number - 1
+        while above and self.all[above - 1].strip().startswith("//"):
+            if self.all[above - 1].strip().startswith(mark):
+                is_new = above not in self.used
+                self.used.add(above)
+                return is_new
+            above -= 1
+        return False
+
+    def say(self, number, fault):
+        self.faults.append(f"{self.path}:{number}: {fault}: {self.all[number - 1].strip()}")
+
+    def look_at_memory(self, number, line, head):
+        """Looks for a call on this line that asks for memory by a number."""
+        code = without_texts(line)
+        if calls := re.findall(RESERVES, re.sub(r"//.*", "", line)):
+            is_one = len(calls) == 1
+            if not (is_one and (hands_on(head, line) or self.is_marked(number, BOUNDED))):
+                self.say(number, "asks for memory by a number")
+            return
+        widths = "".join(re.findall(r'"(?:\\.|[^"\\])*"', line))
+        if re.match(r"\s*(ensures|requires|ghost)\b", line) or re.match(NO_AMOUNT, line):
+            code = widths = ""
+        is_unbounded = re.search(UNBOUNDED, code) or re.search(WIDTH, widths)
+        if (number in self.large or is_unbounded) and not self.is_marked(number, BOUNDED):
+            self.say(number, "a number that may be too great")
+
+    def look_at_failures(self, number, line):
+        """Looks for a failure that is made on this line."""
+        made = rf"{self.failures}|\bfmt::(\{{[^}}]*\b)?Error\b"
+        if not re.search(made, line):
+            return
+        after = self.all[number].strip() if number < len(self.all) else ""
+        if re.match(FAILURE_ARM.replace("FAILURE", self.failures), line):
+            line = ""
+        elif re.match(MAPPING_ARM.replace("FAILURE", self.failures), line):
+            line = "" if self.is_marked(number, FAILED) else line
+        elif re.match(r"\s*[\w:]+$", line) and after.startswith("| "):
+            line = ""
+        for allowed in [*ALLOWED, rf"(\bErr\()?{self.failures}\)?(\(\w+\))? =>"]:
+            line = re.sub(allowed, "", line)
+        if re.search(made, line):
+            self.say(number, "makes a failure of its own")
+
+    def look(self):
+        """Looks at each line, and then for comments that serve none."""
+        head = ""
+        for number, line in self.lines:
+            head = line if re.match(r"\s*(pub(\(\w+\))? )?(const )?fn ", line) else head
+            self.look_at_memory(number, line, head)
+            self.look_at_failures(number, line)
+        for number, line in self.lines:
+            if re.match(rf"\s*({FAILED}|{BOUNDED})", line) and number not in self.used:
+                self.say(number, "marks a line that needs no mark")
+        return self.faults
+
+
 def main():
-    found = 0
-    mapped = set()
-    reserved = collections.Counter()
-    for path in sorted(pathlib.Path("crates").glob("*/src/**/*.rt")):
-        if is_test_file(path):
-            continue
-        lines = list(code_lines(path.read_text()))
-        large = set(large_arguments(lines))
-        for number, line in lines:
-            place = (path.as_posix(), line.strip())
-            if re.search(RESERVES, re.sub(r"//.*", "", line)):
-                reserved[place] += 1
-                if reserved[place] > RESERVED.get(place, 0):
-                    print(f"{path}:{number}: asks for memory by a number: {line.strip()}")
-                    found += 1
-            code = without_texts(line)
-            widths = "".join(re.findall(r'"(?:\\.|[^"\\])*"', line))
-            if re.match(r"\s*(ensures|requires|ghost)\b", line):
-                code = widths = ""
-            is_unbounded = re.search(UNBOUNDED, code) or re.search(WIDTH, widths)
-            if (number in large or is_unbounded) and place not in BOUNDED:
-                if not reserved[place]:
-                    print(f"{path}:{number}: a number that may be too great: {line.strip()}")
-                    found += 1
-            if place in MAPPED and place not in mapped:
-                mapped.add(place)
-                continue
-            code = line
-            for allowed in ALLOWED:
-                code = re.sub(allowed, "", code)
-            if re.search(MADE, code):
-                print(f"{path}:{number}: makes a failure of its own: {line.strip()}")
-                found += 1
-    sys.exit(1 if found else 0)
+    texts = sources()
+    failures = failures_of(texts.values())
+    faults, marks = [], collections.Counter()
+    for path, text in texts.items():
+        file = File(path, text, failures)
+        faults += file.look()
+        marks += collections.Counter(path.parts[1] for _ in file.used)
+    print(*faults, sep="\n", end="\n" if faults else "")
+    print(f"failures: {sum(marks.values())} lines are marked, {len(faults)} faults")
+    sys.exit(1 if faults else 0)
 
 
 main()

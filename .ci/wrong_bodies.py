@@ -2,16 +2,21 @@
 """Tries the wrong bodies: for each, the check must report an open goal of the function it changes.
 
     .ci/wrong_bodies.py [CRATE ..]
+    .ci/wrong_bodies.py --read [CRATE ..]     reads them, and tries none
 
 At the top of the repository, after `rt ci`, over the libraries that it built; of all crates where
 none is named. A wrong body is a file `crates/CRATE/wrong/NAME.edit` of lines `file:`, `old:` and
-`new:`, as in `must-fail/`. As many as fit, one a function, are put into a copy of their crate, and
-the crate is checked once for all of them. One that this check does not report is checked alone. It
-counts as refused only where a goal of its own function is open: a proof that merely names
-what the edit took away shows nothing of the contract.
+`new:`, as in `must-fail/`. Each is read before any is tried: where an old text does not stand just
+once in its file, the script names every such edit and stops.
+
+As many as fit, one a function, are put into a copy of their crate, and the crate is checked once
+for all of them. One that this check does not report is checked alone. It counts as refused only
+where a goal of its own function is open: a proof that merely names what the edit took away shows
+nothing of the contract.
 
 The edits in `.ci/harmless/`, named by crate, do not change what their function does, so they must
-not be refused. They are tried in the same way, and show that this script can fail.
+not be refused. They are tried in the same way, are counted apart, and show that this script can
+fail.
 """
 import concurrent.futures
 import dataclasses
@@ -25,7 +30,9 @@ import tempfile
 
 import libraries
 
-SECONDS = 900
+# How long a check may take.
+SECONDS = 1800
+HARMLESS = pathlib.Path(".ci/harmless")
 
 FUNCTION = re.compile(r'\s*(?:pub(?:\(\w+\))? )?(?:(?:const|unsafe|final|extern "C") )*fn (\w+)')
 CONSTANT = re.compile(r"\s*(?:pub(?:\(\w+\))? )?(?:const|static) (\w+): .*=")
@@ -129,6 +136,10 @@ class WrongBody:
         return texts
 
 
+class Unreadable(Exception):
+    """An edit that says nothing of the crate as it is."""
+
+
 def read_edit(path, originals, is_wrong=True):
     """The wrong body of a file."""
     changes, owners, file, old = [], set(), None, None
@@ -140,14 +151,15 @@ def read_edit(path, originals, is_wrong=True):
             old = line.removeprefix("old: ")
         elif line.startswith("new:"):
             new = line.removeprefix("new:").removeprefix(" ")
-            if file not in texts or texts[file].count(old) != 1:
-                sys.exit(f"{path}: an old text does not stand just once in {file}")
+            count = texts[file].count(old) if old and file in texts else 0
+            if count != 1:
+                raise Unreadable(f"{path}: this stands {count} times in {file}: {old}")
             at = texts[file].index(old) + len(old) - len(old.lstrip())
             owners |= owners_of(file.removeprefix("src/"), texts[file], at)
             texts[file] = texts[file].replace(old, new)
             changes.append((file, old, new))
-    if not owners:
-        sys.exit(f"{path}: it changes no function")
+    if not owners or texts == originals:
+        raise Unreadable(f"{path}: it changes no function")
     return WrongBody(path.stem, changes, owners, is_wrong)
 
 
@@ -159,10 +171,20 @@ class Crate(libraries.Crate):
         self.folder = pathlib.Path("crates", self.name)
         sources = sorted(self.folder.glob("src/**/*.rt"))
         self.originals = {str(it.relative_to(self.folder)): it.read_text() for it in sources}
-        self.bodies = [read_edit(it, self.originals) for it in sorted(self.folder.glob("wrong/*"))]
-        harmless = pathlib.Path(".ci/harmless", f"{self.name}.edit")
-        if harmless.exists():
-            self.bodies.append(read_edit(harmless, self.originals, is_wrong=False))
+        self.bodies, self.unreadable = [], []
+        for path in [*sorted(self.folder.glob("wrong/*")), HARMLESS / f"{self.name}.edit"]:
+            is_wrong = path.parent != HARMLESS
+            try:
+                if is_wrong or path.exists():
+                    self.bodies.append(read_edit(path, self.originals, is_wrong))
+            except Unreadable as fault:
+                self.unreadable.append(str(fault))
+
+    def count(self):
+        """How many bodies it has, in words."""
+        harmless = sum(not it.is_wrong for it in self.bodies)
+        also = f" and {harmless} harmless" if harmless else ""
+        return f"{len(self.bodies) - harmless} wrong bodies{also}"
 
     def command(self, crates, work):
         """The words of a check of the crate, over what earlier checks left in the folder `work`."""
@@ -223,6 +245,15 @@ class Answer:
         return None
 
 
+@dataclasses.dataclass
+class Outcome:
+    """What came of a body: whether it is a wrong one, whether it was answered as it has to be."""
+
+    is_wrong: bool
+    holds: bool
+    line: str
+
+
 class Trial:
     """The trial of the wrong bodies of one crate."""
 
@@ -259,8 +290,14 @@ class Trial:
         if body.is_wrong:
             said = f"refused ({how}): {goal[:150]}" if goal else f"NOT REFUSED ({how})"
         else:
-            said = f"harmless: REFUSED: {goal[:150]}" if goal else "harmless: not refused, as it must be"
-        self.report.append((holds, f"{self.crate.name}/{body.name}: {said}"))
+            said = f"REFUSED: {goal[:150]}" if goal else "not refused, as it must be"
+            said = f"harmless: {said}"
+        self.note(body, holds, said)
+
+    def note(self, body, holds, said):
+        """Notes whether a body was answered as it has to be, and what is to be printed of it."""
+        line = f"{self.crate.name}/{body.name}: {said}"
+        self.report.append(Outcome(body.is_wrong, holds, line))
 
     def alone(self, body):
         """Tries a wrong body by itself."""
@@ -269,7 +306,7 @@ class Trial:
         if answer.is_verdict:
             return self.settle(body, answer.goal_of(body), "alone")
         said = " ".join(answer.lines[:3])[:300]
-        self.report.append((False, f"{self.crate.name}/{body.name}: CANNOT BE CHECKED: {said}"))
+        self.note(body, False, f"CANNOT BE CHECKED: {said}")
 
     def next_round(self, left):
         """As many of these as fit beside each other, and the texts with them."""
@@ -309,28 +346,60 @@ class Trial:
                     single.append(body)
         for body in single:
             self.alone(body)
-        print(f"{self.crate.name}: {len(self.crate.bodies)} wrong bodies in {self.checks} checks")
+        print(f"{self.crate.name}: {self.crate.count()} in {self.checks} checks")
         return self.report
 
 
-def main(names):
-    crates = libraries.crates_of(libraries.TOP)
-    tried = [Crate(it) for it in crates.values() if not names or it.name in names]
-    tried = [it for it in tried if it.bodies]
+def unreadable(tried, crates):
+    """What is wrong with the edits, before any is tried."""
+    faults = [it for crate in tried for it in crate.unreadable]
+    edits = [*pathlib.Path("crates").glob("*/wrong/*"), *HARMLESS.glob("*")]
+    for path in sorted(edits):
+        name = path.stem if path.parent == HARMLESS else path.parts[1]
+        if name not in crates:
+            faults.append(f"{path}: crates.txt has no crate {name}")
+        elif path.suffix != ".edit":
+            faults.append(f"{path}: an edit is a file NAME.edit")
+    return faults
+
+
+def try_all(tried, crates):
+    """Tries the bodies of these crates, and returns what came of each."""
     for crate in tried:
         libraries.stop_unless_built(crate.below(crates))
     # Those that take long come first: programs, whose check reads every library, and large crates.
     size = {it.name: len(it.bodies) * sum(map(len, it.originals.values())) for it in tried}
     tried.sort(key=lambda it: ("src/main.rt" not in it.originals, -size[it.name]))
-    reports = []
+    outcomes = []
     with tempfile.TemporaryDirectory(prefix="wrong-bodies-") as room:
         with concurrent.futures.ThreadPoolExecutor(len(os.sched_getaffinity(0))) as pool:
             for report in pool.map(lambda it: Trial(it, crates, room).run(), tried):
-                print(*(line for _, line in report), sep="\n", flush=True)
-                reports += report
-    failed = [line for holds, line in reports if not holds]
+                print(*(it.line for it in report), sep="\n", flush=True)
+                outcomes += report
+    return outcomes
+
+
+def main(words):
+    names = [it for it in words if it != "--read"]
+    crates = libraries.crates_of(libraries.TOP)
+    if unknown := [it for it in names if it not in crates]:
+        sys.exit(f"crates.txt has no crate {', '.join(unknown)}")
+    tried = [Crate(it) for it in crates.values() if not names or it.name in names]
+    if faults := unreadable(tried, crates):
+        print(*faults, sep="\n")
+        print(f"wrong: {len(faults)} edits cannot be read")
+        return 1
+    tried = [it for it in tried if it.bodies]
+    if "--read" in words:
+        print(*(f"{it.name}: {it.count()}" for it in tried), sep="\n")
+        print(f"wrong: {sum(it.is_wrong for crate in tried for it in crate.bodies)} can be read")
+        return 0
+    outcomes = try_all(tried, crates)
+    failed = [it.line for it in outcomes if not it.holds]
     print(*(f"FAILED: {it}" for it in failed), sep="\n", end="\n" if failed else "")
-    print(f"wrong: {len(reports) - len(failed)} passed, {len(failed)} failed")
+    for name, is_wrong in (("harmless", False), ("wrong", True)):
+        passed = [it.holds for it in outcomes if it.is_wrong == is_wrong]
+        print(f"{name}: {sum(passed)} passed, {len(passed) - sum(passed)} failed")
     return 1 if failed else 0
 
 

@@ -221,6 +221,7 @@ fn copy_value(alloc: Global, value: &KeptValue<Vec<u8>>) -> Result<KeptValue<Vec
 {
     match value {
         KeptValue::Owned(value) => {
+            // bounded by the length of the value.
             let mut copy = Vec::with_capacity(alloc, value.len())?;
             copy.extend_from_slice(value)?;
             Ok(KeptValue::Owned(copy))

@@ -68,6 +68,7 @@ impl CString {
         requires { IsFalse (has_nul bytes.now) }
         ensures { IfOk result (λ s. s ≡ bytes.now) }
     {
+        // bounded by the length of the value, with its closing zero.
         let mut copy = Vec::with_capacity(alloc, bytes.len() + 1)?;
         copy.extend_from_slice(bytes)?;
         copy.push_reserved(0);
@@ -97,6 +98,7 @@ impl CString {
     pub fn clone(&self, alloc: Global) -> Result<CString, AllocError>
         ensures { IfOk result (λ copy. copy ≡ self.now) }
     {
+        // bounded by the length of what is copied.
         let mut bytes = Vec::with_capacity(alloc, self.bytes.len())?;
         bytes.extend_from_slice(&self.bytes)?;
         Ok(CString { bytes })
@@ -290,6 +292,7 @@ fn parse_text(alloc: Global, input: &str, front: Front) -> Result<(CString, usiz
     let (kept, start_suffix) = parse_string(alloc, input, StringKind::CString, InCString, front)?;
     match close_value(alloc, input, kept) {
         Ok(value) => Ok((value, start_suffix)),
+        // allocation failed: of the copy, or of room for the closing zero.
         Err(_) => Err(ParseError::new(None, ParseErrorKind::OutOfMemory)),
     }
 }

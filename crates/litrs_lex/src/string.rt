@@ -140,6 +140,7 @@ fn finished<C: EscapeContainer, A: Allows>(
     }
     match copied(alloc, value, room_for(value.len(), allowed)) {
         Ok(made) => Ok((Some(made), place + 1)),
+        // allocation failed: of the container for the value.
         Err(_) => Err(ParseError::new(None, ParseErrorKind::OutOfMemory)),
     }
 }
@@ -194,6 +195,7 @@ fn read_twice<C: EscapeContainer, A: Allows>(
             let room = room_for(counted.len, allowed);
             match filled(alloc, input, offset, from, allowed, value, room) {
                 Some(made) => Ok((Some(made), place + 1)),
+                // allocation failed: of the container for the value.
                 None => Err(ParseError::new(None, ParseErrorKind::OutOfMemory)),
             }
         }
@@ -221,6 +223,7 @@ fn copied<C: EscapeContainer>(alloc: Global, bytes: &[u8], room: usize) -> Resul
     ensures contents { IfOk result (λ value. C.contents value ≡ bytes.now) }
     ensures room { IfOk result (λ value. room ≤ C.capacity value) }
 {
+    // bounded by the length of the value, or one more for a closing zero.
     let mut value = C::with_capacity(alloc, room)?;
     value.push_bytes(bytes)?;
     Ok(value)

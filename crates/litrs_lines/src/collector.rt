@@ -194,6 +194,7 @@ fn push_line(held: &mut String, known: &mut Option<Open>, line: &str) -> Result<
     ensures err { OnErr result
         (Extends (string_bytes held.old) (string_bytes held.new) × (known.new ≡ known.old)) }
 {
+    // bounded by the length of the line, with its LF.
     held.reserve(line.len() + 1)?;
     held.push_str(line)?;
     let Some(next) = open_after(held.as_str(), *known) else {

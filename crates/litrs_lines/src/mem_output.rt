@@ -50,6 +50,7 @@ impl MemOutput {
         ensures succeeds { room ≡ 0 → IsOk result }
     {
         Ok(MemOutput {
+            // bounded by what the caller gives.
             bytes: Vec::with_capacity(alloc, room)?,
             room,
             piece,

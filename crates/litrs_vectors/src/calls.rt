@@ -121,6 +121,7 @@ fn try_container<C: EscapeContainer + AsSlice<u8>>(trial: &mut Trial, text: &str
     again!(
         trial,
         "with_capacity",
+        // bounded by the length of the longest text that is tried so.
         C::with_capacity(trial.alloc, LONGEST).is_err()
     );
     try_room_for_more(trial, &mut C::new(trial.alloc), text);
@@ -141,6 +142,7 @@ fn try_room_for_more<C: EscapeContainer + AsSlice<u8>>(
         again!(
             trial,
             "reserve",
+            // bounded by the length of the longest text that is tried so.
             container.reserve(LONGEST).is_err(),
             container.as_slice() == text.as_bytes()
         );
@@ -196,6 +198,7 @@ pub fn try_run(trial: &mut Trial, text: &str, begins: &str) {
 /// Runs over a text that is the only line of an input. Whether that was refused memory.
 fn is_run_refused(trial: &mut Trial, text: &str, begins: &str) -> bool {
     trial.at = ("MemOutput", "&str");
+    // bounded by what every output of this program has.
     match MemOutput::new(trial.alloc, ROOM, PIECE, None) {
         Ok(mut output) => is_report_refused(trial, &mut output, text, begins),
         Err(_) => is_output_refused(trial, text, begins),
@@ -205,6 +208,7 @@ fn is_run_refused(trial: &mut Trial, text: &str, begins: &str) -> bool {
 /// The same where memory for the output was refused once.
 fn is_output_refused(trial: &mut Trial, text: &str, begins: &str) -> bool {
     trial.note_refusal("new");
+    // bounded by what every output of this program has.
     match MemOutput::new(trial.alloc, ROOM, PIECE, None) {
         Ok(mut output) => is_report_refused(trial, &mut output, text, begins),
         Err(_) => true,

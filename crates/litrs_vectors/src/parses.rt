@@ -147,6 +147,7 @@ fn parse_copy<B: Text>(
 ) -> Result<Literal<B>, ParseError> {
     match copied(trial, text) {
         Some(copy) => parse_by(trial.alloc, parse, copy),
+        // allocation failed: of the copy.
         None => Err(ParseError::new(None, ParseErrorKind::OutOfMemory)),
     }
 }

@@ -31,6 +31,7 @@ pub const NO_LITERAL: Whole<'static> = Whole {
 pub fn try_prefixes(trial: &mut Trial, text: &str, whole: &Whole) {
     let mut longer = String::new(trial.alloc);
     if text.len() <= LONGEST {
+        // bounded by twice the length of the longest text that is tried so.
         trial.own(longer.reserve(2 * LONGEST));
         for (len, _) in text.char_indices() {
             try_prefix(trial, &text[..len], whole, &mut longer);

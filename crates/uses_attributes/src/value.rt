@@ -40,6 +40,7 @@ pub fn float(alloc: Global, setting: &Setting) -> Result<Option<f64>, AllocError
         return Ok(None);
     };
     let part = lit.number_part().as_bytes();
+    // bounded by the length of the part.
     let digits: Vec<u8> = part.iter().copied().filter(|&b| b != b'_').collect(alloc)?;
     match fast_float::parse::<f64, _>(digits.as_slice()) {
         Ok(value) if setting.negative => Ok(Some(-value)),

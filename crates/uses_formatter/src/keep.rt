@@ -58,5 +58,6 @@ pub fn digits(alloc: Global, main: &str) -> Result<Vec<char>, AllocError>
     ensures { IfOk result (λ digits. digits.items ≡ digits_of (chars main.now)) }
 {
     let digits = main.chars().filter(|c| *c != '_');
+    // bounded by the length of the digits.
     digits.map(|c| c.to_ascii_lowercase()).collect(alloc)
 }
