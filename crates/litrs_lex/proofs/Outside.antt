@@ -8,7 +8,8 @@ use Rattle.litrs_base.specs.declared.integer.IntegerBase.TheVariants.{Binary, Oc
 use Rattle.litrs_lex.proofs.Marks.{mark, either, both, marked}
 use Rattle.litrs_lex.specs.declared.search.Run.{Run}
 use Rattle.litrs_lex.specs.declared.search.Run.TheVariants.{Digits, Identifier, Blanks, Hashes}
-use Rattle.litrs_lex.specs.Run.{is_in_run, last_digit, last_letter, first_other, second_other, third_other}
+use Rattle.litrs_lex.specs.Run.{is_in_run}
+use Rattle.litrs_lex.specs.RunBytes.{last_digit, last_letter, first_other, second_other, third_other}
 
 -- a letter as a small one
 abbrev pub small : ℕ → ℕ

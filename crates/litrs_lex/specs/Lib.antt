@@ -1,6 +1,7 @@
 -- what a search stops at
 pub mod Special
 pub mod Run
+pub mod RunBytes
 pub mod Target
 pub mod Closing
 -- what a search has found out

@@ -2,9 +2,8 @@
 -- "String literals", "Raw string literals"; Identifiers.
 use Rattle.std.specs.Prelude.{ℕ, Bool, ◌==◌, ◌||◌}
 use Rattle.std.specs.Char.{is_ascii_alphanumeric}
-use Rattle.litrs_base.specs.Characters.{underscore, space, tab, line_feed, hash, is_blank}
+use Rattle.litrs_base.specs.Characters.{underscore, hash, is_blank}
 use Rattle.litrs_base.specs.Base.{is_digit_or_underscore}
-use Rattle.litrs_base.specs.declared.integer.IntegerBase.TheVariants.{Binary, Octal, Decimal, Hexadecimal}
 use Rattle.litrs_lex.specs.declared.search.Run.{Run}
 use Rattle.litrs_lex.specs.declared.search.Run.TheVariants.{Digits, Identifier, Blanks, Hashes}
 
@@ -15,52 +14,3 @@ is_in_run (Digits base) b = is_digit_or_underscore base b
 is_in_run Identifier b = is_ascii_alphanumeric b || (b == underscore)
 is_in_run Blanks b = is_blank b
 is_in_run Hashes b = b == hash
-
--- the greatest decimal digit of a run, and the byte before `0` where it has none
-abbrev pub last_digit : Run → ℕ
-last_digit (Digits Binary) = 49
-last_digit (Digits Octal) = 55
-last_digit (Digits Decimal) = 57
-last_digit (Digits Hexadecimal) = 57
-last_digit Identifier = 57
-last_digit Blanks = 47
-last_digit Hashes = 47
-
--- the greatest small letter of a run, and the byte before `a` where it has none
-abbrev pub last_letter : Run → ℕ
-last_letter (Digits Binary) = 96
-last_letter (Digits Octal) = 96
-last_letter (Digits Decimal) = 96
-last_letter (Digits Hexadecimal) = 102
-last_letter Identifier = 122
-last_letter Blanks = 96
-last_letter Hashes = 96
-
--- the bytes of a run that are neither digits nor letters: three, or one of them more than once
-abbrev pub first_other : Run → ℕ
-first_other (Digits base) = underscore
-first_other Identifier = underscore
-first_other Blanks = space
-first_other Hashes = hash
-
-abbrev pub second_other : Run → ℕ
-second_other (Digits base) = underscore
-second_other Identifier = underscore
-second_other Blanks = tab
-second_other Hashes = hash
-
-abbrev pub third_other : Run → ℕ
-third_other (Digits base) = underscore
-third_other Identifier = underscore
-third_other Blanks = line_feed
-third_other Hashes = hash
-
--- the bits of the table of classes that a byte of the run has one of
-abbrev pub classes : Run → ℕ
-classes (Digits Binary) = 0x21
-classes (Digits Octal) = 0x22
-classes (Digits Decimal) = 0x24
-classes (Digits Hexadecimal) = 0x28
-classes Identifier = 0x34
-classes Blanks = 0x40
-classes Hashes = 0x80

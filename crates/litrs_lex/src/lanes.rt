@@ -4,7 +4,8 @@ ghost use Rattle.std.specs.Simd.Lanes.{mask_l, chunk};
 ghost use Rattle.litrs_base.specs.Characters.{carriage_return, backslash, nul};
 ghost use Rattle.litrs_lex.specs.Special.{is_special};
 ghost use Rattle.litrs_lex.specs.Closing.{may_close, pairs};
-ghost use Rattle.litrs_lex.specs.Run.{is_in_run, last_digit, last_letter, first_other, second_other, third_other};
+ghost use Rattle.litrs_lex.specs.Run.{is_in_run};
+ghost use Rattle.litrs_lex.specs.RunBytes.{last_digit, last_letter, first_other, second_other, third_other};
 
 use crate::{Run, Special};
 use litrs_base::IntegerBase;

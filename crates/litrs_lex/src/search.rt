@@ -4,7 +4,8 @@ ghost use Rattle.std.specs.List.{prefix_len};
 ghost use Rattle.std.specs.Int.{w64, trailing_zeros};
 ghost use Rattle.std.specs.Simd.Lanes.{mask_l, chunk};
 ghost use Rattle.litrs_lex.specs.Special.{is_special};
-ghost use Rattle.litrs_lex.specs.Run.{classes, is_in_run};
+ghost use Rattle.litrs_lex.specs.Run.{is_in_run};
+ghost use Rattle.litrs_lex.specs.RunBytes.{classes};
 ghost use Rattle.litrs_lex.specs.Target.{is_target, is_passed};
 
 use crate::lanes::{outside_marks, special_marks};

@@ -5,7 +5,8 @@ use Rattle.litrs_base.specs.declared.integer.IntegerBase.TheVariants.{Binary, Oc
 use Rattle.litrs_lex.specs.declared.search.Run.{Run}
 use Rattle.litrs_lex.specs.declared.search.Run.TheVariants.{Digits, Identifier, Blanks, Hashes}
 use Rattle.litrs_lex.specs.declared.search.TheConstants.{CLASSES}
-use Rattle.litrs_lex.specs.Run.{classes, is_in_run}
+use Rattle.litrs_lex.specs.Run.{is_in_run}
+use Rattle.litrs_lex.specs.RunBytes.{classes}
 use Rattle.litrs_lex.proofs.search.is_in_run.Goals as goal
 
 found : (run : Run) → agree_below (λ b. not (eqb (bit_and (get_or CLASSES b 0) (classes run)) 0)) (is_in_run run) 256 ≡ true
