@@ -28,11 +28,11 @@ mod word;
 ///
 /// A list of literals may be cut at the first comma after which no literal goes on, by
 /// `!goes_on(&text[..comma + 1])`. Each call reads the text from its start, so that this takes time
-/// quadratic in the commas inside one string. The program `uses_attributes` tries no comma before
-/// the place where a parse of the whole rest stops, which is after the string.
+/// quadratic in the commas inside one string. The crate `litrs_prefix` finds the literal at the
+/// front of a longer text in one pass; the program `uses_attributes` reads its lists so.
 ///
 /// [ref]: https://doc.rust-lang.org/reference/tokens.html#literals
-// What answers for each kind is a call: with it inlined a word took a sixth longer.
+// What answers for each kind is a call, so that a word is answered without its frame.
 pub fn goes_on(text: &str) -> bool
     ensures { IsTrue result ↔ Begins literal_parse (chars text.now) }
 {

@@ -56,8 +56,7 @@ impl Front {
     {
         match text.as_bytes() {
             [] => Front::Empty,
-            // All letters by one branch: with letters and quotes in one row of tests, a mix of
-            // names took a third longer.
+            // All letters by one branch, so that a name is not compared with each quote and digit.
             [first, ..] if *first >= b'A' => match text.as_bytes() {
                 [b'r', ..] => Front::Raw(StringKind::String),
                 [b'b', rest @ ..] => match rest {

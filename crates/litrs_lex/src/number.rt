@@ -41,7 +41,7 @@ pub fn cut_number(input: &str) -> Result<NumberCut, ParseError>
         (IsRefused (kind_parse (number_kind (chars input.now))) (chars input.now)) }
 {
     let cut = cut_digits(input);
-    // With `?` in place of each `match` floats took a tenth longer.
+    // Each `match` makes the answer in place, with no conversion of the error.
     if begins_float(&cut, input.as_bytes()) {
         match cut_float_at(input, cut.end_main) {
             Ok(cut) => Ok(NumberCut::Float(cut)),

@@ -19,5 +19,8 @@ pub mod NumberComplete
 pub mod Dispatched
 -- what was meant as a literal
 pub mod Pieces
+pub mod Meant
+pub mod MeantEnds
+pub mod MeantPieces
 -- whether what was cut off is a literal
 pub mod Stands

@@ -9,7 +9,7 @@ split_if : (b : Bool) (c : ℕ) (x y t : List ℕ) → x ++ y ≡ t → (if b th
 split_if true c x y t h = ap (λ (l : List ℕ). c ∷ l) h
 split_if false c x y t h = refl
 
-run_and_rest : (t : List ℕ) → first_run t ++ after_run t ≡ t
+pub run_and_rest : (t : List ℕ) → first_run t ++ after_run t ≡ t
 run_and_rest [] = refl
 run_and_rest (c ∷ t) = split_if (is_xid_continue c) c (first_run t) (after_run t) t (run_and_rest t)
 

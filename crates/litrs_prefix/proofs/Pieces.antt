@@ -1,5 +1,5 @@
 -- A piece at the front of a text that is refused.
-use Rattle.std.proofs.Common.{◌≡◌, ℕ, ◌+◌, ◌<◌, ◌^◌, List, ◌++◌, length, take, drop, None, true, sym, ap, subst, inl, inr, ◌∙◌, length-take, length-drop, [], ◌∷◌, ◌-◌, ◌≤◌, refl, arith}
+use Rattle.std.proofs.Common.{◌≡◌, ℕ, ◌+◌, ◌<◌, ◌^◌, List, ◌++◌, length, take, drop, None, true, sym, ap, subst, inl, inr, ◌∙◌, append_assoc, length-take, length-drop, [], ◌∷◌, ◌-◌, ◌≤◌, refl, arith}
 use Rattle.std.specs.Str.{chars, IsUtf8, IsCharBoundary}
 use Rattle.std.specs.Prelude.{encode_utf8, encode_utf8_all}
 use Rattle.std.proofs.lemmas.Str.{chars-append, chars-nil, encode_ascii, encodes-chars, encodes-IsAscii, IsUtf8-take}
@@ -11,17 +11,21 @@ use Rattle.litrs_base.specs.Text.{byte_len, first_passes}
 use Rattle.litrs_grammar.specs.Float.{is_period}
 use Rattle.litrs_base.specs.Derivations.{HasNoDerivation}
 use Rattle.litrs_grammar.specs.Literal.{Derivation, IsLiteral, literal_parse}
-use Rattle.litrs_grammar.specs.Refused.{IsRefused, IsRefusedOrOutOfMemory}
-use Rattle.litrs_base.specs.Refusal.{Refusal, span_of, MovesWithin}
+use Rattle.litrs_grammar.specs.Refused.{IsRefused, IsOutOfMemory, IsRefusedOrOutOfMemory}
+use Rattle.litrs_grammar.proofs.RefusalKinds.{no_refusal_is_of_memory}
+use Rattle.litrs_base.specs.Refusal.{Refusal, refusal_of, kind_of, span_of, MovesWithin}
+use Rattle.litrs_base.specs.declared.err.ParseErrorKind.TheVariants.{OutOfMemory}
 use Rattle.litrs_lex.proofs.CharCuts.{cut_at}
 use Rattle.litrs.proofs.MovedRefusals.{refusal_moves}
 use Rattle.litrs_prefix.specs.declared.MalformedPrefix.{MalformedPrefix}
 use Rattle.litrs_prefix.specs.Ends.{EndsBefore}
-use Rattle.litrs_prefix.specs.Malformed.{IsMalformed, IsMalformedOrOutOfMemory}
+use Rattle.litrs_prefix.specs.Malformed.{IsMalformed, IsOutOfMemoryAt, IsMalformedOrOutOfMemory}
+use Rattle.litrs_prefix.specs.Meant.{IsMeant}
 use Rattle.litrs_prefix.specs.Opens.{opens}
 use Rattle.litrs_prefix.specs.Prefix.{HasPrefix, HasNoPrefix}
 use Rattle.litrs_prefix.proofs.Complete.{front_is}
 use Rattle.litrs_prefix.proofs.LongerTexts.{whole}
+use Rattle.litrs_prefix.proofs.MeantPieces.{meant_longer}
 use Rattle.litrs_prefix.proofs.Opened.{opened}
 
 -- the two parts of a text that is cut at a character
@@ -40,26 +44,44 @@ piece_len : (bs front : List ℕ) (n : ℕ) → IsUtf8 bs → IsCharBoundary bs 
 piece_len bs front n u bound before size =
     ap length (encodes-chars front (subst (λ (l : List ℕ). IsUtf8 l) (sym before) (IsUtf8-take bs n u bound))) ∙ size
 
+-- the literal that a piece is has no memory
+pub out_of_memory : (bs front rest : List ℕ) (n : ℕ) (e : ParseError) → IsUtf8 bs → IsCharBoundary bs n → front ≡ take n bs → rest ≡ drop n bs → length front ≡ n →
+    IsOutOfMemory literal_parse (chars front) e → IsOutOfMemoryAt (chars bs) (record { error = e; len = n })
+out_of_memory bs front rest n e u bound before after size is = record {
+  front = chars front;
+  rest = chars rest;
+  spells = parts_spell bs front rest n u bound before after;
+  len = piece_len bs front n u bound before size;
+  refused = is;
+}
+
 pub piece_refused : (bs front rest : List ℕ) (n : ℕ) (e : ParseError) → IsUtf8 bs → IsCharBoundary bs n → front ≡ take n bs → rest ≡ drop n bs → length front ≡ n →
-    opens (chars bs) ≡ true → IsRefusedOrOutOfMemory literal_parse (chars front) e → (HasNoDerivation (IsLiteral (chars front)) → HasNoPrefix (chars bs)) →
+    opens (chars bs) ≡ true → IsRefusedOrOutOfMemory literal_parse (chars front) e → HasNoPrefix (chars bs) → IsMeant (chars bs) (chars front) →
     0 < n → IsMalformedOrOutOfMemory (chars bs) (record { error = e; len = n })
-piece_refused bs front rest n e u bound before after size opens_at (inl is) none some = inl (record {
+piece_refused bs front rest n e u bound before after size opens_at (inl is) none meant some = inl (record {
   front = chars front;
   rest = chars rest;
   spells = parts_spell bs front rest n u bound before after;
   len = piece_len bs front n u bound before size;
   some = some;
+  meant = meant;
   refused = is;
   opens = opens_at;
-  none = none is.none;
+  none = none;
 })
-piece_refused bs front rest n e u bound before after size opens_at (inr is) none some = inr (record {
-  front = chars front;
-  rest = chars rest;
-  spells = parts_spell bs front rest n u bound before after;
-  len = piece_len bs front n u bound before size;
-  refused = is;
-})
+piece_refused bs front rest n e u bound before after size opens_at (inr is) none meant some =
+    inr (out_of_memory bs front rest n e u bound before after size is)
+
+-- the error that there was no memory is that of such a literal
+pub memory_at : (bs front rest : List ℕ) (n : ℕ) (e : ParseError) → IsUtf8 bs → IsCharBoundary bs n → front ≡ take n bs → rest ≡ drop n bs → length front ≡ n →
+    IsRefusedOrOutOfMemory literal_parse (chars front) e → kind_of e ≡ OutOfMemory → IsMalformedOrOutOfMemory (chars bs) (record { error = e; len = n })
+memory_at bs front rest n e u bound before after size (inl is) kind = absurd (no_refusal_is_of_memory literal_parse (chars front) (refusal_of e) is.table kind)
+memory_at bs front rest n e u bound before after size (inr is) kind = inr (out_of_memory bs front rest n e u bound before after size is)
+
+-- another error says that the piece is no literal
+pub none_at : (front : List ℕ) (e : ParseError) → IsRefusedOrOutOfMemory literal_parse front e → (kind_of e ≡ OutOfMemory → ⊥) → HasNoDerivation (IsLiteral front)
+none_at front e (inl is) other = is.none
+none_at front e (inr is) other = absurd (other (ap (λ (r : Refusal). r.kind) is.error))
 
 -- what the spans of an error are moved by fits, where it is within the source text
 pub malformed_moves : (bs : List ℕ) (e : MalformedPrefix) (offset : ℕ) → IsUtf8 bs → offset + length bs < 2 ^ 64 → IsMalformedOrOutOfMemory (chars bs) e → MovesWithin offset e.error
@@ -124,3 +146,27 @@ before_period bs front last n u bound before after is =
 -- what was meant as a literal ends at a character
 pub malformed_boundary : (bs : List ℕ) (e : MalformedPrefix) → IsUtf8 bs → IsMalformed (chars bs) e → IsCharBoundary bs e.len
 malformed_boundary bs e u is = subst (λ (n : ℕ). IsCharBoundary bs n) is.len (cut_at bs is.front is.rest u (sym is.spells)).boundary
+
+-- the piece that is one character longer than a literal
+pub meant_next : (bs : List ℕ) (start n : ℕ) (d : Derivation) → IsUtf8 bs → IsCharBoundary bs start → IsCharBoundary bs n → chars (drop n bs) ≡ drop 1 (chars (drop start bs)) →
+    IsMeant (chars bs) (chars (take start bs)) → IsLiteral (chars (take start bs)) d → IsMeant (chars bs) (chars (take n bs))
+meant_next bs start n d u before after left is literal = go (chars (drop start bs)) refl
+  where
+    old : chars (take start bs) ++ chars (drop start bs) ≡ chars bs
+    old = parts_spell bs (take start bs) (drop start bs) start u before refl refl
+
+    new : chars (take n bs) ++ chars (drop n bs) ≡ chars bs
+    new = parts_spell bs (take n bs) (drop n bs) n u after refl refl
+
+    go : (r : List ℕ) → chars (drop start bs) ≡ r → IsMeant (chars bs) (chars (take n bs))
+    go [] e =
+        let same : chars (take n bs) ≡ chars (take start bs) =
+        append_cancel_right (chars (take n bs)) (chars (take start bs)) []
+        (ap (λ (l : List ℕ). chars (take n bs) ++ l) (sym (left ∙ ap (drop 1) e)) ∙ (new ∙ (sym old ∙ ap (λ (l : List ℕ). chars (take start bs) ++ l) e))) in
+        subst (λ (l : List ℕ). IsMeant (chars bs) l) (sym same) is
+    go (c ∷ r) e =
+        let same : chars (take n bs) ≡ chars (take start bs) ++ c ∷ [] =
+        append_cancel_right (chars (take n bs)) (chars (take start bs) ++ c ∷ []) r
+        (ap (λ (l : List ℕ). chars (take n bs) ++ l) (sym (left ∙ ap (drop 1) e))
+        ∙ (new ∙ (sym old ∙ (ap (λ (l : List ℕ). chars (take start bs) ++ l) e ∙ sym (append_assoc (chars (take start bs)) (c ∷ []) r))))) in
+        subst (λ (l : List ℕ). IsMeant (chars bs) l) (sym same) (meant_longer (chars bs) (chars (take start bs)) c d is literal)

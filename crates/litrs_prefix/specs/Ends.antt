@@ -1,10 +1,12 @@
 -- Where the code finds that a literal ends.
-use Rattle.std.specs.Prelude.{◌≡◌, ◌⊎◌, ℕ, Bool, true, false, List, ◌++◌, drop, IsTrue, IsFalse}
+use Rattle.std.specs.Prelude.{◌≡◌, ◌⊎◌, ℕ, Bool, true, false, not, ◌==◌, ◌&&◌, List, [], ◌∷◌, ◌++◌, drop, if◌then◌else◌, IsTrue, IsFalse}
 use Rattle.std.specs.List.{prefix_len}
 use Rattle.std.specs.Str.{chars, IsCharBoundary}
 use Rattle.litrs_base.specs.declared.err.ParseErrorKind.{ParseErrorKind}
 use Rattle.litrs_base.specs.declared.err.ParseErrorKind.TheVariants.{UnexpectedChar, InvalidSuffix}
-use Rattle.litrs_grammar.specs.Float.{is_decimal_char}
+use Rattle.litrs_base.specs.Characters.{single_quote, backslash, line_feed}
+use Rattle.litrs_grammar.specs.Float.{is_decimal_char, is_period, is_sign}
+use Rattle.litrs_grammar.specs.Integer.{is_e}
 use Rattle.litrs_grammar.specs.Literal.{Derivation, a_bool, IsLiteral}
 use Rattle.litrs_prefix.specs.Prefix.{may_follow, HasPrefix}
 
@@ -19,6 +21,36 @@ NoBoolBefore t rest = (b : Bool) → HasPrefix t (a_bool b) rest → ⊥
 -- what is left of a text after the decimal digits and underscores at its front
 abbrev pub after_digits : List ℕ → List ℕ
 after_digits t = drop (prefix_len is_decimal_char t) t
+
+-- the same after a period
+abbrev pub after_fraction : List ℕ → List ℕ
+after_fraction [] = []
+after_fraction (c ∷ t) = if is_period c then after_digits t else (c ∷ t)
+
+-- what is left of a text after the sign at its front
+abbrev pub after_sign : List ℕ → List ℕ
+after_sign [] = []
+after_sign (c ∷ t) = if is_sign c then t else (c ∷ t)
+
+-- what is left of a text after the exponent at its front, which need not have a digit
+abbrev pub after_exponent : List ℕ → List ℕ
+after_exponent [] = []
+after_exponent (c ∷ t) = if is_e c then after_digits (after_sign t) else (c ∷ t)
+
+-- what follows the first quote that no backslash escapes; the first character may be escaped
+abbrev pub past_quote : (quote : ℕ) (escaped : Bool) → List ℕ → List ℕ
+past_quote quote escaped [] = []
+past_quote quote escaped (c ∷ t) =
+    if (c == quote) && not escaped then t
+    else past_quote quote ((c == backslash) && not escaped) t
+
+-- the same within the line, or what follows the line
+abbrev pub past_single_quote : (escaped : Bool) → List ℕ → List ℕ
+past_single_quote escaped [] = []
+past_single_quote escaped (c ∷ t) =
+    if c == line_feed then c ∷ t
+    else if (c == single_quote) && not escaped then t
+    else past_single_quote ((c == backslash) && not escaped) t
 
 -- the kinds of refusals of what is no suffix
 abbrev pub IsSuffixKind : ParseErrorKind → Type 0

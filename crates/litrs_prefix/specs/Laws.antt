@@ -4,6 +4,9 @@ use Rattle.litrs_grammar.specs.Suffix.{is_suffix}
 use Rattle.litrs_grammar.specs.Escape.{Switches}
 use Rattle.litrs_grammar.specs.Quoted.{QuotedParts, IsQuoted}
 use Rattle.litrs_grammar.specs.Literal.{Derivation, IsLiteral}
+use Rattle.litrs_base.specs.Refusal.{refusal_of}
+use Rattle.litrs_prefix.specs.declared.MalformedPrefix.{MalformedPrefix}
+use Rattle.litrs_prefix.specs.Malformed.{IsMalformed}
 use Rattle.litrs_prefix.specs.Opens.{opens}
 use Rattle.litrs_prefix.specs.Prefix.{HasPrefix, ends_suffix}
 
@@ -37,3 +40,8 @@ PrefixesAreUnique = (t : List ℕ) (d e : Derivation) (r u : List ℕ) →
 abbrev pub PrefixesOpen : Type 0
 PrefixesOpen = (t : List ℕ) (d : Derivation) (rest : List ℕ) →
     HasPrefix t d rest → IsTrue (opens t)
+
+-- what was meant as a literal is one piece alone, with one refusal
+abbrev pub MalformedAreUnique : Type 0
+MalformedAreUnique = (t : List ℕ) (e f : MalformedPrefix) → IsMalformed t e → IsMalformed t f →
+    (e.len ≡ f.len) × (refusal_of e.error ≡ refusal_of f.error)

@@ -2,8 +2,9 @@
 pub mod Prefix
 -- whether one opens there
 pub mod Opens
--- that none stands there, though one opens
+-- that none stands there, though one opens, and what was meant as one
 pub mod Malformed
+pub mod Meant
 -- what more text may change
 pub mod GoesOn
 -- what holds of all that

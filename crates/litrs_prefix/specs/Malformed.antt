@@ -5,18 +5,21 @@ use Rattle.litrs_base.specs.Text.{byte_len}
 use Rattle.litrs_grammar.specs.Literal.{literal_parse}
 use Rattle.litrs_grammar.specs.Refused.{IsRefused, IsOutOfMemory}
 use Rattle.litrs_prefix.specs.declared.MalformedPrefix.{MalformedPrefix}
+use Rattle.litrs_prefix.specs.Meant.{IsMeant}
 use Rattle.litrs_prefix.specs.Opens.{opens}
 use Rattle.litrs_prefix.specs.Prefix.{HasNoPrefix}
 
 -- A literal opens at the front of the text, and none stands there. What was meant as one is the
--- first `len` bytes, of which there are some, and the error is the refusal of them by the parse of a literal of any kind:
--- so all that `IsRefused` says holds of it, its table, its span in these bytes, its finality.
+-- first `len` bytes, of which there are some, and the error is the refusal of them by the parse of
+-- a literal of any kind: so all that `IsRefused` says holds of it, its table, its span in these
+-- bytes, its finality.
 pub record IsMalformed (t : List ℕ) (e : MalformedPrefix) : Type 0 where
   pub front : List ℕ
   pub rest : List ℕ
   pub spells : front ++ rest ≡ t
   pub len : byte_len front ≡ e.len
   pub some : 0 < e.len
+  pub meant : IsMeant t front
   pub refused : IsRefused literal_parse front e.error
   pub opens : IsTrue (opens t)
   pub none : HasNoPrefix t

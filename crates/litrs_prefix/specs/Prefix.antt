@@ -1,5 +1,6 @@
 -- The literal at the front of a longer text. The Rust Reference, Tokens: "Literals", "Suffixes",
--- "Reserved forms similar to number literals", "Reserved prefixes"; and that a token is the longest.
+-- "Reserved forms similar to number literals", "Reserved prefixes"; and that a token is the
+-- longest.
 use Rattle.std.specs.Prelude.{◌≡◌, ℕ, Bool, true, false, not, ◌==◌, ◌&&◌, ◌||◌, List, [], ◌∷◌, ◌++◌, Option, Some, None, IsTrue}
 use Rattle.std.specs.Char.{is_ascii_digit}
 use Rattle.unicode_ident.specs.Ident.{is_xid_continue}
@@ -51,7 +52,8 @@ is_bare (Some fraction) = is_empty fraction
 -- A float ends before the rest: no digit follows, nor, where it ends with its period, another.
 abbrev pub ends_float : FloatParts → List ℕ → Bool
 ends_float d rest =
-    not (first_passes is_ascii_digit rest) && not (first_passes is_period rest && is_bare d.fraction)
+    not (first_passes is_ascii_digit rest)
+    && not (first_passes is_period rest && is_bare d.fraction)
 
 -- The rest may follow the literal in a longer text. It is asked for two characters at most.
 abbrev pub may_follow : Derivation → List ℕ → Bool

@@ -1,5 +1,5 @@
 //! Where the literal ends that opens at the front of a text.
-ghost use Rattle.std.specs.Prelude.{◌≡◌, ◌++◌, ◌∷◌, ℕ, Bool, List, Some, codes, length, drop, ◌<◌, IsTrue, IsFalse, IfSome, IfNone};
+ghost use Rattle.std.specs.Prelude.{◌≡◌, ◌++◌, ◌∷◌, ℕ, Bool, List, Some, codes, drop, IsTrue, IsFalse, IfSome, IfNone};
 ghost use Rattle.std.specs.Str.{chars, IsCharBoundary};
 ghost use Rattle.std.specs.declared.ops.Range.{Range};
 ghost use Rattle.litrs_base.specs.Refusal.{kind_of, span_of};
@@ -16,10 +16,9 @@ ghost use Rattle.litrs_grammar.specs.Raw.{raw_front, RawParts, IsRawLiteral};
 ghost use Rattle.litrs_lex.specs.Front.{grammar_kind};
 ghost use Rattle.litrs_prefix.specs.Ends.{after_digits, IsEndOf, NoBoolBefore, IsSuffixKind, EndsBefore};
 ghost use Rattle.litrs_prefix.specs.Opens.{after_name};
-ghost use Rattle.litrs_prefix.specs.Prefix.{ends_suffix, ends_integer, ends_float, ends_bool, is_bare, HasPrefix};
+ghost use Rattle.litrs_prefix.specs.Prefix.{ends_suffix, ends_integer, ends_float, ends_bool, is_bare, HasPrefix, HasNoPrefix};
 
 use crate::follow::{begins_with_digit, keeps_period};
-use crate::malformed::{Body, malformed_end};
 use crate::name::{after_name, split_first_char, split_name};
 use litrs::{ParseError, ParseErrorKind};
 use litrs_lex::{
@@ -27,21 +26,21 @@ use litrs_lex::{
     end_dec_digits, scan_raw_string,
 };
 
-/// Where the literal at the front of the text ends, suffix and all, if one stands there; else where
-/// ends what was meant as one: after the text, where nothing else stands first.
-pub fn literal_end(text: &str) -> usize
-    ensures boundary { IsCharBoundary text.now result }
-    ensures some { 0 < length text.now → 0 < result }
-    ensures literal { (d : Derivation) (r : List ℕ) → HasPrefix (chars text.now) d r →
-        EndsBefore text.now r result }
+/// Where the literal at the front of the text ends, suffix and all, if one stands there; None where
+/// it is plain that none does.
+pub fn literal_end(text: &str) -> Option<usize>
+    ensures boundary { IfSome result (IsCharBoundary text.now) }
+    ensures literal { IfSome result (λ end. (d : Derivation) (r : List ℕ) →
+        HasPrefix (chars text.now) d r → EndsBefore text.now r end) }
+    ensures none { IfNone result (HasNoPrefix (chars text.now)) }
 {
     match some_end(text) {
-        0 => text.len(),
-        end => end,
+        0 => None,
+        end => Some(end),
     }
 }
 
-/// The same, where it may be 0 for a text at whose front no literal stands.
+/// The same, or 0, where no literal ends.
 fn some_end(text: &str) -> usize
     ensures boundary { IsCharBoundary text.now result }
     ensures literal { (d : Derivation) (r : List ℕ) → HasPrefix (chars text.now) d r →
@@ -91,8 +90,8 @@ fn other_end(text: &str) -> usize
 
 /// Where a literal ends that is refused for what follows it, since more than a suffix does: its
 /// suffix is the name at the place where the refusal points. Where it is refused for another cause,
-/// the end of what was meant as it.
-fn suffix_end(text: &str, e: &ParseError, body: Body) -> usize
+/// none stands there, and the answer is 0.
+fn suffix_end(text: &str, e: &ParseError) -> usize
     ensures boundary { IsCharBoundary text.now result }
     ensures literal { (span : Range ℕ) (x r : List ℕ) → span_of e.now ≡ Some span →
         IsSuffixKind (kind_of e.now) → IsCharBoundary text.now span.start →
@@ -100,7 +99,7 @@ fn suffix_end(text: &str, e: &ParseError, body: Body) -> usize
 {
     match suffix_start(e) {
         Some(start) => end_from(text, start),
-        None => malformed_end(text, e, body),
+        None => 0,
     }
 }
 
@@ -131,8 +130,9 @@ fn end_from(text: &str, start: usize) -> usize
 fn number_end(text: &str) -> usize
     requires { IsTrue (first_passes is_ascii_digit text.now) }
     ensures boundary { IsCharBoundary text.now result }
-    ensures integer { (l r : List ℕ) (d : IntegerParts) → l ++ r ≡ chars text.now → IsIntegerOf l d →
-        IsTrue (ends_suffix d.suffix r) → IsTrue (ends_integer d r) → EndsBefore text.now r result }
+    ensures integer { (l r : List ℕ) (d : IntegerParts) → l ++ r ≡ chars text.now →
+        IsIntegerOf l d → IsTrue (ends_suffix d.suffix r) → IsTrue (ends_integer d r) →
+        EndsBefore text.now r result }
     ensures float { (l r : List ℕ) (d : FloatParts) → l ++ r ≡ chars text.now → IsFloatOf l d →
         IsTrue (ends_suffix d.suffix r) → IsTrue (ends_float d r) → EndsBefore text.now r result }
 {
@@ -159,8 +159,9 @@ fn period_end(text: &str, digits: usize, after: &str) -> usize
     requires rest { chars (drop digits text.now) ≡ after_digits (chars text.now) }
     requires end { IsEndOf text.now after.now }
     ensures boundary { IsCharBoundary text.now result }
-    ensures integer { (l r : List ℕ) (d : IntegerParts) → l ++ r ≡ chars text.now → IsIntegerOf l d →
-        IsTrue (ends_suffix d.suffix r) → IsTrue (ends_integer d r) → EndsBefore text.now r result }
+    ensures integer { (l r : List ℕ) (d : IntegerParts) → l ++ r ≡ chars text.now →
+        IsIntegerOf l d → IsTrue (ends_suffix d.suffix r) → IsTrue (ends_integer d r) →
+        EndsBefore text.now r result }
     ensures float { (l r : List ℕ) (d : FloatParts) → l ++ r ≡ chars text.now → IsFloatOf l d →
         IsTrue (ends_suffix d.suffix r) → IsTrue (ends_float d r) → EndsBefore text.now r result }
 {
@@ -177,8 +178,8 @@ fn period_end(text: &str, digits: usize, after: &str) -> usize
 fn cut_end(text: &str) -> usize
     requires { IsTrue (first_passes is_ascii_digit text.now) }
     ensures boundary { IsCharBoundary text.now result }
-    ensures integer { (l r : List ℕ) (d : IntegerParts) → l ++ r ≡ chars text.now → IsIntegerOf l d →
-        IsTrue (ends_suffix d.suffix r) → IsTrue (ends_integer d r) →
+    ensures integer { (l r : List ℕ) (d : IntegerParts) → l ++ r ≡ chars text.now →
+        IsIntegerOf l d → IsTrue (ends_suffix d.suffix r) → IsTrue (ends_integer d r) →
         IsFalse (first_passes is_period (after_digits (chars text.now))) →
         EndsBefore text.now r result }
     ensures float { (l r : List ℕ) (d : FloatParts) → l ++ r ≡ chars text.now → IsFloatOf l d →
@@ -188,7 +189,7 @@ fn cut_end(text: &str) -> usize
     match cut_number(text) {
         Ok(NumberCut::Integer(cut)) => end_from(text, cut.end_main),
         Ok(NumberCut::Float(cut)) => end_from(text, cut.end_number),
-        Err(e) => suffix_end(text, &e, Body::Number),
+        Err(e) => suffix_end(text, &e),
     }
 }
 
@@ -202,7 +203,7 @@ fn char_end(text: &str) -> usize
 {
     match cut_char(text) {
         Ok((_, start)) => end_from(text, start),
-        Err(e) => suffix_end(text, &e, Body::Char(1)),
+        Err(e) => suffix_end(text, &e),
     }
 }
 
@@ -216,7 +217,7 @@ fn byte_end(text: &str) -> usize
 {
     match cut_byte(text) {
         Ok((_, start)) => end_from(text, start),
-        Err(e) => suffix_end(text, &e, Body::Char(2)),
+        Err(e) => suffix_end(text, &e),
     }
 }
 
@@ -238,7 +239,7 @@ fn quoted_end(text: &str, kind: StringKind) -> usize
         allowed.allow_nul,
     ) {
         Ok(cut) => end_from(text, cut.start_suffix),
-        Err(e) => suffix_end(text, &e, Body::Quoted(start)),
+        Err(e) => suffix_end(text, &e),
     }
 }
 
@@ -254,6 +255,6 @@ fn raw_end(text: &str, kind: StringKind) -> usize
     let start = kind.front_len();
     match scan_raw_string(text, start, allowed.unicode, allowed.allow_nul) {
         Ok((_, start)) => end_from(text, start),
-        Err(e) => suffix_end(text, &e, Body::Raw(start)),
+        Err(e) => suffix_end(text, &e),
     }
 }

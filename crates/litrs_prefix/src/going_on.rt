@@ -10,8 +10,8 @@ use litrs::{IntegerLit, goes_on};
 
 /// Whether more text may give a literal at the front of the text, or another one than stands there.
 ///
-/// It is true of the empty text, `12`, `tru`, `1.`, `1e+`, `"a`, `'a` and `0x1.`, and false of `12 `,
-/// `1..`, `true"`, `foo`, `0b12` and `"\q`. Where it is false, the answer of
+/// It is true of the empty text, `12`, `tru`, `1.`, `1e+`, `"a`, `'a` and `0x1.`, and false of
+/// `12 `, `1..`, `true"`, `foo`, `0b12` and `"\q`. Where it is false, the answer of
 /// [`parse_prefix`](crate::parse_prefix) on the text stays for every longer one: so a reader of
 /// pieces asks for more text where it is true, and else takes the answer. It does not allocate.
 pub fn prefix_goes_on(text: &str) -> bool

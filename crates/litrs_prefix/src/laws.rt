@@ -1,5 +1,5 @@
 //! Laws of what stands at the front of a text.
-ghost use Rattle.litrs_prefix.specs.Laws.{LiteralsAreTheirPrefix, PrefixesStay, PrefixesAreUnique, PrefixesOpen};
+ghost use Rattle.litrs_prefix.specs.Laws.{LiteralsAreTheirPrefix, PrefixesStay, PrefixesAreUnique, PrefixesOpen, MalformedAreUnique};
 
 /// A text that is a literal has it at its front, and nothing follows it.
 #[tactic(auto, using(crate::proofs::LongerTexts::whole))]
@@ -21,4 +21,9 @@ pub fn prefixes_are_unique()
 /// Where a literal stands at the front of a text, one opens there.
 pub fn prefixes_open()
     ensures { PrefixesOpen }
+{}
+
+/// Where a literal opens and none stands, what was meant as one has one length and one refusal.
+pub fn malformed_are_unique()
+    ensures { MalformedAreUnique }
 {}

@@ -31,7 +31,7 @@ pub fn prefix_len(text: &str) -> Option<usize>
     if !opens(text) {
         return None;
     }
-    let end = literal_end(text);
+    let end = literal_end(text)?;
     let (front, rest) = text.split_at(end);
     if stands_before(front, rest) {
         Some(end)

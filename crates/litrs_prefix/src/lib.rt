@@ -29,12 +29,13 @@
 //! ```
 #![tactic(auto)]
 
-ghost use Rattle.std.specs.Prelude.{◌≡◌, IfOk, IfErr, IfSome, IfNone, IsTrue, IsFalse, length, drop, ◌++◌, ◌<◌, ◌≤◌};
+ghost use Rattle.std.specs.Prelude.{◌≡◌, IfOk, IfErr, IfSome, IfNone, IsSome, IsTrue, IsFalse, ℕ, List, length, drop, ◌++◌, ◌<◌, ◌≤◌};
 ghost use Rattle.std.specs.Str.{chars, IsCharBoundary};
 ghost use Rattle.litrs.specs.Literal.{Derivation, IsLiteral, literal_parse};
 ghost use Rattle.litrs.specs.LiteralDerivation.{literal_raw, derivation};
 ghost use Rattle.litrs.specs.Refused.{IsRefusedOrOutOfMemory};
 ghost use Rattle.litrs_prefix.specs.Malformed.{IsMalformedOrOutOfMemory, IsMovedBy};
+ghost use Rattle.litrs_prefix.specs.Ends.{EndsBefore};
 ghost use Rattle.litrs_prefix.specs.Opens.{opens};
 ghost use Rattle.litrs_prefix.specs.Prefix.{HasPrefix, HasNoPrefix};
 
@@ -42,7 +43,8 @@ use end::literal_end;
 pub use follow::may_follow;
 pub use going_on::prefix_goes_on;
 pub use len::prefix_len;
-use litrs::{Literal, ParseError};
+use litrs::{Literal, ParseError, ParseErrorKind};
+use malformed::after_opened;
 use name::split_first_char;
 pub use opening::opens;
 use std::alloc::Global;
@@ -87,10 +89,12 @@ pub struct MalformedPrefix {
 ///
 /// Where a literal opens and none stands there: the refusal of what was meant as a literal by
 /// [`Literal::parse`], and how many bytes that is. A number, a char or a string that is closed is
-/// meant to its suffix, so that `0b12 + 1` is refused as `0b12` is. What is not closed is meant to
-/// the end of the text, or of the line at a char or a byte. Where what follows a literal may not,
-/// as the period of `0x1.5` and the quote of `true"a"`, that character is meant too. Spans count
-/// from the start of the text. `OutOfMemory` where there is no memory for the value.
+/// meant to the end of the name after it, so that `0b12 + 1` is refused as `0b12` is, and all of
+/// `"\q"b` is. A number has the parts of a float; prefix and digits of a base are of its name. What
+/// is not closed is meant to the end of the text, or of the line at a char or a byte. Where that is
+/// a literal, and what follows may not follow it, the shortest longer piece that is none is meant:
+/// `0x1.` of `0x1.5`, `true"` of `true"a"`. Spans count from the start of the text. `OutOfMemory`
+/// where there is no memory for the value.
 ///
 /// [ref]: https://doc.rust-lang.org/reference/tokens.html#literals
 pub fn parse_prefix(alloc: Global, text: &str) -> Result<Option<Prefix<'_>>, MalformedPrefix>
@@ -104,35 +108,55 @@ pub fn parse_prefix(alloc: Global, text: &str) -> Result<Option<Prefix<'_>>, Mal
     if !opens(text) {
         return Ok(None);
     }
-    let end = literal_end(text);
+    match literal_end(text) {
+        Some(end) => parse_front(alloc, text, end),
+        None => Err(refuse_meant(alloc, text)),
+    }
+}
+
+/// The same of a text where a literal opens, which ends there if it stands at the front.
+fn parse_front(alloc: Global, text: &str, end: usize) -> Result<Option<Prefix<'_>>, MalformedPrefix>
+    requires boundary { IsCharBoundary text.now end }
+    requires opens { IsTrue (opens (chars text.now)) }
+    requires end { (d : Derivation) (r : List ℕ) → HasPrefix (chars text.now) d r →
+        EndsBefore text.now r end }
+    ensures spells { IfOk result (λ found. IfSome found (λ prefix.
+        literal_raw prefix.literal ++ prefix.rest.now ≡ text.now)) }
+    ensures found { IfOk result (λ found. IfSome found (λ prefix.
+        HasPrefix (chars text.now) (derivation prefix.literal) (chars prefix.rest.now))) }
+    ensures some { IfOk result IsSome }
+    ensures malformed { IfErr result (IsMalformedOrOutOfMemory (chars text.now)) }
+{
     let (front, rest) = text.split_at(end);
     match Literal::parse(alloc, front) {
         Ok(literal) => {
             if may_follow(&literal, rest) {
                 Ok(Some(Prefix { literal, rest }))
             } else {
-                Err(refuse_longer(alloc, text, end))
+                Err(refuse_meant(alloc, text))
             }
         }
-        Err(error) => Err(MalformedPrefix { error, len: end }),
+        Err(error) => match error.kind() {
+            ParseErrorKind::OutOfMemory => Err(MalformedPrefix { error, len: end }),
+            _ => Err(refuse_meant(alloc, text)),
+        },
     }
 }
 
-/// The refusal of the shortest piece at the front that is longer than this and is no literal: what
-/// follows the shorter piece may not follow it.
-fn refuse_longer(alloc: Global, text: &str, end: usize) -> MalformedPrefix
+/// The refusal of what was meant as a literal: of what opens at the front, with its suffix; where
+/// that is a literal, which what follows may not follow, of the shortest longer piece that is none.
+fn refuse_meant(alloc: Global, text: &str) -> MalformedPrefix
     requires opens { IsTrue (opens (chars text.now)) }
     requires none { HasNoPrefix (chars text.now) }
-    requires boundary { IsCharBoundary text.now end }
     ensures { IsMalformedOrOutOfMemory (chars text.now) result }
 {
-    let mut len = end;
+    let mut len = text.len() - after_opened(text).len();
     loop {
-        len = next_boundary(text, len);
         let (front, _) = text.split_at(len);
         if let Some(error) = refusal(alloc, front) {
             return MalformedPrefix { error, len };
         }
+        len = next_boundary(text, len);
     }
 }
 
@@ -153,6 +177,7 @@ fn next_boundary(text: &str, start: usize) -> usize
     ensures boundary { IsCharBoundary text.now result }
     ensures longer { start < length text.now → start < result }
     ensures end { length text.now ≤ start → result ≡ start }
+    ensures rest { chars (drop result text.now) ≡ drop 1 (chars (drop start text.now)) }
 {
     let (_, rest) = text.split_at(start);
     match split_first_char(rest) {

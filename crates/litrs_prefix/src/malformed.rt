@@ -1,101 +1,170 @@
-//! Where what was meant as a literal ends, if it is refused for another cause than its suffix.
-ghost use Rattle.std.specs.Str.{IsCharBoundary};
-ghost use Rattle.litrs_prefix.specs.Ends.{IsEndOf};
+//! What was meant as a literal, where one opens at the front of a text and none stands there.
+ghost use Rattle.std.specs.Prelude.{◌≡◌, drop};
+ghost use Rattle.std.specs.Str.{chars};
+ghost use Rattle.litrs_prefix.specs.Ends.{after_digits, after_exponent, after_fraction, after_sign};
+ghost use Rattle.litrs_prefix.specs.Meant.{after_quoted, after_single_quote, after_char, after_closing, after_raw, after_prefixed, after_number, after_body, after_opened};
 
-use crate::name::{after_hashes, after_name, after_run, split_first_char};
-use crate::opening::begins_with_single_quote;
-use litrs::ParseError;
+use crate::name::{after_hashes, after_name, split_first_char};
+use crate::opening::{begins_with_single_quote, opens_bytes, opens_c_string, opens_raw};
+use litrs_lex::end_dec_digits;
+use litrs_lex::hashes::{hash_len, is_inner_quote};
 
-/// What has to be found to pass over a literal.
-#[derive(Clone, Copy)]
-pub enum Body {
-    /// The name characters after its fault.
-    Number,
-    /// The `'` of a char or a byte, whose first character stands there.
-    Char(usize),
-    /// The `"` of a quoted string, whose body begins there.
-    Quoted(usize),
-    /// The closing of a raw string, whose hashes begin there.
-    Raw(usize),
+/// What follows what was meant as a literal that opens at the front of the text: its body up to the
+/// closing, and the name after that.
+pub fn after_opened(text: &str) -> &str
+    ensures { chars result.now ≡ after_opened (chars text.now) }
+{
+    after_name(after_body(text))
 }
 
-/// Where what was meant as a literal with this body ends, which is refused so.
-pub fn malformed_end(text: &str, error: &ParseError, body: Body) -> usize
-    ensures { IsCharBoundary text.now result }
+/// What follows all of what opens there but its suffix.
+fn after_body(text: &str) -> &str
+    ensures { chars result.now ≡ after_body (chars text.now) }
 {
-    text.len() - after_malformed(text, error, body).len()
-}
-
-/// What follows it.
-fn after_malformed<'a>(text: &'a str, error: &ParseError, body: Body) -> &'a str
-    ensures { IsEndOf text.now result.now }
-{
-    match body {
-        Body::Number => after_fault(text, error),
-        Body::Char(start) => after_name(after_char(after(text, start))),
-        Body::Quoted(start) => after_name(after_quoted(after(text, start))),
-        Body::Raw(start) => after_name(after_raw(after(text, start))),
+    match split_first_char(text) {
+        Some((c, rest)) => {
+            if c.is_ascii_digit() {
+                after_number(text)
+            } else if c == '"' {
+                after_quoted(rest)
+            } else if c == '\'' {
+                after_char(rest)
+            } else if c == 'r' && opens_raw(rest) {
+                after_raw(rest)
+            } else if c == 'b' && opens_bytes(rest) {
+                after_prefixed(rest)
+            } else if c == 'c' && opens_c_string(rest) {
+                after_prefixed(rest)
+            } else {
+                text
+            }
+        }
+        None => text,
     }
 }
 
-/// What follows the first bytes of the text.
-fn after(text: &str, len: usize) -> &str
-    ensures { IsEndOf text.now result.now }
+/// What follows the `b` or `c` that opens a literal with it.
+fn after_prefixed(text: &str) -> &str
+    ensures { chars result.now ≡ after_prefixed (chars text.now) }
 {
-    match text.split_at_checked(len) {
-        Some((_, rest)) => rest,
-        None => "",
+    match split_first_char(text) {
+        Some((c, rest)) => {
+            if c == '"' {
+                after_quoted(rest)
+            } else if c == '\'' {
+                after_char(rest)
+            } else {
+                after_raw(rest)
+            }
+        }
+        None => text,
     }
 }
 
-/// What follows a number that has a fault: the characters that a name goes on with belong to it, so
-/// that all of `0b129_a` is passed over.
-fn after_fault<'a>(text: &'a str, error: &ParseError) -> &'a str
-    ensures { IsEndOf text.now result.now }
+/// What follows the parts of a float: digits, a period and more digits, an exponent. The prefix of
+/// an integer, and its digits, are left for the suffix.
+fn after_number(text: &str) -> &str
+    ensures { chars result.now ≡ after_number (chars text.now) }
 {
-    match error.span() {
-        Some(span) => after_run(after(text, span.end)),
-        None => "",
+    after_exponent(after_fraction(after_digits(text)))
+}
+
+/// What follows the decimal digits and underscores at the front.
+fn after_digits(text: &str) -> &str
+    ensures { chars result.now ≡ after_digits (chars text.now) }
+{
+    let (_, rest) = text.split_at(end_dec_digits(text.as_bytes()));
+    rest
+}
+
+/// What follows the period at the front, and its digits.
+fn after_fraction(text: &str) -> &str
+    ensures { chars result.now ≡ after_fraction (chars text.now) }
+{
+    match split_first_char(text) {
+        Some((c, rest)) => if c == '.' { after_digits(rest) } else { text },
+        None => text,
+    }
+}
+
+/// What follows the `e` or `E` at the front, its sign and its digits.
+fn after_exponent(text: &str) -> &str
+    ensures { chars result.now ≡ after_exponent (chars text.now) }
+{
+    match split_first_char(text) {
+        Some((c, rest)) => if c == 'e' || c == 'E' {
+            after_digits(after_sign(rest))
+        } else {
+            text
+        },
+        None => text,
+    }
+}
+
+/// What follows the sign at the front.
+fn after_sign(text: &str) -> &str
+    ensures { chars result.now ≡ after_sign (chars text.now) }
+{
+    match split_first_char(text) {
+        Some((c, rest)) => if c == '+' || c == '-' { rest } else { text },
+        None => text,
     }
 }
 
 /// What follows the closing quote of a char whose first character stands first. That may be a quote
 /// or a line feed, where a quote follows it.
 fn after_char(text: &str) -> &str
-    ensures { IsEndOf text.now result.now }
+    ensures { chars result.now ≡ after_char (chars text.now) }
 {
     match split_first_char(text) {
-        Some((_, rest)) if begins_with_single_quote(rest) => after(rest, 1),
-        _ => after_single_quote(text),
+        Some((c, rest)) => if c != '\\' && begins_with_single_quote(rest) {
+            after_first(rest)
+        } else {
+            after_single_quote(text)
+        },
+        None => text,
     }
 }
 
 /// What follows the first `'` of the line that no backslash escapes, or the line where there is
 /// none.
 fn after_single_quote(text: &str) -> &str
-    ensures { IsEndOf text.now result.now }
+    ensures { chars result.now ≡ after_single_quote (chars text.now) }
 {
     let mut rest = text;
+    let mut escaped = false;
     loop {
         match split_first_char(rest) {
-            Some(('\'', after)) => return after,
-            Some(('\\', after)) => rest = after_first(after),
-            Some(('\n', _)) | None => return rest,
-            Some((_, after)) => rest = after,
+            Some((c, after)) => {
+                if c == '\n' {
+                    return rest;
+                }
+                if c == '\'' && !escaped {
+                    return after;
+                }
+                escaped = c == '\\' && !escaped;
+                rest = after;
+            }
+            None => return rest,
         }
     }
 }
 
 /// What follows the first `"` that no backslash escapes.
 fn after_quoted(text: &str) -> &str
-    ensures { IsEndOf text.now result.now }
+    ensures { chars result.now ≡ after_quoted (chars text.now) }
 {
     let mut rest = text;
+    let mut escaped = false;
     loop {
         match split_first_char(rest) {
-            Some(('"', after)) => return after,
-            Some(('\\', after)) => rest = after_first(after),
-            Some((_, after)) => rest = after,
+            Some((c, after)) => {
+                if c == '"' && !escaped {
+                    return after;
+                }
+                escaped = c == '\\' && !escaped;
+                rest = after;
+            }
             None => return rest,
         }
     }
@@ -103,20 +172,26 @@ fn after_quoted(text: &str) -> &str
 
 /// What follows the closing of a raw string whose hashes stand first.
 fn after_raw(text: &str) -> &str
-    ensures { IsEndOf text.now result.now }
+    ensures { chars result.now ≡ after_raw (chars text.now) }
 {
-    let mut rest = after_hashes(text);
-    let hashes = text.len() - rest.len();
-    rest = after_first(rest);
+    let hashes = hash_len(text.as_bytes());
+    after_closing(after_first(after_hashes(text)), hashes)
+}
+
+/// What follows the first `"` and so many hashes.
+fn after_closing(text: &str, hashes: usize) -> &str
+    ensures { chars result.now ≡ after_closing hashes (chars text.now) }
+{
+    let mut rest = text;
     loop {
         match split_first_char(rest) {
-            Some(('"', after_quote)) => {
-                if after_quote.len() - after_hashes(after_quote).len() >= hashes {
-                    return after(after_quote, hashes);
+            Some((c, after)) => {
+                if c == '"' && !is_inner_quote(rest.as_bytes(), hashes) {
+                    let (_, next) = after.split_at(hashes);
+                    return next;
                 }
-                rest = after_quote;
+                rest = after;
             }
-            Some((_, next)) => rest = next,
             None => return rest,
         }
     }
@@ -124,7 +199,7 @@ fn after_raw(text: &str) -> &str
 
 /// What follows the first character.
 fn after_first(text: &str) -> &str
-    ensures { IsEndOf text.now result.now }
+    ensures { chars result.now ≡ drop 1 (chars text.now) }
 {
     match split_first_char(text) {
         Some((_, rest)) => rest,

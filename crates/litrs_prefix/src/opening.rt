@@ -59,14 +59,14 @@ fn begins_with_quote(text: &str) -> bool
 }
 
 /// Whether hashes and `"` stand first, as after the `r` of a raw string.
-fn opens_raw(text: &str) -> bool
+pub fn opens_raw(text: &str) -> bool
     ensures { result ≡ opens_raw (chars text.now) }
 {
     begins_with_quote(after_hashes(text))
 }
 
 /// Whether what follows `b` opens a byte or a byte string with it.
-fn opens_bytes(text: &str) -> bool
+pub fn opens_bytes(text: &str) -> bool
     ensures { result ≡ opens_bytes (chars text.now) }
 {
     match split_first_char(text) {
@@ -76,7 +76,7 @@ fn opens_bytes(text: &str) -> bool
 }
 
 /// Whether what follows `c` opens a C string with it.
-fn opens_c_string(text: &str) -> bool
+pub fn opens_c_string(text: &str) -> bool
     ensures { result ≡ opens_c_string (chars text.now) }
 {
     match split_first_char(text) {

@@ -1,31 +1,17 @@
--- Each step goes on to an end of the text.
-use Rattle.litrs_prefix.proofs.Ends.{after_first, end_of_end, shorter}
+-- The hashes are counted in bytes.
+use Rattle.std.proofs.Common.{◌≡◌, ℕ, drop, sym, ap, ◌∙◌}
+use Rattle.std.specs.Str.{chars}
+use Rattle.litrs_base.proofs.Chars.{prefix_len-chars}
+use Rattle.litrs_grammar.specs.Raw.{is_hash, hash_len}
+use Rattle.litrs_prefix.specs.Meant.{after_closing}
+use Rattle.litrs_prefix.proofs.Meant.{hash_is_ascii}
 use Rattle.litrs_prefix.proofs.malformed.after_raw.Goals as goal
 
-pub loop-after_quote-init : goal.loop-after_quote-init
-loop-after_quote-init c =
-    let next = c.after_first-rest in
-    (next.utf8, end_of_end c.args.text.now c.after_hashes-rest.result.now next.result.now c.after_hashes-rest.ensures.end next.ensures)
-
-pub returns-then-after_quote-after_hashes : goal.returns-then-after_quote-after_hashes
-returns-then-after_quote-after_hashes c =
+pub returns : goal.returns
+returns c =
     let text = c.args.text.now in
-    let step = c.in-Some-eq34-default in
-    end_of_end text step.after_quote.now c.after.result.now
-    (after_first text c.loop-after_quote.rest.now step.after_quote.now step.field-0-0 c.loop-after_quote.invariant.1 step.ensures.bytes) c.after.ensures
-
-pub loop-after_quote-preserved-in-Some-eq34-default : goal.loop-after_quote-preserved-in-Some-eq34-default
-loop-after_quote-preserved-in-Some-eq34-default c =
-    let step = c.in-Some-eq34-default in (
-      step.ensures.rest,
-      after_first c.args.text.now c.loop-after_quote.rest.now step.after_quote.now step.field-0-0 c.loop-after_quote.invariant.1 step.ensures.bytes,
-    )
-
-pub loop-after_quote-smaller : goal.loop-after_quote-smaller
-loop-after_quote-smaller c = shorter c.loop-after_quote.rest.now c.in-Some.field-0-0 c.in-Some.next.now c.in-Some.ensures.bytes
-
-pub loop-after_quote-preserved : goal.loop-after_quote-preserved
-loop-after_quote-preserved c = (
-  c.in-Some.ensures.rest,
-  after_first c.args.text.now c.loop-after_quote.rest.now c.in-Some.next.now c.in-Some.field-0-0 c.loop-after_quote.invariant.1 c.in-Some.ensures.bytes,
-)
+    let count : c.hash_len-hashes.result ≡ hash_len (chars text) =
+    c.hash_len-hashes.ensures.len ∙ (ap hash_len c.as_bytes.ensures.value ∙ sym (prefix_len-chars is_hash text hash_is_ascii c.utf8.text)) in
+    c.after_closing.ensures
+    ∙ (ap (λ (n : ℕ). after_closing n (chars c.after_first.result.now)) count
+    ∙ ap (after_closing (hash_len (chars text))) (c.after_first.ensures ∙ ap (drop 1) c.after_hashes.ensures.rest))

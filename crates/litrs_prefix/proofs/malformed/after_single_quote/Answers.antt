@@ -1,26 +1,11 @@
--- Each step goes on to an end of the text.
-use Rattle.litrs_prefix.proofs.Ends.{after_first, end_of_end, shorter}
+-- Each step passes a character.
+use Rattle.std.specs.Str.{chars}
+use Rattle.litrs_prefix.proofs.Ends.{shorter}
+use Rattle.litrs_prefix.proofs.Meant.{past_single_quote_is}
 use Rattle.litrs_prefix.proofs.malformed.after_single_quote.Goals as goal
 
-pub returns-in-Some-eq39-default : goal.returns-in-Some-eq39-default
-returns-in-Some-eq39-default c =
-    let step = c.in-Some-eq39-default in
-    after_first c.args.text.now c.loop-after.rest.now step.after.now step.field-0-0 c.loop-after.invariant.1 step.ensures.bytes
+pub loop-c-init : goal.loop-c-init
+loop-c-init c = (c.utf8.text, past_single_quote_is (chars c.args.text.now))
 
-pub loop-after-preserved-in-92-1 : goal.loop-after-preserved-in-92-1
-loop-after-preserved-in-92-1 c =
-    let text = c.args.text.now in
-    let step = c.in-Some-eq92-default in
-    let next = c.after_first-rest in (
-      next.utf8,
-      end_of_end text step.after.now next.result.now (after_first text c.loop-after.rest.now step.after.now step.field-0-0 c.loop-after.invariant.1 step.ensures.bytes) next.ensures,
-    )
-
-pub loop-after-smaller : goal.loop-after-smaller
-loop-after-smaller c = shorter c.loop-after.rest.now c.in-Some.field-0-0 c.in-Some.after.now c.in-Some.ensures.bytes
-
-pub loop-after-preserved : goal.loop-after-preserved
-loop-after-preserved c = (
-  c.in-Some.ensures.rest,
-  after_first c.args.text.now c.loop-after.rest.now c.in-Some.after.now c.in-Some.field-0-0 c.loop-after.invariant.1 c.in-Some.ensures.bytes,
-)
+pub loop-c-smaller : goal.loop-c-smaller
+loop-c-smaller c = shorter c.loop-c.rest.now c.in-Some.c c.in-Some.after.now c.in-Some.ensures.bytes

@@ -1,12 +1,14 @@
--- The rest is an end of the text.
-use Rattle.std.proofs.Common.{length}
+-- What follows the closing of the rest is what follows that of the text.
+use Rattle.std.proofs.Common.{◌≡◌, length}
 use denote.Text.{Utf8}
 use denote.Shadow.{shadow}
-use Rattle.litrs_prefix.specs.Ends.{IsEndOf}
+use Rattle.std.specs.Str.{chars}
+use Rattle.litrs_prefix.specs.Ends.{past_single_quote}
+use Rattle.litrs_prefix.specs.Meant.{after_single_quote}
 use Rattle.litrs_prefix.proofs.malformed.after_single_quote.Given as goal
 
-abbrev pub invariant-loop-after : goal.invariant-loop-after
-invariant-loop-after l = shadow (Utf8 l.rest) × IsEndOf l.text l.rest
+abbrev pub invariant-loop-c : goal.invariant-loop-c
+invariant-loop-c l = shadow (Utf8 l.rest) × (past_single_quote l.escaped (chars l.rest) ≡ after_single_quote (chars l.text))
 
-abbrev pub decreases-loop-after : goal.decreases-loop-after
-decreases-loop-after l = length l.rest
+abbrev pub decreases-loop-c : goal.decreases-loop-c
+decreases-loop-c l = length l.rest

@@ -1,0 +1,86 @@
+-- The pieces at the front of a text, from what opens on, one character after the other.
+use Rattle.std.proofs.Common.{◌≡◌, ◌⊎◌, inl, inr, ℕ, List, [], ◌∷◌, ◌++◌, refl, sym, ap, subst, ◌∙◌, append_assoc, append-nil}
+use Rattle.std.proofs.lemmas.List.{append_cancel_left, append_cancel_right}
+use Rattle.litrs_base.specs.Derivations.{HasNoDerivation}
+use Rattle.litrs_base.specs.Refusal.{refusal_of}
+use Rattle.litrs_base.specs.Text.{byte_len}
+use Rattle.litrs_grammar.specs.Literal.{Derivation, IsLiteral, literal_parse}
+use Rattle.litrs_grammar.specs.LiteralRefusals.{IsRefusal}
+use Rattle.litrs_prefix.specs.Laws.{MalformedAreUnique}
+use Rattle.litrs_prefix.specs.Meant.{after_opened, IsMeant}
+
+abbrev pub Holds : (List ℕ → Type 0) → List ℕ → Type 0
+Holds P more = (x : List ℕ) (c : ℕ) (y : List ℕ) → x ++ c ∷ y ≡ more → P x
+
+no_cons : (c : ℕ) (y : List ℕ) → c ∷ y ≡ [] → ⊥
+no_cons c y h = cc
+
+no_end : (x : List ℕ) (c : ℕ) (y : List ℕ) → x ++ c ∷ y ≡ [] → ⊥
+no_end [] c y h = no_cons c y h
+no_end (a ∷ x) c y h = no_cons a (x ++ c ∷ y) h
+
+-- what holds of each shorter one and of this
+one_more : (P : List ℕ → Type 0) (more : List ℕ) (c : ℕ) → P more → Holds P more → Holds P (more ++ c ∷ [])
+one_more P [] c here before [] d y is = here
+one_more P [] c here before (a ∷ x) d y is = (let tail : x ++ d ∷ y ≡ [] = cc in absurd (no_end x d y tail))
+one_more P (m ∷ more) c here before [] d y is = before [] m more refl
+one_more P (m ∷ more) c here before (a ∷ x) d y is =
+    let head : m ≡ a = cc in
+    let tail : x ++ d ∷ y ≡ more ++ c ∷ [] = cc in
+    subst (λ (k : ℕ). P (k ∷ x)) head
+    (one_more (λ (l : List ℕ). P (m ∷ l)) more c here (λ z e w same. before (m ∷ z) e w (ap (λ (l : List ℕ). m ∷ l) same)) x d y tail)
+
+pub meant_first : (t piece : List ℕ) → piece ++ after_opened t ≡ t → IsMeant t piece
+meant_first t piece is = record {
+  piece = piece;
+  more = [];
+  opened = is;
+  longer = append-nil piece;
+  shortest = λ x c y none. absurd (no_end x c y none);
+}
+
+pub meant_longer : (t front : List ℕ) (c : ℕ) (d : Derivation) → IsMeant t front → IsLiteral front d → IsMeant t (front ++ c ∷ [])
+meant_longer t front c d is literal = record {
+  piece = is.piece;
+  more = is.more ++ c ∷ [];
+  opened = is.opened;
+  longer = sym (append_assoc is.piece is.more (c ∷ [])) ∙ ap (λ (l : List ℕ). l ++ c ∷ []) is.longer;
+  shortest = one_more (λ (x : List ℕ). (d : Derivation) × IsLiteral (is.piece ++ x) d) is.more c
+      (d, subst (λ (l : List ℕ). IsLiteral l d) (sym is.longer) literal) is.shortest;
+}
+
+-- two fronts of a text
+fronts : (a b x y : List ℕ) → a ++ x ≡ b ++ y → (a ≡ b) ⊎ ((c : ℕ) × (z : List ℕ) × (a ++ c ∷ z ≡ b)) ⊎ ((c : ℕ) × (z : List ℕ) × (b ++ c ∷ z ≡ a))
+fronts [] [] x y h = inl refl
+fronts [] (d ∷ b) x y h = inr (inl (d, b, refl))
+fronts (c ∷ a) [] x y h = inr (inr (c, a, refl))
+fronts (c ∷ a) (d ∷ b) x y h =
+    let head : c ≡ d = cc in
+    let tail : a ++ x ≡ b ++ y = cc in
+    elim (fronts a b x y tail) [
+      | inl same ↦ inl (λ i. head i ∷ same i)
+      | inr (inl (e, z, is)) ↦ inr (inl (e, z, λ i. head i ∷ is i))
+      | inr (inr (e, z, is)) ↦ inr (inr (e, z, λ i. sym head i ∷ is i))
+    ]
+
+-- what was meant is one piece alone
+meant_unique : (t f g r u : List ℕ) → IsMeant t f → IsMeant t g → f ++ r ≡ t → g ++ u ≡ t → HasNoDerivation (IsLiteral f) → HasNoDerivation (IsLiteral g) → f ≡ g
+meant_unique t f g r u m n before after none other =
+    let same : m.piece ≡ n.piece = append_cancel_right m.piece n.piece (after_opened t) (m.opened ∙ sym n.opened) in
+    let left : m.piece ++ (m.more ++ r) ≡ t = sym (append_assoc m.piece m.more r) ∙ (ap (λ (l : List ℕ). l ++ r) m.longer ∙ before) in
+    let right : n.piece ++ (n.more ++ u) ≡ t = sym (append_assoc n.piece n.more u) ∙ (ap (λ (l : List ℕ). l ++ u) n.longer ∙ after) in
+    let rests : m.more ++ r ≡ n.more ++ u = append_cancel_left m.piece _ _ (left ∙ (sym right ∙ ap (λ (l : List ℕ). l ++ (n.more ++ u)) (sym same))) in
+    elim (fronts m.more n.more r u rests) [
+      | inl more ↦ sym m.longer ∙ ((λ i. same i ++ more i) ∙ n.longer)
+      | inr (inl (c, z, is)) ↦ (let literal = n.shortest m.more c z is in
+          absurd (none literal.0 (subst (λ (l : List ℕ). IsLiteral l literal.0) (ap (λ (l : List ℕ). l ++ m.more) (sym same) ∙ m.longer) literal.1)))
+      | inr (inr (c, z, is)) ↦ (let literal = m.shortest n.more c z is in
+          absurd (other literal.0 (subst (λ (l : List ℕ). IsLiteral l literal.0) (ap (λ (l : List ℕ). l ++ n.more) same ∙ n.longer) literal.1)))
+    ]
+
+pub malformed_unique : MalformedAreUnique
+malformed_unique t e f m n =
+    let same : m.front ≡ n.front = meant_unique t m.front n.front m.rest n.rest m.meant n.meant m.spells n.spells m.refused.none n.refused.none in (
+      sym m.len ∙ (ap (λ (l : List ℕ). byte_len l) same ∙ n.len),
+      n.refused.only (refusal_of e.error) (subst (λ (l : List ℕ). IsRefusal literal_parse l (refusal_of e.error)) same m.refused.table),
+    )

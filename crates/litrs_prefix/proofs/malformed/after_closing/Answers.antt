@@ -1,0 +1,52 @@
+-- A quote and the hashes close the body; else what follows its first character has the same closing.
+use Rattle.std.proofs.Common.{◌≡◌, ℕ, ◌+◌, ◌∷◌, suc, true, false, drop, sym, ap, ◌∙◌, arith}
+use Rattle.std.specs.Str.{chars}
+use Rattle.std.proofs.lemmas.Bool.{ne_eqb, and_left}
+use Rattle.std.proofs.lemmas.Str.{IsCharBoundary-from_drop}
+use Rattle.litrs_base.specs.Text.{begins_with}
+use Rattle.litrs_grammar.specs.Raw.{raw_closing, hashes}
+use Rattle.litrs_prefix.specs.Meant.{after_closing}
+use Rattle.litrs_prefix.proofs.Ends.{shorter}
+use Rattle.litrs_prefix.proofs.Meant.{closing_here, closing_later, quote_hashes, hashes_front, hashes_chars}
+use Rattle.litrs_prefix.proofs.malformed.after_closing.Goals.{else-c-eq34-via-then-c-eq34+else-not-is_inner_quote, else-c-eq34-via-else-c-eq34}
+use Rattle.litrs_prefix.proofs.malformed.after_closing.Goals as goal
+
+pub split_at-requires : goal.split_at-requires
+split_at-requires c =
+    let after = c.in-Some.after.now in
+    let n = c.args.hashes in
+    let here = quote_hashes n c.as_bytes.result.now c.loop-c.rest.now after c.in-Some.c false c.as_bytes.ensures.value c.in-Some.ensures.bytes c.if-c-eq34.true
+    (sym c.is_inner_quote.ensures ∙ c.if-not-is_inner_quote.true) in
+    let front = hashes_front n after c.in-Some.ensures.rest here in
+    IsCharBoundary-from_drop after n front.within front.utf8
+
+pub returns-then-not-is_inner_quote : goal.returns-then-not-is_inner_quote
+returns-then-not-is_inner_quote c =
+    let after = c.in-Some.after.now in
+    let n = c.args.hashes in
+    let here = quote_hashes n c.as_bytes.result.now c.loop-c.rest.now after c.in-Some.c false c.as_bytes.ensures.value c.in-Some.ensures.bytes c.if-c-eq34.true
+    (sym c.is_inner_quote.ensures ∙ c.if-not-is_inner_quote.true) in
+    let front = hashes_front n after c.in-Some.ensures.rest here in
+    let rest : chars c.loop-c.rest.now ≡ 34 ∷ chars after = c.in-Some.ensures.parts ∙ ap (λ (k : ℕ). k ∷ chars after) c.if-c-eq34.true in
+    let one : 1 + n ≡ suc n = omega arith in
+    let closed : after_closing n (34 ∷ chars after) ≡ drop n (chars after) =
+    closing_here n (34 ∷ chars after) (hashes_chars n after c.in-Some.ensures.rest ∙ here) ∙ ap (λ (k : ℕ). drop k (34 ∷ chars after)) one in
+    ap chars c.split_at.ensures.back ∙ (sym front.rest ∙ (sym closed ∙ (ap (after_closing n) (sym rest) ∙ c.loop-c.invariant.1)))
+
+pub loop-c-preserved : goal.loop-c-preserved
+loop-c-preserved c =
+    let after = c.in-Some.after.now in
+    let n = c.args.hashes in
+    let passed : begins_with (raw_closing n) (c.in-Some.c ∷ chars after) ≡ false = elim c.else-c-eq34.branch [
+      | else-c-eq34-via-then-c-eq34+else-not-is_inner_quote w ↦ (
+          let inner = quote_hashes n w.as_bytes.result.now c.loop-c.rest.now after c.in-Some.c true w.as_bytes.ensures.value c.in-Some.ensures.bytes w.if-c-eq34.true
+          (sym w.is_inner_quote.ensures ∙ w.if-not-is_inner_quote.false) in
+          ap (λ (k : ℕ). begins_with (raw_closing n) (k ∷ chars after)) w.if-c-eq34.true ∙ (hashes_chars n after c.in-Some.ensures.rest ∙ inner))
+      | else-c-eq34-via-else-c-eq34 w ↦ and_left _ (begins_with (hashes n) (chars after)) (ne_eqb 34 c.in-Some.c (λ e. w.if-c-eq34.false (sym e)))
+    ] in (
+      c.in-Some.ensures.rest,
+      sym (ap (after_closing n) c.in-Some.ensures.parts ∙ closing_later n c.in-Some.c (chars after) passed) ∙ c.loop-c.invariant.1,
+    )
+
+pub loop-c-smaller : goal.loop-c-smaller
+loop-c-smaller c = shorter c.loop-c.rest.now c.in-Some.c c.in-Some.after.now c.in-Some.ensures.bytes

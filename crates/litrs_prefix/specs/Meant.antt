@@ -1,0 +1,107 @@
+-- What was meant as a literal, where one opens at the front of a text and none stands there: what a
+-- reader passes over. The Rust Reference has no such rule.
+use Rattle.std.specs.Prelude.{◌≡◌, ℕ, ◌+◌, Bool, false, not, length, ◌==◌, ◌&&◌, List, [], ◌∷◌, ◌++◌, drop, if◌then◌else◌}
+use Rattle.std.specs.Char.{is_ascii_digit}
+use Rattle.std.specs.List.{after_first, before_first}
+use Rattle.litrs_base.specs.Characters.{double_quote, single_quote, backslash, line_feed, letter_b, letter_c, letter_r}
+use Rattle.litrs_base.specs.Text.{first_passes}
+use Rattle.litrs_grammar.specs.Float.{float_cut}
+use Rattle.litrs_grammar.specs.Literal.{Derivation, IsLiteral}
+use Rattle.litrs_grammar.specs.Raw.{hash_len, raw_closing, length_before}
+use Rattle.litrs_prefix.specs.Opens.{is_single_quote, after_name, after_hashes, opens_raw, opens_c_string, opens_bytes}
+
+-- A symbol of a body: a character, or a backslash and the character that it escapes.
+pub data Symbol : Type 0 where
+  lone : ℕ → Symbol
+  escaped : ℕ → Symbol
+
+-- the symbols of a text; a backslash that ends it is one by itself
+abbrev pub symbols : List ℕ → List Symbol
+symbols [] = []
+symbols (c ∷ []) = lone c ∷ []
+symbols (c ∷ d ∷ t) = if c == backslash then escaped d ∷ symbols t else lone c ∷ symbols (d ∷ t)
+
+-- how they are written
+abbrev pub symbols_text : List Symbol → List ℕ
+symbols_text [] = []
+symbols_text (lone c ∷ s) = c ∷ symbols_text s
+symbols_text (escaped c ∷ s) = backslash ∷ c ∷ symbols_text s
+
+-- the symbol is this character, and no escaped one
+abbrev pub is_lone : ℕ → Symbol → Bool
+is_lone quote (lone c) = c == quote
+is_lone quote (escaped c) = false
+
+-- what follows the first quote that no backslash escapes; nothing where there is none
+abbrev pub after_quote : (quote : ℕ) → List ℕ → List ℕ
+after_quote quote t = symbols_text (after_first (is_lone quote) (symbols t))
+
+-- after `"`: what follows the closing quote
+abbrev pub after_quoted : List ℕ → List ℕ
+after_quoted = after_quote double_quote
+
+-- the first line of a text, without its LF
+abbrev pub first_line : List ℕ → List ℕ
+first_line t = before_first (λ c. c == line_feed) t
+
+-- What follows the first `'` of the line that no backslash escapes; what follows the line where
+-- there is none.
+abbrev pub after_single_quote : List ℕ → List ℕ
+after_single_quote t =
+    after_quote single_quote (first_line t) ++ drop (length (first_line t)) t
+
+-- After `'` or `b'`: what follows the closing quote. A quote after the first character closes it,
+-- whatever that is but a backslash, as in `'''`.
+abbrev pub after_char : List ℕ → List ℕ
+after_char [] = []
+after_char (c ∷ t) =
+    if not (c == backslash) && first_passes is_single_quote t then drop 1 t
+    else after_single_quote (c ∷ t)
+
+-- what follows the first closing with so many hashes; nothing where there is none
+abbrev pub after_closing : ℕ → List ℕ → List ℕ
+after_closing n t = drop (length_before (raw_closing n) t + (1 + n)) t
+
+-- after `r`, `br` or `cr`: what follows the closing, which has as many hashes as stand first
+abbrev pub after_raw : List ℕ → List ℕ
+after_raw t = after_closing (hash_len t) (drop 1 (after_hashes t))
+
+-- after `b` or `c`
+abbrev pub after_prefixed : List ℕ → List ℕ
+after_prefixed [] = []
+after_prefixed (c ∷ t) =
+    if c == double_quote then after_quoted t
+    else if c == single_quote then after_char t
+    else after_raw t
+
+-- after the parts of a float that a number has: digits, a period and more, an exponent
+abbrev pub after_number : List ℕ → List ℕ
+after_number t = (float_cut t).suffix
+
+-- What follows all of what opens at the front but its suffix. A bool is a name, as a suffix is.
+abbrev pub after_body : List ℕ → List ℕ
+after_body [] = []
+after_body (c ∷ t) =
+    if is_ascii_digit c then after_number (c ∷ t)
+    else if c == double_quote then after_quoted t
+    else if c == single_quote then after_char t
+    else if (c == letter_r) && opens_raw t then after_raw t
+    else if (c == letter_b) && opens_bytes t then after_prefixed t
+    else if (c == letter_c) && opens_c_string t then after_prefixed t
+    else c ∷ t
+
+-- What follows what opens at the front: the suffix is the whole name after the body. The prefix of
+-- an integer and its digits are of that name.
+abbrev pub after_opened : List ℕ → List ℕ
+after_opened t = after_name (after_body t)
+
+-- What was meant as a literal at the front of the text is no literal: it is what opens there, with
+-- its suffix; where that is a literal, which what follows may not follow, the shortest longer piece
+-- that is none.
+pub record IsMeant (t front : List ℕ) : Type 0 where
+  pub piece : List ℕ
+  pub more : List ℕ
+  pub opened : piece ++ after_opened t ≡ t
+  pub longer : piece ++ more ≡ front
+  pub shortest : (x : List ℕ) (c : ℕ) (y : List ℕ) → x ++ c ∷ y ≡ more →
+      (d : Derivation) × IsLiteral (piece ++ x) d
