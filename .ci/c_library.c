@@ -6,7 +6,9 @@
  * by their status alone, with every allocation refused; then how often memory was asked for by
  * litrs_parse, litrs_value, litrs_message and litrs_goes_on; and at last the fields of litrs_prefix
  * in their order, its status with every allocation refused, and how often it asked for memory. It
- * ends with status 2 where a call wrote outside of its room or kept memory.
+ * ends with status 2 where a call wrote outside of its room or kept memory, where litrs_parse_into
+ * answers otherwise than litrs_parse, or writes what the status does not speak of, where NULL is not
+ * the empty text, and where the names of kinds are others.
  *
  * It is linked with --wrap for malloc, realloc and free. */
 #include "litrs.h"
@@ -74,23 +76,76 @@ static void print_written(writes *call, const uint8_t *text, size_t len, uint8_t
     printf(".");
 }
 
-static void print_place(litrs_place place) {
-    printf(" %zu %zu", place.start, place.end);
+/* The fields of an answer, in their order. */
+enum { FIELDS = 24 };
+
+static size_t put_place(uint64_t *fields, size_t at, litrs_place place) {
+    fields[at] = place.start;
+    fields[at + 1] = place.end;
+    return at + 2;
 }
 
-static void print_answer(litrs_answer answer) {
-    litrs_literal lit = answer.literal;
-    litrs_refusal no = answer.refusal;
-    printf("%u %u %u", (unsigned)answer.status, (unsigned)lit.kind, (unsigned)lit.base);
-    printf(" %d %d %d", lit.is_raw, lit.has_fraction, lit.has_value);
-    printf(" %llu %llu", (unsigned long long)lit.value_low, (unsigned long long)lit.value_high);
-    print_place(lit.main);
-    print_place(lit.fraction);
-    print_place(lit.exponent);
-    print_place(lit.suffix);
-    printf(" %u %d %d %d", (unsigned)no.kind, no.has_span, no.is_final, no.is_open);
-    print_place(no.span);
-    print_place(no.char_span);
+static void flatten(const litrs_answer *answer, uint64_t *fields) {
+    const litrs_literal *lit = &answer->literal;
+    const litrs_refusal *no = &answer->refusal;
+    size_t at = 0;
+    fields[at++] = answer->status;
+    fields[at++] = lit->kind;
+    fields[at++] = lit->base;
+    fields[at++] = lit->is_raw;
+    fields[at++] = lit->has_fraction;
+    fields[at++] = lit->has_value;
+    fields[at++] = lit->value_low;
+    fields[at++] = lit->value_high;
+    at = put_place(fields, at, lit->main);
+    at = put_place(fields, at, lit->fraction);
+    at = put_place(fields, at, lit->exponent);
+    at = put_place(fields, at, lit->suffix);
+    fields[at++] = no->kind;
+    fields[at++] = no->has_span;
+    fields[at++] = no->is_final;
+    fields[at++] = no->is_open;
+    at = put_place(fields, at, no->span);
+    at = put_place(fields, at, no->char_span);
+    hold(at == FIELDS, "a field is missing");
+}
+
+static void print_answer(const litrs_answer *answer) {
+    uint64_t fields[FIELDS];
+    size_t i;
+    flatten(answer, fields);
+    for (i = 0; i < FIELDS; i++)
+        printf("%s%llu", i ? " " : "", (unsigned long long)fields[i]);
+}
+
+static bool is_untouched(const void *part, size_t size) {
+    const unsigned char *bytes = (const unsigned char *)part;
+    while (size > 0 && bytes[size - 1] == 0xAA)
+        size--;
+    return size == 0;
+}
+
+static bool is_same(const litrs_answer *answer, const litrs_answer *other) {
+    uint64_t fields[FIELDS], others[FIELDS];
+    flatten(answer, fields);
+    flatten(other, others);
+    return memcmp(fields, others, sizeof fields) == 0;
+}
+
+/* Over an answer of zeros litrs_parse_into gives what litrs_parse gives; of another it leaves what
+ * the status does not speak of. */
+static void hold_parse_into(const uint8_t *text, size_t len, const litrs_answer *answer) {
+    litrs_answer into;
+    memset(&into, 0, sizeof into);
+    litrs_parse_into(text, len, &into);
+    hold(is_same(&into, answer), "litrs_parse_into answers otherwise");
+    memset(&into, 0xAA, sizeof into);
+    litrs_parse_into(text, len, &into);
+    hold(into.status == answer->status, "litrs_parse_into has another status");
+    if (into.status != LITRS_LITERAL)
+        hold(is_untouched(&into.literal, sizeof into.literal), "the literal was written");
+    if (into.status != LITRS_REFUSED)
+        hold(is_untouched(&into.refusal, sizeof into.refusal), "the refusal was written");
 }
 
 static void print_text(const uint8_t *text, size_t len, uint8_t *room) {
@@ -110,7 +165,8 @@ static void print_text(const uint8_t *text, size_t len, uint8_t *room) {
     asked = 0;
     prefix = litrs_parse_prefix(text, len);
     by_prefix = asked;
-    print_answer(answer);
+    hold_parse_into(text, len, &answer);
+    print_answer(&answer);
     printf(" %d", goes_on);
     print_written(litrs_value, text, len, room);
     print_written(litrs_message, text, len, room);
@@ -120,12 +176,40 @@ static void print_text(const uint8_t *text, size_t len, uint8_t *room) {
     printf(" %u", (unsigned)litrs_message(text, len, room, 0).status);
     refuses = false;
     printf(" %zu %zu %zu %zu ", by_parse, by_value, by_message, by_goes_on);
-    print_answer(prefix.answer);
+    print_answer(&prefix.answer);
     refuses = true;
     printf(" %zu %u", prefix.len, (unsigned)litrs_parse_prefix(text, len).answer.status);
     refuses = false;
     printf(" %zu\n", by_prefix);
     hold(held == before, "memory is kept");
+}
+
+/* NULL with length 0 is the empty text, and a room of no bytes. */
+static void hold_null(void) {
+    static const uint8_t none[1];
+    uint8_t room[80];
+    litrs_answer answer = litrs_parse(none, 0), same = litrs_parse(NULL, 0);
+    litrs_prefix prefix = litrs_parse_prefix(NULL, 0);
+    litrs_written value = litrs_value(NULL, 0, NULL, 0), message = litrs_message(NULL, 0, NULL, 0);
+    hold(answer.status == LITRS_REFUSED && is_same(&same, &answer), "NULL is no empty text");
+    hold_parse_into(NULL, 0, &answer);
+    hold(prefix.answer.status == LITRS_NO_PREFIX && prefix.len == 0, "a prefix of NULL");
+    hold(value.status == LITRS_REFUSED && value.len == 0, "a value of NULL");
+    hold(message.status == LITRS_REFUSED && message.len > 0, "no message on NULL");
+    hold(litrs_message(NULL, 0, room, sizeof room).len == message.len, "another message on NULL");
+    hold(memcmp(room, "input is empty", message.len) == 0, "a wrong message on NULL");
+    hold(litrs_goes_on(NULL, 0), "NULL does not go on");
+    hold(litrs_value((const uint8_t *)"\"a\"", 3, NULL, 0).len == 1, "no length for a room of NULL");
+}
+
+/* The names of kinds, and the version. */
+static void hold_names(void) {
+    hold(strcmp(litrs_version(), LITRS_VERSION) == 0, "another version");
+    hold(strcmp(litrs_kind_name(LITRS_BOOL), "Bool") == 0, "another first kind");
+    hold(strcmp(litrs_kind_name(LITRS_C_STRING), "CString") == 0, "another last kind");
+    hold(strcmp(litrs_kind_name(LITRS_C_STRING + 1), "Unknown") == 0, "a kind too many");
+    hold(strcmp(litrs_error_name(LITRS_ERROR_EMPTY), "Empty") == 0, "another first error");
+    hold(strcmp(litrs_error_name(UINT32_MAX), "Unknown") == 0, "an error too many");
 }
 
 static int digit(int letter) {
@@ -136,6 +220,8 @@ int main(void) {
     static uint8_t text[1 << 17], room[1 << 19];
     size_t len = 0;
     int high;
+    hold_null();
+    hold_names();
     while ((high = getchar()) != EOF) {
         if (high == '\n') {
             print_text(text, len, room);

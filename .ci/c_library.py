@@ -1,22 +1,29 @@
 #!/usr/bin/env python3
-"""Tries the C library, from C and from Python.
+"""Tries the C library, as it is installed, from C, C++ and Python.
 
     .ci/c_library.py
 
-After `rt ci`: proves crates/litrs_c over the libraries that it left, and builds its archive, the C
-program .ci/c_library.c, and a shared object for ctypes. Each row of the table of `litrs_vectors`
-that is about literals of any kind, about what texts begin, or about what stands at their front, and
-whose text has at most 65,536 bytes, has to be answered as it says by both, with the descriptions and
-marks that docs/GRAMMAR.md has; each prefix of its text, at each byte, has to be refused as not UTF-8 where Python does not
-decode it, and answered alike by both. The samples of crates/litrs_c/README.md have to print what
-stands below them.
+After `rt ci`: proves crates/litrs_c over the libraries that it left, builds its archive, and installs
+it by crates/litrs_c/build into a folder of its own, from which all else is built by what pkg-config
+says. Both libraries there define the calls of litrs.h and no other name. The header compiles by each
+standard of C and C++ that the compilers at hand know.
+
+Each row of the table of `litrs_vectors` that is about literals of any kind, about what texts begin,
+or about what stands at their front, and whose text has at most 65,536 bytes, has to be answered as it
+says by the C program .ci/c_library.c and by the module litrs.py, with the names, descriptions and
+marks that docs/GRAMMAR.md has; each prefix of its text, at each byte, has to be refused as not UTF-8
+where Python does not decode it, and answered alike by both. Where valgrind is at hand the program
+runs over the texts of the rows under it. The samples of crates/litrs_c/README.md have to print what
+stands below them, the one in C as a program in C++ too.
 """
 import concurrent.futures
 import ctypes
 import dataclasses
+import importlib
 import os
 import pathlib
 import re
+import shutil
 import subprocess
 import sys
 import tempfile
@@ -25,45 +32,19 @@ import libraries
 from libraries import KIT, TOP
 
 CRATE = TOP / "crates/litrs_c"
-WARNINGS = ["-std=c99", "-O1", "-Wall", "-Wextra", "-Werror", "-pedantic", "-I", CRATE / "include"]
+HEADER = (CRATE / "include/litrs.h").read_text()
+WARNINGS = ["-O1", "-Wall", "-Wextra", "-Werror", "-pedantic"]
+STANDARDS = {
+    "c": "c89 iso9899:199409 c99 c11 c17 c2x c23".split(),
+    "c++": "c++98 c++11 c++14 c++17 c++20 c++2b".split(),
+}
+COMPILERS = {"c": ["cc", "gcc", "clang"], "c++": ["c++", "g++", "clang++"]}
 LITERAL, REFUSED, NOT_UTF8, OUT_OF_MEMORY, NO_STRING, NO_PREFIX = range(6)
 KINDS = "bool integer float char byte string bytestring cstring".split()
+NAMES = "Bool Integer Float Char Byte String ByteString CString".split()
 # Longer texts are left to the program litrs_vectors; of those from the second length on no prefixes
-# are tried.
+# are tried, and they are not tried by valgrind.
 LONGEST, PREFIXED = 65536, 1000
-
-
-class Place(ctypes.Structure):
-    _fields_ = [("start", ctypes.c_size_t), ("end", ctypes.c_size_t)]
-
-
-class Literal(ctypes.Structure):
-    _fields_ = [
-        *((name, ctypes.c_uint32) for name in ("kind", "base")),
-        *((name, ctypes.c_bool) for name in ("is_raw", "has_fraction", "has_value")),
-        *((name, ctypes.c_uint64) for name in ("value_low", "value_high")),
-        *((name, Place) for name in ("main", "fraction", "exponent", "suffix")),
-    ]
-
-
-class Refusal(ctypes.Structure):
-    _fields_ = [
-        ("kind", ctypes.c_uint32),
-        *((name, ctypes.c_bool) for name in ("has_span", "is_final", "is_open")),
-        *((name, Place) for name in ("span", "char_span")),
-    ]
-
-
-class Answer(ctypes.Structure):
-    _fields_ = [("status", ctypes.c_uint32), ("literal", Literal), ("refusal", Refusal)]
-
-
-class Prefix(ctypes.Structure):
-    _fields_ = [("answer", Answer), ("len", ctypes.c_size_t)]
-
-
-class Written(ctypes.Structure):
-    _fields_ = [("status", ctypes.c_uint32), ("len", ctypes.c_size_t)]
 
 
 def flat(value):
@@ -73,50 +54,35 @@ def flat(value):
     return [it for name, _ in value._fields_ for it in flat(getattr(value, name))]
 
 
-class Library:
-    """The calls, from Python."""
+def written(call, text):
+    """What a call writes: first how much, then all of it."""
+    sized = call(text, len(text), b"", 0)
+    room = ctypes.create_string_buffer(sized.len + 1)
+    again = call(text, len(text), room, sized.len)
+    same = (sized.status, sized.len) == (again.status, again.len)
+    return [again.status, again.len, room.raw[: sized.len].hex() if same else "differs"]
 
-    def __init__(self, path):
-        library = ctypes.CDLL(str(path))
-        text = [ctypes.c_char_p, ctypes.c_size_t]
-        self.calls = {}
-        for name, result, more in (
-            ("parse", Answer, []),
-            ("goes_on", ctypes.c_bool, []),
-            ("parse_prefix", Prefix, []),
-            ("value", Written, text),
-            ("message", Written, text),
-        ):
-            call = getattr(library, f"litrs_{name}")
-            call.argtypes, call.restype = text + more, result
-            self.calls[name] = call
 
-    def written(self, name, text):
-        """What a call writes: first how much, then all of it."""
-        sized = self.calls[name](text, len(text), b"", 0)
-        room = ctypes.create_string_buffer(sized.len + 1)
-        written = self.calls[name](text, len(text), room, sized.len)
-        same = (sized.status, sized.len) == (written.status, written.len)
-        return [written.status, written.len, room.raw[: sized.len].hex() if same else "differs"]
-
-    def answer(self, text):
-        """The same fields as the C program prints them, up to the message."""
-        fields = flat(self.calls["parse"](text, len(text)))
-        fields.append(int(self.calls["goes_on"](text, len(text))))
-        fields += self.written("value", text) + self.written("message", text)
-        return fields + flat(self.calls["parse_prefix"](text, len(text)))
+def answer_of(module, text):
+    """The same fields as the C program prints them, up to the message, and those of the front."""
+    calls = module.calls
+    fields = flat(calls["parse"](text, len(text)))
+    fields.append(int(calls["goes_on"](text, len(text))))
+    fields += written(calls["value"], text) + written(calls["message"], text)
+    return fields + flat(calls["parse_prefix"](text, len(text)))
 
 
 @dataclasses.dataclass
 class Wanted:
     """What is to be answered of a text: the fields, None where nothing is known of one, how often
-    memory is to be asked for by each call but litrs_goes_on, and the status and length of what
-    stands at its front."""
+    memory is to be asked for by each call but litrs_goes_on, the status and length of what
+    stands at its front, and the fields of the object or exception of the module."""
 
     text: bytes
     fields: list
     asked: object = None
     front: tuple = (None, None)
+    python: object = None
 
 
 def bytes_of(field):
@@ -136,8 +102,7 @@ def kinds_of_refusals():
     its number by the header."""
     page = (TOP / "docs/GRAMMAR.md").read_text()
     rows = re.findall(r"^\| `([A-Z]\w+)` \| (`+) ?(.*?) ?\2 \|(?: (\w+))? \|", page, re.M)
-    header = (CRATE / "include/litrs.h").read_text()
-    numbers = dict(re.findall(r"LITRS_ERROR_(\w+) = (\d+)", header))
+    numbers = dict(re.findall(r"LITRS_ERROR_(\w+) = (\d+)", HEADER))
     kinds = {}
     for name, _, description, mark in rows:
         called = re.sub(r"(?<=[a-z])(?=[A-Z])|(?<=[A-Z])(?=[A-Z][a-z])", "_", name).upper()
@@ -178,7 +143,28 @@ def wanted_of_literal(text, kind, suffix, parts):
     else:
         fields += [NO_STRING, 0, ""]
     allocates = kind == "cstring" or parts[0] == b"escaped"
-    return Wanted(text, fields + [LITERAL, 0, ""], int(allocates), (LITERAL, len(text)))
+    python = python_of_literal(text, kind, suffix, parts)
+    front = (LITERAL, len(text))
+    return Wanted(text, fields + [LITERAL, 0, ""], int(allocates), front, python)
+
+
+def python_of_literal(text, kind, suffix, parts):
+    """The fields of the object of the module of a row."""
+    base, raw, main, fraction, exponent, value = 0, False, "", None, "", None
+    if kind == "bool":
+        value = parts[0] == b"true"
+    elif kind == "integer":
+        base, main = int(parts[0]), parts[1].decode()
+        value = int(main.replace("_", ""), base)
+    elif kind == "float":
+        main, exponent = parts[1].decode(), parts[3].decode()
+        fraction = None if parts[2] == b"-" else parts[2].decode()
+    elif kind in ("char", "byte"):
+        value = chr(int(parts[0], 16)) if kind == "char" else int(parts[0], 16)
+    else:
+        raw, value = parts[0] == b"raw", parts[1].decode() if kind == "string" else parts[1]
+    name = NAMES[KINDS.index(kind)]
+    return [name, value, suffix.decode(), base, raw, main, fraction, exponent]
 
 
 def wanted_of_refusal(text, kinds, name, spans, printed):
@@ -193,7 +179,8 @@ def wanted_of_refusal(text, kinds, name, spans, printed):
     fields = [REFUSED, *[0] * 15, number, int(spans[0] != b"-")]
     fields += [int(mark == "final"), int(mark == "open"), *places[0], *places[1], goes_on]
     fields += [REFUSED, 0, "", REFUSED, len(message), message.hex()]
-    return Wanted(text, fields, 0)
+    python = [name, *(places if spans[0] != b"-" else [None, None]), message.decode()]
+    return Wanted(text, fields, 0, python=[*python, mark == "final", mark == "open"])
 
 
 def wanted_of_front(text, words):
@@ -286,74 +273,226 @@ def faults_of(wanted, from_c, from_python):
         yield f"{refused} with every allocation refused, for {given}"
 
 
+def outcome(call, *words):
+    """What the call of the module answers: its fields, or those of its exception."""
+    try:
+        answer = call(*words)
+    except ValueError as e:
+        return e
+    return answer
+
+
+def fields_of_error(error, in_bytes, wanted):
+    """The fields of an exception, with the span that is not asked for as it is wanted."""
+    spans = [list(error.span), wanted[2]] if error.span else [None, None]
+    if error.span and not in_bytes:
+        spans = [wanted[1], list(error.span)]
+    return [error.kind, *spans, error.message, error.is_final, error.is_open]
+
+
+def faults_of_module(module, wanted):
+    """What is wrong of what the module makes of a text, as bytes and as a str."""
+    texts = [wanted.text]
+    try:
+        texts.append(wanted.text.decode())
+    except UnicodeDecodeError:
+        pass
+    for text in texts:
+        whole, front = outcome(module.parse, text), outcome(module.parse_prefix, text)
+        yield from (f"{it} of {type(text)}" for it in faults_of_call(module, wanted, text, whole))
+        if wanted.front[0] == LITERAL and isinstance(front, tuple):
+            length = wanted.front[1]
+            length = length if text is wanted.text else len(wanted.text[:length].decode())
+            front = None if front[1] == length else f"a length of {front[1]}"
+        kinds = {REFUSED: module.ParseError, NOT_UTF8: UnicodeDecodeError}
+        if wanted.front[0] is not None and not isinstance(
+            front, kinds.get(wanted.front[0], type(None))
+        ):
+            yield f"{front!r} at the front of {type(text)}, wanted {wanted.front}"
+
+
+def faults_of_call(module, wanted, text, whole):
+    """What is wrong of what `parse` of the module answers of a text."""
+    if wanted.fields[0] == NOT_UTF8 and not isinstance(whole, UnicodeDecodeError):
+        yield f"{whole!r}, which is not UTF-8"
+    if wanted.python is None:
+        return
+    expected, in_bytes = wanted.python, text is wanted.text
+    if wanted.fields[0] == LITERAL:
+        got = list(dataclasses.astuple(whole)) if isinstance(whole, module.Literal) else whole
+    elif isinstance(whole, module.ParseError):
+        if expected[2] and not in_bytes:
+            span = [len(wanted.text[:it].decode()) for it in expected[2]]
+            expected = [*expected[:2], span, *expected[3:]]
+        got = fields_of_error(whole, in_bytes, expected)
+    else:
+        got = whole
+    if got != expected:
+        yield f"the module answers {got!r}, wanted {expected}"
+
+
 def build(folder):
-    """Proves the crate and builds its archive and a shared object. Returns the archives that a
-    program is linked with."""
+    """Proves the crate, builds its archive, and installs it. Returns the folder."""
     crates = libraries.crates_of(TOP)
     crate = crates[CRATE.name]
     libraries.stop_unless_built(crate.below(crates))
-    archives = [folder / "liblitrs_c.a", KIT / "c/liblibc_c.a"]
+    archive, installed = folder / "liblitrs_c.a", folder / "installed"
     words = libraries.words_of("build", crate, crates, "src/lib.rt")
     words += ["--crate-type", "staticlib", "--backend", "llvm", "--toolchain", f"{KIT}/toolchain"]
-    words += ["--jobs", str(len(os.sched_getaffinity(0))), "-o", archives[0]]
+    words += ["--jobs", str(len(os.sched_getaffinity(0))), "-o", archive]
     how = {"cwd": CRATE, "stdout": subprocess.PIPE, "stderr": subprocess.STDOUT, "text": True}
     ran = subprocess.run(words, check=False, **how)
     if ran.returncode:
         sys.exit(f"{ran.stdout[-2000:]}c library: its archive was not built")
-    whole = ["-Wl,--whole-archive", archives[0], "-Wl,--no-whole-archive", archives[1]]
-    subprocess.run(["cc", "-shared", "-o", folder / "liblitrs.so", *whole], check=True)
-    return archives
+    environment = os.environ | {"LITRS_C_ARCHIVE": str(archive)}
+    subprocess.run([CRATE / "build", installed], check=True, env=environment, cwd=TOP)
+    return installed
 
 
-def try_texts(folder, archives):
+def told(*words, **more):
+    """What a command prints."""
+    return subprocess.run(words, check=True, capture_output=True, text=True, **more).stdout
+
+
+def flags(installed, *words):
+    """What pkg-config says of the library that is installed."""
+    path = os.environ | {"PKG_CONFIG_PATH": str(installed / "lib/pkgconfig")}
+    return told("pkg-config", *words, "litrs", env=path).split()
+
+
+def compiled(compiler, installed, out, source, *more):
+    """Compiles a program over what is installed: without more words over the shared library."""
+    libs = flags(installed, "--libs") + [f"-Wl,-rpath,{installed}/lib"]
+    cflags = flags(installed, "--cflags")
+    words = [*compiler, *WARNINGS, *cflags, "-o", out, source, "-x", "none", *(more or libs)]
+    subprocess.run(words, check=True)
+    return out
+
+
+def faults_of_names(installed):
+    """Names that the libraries define beside the calls of the header, calls that they lack, and
+    versions that differ."""
+    calls = set(re.findall(r"^(?!LITRS_INLINE|.*typedef)\w[\w ]* (litrs_\w+)\(", HEADER, re.M))
+    for name, how in (("liblitrs.so", "-D"), ("liblitrs.a", "-g")):
+        lines = told("nm", how, "--defined-only", "-P", installed / "lib" / name).splitlines()
+        names = {it.split()[0].split("@")[0] for it in lines if re.search(r" [TDBRVW] ", it)}
+        if names != calls:
+            yield f"{name} defines {sorted(names)}, the header {sorted(calls)}"
+    if "[liblitrs.so.1]" not in told("readelf", "-d", installed / "lib/liblitrs.so"):
+        yield "another soname than liblitrs.so.1"
+    changes = (TOP / "CHANGELOG.md").read_text()
+    versions = {
+        "CHANGELOG.md": re.search(r"^## \[(\d\S*)\]", changes, re.M)[1],
+        "litrs.pc": flags(installed, "--modversion")[0],
+        "the header": re.search(r'LITRS_VERSION "(.*)"', HEADER)[1],
+    }
+    numbers = re.findall(r"LITRS_VERSION_\w+ (\d+)", HEADER)
+    versions["its numbers"] = ".".join(numbers) + "-" + versions["the header"].partition("-")[2]
+    if len(set(versions.values())) != 1:
+        yield f"versions differ: {versions}"
+
+
+def try_header(folder):
+    """Compiles the header twice in a program, by each standard that a compiler at hand knows.
+    Returns by how many, and the faults."""
+    tried, faults = 0, []
+    for language, compilers in COMPILERS.items():
+        paths = {os.path.realpath(it) for it in map(shutil.which, compilers) if it}
+        empty, source = folder / f"empty.{language}", folder / f"header.{language}"
+        empty.write_text("int main(void) { return 0; }\n")
+        source.write_text('#include "litrs.h"\n' * 2 + "struct litrs_answer;\n" + empty.read_text())
+        for words in ([it, f"-std={by}"] for it in paths for by in STANDARDS[language]):
+            words += ["-x", language, *WARNINGS, "-fsyntax-only", "-I", CRATE / "include"]
+            if subprocess.run([*words, empty], capture_output=True, check=False).returncode:
+                continue
+            ran = subprocess.run([*words, source], capture_output=True, text=True, check=False)
+            faults += [f"{words[:2]}: {ran.stderr[:300]}"] if ran.returncode else []
+            tried += 1
+    return tried, faults
+
+
+def try_valgrind(program, rows):
+    """Runs the program over the shorter texts under valgrind. Returns of how many, and the faults."""
+    if not shutil.which("valgrind"):
+        print("c library: there is no valgrind here, which was not tried")
+        return 0, []
+    lines = [f"{it.text.hex()}\n" for it in rows if len(it.text) < PREFIXED]
+    words = ["valgrind", "-q", "--error-exitcode=9", "--leak-check=full", program]
+    ran = subprocess.run(words, input="".join(lines), capture_output=True, text=True, check=False)
+    return len(lines), [f"valgrind: {ran.stderr[-600:]}"] if ran.returncode else []
+
+
+def try_texts(folder, installed, module):
     """Tries all texts from C, and from Python by some threads at once. Returns how many there are,
     and the faults."""
-    program, shared = folder / "program", folder / "liblitrs.so"
-    wrap = ["-Wl,--wrap=malloc,--wrap=realloc,--wrap=free"]
+    wrap = "-Wl,--wrap=malloc,--wrap=realloc,--wrap=free"
+    archive = installed / "lib/liblitrs.a"
     source = TOP / ".ci/c_library.c"
-    subprocess.run(["cc", *WARNINGS, *wrap, "-o", program, source, *archives], check=True)
-    rows = list(wanted_of_rows(kinds_of_refusals()))
+    program = compiled(["cc", "-std=c99"], installed, folder / "program", source, wrap, archive)
+    kinds = kinds_of_refusals()
+    rows = list(wanted_of_rows(kinds))
     wanted = rows + list(wanted_of_prefixes(rows))
     lines = "".join(f"{it.text.hex()}\n" for it in wanted)
     ran = subprocess.run([program], input=lines, capture_output=True, text=True, check=False)
     if ran.returncode:
         return len(wanted), [f"the C program ended with {ran.returncode}: {ran.stderr[:300]}"]
-    library = Library(shared)
     with concurrent.futures.ThreadPoolExecutor(4) as threads:
-        from_python = list(threads.map(lambda it: library.answer(it.text), wanted))
+        from_python = list(threads.map(lambda it: answer_of(module, it.text), wanted))
     faults = []
     for it, line, answer in zip(wanted, ran.stdout.splitlines(), from_python, strict=True):
-        faults += [f"{it.text[:60]}: {what}"[:600] for what in faults_of(it, line, answer)]
-    return len(wanted), faults
+        found = [*faults_of(it, line, answer), *faults_of_module(module, it)]
+        faults += [f"{it.text[:60]}: {what}"[:600] for what in found]
+    number, more = try_valgrind(program, rows)
+    return len(wanted) + number, faults + more + list(faults_of_kinds(module, kinds))
 
 
-def try_samples(folder, archives):
+def faults_of_kinds(module, kinds):
+    """Names that the library gives numbers and that are not those of the kinds."""
+    errors = {number: name for name, (number, _, _) in kinds.items()}
+    for call, names in (("kind", dict(enumerate(NAMES, 1))), ("error", errors)):
+        for number in [*range(100), 2**32 - 1]:
+            text = module.StaticText(b"", 1)
+            module.calls[f"get_{call}_name"](number, text)
+            name = names.get(number, "Unknown")
+            if (text.text.decode(), text.size) != (name, len(name) + 1):
+                yield f"{call} {number} is called {text.text}, wanted {name}"
+
+
+def try_samples(folder, installed):
     """Runs the samples of the page of the crate. Each stands before a block with what it prints."""
     page = (CRATE / "README.md").read_text()
     blocks = re.findall(r"^```(c|python)\n(.*?)^```\n+```text\n(.*?)^```", page, re.M | re.S)
     for language, sample, printed in blocks:
         source = folder / f"sample.{language}"
         source.write_text(sample)
-        run = [sys.executable, source]
+        runs = [[sys.executable, source]]
         if language == "c":
-            run = [folder / "sample"]
-            subprocess.run(["cc", *WARNINGS, "-o", run[0], source, *archives], check=True)
-        how = {"capture_output": True, "text": True, "check": False, "cwd": folder}
-        ran = subprocess.run(run, **how)
-        if (ran.stdout, ran.stderr, ran.returncode) != (printed, "", 0):
-            yield f"the sample in {language} printed {ran.stdout}{ran.stderr}"
+            by = ["cc", "-std=c99"], ["c++", "-std=c++11", "-x", "c++"]
+            out = folder / "sample"
+            runs = [[compiled(it, installed, f"{out}_{it[0]}", source)] for it in by]
+        path = os.environ | {"PYTHONPATH": flags(installed, "--variable=pythondir")[0]}
+        for run in runs:
+            how = {"capture_output": True, "text": True, "check": False, "cwd": folder}
+            ran = subprocess.run(run, env=path, **how)
+            if (ran.stdout, ran.stderr, ran.returncode) != (printed, "", 0):
+                yield f"{run}, of a sample in {language}, printed {ran.stdout}{ran.stderr}"
     if sorted(it[0] for it in blocks) != ["c", "python"]:
         yield "the page has other samples than one in C and one in Python"
 
 
 def main():
+    sys.dont_write_bytecode = True
     with tempfile.TemporaryDirectory(prefix="c-library-") as room:
         folder = pathlib.Path(room)
-        archives = build(folder)
-        number, faults = try_texts(folder, archives)
-        faults += try_samples(folder, archives)
+        installed = build(folder)
+        sys.path.append(flags(installed, "--variable=pythondir")[0])
+        module = importlib.import_module("litrs")
+        number, faults = try_texts(folder, installed, module)
+        headers, more = try_header(folder)
+        faults += [*more, *faults_of_names(installed), *try_samples(folder, installed)]
     print(*faults[:20], sep="\n", end="\n" if faults else "")
-    print(f"c library: {number + 2 - len(faults)} passed, {len(faults)} failed")
+    print(f"c library: the header by {headers} standards")
+    print(f"c library: {number + headers + 5 - len(faults)} passed, {len(faults)} failed")
     return 1 if faults else 0
 
 

@@ -1,14 +1,33 @@
 /* Rust literals: what a text is as one literal, and why it is none.
  *
- * A text is a pointer and a length in bytes; it has no closing zero. Places count bytes of the text.
- * Nothing is kept between calls, and nothing has to be freed. README.md says more.
+ * A text is a pointer and a length in bytes; it has no closing zero. Where the length is 0 the
+ * pointer may be NULL: that is the empty text, and a room of no bytes. Places count bytes of the
+ * text. Nothing is kept between calls, and nothing has to be freed. README.md says more.
  */
 #ifndef LITRS_H
 #define LITRS_H
 
-#include <stdbool.h>
 #include <stddef.h>
 #include <stdint.h>
+
+/* The version of this header; litrs_version() is that of the library. */
+#define LITRS_VERSION "1.0.1-rattle.1"
+#define LITRS_VERSION_MAJOR 1
+#define LITRS_VERSION_MINOR 0
+#define LITRS_VERSION_PATCH 1
+
+/* 0 or 1, and in C89 what C99 and C++ have for it. */
+#if defined(__cplusplus) || (defined(__STDC_VERSION__) && __STDC_VERSION__ >= 199901L)
+#include <stdbool.h>
+#define LITRS_INLINE static inline
+typedef bool litrs_bool;
+#elif defined(__GNUC__)
+#define LITRS_INLINE static __inline__
+__extension__ typedef _Bool litrs_bool;
+#else
+#define LITRS_INLINE static
+typedef unsigned char litrs_bool;
+#endif
 
 #ifdef __cplusplus
 extern "C" {
@@ -82,60 +101,74 @@ enum litrs_error {
 };
 
 /* The bytes from start up to end. */
-typedef struct {
+typedef struct litrs_place {
     size_t start;
     size_t end;
 } litrs_place;
 
 /* A literal. What a kind does not have is 0, false, or the place 0..0. */
-typedef struct {
-    uint32_t kind;        /* enum litrs_kind */
-    uint32_t base;        /* of an integer: 2, 8, 10 or 16 */
-    bool is_raw;          /* of the three kinds of strings */
-    bool has_fraction;    /* of a float: whether it has a period */
-    bool has_value;       /* of a bool, a char, a byte, and an integer below 2^128 */
-    uint64_t value_low;   /* the value modulo 2^64 */
-    uint64_t value_high;  /* the value divided by 2^64, rounded down */
-    litrs_place main;     /* of an integer its digits, of a float those before period and exponent */
-    litrs_place fraction; /* of a float: the digits after the period */
-    litrs_place exponent; /* of a float: the exponent, with its letter and sign */
-    litrs_place suffix;   /* with which the text ends; it is empty where there is none */
+typedef struct litrs_literal {
+    uint32_t kind;           /* enum litrs_kind */
+    uint32_t base;           /* of an integer: 2, 8, 10 or 16 */
+    litrs_bool is_raw;       /* of the three kinds of strings */
+    litrs_bool has_fraction; /* of a float: whether it has a period */
+    litrs_bool has_value;    /* of a bool, a char, a byte, and an integer below 2^128 */
+    uint64_t value_low;      /* the value modulo 2^64 */
+    uint64_t value_high;     /* the value divided by 2^64, rounded down */
+    litrs_place main;        /* the digits of an integer, of a float before period and exponent */
+    litrs_place fraction;    /* of a float: the digits after the period */
+    litrs_place exponent;    /* of a float: the exponent, with its letter and sign */
+    litrs_place suffix;      /* with which the text ends; it is empty where there is none */
 } litrs_literal;
 
 /* A refusal. */
-typedef struct {
+typedef struct litrs_refusal {
     uint32_t kind;         /* enum litrs_error */
-    bool has_span;         /* whether it points at a part of the text; else both places are 0..0 */
-    bool is_final;         /* whether no text that begins with this one is a literal */
-    bool is_open;          /* whether the text only lacks its closing quote and hashes */
+    litrs_bool has_span;   /* whether it points at a part of the text; else both places are 0..0 */
+    litrs_bool is_final;   /* whether no text that begins with this one is a literal */
+    litrs_bool is_open;    /* whether the text only lacks its closing quote and hashes */
     litrs_place span;      /* the end may lie inside a character */
     litrs_place char_span; /* the same up to the next end of a character */
 } litrs_refusal;
 
 /* What litrs_parse answers: the status is neither LITRS_NO_STRING nor LITRS_NO_PREFIX. */
-typedef struct {
+typedef struct litrs_answer {
     uint32_t status;       /* enum litrs_status */
-    litrs_literal literal; /* if the status is LITRS_LITERAL; else all is 0 */
-    litrs_refusal refusal; /* if the status is LITRS_REFUSED; else all is 0 */
+    litrs_literal literal; /* if the status is LITRS_LITERAL; else all is 0, by litrs_parse */
+    litrs_refusal refusal; /* if the status is LITRS_REFUSED; else all is 0, by litrs_parse */
 } litrs_answer;
 
 /* What litrs_parse_prefix answers: the status is not LITRS_NO_STRING. */
-typedef struct {
-    litrs_answer answer; /* of the literal at the front, whose suffix ends it; or why none is there */
+typedef struct litrs_prefix {
+    litrs_answer answer; /* of the literal at the front, up to its suffix's end; or of the refusal */
     size_t len;          /* how many bytes that is, or was meant as one; 0 where none opens */
 } litrs_prefix;
 
 /* What the calls answer that write to the caller's room. */
-typedef struct {
+typedef struct litrs_written {
     uint32_t status; /* enum litrs_status */
     size_t len;      /* how many bytes there are to write, whether or not they fit */
 } litrs_written;
 
+/* A text with a closing zero, which lasts as long as the program. */
+typedef struct litrs_static_text {
+    const char *text;
+    size_t size; /* in bytes, with the closing zero */
+} litrs_static_text;
+
 /* Whether the text is a literal, and what it is made of, or why it is none. */
 litrs_answer litrs_parse(const uint8_t *text, size_t len);
 
+/* The same, written to the caller's answer: the status, and of the literal and the refusal the one
+ * that the status speaks of. The other stays as it was, and what stood there does not matter. */
+void litrs_parse_into(const uint8_t *text, size_t len, litrs_answer *answer);
+
 /* Which literal stands at the front of the text, and how many bytes it has. */
 litrs_prefix litrs_parse_prefix(const uint8_t *text, size_t len);
+
+/* The same, written to the caller's answer as by litrs_parse_into. Returns how many bytes the
+ * literal has, or what was meant as one; 0 where none opens. */
+size_t litrs_parse_prefix_into(const uint8_t *text, size_t len, litrs_answer *answer);
 
 /* Writes the bytes that a string, a byte string or a C string stands for, as many as fit, where the
  * status is LITRS_LITERAL. */
@@ -146,7 +179,36 @@ litrs_written litrs_value(const uint8_t *text, size_t len, uint8_t *room, size_t
 litrs_written litrs_message(const uint8_t *text, size_t len, uint8_t *room, size_t room_len);
 
 /* Whether the text, or the text with some text appended, is a literal. */
-bool litrs_goes_on(const uint8_t *text, size_t len);
+litrs_bool litrs_goes_on(const uint8_t *text, size_t len);
+
+/* The version of the library, and the names of the kinds of literals and of refusals. What stood in
+ * the static text before does not matter. The calls below give the text alone. */
+void litrs_get_version(litrs_static_text *version);
+void litrs_get_kind_name(uint32_t kind, litrs_static_text *name);
+void litrs_get_error_name(uint32_t error, litrs_static_text *name);
+
+/* The version of the library, as LITRS_VERSION. */
+LITRS_INLINE const char *litrs_version(void) {
+    litrs_static_text version = {"", 1};
+    litrs_get_version(&version);
+    return version.text;
+}
+
+/* The name of a kind of literals: "Bool" of LITRS_BOOL, "CString" of LITRS_C_STRING. It is
+ * "Unknown" for a number that enum litrs_kind does not have. */
+LITRS_INLINE const char *litrs_kind_name(uint32_t kind) {
+    litrs_static_text name = {"", 1};
+    litrs_get_kind_name(kind, &name);
+    return name.text;
+}
+
+/* The name of a kind of refusals: "InvalidDigit" of LITRS_ERROR_INVALID_DIGIT. It is "Unknown" for
+ * a number that enum litrs_error does not have. */
+LITRS_INLINE const char *litrs_error_name(uint32_t error) {
+    litrs_static_text name = {"", 1};
+    litrs_get_error_name(error, &name);
+    return name.text;
+}
 
 #ifdef __cplusplus
 }

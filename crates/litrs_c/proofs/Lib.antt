@@ -10,3 +10,5 @@ pub mod Prefixes
 pub mod Rooms
 -- examples
 pub mod Examples
+-- names by their numbers
+pub mod Names

@@ -1,5 +1,7 @@
 -- the numbers that stand for kinds in C
 pub mod Codes
+-- and their names
+pub mod Names
 -- what is answered of literals and of refusals
 pub mod Places
 pub mod LiteralFields

@@ -16,10 +16,10 @@ ghost use Rattle.litrs_prefix.specs.Opens.{opens};
 ghost use Rattle.litrs_c.specs.Prefixes.{IsPrefixAnd, IsMalformedAnd, LacksMemoryAt};
 ghost use Rattle.litrs_c.specs.Answers.{IsLiteralAnd, IsRefusedAnd, LacksMemory, IsKept, WritesValue, WritesMessage};
 
-use literals::{NO_LITERAL, literal_fields};
+use literals::{NO_LITERAL, write_literal_fields};
 use litrs::{Literal, ParseErrorKind};
 use message::write_refusal;
-use prefix::parsed_prefix;
+use prefix::parse_prefix_text;
 use refusals::{NO_REFUSAL, refusal_fields};
 use std::alloc::Global;
 use std::str;
@@ -29,6 +29,7 @@ mod message;
 mod prefix;
 mod refusals;
 mod room;
+mod static_texts;
 
 /// The text is a literal.
 pub const LITERAL: u32 = 0;
@@ -131,10 +132,17 @@ pub struct Written {
     pub len: usize,
 }
 
+/// A text that lasts as long as the program, with a closing zero.
+#[repr(C)]
+#[derive(Clone, Copy)]
+pub struct StaticText {
+    pub text: &'static [u8],
+}
+
 /// Says of a text whether it is a literal of any kind, and what it is made of, or why it is none.
 ///
 /// Only the value of a C string, and of a quoted string or byte string with a backslash, is
-/// allocated, and freed again before the call returns.
+/// allocated, where it is not empty, and freed again before the call returns.
 #[unsafe(no_mangle)]
 pub extern "C" fn litrs_parse(alloc: Global, text: &[u8]) -> Answer
     ensures statuses { result.status ≤ OUT_OF_MEMORY }
@@ -147,35 +155,55 @@ pub extern "C" fn litrs_parse(alloc: Global, text: &[u8]) -> Answer
     ensures no_literal { result.status ≢ LITERAL → result.literal ≡ NO_LITERAL }
     ensures no_refusal { result.status ≢ REFUSED → result.refusal ≡ NO_REFUSAL }
 {
+    let mut answer = only_status(NOT_UTF8);
+    litrs_parse_into(alloc, text, &mut answer);
+    answer
+}
+
+/// Writes to the caller's answer what [`litrs_parse`] answers: the status, and of the literal and
+/// the refusal the one that the status speaks of. The other stays as it was.
+#[unsafe(no_mangle)]
+pub extern "C" fn litrs_parse_into(alloc: Global, text: &[u8], answer: &mut Answer)
+    ensures statuses { answer.new.status ≤ OUT_OF_MEMORY }
+    ensures utf8 { answer.new.status ≢ NOT_UTF8 ↔ IsUtf8 text.now }
+    ensures literal { answer.new.status ≡ LITERAL → IsLiteralAnd (chars text.now)
+        (λ d. IsLiteralFields (length text.now) d answer.new.literal) }
+    ensures refused { answer.new.status ≡ REFUSED → IsRefusedAnd (chars text.now)
+        (λ e. IsRefusalFields e answer.new.refusal) }
+    ensures memory { answer.new.status ≡ OUT_OF_MEMORY → LacksMemory (chars text.now) }
+    ensures no_literal { answer.new.status ≢ LITERAL → answer.new.literal ≡ answer.old.literal }
+    ensures no_refusal { answer.new.status ≢ REFUSED → answer.new.refusal ≡ answer.old.refusal }
+{
     match str::from_utf8(text) {
-        Ok(text) => parsed(alloc, text),
-        Err(_) => only_status(NOT_UTF8),
+        Ok(text) => parse_text(alloc, text, answer),
+        Err(_) => answer.status = NOT_UTF8,
     }
 }
 
 /// The same of a text that is UTF-8.
-fn parsed(alloc: Global, text: &str) -> Answer
-    ensures statuses { result.status ≤ OUT_OF_MEMORY }
-    ensures utf8 { result.status ≢ NOT_UTF8 }
-    ensures literal { result.status ≡ LITERAL → IsLiteralAnd (chars text.now)
-        (λ d. IsLiteralFields (length text.now) d result.literal) }
-    ensures refused { result.status ≡ REFUSED → IsRefusedAnd (chars text.now)
-        (λ e. IsRefusalFields e result.refusal) }
-    ensures memory { result.status ≡ OUT_OF_MEMORY → LacksMemory (chars text.now) }
-    ensures no_literal { result.status ≢ LITERAL → result.literal ≡ NO_LITERAL }
-    ensures no_refusal { result.status ≢ REFUSED → result.refusal ≡ NO_REFUSAL }
+#[inline(always)]
+fn parse_text(alloc: Global, text: &str, answer: &mut Answer)
+    ensures statuses { answer.new.status ≤ OUT_OF_MEMORY }
+    ensures utf8 { answer.new.status ≢ NOT_UTF8 }
+    ensures literal { answer.new.status ≡ LITERAL → IsLiteralAnd (chars text.now)
+        (λ d. IsLiteralFields (length text.now) d answer.new.literal) }
+    ensures refused { answer.new.status ≡ REFUSED → IsRefusedAnd (chars text.now)
+        (λ e. IsRefusalFields e answer.new.refusal) }
+    ensures memory { answer.new.status ≡ OUT_OF_MEMORY → LacksMemory (chars text.now) }
+    ensures no_literal { answer.new.status ≢ LITERAL → answer.new.literal ≡ answer.old.literal }
+    ensures no_refusal { answer.new.status ≢ REFUSED → answer.new.refusal ≡ answer.old.refusal }
 {
     match Literal::parse(alloc, text) {
-        Ok(lit) => Answer {
-            literal: literal_fields(&lit),
-            ..only_status(LITERAL)
-        },
+        Ok(lit) => {
+            answer.status = LITERAL;
+            write_literal_fields(&lit, &mut answer.literal);
+        }
         Err(e) => match e.kind() {
-            ParseErrorKind::OutOfMemory => only_status(OUT_OF_MEMORY),
-            _ => Answer {
-                refusal: refusal_fields(&e),
-                ..only_status(REFUSED)
-            },
+            ParseErrorKind::OutOfMemory => answer.status = OUT_OF_MEMORY,
+            _ => {
+                answer.status = REFUSED;
+                answer.refusal = refusal_fields(&e);
+            }
         },
     }
 }
@@ -216,12 +244,36 @@ pub extern "C" fn litrs_parse_prefix(alloc: Global, text: &[u8]) -> PrefixAnswer
     ensures no_literal { result.answer.status ≢ LITERAL → result.answer.literal ≡ NO_LITERAL }
     ensures no_refusal { result.answer.status ≢ REFUSED → result.answer.refusal ≡ NO_REFUSAL }
 {
+    let mut answer = only_status(NOT_UTF8);
+    let len = litrs_parse_prefix_into(alloc, text, &mut answer);
+    PrefixAnswer { answer, len }
+}
+
+/// Writes to the caller's answer what [`litrs_parse_prefix`] answers: the status, and of the literal
+/// and the refusal the one that the status speaks of. The other stays as it was. The result is how
+/// many bytes the literal has, or what was meant as one; 0 where none opens.
+#[unsafe(no_mangle)]
+pub extern "C" fn litrs_parse_prefix_into(alloc: Global, text: &[u8], answer: &mut Answer) -> usize
+    ensures statuses { answer.new.status ≤ NO_PREFIX }
+    ensures no_string { answer.new.status ≢ NO_STRING }
+    ensures utf8 { answer.new.status ≢ NOT_UTF8 ↔ IsUtf8 text.now }
+    ensures literal { answer.new.status ≡ LITERAL → IsPrefixAnd text.now result
+        (λ d. IsLiteralFields result d answer.new.literal) }
+    ensures refused { answer.new.status ≡ REFUSED → IsMalformedAnd (chars text.now) result
+        (λ e. IsRefusalFields e answer.new.refusal) }
+    ensures none { answer.new.status ≡ NO_PREFIX → IsFalse (opens (chars text.now)) }
+    ensures no_len { answer.new.status ≡ NO_PREFIX → result ≡ 0 }
+    ensures memory { answer.new.status ≡ OUT_OF_MEMORY
+        → LacksMemoryAt (chars text.now) result }
+    ensures no_literal { answer.new.status ≢ LITERAL → answer.new.literal ≡ answer.old.literal }
+    ensures no_refusal { answer.new.status ≢ REFUSED → answer.new.refusal ≡ answer.old.refusal }
+{
     match str::from_utf8(text) {
-        Ok(text) => parsed_prefix(alloc, text),
-        Err(_) => PrefixAnswer {
-            answer: only_status(NOT_UTF8),
-            len: 0,
-        },
+        Ok(text) => parse_prefix_text(alloc, text, answer),
+        Err(_) => {
+            answer.status = NOT_UTF8;
+            0
+        }
     }
 }
 

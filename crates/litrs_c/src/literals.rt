@@ -49,24 +49,31 @@ pub(crate) const NO_LITERAL: LiteralFields = LiteralFields {
     suffix: NOWHERE,
 };
 
-/// The fields of the literal.
-pub(crate) fn literal_fields(lit: &Literal<&str>) -> LiteralFields
-    ensures { IsLiteralFields (length (literal_raw lit.now)) (derivation lit.now) result }
+/// Writes the fields of the literal. Each kind writes all of them where the caller keeps them, so
+/// that none is put together elsewhere first.
+#[inline(always)]
+pub(crate) fn write_literal_fields(lit: &Literal<&str>, fields: &mut LiteralFields)
+    ensures { IsLiteralFields (length (literal_raw lit.now)) (derivation lit.now) fields.new }
 {
     let suffix = suffix_place(lit);
     match lit {
-        Literal::Bool(lit) => value_fields(BOOL, u64::from(lit.value()), suffix),
-        Literal::Integer(lit) => integer_fields(lit, suffix),
-        Literal::Float(lit) => float_fields(lit, suffix),
-        Literal::Char(lit) => value_fields(CHAR, u64::from(u32::from(lit.value())), suffix),
-        Literal::Byte(lit) => value_fields(BYTE, u64::from(lit.value()), suffix),
-        Literal::String(lit) => string_fields(STRING, lit.is_raw_string(), suffix),
-        Literal::ByteString(lit) => string_fields(BYTE_STRING, lit.is_raw_byte_string(), suffix),
-        Literal::CString(lit) => string_fields(C_STRING, lit.is_raw_c_string(), suffix),
+        Literal::Bool(lit) => *fields = value_fields(BOOL, u64::from(lit.value()), suffix),
+        Literal::Integer(lit) => *fields = integer_fields(lit, suffix),
+        Literal::Float(lit) => *fields = float_fields(lit, suffix),
+        Literal::Char(lit) => {
+            *fields = value_fields(CHAR, u64::from(u32::from(lit.value())), suffix);
+        }
+        Literal::Byte(lit) => *fields = value_fields(BYTE, u64::from(lit.value()), suffix),
+        Literal::String(lit) => *fields = string_fields(STRING, lit.is_raw_string(), suffix),
+        Literal::ByteString(lit) => {
+            *fields = string_fields(BYTE_STRING, lit.is_raw_byte_string(), suffix);
+        }
+        Literal::CString(lit) => *fields = string_fields(C_STRING, lit.is_raw_c_string(), suffix),
     }
 }
 
 /// The place of the suffix.
+#[inline(always)]
 fn suffix_place(lit: &Literal<&str>) -> Place
     ensures { IsSuffixPlace (length (literal_raw lit.now)) (derivation lit.now) result }
 {
@@ -78,6 +85,7 @@ fn suffix_place(lit: &Literal<&str>) -> Place
 }
 
 /// A literal of a kind with a value that fits 64 bits and no parts but the suffix.
+#[inline(always)]
 fn value_fields(kind: u32, value: u64, suffix: Place) -> LiteralFields
     ensures { result ≡ record NO_LITERAL {
       kind = kind;
@@ -96,6 +104,7 @@ fn value_fields(kind: u32, value: u64, suffix: Place) -> LiteralFields
 }
 
 /// A string of one of the three kinds.
+#[inline(always)]
 fn string_fields(kind: u32, is_raw: bool, suffix: Place) -> LiteralFields
     ensures { result ≡ record NO_LITERAL { kind = kind; is_raw = is_raw; suffix = suffix } }
 {
@@ -108,6 +117,7 @@ fn string_fields(kind: u32, is_raw: bool, suffix: Place) -> LiteralFields
 }
 
 /// The fields of an integer.
+#[inline(always)]
 fn integer_fields(lit: &IntegerLit<&str>, suffix: Place) -> LiteralFields
     requires { IsSuffixPlace (length lit.now.raw) (an_integer (integer_parts lit.now)) suffix }
     ensures { IsLiteralFields (length lit.now.raw) (an_integer (integer_parts lit.now)) result }
@@ -145,6 +155,7 @@ fn place_of(start: usize, part: &str) -> Place
 }
 
 /// The fields of a float.
+#[inline(always)]
 fn float_fields(lit: &FloatLit<&str>, suffix: Place) -> LiteralFields
     requires { IsSuffixPlace (length lit.now.raw) (a_float (float_parts lit.now)) suffix }
     ensures { IsLiteralFields (length lit.now.raw) (a_float (float_parts lit.now)) result }

@@ -6,56 +6,49 @@ ghost use Rattle.litrs_c.specs.LiteralFields.{IsLiteralFields};
 ghost use Rattle.litrs_c.specs.RefusalFields.{IsRefusalFields};
 ghost use Rattle.litrs_c.specs.Prefixes.{IsPrefixAnd, IsMalformedAnd, LacksMemoryAt};
 
-use crate::literals::{NO_LITERAL, literal_fields};
-use crate::refusals::{NO_REFUSAL, refusal_fields};
-use crate::{
-    Answer, LITERAL, NO_PREFIX, NO_STRING, NOT_UTF8, OUT_OF_MEMORY, PrefixAnswer, REFUSED,
-    only_status,
-};
+use crate::literals::write_literal_fields;
+use crate::refusals::refusal_fields;
+use crate::{Answer, LITERAL, NO_PREFIX, NO_STRING, NOT_UTF8, OUT_OF_MEMORY, REFUSED};
 use litrs::ParseErrorKind;
 use litrs_prefix::parse_prefix;
 use std::alloc::Global;
 
-/// What stands at the front of a text.
-pub(crate) fn parsed_prefix(alloc: Global, text: &str) -> PrefixAnswer
-    ensures statuses { result.answer.status ≤ NO_PREFIX }
-    ensures no_string { result.answer.status ≢ NO_STRING }
-    ensures utf8 { result.answer.status ≢ NOT_UTF8 }
-    ensures literal { result.answer.status ≡ LITERAL → IsPrefixAnd text.now result.len
-        (λ d. IsLiteralFields result.len d result.answer.literal) }
-    ensures refused { result.answer.status ≡ REFUSED → IsMalformedAnd (chars text.now) result.len
-        (λ e. IsRefusalFields e result.answer.refusal) }
-    ensures none { result.answer.status ≡ NO_PREFIX → IsFalse (opens (chars text.now)) }
-    ensures no_len { result.answer.status ≡ NO_PREFIX → result.len ≡ 0 }
-    ensures memory { result.answer.status ≡ OUT_OF_MEMORY
-        → LacksMemoryAt (chars text.now) result.len }
-    ensures no_literal { result.answer.status ≢ LITERAL → result.answer.literal ≡ NO_LITERAL }
-    ensures no_refusal { result.answer.status ≢ REFUSED → result.answer.refusal ≡ NO_REFUSAL }
+/// Writes what stands at the front of a text that is UTF-8, and answers how many bytes that is.
+#[inline(always)]
+pub(crate) fn parse_prefix_text(alloc: Global, text: &str, answer: &mut Answer) -> usize
+    ensures statuses { answer.new.status ≤ NO_PREFIX }
+    ensures no_string { answer.new.status ≢ NO_STRING }
+    ensures utf8 { answer.new.status ≢ NOT_UTF8 }
+    ensures literal { answer.new.status ≡ LITERAL → IsPrefixAnd text.now result
+        (λ d. IsLiteralFields result d answer.new.literal) }
+    ensures refused { answer.new.status ≡ REFUSED → IsMalformedAnd (chars text.now) result
+        (λ e. IsRefusalFields e answer.new.refusal) }
+    ensures none { answer.new.status ≡ NO_PREFIX → IsFalse (opens (chars text.now)) }
+    ensures no_len { answer.new.status ≡ NO_PREFIX → result ≡ 0 }
+    ensures memory { answer.new.status ≡ OUT_OF_MEMORY
+        → LacksMemoryAt (chars text.now) result }
+    ensures no_literal { answer.new.status ≢ LITERAL → answer.new.literal ≡ answer.old.literal }
+    ensures no_refusal { answer.new.status ≢ REFUSED → answer.new.refusal ≡ answer.old.refusal }
 {
     match parse_prefix(alloc, text) {
-        Ok(Some(prefix)) => PrefixAnswer {
-            answer: Answer {
-                literal: literal_fields(&prefix.literal),
-                ..only_status(LITERAL)
-            },
-            len: prefix.literal.raw_input().len(),
-        },
-        Ok(None) => PrefixAnswer {
-            answer: only_status(NO_PREFIX),
-            len: 0,
-        },
-        Err(malformed) => match malformed.error.kind() {
-            ParseErrorKind::OutOfMemory => PrefixAnswer {
-                answer: only_status(OUT_OF_MEMORY),
-                len: malformed.len,
-            },
-            _ => PrefixAnswer {
-                answer: Answer {
-                    refusal: refusal_fields(&malformed.error),
-                    ..only_status(REFUSED)
-                },
-                len: malformed.len,
-            },
-        },
+        Ok(Some(prefix)) => {
+            answer.status = LITERAL;
+            write_literal_fields(&prefix.literal, &mut answer.literal);
+            prefix.literal.raw_input().len()
+        }
+        Ok(None) => {
+            answer.status = NO_PREFIX;
+            0
+        }
+        Err(malformed) => {
+            match malformed.error.kind() {
+                ParseErrorKind::OutOfMemory => answer.status = OUT_OF_MEMORY,
+                _ => {
+                    answer.status = REFUSED;
+                    answer.refusal = refusal_fields(&malformed.error);
+                }
+            }
+            malformed.len
+        }
     }
 }

@@ -19,6 +19,7 @@ pub(crate) const NO_REFUSAL: RefusalFields = RefusalFields {
 };
 
 /// The fields of the refusal.
+#[inline(always)]
 pub(crate) fn refusal_fields(error: &ParseError) -> RefusalFields
     ensures { IsRefusalFields error.now result }
 {
@@ -34,6 +35,7 @@ pub(crate) fn refusal_fields(error: &ParseError) -> RefusalFields
 }
 
 /// The place of a span.
+#[inline(always)]
 fn span_place(span: Option<Range<usize>>) -> Place
     ensures { result ≡ span_place span }
 {
@@ -47,6 +49,7 @@ fn span_place(span: Option<Range<usize>>) -> Place
 }
 
 /// The number by which the header calls the kind.
+#[inline(always)]
 fn error_code(kind: ParseErrorKind) -> u32
     ensures { result ≡ error_code kind }
 {

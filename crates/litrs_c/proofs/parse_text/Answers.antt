@@ -1,7 +1,7 @@
 use Rattle.std.proofs.Common.{sym, ◌∙◌}
 use Rattle.std.specs.Str.{chars}
 use Rattle.litrs_c.proofs.Memory.{lacks_memory}
-use Rattle.litrs_c.proofs.parsed.Goals as goal
+use Rattle.litrs_c.proofs.parse_text.Goals as goal
 
 pub returns-in-OutOfMemory-clause-memory : goal.returns-in-OutOfMemory-clause-memory
 returns-in-OutOfMemory-clause-memory c =
