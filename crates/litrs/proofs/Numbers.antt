@@ -35,7 +35,7 @@ use Rattle.litrs_lex.specs.NumberCut.{number_kind, IsNumberCut}
 use Rattle.litrs_lex.proofs.Dispatch.{dispatch-chars}
 use Rattle.litrs_lex.proofs.IntegerBytes.{digit-chars}
 use Rattle.litrs_lex.proofs.NumberBytes.{begins_float-chars}
-use Rattle.litrs.specs.LacksDigits.{is_digits_kind, ends_at, lacks_digits}
+use Rattle.litrs.specs.MayGainDigits.{is_digits_kind, ends_at, may_gain_digits}
 use Rattle.litrs_lex.specs.Front.{row_of}
 use Rattle.litrs_lex.specs.declared.kind.Front.TheVariants as front
 use Rattle.litrs.proofs.Begins.{answer_is, begins_now}
@@ -50,7 +50,7 @@ nothing_after a (c ∷ b) same =
 
 -- a refusal of another kind
 other_kind : {A : Type 0} (k r : Refusal) (len : ℕ) → is_digits_kind k.kind ≡ false →
-    Some k ≡ Some r → lacks_digits r len ≡ true → A
+    Some k ≡ Some r → may_gain_digits r len ≡ true → A
 other_kind k r len other same lacks =
     let at : k ≡ r = cc in
     absurd (both_ways (is_digits_kind k.kind) other
@@ -59,7 +59,7 @@ other_kind k r len other same lacks =
 
 -- the place where a refusal ends that lacks digits
 ends_there : (start end : ℕ) (kind : ParseErrorKind) (r : Refusal) (len : ℕ) →
-    Some (over start end kind) ≡ Some r → lacks_digits r len ≡ true → end ≡ len
+    Some (over start end kind) ≡ Some r → may_gain_digits r len ≡ true → end ≡ len
 ends_there start end kind r len same lacks =
     let at : over start end kind ≡ r = cc in
     eqb-true end len (subst (λ (e : Refusal). ends_at e.span len ≡ true) (sym at)
@@ -76,7 +76,7 @@ suffix_kind t = by (first_passes is_ascii_symbol t)
 
 integer_row : (start end len : ℕ) (suffix digit e some : Bool) (kind : ParseErrorKind)
     (r : Refusal) → is_digits_kind kind ≡ false →
-    integer_rows start end len suffix digit kind e some ≡ Some r → lacks_digits r len ≡ true →
+    integer_rows start end len suffix digit kind e some ≡ Some r → may_gain_digits r len ≡ true →
     end ≡ len
 integer_row start end len false true e some kind r other h lacks =
     other_kind (at end InvalidDigit) r len refl h lacks
@@ -90,15 +90,15 @@ integer_row start end len true digit false true kind r other h lacks = cc
 
 no_digit_row : (start end len : ℕ) (digit some : Bool) (kind : ParseErrorKind)
     (r : Refusal) → integer_rows start end len true digit kind false some ≡ Some r → end ≡ len →
-    lacks_digits r len ≡ true
+    may_gain_digits r len ≡ true
 no_digit_row start end len digit true kind r h same = cc
 no_digit_row start end len digit false kind r h same =
     let at : over start end NoDigits ≡ r = cc in
-    subst (λ (e : Refusal). lacks_digits e len ≡ true) at (eq-eqb end len same)
+    subst (λ (e : Refusal). may_gain_digits e len ≡ true) at (eq-eqb end len same)
 
 -- nothing stands after the main part if and only if the refusal lacks digits
 integer_lacks : (d : IntegerParts) (r : Refusal) → cut_refusal d ≡ Some r →
-    (lacks_digits r (byte_len (integer_text d)) ≡ true) ↔ (d.suffix ≡ [])
+    (may_gain_digits r (byte_len (integer_text d)) ≡ true) ↔ (d.suffix ≡ [])
 integer_lacks d r h = (to, from)
   where
     number : List ℕ
@@ -110,7 +110,7 @@ integer_lacks d r h = (to, from)
     len : ℕ
     len = byte_len (integer_text d)
 
-    to : lacks_digits r len ≡ true → d.suffix ≡ []
+    to : may_gain_digits r len ≡ true → d.suffix ≡ []
     to lacks =
         nothing_after number d.suffix
         (integer_row (byte_len (prefix d.base)) (byte_len number) len (is_suffix d.suffix)
@@ -119,7 +119,7 @@ integer_lacks d r h = (to, from)
         (suffix_refusal d.suffix) r (suffix_kind d.suffix) h lacks
         ∙ ap byte_len (sym spells))
 
-    from : d.suffix ≡ [] → lacks_digits r len ≡ true
+    from : d.suffix ≡ [] → may_gain_digits r len ≡ true
     from none =
         let whole : byte_len number ≡ len =
         ap byte_len (sym (append-nil number) ∙ ap (λ l. number ++ l) (sym none) ∙ spells) in
@@ -132,7 +132,7 @@ integer_lacks d r h = (to, from)
         (sym (ap (first_passes is_e) none) j) (list_any (is_digit d.base) d.main)) ∙ h) whole
 
 integer_goes : (t : List ℕ) (r : Refusal) → first_passes is_ascii_digit t ≡ true →
-    integer_refusal t ≡ Some r → (lacks_digits r (byte_len t) ≡ true) ↔ IntegerGoesOn t
+    integer_refusal t ≡ Some r → (may_gain_digits r (byte_len t) ≡ true) ↔ IntegerGoesOn t
 integer_goes t r digit h = chain lacks (λ none. inr (digit, none), from)
   where
     d : IntegerParts
@@ -141,8 +141,8 @@ integer_goes t r digit h = chain lacks (λ none. inr (digit, none), from)
     spells : integer_text d ≡ t
     spells = ap integer_text (integer_cut-is t) ∙ cut-spells t
 
-    lacks : (lacks_digits r (byte_len t) ≡ true) ↔ (d.suffix ≡ [])
-    lacks = subst (λ (l : List ℕ). (lacks_digits r (byte_len l) ≡ true) ↔ (d.suffix ≡ [])) spells
+    lacks : (may_gain_digits r (byte_len t) ≡ true) ↔ (d.suffix ≡ [])
+    lacks = subst (λ (l : List ℕ). (may_gain_digits r (byte_len l) ≡ true) ↔ (d.suffix ≡ [])) spells
         (integer_lacks d r (sym (refusal_of_digit t digit) ∙ h))
 
     from : IntegerGoesOn t → d.suffix ≡ []
@@ -152,13 +152,13 @@ integer_goes t r digit h = chain lacks (λ none. inr (digit, none), from)
 integer_decided : (bs : List ℕ) (e : ParseError) (len : ℕ) (b : Bool) → IsUtf8 bs →
     first_passes is_ascii_digit (chars bs) ≡ true → IsRefused (kind_parse integer_literal)
     (chars bs) e →
-    len ≡ length bs → b ≡ lacks_digits (refusal_of e) len →
+    len ≡ length bs → b ≡ may_gain_digits (refusal_of e) len →
     IsTrue b ↔ Begins (kind_parse integer_literal) (chars bs)
 integer_decided bs e len b u digit refused is_len is =
     let t = chars bs in
     let size : len ≡ byte_len t = is_len ∙ ap length (sym (encodes-chars bs u)) in
-    answer_is b (lacks_digits (refusal_of e) (byte_len t))
-    (is ∙ ap (lacks_digits (refusal_of e)) size)
+    answer_is b (may_gain_digits (refusal_of e) (byte_len t))
+    (is ∙ ap (may_gain_digits (refusal_of e)) size)
     (chain (integer_goes t (refusal_of e) digit refused.table)
     (back (refused_texts_go_on (kind_parse integer_literal) t (refusal_of e) refused.table)))
 
@@ -167,7 +167,7 @@ integer_decided bs e len b u digit refused is_len is =
 float_row : (i f n len : ℕ) (kind : ParseErrorKind) (wrong fraction exponent digit suffix : Bool)
     (r : Refusal) → is_digits_kind kind ≡ false →
     float_rows i f n len kind wrong fraction exponent digit suffix ≡ Some r →
-    lacks_digits r len ≡ true → (wrong ≡ false) × (n ≡ len)
+    may_gain_digits r len ≡ true → (wrong ≡ false) × (n ≡ len)
 float_row i f n len kind true fraction exponent digit suffix r other h lacks =
     other_kind (at (i + 1) UnexpectedChar) r len refl h lacks
 float_row i f n len kind false fraction true false suffix r other h lacks =
@@ -185,10 +185,10 @@ float_row i f n len kind false false false digit true r other h lacks =
 no_exponent_row : (i f n len : ℕ) (kind : ParseErrorKind) (fraction exponent digit : Bool)
     (r : Refusal) → ((fraction || exponent) ≡ false → ⊥) →
     float_rows i f n len kind false fraction exponent digit true ≡ Some r → n ≡ len →
-    lacks_digits r len ≡ true
+    may_gain_digits r len ≡ true
 no_exponent_row i f n len kind fraction true false r some h same =
     let at : over f n NoExponentDigits ≡ r = cc in
-    subst (λ (e : Refusal). lacks_digits e len ≡ true) at (eq-eqb n len same)
+    subst (λ (e : Refusal). may_gain_digits e len ≡ true) at (eq-eqb n len same)
 no_exponent_row i f n len kind true true true r some h same = cc
 no_exponent_row i f n len kind false true true r some h same = cc
 no_exponent_row i f n len kind true false digit r some h same = cc
@@ -261,7 +261,7 @@ rows_of_digit d digit = by (float_text d) digit
 float_lacks : (d : FloatParts) (r : Refusal) → IsCut d →
     first_passes is_ascii_digit (float_text d) ≡ true → begins_float (float_text d) ≡ true →
     cut_rows d ≡ Some r →
-    (lacks_digits r (byte_len (float_text d)) ≡ true) ↔ FloatGoesOn d
+    (may_gain_digits r (byte_len (float_text d)) ≡ true) ↔ FloatGoesOn d
 float_lacks d r cut digit begins h = (to, from)
   where
     i : ℕ
@@ -290,7 +290,7 @@ float_lacks d r cut digit begins h = (to, from)
     alone none = ap (λ l. fraction_text d.fraction ++ (d.exponent ++ l)) none
         ∙ ap (λ l. fraction_text d.fraction ++ l) (append-nil d.exponent)
 
-    to : lacks_digits r len ≡ true → FloatGoesOn d
+    to : may_gain_digits r len ≡ true → FloatGoesOn d
     to lacks =
         let row = float_row i f n len (suffix_refusal d.suffix) wrong (is_some d.fraction)
         (not (is_empty d.exponent)) (list_any is_ascii_digit d.exponent) (is_suffix d.suffix) r
@@ -305,7 +305,7 @@ float_lacks d r cut digit begins h = (to, from)
           suffix = none;
         }
 
-    from : FloatGoesOn d → lacks_digits r len ≡ true
+    from : FloatGoesOn d → may_gain_digits r len ≡ true
     from goes =
         let whole : n ≡ len = sym (number_len d cut)
         ∙ ap byte_len (sym (append-nil (number_part d))
@@ -320,9 +320,9 @@ float_lacks d r cut digit begins h = (to, from)
 
 float_goes : (t : List ℕ) (r : Refusal) → first_passes is_ascii_digit t ≡ true →
     begins_float t ≡ true → float_refusal t ≡ Some r →
-    (lacks_digits r (byte_len t) ≡ true) ↔ FloatGoesOn (float_cut t)
+    (may_gain_digits r (byte_len t) ≡ true) ↔ FloatGoesOn (float_cut t)
 float_goes t r digit begins h =
-    subst (λ (d : FloatParts). (lacks_digits r (byte_len t) ≡ true) ↔ FloatGoesOn d) (sym cut_is)
+    subst (λ (d : FloatParts). (may_gain_digits r (byte_len t) ≡ true) ↔ FloatGoesOn d) (sym cut_is)
     here
   where
     c : CutOf t
@@ -331,8 +331,8 @@ float_goes t r digit begins h =
     cut_is : float_cut t ≡ c.parts
     cut_is = ap float_cut (sym c.spells) ∙ cut_of_text c.parts c.cut
 
-    here : (lacks_digits r (byte_len t) ≡ true) ↔ FloatGoesOn c.parts
-    here = subst (λ (l : List ℕ). (lacks_digits r (byte_len l) ≡ true) ↔ FloatGoesOn c.parts)
+    here : (may_gain_digits r (byte_len t) ≡ true) ↔ FloatGoesOn c.parts
+    here = subst (λ (l : List ℕ). (may_gain_digits r (byte_len l) ≡ true) ↔ FloatGoesOn c.parts)
         c.spells
         (float_lacks c.parts r c.cut (ap (first_passes is_ascii_digit) c.spells ∙ digit)
         (ap begins_float c.spells ∙ begins)
@@ -341,12 +341,12 @@ float_goes t r digit begins h =
 float_decided : (bs : List ℕ) (e : ParseError) (len : ℕ) (b : Bool) → IsUtf8 bs →
     first_passes is_ascii_digit (chars bs) ≡ true → begins_float (chars bs) ≡ true →
     IsRefused (kind_parse float_literal) (chars bs) e → len ≡ length bs →
-    b ≡ lacks_digits (refusal_of e) len → IsTrue b ↔ Begins (kind_parse float_literal) (chars bs)
+    b ≡ may_gain_digits (refusal_of e) len → IsTrue b ↔ Begins (kind_parse float_literal) (chars bs)
 float_decided bs e len b u digit begins refused is_len is =
     let t = chars bs in
     let size : len ≡ byte_len t = is_len ∙ ap length (sym (encodes-chars bs u)) in
-    answer_is b (lacks_digits (refusal_of e) (byte_len t))
-    (is ∙ ap (lacks_digits (refusal_of e)) size)
+    answer_is b (may_gain_digits (refusal_of e) (byte_len t))
+    (is ∙ ap (may_gain_digits (refusal_of e)) size)
     (chain (float_goes t (refusal_of e) digit begins refused.table)
     (back (refused_texts_go_on (kind_parse float_literal) t (refusal_of e) refused.table)))
 
@@ -369,7 +369,7 @@ number_named bs u is = dispatch-chars bs u ∙ sym is ∙ inside (begins_float b
 pub number_decided : (bs : List ℕ) (e : ParseError) (len : ℕ) (b : Bool) → IsUtf8 bs →
     first_passes is_ascii_digit bs ≡ true →
     IsRefused (kind_parse (number_kind (chars bs))) (chars bs) e → len ≡ length bs →
-    b ≡ lacks_digits (refusal_of e) len →
+    b ≡ may_gain_digits (refusal_of e) len →
     IsTrue b ↔ Begins (kind_parse (number_kind (chars bs))) (chars bs)
 number_decided bs e len b u digit refused is_len is = by (begins_float (chars bs)) refl
   where

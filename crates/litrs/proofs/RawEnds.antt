@@ -32,7 +32,7 @@ use Rattle.litrs_grammar.proofs.LongerTexts.Raw.{RawScan, stopped, closed, unclo
 use Rattle.litrs_grammar.specs.GoesOn.Raw.{raw_open_parts}
 use Rattle.litrs_lex.proofs.CharCuts.{IsCut, cut_at}
 use Rattle.litrs_lex.proofs.FloatBytes.{rest_is}
-use Rattle.litrs.specs.LastUnderscore.{points_at_last_underscore}
+use Rattle.litrs.specs.LoneUnderscore.{is_lone_underscore_suffix}
 use Rattle.litrs.proofs.Begins.{yes, no, answer_is}
 use Rattle.litrs.proofs.Escapes.{all-chars}
 
@@ -290,7 +290,7 @@ lone_goes unicode allow_nul n s after x (few, (quote, inr y)) =
 pub suffix_decided : (unicode allow_nul : Bool) (text : List ℕ) (offset : ℕ) (e : ParseError)
     (b : Bool) → IsUtf8 (drop offset text) →
     raw_refusal unicode allow_nul offset (chars (drop offset text)) ≡ Some (refusal_of e) →
-    e.kind ≡ InvalidSuffix → b ≡ points_at_last_underscore (span_of e) text →
+    e.kind ≡ InvalidSuffix → b ≡ is_lone_underscore_suffix (span_of e) text →
     IsTrue b ↔ BeginsBy (IsRawOf unicode allow_nul) (chars (drop offset text))
 suffix_decided unicode allow_nul text offset e b u h kind is =
     by (raw_row unicode allow_nul offset t r h)
@@ -325,9 +325,9 @@ suffix_decided unicode allow_nul text offset e b u h kind is =
         there = ap (λ k. drop k text) (let size = before_len n x.body in omega arith)
             ∙ sym (drop-drop len offset text)
 
-        pointed : points_at_last_underscore (span_of e) text ≡ is_text (95 ∷ []) after
+        pointed : is_lone_underscore_suffix (span_of e) text ≡ is_text (95 ∷ []) after
         pointed =
-            ap (λ (k : Refusal). points_at_last_underscore k.span text) (sym at_row)
+            ap (λ (k : Refusal). is_lone_underscore_suffix k.span text) (sym at_row)
             ∙ ap (is_text (95 ∷ [])) there
             ∙ sym (is_text-chars (95 ∷ []) (drop len bs) refl cut.utf8)
             ∙ ap (is_text (95 ∷ [])) cut.rest

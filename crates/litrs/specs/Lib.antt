@@ -13,8 +13,8 @@ pub mod LiteralDerivation
 pub mod Digits
 -- what begins a literal
 pub mod Begins
-pub mod LacksDigits
-pub mod LastUnderscore
+pub mod MayGainDigits
+pub mod LoneUnderscore
 -- The words of the contracts, so that users name this crate alone: texts, numbers and refusals
 pub use Rattle.litrs_base.specs.Base
 pub use Rattle.litrs_base.specs.CharEnd

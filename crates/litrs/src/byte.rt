@@ -25,7 +25,7 @@ use std::marker::Model;
 pub struct ByteLit<B: Text> {
     value: u8,
     start_suffix: usize,
-    // Last, as CONTRIBUTING.md says under "Layout and inlining".
+    // Keep last: CONTRIBUTING.md says why.
     raw: B,
 }
 
@@ -114,7 +114,7 @@ impl<B: Text> ByteLit<B> {
         self.raw.as_str()
     }
 
-    /// The same literal again. Over `&str` it does not allocate, and succeeds.
+    /// Clones the literal. Over `&str` it does not allocate, and succeeds.
     ///
     /// # Errors
     ///
@@ -144,7 +144,7 @@ impl<B: Text> ByteLit<B> {
 }
 
 impl<B: Text + Copy> ByteLit<B> {
-    /// The same literal again: the copy of a literal whose buffer is `Copy`.
+    /// Copies a literal whose buffer is `Copy`.
     pub fn copied(&self) -> Self
         ensures { result ≡ self.now }
     {
@@ -153,7 +153,7 @@ impl<B: Text + Copy> ByteLit<B> {
 }
 
 impl ByteLit<&str> {
-    /// The same literal with a text of its own.
+    /// The literal with an owned text.
     ///
     /// # Errors
     ///

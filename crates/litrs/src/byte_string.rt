@@ -13,7 +13,7 @@ ghost use Rattle.litrs_grammar.proofs.StringDerivations.{string_derivation-prop}
 ghost use Rattle.litrs_lex.specs.Front.{IsFront};
 ghost use Rattle.litrs.specs.StringLiteral.{StringLiteral, IsStringAt, kept_map, is_owned};
 
-use crate::cut::parse_string;
+use crate::cut::read_string;
 use crate::kept::KeptValue;
 use litrs_lex::{Buffer, Front, InByteString, ParseError, StringKind, Text};
 use std::alloc::{AllocError, Global};
@@ -29,7 +29,7 @@ use std::marker::Model;
 pub struct ByteStringLit<B: Text> {
     value: KeptValue<Vec<u8>>,
     start_suffix: usize,
-    // Last, as CONTRIBUTING.md says under "Layout and inlining".
+    // Keep last: CONTRIBUTING.md says why.
     raw: B,
     ghost derived: { StringDerivation byte_string_kind (chars (B.bytes raw)) } by { string_derivation-prop byte_string_kind (chars (B.bytes raw)) },
 }
@@ -89,7 +89,7 @@ impl<B: Text> ByteStringLit<B> {
             (IsRefusedOrOutOfMemory (kind_parse byte_string_literal) (chars (B.bytes input))) }
     {
         let kind = StringKind::ByteString;
-        let (value, start_suffix) = parse_string(alloc, input.as_str(), kind, InByteString, front)?;
+        let (value, start_suffix) = read_string(alloc, input.as_str(), kind, InByteString, front)?;
         Ok(ByteStringLit {
             raw: input,
             value,
@@ -133,7 +133,7 @@ impl<B: Text> ByteStringLit<B> {
         self.raw.as_str()
     }
 
-    /// The same literal again. Over `&str` it does not allocate, and succeeds, where the body is
+    /// Clones the literal. Over `&str` it does not allocate, and succeeds, where the body is
     /// raw or has no backslash.
     ///
     /// # Errors
@@ -190,7 +190,7 @@ impl<B: Buffer> ByteStringLit<B> {
 }
 
 impl ByteStringLit<&str> {
-    /// The same literal with a text of its own.
+    /// The literal with an owned text.
     ///
     /// # Errors
     ///
@@ -213,7 +213,7 @@ impl ByteStringLit<&str> {
     }
 }
 
-/// The same value again.
+/// Clones the value.
 fn copy_value(alloc: Global, value: &KeptValue<Vec<u8>>) -> Result<KeptValue<Vec<u8>>, AllocError>
     ensures bytes { IfOk result (λ copy.
         kept_map vec_items copy ≡ kept_map vec_items value.now) }

@@ -15,7 +15,7 @@ ghost use Rattle.litrs.specs.CString.{before_zero, has_nul, IsClosed};
 ghost use Rattle.litrs.specs.StringLiteral.{StringLiteral, IsCStringAt, IsPlaced, kept_map, kept_value};
 ghost use Rattle.litrs.specs.ParsedStrings.{IsParsedCString};
 
-use crate::cut::parse_string;
+use crate::cut::read_string;
 use crate::kept::KeptValue;
 use litrs_lex::{Front, InCString, ParseError, ParseErrorKind, StringKind, Text};
 use std::alloc::{AllocError, Global};
@@ -57,12 +57,12 @@ impl CString {
         Ok(CString { bytes })
     }
 
-    /// The same bytes, of which none is zero, with a closing zero after them.
+    /// A copy of these bytes, of which none is zero, with a closing zero after them.
     ///
     /// # Errors
     ///
     /// `AllocError` where there is no memory for them.
-    // A call of its own, so that the copy passes through memory once on its way into the literal.
+    // Not inlined, so that the copy passes through memory once on its way into the literal.
     #[inline(never)]
     fn copy_of(alloc: Global, bytes: &[u8]) -> Result<CString, AllocError>
         requires { IsFalse (has_nul bytes.now) }
@@ -90,7 +90,7 @@ impl CString {
         &self.bytes
     }
 
-    /// The same bytes again.
+    /// Clones the value.
     ///
     /// # Errors
     ///
@@ -114,7 +114,7 @@ impl CString {
 pub struct CStringLit<B: Text> {
     value: CString,
     start_suffix: usize,
-    // Last, as CONTRIBUTING.md says under "Layout and inlining".
+    // Keep last: CONTRIBUTING.md says why.
     raw: B,
     ghost derived: { StringDerivation c_string_kind (chars (B.bytes raw)) } by { string_derivation-prop c_string_kind (chars (B.bytes raw)) },
 }
@@ -224,7 +224,7 @@ impl<B: Text> CStringLit<B> {
         self.raw.as_str()
     }
 
-    /// The same literal again.
+    /// Clones the literal.
     ///
     /// # Errors
     ///
@@ -258,7 +258,7 @@ impl<B: Text> CStringLit<B> {
 }
 
 impl CStringLit<&str> {
-    /// The same literal with a text of its own.
+    /// The literal with an owned text.
     ///
     /// # Errors
     ///
@@ -289,7 +289,7 @@ fn parse_text(alloc: Global, input: &str, front: Front) -> Result<(CString, usiz
     ensures refused { IfErr result
         (IsRefusedOrOutOfMemory (kind_parse c_string_literal) (chars input.now)) }
 {
-    let (kept, start_suffix) = parse_string(alloc, input, StringKind::CString, InCString, front)?;
+    let (kept, start_suffix) = read_string(alloc, input, StringKind::CString, InCString, front)?;
     match close_value(alloc, input, kept) {
         Ok(value) => Ok((value, start_suffix)),
         // allocation failed: of the copy, or of room for the closing zero.

@@ -25,7 +25,7 @@ use std::marker::Model;
 pub struct CharLit<B: Text> {
     value: char,
     start_suffix: usize,
-    // Last, as CONTRIBUTING.md says under "Layout and inlining".
+    // Keep last: CONTRIBUTING.md says why.
     raw: B,
 }
 
@@ -113,7 +113,7 @@ impl<B: Text> CharLit<B> {
         self.raw.as_str()
     }
 
-    /// The same literal again. Over `&str` it does not allocate, and succeeds.
+    /// Clones the literal. Over `&str` it does not allocate, and succeeds.
     ///
     /// # Errors
     ///
@@ -143,7 +143,7 @@ impl<B: Text> CharLit<B> {
 }
 
 impl<B: Text + Copy> CharLit<B> {
-    /// The same literal again: the copy of a literal whose buffer is `Copy`.
+    /// Copies a literal whose buffer is `Copy`.
     pub fn copied(&self) -> Self
         ensures { result ≡ self.now }
     {
@@ -152,7 +152,7 @@ impl<B: Text + Copy> CharLit<B> {
 }
 
 impl CharLit<&str> {
-    /// The same literal with a text of its own.
+    /// The literal with an owned text.
     ///
     /// # Errors
     ///

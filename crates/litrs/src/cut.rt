@@ -22,7 +22,7 @@ use std::alloc::Global;
 /// Parses a text that begins so as a string of the kind: its value, or where that stands, and where
 /// its suffix begins, in bytes. It is compiled for what the kind allows.
 #[inline(always)]
-pub(crate) fn parse_string<C: EscapeContainer, A: Allows>(
+pub(crate) fn read_string<C: EscapeContainer, A: Allows>(
     alloc: Global,
     input: &str,
     kind: StringKind,
@@ -39,9 +39,9 @@ pub(crate) fn parse_string<C: EscapeContainer, A: Allows>(
 {
     let offset = kind.front_len();
     match front {
-        Front::Quoted(found) if found == kind => parse_quoted(alloc, input, offset, allowed),
+        Front::Quoted(found) if found == kind => quoted_value(alloc, input, offset, allowed),
         Front::Raw(found) if found == kind => {
-            let (place, start_suffix) = cut_raw(input, offset, kind.switches())?;
+            let (place, start_suffix) = raw_value(input, offset, kind.switches())?;
             Ok((KeptValue::InText(place), start_suffix))
         }
         Front::Empty => Err(ParseError::new(None, ParseErrorKind::Empty)),
@@ -70,7 +70,7 @@ fn start_refusal(input: &str, kind: StringKind) -> ParseError
 /// or else where the body stands, and where the suffix begins. `offset` is that of
 /// [`unescape_string`](litrs_lex::unescape_string).
 #[inline(always)]
-fn parse_quoted<C: EscapeContainer, A: Allows>(
+fn quoted_value<C: EscapeContainer, A: Allows>(
     alloc: Global,
     input: &str,
     offset: usize,
@@ -102,7 +102,11 @@ fn parse_quoted<C: EscapeContainer, A: Allows>(
 /// Cuts a raw string whose `r` ends at `offset`: where its body stands and its suffix begins.
 /// `offset` and the switches are those of [`scan_raw_string`].
 #[inline(never)]
-fn cut_raw(input: &str, offset: usize, allowed: Switches) -> Result<(BodyPlace, usize), ParseError>
+fn raw_value(
+    input: &str,
+    offset: usize,
+    allowed: Switches,
+) -> Result<(BodyPlace, usize), ParseError>
     requires { IsCharBoundary input.now offset }
     ensures ok { IfOk result (λ parsed.
         IsParsedRaw allowed.unicode allowed.allow_nul offset input.now parsed.0 parsed.1) }

@@ -24,7 +24,7 @@ use std::marker::Model;
 /// [ref]: https://doc.rust-lang.org/reference/tokens.html#floating-point-literals
 pub struct FloatLit<B: Text> {
     cut: FloatCut,
-    // Last, as CONTRIBUTING.md says under "Layout and inlining".
+    // Keep last: CONTRIBUTING.md says why.
     raw: B,
 }
 
@@ -130,7 +130,7 @@ impl<B: Text> FloatLit<B> {
         self.raw.as_str()
     }
 
-    /// The same literal again. Over `&str` it does not allocate, and succeeds.
+    /// Clones the literal. Over `&str` it does not allocate, and succeeds.
     ///
     /// # Errors
     ///
@@ -156,7 +156,7 @@ impl<B: Text> FloatLit<B> {
 }
 
 impl<B: Text + Copy> FloatLit<B> {
-    /// The same literal again: the copy of a literal whose buffer is `Copy`.
+    /// Copies a literal whose buffer is `Copy`.
     pub fn copied(&self) -> Self
         ensures { result ≡ self.now }
     {
@@ -165,7 +165,7 @@ impl<B: Text + Copy> FloatLit<B> {
 }
 
 impl FloatLit<&str> {
-    /// The same literal with a text of its own.
+    /// The literal with an owned text.
     ///
     /// # Errors
     ///

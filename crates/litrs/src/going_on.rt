@@ -8,7 +8,7 @@ use litrs_lex::Front;
 use number::number_goes_on;
 use quoted::quoted_goes_on;
 use raw::raw_goes_on;
-use word::word_goes_on;
+use word::is_prefix_of_a_front;
 
 mod char;
 mod escape;
@@ -43,6 +43,6 @@ pub fn goes_on(text: &str) -> bool
         Front::Byte => byte_goes_on(text),
         Front::Quoted(kind) => quoted_goes_on(text, kind),
         Front::Raw(kind) => raw_goes_on(text, kind),
-        Front::Other => word_goes_on(text.as_bytes()),
+        Front::Other => is_prefix_of_a_front(text.as_bytes()),
     }
 }

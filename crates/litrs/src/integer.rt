@@ -33,7 +33,7 @@ use std::marker::Model;
 /// [ref]: https://doc.rust-lang.org/reference/tokens.html#integer-literals
 pub struct IntegerLit<B: Text> {
     cut: IntegerCut,
-    // Last, as CONTRIBUTING.md says under "Layout and inlining".
+    // Keep last: CONTRIBUTING.md says why.
     raw: B,
 }
 
@@ -125,7 +125,7 @@ impl<B: Text> IntegerLit<B> {
         self.raw.as_str()
     }
 
-    /// The same literal again. Over `&str` it does not allocate, and succeeds.
+    /// Clones the literal. Over `&str` it does not allocate, and succeeds.
     ///
     /// # Errors
     ///
@@ -151,7 +151,7 @@ impl<B: Text> IntegerLit<B> {
 }
 
 impl<B: Text + Copy> IntegerLit<B> {
-    /// The same literal again: the copy of a literal whose buffer is `Copy`.
+    /// Copies a literal whose buffer is `Copy`.
     pub fn copied(&self) -> Self
         ensures { result ≡ self.now }
     {
@@ -160,7 +160,7 @@ impl<B: Text + Copy> IntegerLit<B> {
 }
 
 impl IntegerLit<&str> {
-    /// The same literal with a text of its own.
+    /// The literal with an owned text.
     ///
     /// # Errors
     ///

@@ -188,7 +188,7 @@ impl<B: Text> Literal<B> {
         }
     }
 
-    /// The same for a text that is parsed as a string of the kind, and begins so.
+    /// [`Self::parse`] of a text that begins as a string of the kind.
     #[inline(always)]
     fn parse_string(
         alloc: Global,
@@ -251,7 +251,7 @@ impl<B: Text> Literal<B> {
 }
 
 impl<B: Text> Literal<B> {
-    /// The same literal again. Over `&str` it does not allocate, and succeeds, unless the literal
+    /// Clones the literal. Over `&str` it does not allocate, and succeeds, unless the literal
     /// is a C string or has a quoted body with a backslash, whose value is copied.
     ///
     /// # Errors
@@ -276,7 +276,7 @@ impl<B: Text> Literal<B> {
 }
 
 impl Literal<&str> {
-    /// The same literal with a text of its own.
+    /// The literal with an owned text.
     ///
     /// # Errors
     ///

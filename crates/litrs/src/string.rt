@@ -13,7 +13,7 @@ ghost use Rattle.litrs_grammar.proofs.StringDerivations.{string_derivation-prop}
 ghost use Rattle.litrs_lex.specs.Front.{IsFront};
 ghost use Rattle.litrs.specs.StringLiteral.{StringLiteral, IsStringAt, kept_map, is_owned};
 
-use crate::cut::parse_string;
+use crate::cut::read_string;
 use crate::kept::KeptValue;
 use litrs_lex::{Buffer, Front, InString, ParseError, StringKind, Text};
 use std::alloc::{AllocError, Global};
@@ -29,7 +29,7 @@ use std::marker::Model;
 pub struct StringLit<B: Text> {
     value: KeptValue<String>,
     start_suffix: usize,
-    // Last, as CONTRIBUTING.md says under "Layout and inlining".
+    // Keep last: CONTRIBUTING.md says why.
     raw: B,
     ghost derived: { StringDerivation string_kind (chars (B.bytes raw)) } by { string_derivation-prop string_kind (chars (B.bytes raw)) },
 }
@@ -88,7 +88,7 @@ impl<B: Text> StringLit<B> {
         ensures refused { IfErr result
             (IsRefusedOrOutOfMemory (kind_parse string_literal) (chars (B.bytes input))) }
     {
-        let (value, start_suffix) = parse_string(
+        let (value, start_suffix) = read_string(
             alloc,
             input.as_str(),
             StringKind::String,
@@ -138,7 +138,7 @@ impl<B: Text> StringLit<B> {
         self.raw.as_str()
     }
 
-    /// The same literal again. Over `&str` it does not allocate, and succeeds, where the body is
+    /// Clones the literal. Over `&str` it does not allocate, and succeeds, where the body is
     /// raw or has no backslash.
     ///
     /// # Errors
@@ -193,7 +193,7 @@ impl<B: Buffer> StringLit<B> {
 }
 
 impl StringLit<&str> {
-    /// The same literal with a text of its own.
+    /// The literal with an owned text.
     ///
     /// # Errors
     ///
@@ -216,7 +216,7 @@ impl StringLit<&str> {
     }
 }
 
-/// The same value again.
+/// Clones the value.
 fn copy_value(alloc: Global, value: &KeptValue<String>) -> Result<KeptValue<String>, AllocError>
     ensures bytes { IfOk result (λ copy.
         kept_map string_bytes copy ≡ kept_map string_bytes value.now) }

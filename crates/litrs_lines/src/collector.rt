@@ -153,8 +153,8 @@ fn begins(alloc: Global, text: &str) -> bool
     refusal.is_open()
 }
 
-/// Decides what the text is that is held, to which a line was added, by a parse of all of it. After
-/// an error it may have an LF at its end.
+/// Parses the whole held text, to which a line was added, and decides the step. After an error it
+/// may have an LF at its end.
 #[inline(never)]
 fn read_held(held: &mut String) -> Result<Step, AllocError>
     ensures step { IfOk result (IsStep (string_bytes held.old)) }
@@ -179,8 +179,8 @@ fn read_held(held: &mut String) -> Result<Step, AllocError>
     Ok(Step::Refused(refusal))
 }
 
-/// Adds a line to the text that is held, and an LF where a string is then known to go on after it:
-/// true if one is. After an error the text may have some of the line at its end.
+/// Adds a line to the held text, and an LF where a string is then known to go on after it. Returns
+/// true if the string goes on. After an error the text may have some of the line at its end.
 #[inline(always)]
 fn push_line(held: &mut String, known: &mut Option<Open>, line: &str) -> Result<bool, AllocError>
     requires { IsKnown (string_bytes held.old) known.old }

@@ -6,8 +6,8 @@ use Rattle.litrs.specs.declared.bool.BoolLit.TheVariants.{False, True}
 use Rattle.litrs_token.specs.declared.err.InvalidToken.{InvalidToken}
 use Rattle.litrs_token.specs.declared.kind.TokenKind.{TokenKind}
 use Rattle.litrs_token.specs.declared.kind.TokenKind.TheVariants as token
-use Rattle.litrs_token.specs.declared.punctuation.Spacing.{Spacing}
-use Rattle.litrs_token.specs.declared.punctuation.Spacing.TheVariants.{Alone, Joint}
+use Rattle.litrs_token.specs.declared.punct.Spacing.{Spacing}
+use Rattle.litrs_token.specs.declared.punct.Spacing.TheVariants.{Alone, Joint}
 use Rattle.litrs_token.specs.declared.tree.Delimiter.TheVariants.{Brace}
 use Rattle.litrs_token.specs.declared.tree.Group.{Group}
 use Rattle.litrs_token.specs.declared.tree.TokenTree.{TokenTree}

@@ -3,7 +3,7 @@
 use Rattle.std.specs.Prelude.{◌≡◌, List, [], ◌∷◌, codes}
 use Rattle.std.specs.Str.{chars}
 use Rattle.litrs_token.specs.declared.err.InvalidToken.{InvalidToken}
-use Rattle.litrs_token.specs.declared.punctuation.Spacing.TheVariants.{Alone}
+use Rattle.litrs_token.specs.declared.punct.Spacing.TheVariants.{Alone}
 use Rattle.litrs_token.specs.declared.tree.Delimiter.TheVariants.{Brace}
 use Rattle.litrs_token.specs.declared.tree.Group.{Group}
 use Rattle.litrs_token.specs.declared.tree.TokenTree.{TokenTree}

@@ -1,9 +1,9 @@
 -- What is printed of errors.
 use Rattle.std.specs.Prelude.{ℕ, List, ◌++◌, codes}
-use Rattle.litrs_token.specs.declared.name.IdentError.{IdentError}
-use Rattle.litrs_token.specs.declared.name.IdentError.TheVariants as ident
-use Rattle.litrs_token.specs.declared.literal_token.LiteralError.{LiteralError}
-use Rattle.litrs_token.specs.declared.literal_token.LiteralError.TheVariants as literal
+use Rattle.litrs_token.specs.declared.ident.IdentError.{IdentError}
+use Rattle.litrs_token.specs.declared.ident.IdentError.TheVariants as ident
+use Rattle.litrs_token.specs.declared.literal.LiteralError.{LiteralError}
+use Rattle.litrs_token.specs.declared.literal.LiteralError.TheVariants as literal
 use Rattle.litrs_token.specs.declared.kind.TokenKind.{TokenKind}
 use Rattle.litrs_token.specs.declared.err.InvalidToken.{InvalidToken}
 use Rattle.litrs_token.specs.declared.err.TokenError.{TokenError}

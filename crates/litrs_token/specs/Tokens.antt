@@ -3,7 +3,7 @@ use Rattle.std.specs.Prelude.{ℕ, Bool, false, ◌&&◌, List, [], ◌∷◌}
 use Rattle.std.specs.List.{list_all}
 use Rattle.unicode_ident.specs.Ident.{is_xid_continue}
 use Rattle.litrs_grammar.specs.Suffix.{starts_identifier}
-use Rattle.litrs_token.specs.declared.punctuation.Spacing.{Spacing}
+use Rattle.litrs_token.specs.declared.punct.Spacing.{Spacing}
 use Rattle.litrs_token.specs.Place.{Place}
 
 -- An identifier is `_` or an XID_Start character, and then XID_Continue characters. The lone `_` is

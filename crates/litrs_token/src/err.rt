@@ -4,11 +4,11 @@ ghost use Rattle.litrs_token.specs.CompileError.{IsMessageGroup, IsCompileError}
 ghost use Rattle.litrs_token.specs.Description.{description};
 ghost use Rattle.litrs_token.specs.Errors.{mismatch, invalid_span};
 
+use crate::ident::Ident;
 use crate::kind::TokenKind;
-use crate::literal_token::Literal;
-use crate::name::Ident;
-use crate::place::Span;
-use crate::punctuation::{Punct, Spacing};
+use crate::literal::Literal;
+use crate::punct::{Punct, Spacing};
+use crate::span::Span;
 use crate::tree::{Delimiter, Group, TokenTree};
 use std::alloc::{AllocError, Global};
 use std::error::Error;

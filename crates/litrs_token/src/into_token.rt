@@ -3,10 +3,10 @@ ghost use Rattle.std.specs.Prelude.{◌≡◌, ℕ, List, IfOk};
 ghost use Rattle.litrs_token.specs.Place.{call_site};
 ghost use Rattle.litrs_token.specs.declared.kind.TokenKind.{TokenKind};
 
-use crate::literal_token::Literal;
-use crate::name::Ident;
-use crate::one_kind::OneKind;
-use crate::place::Span;
+use crate::ident::Ident;
+use crate::kinds::OneKind;
+use crate::literal::Literal;
+use crate::span::Span;
 use litrs::BoolLit;
 use std::alloc::{AllocError, Global};
 

@@ -25,7 +25,7 @@ pub enum TokenKind {
     Group,
     /// A literal of any kind.
     Literal,
-    /// `true` or `false`. A bool is expected, and never found: as a token it is an identifier.
+    /// `true` or `false`. Only ever *expected*: as a token it is an identifier.
     BoolLit,
     /// As `b'r'`.
     ByteLit,
@@ -59,7 +59,7 @@ pub(crate) fn literal_kind(text: &str) -> Option<TokenKind>
     }
 }
 
-/// The kind of a text that begins with a digit.
+/// [`literal_kind`] of a text that begins with a digit.
 fn number_kind(text: &str) -> Option<TokenKind>
     requires { IsTrue (first_passes is_ascii_digit text.now) }
     ensures some { IfSome result (IsLiteralToken (chars text.now)) }
@@ -72,7 +72,7 @@ fn number_kind(text: &str) -> Option<TokenKind>
     }
 }
 
-/// The same of a text that begins with `'`.
+/// [`literal_kind`] of a text that begins with `'`.
 fn char_kind(text: &str) -> Option<TokenKind>
     requires { IsTrue (begins_with (codes "'") text.now) }
     ensures some { IfSome result (IsLiteralToken (chars text.now)) }
@@ -84,7 +84,7 @@ fn char_kind(text: &str) -> Option<TokenKind>
     }
 }
 
-/// The same of a text that begins with `b'`.
+/// [`literal_kind`] of a text that begins with `b'`.
 fn byte_kind(text: &str) -> Option<TokenKind>
     requires { IsTrue (begins_with (codes "b'") text.now) }
     ensures some { IfSome result (IsLiteralToken (chars text.now)) }
@@ -96,7 +96,7 @@ fn byte_kind(text: &str) -> Option<TokenKind>
     }
 }
 
-/// The same of a text that begins as a quoted string of the kind.
+/// [`literal_kind`] of a text that begins as a quoted string of the kind.
 fn quoted_kind(text: &str, kind: StringKind) -> Option<TokenKind>
     requires { IsTrue (begins_with (quoted_front (grammar_kind kind)) text.now) }
     ensures some { IfSome result (IsLiteralToken (chars text.now)) }
@@ -113,7 +113,7 @@ fn quoted_kind(text: &str, kind: StringKind) -> Option<TokenKind>
     }
 }
 
-/// The same of a text that begins as a raw string of the kind.
+/// [`literal_kind`] of a text that begins as a raw string of the kind.
 fn raw_kind(text: &str, kind: StringKind) -> Option<TokenKind>
     requires { IsTrue (begins_with (raw_front (grammar_kind kind)) text.now) }
     ensures some { IfSome result (IsLiteralToken (chars text.now)) }

@@ -41,23 +41,23 @@
 
 pub use err::{InvalidToken, TokenError};
 pub use from_token::FromToken;
+pub use ident::{Ident, IdentError};
 pub use into_token::{IntoIdent, IntoToken};
-pub use literal_token::{Literal, LiteralError};
-pub use name::{Ident, IdentError};
-pub use place::Span;
-pub use punctuation::{Punct, Spacing};
+pub use literal::{Literal, LiteralError};
+pub use punct::{Punct, Spacing};
+pub use span::Span;
 pub use tree::{Delimiter, Group, TokenTree};
 
 mod bool;
+mod check;
 mod err;
 mod from_token;
+mod ident;
 mod into_token;
 mod kind;
+mod kinds;
 pub mod laws;
-mod literal_token;
-mod name;
-mod one_kind;
-mod place;
-mod punctuation;
+mod literal;
+mod punct;
+mod span;
 mod tree;
-mod wanted;

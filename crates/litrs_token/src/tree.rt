@@ -5,11 +5,11 @@ ghost use Rattle.litrs_token.specs.Place.{call_site};
 ghost use Rattle.litrs_token.specs.Tree.{group_delimiter, group_stream, group_span, shape_of, tree_span, AreAlike};
 
 use crate::err::InvalidToken;
+use crate::ident::Ident;
 use crate::kind::TokenKind;
-use crate::literal_token::Literal;
-use crate::name::Ident;
-use crate::place::Span;
-use crate::punctuation::Punct;
+use crate::literal::Literal;
+use crate::punct::Punct;
+use crate::span::Span;
 
 /// What stands around a group.
 #[derive(Clone, Copy, Debug, PartialEq, Eq)]

@@ -66,9 +66,9 @@ fn braces_go_on(braces: &[u8], allow_nul: bool) -> bool
     }
 }
 
-/// Whether `\u{` becomes an escape, by what follows it: nothing, or hex digits and underscores, a
-/// digit first, and either at most five digits, as then one more mends every value, or six digits
-/// of an allowed value.
+/// Whether `\u{` is a prefix of an escape, by what follows it: nothing, or hex digits and
+/// underscores, a digit first. With at most five digits one more digit can always make the value
+/// valid; six digits must have an allowed value.
 fn inner_goes_on(inner: &[u8], allow_nul: bool) -> bool
     ensures { (byte_escapes : Bool) →
         result ≡ inner_goes_on (switches true byte_escapes allow_nul) inner.now }

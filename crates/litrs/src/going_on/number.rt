@@ -6,7 +6,7 @@ ghost use Rattle.litrs_base.specs.Refusal.{refusal_of};
 ghost use Rattle.litrs_base.specs.Text.{first_passes};
 ghost use Rattle.litrs_grammar.specs.Literal.{kind_parse, Begins};
 ghost use Rattle.litrs_lex.specs.NumberCut.{number_kind};
-ghost use Rattle.litrs.specs.LacksDigits.{lacks_digits};
+ghost use Rattle.litrs.specs.MayGainDigits.{may_gain_digits};
 
 use litrs_lex::{ParseError, ParseErrorKind, cut_number};
 
@@ -20,14 +20,14 @@ pub(crate) fn number_goes_on(text: &str) -> bool
 {
     match cut_number(text) {
         Ok(_) => true,
-        Err(e) => lacks_digits(&e, text.len()),
+        Err(e) => may_gain_digits(&e, text.len()),
     }
 }
 
-/// Whether a number of so many bytes is refused since it has no digits at its end: `0x` and `1e+_`
-/// are, and `0xg` is not.
-fn lacks_digits(refusal: &ParseError, len: usize) -> bool
-    ensures { result ≡ lacks_digits (refusal_of refusal.now) len }
+/// Whether a digit after a refused number of this length makes it a number, as its end lacks one:
+/// of `0x` and `1e+_`, and not of `0xg`.
+fn may_gain_digits(refusal: &ParseError, len: usize) -> bool
+    ensures { result ≡ may_gain_digits (refusal_of refusal.now) len }
 {
     match refusal.kind() {
         ParseErrorKind::NoDigits | ParseErrorKind::NoExponentDigits => {

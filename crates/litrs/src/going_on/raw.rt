@@ -8,7 +8,7 @@ ghost use Rattle.litrs_grammar.specs.Continuation.{BeginsBy};
 ghost use Rattle.litrs_grammar.specs.Literal.{IsString};
 ghost use Rattle.litrs_grammar.specs.Raw.{is_hash, raw_front, IsRawOf};
 ghost use Rattle.litrs_lex.specs.Front.{grammar_kind};
-ghost use Rattle.litrs.specs.LastUnderscore.{points_at_last_underscore};
+ghost use Rattle.litrs.specs.LoneUnderscore.{is_lone_underscore_suffix};
 
 use litrs_lex::hashes::{MAX_HASHES, are_hashes};
 use litrs_lex::{ParseError, ParseErrorKind, StringKind, Switches, scan_raw_string};
@@ -19,12 +19,12 @@ pub(crate) fn raw_goes_on(text: &str, kind: StringKind) -> bool
     requires { IsTrue (begins_with (raw_front (grammar_kind kind)) text.now) }
     ensures { IsTrue result ↔ BeginsBy (IsString (grammar_kind kind)) (chars text.now) }
 {
-    hashes_go_on(text, kind.front_len(), kind.switches())
+    raw_body_goes_on(text, kind.front_len(), kind.switches())
 }
 
 /// Whether a text begins a raw literal whose `r` ends at `offset`. The place and the switches are
 /// those of [`scan_raw_string`].
-fn hashes_go_on(text: &str, offset: usize, allowed: Switches) -> bool
+fn raw_body_goes_on(text: &str, offset: usize, allowed: Switches) -> bool
     requires { IsCharBoundary text.now offset }
     ensures { IsTrue result
         ↔ BeginsBy (IsRawOf allowed.unicode allowed.allow_nul) (chars (drop offset text.now)) }
@@ -34,7 +34,7 @@ fn hashes_go_on(text: &str, offset: usize, allowed: Switches) -> bool
         Err(e) => match e.kind() {
             ParseErrorKind::UnterminatedRawString => true,
             ParseErrorKind::InvalidLiteral => are_opening_hashes(&text.as_bytes()[offset..]),
-            ParseErrorKind::InvalidSuffix => points_at_last_underscore(&e, text),
+            ParseErrorKind::InvalidSuffix => is_lone_underscore_suffix(&e, text),
             _ => false,
         },
     }
@@ -47,10 +47,10 @@ fn are_opening_hashes(bytes: &[u8]) -> bool
     bytes.len() <= MAX_HASHES && are_hashes(bytes)
 }
 
-/// Whether the refusal points at an underscore that ends the text: a suffix that lacks its letters.
-fn points_at_last_underscore(refusal: &ParseError, text: &str) -> bool
+/// Whether the refusal is that of a suffix which is an underscore alone, at the end of the text.
+fn is_lone_underscore_suffix(refusal: &ParseError, text: &str) -> bool
     requires { IsInText (chars text.now) (refusal_of refusal.now) }
-    ensures { result ≡ points_at_last_underscore (span_of refusal.now) text.now }
+    ensures { result ≡ is_lone_underscore_suffix (span_of refusal.now) text.now }
 {
     match refusal.span() {
         Some(span) => matches!(&text[span.start..], "_"),

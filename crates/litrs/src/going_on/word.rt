@@ -6,10 +6,10 @@ ghost use Rattle.litrs_grammar.specs.GoesOn.Unnamed.{unnamed_goes_on};
 
 use crate::going_on::front::begins_with;
 
-/// Whether `true` or `false` begins with the word, or it is `b` or `c`, which bytes, byte strings
-/// and C strings begin with. The empty word is one of them. `false` itself was looked for before.
+/// Whether the word is a prefix of `true`, `false`, `b` or `c`: the bools, and what bytes, byte
+/// strings and C strings begin with. The empty word is one. `false` itself was looked for before.
 #[inline(always)]
-pub(crate) fn word_goes_on(word: &[u8]) -> bool
+pub(crate) fn is_prefix_of_a_front(word: &[u8]) -> bool
     requires { word.now ≢ bool_text false }
     ensures { result ≡ (unnamed_goes_on word.now || begins_with word.now (codes "c")) }
 {
@@ -17,24 +17,24 @@ pub(crate) fn word_goes_on(word: &[u8]) -> bool
     if word.len() > 4 {
         return false;
     }
-    begins_like_a_word(word) && is_front_of_a_word(word)
+    begins_like_a_front(word) && any_front_starts_with(word)
 }
 
 /// Whether the first letter is that of `true`, `false`, `b` or `c`, or the word is empty.
 #[inline(always)]
-fn begins_like_a_word(word: &[u8]) -> bool
+fn begins_like_a_front(word: &[u8]) -> bool
     ensures { result ≡ (is_empty word.now || first_passes
         (λ c. (c == 116) || ((c == 102) || ((c == 98) || (c == 99)))) word.now) }
 {
     matches!(word, [] | [b't' | b'f' | b'b' | b'c', ..])
 }
 
-/// Whether `true`, `false` or `b` begins with the word.
+/// Whether `true`, `false`, `b` or `c` starts with the word.
 ///
-/// A call, so that a text that begins with another letter pays for one comparison alone.
+/// Not inlined, so that a text that begins with another letter costs one comparison alone.
 #[inline(never)]
 #[tactic(auto, using(crate::proofs::Fronts::starts_with_front))]
-fn is_front_of_a_word(word: &[u8]) -> bool
+fn any_front_starts_with(word: &[u8]) -> bool
     ensures { result ≡ (unnamed_goes_on word.now || begins_with word.now (codes "c")) }
 {
     b"true".starts_with(word)

@@ -44,11 +44,11 @@ returns-in-Raw c = let is = c.in-Raw.ensures in
     string_parsed (grammar_kind c.in-Raw.kind) c.args.text.now c.raw_goes_on.result c.utf8.text is.row
     c.raw_goes_on.ensures
 
-pub word_goes_on-requires : goal.word_goes_on-requires
-word_goes_on-requires c =
+pub is_prefix_of_a_front-requires : goal.is_prefix_of_a_front-requires
+is_prefix_of_a_front-requires c =
     other_is_no_bool c.as_bytes.result.now c.args.text.now c.in-Other.ensures c.as_bytes.ensures.value
 
 pub returns-in-Other : goal.returns-in-Other
 returns-in-Other c =
-    other_decided c.args.text.now c.as_bytes.result.now c.word_goes_on.result c.utf8.text
-    c.in-Other.ensures c.as_bytes.ensures.value c.word_goes_on.ensures
+    other_decided c.args.text.now c.as_bytes.result.now c.is_prefix_of_a_front.result c.utf8.text
+    c.in-Other.ensures c.as_bytes.ensures.value c.is_prefix_of_a_front.ensures

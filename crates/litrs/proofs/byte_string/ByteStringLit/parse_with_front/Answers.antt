@@ -11,5 +11,5 @@ invariant_of-result-2 g c = let parsed = c.in_ok-value.ensures.ok in
 pub returns-clause-ok : goal.returns-clause-ok
 returns-clause-ok g c = only_derivation byte_string_kind _ c.result-1.given.0
 
-pub parse_string-requires-clause-front : goal.parse_string-requires-clause-front
-parse_string-requires-clause-front g c = rw (← c.as_str.ensures) at c.requires
+pub read_string-requires-clause-front : goal.read_string-requires-clause-front
+read_string-requires-clause-front g c = rw (← c.as_str.ensures) at c.requires

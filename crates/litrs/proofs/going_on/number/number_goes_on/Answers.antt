@@ -9,5 +9,5 @@ returns-in-Ok c = yes (number_found _ c.args.text.now c.in-Ok.ensures.ok)
 
 pub returns-in-Err : goal.returns-in-Err
 returns-in-Err c =
-    number_decided c.args.text.now c.in-Err.e (length c.args.text.now) c.lacks_digits.result
-    c.utf8.text c.requires c.in-Err.ensures.refused refl c.lacks_digits.ensures
+    number_decided c.args.text.now c.in-Err.e (length c.args.text.now) c.may_gain_digits.result
+    c.utf8.text c.requires c.in-Err.ensures.refused refl c.may_gain_digits.ensures

@@ -1,0 +1,152 @@
+//! Identifiers.
+ghost use Rattle.std.specs.Prelude.{◌≡◌, ◌↔◌, IfOk, IsErrOf, IsTrue, IsFalse, Ok};
+ghost use Rattle.std.specs.Str.{chars};
+ghost use Rattle.litrs_token.specs.Tokens.{is_ident};
+
+use crate::span::Span;
+use litrs_lex::check_suffix;
+use std::alloc::{AllocError, Global};
+use std::error::Error;
+use std::fmt;
+use std::marker::Model;
+
+/// An identifier, as `x`. The lone `_` is one, and so are `true` and `false`.
+///
+/// A raw identifier, as `r#match`, is none. See [the reference][ref].
+///
+/// [ref]: https://doc.rust-lang.org/reference/identifiers.html
+#[derive(Debug, Drop)]
+pub struct Ident {
+    text: String,
+    span: Span,
+}
+
+impl Model for Ident {
+    ghost use Rattle.std.specs.Prelude.{string_bytes, IsTrue};
+    ghost use Rattle.std.specs.Str.{chars};
+    ghost use Rattle.litrs_token.specs.Tokens.{IdentToken, is_ident};
+
+    ghost Value = { IdentToken };
+
+    ghost view = { λ i. record { text = string_bytes i.text; span = i.span } };
+
+    ghost invariant = { λ i. IsTrue (is_ident (chars (string_bytes i.text))) };
+}
+
+/// Why there is no identifier.
+#[derive(Clone, Copy, Debug, PartialEq, Eq)]
+pub enum IdentError {
+    /// The text is no identifier.
+    NotAnIdent,
+    /// An allocation failed.
+    Memory,
+}
+
+impl Ident {
+    /// An identifier with this text.
+    ///
+    /// It begins with `_` or an XID_Start character, and goes on with XID_Continue characters.
+    ///
+    /// ```rust
+    /// let name = Ident::new(rt.alloc(), "mask", Span::new(0, 4))?;
+    /// assert_eq!(rt; name.text(), "mask");
+    /// let raw = Ident::new(rt.alloc(), "r#a", Span::new(0, 3));
+    /// assert!(rt; matches!(raw, Err(IdentError::NotAnIdent)));
+    /// ```
+    ///
+    /// # Errors
+    ///
+    /// `NotAnIdent` of every other text, as `r#a` and the empty one, before anything is allocated;
+    /// else `Memory` where there is no memory for the text.
+    pub fn new(alloc: Global, text: &str, span: Span) -> Result<Ident, IdentError>
+        ensures text { IfOk result (λ ident. ident.text ≡ text.now) }
+        ensures span { IfOk result (λ ident. ident.span ≡ span) }
+        ensures not_an_ident { IsErrOf result IdentError.NotAnIdent
+            ↔ IsFalse (is_ident (chars text.now)) }
+    {
+        if !is_ident(text) {
+            return Err(IdentError::NotAnIdent);
+        }
+        Ok(Ident::copied(alloc, text, span)?)
+    }
+
+    /// An identifier with this text, which is one, as `mask`.
+    ///
+    /// # Errors
+    ///
+    /// `AllocError` where there is no memory for the text.
+    pub fn copied(alloc: Global, text: &str, span: Span) -> Result<Ident, AllocError>
+        requires { IsTrue (is_ident (chars text.now)) }
+        ensures text { IfOk result (λ ident. ident.text ≡ text.now) }
+        ensures span { IfOk result (λ ident. ident.span ≡ span) }
+    {
+        let text = String::from_str(alloc, text)?;
+        Ok(Ident { text, span })
+    }
+
+    /// Its text, as `mask`. It is an identifier.
+    pub fn text(&self) -> &str
+        ensures text { result.now ≡ self.now.text }
+        ensures ident { IsTrue (is_ident (chars result.now)) }
+    {
+        self.text.as_str()
+    }
+
+    /// Where it stands: 0..4 of `mask` at the start of a source.
+    pub fn span(&self) -> Span
+        ensures { result ≡ self.now.span }
+    {
+        self.span
+    }
+
+    /// Puts it at another place.
+    ///
+    /// ```rust
+    /// name.set_span(Span::new(7, 11));
+    /// assert_eq!(rt; name.span(), Span::new(7, 11));
+    /// ```
+    pub fn set_span(&mut self, span: Span)
+        ensures span { self.new.span ≡ span }
+        ensures text { self.new.text ≡ self.old.text }
+    {
+        self.span = span;
+    }
+}
+
+/// Whether the text is an identifier.
+fn is_ident(text: &str) -> bool
+    ensures { result ≡ is_ident (chars text.now) }
+{
+    match text {
+        "_" => true,
+        "" => false,
+        _ => check_suffix(text).is_ok(),
+    }
+}
+
+impl fmt::Display for IdentError {
+    ghost use Rattle.std.specs.Prelude.{Some};
+    ghost use Rattle.litrs_token.specs.Errors.{ident_error_text};
+
+    ghost output = { λ e. Some (ident_error_text e) };
+
+    fn fmt<W: fmt::Write>(&self, f: &mut fmt::Formatter<W>) -> fmt::Result {
+        f.write_str(match self {
+            IdentError::NotAnIdent => "not an identifier",
+            IdentError::Memory => "out of memory",
+        })
+    }
+}
+
+impl Error for IdentError {}
+
+impl From<AllocError> for IdentError {
+    ghost use Rattle.std.specs.Prelude.{◌≡◌};
+    ghost use Rattle.litrs_token.specs.declared.ident.IdentError.TheVariants.{Memory};
+
+    ghost from_gives = { λ _ error. error ≡ Memory };
+
+    fn from(_: AllocError) -> Self {
+        IdentError::Memory
+    }
+}
