@@ -6,9 +6,9 @@
  * by their status alone, with every allocation refused; then how often memory was asked for by
  * litrs_parse, litrs_value, litrs_message and litrs_goes_on; and at last the fields of litrs_prefix
  * in their order, its status with every allocation refused, and how often it asked for memory. It
- * ends with status 2 where a call wrote outside of its room or kept memory, where litrs_parse_into
- * answers otherwise than litrs_parse, or writes what the status does not speak of, where NULL is not
- * the empty text, and where the names of kinds are others.
+ * ends with status 2 where a call wrote outside of its room or kept memory, where a form that ends
+ * in _into answers otherwise than by value or writes what the status does not speak of, where NULL
+ * is not the empty text, and where the names of kinds are others.
  *
  * It is linked with --wrap for malloc, realloc and free. */
 #include "litrs.h"
@@ -18,6 +18,7 @@
 #include <string.h>
 
 typedef litrs_written writes(const uint8_t *, size_t, uint8_t *, size_t);
+typedef size_t parses_into(const uint8_t *, size_t, litrs_answer *);
 
 void *__real_malloc(size_t size);
 void *__real_realloc(void *block, size_t size);
@@ -132,20 +133,34 @@ static bool is_same(const litrs_answer *answer, const litrs_answer *other) {
     return memcmp(fields, others, sizeof fields) == 0;
 }
 
-/* Over an answer of zeros litrs_parse_into gives what litrs_parse gives; of another it leaves what
- * the status does not speak of. */
-static void hold_parse_into(const uint8_t *text, size_t len, const litrs_answer *answer) {
-    litrs_answer into;
+static size_t parse_into(const uint8_t *text, size_t len, litrs_answer *answer) {
+    litrs_parse_into(text, len, answer);
+    return 0;
+}
+
+/* Over an answer of zeros a form that ends in _into gives what the form by value gives; of another
+ * it leaves what the status does not speak of. */
+static void hold_into(parses_into *call, const uint8_t *text, size_t len, litrs_prefix wanted) {
+    litrs_prefix into;
     memset(&into, 0, sizeof into);
-    litrs_parse_into(text, len, &into);
-    hold(is_same(&into, answer), "litrs_parse_into answers otherwise");
+    into.len = call(text, len, &into.answer);
+    hold(is_same(&into.answer, &wanted.answer), "_into answers otherwise");
+    hold(into.len == wanted.len, "_into has another length");
     memset(&into, 0xAA, sizeof into);
-    litrs_parse_into(text, len, &into);
-    hold(into.status == answer->status, "litrs_parse_into has another status");
-    if (into.status != LITRS_LITERAL)
-        hold(is_untouched(&into.literal, sizeof into.literal), "the literal was written");
-    if (into.status != LITRS_REFUSED)
-        hold(is_untouched(&into.refusal, sizeof into.refusal), "the refusal was written");
+    into.len = call(text, len, &into.answer);
+    hold(into.answer.status == wanted.answer.status && into.len == wanted.len, "another status");
+    if (into.answer.status != LITRS_LITERAL)
+        hold(is_untouched(&into.answer.literal, sizeof(litrs_literal)), "the literal was written");
+    if (into.answer.status != LITRS_REFUSED)
+        hold(is_untouched(&into.answer.refusal, sizeof(litrs_refusal)), "the refusal was written");
+}
+
+static void hold_parses_into(const uint8_t *text, size_t len) {
+    litrs_prefix whole;
+    whole.answer = litrs_parse(text, len);
+    whole.len = 0;
+    hold_into(parse_into, text, len, whole);
+    hold_into(litrs_parse_prefix_into, text, len, litrs_parse_prefix(text, len));
 }
 
 static void print_text(const uint8_t *text, size_t len, uint8_t *room) {
@@ -165,7 +180,7 @@ static void print_text(const uint8_t *text, size_t len, uint8_t *room) {
     asked = 0;
     prefix = litrs_parse_prefix(text, len);
     by_prefix = asked;
-    hold_parse_into(text, len, &answer);
+    hold_parses_into(text, len);
     print_answer(&answer);
     printf(" %d", goes_on);
     print_written(litrs_value, text, len, room);
@@ -192,14 +207,15 @@ static void hold_null(void) {
     litrs_prefix prefix = litrs_parse_prefix(NULL, 0);
     litrs_written value = litrs_value(NULL, 0, NULL, 0), message = litrs_message(NULL, 0, NULL, 0);
     hold(answer.status == LITRS_REFUSED && is_same(&same, &answer), "NULL is no empty text");
-    hold_parse_into(NULL, 0, &answer);
+    hold_parses_into(NULL, 0);
     hold(prefix.answer.status == LITRS_NO_PREFIX && prefix.len == 0, "a prefix of NULL");
     hold(value.status == LITRS_REFUSED && value.len == 0, "a value of NULL");
     hold(message.status == LITRS_REFUSED && message.len > 0, "no message on NULL");
     hold(litrs_message(NULL, 0, room, sizeof room).len == message.len, "another message on NULL");
     hold(memcmp(room, "input is empty", message.len) == 0, "a wrong message on NULL");
     hold(litrs_goes_on(NULL, 0), "NULL does not go on");
-    hold(litrs_value((const uint8_t *)"\"a\"", 3, NULL, 0).len == 1, "no length for a room of NULL");
+    value = litrs_value((const uint8_t *)"\"a\"", 3, NULL, 0);
+    hold(value.status == LITRS_LITERAL && value.len == 1, "no length for a room of NULL");
 }
 
 /* The names of kinds, and the version. */

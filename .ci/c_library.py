@@ -3,18 +3,18 @@
 
     .ci/c_library.py
 
-After `rt ci`: proves crates/litrs_c over the libraries that it left, builds its archive, and installs
-it by crates/litrs_c/build into a folder of its own, from which all else is built by what pkg-config
-says. Both libraries there define the calls of litrs.h and no other name. The header compiles by each
-standard of C and C++ that the compilers at hand know.
+After `rt ci`: proves crates/litrs_c over the libraries that it left, builds its archive, and
+installs it by crates/litrs_c/build into a folder of its own, from which all else is built by what
+pkg-config says. Both libraries there define the calls of litrs.h and no other name. The header
+compiles by each standard of C and C++ that the compilers at hand know.
 
 Each row of the table of `litrs_vectors` that is about literals of any kind, about what texts begin,
-or about what stands at their front, and whose text has at most 65,536 bytes, has to be answered as it
-says by the C program .ci/c_library.c and by the module litrs.py, with the names, descriptions and
-marks that docs/GRAMMAR.md has; each prefix of its text, at each byte, has to be refused as not UTF-8
-where Python does not decode it, and answered alike by both. Where valgrind is at hand the program
-runs over the texts of the rows under it. The samples of crates/litrs_c/README.md have to print what
-stands below them, the one in C as a program in C++ too.
+or about what stands at their front, and whose text has at most 65,536 bytes, has to be answered as
+it says by the C program .ci/c_library.c and by the module litrs.py, with the names, descriptions
+and marks that docs/GRAMMAR.md has; each prefix of its text, at each byte, has to be refused as not
+UTF-8 where Python does not decode it, and answered alike by both. Where valgrind is at hand the
+program runs under it over the texts of the rows. The samples of crates/litrs_c/README.md have to
+print what stands below them, the one in C as a program in C++ too.
 """
 import concurrent.futures
 import ctypes
@@ -142,7 +142,7 @@ def wanted_of_literal(text, kind, suffix, parts):
         fields += [LITERAL, len(parts[1]), parts[1].hex()]
     else:
         fields += [NO_STRING, 0, ""]
-    allocates = kind == "cstring" or parts[0] == b"escaped"
+    allocates = kind == "cstring" or (parts[0] == b"escaped" and parts[1] != b"")
     python = python_of_literal(text, kind, suffix, parts)
     front = (LITERAL, len(text))
     return Wanted(text, fields + [LITERAL, 0, ""], int(allocates), front, python)
@@ -300,6 +300,8 @@ def faults_of_module(module, wanted):
     for text in texts:
         whole, front = outcome(module.parse, text), outcome(module.parse_prefix, text)
         yield from (f"{it} of {type(text)}" for it in faults_of_call(module, wanted, text, whole))
+        if wanted.fields[24] is not None and module.goes_on(text) != wanted.fields[24]:
+            yield f"the module says otherwise whether {type(text)} goes on"
         if wanted.front[0] == LITERAL and isinstance(front, tuple):
             length = wanted.front[1]
             length = length if text is wanted.text else len(wanted.text[:length].decode())
@@ -325,6 +327,8 @@ def faults_of_call(module, wanted, text, whole):
             span = [len(wanted.text[:it].decode()) for it in expected[2]]
             expected = [*expected[:2], span, *expected[3:]]
         got = fields_of_error(whole, in_bytes, expected)
+        if whole.length != len(text):
+            yield f"a length of {whole.length} was meant as a literal"
     else:
         got = whole
     if got != expected:
@@ -412,7 +416,7 @@ def try_header(folder):
 
 
 def try_valgrind(program, rows):
-    """Runs the program over the shorter texts under valgrind. Returns of how many, and the faults."""
+    """Runs the program under valgrind over the shorter texts. Returns how many, and the faults."""
     if not shutil.which("valgrind"):
         print("c library: there is no valgrind here, which was not tried")
         return 0, []
@@ -447,7 +451,10 @@ def try_texts(folder, installed, module):
 
 
 def faults_of_kinds(module, kinds):
-    """Names that the library gives numbers and that are not those of the kinds."""
+    """Names that the library gives numbers and that are not those of the kinds, and the version
+    where it is not that of the header."""
+    if module.version() != re.search(r'LITRS_VERSION "(.*)"', HEADER)[1]:
+        yield f"the library has the version {module.version()}"
     errors = {number: name for name, (number, _, _) in kinds.items()}
     for call, names in (("kind", dict(enumerate(NAMES, 1))), ("error", errors)):
         for number in [*range(100), 2**32 - 1]:

@@ -140,7 +140,7 @@ typedef struct litrs_answer {
 
 /* What litrs_parse_prefix answers: the status is not LITRS_NO_STRING. */
 typedef struct litrs_prefix {
-    litrs_answer answer; /* of the literal at the front, up to its suffix's end; or of the refusal */
+    litrs_answer answer; /* of the literal at the front, or of what was meant as one */
     size_t len;          /* how many bytes that is, or was meant as one; 0 where none opens */
 } litrs_prefix;
 

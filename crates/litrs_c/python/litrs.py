@@ -41,6 +41,7 @@ _CALLS = {
     "parse": (_Answer, _TEXT),
     "parse_into": (None, [*_TEXT, ctypes.POINTER(_Answer)]),
     "parse_prefix": (_Prefix, _TEXT),
+    "parse_prefix_into": (_SIZE, [*_TEXT, ctypes.POINTER(_Answer)]),
     "value": (_Written, _TEXT * 2),
     "message": (_Written, _TEXT * 2),
     "goes_on": (_BOOL, _TEXT),
@@ -95,7 +96,7 @@ class ParseError(ValueError):
 
     kind      as "InvalidDigit"; the names are those of the header, LITRS_ERROR_INVALID_DIGIT
     span      from where to where it is wrong, as (2, 3), or None
-    message   what is wrong, as "input is empty"
+    message   what is wrong, as "input is empty"; a place in it counts bytes
     is_final  whether no text that begins with this one is a literal
     is_open   whether the text only lacks its closing quote and hashes
     length    how much of the text was meant as a literal: by `parse` all of it
@@ -185,11 +186,20 @@ def _literal(text, data, answer):
 def _value(kind, data, fields, digits):
     number = fields.value_high << 64 | fields.value_low
     if kind == "Integer" and not fields.has_value:
-        return int(digits.replace("_", ""), fields.base)
+        return _integer(digits.replace("_", ""), fields.base)
     if kind in ("String", "ByteString", "CString"):
         value = _written("value", data)
         return value.decode() if kind == "String" else value
     return {"Bool": bool, "Char": chr, "Float": lambda _: None}.get(kind, int)(number)
+
+
+def _integer(digits, base):
+    """The value of digits, in pieces: int() takes only so many decimal digits at a time."""
+    value = 0
+    for start in range(0, len(digits), 4000):
+        piece = digits[start : start + 4000]
+        value = value * base ** len(piece) + int(piece, base)
+    return value
 
 
 def _error(text, data, refusal):

@@ -1,8 +1,8 @@
 //! Rust literals, for C and for what calls C.
 //!
-//! A static library over [`litrs`]. `include/litrs.h` declares the five calls and what they answer,
-//! and `README.md` says how to build and to call them. Each call reads a text anew: nothing is kept
-//! between calls, and nothing has to be freed.
+//! A static library over [`litrs`]. `include/litrs.h` declares the calls and what they answer, and
+//! `README.md` says how to build, install and call them. Each call reads a text anew: nothing is
+//! kept between calls, and nothing has to be freed.
 #![tactic(auto)]
 
 ghost use Rattle.std.specs.Prelude.{◌≡◌, ◌≢◌, ◌≤◌, ◌↔◌, ⊤, IsTrue, IsFalse, length, Some, None, option_map};
@@ -105,9 +105,9 @@ pub struct RefusalFields {
 pub struct Answer {
     /// `enum litrs_status`: of a literal, refused, not UTF-8, out of memory.
     pub status: u32,
-    /// The literal, where the status says so; else all is 0.
+    /// The literal, where the status says so; else all is 0 by [`litrs_parse`].
     pub literal: LiteralFields,
-    /// The refusal, where the status says so; else all is 0.
+    /// The refusal, where the status says so; else all is 0 by [`litrs_parse`].
     pub refusal: RefusalFields,
 }
 
