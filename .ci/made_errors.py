@@ -16,8 +16,8 @@ Outside tests memory is asked for by a number, or by as many items as an iterato
 function that hands its own parameter on to the call of its name, and on a line below a comment that
 begins `// bounded by ` and says of which length the number is: a contract says what is held in the
 end, and not how much was asked for. So that no other call asks for more than there is, no argument
-of a call that allocates has a number above `LARGE`, a constant or a repeated array, and no line has
-a number that is as good as unbounded, but below such a comment.
+of a call that allocates has a number above `LARGE`, a constant that is a number, or a repeated
+array, and no line has a number that is as good as unbounded, but below such a comment.
 
 Each comment is for the next line alone, and one above a line that needs none is refused.
 """
@@ -99,6 +99,16 @@ def failures_of(texts):
     return "(" + "|".join(sorted(names)) + ")"
 
 
+def held_constants(texts):
+    """The names of the constants that are texts, slices or arrays, and of no number: a pattern."""
+    types = collections.defaultdict(set)
+    for text in texts:
+        for name, kind in re.findall(r"\b(?:const|static) ([A-Z]\w*): (&|\[|\w)", text):
+            types[name].add(kind)
+    held = [name for name, kinds in types.items() if kinds <= {"&", "["}]
+    return rf"\b({'|'.join(sorted(held))})\b" if held else r"(?!)"
+
+
 def code_lines(text):
     """The lines of a file with their numbers, without its tests and the skipped items."""
     lines = text.split("\n")
@@ -146,9 +156,10 @@ def is_large(argument):
     return False
 
 
-def large_arguments(lines):
-    """The numbers of the lines on which a call that allocates has such an argument."""
-    code = [without_texts(line) for _, line in lines]
+def large_arguments(lines, held):
+    """The numbers of the lines on which a call that allocates has such an argument; a constant that
+    is `held` is none."""
+    code = [re.sub(held, "", without_texts(line)) for _, line in lines]
     text, places = "\n".join(code), []
     for (number, _), line in zip(lines, code):
         places += [number] * (len(line) + 1)
@@ -173,10 +184,10 @@ def hands_on(head, line):
 class File:
     """A source file, and what is wrong with it."""
 
-    def __init__(self, path, text, failures):
+    def __init__(self, path, text, failures, held):
         self.path, self.all, self.failures = path, text.split("\n"), failures
         self.lines = list(code_lines(text))
-        self.large = set(large_arguments(self.lines))
+        self.large = set(large_arguments(self.lines, held))
         self.used, self.faults = set(), []
 
     def is_marked(self, number, mark):
@@ -240,10 +251,10 @@ class File:
 
 def main():
     texts = sources()
-    failures = failures_of(texts.values())
+    failures, held = failures_of(texts.values()), held_constants(texts.values())
     faults, marks = [], collections.Counter()
     for path, text in texts.items():
-        file = File(path, text, failures)
+        file = File(path, text, failures, held)
         faults += file.look()
         marks += collections.Counter(path.parts[1] for _ in file.used)
     print(*faults, sep="\n", end="\n" if faults else "")
