@@ -1,0 +1,16 @@
+-- the first and the last line of a text
+pub mod TextLines
+-- the same in its bytes
+pub mod ByteLines
+-- what is written in turn
+pub mod Encodes
+-- how wide a character is shown
+pub mod Widths
+-- how many digits a number has
+pub mod Digits
+-- a text that is cut at both ends of a range
+pub mod Cuts
+-- the bytes of all that is written
+pub mod Written
+-- that it is printable
+pub mod Clean

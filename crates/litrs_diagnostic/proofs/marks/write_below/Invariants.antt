@@ -1,0 +1,11 @@
+-- So many marks as the characters so far are columns wide.
+use Rattle.std.proofs.Common.{replicate}
+use Rattle.std.specs.Fmt.{HasWritten, IsPlainFormatter}
+use Rattle.std.specs.Str.{encode_utf8_all}
+use Rattle.litrs_diagnostic.specs.Shown.{columns, shown}
+use Rattle.litrs_diagnostic.proofs.marks.write_below.Given as goal
+
+abbrev pub invariant-loop-c : goal.invariant-loop-c
+invariant-loop-c g l =
+    IsPlainFormatter l.initial.f →
+    HasWritten g.W.Write.write_str_gives l.initial.f (encode_utf8_all (replicate (columns (shown l.yielded)) l.mark)) l.f

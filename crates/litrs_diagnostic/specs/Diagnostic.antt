@@ -1,0 +1,63 @@
+-- All that is written of a message on a range of a text.
+use Rattle.std.specs.Prelude.{ℕ, Bool, ◌||◌, ◌+◌, ◌-◌, List, [], ◌∷◌, ◌++◌, length, take, drop, replicate, max, nat_lt, codes, slice_range, if◌then◌else◌}
+use Rattle.std.specs.Fmt.{decimal}
+use Rattle.std.specs.Str.{chars}
+use Rattle.litrs_diagnostic.specs.Position.{is_line_feed, line_number, column_number}
+use Rattle.litrs_diagnostic.specs.Printable.{is_printable}
+use Rattle.litrs_diagnostic.specs.Shown.{blank, caret, shown, columns}
+use Rattle.litrs_diagnostic.specs.Line.{Line, start_line, end_line}
+
+abbrev pub blanks : ℕ → List ℕ
+blanks n = replicate n blank
+
+-- LF
+abbrev pub line_feed : List ℕ
+line_feed = 10 ∷ []
+
+-- The carets under a marked text: as many as it has columns, but at least one.
+abbrev pub carets : List ℕ → List ℕ
+carets marked = replicate (max 1 (columns (shown marked))) caret
+
+-- The line with its number in a margin of this width, and below it blanks as wide as what is shown
+-- before what is marked, and carets as wide as what is shown of that.
+unfoldable pub line_text : (margin number : ℕ) → Line → List ℕ
+line_text margin number line =
+    decimal number ++ (blanks (margin - length (decimal number)) ++ (codes " | "
+    ++ (shown line.before ++ (shown line.marked ++ (shown line.after ++ (line_feed
+    ++ (blanks margin ++ (codes " | "
+    ++ (blanks (columns (shown line.before)) ++ (carets line.marked ++ line_feed))))))))))
+
+-- `...` where there are lines between those of these numbers
+abbrev pub gap_text : (first last : ℕ) → List ℕ
+gap_text first last = if nat_lt (first + 1) last then codes "...\n" else []
+
+-- The lines that are shown: that on which the range begins, and, where it ends on a later one, that
+-- one, after `...` where there are lines between them.
+unfoldable pub lines_text : (margin : ℕ) (before range after : List ℕ) → List ℕ
+lines_text margin before range after =
+    let first = line_number before in
+    let last = line_number (before ++ range) in
+    line_text margin first (start_line before range after)
+    ++ (if nat_lt first last
+    then gap_text first last ++ line_text margin last (end_line range after)
+    else [])
+
+-- The message, the place of the range's start, and the lines. The margin is as wide as the greatest
+-- number in it.
+unfoldable pub message_text : (name message before range after : List ℕ) → List ℕ
+message_text name message before range after =
+    let margin = length (decimal (line_number (before ++ range))) in
+    codes "error: " ++ (shown message ++ (line_feed
+    ++ (blanks margin ++ (codes "--> " ++ (shown name ++ (codes ":"
+    ++ (decimal (line_number before) ++ (codes ":" ++ (decimal (column_number before) ++ (line_feed
+    ++ (blanks margin ++ (codes " |\n" ++ lines_text margin before range after))))))))))))
+
+-- The characters that are written of a message on the bytes from start to end of the source.
+unfoldable pub diagnostic_text : (name message source : List ℕ) (start end : ℕ) → List ℕ
+diagnostic_text name message source start end =
+    message_text (chars name) (chars message)
+    (chars (take start source)) (chars (slice_range source start end)) (chars (drop end source))
+
+-- an LF or a printable character: nothing else is written
+abbrev pub is_line_feed_or_printable : ℕ → Bool
+is_line_feed_or_printable c = is_line_feed c || is_printable c

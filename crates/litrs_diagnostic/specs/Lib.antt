@@ -1,0 +1,12 @@
+-- lines and columns
+pub mod Position
+-- which characters are shown as they are
+pub mod Printable
+-- what is shown of a text, and how wide it is
+pub mod Shown
+-- the lines that a range marks
+pub mod Line
+-- the lines of the program
+pub mod Rows
+-- all that is written
+pub mod Diagnostic

@@ -1,0 +1,42 @@
+-- The lines of a text that a range marks.
+use Rattle.std.specs.Prelude.{ℕ, ◌==◌, ◌&&◌, ◌||◌, Bool, false, List, [], ◌∷◌, ◌++◌, length, take, drop, if◌then◌else◌}
+use Rattle.litrs_base.specs.Text.{first_passes}
+use Rattle.litrs_diagnostic.specs.Position.{is_line_feed, last_line}
+
+-- CR
+abbrev pub is_carriage_return : ℕ → Bool
+is_carriage_return c = c == 13
+
+-- an LF stands first, or a CR and an LF
+abbrev pub ends_line : List ℕ → Bool
+ends_line [] = false
+ends_line (c ∷ t) = is_line_feed c || (is_carriage_return c && first_passes is_line_feed t)
+
+-- the characters before the first LF, or CR and LF; all of them where there is none
+unfoldable pub first_line : List ℕ → List ℕ
+first_line [] = []
+first_line (c ∷ t) = if ends_line (c ∷ t) then [] else c ∷ first_line t
+
+-- A line that is cut at both ends of what is marked in it.
+pub record Line : Type 0 where
+  pub before : List ℕ
+  pub marked : List ℕ
+  pub after : List ℕ
+
+-- The line on which a range begins, of a text that is cut into what is before, in and after it. A
+-- range that goes on in the next line marks all of this one from its start.
+unfoldable pub start_line : (before range after : List ℕ) → Line
+start_line before range after =
+    let rest = first_line (range ++ after) in
+    record {
+      before = last_line before;
+      marked = take (length range) rest;
+      after = drop (length range) rest;
+    }
+
+-- The line on which a range ends that began on one before it. It is marked from its start.
+unfoldable pub end_line : (range after : List ℕ) → Line
+end_line range after =
+    let mark = last_line range in
+    let rest = first_line (mark ++ after) in
+    record { before = []; marked = take (length mark) rest; after = drop (length mark) rest }

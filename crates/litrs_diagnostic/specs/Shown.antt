@@ -1,0 +1,33 @@
+-- What is shown of a text, and how wide it is.
+use Rattle.std.specs.Prelude.{ℕ, ◌==◌, List, [], ◌∷◌, unwrap_or, false, replicate, if◌then◌else◌}
+use Rattle.std.specs.List.{flat_map, sum_by}
+use Rattle.std.specs.Char.Escape.{escape_unicode}
+use Rattle.unicode_width.specs.Width.{char_width}
+use Rattle.litrs_diagnostic.specs.Printable.{is_printable}
+
+-- a blank, a tab and a caret
+abbrev pub blank : ℕ
+blank = 32
+
+abbrev pub tab : ℕ
+tab = 9
+
+abbrev pub caret : ℕ
+caret = 94
+
+-- A tab is shown as four blanks, and a character that is not printable as `\u{..}`.
+unfoldable pub shown_char : ℕ → List ℕ
+shown_char c =
+    if c == tab then replicate 4 blank else if is_printable c then c ∷ [] else escape_unicode c
+
+-- what is shown of each character in turn
+abbrev pub shown : List ℕ → List ℕ
+shown t = flat_map shown_char t
+
+-- how many columns a terminal gives to a character that is shown, by Unicode's East Asian Width
+abbrev pub char_columns : ℕ → ℕ
+char_columns c = unwrap_or (char_width false c) 0
+
+-- The columns of a text are those of its characters, each by itself, as rustc counts them.
+abbrev pub columns : List ℕ → ℕ
+columns t = sum_by char_columns t

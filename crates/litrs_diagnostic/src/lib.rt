@@ -1,0 +1,67 @@
+//! Shows a message on a range of a text as rustc does: the message, the place of the range's start,
+//! the line with its number, and carets below the range.
+//!
+//! ```
+//! use litrs_diagnostic::{Diagnostic, shown};
+//! use std::alloc::{AllocError, Global};
+//!
+//! /// What is said of the first tab of a text, if there is one.
+//! fn refused_tab(alloc: Global, source: &str) -> Result<Option<String>, AllocError> {
+//!     match source.find('\t') {
+//!         Some(start) => {
+//!             let end = start + 1;
+//!             let message = "a tab";
+//!             let name = "settings";
+//!             let refusal = Diagnostic { name, source, start, end, message };
+//!             Ok(Some(shown(alloc, &refusal)?))
+//!         }
+//!         None => Ok(None),
+//!     }
+//! }
+//! ```
+//!
+//! Of two lines, the second `min`, a tab and `= 1`, it is
+//!
+//! ```text
+//! error: a tab
+//!  --> settings:2:4
+//!   |
+//! 2 | min    = 1
+//!   |    ^^^^
+//! ```
+//!
+//! Nothing is written but LFs and printable characters: of the source, the name and the message a
+//! tab is shown as four blanks, and any other character that is not printable by its number, as
+//! `\u{202e}`. The source is read up to the end of the last line that is shown.
+#![tactic(auto)]
+
+ghost use Rattle.std.specs.Prelude.{◌≡◌, IfOk, IsTrue, string_bytes};
+ghost use Rattle.std.specs.List.{list_all};
+ghost use Rattle.std.specs.Str.{chars};
+ghost use Rattle.litrs_diagnostic.specs.Diagnostic.{diagnostic_text, is_line_feed_or_printable};
+
+mod lines;
+mod marks;
+mod message;
+mod places;
+mod printable;
+mod row;
+
+pub use message::Diagnostic;
+pub use places::{LineColumn, position};
+use std::alloc::{AllocError, Global};
+
+/// What is written of a diagnostic, in lines that each end with LF.
+///
+/// # Errors
+///
+/// Where there is no memory for the text.
+pub fn shown(alloc: Global, diagnostic: &Diagnostic) -> Result<String, AllocError>
+    ensures text { IfOk result (λ written. chars (string_bytes written) ≡ diagnostic_text
+        diagnostic.now.name.now diagnostic.now.message.now diagnostic.now.source.now
+        diagnostic.now.start diagnostic.now.end) }
+    ensures printable { IfOk result (λ written. IsTrue (
+        list_all is_line_feed_or_printable (chars (string_bytes written)))) }
+{
+    format!(in alloc; "{diagnostic}")
+}

@@ -1,0 +1,78 @@
+//! The lines that a range marks.
+ghost use Rattle.std.specs.Prelude.{◌≡◌, ◌++◌, ◌≤◌, length, take, drop, slice_range, List, ℕ};
+ghost use Rattle.std.specs.Str.{chars, IsCharBoundary};
+ghost use Rattle.litrs_diagnostic.specs.Line.{first_line, start_line, end_line};
+ghost use Rattle.litrs_diagnostic.specs.Rows.{line_of};
+
+use crate::places::last_line;
+
+/// A line, cut at both ends of what is marked.
+#[derive(Clone, Copy)]
+pub(crate) struct Line<'a> {
+    pub(crate) before: &'a str,
+    pub(crate) marked: &'a str,
+    pub(crate) after: &'a str,
+}
+
+/// The line on which a range begins.
+pub(crate) fn start_line(source: &str, start: usize, end: usize) -> Line<'_>
+    requires start { IsCharBoundary source.now start }
+    requires end { IsCharBoundary source.now end }
+    requires in_order { start ≤ end }
+    ensures { line_of result ≡ start_line (chars (take start source.now))
+        (chars (slice_range source.now start end)) (chars (drop end source.now)) }
+{
+    let (before, rest) = source.split_at(start);
+    let (marked, after) = cut_first_line(rest, end - start);
+    Line {
+        before: last_line(before),
+        marked,
+        after,
+    }
+}
+
+/// The line on which a range ends, of one that began on a line before it.
+pub(crate) fn end_line(source: &str, start: usize, end: usize) -> Line<'_>
+    requires start { IsCharBoundary source.now start }
+    requires end { IsCharBoundary source.now end }
+    requires in_order { start ≤ end }
+    ensures { line_of result ≡ end_line
+        (chars (slice_range source.now start end)) (chars (drop end source.now)) }
+{
+    let mark = last_line(&source[start..end]);
+    let (_, rest) = source.split_at(end - mark.len());
+    let (marked, after) = cut_first_line(rest, mark.len());
+    Line {
+        before: "",
+        marked,
+        after,
+    }
+}
+
+/// The text up to its first LF, or CR and LF.
+fn first_line(text: &str) -> &str
+    ensures line { chars result.now ≡ first_line (chars text.now) }
+    ensures front { (rest : List ℕ) × (text.now ≡ result.now ++ rest) }
+{
+    match text.split_once('\n') {
+        Some((line, _)) => line.strip_suffix('\r').unwrap_or(line),
+        None => text,
+    }
+}
+
+/// The first line of a text, cut after as many characters as its first `len` bytes have, or at its
+/// end where it has fewer.
+fn cut_first_line(text: &str, len: usize) -> (&str, &str)
+    requires { IsCharBoundary text.now len }
+    ensures marked { chars result.0.now
+        ≡ take (length (chars (take len text.now))) (first_line (chars text.now)) }
+    ensures after { chars result.1.now
+        ≡ drop (length (chars (take len text.now))) (first_line (chars text.now)) }
+{
+    let line = first_line(text);
+    if len <= line.len() {
+        line.split_at(len)
+    } else {
+        (line, "")
+    }
+}

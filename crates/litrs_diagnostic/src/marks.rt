@@ -1,0 +1,144 @@
+//! What is shown of a text, and what is written below it.
+ghost use Rattle.std.specs.Prelude.{◌≡◌, replicate};
+ghost use Rattle.std.specs.Fmt.{WritesOnOk};
+ghost use Rattle.std.specs.Str.{chars, encode_utf8_all};
+ghost use Rattle.litrs_diagnostic.specs.Diagnostic.{carets};
+ghost use Rattle.litrs_diagnostic.specs.Shown.{blank, shown_char, shown, columns};
+
+use crate::printable::is_printable;
+use std::fmt;
+use unicode_width::UnicodeWidthChar;
+
+/// So many blanks stand in place of a tab.
+const TAB_WIDTH: usize = 4;
+
+/// What is shown of a text.
+#[derive(Clone, Copy)]
+pub(crate) struct Shown<'a>(pub(crate) &'a str);
+
+impl fmt::Display for Shown<'_> {
+    ghost use Rattle.std.specs.Prelude.{Some};
+
+    ghost output = { λ text. Some (encode_utf8_all (shown (chars text.0.now))) };
+
+    fn fmt<W: fmt::Write>(&self, f: &mut fmt::Formatter<W>) -> fmt::Result {
+        write_text(f, self.0)
+    }
+}
+
+/// So many blanks.
+#[derive(Clone, Copy)]
+pub(crate) struct Blanks(pub(crate) usize);
+
+impl fmt::Display for Blanks {
+    ghost use Rattle.std.specs.Prelude.{Some};
+
+    ghost output = { λ blanks. Some (encode_utf8_all (replicate blanks.0 blank)) };
+
+    fn fmt<W: fmt::Write>(&self, f: &mut fmt::Formatter<W>) -> fmt::Result {
+        write_times(f, ' ', self.0)
+    }
+}
+
+/// Blanks as wide as a text is shown.
+#[derive(Clone, Copy)]
+pub(crate) struct Below<'a>(pub(crate) &'a str);
+
+impl fmt::Display for Below<'_> {
+    ghost use Rattle.std.specs.Prelude.{Some};
+
+    ghost output = { λ text. Some (encode_utf8_all (
+        replicate (columns (shown (chars text.0.now))) blank)) };
+
+    fn fmt<W: fmt::Write>(&self, f: &mut fmt::Formatter<W>) -> fmt::Result {
+        write_below(f, self.0, ' ')
+    }
+}
+
+/// Carets as wide as a text is shown, but at least one.
+#[derive(Clone, Copy)]
+pub(crate) struct Carets<'a>(pub(crate) &'a str);
+
+impl fmt::Display for Carets<'_> {
+    ghost use Rattle.std.specs.Prelude.{Some};
+
+    ghost output = { λ text. Some (encode_utf8_all (carets (chars text.0.now))) };
+
+    fn fmt<W: fmt::Write>(&self, f: &mut fmt::Formatter<W>) -> fmt::Result {
+        write_carets(f, self.0)
+    }
+}
+
+/// Writes what is shown of a text.
+fn write_text<W: fmt::Write>(f: &mut fmt::Formatter<W>, text: &str) -> fmt::Result
+    ensures { WritesOnOk W.write_str_gives f.old result
+        (encode_utf8_all (shown (chars text.now))) f.new }
+{
+    for c in text.chars() {
+        write_shown(f, c)?;
+    }
+    Ok(())
+}
+
+/// Writes the carets under a text.
+fn write_carets<W: fmt::Write>(f: &mut fmt::Formatter<W>, text: &str) -> fmt::Result
+    ensures { WritesOnOk W.write_str_gives f.old result
+        (encode_utf8_all (carets (chars text.now))) f.new }
+{
+    if text.chars().all(|c| shown_width(c) == 0) {
+        write_times(f, '^', 1)
+    } else {
+        write_below(f, text, '^')
+    }
+}
+
+/// Writes what is shown of a character.
+fn write_shown<W: fmt::Write>(f: &mut fmt::Formatter<W>, c: char) -> fmt::Result
+    ensures { WritesOnOk W.write_str_gives f.old result (encode_utf8_all (shown_char c)) f.new }
+{
+    if c == '\t' {
+        return write_times(f, ' ', TAB_WIDTH);
+    }
+    if is_printable(c) {
+        return f.write_char(c);
+    }
+    for part in c.escape_unicode() {
+        f.write_char(part)?;
+    }
+    Ok(())
+}
+
+/// How many columns wide a character is shown.
+fn shown_width(c: char) -> usize
+    ensures { result ≡ columns (shown_char c) }
+{
+    if c == '\t' {
+        return TAB_WIDTH;
+    }
+    if is_printable(c) {
+        return c.width().unwrap_or(0);
+    }
+    c.escape_unicode().count()
+}
+
+/// Writes the mark so many times as a text is columns wide.
+fn write_below<W: fmt::Write>(f: &mut fmt::Formatter<W>, text: &str, mark: char) -> fmt::Result
+    ensures { WritesOnOk W.write_str_gives f.old result
+        (encode_utf8_all (replicate (columns (shown (chars text.now))) mark)) f.new }
+{
+    for c in text.chars() {
+        write_times(f, mark, shown_width(c))?;
+    }
+    Ok(())
+}
+
+/// Writes a character so many times.
+fn write_times<W: fmt::Write>(f: &mut fmt::Formatter<W>, c: char, count: usize) -> fmt::Result
+    ensures { WritesOnOk W.write_str_gives f.old result
+        (encode_utf8_all (replicate count c)) f.new }
+{
+    for _ in 0..count {
+        f.write_char(c)?;
+    }
+    Ok(())
+}

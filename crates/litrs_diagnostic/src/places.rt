@@ -1,0 +1,50 @@
+//! Lines and columns.
+ghost use Rattle.std.specs.Prelude.{◌≡◌, ◌≤◌, ◌+◌, ◌++◌, ℕ, List, take, length, count_by};
+ghost use Rattle.std.specs.Str.{chars, IsCharBoundary};
+ghost use Rattle.litrs_diagnostic.specs.Position.{is_line_feed, last_line, line_number, column_number};
+
+/// A place in a text.
+#[derive(Clone, Copy, Debug, PartialEq, Eq)]
+pub struct LineColumn {
+    /// One more than the LFs before the place.
+    pub line: usize,
+    /// One more than the characters between the last LF before the place, or the start of the text,
+    /// and the place.
+    pub column: usize,
+}
+
+/// The line and the column of a place of the text, which is in bytes and on a character boundary.
+///
+/// Lines end at LF alone, and columns count characters: in the text `é = 1`, LF, `ü = 0b12` the
+/// place 15, before the `2`, is column 8 of line 2.
+pub fn position(source: &str, at: usize) -> LineColumn
+    requires { IsCharBoundary source.now at }
+    ensures line { result.line ≡ line_number (chars (take at source.now)) }
+    ensures column { result.column ≡ column_number (chars (take at source.now)) }
+    ensures bound { result.line ≤ at + 1 }
+{
+    let (before, _) = source.split_at(at);
+    LineColumn {
+        line: line_feeds(before) + 1,
+        column: last_line(before).chars().count() + 1,
+    }
+}
+
+/// How many LFs a text has.
+pub(crate) fn line_feeds(text: &str) -> usize
+    ensures value { result ≡ count_by is_line_feed (chars text.now) }
+    ensures bound { result ≤ length text.now }
+{
+    text.chars().filter(|c| *c == '\n').count()
+}
+
+/// What follows the last LF of the text, or all of the text.
+pub(crate) fn last_line(text: &str) -> &str
+    ensures line { chars result.now ≡ last_line (chars text.now) }
+    ensures end { (front : List ℕ) × (text.now ≡ front ++ result.now) }
+{
+    match text.rsplit_once('\n') {
+        Some((_, line)) => line,
+        None => text,
+    }
+}
