@@ -74,7 +74,8 @@ after_prefixed (c ∷ t) =
     else if c == single_quote then after_char t
     else after_raw t
 
--- after the parts of a float that a number has: digits, a period and more, an exponent
+-- What follows the parts of a float that a number has: digits, a period and more, an exponent. The
+-- prefix of an integer, with digits of its base, is left for the name that is the suffix.
 abbrev pub after_number : List ℕ → List ℕ
 after_number t = (float_cut t).suffix
 
@@ -90,14 +91,13 @@ after_body (c ∷ t) =
     else if (c == letter_c) && opens_c_string t then after_prefixed t
     else c ∷ t
 
--- What follows what opens at the front: the suffix is the whole name after the body. The prefix of
--- an integer and its digits are of that name.
+-- what follows what opens at the front: its suffix is the whole name after the body
 abbrev pub after_opened : List ℕ → List ℕ
 after_opened t = after_name (after_body t)
 
--- What was meant as a literal at the front of the text is no literal: it is what opens there, with
--- its suffix; where that is a literal, which what follows may not follow, the shortest longer piece
--- that is none.
+-- Where no literal stands at the front of the text, what was meant as one is what opens there, with
+-- its suffix. That may itself be a literal, where what follows may not follow it: then it is the
+-- shortest longer piece that is none, since each shorter one is a literal.
 pub record IsMeant (t front : List ℕ) : Type 0 where
   pub piece : List ℕ
   pub more : List ℕ

@@ -1,5 +1,5 @@
 -- Which settings stand in a line, and why what is left of it is none.
-use Rattle.std.specs.Prelude.{◌≡◌, ◌≢◌, ◌⊎◌, ℕ, Bool, true, false, List, [], ◌∷◌, ◌++◌, length, codes, IsTrue, IsFalse}
+use Rattle.std.specs.Prelude.{◌≡◌, ◌≢◌, ◌⊎◌, ℕ, Bool, true, false, not, ◌==◌, ◌&&◌, List, [], ◌∷◌, ◌++◌, length, take_while, codes, IsTrue, IsFalse}
 use Rattle.std.specs.Char.{is_not_whitespace}
 use Rattle.std.specs.Str.{chars, NoCharPasses, IsTrimStart, IsTrimEnd}
 use Rattle.litrs.specs.Literal.{Derivation, a_bool, an_integer, a_float, a_char, a_byte, a_string, a_byte_string, a_c_string}
@@ -43,19 +43,31 @@ pub record IsSettingOf (line : List ℕ) (setting : Setting) : Type 0 where
   pub rest : List ℕ
   pub spells : before ++ (sign setting.negative ++ (literal_raw setting.literal ++ after)) ≡ line
   pub place : length before ≡ setting.start
-  pub literal : HasPrefix (chars (literal_raw setting.literal ++ after)) (derivation setting.literal) (chars after)
+  pub literal : HasPrefix (chars (literal_raw setting.literal ++ after))
+      (derivation setting.literal) (chars after)
   pub signed : IsTrue setting.negative → IsTrue (is_number (derivation setting.literal))
   pub ends : EndsValue after rest
+
+-- neither `=` nor a comma
+abbrev pub is_of_name : ℕ → Bool
+is_of_name c = not (c == 61) && not (c == 44)
+
+-- what stands before the first `=` or comma
+abbrev pub name_part : List ℕ → List ℕ
+name_part text = take_while is_of_name text
+
+-- how a value is written, with its sign
+abbrev pub value_text : Setting → List ℕ
+value_text setting = sign setting.negative ++ literal_raw setting.literal
 
 -- The text begins with the setting: its name, `=` and its value, with blanks between them. This is
 -- left after its comma, or nothing at the end of the line.
 pub record BeginsWith (text : List ℕ) (setting : Setting) (rest : List ℕ) : Type 0 where
-  pub front : List ℕ
   pub blanks : List ℕ
   pub after : List ℕ
-  pub name : IsTrimEnd front setting.name.now
+  pub name : IsTrimEnd (name_part text) setting.name.now
   pub blank : NoCharPasses is_not_whitespace blanks
-  pub spells : front ++ 61 ∷ (blanks ++ (sign setting.negative ++ (literal_raw setting.literal ++ after))) ≡ text
+  pub spells : name_part text ++ 61 ∷ (blanks ++ (value_text setting ++ after)) ≡ text
   pub ends : EndsValue after rest
 
 -- the text is these settings, one after the other, each after blanks, and blanks and this rest
@@ -70,20 +82,48 @@ pub record StandsAt (line : List ℕ) (place : ℕ) (rest : List ℕ) : Type 0 w
   pub spells : before ++ rest ≡ line
   pub after : length before ≡ place
 
--- What stands at the place of a fault: no `=`; no text that opens a literal; a literal that is no
--- number, after a sign; neither a comma nor the end of the line; or a malformed literal, whose
--- refusal counts from the start of the line.
-abbrev pub IsFaultOf : (line : List ℕ) → Fault → Type 0
-IsFaultOf line (NoEquals place) =
-    (rest : List ℕ) × StandsAt line place rest × ((more : List ℕ) → rest ≢ 61 ∷ more)
-IsFaultOf line (NoLiteral place) =
-    (rest : List ℕ) × StandsAt line place rest × IsFalse (opens (chars rest))
-IsFaultOf line (NoNumber place) = (rest : List ℕ) × StandsAt line place rest
-    × (d : Derivation) × (more : List ℕ) × HasPrefix (chars rest) d more × IsFalse (is_number d)
-IsFaultOf line (NoComma place) = (rest : List ℕ) × StandsAt line place rest
-    × (rest ≢ []) × ((more : List ℕ) → rest ≢ 44 ∷ more)
-IsFaultOf line (Malformed malformed) =
-    (place : ℕ) × (rest : List ℕ) × StandsAt line place rest × IsMovedBy place (chars rest) malformed
+-- The text has a name and `=`, and after blanks this value, without the sign that it has if this is
+-- negative.
+pub record HasValue (text : List ℕ) (negative : Bool) (value : List ℕ) : Type 0 where
+  pub behind : List ℕ
+  pub signed : List ℕ
+  pub spells : name_part text ++ 61 ∷ behind ≡ text
+  pub blanks : IsTrimStart behind signed
+  pub sign_is : sign negative ++ value ≡ signed
+  pub no_sign : IsFalse negative → (more : List ℕ) → value ≢ 45 ∷ more
+
+-- after a value: blanks, and then neither a comma nor the end of the line
+abbrev pub LacksComma : (line after : List ℕ) → Fault → Type 0
+LacksComma line after (NoComma place) = (rest : List ℕ) × IsTrimStart after rest
+    × StandsAt line place rest × (rest ≢ []) × ((more : List ℕ) → rest ≢ 44 ∷ more)
+LacksComma line after fault = ⊥
+
+-- Of a value after its sign: no literal opens; it is malformed, and its refusal counts from the
+-- start of the line; or it is no number, after a sign.
+abbrev pub LacksLiteral : (line value : List ℕ) (negative : Bool) → Fault → Type 0
+LacksLiteral line value negative (NoLiteral place) =
+    StandsAt line place value × IsFalse (opens (chars value))
+LacksLiteral line value negative (NoNumber place) = StandsAt line place value × IsTrue negative
+    × (d : Derivation) × (more : List ℕ) × HasPrefix (chars value) d more × IsFalse (is_number d)
+LacksLiteral line value negative (Malformed malformed) = (place : ℕ)
+    × StandsAt line place value × IsMovedBy place (chars value) malformed
+LacksLiteral line value negative fault = ⊥
+
+-- the value is a literal, a number after a sign, and this follows it
+abbrev pub IsValueBefore : (value : List ℕ) (negative : Bool) (after : List ℕ) → Type 0
+IsValueBefore value negative after = (d : Derivation) × HasPrefix (chars value) d (chars after)
+    × (IsTrue negative → IsTrue (is_number d))
+
+-- Why no setting stands at the front of this end of the line, at the first place where one fails:
+-- no `=` follows the name; no literal, or no number, is its value; no comma follows its value.
+pub data IsFaultOf (line text : List ℕ) (fault : Fault) : Type 0 where
+  no_equals : (place : ℕ) (after : List ℕ) → NoEquals place ≡ fault →
+      name_part text ++ after ≡ text → StandsAt line place after →
+      ((more : List ℕ) → after ≢ 61 ∷ more) → IsFaultOf line text fault
+  no_literal : (negative : Bool) (value : List ℕ) → HasValue text negative value →
+      LacksLiteral line value negative fault → IsFaultOf line text fault
+  no_comma : (negative : Bool) (value after : List ℕ) → HasValue text negative value →
+      IsValueBefore value negative after → LacksComma line after fault → IsFaultOf line text fault
 
 -- there was no memory for the value of a literal
 abbrev pub IsOfMemory : Fault → Type 0

@@ -31,7 +31,8 @@ with_sign false x = x
 -- the nearest `f64` of the number part without underscores, with its sign
 abbrev pub IsFloatOf : (negative : Bool) → Derivation → Option Float → Type 0
 IsFloatOf negative (a_float d) value = (digits : List ℕ) × (chars digits ≡ number_part d)
-    × (value ≡ option_map (with_sign negative) (parse_float binary64 (filter is_no_underscore digits)))
+    × (value ≡ option_map (with_sign negative)
+    (parse_float binary64 (filter is_no_underscore digits)))
 IsFloatOf negative d value = value ≡ None
 
 -- the text that a string stands for

@@ -1,10 +1,11 @@
 //! Which settings stand in a line, and where.
-ghost use Rattle.std.specs.Prelude.{◌≡◌, ◌<◌, ◌++◌, [], ◌∷◌, ℕ, List, length, IsTrue, IfOk, IfErr, IfSome, IfNone, OnErr, All};
+ghost use Rattle.std.specs.Prelude.{◌≡◌, ◌≢◌, ◌<◌, ◌≤◌, ◌++◌, [], ◌∷◌, ℕ, List, length, IsTrue, IsFalse, IfOk, IfErr, IfSome, IfNone, OnErr, All};
+ghost use Rattle.std.specs.List.{prefix_len};
 ghost use Rattle.std.specs.Str.{chars, IsTrimEnd};
 ghost use Rattle.litrs.specs.LiteralDerivation.{literal_raw, derivation};
 ghost use Rattle.litrs_prefix.specs.Ends.{IsEndOf};
 ghost use Rattle.litrs_prefix.specs.Prefix.{HasPrefix};
-ghost use Rattle.uses_attributes.specs.Settings.{sign, is_number, EndsValue, IsSettingOf, BeginsWith, LeavesAfter, IsFaultOf, IsOfMemory};
+ghost use Rattle.uses_attributes.specs.Settings.{sign, is_number, is_of_name, name_part, EndsValue, IsSettingOf, BeginsWith, LeavesAfter, LacksComma, LacksLiteral, IsFaultOf, IsOfMemory};
 
 use litrs::{Literal, ParseErrorKind};
 use litrs_prefix::{MalformedPrefix, Prefix, parse_prefix_at};
@@ -49,7 +50,8 @@ pub fn read_settings(alloc: Global, line: &str) -> Result<Settings<'_>, AllocErr
     ensures settings { IfOk result (λ settings. All (IsSettingOf line.now) settings.found.items) }
     ensures all { IfOk result (λ settings. (rest : List ℕ)
         × LeavesAfter line.now settings.found.items rest × IfNone settings.fault (rest ≡ [])) }
-    ensures fault { IfOk result (λ settings. IfSome settings.fault (IsFaultOf line.now)) }
+    ensures fault { IfOk result (λ settings. IfSome settings.fault (λ fault. (rest : List ℕ)
+        × LeavesAfter line.now settings.found.items rest × IsFaultOf line.now rest fault)) }
     ensures memory { IfOk result (λ settings. IfSome settings.fault (λ fault. ¬ IsOfMemory fault)) }
 {
     let mut found = Vec::new(alloc);
@@ -80,7 +82,7 @@ fn first_setting<'a>(
     ensures begins { IfOk result (λ first. BeginsWith rest.now first.0 first.1.now) }
     ensures rest { IfOk result (λ first. IsEndOf line.now first.1.now) }
     ensures shorter { IfOk result (λ first. length first.1.now < length rest.now) }
-    ensures fault { IfErr result (IsFaultOf line.now) }
+    ensures fault { IfErr result (IsFaultOf line.now rest.now) }
 {
     let (name, after) = cut_name(line, rest)?;
     let value = after.trim_start();
@@ -100,24 +102,32 @@ fn first_setting<'a>(
 /// The name at this end of a line, and what follows its `=`.
 fn cut_name<'a>(line: &str, rest: &'a str) -> Result<(&'a str, &'a str), Fault>
     requires { IsEndOf line.now rest.now }
-    ensures cut { IfOk result (λ cut. (front : List ℕ)
-        × (front ++ 61 ∷ cut.1.now ≡ rest.now) × IsTrimEnd front cut.0.now) }
-    ensures fault { IfErr result (IsFaultOf line.now) }
+    ensures cut { IfOk result (λ cut. name_part rest.now ++ 61 ∷ cut.1.now ≡ rest.now) }
+    ensures name { IfOk result (λ cut. IsTrimEnd (name_part rest.now) cut.0.now) }
+    ensures fault { IfErr result (IsFaultOf line.now rest.now) }
 {
-    let end = match rest.find(|c: char| c == '=' || c == ',') {
-        Some(end) => end,
-        None => rest.len(),
-    };
-    let (name, after) = rest.split_at(end);
+    let (name, after) = rest.split_at(name_len(rest.as_bytes()));
     match after.strip_prefix("=") {
         Some(value) => Ok((name.trim_end(), value)),
         None => Err(Fault::NoEquals(line.len() - after.len())),
     }
 }
 
+/// How many bytes stand before the first `=` or comma.
+fn name_len(bytes: &[u8]) -> usize
+    ensures len { result ≡ prefix_len is_of_name bytes.now }
+    ensures within { result ≤ length bytes.now }
+{
+    bytes
+        .iter()
+        .take_while(|b| **b != b'=' && **b != b',')
+        .count()
+}
+
 /// Whether a minus sign stands first, and what follows it.
 fn cut_sign(text: &str) -> (bool, &str)
-    ensures { sign result.0 ++ result.1.now ≡ text.now }
+    ensures cut { sign result.0 ++ result.1.now ≡ text.now }
+    ensures no_sign { IsFalse result.0 → (more : List ℕ) → result.1.now ≢ 45 ∷ more }
 {
     match text.strip_prefix("-") {
         Some(rest) => (true, rest),
@@ -133,12 +143,13 @@ fn literal_at<'a>(
     negative: bool,
 ) -> Result<Prefix<'a>, Fault>
     requires { IsEndOf line.now text.now }
-    ensures spells { IfOk result (λ prefix. literal_raw prefix.literal ++ prefix.rest.now ≡ text.now) }
+    ensures spells { IfOk result (λ prefix.
+        literal_raw prefix.literal ++ prefix.rest.now ≡ text.now) }
     ensures literal { IfOk result (λ prefix.
         HasPrefix (chars text.now) (derivation prefix.literal) (chars prefix.rest.now)) }
     ensures signed { IfOk result (λ prefix.
         IsTrue negative → IsTrue (is_number (derivation prefix.literal))) }
-    ensures fault { IfErr result (IsFaultOf line.now) }
+    ensures fault { IfErr result (LacksLiteral line.now text.now negative) }
 {
     let start = line.len() - text.len();
     match parse_prefix_at(alloc, line, start) {
@@ -168,7 +179,7 @@ fn is_number(literal: &Literal<&str>) -> bool
 fn after_comma<'a>(line: &str, after: &'a str) -> Result<&'a str, Fault>
     requires { IsEndOf line.now after.now }
     ensures ends { IfOk result (λ rest. EndsValue after.now rest.now) }
-    ensures fault { IfErr result (IsFaultOf line.now) }
+    ensures fault { IfErr result (LacksComma line.now after.now) }
 {
     let text = after.trim_start();
     if text.is_empty() {
