@@ -1,4 +1,2 @@
--- what formatting keeps
-pub mod Keeps
--- how characters are written
-pub mod Escapes
+-- which literal is written for a literal
+pub mod Form

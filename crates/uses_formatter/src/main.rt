@@ -1,19 +1,17 @@
 //! Writes literals in one form: a literal a line, with its kind, its value and its suffix. A line
 //! that is no literal stays as it is.
 //!
-//! Hex digits are in lower case, the digits of an integer in groups of three, or of four where the
-//! base is not ten, and a `_` stands before its suffix. Strings are quoted, with the shortest
-//! escapes.
+//! Digits of integers are in lower case. Where they have a `_` they are put into groups of three,
+//! or of four where the base is not ten; else they have none. Chars, bytes and quoted strings and
+//! byte strings have the shortest escapes, and only where a character is not shown as it is. Raw
+//! strings, C strings, floats and bools stay as they are.
 #![tactic(auto)]
 
-mod escapes;
 mod form;
-mod keep;
 
 use form::formatted;
-use std::io;
 
-fn main(rt: HostRuntime) -> io::Result<()> {
+fn main(rt: HostRuntime) -> anyhow::Result<()> {
     for line in rt.lines(rt.alloc()) {
         let line = line?;
         let form = formatted(rt.alloc(), line.as_str())?;

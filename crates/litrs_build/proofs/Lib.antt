@@ -1,0 +1,14 @@
+-- the digits of a number
+pub mod HexDigits
+-- spellings are items of their kinds
+pub mod Spellings
+-- texts of spellings are literals
+pub mod Texts
+-- the digits of a number, and how they are written
+pub mod DigitLemmas
+-- digits in groups
+pub mod GroupLemmas
+-- the integer of these parts
+pub mod IntegerLemmas
+-- the float of these parts
+pub mod FloatLemmas

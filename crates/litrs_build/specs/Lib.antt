@@ -1,0 +1,14 @@
+-- which characters are shown as they are
+pub mod Printable
+-- how a character or a byte is spelled
+pub mod Spelling
+-- the literal of a value
+pub mod Written
+-- which error comes
+pub mod Errors
+-- digits, and how they are grouped
+pub mod WrittenDigits
+-- the integer that is built
+pub mod BuiltInteger
+-- the float that is built
+pub mod BuiltFloat

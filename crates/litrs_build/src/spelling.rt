@@ -1,0 +1,158 @@
+//! How a character or a byte is spelled between quotes.
+ghost use Rattle.std.specs.Prelude.{◌≡◌, ◌≤◌, ◌<◌, ◌++◌, false, OnOk, string_bytes, encode_utf8_all};
+ghost use Rattle.std.specs.Fmt.{digits};
+ghost use Rattle.litrs_grammar.specs.Quoted.{item_text};
+ghost use Rattle.litrs_build.specs.Spelling.{char_spelling, byte_spelling, is_escaped, is_shown, shown_or_number, hex_digit, spelled_item};
+
+use crate::printable::is_printable;
+use std::alloc::AllocError;
+use std::fmt::Write;
+use unicode::properties::is_grapheme_extend;
+
+/// How a character or a byte is spelled.
+#[derive(Clone, Copy)]
+pub(crate) enum Spelling {
+    /// As itself.
+    Plain(char),
+    /// As a backslash and this character.
+    Simple(char),
+    /// As `\x` and two digits.
+    Hex(u8),
+    /// As `\u{..}`.
+    Unicode(char),
+}
+
+impl Spelling {
+    /// The shortest spelling of a character between such quotes. What is not printable is escaped,
+    /// and so is a combining mark that follows a quote or an escape.
+    pub(crate) fn of_char(c: char, quote: char, follows_mark: bool) -> Spelling
+        ensures { result ≡ char_spelling quote follows_mark c }
+    {
+        match c {
+            '\0' => Spelling::Simple('0'),
+            '\t' => Spelling::Simple('t'),
+            '\n' => Spelling::Simple('n'),
+            '\r' => Spelling::Simple('r'),
+            _ if c == quote || c == '\\' => Spelling::Simple(c),
+            _ => shown_or_number(c, follows_mark),
+        }
+    }
+
+    /// The shortest spelling of a byte between such quotes.
+    pub(crate) fn of_byte(b: u8, quote: char) -> Spelling
+        ensures { result ≡ byte_spelling quote b }
+    {
+        if b.is_ascii() {
+            Spelling::of_char(char::from(b), quote, false)
+        } else {
+            Spelling::Hex(b)
+        }
+    }
+
+    /// Whether it is an escape.
+    pub(crate) fn is_escaped(self) -> bool
+        ensures { result ≡ is_escaped self }
+    {
+        match self {
+            Spelling::Plain(_) => false,
+            Spelling::Simple(_) | Spelling::Hex(_) | Spelling::Unicode(_) => true,
+        }
+    }
+
+    /// How many bytes it has.
+    pub(crate) fn len(self) -> usize
+        ensures { result ≤ 10 }
+    {
+        match self {
+            Spelling::Plain(c) => c.len_utf8(),
+            Spelling::Simple(_) => 2,
+            Spelling::Hex(_) => 4,
+            Spelling::Unicode(c) => 4 + hex_len(c),
+        }
+    }
+
+    /// Appends it to a text.
+    ///
+    /// # Errors
+    ///
+    /// `AllocError` where the text has no room for it and an allocation fails.
+    pub(crate) fn push_to(self, text: &mut String) -> Result<(), AllocError>
+        ensures { OnOk result (string_bytes text.new
+            ≡ string_bytes text.old ++ encode_utf8_all (item_text (spelled_item self))) }
+    {
+        match self {
+            Spelling::Plain(c) => text.push(c),
+            Spelling::Simple(c) => {
+                text.push('\\')?;
+                text.push(c)
+            }
+            Spelling::Hex(b) => {
+                text.push_str("\\x")?;
+                text.push(hex_digit(b / 16))?;
+                text.push(hex_digit(b % 16))?;
+                Ok(())
+            }
+            Spelling::Unicode(c) => {
+                text.push_str("\\u{")?;
+                push_hex(text, u32::from(c))?;
+                text.push('}')?;
+                Ok(())
+            }
+        }
+    }
+}
+
+/// A character as itself where it is printable, and no combining mark that follows a quote or an
+/// escape; else by its number.
+fn shown_or_number(c: char, follows_mark: bool) -> Spelling
+    ensures { result ≡ shown_or_number follows_mark c }
+{
+    if is_shown(c, follows_mark) {
+        Spelling::Plain(c)
+    } else if c.is_ascii() {
+        Spelling::Hex(c as u8)
+    } else {
+        Spelling::Unicode(c)
+    }
+}
+
+/// Whether a character stands for itself where it has no short escape.
+fn is_shown(c: char, follows_mark: bool) -> bool
+    ensures { result ≡ is_shown follows_mark c }
+{
+    is_printable(c) && !(follows_mark && is_grapheme_extend(c))
+}
+
+/// The hex digit of a number below 16, in lower case.
+fn hex_digit(number: u8) -> char
+    requires { number < 16 }
+    ensures { result ≡ hex_digit number }
+{
+    if number < 10 {
+        char::from(b'0' + number)
+    } else {
+        char::from(b'a' + (number - 10))
+    }
+}
+
+/// Appends the hex digits of a number, in lower case.
+fn push_hex(text: &mut String, number: u32) -> Result<(), AllocError>
+    ensures { OnOk result (string_bytes text.new
+        ≡ string_bytes text.old ++ digits 16 false number) }
+{
+    write!(text, "{number:x}")
+}
+
+/// How many hex digits the number of a character has.
+fn hex_len(c: char) -> usize
+    ensures { result ≤ 6 }
+{
+    match u32::from(c) {
+        0..=0xf => 1,
+        0x10..=0xff => 2,
+        0x100..=0xfff => 3,
+        0x1000..=0xffff => 4,
+        0x1_0000..=0xf_ffff => 5,
+        _ => 6,
+    }
+}

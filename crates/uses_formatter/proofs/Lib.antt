@@ -1,0 +1,2 @@
+-- the form of a literal
+pub mod Forms

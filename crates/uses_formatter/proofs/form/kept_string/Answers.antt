@@ -1,0 +1,17 @@
+-- The text is the literal.
+use Rattle.std.proofs.Common.{◌≡◌, true, false, sym, ap, subst, List, ℕ, ◌∙◌}
+use Rattle.std.specs.Prelude.{string_bytes}
+use Rattle.std.specs.Str.{chars}
+use Rattle.litrs.specs.StringKind.{string_kind}
+use Rattle.litrs.specs.Literal.{StringParts, IsString, string_suffix, string_value}
+use Rattle.litrs.specs.Strings.{is_raw}
+use Rattle.litrs_build.specs.Written.{written_string}
+use Rattle.uses_formatter.proofs.Forms.{raw_string, quoted_string}
+use Rattle.uses_formatter.proofs.form.kept_string.Goals as goal
+
+pub returns : goal.returns
+returns c =
+    let d = c.args.lit.now.parts in
+    let text : IsString string_kind (chars (string_bytes c.in_ok-text.text)) d =
+    subst (λ (t : List ℕ). IsString string_kind (chars t) d) (sym c.in_ok-text.ensures.ok) c.raw_input.ensures.literal in
+    raw_string d (chars (string_bytes c.in_ok-text.text)) c.requires text

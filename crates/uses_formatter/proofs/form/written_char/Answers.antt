@@ -1,0 +1,21 @@
+-- The text is the literal that is built, of the same value.
+use Rattle.std.proofs.Common.{◌≡◌, sym, ap, subst, List, ℕ, ◌∙◌, refl}
+use Rattle.std.specs.Prelude.{string_bytes}
+use Rattle.std.specs.Str.{chars}
+use Rattle.litrs.specs.CharByte.{CharParts, char_kind, IsCharLiteral, char_value}
+use Rattle.litrs.specs.CharLiteral.{char_parts}
+use Rattle.litrs_build.specs.Written.{written_char}
+use Rattle.uses_formatter.proofs.form.written_char.Goals as goal
+
+pub returns : goal.returns
+returns c =
+    let d = char_parts c.args.lit.now in
+    let built = c.in_ok-built.built in
+    let w = written_char (char_value d.item) d.suffix in
+    let parts : char_parts built ≡ w = c.in_ok-built.ensures.parts ∙ (λ i. written_char (c.value.ensures i) (c.suffix.ensures i)) in
+    let text : c.raw_input.result.now ≡ string_bytes c.into_raw_input-text.result = c.raw_input.ensures.raw ∙ sym c.into_raw_input-text.ensures.text in
+    let first = subst (λ (e : CharParts). IsCharLiteral char_kind (chars c.raw_input.result.now) e) parts c.raw_input.ensures.literal in (
+      subst (λ (t : List ℕ). IsCharLiteral char_kind (chars t) w) text first,
+      sym (ap (λ (e : CharParts). char_value e.item) (sym parts) ∙ (c.in_ok-built.ensures.value ∙ c.value.ensures)),
+      refl,
+    )
