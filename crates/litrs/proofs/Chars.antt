@@ -1,5 +1,5 @@
 -- What begins a char or a byte, after the front.
-use Rattle.std.proofs.Common.{◌≡◌, inl, inr, ℕ, Bool, true, false, not, List, [], ◌∷◌, ◌++◌, drop, Some, None, refl, sym, ap, ◌∙◌, subst}
+use Rattle.std.proofs.Common.{◌≡◌, inl, inr, ℕ, Bool, true, false, List, [], ◌∷◌, ◌++◌, drop, Some, None, refl, sym, ap, ◌∙◌, subst}
 use Rattle.std.specs.Prelude.{◌↔◌, ◌==◌, codes, IsTrue}
 use Rattle.std.specs.Str.{chars, IsUtf8}
 use Rattle.std.proofs.lemmas.Bool.{both_ways, false≢true}
@@ -9,9 +9,13 @@ use Rattle.litrs_base.specs.declared.escape.Unescape.{Unescape}
 use Rattle.litrs_base.specs.Refusal.{Refusal, refusal_of}
 use Rattle.litrs_base.specs.Text.{first_passes, begins_with}
 use Rattle.litrs_grammar.specs.Suffix.{is_suffix}
-use Rattle.litrs_grammar.specs.Escape.{Switches, escape_text, is_escape, escape_refusal}
+use Rattle.litrs_base.specs.declared.quotes.Switches.{Switches}
+use Rattle.litrs_base.specs.declared.quotes.CharKind.{CharKind}
+use Rattle.litrs_base.specs.declared.quotes.CharKind.TheVariants.{Char as char_kind, Byte as byte_kind}
+use Rattle.litrs_base.specs.Quotes.{char_front, char_switches_of}
+use Rattle.litrs_grammar.specs.Escape.{escape_text, is_escape, escape_refusal}
 use Rattle.litrs_grammar.specs.GoesOn.Escape.{BeginsEscape, escape_goes_on}
-use Rattle.litrs_grammar.specs.CharByte.{CharKind, char_kind, byte_kind, char_front, char_switches_of, CharItem, plain_char, escaped_char, char_item_text, is_char_item, IsCharLiteral}
+use Rattle.litrs_grammar.specs.CharByte.{CharItem, plain_char, escaped_char, char_item_text, is_char_item, IsCharLiteral}
 use Rattle.litrs_grammar.specs.Continuation.{BeginsBy}
 use Rattle.litrs_grammar.specs.Literal.{kind_parse, char_literal, byte_literal, Begins}
 use Rattle.litrs_grammar.proofs.Laws.CharByte.{same_char_item}
@@ -21,9 +25,7 @@ use Rattle.litrs_grammar.proofs.LongerTexts.CharByte.{completed, char_completed}
 use Rattle.litrs_grammar.proofs.LongerTexts.Escape.{refused_escape_begins}
 use Rattle.litrs_grammar.proofs.LongerTexts.Literal.{chain, back, begins_kind}
 use Rattle.litrs_grammar.proofs.LongerTexts.Suffix.{front_of, is_suffix-nil}
-use Rattle.litrs_lex.specs.CharCut.{kind_if}
-use Rattle.litrs_lex.specs.Unescaped.{switches, IsUnescaped, IsEscapeRefused}
-use Rattle.litrs_lex.proofs.CharByteBytes.{same_switches}
+use Rattle.litrs_lex.specs.Unescaped.{IsUnescaped, IsEscapeRefused}
 use Rattle.litrs.specs.Begins.{BeginsSuffix, BeginsClosing}
 use Rattle.litrs.proofs.Begins.{yes, no, answer_is}
 use Rattle.litrs.proofs.Escapes.{slash_chars}
@@ -175,35 +177,31 @@ other_after kind t s c same none other =
 
 -- and where it is a backslash, by what `unescape` answers
 
-pub escape_after : (is_byte : Bool) (bs rest : List ℕ) (value : Unescape) (len : ℕ) (b : Bool) →
-    IsUnescaped (switches (not is_byte) is_byte true) bs value len → rest ≡ drop len bs →
+pub escape_after : (kind : CharKind) (w : Switches) (bs rest : List ℕ) (value : Unescape) (len : ℕ)
+    (b : Bool) → w ≡ char_switches_of kind → IsUnescaped w bs value len → rest ≡ drop len bs →
     IsTrue b ↔ BeginsClosing (chars rest) →
-    IsTrue b ↔ BeginsBy (IsCharLiteral (kind_if is_byte)) (char_front (kind_if is_byte) ++ chars bs)
-escape_after is_byte bs rest value len b read is_rest is =
-    let kind = kind_if is_byte in
+    IsTrue b ↔ BeginsBy (IsCharLiteral kind) (char_front kind ++ chars bs)
+escape_after kind w bs rest value len b same read is_rest is =
     let after : chars rest ≡ read.rest = ap chars is_rest ∙ read.after in
     let item : is_char_item kind (escaped_char read.escape) ≡ true =
-    subst (λ (w : Switches). is_escape w read.escape ≡ true) (same_switches is_byte) read.grammar in
+    subst (λ (w : Switches). is_escape w read.escape ≡ true) same read.grammar in
     chain (subst (λ (l : List ℕ). IsTrue b ↔ BeginsClosing l) after is)
     (subst (λ (l : List ℕ). BeginsClosing read.rest ↔ BeginsAfter kind l) read.spells
     (item_begins kind (escaped_char read.escape) read.rest item))
 
-pub refused_after : (is_byte : Bool) (bs : List ℕ) (e : ParseError) (b : Bool) → IsUtf8 bs →
-    first_passes (λ c. c == 92) bs ≡ true →
-    IsEscapeRefused (switches (not is_byte) is_byte true) (chars bs) e →
-    b ≡ escape_goes_on (switches (not is_byte) is_byte true) (chars (drop 1 bs)) →
-    IsTrue b ↔ BeginsBy (IsCharLiteral (kind_if is_byte)) (char_front (kind_if is_byte) ++ chars bs)
-refused_after is_byte bs e b u first refused is =
-    let kind = kind_if is_byte in
+pub refused_after : (kind : CharKind) (w : Switches) (bs : List ℕ) (e : ParseError) (b : Bool) →
+    w ≡ char_switches_of kind → IsUtf8 bs → first_passes (λ c. c == 92) bs ≡ true →
+    IsEscapeRefused w (chars bs) e → b ≡ escape_goes_on w (chars (drop 1 bs)) →
+    IsTrue b ↔ BeginsBy (IsCharLiteral kind) (char_front kind ++ chars bs)
+refused_after kind v bs e b same u first refused is =
     let w = char_switches_of kind in
     let at = slash_chars bs u first in
     let t = chars (drop 1 bs) in
     let table : escape_refusal w (92 ∷ t) ≡ Some (refusal_of e) =
     ap (escape_refusal w) (sym at)
     ∙ subst (λ (w : Switches). escape_refusal w (chars bs) ≡ Some (refusal_of e))
-    (same_switches is_byte) refused.table in
-    answer_is b (escape_goes_on w t)
-    (is ∙ ap (λ (w : Switches). escape_goes_on w t) (same_switches is_byte))
+    same refused.table in
+    answer_is b (escape_goes_on w t) (is ∙ ap (λ (w : Switches). escape_goes_on w t) same)
     (subst (λ (l : List ℕ). (escape_goes_on w t ≡ true) ↔ BeginsAfter kind l) (sym at)
     (refused_item kind t (refusal_of e) table))
 

@@ -15,13 +15,15 @@ use Rattle.litrs_base.specs.declared.escape.Unescape.{Unescape}
 use Rattle.litrs_base.specs.Refusal.{refusal_of}
 use Rattle.litrs_base.specs.Text.{is_empty, first_passes}
 use Rattle.litrs_base.proofs.Chars.{OnlyAscii, chars_empty, chars_ascii, chars_wide, utf8_after_ascii, first_passes-chars, ascii_by_test, ascii_from_test}
-use Rattle.litrs_grammar.specs.Escape.{Switches, unicode_escape, escape_text, is_escape, escape_refusal, is_hex_or_underscore}
+use Rattle.litrs_base.specs.declared.quotes.Switches.{Switches}
+use Rattle.litrs_grammar.specs.Escape.{unicode_escape, escape_text, is_escape, escape_refusal, is_hex_or_underscore}
 use Rattle.litrs_grammar.specs.GoesOn.Escape.{BeginsEscape, escape_goes_on, hex_goes_on, braces_go_on, inner_goes_on}
 use Rattle.litrs_grammar.proofs.Laws.Escape.{same_escape}
 use Rattle.litrs_grammar.proofs.LongerTexts.Escape.{refused_escape_begins}
 use Rattle.litrs_grammar.proofs.LongerTexts.Literal.{back}
 use Rattle.litrs_lex.specs.declared.escape.HexDigits.{HexDigits}
-use Rattle.litrs_lex.specs.Unescaped.{IsUnescaped, IsEscapeRefused, IsHexDigits}
+use Rattle.litrs_lex.specs.Unescaped.{switches, IsUnescaped, IsEscapeRefused, IsHexDigits}
+use Rattle.litrs_lex.proofs.EscapeBytes.{unicode_on}
 use Rattle.litrs.proofs.Begins.{answer_is}
 use Rattle.litrs_lex.proofs.FloatBytes.{rest_is}
 
@@ -175,6 +177,17 @@ goes_on-chars w (b ∷ bs) u = elim (cases_lt b 128) [
     stops : (c : ℕ) (t : List ℕ) → 128 ≤ c → escape_goes_on w (c ∷ t) ≡ false
     stops c t high = or_from _ _ (and_left (c == 120) _ (wide_not c 120 (omega arith) high))
         (and_left (c == 117) _ (wide_not c 117 (omega arith) high))
+
+-- the answers of the parts do not depend on the other switches
+
+pub hex_by : (w : Switches) (b : Bool) (t : List ℕ) →
+    ((u n : Bool) → b ≡ hex_goes_on (switches u w.byte_escapes n) t) → b ≡ hex_goes_on w t
+hex_by w b t is = is w.unicode w.allow_nul
+
+pub braces_by : (w : Switches) (b : Bool) (t : List ℕ) → w.unicode ≡ true →
+    ((e : Bool) → b ≡ braces_go_on (switches true e w.allow_nul) t) → b ≡ braces_go_on w t
+braces_by w b t on is =
+    is w.byte_escapes ∙ ap (λ (v : Switches). braces_go_on v t) (sym (unicode_on w on))
 
 -- the backslash, and what stands after it
 

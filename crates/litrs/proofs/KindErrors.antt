@@ -14,15 +14,15 @@ use Rattle.litrs_base.proofs.ListTests.{if_false}
 use Rattle.litrs_grammar.specs.Literal.{Derivation, IsLiteral, LiteralKind, integer_literal, float_literal, c_string_literal, string_literal_of, literal_parse, kind_parse}
 use Rattle.litrs_grammar.specs.LiteralRefusals.{StringStart, refused_start, string_start, IsRefusalOfStart, Dispatch, refused_as, parsed_as, begins_float, dispatch, IsRefusalOfDispatch, IsRefusal}
 use Rattle.litrs_grammar.specs.Refused.{IsRefused, IsRefusedOrOutOfMemory}
-use Rattle.litrs_grammar.specs.StringKind.{c_string_kind}
+use Rattle.litrs_base.specs.declared.quotes.StringKind.TheVariants.{CString as c_string_kind}
+use Rattle.litrs_base.specs.declared.quotes.StringKind.{StringKind}
 use Rattle.litrs_grammar.proofs.Laws.Literal.{literals_are_unique}
 use Rattle.litrs_grammar.proofs.Refused.{is_refused}
 use Rattle.litrs_lex.specs.NumberCut.{number_kind}
 use Rattle.litrs_lex.proofs.NumberBytes.{kind_by_bytes}
 use Rattle.litrs_lex.specs.declared.kind.Front.{Front}
 use Rattle.litrs_lex.specs.declared.kind.Front.TheVariants as front
-use Rattle.litrs_lex.specs.declared.kind.StringKind.{StringKind as CodeKind}
-use Rattle.litrs_lex.specs.Front.{grammar_kind, row_of, IsFront}
+use Rattle.litrs_lex.specs.Front.{row_of, IsFront}
 use Rattle.litrs_lex.proofs.Dispatch.{is_empty-chars, dispatch-chars}
 use Rattle.litrs_lex.proofs.Fronts.{some_text}
 
@@ -55,8 +55,8 @@ kind_error_at kind bytes text e f u same is copy error =
     subst (IsRefusedOrOutOfMemory literal_parse (chars bytes)) (sym copy) (kind_error kind (chars bytes) e (row_at bytes text (parsed_as kind) u same is) error)
 
 -- what begins as a quoted or a raw string of a kind is dispatched to it
-pub string_row : (f : Front) (kind : CodeKind) (bs : List ℕ) → (f ≡ front.Quoted kind) ⊎ (f ≡ front.Raw kind) → row_of f bs ≡ dispatch bs →
-    parsed_as (string_literal_of (grammar_kind kind)) ≡ dispatch bs
+pub string_row : (f : Front) (kind : StringKind) (bs : List ℕ) → (f ≡ front.Quoted kind) ⊎ (f ≡ front.Raw kind) → row_of f bs ≡ dispatch bs →
+    parsed_as (string_literal_of kind) ≡ dispatch bs
 string_row f kind bs (inl quoted) row = sym (ap (λ (g : Front). row_of g bs) quoted) ∙ row
 string_row f kind bs (inr raw) row = sym (ap (λ (g : Front). row_of g bs) raw) ∙ row
 

@@ -8,10 +8,10 @@ use Rattle.litrs_base.specs.declared.err.ParseErrorKind.TheVariants.{OutOfMemory
 use Rattle.litrs_base.specs.Refusal.{plain, refusal_of}
 use Rattle.litrs_base.specs.Text.{begins_with}
 use Rattle.litrs_base.proofs.Begins.{begins_with-split}
-use Rattle.litrs_grammar.specs.StringKind.{c_string_kind}
+use Rattle.litrs_base.specs.declared.quotes.StringKind.TheVariants.{CString as c_string_kind}
+use Rattle.litrs_base.specs.Quotes.{quoted_front, raw_front}
 use Rattle.litrs_grammar.specs.Literal.{StringParts, quoted_parts, raw_parts, IsString, a_c_string, kind_parse, c_string_literal}
-use Rattle.litrs_grammar.specs.Quoted.{quoted_front}
-use Rattle.litrs_grammar.specs.Raw.{raw_front, is_nul}
+use Rattle.litrs_grammar.specs.Raw.{is_nul}
 use Rattle.litrs_grammar.specs.Strings.{is_raw}
 use Rattle.litrs_grammar.specs.Refused.{IsOutOfMemory}
 use Rattle.litrs_grammar.proofs.Laws.Value.{no_nul_in_c_strings}
@@ -19,23 +19,11 @@ use Rattle.litrs_lex.proofs.StringFronts.{quoted_begins, raw_begins}
 use Rattle.litrs.specs.declared.kept.KeptValue.{KeptValue}
 use Rattle.litrs.specs.CString.{has_nul}
 use Rattle.litrs.specs.StringLiteral.{kept_value}
-use Rattle.litrs.specs.ParsedStrings.{IsParsedString, IsParsedCString}
+use Rattle.litrs.specs.ParsedStrings.{IsParsedString}
 
 pub no_nul : (bs : List ℕ) (kept : KeptValue (List ℕ)) (start_suffix : ℕ) → IsParsedString c_string_kind bs kept start_suffix →
     IsFalse (has_nul (kept_value bs kept))
 no_nul bs kept start_suffix parsed = ap (list_any is_nul) parsed.at.is_value ∙ no_nul_in_c_strings (chars bs) parsed.parts parsed.derives
-
-pub parsed_c_string : (bs : List ℕ) (kept : KeptValue (List ℕ)) (v : List ℕ) (start_suffix : ℕ) → IsParsedString c_string_kind bs kept start_suffix →
-    v ≡ kept_value bs kept → IsParsedCString bs v start_suffix
-parsed_c_string bs kept v start_suffix parsed is = record {
-  parts = parsed.parts;
-  derives = parsed.derives;
-  at = record {
-    suffix_place = parsed.at.suffix_place;
-    suffix = parsed.at.suffix;
-    is_value = is ∙ parsed.at.is_value;
-  };
-}
 
 pub c_out_of_memory : (bs : List ℕ) (kept : KeptValue (List ℕ)) (start_suffix : ℕ) (e : ParseError) → IsParsedString c_string_kind bs kept start_suffix →
     refusal_of e ≡ plain OutOfMemory → IsOutOfMemory (kind_parse c_string_literal) (chars bs) e

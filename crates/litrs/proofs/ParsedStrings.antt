@@ -5,9 +5,11 @@ use Rattle.std.proofs.lemmas.Str.{encodes-chars, IsUtf8-between}
 use Rattle.litrs_base.specs.Derivations.{IsOnlyDerivation}
 use Rattle.litrs_base.specs.Text.{begins_with}
 use Rattle.litrs_base.proofs.Begins.{begins_with-split}
-use Rattle.litrs_grammar.specs.StringKind.{StringKind, c_string_kind, switches_of}
-use Rattle.litrs_grammar.specs.Quoted.{quoted_front, IsQuoted}
-use Rattle.litrs_grammar.specs.Raw.{raw_front, has_unicode, allows_nul}
+use Rattle.litrs_base.specs.declared.quotes.StringKind.{StringKind}
+use Rattle.litrs_base.specs.declared.quotes.StringKind.TheVariants.{CString as c_string_kind}
+use Rattle.litrs_base.specs.Quotes.{switches_of, quoted_front, raw_front}
+use Rattle.litrs_grammar.specs.Quoted.{IsQuoted}
+use Rattle.litrs_grammar.specs.Raw.{has_unicode, allows_nul}
 use Rattle.litrs_grammar.specs.Literal.{StringParts, quoted_parts, raw_parts, IsString}
 use Rattle.litrs_grammar.specs.Strings.{StringDerivation}
 use Rattle.litrs_grammar.proofs.Laws.Literal.{only_string}

@@ -11,7 +11,8 @@ use Rattle.litrs_base.specs.Refusal.{Refusal, plain, at, moved}
 use Rattle.litrs_base.specs.Text.{byte_len, begins_with}
 use Rattle.litrs_base.proofs.Begins.{begins_with-split}
 use Rattle.litrs_grammar.specs.Suffix.{is_suffix, suffix_refusal}
-use Rattle.litrs_grammar.specs.Escape.{Switches, escape_text}
+use Rattle.litrs_base.specs.declared.quotes.Switches.{Switches}
+use Rattle.litrs_grammar.specs.Escape.{escape_text}
 use Rattle.litrs_grammar.specs.GoesOn.Escape.{BeginsEscape}
 use Rattle.litrs_grammar.specs.Quoted.{Item, body_text, stand_before, rest_refusal, IsQuoted, IsQuotedRefusal}
 use Rattle.litrs_grammar.specs.GoesOn.Quoted.{RestGoesOn}

@@ -7,9 +7,11 @@ use Rattle.std.proofs.lemmas.Bool.{and_left, or_from, eqb-true, eq-eqb, ne_eqb, 
 use Rattle.std.proofs.lemmas.Str.{chars-nil}
 use Rattle.litrs_base.specs.Text.{is_empty, begins_with}
 use Rattle.litrs_base.proofs.Chars.{chars_ascii, chars_empty, begins_with-chars, utf8_after_ascii}
-use Rattle.litrs_grammar.specs.StringKind.{StringKind, string_kind, byte_string_kind, c_string_kind, switches_of}
-use Rattle.litrs_grammar.specs.Quoted.{quoted_front, IsQuoted}
-use Rattle.litrs_grammar.specs.Raw.{raw_front, has_unicode, allows_nul, IsRawOf, IsRawLiteral}
+use Rattle.litrs_base.specs.declared.quotes.StringKind.{StringKind}
+use Rattle.litrs_base.specs.declared.quotes.StringKind.TheVariants.{String as string_kind, ByteString as byte_string_kind, CString as c_string_kind}
+use Rattle.litrs_base.specs.Quotes.{switches_of, quoted_front, raw_front}
+use Rattle.litrs_grammar.specs.Quoted.{IsQuoted}
+use Rattle.litrs_grammar.specs.Raw.{has_unicode, allows_nul, IsRawOf, IsRawLiteral}
 use Rattle.litrs_grammar.specs.Continuation.{BeginsBy}
 use Rattle.litrs_grammar.specs.Literal.{IsString, string_literal, byte_string_literal, c_string_literal, literal_parse, kind_parse, Begins, string_literal_of}
 use Rattle.litrs_grammar.specs.LiteralRefusals.{parsed_as, dispatch, refused_start, quoted_start, raw_start, string_start, string_start_refusal}

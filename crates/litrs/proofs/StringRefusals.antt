@@ -9,9 +9,11 @@ use Rattle.litrs_base.specs.Text.{is_empty, begins_with}
 use Rattle.litrs_base.proofs.Begins.{begins_with-split}
 use Rattle.litrs_base.proofs.CharEnds.{no_span}
 use Rattle.litrs_base.proofs.ListTests.{if_false}
-use Rattle.litrs_grammar.specs.StringKind.{StringKind, string_kind, byte_string_kind, c_string_kind, switches_of}
-use Rattle.litrs_grammar.specs.Quoted.{quoted_front, IsQuoted, IsQuotedRefusal}
-use Rattle.litrs_grammar.specs.Raw.{raw_front, has_unicode, allows_nul, raw_refusal}
+use Rattle.litrs_base.specs.declared.quotes.StringKind.{StringKind}
+use Rattle.litrs_base.specs.declared.quotes.StringKind.TheVariants.{String as string_kind, ByteString as byte_string_kind, CString as c_string_kind}
+use Rattle.litrs_base.specs.Quotes.{switches_of, quoted_front, raw_front}
+use Rattle.litrs_grammar.specs.Quoted.{IsQuoted, IsQuotedRefusal}
+use Rattle.litrs_grammar.specs.Raw.{has_unicode, allows_nul, raw_refusal}
 use Rattle.litrs_grammar.specs.Literal.{StringParts, quoted_parts, Derivation, a_string, a_byte_string, a_c_string, IsString, kind_parse, IsLiteralOf, string_literal_of}
 use Rattle.litrs_grammar.specs.LiteralRefusals.{StringStart, refused_start, quoted_start, raw_start, string_start, string_start_refusal, IsRefusalOfStart, IsStringRefusal, IsKindRefusal}
 use Rattle.litrs_grammar.specs.Allocation.{has_escapes, allocates}

@@ -16,7 +16,7 @@ use Rattle.litrs_grammar.specs.LiteralRefusals.{refused_as, parsed_as, dispatch}
 use Rattle.litrs_grammar.specs.Bool.{bool_text}
 use Rattle.litrs_base.proofs.Begins.{begins_with-split}
 use Rattle.litrs_grammar.specs.GoesOn.Unnamed.{unnamed_goes_on}
-use Rattle.litrs_grammar.specs.StringKind.{c_string_kind}
+use Rattle.litrs_base.specs.declared.quotes.StringKind.TheVariants.{CString as c_string_kind}
 use Rattle.litrs_grammar.proofs.Laws.Bool.{chars-bool_text}
 use Rattle.litrs_grammar.proofs.LongerTexts.Dispatch.{unnamed_begins}
 use Rattle.litrs_grammar.proofs.LongerTexts.Literal.{back}

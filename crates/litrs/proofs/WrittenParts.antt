@@ -7,10 +7,11 @@ use Rattle.std.proofs.lemmas.Bool.{ltb-true, ltb-false, lt-ltb, le-ltb}
 use Rattle.std.proofs.lemmas.List.{length-map}
 use Rattle.litrs_base.specs.Derivations.{IsOnlyDerivation}
 use Rattle.litrs_base.specs.Numeral.{place_sum, is_no_underscore, numeral}
-use Rattle.litrs_grammar.specs.StringKind.{string_kind, byte_string_kind, c_string_kind}
+use Rattle.litrs_base.specs.declared.quotes.StringKind.TheVariants.{String as string_kind, ByteString as byte_string_kind, CString as c_string_kind}
+use Rattle.litrs_base.specs.declared.quotes.CharKind.TheVariants.{Char as char_kind, Byte as byte_kind}
 use Rattle.litrs_grammar.specs.Integer.{IntegerParts, integer_text, IsInteger}
 use Rattle.litrs_grammar.specs.Float.{FloatParts, float_text, IsFloat}
-use Rattle.litrs_grammar.specs.CharByte.{CharParts, char_kind, byte_kind, char_text}
+use Rattle.litrs_grammar.specs.CharByte.{CharParts, char_text}
 use Rattle.litrs_grammar.specs.Literal.{StringParts, IsLiteral, an_integer, a_float, a_char, a_byte, a_string, a_byte_string, a_c_string}
 use Rattle.litrs_grammar.specs.LiteralText.{string_text, AreCharParts, AreStringParts}
 use Rattle.litrs_grammar.proofs.LiteralTexts.{literals_parse_back}

@@ -1,6 +1,7 @@
 -- What a char or a byte literal holds.
 use Rattle.std.specs.Prelude.{ℕ, List}
-use Rattle.litrs_grammar.specs.CharByte.{char_kind, byte_kind, CharParts}
+use Rattle.litrs_base.specs.declared.quotes.CharKind.TheVariants.{Char as char_kind, Byte as byte_kind}
+use Rattle.litrs_grammar.specs.CharByte.{CharParts}
 use Rattle.litrs_lex.specs.CharCut.{char_parts_at}
 
 -- its buffer, the bytes of its text, its value, and where its suffix starts

@@ -25,6 +25,7 @@ pub use Rattle.litrs_base.specs.FloatTypes
 pub use Rattle.litrs_base.specs.IntegerTypes
 pub use Rattle.litrs_base.specs.Kind
 pub use Rattle.litrs_base.specs.Numeral
+pub use Rattle.litrs_base.specs.Quotes
 pub use Rattle.litrs_base.specs.Refusal
 pub use Rattle.litrs_base.specs.Text
 -- the grammar, and what a refusal means
@@ -42,6 +43,5 @@ pub use Rattle.litrs_grammar.specs.LiteralText
 pub use Rattle.litrs_grammar.specs.Quoted
 pub use Rattle.litrs_grammar.specs.Raw
 pub use Rattle.litrs_grammar.specs.Refused
-pub use Rattle.litrs_grammar.specs.StringKind
 pub use Rattle.litrs_grammar.specs.Strings
 pub use Rattle.litrs_grammar.specs.Suffix

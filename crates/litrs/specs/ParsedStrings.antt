@@ -1,8 +1,9 @@
 -- What the parse of a text as a string answers.
 use Rattle.std.specs.Prelude.{ℕ, Bool, List, take, drop}
 use Rattle.std.specs.Str.{chars}
-use Rattle.litrs_grammar.specs.Escape.{Switches}
-use Rattle.litrs_grammar.specs.StringKind.{StringKind, c_string_kind}
+use Rattle.litrs_base.specs.declared.quotes.Switches.{Switches}
+use Rattle.litrs_base.specs.declared.quotes.StringKind.{StringKind}
+use Rattle.litrs_base.specs.declared.quotes.StringKind.TheVariants.{CString as c_string_kind}
 use Rattle.litrs_grammar.specs.Quoted.{QuotedParts, IsQuoted}
 use Rattle.litrs_grammar.specs.Raw.{RawParts, IsRawOf}
 use Rattle.litrs_grammar.specs.Literal.{StringParts, quoted_parts, raw_parts, IsString}

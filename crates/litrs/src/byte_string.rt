@@ -4,7 +4,7 @@ ghost use Rattle.std.specs.Cmp.{on_per, on_equiv, partial_equiv_from_equiv};
 ghost use Rattle.std.specs.Cmp.Lexicographic.{pointwise, nat_list_eq_equiv};
 ghost use Rattle.std.specs.Str.{chars};
 ghost use Rattle.litrs_base.specs.Derivations.{IsOnlyDerivation};
-ghost use Rattle.litrs_grammar.specs.StringKind.{byte_string_kind};
+ghost use Rattle.litrs_base.specs.declared.quotes.StringKind.TheVariants.{ByteString as byte_string_kind};
 ghost use Rattle.litrs_grammar.specs.Literal.{IsString, string_suffix, string_value, kind_parse, byte_string_literal};
 ghost use Rattle.litrs_grammar.specs.Allocation.{has_escapes};
 ghost use Rattle.litrs_grammar.specs.Strings.{StringDerivation, is_raw};

@@ -5,7 +5,7 @@ ghost use Rattle.std.specs.Cmp.Lexicographic.{pointwise, nat_list_eq_equiv};
 ghost use Rattle.std.specs.Str.{chars};
 ghost use Rattle.litrs_base.specs.Derivations.{IsOnlyDerivation};
 ghost use Rattle.litrs_base.specs.Characters.{nul};
-ghost use Rattle.litrs_grammar.specs.StringKind.{c_string_kind};
+ghost use Rattle.litrs_base.specs.declared.quotes.StringKind.TheVariants.{CString as c_string_kind};
 ghost use Rattle.litrs_grammar.specs.Literal.{IsString, string_suffix, string_value, kind_parse, c_string_literal};
 ghost use Rattle.litrs_grammar.specs.Strings.{StringDerivation, is_raw};
 ghost use Rattle.litrs_grammar.specs.Refused.{IsRefusedOrOutOfMemory};

@@ -5,10 +5,10 @@ ghost use Rattle.litrs_base.specs.Refusal.{refusal_of, HasCharSpan};
 ghost use Rattle.litrs_grammar.specs.Literal.{kind_parse, string_literal_of};
 ghost use Rattle.litrs_grammar.specs.LiteralRefusals.{string_start_refusal};
 ghost use Rattle.litrs_grammar.specs.Refused.{IsRefusedOrOutOfMemory};
-ghost use Rattle.litrs_grammar.specs.StringKind.{switches_of};
+ghost use Rattle.litrs_base.specs.Quotes.{switches_of};
 ghost use Rattle.litrs_lex.specs.QuotedCut.{IsQuotedRefused, IsQuotedOutOfMemory};
 ghost use Rattle.litrs_lex.specs.RawCut.{IsRawRefused};
-ghost use Rattle.litrs_lex.specs.Front.{grammar_kind, IsFront};
+ghost use Rattle.litrs_lex.specs.Front.{IsFront};
 ghost use Rattle.litrs.specs.ParsedStrings.{IsParsedQuoted, IsParsedRaw, IsParsedString};
 ghost use Rattle.litrs.specs.StringLiteral.{kept_map};
 
@@ -30,12 +30,12 @@ pub(crate) fn read_string<C: EscapeContainer, A: Allows>(
     front: Front,
 ) -> Result<(KeptValue<C>, usize), ParseError>
     requires front { IsFront front input.now }
-    requires same { A.allowed allowed ≡ switches_of (grammar_kind kind) }
+    requires same { A.allowed allowed ≡ switches_of kind }
     requires fits { IsTrue (not (A.allowed allowed).byte_escapes || C.TAKES_BYTES) }
     ensures ok { IfOk result (λ parsed.
-        IsParsedString (grammar_kind kind) input.now (kept_map C.contents parsed.0) parsed.1) }
+        IsParsedString kind input.now (kept_map C.contents parsed.0) parsed.1) }
     ensures refused { IfErr result (IsRefusedOrOutOfMemory
-        (kind_parse (string_literal_of (grammar_kind kind))) (chars input.now)) }
+        (kind_parse (string_literal_of kind)) (chars input.now)) }
 {
     let offset = kind.front_len();
     match front {
@@ -51,7 +51,7 @@ pub(crate) fn read_string<C: EscapeContainer, A: Allows>(
 
 /// Why a text that is not empty, and begins with neither front of the kind, is no string of it.
 fn start_refusal(input: &str, kind: StringKind) -> ParseError
-    ensures refusal { refusal_of result ≡ string_start_refusal (grammar_kind kind) }
+    ensures refusal { refusal_of result ≡ string_start_refusal kind }
     ensures char_span { HasCharSpan (chars input.now) result }
 {
     match kind {

@@ -79,7 +79,7 @@ ghost use Rattle.litrs_grammar.specs.Literal.{IsLiteral, suffix_of, literal_pars
 ghost use Rattle.litrs_grammar.specs.Allocation.{allocates};
 ghost use Rattle.litrs_grammar.specs.LiteralRefusals.{IsRefusal};
 ghost use Rattle.litrs_grammar.specs.Refused.{IsRefused, IsRefusedOrOutOfMemory};
-ghost use Rattle.litrs_lex.specs.Front.{grammar_kind, IsFront};
+ghost use Rattle.litrs_lex.specs.Front.{IsFront};
 ghost use Rattle.litrs_lex.specs.NumberCut.{number_kind};
 ghost use Rattle.litrs.specs.LiteralDerivation.{literal_raw, derivation};
 
@@ -200,7 +200,7 @@ impl<B: Text> Literal<B> {
         ensures raw { IfOk result (λ lit. literal_raw lit ≡ B.bytes input) }
         ensures literal { IfOk result (λ lit. IsLiteral (chars (B.bytes input)) (derivation lit)) }
         ensures refused { IfErr result (IsRefusedOrOutOfMemory
-            (kind_parse (string_literal_of (grammar_kind kind))) (chars (B.bytes input))) }
+            (kind_parse (string_literal_of kind)) (chars (B.bytes input))) }
     {
         match kind {
             StringKind::String => {

@@ -8,6 +8,7 @@ pub mod Kind
 pub mod Finality
 pub mod Refusal
 pub mod Unescape
+pub mod Quotes
 -- numbers
 pub mod Base
 pub mod Numeral

@@ -7,6 +7,7 @@ pub use escape::Unescape;
 pub use float::FloatType;
 pub use from_integer_literal::FromIntegerLiteral;
 pub use integer::{IntegerBase, IntegerType};
+pub use quotes::{CharKind, StringKind, Switches};
 
 pub mod buffer;
 pub mod err;
@@ -14,3 +15,4 @@ pub mod escape;
 pub mod float;
 pub mod from_integer_literal;
 pub mod integer;
+pub mod quotes;

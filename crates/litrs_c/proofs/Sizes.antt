@@ -7,12 +7,15 @@ use Rattle.litrs_base.specs.declared.integer.IntegerBase.TheVariants.{Binary, Oc
 use Rattle.litrs_base.specs.Base.{prefix}
 use Rattle.litrs_base.specs.Text.{byte_len}
 use Rattle.litrs_base.proofs.Spans.{byte_len-append}
-use Rattle.litrs_grammar.specs.CharByte.{char_kind, byte_kind, char_front, char_item_text}
+use Rattle.litrs_base.specs.declared.quotes.CharKind.TheVariants.{Char as char_kind, Byte as byte_kind}
+use Rattle.litrs_base.specs.Quotes.{char_front, quoted_front, raw_front}
+use Rattle.litrs_base.specs.declared.quotes.StringKind.{StringKind}
+use Rattle.litrs_base.specs.declared.quotes.StringKind.TheVariants.{String as string_kind, ByteString as byte_string_kind, CString as c_string_kind}
+use Rattle.litrs_grammar.specs.CharByte.{char_item_text}
 use Rattle.litrs_grammar.specs.Float.{fraction_text}
 use Rattle.litrs_grammar.specs.Literal.{StringParts, quoted_parts, raw_parts, IsString, string_suffix, Derivation, a_bool, an_integer, a_float, a_char, a_byte, a_string, a_byte_string, a_c_string, IsLiteral, suffix_of}
-use Rattle.litrs_grammar.specs.Quoted.{quoted_front, body_text}
-use Rattle.litrs_grammar.specs.Raw.{raw_front, hashes, raw_closing}
-use Rattle.litrs_grammar.specs.StringKind.{StringKind, string_kind, byte_string_kind, c_string_kind}
+use Rattle.litrs_grammar.specs.Quoted.{body_text}
+use Rattle.litrs_grammar.specs.Raw.{hashes, raw_closing}
 
 -- the bytes of a text are as many as its characters take
 pub length-chars : (bytes t : List ℕ) → IsUtf8 bytes → chars bytes ≡ t → length bytes ≡ byte_len t

@@ -11,13 +11,16 @@ use Rattle.litrs_base.specs.Base.{is_digit, is_digit_or_underscore}
 use Rattle.litrs_base.specs.Numeral.{place_sum}
 use Rattle.litrs_base.specs.Text.{byte_len, first_passes, is_empty}
 use Rattle.litrs_grammar.specs.Suffix.{is_suffix}
-use Rattle.litrs_grammar.specs.Escape.{Switches, escape_refusal}
+use Rattle.litrs_base.specs.declared.quotes.Switches.{Switches}
+use Rattle.litrs_base.specs.declared.quotes.CharKind.{CharKind}
+use Rattle.litrs_base.specs.declared.quotes.StringKind.{StringKind}
+use Rattle.litrs_base.specs.Quotes.{raw_front}
+use Rattle.litrs_grammar.specs.Escape.{escape_refusal}
 use Rattle.litrs_grammar.specs.Quoted.{Item, body_text, is_body, QuotedParts, quoted_text, IsQuoted, stand_before, rest_refusal, IsQuotedRefusal}
-use Rattle.litrs_grammar.specs.CharByte.{CharKind, CharParts, char_text, is_char_item, IsCharLiteral, char_kind_refusal}
+use Rattle.litrs_grammar.specs.CharByte.{CharParts, char_text, is_char_item, IsCharLiteral, char_kind_refusal}
 use Rattle.litrs_grammar.specs.Integer.{is_e, has_prefix, IntegerParts, integer_text, IsIntegerOf, integer_cut, integer_refusal}
 use Rattle.litrs_grammar.specs.Float.{FloatParts, float_text, is_underscore, is_exponent, is_decimal_literal, is_float_form, IsFloatOf, float_cut, float_refusal}
-use Rattle.litrs_grammar.specs.StringKind.{StringKind}
-use Rattle.litrs_grammar.specs.Raw.{RawParts, raw_front, raw_text, raw_closing, occurs, is_raw_char, has_unicode, allows_nul, IsRawLiteral, raw_body_refusal, raw_refusal}
+use Rattle.litrs_grammar.specs.Raw.{RawParts, raw_text, raw_closing, occurs, is_raw_char, has_unicode, allows_nul, IsRawLiteral, raw_body_refusal, raw_refusal}
 use Rattle.litrs_grammar.specs.LiteralRefusals.{dispatch}
 
 unfoldable pub computing : Unit {0}

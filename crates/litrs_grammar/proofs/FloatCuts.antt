@@ -18,9 +18,6 @@ letter_decimal c h = grind (arith, nat_tests)
 pub letter_period : (c : ℕ) → is_e c ≡ true → is_period c ≡ false
 letter_period c h = grind (arith, nat_tests)
 
-pub sign_decimal : (c : ℕ) → is_sign c ≡ true → is_decimal_char c ≡ false
-sign_decimal c h = grind (arith, nat_tests)
-
 pub decimal_sign : (c : ℕ) → is_decimal_char c ≡ true → is_sign c ≡ false
 decimal_sign c h = grind (arith, nat_tests)
 

@@ -7,7 +7,8 @@ use Rattle.std.proofs.lemmas.Bool.{and_parts, and_from, both_ways, not-true}
 use Rattle.std.proofs.lemmas.Bool.Decides.{nat_tests}
 use Rattle.std.proofs.lemmas.List.Folds.{list_all-append as all-append}
 use Rattle.litrs_grammar.specs.Suffix.{is_suffix}
-use Rattle.litrs_grammar.specs.Escape.{Switches, Escape, simple_escape, hex_escape, unicode_escape, escape_text, is_escape, is_simple, allows_value, allows_byte, pair_value, is_hex_or_underscore}
+use Rattle.litrs_base.specs.declared.quotes.Switches.{Switches}
+use Rattle.litrs_grammar.specs.Escape.{Escape, simple_escape, hex_escape, unicode_escape, escape_text, is_escape, is_simple, allows_value, allows_byte, pair_value, is_hex_or_underscore}
 use Rattle.litrs_base.proofs.Runs.{last_passes, is_line_feed, line_feed_last, list_all-weaken, list_all-append}
 use Rattle.litrs_grammar.proofs.SuffixStart.{suffix_continues, not_line_feed}
 use Rattle.litrs_grammar.proofs.Laws.Escape.{inner_of}

@@ -1,8 +1,11 @@
 -- Literals are written as their parts are, and parts parse back.
 use Rattle.std.proofs.Common.{◌≡◌, ℕ, List, ◌++◌, ◌∷◌, refl, ap}
 use Rattle.std.specs.Prelude.{◌↔◌}
-use Rattle.litrs_grammar.specs.StringKind.{StringKind, string_kind, byte_string_kind, c_string_kind}
-use Rattle.litrs_grammar.specs.CharByte.{CharKind, char_kind, byte_kind, CharParts, char_text, IsCharLiteral}
+use Rattle.litrs_base.specs.declared.quotes.StringKind.{StringKind}
+use Rattle.litrs_base.specs.declared.quotes.StringKind.TheVariants.{String as string_kind, ByteString as byte_string_kind, CString as c_string_kind}
+use Rattle.litrs_base.specs.declared.quotes.CharKind.{CharKind}
+use Rattle.litrs_base.specs.declared.quotes.CharKind.TheVariants.{Char as char_kind, Byte as byte_kind}
+use Rattle.litrs_grammar.specs.CharByte.{CharParts, char_text, IsCharLiteral}
 use Rattle.litrs_grammar.specs.Literal.{StringParts, quoted_parts, raw_parts, IsString, a_bool, an_integer, a_float, a_char, a_byte, a_string, a_byte_string, a_c_string, IsLiteral}
 use Rattle.litrs_grammar.specs.LiteralText.{string_text, literal_text, AreCharParts, AreStringParts}
 use Rattle.litrs_grammar.specs.Laws.Continuation.{LiteralsAreWritten, LiteralsParseBack, JoinedBodiesAreQuoted}

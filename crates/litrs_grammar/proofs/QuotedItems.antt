@@ -10,7 +10,8 @@ use Rattle.litrs_base.proofs.Runs.{last_passes, is_line_feed, last_passes-append
 use Rattle.litrs_grammar.proofs.SuffixStart.{suffix_last}
 use Rattle.litrs_grammar.specs.Suffix.{is_suffix}
 use Rattle.litrs_base.specs.Text.{is_empty, first_passes}
-use Rattle.litrs_grammar.specs.Escape.{Switches, Escape, simple_escape, hex_escape, unicode_escape, escape_text, is_escape, is_simple, escape_refusal, allows_value}
+use Rattle.litrs_base.specs.declared.quotes.Switches.{Switches}
+use Rattle.litrs_grammar.specs.Escape.{Escape, simple_escape, hex_escape, unicode_escape, escape_text, is_escape, is_simple, escape_refusal, allows_value}
 use Rattle.litrs_grammar.specs.Quoted.{Item, plain_item, escape_item, continuation, item_text, is_item, is_plain, body_text, is_body, takes_all_blanks, is_taken_before, stand_before, without_last, backslash_refusal, rest_refusal}
 use Rattle.litrs_base.proofs.ListTests.{unless_none, none_if, none_unless, if_true, if_false}
 use Rattle.litrs_base.proofs.Spans.{none_from}

@@ -4,10 +4,12 @@ use Rattle.std.specs.List.{list_any}
 use Rattle.std.specs.Option.{ForSome}
 use Rattle.std.proofs.lemmas.Bool.{true≢false}
 use Rattle.std.proofs.lemmas.List.{append_cancel_left}
-use Rattle.litrs_grammar.specs.StringKind.{StringKind, string_kind, byte_string_kind, c_string_kind}
+use Rattle.litrs_base.specs.declared.quotes.StringKind.{StringKind}
+use Rattle.litrs_base.specs.declared.quotes.StringKind.TheVariants.{String as string_kind, ByteString as byte_string_kind, CString as c_string_kind}
+use Rattle.litrs_base.specs.Quotes.{raw_front}
 use Rattle.litrs_base.specs.Refusal.{IsInText}
 use Rattle.litrs_base.specs.Text.{byte_len, begins_with}
-use Rattle.litrs_grammar.specs.Raw.{is_nul, raw_value, RawParts, raw_text, IsRawOf, raw_front, has_unicode, allows_nul, IsRawLiteral, raw_refusal, raw_literal_refusal}
+use Rattle.litrs_grammar.specs.Raw.{is_nul, raw_value, RawParts, raw_text, IsRawOf, has_unicode, allows_nul, IsRawLiteral, raw_refusal, raw_literal_refusal}
 use Rattle.litrs_base.proofs.Runs.{last_passes, is_line_feed, line_feed_last}
 use Rattle.litrs_base.proofs.Spans.{byte_len_ascii}
 use Rattle.litrs_base.proofs.Begins.{begins_with-split}

@@ -7,13 +7,18 @@ use Rattle.litrs_base.specs.declared.err.ParseErrorKind.TheVariants.{Empty, Inva
 use Rattle.litrs_base.specs.Refusal.{Refusal, plain, moved}
 use Rattle.litrs_grammar.specs.Suffix.{is_ascii_symbol, suffix_refusal}
 use Rattle.litrs_base.specs.Text.{first_passes}
-use Rattle.litrs_grammar.specs.StringKind.{StringKind, string_kind, byte_string_kind, c_string_kind, switches_of}
+use Rattle.litrs_base.specs.declared.quotes.StringKind.{StringKind}
+use Rattle.litrs_base.specs.declared.quotes.StringKind.TheVariants.{String as string_kind, ByteString as byte_string_kind, CString as c_string_kind}
+use Rattle.litrs_base.specs.Quotes.{switches_of, quoted_front}
+use Rattle.litrs_base.specs.declared.quotes.Switches.{Switches}
+use Rattle.litrs_base.specs.declared.quotes.CharKind.{CharKind}
+use Rattle.litrs_base.specs.declared.quotes.CharKind.TheVariants.{Char as char_kind, Byte as byte_kind}
 use Rattle.litrs_grammar.specs.Bool.{is_bool, bool_refusal}
 use Rattle.litrs_grammar.specs.Integer.{integer_refusal}
 use Rattle.litrs_grammar.specs.Float.{float_refusal}
-use Rattle.litrs_grammar.specs.Escape.{Switches, hex_refusal, inner_refusal, unicode_refusal, escape_refusal}
-use Rattle.litrs_grammar.specs.CharByte.{CharKind, char_kind, byte_kind, unterminated_kind, empty_kind, overlong_kind, start_refusal, closing_refusal, char_item_refusal, char_kind_refusal}
-use Rattle.litrs_grammar.specs.Quoted.{quoted_front, backslash_refusal, rest_refusal, IsQuotedRefusal}
+use Rattle.litrs_grammar.specs.Escape.{hex_refusal, inner_refusal, unicode_refusal, escape_refusal}
+use Rattle.litrs_grammar.specs.CharByte.{unterminated_kind, empty_kind, overlong_kind, start_refusal, closing_refusal, char_item_refusal, char_kind_refusal}
+use Rattle.litrs_grammar.specs.Quoted.{backslash_refusal, rest_refusal, IsQuotedRefusal}
 use Rattle.litrs_grammar.specs.Raw.{raw_char_refusal, raw_body_refusal, raw_refusal, raw_literal_refusal}
 use Rattle.litrs_grammar.specs.Literal.{LiteralKind, bool_literal, integer_literal, float_literal, char_literal, byte_literal, string_literal, byte_string_literal, c_string_literal, literal_parse, kind_parse}
 use Rattle.litrs_grammar.specs.LiteralRefusals.{StringStart, refused_start, quoted_start, raw_start, string_start, string_start_refusal, IsRefusalOfStart, IsKindRefusal, Dispatch, refused_as, parsed_as, dispatch, IsRefusalOfDispatch}

@@ -1,29 +1,17 @@
 -- Chars and bytes. The Rust Reference, Tokens, Literals: "Character literals" and "Byte literals".
 use Rattle.std.specs.Prelude.{◌≡◌, ℕ, ◌+◌, Bool, true, not, ◌==◌, ◌&&◌, ◌||◌, if◌then◌else◌, List, [], ◌∷◌, ◌++◌, Option, Some, None, IsTrue, length, take, drop, slice_index, option_map, is_some}
 use Rattle.std.specs.List.{list_any, position_or_len}
+use Rattle.litrs_base.specs.declared.quotes.CharKind.{CharKind}
+use Rattle.litrs_base.specs.declared.quotes.CharKind.TheVariants.{Char as char_kind, Byte as byte_kind}
+use Rattle.litrs_base.specs.Quotes.{char_front, char_switches_of}
 use Rattle.litrs_base.specs.Unescape.{unescaped_number}
 use Rattle.litrs_base.specs.Refusal.{Refusal, plain, at, moved}
 use Rattle.litrs_base.specs.declared.err.ParseErrorKind.{ParseErrorKind}
 use Rattle.litrs_base.specs.declared.err.ParseErrorKind.TheVariants.{Empty, DoesNotStartWithQuote, InvalidByteLiteralStart, UnterminatedCharLiteral, UnterminatedByteLiteral, UnescapedSingleQuote, EmptyCharLiteral, EmptyByteLiteral, UnescapedSpecialWhitespace, NonAsciiInByteLiteral, OverlongCharLiteral, OverlongByteLiteral}
-use Rattle.litrs_base.specs.Characters.{line_feed, tab, carriage_return, single_quote, backslash, letter_b, letter_x, letter_u, close_brace, is_ascii}
-use Rattle.litrs_grammar.specs.Escape.{Switches, char_switches, byte_switches, Escape, escape_text, escape_value, is_escape, escape_refusal}
+use Rattle.litrs_base.specs.Characters.{line_feed, tab, carriage_return, single_quote, backslash, letter_x, letter_u, close_brace, is_ascii}
+use Rattle.litrs_grammar.specs.Escape.{Escape, escape_text, escape_value, is_escape, escape_refusal}
 use Rattle.litrs_grammar.specs.Suffix.{is_suffix, suffix_refusal}
 use Rattle.litrs_base.specs.Text.{byte_len, first_passes, begins_with}
-
--- The two kinds.
-pub data CharKind : Type 0 where
-  char_kind : CharKind
-  byte_kind : CharKind
-
--- what stands before the character: `'` or `b'`
-abbrev pub char_front : CharKind → List ℕ
-char_front char_kind = single_quote ∷ []
-char_front byte_kind = letter_b ∷ single_quote ∷ []
-
--- what a kind allows in its escapes
-abbrev pub char_switches_of : CharKind → Switches
-char_switches_of char_kind = char_switches
-char_switches_of byte_kind = byte_switches
 
 -- What stands between the quotes: one character that stands for itself, or one escape.
 pub data CharItem : Type 0 where

@@ -5,9 +5,11 @@ use Rattle.litrs_base.specs.declared.err.ParseErrorKind.TheVariants.{Unterminate
 use Rattle.litrs_base.specs.Characters.{double_quote}
 use Rattle.litrs_base.specs.Refusal.{Refusal}
 use Rattle.litrs_base.specs.Text.{begins_with}
-use Rattle.litrs_grammar.specs.StringKind.{StringKind, string_kind, byte_string_kind, c_string_kind}
-use Rattle.litrs_grammar.specs.Quoted.{quoted_front, body_text}
-use Rattle.litrs_grammar.specs.Raw.{raw_front, raw_closing, hashes, hash_len}
+use Rattle.litrs_base.specs.declared.quotes.StringKind.{StringKind}
+use Rattle.litrs_base.specs.declared.quotes.StringKind.TheVariants.{String as string_kind, ByteString as byte_string_kind, CString as c_string_kind}
+use Rattle.litrs_base.specs.Quotes.{quoted_front, raw_front}
+use Rattle.litrs_grammar.specs.Quoted.{body_text}
+use Rattle.litrs_grammar.specs.Raw.{raw_closing, hashes, hash_len}
 use Rattle.litrs_grammar.specs.Literal.{StringParts, quoted_parts, raw_parts, string_suffix, Derivation, a_string, a_byte_string, a_c_string}
 
 -- what follows the front `r`, `br` or `cr` of a text that begins with one of them

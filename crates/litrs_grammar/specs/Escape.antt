@@ -1,7 +1,7 @@
 -- Escapes. The Rust Reference, Tokens, Literals: the tables "Quote escapes", "ASCII escapes",
 -- "Byte escapes" and "Unicode escapes", and which of them each literal has, under
 -- "Character escapes", "Byte literals", "Byte string literals" and "C string literals".
-use Rattle.std.specs.Prelude.{ℕ, ◌+◌, ◌*◌, Bool, true, false, not, ◌==◌, ◌&&◌, ◌||◌, nat_lt, nat_le, if◌then◌else◌, List, [], ◌∷◌, ◌++◌, Option, Some, None, IsTrue, length, slice_index, drop, zero, suc, count_by, take_while, encode_utf8}
+use Rattle.std.specs.Prelude.{ℕ, ◌+◌, ◌*◌, Bool, false, not, ◌==◌, ◌&&◌, ◌||◌, nat_lt, nat_le, if◌then◌else◌, List, [], ◌∷◌, ◌++◌, Option, Some, None, IsTrue, length, slice_index, drop, zero, suc, count_by, take_while, encode_utf8}
 use Rattle.std.specs.Char.{is_ascii_hexdigit, digit_value}
 use Rattle.std.specs.List.{list_all, list_any, before_first}
 use Rattle.litrs_base.specs.declared.escape.Unescape.{Unescape}
@@ -10,29 +10,8 @@ use Rattle.litrs_base.specs.Refusal.{Refusal, at, over}
 use Rattle.litrs_base.specs.declared.err.ParseErrorKind.TheVariants.{UnterminatedEscape, DisallowedNulEscape, InvalidXEscape, NonAsciiXEscape, UnicodeEscapeInByteLiteral, UnicodeEscapeWithoutBrace, UnterminatedUnicodeEscape, InvalidStartOfUnicodeEscape, NonHexDigitInUnicodeEscape, TooManyDigitInUnicodeEscape, InvalidUnicodeEscapeChar, UnknownEscape}
 use Rattle.litrs_base.specs.Characters.{line_feed, tab, carriage_return, nul, single_quote, double_quote, backslash, digit_zero, underscore, letter_n, letter_r, letter_t, letter_u, letter_x, open_brace, close_brace, is_ascii, is_scalar, is_no_nul_unless}
 use Rattle.litrs_base.specs.Numeral.{numeral}
+use Rattle.litrs_base.specs.declared.quotes.Switches.{Switches}
 use Rattle.litrs_base.specs.Text.{is_empty, byte_len, first_passes}
-
--- What a literal allows in its escapes: `\u{..}`; `\x` above 7F; the value 0. Below is what each
--- kind allows.
-pub record Switches : Type 0 where
-  pub unicode : Bool
-  pub byte_escapes : Bool
-  pub allow_nul : Bool
-
-abbrev pub char_switches : Switches
-char_switches = record { unicode = true; byte_escapes = false; allow_nul = true }
-
-abbrev pub byte_switches : Switches
-byte_switches = record { unicode = false; byte_escapes = true; allow_nul = true }
-
-abbrev pub string_switches : Switches
-string_switches = record { unicode = true; byte_escapes = false; allow_nul = true }
-
-abbrev pub byte_string_switches : Switches
-byte_string_switches = record { unicode = false; byte_escapes = true; allow_nul = true }
-
-abbrev pub c_string_switches : Switches
-c_string_switches = record { unicode = true; byte_escapes = true; allow_nul = false }
 
 -- An escape: a backslash and one character, `\x` and two digits, or `\u{..}` by what stands between
 -- the braces.

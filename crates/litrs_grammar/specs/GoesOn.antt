@@ -10,11 +10,12 @@ pub mod Float
 pub mod Bool
 pub mod Unnamed
 use Rattle.std.specs.Prelude.{ℕ, List, IsTrue, length, drop}
-use Rattle.litrs_grammar.specs.StringKind.{StringKind, string_kind, byte_string_kind, c_string_kind, switches_of}
+use Rattle.litrs_base.specs.declared.quotes.StringKind.{StringKind}
+use Rattle.litrs_base.specs.declared.quotes.StringKind.TheVariants.{String as string_kind, ByteString as byte_string_kind, CString as c_string_kind}
+use Rattle.litrs_base.specs.Quotes.{switches_of, quoted_front, raw_front}
+use Rattle.litrs_base.specs.declared.quotes.CharKind.TheVariants.{Char as char_kind, Byte as byte_kind}
 use Rattle.litrs_grammar.specs.Float.{float_cut}
-use Rattle.litrs_grammar.specs.CharByte.{char_kind, byte_kind}
-use Rattle.litrs_grammar.specs.Quoted.{quoted_front}
-use Rattle.litrs_grammar.specs.Raw.{raw_front, has_unicode, allows_nul}
+use Rattle.litrs_grammar.specs.Raw.{has_unicode, allows_nul}
 use Rattle.litrs_grammar.specs.Literal.{LiteralKind, bool_literal, integer_literal, float_literal, char_literal, byte_literal, string_literal, byte_string_literal, c_string_literal, Parse, literal_parse, kind_parse}
 use Rattle.litrs_grammar.specs.LiteralRefusals.{StringStart, refused_start, quoted_start, raw_start, string_start, Dispatch, refused_as, parsed_as, dispatch}
 use Rattle.litrs_grammar.specs.GoesOn.Bool.{bool_goes_on}

@@ -1,7 +1,6 @@
 -- the grammar: one file a topic, and below each rule how a text that breaks it is refused
 pub mod Suffix
 pub mod Escape
-pub mod StringKind
 pub mod Quoted
 pub mod Raw
 pub mod CharByte

@@ -1,11 +1,13 @@
 -- Literals of all eight kinds. The Rust Reference, Tokens, Literals.
 use Rattle.std.specs.Prelude.{◌≡◌, ℕ, List, [], Bool}
-use Rattle.litrs_grammar.specs.StringKind.{StringKind, string_kind, byte_string_kind, c_string_kind}
+use Rattle.litrs_base.specs.declared.quotes.StringKind.{StringKind}
+use Rattle.litrs_base.specs.declared.quotes.StringKind.TheVariants.{String as string_kind, ByteString as byte_string_kind, CString as c_string_kind}
+use Rattle.litrs_base.specs.declared.quotes.CharKind.TheVariants.{Char as char_kind, Byte as byte_kind}
 use Rattle.litrs_grammar.specs.Continuation.{BeginsBy}
 use Rattle.litrs_grammar.specs.Bool.{IsBool}
 use Rattle.litrs_grammar.specs.Integer.{IntegerParts, IsIntegerOf}
 use Rattle.litrs_grammar.specs.Float.{FloatParts, IsFloatOf}
-use Rattle.litrs_grammar.specs.CharByte.{CharParts, char_kind, byte_kind, IsCharLiteral}
+use Rattle.litrs_grammar.specs.CharByte.{CharParts, IsCharLiteral}
 use Rattle.litrs_grammar.specs.Quoted.{QuotedParts, body_value, IsQuotedLiteral}
 use Rattle.litrs_grammar.specs.Raw.{RawParts, raw_value, IsRawLiteral}
 

@@ -8,14 +8,16 @@ use Rattle.litrs_base.specs.Refusal.{Refusal, plain, at}
 use Rattle.litrs_base.specs.declared.integer.IntegerBase.TheVariants.{Decimal}
 use Rattle.litrs_base.specs.Characters.{period}
 use Rattle.litrs_base.specs.Text.{is_empty, first_passes, begins_with}
-use Rattle.litrs_grammar.specs.StringKind.{StringKind, string_kind, byte_string_kind, c_string_kind}
+use Rattle.litrs_base.specs.declared.quotes.StringKind.{StringKind}
+use Rattle.litrs_base.specs.declared.quotes.StringKind.TheVariants.{String as string_kind, ByteString as byte_string_kind, CString as c_string_kind}
+use Rattle.litrs_base.specs.Quotes.{quoted_front, raw_front}
 use Rattle.litrs_grammar.specs.Bool.{is_bool, bool_refusal}
 use Rattle.litrs_base.specs.Base.{is_digit_or_underscore}
 use Rattle.litrs_grammar.specs.Integer.{is_e, integer_refusal}
 use Rattle.litrs_grammar.specs.Float.{float_refusal}
 use Rattle.litrs_grammar.specs.CharByte.{char_refusal, byte_refusal}
-use Rattle.litrs_grammar.specs.Quoted.{quoted_front, IsQuotedLiteralRefusal}
-use Rattle.litrs_grammar.specs.Raw.{raw_front, raw_literal_refusal}
+use Rattle.litrs_grammar.specs.Quoted.{IsQuotedLiteralRefusal}
+use Rattle.litrs_grammar.specs.Raw.{raw_literal_refusal}
 use Rattle.litrs_grammar.specs.Literal.{LiteralKind, bool_literal, integer_literal, float_literal, char_literal, byte_literal, string_literal, byte_string_literal, c_string_literal, Parse, literal_parse, kind_parse}
 
 -- Strings of each kind

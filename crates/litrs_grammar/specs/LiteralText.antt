@@ -1,13 +1,17 @@
 -- The text of a literal from its parts. The Rust Reference, Tokens, Literals.
 use Rattle.std.specs.Prelude.{ℕ, List, ◌++◌, IsTrue}
-use Rattle.litrs_grammar.specs.StringKind.{StringKind, string_kind, byte_string_kind, c_string_kind, switches_of}
+use Rattle.litrs_base.specs.declared.quotes.StringKind.{StringKind}
+use Rattle.litrs_base.specs.declared.quotes.StringKind.TheVariants.{String as string_kind, ByteString as byte_string_kind, CString as c_string_kind}
+use Rattle.litrs_base.specs.Quotes.{switches_of, quoted_front, raw_front}
+use Rattle.litrs_base.specs.declared.quotes.CharKind.{CharKind}
+use Rattle.litrs_base.specs.declared.quotes.CharKind.TheVariants.{Char as char_kind, Byte as byte_kind}
 use Rattle.litrs_grammar.specs.Suffix.{is_suffix}
 use Rattle.litrs_grammar.specs.Bool.{bool_text}
 use Rattle.litrs_grammar.specs.Integer.{integer_text, IsInteger}
 use Rattle.litrs_grammar.specs.Float.{float_text, IsFloat}
-use Rattle.litrs_grammar.specs.CharByte.{CharKind, char_kind, byte_kind, CharParts, is_char_item, char_text}
-use Rattle.litrs_grammar.specs.Quoted.{quoted_front, quoted_text, is_body}
-use Rattle.litrs_grammar.specs.Raw.{raw_front, raw_text, IsRaw, has_unicode, allows_nul}
+use Rattle.litrs_grammar.specs.CharByte.{CharParts, is_char_item, char_text}
+use Rattle.litrs_grammar.specs.Quoted.{quoted_text, is_body}
+use Rattle.litrs_grammar.specs.Raw.{raw_text, IsRaw, has_unicode, allows_nul}
 use Rattle.litrs_grammar.specs.Literal.{StringParts, quoted_parts, raw_parts, Derivation, a_bool, an_integer, a_float, a_char, a_byte, a_string, a_byte_string, a_c_string}
 
 -- how a string of the kind with these parts is written

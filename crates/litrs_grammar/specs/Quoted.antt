@@ -3,19 +3,15 @@
 -- "String continuation escapes".
 use Rattle.std.specs.Prelude.{◌≡◌, ℕ, Bool, true, not, ◌==◌, ◌&&◌, if◌then◌else◌, List, [], ◌∷◌, ◌++◌, Option, Some, None, IsTrue, encode_utf8}
 use Rattle.std.specs.List.{list_all}
+use Rattle.litrs_base.specs.Quotes.{quoted_front, switches_of}
 use Rattle.litrs_base.specs.Refusal.{Refusal, plain, at, moved}
 use Rattle.litrs_base.specs.declared.err.ParseErrorKind.TheVariants.{UnterminatedString, CarriageReturn, NulByte, NonAsciiInByteLiteral}
-use Rattle.litrs_base.specs.Characters.{line_feed, carriage_return, double_quote, backslash, letter_b, letter_c, is_blank, is_ascii_unless, is_no_nul_unless}
-use Rattle.litrs_grammar.specs.Escape.{Switches, Escape, escape_text, escape_value, value_bytes, allows_value, is_escape, escape_refusal}
-use Rattle.litrs_grammar.specs.StringKind.{StringKind, string_kind, byte_string_kind, c_string_kind, switches_of}
+use Rattle.litrs_base.specs.Characters.{line_feed, carriage_return, double_quote, backslash, is_blank, is_ascii_unless, is_no_nul_unless}
+use Rattle.litrs_base.specs.declared.quotes.Switches.{Switches}
+use Rattle.litrs_base.specs.declared.quotes.StringKind.{StringKind}
+use Rattle.litrs_grammar.specs.Escape.{Escape, escape_text, escape_value, value_bytes, allows_value, is_escape, escape_refusal}
 use Rattle.litrs_grammar.specs.Suffix.{is_suffix, suffix_refusal}
 use Rattle.litrs_base.specs.Text.{is_empty, byte_len, first_passes}
-
--- what stands before its body: `"`, `b"` or `c"`
-abbrev pub quoted_front : StringKind → List ℕ
-quoted_front string_kind = double_quote ∷ []
-quoted_front byte_string_kind = letter_b ∷ double_quote ∷ []
-quoted_front c_string_kind = letter_c ∷ double_quote ∷ []
 
 -- An item of a body: a character that stands for itself, an escape, or a continuation, which is a
 -- backslash, LF and all spaces, tabs and LFs after it.

@@ -2,14 +2,15 @@
 -- "Raw byte string literals" and "Raw C string literals". The grammar stands first, the refusals
 -- below it. Two switches tell the kinds apart: in a byte string `unicode` is off, in a C string NUL
 -- is not allowed.
-use Rattle.std.specs.Prelude.{◌≡◌, ℕ, ◌+◌, ◌≤◌, ◌==◌, ◌&&◌, ◌||◌, nat_lt, Bool, not, List, [], ◌∷◌, ◌++◌, length, take, drop, replicate, Option, Some, None, IsTrue, IsFalse, if◌then◌else◌, encode_utf8_all, codes}
+use Rattle.std.specs.Prelude.{◌≡◌, ℕ, ◌+◌, ◌≤◌, ◌==◌, ◌&&◌, ◌||◌, nat_lt, Bool, not, List, [], ◌∷◌, ◌++◌, length, take, drop, replicate, Option, Some, None, IsTrue, IsFalse, if◌then◌else◌, encode_utf8_all}
 use Rattle.std.specs.List.{list_all, prefix_len, slice_index}
 use Rattle.litrs_base.specs.declared.err.ParseErrorKind.{ParseErrorKind}
 use Rattle.litrs_base.specs.declared.err.ParseErrorKind.TheVariants.{InvalidLiteral, TooManyHashes, CarriageReturn, NulByte, NonAsciiInByteLiteral, UnterminatedRawString}
 use Rattle.litrs_base.specs.Refusal.{Refusal, plain, over, at}
 use Rattle.litrs_base.specs.Characters.{double_quote, hash, carriage_return, nul, is_ascii_unless, is_no_nul_unless}
 use Rattle.litrs_base.specs.Text.{is_empty, byte_len, first_passes, begins_with}
-use Rattle.litrs_grammar.specs.StringKind.{StringKind, string_kind, byte_string_kind, c_string_kind, switches_of}
+use Rattle.litrs_base.specs.declared.quotes.StringKind.{StringKind}
+use Rattle.litrs_base.specs.Quotes.{switches_of, raw_front}
 use Rattle.litrs_grammar.specs.Suffix.{is_suffix, suffix_refusal}
 
 -- `"`
@@ -74,12 +75,6 @@ pub record IsRaw (unicode allow_nul : Bool) (d : RawParts) : Type 0 where
 pub record IsRawOf (unicode allow_nul : Bool) (t : List ℕ) (d : RawParts) : Type 0 where
   pub spells : raw_text d ≡ t
   pub grammar : IsRaw unicode allow_nul d
-
--- what a literal of the kind begins with
-abbrev pub raw_front : StringKind → List ℕ
-raw_front string_kind = codes "r"
-raw_front byte_string_kind = codes "br"
-raw_front c_string_kind = codes "cr"
 
 -- the switches of the kind
 abbrev pub has_unicode : StringKind → Bool

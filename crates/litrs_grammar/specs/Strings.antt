@@ -1,6 +1,6 @@
 -- Strings of the three kinds, by their parts. The Rust Reference, Tokens, Literals.
 use Rattle.std.specs.Prelude.{ℕ, Bool, true, false, List}
-use Rattle.litrs_grammar.specs.StringKind.{StringKind}
+use Rattle.litrs_base.specs.declared.quotes.StringKind.{StringKind}
 use Rattle.litrs_grammar.specs.Literal.{StringParts, quoted_parts, raw_parts, IsString}
 
 -- parts with which the text is a string of the kind

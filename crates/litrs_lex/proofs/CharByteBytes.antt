@@ -1,5 +1,5 @@
 -- Chars and bytes: what their bytes say of the characters.
-use Rattle.std.proofs.Common.{◌≡◌, ℕ, ◌+◌, ◌-◌, ◌^◌, ◌<◌, ◌≤◌, Bool, true, false, not, ◌||◌, List, [], ◌∷◌, ◌++◌, length, take, drop, slice_range, slice_get, append-nil, Option, Some, None, refl, sym, ap, ◌∙◌, subst, arith, append_assoc, length-append}
+use Rattle.std.proofs.Common.{◌≡◌, ℕ, ◌+◌, ◌-◌, ◌^◌, ◌<◌, ◌≤◌, true, false, not, ◌||◌, List, [], ◌∷◌, ◌++◌, length, take, drop, slice_range, slice_get, append-nil, Some, None, refl, sym, ap, ◌∙◌, subst, arith, append_assoc, length-append}
 use Rattle.std.specs.Prelude.{◌==◌, Result, Ok, Err, IfOk, IfErr, encode_utf8, encode_utf8_all, option_map, is_some}
 use Rattle.std.specs.List.{list_any}
 use Rattle.std.specs.Char.{len_utf8}
@@ -21,9 +21,13 @@ use Rattle.litrs_base.proofs.CharEnds.{char_span_moved, moves_within, no_span}
 use Rattle.litrs_base.proofs.Chars.{OnlyAscii, begins_with-chars, chars_ascii, chars_wide, utf8_after_ascii, first_passes-chars}
 use Rattle.litrs_base.proofs.ListTests.{if_true, if_false}
 use Rattle.litrs_base.proofs.Spans.{byte_len-append}
-use Rattle.litrs_grammar.specs.Escape.{Switches, Escape, simple_escape, hex_escape, unicode_escape, is_escape, is_simple, escape_text, escape_value, escape_refusal}
+use Rattle.litrs_base.specs.declared.quotes.Switches.{Switches}
+use Rattle.litrs_base.specs.declared.quotes.CharKind.{CharKind}
+use Rattle.litrs_base.specs.declared.quotes.CharKind.TheVariants.{Char as char_kind, Byte as byte_kind}
+use Rattle.litrs_base.specs.Quotes.{char_front, char_switches_of}
+use Rattle.litrs_grammar.specs.Escape.{Escape, simple_escape, hex_escape, unicode_escape, is_escape, is_simple, escape_text, escape_value, escape_refusal}
 use Rattle.litrs_grammar.specs.Suffix.{is_suffix, suffix_refusal}
-use Rattle.litrs_grammar.specs.CharByte.{CharKind, char_kind, byte_kind, char_front, char_switches_of, CharItem, plain_char, escaped_char, char_item_text, char_value, is_special_whitespace, allows_char, is_char_item, CharParts, IsCharLiteral, unterminated_kind, empty_kind, overlong_kind, start_refusal, escape_length, char_item_length, closing_refusal, char_item_refusal, char_kind_refusal}
+use Rattle.litrs_grammar.specs.CharByte.{CharItem, plain_char, escaped_char, char_item_text, char_value, is_special_whitespace, allows_char, is_char_item, CharParts, IsCharLiteral, unterminated_kind, empty_kind, overlong_kind, start_refusal, escape_length, char_item_length, closing_refusal, char_item_refusal, char_kind_refusal}
 use Rattle.litrs_grammar.specs.Literal.{kind_parse, LiteralKind, char_literal, byte_literal}
 use Rattle.litrs_grammar.specs.LiteralRefusals.{IsKindRefusal}
 use Rattle.litrs_grammar.specs.Refused.{IsRefused}
@@ -33,8 +37,8 @@ use Rattle.litrs_grammar.proofs.Spans.CharByte.{char_spans_lie_in_text}
 use Rattle.litrs_grammar.proofs.Laws.Escape.{by_simple, refusal_escape}
 use Rattle.litrs_grammar.proofs.QuotedItems.{escape_head}
 use Rattle.litrs_grammar.proofs.Refused.{is_refused}
-use Rattle.litrs_lex.specs.CharCut.{escape_written, item_written, char_parts_at, kind_if, unwraps_as, IsItemRead, IsItemRefused, IsCutAfter}
-use Rattle.litrs_lex.specs.Unescaped.{switches, IsUnescaped, IsEscapeRefused}
+use Rattle.litrs_lex.specs.CharCut.{escape_written, item_written, char_parts_at, unwraps_as, IsItemRead, IsItemRefused, IsCutAfter}
+use Rattle.litrs_lex.specs.Unescaped.{IsUnescaped, IsEscapeRefused}
 use Rattle.litrs_lex.proofs.Dispatch.{is_empty-chars}
 use Rattle.litrs_lex.proofs.CharCuts.{cut_at}
 use Rattle.litrs_lex.proofs.AsciiTests.{only_char, list_any-chars}
@@ -98,16 +102,9 @@ empty_row kind bs u begins quote =
     ∙ if_false _ _ _ (first_passes-chars (λ c. c == 39) (drop 1 bs) quote_only (after_utf8 bs 39 (omega arith) u is) ∙ quote)
 
 -- an escape
-pub same_switches : (is_byte : Bool) → switches (not is_byte) is_byte true ≡ char_switches_of (kind_if is_byte)
-same_switches true = refl
-same_switches false = refl
-
 backslash_allowed : (kind : CharKind) → allows_char kind 92 ≡ true
 backslash_allowed char_kind = refl
 backslash_allowed byte_kind = refl
-
-some_of : {A : Type 0} (o : Option A) (x : A) → o ≡ Some x → is_some o ≡ true
-some_of o x is = ap is_some is
 
 pub escape_row : (kind : CharKind) (bs : List ℕ) (e : ParseError) → begins_with (92 ∷ []) bs ≡ true → IsEscapeRefused (char_switches_of kind) (chars bs) e → IsItemRefused kind (chars bs) e
 escape_row kind bs e begins r =
@@ -450,15 +447,17 @@ pub slash_begins : (bs : List ℕ) → IsUtf8 bs → begins_with (92 ∷ []) bs 
 slash_begins bs u begins = ap (λ t. is_empty t || first_passes (λ c. c == 92) t) (front_chars bs 92 (omega arith) (front_byte bs 92 begins))
 
 -- what `unescape` answers is what the item is
-pub ok_escape : (is_byte : Bool) (bs : List ℕ) (r : Result (Unescape × ℕ) ParseError) → IfOk r (λ read. IsUnescaped (switches (not is_byte) is_byte true) bs read.0 read.1) →
-    IfOk r (λ read. IsItemRead (kind_if is_byte) bs read.0 read.1)
-ok_escape is_byte bs (Ok (value, len)) read = escape_item (kind_if is_byte) bs value len (subst (λ (w : Switches). IsUnescaped w bs value len) (same_switches is_byte) read)
-ok_escape is_byte bs (Err e) read = tt
+pub ok_escape : (kind : CharKind) (bs : List ℕ) (w : Switches) (r : Result (Unescape × ℕ) ParseError) →
+    w ≡ char_switches_of kind → IfOk r (λ read. IsUnescaped w bs read.0 read.1) →
+    IfOk r (λ read. IsItemRead kind bs read.0 read.1)
+ok_escape kind bs w (Ok (value, len)) is read = escape_item kind bs value len (subst (λ (w : Switches). IsUnescaped w bs value len) is read)
+ok_escape kind bs w (Err e) is read = tt
 
-pub err_escape : (is_byte : Bool) (bs : List ℕ) (r : Result (Unescape × ℕ) ParseError) → begins_with (92 ∷ []) bs ≡ true → IfErr r (IsEscapeRefused (switches (not is_byte) is_byte true) (chars bs)) →
-    IfErr r (IsItemRefused (kind_if is_byte) (chars bs))
-err_escape is_byte bs (Ok read) begins refused = tt
-err_escape is_byte bs (Err e) begins refused = escape_row (kind_if is_byte) bs e begins (subst (λ (w : Switches). IsEscapeRefused w (chars bs) e) (same_switches is_byte) refused)
+pub err_escape : (kind : CharKind) (bs : List ℕ) (w : Switches) (r : Result (Unescape × ℕ) ParseError) →
+    w ≡ char_switches_of kind → begins_with (92 ∷ []) bs ≡ true → IfErr r (IsEscapeRefused w (chars bs)) →
+    IfErr r (IsItemRefused kind (chars bs))
+err_escape kind bs w (Ok read) is begins refused = tt
+err_escape kind bs w (Err e) is begins refused = escape_row kind bs e begins (subst (λ (w : Switches). IsEscapeRefused w (chars bs) e) is refused)
 
 pub one_size : (c n : ℕ) → n ≡ len_utf8 c → n ≡ byte_len (c ∷ [])
 one_size c n is = is ∙ (sym (length-encode c) ∙ sym (ap length (append-nil (encode_utf8 c))))

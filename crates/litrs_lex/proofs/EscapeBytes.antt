@@ -1,6 +1,6 @@
 -- Escapes: what their bytes say of the characters.
 use Rattle.std.proofs.Common.{◌≡◌, ℕ, zero, suc, ◌+◌, ◌-◌, ◌<◌, ◌≤◌, Bool, true, false, not, ◌&&◌, ◌||◌, List, [], ◌∷◌, ◌++◌, length, take, drop, get_or, Some, None, refl, sym, ap, ◌∙◌, subst, arith, inl, inr}
-use Rattle.std.specs.Prelude.{◌==◌}
+use Rattle.std.specs.Prelude.{◌==◌, Result, Ok, Err, IfErr}
 use Rattle.std.specs.Char.{IsScalar}
 use Rattle.std.specs.Str.{chars, IsUtf8, IsCharBoundary}
 use Rattle.std.proofs.lemmas.Bool.{eq-eqb, not-false, and_from, ne_eqb, eqb-true, cases_lt, false≢true}
@@ -19,12 +19,13 @@ use Rattle.litrs_base.proofs.ByteLen.{byte_len_one_ascii}
 use Rattle.litrs_base.proofs.CharEnds.{char_span_points}
 use Rattle.litrs_base.proofs.Chars.{chars_ascii, chars_wide, chars_empty, utf8_after_ascii, first_passes-chars}
 use Rattle.litrs_base.proofs.ListTests.{if_true, if_false}
-use Rattle.litrs_grammar.specs.Escape.{Switches, Escape, simple_escape, hex_escape, unicode_escape, is_escape, escape_text, escape_value, escape_refusal, is_simple, simple_value, allows_value}
+use Rattle.litrs_base.specs.declared.quotes.Switches.{Switches}
+use Rattle.litrs_grammar.specs.Escape.{Escape, simple_escape, hex_escape, unicode_escape, is_escape, escape_text, escape_value, escape_refusal, is_simple, simple_value, allows_value}
 use Rattle.litrs_grammar.specs.Laws.Escape.{BeginsWithEscape}
 use Rattle.litrs_grammar.proofs.Laws.Escape.{same_escape, refusal_escape, by_simple}
 use Rattle.litrs_grammar.proofs.Spans.Escape.{escape_spans_lie_in_text}
 use Rattle.litrs_grammar.proofs.LongerTexts.Escape.{escape_final, escape_finality}
-use Rattle.litrs_lex.specs.Unescaped.{switches, IsUnescaped, IsEscapeRefused}
+use Rattle.litrs_lex.specs.Unescaped.{switches, IsUnescaped, IsEscapeRefused, HasEscapeRefusal}
 use Rattle.litrs_lex.proofs.CharCuts.{cut_at}
 use Rattle.litrs_lex.proofs.AsciiTests.{only_char}
 
@@ -51,6 +52,9 @@ no_escape_in_nothing : (w : Switches) → ¬ BeginsWithEscape w []
 no_escape_in_nothing w (simple_escape c, rest, spells, grammar) = cc
 no_escape_in_nothing w (hex_escape c d, rest, spells, grammar) = cc
 no_escape_in_nothing w (unicode_escape inner, rest, spells, grammar) = cc
+
+pub has_refusal : (w : Switches) (t : List ℕ) (e : ParseError) → escape_refusal w t ≡ Some (refusal_of e) → HasCharSpan t e → HasEscapeRefusal w t e
+has_refusal w t e table ends = record { table = table; char_span = ends }
 
 pub escape_is_refused : (w : Switches) (t : List ℕ) (e : ParseError) → (is_empty t || first_passes (λ c. c == 92) t) ≡ true →
     escape_refusal w t ≡ Some (refusal_of e) → HasCharSpan t e → IsEscapeRefused w t e
@@ -80,6 +84,16 @@ escape_is_refused w (c ∷ t) e begins table ends = at_backslash (eqb-true c 92 
     at_backslash : c ≡ 92 → IsEscapeRefused w (c ∷ t) e
     at_backslash is = subst (λ (n : ℕ). IsEscapeRefused w (n ∷ t) e) (sym is)
         (refused (subst (λ (n : ℕ). escape_refusal w (n ∷ t) ≡ Some (refusal_of e)) is table) (subst (λ (n : ℕ). HasCharSpan (n ∷ t) e) is ends))
+
+-- switches that allow `\u{..}`
+pub unicode_on : (w : Switches) → w.unicode ≡ true → w ≡ switches true w.byte_escapes w.allow_nul
+unicode_on w is = ap (λ b. switches b w.byte_escapes w.allow_nul) is
+
+-- the whole refusal, of what an escape of one form is refused for
+pub err_refused : (w : Switches) (t : List ℕ) (r : Result (Unescape × ℕ) ParseError) → (is_empty t || first_passes (λ c. c == 92) t) ≡ true →
+    IfErr r (HasEscapeRefusal w t) → IfErr r (IsEscapeRefused w t)
+err_refused w t (Ok read) begins refused = tt
+err_refused w t (Err e) begins refused = escape_is_refused w t e begins refused.table refused.char_span
 
 -- The backslash and what follows it
 

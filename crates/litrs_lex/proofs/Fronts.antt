@@ -9,14 +9,12 @@ use Rattle.litrs_base.specs.Text.{is_empty, begins_with}
 use Rattle.litrs_base.proofs.Begins.{begins_with-split}
 use Rattle.litrs_grammar.specs.Literal.{bool_literal, integer_literal, float_literal, char_literal, byte_literal, string_literal, byte_string_literal, c_string_literal, string_literal_of}
 use Rattle.litrs_grammar.specs.LiteralRefusals.{Dispatch, refused_as, parsed_as, begins_float, dispatch}
-use Rattle.litrs_grammar.specs.Quoted.{quoted_front}
-use Rattle.litrs_grammar.specs.Raw.{raw_front}
-use Rattle.litrs_grammar.specs.StringKind.{StringKind, string_kind, byte_string_kind, c_string_kind}
+use Rattle.litrs_base.specs.Quotes.{quoted_front, raw_front}
+use Rattle.litrs_base.specs.declared.quotes.StringKind.{StringKind}
+use Rattle.litrs_base.specs.declared.quotes.StringKind.TheVariants.{String as string_kind, ByteString as byte_string_kind, CString as c_string_kind}
 use Rattle.litrs_lex.specs.declared.kind.Front.{Front}
 use Rattle.litrs_lex.specs.declared.kind.Front.TheVariants as front
-use Rattle.litrs_lex.specs.declared.kind.StringKind.{StringKind as CodeKind}
-use Rattle.litrs_lex.specs.declared.kind.StringKind.TheVariants as code
-use Rattle.litrs_lex.specs.Front.{grammar_kind, row_of, BeginsAs, IsFront}
+use Rattle.litrs_lex.specs.Front.{row_of, BeginsAs, IsFront}
 
 -- the kind of a refusal that is a row
 abbrev row_error : Dispatch → ParseErrorKind
@@ -34,12 +32,12 @@ some_text_at (front.Bool value) [] begins row other =
 some_text_at front.Number [] begins row other = cc
 some_text_at front.Char [] begins row other = cc
 some_text_at front.Byte [] begins row other = cc
-some_text_at (front.Quoted code.String) [] begins row other = cc
-some_text_at (front.Quoted code.ByteString) [] begins row other = cc
-some_text_at (front.Quoted code.CString) [] begins row other = cc
-some_text_at (front.Raw code.String) [] begins row other = cc
-some_text_at (front.Raw code.ByteString) [] begins row other = cc
-some_text_at (front.Raw code.CString) [] begins row other = cc
+some_text_at (front.Quoted string_kind) [] begins row other = cc
+some_text_at (front.Quoted byte_string_kind) [] begins row other = cc
+some_text_at (front.Quoted c_string_kind) [] begins row other = cc
+some_text_at (front.Raw string_kind) [] begins row other = cc
+some_text_at (front.Raw byte_string_kind) [] begins row other = cc
+some_text_at (front.Raw c_string_kind) [] begins row other = cc
 some_text_at front.Other [] begins row other =
     let both : InvalidLiteral ≡ Empty = ap row_error row in cc
 
@@ -72,12 +70,12 @@ char_alone front.Number bs row other =
     row_by (begins_float bs) (parsed_as float_literal) (parsed_as integer_literal)
     (parsed_as char_literal) (λ e. cc) (λ e. cc) row
 char_alone front.Byte bs row other = cc
-char_alone (front.Quoted code.String) bs row other = cc
-char_alone (front.Quoted code.ByteString) bs row other = cc
-char_alone (front.Quoted code.CString) bs row other = cc
-char_alone (front.Raw code.String) bs row other = cc
-char_alone (front.Raw code.ByteString) bs row other = cc
-char_alone (front.Raw code.CString) bs row other = cc
+char_alone (front.Quoted string_kind) bs row other = cc
+char_alone (front.Quoted byte_string_kind) bs row other = cc
+char_alone (front.Quoted c_string_kind) bs row other = cc
+char_alone (front.Raw string_kind) bs row other = cc
+char_alone (front.Raw byte_string_kind) bs row other = cc
+char_alone (front.Raw c_string_kind) bs row other = cc
 char_alone front.Other bs row other =
     row_by (begins_with (codes "c") bs) (parsed_as c_string_literal)
     (refused_as (plain InvalidLiteral)) (parsed_as char_literal) (λ e. cc) (λ e. cc) row
@@ -91,12 +89,12 @@ byte_alone front.Number bs row other =
     row_by (begins_float bs) (parsed_as float_literal) (parsed_as integer_literal)
     (parsed_as byte_literal) (λ e. cc) (λ e. cc) row
 byte_alone front.Char bs row other = cc
-byte_alone (front.Quoted code.String) bs row other = cc
-byte_alone (front.Quoted code.ByteString) bs row other = cc
-byte_alone (front.Quoted code.CString) bs row other = cc
-byte_alone (front.Raw code.String) bs row other = cc
-byte_alone (front.Raw code.ByteString) bs row other = cc
-byte_alone (front.Raw code.CString) bs row other = cc
+byte_alone (front.Quoted string_kind) bs row other = cc
+byte_alone (front.Quoted byte_string_kind) bs row other = cc
+byte_alone (front.Quoted c_string_kind) bs row other = cc
+byte_alone (front.Raw string_kind) bs row other = cc
+byte_alone (front.Raw byte_string_kind) bs row other = cc
+byte_alone (front.Raw c_string_kind) bs row other = cc
 byte_alone front.Other bs row other =
     row_by (begins_with (codes "c") bs) (parsed_as c_string_literal)
     (refused_as (plain InvalidLiteral)) (parsed_as byte_literal) (λ e. cc) (λ e. cc) row
@@ -136,17 +134,17 @@ raw_row byte_string_kind x = refl
 raw_row c_string_kind x = refl
 
 -- kinds with one row are one
-same_kind : (a b : CodeKind) → parsed_as (string_literal_of (grammar_kind a))
-    ≡ parsed_as (string_literal_of (grammar_kind b)) → a ≡ b
-same_kind code.String code.String row = refl
-same_kind code.String code.ByteString row = cc
-same_kind code.String code.CString row = cc
-same_kind code.ByteString code.String row = cc
-same_kind code.ByteString code.ByteString row = refl
-same_kind code.ByteString code.CString row = cc
-same_kind code.CString code.String row = cc
-same_kind code.CString code.ByteString row = cc
-same_kind code.CString code.CString row = refl
+same_kind : (a b : StringKind) → parsed_as (string_literal_of a)
+    ≡ parsed_as (string_literal_of b) → a ≡ b
+same_kind string_kind string_kind row = refl
+same_kind string_kind byte_string_kind row = cc
+same_kind string_kind c_string_kind row = cc
+same_kind byte_string_kind string_kind row = cc
+same_kind byte_string_kind byte_string_kind row = refl
+same_kind byte_string_kind c_string_kind row = cc
+same_kind c_string_kind string_kind row = cc
+same_kind c_string_kind byte_string_kind row = cc
+same_kind c_string_kind c_string_kind row = refl
 
 -- whether it is the row of a kind of strings
 abbrev is_string_row : Dispatch → Bool
@@ -171,22 +169,22 @@ no_string_row kind row other is = both_ways (is_string_row row) other
     (ap is_string_row is ∙ row_of_string kind)
 
 -- a text that is parsed as a string of the kind has one of its fronts, or begins with `c` alone
-string_alone : (kind : CodeKind) (f : Front) (bs : List ℕ) →
-    row_of f bs ≡ parsed_as (string_literal_of (grammar_kind kind)) →
+string_alone : (kind : StringKind) (f : Front) (bs : List ℕ) →
+    row_of f bs ≡ parsed_as (string_literal_of kind) →
     (f ≡ front.Quoted kind → ⊥) → (f ≡ front.Raw kind → ⊥) → (f ≡ front.Other → ⊥) → ⊥
 string_alone kind front.Empty bs row quoted raw other =
-    no_string_row (grammar_kind kind) (refused_as (plain Empty)) refl row
+    no_string_row kind (refused_as (plain Empty)) refl row
 string_alone kind (front.Bool value) bs row quoted raw other =
-    no_string_row (grammar_kind kind) (parsed_as bool_literal) refl row
+    no_string_row kind (parsed_as bool_literal) refl row
 string_alone kind front.Number bs row quoted raw other =
     row_by (begins_float bs) (parsed_as float_literal) (parsed_as integer_literal)
-    (parsed_as (string_literal_of (grammar_kind kind)))
-    (no_string_row (grammar_kind kind) (parsed_as float_literal) refl)
-    (no_string_row (grammar_kind kind) (parsed_as integer_literal) refl) row
+    (parsed_as (string_literal_of kind))
+    (no_string_row kind (parsed_as float_literal) refl)
+    (no_string_row kind (parsed_as integer_literal) refl) row
 string_alone kind front.Char bs row quoted raw other =
-    no_string_row (grammar_kind kind) (parsed_as char_literal) refl row
+    no_string_row kind (parsed_as char_literal) refl row
 string_alone kind front.Byte bs row quoted raw other =
-    no_string_row (grammar_kind kind) (parsed_as byte_literal) refl row
+    no_string_row kind (parsed_as byte_literal) refl row
 string_alone kind (front.Quoted found) bs row quoted raw other =
     quoted (ap front.Quoted (same_kind found kind row))
 string_alone kind (front.Raw found) bs row quoted raw other =
@@ -226,20 +224,20 @@ other_raw byte_string_kind bs is begins =
 other_raw c_string_kind bs is begins =
     both_ways (begins_with (codes "cr") bs) is.begins.1 begins
 
-pub no_quoted_front : (kind : CodeKind) (f : Front) (bs : List ℕ) → IsFront f bs →
+pub no_quoted_front : (kind : StringKind) (f : Front) (bs : List ℕ) → IsFront f bs →
     (f ≡ front.Quoted kind → ⊥) → (f ≡ front.Raw kind → ⊥) →
-    begins_with (quoted_front (grammar_kind kind)) bs ≡ false
-no_quoted_front kind f bs is quoted raw = not_true (begins_with (quoted_front (grammar_kind kind)) bs)
+    begins_with (quoted_front kind) bs ≡ false
+no_quoted_front kind f bs is quoted raw = not_true (begins_with (quoted_front kind) bs)
     (λ begins. string_alone kind f bs
-    (is.row ∙ (ap dispatch (sym (begins_with-split (quoted_front (grammar_kind kind)) bs begins))
-    ∙ quoted_row (grammar_kind kind) _)) quoted raw
-    (λ e. other_quoted (grammar_kind kind) bs (subst (λ (g : Front). IsFront g bs) e is) begins))
+    (is.row ∙ (ap dispatch (sym (begins_with-split (quoted_front kind) bs begins))
+    ∙ quoted_row kind _)) quoted raw
+    (λ e. other_quoted kind bs (subst (λ (g : Front). IsFront g bs) e is) begins))
 
-pub no_raw_front : (kind : CodeKind) (f : Front) (bs : List ℕ) → IsFront f bs →
+pub no_raw_front : (kind : StringKind) (f : Front) (bs : List ℕ) → IsFront f bs →
     (f ≡ front.Quoted kind → ⊥) → (f ≡ front.Raw kind → ⊥) →
-    begins_with (raw_front (grammar_kind kind)) bs ≡ false
-no_raw_front kind f bs is quoted raw = not_true (begins_with (raw_front (grammar_kind kind)) bs)
+    begins_with (raw_front kind) bs ≡ false
+no_raw_front kind f bs is quoted raw = not_true (begins_with (raw_front kind) bs)
     (λ begins. string_alone kind f bs
-    (is.row ∙ (ap dispatch (sym (begins_with-split (raw_front (grammar_kind kind)) bs begins))
-    ∙ raw_row (grammar_kind kind) _)) quoted raw
-    (λ e. other_raw (grammar_kind kind) bs (subst (λ (g : Front). IsFront g bs) e is) begins))
+    (is.row ∙ (ap dispatch (sym (begins_with-split (raw_front kind) bs begins))
+    ∙ raw_row kind _)) quoted raw
+    (λ e. other_raw kind bs (subst (λ (g : Front). IsFront g bs) e is) begins))

@@ -13,7 +13,8 @@ use Rattle.litrs_base.specs.Text.{byte_len, first_passes, begins_with}
 use Rattle.litrs_base.proofs.ByteLen.{byte_len_one_ascii, length-le-byte_len}
 use Rattle.litrs_base.proofs.Chars.{chars_ascii, chars_wide, utf8_after_ascii, first_passes-chars}
 use Rattle.litrs_base.proofs.ListTests.{if_true, if_false}
-use Rattle.litrs_grammar.specs.Escape.{Switches, hex_escape, escape_refusal, hex_refusal, pair_value, allows_value, allows_byte, has_two_bytes}
+use Rattle.litrs_base.specs.declared.quotes.Switches.{Switches}
+use Rattle.litrs_grammar.specs.Escape.{hex_escape, escape_refusal, hex_refusal, pair_value, allows_value, allows_byte, has_two_bytes}
 use Rattle.litrs_grammar.proofs.Laws.Escape.{hexdigit_ascii, two_bytes}
 use Rattle.litrs_lex.specs.Unescaped.{IsUnescaped}
 use Rattle.litrs_lex.proofs.CharCuts.{cut_at, byte_len-all}

@@ -1,16 +1,13 @@
 -- Numbers: what the cut of the digits says of how a text is parsed.
-use Rattle.std.proofs.Common.{◌≡◌, ℕ, ◌+◌, Bool, true, false, cond, List, ◌++◌, length, drop, refl, sym, ap, subst, ◌∙◌, zero-add, arith}
+use Rattle.std.proofs.Common.{◌≡◌, ℕ, ◌+◌, Bool, List, length, drop, sym, ap, subst, ◌∙◌, zero-add, arith}
 use Rattle.std.specs.Prelude.{if◌then◌else◌}
 use Rattle.std.specs.Str.{chars, IsUtf8}
 use Rattle.std.specs.List.{prefix_len}
-use Rattle.std.proofs.lemmas.Bool.{true≢false}
 use Rattle.std.proofs.lemmas.Bool.Decides.{nat_tests}
-use Rattle.litrs_base.specs.declared.integer.IntegerBase.{IntegerBase}
-use Rattle.litrs_base.specs.declared.integer.IntegerBase.TheVariants.{Binary, Octal, Decimal, Hexadecimal}
+use Rattle.litrs_base.specs.declared.integer.IntegerBase.TheVariants.{Decimal}
 use Rattle.litrs_base.specs.declared.err.ParseError.{ParseError}
 use Rattle.litrs_base.specs.Base.{prefix, is_digit_or_underscore}
-use Rattle.litrs_base.specs.Text.{first_passes, begins_with}
-use Rattle.litrs_base.proofs.Begins.{begins_with-split}
+use Rattle.litrs_base.specs.Text.{first_passes}
 use Rattle.litrs_base.proofs.Chars.{OnlyAscii, prefix_len-chars, passing_front, first_passes-chars}
 use Rattle.litrs_grammar.specs.Literal.{LiteralKind, kind_parse, integer_literal, float_literal}
 use Rattle.litrs_grammar.specs.LiteralRefusals.{is_float_mark, begins_float}
@@ -46,31 +43,3 @@ decimal_run cut bs h ten =
 
 pub decimal_float : (cut : IntegerCut) (bs : List ℕ) → IsDigitsCut cut bs → cut.base ≡ Decimal → begins_float bs ≡ first_passes is_float_mark (drop cut.end_main bs)
 decimal_float cut bs h ten = ap (λ n. first_passes is_float_mark (drop n bs)) (sym (decimal_run cut bs h ten))
-
--- a text with the prefix of another base is no float: its letter ends the run
-prefixed : (base : IntegerBase) (bs : List ℕ) → ((rest : List ℕ) → begins_float (prefix base ++ rest) ≡ false) → begins_with (prefix base) bs ≡ true → begins_float bs ≡ false
-prefixed base bs letter begins = ap begins_float (sym (begins_with-split (prefix base) bs begins)) ∙ letter (drop (length (prefix base)) bs)
-
-by_prefix : (bs : List ℕ) (b o x : Bool) → begins_with (prefix Binary) bs ≡ b → begins_with (prefix Octal) bs ≡ o → begins_with (prefix Hexadecimal) bs ≡ x →
-    (cond b Binary (cond o Octal (cond x Hexadecimal Decimal)) ≡ Decimal → ⊥) → begins_float bs ≡ false
-by_prefix bs true o x is_b is_o is_x other = prefixed Binary bs (λ rest. refl) is_b
-by_prefix bs false true x is_b is_o is_x other = prefixed Octal bs (λ rest. refl) is_o
-by_prefix bs false false true is_b is_o is_x other = prefixed Hexadecimal bs (λ rest. refl) is_x
-by_prefix bs false false false is_b is_o is_x other = absurd (other refl)
-
-pub prefixed_no_float : (cut : IntegerCut) (bs : List ℕ) → IsDigitsCut cut bs → (cut.base ≡ Decimal → ⊥) → begins_float bs ≡ false
-prefixed_no_float cut bs h other =
-    by_prefix bs (begins_with (prefix Binary) bs) (begins_with (prefix Octal) bs) (begins_with (prefix Hexadecimal) bs) refl refl refl (λ ten. other (h.base ∙ ten))
-
--- so a float is cut after the leading run
-pub float_run : (cut : IntegerCut) (bs : List ℕ) → IsDigitsCut cut bs → begins_float bs ≡ true → cut.end_main ≡ prefix_len (is_digit_or_underscore Decimal) bs
-float_run cut bs h float = by_base cut.base refl
-  where
-    no_prefix : (base : IntegerBase) → cut.base ≡ base → (base ≡ Decimal → ⊥) → ⊥
-    no_prefix base is other = true≢false (sym float ∙ prefixed_no_float cut bs h (λ ten. other (sym is ∙ ten)))
-
-    by_base : (base : IntegerBase) → cut.base ≡ base → cut.end_main ≡ prefix_len (is_digit_or_underscore Decimal) bs
-    by_base Binary is = absurd (no_prefix Binary is (λ ten. cc))
-    by_base Octal is = absurd (no_prefix Octal is (λ ten. cc))
-    by_base Hexadecimal is = absurd (no_prefix Hexadecimal is (λ ten. cc))
-    by_base Decimal is = decimal_run cut bs h is

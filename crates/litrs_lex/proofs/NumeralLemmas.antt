@@ -1,7 +1,7 @@
 -- The number of digits, one more digit at a time.
-use Rattle.std.proofs.Common.{◌≡◌, ℕ, zero, suc, ◌+◌, ◌*◌, ◌^◌, ◌≤◌, ◌<◌, Bool, true, not, cond, List, [], ◌∷◌, ◌++◌, length, take, drop, get_or, refl, sym, ap, ◌∙◌, arith, length-append}
+use Rattle.std.proofs.Common.{◌≡◌, ℕ, ◌+◌, ◌*◌, ◌^◌, ◌≤◌, ◌<◌, true, not, cond, List, [], ◌∷◌, ◌++◌, length, take, drop, get_or, refl, sym, ap, ◌∙◌, arith, length-append}
 use Rattle.std.specs.Prelude.{filter}
-use Rattle.std.specs.Char.{digit_value, is_ascii_hexdigit}
+use Rattle.std.specs.Char.{digit_value}
 use Rattle.std.proofs.lemmas.List.{take_more, take-append-drop}
 use Rattle.std.proofs.lemmas.List.Elements.{filter-append}
 use Rattle.std.proofs.lemmas.Nat.{pow-add}
@@ -14,7 +14,6 @@ use Rattle.std.proofs.lemmas.Str.Ascii.{IsAscii-nil, IsAscii-cons}
 use Rattle.litrs_base.proofs.Chars.{ascii_from_test}
 use Rattle.litrs_lex.proofs.IntegerBytes.{digits_are_ascii}
 use Rattle.std.proofs.lemmas.Bool.{ne_eqb, and_parts}
-use Rattle.std.proofs.lemmas.Bool.Decides.{nat_tests}
 use Rattle.litrs_base.specs.declared.integer.IntegerBase.{IntegerBase}
 use Rattle.litrs_base.specs.declared.integer.IntegerBase.TheVariants.{Binary, Octal, Decimal, Hexadecimal}
 use Rattle.litrs_base.specs.Base.{base_value, is_digit_or_underscore}
@@ -83,18 +82,6 @@ positive_base Binary = omega arith
 positive_base Octal = omega arith
 positive_base Decimal = omega arith
 positive_base Hexadecimal = omega arith
-
--- a digit of a base is a hex digit
-pub digit_is_hex : (base : IntegerBase) (c : ℕ) → is_digit_or_underscore base c ≡ true → (c ≡ 95 → ⊥) → is_ascii_hexdigit c ≡ true
-digit_is_hex Binary c is ne = grind (arith, nat_tests)
-digit_is_hex Octal c is ne = grind (arith, nat_tests)
-digit_is_hex Decimal c is ne = grind (arith, nat_tests)
-digit_is_hex Hexadecimal c is ne = grind (arith, nat_tests)
-
-pub passes_at : (p : ℕ → Bool) (t : List ℕ) (i : ℕ) → list_all p t ≡ true → i < length t → p (get_or t i 0) ≡ true
-passes_at p [] i all h = absurd (omega arith)
-passes_at p (c ∷ t) zero all h = (and_parts (p c) (list_all p t) all).0
-passes_at p (c ∷ t) (suc i) all h = passes_at p t i (and_parts (p c) (list_all p t) all).1 (omega arith)
 
 -- a text of digits and underscores is its own bytes
 pub bytes_of_digits : (base : IntegerBase) (bs t : List ℕ) → IsUtf8 bs → chars bs ≡ t → list_all (is_digit_or_underscore base) t ≡ true → bs ≡ t

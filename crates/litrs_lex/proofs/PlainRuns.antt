@@ -17,7 +17,7 @@ use Rattle.litrs_base.proofs.Chars.{chars_ascii, chars_wide}
 use Rattle.std.specs.Prelude.{not, ◌&&◌, ◌||◌, ◌==◌}
 use Rattle.std.proofs.lemmas.Bool.{ne_eqb, ltb-true, and_from}
 use Rattle.litrs_base.specs.Characters.{is_ascii, is_ascii_unless, is_no_nul_unless}
-use Rattle.litrs_grammar.specs.Escape.{Switches}
+use Rattle.litrs_base.specs.declared.quotes.Switches.{Switches}
 use Rattle.litrs_grammar.specs.Quoted.{is_plain}
 
 abbrev pub AlikeFrom128 : (ℕ → Bool) → Bool → Type 0

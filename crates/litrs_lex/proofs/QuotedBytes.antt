@@ -5,7 +5,7 @@ use Rattle.std.specs.List.{list_all, prefix_len}
 use Rattle.std.specs.Option.{MatchOption}
 use Rattle.std.specs.Str.{chars, IsUtf8, IsCharBoundary}
 use Rattle.std.specs.declared.ops.Range.{Range}
-use Rattle.std.proofs.lemmas.Bool.{and_parts, and_from, not_from_false, ne_eqb, cases_lt, cases_eq, or_right, eqb-true, both_ways, false≢true, lt-ltb, le-ltb}
+use Rattle.std.proofs.lemmas.Bool.{and_parts, and_from, not_from_false, ne_eqb, cases_lt, or_right, eqb-true, both_ways, false≢true, lt-ltb, le-ltb}
 use Rattle.std.proofs.lemmas.List.{append-nil, take-append-drop, length-drop, take_all, take_more}
 use Rattle.std.proofs.lemmas.List.Sums.{prefix_len-le-length}
 use Rattle.std.proofs.lemmas.Str.{chars-nil, encode_ascii, chars_from_encodes, encodes-chars, encodes-append, IsCharBoundary-from_drop}
@@ -21,11 +21,11 @@ use Rattle.litrs_base.proofs.ByteLen.{byte_len_one_ascii, length-le-byte_len, by
 use Rattle.litrs_base.proofs.CharEnds.{char_span_on}
 use Rattle.litrs_base.proofs.Chars.{chars_ascii, chars_wide, chars_empty, OnlyAscii, passing_front, utf8_after_ascii, ascii_from_test, prefix_len-chars, first_passes-chars}
 use Rattle.litrs_base.proofs.ListTests.{if_true, if_false}
-use Rattle.litrs_base.proofs.Runs.{prefix_len_all}
-use Rattle.litrs_grammar.specs.Escape.{Switches, Escape, escape_text, escape_value, value_bytes, simple_escape, hex_escape, unicode_escape, escape_refusal, allows_value, allows_byte, is_escape, is_simple, simple_value, pair_value}
+use Rattle.litrs_base.specs.declared.quotes.Switches.{Switches}
+use Rattle.litrs_grammar.specs.Escape.{Escape, escape_text, escape_value, value_bytes, simple_escape, hex_escape, unicode_escape, escape_refusal, allows_value, allows_byte, is_escape, is_simple, simple_value, pair_value}
 use Rattle.litrs_grammar.specs.Suffix.{is_suffix, suffix_refusal}
 use Rattle.litrs_grammar.specs.Quoted.{Item, plain_item, escape_item, continuation, item_text, item_value, is_item, is_taken_before, is_plain, body_value, without_last, rest_refusal}
-use Rattle.litrs_grammar.proofs.Laws.Escape.{by_simple, refusal_escape}
+use Rattle.litrs_grammar.proofs.Laws.Escape.{by_simple}
 use Rattle.litrs_grammar.proofs.QuotedItems.{last_of, without_last-append}
 use Rattle.litrs_grammar.proofs.Laws.Quoted.{quoted_values_fit_bodies}
 use Rattle.litrs_lex.specs.QuotedItems.{IsItemAt, EndsItems, item_bytes}
@@ -215,15 +215,6 @@ escape_refused w bytes bs cut e is u other is_cut refused =
     ap (rest_refusal w) at ∙ escape_row w (chars bs) (Some (refusal_of e)) (first_passes-chars _ bs lf_ascii text ∙ other)
     (ap (λ l. escape_refusal w (without_last l)) (sym at) ∙ (ap (escape_refusal w) (sym is_cut) ∙ refused.table))
 
--- where one stands, nothing is refused
-pub escape_free : (w : Switches) (bytes bs cut : List ℕ) (value : Unescape) (n : ℕ) → bytes ≡ 92 ∷ bs → IsUtf8 bytes → first_passes (λ c. c == 10) bs ≡ false →
-    chars cut ≡ without_last (chars bytes) → IsUnescaped w cut value n → rest_refusal w (chars bytes) ≡ None
-escape_free w bytes bs cut value n is u other is_cut read =
-    let text = utf8_after_ascii 92 bs (omega arith) (subst (λ (l : List ℕ). IsUtf8 l) is u) in
-    let at = slash_chars bytes bs is in
-    ap (rest_refusal w) at ∙ escape_row w (chars bs) None (first_passes-chars _ bs lf_ascii text ∙ other)
-    (ap (λ l. escape_refusal w (without_last l)) (sym at) ∙ (ap (escape_refusal w) (sym is_cut ∙ sym read.spells) ∙ refusal_escape w read.escape read.rest read.grammar))
-
 -- the character span of its refusal is that in the text: of the empty text it passes the end
 first_row : (w : Switches) (e : Refusal) → escape_refusal w [] ≡ Some e → at 0 UnterminatedEscape ≡ e
 unfolding escape_refusal
@@ -351,10 +342,6 @@ pub two_of : (bytes after more : List ℕ) → bytes ≡ 92 ∷ drop 1 bytes →
     bytes ≡ 92 ∷ 10 ∷ more
 two_of bytes after more is same first rest = is ∙ ap (λ l. 92 ∷ l) (sym same ∙ (lf_first after first ∙ ap (λ l. 10 ∷ l) (sym rest)))
 
-pub some_after : (bs : List ℕ) → first_passes (λ c. c == 10) bs ≡ true → 1 ≤ length bs
-some_after [] h = absurd (false≢true h)
-some_after (b ∷ bs) h = omega arith
-
 last_cut : (text t : List ℕ) (c : ℕ) → IsUtf8 text → text ≡ t ++ encode_utf8 c → IsUtf8 t → chars t ≡ without_last (chars text)
 last_cut text t c u is v =
     let spelled : encode_utf8_all (chars t ++ c ∷ []) ≡ text =
@@ -383,37 +370,6 @@ stepped_back [] t None u v h = ap chars h.1 ∙ (chars-nil ∙ sym (ap without_l
 stepped_back (b ∷ text) t None u v h = absurd (let none = h.0 in omega arith)
 stepped_back text t (Some c) u v h = last_cut text t c u h v
 
--- a blank does not end the text after a continuation
-blanks_free_row : (w : Switches) (t : List ℕ) → list_all is_blank t ≡ false → rest_refusal w (92 ∷ 10 ∷ t) ≡ None
-unfolding rest_refusal
-blanks_free_row w t h = if_false (list_all is_blank t) _ _ h
-
-not_all : (p : ℕ → Bool) (t : List ℕ) (b : Bool) → list_all p t ≡ b → prefix_len p t < length t → b ≡ false
-not_all p t false is less = refl
-not_all p t true is less = let all = prefix_len_all p t is in absurd (omega arith)
-
-pub continuation_free : (w : Switches) (bytes bs : List ℕ) (k : ℕ) → bytes ≡ 92 ∷ 10 ∷ bs → IsUtf8 bytes → k ≡ prefix_len is_blank bs → (2 + k ≡ length bytes → ⊥) →
-    rest_refusal w (chars bytes) ≡ None
-continuation_free w bytes bs k is u count other =
-    let whole = ap length is in let le = prefix_len-le-length is_blank bs in
-    let fewer : k < length bs = fewer_of k (length bs) (omega arith) (λ e. other (omega arith)) in
-    let text = after_two bs bytes is u in
-    let same = prefix_len-chars is_blank bs blank_ascii text in
-    let front = passing_front is_blank bs blank_ascii text in
-    let n = prefix_len is_blank bs in
-    let some : 0 < length (drop n bs) = omega (arith, length-drop n bs) in
-    let after : is_empty (chars (drop n bs)) ≡ false = not_empty (drop n bs) front.utf8 some in
-    let longer : n < length (chars bs) = longer_of n (chars bs) (chars (drop n bs)) front.rest after in
-    ap (rest_refusal w) (ap chars is ∙ lf_chars bs) ∙ blanks_free_row w (chars bs) (not_all is_blank (chars bs) _ refl (omega arith))
-  where
-    longer_of : (n : ℕ) (t x : List ℕ) → drop n t ≡ x → is_empty x ≡ false → n < length t
-    longer_of n t [] is h = absurd (false≢true (sym h))
-    longer_of n t (c ∷ x) is h = let size = ap length is in omega (arith, length-drop n t)
-
--- the closing quote
-pub quote_ends : (w : Switches) (bytes bs : List ℕ) → bytes ≡ 34 ∷ bs → EndsItems w (chars bytes)
-quote_ends w bytes bs is = inl (ap (λ l. first_passes (λ c. c == 34) (chars l)) is ∙ ap (first_passes (λ c. c == 34)) (chars_ascii 34 bs (omega arith)))
-
 free_row : (w : Switches) (t : List ℕ) → is_suffix t ≡ true → rest_refusal w (34 ∷ t) ≡ None
 unfolding rest_refusal
 free_row w t h =
@@ -423,20 +379,6 @@ free_row w t h =
 
 pub quote_free : (w : Switches) (bytes bs after : List ℕ) → bytes ≡ 34 ∷ bs → after ≡ bs → is_suffix (chars after) ≡ true → rest_refusal w (chars bytes) ≡ None
 quote_free w bytes bs after is same h = ap (rest_refusal w) (sym (quote_chars bytes bs after is same)) ∙ free_row w (chars after) h
-
--- what is no plain character and no backslash ends the items
-pub others_end : (w : Switches) (bytes bs : List ℕ) (b : ℕ) → bytes ≡ b ∷ bs → IsUtf8 bytes → (b == 92) ≡ false → first_passes (is_plain w) (chars bytes) ≡ false →
-    EndsItems w (chars bytes)
-others_end w bytes bs b is u s h = elim (cases_eq b 34) [
-  | inl quote ↦ quote_ends w bytes bs (is ∙ ap (λ n. n ∷ bs) quote)
-  | inr q ↦ elim (cases_eq b 13) [
-    | inl return ↦ inr (_, return_refused w bytes bs (is ∙ ap (λ n. n ∷ bs) return))
-    | inr r ↦ elim (cases_eq b 0) [
-      | inl zero ↦ inr (_, nul_refused w bytes bs (is ∙ ap (λ n. n ∷ bs) zero) h)
-      | inr z ↦ inr (_, wide_refused w bytes bs b is u (ne_eqb b 34 q) s (ne_eqb b 13 r) (ne_eqb b 0 z) h)
-    ]
-  ]
-]
 
 -- the closing quote stands where the items end and nothing is refused
 told_suffix : (w : Switches) (s : List ℕ) (b : Bool) → is_suffix s ≡ b → rest_refusal w (34 ∷ s) ≡ None → b ≡ true

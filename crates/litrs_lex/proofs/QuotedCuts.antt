@@ -11,7 +11,7 @@ use Rattle.litrs_base.specs.Text.{byte_len, first_passes}
 use Rattle.litrs_base.proofs.ByteLen.{byte_len_one_ascii}
 use Rattle.litrs_base.proofs.CharEnds.{char_span_points, char_span_moved, moves_within}
 use Rattle.litrs_base.proofs.Spans.{byte_len-append}
-use Rattle.litrs_grammar.specs.Escape.{Switches}
+use Rattle.litrs_base.specs.declared.quotes.Switches.{Switches}
 use Rattle.litrs_grammar.specs.Allocation.{has_backslash}
 use Rattle.litrs_grammar.specs.Suffix.{is_suffix}
 use Rattle.litrs_grammar.proofs.LongerTexts.Suffix.{is_suffix-nil}

@@ -9,7 +9,7 @@ use Rattle.std.proofs.lemmas.Str.{chars_from_encodes, encodes-chars, encodes-app
 use Rattle.litrs_base.specs.declared.escape.Unescape.{Unescape}
 use Rattle.litrs_base.specs.Text.{byte_len}
 use Rattle.litrs_base.proofs.Spans.{byte_len-append}
-use Rattle.litrs_grammar.specs.Escape.{Switches}
+use Rattle.litrs_base.specs.declared.quotes.Switches.{Switches}
 use Rattle.litrs_grammar.specs.Quoted.{Item, plain_item, item_text, item_value, is_item, is_taken_before, is_plain, body_text, body_value, stand_before}
 use Rattle.litrs_grammar.proofs.Laws.Quoted.{body_text-append, body_value-append}
 use Rattle.litrs_lex.specs.QuotedItems.{IsPlainRun, IsItemAt, item_bytes}

@@ -12,7 +12,7 @@ use Rattle.litrs_base.specs.declared.err.ParseError.{ParseError}
 use Rattle.litrs_base.specs.Characters.{is_scalar}
 use Rattle.litrs_base.specs.Refusal.{Refusal}
 use Rattle.litrs_base.specs.Text.{is_empty, first_passes}
-use Rattle.litrs_grammar.specs.Escape.{Switches}
+use Rattle.litrs_base.specs.declared.quotes.Switches.{Switches}
 use Rattle.litrs_grammar.specs.Quoted.{Item, plain_item, escape_item, continuation, is_item, is_taken_before, takes_all_blanks, is_body, body_text, body_value, stand_before, QuotedParts, IsQuoted, rest_refusal}
 use Rattle.litrs_grammar.proofs.QuotedItems.{stands_body}
 use Rattle.litrs_grammar.proofs.Laws.Quoted.{quoted_texts_are_unique, quoted_texts_are_not_refused}

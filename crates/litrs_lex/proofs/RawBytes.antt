@@ -7,7 +7,7 @@ use Rattle.std.specs.List.{prefix_len, list_all, slice_index}
 use Rattle.std.proofs.Math.Seq.{drop-append-add}
 use Rattle.std.proofs.lemmas.Bool.{and_parts, and_from, ltb-true, ne_eqb, eqb-true, not-true, not-false, cases_lt, lt-ltb, le-ltb, true≢false, false≢true}
 use Rattle.std.proofs.lemmas.List.{length-append, length-drop, length-take-le, drop_more, drop_all, drop-drop, take_at, append_assoc, append_cancel_right, take-append-drop}
-use Rattle.std.proofs.lemmas.Str.{chars-nil, chars-append, encodes-chars, IsUtf8-take, IsUtf8-drop, IsCharBoundary-from_drop}
+use Rattle.std.proofs.lemmas.Str.{chars-nil, chars-append, encodes-chars, IsUtf8-take, IsCharBoundary-from_drop}
 use Rattle.litrs_base.specs.declared.err.ParseErrorKind.{ParseErrorKind}
 use Rattle.litrs_base.specs.declared.err.ParseErrorKind.TheVariants.{InvalidLiteral, TooManyHashes, UnterminatedRawString}
 use Rattle.litrs_base.specs.declared.err.ParseError.{ParseError}
@@ -29,10 +29,10 @@ use Rattle.litrs_grammar.proofs.RawClosings.{raw_scans_stay}
 use Rattle.litrs_grammar.proofs.Laws.Raw.{raw_rows, refusal_of_closed, after_closing, length_closing, only_parts, parts_of, refused}
 use Rattle.litrs_grammar.proofs.RawScans.{raw_scans_go_on, raw_refusals_go_on}
 use Rattle.litrs_grammar.proofs.Spans.Raw.{raw_refusal_within}
-use Rattle.litrs_lex.specs.RawCut.{raw_parts_at, IsRawCut, IsRawRefused, raw_special, IsPassed, IsStop, IsBodyCut}
+use Rattle.litrs_lex.specs.RawCut.{raw_parts_at, IsRawCut, IsRawRefused, raw_special, IsPassed, IsStop, IsRawOpening, IsBodyCut}
 use Rattle.litrs_lex.proofs.PlainRuns.{AlikeFrom128}
 use Rattle.litrs_lex.proofs.CharRuns.{IsCharRun, char_run}
-use Rattle.litrs_lex.proofs.FloatBytes.{chars_after, utf8_after}
+use Rattle.litrs_lex.proofs.FloatBytes.{chars_after, utf8_after, rest_is}
 use Rattle.litrs_lex.proofs.SuffixBytes.{is_suffix-nil}
 
 -- One character: the search stops at those that may not stand in a body, and at `"`.
@@ -431,48 +431,44 @@ opening_quote u a start b bs r utf8 is few quote =
 
 -- The whole
 
-pub record IsOpened (offset n start : ℕ) (bytes : List ℕ) : Type 0 where
-  pub utf8 : IsUtf8 (drop offset bytes)
-  pub count : hash_len (drop offset bytes) ≡ n
-  pub few : n ≤ 255
-  pub at_start : offset + (n + 1) ≡ start
-  pub first : ℕ
-  pub rest : List ℕ
-  pub after : drop (hash_len (drop offset bytes)) (drop offset bytes) ≡ first ∷ rest
-  pub quote : first ≡ 34
-  pub rest_is : rest ≡ drop start bytes
+pub after_hashes_is : (text : List ℕ) (offset n : ℕ) → n ≡ hash_len (drop offset text) → drop (hash_len (drop offset text)) (drop offset text) ≡ drop (offset + n) text
+after_hashes_is text offset n count = drop-drop (hash_len (drop offset text)) offset text ∙ ap (λ k. drop (offset + k) text) (sym count)
 
-pub opened : (offset n opening : ℕ) (bytes : List ℕ) (b : ℕ) (r : List ℕ) → IsUtf8 bytes → IsCharBoundary bytes offset → n ≡ hash_len (drop offset bytes) → n ≤ 255 → opening ≡ offset + n →
-    drop opening bytes ≡ b ∷ r → b ≡ 34 → IsOpened offset n (opening + 1) bytes
-opened offset n opening bytes b r utf8 boundary count few at_opening is quote = record {
-  utf8 = IsUtf8-drop bytes offset utf8 boundary;
-  count = sym count;
-  few = few;
-  at_start = omega arith;
-  first = b;
-  rest = r;
-  after = drop-drop (hash_len (drop offset bytes)) offset bytes ∙ (ap (λ k. drop k bytes) (ap (λ m. offset + m) (sym count) ∙ sym at_opening) ∙ is);
-  quote = quote;
-  rest_is = ap (drop 1) (sym is) ∙ drop-drop 1 opening bytes;
-}
+-- the hashes are counted in the bytes that the code looks at
+pub hashes_at : (bytes text : List ℕ) (offset n : ℕ) → bytes ≡ text → offset ≤ length text → n ≡ hash_len (take (length bytes - offset) (drop offset bytes)) →
+    n ≤ length (take (length bytes - offset) (drop offset bytes)) → (n ≡ hash_len (drop offset text)) × (offset + n ≤ length text)
+hashes_at bytes text offset n same within count few =
+    let rest = rest_is bytes text offset same in
+    let all : n ≤ length (drop offset text) = subst (λ (l : List ℕ). n ≤ length l) rest few in
+    (count ∙ ap hash_len rest, omega (arith, length-drop offset text))
 
-pub body_refusal_is : (u a : Bool) (offset n start : ℕ) (bytes : List ℕ) → IsOpened offset n start bytes →
+-- the quote after the hashes
+quote_after : (offset n start : ℕ) (bytes : List ℕ) → IsRawOpening offset bytes (n, start) →
+    drop (hash_len (drop offset bytes)) (drop offset bytes) ≡ 34 ∷ drop start bytes
+quote_after offset n start bytes o = after_hashes_is bytes offset n o.count ∙ o.quote
+
+pub body_refusal_is : (u a : Bool) (offset n start : ℕ) (bytes : List ℕ) → IsUtf8 (drop offset bytes) → IsRawOpening offset bytes (n, start) →
     raw_refusal u a offset (chars (drop offset bytes)) ≡ raw_body_refusal u a n start (chars (drop start bytes))
-body_refusal_is u a offset n start bytes o =
-    opening_quote u a offset o.first (drop offset bytes) o.rest o.utf8 o.after (subst (λ (k : ℕ). k ≤ 255) (sym o.count) o.few) o.quote
-    ∙ (λ j. raw_body_refusal u a (o.count j) ((ap (λ k. offset + (k + 1)) o.count ∙ o.at_start) j) (chars (o.rest_is j)))
+body_refusal_is u a offset n start bytes utf8 o =
+    let count : hash_len (drop offset bytes) ≡ n = sym o.count in
+    let end : start ≡ offset + n + 1 = o.start in
+    let at_start : offset + (hash_len (drop offset bytes) + 1) ≡ start = omega arith in
+    opening_quote u a offset 34 (drop offset bytes) (drop start bytes) utf8 (quote_after offset n start bytes o) (subst (λ (k : ℕ). k ≤ 255) o.count o.few) refl
+    ∙ (λ j. raw_body_refusal u a (count j) (at_start j) (chars (drop start bytes)))
 
-pub raw_cut : (u a : Bool) (offset n start place : ℕ) (bytes : List ℕ) → IsOpened offset n start bytes → IsCharBoundary bytes start → IsBodyCut u a n start bytes place →
+pub raw_cut : (u a : Bool) (offset n start place : ℕ) (bytes : List ℕ) → IsUtf8 (drop offset bytes) → IsRawOpening offset bytes (n, start) → IsBodyCut u a n start bytes place →
     IsRawCut u a offset bytes (n, place)
-raw_cut u a offset n start place bytes o boundary b =
+raw_cut u a offset n start place bytes utf8 o b =
     let t = chars (drop offset bytes) in
     let r = chars (drop start bytes) in
-    let count : hash_len t ≡ n = prefix_len-chars is_hash (drop offset bytes) hash_is_ascii o.utf8 ∙ o.count in
-    let front = passing_front is_hash (drop offset bytes) hash_is_ascii o.utf8 in
+    let count : hash_len t ≡ n = prefix_len-chars is_hash (drop offset bytes) hash_is_ascii utf8 ∙ sym o.count in
+    let front = passing_front is_hash (drop offset bytes) hash_is_ascii utf8 in
     let after : drop (suc (hash_len t)) t ≡ r =
-    ap (λ k. drop k t) (ap suc (prefix_len-chars is_hash (drop offset bytes) hash_is_ascii o.utf8) ∙ one_more (hash_len (drop offset bytes)))
+    ap (λ k. drop k t) (ap suc (prefix_len-chars is_hash (drop offset bytes) hash_is_ascii utf8) ∙ one_more (hash_len (drop offset bytes)))
     ∙ (sym (drop-drop 1 (hash_len (drop offset bytes)) t) ∙ (ap (drop 1) front.rest
-    ∙ (after_opening_quote (drop offset bytes) o.first o.rest o.utf8 o.after o.quote ∙ ap chars o.rest_is))) in
+    ∙ after_opening_quote (drop offset bytes) 34 (drop start bytes) utf8 (quote_after offset n start bytes o) refl)) in
+    let end : start ≡ offset + n + 1 = o.start in
+    let at_start : offset + (n + 1) ≡ start = omega arith in
     let parts : parts_of t ≡ raw_parts_at offset bytes (n, place) =
     (λ j. record {
       hash_count = count j;
@@ -480,13 +476,13 @@ raw_cut u a offset n start place bytes o boundary b =
       suffix = drop (length_before (raw_closing (count j)) (after j) + (1 + count j)) (after j);
     }) ∙ (λ j. record {
       hash_count = n;
-      body = (b.body ∙ ap (λ k. chars (slice_range bytes k (place - (n + 1)))) (sym o.at_start)) j;
+      body = (b.body ∙ ap (λ k. chars (slice_range bytes k (place - (n + 1)))) (sym at_start)) j;
       suffix = b.suffix j;
     }) in
-    let only = only_parts u a offset t (body_refusal_is u a offset n start bytes o ∙ b.free) in record {
+    let only = only_parts u a offset t (body_refusal_is u a offset n start bytes utf8 o ∙ b.free) in record {
       only = subst (λ (d : RawParts). IsOnlyDerivation (IsRawOf u a t) d) parts only;
-      in_order = omega (arith, o.at_start, b.in_order);
-      start = subst (λ (k : ℕ). IsCharBoundary bytes k) (sym o.at_start) boundary;
+      in_order = omega (arith, b.in_order);
+      start = subst (λ (k : ℕ). IsCharBoundary bytes k) (sym at_start) o.boundary;
       end = b.body_end;
       suffix = b.suffix_start;
       scan = raw_scans_stay t;
@@ -557,9 +553,3 @@ closing_of u a n start place bytes text same s closes inside quote =
     let is : drop place bytes ≡ 34 ∷ drop (place + 1) bytes = cons_at bytes bytes place 34 refl s.within inside quote in
     let there : begins_with (raw_closing n) (drop place bytes) ≡ true = closes (ap (first_passes is_quote) is) in
     subst (λ (l : List ℕ). Closing n place l) same (closing_at n place bytes s.within s.utf8 there)
-
-pub after_hashes_is : (text : List ℕ) (offset n : ℕ) → n ≡ hash_len (drop offset text) → drop (hash_len (drop offset text)) (drop offset text) ≡ drop (offset + n) text
-after_hashes_is text offset n count = drop-drop (hash_len (drop offset text)) offset text ∙ ap (λ k. drop (offset + k) text) (sym count)
-
-pub hashes_within : (text : List ℕ) (offset n : ℕ) → offset ≤ length text → n ≤ length (drop offset text) → offset + n ≤ length text
-hashes_within text offset n within few = omega (arith, length-drop offset text)

@@ -6,7 +6,7 @@ use Rattle.std.proofs.lemmas.List.{drop-drop, length-drop}
 use Rattle.litrs_base.specs.declared.escape.Unescape.{Unescape}
 use Rattle.litrs_base.specs.declared.escape.Unescape.TheVariants.{Byte, Unicode}
 use Rattle.litrs_base.specs.Text.{byte_len, first_passes}
-use Rattle.litrs_grammar.specs.Escape.{Switches}
+use Rattle.litrs_base.specs.declared.quotes.Switches.{Switches}
 use Rattle.litrs_grammar.specs.Quoted.{body_value}
 use Rattle.litrs_lex.specs.Container.{is_pushable}
 use Rattle.litrs_lex.specs.QuotedItems.{IsPlainRun, IsItemAt, item_bytes}

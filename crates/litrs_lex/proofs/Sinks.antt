@@ -7,6 +7,7 @@ use Rattle.std.proofs.lemmas.Bool.{ltb-true, true≢false}
 use Rattle.std.proofs.lemmas.List.{take-take, length-take-le, length-drop}
 use Rattle.std.proofs.lemmas.Str.{IsUtf8-encode, IsUtf8-append, encode_ascii}
 use Rattle.litrs_base.specs.Characters.{is_ascii}
+use Rattle.litrs_lex.specs.Container.{IsFilledTo}
 
 -- where 16 bytes are moved, those after the part are no part of the value
 pub part_moved : (room before text piece : List ℕ) (len start count : ℕ) → piece ≡ take (start + 16 - start) (drop start text) → count ≤ 16 → 16 ≤ length text - start →
@@ -20,8 +21,8 @@ part_moved room before text piece len start count is few enough size copied =
     ∙ ap (λ l. before ++ l) (ap (take count) moved ∙ take-take count 16 (drop start text) few))))
 
 -- a piece with more bytes
-pub piece_grows : (takes : Bool) (contents piece new v part : List ℕ) → new ≡ piece ++ part → (takes ≡ false → IsUtf8 part) → (contents ++ piece ≡ v) × (takes ≡ false → IsUtf8 piece) →
-    (contents ++ new ≡ v ++ part) × (takes ≡ false → IsUtf8 new)
+pub piece_grows : (takes : Bool) (contents piece new v part : List ℕ) → new ≡ piece ++ part → (takes ≡ false → IsUtf8 part) → IsFilledTo takes contents piece v →
+    IsFilledTo takes contents new (v ++ part)
 piece_grows takes contents piece new v part is text held = (
   ap (λ l. contents ++ l) is ∙ (sym (append_assoc contents piece part) ∙ ap (λ l. l ++ part) held.0),
   λ none. subst IsUtf8 (sym is) (IsUtf8-append piece part (held.1 none) (text none)),
@@ -33,6 +34,5 @@ byte_text true b h none = absurd (true≢false none)
 byte_text false b h none = let low = ltb-true b 128 h in subst IsUtf8 (encode_ascii b low) (IsUtf8-encode b (low_scalar b (omega arith)))
 
 -- the same bytes, said otherwise
-pub grown : (takes : Bool) (contents piece v a b : List ℕ) → a ≡ b → (contents ++ piece ≡ v ++ a) × (takes ≡ false → IsUtf8 piece) →
-    (contents ++ piece ≡ v ++ b) × (takes ≡ false → IsUtf8 piece)
+pub grown : (takes : Bool) (contents piece v a b : List ℕ) → a ≡ b → IsFilledTo takes contents piece (v ++ a) → IsFilledTo takes contents piece (v ++ b)
 grown takes contents piece v a b is held = (held.0 ∙ ap (λ l. v ++ l) is, held.1)

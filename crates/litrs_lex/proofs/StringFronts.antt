@@ -8,9 +8,9 @@ use Rattle.std.proofs.lemmas.Str.{chars-IsAscii, IsCharBoundary-from_drop}
 use Rattle.litrs_base.specs.Text.{begins_with}
 use Rattle.litrs_base.proofs.Begins.{begins_with-split}
 use Rattle.litrs_base.proofs.Chars.{begins_front, begins_with-chars}
-use Rattle.litrs_grammar.specs.StringKind.{StringKind, string_kind, byte_string_kind, c_string_kind}
-use Rattle.litrs_grammar.specs.Quoted.{quoted_front}
-use Rattle.litrs_grammar.specs.Raw.{raw_front}
+use Rattle.litrs_base.specs.declared.quotes.StringKind.{StringKind}
+use Rattle.litrs_base.specs.declared.quotes.StringKind.TheVariants.{String as string_kind, ByteString as byte_string_kind, CString as c_string_kind}
+use Rattle.litrs_base.specs.Quotes.{quoted_front, raw_front}
 
 abbrev is_low : List ℕ → Bool
 is_low t = list_all (λ c. nat_lt c 128) t

@@ -19,7 +19,8 @@ use Rattle.litrs_base.proofs.Chars.{OnlyAscii, chars_ascii, utf8_after_ascii, fi
 use Rattle.litrs_base.proofs.ListTests.{if_true, if_false, Split, split_first, before_first-split, list_any-split}
 use Rattle.litrs_base.proofs.Runs.{list_all-weaken}
 use Rattle.litrs_base.proofs.Spans.{byte_len-append}
-use Rattle.litrs_grammar.specs.Escape.{Switches, unicode_escape, escape_refusal, unicode_refusal, inner_refusal, hex_value, is_hex_or_underscore, allows_value, place_after}
+use Rattle.litrs_base.specs.declared.quotes.Switches.{Switches}
+use Rattle.litrs_grammar.specs.Escape.{unicode_escape, escape_refusal, unicode_refusal, inner_refusal, hex_value, is_hex_or_underscore, allows_value, place_after}
 use Rattle.litrs_grammar.proofs.Laws.Escape.{hex_or_underscore_ascii, not_brace, starts_inner, no_stranger, has_stranger}
 use Rattle.litrs_lex.specs.declared.escape.HexDigits.{HexDigits}
 use Rattle.litrs_lex.specs.Unescaped.{switches, IsUnescaped, IsHexDigits}

@@ -1,6 +1,6 @@
 -- Where a char or a byte is cut, in bytes. The Rust Reference, Tokens, Literals:
 -- "Character literals" and "Byte literals".
-use Rattle.std.specs.Prelude.{◌≡◌, ℕ, ◌+◌, ◌-◌, ◌==◌, Bool, true, false, List, ◌∷◌, ◌++◌, length, take, drop, slice_index, slice_range, Some, IsTrue, if◌then◌else◌}
+use Rattle.std.specs.Prelude.{◌≡◌, ℕ, ◌+◌, ◌-◌, ◌==◌, Bool, List, ◌∷◌, ◌++◌, length, take, drop, slice_index, slice_range, Some, IsTrue, if◌then◌else◌}
 use Rattle.std.specs.Str.{chars, IsCharBoundary}
 use Rattle.litrs_base.specs.declared.err.ParseError.{ParseError}
 use Rattle.litrs_base.specs.declared.escape.Unescape.{Unescape}
@@ -9,7 +9,10 @@ use Rattle.litrs_base.specs.Refusal.{refusal_of, HasCharSpan}
 use Rattle.litrs_base.specs.Text.{byte_len}
 use Rattle.litrs_base.specs.Unescape.{unescaped_number, is_unescaped_char, is_unescaped_byte}
 use Rattle.litrs_grammar.specs.Escape.{Escape, simple_escape, hex_escape, unicode_escape}
-use Rattle.litrs_grammar.specs.CharByte.{CharKind, char_kind, byte_kind, char_front, CharItem, plain_char, escaped_char, char_item_text, char_value, is_char_item, CharParts, IsCharLiteral, char_item_refusal}
+use Rattle.litrs_base.specs.declared.quotes.CharKind.{CharKind}
+use Rattle.litrs_base.specs.declared.quotes.CharKind.TheVariants.{Char as char_kind, Byte as byte_kind}
+use Rattle.litrs_base.specs.Quotes.{char_front}
+use Rattle.litrs_grammar.specs.CharByte.{CharItem, plain_char, escaped_char, char_item_text, char_value, is_char_item, CharParts, IsCharLiteral, char_item_refusal}
 use Rattle.litrs_grammar.specs.Suffix.{is_suffix}
 
 -- the escape that is written so
@@ -41,11 +44,6 @@ pub record IsCharAt (kind : CharKind) (value start : ℕ) (bytes : List ℕ) : T
   pub is_value : char_value (char_parts_at kind start bytes).item ≡ value
 
 -- After the front
-
--- the kind, by whether it is that of bytes
-abbrev pub kind_if : (is_byte : Bool) → CharKind
-kind_if true = byte_kind
-kind_if false = char_kind
 
 -- what a literal of the kind may take from an escape
 abbrev pub unwraps_as : CharKind → Unescape → Bool

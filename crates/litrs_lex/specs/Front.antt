@@ -7,19 +7,9 @@ use Rattle.litrs_base.specs.Text.{is_empty, first_passes, begins_with}
 use Rattle.litrs_grammar.specs.Bool.{bool_text}
 use Rattle.litrs_grammar.specs.Literal.{bool_literal, integer_literal, float_literal, char_literal, byte_literal, c_string_literal, string_literal_of}
 use Rattle.litrs_grammar.specs.LiteralRefusals.{begins_float, Dispatch, refused_as, parsed_as, dispatch}
-use Rattle.litrs_grammar.specs.Quoted.{quoted_front}
-use Rattle.litrs_grammar.specs.Raw.{raw_front}
-use Rattle.litrs_grammar.specs.StringKind.{StringKind, string_kind, byte_string_kind, c_string_kind}
-use Rattle.litrs_lex.specs.declared.kind.StringKind.{StringKind as CodeKind}
-use Rattle.litrs_lex.specs.declared.kind.StringKind.TheVariants as code
+use Rattle.litrs_base.specs.Quotes.{quoted_front, raw_front}
 use Rattle.litrs_lex.specs.declared.kind.Front.{Front}
 use Rattle.litrs_lex.specs.declared.kind.Front.TheVariants as front
-
--- the kind of strings in the grammar
-abbrev pub grammar_kind : CodeKind → StringKind
-grammar_kind code.String = string_kind
-grammar_kind code.ByteString = byte_string_kind
-grammar_kind code.CString = c_string_kind
 
 -- the row of the dispatch for the text with these bytes, which begins so
 abbrev pub row_of : Front → List ℕ → Dispatch
@@ -29,8 +19,8 @@ row_of front.Number bytes =
     if begins_float bytes then parsed_as float_literal else parsed_as integer_literal
 row_of front.Char bytes = parsed_as char_literal
 row_of front.Byte bytes = parsed_as byte_literal
-row_of (front.Quoted kind) bytes = parsed_as (string_literal_of (grammar_kind kind))
-row_of (front.Raw kind) bytes = parsed_as (string_literal_of (grammar_kind kind))
+row_of (front.Quoted kind) bytes = parsed_as (string_literal_of kind)
+row_of (front.Raw kind) bytes = parsed_as (string_literal_of kind)
 row_of front.Other bytes =
     if begins_with (codes "c") bytes then parsed_as c_string_literal
     else refused_as (plain InvalidLiteral)
@@ -43,8 +33,8 @@ BeginsAs (front.Bool value) bytes = bytes ≡ bool_text value
 BeginsAs front.Number bytes = IsTrue (first_passes is_ascii_digit bytes)
 BeginsAs front.Char bytes = IsTrue (begins_with (codes "'") bytes)
 BeginsAs front.Byte bytes = IsTrue (begins_with (codes "b'") bytes)
-BeginsAs (front.Quoted kind) bytes = IsTrue (begins_with (quoted_front (grammar_kind kind)) bytes)
-BeginsAs (front.Raw kind) bytes = IsTrue (begins_with (raw_front (grammar_kind kind)) bytes)
+BeginsAs (front.Quoted kind) bytes = IsTrue (begins_with (quoted_front kind) bytes)
+BeginsAs (front.Raw kind) bytes = IsTrue (begins_with (raw_front kind) bytes)
 BeginsAs front.Other bytes =
     IsFalse (begins_with (codes "c\"") bytes) × IsFalse (begins_with (codes "cr") bytes)
 

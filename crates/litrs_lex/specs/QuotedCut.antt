@@ -10,7 +10,7 @@ use Rattle.litrs_base.specs.Derivations.{IsOnlyDerivation, HasNoDerivation}
 use Rattle.litrs_base.specs.Finality.{is_final, is_open}
 use Rattle.litrs_base.specs.Refusal.{Refusal, plain, refusal_of, kind_of, char_span_of, IsInText, HasCharSpan}
 use Rattle.litrs_base.specs.Text.{byte_len}
-use Rattle.litrs_grammar.specs.Escape.{Switches}
+use Rattle.litrs_base.specs.declared.quotes.Switches.{Switches}
 use Rattle.litrs_grammar.specs.Allocation.{has_backslash}
 use Rattle.litrs_grammar.specs.Continuation.{EndsBy}
 use Rattle.litrs_grammar.specs.Quoted.{QuotedParts, IsQuoted, IsQuotedRefusal, body_text, body_value, stand_before}

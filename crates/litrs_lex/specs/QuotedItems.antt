@@ -6,7 +6,8 @@ use Rattle.litrs_base.specs.declared.escape.Unescape.{Unescape}
 use Rattle.litrs_base.specs.Characters.{double_quote}
 use Rattle.litrs_base.specs.Refusal.{Refusal}
 use Rattle.litrs_base.specs.Text.{byte_len, first_passes}
-use Rattle.litrs_grammar.specs.Escape.{Switches, value_bytes}
+use Rattle.litrs_base.specs.declared.quotes.Switches.{Switches}
+use Rattle.litrs_grammar.specs.Escape.{value_bytes}
 use Rattle.litrs_grammar.specs.Quoted.{Item, item_text, item_value, is_item, is_taken_before, is_plain, rest_refusal}
 use Rattle.litrs_lex.specs.declared.search.Special.{Special}
 use Rattle.litrs_lex.specs.Container.{is_pushable}

@@ -1,5 +1,5 @@
 -- Where a raw string is cut, in bytes.
-use Rattle.std.specs.Prelude.{◌≡◌, ◌==◌, ◌&&◌, ◌||◌, ℕ, ◌+◌, ◌-◌, ◌≤◌, Bool, false, not, List, ◌++◌, length, take, slice_index, slice_range, drop, Some, None, IfSome, IsTrue, IsFalse}
+use Rattle.std.specs.Prelude.{◌≡◌, ◌==◌, ◌&&◌, ◌||◌, ℕ, ◌+◌, ◌-◌, ◌≤◌, Bool, false, not, List, ◌∷◌, ◌++◌, length, take, slice_index, slice_range, drop, Some, None, IfSome, IsTrue, IsFalse}
 use Rattle.std.specs.List.{list_all}
 use Rattle.std.specs.Str.{chars, IsUtf8, IsCharBoundary}
 use Rattle.litrs_base.specs.declared.err.ParseError.{ParseError}
@@ -62,6 +62,15 @@ pub record IsRawRefused (unicode allow_nul : Bool) (offset : ℕ) (bytes : List 
       IsRawOf unicode allow_nul
       (chars (drop offset bytes) ++ raw_closing (hash_len (chars (drop offset bytes))))
       (raw_open_parts (chars (drop offset bytes)))
+
+-- After the offset stand these hashes, all there are and no more than 255, and `"`; the body begins
+-- after it.
+pub record IsRawOpening (offset : ℕ) (bytes : List ℕ) (opening : ℕ × ℕ) : Type 0 where
+  pub count : opening.0 ≡ hash_len (drop offset bytes)
+  pub few : opening.0 ≤ 255
+  pub quote : drop (offset + opening.0) bytes ≡ double_quote ∷ drop opening.1 bytes
+  pub start : opening.1 ≡ offset + opening.0 + 1
+  pub boundary : IsCharBoundary bytes opening.1
 
 -- the bytes that a search in a raw body stops at beside `"` and CR
 abbrev pub raw_special : (unicode allow_nul : Bool) → Special

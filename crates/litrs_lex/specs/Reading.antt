@@ -5,7 +5,7 @@ use Rattle.litrs_base.specs.declared.err.ParseError.{ParseError}
 use Rattle.litrs_base.specs.Characters.{double_quote}
 use Rattle.litrs_base.specs.Refusal.{refusal_of, HasCharSpan}
 use Rattle.litrs_base.specs.Text.{byte_len, first_passes}
-use Rattle.litrs_grammar.specs.Escape.{Switches}
+use Rattle.litrs_base.specs.declared.quotes.Switches.{Switches}
 use Rattle.litrs_grammar.specs.Quoted.{Item, body_text, body_value, is_plain, stand_before, rest_refusal, IsQuotedRefusal}
 use Rattle.litrs_lex.specs.Marked.{IsMarked}
 use Rattle.litrs_lex.specs.QuotedCut.{IsQuotedValue, IsQuotedOutOfMemory}

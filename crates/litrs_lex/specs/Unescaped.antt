@@ -1,6 +1,6 @@
 -- What `unescape` answers: the escape at the front of a text, or why none stands there. The Rust
 -- Reference, Tokens, Literals: the tables of escapes.
-use Rattle.std.specs.Prelude.{◌≡◌, ◌≤◌, ◌<◌, ◌^◌, ℕ, Bool, List, ◌++◌, Some, IfSome, IsTrue, IsFalse, length, take, drop, count_by}
+use Rattle.std.specs.Prelude.{◌≡◌, ◌≤◌, ℕ, Bool, List, ◌++◌, Some, IfSome, IsTrue, IsFalse, length, take, drop, count_by}
 use Rattle.std.specs.Char.{is_ascii_hexdigit}
 use Rattle.std.specs.List.{list_all}
 use Rattle.std.specs.Str.{chars, IsUtf8, IsCharBoundary}
@@ -10,19 +10,15 @@ use Rattle.litrs_base.specs.CharEnd.{PointsAtCharacters}
 use Rattle.litrs_base.specs.Finality.{is_final}
 use Rattle.litrs_base.specs.Refusal.{refusal_of, kind_of, char_span_of, IsInText, HasCharSpan}
 use Rattle.litrs_base.specs.Text.{byte_len, first_passes, is_empty}
-use Rattle.litrs_grammar.specs.Escape.{Switches, Escape, IsEscape, escape_text, escape_value, escape_refusal, is_hex_or_underscore, hex_value}
+use Rattle.litrs_base.specs.declared.quotes.Switches.{Switches}
+use Rattle.litrs_grammar.specs.Escape.{Escape, IsEscape, escape_text, escape_value, escape_refusal, is_hex_or_underscore, hex_value}
 use Rattle.litrs_grammar.specs.Laws.Escape.{BeginsWithEscape}
 use Rattle.litrs_lex.specs.declared.escape.HexDigits.{HexDigits}
-use Rattle.litrs_lex.specs.declared.escape.Switches.{Switches as CodeSwitches}
 
 -- what a literal allows in its escapes, by the three tests
 abbrev pub switches : (unicode byte_escapes allow_nul : Bool) → Switches
 switches unicode byte_escapes allow_nul =
     record { unicode = unicode; byte_escapes = byte_escapes; allow_nul = allow_nul }
-
--- the same of the switches of the code
-abbrev pub grammar_switches : CodeSwitches → Switches
-grammar_switches w = switches w.unicode w.byte_escapes w.allow_nul
 
 -- The text of these bytes begins with an escape, and with no other. The escape stands for the value
 -- and has so many bytes, after which the text may be cut.
@@ -54,6 +50,12 @@ pub record IsEscapeRefused (w : Switches) (t : List ℕ) (e : ParseError) : Type
   pub final : IsTrue (is_final (kind_of e)) → (more : List ℕ) → ¬ BeginsWithEscape w (t ++ more)
   pub stays : IsTrue (is_final (kind_of e)) → (more : List ℕ) →
       escape_refusal w (t ++ more) ≡ Some (refusal_of e)
+
+-- The table refuses the escape at the front of the text with the error. The rest of
+-- `IsEscapeRefused` follows.
+pub record HasEscapeRefusal (w : Switches) (t : List ℕ) (e : ParseError) : Type 0 where
+  pub table : escape_refusal w t ≡ Some (refusal_of e)
+  pub char_span : HasCharSpan t e
 
 -- The hex digits and underscores at the front of the bytes: so many bytes, with this value. They go
 -- on to the first byte that is neither, or to the seventh digit.

@@ -1,23 +1,23 @@
 //! What a body may have, as one parameter.
 ghost use Rattle.std.specs.Prelude.{◌≡◌};
-ghost use Rattle.litrs_grammar.specs.Escape.{Switches as GrammarSwitches, string_switches, byte_string_switches, c_string_switches};
-ghost use Rattle.litrs_lex.specs.Unescaped.{grammar_switches};
+ghost use Rattle.litrs_base.specs.declared.quotes.Switches.{Switches};
+ghost use Rattle.litrs_base.specs.Quotes.{string_switches, byte_string_switches, c_string_switches};
 
-use crate::Switches;
+use crate::{StringKind, Switches};
 
 /// What says what a body may have: a kind of literal, for which a call is compiled by itself, or
 /// the switches, where they are known only when it runs.
 pub trait Allows: Copy {
     /// The switches.
-    ghost allowed: { Self → GrammarSwitches };
+    ghost allowed: { Self → Switches };
 
     /// The switches.
     fn switches(self) -> Switches
-        ensures { grammar_switches result ≡ allowed self };
+        ensures { result ≡ allowed self };
 }
 
 impl Allows for Switches {
-    ghost allowed = { grammar_switches };
+    ghost allowed = { λ w. w };
 
     #[inline(always)]
     fn switches(self) -> Switches {
@@ -36,11 +36,7 @@ impl Allows for InString {
 
     #[inline(always)]
     fn switches(self) -> Switches {
-        Switches {
-            unicode: true,
-            byte_escapes: false,
-            allow_nul: true,
-        }
+        StringKind::String.switches()
     }
 }
 
@@ -55,11 +51,7 @@ impl Allows for InByteString {
 
     #[inline(always)]
     fn switches(self) -> Switches {
-        Switches {
-            unicode: false,
-            byte_escapes: true,
-            allow_nul: true,
-        }
+        StringKind::ByteString.switches()
     }
 }
 
@@ -74,10 +66,6 @@ impl Allows for InCString {
 
     #[inline(always)]
     fn switches(self) -> Switches {
-        Switches {
-            unicode: true,
-            byte_escapes: true,
-            allow_nul: false,
-        }
+        StringKind::CString.switches()
     }
 }

@@ -1,19 +1,20 @@
 //! Where a char or a byte is cut.
-ghost use Rattle.std.specs.Prelude.{◌≡◌, ◌≢◌, ◌+◌, ◌==◌, ◌∷◌, [], codes, drop, IsTrue, IsFalse, IfOk, IfErr, None, Some};
+ghost use Rattle.std.specs.Prelude.{◌≡◌, ◌≢◌, ◌+◌, ◌==◌, ◌∷◌, [], codes, drop, IsTrue, IfOk, IfErr, None, Some};
 ghost use Rattle.std.specs.List.{list_any};
 ghost use Rattle.std.specs.Str.{chars, IsCharBoundary};
 ghost use Rattle.litrs_base.specs.Characters.{single_quote, backslash};
 ghost use Rattle.litrs_base.specs.Derivations.{IsOnlyDerivation};
 ghost use Rattle.litrs_base.specs.Refusal.{refusal_of, HasCharSpan};
 ghost use Rattle.litrs_base.specs.Text.{begins_with, first_passes};
-ghost use Rattle.litrs_grammar.specs.CharByte.{char_kind, byte_kind, char_value, IsCharLiteral, is_special_whitespace, unterminated_kind, empty_kind, overlong_kind, closing_refusal};
+ghost use Rattle.litrs_base.specs.declared.quotes.CharKind.TheVariants.{Char as char_kind, Byte as byte_kind};
+ghost use Rattle.litrs_grammar.specs.CharByte.{char_value, IsCharLiteral, is_special_whitespace, unterminated_kind, empty_kind, overlong_kind, closing_refusal};
 ghost use Rattle.litrs_grammar.specs.Literal.{kind_parse, char_literal, byte_literal};
 ghost use Rattle.litrs_grammar.specs.Refused.{IsRefused};
-ghost use Rattle.litrs_lex.specs.CharCut.{char_parts_at, kind_if, IsItemRead, IsItemRefused, IsCutAfter};
+ghost use Rattle.litrs_lex.specs.CharCut.{char_parts_at, IsItemRead, IsItemRefused, IsCutAfter};
 
-use crate::escape::unescape;
+use crate::escape::unescape_with;
 use crate::parse::{check_suffix, split_first_char};
-use litrs_base::{ParseError, ParseErrorKind, Unescape};
+use litrs_base::{CharKind, ParseError, ParseErrorKind, Unescape};
 use memchr::memchr;
 
 /// Cuts a char, a text that begins with `'`: its value, and the place in bytes where its suffix
@@ -43,7 +44,7 @@ pub fn cut_char(input: &str) -> Result<(char, usize), ParseError>
     ensures place { IfOk result (λ cut. IsCharBoundary input.now cut.1) }
     ensures refused { IfErr result (IsRefused (kind_parse char_literal) (chars input.now)) }
 {
-    match cut_after(&input[1..], false) {
+    match cut_after(&input[1..], CharKind::Char) {
         Ok((value, start)) => Ok((value.unwrap_char(), 1 + start)),
         Err(e) => Err(e.offset_span(1)),
     }
@@ -76,7 +77,7 @@ pub fn cut_byte(input: &str) -> Result<(u8, usize), ParseError>
     ensures place { IfOk result (λ cut. IsCharBoundary input.now cut.1) }
     ensures refused { IfErr result (IsRefused (kind_parse byte_literal) (chars input.now)) }
 {
-    match cut_after(&input[2..], true) {
+    match cut_after(&input[2..], CharKind::Byte) {
         Ok((value, start)) => Ok((value.unwrap_byte(), 2 + start)),
         Err(e) => Err(e.offset_span(2)),
     }
@@ -84,90 +85,92 @@ pub fn cut_byte(input: &str) -> Result<(u8, usize), ParseError>
 
 /// What follows the front: the value, and where the suffix starts.
 #[inline(always)]
-fn cut_after(rest: &str, is_byte: bool) -> Result<(Unescape, usize), ParseError>
-    ensures ok { IfOk result (λ cut. IsCutAfter (kind_if is_byte) rest.now cut.0 cut.1) }
-    ensures refused { IfErr result (IsItemRefused (kind_if is_byte) (chars rest.now)) }
+fn cut_after(rest: &str, kind: CharKind) -> Result<(Unescape, usize), ParseError>
+    ensures ok { IfOk result (λ cut. IsCutAfter kind rest.now cut.0 cut.1) }
+    ensures refused { IfErr result (IsItemRefused kind (chars rest.now)) }
 {
-    let (value, len) = read_item(rest, is_byte)?;
-    let start = check_closing(rest, len, is_byte)?;
+    let (value, len) = read_item(rest, kind)?;
+    let start = check_closing(rest, len, kind)?;
     Ok((value, start))
 }
 
 /// The character or the escape that stands first, and its length in bytes.
 #[inline(always)]
-fn read_item(rest: &str, is_byte: bool) -> Result<(Unescape, usize), ParseError>
-    ensures ok { IfOk result (λ read. IsItemRead (kind_if is_byte) rest.now read.0 read.1) }
-    ensures refused { IfErr result (IsItemRefused (kind_if is_byte) (chars rest.now)) }
+fn read_item(rest: &str, kind: CharKind) -> Result<(Unescape, usize), ParseError>
+    ensures ok { IfOk result (λ read. IsItemRead kind rest.now read.0 read.1) }
+    ensures refused { IfErr result (IsItemRefused kind (chars rest.now)) }
 {
     let Some(first) = rest.as_bytes().first() else {
-        return Err(ParseError::new(None, unterminated_kind(is_byte)));
+        return Err(ParseError::new(None, unterminated_kind(kind)));
     };
     match *first {
-        b'\'' => Err(quote_refusal(rest, is_byte)),
-        b'\\' => unescape(rest, !is_byte, is_byte, true),
-        first => read_plain(rest, first, is_byte),
+        b'\'' => Err(quote_refusal(rest, kind)),
+        b'\\' => unescape_with(rest, kind.switches()),
+        first => read_plain(rest, first, kind),
     }
 }
 
 /// Why no item stands in a text that begins with `'`.
-fn quote_refusal(rest: &str, is_byte: bool) -> ParseError
+fn quote_refusal(rest: &str, kind: CharKind) -> ParseError
     requires { IsTrue (begins_with (single_quote ∷ []) rest.now) }
-    ensures { IsItemRefused (kind_if is_byte) (chars rest.now) result }
+    ensures { IsItemRefused kind (chars rest.now) result }
 {
     if begins_with_quote(&rest.as_bytes()[1..]) {
         ParseError::in_text(rest, Some(0..1), ParseErrorKind::UnescapedSingleQuote)
     } else {
-        ParseError::new(None, empty_kind(is_byte))
+        ParseError::new(None, empty_kind(kind))
     }
 }
 
 /// The character that stands first, whose first byte this is, neither `'` nor a backslash.
-fn read_plain(rest: &str, first: u8, is_byte: bool) -> Result<(Unescape, usize), ParseError>
+fn read_plain(rest: &str, first: u8, kind: CharKind) -> Result<(Unescape, usize), ParseError>
     requires begins { IsTrue (begins_with (first ∷ []) rest.now) }
     requires no_quote { first ≢ single_quote }
     requires no_backslash { first ≢ backslash }
-    ensures ok { IfOk result (λ read. IsItemRead (kind_if is_byte) rest.now read.0 read.1) }
-    ensures refused { IfErr result (IsItemRefused (kind_if is_byte) (chars rest.now)) }
+    ensures ok { IfOk result (λ read. IsItemRead kind rest.now read.0 read.1) }
+    ensures refused { IfErr result (IsItemRefused kind (chars rest.now)) }
 {
     if is_special_whitespace(first) {
-        let kind = ParseErrorKind::UnescapedSpecialWhitespace;
-        return Err(ParseError::in_text(rest, Some(0..1), kind));
+        let refusal = ParseErrorKind::UnescapedSpecialWhitespace;
+        return Err(ParseError::in_text(rest, Some(0..1), refusal));
     }
     if first < 128 {
         return Ok((Unescape::Byte(first), 1));
     }
-    if is_byte {
-        return Err(ParseError::in_text(rest, Some(0..1), ParseErrorKind::NonAsciiInByteLiteral));
-    }
-    match split_first_char(rest) {
-        Some((c, _)) => Ok((Unescape::Unicode(c), c.len_utf8())),
-        None => unreachable!(),
+    match kind {
+        CharKind::Byte => {
+            Err(ParseError::in_text(rest, Some(0..1), ParseErrorKind::NonAsciiInByteLiteral))
+        }
+        CharKind::Char => match split_first_char(rest) {
+            Some((c, _)) => Ok((Unescape::Unicode(c), c.len_utf8())),
+            None => unreachable!(),
+        },
     }
 }
 
 /// Where the suffix starts, if the closing quote and a suffix follow these bytes.
 #[inline(always)]
-fn check_closing(rest: &str, len: usize, is_byte: bool) -> Result<usize, ParseError>
+fn check_closing(rest: &str, len: usize, kind: CharKind) -> Result<usize, ParseError>
     requires { IsCharBoundary rest.now len }
     ensures ok { IfOk result (λ start.
-        (closing_refusal (kind_if is_byte) len (chars (drop len rest.now)) ≡ None)
+        (closing_refusal kind len (chars (drop len rest.now)) ≡ None)
         × (start ≡ len + 1)) }
     ensures table { IfErr result (λ e.
-        closing_refusal (kind_if is_byte) len (chars (drop len rest.now)) ≡ Some (refusal_of e)) }
+        closing_refusal kind len (chars (drop len rest.now)) ≡ Some (refusal_of e)) }
     ensures char_span { IfErr result (HasCharSpan (chars rest.now)) }
 {
     let after = &rest[len..];
     if !begins_with_quote(after.as_bytes()) {
-        let kind = if has_quote(after.as_bytes()) {
-            overlong_kind(is_byte)
+        let refusal = if has_quote(after.as_bytes()) {
+            overlong_kind(kind)
         } else {
-            unterminated_kind(is_byte)
+            unterminated_kind(kind)
         };
-        return Err(ParseError::new(None, kind));
+        return Err(ParseError::new(None, refusal));
     }
     match check_suffix(&after[1..]) {
         Ok(()) => Ok(len + 1),
-        Err(kind) => Err(ParseError::in_text(rest, Some(len + 1..len + 2), kind)),
+        Err(refusal) => Err(ParseError::in_text(rest, Some(len + 1..len + 2), refusal)),
     }
 }
 
@@ -196,34 +199,31 @@ fn has_quote(bytes: &[u8]) -> bool
 }
 
 /// The refusal of a literal that is not closed.
-fn unterminated_kind(is_byte: bool) -> ParseErrorKind
-    ensures { result ≡ unterminated_kind (kind_if is_byte) }
+fn unterminated_kind(kind: CharKind) -> ParseErrorKind
+    ensures { result ≡ unterminated_kind kind }
 {
-    if is_byte {
-        ParseErrorKind::UnterminatedByteLiteral
-    } else {
-        ParseErrorKind::UnterminatedCharLiteral
+    match kind {
+        CharKind::Char => ParseErrorKind::UnterminatedCharLiteral,
+        CharKind::Byte => ParseErrorKind::UnterminatedByteLiteral,
     }
 }
 
 /// The refusal of a literal that holds nothing.
-fn empty_kind(is_byte: bool) -> ParseErrorKind
-    ensures { result ≡ empty_kind (kind_if is_byte) }
+fn empty_kind(kind: CharKind) -> ParseErrorKind
+    ensures { result ≡ empty_kind kind }
 {
-    if is_byte {
-        ParseErrorKind::EmptyByteLiteral
-    } else {
-        ParseErrorKind::EmptyCharLiteral
+    match kind {
+        CharKind::Char => ParseErrorKind::EmptyCharLiteral,
+        CharKind::Byte => ParseErrorKind::EmptyByteLiteral,
     }
 }
 
 /// The refusal of a literal that holds more than one character.
-fn overlong_kind(is_byte: bool) -> ParseErrorKind
-    ensures { result ≡ overlong_kind (kind_if is_byte) }
+fn overlong_kind(kind: CharKind) -> ParseErrorKind
+    ensures { result ≡ overlong_kind kind }
 {
-    if is_byte {
-        ParseErrorKind::OverlongByteLiteral
-    } else {
-        ParseErrorKind::OverlongCharLiteral
+    match kind {
+        CharKind::Char => ParseErrorKind::OverlongCharLiteral,
+        CharKind::Byte => ParseErrorKind::OverlongByteLiteral,
     }
 }

@@ -1,5 +1,5 @@
 //! Escapes.
-ghost use Rattle.std.specs.Prelude.{◌≡◌, ◌≢◌, [], ◌∷◌, ◌+◌, ◌<◌, ◌≤◌, Bool, true, ◌&&◌, ◌||◌, ◌==◌, ℕ, codes, drop, length, slice_index, IfOk, IfErr, IsTrue, IsFalse};
+ghost use Rattle.std.specs.Prelude.{◌≡◌, ◌≢◌, [], ◌∷◌, ◌+◌, ◌<◌, ◌≤◌, Bool, true, ◌&&◌, ◌||◌, ◌==◌, codes, drop, length, IfOk, IfErr, IsTrue, IsFalse};
 ghost use Rattle.std.specs.Char.{is_ascii_hexdigit};
 ghost use Rattle.std.specs.List.{list_any};
 ghost use Rattle.std.specs.Option.{SomeIff};
@@ -7,22 +7,11 @@ ghost use Rattle.std.specs.Str.{chars};
 ghost use Rattle.litrs_base.specs.Characters.{backslash, letter_x, letter_u, underscore, open_brace, close_brace, is_ascii, is_no_nul_unless};
 ghost use Rattle.litrs_base.specs.Text.{first_passes, is_empty, begins_with};
 ghost use Rattle.litrs_grammar.specs.Escape.{is_simple, simple_value, pair_value};
-ghost use Rattle.litrs_lex.specs.Unescaped.{switches, grammar_switches, IsUnescaped, IsEscapeRefused, IsHexDigits};
+ghost use Rattle.litrs_lex.specs.Unescaped.{switches, IsUnescaped, IsEscapeRefused, HasEscapeRefusal, IsHexDigits};
 
 use crate::parse::hex_digit_value;
-use litrs_base::{ParseError, ParseErrorKind, Unescape};
+use litrs_base::{ParseError, ParseErrorKind, Switches, Unescape};
 use memchr::memchr;
-
-/// What a literal allows in its escapes, and of other characters in its body.
-#[derive(Clone, Copy, Debug, PartialEq, Eq)]
-pub struct Switches {
-    /// `\u{..}`, and characters beyond ASCII.
-    pub unicode: bool,
-    /// `\x80` to `\xff`.
-    pub byte_escapes: bool,
-    /// NUL, and escapes of value 0.
-    pub allow_nul: bool,
-}
 
 /// Parses the escape at the front of a text that is empty or begins with a backslash: what it
 /// stands for, and its length in bytes. Of `\n12` that is the byte 10, with length 2. See
@@ -80,10 +69,8 @@ pub fn unescape(
 pub fn unescape_with(input: &str, allowed: Switches) -> Result<(Unescape, usize), ParseError>
     requires { IsTrue (is_empty (chars input.now)
         || first_passes (λ c. c == backslash) (chars input.now)) }
-    ensures ok { IfOk result (λ read.
-        IsUnescaped (grammar_switches allowed) input.now read.0 read.1) }
-    ensures refused { IfErr result
-        (IsEscapeRefused (grammar_switches allowed) (chars input.now)) }
+    ensures ok { IfOk result (λ read. IsUnescaped allowed input.now read.0 read.1) }
+    ensures refused { IfErr result (IsEscapeRefused allowed (chars input.now)) }
 {
     let Some(letter) = input.as_bytes().get(1) else {
         return Err(ParseError::in_text(input, Some(0..1), ParseErrorKind::UnterminatedEscape));
@@ -111,10 +98,8 @@ fn unescape_simple(
     requires begins { IsTrue (begins_with (backslash ∷ letter ∷ []) input.now) }
     requires no_hex { letter ≢ letter_x }
     requires no_unicode { letter ≢ letter_u }
-    ensures ok { IfOk result (λ read.
-        IsUnescaped (grammar_switches allowed) input.now read.0 read.1) }
-    ensures refused { IfErr result
-        (IsEscapeRefused (grammar_switches allowed) (chars input.now)) }
+    ensures ok { IfOk result (λ read. IsUnescaped allowed input.now read.0 read.1) }
+    ensures refused { IfErr result (HasEscapeRefusal allowed (chars input.now)) }
 {
     let Some(value) = simple_value(letter) else {
         return Err(ParseError::in_text(input, Some(0..2), ParseErrorKind::UnknownEscape));
@@ -157,10 +142,8 @@ fn simple_value(letter: u8) -> Option<u8>
 #[inline(always)]
 fn unescape_hex(input: &str, allowed: Switches) -> Result<(Unescape, usize), ParseError>
     requires { IsTrue (begins_with (codes "\\x") input.now) }
-    ensures ok { IfOk result (λ read.
-        IsUnescaped (grammar_switches allowed) input.now read.0 read.1) }
-    ensures refused { IfErr result
-        (IsEscapeRefused (grammar_switches allowed) (chars input.now)) }
+    ensures ok { IfOk result (λ read. IsUnescaped allowed input.now read.0 read.1) }
+    ensures refused { IfErr result (HasEscapeRefusal allowed (chars input.now)) }
 {
     if !input.is_char_boundary(4) {
         let end = input.len();
@@ -211,10 +194,8 @@ fn pair_value(high: u8, low: u8) -> Option<u8>
 fn unescape_unicode(input: &str, allowed: Switches) -> Result<(Unescape, usize), ParseError>
     requires begins { IsTrue (begins_with (codes "\\u") input.now) }
     requires unicode { IsTrue allowed.unicode }
-    ensures ok { IfOk result (λ read.
-        IsUnescaped (grammar_switches allowed) input.now read.0 read.1) }
-    ensures refused { IfErr result
-        (IsEscapeRefused (grammar_switches allowed) (chars input.now)) }
+    ensures ok { IfOk result (λ read. IsUnescaped allowed input.now read.0 read.1) }
+    ensures refused { IfErr result (HasEscapeRefusal allowed (chars input.now)) }
 {
     let bytes = input.as_bytes();
     if !opens_brace(bytes) {
@@ -303,10 +284,8 @@ fn unescape_digits(
     requires closed { IsTrue (first_passes is_ascii_hexdigit (drop 3 input.now)
         && first_passes (λ c. c == close_brace) (drop digits.len (drop 3 input.now))) }
     requires unicode { IsTrue allowed.unicode }
-    ensures ok { IfOk result (λ read.
-        IsUnescaped (grammar_switches allowed) input.now read.0 read.1) }
-    ensures refused { IfErr result
-        (IsEscapeRefused (grammar_switches allowed) (chars input.now)) }
+    ensures ok { IfOk result (λ read. IsUnescaped allowed input.now read.0 read.1) }
+    ensures refused { IfErr result (HasEscapeRefusal allowed (chars input.now)) }
 {
     let end = 4 + digits.len;
     if !allows_value(allowed, digits.value) {
@@ -329,7 +308,7 @@ fn braces_refusal(input: &str, digits: HexDigits) -> ParseError
     requires open { IsFalse (first_passes is_ascii_hexdigit (drop 3 input.now)
         && first_passes (λ c. c == close_brace) (drop digits.len (drop 3 input.now))) }
     ensures { (byte_escapes allow_nul : Bool) →
-        IsEscapeRefused (switches true byte_escapes allow_nul) (chars input.now) result }
+        HasEscapeRefusal (switches true byte_escapes allow_nul) (chars input.now) result }
 {
     let inner = &input.as_bytes()[3..];
     let place = 3 + digits.len;

@@ -2,7 +2,7 @@
 ghost use Rattle.std.specs.Prelude.{◌≡◌, ◌++◌, ⊤, [], List, ℕ, IfSome, IsTrue, IsFalse};
 ghost use Rattle.std.specs.Str.{IsUtf8};
 ghost use Rattle.litrs_grammar.specs.Escape.{value_bytes};
-ghost use Rattle.litrs_lex.specs.Container.{is_pushable};
+ghost use Rattle.litrs_lex.specs.Container.{is_pushable, IsFilledTo};
 
 use crate::container::EscapeContainer;
 use crate::room::Room;
@@ -56,15 +56,11 @@ impl<C: EscapeContainer> Filled<C> {
         requires bytes { IsFalse C.TAKES_BYTES → IsUtf8 bytes.now }
         requires piece { IsFalse C.TAKES_BYTES → IsUtf8 self.old.piece }
         ensures taken { IsTrue result → (v : List ℕ) →
-            (C.contents self.old.into ++ self.old.piece ≡ v)
-            × (IsFalse C.TAKES_BYTES → IsUtf8 self.old.piece) →
-            (C.contents self.new.into ++ self.new.piece ≡ v ++ bytes.now)
-            × (IsFalse C.TAKES_BYTES → IsUtf8 self.new.piece) }
+            IsFilledTo C.TAKES_BYTES (C.contents self.old.into) self.old.piece v →
+            IsFilledTo C.TAKES_BYTES (C.contents self.new.into) self.new.piece (v ++ bytes.now) }
         ensures full { IsFalse result → (v : List ℕ) →
-            (C.contents self.old.into ++ self.old.piece ≡ v)
-            × (IsFalse C.TAKES_BYTES → IsUtf8 self.old.piece) →
-            (C.contents self.new.into ++ self.new.piece ≡ v)
-            × (IsFalse C.TAKES_BYTES → IsUtf8 self.new.piece) }
+            IsFilledTo C.TAKES_BYTES (C.contents self.old.into) self.old.piece v →
+            IsFilledTo C.TAKES_BYTES (C.contents self.new.into) self.new.piece v }
     {
         if self.piece.push_bytes(bytes) {
             return true;
@@ -78,15 +74,12 @@ impl<C: EscapeContainer> Filled<C> {
         requires value { IsTrue (is_pushable C.TAKES_BYTES value) }
         requires piece { IsFalse C.TAKES_BYTES → IsUtf8 self.old.piece }
         ensures taken { IsTrue result → (v : List ℕ) →
-            (C.contents self.old.into ++ self.old.piece ≡ v)
-            × (IsFalse C.TAKES_BYTES → IsUtf8 self.old.piece) →
-            (C.contents self.new.into ++ self.new.piece ≡ v ++ value_bytes value)
-            × (IsFalse C.TAKES_BYTES → IsUtf8 self.new.piece) }
+            IsFilledTo C.TAKES_BYTES (C.contents self.old.into) self.old.piece v →
+            IsFilledTo C.TAKES_BYTES (C.contents self.new.into) self.new.piece
+            (v ++ value_bytes value) }
         ensures full { IsFalse result → (v : List ℕ) →
-            (C.contents self.old.into ++ self.old.piece ≡ v)
-            × (IsFalse C.TAKES_BYTES → IsUtf8 self.old.piece) →
-            (C.contents self.new.into ++ self.new.piece ≡ v)
-            × (IsFalse C.TAKES_BYTES → IsUtf8 self.new.piece) }
+            IsFilledTo C.TAKES_BYTES (C.contents self.old.into) self.old.piece v →
+            IsFilledTo C.TAKES_BYTES (C.contents self.new.into) self.new.piece v }
     {
         match value {
             Unescape::Byte(byte) => self.push_bytes(&[byte]),
@@ -100,8 +93,7 @@ impl<C: EscapeContainer> Filled<C> {
 }
 
 impl<C: EscapeContainer> Sink for Filled<C> {
-    ghost holds = { λ s v. (C.contents s.into ++ s.piece ≡ v)
-        × (IsFalse C.TAKES_BYTES → IsUtf8 s.piece) };
+    ghost holds = { λ s. IsFilledTo C.TAKES_BYTES (C.contents s.into) s.piece };
 
     ghost takes_bytes = { C.TAKES_BYTES };
 

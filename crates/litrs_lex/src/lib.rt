@@ -9,12 +9,13 @@ pub use allowed::{Allows, InByteString, InCString, InString};
 pub use bool::cut_bool;
 pub use char::{cut_byte, cut_char};
 pub use container::EscapeContainer;
-pub use escape::{Switches, unescape, unescape_with};
+pub use escape::{unescape, unescape_with};
 pub use float::{FloatCut, cut_float};
 pub use integer::{IntegerCut, cut_integer};
-pub use kind::{Front, StringKind};
+pub use kind::Front;
 pub use litrs_base::{
-    Buffer, FloatType, IntegerBase, IntegerType, ParseError, ParseErrorKind, Text, Unescape,
+    Buffer, CharKind, FloatType, IntegerBase, IntegerType, ParseError, ParseErrorKind, StringKind,
+    Switches, Text, Unescape,
 };
 pub use marked::next_special;
 pub use number::{NumberCut, cut_number};

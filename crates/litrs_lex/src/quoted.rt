@@ -3,7 +3,7 @@ ghost use Rattle.std.specs.Prelude.{◌≡◌, ◌≢◌, ◌==◌, ⊤, [], Non
 ghost use Rattle.std.specs.Str.{chars, IsCharBoundary};
 ghost use Rattle.litrs_base.specs.Characters.{double_quote};
 ghost use Rattle.litrs_base.specs.Text.{first_passes};
-ghost use Rattle.litrs_grammar.specs.Escape.{Switches as GrammarSwitches};
+ghost use Rattle.litrs_base.specs.declared.quotes.Switches.{Switches};
 ghost use Rattle.litrs_grammar.specs.Quoted.{rest_refusal};
 ghost use Rattle.litrs_lex.specs.QuotedCut.{IsQuotedCut, IsQuotedRefused};
 ghost use Rattle.litrs_lex.specs.Reading.{IsReading, IsReadBody, IsBodyRefused, IsRestRefused, IsItemsEnd};
@@ -135,9 +135,9 @@ pub(crate) fn closed<A: Allows>(
 #[inline(always)]
 fn quote_refusal(rest: &str) -> Option<ParseError>
     requires { IsTrue (first_passes (λ c. c == double_quote) (chars rest.now)) }
-    ensures none { IfNone result ((w : GrammarSwitches) → rest_refusal w (chars rest.now) ≡ None) }
+    ensures none { IfNone result ((w : Switches) → rest_refusal w (chars rest.now) ≡ None) }
     ensures refusal { IfSome result (λ e.
-        (w : GrammarSwitches) → IsRestRefused w (chars rest.now) e) }
+        (w : Switches) → IsRestRefused w (chars rest.now) e) }
 {
     match check_suffix(&rest[1..]) {
         Ok(()) => None,

@@ -1,10 +1,10 @@
 //! Raw strings of the three kinds.
-ghost use Rattle.std.specs.Prelude.{◌≡◌, ◌≤◌, ◌<◌, ℕ, slice_index, length, drop, IsTrue, IfOk, IfErr, Some};
+ghost use Rattle.std.specs.Prelude.{◌≡◌, ◌≤◌, ◌<◌, ℕ, Bool, slice_index, length, drop, IsTrue, IfOk, IfErr, Some};
 ghost use Rattle.std.specs.Str.{chars, IsUtf8, IsCharBoundary};
 ghost use Rattle.litrs_base.specs.Refusal.{refusal};
 ghost use Rattle.litrs_base.specs.Text.{first_passes, begins_with};
 ghost use Rattle.litrs_grammar.specs.Raw.{is_quote, raw_closing, raw_char_refusal, raw_body_refusal, raw_refusal};
-ghost use Rattle.litrs_lex.specs.RawCut.{IsRawCut, IsRawRefused, IsStop, IsBodyCut, is_inner_at};
+ghost use Rattle.litrs_lex.specs.RawCut.{IsRawCut, IsRawRefused, IsRawOpening, IsStop, IsBodyCut, is_inner_at};
 ghost use Rattle.litrs_lex.specs.Special.{is_special};
 
 use crate::closing::next_closing;
@@ -51,7 +51,7 @@ pub fn scan_raw_string(
     }
 }
 
-/// The same; or why it is no raw literal, and where.
+/// [`scan_raw_string`], with the kind and the span of a refusal alone.
 #[inline(always)]
 fn cut_raw(
     input: &str,
@@ -62,6 +62,34 @@ fn cut_raw(
     ensures ok { IfOk result (IsRawCut allowed.unicode allowed.allow_nul offset input.now) }
     ensures refused { IfErr result (λ r.
         raw_refusal allowed.unicode allowed.allow_nul offset (chars (drop offset input.now))
+        ≡ Some (refusal r.0 r.1)) }
+{
+    let (hashes, start) = open_raw(input, offset)?;
+    let place = cut_body(input, start, hashes, allowed)?;
+    Ok((hashes as u8, place))
+}
+
+/// Reads the hashes of a raw literal, from after its `r` on, and the quote that opens its body.
+///
+/// The `r` ends at `offset`, a character boundary within the text. The answer is the number of
+/// hashes, at most 255, and where the body begins, in bytes: `(2, 4)` for `r##"a"##` from 1 on.
+/// See [the reference][ref].
+///
+/// # Errors
+///
+/// The kind and the span of [`scan_raw_string`] where the hashes end the text, something else than
+/// `"` is after them, or something is after more than 255.
+///
+/// [ref]: https://doc.rust-lang.org/reference/tokens.html#raw-string-literals
+#[inline(always)]
+pub fn open_raw(
+    input: &str,
+    offset: usize,
+) -> Result<(usize, usize), (Option<Range<usize>>, ParseErrorKind)>
+    requires { IsCharBoundary input.now offset }
+    ensures ok { IfOk result (IsRawOpening offset input.now) }
+    ensures refused { IfErr result (λ r. (unicode allow_nul : Bool) →
+        raw_refusal unicode allow_nul offset (chars (drop offset input.now))
         ≡ Some (refusal r.0 r.1)) }
 {
     let bytes = input.as_bytes();
@@ -76,8 +104,7 @@ fn cut_raw(
     if bytes[opening] != b'"' {
         return Err((None, ParseErrorKind::InvalidLiteral));
     }
-    let place = cut_body(input, opening + 1, hashes, allowed)?;
-    Ok((hashes as u8, place))
+    Ok((hashes, opening + 1))
 }
 
 /// Where the suffix begins after a body from `start` on and its closing with so many hashes; or
@@ -113,10 +140,11 @@ fn cut_body(
     }
 }
 
-/// The first place from `start` on where the body is closed, or where a byte stands that may not
-/// stand in it; else the end of the text.
+/// The first place from `start` on where a raw body is closed by a quote and so many hashes, or
+/// where a byte stands that may not stand in it; else the end of the text. In `a"b"#` from 0 on
+/// with one hash that is 3.
 #[inline(always)]
-fn body_end(bytes: &[u8], start: usize, hashes: usize, allowed: Switches) -> usize
+pub fn body_end(bytes: &[u8], start: usize, hashes: usize, allowed: Switches) -> usize
     requires { (start ≤ length bytes.now) × IsUtf8 (drop start bytes.now) }
     ensures stop { IsStop allowed.unicode allowed.allow_nul hashes start bytes.now result }
     ensures closing { IsTrue (first_passes is_quote (drop result bytes.now))

@@ -1,14 +1,14 @@
 //! What stands where the plain characters of a body end.
-ghost use Rattle.std.specs.Prelude.{Bool, not, ◌≡◌, ◌≤◌, ◌==◌, length, IfOk, IfErr, IsTrue, IsFalse};
+ghost use Rattle.std.specs.Prelude.{◌≡◌, ◌≤◌, ◌==◌, length, IfOk, IfErr, IsTrue, IsFalse};
 ghost use Rattle.std.specs.List.{prefix_len};
 ghost use Rattle.std.specs.Str.{chars, IsCharBoundary};
 ghost use Rattle.litrs_base.specs.Characters.{line_feed, is_blank};
 ghost use Rattle.litrs_base.specs.Text.{first_passes};
+ghost use Rattle.litrs_base.specs.declared.quotes.Switches.{Switches};
 ghost use Rattle.litrs_grammar.specs.Quoted.{is_plain, without_last};
 ghost use Rattle.litrs_lex.specs.QuotedItems.{IsPlainRun, stops};
 ghost use Rattle.litrs_lex.specs.Reading.{IsRestRefused, StandsAt};
 ghost use Rattle.litrs_lex.specs.Marked.{IsMarked};
-ghost use Rattle.litrs_lex.specs.Unescaped.{switches, grammar_switches};
 
 use crate::allowed::Allows;
 use crate::marked::{Marked, next_marked};
@@ -31,9 +31,9 @@ pub(crate) enum Stop {
 /// Why neither an item nor a quote stands there. The spans count from the front.
 #[inline(always)]
 pub(crate) fn stop_at(rest: &str, allowed: Switches) -> Result<Stop, ParseError>
-    requires { IsFalse (first_passes (is_plain (grammar_switches allowed)) (chars rest.now)) }
-    ensures ok { IfOk result (StandsAt (grammar_switches allowed) rest.now) }
-    ensures refused { IfErr result (IsRestRefused (grammar_switches allowed) (chars rest.now)) }
+    requires { IsFalse (first_passes (is_plain allowed) (chars rest.now)) }
+    ensures ok { IfOk result (StandsAt allowed rest.now) }
+    ensures refused { IfErr result (IsRestRefused allowed (chars rest.now)) }
 {
     let [first, after @ ..] = rest.as_bytes() else {
         return Err(ParseError::new(None, ParseErrorKind::UnterminatedString));
@@ -93,7 +93,7 @@ pub(crate) fn plain_end(
     requires at { IsCharBoundary input.now from }
     requires after { marked.start ≤ from }
     requires marked { IsMarked (stops allowed.unicode allowed.allow_nul) input.now marked }
-    ensures run { IsPlainRun (grammar_switches allowed) input.now from result.0 }
+    ensures run { IsPlainRun allowed input.now from result.0 }
     ensures after { result.1.start ≤ result.0 }
     ensures marked { IsMarked (stops allowed.unicode allowed.allow_nul) input.now result.1 }
 {
@@ -108,8 +108,7 @@ pub(crate) fn plain_end(
 #[inline(always)]
 fn begins_escape(input: &str, from: usize) -> bool
     requires { IsCharBoundary input.now from }
-    ensures { IsTrue result → (unicode byte_escapes allow_nul : Bool) →
-        IsPlainRun (switches unicode byte_escapes allow_nul) input.now from from }
+    ensures { IsTrue result → (w : Switches) → IsPlainRun w input.now from from }
 {
     matches!(input.as_bytes().get(from), Some(b'\\'))
 }

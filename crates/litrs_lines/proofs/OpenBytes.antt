@@ -1,5 +1,5 @@
 -- What is known of the bytes of a text that begins a string: it stays known with more after them, and goes on over a line.
-use Rattle.std.proofs.Common.{◌≡◌, ◌∙◌, inl, inr, ℕ, zero, suc, ◌+◌, ◌≤◌, ◌<◌, Bool, true, false, ◌||◌, List, [], ◌∷◌, ◌++◌, length, take, drop, Option, Some, None, refl, sym, ap, subst, append_assoc, append-nil, arith}
+use Rattle.std.proofs.Common.{◌≡◌, ◌∙◌, inl, inr, ℕ, zero, suc, ◌+◌, ◌≤◌, ◌<◌, true, false, ◌||◌, List, [], ◌∷◌, ◌++◌, length, take, drop, Option, Some, None, refl, sym, ap, subst, append_assoc, append-nil, arith}
 use Rattle.std.specs.Prelude.{◌==◌}
 use Rattle.std.specs.List.{list_all, prefix_len}
 use Rattle.std.specs.Str.{chars, IsUtf8, IsCharBoundary}
@@ -14,19 +14,22 @@ use Rattle.litrs_base.proofs.Begins.{begins_with-split}
 use Rattle.litrs_base.proofs.Chars.{ascii_by_test, chars_ascii, chars_empty, first_passes-chars, passing_front, prefix_len-chars}
 use Rattle.litrs_base.proofs.Runs.{list_all-append}
 use Rattle.litrs_base.proofs.Spans.{is_ascii_char}
-use Rattle.litrs_grammar.specs.StringKind.{StringKind, string_kind, byte_string_kind, c_string_kind, switches_of}
-use Rattle.litrs_grammar.specs.Escape.{Switches, escape_text, IsEscape}
-use Rattle.litrs_grammar.specs.Quoted.{Item, continuation, quoted_front, body_text, stand_before}
-use Rattle.litrs_grammar.specs.Raw.{hashes, hash_len, occurs, raw_closing, raw_front, has_unicode, allows_nul, is_raw_char}
+use Rattle.litrs_base.specs.declared.quotes.StringKind.{StringKind}
+use Rattle.litrs_base.specs.declared.quotes.StringKind.TheVariants.{String as string_kind, ByteString as byte_string_kind, CString as c_string_kind}
+use Rattle.litrs_base.specs.Quotes.{switches_of, quoted_front, raw_front}
+use Rattle.litrs_base.specs.declared.quotes.Switches.{Switches}
+use Rattle.litrs_grammar.specs.Escape.{escape_text, IsEscape}
+use Rattle.litrs_grammar.specs.Quoted.{Item, continuation, body_text, stand_before}
+use Rattle.litrs_grammar.specs.Raw.{hashes, hash_len, occurs, raw_closing, has_unicode, allows_nul, is_raw_char}
 use Rattle.litrs_grammar.specs.Laws.Raw.{NoClosingIn}
 use Rattle.litrs_grammar.proofs.Laws.Quoted.{body_text-append}
 use Rattle.litrs_grammar.proofs.RawCuts.{HashCut, hash_cut, hash_len-append, after_hashes, length-hashes}
 use Rattle.litrs_grammar.proofs.RawScans.{raw_scans_go_on}
 use Rattle.litrs_grammar.proofs.LongerTexts.Quoted.{quoted_items_stay}
 use Rattle.litrs_lex.specs.Unescaped.{IsUnescaped}
-use Rattle.litrs_lex.proofs.FloatBytes.{chars_after, boundary_after}
+use Rattle.litrs_lex.proofs.FloatBytes.{chars_after}
 use Rattle.litrs_lex.specs.Reading.{IsItemsEnd}
-use Rattle.litrs_lex.specs.RawCut.{IsStop}
+use Rattle.litrs_lex.specs.RawCut.{IsStop, IsRawOpening}
 use Rattle.litrs_lex.proofs.PlainRuns.{list_all-take, stops_at}
 use Rattle.litrs_lex.proofs.QuotedBytes.{blank_ascii}
 use Rattle.litrs_lex.proofs.QuotedScan.{front_splits, stand_before-append}
@@ -34,7 +37,6 @@ use Rattle.litrs_lex.proofs.StringFronts.{quoted_boundary, quoted_before}
 use Rattle.litrs_lines.specs.declared.collector.body.Body.{Body}
 use Rattle.litrs_lines.specs.declared.collector.body.Body.TheVariants.{Quoted, Continuation, Raw}
 use Rattle.litrs_lines.specs.declared.collector.body.Open.{Open}
-use Rattle.litrs_lex.specs.Front.{grammar_kind}
 use Rattle.litrs_lines.specs.Open.{IsEscapeOrEmpty, IsQuotedTo, IsContinuedTo, IsRawTo, IsBodyTo, IsOpen, IsKnown}
 use Rattle.litrs_lines.proofs.StepLemmas.{chars-line_feed}
 use Rattle.litrs_lines.proofs.OpenTexts.{IsOpenText, IsOpenEnd, more_after, quoted_is_open, none_over_line, line_in_body, raw_is_open}
@@ -89,7 +91,7 @@ body_stays Continuation kind place bytes more u v s = continued_stays kind place
 body_stays (Raw n) kind place bytes more u v s = raw_stays kind n place bytes more u v s
 
 pub open_stays : (string : Open) (bytes more : List ℕ) → IsUtf8 bytes → IsUtf8 more → IsOpen bytes string → IsOpen (bytes ++ more) string
-open_stays string bytes more u v s = body_stays string.body (grammar_kind string.kind) string.place bytes more u v s
+open_stays string bytes more u v s = body_stays string.body string.kind string.place bytes more u v s
 
 pub known_stays : (known : Option Open) (bytes more : List ℕ) → IsUtf8 bytes → IsUtf8 more → IsKnown bytes known → IsKnown (bytes ++ more) known
 known_stays None bytes more u v s = tt
@@ -114,11 +116,11 @@ line_boundary bytes n is =
 
 -- What the switches of the code are, and what it sees of a text
 
-pub stop_by : (kind : StringKind) (unicode allow_nul : Bool) (n place end : ℕ) (bytes seen : List ℕ) → seen ≡ bytes → unicode ≡ has_unicode kind → allow_nul ≡ allows_nul kind →
-    IsStop unicode allow_nul n place seen end → IsStop (has_unicode kind) (allows_nul kind) n place bytes end
-stop_by kind unicode allow_nul n place end bytes seen same p r stop =
-    subst (λ (b : Bool). IsStop (has_unicode kind) b n place bytes end) r
-    (subst (λ (b : Bool). IsStop b allow_nul n place bytes end) p (subst (λ (l : List ℕ). IsStop unicode allow_nul n place l end) same stop))
+pub stop_by : (kind : StringKind) (w : Switches) (n place end : ℕ) (bytes seen : List ℕ) → seen ≡ bytes → w ≡ switches_of kind →
+    IsStop w.unicode w.allow_nul n place seen end → IsStop (has_unicode kind) (allows_nul kind) n place bytes end
+stop_by kind w n place end bytes seen same is stop =
+    subst (λ (v : Switches). IsStop v.unicode v.allow_nul n place bytes end) is
+    (subst (λ (l : List ℕ). IsStop w.unicode w.allow_nul n place l end) same stop)
 
 -- the text ends between two items or with an escape
 pub escape_left : (w : Switches) (rest seen : List ℕ) → seen ≡ rest → IsEscapeOrEmpty w (chars seen) → IsOpenEnd w (chars rest)
@@ -362,24 +364,25 @@ hashes_split bs n count =
     ap (λ (k : ℕ). hashes k ++ drop k bs) same ∙ ap (λ (l : List ℕ). hashes cut.count ++ drop cut.count l) (sym cut.spells)
     ∙ ap (λ (l : List ℕ). hashes cut.count ++ l) (after_hashes cut.count cut.rest) ∙ cut.spells
 
-pub raw_opened : (kind : StringKind) (front n : ℕ) (bytes : List ℕ) → IsUtf8 bytes → begins_with (raw_front kind) bytes ≡ true → front ≡ length (raw_front kind) →
-    n ≡ hash_len (drop front bytes) → n ≤ 255 → drop (front + n) bytes ≡ 34 ∷ drop (front + n + 1) bytes → IsRawTo kind n (front + n + 1) bytes
-raw_opened kind front n bytes u begins at_front count few quote =
-    let rest : List ℕ = drop (front + n + 1) bytes in
+pub raw_opened : (kind : StringKind) (front n place : ℕ) (bytes : List ℕ) → IsUtf8 bytes → begins_with (raw_front kind) bytes ≡ true → front ≡ length (raw_front kind) →
+    IsRawOpening front bytes (n, place) → IsRawTo kind n place bytes
+raw_opened kind front n place bytes u begins at_front o =
+    let end : place ≡ front + n + 1 = o.start in
+    let rest : List ℕ = drop place bytes in
     let opening : List ℕ = raw_front kind ++ (hashes n ++ 34 ∷ []) in
     let split : raw_front kind ++ drop front bytes ≡ bytes = ap (λ (k : ℕ). raw_front kind ++ drop k bytes) at_front ∙ begins_with-split (raw_front kind) bytes begins in
-    let after : drop n (drop front bytes) ≡ 34 ∷ rest = drop-drop n front bytes ∙ quote in
-    let marks : hashes n ++ 34 ∷ rest ≡ drop front bytes = ap (λ (l : List ℕ). hashes n ++ l) (sym after) ∙ hashes_split (drop front bytes) n count in
+    let after : drop n (drop front bytes) ≡ 34 ∷ rest = drop-drop n front bytes ∙ o.quote in
+    let marks : hashes n ++ 34 ∷ rest ≡ drop front bytes = ap (λ (l : List ℕ). hashes n ++ l) (sym after) ∙ hashes_split (drop front bytes) n o.count in
     let spelled : opening ++ rest ≡ bytes =
     append_assoc (raw_front kind) (hashes n ++ 34 ∷ []) rest ∙ ap (λ (l : List ℕ). raw_front kind ++ l) (append_assoc (hashes n) (34 ∷ []) rest ∙ marks) ∙ split in
     let ascii : list_all is_ascii_char opening ≡ true =
     list_all-append is_ascii_char (raw_front kind) (hashes n ++ 34 ∷ []) (front_ascii kind) (list_all-append is_ascii_char (hashes n) (34 ∷ []) (hashes_ascii n) refl) in
-    let size : length opening ≡ front + n + 1 =
+    let size : length opening ≡ place =
     omega (arith, at_front, length-append (raw_front kind) (hashes n ++ 34 ∷ []), length-append (hashes n) (34 ∷ []), length-hashes n) in record {
-      boundary = boundary_after bytes opening rest (front + n + 1) spelled ascii size u;
-      few = few;
+      boundary = o.boundary;
+      few = o.few;
       body = [];
-      spells = sym (ap (λ (l : List ℕ). chars (take (front + n + 1) l)) (sym spelled) ∙ ap chars (take_at opening rest (front + n + 1) size)
+      spells = sym (ap (λ (l : List ℕ). chars (take place l)) (sym spelled) ∙ ap chars (take_at opening rest place size)
           ∙ ap chars (sym (append-nil opening)) ∙ chars_after opening [] ascii ∙ ap (λ (l : List ℕ). opening ++ l) chars-nil ∙ append-nil opening);
       allowed = refl;
       unclosed = λ more none. none;

@@ -12,13 +12,16 @@ use Rattle.litrs_base.specs.Finality.{is_open}
 use Rattle.litrs_base.specs.Refusal.{Refusal, plain, at, moved}
 use Rattle.litrs_base.specs.declared.err.ParseErrorKind.TheVariants.{UnterminatedString, UnterminatedRawString}
 use Rattle.litrs_base.specs.Text.{byte_len, begins_with}
-use Rattle.litrs_grammar.specs.StringKind.{StringKind, string_kind, byte_string_kind, c_string_kind, switches_of}
+use Rattle.litrs_base.specs.declared.quotes.StringKind.{StringKind}
+use Rattle.litrs_base.specs.declared.quotes.StringKind.TheVariants.{String as string_kind, ByteString as byte_string_kind, CString as c_string_kind}
+use Rattle.litrs_base.specs.Quotes.{switches_of, quoted_front, raw_front}
+use Rattle.litrs_base.specs.declared.quotes.Switches.{Switches}
 use Rattle.litrs_grammar.specs.Suffix.{is_suffix, suffix_refusal}
 use Rattle.litrs_grammar.specs.Continuation.{BeginsBy}
-use Rattle.litrs_grammar.specs.Escape.{Switches, Escape, escape_text, IsEscape}
-use Rattle.litrs_grammar.specs.Quoted.{Item, plain_item, escape_item, quoted_front, body_text, stand_before, QuotedParts, rest_refusal, IsQuotedLiteral, IsQuotedRefusal, IsQuotedLiteralRefusal}
+use Rattle.litrs_grammar.specs.Escape.{Escape, escape_text, IsEscape}
+use Rattle.litrs_grammar.specs.Quoted.{Item, plain_item, escape_item, body_text, stand_before, QuotedParts, rest_refusal, IsQuotedLiteral, IsQuotedRefusal, IsQuotedLiteralRefusal}
 use Rattle.litrs_grammar.specs.GoesOn.Quoted.{IsOpenRest}
-use Rattle.litrs_grammar.specs.Raw.{hashes, occurs, raw_closing, raw_front, has_unicode, allows_nul, is_raw_char, IsRawBody, RawParts, raw_refusal}
+use Rattle.litrs_grammar.specs.Raw.{hashes, occurs, raw_closing, has_unicode, allows_nul, is_raw_char, IsRawBody, RawParts, raw_refusal}
 use Rattle.litrs_grammar.specs.Literal.{quoted_parts, raw_parts, IsString, a_string, a_byte_string, a_c_string, IsLiteral, literal_parse, Begins, string_literal_of}
 use Rattle.litrs_grammar.specs.LiteralRefusals.{StringStart, quoted_start, raw_start, string_start, IsRefusalOfStart, IsStringRefusal, IsKindRefusal, parsed_as, dispatch, IsRefusalOfDispatch, IsRefusal}
 use Rattle.litrs_grammar.proofs.Laws.Literal.{start_quoted, start_raw, literals_are_not_refused}

@@ -3,11 +3,12 @@ use Rattle.std.specs.Prelude.{◌≡◌, ◌⊎◌, ◌≤◌, ℕ, List, [], �
 use Rattle.std.specs.List.{list_all}
 use Rattle.std.specs.Str.{chars, IsCharBoundary}
 use Rattle.litrs_base.specs.Characters.{line_feed, double_quote, backslash, is_blank}
-use Rattle.litrs_grammar.specs.StringKind.{StringKind, switches_of}
-use Rattle.litrs_grammar.specs.Escape.{Switches, Escape, escape_text, IsEscape}
-use Rattle.litrs_grammar.specs.Quoted.{Item, quoted_front, body_text, stand_before}
-use Rattle.litrs_grammar.specs.Raw.{hashes, occurs, raw_closing, raw_front, has_unicode, allows_nul, is_raw_char}
-use Rattle.litrs_lex.specs.Front.{grammar_kind}
+use Rattle.litrs_base.specs.declared.quotes.StringKind.{StringKind}
+use Rattle.litrs_base.specs.Quotes.{switches_of, quoted_front, raw_front}
+use Rattle.litrs_base.specs.declared.quotes.Switches.{Switches}
+use Rattle.litrs_grammar.specs.Escape.{Escape, escape_text, IsEscape}
+use Rattle.litrs_grammar.specs.Quoted.{Item, body_text, stand_before}
+use Rattle.litrs_grammar.specs.Raw.{hashes, occurs, raw_closing, has_unicode, allows_nul, is_raw_char}
 use Rattle.litrs_lines.specs.declared.collector.body.Body.{Body}
 use Rattle.litrs_lines.specs.declared.collector.body.Body.TheVariants.{Quoted, Continuation, Raw}
 use Rattle.litrs_lines.specs.declared.collector.body.Open.{Open}
@@ -54,7 +55,7 @@ IsBodyTo (Raw n) kind = IsRawTo kind n
 
 -- the text begins this string, which has been read up to its place
 abbrev pub IsOpen : List ℕ → Open → Type 0
-IsOpen bytes string = IsBodyTo string.body (grammar_kind string.kind) string.place bytes
+IsOpen bytes string = IsBodyTo string.body string.kind string.place bytes
 
 -- where something is known of the text, it begins this string
 abbrev pub IsKnown : List ℕ → Option Open → Type 0

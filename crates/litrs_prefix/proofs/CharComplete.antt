@@ -16,7 +16,10 @@ use Rattle.litrs_base.proofs.ListTests.{if_false}
 use Rattle.litrs_base.proofs.Spans.{byte_len-append, byte_len_ascii}
 use Rattle.litrs_grammar.specs.Suffix.{is_suffix, starts_identifier, suffix_refusal}
 use Rattle.litrs_grammar.specs.Escape.{escape_text, escape_refusal}
-use Rattle.litrs_grammar.specs.CharByte.{CharKind, char_kind, byte_kind, char_front, char_switches_of, CharItem, plain_char, escaped_char, char_item_text, is_special_whitespace, allows_char, is_char_item, CharParts, IsCharLiteral, escape_length, char_item_length, closing_refusal, char_item_refusal, char_kind_refusal}
+use Rattle.litrs_base.specs.declared.quotes.CharKind.{CharKind}
+use Rattle.litrs_base.specs.declared.quotes.CharKind.TheVariants.{Char as char_kind, Byte as byte_kind}
+use Rattle.litrs_base.specs.Quotes.{char_front, char_switches_of}
+use Rattle.litrs_grammar.specs.CharByte.{CharItem, plain_char, escaped_char, char_item_text, is_special_whitespace, allows_char, is_char_item, CharParts, IsCharLiteral, escape_length, char_item_length, closing_refusal, char_item_refusal, char_kind_refusal}
 use Rattle.litrs_grammar.proofs.QuotedItems.{escape_head}
 use Rattle.litrs_grammar.proofs.Laws.Escape.{refusal_escape}
 use Rattle.litrs_grammar.proofs.Laws.CharByte.{escape_length_is, backslash_allowed}

@@ -2,9 +2,11 @@
 use Rattle.std.proofs.Common.{◌≡◌, ℕ, true, false, List, ◌∷◌, ◌++◌, refl, sym, ap, subst, ◌∙◌, append_assoc}
 use Rattle.std.specs.Prelude.{take}
 use Rattle.std.proofs.lemmas.List.{append_cancel_left}
-use Rattle.litrs_grammar.specs.CharByte.{CharKind, CharParts, char_front, char_item_text, IsCharLiteral}
-use Rattle.litrs_grammar.specs.Raw.{RawParts, IsRawLiteral, raw_front, raw_text, raw_closing, hashes, hash_len, occurs, length_before}
-use Rattle.litrs_grammar.specs.StringKind.{StringKind}
+use Rattle.litrs_base.specs.declared.quotes.CharKind.{CharKind}
+use Rattle.litrs_base.specs.Quotes.{char_front, raw_front}
+use Rattle.litrs_base.specs.declared.quotes.StringKind.{StringKind}
+use Rattle.litrs_grammar.specs.CharByte.{CharParts, char_item_text, IsCharLiteral}
+use Rattle.litrs_grammar.specs.Raw.{RawParts, IsRawLiteral, raw_text, raw_closing, hashes, hash_len, occurs, length_before}
 use Rattle.litrs_grammar.proofs.Laws.CharByte.{same_char_item}
 use Rattle.litrs_grammar.proofs.RawCuts.{hash_len-append}
 use Rattle.litrs_grammar.proofs.Laws.Raw.{before_closing}

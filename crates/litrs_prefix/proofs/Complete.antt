@@ -13,14 +13,15 @@ use Rattle.litrs_base.specs.declared.err.ParseErrorKind.{ParseErrorKind}
 use Rattle.litrs_base.specs.Derivations.{HasNoDerivation}
 use Rattle.litrs_base.proofs.Spans.{byte_len-append, byte_len_ascii}
 use Rattle.litrs_lex.proofs.CharCuts.{cut_at}
-use Rattle.litrs_grammar.specs.StringKind.{StringKind, switches_of}
+use Rattle.litrs_base.specs.declared.quotes.StringKind.{StringKind}
+use Rattle.litrs_base.specs.Quotes.{switches_of, quoted_front}
+use Rattle.litrs_base.specs.declared.quotes.Switches.{Switches}
 use Rattle.litrs_base.specs.declared.err.ParseErrorKind.TheVariants.{UnexpectedChar, InvalidSuffix}
 use Rattle.litrs_base.specs.Text.{first_passes, byte_len}
 use Rattle.litrs_base.specs.Refusal.{Refusal, at, moved, refusal_of, kind_of, span_of}
 use Rattle.litrs_base.proofs.ListTests.{if_true, if_false}
 use Rattle.litrs_grammar.specs.Suffix.{is_suffix, starts_identifier, is_ascii_symbol, suffix_refusal}
-use Rattle.litrs_grammar.specs.Escape.{Switches}
-use Rattle.litrs_grammar.specs.Quoted.{QuotedParts, IsQuoted, IsQuotedRefusal, IsQuotedLiteral, IsQuotedLiteralRefusal, quoted_front, body_text, rest_refusal}
+use Rattle.litrs_grammar.specs.Quoted.{QuotedParts, IsQuoted, IsQuotedRefusal, IsQuotedLiteral, IsQuotedLiteralRefusal, body_text, rest_refusal}
 use Rattle.litrs_grammar.proofs.QuotedItems.{body_stands}
 use Rattle.litrs_prefix.specs.Prefix.{ends_suffix}
 use Rattle.litrs_prefix.specs.Opens.{after_run, after_name}

@@ -6,14 +6,17 @@ use Rattle.std.specs.Str.{chars, IsUtf8}
 use Rattle.std.proofs.lemmas.Bool.{and_parts, and_from, true≢false, false≢true}
 use Rattle.unicode_ident.proofs.IdentLemmas.{is_xid_start-ascii, is_xid_continue-ascii}
 use Rattle.litrs_base.specs.Text.{first_passes, begins_with}
-use Rattle.litrs_grammar.specs.StringKind.{StringKind, string_kind, byte_string_kind, c_string_kind}
+use Rattle.litrs_base.specs.declared.quotes.StringKind.{StringKind}
+use Rattle.litrs_base.specs.declared.quotes.StringKind.TheVariants.{String as string_kind, ByteString as byte_string_kind, CString as c_string_kind}
+use Rattle.litrs_base.specs.declared.quotes.CharKind.TheVariants.{Char as char_kind, Byte as byte_kind}
+use Rattle.litrs_base.specs.Quotes.{quoted_front, raw_front}
 use Rattle.litrs_grammar.specs.Bool.{bool_text}
 use Rattle.litrs_grammar.specs.Suffix.{is_suffix}
 use Rattle.litrs_grammar.specs.Integer.{IntegerParts, IsIntegerOf}
 use Rattle.litrs_grammar.specs.Float.{FloatParts, IsFloatOf}
-use Rattle.litrs_grammar.specs.CharByte.{CharParts, char_kind, byte_kind, IsCharLiteral}
-use Rattle.litrs_grammar.specs.Quoted.{QuotedParts, quoted_front, IsQuotedLiteral}
-use Rattle.litrs_grammar.specs.Raw.{RawParts, raw_front, IsRawLiteral}
+use Rattle.litrs_grammar.specs.CharByte.{CharParts, IsCharLiteral}
+use Rattle.litrs_grammar.specs.Quoted.{QuotedParts, IsQuotedLiteral}
+use Rattle.litrs_grammar.specs.Raw.{RawParts, IsRawLiteral}
 use Rattle.litrs_grammar.specs.Literal.{StringParts, quoted_parts, raw_parts, IsString, string_suffix, Derivation, a_bool, an_integer, a_float, a_char, a_byte, a_string, a_byte_string, a_c_string, IsLiteral, bool_literal, integer_literal, float_literal, char_literal, byte_literal, string_literal, byte_string_literal, c_string_literal, literal_kind, string_literal_of}
 use Rattle.litrs_base.specs.Refusal.{plain}
 use Rattle.litrs_base.specs.declared.err.ParseErrorKind.TheVariants.{InvalidLiteral}

@@ -1,7 +1,7 @@
 -- Quoted literals, and the rest before which they end.
 use Rattle.std.proofs.Common.{◌≡◌, ℕ, List, ◌∷◌, ◌++◌, sym, ap, ◌∙◌, append_assoc}
 use Rattle.std.proofs.lemmas.List.{append_cancel_left}
-use Rattle.litrs_grammar.specs.Escape.{Switches}
+use Rattle.litrs_base.specs.declared.quotes.Switches.{Switches}
 use Rattle.litrs_grammar.specs.Quoted.{QuotedParts, IsQuoted, body_text}
 use Rattle.litrs_grammar.proofs.QuotedItems.{same_items, body_stands, quote_no_item}
 use Rattle.litrs_prefix.specs.Laws.{QuotedAreUnique}

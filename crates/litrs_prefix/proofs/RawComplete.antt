@@ -13,8 +13,10 @@ use Rattle.litrs_base.proofs.Begins.{begins_with-split}
 use Rattle.litrs_base.proofs.Runs.{prefix_len_all}
 use Rattle.litrs_base.proofs.Spans.{byte_len-append, byte_len_ascii}
 use Rattle.litrs_grammar.specs.Suffix.{is_suffix, suffix_refusal}
-use Rattle.litrs_grammar.specs.StringKind.{StringKind, string_kind, byte_string_kind, c_string_kind}
-use Rattle.litrs_grammar.specs.Raw.{RawParts, IsRaw, IsRawOf, IsRawLiteral, raw_front, raw_closing, hashes, is_raw_char, raw_char_refusal, raw_body_refusal, raw_refusal, has_unicode, allows_nul}
+use Rattle.litrs_base.specs.declared.quotes.StringKind.{StringKind}
+use Rattle.litrs_base.specs.declared.quotes.StringKind.TheVariants.{String as string_kind, ByteString as byte_string_kind, CString as c_string_kind}
+use Rattle.litrs_base.specs.Quotes.{raw_front}
+use Rattle.litrs_grammar.specs.Raw.{RawParts, IsRaw, IsRawOf, IsRawLiteral, raw_closing, hashes, is_raw_char, raw_char_refusal, raw_body_refusal, raw_refusal, has_unicode, allows_nul}
 use Rattle.litrs_grammar.proofs.Spans.Raw.{hashes_bytes, quoted_bytes}
 use Rattle.litrs_grammar.proofs.RawKinds.{after_front}
 use Rattle.litrs_grammar.proofs.Laws.Raw.{raw_rows, raw_body_rows, refusal_of_hashes, refusal_of_closed}

@@ -7,20 +7,21 @@ use Rattle.litrs_base.specs.declared.err.ParseErrorKind.TheVariants.{InvalidLite
 use Rattle.litrs_base.specs.Derivations.{IsOnlyDerivation}
 use Rattle.litrs_base.specs.Refusal.{Refusal, plain}
 use Rattle.litrs_base.specs.Text.{begins_with}
-use Rattle.litrs_grammar.specs.CharByte.{CharParts, char_kind, byte_kind, IsCharLiteral}
+use Rattle.litrs_base.specs.declared.quotes.CharKind.TheVariants.{Char as char_kind, Byte as byte_kind}
+use Rattle.litrs_base.specs.declared.quotes.StringKind.{StringKind}
+use Rattle.litrs_base.specs.declared.quotes.StringKind.TheVariants.{String as string_kind, ByteString as byte_string_kind, CString as c_string_kind}
+use Rattle.litrs_grammar.specs.CharByte.{CharParts, IsCharLiteral}
 use Rattle.litrs_grammar.specs.Float.{FloatParts, IsFloatOf}
 use Rattle.litrs_grammar.specs.Integer.{IntegerParts, IsIntegerOf}
 use Rattle.litrs_grammar.specs.Literal.{Derivation, a_bool, an_integer, a_float, a_char, a_byte, a_string, a_byte_string, a_c_string, IsLiteral, IsString, StringParts, quoted_parts, raw_parts, string_suffix, bool_literal, integer_literal, float_literal, char_literal, byte_literal, c_string_literal, string_literal_of, literal_kind}
 use Rattle.litrs_grammar.specs.LiteralRefusals.{Dispatch, refused_as, parsed_as, begins_float}
 use Rattle.litrs_grammar.specs.Quoted.{IsQuotedLiteral}
 use Rattle.litrs_grammar.specs.Raw.{IsRawLiteral}
-use Rattle.litrs_grammar.specs.StringKind.{StringKind, string_kind, byte_string_kind, c_string_kind}
 use Rattle.litrs_grammar.proofs.Laws.Bool.{chars-bool_text}
 use Rattle.litrs_grammar.proofs.Laws.Literal.{dispatch_literal}
 use Rattle.litrs_lex.specs.declared.kind.Front.{Front}
 use Rattle.litrs_lex.specs.declared.kind.Front.TheVariants as front
-use Rattle.litrs_lex.specs.declared.kind.StringKind.{StringKind as CodeKind}
-use Rattle.litrs_lex.specs.Front.{grammar_kind, row_of, IsFront}
+use Rattle.litrs_lex.specs.Front.{row_of, IsFront}
 use Rattle.litrs_lex.proofs.Dispatch.{dispatch-chars}
 use Rattle.litrs_lex.proofs.StringFronts.{quoted_begins, raw_begins}
 use Rattle.litrs_prefix.specs.Ends.{EndsBefore, StandsBy, StandsBefore}
@@ -113,10 +114,10 @@ byte_before bs r b u is h =
     by_kind (IsCharLiteral byte_kind (chars bs)) (λ d. ends_suffix d.suffix r) a_byte (chars bs) r b (λ x k. k) (λ x k. k) (λ x. refl)
     (λ d k. byte_of d (kind_at front.Byte bs (parsed_as byte_literal) d u is refl k)) h
 
-pub quoted_before : (kind : CodeKind) (bs r : List ℕ) (b : Bool) → IsUtf8 bs → IsFront (front.Quoted kind) bs →
-    StandsBy (IsQuotedLiteral (grammar_kind kind) (chars bs)) (λ d. ends_suffix d.suffix r) b → StandsBefore b (chars bs) r
+pub quoted_before : (kind : StringKind) (bs r : List ℕ) (b : Bool) → IsUtf8 bs → IsFront (front.Quoted kind) bs →
+    StandsBy (IsQuotedLiteral kind (chars bs)) (λ d. ends_suffix d.suffix r) b → StandsBefore b (chars bs) r
 quoted_before kind bs r b u is h =
-    let k = grammar_kind kind in
+    let k = kind in
     by_kind (IsQuotedLiteral k (chars bs)) (λ d. ends_suffix d.suffix r) (λ q. string_at k (quoted_parts q)) (chars bs) r b
     (λ x j. to_string k (chars bs) (quoted_parts x) j) (λ x j. from_string k (chars bs) (quoted_parts x) j) (λ x. string_follows k (quoted_parts x) r)
     (λ d j.
@@ -125,10 +126,10 @@ quoted_before kind bs r b u is h =
     (q.0, x.1 ∙ ap (string_at k) q.1))
     h
 
-pub raw_before : (kind : CodeKind) (bs r : List ℕ) (b : Bool) → IsUtf8 bs → IsFront (front.Raw kind) bs →
-    StandsBy (IsRawLiteral (grammar_kind kind) (chars bs)) (λ d. ends_suffix d.suffix r) b → StandsBefore b (chars bs) r
+pub raw_before : (kind : StringKind) (bs r : List ℕ) (b : Bool) → IsUtf8 bs → IsFront (front.Raw kind) bs →
+    StandsBy (IsRawLiteral kind (chars bs)) (λ d. ends_suffix d.suffix r) b → StandsBefore b (chars bs) r
 raw_before kind bs r b u is h =
-    let k = grammar_kind kind in
+    let k = kind in
     by_kind (IsRawLiteral k (chars bs)) (λ d. ends_suffix d.suffix r) (λ q. string_at k (raw_parts q)) (chars bs) r b
     (λ x j. to_string k (chars bs) (raw_parts x) j) (λ x j. from_string k (chars bs) (raw_parts x) j) (λ x. string_follows k (raw_parts x) r)
     (λ d j.

@@ -5,10 +5,12 @@ use Rattle.std.specs.Char.{is_ascii_digit}
 use Rattle.std.proofs.lemmas.Bool.{and_parts, false≢true}
 use Rattle.std.proofs.lemmas.List.{append_cancel_left}
 use Rattle.litrs_base.specs.Text.{first_passes}
-use Rattle.litrs_grammar.specs.StringKind.{StringKind, string_kind, byte_string_kind, c_string_kind, switches_of}
+use Rattle.litrs_base.specs.declared.quotes.StringKind.{StringKind}
+use Rattle.litrs_base.specs.declared.quotes.StringKind.TheVariants.{String as string_kind, ByteString as byte_string_kind, CString as c_string_kind}
+use Rattle.litrs_base.specs.Quotes.{switches_of, quoted_front}
+use Rattle.litrs_base.specs.declared.quotes.CharKind.TheVariants.{Char as char_kind, Byte as byte_kind}
 use Rattle.litrs_grammar.specs.Bool.{bool_text}
-use Rattle.litrs_grammar.specs.CharByte.{char_kind, byte_kind}
-use Rattle.litrs_grammar.specs.Quoted.{quoted_front, IsQuotedLiteral, QuotedParts}
+use Rattle.litrs_grammar.specs.Quoted.{IsQuotedLiteral, QuotedParts}
 use Rattle.litrs_grammar.specs.Raw.{IsRawLiteral, RawParts}
 use Rattle.litrs_grammar.specs.Literal.{StringParts, quoted_parts, raw_parts, IsString, string_suffix, Derivation, a_bool, an_integer, a_float, a_char, a_byte, a_string, a_byte_string, a_c_string, IsLiteral, LiteralKind, bool_literal, integer_literal, float_literal, char_literal, byte_literal, string_literal, byte_string_literal, c_string_literal, literal_kind}
 use Rattle.litrs_base.proofs.ListTests.{if_true}

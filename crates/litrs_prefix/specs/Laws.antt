@@ -1,7 +1,7 @@
 -- What holds of the literals at the front of texts.
 use Rattle.std.specs.Prelude.{◌≡◌, ℕ, List, [], ◌∷◌, ◌++◌, IsTrue}
 use Rattle.litrs_grammar.specs.Suffix.{is_suffix}
-use Rattle.litrs_grammar.specs.Escape.{Switches}
+use Rattle.litrs_base.specs.declared.quotes.Switches.{Switches}
 use Rattle.litrs_grammar.specs.Quoted.{QuotedParts, IsQuoted}
 use Rattle.litrs_grammar.specs.Literal.{Derivation, IsLiteral}
 use Rattle.litrs_base.specs.Refusal.{refusal_of}

@@ -10,10 +10,11 @@ ghost use Rattle.litrs_grammar.specs.Bool.{bool_text};
 ghost use Rattle.litrs_grammar.specs.Literal.{Derivation};
 ghost use Rattle.litrs_grammar.specs.Integer.{IntegerParts, IsIntegerOf};
 ghost use Rattle.litrs_grammar.specs.Float.{FloatParts, IsFloatOf, is_period};
-ghost use Rattle.litrs_grammar.specs.CharByte.{CharParts, char_kind, byte_kind, IsCharLiteral};
-ghost use Rattle.litrs_grammar.specs.Quoted.{quoted_front, QuotedParts, IsQuotedLiteral};
-ghost use Rattle.litrs_grammar.specs.Raw.{raw_front, RawParts, IsRawLiteral};
-ghost use Rattle.litrs_lex.specs.Front.{grammar_kind};
+ghost use Rattle.litrs_base.specs.declared.quotes.CharKind.TheVariants.{Char as char_kind, Byte as byte_kind};
+ghost use Rattle.litrs_base.specs.Quotes.{quoted_front, raw_front};
+ghost use Rattle.litrs_grammar.specs.CharByte.{CharParts, IsCharLiteral};
+ghost use Rattle.litrs_grammar.specs.Quoted.{QuotedParts, IsQuotedLiteral};
+ghost use Rattle.litrs_grammar.specs.Raw.{RawParts, IsRawLiteral};
 ghost use Rattle.litrs_prefix.specs.Ends.{after_digits, IsEndOf, NoBoolBefore, IsSuffixKind, EndsBefore};
 ghost use Rattle.litrs_prefix.specs.Opens.{after_name};
 ghost use Rattle.litrs_prefix.specs.Prefix.{ends_suffix, ends_integer, ends_float, ends_bool, is_bare, HasPrefix, HasNoPrefix};
@@ -223,10 +224,10 @@ fn byte_end(text: &str) -> usize
 
 /// Where a quoted string of the kind ends.
 fn quoted_end(text: &str, kind: StringKind) -> usize
-    requires { IsTrue (begins_with (quoted_front (grammar_kind kind)) text.now) }
+    requires { IsTrue (begins_with (quoted_front kind) text.now) }
     ensures boundary { IsCharBoundary text.now result }
     ensures literal { (l r : List ℕ) (q : QuotedParts) → l ++ r ≡ chars text.now →
-        IsQuotedLiteral (grammar_kind kind) l q → IsTrue (ends_suffix q.suffix r) →
+        IsQuotedLiteral kind l q → IsTrue (ends_suffix q.suffix r) →
         EndsBefore text.now r result }
 {
     let allowed = kind.switches();
@@ -245,10 +246,10 @@ fn quoted_end(text: &str, kind: StringKind) -> usize
 
 /// Where a raw string of the kind ends.
 fn raw_end(text: &str, kind: StringKind) -> usize
-    requires { IsTrue (begins_with (raw_front (grammar_kind kind)) text.now) }
+    requires { IsTrue (begins_with (raw_front kind) text.now) }
     ensures boundary { IsCharBoundary text.now result }
     ensures literal { (l r : List ℕ) (d : RawParts) → l ++ r ≡ chars text.now →
-        IsRawLiteral (grammar_kind kind) l d → IsTrue (ends_suffix d.suffix r) →
+        IsRawLiteral kind l d → IsTrue (ends_suffix d.suffix r) →
         EndsBefore text.now r result }
 {
     let allowed = kind.switches();

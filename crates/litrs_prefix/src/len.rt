@@ -1,14 +1,16 @@
 //! How many bytes the literal at the front of a text has.
-ghost use Rattle.std.specs.Prelude.{◌≡◌, ◌&&◌, ℕ, List, codes, drop, IsTrue, IfSome, IfNone};
+ghost use Rattle.std.specs.Prelude.{◌&&◌, codes, drop, IsTrue, IfSome, IfNone};
 ghost use Rattle.std.specs.Str.{chars, IsCharBoundary};
 ghost use Rattle.litrs_base.specs.Text.{begins_with};
-ghost use Rattle.litrs_grammar.specs.CharByte.{char_kind, byte_kind, IsCharLiteral};
+ghost use Rattle.litrs_base.specs.declared.quotes.CharKind.TheVariants.{Char as char_kind, Byte as byte_kind};
+ghost use Rattle.litrs_base.specs.Quotes.{quoted_front, raw_front};
+ghost use Rattle.litrs_grammar.specs.CharByte.{IsCharLiteral};
 ghost use Rattle.litrs_grammar.specs.Float.{IsFloatOf};
 ghost use Rattle.litrs_grammar.specs.Integer.{IsIntegerOf};
 ghost use Rattle.litrs_grammar.specs.Literal.{Derivation};
-ghost use Rattle.litrs_grammar.specs.Quoted.{quoted_front, IsQuotedLiteral};
-ghost use Rattle.litrs_grammar.specs.Raw.{raw_front, IsRawLiteral};
-ghost use Rattle.litrs_lex.specs.Front.{grammar_kind, IsFront};
+ghost use Rattle.litrs_grammar.specs.Quoted.{IsQuotedLiteral};
+ghost use Rattle.litrs_grammar.specs.Raw.{IsRawLiteral};
+ghost use Rattle.litrs_lex.specs.Front.{IsFront};
 ghost use Rattle.litrs_prefix.specs.Ends.{StandsBefore, StandsBy};
 ghost use Rattle.litrs_prefix.specs.Prefix.{ends_suffix, ends_integer, ends_float, HasPrefix, HasNoPrefix};
 
@@ -116,8 +118,8 @@ fn byte_stands(front: &str, rest: &str) -> bool
 
 /// The same of a quoted string of the kind.
 fn quoted_stands(front: &str, rest: &str, kind: StringKind) -> bool
-    requires { IsTrue (begins_with (quoted_front (grammar_kind kind)) front.now) }
-    ensures { StandsBy (IsQuotedLiteral (grammar_kind kind) (chars front.now))
+    requires { IsTrue (begins_with (quoted_front kind) front.now) }
+    ensures { StandsBy (IsQuotedLiteral kind (chars front.now))
         (λ d. ends_suffix d.suffix (chars rest.now)) result }
 {
     let allowed = kind.switches();
@@ -136,8 +138,8 @@ fn quoted_stands(front: &str, rest: &str, kind: StringKind) -> bool
 
 /// The same of a raw string of the kind.
 fn raw_stands(front: &str, rest: &str, kind: StringKind) -> bool
-    requires { IsTrue (begins_with (raw_front (grammar_kind kind)) front.now) }
-    ensures { StandsBy (IsRawLiteral (grammar_kind kind) (chars front.now))
+    requires { IsTrue (begins_with (raw_front kind) front.now) }
+    ensures { StandsBy (IsRawLiteral kind (chars front.now))
         (λ d. ends_suffix d.suffix (chars rest.now)) result }
 {
     let allowed = kind.switches();

@@ -14,10 +14,10 @@ use Rattle.litrs_base.proofs.Begins.{begins_with-split}
 use Rattle.litrs_base.proofs.Chars.{begins_with-chars}
 use Rattle.litrs_grammar.specs.Literal.{Derivation, a_bool, an_integer, a_float, a_char, a_byte, a_string, a_byte_string, a_c_string, StringParts, quoted_parts, raw_parts, IsString, IsLiteral, LiteralKind, bool_literal, integer_literal, float_literal, char_literal, byte_literal, c_string_literal, literal_kind, kind_parse, IsLiteralOf, string_literal_of}
 use Rattle.litrs_grammar.specs.LiteralRefusals.{Dispatch, begins_float, refused_as, parsed_as, dispatch}
-use Rattle.litrs_grammar.specs.Quoted.{quoted_front}
-use Rattle.litrs_grammar.specs.Raw.{raw_front}
+use Rattle.litrs_base.specs.Quotes.{quoted_front, raw_front}
+use Rattle.litrs_base.specs.declared.quotes.StringKind.{StringKind}
+use Rattle.litrs_base.specs.declared.quotes.StringKind.TheVariants.{String as string_kind, ByteString as byte_string_kind, CString as c_string_kind}
 use Rattle.litrs_grammar.specs.Refused.{IsRefused}
-use Rattle.litrs_grammar.specs.StringKind.{StringKind, string_kind, byte_string_kind, c_string_kind}
 use Rattle.litrs_grammar.specs.Strings.{StringDerivation}
 use Rattle.litrs_grammar.proofs.Laws.Integer.{not_empty_by_first}
 use Rattle.litrs_grammar.proofs.Laws.Literal.{dispatch_literal, is_bool-digit}

@@ -6,9 +6,10 @@ use Rattle.litrs_base.specs.Text.{begins_with}
 use Rattle.litrs_base.proofs.Begins.{begins_with-split}
 use Rattle.litrs_grammar.specs.Literal.{StringParts, quoted_parts, raw_parts, IsString}
 use Rattle.litrs_grammar.specs.LiteralRefusals.{string_start, quoted_start, raw_start}
-use Rattle.litrs_grammar.specs.Quoted.{quoted_front, IsQuoted}
-use Rattle.litrs_grammar.specs.Raw.{raw_front, has_unicode, allows_nul, raw_refusal}
-use Rattle.litrs_grammar.specs.StringKind.{StringKind, switches_of}
+use Rattle.litrs_base.specs.Quotes.{quoted_front, raw_front, switches_of}
+use Rattle.litrs_base.specs.declared.quotes.StringKind.{StringKind}
+use Rattle.litrs_grammar.specs.Quoted.{IsQuoted}
+use Rattle.litrs_grammar.specs.Raw.{has_unicode, allows_nul, raw_refusal}
 use Rattle.litrs_grammar.specs.Strings.{StringDerivation}
 use Rattle.litrs_grammar.proofs.Laws.Literal.{start_quoted, start_raw, quoted_starts, raw_starts}
 use Rattle.litrs_grammar.proofs.RawKinds.{literal_refusal_free}

@@ -1,10 +1,12 @@
 -- The texts of literals of each kind are those of tokens.
 use Rattle.std.proofs.Common.{ℕ, List, refl}
-use Rattle.litrs_grammar.specs.CharByte.{CharParts, char_kind, byte_kind, IsCharLiteral}
+use Rattle.litrs_base.specs.declared.quotes.CharKind.TheVariants.{Char as char_kind, Byte as byte_kind}
+use Rattle.litrs_base.specs.declared.quotes.StringKind.{StringKind}
+use Rattle.litrs_base.specs.declared.quotes.StringKind.TheVariants.{String as string_kind, ByteString as byte_string_kind, CString as c_string_kind}
+use Rattle.litrs_grammar.specs.CharByte.{CharParts, IsCharLiteral}
 use Rattle.litrs_grammar.specs.Float.{FloatParts, IsFloatOf}
 use Rattle.litrs_grammar.specs.Integer.{IntegerParts, IsIntegerOf}
 use Rattle.litrs_grammar.specs.Literal.{an_integer, a_float, a_char, a_byte, a_string, a_byte_string, a_c_string, string_literal_of}
-use Rattle.litrs_grammar.specs.StringKind.{StringKind, string_kind, byte_string_kind, c_string_kind}
 use Rattle.litrs_grammar.specs.Strings.{StringDerivation}
 use Rattle.litrs_token.specs.declared.kind.TokenKind.TheVariants as token
 use Rattle.litrs_token.specs.LiteralToken.{token_kind, IsLiteralToken}

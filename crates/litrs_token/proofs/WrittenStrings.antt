@@ -8,7 +8,8 @@ use Rattle.std.proofs.lemmas.List.{flat_map_more, append-nil}
 use Rattle.std.proofs.lemmas.Str.{encodes-append, encodes-chars, chars-encodes, scalars-chars}
 use lib.Utf8.{scalar, scalars}
 use Rattle.litrs_base.specs.Derivations.{IsOnlyDerivation}
-use Rattle.litrs_grammar.specs.Escape.{string_switches, simple_escape}
+use Rattle.litrs_base.specs.Quotes.{string_switches}
+use Rattle.litrs_grammar.specs.Escape.{simple_escape}
 use Rattle.litrs_grammar.specs.Literal.{IsLiteral, Derivation, a_string, quoted_parts}
 use Rattle.litrs_grammar.specs.Quoted.{Item, plain_item, escape_item, item_text, item_value, is_item, body_text, body_value, takes_all_blanks, is_body, QuotedParts}
 use Rattle.litrs_grammar.proofs.LiteralTexts.{literals_parse_back}

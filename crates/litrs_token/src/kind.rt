@@ -3,10 +3,8 @@ ghost use Rattle.std.specs.Prelude.{◌≡◌, codes, IsTrue, IfSome, IfNone};
 ghost use Rattle.std.specs.Char.{is_ascii_digit};
 ghost use Rattle.std.specs.Str.{chars};
 ghost use Rattle.litrs_base.specs.Text.{first_passes, begins_with};
-ghost use Rattle.litrs_grammar.specs.Quoted.{quoted_front};
-ghost use Rattle.litrs_grammar.specs.Raw.{raw_front};
+ghost use Rattle.litrs_base.specs.Quotes.{quoted_front, raw_front};
 ghost use Rattle.litrs_grammar.specs.Literal.{string_literal_of};
-ghost use Rattle.litrs_lex.specs.Front.{grammar_kind};
 ghost use Rattle.litrs_token.specs.LiteralToken.{token_kind, IsLiteralToken, IsNoLiteralToken};
 
 use litrs_lex::{
@@ -98,7 +96,7 @@ fn byte_kind(text: &str) -> Option<TokenKind>
 
 /// [`literal_kind`] of a text that begins as a quoted string of the kind.
 fn quoted_kind(text: &str, kind: StringKind) -> Option<TokenKind>
-    requires { IsTrue (begins_with (quoted_front (grammar_kind kind)) text.now) }
+    requires { IsTrue (begins_with (quoted_front kind) text.now) }
     ensures some { IfSome result (IsLiteralToken (chars text.now)) }
     ensures none { IfNone result (IsNoLiteralToken (chars text.now)) }
 {
@@ -115,7 +113,7 @@ fn quoted_kind(text: &str, kind: StringKind) -> Option<TokenKind>
 
 /// [`literal_kind`] of a text that begins as a raw string of the kind.
 fn raw_kind(text: &str, kind: StringKind) -> Option<TokenKind>
-    requires { IsTrue (begins_with (raw_front (grammar_kind kind)) text.now) }
+    requires { IsTrue (begins_with (raw_front kind) text.now) }
     ensures some { IfSome result (IsLiteralToken (chars text.now)) }
     ensures none { IfNone result (IsNoLiteralToken (chars text.now)) }
 {
@@ -128,7 +126,7 @@ fn raw_kind(text: &str, kind: StringKind) -> Option<TokenKind>
 
 /// What a string of the kind is as a token.
 fn string_token_kind(kind: StringKind) -> TokenKind
-    ensures { result ≡ token_kind (string_literal_of (grammar_kind kind)) }
+    ensures { result ≡ token_kind (string_literal_of kind) }
 {
     match kind {
         StringKind::String => TokenKind::StringLit,

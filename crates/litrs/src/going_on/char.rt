@@ -3,15 +3,15 @@ ghost use Rattle.std.specs.Prelude.{◌≡◌, ◌↔◌, ◌++◌, ◌==◌, co
 ghost use Rattle.std.specs.Str.{chars};
 ghost use Rattle.litrs_base.specs.Characters.{backslash};
 ghost use Rattle.litrs_base.specs.Text.{begins_with, first_passes};
-ghost use Rattle.litrs_grammar.specs.CharByte.{char_front, plain_char, is_char_item, IsCharLiteral};
+ghost use Rattle.litrs_base.specs.Quotes.{char_front};
+ghost use Rattle.litrs_grammar.specs.CharByte.{plain_char, is_char_item, IsCharLiteral};
 ghost use Rattle.litrs_grammar.specs.Continuation.{BeginsBy};
 ghost use Rattle.litrs_grammar.specs.Literal.{kind_parse, char_literal, byte_literal, Begins};
-ghost use Rattle.litrs_lex.specs.CharCut.{kind_if};
 ghost use Rattle.litrs.specs.Begins.{BeginsClosing};
 
 use crate::going_on::escape::refused_escape_goes_on;
 use crate::going_on::suffix::suffix_goes_on;
-use litrs_lex::{Switches, unescape_with};
+use litrs_lex::{CharKind, unescape_with};
 
 /// Whether a text that begins with `'` begins a char.
 #[inline(never)]
@@ -19,7 +19,7 @@ pub(crate) fn char_goes_on(text: &str) -> bool
     requires { IsTrue (begins_with (codes "'") text.now) }
     ensures { IsTrue result ↔ Begins (kind_parse char_literal) (chars text.now) }
 {
-    item_goes_on(&text[1..], false)
+    item_goes_on(&text[1..], CharKind::Char)
 }
 
 /// Whether a text that begins with `b'` begins a byte.
@@ -28,33 +28,29 @@ pub(crate) fn byte_goes_on(text: &str) -> bool
     requires { IsTrue (begins_with (codes "b'") text.now) }
     ensures { IsTrue result ↔ Begins (kind_parse byte_literal) (chars text.now) }
 {
-    item_goes_on(&text[2..], true)
+    item_goes_on(&text[2..], CharKind::Byte)
 }
 
 /// Whether the front of a char or of a byte, followed by this, begins one.
-fn item_goes_on(rest: &str, is_byte: bool) -> bool
-    ensures { IsTrue result ↔ BeginsBy (IsCharLiteral (kind_if is_byte))
-        (char_front (kind_if is_byte) ++ chars rest.now) }
+fn item_goes_on(rest: &str, kind: CharKind) -> bool
+    ensures { IsTrue result ↔ BeginsBy (IsCharLiteral kind)
+        (char_front kind ++ chars rest.now) }
 {
     let mut chars = rest.chars();
     match chars.next() {
         None => true,
-        Some('\\') => escaped_goes_on(rest, is_byte),
-        Some(c) => is_plain(c, is_byte) && closing_goes_on(chars.as_str()),
+        Some('\\') => escaped_goes_on(rest, kind),
+        Some(c) => is_plain(c, kind) && closing_goes_on(chars.as_str()),
     }
 }
 
 /// [`item_goes_on`] of a rest that begins with a backslash.
-fn escaped_goes_on(rest: &str, is_byte: bool) -> bool
+fn escaped_goes_on(rest: &str, kind: CharKind) -> bool
     requires { IsTrue (first_passes (λ c. c == backslash) rest.now) }
-    ensures { IsTrue result ↔ BeginsBy (IsCharLiteral (kind_if is_byte))
-        (char_front (kind_if is_byte) ++ chars rest.now) }
+    ensures { IsTrue result ↔ BeginsBy (IsCharLiteral kind)
+        (char_front kind ++ chars rest.now) }
 {
-    let allowed = Switches {
-        unicode: !is_byte,
-        byte_escapes: is_byte,
-        allow_nul: true,
-    };
+    let allowed = kind.switches();
     match unescape_with(rest, allowed) {
         Ok((_, len)) => closing_goes_on(&rest[len..]),
         Err(_) => refused_escape_goes_on(&rest.as_bytes()[1..], allowed),
@@ -62,10 +58,11 @@ fn escaped_goes_on(rest: &str, is_byte: bool) -> bool
 }
 
 /// Whether the character stands for itself in a char or in a byte.
-fn is_plain(c: char, is_byte: bool) -> bool
-    ensures { result ≡ is_char_item (kind_if is_byte) (plain_char c) }
+fn is_plain(c: char, kind: CharKind) -> bool
+    ensures { result ≡ is_char_item kind (plain_char c) }
 {
-    !matches!(c, '\'' | '\\' | '\n' | '\t' | '\r') && (!is_byte || c.is_ascii())
+    !matches!(c, '\'' | '\\' | '\n' | '\t' | '\r')
+        && (matches!(kind, CharKind::Char) || c.is_ascii())
 }
 
 /// Whether what follows the character begins the closing quote and a suffix.

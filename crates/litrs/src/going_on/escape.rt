@@ -5,7 +5,7 @@ ghost use Rattle.std.specs.Str.{chars};
 ghost use Rattle.litrs_base.specs.Characters.{backslash, is_scalar, is_no_nul_unless};
 ghost use Rattle.litrs_base.specs.Text.{first_passes};
 ghost use Rattle.litrs_grammar.specs.GoesOn.Escape.{BeginsEscape, escape_goes_on, hex_goes_on, braces_go_on, inner_goes_on};
-ghost use Rattle.litrs_lex.specs.Unescaped.{switches, grammar_switches};
+ghost use Rattle.litrs_lex.specs.Unescaped.{switches};
 
 use litrs_lex::escape::hex_digits;
 use litrs_lex::{Switches, hex_digit_value, unescape_with};
@@ -15,7 +15,7 @@ use litrs_lex::{Switches, hex_digit_value, unescape_with};
 pub(crate) fn escape_goes_on(text: &str, allowed: Switches) -> bool
     requires { IsTrue (first_passes (λ c. c == backslash) text.now) }
     ensures { IsTrue result
-        ↔ BeginsEscape (grammar_switches allowed) (chars text.now) }
+        ↔ BeginsEscape allowed (chars text.now) }
 {
     match unescape_with(text, allowed) {
         Ok((_, len)) => len == text.len(),
@@ -28,12 +28,13 @@ pub(crate) fn escape_goes_on(text: &str, allowed: Switches) -> bool
 
 /// Whether a refused escape becomes one, by what follows the backslash.
 pub(crate) fn refused_escape_goes_on(after: &[u8], allowed: Switches) -> bool
-    ensures { result ≡ escape_goes_on (grammar_switches allowed) after.now }
+    ensures { result ≡ escape_goes_on allowed after.now }
 {
+    let unicode = allowed.unicode;
     match after {
         [] => true,
         [b'x', digits @ ..] => hex_goes_on(digits, allowed.byte_escapes),
-        [b'u', braces @ ..] => allowed.unicode && braces_go_on(braces, allowed.allow_nul),
+        [b'u', braces @ ..] => unicode && braces_go_on(braces, allowed.allow_nul),
         _ => false,
     }
 }

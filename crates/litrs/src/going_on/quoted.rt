@@ -4,12 +4,11 @@ ghost use Rattle.std.specs.Str.{chars};
 ghost use Rattle.litrs_base.specs.Text.{begins_with};
 ghost use Rattle.litrs_grammar.specs.Continuation.{BeginsBy};
 ghost use Rattle.litrs_grammar.specs.Literal.{IsString};
-ghost use Rattle.litrs_grammar.specs.Quoted.{quoted_front};
-ghost use Rattle.litrs_grammar.specs.StringKind.{string_kind, byte_string_kind, c_string_kind};
+ghost use Rattle.litrs_base.specs.Quotes.{quoted_front};
+ghost use Rattle.litrs_base.specs.declared.quotes.StringKind.TheVariants.{String as string_kind, ByteString as byte_string_kind, CString as c_string_kind};
 ghost use Rattle.litrs_grammar.specs.GoesOn.Quoted.{RestGoesOn};
 ghost use Rattle.litrs_lex.specs.QuotedItems.{EndsItems};
-ghost use Rattle.litrs_lex.specs.Front.{grammar_kind};
-ghost use Rattle.litrs_lex.specs.Unescaped.{switches, grammar_switches};
+ghost use Rattle.litrs_lex.specs.Unescaped.{switches};
 ghost use Rattle.litrs.specs.Begins.{IsClosed};
 
 use crate::going_on::escape::escape_goes_on;
@@ -21,8 +20,8 @@ use litrs_lex::{StringKind, Switches};
 /// Whether a text that begins as a quoted string of the kind begins a string of it.
 #[inline(always)]
 pub(crate) fn quoted_goes_on(text: &str, kind: StringKind) -> bool
-    requires { IsTrue (begins_with (quoted_front (grammar_kind kind)) text.now) }
-    ensures { IsTrue result ↔ BeginsBy (IsString (grammar_kind kind)) (chars text.now) }
+    requires { IsTrue (begins_with (quoted_front kind) text.now) }
+    ensures { IsTrue result ↔ BeginsBy (IsString kind) (chars text.now) }
 {
     match kind {
         StringKind::String => string_goes_on(text),
@@ -61,8 +60,8 @@ fn c_string_goes_on(text: &str) -> bool
 /// [`quoted_goes_on`], by what stands where the items of the body end.
 #[inline(always)]
 fn body_goes_on(text: &str, kind: StringKind) -> bool
-    requires { IsTrue (begins_with (quoted_front (grammar_kind kind)) text.now) }
-    ensures { IsTrue result ↔ BeginsBy (IsString (grammar_kind kind)) (chars text.now) }
+    requires { IsTrue (begins_with (quoted_front kind) text.now) }
+    ensures { IsTrue result ↔ BeginsBy (IsString kind) (chars text.now) }
 {
     let allowed = kind.switches();
     let end = items_end(text, kind.front_len(), allowed);
@@ -73,9 +72,9 @@ fn body_goes_on(text: &str, kind: StringKind) -> bool
 /// quote alone.
 #[inline(always)]
 fn rest_goes_on(rest: &str, allowed: Switches) -> bool
-    requires { EndsItems (grammar_switches allowed) (chars rest.now) }
+    requires { EndsItems allowed (chars rest.now) }
     ensures { IsTrue result ↔ (IsClosed (chars rest.now)
-        ⊎ RestGoesOn (grammar_switches allowed) (chars rest.now)) }
+        ⊎ RestGoesOn allowed (chars rest.now)) }
 {
     if is_quote(rest.as_bytes()) {
         true

@@ -6,8 +6,8 @@ ghost use Rattle.litrs_base.specs.Refusal.{refusal_of, span_of, IsInText};
 ghost use Rattle.litrs_base.specs.Text.{begins_with};
 ghost use Rattle.litrs_grammar.specs.Continuation.{BeginsBy};
 ghost use Rattle.litrs_grammar.specs.Literal.{IsString};
-ghost use Rattle.litrs_grammar.specs.Raw.{is_hash, raw_front, IsRawOf};
-ghost use Rattle.litrs_lex.specs.Front.{grammar_kind};
+ghost use Rattle.litrs_base.specs.Quotes.{raw_front};
+ghost use Rattle.litrs_grammar.specs.Raw.{is_hash, IsRawOf};
 ghost use Rattle.litrs.specs.LoneUnderscore.{is_lone_underscore_suffix};
 
 use litrs_lex::hashes::{MAX_HASHES, are_hashes};
@@ -16,8 +16,8 @@ use litrs_lex::{ParseError, ParseErrorKind, StringKind, Switches, scan_raw_strin
 /// Whether a text that begins as a raw string of the kind begins a string of it.
 #[inline(never)]
 pub(crate) fn raw_goes_on(text: &str, kind: StringKind) -> bool
-    requires { IsTrue (begins_with (raw_front (grammar_kind kind)) text.now) }
-    ensures { IsTrue result ↔ BeginsBy (IsString (grammar_kind kind)) (chars text.now) }
+    requires { IsTrue (begins_with (raw_front kind) text.now) }
+    ensures { IsTrue result ↔ BeginsBy (IsString kind) (chars text.now) }
 {
     raw_body_goes_on(text, kind.front_len(), kind.switches())
 }

@@ -4,7 +4,9 @@ use Rattle.std.specs.Prelude.{◌≡◌, Some, None, codes, refl, true, false}
 use Rattle.litrs_base.specs.declared.err.ParseErrorKind.TheVariants as kind
 use Rattle.litrs_base.specs.Refusal.{Refusal, plain, at, over}
 use Rattle.litrs_grammar.specs.Escape.{simple_escape, hex_escape, unicode_escape}
-use Rattle.litrs_grammar.specs.CharByte.{CharKind, CharItem, char_kind, byte_kind, plain_char, escaped_char, IsCharLiteral, char_value, char_refusal, byte_refusal, is_char_item}
+use Rattle.litrs_base.specs.declared.quotes.CharKind.{CharKind}
+use Rattle.litrs_base.specs.declared.quotes.CharKind.TheVariants.{Char as char_kind, Byte as byte_kind}
+use Rattle.litrs_grammar.specs.CharByte.{CharItem, plain_char, escaped_char, IsCharLiteral, char_value, char_refusal, byte_refusal, is_char_item}
 use Rattle.litrs_grammar.proofs.Computing.{computing, char_or_byte}
 
 -- the text is a char, or a byte, of this item and suffix

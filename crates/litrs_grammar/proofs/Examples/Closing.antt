@@ -4,7 +4,8 @@ use Rattle.std.proofs.Common.{sym, ap, ◌∙◌}
 use Rattle.litrs_base.specs.declared.err.ParseError.{ParseError}
 use Rattle.litrs_base.specs.Finality.{is_open}
 use Rattle.litrs_base.specs.Refusal.{refusal_of, kind_of}
-use Rattle.litrs_grammar.specs.StringKind.{StringKind, string_kind, byte_string_kind, c_string_kind}
+use Rattle.litrs_base.specs.declared.quotes.StringKind.{StringKind}
+use Rattle.litrs_base.specs.declared.quotes.StringKind.TheVariants.{String as string_kind, ByteString as byte_string_kind, CString as c_string_kind}
 use Rattle.litrs_grammar.specs.Quoted.{plain_item}
 use Rattle.litrs_grammar.specs.Literal.{Derivation, StringParts, quoted_parts, a_bool, an_integer, a_float, a_char, a_byte, a_string, a_byte_string, a_c_string, Parse, literal_parse, IsLiteralOf, suffix_of, string_suffix}
 use Rattle.litrs_grammar.specs.Closing.{closing_of, opening_text, written_body, a_string_of, IsClosedBy}

@@ -5,7 +5,9 @@ use Rattle.litrs_base.specs.declared.escape.Unescape.{Unescape}
 use Rattle.litrs_base.specs.declared.escape.Unescape.TheVariants.{Byte, Unicode}
 use Rattle.litrs_base.specs.declared.err.ParseErrorKind.TheVariants as kind
 use Rattle.litrs_base.specs.Refusal.{Refusal, at, over}
-use Rattle.litrs_grammar.specs.Escape.{Switches, Escape, char_switches, byte_switches, string_switches, byte_string_switches, c_string_switches, simple_escape, hex_escape, unicode_escape, escape_text, escape_value, value_bytes, is_escape, escape_refusal}
+use Rattle.litrs_base.specs.declared.quotes.Switches.{Switches}
+use Rattle.litrs_base.specs.Quotes.{char_switches, byte_switches, string_switches, byte_string_switches, c_string_switches}
+use Rattle.litrs_grammar.specs.Escape.{Escape, simple_escape, hex_escape, unicode_escape, escape_text, escape_value, value_bytes, is_escape, escape_refusal}
 use Rattle.litrs_grammar.proofs.Computing.{computing}
 
 -- an escape where the switches are so, how it is written and what it stands for

@@ -3,7 +3,8 @@ use Prim.Native.String.{String}
 use Rattle.std.specs.Prelude.{◌≡◌, ℕ, List, [], ◌∷◌, ◌++◌, Some, None, refl, codes, true, false}
 use Rattle.litrs_base.specs.declared.err.ParseErrorKind.TheVariants as kind
 use Rattle.litrs_base.specs.Refusal.{Refusal, plain, over, at}
-use Rattle.litrs_grammar.specs.StringKind.{StringKind, string_kind, byte_string_kind, c_string_kind}
+use Rattle.litrs_base.specs.declared.quotes.StringKind.{StringKind}
+use Rattle.litrs_base.specs.declared.quotes.StringKind.TheVariants.{String as string_kind, ByteString as byte_string_kind, CString as c_string_kind}
 use Rattle.litrs_grammar.specs.Raw.{hashes, raw_value, IsRawLiteral, raw_literal_refusal, raw_refusal, is_raw_char, raw_char_refusal, occurs, length_before}
 use Rattle.litrs_grammar.proofs.Computing.{computing, raw}
 

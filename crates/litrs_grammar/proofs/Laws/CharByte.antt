@@ -7,8 +7,12 @@ use Rattle.std.proofs.lemmas.List.{append_cancel_left, drop_at}
 use Rattle.litrs_base.specs.Refusal.{Refusal, moved}
 use Rattle.litrs_grammar.specs.Suffix.{is_suffix}
 use Rattle.litrs_base.specs.Text.{first_passes, byte_len, begins_with}
-use Rattle.litrs_grammar.specs.Escape.{Switches, Escape, simple_escape, hex_escape, unicode_escape, escape_text, is_escape, is_simple, escape_refusal}
-use Rattle.litrs_grammar.specs.CharByte.{CharKind, char_kind, byte_kind, char_front, char_switches_of, CharItem, plain_char, escaped_char, char_item_text, is_special_whitespace, allows_char, is_char_item, CharParts, IsCharLiteral, escape_length, char_item_length, closing_refusal, char_item_refusal, char_kind_refusal}
+use Rattle.litrs_base.specs.declared.quotes.Switches.{Switches}
+use Rattle.litrs_base.specs.declared.quotes.CharKind.{CharKind}
+use Rattle.litrs_base.specs.declared.quotes.CharKind.TheVariants.{Char as char_kind, Byte as byte_kind}
+use Rattle.litrs_base.specs.Quotes.{char_front, char_switches_of}
+use Rattle.litrs_grammar.specs.Escape.{Escape, simple_escape, hex_escape, unicode_escape, escape_text, is_escape, is_simple, escape_refusal}
+use Rattle.litrs_grammar.specs.CharByte.{CharItem, plain_char, escaped_char, char_item_text, is_special_whitespace, allows_char, is_char_item, CharParts, IsCharLiteral, escape_length, char_item_length, closing_refusal, char_item_refusal, char_kind_refusal}
 use Rattle.litrs_grammar.specs.Laws.CharByte.{CharsAreUnique, CharsAreDecided, NoCharEndsWithLineFeed}
 use Rattle.litrs_base.proofs.ListTests.{unless_none, none_if, none_unless, if_true, if_false, position_or_len-split}
 use Rattle.litrs_base.proofs.Begins.{begins_with-split, begins_with-append}

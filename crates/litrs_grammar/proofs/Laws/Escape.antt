@@ -8,7 +8,8 @@ use Rattle.std.proofs.lemmas.Bool.Decides.{nat_tests}
 use Rattle.std.proofs.lemmas.List.Sums.{sum_by-take-le}
 use Rattle.litrs_base.specs.Refusal.{Refusal}
 use Rattle.litrs_base.specs.Text.{is_empty, byte_len, first_passes}
-use Rattle.litrs_grammar.specs.Escape.{Switches, Escape, simple_escape, hex_escape, unicode_escape, escape_text, is_escape, is_simple, escape_refusal, hex_refusal, unicode_refusal, inner_refusal, allows_value, allows_byte, simple_value, pair_value, hex_value, has_two_bytes, is_hex_or_underscore}
+use Rattle.litrs_base.specs.declared.quotes.Switches.{Switches}
+use Rattle.litrs_grammar.specs.Escape.{Escape, simple_escape, hex_escape, unicode_escape, escape_text, is_escape, is_simple, escape_refusal, hex_refusal, unicode_refusal, inner_refusal, allows_value, allows_byte, simple_value, pair_value, hex_value, has_two_bytes, is_hex_or_underscore}
 use Rattle.litrs_base.specs.Characters.{is_scalar}
 use Rattle.litrs_base.proofs.ByteLen.{byte_len_one_ascii}
 use Rattle.litrs_base.proofs.Runs.{list_all-weaken}

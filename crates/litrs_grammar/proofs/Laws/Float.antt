@@ -82,17 +82,6 @@ pub empty-true : (p : List ℕ) → is_empty p ≡ true → p ≡ []
 empty-true [] h = refl
 empty-true (c ∷ cs) h = absurd (false≢true h)
 
-exponent_not_empty : (p : List ℕ) → is_exponent p ≡ true → p ≡ [] → ⊥
-unfolding is_exponent
-exponent_not_empty [] h e = false≢true h
-exponent_not_empty (c ∷ cs) h e = (cc)
-
-exponent_not_one : (p : List ℕ) (c : ℕ) → is_exponent p ≡ true → p ≡ c ∷ [] → ⊥
-unfolding is_exponent
-exponent_not_one p c h e =
-    let one : is_exponent (c ∷ []) ≡ true = subst (λ (t : List ℕ). is_exponent t ≡ true) e h in
-    false≢true (and_parts _ _ one).1
-
 -- what the three forms say of the fraction and the exponent
 record Form (f : Option (List ℕ)) (p : List ℕ) : Type 0 where
   fraction : fraction_passes f ≡ true

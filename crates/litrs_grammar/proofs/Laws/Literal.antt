@@ -7,13 +7,17 @@ use Rattle.std.proofs.lemmas.Bool.{and_parts, or_cases, eqb-true, true≢false, 
 use Rattle.litrs_base.specs.declared.err.ParseErrorKind.TheVariants.{Empty, InvalidLiteral}
 use Rattle.litrs_base.specs.Refusal.{Refusal, plain}
 use Rattle.litrs_base.specs.Text.{is_empty, first_passes, begins_with, is_text}
-use Rattle.litrs_grammar.specs.StringKind.{StringKind, string_kind, byte_string_kind, c_string_kind, switches_of}
+use Rattle.litrs_base.specs.declared.quotes.StringKind.{StringKind}
+use Rattle.litrs_base.specs.declared.quotes.StringKind.TheVariants.{String as string_kind, ByteString as byte_string_kind, CString as c_string_kind}
+use Rattle.litrs_base.specs.Quotes.{switches_of, quoted_front, raw_front}
+use Rattle.litrs_base.specs.declared.quotes.CharKind.{CharKind}
+use Rattle.litrs_base.specs.declared.quotes.CharKind.TheVariants.{Char as char_kind, Byte as byte_kind}
 use Rattle.litrs_grammar.specs.Bool.{bool_text, is_bool, bool_refusal}
 use Rattle.litrs_grammar.specs.Integer.{integer_cut, integer_refusal}
 use Rattle.litrs_grammar.specs.Float.{FloatParts, IsFloatOf, float_refusal}
-use Rattle.litrs_grammar.specs.CharByte.{CharKind, char_kind, byte_kind, CharParts, IsCharLiteral, char_kind_refusal}
-use Rattle.litrs_grammar.specs.Quoted.{QuotedParts, quoted_front, IsQuotedLiteral}
-use Rattle.litrs_grammar.specs.Raw.{RawParts, raw_front, IsRawLiteral, raw_literal_refusal}
+use Rattle.litrs_grammar.specs.CharByte.{CharParts, IsCharLiteral, char_kind_refusal}
+use Rattle.litrs_grammar.specs.Quoted.{QuotedParts, IsQuotedLiteral}
+use Rattle.litrs_grammar.specs.Raw.{RawParts, IsRawLiteral, raw_literal_refusal}
 use Rattle.litrs_grammar.specs.Literal.{StringParts, quoted_parts, raw_parts, IsString, Derivation, a_bool, an_integer, a_float, a_char, a_byte, a_string, a_byte_string, a_c_string, IsLiteral, LiteralKind, bool_literal, integer_literal, float_literal, char_literal, byte_literal, string_literal, byte_string_literal, c_string_literal, literal_kind, literal_parse, kind_parse, IsLiteralOf, string_literal_of}
 use Rattle.litrs_grammar.specs.LiteralRefusals.{StringStart, refused_start, quoted_start, raw_start, string_start, string_start_refusal, IsRefusalOfStart, IsStringRefusal, IsKindRefusal, begins_float, Dispatch, refused_as, parsed_as, dispatch, IsRefusalOfDispatch}
 use Rattle.litrs_grammar.specs.Laws.Literal.{LiteralsAreUnique, TextsAreDecided, LiteralsAreNotRefused, RefusalsAreUnique}

@@ -7,12 +7,13 @@ use Rattle.std.proofs.lemmas.List.{append_cancel_left}
 use Rattle.std.specs.Char.{encode_utf8}
 use Rattle.std.proofs.lemmas.List.Folds.{list_any-append}
 use Rattle.std.proofs.lemmas.Str.{length-encode, len_utf8_bounds}
-use Rattle.litrs_grammar.specs.StringKind.{string_kind, byte_string_kind, c_string_kind}
+use Rattle.litrs_base.specs.declared.quotes.StringKind.TheVariants.{String as string_kind, ByteString as byte_string_kind, CString as c_string_kind}
+use Rattle.litrs_base.specs.declared.quotes.Switches.{Switches}
 use Rattle.litrs_base.specs.Characters.{is_blank, is_ascii_unless}
 use Rattle.litrs_base.specs.Refusal.{Refusal, moved}
 use Rattle.litrs_grammar.specs.Suffix.{is_suffix}
 use Rattle.litrs_base.specs.Text.{first_passes, byte_len}
-use Rattle.litrs_grammar.specs.Escape.{Switches, Escape, simple_escape, hex_escape, unicode_escape, escape_text, escape_value, value_bytes, is_escape, is_simple, hex_value, pair_value, allows_value}
+use Rattle.litrs_grammar.specs.Escape.{Escape, simple_escape, hex_escape, unicode_escape, escape_text, escape_value, value_bytes, is_escape, is_simple, hex_value, pair_value, allows_value}
 use Rattle.litrs_grammar.specs.Quoted.{Item, plain_item, escape_item, continuation, item_text, item_value, is_item, stand_before, body_text, body_value, is_body, takes_all_blanks, rest_refusal, QuotedParts, IsQuoted, IsQuotedRefusal}
 use Rattle.litrs_grammar.specs.Raw.{is_nul}
 use Rattle.litrs_grammar.specs.Laws.Quoted.{QuotedBodiesAreUnique, QuotedTextsAreUnique, QuotedRefusalsAreUnique, QuotedTextsAreDecided, QuotedTextsAreNotRefused, QuotedBodiesJoin, QuotedValuesFitBodies, NoNulInQuotedCStrings, NoQuotedTextEndsWithLineFeed, QuotedLiteralsAreUnique}

@@ -8,9 +8,11 @@ use Rattle.std.proofs.lemmas.Bool.{and_parts, or_parts, true≢false, ltb-true}
 use Rattle.std.proofs.lemmas.List.Folds.{list_all-append}
 use Rattle.std.proofs.lemmas.Str.{IsUtf8-encode, IsUtf8-append, IsUtf8-nil, encode_ascii}
 use Rattle.litrs_base.specs.Characters.{is_scalar, is_ascii}
-use Rattle.litrs_grammar.specs.Escape.{Switches, Escape, simple_escape, hex_escape, unicode_escape, escape_text, escape_value, value_bytes, is_escape, is_simple, simple_value, pair_value, hex_value, allows_byte, allows_value}
-use Rattle.litrs_grammar.specs.StringKind.{string_kind, c_string_kind, switches_of}
-use Rattle.litrs_grammar.specs.Quoted.{Item, plain_item, escape_item, continuation, item_text, item_value, is_item, body_text, body_value, is_body, quoted_front}
+use Rattle.litrs_base.specs.declared.quotes.Switches.{Switches}
+use Rattle.litrs_base.specs.declared.quotes.StringKind.TheVariants.{String as string_kind, CString as c_string_kind}
+use Rattle.litrs_base.specs.Quotes.{switches_of, quoted_front}
+use Rattle.litrs_grammar.specs.Escape.{Escape, simple_escape, hex_escape, unicode_escape, escape_text, escape_value, value_bytes, is_escape, is_simple, simple_value, pair_value, hex_value, allows_byte, allows_value}
+use Rattle.litrs_grammar.specs.Quoted.{Item, plain_item, escape_item, continuation, item_text, item_value, is_item, body_text, body_value, is_body}
 use Rattle.litrs_grammar.specs.Raw.{hashes, raw_closing}
 use Rattle.litrs_grammar.specs.Literal.{quoted_parts, raw_parts}
 use Rattle.litrs_grammar.specs.Allocation.{has_backslash}

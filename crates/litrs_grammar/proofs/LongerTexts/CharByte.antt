@@ -6,7 +6,7 @@ use Rattle.std.proofs.lemmas.Bool.{and_parts, and_from, and_left, and_right, not
 use Rattle.std.proofs.lemmas.List.{append_assoc, append-nil, append_cancel_left, drop_at, take_at}
 use Rattle.std.proofs.lemmas.List.Folds.{list_all-append as all-append}
 use Rattle.litrs_base.specs.Characters.{is_scalar}
-use Rattle.litrs_base.specs.Derivations.{IsOnlyDerivation, HasNoDerivation}
+use Rattle.litrs_base.specs.Derivations.{HasNoDerivation}
 use Rattle.litrs_base.specs.Finality.{is_final, is_open}
 use Rattle.litrs_base.specs.Refusal.{Refusal, moved}
 use Rattle.litrs_base.specs.Text.{IsText, byte_len, begins_with}
@@ -14,14 +14,18 @@ use Rattle.litrs_base.proofs.Begins.{begins_with-split, begins_with-append}
 use Rattle.litrs_base.proofs.ListTests.{if_true, if_false}
 use Rattle.litrs_base.proofs.Runs.{list_all-append}
 use Rattle.litrs_grammar.specs.Suffix.{is_suffix, starts_identifier}
-use Rattle.litrs_grammar.specs.Escape.{Switches, Escape, escape_text, is_escape, escape_refusal}
-use Rattle.litrs_grammar.specs.CharByte.{CharKind, char_kind, byte_kind, char_front, char_switches_of, CharItem, plain_char, escaped_char, char_item_text, is_special_whitespace, allows_char, is_char_item, CharParts, char_text, IsCharLiteral, unterminated_kind, empty_kind, overlong_kind, start_refusal, char_item_length, escape_length, closing_refusal, char_item_refusal, char_kind_refusal}
+use Rattle.litrs_base.specs.declared.quotes.Switches.{Switches}
+use Rattle.litrs_base.specs.declared.quotes.CharKind.{CharKind}
+use Rattle.litrs_base.specs.declared.quotes.CharKind.TheVariants.{Char as char_kind, Byte as byte_kind}
+use Rattle.litrs_base.specs.Quotes.{char_front, char_switches_of}
+use Rattle.litrs_grammar.specs.Escape.{Escape, escape_text, is_escape, escape_refusal}
+use Rattle.litrs_grammar.specs.CharByte.{CharItem, plain_char, escaped_char, char_item_text, is_special_whitespace, allows_char, is_char_item, CharParts, IsCharLiteral, unterminated_kind, empty_kind, overlong_kind, start_refusal, char_item_length, escape_length, closing_refusal, char_item_refusal, char_kind_refusal}
 use Rattle.litrs_grammar.specs.Continuation.{BeginsBy, EndsBy}
 use Rattle.litrs_grammar.specs.GoesOn.CharByte.{CharRestGoesOn, CharGoesOn}
 use Rattle.litrs_grammar.proofs.LongerTexts.Suffix.{front_of, suffix_freed, is_suffix-nil, underscore_x}
 use Rattle.litrs_grammar.proofs.LongerTexts.OpenRows.{is_open_row, shut_if, shut_suffix, shut_escape}
 use Rattle.litrs_grammar.proofs.LineFeeds.{is_other, escape_other, suffix_other, no_line_feed}
-use Rattle.litrs_grammar.proofs.Laws.CharByte.{chars_are_decided, chars_are_unique, escape_length_is, backslash_allowed}
+use Rattle.litrs_grammar.proofs.Laws.CharByte.{chars_are_decided, escape_length_is, backslash_allowed}
 use Rattle.litrs_grammar.proofs.Laws.Escape.{refusal_escape, read_escape, HasEscape, same_escape}
 use Rattle.litrs_grammar.proofs.LongerTexts.Escape.{escape_final}
 use Rattle.litrs_grammar.proofs.QuotedItems.{escape_head}
@@ -329,8 +333,3 @@ char_line_end kind t r h = (
   λ is. absurd (true≢false (sym is ∙ char_not_open kind (t ++ 10 ∷ []) r h)),
   λ begins. absurd (no_char_line_end kind t begins.0 begins.1 begins.3),
 )
-
--- the text of parts that are those of a char or a byte is one with these parts and no others
-pub char_parses_back : (kind : CharKind) (d : CharParts) → is_char_item kind d.item ≡ true → is_suffix d.suffix ≡ true → IsOnlyDerivation (IsCharLiteral kind (char_text kind d)) d
-char_parses_back kind d item suffix = let lit : IsCharLiteral kind (char_text kind d) d = record { spells = refl; item = item; suffix = suffix } in
-    (lit, λ e other. (chars_are_unique (char_text kind d) kind kind e d other lit).1)

@@ -3,13 +3,14 @@ use Rattle.std.proofs.Common.{◌≡◌, ℕ, ◌+◌, ◌<◌, Bool, true, fals
 use Rattle.std.specs.Prelude.{◌==◌, if◌then◌else◌, ◌↔◌, count_by, filter, nat_lt}
 use Rattle.std.specs.Char.{is_ascii_hexdigit, digit_value}
 use Rattle.std.specs.List.{list_all, list_any, before_first}
-use Rattle.std.proofs.lemmas.Bool.{and_parts, eqb-true, both_ways, false≢true, or_cases, or_right, or_left, not-true, and_from, leb-true, leb-false, le-leb}
+use Rattle.std.proofs.lemmas.Bool.{and_parts, eqb-true, both_ways, false≢true, or_cases, or_right, or_left, and_from, leb-true, leb-false, le-leb}
 use Rattle.std.proofs.lemmas.List.Folds.{list_any-append, list_all-append as all-append}
 use Rattle.litrs_base.specs.Refusal.{Refusal, at, over}
 use Rattle.litrs_base.specs.declared.err.ParseErrorKind.TheVariants.{UnterminatedEscape, UnicodeEscapeInByteLiteral, UnicodeEscapeWithoutBrace, UnterminatedUnicodeEscape}
 use Rattle.litrs_base.specs.Finality.{is_final}
 use Rattle.litrs_base.specs.Text.{byte_len, first_passes}
-use Rattle.litrs_grammar.specs.Escape.{Switches, escape_refusal, hex_refusal, unicode_refusal, inner_refusal, allows_value, allows_byte, pair_value, has_two_bytes, Escape, simple_escape, hex_escape, unicode_escape, escape_text, is_escape, is_hex_or_underscore, hex_value}
+use Rattle.litrs_base.specs.declared.quotes.Switches.{Switches}
+use Rattle.litrs_grammar.specs.Escape.{escape_refusal, hex_refusal, unicode_refusal, inner_refusal, allows_value, allows_byte, pair_value, has_two_bytes, Escape, simple_escape, hex_escape, unicode_escape, escape_text, is_escape, is_hex_or_underscore, hex_value}
 use Rattle.litrs_base.proofs.ByteLen.{byte_len_one_ascii}
 use Rattle.litrs_base.proofs.ListTests.{before_first-split, split_first, Splits, if_false}
 use Rattle.litrs_grammar.proofs.Laws.Escape.{hexdigit_ascii, inner_of, IsInner, hexdigit_no_underscore, refusal_escape}
@@ -257,20 +258,6 @@ inner_begins w (c ∷ t) h =
           complete_few w (c ∷ t) (allows_value w (hex_value (c ∷ t))) (is_scalar (hex_value (c ∷ t))) refl refl p.0 r.0 r.1 q.1)
     ]
 
--- what passes nowhere lies before the first that passes
-pub before_first_of : (p : ℕ → Bool) (d : ℕ) (a u x y : List ℕ) → p d ≡ true → list_all (λ c. not (p c)) a ≡ true → a ++ x ≡ u ++ d ∷ y → (z : List ℕ) × (u ≡ a ++ z)
-before_first_of p d [] u x y e h same = (u, refl)
-before_first_of p d (c ∷ a) [] x y e h same =
-    let q = and_parts (not (p c)) (list_all (λ c. not (p c)) a) h in
-    let at : c ≡ d = cc in
-    absurd (both_ways _ (not-true _ q.0) (subst (λ n. p n ≡ true) (sym at) e))
-before_first_of p d (c ∷ a) (b ∷ u) x y e h same =
-    let q = and_parts (not (p c)) (list_all (λ c. not (p c)) a) h in
-    let head : c ≡ b = cc in
-    let tail : a ++ x ≡ u ++ d ∷ y = cc in
-    let rec = before_first_of p d a u x y e q.1 tail in
-    (rec.0, cc)
-
 no_length : (t : List ℕ) → length t ≡ 0 → t ≡ []
 no_length [] h = refl
 no_length (c ∷ t) h = absurd (omega arith)
@@ -300,27 +287,6 @@ inner_of_begun w c t z is = and_from _ _ is.unicode (go (leb (digits (c ∷ t)) 
         let allowed : allows_value w (hex_value (c ∷ t)) ≡ true = subst (λ v. allows_value w v ≡ true) value is.allowed in
         let scalar : is_scalar (hex_value (c ∷ t)) ≡ true = subst (λ v. is_scalar v ≡ true) value is.scalar in
         or_right _ _ (and_from _ _ (and_from _ _ (and_from _ _ (and_from _ _ (and_from _ _ is.unicode is.first) both.0) six) allowed) scalar)
-
-goes_on_inner : (w : Switches) (t : List ℕ) → list_all (λ c. not (c == 125)) t ≡ true → BeginsEscape w (92 ∷ 117 ∷ 123 ∷ t) → inner_goes_on w t ≡ true
-goes_on_inner w t shut (simple_escape c, x, spells, h) = absurd (cc)
-goes_on_inner w t shut (hex_escape c d, x, spells, h) = absurd (false≢true (ap (λ n. n == 120) (second_is 117 120 _ _ spells)))
-  where
-    second_is : (c d : ℕ) (x y : List ℕ) → 92 ∷ c ∷ x ≡ 92 ∷ d ∷ y → c ≡ d
-    second_is c d x y same = cc
-goes_on_inner w [] shut (unicode_escape inner, x, spells, h) = and_from _ _ (inner_of w inner h).unicode refl
-goes_on_inner w (c ∷ t) shut (unicode_escape inner, x, spells, h) =
-    let tails : (c ∷ t) ++ x ≡ inner ++ 125 ∷ [] = cc in
-    let z = before_first_of (λ c. c == 125) 125 (c ∷ t) inner x [] refl shut tails in
-    inner_of_begun w c t z.0 (subst (λ l. IsInner w l) z.1 (inner_of w inner h))
-
--- what follows an opening brace, and no closing one: whether an escape begins so
-pub inner_goes_on_decides : (w : Switches) (t : List ℕ) → list_all (λ c. not (c == 125)) t ≡ true → (inner_goes_on w t ≡ true) ↔ BeginsEscape w (92 ∷ 117 ∷ 123 ∷ t)
-inner_goes_on_decides w t shut = (inner_begins w t, goes_on_inner w t shut)
-
--- All refused escapes
-
-one_low : (d e : ℕ) → 16 * d + e < 128 → 16 * d + 1 < 128
-one_low d e h = omega arith
 
 byte_one : (b : Bool) (d e : ℕ) → (b || nat_lt (16 * d + e) 128) ≡ true → (b || nat_lt (16 * d + 1) 128) ≡ true
 byte_one true d e h = refl

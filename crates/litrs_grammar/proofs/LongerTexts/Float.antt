@@ -18,10 +18,10 @@ use Rattle.litrs_base.specs.Refusal.{Refusal}
 use Rattle.litrs_base.specs.Finality.{is_final, is_open}
 use Rattle.litrs_grammar.specs.Continuation.{BeginsBy, EndsBy}
 use Rattle.litrs_grammar.specs.GoesOn.Float.{FloatGoesOn}
-use Rattle.litrs_base.specs.Derivations.{IsOnlyDerivation, HasNoDerivation}
+use Rattle.litrs_base.specs.Derivations.{HasNoDerivation}
 use Rattle.litrs_grammar.proofs.LongerTexts.Suffix.{suffix_freed, is_suffix-nil}
 use Rattle.litrs_grammar.proofs.FloatCuts.{IsCut, is_exponent_front, fraction_passes, sign_len-append, sign_len_le, letter_decimal, CutOf, cut_of, cut_of_text, same_cut, after_decimals, fraction_stops, number_part-suffix}
-use Rattle.litrs_grammar.proofs.Laws.Float.{float_is_cut, starts_digit, fraction_row, only_float, empty-true, refused, float_rows, cut_rows, refusal_of_cut}
+use Rattle.litrs_grammar.proofs.Laws.Float.{float_is_cut, starts_digit, fraction_row, empty-true, refused, float_rows, cut_rows, refusal_of_cut}
 use Rattle.litrs_grammar.proofs.Spans.Float.{is_number_char, number_line_feed, number_part_chars}
 use Rattle.litrs_grammar.proofs.LineFeeds.{is_other, suffix_other, no_line_feed}
 use Rattle.litrs_grammar.proofs.LongerTexts.OpenRows.{is_open_row, shut_if, shut_number, shut_suffix}
@@ -311,8 +311,3 @@ float_line_end t more d float =
     list_all-weaken is_number_char is_other (λ c h. ap not (number_line_feed c h)) (number_part d) (number_part_chars d (float_is_cut d float.grammar)) in
     no_line_feed t more (subst (λ l. list_all is_other l ≡ true) (number_part-suffix d ∙ float.spells)
     (list_all-append is_other (number_part d) d.suffix number (suffix_other d.suffix float.grammar.suffix)))
-
--- the text of parts that are those of a float is a float with these parts and no others
-pub float_parses_back : (d : FloatParts) → IsFloat d → IsOnlyDerivation (IsFloatOf (float_text d)) d
-float_parses_back d grammar = let float : IsFloatOf (float_text d) d = record { spells = refl; grammar = grammar } in
-    (float, λ e other. only_float (float_text d) e d other float)

@@ -36,10 +36,6 @@ cut_parts base m x all stops =
     ∙ (ap (λ n. record { base = base; main = n; suffix = drop (length n) (m ++ x) }) main
     ∙ ap (λ y. record { base = base; main = m; suffix = y }) (drop_at m x (length m) refl))
 
--- two characters decide the base
-base_more : (c d : ℕ) (t x : List ℕ) → base_of (c ∷ d ∷ (t ++ x)) ≡ base_of (c ∷ d ∷ t)
-base_more c d t x = refl
-
 -- after the main part stands none of its characters
 cut_ends : (base : IntegerBase) (t : List ℕ) → first_passes (is_digit_or_underscore base) (cut_with base t).suffix ≡ false
 cut_ends base t =

@@ -7,13 +7,16 @@ use Rattle.std.proofs.lemmas.List.{append-nil, append_cancel_left, append_cancel
 use Rattle.litrs_base.specs.declared.err.ParseErrorKind.TheVariants.{InvalidLiteral}
 use Rattle.litrs_base.specs.Finality.{is_final, is_open}
 use Rattle.litrs_base.specs.Refusal.{Refusal, plain}
-use Rattle.litrs_grammar.specs.StringKind.{StringKind, string_kind, byte_string_kind, c_string_kind, switches_of}
+use Rattle.litrs_base.specs.declared.quotes.StringKind.{StringKind}
+use Rattle.litrs_base.specs.declared.quotes.StringKind.TheVariants.{String as string_kind, ByteString as byte_string_kind, CString as c_string_kind}
+use Rattle.litrs_base.specs.Quotes.{switches_of, quoted_front, raw_front}
+use Rattle.litrs_base.specs.declared.quotes.CharKind.TheVariants.{Char as char_kind, Byte as byte_kind}
 use Rattle.litrs_grammar.specs.Bool.{is_bool, IsBool}
 use Rattle.litrs_grammar.specs.Integer.{IntegerParts, IsIntegerOf, integer_refusal}
 use Rattle.litrs_grammar.specs.Float.{FloatParts, IsFloatOf}
-use Rattle.litrs_grammar.specs.CharByte.{char_kind, byte_kind, CharParts, IsCharLiteral}
-use Rattle.litrs_grammar.specs.Quoted.{quoted_front, IsQuotedLiteralRefusal}
-use Rattle.litrs_grammar.specs.Raw.{raw_front, raw_closing, hashes, hash_len, RawParts, IsRawLiteral, IsRawOf, has_unicode, allows_nul, raw_refusal}
+use Rattle.litrs_grammar.specs.CharByte.{CharParts, IsCharLiteral}
+use Rattle.litrs_grammar.specs.Quoted.{IsQuotedLiteralRefusal}
+use Rattle.litrs_grammar.specs.Raw.{raw_closing, hashes, hash_len, RawParts, IsRawLiteral, IsRawOf, has_unicode, allows_nul, raw_refusal}
 use Rattle.litrs_grammar.specs.Literal.{StringParts, string_suffix, quoted_parts, raw_parts, IsString, Derivation, a_bool, an_integer, a_float, a_char, a_byte, a_string, a_byte_string, a_c_string, IsLiteral, LiteralKind, bool_literal, integer_literal, float_literal, char_literal, byte_literal, string_literal, byte_string_literal, c_string_literal, literal_kind, literal_parse, kind_parse, IsLiteralOf, Begins, string_literal_of}
 use Rattle.litrs_grammar.specs.LiteralRefusals.{StringStart, refused_start, quoted_start, raw_start, string_start, IsRefusalOfStart, IsStringRefusal, IsKindRefusal, Dispatch, refused_as, parsed_as, dispatch, IsRefusalOfDispatch}
 use Rattle.litrs_grammar.specs.Closing.{after_raw_front, closing_text, closing_of, opening_text, written_body, IsClosedBy}

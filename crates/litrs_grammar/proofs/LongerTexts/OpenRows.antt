@@ -7,7 +7,8 @@ use Rattle.litrs_base.specs.Finality.{is_open}
 use Rattle.litrs_base.specs.Refusal.{Refusal}
 use Rattle.litrs_base.specs.Text.{first_passes}
 use Rattle.litrs_grammar.specs.Suffix.{is_ascii_symbol, suffix_refusal}
-use Rattle.litrs_grammar.specs.Escape.{Switches, hex_refusal, inner_refusal, unicode_refusal, escape_refusal}
+use Rattle.litrs_base.specs.declared.quotes.Switches.{Switches}
+use Rattle.litrs_grammar.specs.Escape.{hex_refusal, inner_refusal, unicode_refusal, escape_refusal}
 use Rattle.litrs_grammar.proofs.Laws.Integer.{number_rows}
 
 -- a table gives an open refusal

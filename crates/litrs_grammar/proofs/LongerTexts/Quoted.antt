@@ -10,7 +10,8 @@ use Rattle.litrs_base.specs.Characters.{is_blank, is_ascii_unless, is_scalar}
 use Rattle.litrs_base.specs.Finality.{is_final, is_open}
 use Rattle.litrs_grammar.specs.Suffix.{is_suffix, suffix_refusal, is_ascii_symbol}
 use Rattle.litrs_base.specs.Text.{byte_len, first_passes}
-use Rattle.litrs_grammar.specs.Escape.{Switches, escape_refusal, allows_value, hex_refusal, unicode_refusal, inner_refusal, Escape, simple_escape, hex_escape, unicode_escape, escape_text, is_escape, is_simple, allows_byte, pair_value, is_hex_or_underscore}
+use Rattle.litrs_base.specs.declared.quotes.Switches.{Switches}
+use Rattle.litrs_grammar.specs.Escape.{escape_refusal, allows_value, hex_refusal, unicode_refusal, inner_refusal, Escape, simple_escape, hex_escape, unicode_escape, escape_text, is_escape, is_simple, allows_byte, pair_value, is_hex_or_underscore}
 use Rattle.litrs_grammar.specs.Quoted.{Item, plain_item, escape_item, continuation, is_item, body_text, is_body, is_taken_before, stand_before, without_last, backslash_refusal, rest_refusal, IsQuoted, IsQuotedRefusal, takes_all_blanks, IsBodyOf}
 use Rattle.litrs_grammar.proofs.QuotedItems.{without_last-append, last_of, escape_head}
 use Rattle.std.proofs.lemmas.Bool.Decides.{nat_tests}

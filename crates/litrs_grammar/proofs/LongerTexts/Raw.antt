@@ -13,9 +13,8 @@ use Rattle.litrs_base.specs.Characters.{is_scalar}
 use Rattle.litrs_base.specs.Refusal.{Refusal, plain, over, at}
 use Rattle.litrs_base.specs.Text.{IsText, byte_len, first_passes, begins_with}
 use Rattle.litrs_base.proofs.Runs.{list_all-weaken, prefix_len_all, IsRun, run_of, last_passes, is_line_feed, last_passes-all, last_passes-append}
-use Rattle.litrs_base.specs.Derivations.{IsOnlyDerivation}
 use Rattle.litrs_grammar.specs.Suffix.{is_suffix, suffix_refusal}
-use Rattle.litrs_grammar.specs.Raw.{is_quote, is_hash, hashes, raw_closing, occurs, is_raw_char, IsRawBody, RawParts, raw_text, IsRaw, IsRawOf, hash_len, length_before, raw_char_refusal, raw_body_refusal, raw_refusal}
+use Rattle.litrs_grammar.specs.Raw.{is_quote, is_hash, hashes, raw_closing, occurs, is_raw_char, IsRawBody, RawParts, raw_text, IsRawOf, hash_len, length_before, raw_char_refusal, raw_body_refusal, raw_refusal}
 use Rattle.litrs_grammar.specs.GoesOn.Raw.{raw_open_parts, IsClosedRaw, RawRestGoesOn, RawGoesOn}
 use Rattle.litrs_grammar.specs.Continuation.{BeginsBy, EndsBy}
 use Rattle.litrs_grammar.proofs.Laws.Integer.{prefix_len_front}
@@ -23,7 +22,7 @@ use Rattle.litrs_grammar.proofs.LongerTexts.Escape.{never, keep}
 use Rattle.litrs_grammar.proofs.LongerTexts.Suffix.{suffix_freed, suffix_final, is_suffix-nil, underscore_x}
 use Rattle.litrs_grammar.proofs.LongerTexts.OpenRows.{shut_kind_if, shut_suffix}
 use Rattle.litrs_grammar.proofs.RawCuts.{hashes_pass, length-hashes, hash_len-append, after_hashes, HashCut, hash_cut, closing_cut}
-use Rattle.litrs_grammar.proofs.Laws.Raw.{raw_body_rows, raw_rows, refusal_of_hashes, refusal_of_closed, refused, refusal_free, only_raw}
+use Rattle.litrs_grammar.proofs.Laws.Raw.{raw_body_rows, raw_rows, refusal_of_hashes, refusal_of_closed, refused, refusal_free}
 
 -- After n hashes and the quote: what a text is up to its first closing, or to the first character that may not stand there.
 
@@ -480,8 +479,3 @@ pub raw_open_kind : (unicode allow_nul : Bool) (start : ℕ) (t : List ℕ) (r :
 raw_open_kind unicode allow_nul start t r is h =
     let told : Some (plain UnterminatedRawString) ≡ Some r = sym (open_refusal unicode allow_nul start t (open_cut unicode allow_nul start t r is h)) ∙ h in
     let same : plain UnterminatedRawString ≡ r = cc in ap (λ e. e.kind) same
-
--- the text of parts that are those of a raw literal is one with these parts and no others
-pub raw_parses_back : (unicode allow_nul : Bool) (d : RawParts) → IsRaw unicode allow_nul d → IsOnlyDerivation (IsRawOf unicode allow_nul (raw_text d)) d
-raw_parses_back unicode allow_nul d grammar = let raw : IsRawOf unicode allow_nul (raw_text d) d = record { spells = refl; grammar = grammar } in
-    (raw, λ e other. only_raw unicode allow_nul (raw_text d) e d other raw)

@@ -10,9 +10,11 @@ use Rattle.litrs_base.specs.Refusal.{Refusal, plain}
 use Rattle.litrs_base.specs.Text.{begins_with, is_empty}
 use Rattle.litrs_base.proofs.Begins.{begins_with-split, begins_with-append}
 use Rattle.litrs_base.proofs.Runs.{list_all-append}
-use Rattle.litrs_grammar.specs.StringKind.{StringKind, string_kind, byte_string_kind, c_string_kind}
-use Rattle.litrs_grammar.specs.Quoted.{quoted_front, QuotedParts, IsQuotedLiteral}
-use Rattle.litrs_grammar.specs.Raw.{raw_front, RawParts, IsRawLiteral}
+use Rattle.litrs_base.specs.declared.quotes.StringKind.{StringKind}
+use Rattle.litrs_base.specs.declared.quotes.StringKind.TheVariants.{String as string_kind, ByteString as byte_string_kind, CString as c_string_kind}
+use Rattle.litrs_base.specs.Quotes.{quoted_front, raw_front}
+use Rattle.litrs_grammar.specs.Quoted.{QuotedParts, IsQuotedLiteral}
+use Rattle.litrs_grammar.specs.Raw.{RawParts, IsRawLiteral}
 use Rattle.litrs_grammar.specs.Literal.{StringParts, quoted_parts, raw_parts, IsString}
 use Rattle.litrs_grammar.specs.LiteralRefusals.{refused_start, quoted_start, raw_start, string_start, string_start_refusal}
 use Rattle.litrs_grammar.specs.Continuation.{BeginsBy, EndsBy}

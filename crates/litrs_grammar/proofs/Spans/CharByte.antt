@@ -7,7 +7,10 @@ use Rattle.litrs_base.specs.Refusal.{Refusal, moved, IsInText}
 use Rattle.litrs_grammar.specs.Suffix.{is_suffix}
 use Rattle.litrs_base.specs.Text.{byte_len, first_passes, begins_with}
 use Rattle.litrs_grammar.specs.Escape.{escape_refusal}
-use Rattle.litrs_grammar.specs.CharByte.{CharKind, char_kind, byte_kind, char_front, char_switches_of, is_special_whitespace, allows_char, char_item_length, closing_refusal, char_item_refusal, start_refusal, char_kind_refusal}
+use Rattle.litrs_base.specs.declared.quotes.CharKind.{CharKind}
+use Rattle.litrs_base.specs.declared.quotes.CharKind.TheVariants.{Char as char_kind, Byte as byte_kind}
+use Rattle.litrs_base.specs.Quotes.{char_front, char_switches_of}
+use Rattle.litrs_grammar.specs.CharByte.{is_special_whitespace, allows_char, char_item_length, closing_refusal, char_item_refusal, start_refusal, char_kind_refusal}
 use Rattle.litrs_grammar.specs.Laws.CharByte.{CharSpansLieInText}
 use Rattle.litrs_base.proofs.Spans.{byte_len-append}
 use Rattle.litrs_base.proofs.ByteLen.{byte_len_one_ascii}

@@ -1,8 +1,6 @@
 -- The spans of refusals lie within the text.
 use Rattle.std.proofs.Common.{◌≡◌, ℕ, ◌+◌, ◌<◌, ◌≤◌, Bool, true, false, not, ◌&&◌, ◌||◌, cond, zero, suc, leb, ltb, List, [], ◌∷◌, ◌++◌, length, drop, Option, Some, None, refl, sym, ap, ◌∙◌, subst, arith, ⊎_elim, append_assoc, length-append, append-nil, take-append-drop, lit<}
-use Rattle.std.specs.Prelude.{◌==◌, if◌then◌else◌, IfSome, count_by, take_while, slice_index, IsUtf8, IsCharBoundary, chars, encode_utf8_all}
-use Rattle.std.specs.Str.{all_scalars as scalars}
-use Rattle.std.proofs.lemmas.Str.{encodes-append, encodes-chars, scalars-chars, IsCharBoundary-at_seam}
+use Rattle.std.specs.Prelude.{◌==◌, if◌then◌else◌, IfSome, count_by, take_while, slice_index}
 use Rattle.std.specs.Char.{is_ascii_hexdigit}
 use Rattle.std.specs.List.{list_all, list_any, prefix_len, before_first}
 use Rattle.std.proofs.lemmas.Bool.{and_parts, and_from, and_cases, eqb-true, ltb-true, ltb-false, leb-false}
@@ -12,7 +10,8 @@ use Rattle.litrs_base.specs.Refusal.{Refusal, IsInText, moved, moved_span}
 use Rattle.litrs_base.specs.Characters.{is_scalar}
 use Rattle.std.specs.declared.ops.Range.{Range}
 use Rattle.litrs_base.specs.Text.{is_empty, PointsInto, byte_len, first_passes}
-use Rattle.litrs_grammar.specs.Escape.{Switches, escape_refusal, hex_refusal, unicode_refusal, inner_refusal, is_simple, is_hex_or_underscore, has_two_bytes, place_after, allows_value, allows_byte, pair_value, hex_value}
+use Rattle.litrs_base.specs.declared.quotes.Switches.{Switches}
+use Rattle.litrs_grammar.specs.Escape.{escape_refusal, hex_refusal, unicode_refusal, inner_refusal, is_simple, is_hex_or_underscore, has_two_bytes, place_after, allows_value, allows_byte, pair_value, hex_value}
 use Rattle.litrs_grammar.specs.Laws.Escape.{EscapeSpansLieInText}
 use Rattle.litrs_base.proofs.Spans.{byte_len-append}
 use Rattle.litrs_base.proofs.ByteLen.{byte_len_one_ascii, byte_len_all_ascii, length-le-byte_len}
@@ -60,21 +59,6 @@ marks_later front t start end m =
       in_order = omega arith;
       within = omega (arith, byte_len-append front t);
     }
-
--- what follows a part of a text is text
-after_scalars : (xs ys : List ℕ) → scalars (xs ++ ys) ≡ true → scalars ys ≡ true
-after_scalars [] ys h = h
-after_scalars (x ∷ xs) ys h = let both = and_parts _ (scalars (xs ++ ys)) h in after_scalars xs ys both.1
-
--- the same of the bytes of a text
-pub marks_bytes : (bs : List ℕ) (start end : ℕ) → IsUtf8 bs → Marks (chars bs) start end → IsCharBoundary bs start × (start ≤ end) × (end ≤ length bs)
-marks_bytes bs start end utf8 m =
-    let whole : encode_utf8_all m.front ++ encode_utf8_all m.rest ≡ bs = sym (encodes-append m.front m.rest) ∙ ap encode_utf8_all m.cut ∙ encodes-chars bs utf8 in
-    let scalar : scalars (m.front ++ m.rest) ≡ true = ap scalars m.cut ∙ scalars-chars bs utf8 in
-    let size : byte_len (chars bs) ≡ length bs = ap length (encodes-chars bs utf8) in
-    let within : end ≤ byte_len (chars bs) = m.within in
-    let Boundary : ℕ → Type 0 = λ n. IsCharBoundary bs n in
-    (subst Boundary (sym m.start) (IsCharBoundary-at_seam bs (encode_utf8_all m.front) (encode_utf8_all m.rest) (sym whole) (m.rest, (after_scalars m.front m.rest scalar, refl))), m.in_order, omega arith)
 
 -- each refusal that a table may give
 abbrev pub AllFit : List ℕ → Option Refusal → Type 0

@@ -8,7 +8,8 @@ use Rattle.litrs_base.specs.declared.err.ParseErrorKind.TheVariants.{Unterminate
 use Rattle.litrs_base.specs.Characters.{is_blank, is_ascii_unless}
 use Rattle.litrs_grammar.specs.Suffix.{is_suffix}
 use Rattle.litrs_base.specs.Text.{byte_len, first_passes}
-use Rattle.litrs_grammar.specs.Escape.{Switches, escape_refusal, allows_value}
+use Rattle.litrs_base.specs.declared.quotes.Switches.{Switches}
+use Rattle.litrs_grammar.specs.Escape.{escape_refusal, allows_value}
 use Rattle.litrs_grammar.specs.Quoted.{body_text, without_last, backslash_refusal, rest_refusal}
 use Rattle.litrs_grammar.specs.Laws.Quoted.{QuotedSpansLieInText}
 use Rattle.litrs_base.proofs.ByteLen.{byte_len_one_ascii, length-le-byte_len}

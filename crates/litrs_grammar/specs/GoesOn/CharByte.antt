@@ -3,7 +3,9 @@
 use Rattle.std.specs.Prelude.{◌≡◌, ◌⊎◌, ℕ, List, [], ◌∷◌, ◌++◌, IsTrue}
 use Rattle.litrs_base.specs.Characters.{single_quote, underscore}
 use Rattle.litrs_base.specs.Text.{begins_with}
-use Rattle.litrs_grammar.specs.CharByte.{CharKind, char_front, char_switches_of, CharItem, plain_char, char_item_text, is_char_item}
+use Rattle.litrs_base.specs.declared.quotes.CharKind.{CharKind}
+use Rattle.litrs_base.specs.Quotes.{char_front, char_switches_of}
+use Rattle.litrs_grammar.specs.CharByte.{CharItem, plain_char, char_item_text, is_char_item}
 use Rattle.litrs_grammar.specs.GoesOn.Escape.{BeginsEscape}
 
 -- after the front: a text that begins an escape, or one character that stands for itself, or an

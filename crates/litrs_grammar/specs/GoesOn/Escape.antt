@@ -5,7 +5,8 @@ use Rattle.std.specs.Char.{is_ascii_hexdigit}
 use Rattle.std.specs.List.{list_all}
 use Rattle.litrs_base.specs.Characters.{digit_zero, letter_u, letter_x, open_brace}
 use Rattle.litrs_base.specs.Text.{is_empty, first_passes}
-use Rattle.litrs_grammar.specs.Escape.{Switches, Escape, unicode_escape, escape_text, is_escape, IsEscape, allows_byte, pair_value, is_hex_or_underscore}
+use Rattle.litrs_base.specs.declared.quotes.Switches.{Switches}
+use Rattle.litrs_grammar.specs.Escape.{Escape, unicode_escape, escape_text, is_escape, IsEscape, allows_byte, pair_value, is_hex_or_underscore}
 
 -- the text begins an escape: with some text after it, which may be empty, it is one
 abbrev pub BeginsEscape : Switches → List ℕ → Type 0

@@ -4,7 +4,7 @@
 use Rattle.std.specs.Prelude.{◌≡◌, ◌⊎◌, ℕ, List, [], ◌∷◌, ◌++◌, IsTrue}
 use Rattle.std.specs.List.{list_all}
 use Rattle.litrs_base.specs.Characters.{line_feed, double_quote, backslash, underscore, is_blank}
-use Rattle.litrs_grammar.specs.Escape.{Switches}
+use Rattle.litrs_base.specs.declared.quotes.Switches.{Switches}
 use Rattle.litrs_grammar.specs.GoesOn.Escape.{BeginsEscape}
 use Rattle.litrs_grammar.specs.Quoted.{Item, body_text, stand_before, IsQuoted}
 

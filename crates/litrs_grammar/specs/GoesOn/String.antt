@@ -2,9 +2,8 @@
 -- Reference, Tokens, Literals.
 use Rattle.std.specs.Prelude.{ℕ, Bool, ◌||◌, List}
 use Rattle.litrs_base.specs.Text.{begins_with}
-use Rattle.litrs_grammar.specs.StringKind.{StringKind}
-use Rattle.litrs_grammar.specs.Quoted.{quoted_front}
-use Rattle.litrs_grammar.specs.Raw.{raw_front}
+use Rattle.litrs_base.specs.declared.quotes.StringKind.{StringKind}
+use Rattle.litrs_base.specs.Quotes.{quoted_front, raw_front}
 
 -- one of the two fronts of the kind begins with the text, which may be empty
 abbrev pub start_goes_on : StringKind → List ℕ → Bool

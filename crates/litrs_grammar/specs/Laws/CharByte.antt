@@ -2,7 +2,8 @@
 use Rattle.std.specs.Prelude.{◌≡◌, ◌↔◌, ℕ, List, [], ◌∷◌, ◌++◌, Some, None}
 use Rattle.litrs_base.specs.Refusal.{Refusal, IsInText}
 use Rattle.litrs_base.specs.Characters.{line_feed}
-use Rattle.litrs_grammar.specs.CharByte.{CharKind, CharParts, IsCharLiteral, char_kind_refusal}
+use Rattle.litrs_base.specs.declared.quotes.CharKind.{CharKind}
+use Rattle.litrs_grammar.specs.CharByte.{CharParts, IsCharLiteral, char_kind_refusal}
 
 -- a text has at most one derivation as a char or a byte, over both kinds together
 abbrev pub CharsAreUnique : Type 0

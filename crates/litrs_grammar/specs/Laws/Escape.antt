@@ -2,7 +2,8 @@
 use Rattle.std.specs.Prelude.{◌≡◌, ◌↔◌, ℕ, List, ◌∷◌, ◌++◌, Some, None}
 use Rattle.litrs_base.specs.Refusal.{Refusal, IsInText}
 use Rattle.litrs_base.specs.Characters.{backslash}
-use Rattle.litrs_grammar.specs.Escape.{Switches, Escape, IsEscape, escape_text, escape_refusal}
+use Rattle.litrs_base.specs.declared.quotes.Switches.{Switches}
+use Rattle.litrs_grammar.specs.Escape.{Escape, IsEscape, escape_text, escape_refusal}
 
 -- at most one escape stands at the front of a text
 abbrev pub EscapesAreUnique : Type 0

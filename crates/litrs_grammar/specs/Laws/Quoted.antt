@@ -1,10 +1,10 @@
 -- What holds of all quoted literals: strings, byte strings and C strings.
 use Rattle.std.specs.Prelude.{◌≡◌, ◌↔◌, ◌⊎◌, ℕ, ◌≤◌, ◌==◌, List, [], ◌∷◌, ◌++◌, length, IsFalse}
 use Rattle.std.specs.List.{list_any}
-use Rattle.litrs_grammar.specs.StringKind.{StringKind}
+use Rattle.litrs_base.specs.declared.quotes.StringKind.{StringKind}
+use Rattle.litrs_base.specs.declared.quotes.Switches.{Switches}
 use Rattle.litrs_base.specs.Refusal.{Refusal, IsInText}
 use Rattle.litrs_base.specs.Characters.{backslash, line_feed, nul, is_blank}
-use Rattle.litrs_grammar.specs.Escape.{Switches}
 use Rattle.litrs_grammar.specs.Quoted.{Item, body_value, IsBodyOf, QuotedParts, IsQuoted, IsQuotedLiteral, IsQuotedRefusal}
 use Rattle.litrs_base.specs.Text.{byte_len, first_passes}
 

@@ -2,10 +2,12 @@
 use Rattle.std.specs.Prelude.{◌≡◌, ◌↔◌, ◌<◌, ◌+◌, ℕ, Bool, List, [], ◌∷◌, length, drop, ◌++◌, Some, None, IsTrue, IsFalse}
 use Rattle.std.specs.List.{list_any, list_all}
 use Rattle.litrs_base.specs.Characters.{line_feed}
-use Rattle.litrs_grammar.specs.StringKind.{StringKind, c_string_kind}
+use Rattle.litrs_base.specs.declared.quotes.StringKind.{StringKind}
+use Rattle.litrs_base.specs.declared.quotes.StringKind.TheVariants.{CString as c_string_kind}
+use Rattle.litrs_base.specs.Quotes.{raw_front}
 use Rattle.litrs_base.specs.Text.{byte_len, begins_with}
 use Rattle.litrs_base.specs.Refusal.{Refusal, IsInText}
-use Rattle.litrs_grammar.specs.Raw.{is_nul, raw_closing, occurs, length_before, is_raw_char, IsRawBody, raw_value, RawParts, IsRawOf, raw_front, IsRawLiteral, raw_body_refusal, raw_refusal, raw_literal_refusal}
+use Rattle.litrs_grammar.specs.Raw.{is_nul, raw_closing, occurs, length_before, is_raw_char, IsRawBody, raw_value, RawParts, IsRawOf, IsRawLiteral, raw_body_refusal, raw_refusal, raw_literal_refusal}
 
 -- a text has at most one derivation as a raw literal, over all three kinds together
 abbrev pub RawLiteralsAreUnique : Type 0

@@ -2,20 +2,16 @@
 //!
 //! What is known of the lines that are held stays known with more lines after them, so that only
 //! the next line is read.
-ghost use Rattle.std.specs.Prelude.{◌≡◌, ◌≤◌, ◌∷◌, [], ◌++◌, length, drop, IfSome, IsTrue};
-ghost use Rattle.std.specs.Str.{chars, IsUtf8};
+ghost use Rattle.std.specs.Prelude.{◌≡◌, ◌∷◌, [], ◌++◌, IfSome, IsTrue};
+ghost use Rattle.std.specs.Str.{chars};
 ghost use Rattle.litrs_base.specs.Characters.{line_feed, backslash};
-ghost use Rattle.litrs_base.specs.Text.{begins_with};
-ghost use Rattle.litrs_grammar.specs.StringKind.{switches_of};
-ghost use Rattle.litrs_grammar.specs.Raw.{raw_front};
-ghost use Rattle.litrs_lex.specs.RawCut.{IsStop};
-ghost use Rattle.litrs_lex.specs.Front.{grammar_kind};
+ghost use Rattle.litrs_base.specs.Quotes.{switches_of};
 ghost use Rattle.litrs_lines.specs.Open.{IsEscapeOrEmpty, IsOpen, IsKnown, IsQuotedTo, IsContinuedTo, IsRawTo};
 ghost use Rattle.litrs_lines.specs.Steps.{IsUnfinished};
 
-use litrs_lex::hashes::{MAX_HASHES, hash_len, is_inner_quote};
 use litrs_lex::quoted::items_end;
-use litrs_lex::{Front, Run, Special, StringKind, next_special, run_end, unescape};
+use litrs_lex::raw::{body_end, open_raw};
+use litrs_lex::{Front, Run, StringKind, run_end, unescape};
 
 /// What goes on at a place in a string.
 #[derive(Clone, Copy)]
@@ -61,29 +57,16 @@ fn opening(text: &str) -> Option<Open>
             body: Body::Quoted,
             place: kind.front_len(),
         }),
-        Front::Raw(kind) => raw_opening(text, kind),
+        Front::Raw(kind) => match open_raw(text, kind.front_len()) {
+            Ok((hashes, place)) => Some(Open {
+                kind,
+                body: Body::Raw(hashes),
+                place,
+            }),
+            Err(_) => None,
+        },
         _ => None,
     }
-}
-
-/// A raw string of the kind, with whose front the text begins; None where the front is followed by
-/// no hashes and `"`, or by more than 255 hashes.
-fn raw_opening(text: &str, kind: StringKind) -> Option<Open>
-    requires { IsTrue (begins_with (raw_front (grammar_kind kind)) text.now) }
-    ensures { IfSome result (IsOpen text.now) }
-{
-    let bytes = text.as_bytes();
-    let front = kind.front_len();
-    let hashes = hash_len(&bytes[front..]);
-    let opening = front + hashes;
-    if hashes > MAX_HASHES || opening == bytes.len() || bytes[opening] != b'"' {
-        return None;
-    }
-    Some(Open {
-        kind,
-        body: Body::Raw(hashes),
-        place: opening + 1,
-    })
 }
 
 /// What is open after the text and an LF, where the body goes on to the end of the text; None where
@@ -104,7 +87,7 @@ fn next_line(text: &str, string: Open) -> Option<Open>
 /// [`next_line`] of a quoted body, of which the place stands between two items.
 #[inline(always)]
 fn quoted_line(text: &str, kind: StringKind, place: usize) -> Option<Open>
-    requires { IsQuotedTo (grammar_kind kind) place text.now }
+    requires { IsQuotedTo kind place text.now }
     ensures unfinished { IfSome result (λ _. IsUnfinished text.now) }
     ensures next { IfSome result (IsOpen (text.now ++ line_feed ∷ [])) }
 {
@@ -129,7 +112,7 @@ fn quoted_line(text: &str, kind: StringKind, place: usize) -> Option<Open>
 /// Whether the text is empty or one escape, which is no item of the body before something follows.
 #[inline(always)]
 fn is_escape_or_empty(text: &str, kind: StringKind) -> bool
-    ensures { IsTrue result → IsEscapeOrEmpty (switches_of (grammar_kind kind)) (chars text.now) }
+    ensures { IsTrue result → IsEscapeOrEmpty (switches_of kind) (chars text.now) }
 {
     let [first, ..] = text.as_bytes() else {
         return true;
@@ -153,7 +136,7 @@ fn is_backslash(bytes: &[u8]) -> bool
 
 /// [`next_line`] of a quoted body, of which the place stands in a continuation.
 fn continued_line(text: &str, kind: StringKind, place: usize) -> Option<Open>
-    requires { IsContinuedTo (grammar_kind kind) place text.now }
+    requires { IsContinuedTo kind place text.now }
     ensures unfinished { IfSome result (λ _. IsUnfinished text.now) }
     ensures next { IfSome result (IsOpen (text.now ++ line_feed ∷ [])) }
 {
@@ -172,12 +155,11 @@ fn continued_line(text: &str, kind: StringKind, place: usize) -> Option<Open>
 /// [`next_line`] of a raw body between so many hashes.
 #[inline(always)]
 fn raw_line(text: &str, kind: StringKind, hashes: usize, place: usize) -> Option<Open>
-    requires { IsRawTo (grammar_kind kind) hashes place text.now }
+    requires { IsRawTo kind hashes place text.now }
     ensures unfinished { IfSome result (λ _. IsUnfinished text.now) }
     ensures next { IfSome result (IsOpen (text.now ++ line_feed ∷ [])) }
 {
-    let w = kind.switches();
-    let stop = raw_body_end(text.as_bytes(), place, hashes, w.unicode, w.allow_nul);
+    let stop = body_end(text.as_bytes(), place, hashes, kind.switches());
     if stop == text.len() {
         Some(Open {
             kind,
@@ -187,22 +169,4 @@ fn raw_line(text: &str, kind: StringKind, hashes: usize, place: usize) -> Option
     } else {
         None
     }
-}
-
-/// The first place from `start` on where a raw body is closed, or where a byte stands that may not
-/// stand in it; else the end of the text.
-fn raw_body_end(bytes: &[u8], start: usize, hashes: usize, unicode: bool, allow_nul: bool) -> usize
-    requires { (start ≤ length bytes.now) × IsUtf8 (drop start bytes.now) }
-    ensures { IsStop unicode allow_nul hashes start bytes.now result }
-{
-    let what = Special {
-        backslash: false,
-        nul: !allow_nul,
-        non_ascii: !unicode,
-    };
-    let mut place = next_special(bytes, start, what);
-    while is_inner_quote(&bytes[place..], hashes) {
-        place = next_special(bytes, place + 1, what);
-    }
-    place
 }

@@ -9,7 +9,6 @@ use Rattle.litrs_grammar.specs.Literal.{a_bool, a_char, a_byte, char_literal, by
 use Rattle.litrs_grammar.proofs.Laws.Bool.{chars-bool_text}
 use Rattle.litrs.specs.BoolLiteral.{bool_value}
 use Rattle.litrs.specs.CharLiteral.{char_parts, byte_parts}
-use Rattle.litrs_lex.specs.Front.{grammar_kind}
 use Rattle.litrs.specs.LiteralDerivation.{derivation}
 use Rattle.litrs.proofs.KindErrors.{only_literal, kind_error_at, string_row, number_error_at, start_refused, start_error_at}
 use Rattle.litrs.proofs.Literal.parse.Goals as goal
@@ -74,7 +73,7 @@ returns-in_ok-parse_with_front-in-Byte-clause-ok g c = only_literal _ (a_byte (b
 pub returns-in_err-parse_string-in-Quoted-clause-refused : goal.returns-in_err-parse_string-in-Quoted-clause-refused
 returns-in_err-parse_string-in-Quoted-clause-refused g c =
     let p = err_from_is_err_and c.from_residual-in_err-parse_string-in-Quoted.result c.from_residual-in_err-parse_string-in-Quoted.ensures.1 in
-    rw (p.1) (kind_error_at (string_literal_of (grammar_kind c.in-Quoted.kind)) _ c.as_str.result.now c.in_err-parse_string-in-Quoted.field-0.0 _ c.as_str.utf8 c.as_str.ensures
+    rw (p.1) (kind_error_at (string_literal_of c.in-Quoted.kind) _ c.as_str.result.now c.in_err-parse_string-in-Quoted.field-0.0 _ c.as_str.utf8 c.as_str.ensures
     (string_row c.of-front.result c.in-Quoted.kind c.as_str.result.now c.in-Quoted.is c.of-front.ensures.row) p.2 c.in_err-parse_string-in-Quoted.ensures.refused)
 
 pub returns-in_ok-parse_string-in-Quoted-clause-ok : goal.returns-in_ok-parse_string-in-Quoted-clause-ok

@@ -2,7 +2,7 @@
 use Rattle.std.proofs.Common.{ap, sym, ◌∙◌, Some}
 use Rattle.std.specs.Str.{chars}
 use Rattle.litrs_base.proofs.CharEnds.{no_span}
-use Rattle.litrs_grammar.specs.CharByte.{byte_kind}
+use Rattle.litrs_base.specs.declared.quotes.CharKind.TheVariants.{Byte as byte_kind}
 use Rattle.litrs_grammar.specs.Literal.{kind_parse, byte_literal}
 use Rattle.litrs_grammar.proofs.Refused.{is_refused}
 use Rattle.litrs_lex.proofs.CharByteBytes.{empty_start, byte_start}

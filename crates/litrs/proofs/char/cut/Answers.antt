@@ -2,7 +2,7 @@
 use Rattle.std.proofs.Common.{ap, sym, ◌∙◌, Some}
 use Rattle.std.specs.Str.{chars}
 use Rattle.litrs_base.proofs.CharEnds.{no_span}
-use Rattle.litrs_grammar.specs.CharByte.{char_kind}
+use Rattle.litrs_base.specs.declared.quotes.CharKind.TheVariants.{Char as char_kind}
 use Rattle.litrs_grammar.specs.Literal.{kind_parse, char_literal}
 use Rattle.litrs_grammar.proofs.Refused.{is_refused}
 use Rattle.litrs_lex.proofs.CharByteBytes.{empty_start, char_start}

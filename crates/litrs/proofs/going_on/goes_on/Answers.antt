@@ -3,7 +3,6 @@ use Rattle.std.proofs.Common.{sym, ◌∙◌}
 use Rattle.std.specs.Str.{chars}
 use Rattle.litrs_grammar.specs.Literal.{char_literal, byte_literal}
 use Rattle.litrs_grammar.proofs.LongerTexts.Literal.{chain}
-use Rattle.litrs_lex.specs.Front.{grammar_kind}
 use Rattle.litrs_lex.specs.NumberCut.{number_kind}
 use Rattle.litrs_lex.proofs.Dispatch.{dispatch-chars}
 use Rattle.litrs.proofs.Begins.{begins_parsed}
@@ -36,12 +35,12 @@ returns-in-Byte c = let is = c.in-Byte.ensures in
 
 pub returns-in-Quoted : goal.returns-in-Quoted
 returns-in-Quoted c = let is = c.in-Quoted.ensures in
-    string_parsed (grammar_kind c.in-Quoted.kind) c.args.text.now c.quoted_goes_on.result c.utf8.text is.row
+    string_parsed c.in-Quoted.kind c.args.text.now c.quoted_goes_on.result c.utf8.text is.row
     c.quoted_goes_on.ensures
 
 pub returns-in-Raw : goal.returns-in-Raw
 returns-in-Raw c = let is = c.in-Raw.ensures in
-    string_parsed (grammar_kind c.in-Raw.kind) c.args.text.now c.raw_goes_on.result c.utf8.text is.row
+    string_parsed c.in-Raw.kind c.args.text.now c.raw_goes_on.result c.utf8.text is.row
     c.raw_goes_on.ensures
 
 pub is_prefix_of_a_front-requires : goal.is_prefix_of_a_front-requires

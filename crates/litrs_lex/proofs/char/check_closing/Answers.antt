@@ -1,32 +1,30 @@
 -- The closing quote, and a suffix.
-use Rattle.std.proofs.Common.{◌≡◌, ◌+◌, drop, length, get_or, refl, sym, ap, ◌∙◌, arith, Some}
+use Rattle.std.proofs.Common.{◌≡◌, ◌+◌, length, get_or, refl, sym, ap, ◌∙◌, arith, Some}
 use Rattle.std.specs.Prelude.{◌==◌}
 use Rattle.std.specs.Str.{chars}
 use Rattle.std.specs.List.{list_any}
-use Rattle.std.proofs.lemmas.Str.{chars-nil, IsCharBoundary-after_ascii}
+use Rattle.std.proofs.lemmas.Str.{IsCharBoundary-after_ascii}
 use Rattle.litrs_base.specs.Refusal.{plain, at, over}
 use Rattle.litrs_base.specs.Text.{first_passes}
 use Rattle.litrs_grammar.specs.CharByte.{closing_refusal}
 use Rattle.litrs_grammar.specs.Suffix.{is_suffix, suffix_refusal}
-use Rattle.litrs_grammar.proofs.LongerTexts.Suffix.{is_suffix-nil}
-use Rattle.litrs_lex.specs.CharCut.{kind_if}
 use Rattle.litrs_lex.proofs.CharByteBytes.{unterminated_row, overlong_row, suffix_row, closed_row, quote_begins}
 use Rattle.litrs_lex.proofs.char.check_closing.Goals as goal
 use Rattle.litrs_lex.proofs.char.check_closing.Goals.{then-has_quote, else-has_quote}
 
 pub returns-then-not-begins_with_quote-clause-table : goal.returns-then-not-begins_with_quote-clause-table
 returns-then-not-begins_with_quote-clause-table c =
-    ap (λ l. closing_refusal (kind_if c.args.is_byte) c.args.len (chars l)) (sym c.range_from-after.ensures.value)
+    ap (λ l. closing_refusal c.args.kind c.args.len (chars l)) (sym c.range_from-after.ensures.value)
     ∙ (elim c.if-has_quote.branch [
       | then-has_quote w ↦
-          overlong_row (kind_if c.args.is_byte) c.args.len c.range_from-after.result.now c.range_from-after.utf8
+          overlong_row c.args.kind c.args.len c.range_from-after.result.now c.range_from-after.utf8
           (ap (list_any (λ n. n == 39)) (sym c.as_bytes-then-not-begins_with_quote.ensures.value) ∙ sym w.if-has_quote.ensures)
           (ap (first_passes (λ n. n == 39)) (sym c.as_bytes.ensures.value) ∙ sym c.if-not-begins_with_quote.ensures)
-          ∙ ap Some (ap plain (sym w.overlong_kind-kind.ensures ∙ sym w.kind-is) ∙ sym c.new.ensures.refusal)
+          ∙ ap Some (ap plain (sym w.overlong_kind-refusal.ensures ∙ sym w.refusal-is) ∙ sym c.new.ensures.refusal)
       | else-has_quote w ↦
-          unterminated_row (kind_if c.args.is_byte) c.args.len c.range_from-after.result.now c.range_from-after.utf8
+          unterminated_row c.args.kind c.args.len c.range_from-after.result.now c.range_from-after.utf8
           (ap (list_any (λ n. n == 39)) (sym c.as_bytes-then-not-begins_with_quote.ensures.value) ∙ sym w.if-has_quote.ensures)
-          ∙ ap Some (ap plain (sym w.unterminated_kind-kind.ensures ∙ sym w.kind-is) ∙ sym c.new.ensures.refusal)
+          ∙ ap Some (ap plain (sym w.unterminated_kind-refusal.ensures ∙ sym w.refusal-is) ∙ sym c.new.ensures.refusal)
     ])
 
 pub range_from-requires : goal.range_from-requires
@@ -38,8 +36,8 @@ range_from-requires c = λ _.
 
 pub returns-in-Ok-clause-ok : goal.returns-in-Ok-clause-ok
 returns-in-Ok-clause-ok c = (
-  ap (λ l. closing_refusal (kind_if c.args.is_byte) c.args.len (chars l)) (sym c.range_from-after.ensures.value)
-      ∙ closed_row (kind_if c.args.is_byte) c.args.len c.range_from-after.result.now
+  ap (λ l. closing_refusal c.args.kind c.args.len (chars l)) (sym c.range_from-after.ensures.value)
+      ∙ closed_row c.args.kind c.args.len c.range_from-after.result.now
       (ap (first_passes (λ n. n == 39)) (sym c.as_bytes.ensures.value) ∙ sym c.if-not-begins_with_quote.ensures)
       (ap (λ l. is_suffix (chars l)) (sym c.range_from.ensures.value) ∙ sym c.in-Ok.ensures.ok),
   refl,
@@ -47,9 +45,9 @@ returns-in-Ok-clause-ok c = (
 
 pub returns-in-Err-clause-table : goal.returns-in-Err-clause-table
 returns-in-Err-clause-table c =
-    ap (λ l. closing_refusal (kind_if c.args.is_byte) c.args.len (chars l)) (sym c.range_from-after.ensures.value)
-    ∙ (suffix_row (kind_if c.args.is_byte) c.args.len c.range_from-after.result.now
+    ap (λ l. closing_refusal c.args.kind c.args.len (chars l)) (sym c.range_from-after.ensures.value)
+    ∙ (suffix_row c.args.kind c.args.len c.range_from-after.result.now
     (ap (first_passes (λ n. n == 39)) (sym c.as_bytes.ensures.value) ∙ sym c.if-not-begins_with_quote.ensures)
     (ap (λ l. is_suffix (chars l)) (sym c.range_from.ensures.value) ∙ sym c.in-Err.ensures.ok)
     ∙ (ap (λ l. Some (at (c.args.len + 1) (suffix_refusal (chars l)))) (sym c.range_from.ensures.value)
-    ∙ (ap (λ k. Some (at (c.args.len + 1) k)) (sym c.in-Err.ensures.err) ∙ (let two : c.args.len + 1 + 1 ≡ c.args.len + 2 = omega arith in ap Some (ap (λ n. over (c.args.len + 1) n c.in-Err.kind) two ∙ sym c.in_text.ensures.refusal)))))
+    ∙ (ap (λ k. Some (at (c.args.len + 1) k)) (sym c.in-Err.ensures.err) ∙ (let two : c.args.len + 1 + 1 ≡ c.args.len + 2 = omega arith in ap Some (ap (λ n. over (c.args.len + 1) n c.in-Err.refusal) two ∙ sym c.in_text.ensures.refusal)))))

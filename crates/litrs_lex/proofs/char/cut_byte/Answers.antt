@@ -1,6 +1,6 @@
 -- What follows the front, moved by it.
 use Rattle.std.proofs.Common.{◌<◌, ◌^◌, ℕ, List, length, sym, ◌∙◌, subst, arith}
-use Rattle.litrs_grammar.specs.CharByte.{byte_kind}
+use Rattle.litrs_base.specs.declared.quotes.CharKind.TheVariants.{Byte as byte_kind}
 use Rattle.litrs_lex.proofs.CharByteBytes.{IsFronted, fronted, char_read, char_refused, moves, front_boundary, start_within}
 use Rattle.litrs_lex.proofs.char.cut_byte.Goals as goal
 

@@ -5,7 +5,6 @@ use Rattle.litrs_base.specs.Text.{first_passes}
 use Rattle.litrs_base.proofs.CharEnds.{no_span}
 use Rattle.litrs_base.specs.Refusal.{plain}
 use Rattle.litrs_grammar.specs.CharByte.{empty_kind}
-use Rattle.litrs_lex.specs.CharCut.{kind_if}
 use Rattle.litrs_lex.proofs.EscapeBytes.{slice_from}
 use Rattle.litrs_lex.proofs.CharByteBytes.{quote_row, empty_row}
 use Rattle.litrs_lex.proofs.char.quote_refusal.Goals as goal
@@ -14,7 +13,7 @@ pub returns-then-begins_with_quote : goal.returns-then-begins_with_quote
 returns-then-begins_with_quote c =
     let same = slice_from c.args.rest.now c.as_bytes.result.now 1 c.as_bytes.ensures.value in
     record {
-      table = quote_row (kind_if c.args.is_byte) c.args.rest.now c.utf8.rest c.requires (ap (first_passes (λ n. n == 39)) (sym same) ∙ sym c.if-begins_with_quote.ensures)
+      table = quote_row c.args.kind c.args.rest.now c.utf8.rest c.requires (ap (first_passes (λ n. n == 39)) (sym same) ∙ sym c.if-begins_with_quote.ensures)
           ∙ ap Some (sym c.in_text.ensures.refusal);
       char_span = c.in_text.ensures.char_span;
     }
@@ -24,7 +23,7 @@ returns-else-begins_with_quote c =
     let same = slice_from c.args.rest.now c.as_bytes.result.now 1 c.as_bytes.ensures.value in
     let is = c.new.ensures.refusal ∙ ap plain c.empty_kind.ensures in
     record {
-      table = empty_row (kind_if c.args.is_byte) c.args.rest.now c.utf8.rest c.requires (ap (first_passes (λ n. n == 39)) (sym same) ∙ sym c.if-begins_with_quote.ensures)
+      table = empty_row c.args.kind c.args.rest.now c.utf8.rest c.requires (ap (first_passes (λ n. n == 39)) (sym same) ∙ sym c.if-begins_with_quote.ensures)
           ∙ ap Some (sym is);
-      char_span = no_span _ c.new.result (empty_kind (kind_if c.args.is_byte)) is;
+      char_span = no_span _ c.new.result (empty_kind c.args.kind) is;
     }

@@ -8,7 +8,7 @@ use Rattle.litrs_base.specs.Refusal.{at}
 use Rattle.litrs_base.specs.Text.{first_passes}
 use Rattle.litrs_base.specs.declared.err.ParseErrorKind.TheVariants.{TooManyDigitInUnicodeEscape, NonHexDigitInUnicodeEscape}
 use Rattle.litrs_lex.proofs.HexDigitBytes.{digit_or_underscore}
-use Rattle.litrs_lex.proofs.EscapeBytes.{escape_is_refused, slice_from, length-take-within, fails}
+use Rattle.litrs_lex.proofs.EscapeBytes.{has_refusal, slice_from, length-take-within, fails}
 use Rattle.litrs_lex.proofs.UnicodeEscapeBytes.{braced, digit_text, unclosed_row, start_row, stopped, many_row, nonhex_row, is_wrong_start}
 use Rattle.litrs_lex.proofs.escape.braces_refusal.Goals as goal
 
@@ -16,7 +16,7 @@ pub returns-then-not-has_close_brace : goal.returns-then-not-has_close_brace
 returns-then-not-has_close_brace c = λ byte_escapes allow_nul.
     let b = braced c.args.input.now c.utf8.input c.requires.begins in
     let same = slice_from c.args.input.now c.as_bytes.result.now 3 c.as_bytes.ensures.value in
-    escape_is_refused _ _ c.in_text.result b.begins
+    has_refusal _ _ c.in_text.result
     (unclosed_row byte_escapes allow_nul c.args.input.now b (ap (list_any (λ n. n == 125)) (sym same) ∙ sym c.if-not-has_close_brace.ensures) ∙ ap Some (sym c.in_text.ensures.refusal))
     c.in_text.ensures.char_span
 
@@ -24,7 +24,7 @@ pub returns-then-begins_wrongly : goal.returns-then-begins_wrongly
 returns-then-begins_wrongly c = λ byte_escapes allow_nul.
     let b = braced c.args.input.now c.utf8.input c.requires.begins in
     let same = slice_from c.args.input.now c.as_bytes.result.now 3 c.as_bytes.ensures.value in
-    escape_is_refused _ _ c.in_text-then-begins_wrongly.result b.begins
+    has_refusal _ _ c.in_text-then-begins_wrongly.result
     (start_row byte_escapes allow_nul c.args.input.now b (ap (list_any (λ n. n == 125)) (sym same) ∙ sym c.if-not-has_close_brace.ensures)
     (ap (first_passes is_wrong_start) (sym same) ∙ sym c.if-begins_wrongly.ensures)
     ∙ ap Some (sym c.in_text-then-begins_wrongly.ensures.refusal))
@@ -42,7 +42,7 @@ returns-then-begins_with_hex_digit c = λ byte_escapes allow_nul.
     let right = ap (first_passes is_wrong_start) (sym same) ∙ sym c.if-begins_wrongly.ensures in
     let digit : first_passes is_ascii_hexdigit (drop c.args.digits.len (drop 3 c.args.input.now)) ≡ true =
     ap (first_passes is_ascii_hexdigit) (sym after) ∙ sym c.if-begins_with_hex_digit.ensures in
-    escape_is_refused _ _ c.in_text-then-begins_with_hex_digit.result b.begins
+    has_refusal _ _ c.in_text-then-begins_with_hex_digit.result
     (many_row byte_escapes allow_nul c.args.input.now _ _ b digits (stopped c.args.input.now _ _ b digits any right c.requires.open) (d.stops (digit_or_underscore (drop c.args.digits.len (drop 3 c.args.input.now)) digit)).1 digit
     ∙ (ap (λ n. Some (at (3 + n) TooManyDigitInUnicodeEscape)) size ∙ ap Some (sym c.in_text-then-begins_with_hex_digit.ensures.refusal)))
     c.in_text-then-begins_with_hex_digit.ensures.char_span
@@ -59,7 +59,7 @@ returns-else-begins_with_hex_digit c = λ byte_escapes allow_nul.
     let right = ap (first_passes is_wrong_start) (sym same) ∙ sym c.if-begins_wrongly.ensures in
     let none : first_passes is_ascii_hexdigit (drop c.args.digits.len (drop 3 c.args.input.now)) ≡ false =
     ap (first_passes is_ascii_hexdigit) (sym after) ∙ sym c.if-begins_with_hex_digit.ensures in
-    escape_is_refused _ _ c.in_text-else-begins_with_hex_digit.result b.begins
+    has_refusal _ _ c.in_text-else-begins_with_hex_digit.result
     (nonhex_row byte_escapes allow_nul c.args.input.now _ _ b digits (stopped c.args.input.now _ _ b digits any right c.requires.open) d.few
     (fails _ (λ passes. true≢false (sym (d.stops passes).0 ∙ none)))
     ∙ (ap (λ n. Some (at (3 + n) NonHexDigitInUnicodeEscape)) size ∙ ap Some (sym c.in_text-else-begins_with_hex_digit.ensures.refusal)))

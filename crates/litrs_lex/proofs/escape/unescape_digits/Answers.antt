@@ -3,7 +3,7 @@ use Rattle.std.proofs.Common.{◌≡◌, ◌+◌, ap, ◌∙◌, sym, Some, drop
 use Rattle.litrs_base.specs.Characters.{is_no_nul_unless, is_scalar}
 use Rattle.litrs_base.specs.Refusal.{over}
 use Rattle.litrs_base.specs.declared.err.ParseErrorKind.TheVariants.{DisallowedNulEscape, InvalidUnicodeEscapeChar}
-use Rattle.litrs_lex.proofs.EscapeBytes.{escape_is_refused, length-take-within, fails, scalar_by, by_scalar}
+use Rattle.litrs_lex.proofs.EscapeBytes.{has_refusal, unicode_on, length-take-within, fails, scalar_by, by_scalar}
 use Rattle.litrs_lex.proofs.UnicodeEscapeBytes.{braced, digit_text, closed_text, value_nul_row, value_row, unicode_read}
 use Rattle.litrs_lex.proofs.escape.unescape_digits.Goals as goal
 
@@ -13,7 +13,7 @@ returns-then-not-allows_value-clause-refused c =
     let d = c.requires.digits in
     let closed = closed_text c.args.input.now _ _ (digit_text c.args.input.now c.args.digits b d) c.requires.closed in
     let size = length-take-within (drop 3 c.args.input.now) c.args.digits.len d.within in
-    rw (c.requires.unicode) (escape_is_refused _ _ c.in_text.result b.begins
+    rw (unicode_on c.args.allowed c.requires.unicode) (has_refusal _ _ c.in_text.result
     (value_nul_row c.args.allowed.byte_escapes c.args.allowed.allow_nul c.args.input.now _ b closed d.few (ap (is_no_nul_unless c.args.allowed.allow_nul) d.value ∙ sym c.if-not-allows_value.ensures)
     ∙ (ap (λ n. Some (over 0 (4 + n) DisallowedNulEscape)) size ∙ ap Some (sym c.in_text.ensures.refusal)))
     c.in_text.ensures.char_span)
@@ -24,7 +24,7 @@ returns-in-Some-clause-ok c =
     let d = c.requires.digits in
     let closed = closed_text c.args.input.now _ _ (digit_text c.args.input.now c.args.digits b d) c.requires.closed in
     let same : c.args.digits.value ≡ c.in-Some.value = sym c.in-Some.ensures.value.1 in
-    rw (c.requires.unicode) (unicode_read c.args.allowed.byte_escapes c.args.allowed.allow_nul c.args.input.now _ c.in-Some.value c.args.digits.len c.utf8.input b closed d.few (d.value ∙ same)
+    rw (unicode_on c.args.allowed c.requires.unicode) (unicode_read c.args.allowed.byte_escapes c.args.allowed.allow_nul c.args.input.now _ c.in-Some.value c.args.digits.len c.utf8.input b closed d.few (d.value ∙ same)
     (length-take-within (drop 3 c.args.input.now) c.args.digits.len d.within)
     (ap (is_no_nul_unless c.args.allowed.allow_nul) (sym same) ∙ sym c.if-not-allows_value.ensures)
     (ap is_scalar (sym same) ∙ scalar_by c.args.digits.value c.in-Some.ensures.value.0))
@@ -35,7 +35,7 @@ returns-in-None-clause-refused c =
     let d = c.requires.digits in
     let closed = closed_text c.args.input.now _ _ (digit_text c.args.input.now c.args.digits b d) c.requires.closed in
     let size = length-take-within (drop 3 c.args.input.now) c.args.digits.len d.within in
-    rw (c.requires.unicode) (escape_is_refused _ _ c.in_text-in-None.result b.begins
+    rw (unicode_on c.args.allowed c.requires.unicode) (has_refusal _ _ c.in_text-in-None.result
     (value_row c.args.allowed.byte_escapes c.args.allowed.allow_nul c.args.input.now _ b closed d.few (ap (is_no_nul_unless c.args.allowed.allow_nul) d.value ∙ sym c.if-not-allows_value.ensures)
     (ap is_scalar d.value ∙ fails _ (λ is. c.in-None.ensures.value (by_scalar c.args.digits.value is)))
     ∙ (ap (λ n. Some (over 0 (4 + n) InvalidUnicodeEscapeChar)) size ∙ ap Some (sym c.in_text-in-None.ensures.refusal)))

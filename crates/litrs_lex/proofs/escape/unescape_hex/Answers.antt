@@ -3,21 +3,19 @@ use Rattle.std.proofs.Common.{◌&&◌, get_or, ap, ◌∙◌, sym, Some, refl}
 use Rattle.std.proofs.lemmas.Bool.{false≢true}
 use Rattle.std.specs.Char.{is_ascii_hexdigit}
 use Rattle.litrs_base.specs.Characters.{is_no_nul_unless}
-use Rattle.litrs_lex.proofs.EscapeBytes.{escape_is_refused, letter_of, first_slash, fails}
+use Rattle.litrs_lex.proofs.EscapeBytes.{has_refusal, letter_of, first_slash, fails}
 use Rattle.litrs_lex.proofs.HexEscapeBytes.{hex_end_row, hex_digits_row, pair_of, hex_byte_row, hex_nul_row, hex_read}
 use Rattle.litrs_lex.proofs.escape.unescape_hex.Goals as goal
 
 pub returns-then-not-is_char_boundary-clause-refused : goal.returns-then-not-is_char_boundary-clause-refused
 returns-then-not-is_char_boundary-clause-refused c =
-    let is = letter_of c.args.input.now 120 c.requires in
-    escape_is_refused _ _ c.in_text.result (first_slash c.args.input.now 120 is)
+    has_refusal _ _ c.in_text.result
     (hex_end_row _ c.args.input.now c.utf8.input c.requires (λ on. false≢true (c.if-not-is_char_boundary.ensures.test.1 on)) ∙ ap Some (sym c.in_text.ensures.refusal))
     c.in_text.ensures.char_span
 
 pub returns-in_default-clause-refused : goal.returns-in_default-clause-refused
 returns-in_default-clause-refused c =
-    let is = letter_of c.args.input.now 120 c.requires in
-    escape_is_refused _ _ c.in_text-in_default.result (first_slash c.args.input.now 120 is)
+    has_refusal _ _ c.in_text-in_default.result
     (hex_digits_row _ c.args.input.now c.utf8.input c.requires (c.if-not-is_char_boundary.ensures.test.0 refl)
     (ap (λ l. is_ascii_hexdigit (get_or l 2 0) && is_ascii_hexdigit (get_or l 3 0)) (sym c.as_bytes-bytes.ensures.value) ∙ fails _ c.in_default.ensures)
     ∙ ap Some (sym c.in_text-in_default.ensures.refusal))
@@ -25,19 +23,17 @@ returns-in_default-clause-refused c =
 
 pub returns-then-not-allows_byte-clause-refused : goal.returns-then-not-allows_byte-clause-refused
 returns-then-not-allows_byte-clause-refused c =
-    let is = letter_of c.args.input.now 120 c.requires in
     let seen = c.as_bytes-bytes.ensures.value in
     let pair = pair_of c.args.input.now _ _ c.utf8.input c.requires (ap (λ l. get_or l 2 0) (sym seen)) (ap (λ l. get_or l 3 0) (sym seen)) c.in-Some.ensures.0 in
-    escape_is_refused _ _ c.in_text-then-not-allows_byte.result (first_slash c.args.input.now 120 is)
+    has_refusal _ _ c.in_text-then-not-allows_byte.result
     (hex_byte_row _ c.args.input.now _ _ c.in-Some.value pair c.in-Some.ensures.1 (sym c.if-not-allows_byte.ensures) ∙ ap Some (sym c.in_text-then-not-allows_byte.ensures.refusal))
     c.in_text-then-not-allows_byte.ensures.char_span
 
 pub returns-then-not-allows_value-clause-refused : goal.returns-then-not-allows_value-clause-refused
 returns-then-not-allows_value-clause-refused c =
-    let is = letter_of c.args.input.now 120 c.requires in
     let seen = c.as_bytes-bytes.ensures.value in
     let pair = pair_of c.args.input.now _ _ c.utf8.input c.requires (ap (λ l. get_or l 2 0) (sym seen)) (ap (λ l. get_or l 3 0) (sym seen)) c.in-Some.ensures.0 in
-    escape_is_refused _ _ c.in_text-then-not-allows_value.result (first_slash c.args.input.now 120 is)
+    has_refusal _ _ c.in_text-then-not-allows_value.result
     (hex_nul_row _ c.args.input.now _ _ c.in-Some.value pair c.in-Some.ensures.1 (sym c.if-not-allows_byte.ensures)
     (ap (is_no_nul_unless c.args.allowed.allow_nul) (sym c.from.ensures) ∙ sym c.if-not-allows_value.ensures)
     ∙ ap Some (sym c.in_text-then-not-allows_value.ensures.refusal))

@@ -3,14 +3,14 @@ use Rattle.std.proofs.Common.{ap, ◌∙◌, sym, Some}
 use Rattle.std.specs.Prelude.{◌==◌}
 use Rattle.std.proofs.Common.{drop}
 use Rattle.litrs_base.specs.Text.{first_passes}
-use Rattle.litrs_lex.proofs.EscapeBytes.{escape_is_refused, letter_of, first_slash}
+use Rattle.litrs_lex.proofs.EscapeBytes.{has_refusal, unicode_on, letter_of, first_slash}
 use Rattle.litrs_lex.proofs.UnicodeEscapeBytes.{no_brace_row}
 use Rattle.litrs_lex.proofs.escape.unescape_unicode.Goals as goal
 
 pub returns-then-not-opens_brace-clause-refused : goal.returns-then-not-opens_brace-clause-refused
 returns-then-not-opens_brace-clause-refused c =
     let is = letter_of c.args.input.now 117 c.requires.begins in
-    rw (c.requires.unicode) (escape_is_refused _ _ c.in_text.result (first_slash c.args.input.now 117 is)
+    rw (unicode_on c.args.allowed c.requires.unicode) (has_refusal _ _ c.in_text.result
     (no_brace_row c.args.allowed.byte_escapes c.args.allowed.allow_nul c.args.input.now c.utf8.input is
     (ap (λ l. first_passes (λ n. n == 123) (drop 2 l)) (sym c.as_bytes-bytes.ensures.value) ∙ sym c.if-not-opens_brace.ensures)
     ∙ ap Some (sym c.in_text.ensures.refusal))
@@ -18,4 +18,4 @@ returns-then-not-opens_brace-clause-refused c =
 
 pub returns-else-is_closed-clause-refused : goal.returns-else-is_closed-clause-refused
 returns-else-is_closed-clause-refused c =
-    rw (c.requires.unicode) (c.braces_refusal.ensures c.args.allowed.byte_escapes c.args.allowed.allow_nul)
+    rw (unicode_on c.args.allowed c.requires.unicode) (c.braces_refusal.ensures c.args.allowed.byte_escapes c.args.allowed.allow_nul)

@@ -1,7 +1,7 @@
 -- Each exit by its row.
 use Rattle.std.proofs.Common.{◌∷◌, drop, ap, ◌∙◌, sym, arith, Some}
-use Rattle.litrs_lex.proofs.EscapeBytes.{escape_is_refused, letter_bytes, letter_chars, begins_letter, end_row, few_bytes, unicode_off_row}
-use Rattle.litrs_lex.specs.Unescaped.{switches, grammar_switches}
+use Rattle.litrs_lex.proofs.EscapeBytes.{escape_is_refused, err_refused, letter_bytes, letter_chars, begins_letter, end_row, few_bytes, unicode_off_row}
+use Rattle.litrs_lex.specs.Unescaped.{switches}
 use Rattle.litrs_grammar.specs.Escape.{escape_refusal}
 use Rattle.std.specs.Str.{chars}
 use Rattle.litrs_lex.proofs.escape.unescape_with.Goals as goal
@@ -28,7 +28,7 @@ pub returns-else-unicode-clause-refused : goal.returns-else-unicode-clause-refus
 returns-else-unicode-clause-refused c =
     let is = letter_bytes c.args.input.now c.as_bytes.result.now 117 c.utf8.input c.requires c.as_bytes.ensures.value c.in-Some.ensures.lookup.3.0 (sym c.in-117.is ∙ c.in-Some.ensures.lookup.3.1 0) in
     escape_is_refused _ _ c.in_text-else-unicode.result c.requires
-    (ap (escape_refusal (grammar_switches c.args.allowed)) (letter_chars c.args.input.now 117 (omega arith) is)
+    (ap (escape_refusal c.args.allowed) (letter_chars c.args.input.now 117 (omega arith) is)
     ∙ (ap (λ v. escape_refusal (switches v c.args.allowed.byte_escapes c.args.allowed.allow_nul) (92 ∷ 117 ∷ chars (drop 2 c.args.input.now))) c.if-unicode.false
     ∙ (unicode_off_row _ _ _ ∙ ap Some (sym c.in_text-else-unicode.ensures.refusal))))
     c.in_text-else-unicode.ensures.char_span
@@ -40,3 +40,12 @@ unescape_simple-requires c = record {
   no_hex = λ is. omega arith;
   no_unicode = λ is. omega arith;
 }
+
+pub returns-in-120-clause-refused : goal.returns-in-120-clause-refused
+returns-in-120-clause-refused c = err_refused _ _ c.unescape_hex.result c.requires c.unescape_hex.ensures.refused
+
+pub returns-then-unicode-clause-refused : goal.returns-then-unicode-clause-refused
+returns-then-unicode-clause-refused c = err_refused _ _ c.unescape_unicode.result c.requires c.unescape_unicode.ensures.refused
+
+pub returns-in_default-letter-clause-refused : goal.returns-in_default-letter-clause-refused
+returns-in_default-letter-clause-refused c = err_refused _ _ c.unescape_simple.result c.requires c.unescape_simple.ensures.refused

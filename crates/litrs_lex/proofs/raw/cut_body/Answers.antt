@@ -42,8 +42,6 @@ split_at-requires c =
     let start = c.args.start in
     let n = c.args.hashes in
     let place = c.body_end-end.result in
-    let utf8 = IsUtf8-drop text start c.utf8.input c.requires in
-    let stop = stop_of c.args.allowed.unicode c.args.allowed.allow_nul n start place bytes text same c.body_end-end.ensures.stop in
     let closing = closing_of c.args.allowed.unicode c.args.allowed.allow_nul n start place bytes text same c.body_end-end.ensures.stop c.body_end-end.ensures.closing c.if-end-bytes.false c.if-byte-ne34.false in
     IsCharBoundary-from_drop text (place + 1 + n) closing.within closing.utf8
 

@@ -1,6 +1,6 @@
 -- A run and an item are read in each turn; the state goes on, or is handed on.
 use Rattle.std.proofs.Common.{◌≡◌, ◌<◌, ◌^◌, ◌||◌, not, true, sym, subst, arith, length}
-use Rattle.litrs_grammar.specs.Escape.{Switches}
+use Rattle.litrs_base.specs.declared.quotes.Switches.{Switches}
 use Rattle.litrs_lex.specs.Reading.{IsReading, IsReadBody, IsItemsEnd, IsBodyRefused}
 use Rattle.litrs_lex.proofs.QuotedCuts.{refuses, ends_here}
 use Rattle.litrs_lex.proofs.Readings.{read_held, read_run, read_item, no_run, quote_of, item_of, value_small, fits}

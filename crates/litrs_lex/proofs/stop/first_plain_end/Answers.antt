@@ -2,7 +2,7 @@
 use Rattle.std.proofs.Common.{subst, ◌∙◌, ap}
 use Rattle.std.specs.List.{prefix_len}
 use Rattle.std.specs.Prelude.{◌+◌, drop}
-use Rattle.litrs_grammar.specs.Escape.{Switches}
+use Rattle.litrs_base.specs.declared.quotes.Switches.{Switches}
 use Rattle.litrs_lex.specs.declared.search.Special.{Special}
 use Rattle.litrs_lex.specs.Special.{is_ordinary}
 use Rattle.litrs_lex.specs.QuotedItems.{IsPlainRun}

@@ -1,7 +1,7 @@
 -- The cut of the whole text finds the literal, or is refused where its suffix starts.
 use Rattle.std.proofs.Common.{drop, refl}
 use Rattle.std.specs.Str.{chars}
-use Rattle.litrs_grammar.specs.CharByte.{byte_kind}
+use Rattle.litrs_base.specs.declared.quotes.CharKind.TheVariants.{Byte as byte_kind}
 use Rattle.litrs_grammar.specs.Literal.{a_byte}
 use Rattle.litrs_prefix.proofs.CharComplete.{whole_char, points_char}
 use Rattle.litrs_prefix.proofs.end.byte_end.Goals as goal

@@ -2,12 +2,10 @@
 use Rattle.std.proofs.Common.{◌≡◌, ℕ, true, subst, ◌∙◌}
 use Rattle.std.specs.Str.{chars}
 use Rattle.litrs_base.specs.Text.{begins_with}
-use Rattle.litrs_grammar.specs.StringKind.{c_string_kind}
-use Rattle.litrs_grammar.specs.Quoted.{quoted_front}
-use Rattle.litrs_grammar.specs.Raw.{raw_front}
+use Rattle.litrs_base.specs.declared.quotes.StringKind.TheVariants.{CString as c_string_kind}
+use Rattle.litrs_base.specs.Quotes.{quoted_front, raw_front}
 use Rattle.litrs_grammar.specs.LiteralRefusals.{begins_float}
 use Rattle.litrs_lex.specs.declared.kind.Front.TheVariants as front
-use Rattle.litrs_lex.specs.Front.{grammar_kind}
 use Rattle.litrs_lex.proofs.StringFronts.{quoted_begins, raw_begins}
 use Rattle.litrs_prefix.proofs.Dispatched.{IsRow, row_at, number_row, string_row, at_none, at_number, at_char, at_byte, at_string, at_other, pick_quoted, pick_raw}
 use Rattle.litrs_prefix.proofs.end.other_end.Goals as goal
@@ -29,7 +27,7 @@ returns-in-Byte-clause-literal c = λ d r at.
 pub returns-in-Quoted-clause-literal : goal.returns-in-Quoted-clause-literal
 returns-in-Quoted-clause-literal c = λ d r at.
     let text = c.args.text.now in
-    let kind = grammar_kind c.in-Quoted.kind in
+    let kind = c.in-Quoted.kind in
     let is = c.in-Quoted.ensures in
     let begins : begins_with (quoted_front kind) (chars text) ≡ true = quoted_begins kind text c.utf8.text ∙ is.begins in
     let row = subst (λ (n : ℕ). IsRow n d) (string_row kind) (row_at (front.Quoted c.in-Quoted.kind) text d r c.utf8.text is at) in
@@ -39,7 +37,7 @@ returns-in-Quoted-clause-literal c = λ d r at.
 pub returns-in-Raw-clause-literal : goal.returns-in-Raw-clause-literal
 returns-in-Raw-clause-literal c = λ d r at.
     let text = c.args.text.now in
-    let kind = grammar_kind c.in-Raw.kind in
+    let kind = c.in-Raw.kind in
     let is = c.in-Raw.ensures in
     let begins : begins_with (raw_front kind) (chars text) ≡ true = raw_begins kind text c.utf8.text ∙ is.begins in
     let row = subst (λ (n : ℕ). IsRow n d) (string_row kind) (row_at (front.Raw c.in-Raw.kind) text d r c.utf8.text is at) in

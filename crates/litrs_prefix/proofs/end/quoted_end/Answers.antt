@@ -3,9 +3,8 @@ use Rattle.std.proofs.Common.{◌≡◌, List, ℕ, subst}
 use Rattle.std.specs.Str.{chars}
 use Rattle.litrs_base.specs.Refusal.{Refusal, refusal_of}
 use Rattle.litrs_base.specs.Derivations.{HasNoDerivation}
-use Rattle.litrs_grammar.specs.StringKind.{switches_of}
+use Rattle.litrs_base.specs.Quotes.{switches_of}
 use Rattle.litrs_grammar.specs.Quoted.{IsQuoted, IsQuotedLiteral, IsQuotedRefusal}
-use Rattle.litrs_lex.specs.Front.{grammar_kind}
 use Rattle.litrs_lex.proofs.StringFronts.{quoted_boundary, quoted_before}
 use Rattle.litrs_prefix.proofs.Complete.{whole_quoted, points_quoted}
 use Rattle.litrs_prefix.proofs.end.quoted_end.Goals as goal
@@ -13,11 +12,11 @@ use Rattle.litrs_prefix.proofs.end.quoted_end.Goals as goal
 pub cut_quoted-requires : goal.cut_quoted-requires
 cut_quoted-requires c =
     rw (c.front_len-start.ensures.quoted)
-    (quoted_boundary (grammar_kind c.args.kind) c.args.text.now c.utf8.text c.requires)
+    (quoted_boundary c.args.kind c.args.text.now c.utf8.text c.requires)
 
 pub returns-in-Ok-clause-literal : goal.returns-in-Ok-clause-literal
 returns-in-Ok-clause-literal c = λ l r q spells lit ends.
-    let kind = grammar_kind c.args.kind in
+    let kind = c.args.kind in
     let text = c.args.text.now in
     let is = rw (c.front_len-start.ensures.quoted, c.switches-allowed.ensures) at c.in-Ok.ensures.ok in
     let whole : IsQuotedLiteral kind (chars text) is.parts =
@@ -26,7 +25,7 @@ returns-in-Ok-clause-literal c = λ l r q spells lit ends.
 
 pub returns-in-Err-clause-literal : goal.returns-in-Err-clause-literal
 returns-in-Err-clause-literal c = λ l r q spells lit ends.
-    let kind = grammar_kind c.args.kind in
+    let kind = c.args.kind in
     let text = c.args.text.now in
     let before = quoted_before kind text c.utf8.text c.requires in
     let is = rw (c.front_len-start.ensures.quoted, c.switches-allowed.ensures) at c.in-Err.ensures.refused in

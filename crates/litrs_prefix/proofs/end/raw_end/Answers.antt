@@ -2,9 +2,8 @@
 use Rattle.std.proofs.Common.{◌≡◌, true, drop, ap, refl, ◌∙◌}
 use Rattle.std.specs.Str.{chars}
 use Rattle.litrs_base.specs.Text.{begins_with}
-use Rattle.litrs_grammar.specs.Escape.{Switches}
-use Rattle.litrs_grammar.specs.Raw.{raw_front}
-use Rattle.litrs_lex.specs.Front.{grammar_kind}
+use Rattle.litrs_base.specs.declared.quotes.Switches.{Switches}
+use Rattle.litrs_base.specs.Quotes.{raw_front}
 use Rattle.litrs_lex.proofs.StringFronts.{raw_boundary, raw_begins}
 use Rattle.litrs_prefix.proofs.RawComplete.{whole_raw, raw_whole, points_raw}
 use Rattle.litrs_prefix.proofs.end.raw_end.Goals as goal
@@ -12,11 +11,11 @@ use Rattle.litrs_prefix.proofs.end.raw_end.Goals as goal
 pub scan_raw_string-requires : goal.scan_raw_string-requires
 scan_raw_string-requires c =
     rw (c.front_len-start.ensures.raw)
-    (raw_boundary (grammar_kind c.args.kind) c.args.text.now c.utf8.text c.requires)
+    (raw_boundary c.args.kind c.args.text.now c.utf8.text c.requires)
 
 pub returns-in-Ok-clause-literal : goal.returns-in-Ok-clause-literal
 returns-in-Ok-clause-literal c = λ l r d spells lit ends.
-    let kind = grammar_kind c.args.kind in
+    let kind = c.args.kind in
     let text = c.args.text.now in
     let front : begins_with (raw_front kind) (chars text) ≡ true = raw_begins kind text c.utf8.text ∙ c.requires in
     let is = rw (c.front_len-start.ensures.raw, ap (λ (w : Switches). w.unicode) c.switches-allowed.ensures, ap (λ (w : Switches). w.allow_nul) c.switches-allowed.ensures) at c.in-Ok.ensures.ok in
@@ -25,7 +24,7 @@ returns-in-Ok-clause-literal c = λ l r d spells lit ends.
 
 pub returns-in-Err-clause-literal : goal.returns-in-Err-clause-literal
 returns-in-Err-clause-literal c = λ l r d spells lit ends.
-    let kind = grammar_kind c.args.kind in
+    let kind = c.args.kind in
     let text = c.args.text.now in
     let front : begins_with (raw_front kind) (chars text) ≡ true = raw_begins kind text c.utf8.text ∙ c.requires in
     let is = rw (c.front_len-start.ensures.raw, ap (λ (w : Switches). w.unicode) c.switches-allowed.ensures, ap (λ (w : Switches). w.allow_nul) c.switches-allowed.ensures) at c.in-Err.ensures.refused in

@@ -2,9 +2,8 @@
 use Rattle.std.proofs.Common.{◌≡◌, List, ℕ, sym, ap, subst, ◌∙◌}
 use Rattle.std.specs.Str.{chars}
 use Rattle.litrs_base.specs.Derivations.{IsOnlyDerivation, HasNoDerivation}
-use Rattle.litrs_grammar.specs.StringKind.{switches_of}
+use Rattle.litrs_base.specs.Quotes.{switches_of}
 use Rattle.litrs_grammar.specs.Quoted.{IsQuoted, IsQuotedLiteral}
-use Rattle.litrs_lex.specs.Front.{grammar_kind}
 use Rattle.litrs_lex.proofs.StringFronts.{quoted_boundary, quoted_before}
 use Rattle.litrs_prefix.specs.Prefix.{ends_suffix}
 use Rattle.litrs_prefix.proofs.Stands.{by_only}
@@ -13,11 +12,11 @@ use Rattle.litrs_prefix.proofs.len.quoted_stands.Goals as goal
 pub cut_quoted-requires : goal.cut_quoted-requires
 cut_quoted-requires c =
     rw (c.front_len-start.ensures.quoted)
-    (quoted_boundary (grammar_kind c.args.kind) c.args.front.now c.utf8.front c.requires)
+    (quoted_boundary c.args.kind c.args.front.now c.utf8.front c.requires)
 
 pub returns-in-Ok : goal.returns-in-Ok
 returns-in-Ok c =
-    let kind = grammar_kind c.args.kind in
+    let kind = c.args.kind in
     let text = c.args.front.now in
     let rest = chars c.args.rest.now in
     let is = rw (c.front_len-start.ensures.quoted, c.switches-allowed.ensures) at c.in-Ok.ensures.ok in
@@ -29,7 +28,7 @@ returns-in-Ok c =
 
 pub returns-in-Err : goal.returns-in-Err
 returns-in-Err c = λ d h.
-    let kind = grammar_kind c.args.kind in
+    let kind = c.args.kind in
     let text = c.args.front.now in
     let is = rw (c.front_len-start.ensures.quoted, c.switches-allowed.ensures) at c.in-Err.ensures.refused in
     let none : HasNoDerivation (IsQuotedLiteral kind (chars text)) =

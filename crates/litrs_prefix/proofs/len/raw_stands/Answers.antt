@@ -2,10 +2,10 @@
 use Rattle.std.proofs.Common.{◌≡◌, List, ℕ, true, [], length, refl, sym, ap, ◌∙◌}
 use Rattle.std.specs.Str.{chars}
 use Rattle.litrs_base.specs.Text.{begins_with}
-use Rattle.litrs_grammar.specs.Escape.{Switches}
-use Rattle.litrs_grammar.specs.Raw.{raw_front, raw_refusal, has_unicode, allows_nul, IsRawLiteral}
+use Rattle.litrs_base.specs.declared.quotes.Switches.{Switches}
+use Rattle.litrs_base.specs.Quotes.{raw_front}
+use Rattle.litrs_grammar.specs.Raw.{raw_refusal, has_unicode, allows_nul, IsRawLiteral}
 use Rattle.litrs_grammar.proofs.RawKinds.{literal_refusal_free}
-use Rattle.litrs_lex.specs.Front.{grammar_kind}
 use Rattle.litrs_lex.specs.RawCut.{raw_parts_at}
 use Rattle.litrs_lex.proofs.StringFronts.{raw_boundary, raw_begins, raw_after}
 use Rattle.litrs_prefix.specs.Prefix.{ends_suffix}
@@ -17,11 +17,11 @@ use Rattle.litrs_prefix.proofs.len.raw_stands.Goals as goal
 pub scan_raw_string-requires : goal.scan_raw_string-requires
 scan_raw_string-requires c =
     rw (c.front_len.ensures.raw)
-    (raw_boundary (grammar_kind c.args.kind) c.args.front.now c.utf8.front c.requires)
+    (raw_boundary c.args.kind c.args.front.now c.utf8.front c.requires)
 
 pub returns-in-Ok : goal.returns-in-Ok
 returns-in-Ok c =
-    let kind = grammar_kind c.args.kind in
+    let kind = c.args.kind in
     let text = c.args.front.now in
     let rest = chars c.args.rest.now in
     let front : begins_with (raw_front kind) (chars text) ≡ true = raw_begins kind text c.utf8.front ∙ c.requires in
@@ -34,7 +34,7 @@ returns-in-Ok c =
 
 pub returns-in-Err : goal.returns-in-Err
 returns-in-Err c = λ d h.
-    let kind = grammar_kind c.args.kind in
+    let kind = c.args.kind in
     let text = c.args.front.now in
     let front : begins_with (raw_front kind) (chars text) ≡ true = raw_begins kind text c.utf8.front ∙ c.requires in
     let is = rw (c.front_len.ensures.raw, ap (λ (w : Switches). w.unicode) c.switches-allowed.ensures, ap (λ (w : Switches). w.allow_nul) c.switches-allowed.ensures) at c.in-Err.ensures.refused in

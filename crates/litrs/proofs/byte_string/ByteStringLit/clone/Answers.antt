@@ -1,6 +1,6 @@
 -- The copy has the same text and the same value, and so the same derivation.
 use Rattle.std.proofs.Common.{ap, ◌∙◌}
-use Rattle.litrs_grammar.specs.StringKind.{byte_string_kind}
+use Rattle.litrs_base.specs.declared.quotes.StringKind.TheVariants.{ByteString as byte_string_kind}
 use Rattle.litrs.specs.StringLiteral.{StringLiteral}
 use Rattle.litrs.proofs.ParsedStrings.{at_copy, same_parts}
 use Rattle.litrs.proofs.byte_string.ByteStringLit.clone.Goals as goal

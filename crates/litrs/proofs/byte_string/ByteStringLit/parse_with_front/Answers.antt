@@ -1,6 +1,6 @@
 -- The derivation that the literal holds is the one that was parsed.
 use Rattle.std.proofs.Common.{refl, sym}
-use Rattle.litrs_grammar.specs.StringKind.{byte_string_kind}
+use Rattle.litrs_base.specs.declared.quotes.StringKind.TheVariants.{ByteString as byte_string_kind}
 use Rattle.litrs.proofs.ParsedStrings.{only_derivation, at_copy}
 use Rattle.litrs.proofs.byte_string.ByteStringLit.parse_with_front.Goals as goal
 

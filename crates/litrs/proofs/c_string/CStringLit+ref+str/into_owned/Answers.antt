@@ -1,6 +1,6 @@
 -- The text is the same, and so the derivation.
 use Rattle.std.proofs.Common.{refl}
-use Rattle.litrs_grammar.specs.StringKind.{c_string_kind}
+use Rattle.litrs_base.specs.declared.quotes.StringKind.TheVariants.{CString as c_string_kind}
 use Rattle.litrs.proofs.ParsedStrings.{c_at_copy, same_parts}
 use Rattle.litrs.proofs.c_string.CStringLit+ref+str.into_owned.Goals as goal
 

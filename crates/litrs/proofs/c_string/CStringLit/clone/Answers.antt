@@ -1,6 +1,6 @@
 -- The copy has the same text and the same value, and so the same derivation.
 use Rattle.std.proofs.Common.{ap, ◌∙◌}
-use Rattle.litrs_grammar.specs.StringKind.{c_string_kind}
+use Rattle.litrs_base.specs.declared.quotes.StringKind.TheVariants.{CString as c_string_kind}
 use Rattle.litrs.specs.StringLiteral.{StringLiteral}
 use Rattle.litrs.proofs.ParsedStrings.{c_at_copy, same_parts}
 use Rattle.litrs.proofs.c_string.CStringLit.clone.Goals as goal

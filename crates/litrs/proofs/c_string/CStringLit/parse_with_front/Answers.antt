@@ -1,6 +1,6 @@
 -- The derivation that the literal holds is the one that was parsed.
 use Rattle.std.proofs.Common.{refl, sym}
-use Rattle.litrs_grammar.specs.StringKind.{c_string_kind}
+use Rattle.litrs_base.specs.declared.quotes.StringKind.TheVariants.{CString as c_string_kind}
 use Rattle.litrs.proofs.ParsedStrings.{only_derivation, c_at_copy}
 use Rattle.litrs.proofs.c_string.CStringLit.parse_with_front.Goals as goal
 

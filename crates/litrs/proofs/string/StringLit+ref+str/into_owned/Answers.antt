@@ -1,6 +1,6 @@
 -- The text is the same, and so the derivation.
 use Rattle.std.proofs.Common.{refl}
-use Rattle.litrs_grammar.specs.StringKind.{string_kind}
+use Rattle.litrs_base.specs.declared.quotes.StringKind.TheVariants.{String as string_kind}
 use Rattle.litrs.proofs.ParsedStrings.{at_copy, same_parts}
 use Rattle.litrs.proofs.string.StringLit+ref+str.into_owned.Goals as goal
 

@@ -1,6 +1,6 @@
 -- The derivation that the literal holds is the one that was parsed.
 use Rattle.std.proofs.Common.{refl, sym}
-use Rattle.litrs_grammar.specs.StringKind.{string_kind}
+use Rattle.litrs_base.specs.declared.quotes.StringKind.TheVariants.{String as string_kind}
 use Rattle.litrs.proofs.ParsedStrings.{only_derivation, at_copy}
 use Rattle.litrs.proofs.string.StringLit.parse_with_front.Goals as goal
 

@@ -3,13 +3,12 @@ use Rattle.std.proofs.Common.{◌≡◌, ◌≤◌, ◌+◌, ℕ, List, length, 
 use Rattle.std.specs.List.{prefix_len}
 use Rattle.litrs_base.specs.Characters.{is_blank}
 use Rattle.litrs_lex.proofs.FloatBytes.{rest_is}
-use Rattle.litrs_lex.specs.Front.{grammar_kind}
 use Rattle.litrs_lines.proofs.OpenBytes.{continued_unfinished, continued_next, continued_quoted, before_end}
 use Rattle.litrs_lines.proofs.collector.body.continued_line.Goals as goal
 
 pub quoted_line-requires : goal.quoted_line-requires
 quoted_line-requires c =
-    let kind = grammar_kind c.args.kind in
+    let kind = c.args.kind in
     let text : List ℕ = c.args.text.now in
     let place : ℕ = c.args.place in
     let k : ℕ = c.run_end.result in
@@ -20,7 +19,7 @@ quoted_line-requires c =
 
 pub returns-then-end-text-clause-unfinished : goal.returns-then-end-text-clause-unfinished
 returns-then-end-text-clause-unfinished c =
-    let kind = grammar_kind c.args.kind in
+    let kind = c.args.kind in
     let text : List ℕ = c.args.text.now in
     let place : ℕ = c.args.place in
     let k : ℕ = c.run_end.result in
@@ -30,7 +29,7 @@ returns-then-end-text-clause-unfinished c =
 
 pub returns-then-end-text-clause-next : goal.returns-then-end-text-clause-next
 returns-then-end-text-clause-next c =
-    let kind = grammar_kind c.args.kind in
+    let kind = c.args.kind in
     let text : List ℕ = c.args.text.now in
     let place : ℕ = c.args.place in
     let k : ℕ = c.run_end.result in

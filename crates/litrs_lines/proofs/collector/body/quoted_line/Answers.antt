@@ -1,17 +1,16 @@
 -- The items of the line are items of the body, and then the text ends, or a backslash ends it.
 use Rattle.std.proofs.Common.{ℕ, List, length, drop, inl, inr, refl, sym, subst, ◌∙◌}
 use Rattle.std.specs.Prelude.{⊤}
-use Rattle.litrs_grammar.specs.Escape.{Switches}
-use Rattle.litrs_grammar.specs.StringKind.{switches_of}
+use Rattle.litrs_base.specs.declared.quotes.Switches.{Switches}
+use Rattle.litrs_base.specs.Quotes.{switches_of}
 use Rattle.litrs_lex.specs.Reading.{IsItemsEnd}
 use Rattle.litrs_lex.proofs.FloatBytes.{rest_is}
-use Rattle.litrs_lex.specs.Front.{grammar_kind}
 use Rattle.litrs_lines.proofs.OpenBytes.{quoted_reads, quoted_unfinished, quoted_next, continuation_next, escape_left, backslash_left}
 use Rattle.litrs_lines.proofs.collector.body.quoted_line.Goals as goal
 
 pub returns-then-is_escape_or_empty-clause-unfinished : goal.returns-then-is_escape_or_empty-clause-unfinished
 returns-then-is_escape_or_empty-clause-unfinished c =
-    let kind = grammar_kind c.args.kind in
+    let kind = c.args.kind in
     let text : List ℕ = c.args.text.now in
     let place : ℕ = c.items_end-end.result in
     let read = subst (λ (w : Switches). IsItemsEnd w text c.args.place (λ _. ⊤) c.items_end-end.result) c.switches.ensures c.items_end-end.ensures in
@@ -20,7 +19,7 @@ returns-then-is_escape_or_empty-clause-unfinished c =
 
 pub returns-then-is_escape_or_empty-clause-next : goal.returns-then-is_escape_or_empty-clause-next
 returns-then-is_escape_or_empty-clause-next c =
-    let kind = grammar_kind c.args.kind in
+    let kind = c.args.kind in
     let text : List ℕ = c.args.text.now in
     let place : ℕ = c.items_end-end.result in
     let read = subst (λ (w : Switches). IsItemsEnd w text c.args.place (λ _. ⊤) c.items_end-end.result) c.switches.ensures c.items_end-end.ensures in
@@ -29,7 +28,7 @@ returns-then-is_escape_or_empty-clause-next c =
 
 pub returns-then-is_backslash-clause-unfinished : goal.returns-then-is_backslash-clause-unfinished
 returns-then-is_backslash-clause-unfinished c =
-    let kind = grammar_kind c.args.kind in
+    let kind = c.args.kind in
     let text : List ℕ = c.args.text.now in
     let place : ℕ = c.items_end-end.result in
     let read = subst (λ (w : Switches). IsItemsEnd w text c.args.place (λ _. ⊤) c.items_end-end.result) c.switches.ensures c.items_end-end.ensures in
@@ -39,7 +38,7 @@ returns-then-is_backslash-clause-unfinished c =
 
 pub returns-then-is_backslash-clause-next : goal.returns-then-is_backslash-clause-next
 returns-then-is_backslash-clause-next c =
-    let kind = grammar_kind c.args.kind in
+    let kind = c.args.kind in
     let text : List ℕ = c.args.text.now in
     let place : ℕ = c.items_end-end.result in
     let read = subst (λ (w : Switches). IsItemsEnd w text c.args.place (λ _. ⊤) c.items_end-end.result) c.switches.ensures c.items_end-end.ensures in

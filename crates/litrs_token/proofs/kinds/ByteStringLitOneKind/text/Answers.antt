@@ -1,5 +1,5 @@
 -- The text of the literal is one of its kind.
-use Rattle.litrs_grammar.specs.StringKind.{byte_string_kind}
+use Rattle.litrs_base.specs.declared.quotes.StringKind.TheVariants.{ByteString as byte_string_kind}
 use Rattle.litrs_token.proofs.TokenTexts.{string_token_of}
 use Rattle.litrs_token.proofs.kinds.ByteStringLitOneKind.text.Goals as goal
 

@@ -1,5 +1,5 @@
 -- The text of the literal is one of its kind.
-use Rattle.litrs_grammar.specs.StringKind.{string_kind}
+use Rattle.litrs_base.specs.declared.quotes.StringKind.TheVariants.{String as string_kind}
 use Rattle.litrs_token.proofs.TokenTexts.{string_token_of}
 use Rattle.litrs_token.proofs.kinds.StringLitOneKind.text.Goals as goal
 
