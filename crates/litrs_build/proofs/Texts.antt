@@ -8,9 +8,11 @@ use Rattle.std.proofs.lemmas.List.{append_assoc, append-nil, take_more, nil_from
 use Rattle.std.proofs.lemmas.Str.{encodes-append, encodes-chars, chars-encodes, scalars-chars, encode_ascii, chars-nil, chars_past_char}
 use lib.Utf8.{scalar, scalars, low_scalar}
 use Rattle.litrs_grammar.specs.Suffix.{is_suffix}
-use Rattle.litrs_grammar.specs.Escape.{string_switches, byte_string_switches}
-use Rattle.litrs_grammar.specs.StringKind.{string_kind, byte_string_kind}
-use Rattle.litrs_grammar.specs.CharByte.{CharKind, char_kind, byte_kind, char_front, char_item_text, is_char_item, char_text, CharParts, IsCharLiteral}
+use Rattle.litrs_base.specs.Quotes.{string_switches, byte_string_switches, char_front}
+use Rattle.litrs_base.specs.declared.quotes.StringKind.TheVariants.{String as string_kind, ByteString as byte_string_kind}
+use Rattle.litrs_base.specs.declared.quotes.CharKind.{CharKind}
+use Rattle.litrs_base.specs.declared.quotes.CharKind.TheVariants.{Char as char_kind, Byte as byte_kind}
+use Rattle.litrs_grammar.specs.CharByte.{char_item_text, is_char_item, char_text, CharParts, IsCharLiteral}
 use Rattle.litrs_grammar.specs.Quoted.{Item, item_text, item_value, is_item, body_text, body_value, is_body}
 use Rattle.litrs_grammar.specs.Literal.{IsString, string_value}
 use Rattle.litrs_build.specs.declared.spelling.Spelling.{Spelling}

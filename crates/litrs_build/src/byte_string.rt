@@ -1,7 +1,7 @@
 //! Byte strings.
 ghost use Rattle.std.specs.Prelude.{◌≡◌, ◌++◌, ◌∷◌, [], IfOk, IfErr, OnOk, IsTrue, string_bytes, encode_utf8_all, codes};
 ghost use Rattle.std.specs.Str.{chars};
-ghost use Rattle.litrs_grammar.specs.StringKind.{byte_string_kind};
+ghost use Rattle.litrs_base.specs.declared.quotes.StringKind.TheVariants.{ByteString as byte_string_kind};
 ghost use Rattle.litrs_grammar.specs.Quoted.{body_text};
 ghost use Rattle.litrs_grammar.specs.Literal.{string_value};
 ghost use Rattle.litrs_grammar.specs.LiteralText.{string_text};

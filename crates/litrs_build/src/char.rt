@@ -1,7 +1,8 @@
 //! Chars and bytes.
 ghost use Rattle.std.specs.Prelude.{◌≡◌, ◌∷◌, ◌++◌, [], IfOk, IfErr, IsTrue, string_bytes, encode_utf8_all};
 ghost use Rattle.std.specs.Str.{chars};
-ghost use Rattle.litrs_grammar.specs.CharByte.{char_kind, byte_kind, char_text, char_value};
+ghost use Rattle.litrs_base.specs.declared.quotes.CharKind.TheVariants.{Char as char_kind, Byte as byte_kind};
+ghost use Rattle.litrs_grammar.specs.CharByte.{char_text, char_value};
 ghost use Rattle.litrs_grammar.specs.Quoted.{item_text};
 ghost use Rattle.litrs_grammar.specs.Suffix.{is_suffix};
 ghost use Rattle.litrs.specs.CharLiteral.{char_parts, byte_parts};

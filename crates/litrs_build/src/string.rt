@@ -1,7 +1,7 @@
 //! Strings.
 ghost use Rattle.std.specs.Prelude.{◌≡◌, ◌++◌, ◌∷◌, [], IfOk, IfErr, OnOk, IsTrue, true, string_bytes, encode_utf8_all, codes};
 ghost use Rattle.std.specs.Str.{chars};
-ghost use Rattle.litrs_grammar.specs.StringKind.{string_kind};
+ghost use Rattle.litrs_base.specs.declared.quotes.StringKind.TheVariants.{String as string_kind};
 ghost use Rattle.litrs_grammar.specs.Quoted.{body_text};
 ghost use Rattle.litrs_grammar.specs.Literal.{string_value};
 ghost use Rattle.litrs_grammar.specs.LiteralText.{string_text};
