@@ -12,3 +12,8 @@ pub mod GroupLemmas
 pub mod IntegerLemmas
 -- the float of these parts
 pub mod FloatLemmas
+-- and printable
+pub mod PrintableTexts
+-- raw bodies, and the texts of raw literals
+pub mod Hashes
+pub mod RawTexts

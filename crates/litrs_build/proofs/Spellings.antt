@@ -5,17 +5,13 @@ use Rattle.std.specs.Char.{digit_value, is_ascii_hexdigit, encode_utf8}
 use Rattle.std.specs.Fmt.{digits, digit_glyph}
 use Rattle.std.specs.List.{list_all}
 use Rattle.std.specs.Str.{encode_utf8_all}
-use Rattle.std.proofs.lemmas.Bool.{and_from, and_parts, cond_both, eqb-true, ltb-true, lt-ltb}
+use Rattle.std.proofs.lemmas.Bool.{and_from, and_parts, cond_both, eqb-true, eqb-false, ltb-true, lt-ltb}
 use Rattle.std.proofs.lemmas.List.{append_assoc}
 use Rattle.std.proofs.lemmas.Str.{encode_ascii}
 use lib.Utf8.{scalar, scalars, scalar_cases, low_scalar}
 use Rattle.litrs_base.specs.Characters.{is_ascii, is_ascii_unless, is_no_nul_unless, is_scalar}
 use Rattle.litrs_base.specs.Unescape.{unescaped_number}
-use Rattle.litrs_base.specs.declared.quotes.Switches.{Switches}
-use Rattle.litrs_base.specs.Quotes.{char_switches, byte_switches, string_switches, byte_string_switches, char_switches_of}
-use Rattle.litrs_base.specs.declared.quotes.CharKind.{CharKind}
-use Rattle.litrs_base.specs.declared.quotes.CharKind.TheVariants.{Char as char_kind, Byte as byte_kind}
-use Rattle.litrs_grammar.specs.Escape.{Escape, simple_escape, hex_escape, unicode_escape, escape_text, escape_value, value_bytes, is_escape, is_hex_or_underscore, pair_value}
+use Rattle.litrs_grammar.specs.Escape.{Switches, Escape, simple_escape, hex_escape, unicode_escape, escape_text, escape_value, value_bytes, is_escape, is_hex_or_underscore, pair_value}
 use Rattle.litrs_build.specs.declared.spelling.Spelling.{Spelling}
 use Rattle.litrs_build.specs.declared.spelling.Spelling.TheVariants.{Plain, Simple, Hex, Unicode}
 use Rattle.litrs_build.specs.Spelling.{char_spelling, byte_spelling, shown_or_number, is_shown, hex_digit}
@@ -23,18 +19,18 @@ use Rattle.litrs_build.proofs.HexDigits.{hex_glyphs, glyph_passes, digits_pass, 
 use Rattle.std.proofs.Common.{◌⊎◌, inl, inr}
 use Rattle.std.proofs.lemmas.Bool.{true≢false}
 use Rattle.std.proofs.lemmas.Str.{digit_value-digit_char}
-use Rattle.litrs_grammar.specs.Escape.{simple_value, allows_byte, allows_value, hex_value}
-use Rattle.litrs_grammar.specs.CharByte.{is_special_whitespace, allows_char, char_value, char_item_text, is_char_item}
+use Rattle.litrs_grammar.specs.Escape.{char_switches, byte_switches, string_switches, byte_string_switches, c_string_switches, simple_value, allows_byte, allows_value, hex_value}
+use Rattle.litrs_grammar.specs.CharByte.{CharKind, char_kind, byte_kind, char_switches_of, is_special_whitespace, allows_char, char_value, char_item_text, is_char_item}
 use Rattle.litrs_grammar.specs.Quoted.{is_plain, is_item, item_text, item_value, takes_all_blanks}
 use Rattle.litrs_build.specs.Spelling.{spelled_item, spelled_char}
 
 -- Tests
 
-or_true : (a b : Bool) → (a || b) ≡ true → (a ≡ true) ⊎ (b ≡ true)
+pub or_true : (a b : Bool) → (a || b) ≡ true → (a ≡ true) ⊎ (b ≡ true)
 or_true true b e = inl refl
 or_true false b e = inr e
 
-or_false : (a b : Bool) → (a || b) ≡ false → (a ≡ false) × (b ≡ false)
+pub or_false : (a b : Bool) → (a || b) ≡ false → (a ≡ false) × (b ≡ false)
 or_false true b e = absurd (true≢false e)
 or_false false b e = (refl, e)
 
@@ -134,7 +130,7 @@ spelled_free (Unicode c) x = refl
 
 -- The text of a spelling is one of scalar values
 
-scalars_all : (t : List ℕ) → list_all scalar t ≡ true → scalars t ≡ true
+pub scalars_all : (t : List ℕ) → list_all scalar t ≡ true → scalars t ≡ true
 scalars_all [] all = refl
 scalars_all (c ∷ t) all =
     let both = and_parts (scalar c) (list_all scalar t) all in and_from _ _ both.0 (scalars_all t both.1)
@@ -147,7 +143,7 @@ scalars_append (c ∷ s) t a b =
 abbrev IsText : Spelling → Type 0
 IsText s = scalars (item_text (spelled_item s)) ≡ true
 
-hex_text : (b : ℕ) → b < 256 → IsText (Hex b)
+pub hex_text : (b : ℕ) → b < 256 → IsText (Hex b)
 hex_text b small =
     and_from _ _ (glyph_passes scalar refl (b / 16) (omega arith))
     (and_from _ _ (glyph_passes scalar refl (b % 16) (omega arith)) refl)
@@ -228,6 +224,25 @@ byte_string_item_value b small =
     (λ low. string_item_value false b (low_scalar b (omega arith)) ∙ encode_ascii b (ltb-true b 128 low))
     (λ high. ap (λ (v : ℕ). v ∷ []) (pair_is b small))
 
+-- Characters and bytes in C strings
+
+abbrev FitsCString : Spelling → Type 0
+FitsCString s = fits c_string_switches (is_plain c_string_switches) s ≡ true
+
+c_string_fits : (m : Bool) (c : ℕ) → scalar c ≡ true → eqb c 0 ≡ false → FitsCString (char_spelling 34 m c)
+c_string_fits m c e nul =
+    let w = c_string_switches in
+    spelling_by 34 m c FitsCString (λ is. absurd (eqb-false c 0 nul is)) (λ is. refl) (λ is. refl) (λ is. refl)
+    (λ is. simple_fits w (is_plain w) c 34 is refl) (λ is. simple_fits w (is_plain w) c 92 is refl)
+    (λ other shown. simp (other.quote, other.backslash, other.return, other.nul))
+    (λ other low. hex_fits w c (below_256 c low) refl (ap not other.nul)) (λ other high. unicode_fits w c refl e (ap not other.nul))
+
+pub c_string_item : (m : Bool) (c : ℕ) → scalar c ≡ true → eqb c 0 ≡ false → is_item c_string_switches (spelled_item (char_spelling 34 m c)) ≡ true
+c_string_item m c e nul = item_fits c_string_switches (char_spelling 34 m c) ∙ c_string_fits m c e nul
+
+pub c_byte_item : (b : ℕ) → b < 256 → eqb b 0 ≡ false → is_item c_string_switches (spelled_item (Hex b)) ≡ true
+c_byte_item b small nul = hex_fits c_string_switches b small refl (ap not nul)
+
 -- Chars and bytes
 
 abbrev FitsChar : CharKind → Spelling → Type 0
@@ -287,7 +302,7 @@ pub all_append : (p : ℕ → Bool) (s t : List ℕ) → list_all p s ≡ true �
 all_append p [] t a b = b
 all_append p (c ∷ s) t a b = let both = and_parts (p c) (list_all p s) a in and_from _ _ both.0 (all_append p s t both.1 b)
 
-encodes_ascii : (t : List ℕ) → list_all is_ascii t ≡ true → encode_utf8_all t ≡ t
+pub encodes_ascii : (t : List ℕ) → list_all is_ascii t ≡ true → encode_utf8_all t ≡ t
 encodes_ascii [] all = refl
 encodes_ascii (c ∷ t) all =
     let both = and_parts (is_ascii c) (list_all is_ascii t) all in

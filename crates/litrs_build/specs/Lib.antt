@@ -4,6 +4,8 @@ pub mod Printable
 pub mod Spelling
 -- the literal of a value
 pub mod Written
+-- raw literals
+pub mod Raw
 -- which error comes
 pub mod Errors
 -- digits, and how they are grouped
@@ -12,3 +14,5 @@ pub mod WrittenDigits
 pub mod BuiltInteger
 -- the float that is built
 pub mod BuiltFloat
+-- what holds of all that is written
+pub mod Laws

@@ -7,6 +7,8 @@
 #[cfg(test)]
 mod buffers;
 #[cfg(test)]
+mod built_numbers;
+#[cfg(test)]
 mod errors;
 #[cfg(test)]
 mod goes_on;

@@ -1,0 +1,45 @@
+-- Raw literals: how many hashes they have, and which values they have. The Rust Reference, Tokens,
+-- Literals: "Raw string literals", "Raw byte string literals" and "Raw C string literals".
+use Rattle.std.specs.Prelude.{ℕ, ◌+◌, Bool, not, ◌==◌, ◌&&◌, nat_lt, nat_le, if◌then◌else◌, List, [], ◌∷◌, Option, Some, None}
+use Rattle.std.specs.List.{list_all}
+use Rattle.litrs_base.specs.Characters.{hash}
+use Rattle.litrs_grammar.specs.StringKind.{StringKind}
+use Rattle.litrs_grammar.specs.Suffix.{is_suffix}
+use Rattle.litrs_grammar.specs.Raw.{is_quote, hash_len, is_raw_char, has_unicode, allows_nul}
+use Rattle.litrs_grammar.specs.Literal.{StringParts, raw_parts}
+use Rattle.litrs_build.specs.declared.error.BuildError.{BuildError}
+use Rattle.litrs_build.specs.declared.error.BuildError.TheVariants.{NotASuffix, NotRaw}
+
+-- the greater of two numbers
+abbrev pub greater : ℕ → ℕ → ℕ
+greater a b = if nat_lt a b then b else a
+
+-- The least number of hashes with which nothing in the body closes it: one more than the longest
+-- run of hashes after a quote, and none where it has no quote.
+unfoldable pub hashes_needed : List ℕ → ℕ
+hashes_needed [] = 0
+hashes_needed (c ∷ cs) = greater (if is_quote c then 1 + hash_len cs else 0) (hashes_needed cs)
+
+-- the parts of the raw literal of a body
+abbrev pub written_raw : List ℕ → List ℕ → StringParts
+written_raw body suffix =
+    raw_parts (record { hash_count = hashes_needed body; body = body; suffix = suffix })
+
+-- the text is the body of some raw literal of the kind: its characters may stand there, and at most
+-- 255 hashes are needed
+abbrev pub is_raw_value : (unicode allow_nul : Bool) → List ℕ → Bool
+is_raw_value unicode allow_nul body =
+    list_all (is_raw_char unicode allow_nul) body && nat_le (hashes_needed body) 255
+
+-- why no raw literal has the body and the suffix
+abbrev pub raw_error : (unicode allow_nul : Bool) → List ℕ → List ℕ → Option BuildError
+raw_error unicode allow_nul body suffix =
+    if not (is_suffix suffix) then Some NotASuffix
+    else if is_raw_value unicode allow_nul body then None
+    else Some NotRaw
+
+-- how long the run of hashes is that a quote begins, the quote among them, after one more
+-- character; 0 outside such a run
+abbrev pub run_after : ℕ → ℕ → ℕ
+run_after run c =
+    if is_quote c then 1 else if (c == hash) && nat_lt 0 run then run + 1 else 0

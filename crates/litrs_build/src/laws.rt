@@ -1,0 +1,26 @@
+//! Laws of what is written.
+ghost use Rattle.litrs_build.specs.Laws.{CharsArePrintable, BytesArePrintable, StringsArePrintable, ByteStringsArePrintable};
+
+/// Between the quotes of a char all is printable.
+#[tactic(auto, using(crate::proofs::PrintableTexts::chars_are_printable))]
+pub fn chars_are_printable()
+    ensures { CharsArePrintable }
+{}
+
+/// Between the quotes of a byte all is printable.
+#[tactic(auto, using(crate::proofs::PrintableTexts::bytes_are_printable))]
+pub fn bytes_are_printable()
+    ensures { BytesArePrintable }
+{}
+
+/// Between the quotes of a string all is printable.
+#[tactic(auto, using(crate::proofs::PrintableTexts::strings_are_printable))]
+pub fn strings_are_printable()
+    ensures { StringsArePrintable }
+{}
+
+/// Between the quotes of a byte string all is printable.
+#[tactic(auto, using(crate::proofs::PrintableTexts::byte_strings_are_printable))]
+pub fn byte_strings_are_printable()
+    ensures { ByteStringsArePrintable }
+{}

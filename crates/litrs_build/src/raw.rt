@@ -1,0 +1,158 @@
+//! Raw strings.
+ghost use Rattle.std.specs.Prelude.{◌≡◌, ◌+◌, ◌<◌, ◌^◌, ◌++◌, ◌∷◌, [], true, Some, None, IfOk, IfErr, OnOk, IfSome, IfNone, IsTrue, IsFalse, ◌≤◌, string_bytes, replicate};
+ghost use Rattle.std.specs.Str.{chars};
+ghost use Rattle.std.specs.List.{list_all};
+ghost use Rattle.litrs_grammar.specs.StringKind.{string_kind};
+ghost use Rattle.litrs_grammar.specs.Raw.{is_raw_char};
+ghost use Rattle.litrs_grammar.specs.Literal.{string_value};
+ghost use Rattle.litrs_grammar.specs.LiteralText.{string_text};
+ghost use Rattle.litrs_build.specs.Errors.{IsErrorOf};
+ghost use Rattle.litrs_build.specs.Raw.{greater, hashes_needed, is_raw_value, raw_error, run_after, written_raw};
+
+use crate::error::BuildError;
+use litrs::StringLit;
+use litrs_lex::check_suffix;
+use std::alloc::{AllocError, Global};
+
+/// The raw string of a text, as `r"C:\"` and `r#"a"b"#`, with the least number of hashes that
+/// serves and a suffix, which may be empty. There is one allocation, for its text. See
+/// [the reference][ref].
+///
+/// # Errors
+///
+/// `NotASuffix` where the suffix is not one; else `NotRaw` where the text has a CR or needs more
+/// than 255 hashes; else `Memory` where an allocation fails.
+///
+/// [ref]: https://doc.rust-lang.org/reference/tokens.html#raw-string-literals
+pub fn raw_string_literal(
+    alloc: Global,
+    value: &str,
+    suffix: &str,
+) -> Result<StringLit<String>, BuildError>
+    ensures written { IfOk result (λ lit. chars lit.raw
+        ≡ string_text string_kind (written_raw (chars value.now) (chars suffix.now))) }
+    ensures parts { IfOk result (λ lit.
+        lit.parts ≡ written_raw (chars value.now) (chars suffix.now)) }
+    ensures value { IfOk result (λ lit. string_value lit.parts ≡ value.now) }
+    ensures possible { IfOk result (λ _.
+        raw_error true true (chars value.now) (chars suffix.now) ≡ None) }
+    ensures refused { IfErr result
+        (IsErrorOf (raw_error true true (chars value.now) (chars suffix.now))) }
+{
+    let text = write_raw(alloc, "r", value, suffix, true, true)?;
+    match StringLit::parse(alloc, text) {
+        Ok(lit) => Ok(lit),
+        Err(_) => Err(BuildError::Memory),
+    }
+}
+
+/// The text of a raw literal: what it begins with, hashes, the body between quotes, as many hashes
+/// and the suffix. Where `unicode` is off the body is ASCII, and where `allow_nul` is, not NUL.
+fn write_raw(
+    alloc: Global,
+    front: &str,
+    value: &str,
+    suffix: &str,
+    unicode: bool,
+    allow_nul: bool,
+) -> Result<String, BuildError>
+    ensures text { IfOk result (λ text. let hashes = replicate (hashes_needed (chars value.now)) 35 in
+        string_bytes text ≡ ((((front.now ++ hashes) ++ 34 ∷ []) ++ value.now) ++ 34 ∷ []) ++ hashes
+        ++ suffix.now) }
+    ensures possible { IfOk result (λ _.
+        raw_error unicode allow_nul (chars value.now) (chars suffix.now) ≡ None) }
+    ensures refused { IfErr result
+        (IsErrorOf (raw_error unicode allow_nul (chars value.now) (chars suffix.now))) }
+{
+    if check_suffix(suffix).is_err() {
+        return Err(BuildError::NotASuffix);
+    }
+    let Some(hashes) = raw_hashes(value, unicode, allow_nul) else {
+        return Err(BuildError::NotRaw);
+    };
+    let around = front
+        .len()
+        .saturating_add(suffix.len())
+        .saturating_add(2 + 2 * hashes);
+    let len = value.len().saturating_add(around);
+    let mut text = String::with_capacity(alloc, len)?;
+    text.push_str(front)?;
+    push_hashes(&mut text, hashes)?;
+    text.push('"')?;
+    text.push_str(value)?;
+    text.push('"')?;
+    push_hashes(&mut text, hashes)?;
+    text.push_str(suffix)?;
+    Ok(text)
+}
+
+/// How many hashes a raw literal with this body needs, None where none has it.
+fn raw_hashes(value: &str, unicode: bool, allow_nul: bool) -> Option<usize>
+    ensures hashes { IfSome result (λ n. n ≡ hashes_needed (chars value.now)) }
+    ensures few { IfSome result (λ n. n ≤ 255) }
+    ensures some { IfSome result (λ _. IsTrue (is_raw_value unicode allow_nul (chars value.now))) }
+    ensures none { IfNone result (IsFalse (is_raw_value unicode allow_nul (chars value.now))) }
+{
+    if !are_raw_chars(value, unicode, allow_nul) {
+        return None;
+    }
+    let hashes = hashes_needed(value);
+    if hashes <= 255 { Some(hashes) } else { None }
+}
+
+/// Whether each character may stand in a raw body.
+fn are_raw_chars(value: &str, unicode: bool, allow_nul: bool) -> bool
+    ensures { result ≡ list_all (is_raw_char unicode allow_nul) (chars value.now) }
+{
+    value.chars().all(|c| is_raw_char(c, unicode, allow_nul))
+}
+
+/// Whether the character may stand in a raw body.
+fn is_raw_char(c: char, unicode: bool, allow_nul: bool) -> bool
+    ensures { result ≡ is_raw_char unicode allow_nul c }
+{
+    c != '\r' && (unicode || c.is_ascii()) && (allow_nul || c != '\0')
+}
+
+/// How many hashes keep a closing out of the body: one more than follow any of its quotes.
+fn hashes_needed(value: &str) -> usize
+    ensures { result ≡ hashes_needed (chars value.now) }
+{
+    let mut most: usize = 0;
+    let mut run: usize = 0;
+    let mut rest = value.chars();
+    while let Some(c) = rest.next() {
+        run = run_after(run, c);
+        most = greater(most, run);
+    }
+    most
+}
+
+/// How long the run is that a quote begins and hashes go on, after one more character.
+fn run_after(run: usize, c: char) -> usize
+    requires { run + 1 < 2 ^ 64 }
+    ensures { result ≡ run_after run c }
+{
+    match c {
+        '"' => 1,
+        '#' if run > 0 => run + 1,
+        _ => 0,
+    }
+}
+
+/// The greater of two numbers.
+fn greater(a: usize, b: usize) -> usize
+    ensures { result ≡ greater a b }
+{
+    if a < b { b } else { a }
+}
+
+/// Appends so many hashes.
+fn push_hashes(text: &mut String, count: usize) -> Result<(), AllocError>
+    ensures { OnOk result (string_bytes text.new ≡ string_bytes text.old ++ replicate count 35) }
+{
+    for _ in 0..count {
+        text.push('#')?;
+    }
+    Ok(())
+}
