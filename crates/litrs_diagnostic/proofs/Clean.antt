@@ -20,10 +20,12 @@ use Rattle.litrs_diagnostic.proofs.Widths.{IsPlain, ArePlain, plain_escape}
 
 -- ---- printable ASCII
 
-all_at : (p : ℕ → Bool) (xs : List ℕ) → list_all p xs ≡ true → (k d : ℕ) → k < length xs → p (get_or xs k d) ≡ true
+all_at : (p : ℕ → Bool) (xs : List ℕ) → list_all p xs ≡ true → (k d : ℕ) → k < length xs →
+    p (get_or xs k d) ≡ true
 all_at p [] h k d within = absurd (omega arith)
 all_at p (x ∷ xs) h zero d within = (and_parts (p x) (list_all p xs) h).0
-all_at p (x ∷ xs) h (suc k) d within = all_at p xs (and_parts (p x) (list_all p xs) h).1 k d (omega arith)
+all_at p (x ∷ xs) h (suc k) d within = all_at p xs (and_parts (p x) (list_all p xs) h).1 k d
+    (omega arith)
 
 ascii_printable : list_all is_printable (range_with_len 32 95) ≡ true
 unfolding is_printable general_category general_category_rows value_in
@@ -33,14 +35,16 @@ plain_printable : (c : ℕ) → IsPlain c → is_printable c ≡ true
 plain_printable c h =
     let k = c - 32 in
     let near : k < 95 = omega (arith, h.0, h.1) in
-    let within : k < length (range_with_len 32 95) = subst (λ (n : ℕ). k < n) (sym (length-range_with_len 32 95)) near in
+    let within : k < length (range_with_len 32 95) =
+    subst (λ (n : ℕ). k < n) (sym (length-range_with_len 32 95)) near in
     let same : 32 + k ≡ c = omega (arith, h.0) in
     subst (λ (n : ℕ). is_printable n ≡ true) (get_or-range_with_len 32 95 k 0 near ∙ same)
     (all_at is_printable (range_with_len 32 95) ascii_printable k 0 within)
 
 plain_all : (cs : List ℕ) → ArePlain cs → list_all is_printable cs ≡ true
 plain_all [] h = refl
-plain_all (c ∷ cs) h = and_from (is_printable c) (list_all is_printable cs) (plain_printable c h.0) (plain_all cs h.1)
+plain_all (c ∷ cs) h = and_from (is_printable c) (list_all is_printable cs)
+    (plain_printable c h.0) (plain_all cs h.1)
 
 abbrev is_plain : ℕ → Bool
 is_plain c = leb 32 c && ltb c 127
@@ -50,7 +54,8 @@ plain_by_test [] h = refl
 plain_by_test (c ∷ cs) h =
     let parts = and_parts (is_plain c) (list_all is_plain cs) h in
     let bounds = and_parts (leb 32 c) (ltb c 127) parts.0 in
-    and_from (is_printable c) (list_all is_printable cs) (plain_printable c (leb-true 32 c bounds.0, ltb-true c 127 bounds.1)) (plain_by_test cs parts.1)
+    and_from (is_printable c) (list_all is_printable cs)
+    (plain_printable c (leb-true 32 c bounds.0, ltb-true c 127 bounds.1)) (plain_by_test cs parts.1)
 
 -- ---- pieces
 
@@ -62,18 +67,24 @@ blanks_printable : (n : ℕ) → list_all is_printable (blanks n) ≡ true
 blanks_printable n = all_replicate is_printable n blank (plain_printable 32 (lit≤ tt, lit< tt))
 
 carets_printable : (cs : List ℕ) → list_all is_printable (carets cs) ≡ true
-carets_printable cs = all_replicate is_printable (max 1 (columns (shown cs))) caret (plain_printable 94 (lit≤ tt, lit< tt))
+carets_printable cs = all_replicate is_printable (max 1 (columns (shown cs))) caret
+    (plain_printable 94 (lit≤ tt, lit< tt))
 
-shown_char_by : (c : ℕ) (a b : Bool) → eqb c 9 ≡ a → is_printable c ≡ b → list_all is_printable (shown_char c) ≡ true
+shown_char_by : (c : ℕ) (a b : Bool) → eqb c 9 ≡ a → is_printable c ≡ b →
+    list_all is_printable (shown_char c) ≡ true
 unfolding shown_char
 shown_char_by c true b e f = rw e (blanks_printable 4)
-shown_char_by c false true e f = rw e (subst (λ (d : Bool). list_all is_printable (cond d (c ∷ []) (escape_unicode c)) ≡ true) (sym f) (and_from (is_printable c) true f refl))
-shown_char_by c false false e f = rw e (subst (λ (d : Bool). list_all is_printable (cond d (c ∷ []) (escape_unicode c)) ≡ true) (sym f) (plain_all (escape_unicode c) (plain_escape c)))
+shown_char_by c false true e f = rw e (subst (λ (d : Bool). list_all is_printable
+    (cond d (c ∷ []) (escape_unicode c)) ≡ true) (sym f) (and_from (is_printable c) true f refl))
+shown_char_by c false false e f = rw e (subst (λ (d : Bool). list_all is_printable
+    (cond d (c ∷ []) (escape_unicode c)) ≡ true) (sym f)
+    (plain_all (escape_unicode c) (plain_escape c)))
 
 shown_printable : (cs : List ℕ) → list_all is_printable (shown cs) ≡ true
 shown_printable [] = refl
 shown_printable (c ∷ cs) =
-    list_all-append is_printable (shown_char c) (shown cs) (shown_char_by c (eqb c 9) (is_printable c) refl refl) (shown_printable cs)
+    list_all-append is_printable (shown_char c) (shown cs)
+    (shown_char_by c (eqb c 9) (is_printable c) refl refl) (shown_printable cs)
 
 glyph_plain : (n : ℕ) → IsPlain (digit_glyph false (n % 10))
 glyph_plain n =
@@ -87,8 +98,12 @@ digits_cond false xs ys h k = k
 digits_plain : (k n : ℕ) (acc : List ℕ) → ArePlain acc → ArePlain (digits_onto k 10 false n acc)
 digits_plain zero n acc h = h
 digits_plain (suc k) n acc h =
-    digits_cond (eqb (n / 10) 0) (digit_glyph false (n % 10) ∷ acc) (digits_onto k 10 false (n / 10) (digit_glyph false (n % 10) ∷ acc))
-    (glyph_plain n, h) (digits_plain k (n / 10) (digit_glyph false (n % 10) ∷ acc) (glyph_plain n, h))
+    digits_cond (eqb (n / 10) 0) (digit_glyph false (n % 10) ∷ acc)
+    (digits_onto k 10 false (n / 10) (digit_glyph false (n % 10) ∷ acc))
+    (glyph_plain n, h) (digits_plain k (n / 10) (digit_glyph false (n % 10) ∷ acc) (
+      glyph_plain n,
+      h,
+    ))
 
 decimal_printable : (n : ℕ) → list_all is_printable (decimal n) ≡ true
 unfolding digits
@@ -117,7 +132,10 @@ printable_clean c h = or_true (is_line_feed c) (is_printable c) h
 
 piece : (xs ys : List ℕ) → list_all is_printable xs ≡ true → IsClean ys → IsClean (xs ++ ys)
 piece xs ys h k =
-    both_clean xs ys (record { all = list_all-weaken is_printable is_line_feed_or_printable printable_clean xs h }) k
+    both_clean xs ys (record {
+      all = list_all-weaken is_printable is_line_feed_or_printable
+          printable_clean xs h;
+    }) k
 
 line_end : (ys : List ℕ) → IsClean ys → IsClean (10 ∷ ys)
 line_end ys h = record { all = h.all }
@@ -125,12 +143,19 @@ line_end ys h = record { all = h.all }
 line_clean : (margin number : ℕ) (l : Line) → IsClean (line_text margin number l)
 unfolding line_text
 line_clean margin number l =
-    piece (decimal number) _ (decimal_printable number) (piece (blanks (margin - length (decimal number))) _ (blanks_printable (margin - length (decimal number)))
-    (piece (codes " | ") _ (plain_by_test (codes " | ") refl) (piece (shown l.before) _ (shown_printable l.before)
-    (piece (shown l.marked) _ (shown_printable l.marked) (piece (shown l.after) _ (shown_printable l.after)
-    (line_end (blanks margin ++ (codes " | " ++ (blanks (columns (shown l.before)) ++ (carets l.marked ++ 10 ∷ []))))
-    (piece (blanks margin) _ (blanks_printable margin) (piece (codes " | ") _ (plain_by_test (codes " | ") refl)
-    (piece (blanks (columns (shown l.before))) _ (blanks_printable (columns (shown l.before))) (piece (carets l.marked) (10 ∷ []) (carets_printable l.marked) one_line_end))))))))))
+    piece (decimal number) _ (decimal_printable number)
+    (piece (blanks (margin - length (decimal number))) _
+    (blanks_printable (margin - length (decimal number)))
+    (piece (codes " | ") _ (plain_by_test (codes " | ") refl)
+    (piece (shown l.before) _ (shown_printable l.before)
+    (piece (shown l.marked) _ (shown_printable l.marked)
+    (piece (shown l.after) _ (shown_printable l.after)
+    (line_end (blanks margin ++ (codes " | " ++
+    (blanks (columns (shown l.before)) ++ (carets l.marked ++ 10 ∷ []))))
+    (piece (blanks margin) _ (blanks_printable margin)
+    (piece (codes " | ") _ (plain_by_test (codes " | ") refl)
+    (piece (blanks (columns (shown l.before))) _ (blanks_printable (columns (shown l.before)))
+    (piece (carets l.marked) (10 ∷ []) (carets_printable l.marked) one_line_end))))))))))
 
 clean_cond : (b : Bool) (xs ys : List ℕ) → IsClean xs → IsClean ys → IsClean (cond b xs ys)
 clean_cond true xs ys h k = h
@@ -141,33 +166,49 @@ gap_clean first last =
     clean_cond (nat_lt (first + 1) last) (codes "...\n") []
     (piece (codes "...") (10 ∷ []) (plain_by_test (codes "...") refl) one_line_end) none_clean
 
-lines_clean : (margin : ℕ) (before range after : List ℕ) → IsClean (lines_text margin before range after)
+lines_clean : (margin : ℕ) (before range after : List ℕ) →
+    IsClean (lines_text margin before range after)
 unfolding lines_text
 lines_clean margin before range after =
     let first = line_number before in
     let last = line_number (before ++ range) in
     let more = gap_text first last ++ line_text margin last (end_line range after) in
-    both_clean (line_text margin first (start_line before range after)) (cond (nat_lt first last) more [])
+    both_clean (line_text margin first (start_line before range after))
+    (cond (nat_lt first last) more [])
     (line_clean margin first (start_line before range after))
     (clean_cond (nat_lt first last) more []
-    (both_clean (gap_text first last) (line_text margin last (end_line range after)) (gap_clean first last) (line_clean margin last (end_line range after)))
+    (both_clean (gap_text first last) (line_text margin last (end_line range after))
+    (gap_clean first last) (line_clean margin last (end_line range after)))
     none_clean)
 
-message_clean : (name message before range after : List ℕ) → IsClean (message_text name message before range after)
+message_clean : (name message before range after : List ℕ) →
+    IsClean (message_text name message before range after)
 unfolding message_text
 message_clean name message before range after =
     let margin = length (decimal (line_number (before ++ range))) in
-    piece (codes "error: ") _ (plain_by_test (codes "error: ") refl) (piece (shown message) _ (shown_printable message)
-    (line_end (blanks margin ++ (codes "--> " ++ (shown name ++ (codes ":" ++ (decimal (line_number before) ++ (codes ":" ++ (decimal (column_number before)
+    piece (codes "error: ") _ (plain_by_test (codes "error: ") refl)
+    (piece (shown message) _ (shown_printable message)
+    (line_end (blanks margin ++ (codes "--> " ++
+    (shown name ++ (codes ":" ++ (decimal (line_number before)
+    ++ (codes ":" ++ (decimal (column_number before)
     ++ 10 ∷ (blanks margin ++ (codes " |\n" ++ lines_text margin before range after)))))))))
-    (piece (blanks margin) _ (blanks_printable margin) (piece (codes "--> ") _ (plain_by_test (codes "--> ") refl) (piece (shown name) _ (shown_printable name)
-    (piece (codes ":") _ (plain_by_test (codes ":") refl) (piece (decimal (line_number before)) _ (decimal_printable (line_number before))
-    (piece (codes ":") _ (plain_by_test (codes ":") refl) (piece (decimal (column_number before)) _ (decimal_printable (column_number before))
+    (piece (blanks margin) _ (blanks_printable margin)
+    (piece (codes "--> ") _ (plain_by_test (codes "--> ") refl)
+    (piece (shown name) _ (shown_printable name)
+    (piece (codes ":") _ (plain_by_test (codes ":") refl)
+    (piece (decimal (line_number before)) _ (decimal_printable (line_number before))
+    (piece (codes ":") _ (plain_by_test (codes ":") refl)
+    (piece (decimal (column_number before)) _ (decimal_printable (column_number before))
     (line_end (blanks margin ++ (codes " |\n" ++ lines_text margin before range after))
-    (piece (blanks margin) _ (blanks_printable margin) (piece (codes " |") (10 ∷ lines_text margin before range after) (plain_by_test (codes " |") refl)
-    (line_end (lines_text margin before range after) (lines_clean margin before range after))))))))))))))
+    (piece (blanks margin) _ (blanks_printable margin)
+    (piece (codes " |") (10 ∷ lines_text margin before range after)
+    (plain_by_test (codes " |") refl)
+    (line_end (lines_text margin before range after)
+    (lines_clean margin before range after))))))))))))))
 
-pub diagnostic_clean : (name message source : List ℕ) (start end : ℕ) → list_all is_line_feed_or_printable (diagnostic_text name message source start end) ≡ true
+pub diagnostic_clean : (name message source : List ℕ) (start end : ℕ) →
+    list_all is_line_feed_or_printable (diagnostic_text name message source start end) ≡ true
 unfolding diagnostic_text
 diagnostic_clean name message source start end =
-    (message_clean (chars name) (chars message) (chars (take start source)) (chars (slice_range source start end)) (chars (drop end source))).all
+    (message_clean (chars name) (chars message) (chars (take start source))
+    (chars (slice_range source start end)) (chars (drop end source))).all

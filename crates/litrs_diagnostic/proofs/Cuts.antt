@@ -14,21 +14,27 @@ pub record IsCutAtEnd (bs : List ℕ) (start end : ℕ) : Type 0 where
   pub len : length (slice_range bs start end) ≡ end - start
   pub boundary : IsCharBoundary (drop start bs) (end - start)
 
-pub cut_at_end : (bs : List ℕ) (start end : ℕ) → IsUtf8 bs → IsCharBoundary bs start → IsCharBoundary bs end → start ≤ end → IsCutAtEnd bs start end
+pub cut_at_end : (bs : List ℕ) (start end : ℕ) → IsUtf8 bs → IsCharBoundary bs start →
+    IsCharBoundary bs end → start ≤ end → IsCutAtEnd bs start end
 cut_at_end bs start end u on_start on_end order =
     let sum : start + (end - start) ≡ end = omega arith in
-    let past : drop (end - start) (drop start bs) ≡ drop end bs = drop-drop (end - start) start bs ∙ ap (λ (n : ℕ). drop n bs) sum in
+    let past : drop (end - start) (drop start bs) ≡ drop end bs = drop-drop (end - start) start bs
+    ∙ ap (λ (n : ℕ). drop n bs) sum in
     let whole : drop start bs ≡ slice_range bs start end ++ drop end bs =
-    sym (take-append-drop (end - start) (drop start bs)) ∙ ap (λ (l : List ℕ). slice_range bs start end ++ l) past in
+    sym (take-append-drop (end - start) (drop start bs))
+    ∙ ap (λ (l : List ℕ). slice_range bs start end ++ l) past in
     let len : length (slice_range bs start end) ≡ end - start =
-    length-take (end - start) (drop start bs) ∙ (let all = length-drop start bs in let within = on_end.0 in omega arith) in
+    length-take (end - start) (drop start bs) ∙ (let all = length-drop start bs in
+    let within = on_end.0 in omega arith) in
     record {
       whole = whole;
-      characters = ap chars whole ∙ chars-append (slice_range bs start end) (drop end bs) (IsUtf8-between bs start end u order on_start on_end);
+      characters = ap chars whole ∙ chars-append (slice_range bs start end) (drop end bs)
+          (IsUtf8-between bs start end u order on_start on_end);
       len = len;
       boundary =
           subst (IsCharBoundary (drop start bs)) len
-          (IsCharBoundary-at_seam (drop start bs) (slice_range bs start end) (drop end bs) whole (IsUtf8-drop bs end u on_end));
+          (IsCharBoundary-at_seam (drop start bs) (slice_range bs start end) (drop end bs) whole
+          (IsUtf8-drop bs end u on_end));
     }
 
 -- the end m of the range, and what is after it
@@ -40,25 +46,32 @@ pub record IsCutWithin (bs m : List ℕ) (end : ℕ) : Type 0 where
   pub cuts : IsCharBoundary (drop (end - length m) bs) (length m)
   pub mark : take (length m) (drop (end - length m) bs) ≡ m
 
-pub cut_within_range : (bs f m : List ℕ) (start end : ℕ) → IsUtf8 bs → IsCharBoundary bs start → IsCharBoundary bs end → start ≤ end →
+pub cut_within_range : (bs f m : List ℕ) (start end : ℕ) → IsUtf8 bs → IsCharBoundary bs start →
+    IsCharBoundary bs end → start ≤ end →
     IsUtf8 m → slice_range bs start end ≡ f ++ m → IsCutWithin bs m end
 cut_within_range bs f m start end u on_start on_end order v parts =
     let cut = cut_at_end bs start end u on_start on_end order in
     let after : IsUtf8 (drop end bs) = IsUtf8-drop bs end u on_end in
-    let both : drop start bs ≡ f ++ (m ++ drop end bs) = cut.whole ∙ (ap (λ (l : List ℕ). l ++ drop end bs) parts ∙ append_assoc f m (drop end bs)) in
+    let both : drop start bs ≡ f ++ (m ++ drop end bs) = cut.whole
+    ∙ (ap (λ (l : List ℕ). l ++ drop end bs) parts ∙ append_assoc f m (drop end bs)) in
     let all : bs ≡ (take start bs ++ f) ++ (m ++ drop end bs) =
-    sym (take-append-drop start bs) ∙ (ap (λ (l : List ℕ). take start bs ++ l) both ∙ sym (append_assoc (take start bs) f (m ++ drop end bs))) in
-    let size : length f + length m ≡ end - start = sym (length-append f m) ∙ (sym (ap length parts) ∙ cut.len) in
+    sym (take-append-drop start bs) ∙ (ap (λ (l : List ℕ). take start bs ++ l) both
+    ∙ sym (append_assoc (take start bs) f (m ++ drop end bs))) in
+    let size : length f + length m ≡ end - start = sym (length-append f m)
+    ∙ (sym (ap length parts) ∙ cut.len) in
     let within = on_start.0 in
     let front : length (take start bs) ≡ start = length-take start bs ∙ (omega arith) in
-    let count : length (take start bs ++ f) ≡ end - length m = length-append (take start bs) f ∙ (omega (arith, front, size)) in
+    let count : length (take start bs ++ f) ≡ end - length m = length-append (take start bs) f
+    ∙ (omega (arith, front, size)) in
     let whole : drop (end - length m) bs ≡ m ++ drop end bs =
-    ap (drop (end - length m)) all ∙ drop_at (take start bs ++ f) (m ++ drop end bs) (end - length m) count in
+    ap (drop (end - length m)) all ∙ drop_at (take start bs ++ f) (m ++ drop end bs)
+    (end - length m) count in
     record {
       fits = omega (arith, size);
       boundary =
           subst (IsCharBoundary bs) count
-          (IsCharBoundary-at_seam bs (take start bs ++ f) (m ++ drop end bs) all (IsUtf8-append m (drop end bs) v after));
+          (IsCharBoundary-at_seam bs (take start bs ++ f) (m ++ drop end bs) all
+          (IsUtf8-append m (drop end bs) v after));
       whole = whole;
       characters = ap chars whole ∙ chars-append m (drop end bs) v;
       cuts = IsCharBoundary-at_seam (drop (end - length m) bs) m (drop end bs) whole after;
@@ -72,38 +85,49 @@ line before marked after = record { before = before; marked = marked; after = af
 
 same_line : (a b c d e f : List ℕ) → a ≡ d → b ≡ e → c ≡ f → line a b c ≡ line d e f
 same_line a b c d e f p q r =
-    ap (λ (x : List ℕ). line x b c) p ∙ (ap (λ (x : List ℕ). line d x c) q ∙ ap (λ (x : List ℕ). line d e x) r)
+    ap (λ (x : List ℕ). line x b c) p ∙ (ap (λ (x : List ℕ). line d x c) q
+    ∙ ap (λ (x : List ℕ). line d e x) r)
 
 pub start_line_is : (bs front rest before marked after : List ℕ) (start end : ℕ) →
     IsUtf8 bs → IsCharBoundary bs start → IsCharBoundary bs end → start ≤ end →
     front ≡ take start bs → rest ≡ drop start bs → before ≡ last_line (chars front) →
     marked ≡ take (length (chars (take (end - start) rest))) (first_line (chars rest)) →
     after ≡ drop (length (chars (take (end - start) rest))) (first_line (chars rest)) →
-    line before marked after ≡ start_line (chars (take start bs)) (chars (slice_range bs start end)) (chars (drop end bs))
+    line before marked after ≡ start_line (chars (take start bs))
+    (chars (slice_range bs start end)) (chars (drop end bs))
 unfolding start_line
-start_line_is bs front rest before marked after start end u on_start on_end order is_front is_rest is_before is_marked is_after =
+start_line_is bs front rest before marked after start end u on_start on_end order is_front is_rest
+    is_before is_marked is_after =
     let cut = cut_at_end bs start end u on_start on_end order in
     let count = length (chars (slice_range bs start end)) in
     same_line _ _ _ _ _ _ (is_before ∙ ap (λ (l : List ℕ). last_line (chars l)) is_front)
-    (is_marked ∙ (ap (λ (l : List ℕ). take (length (chars (take (end - start) l))) (first_line (chars l))) is_rest
+    (is_marked ∙ (ap (λ (l : List ℕ). take (length (chars (take (end - start) l)))
+    (first_line (chars l))) is_rest
     ∙ ap (λ (l : List ℕ). take count (first_line l)) cut.characters))
-    (is_after ∙ (ap (λ (l : List ℕ). drop (length (chars (take (end - start) l))) (first_line (chars l))) is_rest
+    (is_after ∙ (ap (λ (l : List ℕ). drop (length (chars (take (end - start) l)))
+    (first_line (chars l))) is_rest
     ∙ ap (λ (l : List ℕ). drop count (first_line l)) cut.characters))
 
-pub end_line_is : (bs m rest before marked after : List ℕ) (start end : ℕ) → IsCutWithin bs m end → before ≡ [] →
+pub end_line_is : (bs m rest before marked after : List ℕ) (start end : ℕ) →
+    IsCutWithin bs m end → before ≡ [] →
     chars m ≡ last_line (chars (slice_range bs start end)) → rest ≡ drop (end - length m) bs →
     marked ≡ take (length (chars (take (length m) rest))) (first_line (chars rest)) →
     after ≡ drop (length (chars (take (length m) rest))) (first_line (chars rest)) →
     line before marked after ≡ end_line (chars (slice_range bs start end)) (chars (drop end bs))
 unfolding end_line
-end_line_is bs m rest before marked after start end cut is_before is_mark is_rest is_marked is_after =
+end_line_is bs m rest before marked after start end cut is_before is_mark is_rest is_marked
+    is_after =
     let tail = chars (drop end bs) in
     same_line _ _ _ _ _ _ is_before
-    (is_marked ∙ (ap (λ (l : List ℕ). take (length (chars (take (length m) l))) (first_line (chars l))) is_rest
-    ∙ (ap (λ (l : List ℕ). take (length (chars l)) (first_line (chars (drop (end - length m) bs)))) cut.mark
+    (is_marked ∙ (ap (λ (l : List ℕ). take (length (chars (take (length m) l)))
+    (first_line (chars l))) is_rest
+    ∙ (ap (λ (l : List ℕ). take (length (chars l))
+    (first_line (chars (drop (end - length m) bs)))) cut.mark
     ∙ (ap (λ (l : List ℕ). take (length (chars m)) (first_line l)) cut.characters
     ∙ ap (λ (l : List ℕ). take (length l) (first_line (l ++ tail))) is_mark))))
-    (is_after ∙ (ap (λ (l : List ℕ). drop (length (chars (take (length m) l))) (first_line (chars l))) is_rest
-    ∙ (ap (λ (l : List ℕ). drop (length (chars l)) (first_line (chars (drop (end - length m) bs)))) cut.mark
+    (is_after ∙ (ap (λ (l : List ℕ). drop (length (chars (take (length m) l)))
+    (first_line (chars l))) is_rest
+    ∙ (ap (λ (l : List ℕ). drop (length (chars l))
+    (first_line (chars (drop (end - length m) bs)))) cut.mark
     ∙ (ap (λ (l : List ℕ). drop (length (chars m)) (first_line l)) cut.characters
     ∙ ap (λ (l : List ℕ). drop (length l) (first_line (l ++ tail))) is_mark))))

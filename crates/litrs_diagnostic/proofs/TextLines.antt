@@ -18,10 +18,12 @@ pub none_pass : (p : ℕ → Bool) (cs : List ℕ) → NonePass p cs → list_an
 none_pass p [] h = refl
 none_pass p (c ∷ cs) h = rw h.0 (none_pass p cs h.1)
 
-pub none_in_front : (p : ℕ → Bool) (xs ys : List ℕ) → list_any p (xs ++ ys) ≡ false → list_any p xs ≡ false
+pub none_in_front : (p : ℕ → Bool) (xs ys : List ℕ) → list_any p (xs ++ ys) ≡ false →
+    list_any p xs ≡ false
 none_in_front p [] ys h = refl
 none_in_front p (x ∷ xs) ys h =
-    let parts = or_parts (p x) (list_any p (xs ++ ys)) h in rw parts.0 (none_in_front p xs ys parts.1)
+    let parts = or_parts (p x) (list_any p (xs ++ ys)) h in
+    rw parts.0 (none_in_front p xs ys parts.1)
 
 -- ---- the last line
 
@@ -30,7 +32,8 @@ unfolding last_line
 last_line-none [] h = refl
 last_line-none (c ∷ t) h = rw h refl
 
-pub last_line-after : (xs ys : List ℕ) → list_any is_line_feed ys ≡ false → last_line (xs ++ 10 ∷ ys) ≡ ys
+pub last_line-after : (xs ys : List ℕ) → list_any is_line_feed ys ≡ false →
+    last_line (xs ++ 10 ∷ ys) ≡ ys
 unfolding last_line
 last_line-after [] ys h = last_line-none ys h
 last_line-after (x ∷ xs) ys h =
@@ -38,7 +41,8 @@ last_line-after (x ∷ xs) ys h =
 
 -- ---- the first line
 
-ends_line-within : (x d : ℕ) (t : List ℕ) → is_line_feed x ≡ false → is_line_feed d ≡ false → ends_line (x ∷ d ∷ t) ≡ false
+ends_line-within : (x d : ℕ) (t : List ℕ) → is_line_feed x ≡ false → is_line_feed d ≡ false →
+    ends_line (x ∷ d ∷ t) ≡ false
 ends_line-within x d t a b = rw a (rw b (and_false (is_carriage_return x)))
 
 pub first_line-none : (t : List ℕ) → list_any is_line_feed t ≡ false → first_line t ≡ t
@@ -50,10 +54,12 @@ first_line-none (x ∷ []) h =
 first_line-none (x ∷ d ∷ t) h =
     let parts = or_parts (is_line_feed x) (list_any is_line_feed (d ∷ t)) h in
     let more = or_parts (is_line_feed d) (list_any is_line_feed t) parts.1 in
-    rw (ends_line-within x d t parts.0 more.0) (ap (λ (l : List ℕ). x ∷ l) (first_line-none (d ∷ t) parts.1))
+    rw (ends_line-within x d t parts.0 more.0)
+    (ap (λ (l : List ℕ). x ∷ l) (first_line-none (d ∷ t) parts.1))
 
 -- up to an LF after anything but a CR
-pub first_line-line_feed : (xs ys : List ℕ) → list_any is_line_feed xs ≡ false → ((front : List ℕ) → xs ≢ front ++ 13 ∷ []) → first_line (xs ++ 10 ∷ ys) ≡ xs
+pub first_line-line_feed : (xs ys : List ℕ) → list_any is_line_feed xs ≡ false →
+    ((front : List ℕ) → xs ≢ front ++ 13 ∷ []) → first_line (xs ++ 10 ∷ ys) ≡ xs
 unfolding first_line
 first_line-line_feed [] ys h lacks = refl
 first_line-line_feed (x ∷ []) ys h lacks =
@@ -64,10 +70,12 @@ first_line-line_feed (x ∷ d ∷ xs) ys h lacks =
     let parts = or_parts (is_line_feed x) (list_any is_line_feed (d ∷ xs)) h in
     let more = or_parts (is_line_feed d) (list_any is_line_feed xs) parts.1 in
     rw (ends_line-within x d (xs ++ 10 ∷ ys) parts.0 more.0)
-    (ap (λ (l : List ℕ). x ∷ l) (first_line-line_feed (d ∷ xs) ys parts.1 (λ front e. lacks (x ∷ front) (ap (λ (l : List ℕ). x ∷ l) e))))
+    (ap (λ (l : List ℕ). x ∷ l) (first_line-line_feed (d ∷ xs) ys parts.1
+    (λ front e. lacks (x ∷ front) (ap (λ (l : List ℕ). x ∷ l) e))))
 
 -- up to a CR and an LF
-pub first_line-carriage_return : (xs ys : List ℕ) → list_any is_line_feed xs ≡ false → first_line (xs ++ 13 ∷ 10 ∷ ys) ≡ xs
+pub first_line-carriage_return : (xs ys : List ℕ) → list_any is_line_feed xs ≡ false →
+    first_line (xs ++ 13 ∷ 10 ∷ ys) ≡ xs
 unfolding first_line
 first_line-carriage_return [] ys h = refl
 first_line-carriage_return (x ∷ []) ys h =

@@ -21,7 +21,8 @@ pub printable_is_shown : (c : ℕ) → (c ≡ 9 → ⊥) → is_printable c ≡ 
 unfolding shown_char
 printable_is_shown c other printable = rw (ne_eqb c 9 other) (rw printable refl)
 
-pub escape_is_shown : (c : ℕ) → (c ≡ 9 → ⊥) → is_printable c ≡ false → shown_char c ≡ escape_unicode c
+pub escape_is_shown : (c : ℕ) → (c ≡ 9 → ⊥) → is_printable c ≡ false →
+    shown_char c ≡ escape_unicode c
 unfolding shown_char
 escape_is_shown c other hidden = rw (ne_eqb c 9 other) (rw hidden refl)
 
@@ -34,9 +35,11 @@ tab_columns = refl
 pub tab_width : (c : ℕ) → c ≡ 9 → 4 ≡ columns (shown_char c)
 tab_width c same = sym (ap columns (tab_is_shown c same) ∙ tab_columns)
 
-pub printable_width : (c : ℕ) → (c ≡ 9 → ⊥) → is_printable c ≡ true → char_columns c ≡ columns (shown_char c)
+pub printable_width : (c : ℕ) → (c ≡ 9 → ⊥) → is_printable c ≡ true →
+    char_columns c ≡ columns (shown_char c)
 printable_width c other printable =
-    sym (ap columns (printable_is_shown c other printable) ∙ (sum_by-cons char_columns c [] ∙ add-zero (char_columns c)))
+    sym (ap columns (printable_is_shown c other printable)
+    ∙ (sum_by-cons char_columns c [] ∙ add-zero (char_columns c)))
 
 -- printable ASCII has one column
 abbrev pub IsPlain : ℕ → Type 0
@@ -144,18 +147,26 @@ plain_braced ds h = (slash, (letter, (open_brace, plain_append ds (125 ∷ []) h
 pub plain_escape : (c : ℕ) → ArePlain (escape_unicode c)
 plain_escape c =
     plain_cond (nat_lt c 0x10) (braced (digits1 c)) (from2 c) (plain_braced (digits1 c) (plain1 c))
-    (plain_cond (nat_lt c 0x100) (braced (digits2 c)) (from3 c) (plain_braced (digits2 c) (plain2 c))
-    (plain_cond (nat_lt c 0x1000) (braced (digits3 c)) (from4 c) (plain_braced (digits3 c) (plain3 c))
-    (plain_cond (nat_lt c 0x1_0000) (braced (digits4 c)) (from5 c) (plain_braced (digits4 c) (plain4 c))
-    (plain_cond (nat_lt c 0x10_0000) (braced (digits5 c)) (braced (digits6 c)) (plain_braced (digits5 c) (plain5 c))
+    (plain_cond (nat_lt c 0x100) (braced (digits2 c)) (from3 c)
+    (plain_braced (digits2 c) (plain2 c))
+    (plain_cond (nat_lt c 0x1000) (braced (digits3 c)) (from4 c)
+    (plain_braced (digits3 c) (plain3 c))
+    (plain_cond (nat_lt c 0x1_0000) (braced (digits4 c)) (from5 c)
+    (plain_braced (digits4 c) (plain4 c))
+    (plain_cond (nat_lt c 0x10_0000) (braced (digits5 c)) (braced (digits6 c))
+    (plain_braced (digits5 c) (plain5 c))
     (plain_braced (digits6 c) (plain6 c))))))
 
-pub escape_width : (c : ℕ) → (c ≡ 9 → ⊥) → is_printable c ≡ false → length (escape_unicode c) ≡ columns (shown_char c)
+pub escape_width : (c : ℕ) → (c ≡ 9 → ⊥) → is_printable c ≡ false →
+    length (escape_unicode c) ≡ columns (shown_char c)
 escape_width c other hidden =
-    sym (ap columns (escape_is_shown c other hidden) ∙ plain_columns (escape_unicode c) (plain_escape c))
+    sym (ap columns (escape_is_shown c other hidden)
+    ∙ plain_columns (escape_unicode c) (plain_escape c))
 
 -- how many characters an escape has
-pub escape_count : (s : _) (count : ℕ) → (xs : List ℕ) × Drains escape_steps s xs × (count ≡ length xs) → count ≡ length (escape_rest s)
+pub escape_count : (s : _) (count : ℕ) → (xs : List ℕ) × Drains escape_steps s xs ×
+    (count ≡ length xs) → count ≡ length (escape_rest s)
 escape_count s count ran =
     count_from_yields_List s count ran
-    (YieldsList-from_shown escape_steps (λ c. c) escape_rest (λ s t h. rw h.1.0 refl) (λ s c t h. h.1.0) s)
+    (YieldsList-from_shown escape_steps (λ c. c) escape_rest (λ s t h. rw h.1.0 refl)
+    (λ s c t h. h.1.0) s)

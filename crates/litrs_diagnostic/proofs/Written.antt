@@ -30,23 +30,29 @@ thin (c ∷ cs) h =
 no_zero : (a : ℕ) → a ≡ 0 → (eqb a 0 && true) ≡ false → ⊥
 no_zero a e h = let zero : (eqb 0 0 && true) ≡ false = rw e at h in cc
 
-wide_either : (a b : ℕ) (rest : Bool) (all : ℕ) → all ≡ a + b → (rest ≡ false → 0 < b) → (eqb a 0 && rest) ≡ false → 0 < all
+wide_either : (a b : ℕ) (rest : Bool) (all : ℕ) → all ≡ a + b → (rest ≡ false → 0 < b) →
+    (eqb a 0 && rest) ≡ false → 0 < all
 wide_either a b false all sum more h = omega (arith, more refl)
-wide_either a b true all sum more h = let some : a ≡ 0 → ⊥ = λ e. no_zero a e h in omega (arith, some)
+wide_either a b true all sum more h = let some : a ≡ 0 → ⊥ = λ e. no_zero a e h in
+    omega (arith, some)
 
 pub wide : (cs : List ℕ) → list_all is_thin cs ≡ false → 0 < columns (shown cs)
 wide [] h = cc
 wide (c ∷ cs) h =
     let sum = sum_by-append char_columns (shown_char c) (shown cs) in
-    wide_either (columns (shown_char c)) (columns (shown cs)) (list_all is_thin cs) (columns (shown (c ∷ cs))) sum (wide cs) h
+    wide_either (columns (shown_char c)) (columns (shown cs)) (list_all is_thin cs)
+    (columns (shown (c ∷ cs))) sum (wide cs) h
 
 pub one_caret : (cs : List ℕ) → list_all is_thin cs ≡ true → replicate 1 caret ≡ carets cs
-one_caret cs h = let none = thin cs h in ap (λ (n : ℕ). replicate n caret) (let one : 1 ≡ max 1 (columns (shown cs)) = omega (arith, none) in one)
+one_caret cs h = let none = thin cs h in ap (λ (n : ℕ). replicate n caret)
+    (let one : 1 ≡ max 1 (columns (shown cs)) = omega (arith, none) in one)
 
-pub many_carets : (cs : List ℕ) → list_all is_thin cs ≡ false → replicate (columns (shown cs)) caret ≡ carets cs
+pub many_carets : (cs : List ℕ) → list_all is_thin cs ≡ false →
+    replicate (columns (shown cs)) caret ≡ carets cs
 many_carets cs h =
     let some = wide cs h in
-    ap (λ (n : ℕ). replicate n caret) (let all : columns (shown cs) ≡ max 1 (columns (shown cs)) = omega (arith, some) in all)
+    ap (λ (n : ℕ). replicate n caret) (let all : columns (shown cs) ≡ max 1 (columns (shown cs)) =
+    omega (arith, some) in all)
 
 -- ---- ASCII
 
@@ -62,9 +68,11 @@ glyph n =
 ascii_digits : (k n : ℕ) (acc : List ℕ) → IsAscii acc → IsAscii (digits_onto k 10 false n acc)
 ascii_digits zero n acc h = h
 ascii_digits (suc k) n acc h =
-    ascii_cond (eqb (n / 10) 0) (digit_glyph false (n % 10) ∷ acc) (digits_onto k 10 false (n / 10) (digit_glyph false (n % 10) ∷ acc))
+    ascii_cond (eqb (n / 10) 0) (digit_glyph false (n % 10) ∷ acc)
+    (digits_onto k 10 false (n / 10) (digit_glyph false (n % 10) ∷ acc))
     (IsAscii-cons (digit_glyph false (n % 10)) acc (glyph n) h)
-    (ascii_digits k (n / 10) (digit_glyph false (n % 10) ∷ acc) (IsAscii-cons (digit_glyph false (n % 10)) acc (glyph n) h))
+    (ascii_digits k (n / 10) (digit_glyph false (n % 10) ∷ acc)
+    (IsAscii-cons (digit_glyph false (n % 10)) acc (glyph n) h))
 
 ascii_decimal : (n : ℕ) → IsAscii (decimal n)
 unfolding digits
@@ -76,38 +84,51 @@ decimal_bytes n = encodes-IsAscii (decimal n) (ascii_decimal n)
 -- ---- pieces in a row
 
 -- the bytes of an ASCII piece, and of more
-ascii_then : (xs ys bs : List ℕ) → list_all (λ c. ltb c 128) xs ≡ true → encode_utf8_all ys ≡ bs → encode_utf8_all (xs ++ ys) ≡ xs ++ bs
+ascii_then : (xs ys bs : List ℕ) → list_all (λ c. ltb c 128) xs ≡ true → encode_utf8_all ys ≡ bs →
+    encode_utf8_all (xs ++ ys) ≡ xs ++ bs
 ascii_then xs ys bs h more =
-    encodes-append xs ys ∙ (ap (λ (l : List ℕ). l ++ encode_utf8_all ys) (encodes-IsAscii xs (ascii_by_test xs h)) ∙ ap (λ (l : List ℕ). xs ++ l) more)
+    encodes-append xs ys ∙ (ap (λ (l : List ℕ). l ++ encode_utf8_all ys)
+    (encodes-IsAscii xs (ascii_by_test xs h)) ∙ ap (λ (l : List ℕ). xs ++ l) more)
 
-decimal_then : (n : ℕ) (ys bs : List ℕ) → encode_utf8_all ys ≡ bs → encode_utf8_all (decimal n ++ ys) ≡ decimal n ++ bs
+decimal_then : (n : ℕ) (ys bs : List ℕ) → encode_utf8_all ys ≡ bs →
+    encode_utf8_all (decimal n ++ ys) ≡ decimal n ++ bs
 decimal_then n ys bs more =
-    encodes-append (decimal n) ys ∙ (ap (λ (l : List ℕ). l ++ encode_utf8_all ys) (decimal_bytes n) ∙ ap (λ (l : List ℕ). decimal n ++ l) more)
+    encodes-append (decimal n) ys ∙ (ap (λ (l : List ℕ). l ++ encode_utf8_all ys)
+    (decimal_bytes n) ∙ ap (λ (l : List ℕ). decimal n ++ l) more)
 
-text_then : (xs ys bs : List ℕ) → encode_utf8_all ys ≡ bs → encode_utf8_all (xs ++ ys) ≡ encode_utf8_all xs ++ bs
+text_then : (xs ys bs : List ℕ) → encode_utf8_all ys ≡ bs →
+    encode_utf8_all (xs ++ ys) ≡ encode_utf8_all xs ++ bs
 text_then xs ys bs more = encodes-append xs ys ∙ ap (λ (l : List ℕ). encode_utf8_all xs ++ l) more
 
 newline : encode_utf8_all (10 ∷ []) ≡ 10 ∷ []
 newline = encodes-IsAscii (10 ∷ []) (ascii_by_test (10 ∷ []) refl)
 
 -- the line, and what is below it, as they are written
-pub line_bytes : (margin number filling : ℕ) (l : Line) → filling ≡ margin - length (decimal number) →
+pub line_bytes : (margin number filling : ℕ) (l : Line) →
+    filling ≡ margin - length (decimal number) →
     (decimal number ++ (encode_utf8_all (blanks filling) ++ (codes " | "
-    ++ (encode_utf8_all (shown l.before) ++ (encode_utf8_all (shown l.marked) ++ (encode_utf8_all (shown l.after) ++ 10 ∷ []))))))
+    ++ (encode_utf8_all (shown l.before) ++ (encode_utf8_all (shown l.marked)
+    ++ (encode_utf8_all (shown l.after) ++ 10 ∷ []))))))
     ++ (encode_utf8_all (blanks margin) ++ (codes " | "
-    ++ (encode_utf8_all (blanks (columns (shown l.before))) ++ (encode_utf8_all (carets l.marked) ++ 10 ∷ []))))
+    ++ (encode_utf8_all (blanks (columns (shown l.before)))
+    ++ (encode_utf8_all (carets l.marked) ++ 10 ∷ []))))
     ≡ encode_utf8_all (line_text margin number l)
 unfolding line_text
 line_bytes margin number filling l same =
     let below : List ℕ = encode_utf8_all (blanks margin) ++ (codes " | "
-    ++ (encode_utf8_all (blanks (columns (shown l.before))) ++ (encode_utf8_all (carets l.marked) ++ 10 ∷ []))) in
+    ++ (encode_utf8_all (blanks (columns (shown l.before)))
+    ++ (encode_utf8_all (carets l.marked) ++ 10 ∷ []))) in
     ap (λ (n : ℕ). (decimal number ++ (encode_utf8_all (blanks n) ++ (codes " | "
-    ++ (encode_utf8_all (shown l.before) ++ (encode_utf8_all (shown l.marked) ++ (encode_utf8_all (shown l.after) ++ 10 ∷ [])))))) ++ below) same
+    ++ (encode_utf8_all (shown l.before) ++ (encode_utf8_all (shown l.marked)
+    ++ (encode_utf8_all (shown l.after) ++ 10 ∷ [])))))) ++ below) same
     ∙ (simp append_assoc refl
-    ∙ sym (decimal_then number _ _ (text_then (blanks (margin - length (decimal number))) _ _ (ascii_then (codes " | ") _ _ refl
-    (text_then (shown l.before) _ _ (text_then (shown l.marked) _ _ (text_then (shown l.after) _ _ (ascii_then (10 ∷ []) _ _ refl
+    ∙ sym (decimal_then number _ _ (text_then (blanks (margin - length (decimal number))) _ _
+    (ascii_then (codes " | ") _ _ refl
+    (text_then (shown l.before) _ _ (text_then (shown l.marked) _ _
+    (text_then (shown l.after) _ _ (ascii_then (10 ∷ []) _ _ refl
     (text_then (blanks margin) _ _ (ascii_then (codes " | ") _ _ refl
-    (text_then (blanks (columns (shown l.before))) _ _ (text_then (carets l.marked) _ _ newline))))))))))))
+    (text_then (blanks (columns (shown l.before))) _ _
+    (text_then (carets l.marked) _ _ newline))))))))))))
 
 -- ---- all of it
 
@@ -115,24 +136,32 @@ line_bytes margin number filling l same =
 abbrev pub heading : (name message : List ℕ) (margin line column : ℕ) (bs : List ℕ) → List ℕ
 heading name message margin line column bs =
     ((codes "error: " ++ (encode_utf8_all (shown message) ++ codes "\n"))
-    ++ (encode_utf8_all (blanks margin) ++ (codes "--> " ++ (encode_utf8_all (shown name) ++ (codes ":"
+    ++ (encode_utf8_all (blanks margin) ++ (codes "--> "
+    ++ (encode_utf8_all (shown name) ++ (codes ":"
     ++ (decimal line ++ (codes ":" ++ (decimal column ++ codes "\n"))))))))
     ++ (encode_utf8_all (blanks margin) ++ (codes " |\n" ++ bs))
 
 heading_more : (name message : List ℕ) (margin line column : ℕ) (a b : List ℕ) →
-    heading name message margin line column a ++ b ≡ heading name message margin line column (a ++ b)
+    heading name message margin line column a ++ b
+    ≡ heading name message margin line column (a ++ b)
 heading_more name message margin line column a b = simp append_assoc refl
 
-heading_then : (name message before range after bs : List ℕ) → encode_utf8_all (lines_text (length (decimal (line_number (before ++ range)))) before range after) ≡ bs →
-    heading name message (length (decimal (line_number (before ++ range)))) (line_number before) (column_number before) bs
+heading_then : (name message before range after bs : List ℕ) →
+    encode_utf8_all (lines_text (length (decimal (line_number (before ++ range)))) before range
+    after) ≡ bs →
+    heading name message (length (decimal (line_number (before ++ range)))) (line_number before)
+    (column_number before) bs
     ≡ encode_utf8_all (message_text name message before range after)
 unfolding message_text
 heading_then name message before range after bs more =
     let margin = length (decimal (line_number (before ++ range))) in
     simp append_assoc refl
-    ∙ sym (ascii_then (codes "error: ") _ _ refl (text_then (shown message) _ _ (ascii_then (10 ∷ []) _ _ refl (text_then (blanks margin) _ _
-    (ascii_then (codes "--> ") _ _ refl (text_then (shown name) _ _ (ascii_then (codes ":") _ _ refl (decimal_then (line_number before) _ _
-    (ascii_then (codes ":") _ _ refl (decimal_then (column_number before) _ _ (ascii_then (10 ∷ []) _ _ refl (text_then (blanks margin) _ _
+    ∙ sym (ascii_then (codes "error: ") _ _ refl
+    (text_then (shown message) _ _ (ascii_then (10 ∷ []) _ _ refl (text_then (blanks margin) _ _
+    (ascii_then (codes "--> ") _ _ refl (text_then (shown name) _ _
+    (ascii_then (codes ":") _ _ refl (decimal_then (line_number before) _ _
+    (ascii_then (codes ":") _ _ refl (decimal_then (column_number before) _ _
+    (ascii_then (10 ∷ []) _ _ refl (text_then (blanks margin) _ _
     (ascii_then (codes " |\n") _ bs refl more)))))))))))))
 
 cond_then : (b : Bool) (ys bs : List ℕ) → encode_utf8_all ys ≡ bs →
@@ -140,44 +169,65 @@ cond_then : (b : Bool) (ys bs : List ℕ) → encode_utf8_all ys ≡ bs →
 cond_then true ys bs more = ascii_then (codes "...\n") ys bs refl more
 cond_then false ys bs more = more
 
-gap_then : (first last : ℕ) (ys bs : List ℕ) → encode_utf8_all ys ≡ bs → encode_utf8_all (gap_text first last ++ ys) ≡ gap_text first last ++ bs
+gap_then : (first last : ℕ) (ys bs : List ℕ) → encode_utf8_all ys ≡ bs →
+    encode_utf8_all (gap_text first last ++ ys) ≡ gap_text first last ++ bs
 gap_then first last ys bs more = cond_then (nat_lt (first + 1) last) ys bs more
 
-one_line : (margin : ℕ) (before range after : List ℕ) → nat_lt (line_number before) (line_number (before ++ range)) ≡ false →
-    encode_utf8_all (lines_text margin before range after) ≡ encode_utf8_all (line_text margin (line_number before) (start_line before range after))
-unfolding lines_text
-one_line margin before range after same = rw same (ap encode_utf8_all (append-nil (line_text margin (line_number before) (start_line before range after))))
-
-two_lines : (margin : ℕ) (before range after : List ℕ) → nat_lt (line_number before) (line_number (before ++ range)) ≡ true →
+one_line : (margin : ℕ) (before range after : List ℕ) →
+    nat_lt (line_number before) (line_number (before ++ range)) ≡ false →
     encode_utf8_all (lines_text margin before range after)
     ≡ encode_utf8_all (line_text margin (line_number before) (start_line before range after))
-    ++ (gap_text (line_number before) (line_number (before ++ range)) ++ encode_utf8_all (line_text margin (line_number (before ++ range)) (end_line range after)))
+unfolding lines_text
+one_line margin before range after same = rw same
+    (ap encode_utf8_all (append-nil (line_text margin (line_number before)
+    (start_line before range after))))
+
+two_lines : (margin : ℕ) (before range after : List ℕ) →
+    nat_lt (line_number before) (line_number (before ++ range)) ≡ true →
+    encode_utf8_all (lines_text margin before range after)
+    ≡ encode_utf8_all (line_text margin (line_number before) (start_line before range after))
+    ++ (gap_text (line_number before) (line_number (before ++ range))
+    ++ encode_utf8_all (line_text margin (line_number (before ++ range)) (end_line range after)))
 unfolding lines_text
 two_lines margin before range after less =
     rw less (text_then (line_text margin (line_number before) (start_line before range after)) _ _
     (gap_then (line_number before) (line_number (before ++ range)) _ _ refl))
 
-pub last_number : (before range : List ℕ) → line_number (before ++ range) ≡ line_number before + count_by is_line_feed range
+pub last_number : (before range : List ℕ) → line_number (before ++ range)
+    ≡ line_number before + count_by is_line_feed range
 last_number before range =
     let sum = sum_by-append (λ c. cond (is_line_feed c) 1 0) before range in omega (arith, sum)
 
-pub one_line_bytes : (name message before range after : List ℕ) (margin line column : ℕ) (l : Line) →
-    margin ≡ length (decimal (line_number (before ++ range))) → line ≡ line_number before → column ≡ column_number before →
+pub one_line_bytes : (name message before range after : List ℕ) (margin line column : ℕ)
+    (l : Line) →
+    margin ≡ length (decimal (line_number (before ++ range))) → line ≡ line_number before →
+    column ≡ column_number before →
     l ≡ start_line before range after → line_number (before ++ range) ≤ line_number before →
-    heading name message margin line column (encode_utf8_all (line_text margin line l)) ≡ encode_utf8_all (message_text name message before range after)
-one_line_bytes name message before range after margin line column l is_margin is_line is_column is_l same =
+    heading name message margin line column (encode_utf8_all (line_text margin line l))
+    ≡ encode_utf8_all (message_text name message before range after)
+one_line_bytes name message before range after margin line column l is_margin is_line is_column
+    is_l same =
     rw (is_margin, is_line, is_column, is_l)
     (heading_then name message before range after _
-    (one_line (length (decimal (line_number (before ++ range)))) before range after (le-ltb (line_number before) (line_number (before ++ range)) same)))
+    (one_line (length (decimal (line_number (before ++ range)))) before range after
+    (le-ltb (line_number before) (line_number (before ++ range)) same)))
 
-pub two_lines_bytes : (name message before range after : List ℕ) (margin line column last : ℕ) (gap : List ℕ) (l m : Line) →
-    margin ≡ length (decimal (line_number (before ++ range))) → line ≡ line_number before → column ≡ column_number before →
-    last ≡ line_number (before ++ range) → gap ≡ gap_text (line_number before) (line_number (before ++ range)) →
-    l ≡ start_line before range after → m ≡ end_line range after → line_number before < line_number (before ++ range) →
-    heading name message margin line column (encode_utf8_all (line_text margin line l)) ++ (gap ++ encode_utf8_all (line_text margin last m))
+pub two_lines_bytes : (name message before range after : List ℕ) (margin line column last : ℕ)
+    (gap : List ℕ) (l m : Line) →
+    margin ≡ length (decimal (line_number (before ++ range))) → line ≡ line_number before →
+    column ≡ column_number before →
+    last ≡ line_number (before ++ range) → gap
+    ≡ gap_text (line_number before) (line_number (before ++ range)) →
+    l ≡ start_line before range after → m ≡ end_line range after →
+    line_number before < line_number (before ++ range) →
+    heading name message margin line column (encode_utf8_all (line_text margin line l))
+    ++ (gap ++ encode_utf8_all (line_text margin last m))
     ≡ encode_utf8_all (message_text name message before range after)
-two_lines_bytes name message before range after margin line column last gap l m is_margin is_line is_column is_last is_gap is_l is_m less =
+two_lines_bytes name message before range after margin line column last gap l m is_margin is_line
+    is_column is_last is_gap is_l is_m less =
     rw (is_margin, is_line, is_column, is_last, is_gap, is_l, is_m)
-    (heading_more name message (length (decimal (line_number (before ++ range)))) (line_number before) (column_number before) _ _
+    (heading_more name message (length (decimal (line_number (before ++ range))))
+    (line_number before) (column_number before) _ _
     ∙ heading_then name message before range after _
-    (two_lines (length (decimal (line_number (before ++ range)))) before range after (lt-ltb (line_number before) (line_number (before ++ range)) less)))
+    (two_lines (length (decimal (line_number (before ++ range)))) before range after
+    (lt-ltb (line_number before) (line_number (before ++ range)) less)))

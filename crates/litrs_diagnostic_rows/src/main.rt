@@ -1,12 +1,14 @@
 //! Shows diagnostics on texts that are hard to show: each line of the input is a range, in bytes,
 //! and a text, as a string literal.
 //!
-//! The lines are those of rustc, but for these differences:
+//! Of the first seven rows the lines are those that rustc 1.95 writes, but for its message and the
+//! name of its input. It differs in other rows:
 //!
 //! - A range over several lines is marked on its first and its last line, each with carets of its
 //!   own; rustc draws a bar from one to the other.
 //! - A character that is not printable is written as `\u{..}`; rustc writes a picture of a control
 //!   character, U+FFFD in place of a bidi control, and a zero-width joiner not at all.
+//! - An LF at the end of the text begins a line of its own; rustc counts it to the line before.
 //! - A blank follows the `|` before an empty line.
 #![tactic(auto)]
 

@@ -9,7 +9,8 @@ returns-then-c-eq9 c = tab_width c.args.c c.if-c-eq9.true
 pub returns-then-is_printable : goal.returns-then-is_printable
 returns-then-is_printable c =
     c.unwrap_or.ensures ∙ (ap (λ (o : Option ℕ). unwrap_or o 0) c.width.ensures.value
-    ∙ printable_width c.args.c c.if-c-eq9.false (sym c.is_printable.ensures ∙ c.if-is_printable.true))
+    ∙ printable_width c.args.c c.if-c-eq9.false (sym c.is_printable.ensures
+    ∙ c.if-is_printable.true))
 
 pub returns : goal.returns
 returns c =

@@ -13,10 +13,13 @@ loop-c-preserved g c = λ plain.
     let so_far = c.loop-c.invariant plain in
     let width = c.shown_width.ensures in
     let one = rw width at (c.write_times.ensures so_far.plain (search rules)) in
-    has_written_of_eq _ _ _ _ _ (below_more c.loop-c.yielded c.in-Some.c c.args.mark) (has_written_append _ _ _ _ _ _ so_far one)
+    has_written_of_eq _ _ _ _ _ (below_more c.loop-c.yielded c.in-Some.c c.args.mark)
+    (has_written_append _ _ _ _ _ _ so_far one)
 
 pub returns : goal.returns
 returns g c = λ plain ok.
-    let end = YieldsList-end (YieldsList-from_chars c.args.text.now c.utf8.text cc) c.loop-c.yielded _ c.loop-c.yielded_by _ _ c.in-None.is c.next.ensures.steps in
+    let end = YieldsList-end (YieldsList-from_chars c.args.text.now c.utf8.text cc)
+    c.loop-c.yielded _ c.loop-c.yielded_by _ _ c.in-None.is c.next.ensures.steps in
     let all : c.loop-c.yielded ≡ chars c.args.text.now = sym (map-id c.loop-c.yielded) ∙ end.0 in
-    has_written_of_eq _ _ _ _ _ (ap (λ (cs : List ℕ). encode_utf8_all (replicate (columns (shown cs)) c.args.mark)) all) (c.loop-c.invariant plain)
+    has_written_of_eq _ _ _ _ _ (ap (λ (cs : List ℕ). encode_utf8_all
+    (replicate (columns (shown cs)) c.args.mark)) all) (c.loop-c.invariant plain)

@@ -8,4 +8,5 @@ use Rattle.litrs_diagnostic.proofs.marks.write_below.Given as goal
 abbrev pub invariant-loop-c : goal.invariant-loop-c
 invariant-loop-c g l =
     IsPlainFormatter l.initial.f →
-    HasWritten g.W.Write.write_str_gives l.initial.f (encode_utf8_all (replicate (columns (shown l.yielded)) l.mark)) l.f
+    HasWritten g.W.Write.write_str_gives l.initial.f
+    (encode_utf8_all (replicate (columns (shown l.yielded)) l.mark)) l.f

@@ -11,11 +11,16 @@ use Rattle.litrs_diagnostic.proofs.marks.write_carets.Goals as goal
 pub returns-then-all : goal.returns-then-all
 returns-then-all g c = λ plain ok.
     let thin : c.all.result ≡ list_all is_thin (chars c.args.text.now) =
-    all_from_yields_List is_thin _ _ c.all.result c.all.ensures.ran (YieldsList-from_chars c.args.text.now c.utf8.text cc) (λ x b q k. search (rules, tests)) in
-    has_written_of_eq _ _ _ _ _ (ap encode_utf8_all (one_caret (chars c.args.text.now) (sym thin ∙ c.if-all.true))) (c.write_times.ensures plain ok)
+    all_from_yields_List is_thin _ _ c.all.result c.all.ensures.ran
+    (YieldsList-from_chars c.args.text.now c.utf8.text cc) (λ x b q k. search (rules, tests)) in
+    has_written_of_eq _ _ _ _ _ (ap encode_utf8_all
+    (one_caret (chars c.args.text.now) (sym thin ∙ c.if-all.true))) (c.write_times.ensures plain ok)
 
 pub returns-else-all : goal.returns-else-all
 returns-else-all g c = λ plain ok.
     let thin : c.all.result ≡ list_all is_thin (chars c.args.text.now) =
-    all_from_yields_List is_thin _ _ c.all.result c.all.ensures.ran (YieldsList-from_chars c.args.text.now c.utf8.text cc) (λ x b q k. search (rules, tests)) in
-    has_written_of_eq _ _ _ _ _ (ap encode_utf8_all (many_carets (chars c.args.text.now) (sym thin ∙ c.if-all.false))) (c.write_below.ensures plain ok)
+    all_from_yields_List is_thin _ _ c.all.result c.all.ensures.ran
+    (YieldsList-from_chars c.args.text.now c.utf8.text cc) (λ x b q k. search (rules, tests)) in
+    has_written_of_eq _ _ _ _ _ (ap encode_utf8_all
+    (many_carets (chars c.args.text.now) (sym thin ∙ c.if-all.false)))
+    (c.write_below.ensures plain ok)

@@ -16,6 +16,8 @@ loop-c-preserved g c = λ plain.
 
 pub returns : goal.returns
 returns g c = λ plain ok.
-    let end = YieldsList-end (YieldsList-from_chars c.args.text.now c.utf8.text cc) c.loop-c.yielded _ c.loop-c.yielded_by _ _ c.in-None.is c.next.ensures.steps in
+    let end = YieldsList-end (YieldsList-from_chars c.args.text.now c.utf8.text cc)
+    c.loop-c.yielded _ c.loop-c.yielded_by _ _ c.in-None.is c.next.ensures.steps in
     let all : c.loop-c.yielded ≡ chars c.args.text.now = sym (map-id c.loop-c.yielded) ∙ end.0 in
-    has_written_of_eq _ _ _ _ _ (ap (λ (cs : List ℕ). encode_utf8_all (shown cs)) all) (c.loop-c.invariant plain)
+    has_written_of_eq _ _ _ _ _ (ap (λ (cs : List ℕ). encode_utf8_all (shown cs)) all)
+    (c.loop-c.invariant plain)

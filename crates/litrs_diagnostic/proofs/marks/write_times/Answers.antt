@@ -9,5 +9,6 @@ use Rattle.litrs_diagnostic.proofs.marks.write_times.Goals as goal
 pub loop-preserved : goal.loop-preserved
 loop-preserved g c = λ plain.
     has_written_of_eq _ _ _ _ _
-    (encodes_more (replicate c.loop.counter c.args.c) c.args.c ∙ ap encode_utf8_all (replicate_more c.loop.counter c.args.c))
+    (encodes_more (replicate c.loop.counter c.args.c) c.args.c
+    ∙ ap encode_utf8_all (replicate_more c.loop.counter c.args.c))
     (has_written_append _ _ _ _ _ _ (c.loop.invariant plain) (search rules))

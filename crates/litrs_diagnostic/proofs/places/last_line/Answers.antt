@@ -10,10 +10,12 @@ returns-in-Some-clause-line c =
 
 pub returns-in-Some-clause-end : goal.returns-in-Some-clause-end
 returns-in-Some-clause-end c =
-    let cut = c.in-Some.ensures.cases in last_line_ends c.args.text.now c.in-Some.line.now cut.1 cut.4
+    let cut = c.in-Some.ensures.cases in last_line_ends c.args.text.now c.in-Some.line.now cut.1
+    cut.4
 
 pub returns-in-None-clause-line : goal.returns-in-None-clause-line
-returns-in-None-clause-line c = last_line_missing c.args.text.now c.utf8.text c.in-None.ensures.cases
+returns-in-None-clause-line c = last_line_missing c.args.text.now c.utf8.text
+    c.in-None.ensures.cases
 
 pub returns-in-None-clause-end : goal.returns-in-None-clause-end
 returns-in-None-clause-end c = ([], refl)

@@ -16,17 +16,21 @@ returns-else-line-last-clause-writes g c = λ plain ok.
     let d = c.args.self.now in
     let before = chars (take d.start d.source.now) in
     let range = chars (slice_range d.source.now d.start d.end) in
-    let feeds : c.line_feeds.result ≡ count_by is_line_feed range = c.line_feeds.ensures.value ∙ ap (λ (l : List ℕ). count_by is_line_feed (chars l)) c.range.ensures.value in
+    let feeds : c.line_feeds.result ≡ count_by is_line_feed range = c.line_feeds.ensures.value
+    ∙ ap (λ (l : List ℕ). count_by is_line_feed (chars l)) c.range.ensures.value in
     let line : c.position-line.result.line ≡ line_number before = c.position-line.ensures.line in
     let last = last_number before range in
-    let is_last : c.position-line.result.line + c.line_feeds.result ≡ line_number (before ++ range) = omega (arith, feeds, line, last) in
+    let is_last : c.position-line.result.line + c.line_feeds.result
+    ≡ line_number (before ++ range) = omega (arith, feeds, line, last) in
     let margin = c.digit_count-digits.ensures ∙ ap (λ (n : ℕ). length (decimal n)) is_last in
     let one = c.write.ensures.writes plain (search rules) in
     let two = c.write-2.ensures.writes one.plain (search rules) in
     let three = c.write-3.ensures.writes two.plain (search rules) in
     has_written_of_eq _ _ _ _ _
-    (one_line_bytes (chars d.name.now) (chars d.message.now) before range (chars (drop d.end d.source.now))
-    c.digit_count-digits.result c.position-line.result.line c.position-line.result.column (line_of c.start_line.result)
+    (one_line_bytes (chars d.name.now) (chars d.message.now) before range
+    (chars (drop d.end d.source.now))
+    c.digit_count-digits.result c.position-line.result.line c.position-line.result.column
+    (line_of c.start_line.result)
     margin line c.position-line.ensures.column c.start_line.ensures (omega (arith, is_last, line)))
     (has_written_append _ _ _ _ _ _ (has_written_append _ _ _ _ _ _ one two) three)
 
@@ -36,19 +40,27 @@ returns-in_ok-write-4-clause-writes g c = λ plain ok.
     let d = c.args.self.now in
     let before = chars (take d.start d.source.now) in
     let range = chars (slice_range d.source.now d.start d.end) in
-    let feeds : c.line_feeds.result ≡ count_by is_line_feed range = c.line_feeds.ensures.value ∙ ap (λ (l : List ℕ). count_by is_line_feed (chars l)) c.range.ensures.value in
+    let feeds : c.line_feeds.result ≡ count_by is_line_feed range = c.line_feeds.ensures.value
+    ∙ ap (λ (l : List ℕ). count_by is_line_feed (chars l)) c.range.ensures.value in
     let line : c.position-line.result.line ≡ line_number before = c.position-line.ensures.line in
     let last = last_number before range in
-    let is_last : c.position-line.result.line + c.line_feeds.result ≡ line_number (before ++ range) = omega (arith, feeds, line, last) in
+    let is_last : c.position-line.result.line + c.line_feeds.result
+    ≡ line_number (before ++ range) = omega (arith, feeds, line, last) in
     let margin = c.digit_count-digits.ensures ∙ ap (λ (n : ℕ). length (decimal n)) is_last in
-    let gap = c.gap-gap.ensures ∙ ap (λ (n : ℕ). gap_text n (c.position-line.result.line + c.line_feeds.result)) line ∙ ap (λ (n : ℕ). gap_text (line_number before) n) is_last in
+    let gap = c.gap-gap.ensures ∙ ap (λ (n : ℕ). gap_text n
+    (c.position-line.result.line + c.line_feeds.result)) line
+    ∙ ap (λ (n : ℕ). gap_text (line_number before) n) is_last in
     let one = c.write.ensures.writes plain (search rules) in
     let two = c.write-2.ensures.writes one.plain (search rules) in
     let three = c.write-3.ensures.writes two.plain (search rules) in
     let four = c.write-then-line-last.ensures.writes three.plain (search rules) in
     has_written_of_eq _ _ _ _ _
-    (two_lines_bytes (chars d.name.now) (chars d.message.now) before range (chars (drop d.end d.source.now))
-    c.digit_count-digits.result c.position-line.result.line c.position-line.result.column (c.position-line.result.line + c.line_feeds.result)
+    (two_lines_bytes (chars d.name.now) (chars d.message.now) before range
+    (chars (drop d.end d.source.now))
+    c.digit_count-digits.result c.position-line.result.line c.position-line.result.column
+    (c.position-line.result.line + c.line_feeds.result)
     c.gap-gap.result.now (line_of c.start_line.result) (line_of c.end_line.result)
-    margin line c.position-line.ensures.column is_last gap c.start_line.ensures c.end_line.ensures (omega (arith, is_last, line)))
-    (has_written_append _ _ _ _ _ _ (has_written_append _ _ _ _ _ _ (has_written_append _ _ _ _ _ _ one two) three) four)
+    margin line c.position-line.ensures.column is_last gap c.start_line.ensures c.end_line.ensures
+    (omega (arith, is_last, line)))
+    (has_written_append _ _ _ _ _ _ (has_written_append _ _ _ _ _ _
+    (has_written_append _ _ _ _ _ _ one two) three) four)

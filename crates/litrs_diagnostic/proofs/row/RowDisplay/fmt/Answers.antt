@@ -11,5 +11,6 @@ returns-clause-writes g c = λ plain ok.
     let one = c.write.ensures.writes plain (search rules) in
     let two = c.write-2.ensures.writes one.plain ok in
     let filling = c.saturating_sub.ensures ∙ ap (λ (n : ℕ). row.margin - n) c.digit_count.ensures in
-    has_written_of_eq _ _ _ _ _ (line_bytes row.margin row.number c.saturating_sub.result (line_of row.line) filling)
+    has_written_of_eq _ _ _ _ _ (line_bytes row.margin row.number c.saturating_sub.result
+    (line_of row.line) filling)
     (has_written_append _ _ _ _ _ _ one two)
