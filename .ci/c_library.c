@@ -8,7 +8,8 @@
  * in their order, its status with every allocation refused, and how often it asked for memory. It
  * ends with status 2 where a call wrote outside of its room or kept memory, where a form that ends
  * in _into answers otherwise than by value or writes what the status does not speak of, where NULL
- * is not the empty text, and where the names of kinds are others.
+ * is not the empty text, where the names of kinds are others, and where what is written of a value
+ * is not its literal.
  *
  * It is linked with --wrap for malloc, realloc and free. */
 #include "litrs.h"
@@ -18,6 +19,8 @@
 #include <string.h>
 
 typedef litrs_written writes(const uint8_t *, size_t, uint8_t *, size_t);
+typedef litrs_written writes_value(const uint8_t *, size_t, const uint8_t *, size_t, uint8_t *,
+                                   size_t);
 typedef size_t parses_into(const uint8_t *, size_t, litrs_answer *);
 
 void *__real_malloc(size_t size);
@@ -218,6 +221,54 @@ static void hold_null(void) {
     hold(value.status == LITRS_LITERAL && value.len == 1, "no length for a room of NULL");
 }
 
+/* What is written of a value parses as the same value, with the same suffix. */
+static void hold_bytes(writes_value *call, const uint8_t *value, size_t len, int kind) {
+    static const uint8_t suffix[] = {'u', '8'};
+    static uint8_t text[1 << 12], room[1 << 12];
+    litrs_written written = call(value, len, suffix, 2, text, sizeof text), back;
+    litrs_answer answer;
+    hold(written.status == LITRS_LITERAL && written.len <= sizeof text, "no literal is written");
+    answer = litrs_parse(text, written.len);
+    hold(answer.status == LITRS_LITERAL && answer.literal.kind == (uint32_t)kind, "another kind");
+    hold(answer.literal.suffix.start + 2 == written.len, "another suffix");
+    back = litrs_value(text, written.len, room, sizeof room);
+    hold(back.len == len && memcmp(room, value, len) == 0, "another value");
+    hold(call(value, len, suffix, 2, NULL, 0).len == written.len, "another length");
+    hold(call(value, len, suffix + 1, 1, text, 1).status == LITRS_REFUSED, "a suffix of a digit");
+    refuses = true;
+    written = call(value, len, NULL, 0, text, 1);
+    hold(written.status == LITRS_OUT_OF_MEMORY, "no memory is asked for");
+    refuses = false;
+}
+
+static void hold_integer(uint64_t low, uint64_t high, const char *wanted) {
+    uint8_t text[48];
+    litrs_written written = litrs_write_integer(low, high, NULL, 0, text, sizeof text);
+    hold(written.status == LITRS_LITERAL && written.len == strlen(wanted), "no integer is written");
+    hold(memcmp(text, wanted, written.len) == 0, "another integer");
+    hold(litrs_write_integer(low, high, (const uint8_t *)"e", 1, text, 1).status == LITRS_REFUSED,
+         "an integer with an exponent");
+}
+
+/* The literals of values: each byte, and texts of characters of each length. */
+static void hold_literals(void) {
+    static const char text[] = "a\"\\\n\r\t\0'\x7f\xc2\xad\xc3\xa9\xe2\x80\x8b\xf0\x9f\xa6\x8a";
+    uint8_t bytes[256];
+    size_t i, before = held;
+    for (i = 0; i < 256; i++)
+        bytes[i] = (uint8_t)i;
+    hold_bytes(litrs_write_bytes, bytes, 256, LITRS_BYTE_STRING);
+    hold_bytes(litrs_write_bytes, bytes, 0, LITRS_BYTE_STRING);
+    hold_bytes(litrs_write_string, bytes, 128, LITRS_STRING);
+    hold_bytes(litrs_write_string, (const uint8_t *)text, sizeof text - 1, LITRS_STRING);
+    hold(litrs_write_string(bytes + 128, 1, NULL, 0, NULL, 0).status == LITRS_NOT_UTF8, "no UTF-8");
+    hold_integer(0, 0, "0");
+    hold_integer(255, 0, "255");
+    hold_integer(0, 1, "18446744073709551616");
+    hold_integer(UINT64_MAX, UINT64_MAX, "340282366920938463463374607431768211455");
+    hold(held == before, "memory is kept");
+}
+
 /* The names of kinds, and the version. */
 static void hold_names(void) {
     hold(strcmp(litrs_version(), LITRS_VERSION) == 0, "another version");
@@ -238,6 +289,7 @@ int main(void) {
     int high;
     hold_null();
     hold_names();
+    hold_literals();
     while ((high = getchar()) != EOF) {
         if (high == '\n') {
             print_text(text, len, room);

@@ -423,6 +423,7 @@ def try_valgrind(program, rows):
     lines = [f"{it.text.hex()}\n" for it in rows if len(it.text) < PREFIXED]
     words = ["valgrind", "-q", "--error-exitcode=9", "--leak-check=full", program]
     ran = subprocess.run(words, input="".join(lines), capture_output=True, text=True, check=False)
+    print(f"c library: {len(lines)} texts under valgrind")
     return len(lines), [f"valgrind: {ran.stderr[-600:]}"] if ran.returncode else []
 
 

@@ -3,12 +3,13 @@ use Rattle.std.proofs.Common.{◌≡◌, ℕ, zero, suc, ◌+◌, ◌≤◌, ◌
 use Rattle.std.proofs.lemmas.Bool.{cond_both, eqb-true, eqb-false, ne_eqb, ltb-true, ltb-false, lt-ltb, le-ltb, leb-true, leb-false, le-leb, lt-leb, or_left, or_right}
 use Rattle.litrs_base.specs.Text.{begins_with}
 use Rattle.litrs_grammar.specs.Raw.{is_quote, is_hash, hashes, raw_closing, occurs, hash_len}
+use Rattle.litrs_build.specs.Laws.{RawLiteralsNeedHashes}
 use Rattle.litrs_build.specs.Raw.{greater, hashes_needed, run_after}
 use Rattle.litrs_build.proofs.Spellings.{or_true}
 
 -- Tests
 
-same_tests : (x y : Bool) → (x ≡ true → y ≡ true) → (y ≡ true → x ≡ true) → x ≡ y
+pub same_tests : (x y : Bool) → (x ≡ true → y ≡ true) → (y ≡ true → x ≡ true) → x ≡ y
 same_tests true y f g = sym (f refl)
 same_tests false true f g = g refl
 same_tests false false f g = refl
@@ -89,6 +90,11 @@ occurs_needed n (c ∷ t) =
     ∙ (ap (λ b. ltb n (1 + hash_len t) || b) (occurs_needed n t) ∙ sym (ltb_greater n (1 + hash_len t) rest)))
     (λ other same. ap (λ b. (b && begins_with (hashes n) t) || occurs (raw_closing n) t) same
     ∙ (occurs_needed n t ∙ (ap (ltb n) (sym (greater-zero rest)) ∙ ap (λ b. ltb n (greater (cond b (1 + hash_len t) 0) rest)) (sym other))))
+
+-- a raw literal has at least as many
+pub raw_literals_need_hashes : RawLiteralsNeedHashes
+raw_literals_need_hashes unicode allow_nul d raw =
+    ltb-false d.hash_count (hashes_needed d.body) (sym (occurs_needed d.hash_count d.body) ∙ raw.body.unclosed)
 
 -- Runs, one character at a time
 

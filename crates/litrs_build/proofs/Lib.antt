@@ -14,6 +14,10 @@ pub mod IntegerLemmas
 pub mod FloatLemmas
 -- and printable
 pub mod PrintableTexts
+-- C strings
+pub mod NulPlaces
+pub mod CTexts
 -- raw bodies, and the texts of raw literals
 pub mod Hashes
 pub mod RawTexts
+pub mod RawBytes

@@ -1,5 +1,5 @@
 -- What is written between quotes is printable.
-use Rattle.std.proofs.Common.{◌≡◌, ℕ, suc, ◌/◌, ◌%◌, ◌<◌, Bool, true, false, ◌&&◌, List, [], ◌∷◌, ◌++◌, refl, sym, ap, subst, ◌∙◌, arith}
+use Rattle.std.proofs.Common.{◌≡◌, ℕ, zero, suc, ◌-◌, ◌/◌, ◌%◌, ◌<◌, Bool, true, false, ◌&&◌, List, [], ◌∷◌, ◌++◌, refl, sym, ap, subst, ◌∙◌, arith}
 use Rattle.std.specs.List.{list_all}
 use Rattle.std.specs.Fmt.{digits}
 use Rattle.std.proofs.lemmas.Bool.{and_from, and_parts, cond_both, ltb-true}
@@ -11,7 +11,9 @@ use Rattle.litrs_grammar.specs.CharByte.{char_item_text}
 use Rattle.litrs_grammar.specs.Quoted.{item_text, body_text}
 use Rattle.litrs_build.specs.declared.spelling.Spelling.{Spelling}
 use Rattle.litrs_build.specs.declared.spelling.Spelling.TheVariants.{Plain, Simple, Hex, Unicode}
-use Rattle.litrs_build.specs.Laws.{CharsArePrintable, BytesArePrintable, StringsArePrintable, ByteStringsArePrintable}
+use Rattle.litrs_build.specs.Laws.{CharsArePrintable, BytesArePrintable, StringsArePrintable, ByteStringsArePrintable, CStringsArePrintable}
+use Rattle.std.specs.Prelude.{Option, Some, None}
+use Rattle.litrs_build.specs.CStrings.{first_char, spelling_or_byte, len_or_byte, c_items}
 use Rattle.litrs_build.specs.Printable.{is_printable}
 use Rattle.litrs_build.specs.Spelling.{char_spelling, byte_spelling, is_shown, is_combining, is_escaped, hex_digit, spelled_item, spelled_char}
 use Rattle.litrs_build.specs.Written.{char_items, byte_items}
@@ -129,3 +131,17 @@ byte_strings_are_printable [] small = refl
 byte_strings_are_printable (b ∷ bs) small =
     all_append is_printable (item_text (spelled_item (byte_spelling 34 b))) (body_text (byte_items bs)) (byte_shows 34 b (small 0) double_printable)
     (byte_strings_are_printable bs (λ i. small (suc i)))
+
+first_shows : (m : Bool) (b : ℕ) (o : Option ℕ) → b < 256 → Shows (spelling_or_byte m b o)
+first_shows m b None small = hex_shows b small
+first_shows m b (Some c) small = char_shows 34 m c double_printable
+
+pub c_strings_are_printable : CStringsArePrintable
+c_strings_are_printable zero m [] small = refl
+c_strings_are_printable (suc k) m [] small = refl
+c_strings_are_printable (suc k) m (b ∷ bs) small = c_strings_are_printable k m bs (λ i. small (suc i))
+c_strings_are_printable zero m (b ∷ bs) small =
+    let o = first_char (b ∷ bs) in
+    let s = spelling_or_byte m b o in
+    all_append is_printable (item_text (spelled_item s)) (body_text (c_items (len_or_byte o - 1) (is_escaped s) bs)) (first_shows m b o (small 0))
+    (c_strings_are_printable (len_or_byte o - 1) (is_escaped s) bs (λ i. small (suc i)))

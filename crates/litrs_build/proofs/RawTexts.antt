@@ -100,9 +100,9 @@ raw_chars front value suffix bytes n front_is front_scalars v u is =
     ∙ chars-encodes all (scalars_append front (h ++ (34 ∷ (chars value ++ (34 ∷ end)))) front_scalars
     (scalars_append h (34 ∷ (chars value ++ (34 ∷ end))) h_scalars body_scalars)))
 
--- What the error tells
+-- Where no error is expected
 
-possible_by : (s r : Bool) → (if not s then Some NotASuffix else (if r then None else Some NotRaw)) ≡ None → (s ≡ true) × (r ≡ true)
+pub possible_by : (s r : Bool) → (if not s then Some NotASuffix else (if r then None else Some NotRaw)) ≡ None → (s ≡ true) × (r ≡ true)
 possible_by true true e = (refl, refl)
 possible_by true false e = absurd cc
 possible_by false r e = absurd cc

@@ -24,7 +24,7 @@ regroup : (f t s : List ℕ) (q : ℕ) → ((f ++ t) ++ q ∷ []) ++ s ≡ f ++ 
 regroup f t s q = simp append_assoc
 
 -- the characters of the bytes
-closed_chars : (q : ℕ) (front f t suffix bytes : List ℕ) → q < 128 → encode_utf8_all front ≡ f → scalars front ≡ true → scalars t ≡ true →
+pub closed_chars : (q : ℕ) (front f t suffix bytes : List ℕ) → q < 128 → encode_utf8_all front ≡ f → scalars front ≡ true → scalars t ≡ true →
     IsUtf8 suffix → bytes ≡ ((f ++ encode_utf8_all t) ++ q ∷ []) ++ suffix → chars bytes ≡ front ++ (t ++ q ∷ chars suffix)
 closed_chars q front f t suffix bytes low front_is front_scalars t_scalars u is =
     let all = front ++ (t ++ q ∷ chars suffix) in

@@ -1,4 +1,5 @@
--- Which parts are those of a float. The Rust Reference, Tokens, Literals: "Floating-point literals".
+-- Which parts are those of a float. The Rust Reference, Tokens, Literals: "Floating-point
+-- literals".
 use Rattle.std.specs.Prelude.{◌&&◌, Bool, not}
 use Rattle.litrs_base.specs.Text.{is_empty, first_passes}
 use Rattle.litrs_grammar.specs.Float.{FloatParts, is_decimal_literal, is_float_form, is_underscore}

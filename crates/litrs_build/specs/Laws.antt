@@ -1,9 +1,12 @@
 -- What holds of all that is written.
-use Rattle.std.specs.Prelude.{ℕ, ◌<◌, Bool, List, IsTrue, slice_index}
+use Rattle.std.specs.Prelude.{ℕ, ◌<◌, ◌≤◌, Bool, List, IsTrue, slice_index}
 use Rattle.std.specs.List.{list_all}
 use Rattle.litrs_grammar.specs.CharByte.{char_item_text}
 use Rattle.litrs_grammar.specs.Quoted.{body_text}
+use Rattle.litrs_grammar.specs.Raw.{RawParts, IsRaw}
+use Rattle.litrs_build.specs.CStrings.{c_items}
 use Rattle.litrs_build.specs.Printable.{is_printable}
+use Rattle.litrs_build.specs.Raw.{hashes_needed}
 use Rattle.litrs_build.specs.Written.{written_char, written_byte, char_items, byte_items}
 
 -- All characters between the quotes are printable; so what is not printable in the text of a
@@ -28,3 +31,14 @@ StringsArePrintable = (follows_mark : Bool) (text : List ℕ) →
 abbrev pub ByteStringsArePrintable : Type 0
 ByteStringsArePrintable = (bytes : List ℕ) → ((i : ℕ) → slice_index bytes i < 256) →
     IsTrue (list_all is_printable (body_text (byte_items bytes)))
+
+-- of a C string
+abbrev pub CStringsArePrintable : Type 0
+CStringsArePrintable = (left : ℕ) (follows_mark : Bool) (bytes : List ℕ) →
+    ((i : ℕ) → slice_index bytes i < 256) →
+    IsTrue (list_all is_printable (body_text (c_items left follows_mark bytes)))
+
+-- no raw literal with a body has fewer hashes than are needed
+abbrev pub RawLiteralsNeedHashes : Type 0
+RawLiteralsNeedHashes = (unicode allow_nul : Bool) (d : RawParts) →
+    IsRaw unicode allow_nul d → hashes_needed d.body ≤ d.hash_count

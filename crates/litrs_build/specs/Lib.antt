@@ -4,6 +4,8 @@ pub mod Printable
 pub mod Spelling
 -- the literal of a value
 pub mod Written
+-- C strings
+pub mod CStrings
 -- raw literals
 pub mod Raw
 -- which error comes

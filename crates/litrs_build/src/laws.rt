@@ -1,5 +1,5 @@
 //! Laws of what is written.
-ghost use Rattle.litrs_build.specs.Laws.{CharsArePrintable, BytesArePrintable, StringsArePrintable, ByteStringsArePrintable};
+ghost use Rattle.litrs_build.specs.Laws.{CharsArePrintable, BytesArePrintable, StringsArePrintable, ByteStringsArePrintable, CStringsArePrintable, RawLiteralsNeedHashes};
 
 /// Between the quotes of a char all is printable.
 #[tactic(auto, using(crate::proofs::PrintableTexts::chars_are_printable))]
@@ -23,4 +23,16 @@ pub fn strings_are_printable()
 #[tactic(auto, using(crate::proofs::PrintableTexts::byte_strings_are_printable))]
 pub fn byte_strings_are_printable()
     ensures { ByteStringsArePrintable }
+{}
+
+/// Between the quotes of a C string all is printable.
+#[tactic(auto, using(crate::proofs::PrintableTexts::c_strings_are_printable))]
+pub fn c_strings_are_printable()
+    ensures { CStringsArePrintable }
+{}
+
+/// No raw literal has fewer hashes than its body needs.
+#[tactic(auto, using(crate::proofs::Hashes::raw_literals_need_hashes))]
+pub fn raw_literals_need_hashes()
+    ensures { RawLiteralsNeedHashes }
 {}

@@ -7,7 +7,8 @@
 //! | 97, 10, 255 | [`byte_literal`] | `b'a'`, `b'\n'`, `b'\xff'` |
 //! | `é"` and LF | [`string_literal`] | `"é\"\n"` |
 //! | the same as bytes | [`byte_string_literal`] | `b"\xc3\xa9\"\n"` |
-//! | `a"#` | [`raw_string_literal`] | `r##"a"#"##` |
+//! | the same, and the byte FF | [`c_string_literal`] | `c"é\"\n\xff"` |
+//! | `a"#` | [`raw_string_literal`], [`raw_byte_string_literal`] | `r##"a"#"##`, `br##"a"#"##` |
 //! | 255 in base sixteen, and `u8` | [`integer`] | `0xffu8` |
 //! | 1048575 in base sixteen, in groups of four | [`grouped_integer`] | `0xf_ffff` |
 //! | the parts `1`, `5` and `e3` | [`float`] | `1.5e3` |
@@ -35,15 +36,17 @@
 #![tactic(auto)]
 
 pub use byte_string::byte_string_literal;
+pub use c_string::c_string_literal;
 pub use char::{byte_literal, char_literal};
 pub use error::BuildError;
 pub use floats::float;
 pub use integers::{grouped_integer, integer, regroup};
 pub use printable::is_printable;
-pub use raw::raw_string_literal;
+pub use raw::{raw_byte_string_literal, raw_string_literal};
 pub use string::string_literal;
 
 mod byte_string;
+mod c_string;
 mod char;
 mod error;
 mod floats;

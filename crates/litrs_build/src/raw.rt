@@ -1,8 +1,9 @@
 //! Raw strings.
-ghost use Rattle.std.specs.Prelude.{◌≡◌, ◌+◌, ◌<◌, ◌^◌, ◌++◌, ◌∷◌, [], true, Some, None, IfOk, IfErr, OnOk, IfSome, IfNone, IsTrue, IsFalse, ◌≤◌, string_bytes, replicate};
+ghost use Rattle.std.specs.Prelude.{◌≡◌, ◌+◌, ◌<◌, ◌^◌, ◌++◌, ◌∷◌, [], true, Some, None, IfOk, IfErr, OnOk, IfSome, IfNone, IsTrue, IsFalse, ◌≤◌, false, codes, string_bytes, replicate};
 ghost use Rattle.std.specs.Str.{chars};
 ghost use Rattle.std.specs.List.{list_all};
-ghost use Rattle.litrs_grammar.specs.StringKind.{string_kind};
+ghost use Rattle.litrs_grammar.specs.StringKind.{string_kind, byte_string_kind};
+ghost use Rattle.litrs_grammar.specs.Suffix.{is_suffix};
 ghost use Rattle.litrs_grammar.specs.Raw.{is_raw_char};
 ghost use Rattle.litrs_grammar.specs.Literal.{string_value};
 ghost use Rattle.litrs_grammar.specs.LiteralText.{string_text};
@@ -10,9 +11,10 @@ ghost use Rattle.litrs_build.specs.Errors.{IsErrorOf};
 ghost use Rattle.litrs_build.specs.Raw.{greater, hashes_needed, is_raw_value, raw_error, run_after, written_raw};
 
 use crate::error::BuildError;
-use litrs::StringLit;
+use litrs::{ByteStringLit, StringLit};
 use litrs_lex::check_suffix;
 use std::alloc::{AllocError, Global};
+use std::str;
 
 /// The raw string of a text, as `r"C:\"` and `r#"a"b"#`, with the least number of hashes that
 /// serves and a suffix, which may be empty. There is one allocation, for its text. See
@@ -41,6 +43,37 @@ pub fn raw_string_literal(
 {
     let text = write_raw(alloc, "r", value, suffix, true, true)?;
     match StringLit::parse(alloc, text) {
+        Ok(lit) => Ok(lit),
+        Err(_) => Err(BuildError::Memory),
+    }
+}
+
+/// The raw byte string of some bytes, as `br"C:\"` and `br#"a"b"#`, with the least number of hashes
+/// that serves and a suffix, which may be empty. There is one allocation, for its text. See
+/// [the reference][ref].
+///
+/// # Errors
+///
+/// `NotASuffix` where the suffix is not one; else `NotRaw` where the bytes are not all ASCII, have
+/// a CR or need more than 255 hashes; else `Memory` where an allocation fails.
+///
+/// [ref]: https://doc.rust-lang.org/reference/tokens.html#raw-byte-string-literals
+pub fn raw_byte_string_literal(
+    alloc: Global,
+    value: &[u8],
+    suffix: &str,
+) -> Result<ByteStringLit<String>, BuildError>
+    ensures written { IfOk result (λ lit. chars lit.raw
+        ≡ string_text byte_string_kind (written_raw value.now (chars suffix.now))) }
+    ensures parts { IfOk result (λ lit. lit.parts ≡ written_raw value.now (chars suffix.now)) }
+    ensures value { IfOk result (λ lit. string_value lit.parts ≡ value.now) }
+    ensures possible { IfOk result (λ _.
+        raw_error false true value.now (chars suffix.now) ≡ None) }
+    ensures refused { IfErr result
+        (IsErrorOf (raw_error false true value.now (chars suffix.now))) }
+{
+    let text = write_raw_bytes(alloc, value, suffix)?;
+    match ByteStringLit::parse(alloc, text) {
         Ok(lit) => Ok(lit),
         Err(_) => Err(BuildError::Memory),
     }
@@ -84,6 +117,34 @@ fn write_raw(
     push_hashes(&mut text, hashes)?;
     text.push_str(suffix)?;
     Ok(text)
+}
+
+/// The text of a raw byte string.
+fn write_raw_bytes(alloc: Global, value: &[u8], suffix: &str) -> Result<String, BuildError>
+    ensures text { IfOk result (λ text. let hashes = replicate (hashes_needed (chars value.now)) 35 in
+        string_bytes text ≡ (((((codes "br" ++ hashes) ++ 34 ∷ []) ++ value.now) ++ 34 ∷ [])
+        ++ hashes) ++ suffix.now) }
+    ensures possible { IfOk result (λ _.
+        raw_error false true value.now (chars suffix.now) ≡ None) }
+    ensures refused { IfErr result
+        (IsErrorOf (raw_error false true value.now (chars suffix.now))) }
+{
+    match str::from_utf8(value) {
+        Ok(body) => write_raw(alloc, "br", body, suffix, false, true),
+        Err(_) => Err(refusal_of_raw(suffix)),
+    }
+}
+
+/// The error of a value that no raw literal has.
+fn refusal_of_raw(suffix: &str) -> BuildError
+    ensures suffix { IsTrue (is_suffix (chars suffix.now)) → result ≡ BuildError.NotRaw }
+    ensures other { IsFalse (is_suffix (chars suffix.now)) → result ≡ BuildError.NotASuffix }
+{
+    if check_suffix(suffix).is_ok() {
+        BuildError::NotRaw
+    } else {
+        BuildError::NotASuffix
+    }
 }
 
 /// How many hashes a raw literal with this body needs, None where none has it.

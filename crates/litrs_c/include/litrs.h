@@ -181,6 +181,17 @@ litrs_written litrs_message(const uint8_t *text, size_t len, uint8_t *room, size
 /* Whether the text, or the text with some text appended, is a literal. */
 litrs_bool litrs_goes_on(const uint8_t *text, size_t len);
 
+/* Writes the literal that stands for a value, as much as fits, where the status is LITRS_LITERAL:
+ * the string of a text, as "a\nb"; the byte string of bytes; the integer of value_low and 2^64
+ * times value_high, in base ten. The suffix may be empty. The status is LITRS_REFUSED where no such
+ * literal has the suffix, and LITRS_NOT_UTF8 where the text or the suffix is not UTF-8. */
+litrs_written litrs_write_string(const uint8_t *value, size_t value_len, const uint8_t *suffix,
+                                 size_t suffix_len, uint8_t *room, size_t room_len);
+litrs_written litrs_write_bytes(const uint8_t *value, size_t value_len, const uint8_t *suffix,
+                                size_t suffix_len, uint8_t *room, size_t room_len);
+litrs_written litrs_write_integer(uint64_t value_low, uint64_t value_high, const uint8_t *suffix,
+                                  size_t suffix_len, uint8_t *room, size_t room_len);
+
 /* The version of the library, and the names of the kinds of literals and of refusals. What stood in
  * the static text before does not matter. The calls below give the text alone. */
 void litrs_get_version(litrs_static_text *version);

@@ -9,3 +9,5 @@ pub mod RefusalFields
 pub mod Answers
 -- what is answered of the front of a longer text
 pub mod Prefixes
+-- what is answered of the literal of a value
+pub mod Writes

@@ -30,6 +30,7 @@ mod prefix;
 mod refusals;
 mod room;
 mod static_texts;
+mod write;
 
 /// The text is a literal.
 pub const LITERAL: u32 = 0;

@@ -29,7 +29,7 @@ const BYTE_STRING: u32 = 7;
 const C_STRING: u32 = 8;
 
 /// 2^64: how many values half of a `u128` has.
-const HALF: u128 = 0x1_0000_0000_0000_0000;
+pub(crate) const HALF: u128 = 0x1_0000_0000_0000_0000;
 
 /// The place of what is not there.
 pub(crate) const NOWHERE: Place = Place { start: 0, end: 0 };

@@ -1,0 +1,26 @@
+-- The text is a raw byte string with these parts, and they are its only parts.
+use Rattle.std.proofs.Common.{sym, ap, ◌∙◌, string_bytes}
+use Rattle.std.specs.Str.{chars}
+use Rattle.litrs_grammar.specs.Literal.{string_value}
+use Rattle.litrs_build.specs.Raw.{written_raw}
+use Rattle.litrs_build.proofs.RawBytes.{raw_byte_string_derives, raw_bytes-value}
+use Rattle.litrs_build.proofs.raw.raw_byte_string_literal.Goals as goal
+
+pub returns-in-Ok-clause-written : goal.returns-in-Ok-clause-written
+returns-in-Ok-clause-written c =
+    ap chars c.in-Ok.ensures.raw
+    ∙ sym (raw_byte_string_derives c.args.value.now c.args.suffix.now (string_bytes c.in_ok-text.text) c.utf8.suffix
+    c.in_ok-text.ensures.possible c.in_ok-text.ensures.text).spells
+
+pub returns-in-Ok-clause-parts : goal.returns-in-Ok-clause-parts
+returns-in-Ok-clause-parts c =
+    sym (c.in-Ok.ensures.ok.1 (written_raw c.args.value.now (chars c.args.suffix.now))
+    (raw_byte_string_derives c.args.value.now c.args.suffix.now (string_bytes c.in_ok-text.text) c.utf8.suffix
+    c.in_ok-text.ensures.possible c.in_ok-text.ensures.text))
+
+pub returns-in-Ok-clause-value : goal.returns-in-Ok-clause-value
+returns-in-Ok-clause-value c =
+    sym (ap string_value (c.in-Ok.ensures.ok.1 (written_raw c.args.value.now (chars c.args.suffix.now))
+    (raw_byte_string_derives c.args.value.now c.args.suffix.now (string_bytes c.in_ok-text.text) c.utf8.suffix
+    c.in_ok-text.ensures.possible c.in_ok-text.ensures.text)))
+    ∙ raw_bytes-value c.args.value.now (chars c.args.suffix.now) c.in_ok-text.ensures.possible
