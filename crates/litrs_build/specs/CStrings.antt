@@ -1,6 +1,6 @@
 -- C strings: text stays text, and a byte that is no part of valid UTF-8 is written by its number.
 -- The Rust Reference, Tokens, Literals: "C string literals".
-use Rattle.std.specs.Prelude.{ℕ, zero, suc, ◌+◌, ◌-◌, Bool, true, not, if◌then◌else◌, List, [], ◌∷◌, take, slice_index, slice_get, position, Option, Some, None}
+use Rattle.std.specs.Prelude.{ℕ, zero, suc, ◌+◌, ◌-◌, Bool, true, not, if◌then◌else◌, List, [], ◌∷◌, take, slice_get, position, Option, Some, None}
 use Rattle.std.specs.Char.{len_utf8}
 use Rattle.std.specs.Str.{chars, is_utf8, continuation_len}
 use Rattle.litrs_base.specs.Characters.{double_quote}

@@ -1,5 +1,5 @@
 -- Which error comes, and when.
-use Rattle.std.specs.Prelude.{◌≡◌, ◌⊎◌, ℕ, List, Option, Some, None, if◌then◌else◌}
+use Rattle.std.specs.Prelude.{◌≡◌, ℕ, List, Option, Some, None, if◌then◌else◌}
 use Rattle.litrs_grammar.specs.Suffix.{is_suffix}
 use Rattle.litrs_build.specs.declared.error.BuildError.{BuildError}
 use Rattle.litrs_build.specs.declared.error.BuildError.TheVariants.{NotASuffix, Memory}

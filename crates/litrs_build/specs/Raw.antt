@@ -3,9 +3,8 @@
 use Rattle.std.specs.Prelude.{ℕ, ◌+◌, Bool, not, ◌==◌, ◌&&◌, nat_lt, nat_le, if◌then◌else◌, List, [], ◌∷◌, Option, Some, None}
 use Rattle.std.specs.List.{list_all}
 use Rattle.litrs_base.specs.Characters.{hash}
-use Rattle.litrs_grammar.specs.StringKind.{StringKind}
 use Rattle.litrs_grammar.specs.Suffix.{is_suffix}
-use Rattle.litrs_grammar.specs.Raw.{is_quote, hash_len, is_raw_char, has_unicode, allows_nul}
+use Rattle.litrs_grammar.specs.Raw.{is_quote, hash_len, is_raw_char}
 use Rattle.litrs_grammar.specs.Literal.{StringParts, raw_parts}
 use Rattle.litrs_build.specs.declared.error.BuildError.{BuildError}
 use Rattle.litrs_build.specs.declared.error.BuildError.TheVariants.{NotASuffix, NotRaw}

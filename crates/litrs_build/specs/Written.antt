@@ -1,13 +1,10 @@
 -- How the literal of a value is written: its parts, from which its text follows. The Rust
 -- Reference, Tokens, Literals.
-use Rattle.std.specs.Prelude.{ℕ, ◌+◌, Bool, true, false, List, [], ◌∷◌, length, drop, map, Option, Some, None, zero, suc, if◌then◌else◌, slice_get, take}
-use Rattle.std.specs.Char.{len_utf8}
-use Rattle.std.specs.Str.{chars, is_utf8, continuation_len}
+use Rattle.std.specs.Prelude.{ℕ, Bool, true, List, [], ◌∷◌, map}
 use Rattle.litrs_base.specs.Characters.{single_quote, double_quote}
 use Rattle.litrs_grammar.specs.CharByte.{CharParts}
 use Rattle.litrs_grammar.specs.Quoted.{Item}
 use Rattle.litrs_grammar.specs.Literal.{StringParts, quoted_parts}
-use Rattle.litrs_build.specs.declared.spelling.Spelling.TheVariants.{Hex}
 use Rattle.litrs_build.specs.Spelling.{char_spelling, byte_spelling, is_escaped, spelled_item, spelled_char}
 
 -- the parts of the char of a character

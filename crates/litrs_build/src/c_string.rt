@@ -18,8 +18,8 @@ use std::alloc::{AllocError, Global};
 use std::str;
 
 /// The C string of some bytes, without the NUL that closes it, as `c"é\xff"`, with a suffix, which
-/// may be empty. Bytes that are UTF-8 are written as text. There is one allocation for its text, and
-/// one for its value. See [the reference][ref].
+/// may be empty. Bytes that are UTF-8 are written as text. There is one allocation for its text,
+/// and one for its value. See [the reference][ref].
 ///
 /// # Errors
 ///

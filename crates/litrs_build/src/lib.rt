@@ -8,13 +8,14 @@
 //! | `é"` and LF | [`string_literal`] | `"é\"\n"` |
 //! | the same as bytes | [`byte_string_literal`] | `b"\xc3\xa9\"\n"` |
 //! | the same, and the byte FF | [`c_string_literal`] | `c"é\"\n\xff"` |
-//! | `a"#` | [`raw_string_literal`], [`raw_byte_string_literal`] | `r##"a"#"##`, `br##"a"#"##` |
+//! | `a"#` | [`raw_string_literal`] | `r##"a"#"##` |
+//! | the same as bytes | [`raw_byte_string_literal`] | `br##"a"#"##` |
 //! | 255 in base sixteen, and `u8` | [`integer`] | `0xffu8` |
 //! | 1048575 in base sixteen, in groups of four | [`grouped_integer`] | `0xf_ffff` |
 //! | the parts `1`, `5` and `e3` | [`float`] | `1.5e3` |
 //!
-//! Each escape is the shortest: `\n`, `\r`, `\t`, `\0`, `\\` and the quote that closes; `\x` and two
-//! digits for other ASCII characters that are not printable, and for bytes that are no text;
+//! Each escape is the shortest: `\n`, `\r`, `\t`, `\0`, `\\` and the quote that closes; `\x` and
+//! two digits for other ASCII characters that are not printable, and for bytes that are no text;
 //! `\u{..}` for what else is not printable ([`is_printable`]), and for a character that extends a
 //! grapheme (Grapheme_Extend) where it would combine with a quote or an escape before it. What is
 //! printable stays.

@@ -89,7 +89,8 @@ fn write_raw(
     unicode: bool,
     allow_nul: bool,
 ) -> Result<String, BuildError>
-    ensures text { IfOk result (λ text. let hashes = replicate (hashes_needed (chars value.now)) 35 in
+    ensures text { IfOk result (λ text.
+        let hashes = replicate (hashes_needed (chars value.now)) 35 in
         string_bytes text ≡ ((((front.now ++ hashes) ++ 34 ∷ []) ++ value.now) ++ 34 ∷ []) ++ hashes
         ++ suffix.now) }
     ensures possible { IfOk result (λ _.
@@ -121,7 +122,8 @@ fn write_raw(
 
 /// The text of a raw byte string.
 fn write_raw_bytes(alloc: Global, value: &[u8], suffix: &str) -> Result<String, BuildError>
-    ensures text { IfOk result (λ text. let hashes = replicate (hashes_needed (chars value.now)) 35 in
+    ensures text { IfOk result (λ text.
+        let hashes = replicate (hashes_needed (chars value.now)) 35 in
         string_bytes text ≡ (((((codes "br" ++ hashes) ++ 34 ∷ []) ++ value.now) ++ 34 ∷ [])
         ++ hashes) ++ suffix.now) }
     ensures possible { IfOk result (λ _.

@@ -79,8 +79,8 @@ fn chars_len(value: &str) -> usize {
 
 /// Appends the characters as they stand between quotes.
 fn push_chars(text: &mut String, value: &str) -> Result<(), AllocError>
-    ensures { OnOk result (string_bytes text.new
-        ≡ string_bytes text.old ++ encode_utf8_all (body_text (char_items true (chars value.now)))) }
+    ensures { OnOk result (string_bytes text.new ≡ string_bytes text.old
+        ++ encode_utf8_all (body_text (char_items true (chars value.now)))) }
 {
     let mut follows_mark = true;
     let mut rest = value.chars();

@@ -11,6 +11,7 @@ use Rattle.litrs.specs.Integer.{IntegerParts, integer_value}
 use Rattle.litrs.specs.Literal.{Derivation, a_bool, an_integer, a_float, a_char, a_byte, a_string, a_byte_string, a_c_string, IsLiteral, StringParts, string_suffix, string_value, suffix_of}
 use Rattle.litrs.specs.Strings.{is_raw}
 use Rattle.litrs_build.specs.BuiltInteger.{built_integer}
+use Rattle.litrs_build.specs.CStrings.{written_c_string}
 use Rattle.litrs_build.specs.Written.{written_char, written_byte, written_string, written_byte_string}
 
 -- how many digits of the base make a group
@@ -31,6 +32,10 @@ string_form d =
 abbrev pub byte_string_form : StringParts → StringParts
 byte_string_form d = if is_raw d then d else written_byte_string (string_value d) (string_suffix d)
 
+-- the C string of the same bytes, a raw one as it stands
+abbrev pub c_string_form : StringParts → StringParts
+c_string_form d = if is_raw d then d else written_c_string (string_value d) (string_suffix d)
+
 -- the literal that is written for a literal
 abbrev pub form : Derivation → Derivation
 form (a_bool b) = a_bool b
@@ -41,7 +46,7 @@ form (a_char d) = a_char (written_char (char_value d.item) d.suffix)
 form (a_byte d) = a_byte (written_byte (char_value d.item) d.suffix)
 form (a_string d) = a_string (string_form d)
 form (a_byte_string d) = a_byte_string (byte_string_form d)
-form (a_c_string d) = a_c_string d
+form (a_c_string d) = a_c_string (c_string_form d)
 
 -- The literals are of one kind and have the same value. Integers have the same base too, and floats
 -- all that they have before the suffix.

@@ -6,16 +6,18 @@ ghost use Rattle.litrs.specs.CharLiteral.{char_parts, byte_parts};
 ghost use Rattle.litrs.specs.Derivations.{HasNoDerivation};
 ghost use Rattle.litrs.specs.Float.{is_underscore};
 ghost use Rattle.litrs.specs.IntegerLiteral.{integer_parts};
-ghost use Rattle.litrs.specs.Literal.{IsLiteral, an_integer, a_char, a_byte, a_string, a_byte_string};
+ghost use Rattle.litrs.specs.Literal.{IsLiteral, an_integer, a_char, a_byte, a_string, a_byte_string, a_c_string};
 ghost use Rattle.litrs.specs.Strings.{is_raw};
 ghost use Rattle.litrs.specs.LiteralDerivation.{derivation};
 ghost use Rattle.uses_formatter.specs.Form.{form, group_len, group_of, IsFormOf, IsForm};
 
 use litrs::{
-    ByteLit, ByteStringLit, CharLit, IntegerBase, IntegerLit, Literal, ParseErrorKind, StringLit,
+    ByteLit, ByteStringLit, CStringLit, CharLit, IntegerBase, IntegerLit, Literal, ParseErrorKind,
+    StringLit,
 };
 use litrs_build::{
-    BuildError, byte_literal, byte_string_literal, char_literal, regroup, string_literal,
+    BuildError, byte_literal, byte_string_literal, c_string_literal, char_literal, regroup,
+    string_literal,
 };
 use std::alloc::Global;
 
@@ -58,9 +60,9 @@ fn written(alloc: Global, lit: &Literal<&str>) -> Result<String, BuildError>
         Literal::Byte(lit) => written_byte(alloc, lit),
         Literal::String(lit) => written_string(alloc, lit),
         Literal::ByteString(lit) => written_byte_string(alloc, lit),
+        Literal::CString(lit) => written_c_string(alloc, lit),
         Literal::Bool(_) => as_it_stands(alloc, lit),
         Literal::Float(_) => as_it_stands(alloc, lit),
-        Literal::CString(_) => as_it_stands(alloc, lit),
     }
 }
 
@@ -201,6 +203,41 @@ fn quoted_byte_string(alloc: Global, lit: &ByteStringLit<&str>) -> Result<String
 {
     let built = byte_string_literal(alloc, lit.value(), lit.suffix())?;
     // Called for its contract: the text is a byte string.
+    let _ = built.raw_input();
+    let text = built.into_raw_input();
+    Ok(text)
+}
+
+/// The C string of the same bytes, a raw one as it stands.
+fn written_c_string(alloc: Global, lit: &CStringLit<&str>) -> Result<String, BuildError>
+    ensures { IfOk result (λ text.
+        IsFormOf (a_c_string lit.now.parts) (chars (string_bytes text))) }
+{
+    if lit.is_raw_c_string() {
+        kept_c_string(alloc, lit)
+    } else {
+        quoted_c_string(alloc, lit)
+    }
+}
+
+/// The raw C string as it stands.
+fn kept_c_string(alloc: Global, lit: &CStringLit<&str>) -> Result<String, BuildError>
+    requires { IsTrue (is_raw lit.now.parts) }
+    ensures { IfOk result (λ text.
+        IsFormOf (a_c_string lit.now.parts) (chars (string_bytes text))) }
+{
+    let text = String::from_str(alloc, lit.raw_input())?;
+    Ok(text)
+}
+
+/// The quoted C string that is built.
+fn quoted_c_string(alloc: Global, lit: &CStringLit<&str>) -> Result<String, BuildError>
+    requires { IsFalse (is_raw lit.now.parts) }
+    ensures { IfOk result (λ text.
+        IsFormOf (a_c_string lit.now.parts) (chars (string_bytes text))) }
+{
+    let built = c_string_literal(alloc, lit.value().to_bytes(), lit.suffix())?;
+    // Called for its contract: the text is a C string.
     let _ = built.raw_input();
     let text = built.into_raw_input();
     Ok(text)

@@ -1,5 +1,5 @@
 -- The text is the literal.
-use Rattle.std.proofs.Common.{◌≡◌, sym, ap, subst, List, ℕ}
+use Rattle.std.proofs.Common.{sym, subst, List, ℕ}
 use Rattle.std.specs.Prelude.{string_bytes}
 use Rattle.std.specs.Str.{chars}
 use Rattle.litrs.specs.Literal.{IsLiteral}

@@ -1,12 +1,10 @@
 -- The text is the literal.
-use Rattle.std.proofs.Common.{◌≡◌, true, false, sym, ap, subst, List, ℕ, ◌∙◌}
+use Rattle.std.proofs.Common.{sym, subst, List, ℕ}
 use Rattle.std.specs.Prelude.{string_bytes}
 use Rattle.std.specs.Str.{chars}
 use Rattle.litrs.specs.StringKind.{string_kind}
-use Rattle.litrs.specs.Literal.{StringParts, IsString, string_suffix, string_value}
-use Rattle.litrs.specs.Strings.{is_raw}
-use Rattle.litrs_build.specs.Written.{written_string}
-use Rattle.uses_formatter.proofs.Forms.{raw_string, quoted_string}
+use Rattle.litrs.specs.Literal.{IsString}
+use Rattle.uses_formatter.proofs.Forms.{raw_string}
 use Rattle.uses_formatter.proofs.form.kept_string.Goals as goal
 
 pub returns : goal.returns

@@ -1,12 +1,11 @@
 -- The text is the literal that is built, of the same value.
-use Rattle.std.proofs.Common.{◌≡◌, true, false, sym, ap, subst, List, ℕ, ◌∙◌}
+use Rattle.std.proofs.Common.{◌≡◌, sym, ap, subst, List, ℕ, ◌∙◌}
 use Rattle.std.specs.Prelude.{string_bytes}
 use Rattle.std.specs.Str.{chars}
 use Rattle.litrs.specs.StringKind.{string_kind}
 use Rattle.litrs.specs.Literal.{StringParts, IsString, string_suffix, string_value}
-use Rattle.litrs.specs.Strings.{is_raw}
 use Rattle.litrs_build.specs.Written.{written_string}
-use Rattle.uses_formatter.proofs.Forms.{raw_string, quoted_string}
+use Rattle.uses_formatter.proofs.Forms.{quoted_string}
 use Rattle.uses_formatter.proofs.form.quoted_string.Goals as goal
 
 pub returns : goal.returns
