@@ -8,8 +8,8 @@ use Rattle.std.proofs.lemmas.Bool.{and_from, and_parts, cond-true, cond-false, f
 use Rattle.std.proofs.lemmas.List.{append_assoc, append-nil, take-append-drop, nil_from_length}
 use Rattle.std.proofs.lemmas.Str.{encodes-append, encodes-chars, scalars-chars, chars-nil, chars_past_char, is_utf8-from_IsUtf8, IsUtf8-from_is_utf8, drop_past_char, length-encode, len_utf8_bounds}
 use lib.Utf8.{scalar, scalars}
-use Rattle.litrs_grammar.specs.Escape.{c_string_switches}
-use Rattle.litrs_grammar.specs.StringKind.{c_string_kind}
+use Rattle.litrs_base.specs.Quotes.{c_string_switches}
+use Rattle.litrs_base.specs.declared.quotes.StringKind.TheVariants.{CString as c_string_kind}
 use Rattle.litrs_grammar.specs.Suffix.{is_suffix}
 use Rattle.litrs_grammar.specs.Raw.{is_nul}
 use Rattle.litrs_grammar.specs.Quoted.{Item, item_text, item_value, is_item, body_text, body_value, is_body}

@@ -8,7 +8,7 @@ use Rattle.std.proofs.lemmas.Bool.{and_from, and_parts, ltb-true, true≢false, 
 use Rattle.std.proofs.lemmas.Str.{encodes-chars, chars-encodes}
 use lib.Utf8.{scalar, scalars, low_scalar}
 use Rattle.litrs_base.specs.Characters.{is_ascii, is_ascii_unless, is_no_nul_unless}
-use Rattle.litrs_grammar.specs.StringKind.{byte_string_kind}
+use Rattle.litrs_base.specs.declared.quotes.StringKind.TheVariants.{ByteString as byte_string_kind}
 use Rattle.litrs_grammar.specs.Suffix.{is_suffix}
 use Rattle.litrs_grammar.specs.Raw.{is_raw_char}
 use Rattle.litrs_grammar.specs.Literal.{IsString, string_value}

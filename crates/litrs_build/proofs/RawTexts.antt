@@ -9,9 +9,11 @@ use Rattle.std.proofs.lemmas.List.{append_assoc, nil_from_length}
 use Rattle.std.proofs.lemmas.Str.{encodes-append, encodes-chars, chars-encodes, scalars-chars, chars-nil, chars_past_char, length-encode, len_utf8_bounds}
 use lib.Utf8.{scalar, scalars}
 use Rattle.litrs_base.specs.Characters.{is_ascii}
-use Rattle.litrs_grammar.specs.StringKind.{StringKind, string_kind}
+use Rattle.litrs_base.specs.declared.quotes.StringKind.{StringKind}
+use Rattle.litrs_base.specs.declared.quotes.StringKind.TheVariants.{String as string_kind}
+use Rattle.litrs_base.specs.Quotes.{raw_front}
 use Rattle.litrs_grammar.specs.Suffix.{is_suffix}
-use Rattle.litrs_grammar.specs.Raw.{hashes, is_raw_char, raw_front, raw_text, has_unicode, allows_nul}
+use Rattle.litrs_grammar.specs.Raw.{hashes, is_raw_char, raw_text, has_unicode, allows_nul}
 use Rattle.litrs_grammar.specs.Literal.{IsString, string_value}
 use Rattle.litrs_build.specs.declared.error.BuildError.{BuildError}
 use Rattle.litrs_build.specs.declared.error.BuildError.TheVariants.{NotASuffix, NotRaw}

@@ -11,7 +11,11 @@ use Rattle.std.proofs.lemmas.Str.{encode_ascii}
 use lib.Utf8.{scalar, scalars, scalar_cases, low_scalar}
 use Rattle.litrs_base.specs.Characters.{is_ascii, is_ascii_unless, is_no_nul_unless, is_scalar}
 use Rattle.litrs_base.specs.Unescape.{unescaped_number}
-use Rattle.litrs_grammar.specs.Escape.{Switches, Escape, simple_escape, hex_escape, unicode_escape, escape_text, escape_value, value_bytes, is_escape, is_hex_or_underscore, pair_value}
+use Rattle.litrs_base.specs.declared.quotes.Switches.{Switches}
+use Rattle.litrs_base.specs.Quotes.{char_switches, byte_switches, string_switches, byte_string_switches, c_string_switches, char_switches_of}
+use Rattle.litrs_base.specs.declared.quotes.CharKind.{CharKind}
+use Rattle.litrs_base.specs.declared.quotes.CharKind.TheVariants.{Char as char_kind, Byte as byte_kind}
+use Rattle.litrs_grammar.specs.Escape.{Escape, simple_escape, hex_escape, unicode_escape, escape_text, escape_value, value_bytes, is_escape, is_hex_or_underscore, pair_value}
 use Rattle.litrs_build.specs.declared.spelling.Spelling.{Spelling}
 use Rattle.litrs_build.specs.declared.spelling.Spelling.TheVariants.{Plain, Simple, Hex, Unicode}
 use Rattle.litrs_build.specs.Spelling.{char_spelling, byte_spelling, shown_or_number, is_shown, hex_digit}
@@ -19,8 +23,8 @@ use Rattle.litrs_build.proofs.HexDigits.{hex_glyphs, glyph_passes, digits_pass, 
 use Rattle.std.proofs.Common.{◌⊎◌, inl, inr}
 use Rattle.std.proofs.lemmas.Bool.{true≢false}
 use Rattle.std.proofs.lemmas.Str.{digit_value-digit_char}
-use Rattle.litrs_grammar.specs.Escape.{char_switches, byte_switches, string_switches, byte_string_switches, c_string_switches, simple_value, allows_byte, allows_value, hex_value}
-use Rattle.litrs_grammar.specs.CharByte.{CharKind, char_kind, byte_kind, char_switches_of, is_special_whitespace, allows_char, char_value, char_item_text, is_char_item}
+use Rattle.litrs_grammar.specs.Escape.{simple_value, allows_byte, allows_value, hex_value}
+use Rattle.litrs_grammar.specs.CharByte.{is_special_whitespace, allows_char, char_value, char_item_text, is_char_item}
 use Rattle.litrs_grammar.specs.Quoted.{is_plain, is_item, item_text, item_value, takes_all_blanks}
 use Rattle.litrs_build.specs.Spelling.{spelled_item, spelled_char}
 

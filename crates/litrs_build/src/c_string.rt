@@ -1,7 +1,7 @@
 //! C strings.
 ghost use Rattle.std.specs.Prelude.{◌≡◌, ◌≤◌, ◌<◌, ◌++◌, ◌∷◌, [], true, None, IfOk, IfErr, OnOk, string_bytes, encode_utf8_all, codes, length, take, position, slice_index, ◌+◌};
 ghost use Rattle.std.specs.Str.{chars, continuation_len};
-ghost use Rattle.litrs_grammar.specs.StringKind.{c_string_kind};
+ghost use Rattle.litrs_base.specs.declared.quotes.StringKind.TheVariants.{CString as c_string_kind};
 ghost use Rattle.litrs_grammar.specs.Quoted.{body_text};
 ghost use Rattle.litrs_grammar.specs.Raw.{is_nul};
 ghost use Rattle.litrs_grammar.specs.Literal.{string_value};

@@ -1,11 +1,12 @@
 -- Texts that end with LF, the steps of texts, and texts that are held.
 use Rattle.std.proofs.Common.{◌≡◌, ◌∙◌, ◌⊎◌, inl, inr, ℕ, Bool, true, false, List, [], ◌∷◌, ◌++◌, refl, sym, ap, subst, append-nil, append_assoc, arith, length, take, ◌-◌, ◌+◌, ◌<◌, length-append, slice_index, Result, Ok, Err, OnErr}
-use Rattle.std.specs.Prelude.{IsTrue, ◌↔◌}
+use Rattle.std.specs.Prelude.{IsTrue, ◌↔◌, ◌==◌}
 use Rattle.std.specs.Str.{chars, IsUtf8, IsCharBoundary}
 use Rattle.std.specs.String.Boundary.{IsSplitPoint}
 use Rattle.std.proofs.Math.Seq.{take-append_seam, get_or-append_seam}
-use Rattle.std.proofs.lemmas.Str.{chars-append, IsUtf8-append, IsCharBoundary-at_seam}
+use Rattle.std.proofs.lemmas.Str.{chars-append, IsUtf8-append, IsUtf8-from_ascii, IsCharBoundary-at_seam}
 use Rattle.litrs_base.specs.Derivations.{HasNoDerivation}
+use Rattle.litrs_base.proofs.Chars.{ascii_by_test}
 use Rattle.litrs_base.specs.Finality.{is_open}
 use Rattle.litrs_base.specs.Refusal.{Refusal, refusal_of}
 use Rattle.litrs_grammar.specs.Literal.{IsLiteral, literal_parse, Begins}
@@ -155,3 +156,24 @@ pub added_line : (old line new : List ℕ) (len : ℕ) → IsUtf8 line → new �
 added_line old line new len u is n =
     let front : take len new ≡ old = ap (λ (k : ℕ). take k new) n ∙ (ap (take (length old)) is ∙ take-append_seam old line) in
     (line, u, is ∙ ap (λ (x : List ℕ). x ++ line) (sym front))
+
+line_feed_is_utf8 : IsUtf8 (10 ∷ [])
+line_feed_is_utf8 = IsUtf8-from_ascii (10 ∷ []) (ascii_by_test (10 ∷ []) refl)
+
+-- what is held may be cut before its last byte, the LF after the lines
+pub held_is_cut : (held : List ℕ) (end : ℕ) → IsHeld held → end + 1 ≡ length held → IsCharBoundary held end × (take end held ++ 10 ∷ [] ≡ held)
+held_is_cut held end is len =
+    let lines = is (λ none. let zero : length held ≡ 0 = ap length none in absurd (omega arith)) in
+    let place : end ≡ length (without_last held) =
+    (let sum : length held ≡ length (without_last held) + 1 = ap length (sym lines.0) ∙ length-append (without_last held) (10 ∷ []) in omega arith) in
+    let front : take end held ≡ without_last held = ap (λ (k : ℕ). take k held) place ∙ (ap (take (length (without_last held))) (sym lines.0) ∙ take-append_seam (without_last held) (10 ∷ [])) in
+    let boundary : IsCharBoundary held (length (without_last held)) = IsCharBoundary-at_seam held (without_last held) (10 ∷ []) (sym lines.0) line_feed_is_utf8 in
+    (subst (IsCharBoundary held) (sym place) boundary, ap (λ (x : List ℕ). x ++ 10 ∷ []) front ∙ lines.0)
+
+-- the same of what is known not to be empty
+pub cut_of_held : (held : List ℕ) (test : Bool) → IsHeld held → test ≡ (length held == 0) → test ≡ false →
+    IsCharBoundary held (length held - 1) × (take (length held - 1) held ++ 10 ∷ [] ≡ held)
+cut_of_held held test is tests fails =
+    let some : length held ≡ 0 → ⊥ = λ e. let yes : (length held == 0) ≡ true = ap (λ (k : ℕ). k == 0) e in let both : true ≡ false = sym yes ∙ sym tests ∙ fails in cc in
+    let len : (length held - 1) + 1 ≡ length held = omega arith in
+    held_is_cut held (length held - 1) is len

@@ -3,7 +3,7 @@
 //! A literal may have line breaks in it, as a string in which one stands. A [`Collector`] is fed
 //! one line after the other, and answers to each whether the lines that it then has are a literal,
 //! begin one, or neither.
-ghost use Rattle.std.specs.Prelude.{◌≡◌, ◌≤◌, ◌↔◌, ◌∷◌, ◌++◌, [], length, take, IsTrue, IsFalse, IfOk, OnOk, OnErr, IfSome, IfNone, MatchResult, string_bytes};
+ghost use Rattle.std.specs.Prelude.{◌≡◌, ◌≢◌, ◌≤◌, ◌↔◌, ◌∷◌, ◌++◌, [], length, take, IsTrue, IsFalse, IfOk, OnOk, OnErr, IfSome, IfNone, MatchResult, string_bytes};
 ghost use Rattle.std.specs.Str.{chars, IsUtf8};
 ghost use Rattle.litrs_base.specs.Characters.{line_feed};
 ghost use Rattle.litrs_grammar.specs.Literal.{literal_parse, Begins};
@@ -117,6 +117,24 @@ impl Collector {
         self.held.is_empty()
     }
 
+    /// The lines that are held, joined by LF, in the order in which they were fed; empty if and only
+    /// if none is held.
+    pub fn text(&self) -> &str
+        ensures none { self.now ≡ [] → result.now ≡ [] }
+        ensures lines { self.now ≢ [] → result.now ++ line_feed ∷ [] ≡ self.now }
+    {
+        lines_of_held(self.held.as_str())
+    }
+
+    /// Forgets the lines that are held, so that the next line is the first. Their memory is kept
+    /// for the lines to come.
+    pub fn clear(&mut self)
+        ensures { self.new ≡ [] }
+    {
+        self.held.clear();
+        self.known = None;
+    }
+
     /// The refusal of the lines that are held, joined by LF; None if and only if none is held. It
     /// does not allocate.
     pub fn finish(self) -> Option<ParseError>
@@ -125,6 +143,19 @@ impl Collector {
     {
         refusal_of_held(self.held)
     }
+}
+
+/// The lines of a text that is held, without the LF after the last.
+fn lines_of_held(held: &str) -> &str
+    requires { IsHeld held.now }
+    ensures none { held.now ≡ [] → result.now ≡ [] }
+    ensures lines { held.now ≢ [] → result.now ++ line_feed ∷ [] ≡ held.now }
+{
+    if held.is_empty() {
+        return "";
+    }
+    let (lines, _) = held.split_at(held.len() - 1);
+    lines
 }
 
 /// The literal that the text is, or its refusal.

@@ -1,2 +1,2 @@
--- a text in three parts
-pub mod Parts
+-- the lines that are held at the end
+pub mod Lines

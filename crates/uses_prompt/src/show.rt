@@ -53,7 +53,7 @@ fn integer_parts(alloc: Global, lit: &IntegerLit<String>) -> Result<String, Allo
     let digits = lit.raw_main_part();
     match lit.value::<u128>() {
         Some(value) => format!(in alloc; "{value}\n  base {base}\n  digits {digits}\n"),
-        None => format!(in alloc; "above 2^128\n  base {base}\n  digits {digits}\n"),
+        None => format!(in alloc; "2^128 or more\n  base {base}\n  digits {digits}\n"),
     }
 }
 

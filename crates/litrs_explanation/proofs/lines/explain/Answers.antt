@@ -1,0 +1,15 @@
+-- The lines are those on the kind, the value and the parts.
+use Rattle.std.proofs.Common.{◌≡◌, string_bytes}
+use Rattle.std.proofs.lemmas.Result.{IfOk-weaker}
+use Rattle.litrs.specs.LiteralDerivation.{derivation}
+use Rattle.litrs_explanation.specs.Explanation.{explanation}
+use Rattle.litrs_explanation.proofs.Explained.{part_is, explanation_made}
+use Rattle.litrs_explanation.proofs.lines.explain.Goals as goal
+
+pub returns : goal.returns
+returns g c =
+    IfOk-weaker c.format.result _ (λ lines. string_bytes lines ≡ explanation (derivation c.args.literal.now))
+    (λ lines made. explanation_made c.kind_name-kind.result.now (string_bytes c.in_ok-fields.fields) (string_bytes c.in_ok-suffix.suffix) c.suffix.result.now
+    (string_bytes lines) (derivation c.args.literal.now) c.kind_name-kind.ensures c.in_ok-fields.ensures c.in_ok-suffix.ensures
+    (part_is c.suffix.result.now _ c.suffix.utf8 c.suffix.ensures) made)
+    c.format.ensures.ok
