@@ -67,7 +67,9 @@ ALLOWED = [
     r"(^\s*|(?<=[\w)] ))\| [\w:]*\bOutOfMemory\b",
 ]
 # An arm of one failure, and one below a comment; neither has another pattern beside it.
-FAILURE_ARM = r"^\s*[^|!]*FAILURE[^|!]* => (return )?Err\([^=]*FAILURE[^=]*\),$"
+FAILURE_ARM = (
+    r"^\s*[^|!]*FAILURE[^|!]* => ((return )?Err\([^=]*FAILURE[^=]*\)|(\w+::)?FAILURE),$"
+)
 MAPPING_ARM = r"^\s*(Err\(_\)|None) => Err\(.*FAILURE.*\),$"
 
 

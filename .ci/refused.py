@@ -97,6 +97,11 @@ def calls():
     yield "litrs_token::Literal::string over &str"
     yield "litrs_lex::unescape_string over &str"
     yield "litrs_prefix::parse_prefix over &str"
+    for call in ["char", "byte", "string", "byte_string", "c_string", "grouped_integer", "float"]:
+        yield f"litrs_build::{call} over &str"
+    for call in ["raw_string", "raw_byte_string"]:
+        yield f"litrs_build::{call} over &str"
+    yield "litrs_diagnostic::shown over &str"
     yield "MemOutput::new over &str"
     yield "litrs_lines::run over &str"
     yield "Collector::feed over &str"

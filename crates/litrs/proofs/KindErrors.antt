@@ -5,7 +5,7 @@ use Rattle.std.specs.Str.{chars, IsUtf8}
 use Rattle.litrs_base.specs.declared.err.ParseError.{ParseError}
 use Rattle.litrs_base.specs.declared.err.ParseErrorKind.{ParseErrorKind}
 use Rattle.litrs_base.specs.declared.err.ParseErrorKind.TheVariants.{InvalidLiteral, InvalidCStringLiteralStart}
-use Rattle.litrs_base.specs.Refusal.{Refusal, plain, refusal_of}
+use Rattle.litrs_base.specs.Refusal.{Refusal, without_span, refusal_of}
 use Rattle.litrs_base.specs.Text.{begins_with}
 use Rattle.litrs_base.specs.Derivations.{IsOnlyDerivation}
 use Rattle.litrs_base.proofs.CharEnds.{no_span}
@@ -79,30 +79,30 @@ number_error_at bytes text number e f u same again is copy refused =
 pub start_refused : (text : List ℕ) (r : Refusal) → IsUtf8 text → refused_as r ≡ dispatch text → IsRefusal literal_parse (chars text) r
 start_refused text r u is = subst (λ (row : Dispatch). IsRefusalOfDispatch row (chars text) r) (is ∙ sym (dispatch-chars text u)) refl
 
-pub start_error_at : (bytes text : List ℕ) (kind : ParseErrorKind) (e : ParseError) → text ≡ bytes → IsRefusal literal_parse (chars text) (plain kind) →
-    refusal_of e ≡ plain kind → IsRefusedOrOutOfMemory literal_parse (chars bytes) e
+pub start_error_at : (bytes text : List ℕ) (kind : ParseErrorKind) (e : ParseError) → text ≡ bytes → IsRefusal literal_parse (chars text) (without_span kind) →
+    refusal_of e ≡ without_span kind → IsRefusedOrOutOfMemory literal_parse (chars bytes) e
 start_error_at bytes text kind e same table is =
     inl (is_refused literal_parse (chars bytes) e
     (subst (λ (r : Refusal). IsRefusal literal_parse (chars bytes) r) (sym is)
-    (subst (λ (b : List ℕ). IsRefusal literal_parse (chars b) (plain kind)) same table))
+    (subst (λ (b : List ℕ). IsRefusal literal_parse (chars b) (without_span kind)) same table))
     (no_span (chars bytes) e kind is))
 
 -- a text that begins with `c` and with neither front of a C string
 pub c_refused : (text : List ℕ) → IsUtf8 text → IsFront front.Other text → begins_with (codes "c") text ≡ true →
-    IsRefusal literal_parse (chars text) (plain InvalidCStringLiteralStart)
+    IsRefusal literal_parse (chars text) (without_span InvalidCStringLiteralStart)
 c_refused text u is begins =
-    subst (λ (row : Dispatch). IsRefusalOfDispatch row (chars text) (plain InvalidCStringLiteralStart))
-    (ap (λ v. if v then parsed_as c_string_literal else refused_as (plain InvalidLiteral)) (sym begins) ∙ (is.row ∙ sym (dispatch-chars text u)))
-    (subst (λ (start : StringStart). IsRefusalOfStart c_string_kind start (chars text) (plain InvalidCStringLiteralStart)) (sym start) refl)
+    subst (λ (row : Dispatch). IsRefusalOfDispatch row (chars text) (without_span InvalidCStringLiteralStart))
+    (ap (λ v. if v then parsed_as c_string_literal else refused_as (without_span InvalidLiteral)) (sym begins) ∙ (is.row ∙ sym (dispatch-chars text u)))
+    (subst (λ (start : StringStart). IsRefusalOfStart c_string_kind start (chars text) (without_span InvalidCStringLiteralStart)) (sym start) refl)
   where
-    start : string_start c_string_kind (chars text) ≡ refused_start (plain InvalidCStringLiteralStart)
+    start : string_start c_string_kind (chars text) ≡ refused_start (without_span InvalidCStringLiteralStart)
     start = if_false _ _ _ (is_empty-chars text u ∙ some_text front.Other text is (λ e. cc))
         ∙ (if_false _ _ _ (begins_with-chars (codes "c\"") text refl u ∙ is.begins.0)
         ∙ if_false _ _ _ (begins_with-chars (codes "cr") text refl u ∙ is.begins.1))
 
 -- a text that begins with another letter, as no literal
 pub other_refused : (text : List ℕ) → IsUtf8 text → IsFront front.Other text → begins_with (codes "c") text ≡ false →
-    IsRefusal literal_parse (chars text) (plain InvalidLiteral)
+    IsRefusal literal_parse (chars text) (without_span InvalidLiteral)
 other_refused text u is other =
-    start_refused text (plain InvalidLiteral) u
-    (ap (λ v. if v then parsed_as c_string_literal else refused_as (plain InvalidLiteral)) (sym other) ∙ is.row)
+    start_refused text (without_span InvalidLiteral) u
+    (ap (λ v. if v then parsed_as c_string_literal else refused_as (without_span InvalidLiteral)) (sym other) ∙ is.row)

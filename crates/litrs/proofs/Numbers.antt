@@ -11,11 +11,11 @@ use Rattle.litrs_base.specs.declared.err.ParseError.{ParseError}
 use Rattle.litrs_base.specs.declared.err.ParseErrorKind.{ParseErrorKind}
 use Rattle.litrs_base.specs.declared.err.ParseErrorKind.TheVariants.{UnexpectedChar, InvalidSuffix, InvalidDigit, NoDigits, IntegerSuffixStartingWithE, NoExponentDigits, UnexpectedIntegerLit}
 use Rattle.litrs_base.specs.Base.{prefix, is_digit}
-use Rattle.litrs_base.specs.Refusal.{Refusal, refusal_of, plain, over, at}
+use Rattle.litrs_base.specs.Refusal.{Refusal, refusal_of, without_span, spanning, at_byte}
 use Rattle.litrs_base.specs.Text.{is_empty, byte_len, first_passes}
 use Rattle.litrs_base.proofs.Spans.{byte_len-append, byte_len-cons, byte_len_ascii}
 use Rattle.litrs_grammar.specs.Suffix.{is_suffix, is_ascii_symbol, suffix_refusal}
-use Rattle.litrs_grammar.specs.Integer.{IntegerParts, is_e, integer_text, integer_cut, cut_refusal, integer_refusal}
+use Rattle.litrs_grammar.specs.Integer.{IntegerParts, is_e, integer_text, integer_cut, integer_cut_refusal, integer_refusal}
 use Rattle.litrs_grammar.specs.Float.{FloatParts, number_part, fraction_text, float_text, is_period, is_decimal_char, has_wrong_fraction, float_cut, float_refusal}
 use Rattle.litrs_grammar.specs.GoesOn.Float.{FloatGoesOn}
 use Rattle.litrs_grammar.specs.GoesOn.Integer.{IntegerGoesOn}
@@ -52,17 +52,17 @@ nothing_after a (c ∷ b) same =
 other_kind : {A : Type 0} (k r : Refusal) (len : ℕ) → is_digits_kind k.kind ≡ false →
     Some k ≡ Some r → may_gain_digits r len ≡ true → A
 other_kind k r len other same lacks =
-    let at : k ≡ r = cc in
+    let at_byte : k ≡ r = cc in
     absurd (both_ways (is_digits_kind k.kind) other
-    (subst (λ (e : Refusal). is_digits_kind e.kind ≡ true) (sym at)
+    (subst (λ (e : Refusal). is_digits_kind e.kind ≡ true) (sym at_byte)
     (and_parts (is_digits_kind r.kind) (ends_at r.span len) lacks).0))
 
 -- the place where a refusal ends that lacks digits
 ends_there : (start end : ℕ) (kind : ParseErrorKind) (r : Refusal) (len : ℕ) →
-    Some (over start end kind) ≡ Some r → may_gain_digits r len ≡ true → end ≡ len
+    Some (spanning start end kind) ≡ Some r → may_gain_digits r len ≡ true → end ≡ len
 ends_there start end kind r len same lacks =
-    let at : over start end kind ≡ r = cc in
-    eqb-true end len (subst (λ (e : Refusal). ends_at e.span len ≡ true) (sym at)
+    let at_byte : spanning start end kind ≡ r = cc in
+    eqb-true end len (subst (λ (e : Refusal). ends_at e.span len ≡ true) (sym at_byte)
     (and_parts (is_digits_kind r.kind) (ends_at r.span len) lacks).1)
 
 suffix_kind : (t : List ℕ) → is_digits_kind (suffix_refusal t) ≡ false
@@ -79,11 +79,11 @@ integer_row : (start end len : ℕ) (suffix digit e some : Bool) (kind : ParseEr
     integer_rows start end len suffix digit kind e some ≡ Some r → may_gain_digits r len ≡ true →
     end ≡ len
 integer_row start end len false true e some kind r other h lacks =
-    other_kind (at end InvalidDigit) r len refl h lacks
+    other_kind (at_byte end InvalidDigit) r len refl h lacks
 integer_row start end len false false e some kind r other h lacks =
-    other_kind (over end len kind) r len other h lacks
+    other_kind (spanning end len kind) r len other h lacks
 integer_row start end len true digit true some kind r other h lacks =
-    other_kind (at end IntegerSuffixStartingWithE) r len refl h lacks
+    other_kind (at_byte end IntegerSuffixStartingWithE) r len refl h lacks
 integer_row start end len true digit false false kind r other h lacks =
     ends_there start end NoDigits r len h lacks
 integer_row start end len true digit false true kind r other h lacks = cc
@@ -93,11 +93,11 @@ no_digit_row : (start end len : ℕ) (digit some : Bool) (kind : ParseErrorKind)
     may_gain_digits r len ≡ true
 no_digit_row start end len digit true kind r h same = cc
 no_digit_row start end len digit false kind r h same =
-    let at : over start end NoDigits ≡ r = cc in
-    subst (λ (e : Refusal). may_gain_digits e len ≡ true) at (eq-eqb end len same)
+    let at_byte : spanning start end NoDigits ≡ r = cc in
+    subst (λ (e : Refusal). may_gain_digits e len ≡ true) at_byte (eq-eqb end len same)
 
 -- nothing stands after the main part if and only if the refusal lacks digits
-integer_lacks : (d : IntegerParts) (r : Refusal) → cut_refusal d ≡ Some r →
+integer_lacks : (d : IntegerParts) (r : Refusal) → integer_cut_refusal d ≡ Some r →
     (may_gain_digits r (byte_len (integer_text d)) ≡ true) ↔ (d.suffix ≡ [])
 integer_lacks d r h = (to, from)
   where
@@ -169,26 +169,26 @@ float_row : (i f n len : ℕ) (kind : ParseErrorKind) (wrong fraction exponent d
     float_rows i f n len kind wrong fraction exponent digit suffix ≡ Some r →
     may_gain_digits r len ≡ true → (wrong ≡ false) × (n ≡ len)
 float_row i f n len kind true fraction exponent digit suffix r other h lacks =
-    other_kind (at (i + 1) UnexpectedChar) r len refl h lacks
+    other_kind (at_byte (i + 1) UnexpectedChar) r len refl h lacks
 float_row i f n len kind false fraction true false suffix r other h lacks =
     (refl, ends_there f n NoExponentDigits r len h lacks)
 float_row i f n len kind false fraction true true false r other h lacks =
-    other_kind (over n len kind) r len other h lacks
+    other_kind (spanning n len kind) r len other h lacks
 float_row i f n len kind false fraction false digit false r other h lacks =
-    other_kind (over n len kind) r len other h lacks
+    other_kind (spanning n len kind) r len other h lacks
 float_row i f n len kind false true true true true r other h lacks = cc
 float_row i f n len kind false false true true true r other h lacks = cc
 float_row i f n len kind false true false digit true r other h lacks = cc
 float_row i f n len kind false false false digit true r other h lacks =
-    other_kind (plain UnexpectedIntegerLit) r len refl h lacks
+    other_kind (without_span UnexpectedIntegerLit) r len refl h lacks
 
 no_exponent_row : (i f n len : ℕ) (kind : ParseErrorKind) (fraction exponent digit : Bool)
     (r : Refusal) → ((fraction || exponent) ≡ false → ⊥) →
     float_rows i f n len kind false fraction exponent digit true ≡ Some r → n ≡ len →
     may_gain_digits r len ≡ true
 no_exponent_row i f n len kind fraction true false r some h same =
-    let at : over f n NoExponentDigits ≡ r = cc in
-    subst (λ (e : Refusal). may_gain_digits e len ≡ true) at (eq-eqb n len same)
+    let at_byte : spanning f n NoExponentDigits ≡ r = cc in
+    subst (λ (e : Refusal). may_gain_digits e len ≡ true) at_byte (eq-eqb n len same)
 no_exponent_row i f n len kind true true true r some h same = cc
 no_exponent_row i f n len kind false true true r some h same = cc
 no_exponent_row i f n len kind true false digit r some h same = cc

@@ -5,7 +5,7 @@ use Rattle.std.specs.List.{list_any}
 use Rattle.std.specs.Str.{chars, IsUtf8}
 use Rattle.litrs_base.specs.declared.err.ParseError.{ParseError}
 use Rattle.litrs_base.specs.declared.err.ParseErrorKind.TheVariants.{OutOfMemory}
-use Rattle.litrs_base.specs.Refusal.{plain, refusal_of}
+use Rattle.litrs_base.specs.Refusal.{without_span, refusal_of}
 use Rattle.litrs_base.specs.Text.{begins_with}
 use Rattle.litrs_base.proofs.Begins.{begins_with-split}
 use Rattle.litrs_base.specs.declared.quotes.StringKind.TheVariants.{CString as c_string_kind}
@@ -26,7 +26,7 @@ pub no_nul : (bs : List ℕ) (kept : KeptValue (List ℕ)) (start_suffix : ℕ) 
 no_nul bs kept start_suffix parsed = ap (list_any is_nul) parsed.at.is_value ∙ no_nul_in_c_strings (chars bs) parsed.parts parsed.derives
 
 pub c_out_of_memory : (bs : List ℕ) (kept : KeptValue (List ℕ)) (start_suffix : ℕ) (e : ParseError) → IsParsedString c_string_kind bs kept start_suffix →
-    refusal_of e ≡ plain OutOfMemory → IsOutOfMemory (kind_parse c_string_literal) (chars bs) e
+    refusal_of e ≡ without_span OutOfMemory → IsOutOfMemory (kind_parse c_string_literal) (chars bs) e
 c_out_of_memory bs kept start_suffix e parsed is = record {
   derivation = a_c_string parsed.parts;
   literal = (refl, parsed.derives);

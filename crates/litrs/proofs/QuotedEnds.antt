@@ -7,14 +7,14 @@ use Rattle.std.proofs.lemmas.Bool.{or_right, eqb-true, both_ways, false≢true}
 use Rattle.std.proofs.lemmas.List.{append-nil}
 use Rattle.litrs_base.specs.declared.err.ParseErrorKind.TheVariants.{UnterminatedString}
 use Rattle.litrs_base.specs.Characters.{is_blank}
-use Rattle.litrs_base.specs.Refusal.{Refusal, plain, at, moved}
+use Rattle.litrs_base.specs.Refusal.{Refusal, without_span, at_byte, shifted}
 use Rattle.litrs_base.specs.Text.{byte_len, begins_with}
 use Rattle.litrs_base.proofs.Begins.{begins_with-split}
 use Rattle.litrs_grammar.specs.Suffix.{is_suffix, suffix_refusal}
 use Rattle.litrs_base.specs.declared.quotes.Switches.{Switches}
 use Rattle.litrs_grammar.specs.Escape.{escape_text}
 use Rattle.litrs_grammar.specs.GoesOn.Escape.{BeginsEscape}
-use Rattle.litrs_grammar.specs.Quoted.{Item, body_text, stand_before, rest_refusal, IsQuoted, IsQuotedRefusal}
+use Rattle.litrs_grammar.specs.Quoted.{Item, body_text, is_item_list, rest_refusal, IsQuoted, IsQuotedRefusal}
 use Rattle.litrs_grammar.specs.GoesOn.Quoted.{RestGoesOn}
 use Rattle.litrs_grammar.specs.Continuation.{BeginsBy}
 use Rattle.litrs_grammar.proofs.QuotedItems.{escape_head}
@@ -76,7 +76,7 @@ line_feed_row : (w : Switches) (s : List ℕ) (e : Refusal) → rest_refusal w (
 unfolding rest_refusal
 line_feed_row w s e h = by (list_all is_blank s) h
   where
-    by : (b : Bool) → (if b then Some (plain UnterminatedString) else None) ≡ Some e → b ≡ true
+    by : (b : Bool) → (if b then Some (without_span UnterminatedString) else None) ≡ Some e → b ≡ true
     by true g = refl
     by false g = cc
 
@@ -129,15 +129,15 @@ other_rest w t s c same quote slash = no (λ goes. never (subst (Goes w) same go
 -- The text
 
 suffix_row : (w : Switches) (s : List ℕ) → is_suffix s ≡ false →
-    rest_refusal w (34 ∷ s) ≡ Some (at 1 (suffix_refusal s))
+    rest_refusal w (34 ∷ s) ≡ Some (at_byte 1 (suffix_refusal s))
 unfolding rest_refusal
 suffix_row w s none = rw (or_right w.allow_nul true refl, or_right w.unicode true refl, none) refl
 
 rest_refused : (front : List ℕ) (w : Switches) (t : List ℕ) (items : List Item) (rest : List ℕ)
-    (e : Refusal) → front ++ (body_text items ++ rest) ≡ t → stand_before w rest items ≡ true →
+    (e : Refusal) → front ++ (body_text items ++ rest) ≡ t → is_item_list w rest items ≡ true →
     rest_refusal w rest ≡ Some e → BeginsBy (IsQuoted front w) t → RestGoesOn w rest
 rest_refused front w t items rest e spells taken told begins =
-    let h : IsQuotedRefusal front w t (moved (byte_len (front ++ body_text items)) e) =
+    let h : IsQuotedRefusal front w t (shifted (byte_len (front ++ body_text items)) e) =
     record {
       items = items;
       rest = rest;
@@ -147,10 +147,10 @@ rest_refused front w t items rest e spells taken told begins =
       told = told;
       placed = refl;
     } in
-    begins_rest front w t (moved (byte_len (front ++ body_text items)) e) h begins
+    begins_rest front w t (shifted (byte_len (front ++ body_text items)) e) h begins
 
 quoted_goes : (front : List ℕ) (w : Switches) (t : List ℕ) (items : List Item) (rest : List ℕ) →
-    front ++ (body_text items ++ rest) ≡ t → stand_before w rest items ≡ true → EndsItems w rest →
+    front ++ (body_text items ++ rest) ≡ t → is_item_list w rest items ≡ true → EndsItems w rest →
     Goes w rest ↔ BeginsBy (IsQuoted front w) t
 quoted_goes front w t items rest spells taken ends = (to, from rest spells taken ends)
   where
@@ -165,14 +165,14 @@ quoted_goes front w t items rest spells taken ends = (to, from rest spells taken
     to (inr goes) = rest_begins front w t items rest spells taken goes
 
     by_suffix : (s : List ℕ) → front ++ (body_text items ++ 34 ∷ s) ≡ t →
-        stand_before w (34 ∷ s) items ≡ true → (b : Bool) → is_suffix s ≡ b →
+        is_item_list w (34 ∷ s) items ≡ true → (b : Bool) → is_suffix s ≡ b →
         BeginsBy (IsQuoted front w) t → Goes w (34 ∷ s)
     by_suffix s spelled stands true is begins = inl (s, refl, is)
     by_suffix s spelled stands false none begins =
-        inr (rest_refused front w t items (34 ∷ s) (at 1 (suffix_refusal s)) spelled stands
+        inr (rest_refused front w t items (34 ∷ s) (at_byte 1 (suffix_refusal s)) spelled stands
         (suffix_row w s none) begins)
 
-    from : (r : List ℕ) → front ++ (body_text items ++ r) ≡ t → stand_before w r items ≡ true →
+    from : (r : List ℕ) → front ++ (body_text items ++ r) ≡ t → is_item_list w r items ≡ true →
         EndsItems w r → BeginsBy (IsQuoted front w) t → Goes w r
     from r spelled stands (inr (e, told)) begins =
         inr (rest_refused front w t items r e spelled stands told begins)
@@ -181,7 +181,7 @@ quoted_goes front w t items rest spells taken ends = (to, from rest spells taken
         let first : c ≡ 34 = eqb-true c 34 quote in
         subst (λ n. Goes w (n ∷ s)) (sym first)
         (by_suffix s (ap (λ n. front ++ (body_text items ++ n ∷ s)) (sym first) ∙ spelled)
-        (subst (λ n. stand_before w (n ∷ s) items ≡ true) first stands) (is_suffix s) refl begins)
+        (subst (λ n. is_item_list w (n ∷ s) items ≡ true) first stands) (is_suffix s) refl begins)
 
 pub quoted_decided : (w : Switches) (bytes rest : List ℕ) (offset place : ℕ) (h : List ℕ → Type 0) (b : Bool) →
     IsItemsEnd w bytes offset h place → rest ≡ drop place bytes → IsTrue b ↔ Goes w (chars rest) →

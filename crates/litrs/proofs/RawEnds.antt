@@ -14,7 +14,7 @@ use Rattle.litrs_base.specs.declared.err.ParseErrorKind.{ParseErrorKind}
 use Rattle.litrs_base.specs.declared.err.ParseErrorKind.TheVariants.{InvalidLiteral, TooManyHashes, CarriageReturn, NulByte, NonAsciiInByteLiteral, UnterminatedRawString, UnexpectedChar, InvalidSuffix}
 use Rattle.litrs_base.specs.Characters.{carriage_return}
 use Rattle.litrs_base.specs.Finality.{is_final, is_open}
-use Rattle.litrs_base.specs.Refusal.{Refusal, refusal_of, span_of, plain, over, at, IsInText}
+use Rattle.litrs_base.specs.Refusal.{Refusal, refusal_of, span_of, without_span, spanning, at_byte, IsInText}
 use Rattle.litrs_base.specs.Text.{is_text, byte_len, first_passes, PointsInto}
 use Rattle.litrs_base.proofs.CharEnds.{front_boundary}
 use Rattle.litrs_base.proofs.Chars.{OnlyAscii, ascii_by_test, is_text-chars}
@@ -39,15 +39,15 @@ use Rattle.litrs.proofs.Escapes.{all-chars}
 -- The refusals of a text after the front: its hashes end it; after them stands something else
 -- than a quote; a final one; the body is not closed; or it is, and no suffix stands after it.
 data RawRow (unicode allow_nul : Bool) (start : ℕ) (t : List ℕ) (r : Refusal) : Type 0 where
-  hashes_alone : (n : ℕ) → hashes n ≡ t → plain InvalidLiteral ≡ r →
+  hashes_alone : (n : ℕ) → hashes n ≡ t → without_span InvalidLiteral ≡ r →
       RawRow unicode allow_nul start t r
   no_quote : (n c : ℕ) (s : List ℕ) → hashes n ++ c ∷ s ≡ t → is_hash c ≡ false →
-      is_quote c ≡ false → plain InvalidLiteral ≡ r → RawRow unicode allow_nul start t r
+      is_quote c ≡ false → without_span InvalidLiteral ≡ r → RawRow unicode allow_nul start t r
   final_row : is_final r.kind ≡ true → RawRow unicode allow_nul start t r
-  open_row : plain UnterminatedRawString ≡ r → RawRow unicode allow_nul start t r
+  open_row : without_span UnterminatedRawString ≡ r → RawRow unicode allow_nul start t r
   closed_row : (n : ℕ) (s after : List ℕ) → n ≤ 255 → hashes n ++ 34 ∷ s ≡ t →
       (x : IsClosedRaw unicode allow_nul n s after) →
-      at (start + (n + 1) + (byte_len x.body + (1 + n))) (suffix_refusal after) ≡ r →
+      at_byte (start + (n + 1) + (byte_len x.body + (1 + n))) (suffix_refusal after) ≡ r →
       RawRow unicode allow_nul start t r
 
 char_final : (c : ℕ) → is_final (raw_char_refusal c) ≡ true
@@ -75,12 +75,12 @@ raw_row unicode allow_nul start t r h = by cut.rest cut.spells cut.stops
     after_body : (n : ℕ) (s after : List ℕ) → n ≤ 255 → hashes n ++ 34 ∷ s ≡ t →
         (x : IsClosedRaw unicode allow_nul n s after) (b : Bool) →
         (if not b
-        then Some (at (start + (n + 1) + (byte_len x.body + (1 + n))) (suffix_refusal after))
+        then Some (at_byte (start + (n + 1) + (byte_len x.body + (1 + n))) (suffix_refusal after))
         else None) ≡ Some r → RawRow unicode allow_nul start t r
     after_body n s after few spells x true g = cc
     after_body n s after few spells x false g =
         closed_row n s after few spells x
-        (let same : at (start + (n + 1) + (byte_len x.body + (1 + n))) (suffix_refusal after) ≡ r =
+        (let same : at_byte (start + (n + 1) + (byte_len x.body + (1 + n))) (suffix_refusal after) ≡ r =
         cc in same)
 
     scanned : (n : ℕ) (s : List ℕ) → n ≤ 255 → hashes n ++ 34 ∷ s ≡ t →
@@ -88,25 +88,25 @@ raw_row unicode allow_nul start t r h = by cut.rest cut.spells cut.stops
         RawScan unicode allow_nul n s → RawRow unicode allow_nul start t r
     scanned n s few spells g (stopped x) =
         final_at unicode allow_nul start t
-        (at (start + (n + 1) + byte_len x.front) (raw_char_refusal x.character)) r
+        (at_byte (start + (n + 1) + byte_len x.front) (raw_char_refusal x.character)) r
         (char_final x.character)
         (sym (stopped_refusal unicode allow_nul n (start + (n + 1)) s x) ∙ g)
     scanned n s few spells g (closed after x) =
         after_body n s after few spells x (is_suffix after)
         (sym (closed_refusal unicode allow_nul n (start + (n + 1)) s after x) ∙ g)
     scanned n s few spells g (unclosed grammar) =
-        open_row (let told : Some (plain UnterminatedRawString) ≡ Some r =
+        open_row (let told : Some (without_span UnterminatedRawString) ≡ Some r =
         sym (unclosed_refusal unicode allow_nul n (start + (n + 1)) s grammar) ∙ g in
-        let same : plain UnterminatedRawString ≡ r = cc in same)
+        let same : without_span UnterminatedRawString ≡ r = cc in same)
 
     rows : (n c : ℕ) (s : List ℕ) → hashes n ++ c ∷ s ≡ t → is_hash c ≡ false →
         (many quote : Bool) → ltb 255 n ≡ many → is_quote c ≡ quote →
         raw_rows start n (raw_body_refusal unicode allow_nul n (start + (n + 1)) s) false many quote
         ≡ Some r → RawRow unicode allow_nul start t r
     rows n c s spells stops true quote is_many is_q g =
-        final_at unicode allow_nul start t (over start (start + n) TooManyHashes) r refl g
+        final_at unicode allow_nul start t (spanning start (start + n) TooManyHashes) r refl g
     rows n c s spells stops false false is_many is_q g =
-        no_quote n c s spells stops is_q (let same : plain InvalidLiteral ≡ r = cc in same)
+        no_quote n c s spells stops is_q (let same : without_span InvalidLiteral ≡ r = cc in same)
     rows n c s spells stops false true is_many is_q g =
         scanned n s (ltb-false 255 n is_many)
         (ap (λ q. hashes n ++ q ∷ s) (sym (eqb-true c 34 is_q)) ∙ spells) g
@@ -116,10 +116,10 @@ raw_row unicode allow_nul start t r h = by cut.rest cut.spells cut.stops
         RawRow unicode allow_nul start t r
     by [] spells stops =
         hashes_alone cut.count (sym (append-nil (hashes cut.count)) ∙ spells)
-        (let told : Some (plain InvalidLiteral) ≡ Some r =
+        (let told : Some (without_span InvalidLiteral) ≡ Some r =
         sym (rows_of_nothing unicode allow_nul start cut.count)
         ∙ ap (raw_refusal unicode allow_nul start) spells ∙ h in
-        let same : plain InvalidLiteral ≡ r = cc in same)
+        let same : without_span InvalidLiteral ≡ r = cc in same)
     by (c ∷ s) spells stops =
         rows cut.count c s spells stops (ltb 255 cut.count) (is_quote c) refl refl
         (sym (rows_of unicode allow_nul start cut.count c s stops)
@@ -306,7 +306,7 @@ suffix_decided unicode allow_nul text offset e b u h kind is =
 
     lone : (n : ℕ) (s after : List ℕ) → n ≤ 255 → hashes n ++ 34 ∷ s ≡ t →
         (x : IsClosedRaw unicode allow_nul n s after) →
-        at (offset + (n + 1) + (byte_len x.body + (1 + n))) (suffix_refusal after) ≡ r →
+        at_byte (offset + (n + 1) + (byte_len x.body + (1 + n))) (suffix_refusal after) ≡ r →
         IsTrue b ↔ BeginsBy (IsRawOf unicode allow_nul) t
     lone n s after few spells x at_row =
         answer_is b (is_text (95 ∷ []) after) (is ∙ pointed) (to, from)

@@ -4,7 +4,7 @@ use Rattle.std.specs.Str.{chars, IsUtf8}
 use Rattle.std.proofs.lemmas.Str.{chars-nil}
 use Rattle.litrs_base.specs.declared.err.ParseError.{ParseError}
 use Rattle.litrs_base.specs.declared.err.ParseErrorKind.TheVariants.{Empty}
-use Rattle.litrs_base.specs.Refusal.{Refusal, plain, refusal_of, HasCharSpan}
+use Rattle.litrs_base.specs.Refusal.{Refusal, without_span, refusal_of, HasCharSpan}
 use Rattle.litrs_base.specs.Text.{is_empty, begins_with}
 use Rattle.litrs_base.proofs.Begins.{begins_with-split}
 use Rattle.litrs_base.proofs.CharEnds.{no_span}
@@ -51,9 +51,9 @@ starts_raw : (kind : StringKind) (bs : List ℕ) → IsUtf8 bs → begins_with (
 starts_raw kind bs u begins =
     ap (string_start kind) (sym (begins_with-split (raw_front kind) (chars bs) (raw_begins kind bs u ∙ begins))) ∙ start_raw kind _
 
-pub empty_start : (kind : StringKind) (bs : List ℕ) (e : ParseError) → is_empty bs ≡ true → refusal_of e ≡ plain Empty → IsStringError kind (chars bs) e
+pub empty_start : (kind : StringKind) (bs : List ℕ) (e : ParseError) → is_empty bs ≡ true → refusal_of e ≡ without_span Empty → IsStringError kind (chars bs) e
 empty_start kind [] e none is =
-    inl (refused_at kind (refused_start (plain Empty)) (chars []) e (ap (string_start kind) chars-nil)
+    inl (refused_at kind (refused_start (without_span Empty)) (chars []) e (ap (string_start kind) chars-nil)
     (sym is) (no_span (chars []) e Empty is))
 empty_start kind (b ∷ bs) e none is = cc
 

@@ -8,7 +8,7 @@ use Rattle.std.proofs.lemmas.List.{drop_all, append-nil}
 use Rattle.std.proofs.lemmas.Bool.{false_from_ne_true, and_parts, and_left, cases_lt, both_ways, eqb-true, ltb-true, ne_eqb}
 use Rattle.std.proofs.lemmas.Str.{chars-nil}
 use Rattle.litrs_base.specs.declared.err.ParseErrorKind.TheVariants.{Empty, InvalidLiteral}
-use Rattle.litrs_base.specs.Refusal.{Refusal, plain}
+use Rattle.litrs_base.specs.Refusal.{Refusal, without_span}
 use Rattle.litrs_base.specs.Text.{is_empty, first_passes, begins_with}
 use Rattle.litrs_base.proofs.Chars.{chars_ascii, chars_wide, utf8_after_ascii}
 use Rattle.litrs_grammar.specs.Literal.{a_bool, literal_parse, bool_literal, c_string_literal, IsLiteralOf, Begins}
@@ -110,7 +110,7 @@ pub other_is_no_bool : (word bs : List ℕ) → IsFront front.Other bs → word 
 other_is_no_bool word bs is same e = no_row (subst (λ l. IsFront front.Other l) (sym same ∙ e) is)
   where
     no_row : IsFront front.Other (bool_text false) → ⊥
-    no_row other = absurd (let f : refused_as (plain InvalidLiteral) ≡ parsed_as bool_literal =
+    no_row other = absurd (let f : refused_as (without_span InvalidLiteral) ≡ parsed_as bool_literal =
         other.row ∙ false_row in cc)
 
 -- The fronts of no kind
@@ -120,9 +120,9 @@ empty_decided : (bs : List ℕ) → IsUtf8 bs → IsFront front.Empty bs →
     IsTrue true ↔ Begins literal_parse (chars bs)
 empty_decided bs u is = at bs u is.row is.begins
   where
-    at : (bs : List ℕ) → IsUtf8 bs → refused_as (plain Empty) ≡ dispatch bs → is_empty bs ≡ true →
+    at : (bs : List ℕ) → IsUtf8 bs → refused_as (without_span Empty) ≡ dispatch bs → is_empty bs ≡ true →
         IsTrue true ↔ Begins literal_parse (chars bs)
-    at [] u row none = word_decided [] [] (plain Empty) true u row refl refl
+    at [] u row none = word_decided [] [] (without_span Empty) true u row refl refl
     at (b ∷ bs) u row none = cc
 
 -- a bool is a literal
@@ -163,14 +163,14 @@ other_decided bs seen b u is same answer = at (begins_with (codes "c") bs) refl
     now = answer ∙ ap (λ l. unnamed_goes_on l || begins_with l (codes "c")) same
 
     row : (v : Bool) → begins_with (codes "c") bs ≡ v →
-        (if v then parsed_as c_string_literal else refused_as (plain InvalidLiteral)) ≡ dispatch bs
-    row v test = ap (λ w. if w then parsed_as c_string_literal else refused_as (plain InvalidLiteral))
+        (if v then parsed_as c_string_literal else refused_as (without_span InvalidLiteral)) ≡ dispatch bs
+    row v test = ap (λ w. if w then parsed_as c_string_literal else refused_as (without_span InvalidLiteral))
         (sym test) ∙ is.row
 
     at : (v : Bool) → begins_with (codes "c") bs ≡ v → IsTrue b ↔ Begins literal_parse (chars bs)
     at true test = string_parsed c_string_kind bs b u (row true test)
         (lone_string bs b u test is.begins.0 is.begins.1
         (now ∙ ap (λ v. v || begins_with bs (codes "c")) (c_word bs test)))
-    at false test = word_decided bs bs (plain InvalidLiteral) b u (row false test) refl
+    at false test = word_decided bs bs (without_span InvalidLiteral) b u (row false test) refl
         (now ∙ ap (λ v. unnamed_goes_on bs || v)
         (other_first bs (some_text front.Other bs is (λ e. cc)) test) ∙ or-false (unnamed_goes_on bs))

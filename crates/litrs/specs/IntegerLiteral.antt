@@ -2,7 +2,7 @@
 use Rattle.std.specs.Prelude.{ℕ, List}
 use Rattle.litrs_lex.specs.declared.integer.IntegerCut.{IntegerCut}
 use Rattle.litrs_grammar.specs.Integer.{IntegerParts}
-use Rattle.litrs_lex.specs.IntegerCut.{parts_at}
+use Rattle.litrs_lex.specs.IntegerCut.{integer_parts_at}
 
 -- its buffer, the bytes of its text, and where it is cut
 pub record IntegerLiteral (B : Type 0) : Type 0 where
@@ -12,4 +12,4 @@ pub record IntegerLiteral (B : Type 0) : Type 0 where
 
 -- its derivation
 abbrev pub integer_parts : {B : Type 0} → IntegerLiteral B → IntegerParts
-integer_parts lit = parts_at lit.cut lit.raw
+integer_parts lit = integer_parts_at lit.cut lit.raw

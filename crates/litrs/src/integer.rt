@@ -12,7 +12,7 @@ ghost use Rattle.litrs_grammar.specs.Integer.{integer_value};
 ghost use Rattle.litrs_base.specs.Derivations.{IsOnlyDerivation};
 ghost use Rattle.litrs_grammar.specs.Literal.{kind_parse, integer_literal};
 ghost use Rattle.litrs_grammar.specs.Refused.{IsRefused};
-ghost use Rattle.litrs_lex.specs.IntegerCut.{parts_at, IsWithin, IsIntegerAt};
+ghost use Rattle.litrs_lex.specs.IntegerCut.{integer_parts_at, IsIntegerWithin, IsIntegerAt};
 ghost use Rattle.litrs_grammar.specs.Integer.{IsIntegerOf};
 
 use litrs_base::FromIntegerLiteral;
@@ -179,8 +179,8 @@ impl IntegerLit<&str> {
 #[inline(never)]
 fn cut(input: &str) -> Result<IntegerCut, ParseError>
     ensures ok { IfOk result (λ cut.
-        IsOnlyDerivation (IsIntegerOf (chars input.now)) (parts_at cut input.now)) }
-    ensures places { IfOk result (λ cut. IsWithin cut input.now) }
+        IsOnlyDerivation (IsIntegerOf (chars input.now)) (integer_parts_at cut input.now)) }
+    ensures places { IfOk result (λ cut. IsIntegerWithin cut input.now) }
     ensures refused { IfErr result (IsRefused (kind_parse integer_literal) (chars input.now)) }
 {
     let first = first_byte_or_empty(input)?;

@@ -73,7 +73,7 @@ ghost use Rattle.std.specs.Cmp.Lexicographic.{pointwise, nat_list_eq_equiv};
 ghost use Rattle.std.specs.Char.{is_ascii_digit};
 ghost use Rattle.std.specs.Str.{chars};
 ghost use Rattle.litrs_base.specs.Derivations.{IsOnlyDerivation};
-ghost use Rattle.litrs_base.specs.Refusal.{plain};
+ghost use Rattle.litrs_base.specs.Refusal.{without_span};
 ghost use Rattle.litrs_base.specs.Text.{first_passes};
 ghost use Rattle.litrs_grammar.specs.Literal.{IsLiteral, suffix_of, literal_parse, kind_parse, string_literal_of};
 ghost use Rattle.litrs_grammar.specs.Allocation.{allocates};
@@ -301,7 +301,7 @@ impl Literal<&str> {
 /// Why a text that begins as no literal is none. One that begins with `c` is refused as a C string.
 fn other_refusal(text: &str) -> ParseErrorKind
     requires { IsFront Front.Other text.now }
-    ensures { IsRefusal literal_parse (chars text.now) (plain result) }
+    ensures { IsRefusal literal_parse (chars text.now) (without_span result) }
 {
     if begins_with(b"c", text.as_bytes()) {
         ParseErrorKind::InvalidCStringLiteralStart

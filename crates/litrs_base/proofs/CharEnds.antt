@@ -10,11 +10,11 @@ use Rattle.litrs_base.specs.declared.err.ParseErrorKind.{ParseErrorKind}
 use Rattle.litrs_base.specs.declared.err.ParseError.{ParseError}
 use Rattle.litrs_base.specs.Text.{byte_len, PointsInto}
 use Rattle.litrs_base.specs.CharEnd.{IsBoundaryOf, IsCharEnd, PointsAtCharacters, IsCutBy}
-use Rattle.litrs_base.specs.Refusal.{Refusal, refusal_of, IsInText, plain, moved, moved_span, char_span_of, marked_span, HasCharSpan, MovesWithin}
+use Rattle.litrs_base.specs.Refusal.{Refusal, refusal_of, IsInText, without_span, shifted, shifted_span, char_span_of, marked_span, HasCharSpan, MovesWithin}
 use Rattle.litrs_base.proofs.Spans.{byte_len-append}
 
 -- a refusal with no span
-pub no_span : (t : List ℕ) (e : ParseError) (kind : ParseErrorKind) → refusal_of e ≡ plain kind → HasCharSpan t e
+pub no_span : (t : List ℕ) (e : ParseError) (kind : ParseErrorKind) → refusal_of e ≡ without_span kind → HasCharSpan t e
 no_span t e kind same = let none : e.span ≡ None = ap (λ (r : Refusal). r.span) same in rw none tt
 
 -- the boundary that is found in the bytes of a text
@@ -76,7 +76,7 @@ end_or (Some span) = span.end
 abbrev ending_at : ℕ → Option (Range ℕ) → Option (Range ℕ)
 ending_at place o = option_map (λ span. record { start = span.start; end = place }) o
 
-moved_end : (front t : List ℕ) (o p : Option (Range ℕ)) (a b : ℕ) → p ≡ moved_span (byte_len front) o → ending_at b p ≡ moved_span (byte_len front) (ending_at a o) →
+moved_end : (front t : List ℕ) (o p : Option (Range ℕ)) (a b : ℕ) → p ≡ shifted_span (byte_len front) o → ending_at b p ≡ shifted_span (byte_len front) (ending_at a o) →
     IfSome o (λ span. IsCharEnd t span.end a) → IfSome p (λ span. IsCharEnd (front ++ t) span.end b)
 moved_end front t None p a b same ends is = rw same tt
 moved_end front t (Some s) p a b same ends is =
@@ -84,8 +84,8 @@ moved_end front t (Some s) p a b same ends is =
     rw same (subst (λ (n : ℕ). IsCharEnd (front ++ t) (s.end + byte_len front) n) (sym b_is) (char_end_moved front t s.end a is))
 
 -- a refusal of what follows a front, moved by it
-pub char_span_moved : (front t : List ℕ) (e f : ParseError) → refusal_of f ≡ moved (byte_len front) (refusal_of e) →
-    char_span_of f ≡ moved_span (byte_len front) (char_span_of e) → HasCharSpan t e → HasCharSpan (front ++ t) f
+pub char_span_moved : (front t : List ℕ) (e f : ParseError) → refusal_of f ≡ shifted (byte_len front) (refusal_of e) →
+    char_span_of f ≡ shifted_span (byte_len front) (char_span_of e) → HasCharSpan t e → HasCharSpan (front ++ t) f
 char_span_moved front t e f same ends is = moved_end front t e.span f.span e.char_end f.char_end (ap (λ (r : Refusal). r.span) same) ends is
 
 -- Character spans
@@ -164,11 +164,11 @@ char_span_on t x e = on e.span e.char_end
     on (Some span) place inside is = char_end_on t x span.end place inside.within is
 
 -- the refusal of what follows a front may be moved by it, where the text is not too long
-pub moves_within : (front t : List ℕ) (e : ParseError) → IsInText (front ++ t) (moved (byte_len front) (refusal_of e)) → HasCharSpan t e → byte_len (front ++ t) < 2 ^ 64 →
+pub moves_within : (front t : List ℕ) (e : ParseError) → IsInText (front ++ t) (shifted (byte_len front) (refusal_of e)) → HasCharSpan t e → byte_len (front ++ t) < 2 ^ 64 →
     MovesWithin (byte_len front) e
 moves_within front t e inside is small = within e.span e.char_end inside is
   where
-    within : (o : Option (Range ℕ)) (place : ℕ) → IfSome (moved_span (byte_len front) o) (PointsInto (front ++ t)) → IfSome o (λ span. IsCharEnd t span.end place) →
+    within : (o : Option (Range ℕ)) (place : ℕ) → IfSome (shifted_span (byte_len front) o) (PointsInto (front ++ t)) → IfSome o (λ span. IsCharEnd t span.end place) →
         ForSome o (λ span. (span.start + byte_len front < 2 ^ 64) × (span.end + byte_len front < 2 ^ 64) × (place + byte_len front < 2 ^ 64))
     within None place inside is = λ x same. cc
     within (Some span) place inside is = λ x same.

@@ -8,7 +8,7 @@ use Rattle.std.proofs.lemmas.Bool.{and_parts, ltb-true}
 use Rattle.std.proofs.lemmas.List.{length-append}
 use Rattle.std.proofs.lemmas.Str.{encodes-append, encode_ascii, length-encode, len_utf8_bounds}
 use Rattle.litrs_base.specs.declared.err.ParseErrorKind.{ParseErrorKind}
-use Rattle.litrs_base.specs.Refusal.{Refusal, IsInText, plain, over, at}
+use Rattle.litrs_base.specs.Refusal.{Refusal, IsInText, without_span, spanning, at_byte}
 use Rattle.litrs_base.specs.Text.{byte_len}
 
 pub byte_len-append : (s t : List ℕ) → byte_len (s ++ t) ≡ byte_len s + byte_len t
@@ -30,17 +30,17 @@ byte_len_ascii (c ∷ cs) all =
     let more : byte_len cs ≡ length cs = byte_len_ascii cs parts.1 in
     ap (λ b. length (b ++ encode_utf8_all cs)) one ∙ ap suc more
 
-pub plain_within : (t : List ℕ) (kind : ParseErrorKind) → IsInText t (plain kind)
+pub plain_within : (t : List ℕ) (kind : ParseErrorKind) → IsInText t (without_span kind)
 plain_within t kind = tt
 
 -- a span over a part of the text
-pub over_within : (t a b c : List ℕ) (start end : ℕ) (kind : ParseErrorKind) → a ++ (b ++ c) ≡ t → byte_len a ≡ start → start + byte_len b ≡ end → IsInText t (over start end kind)
+pub over_within : (t a b c : List ℕ) (start end : ℕ) (kind : ParseErrorKind) → a ++ (b ++ c) ≡ t → byte_len a ≡ start → start + byte_len b ≡ end → IsInText t (spanning start end kind)
 over_within t a b c start end kind spells at_start at_end =
     let all : byte_len t ≡ byte_len a + (byte_len b + byte_len c) = ap byte_len (sym spells) ∙ (byte_len-append a (b ++ c) ∙ ap (λ n. byte_len a + n) (byte_len-append b c)) in
     record { front = a; rest = b ++ c; cut = spells; start = sym at_start; in_order = omega arith; within = omega arith }
 
 -- a span of one byte where a character begins
-pub at_within : (t a : List ℕ) (c : ℕ) (b : List ℕ) (place : ℕ) (kind : ParseErrorKind) → a ++ (c ∷ b) ≡ t → byte_len a ≡ place → IsInText t (at place kind)
+pub at_within : (t a : List ℕ) (c : ℕ) (b : List ℕ) (place : ℕ) (kind : ParseErrorKind) → a ++ (c ∷ b) ≡ t → byte_len a ≡ place → IsInText t (at_byte place kind)
 at_within t a c b place kind spells at_place =
     let all : byte_len t ≡ byte_len a + byte_len (c ∷ b) = ap byte_len (sym spells) ∙ byte_len-append a (c ∷ b) in
     let room : 1 + byte_len b ≤ byte_len (c ∷ b) = byte_len-cons c b in

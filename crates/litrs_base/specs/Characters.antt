@@ -89,9 +89,9 @@ abbrev pub is_scalar : ℕ → Bool
 is_scalar c = if nat_lt c 0xD800 then true else nat_le 0xE000 c && nat_lt c 0x110000
 
 -- Where Unicode is off, as in byte strings, a character is ASCII.
-abbrev pub is_ascii_unless : (unicode : Bool) → ℕ → Bool
-is_ascii_unless unicode c = unicode || is_ascii c
+abbrev pub fits_charset : (unicode : Bool) → ℕ → Bool
+fits_charset unicode c = unicode || is_ascii c
 
 -- Where NUL is not allowed, as in C strings, a character or a value is not NUL.
-abbrev pub is_no_nul_unless : (allow_nul : Bool) → ℕ → Bool
-is_no_nul_unless allow_nul c = allow_nul || not (c == nul)
+abbrev pub nul_is_allowed : (allow_nul : Bool) → ℕ → Bool
+nul_is_allowed allow_nul c = allow_nul || not (c == nul)

@@ -19,26 +19,26 @@ abbrev pub refusal : Option (Range ℕ) → ParseErrorKind → Refusal
 refusal span kind = record { span = span; kind = kind }
 
 -- a refusal that points at no part of the text
-abbrev pub plain : ParseErrorKind → Refusal
-plain kind = refusal None kind
+abbrev pub without_span : ParseErrorKind → Refusal
+without_span kind = refusal None kind
 
 -- one that points at the bytes from start up to end
-abbrev pub over : ℕ → ℕ → ParseErrorKind → Refusal
-over start end kind = refusal (Some (record { start = start; end = end })) kind
+abbrev pub spanning : ℕ → ℕ → ParseErrorKind → Refusal
+spanning start end kind = refusal (Some (record { start = start; end = end })) kind
 
 -- one that points at one byte
-abbrev pub at : ℕ → ParseErrorKind → Refusal
-at place kind = over place (place + 1) kind
+abbrev pub at_byte : ℕ → ParseErrorKind → Refusal
+at_byte place kind = spanning place (place + 1) kind
 
 -- both ends of a span moved
-abbrev pub moved_span : ℕ → Option (Range ℕ) → Option (Range ℕ)
-moved_span offset None = None
-moved_span offset (Some span) =
+abbrev pub shifted_span : ℕ → Option (Range ℕ) → Option (Range ℕ)
+shifted_span offset None = None
+shifted_span offset (Some span) =
     Some (record { start = span.start + offset; end = span.end + offset })
 
 -- the same refusal of a text that stands `offset` bytes further on
-abbrev pub moved : ℕ → Refusal → Refusal
-moved offset r = refusal (moved_span offset r.span) r.kind
+abbrev pub shifted : ℕ → Refusal → Refusal
+shifted offset r = refusal (shifted_span offset r.span) r.kind
 
 -- where the refusal has a span, it lies in the text
 abbrev pub IsInText : List ℕ → Refusal → Type 0

@@ -18,7 +18,7 @@ pub struct ParseError {
 
 impl ParseError {
     ghost use Rattle.std.specs.Prelude.{IfSome};
-    ghost use Rattle.litrs_base.specs.Refusal.{refusal, refusal_of, kind_of, span_of, char_span_of, marked_span, HasCharSpan, moved, moved_span, MovesWithin};
+    ghost use Rattle.litrs_base.specs.Refusal.{refusal, refusal_of, kind_of, span_of, char_span_of, marked_span, HasCharSpan, shifted, shifted_span, MovesWithin};
     ghost use Rattle.litrs_base.specs.CharEnd.{PointsAtCharacters, IsCutBy};
     ghost use Rattle.litrs_base.specs.Finality.{is_final, is_open};
 
@@ -153,8 +153,8 @@ impl ParseError {
     /// Adds `offset` bytes to the start and the end of both spans. The sums fit.
     pub fn offset_span(self, offset: usize) -> ParseError
         requires { MovesWithin offset self }
-        ensures refusal { refusal_of result ≡ moved offset (refusal_of self) }
-        ensures char_span { char_span_of result ≡ moved_span offset (char_span_of self) }
+        ensures refusal { refusal_of result ≡ shifted offset (refusal_of self) }
+        ensures char_span { char_span_of result ≡ shifted_span offset (char_span_of self) }
     {
         let Self {
             span,

@@ -21,3 +21,4 @@ pub mod CTexts
 pub mod Hashes
 pub mod RawTexts
 pub mod RawBytes
+pub mod MemoryErrors

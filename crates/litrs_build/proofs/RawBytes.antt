@@ -7,7 +7,7 @@ use Rattle.std.specs.Str.{chars, IsUtf8, encode_utf8_all}
 use Rattle.std.proofs.lemmas.Bool.{and_from, and_parts, ltb-true, true≢false, false_from_ne_true}
 use Rattle.std.proofs.lemmas.Str.{encodes-chars, chars-encodes}
 use lib.Utf8.{scalar, scalars, low_scalar}
-use Rattle.litrs_base.specs.Characters.{is_ascii, is_ascii_unless, is_no_nul_unless}
+use Rattle.litrs_base.specs.Characters.{is_ascii, fits_charset, nul_is_allowed}
 use Rattle.litrs_base.specs.declared.quotes.StringKind.TheVariants.{ByteString as byte_string_kind}
 use Rattle.litrs_grammar.specs.Suffix.{is_suffix}
 use Rattle.litrs_grammar.specs.Raw.{is_raw_char}
@@ -24,8 +24,8 @@ raw_is_ascii : (bs : List ℕ) → list_all (is_raw_char false true) bs ≡ true
 raw_is_ascii [] all = refl
 raw_is_ascii (c ∷ bs) all =
     let both = and_parts (is_raw_char false true c) (list_all (is_raw_char false true) bs) all in
-    let rest = and_parts (not (eqb c 13)) (is_ascii_unless false c && is_no_nul_unless true c) both.0 in
-    and_from _ _ (and_parts (is_ascii c) (is_no_nul_unless true c) rest.1).0 (raw_is_ascii bs both.1)
+    let rest = and_parts (not (eqb c 13)) (fits_charset false c && nul_is_allowed true c) both.0 in
+    and_from _ _ (and_parts (is_ascii c) (nul_is_allowed true c) rest.1).0 (raw_is_ascii bs both.1)
 
 ascii_scalars : (bs : List ℕ) → list_all is_ascii bs ≡ true → scalars bs ≡ true
 ascii_scalars [] all = refl

@@ -9,7 +9,7 @@ use Rattle.std.proofs.lemmas.Bool.{and_from, and_parts, cond_both, eqb-true, eqb
 use Rattle.std.proofs.lemmas.List.{append_assoc}
 use Rattle.std.proofs.lemmas.Str.{encode_ascii}
 use lib.Utf8.{scalar, scalars, scalar_cases, low_scalar}
-use Rattle.litrs_base.specs.Characters.{is_ascii, is_ascii_unless, is_no_nul_unless, is_scalar}
+use Rattle.litrs_base.specs.Characters.{is_ascii, fits_charset, nul_is_allowed, is_scalar}
 use Rattle.litrs_base.specs.Unescape.{unescaped_number}
 use Rattle.litrs_base.specs.declared.quotes.Switches.{Switches}
 use Rattle.litrs_base.specs.Quotes.{char_switches, byte_switches, string_switches, byte_string_switches, c_string_switches, char_switches_of}

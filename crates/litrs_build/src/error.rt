@@ -1,6 +1,8 @@
 //! Why no literal was built.
 ghost use Rattle.std.specs.Prelude.{◌≡◌};
+ghost use Rattle.litrs_base.specs.Refusal.{kind_of};
 
+use litrs::{ParseError, ParseErrorKind};
 use std::alloc::AllocError;
 use std::error::Error;
 use std::fmt;
@@ -44,5 +46,16 @@ impl From<AllocError> for BuildError {
 
     fn from(_: AllocError) -> Self {
         BuildError::Memory
+    }
+}
+
+/// The error of a parse of a text that is a literal: an allocation failed.
+pub(crate) fn memory_error(error: &ParseError) -> BuildError
+    requires { kind_of error.now ≡ ParseErrorKind.OutOfMemory }
+    ensures { result ≡ BuildError.Memory }
+{
+    match error.kind() {
+        ParseErrorKind::OutOfMemory => BuildError::Memory,
+        _ => unreachable!(),
     }
 }

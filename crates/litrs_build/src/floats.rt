@@ -224,6 +224,7 @@ fn written_text(
     let len = number
         .saturating_add(exponent.len())
         .saturating_add(suffix.len());
+    // bounded by the length of the text, which was counted.
     let mut text = String::with_capacity(alloc, len)?;
     push_part(&mut text, integer)?;
     push_fraction(&mut text, fraction)?;

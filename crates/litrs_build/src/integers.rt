@@ -236,6 +236,7 @@ fn written_text(
     let len = grouped_len(digits, group)
         .saturating_add(front)
         .saturating_add(suffix.len());
+    // bounded by the length of the text, which was counted.
     let mut text = String::with_capacity(alloc, len)?;
     text.push_str(prefix)?;
     push_grouped(&mut text, main, digits, group)?;

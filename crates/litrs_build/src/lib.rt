@@ -3,13 +3,13 @@
 //!
 //! | Value | Call | Literal |
 //! |---|---|---|
-//! | `a`, LF, U+200B | [`char_literal`] | `'a'`, `'\n'`, `'\u{200b}'` |
-//! | 97, 10, 255 | [`byte_literal`] | `b'a'`, `b'\n'`, `b'\xff'` |
-//! | `é"` and LF | [`string_literal`] | `"é\"\n"` |
-//! | the same as bytes | [`byte_string_literal`] | `b"\xc3\xa9\"\n"` |
-//! | the same, and the byte FF | [`c_string_literal`] | `c"é\"\n\xff"` |
-//! | `a"#` | [`raw_string_literal`] | `r##"a"#"##` |
-//! | the same as bytes | [`raw_byte_string_literal`] | `br##"a"#"##` |
+//! | `a`, LF, U+200B | [`char`] | `'a'`, `'\n'`, `'\u{200b}'` |
+//! | 97, 10, 255 | [`byte`] | `b'a'`, `b'\n'`, `b'\xff'` |
+//! | `é"` and LF | [`string`] | `"é\"\n"` |
+//! | the same as bytes | [`byte_string`] | `b"\xc3\xa9\"\n"` |
+//! | the same, and the byte FF | [`c_string`] | `c"é\"\n\xff"` |
+//! | `a"#` | [`raw_string`] | `r##"a"#"##` |
+//! | the same as bytes | [`raw_byte_string`] | `br##"a"#"##` |
 //! | 255 in base sixteen, and `u8` | [`integer`] | `0xffu8` |
 //! | 1048575 in base sixteen, in groups of four | [`grouped_integer`] | `0xf_ffff` |
 //! | the parts `1`, `5` and `e3` | [`float`] | `1.5e3` |
@@ -21,12 +21,12 @@
 //! printable stays.
 //!
 //! ```
-//! use litrs_build::{BuildError, string_literal};
+//! use litrs_build::{BuildError, string};
 //! use std::alloc::Global;
 //!
 //! /// A line of a configuration file.
 //! fn setting(alloc: Global, name: &str, value: &str) -> Result<String, BuildError> {
-//!     let literal = string_literal(alloc, value, "")?;
+//!     let literal = string(alloc, value, "")?;
 //!     let mut line = String::from_str(alloc, name)?;
 //!     line.push_str(" = ")?;
 //!     line.push_str(literal.raw_input())?;
@@ -36,19 +36,19 @@
 //! ```
 #![tactic(auto)]
 
-pub use byte_string::byte_string_literal;
-pub use c_string::c_string_literal;
-pub use char::{byte_literal, char_literal};
+pub use byte_strings::byte_string;
+pub use c_strings::c_string;
+pub use chars::{byte, char};
 pub use error::BuildError;
 pub use floats::float;
 pub use integers::{grouped_integer, integer, regroup};
 pub use printable::is_printable;
-pub use raw::{raw_byte_string_literal, raw_string_literal};
-pub use string::string_literal;
+pub use raw::{raw_byte_string, raw_string};
+pub use strings::string;
 
-mod byte_string;
-mod c_string;
-mod char;
+mod byte_strings;
+mod c_strings;
+mod chars;
 mod error;
 mod floats;
 mod integers;
@@ -56,4 +56,4 @@ pub mod laws;
 mod printable;
 mod raw;
 mod spelling;
-mod string;
+mod strings;

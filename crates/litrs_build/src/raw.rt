@@ -10,7 +10,7 @@ ghost use Rattle.litrs_grammar.specs.LiteralText.{string_text};
 ghost use Rattle.litrs_build.specs.Errors.{IsErrorOf};
 ghost use Rattle.litrs_build.specs.Raw.{greater, hashes_needed, is_raw_value, raw_error, run_after, written_raw};
 
-use crate::error::BuildError;
+use crate::error::{BuildError, memory_error};
 use litrs::{ByteStringLit, StringLit};
 use litrs_lex::check_suffix;
 use std::alloc::{AllocError, Global};
@@ -26,11 +26,7 @@ use std::str;
 /// than 255 hashes; else `Memory` where an allocation fails.
 ///
 /// [ref]: https://doc.rust-lang.org/reference/tokens.html#raw-string-literals
-pub fn raw_string_literal(
-    alloc: Global,
-    value: &str,
-    suffix: &str,
-) -> Result<StringLit<String>, BuildError>
+pub fn raw_string(alloc: Global, value: &str, suffix: &str) -> Result<StringLit<String>, BuildError>
     ensures written { IfOk result (λ lit. chars lit.raw
         ≡ string_text string_kind (written_raw (chars value.now) (chars suffix.now))) }
     ensures parts { IfOk result (λ lit.
@@ -44,7 +40,7 @@ pub fn raw_string_literal(
     let text = write_raw(alloc, "r", value, suffix, true, true)?;
     match StringLit::parse(alloc, text) {
         Ok(lit) => Ok(lit),
-        Err(_) => Err(BuildError::Memory),
+        Err(e) => Err(memory_error(&e)),
     }
 }
 
@@ -58,7 +54,7 @@ pub fn raw_string_literal(
 /// a CR or need more than 255 hashes; else `Memory` where an allocation fails.
 ///
 /// [ref]: https://doc.rust-lang.org/reference/tokens.html#raw-byte-string-literals
-pub fn raw_byte_string_literal(
+pub fn raw_byte_string(
     alloc: Global,
     value: &[u8],
     suffix: &str,
@@ -75,7 +71,7 @@ pub fn raw_byte_string_literal(
     let text = write_raw_bytes(alloc, value, suffix)?;
     match ByteStringLit::parse(alloc, text) {
         Ok(lit) => Ok(lit),
-        Err(_) => Err(BuildError::Memory),
+        Err(e) => Err(memory_error(&e)),
     }
 }
 
@@ -109,6 +105,7 @@ fn write_raw(
         .saturating_add(suffix.len())
         .saturating_add(2 + 2 * hashes);
     let len = value.len().saturating_add(around);
+    // bounded by the length of the text, which was counted.
     let mut text = String::with_capacity(alloc, len)?;
     text.push_str(front)?;
     push_hashes(&mut text, hashes)?;

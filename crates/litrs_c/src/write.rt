@@ -13,7 +13,7 @@ ghost use Rattle.litrs_c.specs.Writes.{WritesLiteral, decimal, error_status};
 use crate::literals::HALF;
 use crate::{LITERAL, NOT_UTF8, OUT_OF_MEMORY, REFUSED, Written, nothing, room};
 use litrs::IntegerBase;
-use litrs_build::{BuildError, byte_string_literal, integer, string_literal};
+use litrs_build::{BuildError, byte_string, integer, string};
 use std::alloc::Global;
 use std::str;
 
@@ -40,7 +40,7 @@ pub extern "C" fn litrs_write_string(
     let (Ok(value), Ok(suffix)) = (str::from_utf8(value), str::from_utf8(suffix)) else {
         return nothing(NOT_UTF8);
     };
-    match string_literal(alloc, value, suffix) {
+    match string(alloc, value, suffix) {
         Ok(lit) => Written {
             status: LITERAL,
             len: room::write(room, lit.raw_input().as_bytes()),
@@ -71,7 +71,7 @@ pub extern "C" fn litrs_write_bytes(
     let Ok(suffix) = str::from_utf8(suffix) else {
         return nothing(NOT_UTF8);
     };
-    match byte_string_literal(alloc, value, suffix) {
+    match byte_string(alloc, value, suffix) {
         Ok(lit) => Written {
             status: LITERAL,
             len: room::write(room, lit.raw_input().as_bytes()),

@@ -6,7 +6,7 @@ use Rattle.std.specs.List.{list_all, list_any}
 use Rattle.std.proofs.lemmas.Bool.{leb-true}
 use Rattle.unicode_ident.proofs.Computing.{unicode_ident}
 use Rattle.litrs_base.specs.declared.integer.IntegerBase.TheVariants as base
-use Rattle.litrs_base.specs.Refusal.{Refusal, moved}
+use Rattle.litrs_base.specs.Refusal.{Refusal, shifted}
 use Rattle.litrs_base.specs.Base.{is_digit, is_digit_or_underscore}
 use Rattle.litrs_base.specs.Numeral.{place_sum}
 use Rattle.litrs_base.specs.Text.{byte_len, first_passes, is_empty}
@@ -16,7 +16,7 @@ use Rattle.litrs_base.specs.declared.quotes.CharKind.{CharKind}
 use Rattle.litrs_base.specs.declared.quotes.StringKind.{StringKind}
 use Rattle.litrs_base.specs.Quotes.{raw_front}
 use Rattle.litrs_grammar.specs.Escape.{escape_refusal}
-use Rattle.litrs_grammar.specs.Quoted.{Item, body_text, is_body, QuotedParts, quoted_text, IsQuoted, stand_before, rest_refusal, IsQuotedRefusal}
+use Rattle.litrs_grammar.specs.Quoted.{Item, body_text, is_body, QuotedParts, quoted_text, IsQuoted, is_item_list, rest_refusal, IsQuotedRefusal}
 use Rattle.litrs_grammar.specs.CharByte.{CharParts, char_text, is_char_item, IsCharLiteral, char_kind_refusal}
 use Rattle.litrs_grammar.specs.Integer.{is_e, has_prefix, IntegerParts, integer_text, IsIntegerOf, integer_cut, integer_refusal}
 use Rattle.litrs_grammar.specs.Float.{FloatParts, float_text, is_underscore, is_exponent, is_decimal_literal, is_float_form, IsFloatOf, float_cut, float_refusal}
@@ -86,8 +86,8 @@ quoted spells body suffix = record { spells = spells; body = body; suffix = suff
 
 -- a text that is refused as one: the items before the refused place, the rest, and why
 pub refused_after : {front : List ℕ} {w : Switches} {t : List ℕ} {e : Refusal} (items : List Item) (rest : List ℕ) (cause : Refusal) →
-    front ++ (body_text items ++ rest) ≡ t → IsTrue (stand_before w rest items) → rest_refusal w rest ≡ Some cause →
-    moved (byte_len (front ++ body_text items)) cause ≡ e → IsQuotedRefusal front w t e
+    front ++ (body_text items ++ rest) ≡ t → IsTrue (is_item_list w rest items) → rest_refusal w rest ≡ Some cause →
+    shifted (byte_len (front ++ body_text items)) cause ≡ e → IsQuotedRefusal front w t e
 refused_after items rest cause spells taken told placed =
     record { items = items; rest = rest; cause = cause; spells = spells; taken = taken; told = told; placed = placed }
 

@@ -6,7 +6,7 @@ use Rattle.std.proofs.lemmas.Bool.Decides.{nat_tests}
 use Rattle.std.proofs.lemmas.List.{drop_at, append_assoc, take-append-drop, take-append-le, drop-append-le}
 use Rattle.litrs_base.specs.Text.{first_passes}
 use Rattle.litrs_grammar.specs.Integer.{is_e}
-use Rattle.litrs_grammar.specs.Float.{FloatParts, fraction_text, number_part, float_text, is_decimal_char, is_period, is_sign, sign_len, fraction_of, exponent_of, after, float_cut}
+use Rattle.litrs_grammar.specs.Float.{FloatParts, fraction_text, number_part, float_text, is_decimal_char, is_period, is_sign, sign_len, fraction_of, exponent_of, text_after, float_cut}
 use Rattle.litrs_grammar.proofs.Laws.Integer.{prefix_len_front, take_while_front}
 use Rattle.litrs_base.proofs.Runs.{run_of}
 
@@ -113,13 +113,13 @@ number_part-suffix d =
 -- a text is cut in one way
 
 after_exponent : List ℕ → Option (List ℕ) → List ℕ → List ℕ → FloatParts
-after_exponent i f p t = record { integer = i; fraction = f; exponent = p; suffix = after (i ++ (fraction_text f ++ p)) t }
+after_exponent i f p t = record { integer = i; fraction = f; exponent = p; suffix = text_after (i ++ (fraction_text f ++ p)) t }
 
 after_fraction : List ℕ → Option (List ℕ) → List ℕ → FloatParts
-after_fraction i f t = after_exponent i f (exponent_of (after (i ++ fraction_text f) t)) t
+after_fraction i f t = after_exponent i f (exponent_of (text_after (i ++ fraction_text f) t)) t
 
 after_integer : List ℕ → List ℕ → FloatParts
-after_integer i t = after_fraction i (fraction_of (after i t)) t
+after_integer i t = after_fraction i (fraction_of (text_after i t)) t
 
 -- the parts of a text that is cut
 pub cut_of_text : (d : FloatParts) → IsCut d → float_cut (float_text d) ≡ d
@@ -131,9 +131,9 @@ cut_of_text d cut =
     let x = d.suffix in
     let t = float_text d in
     let integer : take_while is_decimal_char t ≡ i = take_while_front is_decimal_char i (f ++ (p ++ x)) cut.integer (fraction_stops d.fraction p x cut.exponent cut.stops) in
-    let integer_left : after i t ≡ f ++ (p ++ x) = drop_at i (f ++ (p ++ x)) (length i) refl in
-    let fraction_left : after (i ++ f) t ≡ p ++ x = ap (after (i ++ f)) (sym (append_assoc i f (p ++ x))) ∙ drop_at (i ++ f) (p ++ x) (length (i ++ f)) refl in
-    let after_number : after (number_part d) t ≡ x = ap (after (number_part d)) (sym (number_part-suffix d)) ∙ drop_at (number_part d) x (length (number_part d)) refl in
+    let integer_left : text_after i t ≡ f ++ (p ++ x) = drop_at i (f ++ (p ++ x)) (length i) refl in
+    let fraction_left : text_after (i ++ f) t ≡ p ++ x = ap (text_after (i ++ f)) (sym (append_assoc i f (p ++ x))) ∙ drop_at (i ++ f) (p ++ x) (length (i ++ f)) refl in
+    let after_number : text_after (number_part d) t ≡ x = ap (text_after (number_part d)) (sym (number_part-suffix d)) ∙ drop_at (number_part d) x (length (number_part d)) refl in
     let fraction = fraction_of-text d.fraction p x cut.fraction cut.exponent cut.stops cut.no_period in
     let exponent = exponent_of-text p x cut.exponent cut.stops cut.no_letter cut.no_sign in
     ap (λ s. after_integer s t) integer

@@ -3,16 +3,16 @@ use Rattle.std.proofs.Common.{◌≡◌, ℕ, ◌+◌, ◌<◌, Bool, true, fals
 use Rattle.std.specs.Prelude.{◌==◌, if◌then◌else◌}
 use Rattle.std.specs.List.{list_all}
 use Rattle.std.proofs.lemmas.Bool.{and_parts, and_from, not-true, not-false, eqb-true, both_ways, true≢false, and_left, and_right, not_from_false, eq-eqb}
-use Rattle.litrs_base.specs.Refusal.{Refusal, plain}
+use Rattle.litrs_base.specs.Refusal.{Refusal, without_span}
 use Rattle.litrs_base.specs.declared.err.ParseErrorKind.TheVariants.{UnterminatedString}
-use Rattle.litrs_base.specs.Characters.{is_blank, is_ascii_unless}
+use Rattle.litrs_base.specs.Characters.{is_blank, fits_charset}
 use Rattle.litrs_base.proofs.Runs.{last_passes, is_line_feed, last_passes-append, line_feed_last}
 use Rattle.litrs_grammar.proofs.SuffixStart.{suffix_last}
 use Rattle.litrs_grammar.specs.Suffix.{is_suffix}
 use Rattle.litrs_base.specs.Text.{is_empty, first_passes}
 use Rattle.litrs_base.specs.declared.quotes.Switches.{Switches}
 use Rattle.litrs_grammar.specs.Escape.{Escape, simple_escape, hex_escape, unicode_escape, escape_text, is_escape, is_simple, escape_refusal, allows_value}
-use Rattle.litrs_grammar.specs.Quoted.{Item, plain_item, escape_item, continuation, item_text, is_item, is_plain, body_text, is_body, takes_all_blanks, is_taken_before, stand_before, without_last, backslash_refusal, rest_refusal}
+use Rattle.litrs_grammar.specs.Quoted.{Item, plain_item, escape_item, continuation, item_text, is_item, is_plain, body_text, is_body, takes_all_blanks, is_complete_before, is_item_list, without_last, backslash_refusal, rest_refusal}
 use Rattle.litrs_base.proofs.ListTests.{unless_none, none_if, none_unless, if_true, if_false}
 use Rattle.litrs_base.proofs.Spans.{none_from}
 use Rattle.litrs_grammar.proofs.Laws.Escape.{same_escape, refusal_escape, read_escape}
@@ -58,7 +58,7 @@ blanks_same (c ∷ a) (d ∷ b) x y h g e f same =
     (cc, rec.1)
 
 -- the item at the front of a text
-pub same_item : (w : Switches) (a b : Item) (x y : List ℕ) → is_item w a ≡ true → is_item w b ≡ true → is_taken_before x a ≡ true → is_taken_before y b ≡ true →
+pub same_item : (w : Switches) (a b : Item) (x y : List ℕ) → is_item w a ≡ true → is_item w b ≡ true → is_complete_before x a ≡ true → is_complete_before y b ≡ true →
     item_text a ++ x ≡ item_text b ++ y → (a ≡ b) × (x ≡ y)
 same_item w (plain_item c) (plain_item d) x y h g k l same = (cc, cc)
 same_item w (plain_item c) (escape_item e) x y h g k l same =
@@ -82,24 +82,24 @@ same_item w (continuation a) (continuation b) x y h g k l same =
 
 -- no item stands at the front of the text
 abbrev pub NoItem : Switches → List ℕ → Type 0
-NoItem w x = (a : Item) (after : List ℕ) → is_item w a ≡ true → is_taken_before after a ≡ true → item_text a ++ after ≡ x → ⊥
+NoItem w x = (a : Item) (after : List ℕ) → is_item w a ≡ true → is_complete_before after a ≡ true → item_text a ++ after ≡ x → ⊥
 
 -- a text is divided in at most one way into items and a rest where none follows
-pub same_items : (w : Switches) (L M : List Item) (x y : List ℕ) → stand_before w x L ≡ true → stand_before w y M ≡ true → NoItem w x → NoItem w y →
+pub same_items : (w : Switches) (L M : List Item) (x y : List ℕ) → is_item_list w x L ≡ true → is_item_list w y M ≡ true → NoItem w x → NoItem w y →
     body_text L ++ x ≡ body_text M ++ y → (L ≡ M) × (x ≡ y)
 same_items w [] [] x y h g ends ends' same = (refl, same)
 same_items w [] (b ∷ M) x y h g ends ends' same =
-    let p = and_parts _ (stand_before w y M) g in
+    let p = and_parts _ (is_item_list w y M) g in
     let q = and_parts (is_item w b) _ p.0 in
     absurd (ends b (body_text M ++ y) q.0 q.1 (sym (append_assoc (item_text b) (body_text M) y) ∙ sym same))
 same_items w (a ∷ L) [] x y h g ends ends' same =
-    let p = and_parts _ (stand_before w x L) h in
+    let p = and_parts _ (is_item_list w x L) h in
     let q = and_parts (is_item w a) _ p.0 in
     absurd (ends' a (body_text L ++ x) q.0 q.1 (sym (append_assoc (item_text a) (body_text L) x) ∙ same))
 same_items w (a ∷ L) (b ∷ M) x y h g ends ends' same =
-    let p = and_parts _ (stand_before w x L) h in
+    let p = and_parts _ (is_item_list w x L) h in
     let q = and_parts (is_item w a) _ p.0 in
-    let p' = and_parts _ (stand_before w y M) g in
+    let p' = and_parts _ (is_item_list w y M) g in
     let q' = and_parts (is_item w b) _ p'.0 in
     let first = same_item w a b (body_text L ++ x) (body_text M ++ y) q.0 q'.0 q.1 q'.1
     (sym (append_assoc (item_text a) (body_text L) x) ∙ same ∙ append_assoc (item_text b) (body_text M) y) in
@@ -131,13 +131,13 @@ plain_no_refusal : (w : Switches) (c : ℕ) (t : List ℕ) → is_plain w c ≡ 
 unfolding rest_refusal
 plain_no_refusal w c t h =
     let a = and_parts _ (allows_value w c) h in
-    let b = and_parts _ (is_ascii_unless w.unicode c) a.0 in
+    let b = and_parts _ (fits_charset w.unicode c) a.0 in
     let d = and_parts _ (not (c == 13)) b.0 in
     let e = and_parts (not (c == 34)) (not (c == 92)) d.0 in
     if_false (c == 92) _ _ (not-true _ e.1)
     ∙ none_if (c == 13) _ _ (not-true _ d.1)
     (none_unless (allows_value w c) _ _ a.1
-    (none_unless (is_ascii_unless w.unicode c) _ _ b.1
+    (none_unless (fits_charset w.unicode c) _ _ b.1
     (none_if _ _ _ (and_left _ _ (not-true _ e.0)) refl)))
 
 escape_no_refusal : (w : Switches) (e : Escape) (c : ℕ) (t : List ℕ) → is_escape w e ≡ true → rest_refusal w (escape_text e ++ c ∷ t) ≡ None
@@ -158,7 +158,7 @@ continuation_no_refusal : (w : Switches) (a : List ℕ) (c : ℕ) (t : List ℕ)
 unfolding rest_refusal
 continuation_no_refusal w a c t h = none_if _ _ _ (list_all-stop a c t h) refl
 
-pub item_no_refusal : (w : Switches) (a : Item) (after : List ℕ) → is_item w a ≡ true → is_taken_before after a ≡ true → rest_refusal w (item_text a ++ after) ≡ None
+pub item_no_refusal : (w : Switches) (a : Item) (after : List ℕ) → is_item w a ≡ true → is_complete_before after a ≡ true → rest_refusal w (item_text a ++ after) ≡ None
 item_no_refusal w (plain_item c) after h k = plain_no_refusal w c after h
 item_no_refusal w (escape_item e) [] h k = cc
 item_no_refusal w (escape_item e) (c ∷ t) h k = escape_no_refusal w e c t h
@@ -175,7 +175,7 @@ refused_no_item w x e told a after h k same =
 pub record HasItem (w : Switches) (t : List ℕ) (a : Item) (after : List ℕ) : Type 0 where
   pub spells : item_text a ++ after ≡ t
   pub grammar : is_item w a ≡ true
-  pub taken : is_taken_before after a ≡ true
+  pub taken : is_complete_before after a ≡ true
 
 abbrev pub SomeItem : Switches → List ℕ → Type 0
 SomeItem w t = (a : Item) × (after : List ℕ) × HasItem w t a after
@@ -237,7 +237,7 @@ after_backslash w [] h = escape_here w [] h
 after_backslash w (c ∷ t) h = go (c == 10) refl h
   where
     go : (b : Bool) → (c == 10) ≡ b →
-        (if b then (if list_all is_blank (c ∷ t) then Some (plain UnterminatedString) else None) else escape_refusal w (without_last (92 ∷ c ∷ t))) ≡ None →
+        (if b then (if list_all is_blank (c ∷ t) then Some (without_span UnterminatedString) else None) else escape_refusal w (without_last (92 ∷ c ∷ t))) ≡ None →
         SomeItem w (92 ∷ c ∷ t)
     go false e g = escape_here w (c ∷ t) g
     go true e g =
@@ -253,13 +253,13 @@ front_cons w c t true q b_is q_is h =
 front_cons w c t false true b_is q_is h =
     let a = none_from (c == 13) _ _ (sym (if_false _ _ _ b_is) ∙ h) in
     let b = unless_none (allows_value w c) _ _ a.1 in
-    let d = unless_none (is_ascii_unless w.unicode c) _ _ b.1 in
+    let d = unless_none (fits_charset w.unicode c) _ _ b.1 in
     let e = none_from ((c == 34) && not (is_suffix t)) _ _ d.1 in
     inr (inr (t, ap (λ n. n ∷ t) (sym (eqb-true c 34 q_is)), not-false _ (subst (λ b. (b && not (is_suffix t)) ≡ false) q_is e.0)))
 front_cons w c t false false b_is q_is h =
     let a = none_from (c == 13) _ _ (sym (if_false _ _ _ b_is) ∙ h) in
     let b = unless_none (allows_value w c) _ _ a.1 in
-    let d = unless_none (is_ascii_unless w.unicode c) _ _ b.1 in
+    let d = unless_none (fits_charset w.unicode c) _ _ b.1 in
     inl (
       plain_item c,
       t,
@@ -288,7 +288,7 @@ front w t = go t (rest_refusal w t) refl
 -- the items of a text, and the refused rest or the closing quote with a suffix after them
 pub record Derives (w : Switches) (t : List ℕ) (items : List Item) (rest : List ℕ) : Type 0 where
   pub spells : body_text items ++ rest ≡ t
-  pub taken : stand_before w rest items ≡ true
+  pub taken : is_item_list w rest items ≡ true
   pub ends : ((e : Refusal) × (rest_refusal w rest ≡ Some e)) ⊎ Closes rest
 
 abbrev pub SomeReading : Switches → List ℕ → Type 0
@@ -307,7 +307,7 @@ read_item w t a after here (items, rest, later) = (
   rest,
   record {
     spells = append_assoc (item_text a) (body_text items) rest ∙ ap (λ l. item_text a ++ l) later.spells ∙ here.spells;
-    taken = and_from _ _ (and_from _ _ here.grammar (subst (λ l. is_taken_before l a ≡ true) (sym later.spells) here.taken)) later.taken;
+    taken = and_from _ _ (and_from _ _ here.grammar (subst (λ l. is_complete_before l a ≡ true) (sym later.spells) here.taken)) later.taken;
     ends = later.ends;
   },
 )
@@ -328,30 +328,30 @@ pub read_items : (w : Switches) (t : List ℕ) → SomeReading w t
 read_items w t = read_within (length t + 1) w t (omega arith)
 
 -- a body stands before its closing quote, and what stands there is a body
-stands_item : (a : Item) (t s : List ℕ) → takes_all_blanks a t ≡ true → is_taken_before (t ++ 34 ∷ s) a ≡ true
+stands_item : (a : Item) (t s : List ℕ) → takes_all_blanks a t ≡ true → is_complete_before (t ++ 34 ∷ s) a ≡ true
 stands_item (plain_item c) t s h = refl
 stands_item (escape_item e) [] s h = refl
 stands_item (escape_item e) (c ∷ t) s h = refl
 stands_item (continuation b) [] s h = refl
 stands_item (continuation b) (c ∷ t) s h = h
 
-item_stands : (a : Item) (t s : List ℕ) → is_taken_before (t ++ 34 ∷ s) a ≡ true → takes_all_blanks a t ≡ true
+item_stands : (a : Item) (t s : List ℕ) → is_complete_before (t ++ 34 ∷ s) a ≡ true → takes_all_blanks a t ≡ true
 item_stands (plain_item c) t s h = refl
 item_stands (escape_item e) t s h = refl
 item_stands (continuation b) [] s h = refl
 item_stands (continuation b) (c ∷ t) s h = h
 
-pub body_stands : (w : Switches) (items : List Item) (s : List ℕ) → is_body w items ≡ true → stand_before w (34 ∷ s) items ≡ true
+pub body_stands : (w : Switches) (items : List Item) (s : List ℕ) → is_body w items ≡ true → is_item_list w (34 ∷ s) items ≡ true
 body_stands w [] s h = refl
 body_stands w (a ∷ items) s h =
     let p = and_parts _ (is_body w items) h in
     let q = and_parts (is_item w a) _ p.0 in
     and_from _ _ (and_from _ _ q.0 (stands_item a (body_text items) s q.1)) (body_stands w items s p.1)
 
-pub stands_body : (w : Switches) (items : List Item) (s : List ℕ) → stand_before w (34 ∷ s) items ≡ true → is_body w items ≡ true
+pub stands_body : (w : Switches) (items : List Item) (s : List ℕ) → is_item_list w (34 ∷ s) items ≡ true → is_body w items ≡ true
 stands_body w [] s h = refl
 stands_body w (a ∷ items) s h =
-    let p = and_parts _ (stand_before w (34 ∷ s) items) h in
+    let p = and_parts _ (is_item_list w (34 ∷ s) items) h in
     let q = and_parts (is_item w a) _ p.0 in
     and_from _ _ (and_from _ _ q.0 (item_stands a (body_text items) s q.1)) (stands_body w items s p.1)
 

@@ -7,7 +7,7 @@ use Rattle.std.proofs.lemmas.Bool.{and_parts, or_from}
 use Rattle.std.proofs.lemmas.Bool.Decides.{nat_tests}
 use Rattle.std.proofs.lemmas.List.{get_or-append-add}
 use Rattle.litrs_base.specs.declared.err.ParseErrorKind.TheVariants as kind
-use Rattle.litrs_base.specs.Refusal.{Refusal, plain, at}
+use Rattle.litrs_base.specs.Refusal.{Refusal, without_span, at_byte}
 use Rattle.litrs_base.specs.Text.{begins_with, byte_len}
 use Rattle.litrs_base.proofs.Spans.{byte_len-append}
 use Rattle.litrs_grammar.specs.Suffix.{is_suffix, suffix_refusal}
@@ -39,14 +39,14 @@ ltb_after k a b = grind (arith, nat_tests)
 -- the rows of a body, by what they look at
 abbrev body_rows : Bool → ℕ → ℕ → Bool → List ℕ → ℕ → Option Refusal
 body_rows refused place c closed suffix end =
-    if refused then Some (at place (raw_char_refusal c))
-    else if not closed then Some (plain kind.UnterminatedRawString)
-    else if not (is_suffix suffix) then Some (at end (suffix_refusal suffix))
+    if refused then Some (at_byte place (raw_char_refusal c))
+    else if not closed then Some (without_span kind.UnterminatedRawString)
+    else if not (is_suffix suffix) then Some (at_byte end (suffix_refusal suffix))
     else None
 
-same_rows : (b d : Bool) (place at c e : ℕ) (closed still : Bool) (suffix after : List ℕ) (end stop : ℕ) → b ≡ d → place ≡ at → c ≡ e → closed ≡ still →
-    suffix ≡ after → end ≡ stop → body_rows b place c closed suffix end ≡ body_rows d at e still after stop
-same_rows b d place at c e closed still suffix after end stop p q r s u v = λ i. body_rows (p i) (q i) (r i) (s i) (u i) (v i)
+same_rows : (b d : Bool) (place at_byte c e : ℕ) (closed still : Bool) (suffix after : List ℕ) (end stop : ℕ) → b ≡ d → place ≡ at_byte → c ≡ e → closed ≡ still →
+    suffix ≡ after → end ≡ stop → body_rows b place c closed suffix end ≡ body_rows d at_byte e still after stop
+same_rows b d place at_byte c e closed still suffix after end stop p q r s u v = λ i. body_rows (p i) (q i) (r i) (s i) (u i) (v i)
 
 pub raw_refusals_go_on : RawRefusalsGoOn
 unfolding raw_body_refusal

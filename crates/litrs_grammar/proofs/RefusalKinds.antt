@@ -4,7 +4,7 @@ use Rattle.std.specs.Prelude.{if◌then◌else◌, option_map}
 use Rattle.std.proofs.lemmas.Bool.{true≢false}
 use Rattle.litrs_base.specs.declared.err.ParseErrorKind.{ParseErrorKind}
 use Rattle.litrs_base.specs.declared.err.ParseErrorKind.TheVariants.{Empty, InvalidLiteral, OutOfMemory, UnexpectedChar, InvalidSuffix}
-use Rattle.litrs_base.specs.Refusal.{Refusal, plain, moved}
+use Rattle.litrs_base.specs.Refusal.{Refusal, without_span, shifted}
 use Rattle.litrs_grammar.specs.Suffix.{is_ascii_symbol, suffix_refusal}
 use Rattle.litrs_base.specs.Text.{first_passes}
 use Rattle.litrs_base.specs.declared.quotes.StringKind.{StringKind}
@@ -47,7 +47,7 @@ fine_kind_if false x y f g = g
 fine_suffix : (t : List ℕ) → is_of_text (suffix_refusal t) ≡ true
 fine_suffix t = fine_kind_if (first_passes is_ascii_symbol t) UnexpectedChar InvalidSuffix refl refl
 
-fine_moved : (n : ℕ) (o : Option Refusal) → is_fine o ≡ true → is_fine (option_map (moved n) o) ≡ true
+fine_moved : (n : ℕ) (o : Option Refusal) → is_fine o ≡ true → is_fine (option_map (shifted n) o) ≡ true
 fine_moved n None h = h
 fine_moved n (Some e) h = h
 
@@ -157,8 +157,8 @@ string_start_of_text byte_string_kind memory = cc
 string_start_of_text c_string_kind memory = cc
 
 no_start_of_text : (kind : StringKind) (empty quoted raw : Bool) (e : Refusal) →
-    (if empty then refused_start (plain Empty) else if quoted then quoted_start else if raw then raw_start else refused_start (string_start_refusal kind)) ≡ refused_start e → IsOfText e
-no_start_of_text kind true quoted raw e is = subst IsOfText (let same : plain Empty ≡ e = cc in same) (λ memory. cc)
+    (if empty then refused_start (without_span Empty) else if quoted then quoted_start else if raw then raw_start else refused_start (string_start_refusal kind)) ≡ refused_start e → IsOfText e
+no_start_of_text kind true quoted raw e is = subst IsOfText (let same : without_span Empty ≡ e = cc in same) (λ memory. cc)
 no_start_of_text kind false true raw e is = cc
 no_start_of_text kind false false true e is = cc
 no_start_of_text kind false false false e is = subst IsOfText (let same : string_start_refusal kind ≡ e = cc in same) (string_start_of_text kind)
@@ -169,7 +169,7 @@ started_of_text kind quoted_start t e is refused = quoted_of_text (quoted_front 
 started_of_text kind raw_start t e is refused = of_table (raw_literal_refusal kind t) e (fine_raw _ _ _ _) refused
 
 kind_of_text : (kind : LiteralKind) (t : List ℕ) (e : Refusal) → IsKindRefusal kind t e → IsOfText e
-kind_of_text bool_literal t e refused = of_table (bool_refusal t) e (fine_if (is_bool t) None (Some (plain InvalidLiteral)) refl refl) refused
+kind_of_text bool_literal t e refused = of_table (bool_refusal t) e (fine_if (is_bool t) None (Some (without_span InvalidLiteral)) refl refl) refused
 kind_of_text integer_literal t e refused = integer_refusal_of_text t e refused
 kind_of_text float_literal t e refused = of_table (float_refusal t) e (fine_float t) refused
 kind_of_text char_literal t e refused = of_table (char_kind_refusal char_kind t) e (fine_char char_kind t) refused

@@ -1,6 +1,6 @@
 -- Bools. The Rust Reference, Literal expressions, Boolean literal expressions.
 use Rattle.std.specs.Prelude.{◌≡◌, ℕ, Bool, true, false, ◌||◌, List, Option, Some, None, codes, if◌then◌else◌}
-use Rattle.litrs_base.specs.Refusal.{Refusal, plain}
+use Rattle.litrs_base.specs.Refusal.{Refusal, without_span}
 use Rattle.litrs_base.specs.declared.err.ParseErrorKind.TheVariants.{InvalidLiteral}
 use Rattle.litrs_base.specs.Text.{is_text}
 
@@ -19,4 +19,4 @@ is_bool t = is_text (bool_text true) t || is_text (bool_text false) t
 
 -- Every other text is refused alike, the empty one too.
 abbrev pub bool_refusal : List ℕ → Option Refusal
-bool_refusal t = if is_bool t then None else Some (plain InvalidLiteral)
+bool_refusal t = if is_bool t then None else Some (without_span InvalidLiteral)

@@ -5,7 +5,7 @@ use Rattle.litrs_base.specs.declared.quotes.CharKind.{CharKind}
 use Rattle.litrs_base.specs.declared.quotes.CharKind.TheVariants.{Char as char_kind, Byte as byte_kind}
 use Rattle.litrs_base.specs.Quotes.{char_front, char_switches_of}
 use Rattle.litrs_base.specs.Unescape.{unescaped_number}
-use Rattle.litrs_base.specs.Refusal.{Refusal, plain, at, moved}
+use Rattle.litrs_base.specs.Refusal.{Refusal, without_span, at_byte, shifted}
 use Rattle.litrs_base.specs.declared.err.ParseErrorKind.{ParseErrorKind}
 use Rattle.litrs_base.specs.declared.err.ParseErrorKind.TheVariants.{Empty, DoesNotStartWithQuote, InvalidByteLiteralStart, UnterminatedCharLiteral, UnterminatedByteLiteral, UnescapedSingleQuote, EmptyCharLiteral, EmptyByteLiteral, UnescapedSpecialWhitespace, NonAsciiInByteLiteral, OverlongCharLiteral, OverlongByteLiteral}
 use Rattle.litrs_base.specs.Characters.{line_feed, tab, carriage_return, single_quote, backslash, letter_x, letter_u, close_brace, is_ascii}
@@ -77,9 +77,9 @@ overlong_kind byte_kind = OverlongByteLiteral
 
 -- a text that does not begin with the front of its kind
 abbrev pub start_refusal : CharKind → List ℕ → Refusal
-start_refusal kind [] = plain Empty
-start_refusal char_kind (c ∷ t) = at 0 DoesNotStartWithQuote
-start_refusal byte_kind (c ∷ t) = plain InvalidByteLiteralStart
+start_refusal kind [] = without_span Empty
+start_refusal char_kind (c ∷ t) = at_byte 0 DoesNotStartWithQuote
+start_refusal byte_kind (c ∷ t) = without_span InvalidByteLiteralStart
 
 -- how many characters the escape has that stands at the front of a text
 abbrev pub escape_length : List ℕ → ℕ
@@ -95,23 +95,24 @@ char_item_length c t = if c == backslash then escape_length t else 1
 -- by what follows the item, which has this many bytes
 abbrev pub closing_refusal : CharKind → ℕ → List ℕ → Option Refusal
 closing_refusal kind place t =
-    if not (list_any (λ c. c == single_quote) t) then Some (plain (unterminated_kind kind))
-    else if not (first_passes (λ c. c == single_quote) t) then Some (plain (overlong_kind kind))
-    else if not (is_suffix (drop 1 t)) then Some (at (place + 1) (suffix_refusal (drop 1 t)))
+    if not (list_any (λ c. c == single_quote) t) then Some (without_span (unterminated_kind kind))
+    else if not (first_passes (λ c. c == single_quote) t)
+    then Some (without_span (overlong_kind kind))
+    else if not (is_suffix (drop 1 t)) then Some (at_byte (place + 1) (suffix_refusal (drop 1 t)))
     else None
 
 -- by what follows the front; spans count from there
 abbrev pub char_item_refusal : CharKind → List ℕ → Option Refusal
-char_item_refusal kind [] = Some (plain (unterminated_kind kind))
+char_item_refusal kind [] = Some (without_span (unterminated_kind kind))
 char_item_refusal kind (c ∷ t) =
     let n = char_item_length c (c ∷ t) in
     if (c == single_quote) && first_passes (λ d. d == single_quote) t
-    then Some (at 0 UnescapedSingleQuote)
-    else if c == single_quote then Some (plain (empty_kind kind))
-    else if is_special_whitespace c then Some (at 0 UnescapedSpecialWhitespace)
+    then Some (at_byte 0 UnescapedSingleQuote)
+    else if c == single_quote then Some (without_span (empty_kind kind))
+    else if is_special_whitespace c then Some (at_byte 0 UnescapedSpecialWhitespace)
     else if (c == backslash) && is_some (escape_refusal (char_switches_of kind) (c ∷ t))
     then escape_refusal (char_switches_of kind) (c ∷ t)
-    else if not (allows_char kind c) then Some (at 0 NonAsciiInByteLiteral)
+    else if not (allows_char kind c) then Some (at_byte 0 NonAsciiInByteLiteral)
     else closing_refusal kind (byte_len (take n (c ∷ t))) (drop n (c ∷ t))
 
 -- by the front, which a text must have
@@ -119,7 +120,7 @@ unfoldable pub char_kind_refusal : CharKind → List ℕ → Option Refusal
 char_kind_refusal kind t =
     let place = length (char_front kind) in
     if begins_with (char_front kind) t
-    then option_map (moved place) (char_item_refusal kind (drop place t))
+    then option_map (shifted place) (char_item_refusal kind (drop place t))
     else Some (start_refusal kind t)
 
 -- why a text is no char

@@ -6,9 +6,9 @@ use Rattle.std.specs.Char.{is_ascii_hexdigit, digit_value}
 use Rattle.std.specs.List.{list_all, list_any, before_first}
 use Rattle.litrs_base.specs.declared.escape.Unescape.{Unescape}
 use Rattle.litrs_base.specs.declared.escape.Unescape.TheVariants.{Byte, Unicode}
-use Rattle.litrs_base.specs.Refusal.{Refusal, at, over}
+use Rattle.litrs_base.specs.Refusal.{Refusal, at_byte, spanning}
 use Rattle.litrs_base.specs.declared.err.ParseErrorKind.TheVariants.{UnterminatedEscape, DisallowedNulEscape, InvalidXEscape, NonAsciiXEscape, UnicodeEscapeInByteLiteral, UnicodeEscapeWithoutBrace, UnterminatedUnicodeEscape, InvalidStartOfUnicodeEscape, NonHexDigitInUnicodeEscape, TooManyDigitInUnicodeEscape, InvalidUnicodeEscapeChar, UnknownEscape}
-use Rattle.litrs_base.specs.Characters.{line_feed, tab, carriage_return, nul, single_quote, double_quote, backslash, digit_zero, underscore, letter_n, letter_r, letter_t, letter_u, letter_x, open_brace, close_brace, is_ascii, is_scalar, is_no_nul_unless}
+use Rattle.litrs_base.specs.Characters.{line_feed, tab, carriage_return, nul, single_quote, double_quote, backslash, digit_zero, underscore, letter_n, letter_r, letter_t, letter_u, letter_x, open_brace, close_brace, is_ascii, is_scalar, nul_is_allowed}
 use Rattle.litrs_base.specs.Numeral.{numeral}
 use Rattle.litrs_base.specs.declared.quotes.Switches.{Switches}
 use Rattle.litrs_base.specs.Text.{is_empty, byte_len, first_passes}
@@ -66,7 +66,7 @@ value_bytes (Unicode c) = encode_utf8 c
 
 -- a value may be 0 only where NUL is allowed
 abbrev pub allows_value : Switches → ℕ → Bool
-allows_value w value = is_no_nul_unless w.allow_nul value
+allows_value w value = nul_is_allowed w.allow_nul value
 
 -- `\x` goes up to 7F, or to FF where byte escapes are on
 abbrev pub allows_byte : Switches → ℕ → Bool
@@ -105,11 +105,11 @@ abbrev pub hex_refusal : Switches → List ℕ → Option Refusal
 hex_refusal w t =
     let high = slice_index t 0 in
     let low = slice_index t 1 in
-    if not (has_two_bytes t) then Some (over 0 (2 + byte_len t) UnterminatedEscape)
+    if not (has_two_bytes t) then Some (spanning 0 (2 + byte_len t) UnterminatedEscape)
     else if not (is_ascii_hexdigit high && is_ascii_hexdigit low)
-    then Some (over 0 4 InvalidXEscape)
-    else if not (allows_byte w (pair_value high low)) then Some (over 0 4 NonAsciiXEscape)
-    else if not (allows_value w (pair_value high low)) then Some (over 0 4 DisallowedNulEscape)
+    then Some (spanning 0 4 InvalidXEscape)
+    else if not (allows_byte w (pair_value high low)) then Some (spanning 0 4 NonAsciiXEscape)
+    else if not (allows_value w (pair_value high low)) then Some (spanning 0 4 DisallowedNulEscape)
     else None
 
 -- the place of the first character that passes the test once n have passed it
@@ -123,34 +123,34 @@ abbrev pub inner_refusal : Switches → List ℕ → Option Refusal
 inner_refusal w inner =
     let digits = take_while is_hex_or_underscore inner in
     if is_empty inner || first_passes (λ c. c == underscore) inner
-    then Some (at 3 InvalidStartOfUnicodeEscape)
+    then Some (at_byte 3 InvalidStartOfUnicodeEscape)
     else if nat_lt (length digits) (length inner) && nat_le (count_by is_ascii_hexdigit digits) 6
-    then Some (at (3 + length digits) NonHexDigitInUnicodeEscape)
+    then Some (at_byte (3 + length digits) NonHexDigitInUnicodeEscape)
     else if nat_lt 6 (count_by is_ascii_hexdigit inner)
-    then Some (at (3 + place_after 6 is_ascii_hexdigit inner) TooManyDigitInUnicodeEscape)
+    then Some (at_byte (3 + place_after 6 is_ascii_hexdigit inner) TooManyDigitInUnicodeEscape)
     else if not (allows_value w (hex_value inner))
-    then Some (over 0 (4 + length inner) DisallowedNulEscape)
+    then Some (spanning 0 (4 + length inner) DisallowedNulEscape)
     else if not (is_scalar (hex_value inner))
-    then Some (over 0 (4 + length inner) InvalidUnicodeEscapeChar)
+    then Some (spanning 0 (4 + length inner) InvalidUnicodeEscapeChar)
     else None
 
 -- by what follows `\u`
 abbrev pub unicode_refusal : Switches → List ℕ → Option Refusal
 unicode_refusal w t =
-    if not w.unicode then Some (over 0 2 UnicodeEscapeInByteLiteral)
+    if not w.unicode then Some (spanning 0 2 UnicodeEscapeInByteLiteral)
     else if not (first_passes (λ c. c == open_brace) t)
-    then Some (over 0 2 UnicodeEscapeWithoutBrace)
+    then Some (spanning 0 2 UnicodeEscapeWithoutBrace)
     else if not (list_any (λ c. c == close_brace) t)
-    then Some (over 0 (2 + byte_len t) UnterminatedUnicodeEscape)
+    then Some (spanning 0 (2 + byte_len t) UnterminatedUnicodeEscape)
     else inner_refusal w (before_first (λ c. c == close_brace) (drop 1 t))
 
 -- by what follows the backslash
 unfoldable pub escape_refusal : Switches → List ℕ → Option Refusal
-escape_refusal w [] = Some (at 0 UnterminatedEscape)
-escape_refusal w (c ∷ []) = Some (at 0 UnterminatedEscape)
+escape_refusal w [] = Some (at_byte 0 UnterminatedEscape)
+escape_refusal w (c ∷ []) = Some (at_byte 0 UnterminatedEscape)
 escape_refusal w (c ∷ letter ∷ t) =
-    if (letter == digit_zero) && not w.allow_nul then Some (over 0 2 DisallowedNulEscape)
+    if (letter == digit_zero) && not w.allow_nul then Some (spanning 0 2 DisallowedNulEscape)
     else if letter == letter_x then hex_refusal w t
     else if letter == letter_u then unicode_refusal w t
     else if is_simple letter then None
-    else Some (over 0 2 UnknownEscape)
+    else Some (spanning 0 2 UnknownEscape)

@@ -4,7 +4,7 @@ use Rattle.std.specs.Prelude.{◌≡◌, ℕ, ◌+◌, ◌==◌, ◌&&◌, ◌||
 use Rattle.std.specs.Char.{is_ascii_digit}
 use Rattle.std.specs.List.{list_all, list_any}
 use Rattle.litrs_base.specs.declared.err.ParseErrorKind.TheVariants.{Empty, DoesNotStartWithDigit, UnexpectedChar, NoExponentDigits, UnexpectedIntegerLit}
-use Rattle.litrs_base.specs.Refusal.{Refusal, plain, over, at}
+use Rattle.litrs_base.specs.Refusal.{Refusal, without_span, spanning, at_byte}
 use Rattle.litrs_base.specs.Characters.{period, underscore, plus, minus}
 use Rattle.litrs_base.specs.Text.{is_empty, byte_len, first_passes}
 use Rattle.litrs_grammar.specs.Suffix.{is_suffix, suffix_refusal}
@@ -106,21 +106,21 @@ exponent_of (c ∷ cs) =
     else []
 
 -- what follows the front of a text
-abbrev pub after : List ℕ → List ℕ → List ℕ
-after front t = drop (length front) t
+abbrev pub text_after : List ℕ → List ℕ → List ℕ
+text_after front t = drop (length front) t
 
 -- the integer part is the digits and `_` that the text begins with, and the suffix what follows the
 -- other parts
 unfoldable pub float_cut : List ℕ → FloatParts
 float_cut t =
     let integer = take_while is_decimal_char t in
-    let fraction = fraction_of (after integer t) in
-    let exponent = exponent_of (after (integer ++ fraction_text fraction) t) in
+    let fraction = fraction_of (text_after integer t) in
+    let exponent = exponent_of (text_after (integer ++ fraction_text fraction) t) in
     record {
       integer = integer;
       fraction = fraction;
       exponent = exponent;
-      suffix = after (integer ++ (fraction_text fraction ++ exponent)) t;
+      suffix = text_after (integer ++ (fraction_text fraction ++ exponent)) t;
     }
 
 -- a period, and after it something that is no decimal digit
@@ -138,17 +138,17 @@ float_cut_refusal d =
     let suffix = exponent + length d.exponent in
     let has_exponent = not (is_empty d.exponent) in
     if has_wrong_fraction (fraction_text d.fraction ++ (d.exponent ++ d.suffix))
-    then Some (at (fraction + 1) UnexpectedChar)
+    then Some (at_byte (fraction + 1) UnexpectedChar)
     else if has_exponent && not (list_any is_ascii_digit d.exponent)
-    then Some (over exponent suffix NoExponentDigits)
+    then Some (spanning exponent suffix NoExponentDigits)
     else if not (is_suffix d.suffix)
-    then Some (over suffix (byte_len (float_text d)) (suffix_refusal d.suffix))
-    else if not (is_some d.fraction || has_exponent) then Some (plain UnexpectedIntegerLit)
+    then Some (spanning suffix (byte_len (float_text d)) (suffix_refusal d.suffix))
+    else if not (is_some d.fraction || has_exponent) then Some (without_span UnexpectedIntegerLit)
     else None
 
 -- why a text is no float: None where it is one
 unfoldable pub float_refusal : List ℕ → Option Refusal
 float_refusal t =
-    if is_empty t then Some (plain Empty)
-    else if not (first_passes is_ascii_digit t) then Some (at 0 DoesNotStartWithDigit)
+    if is_empty t then Some (without_span Empty)
+    else if not (first_passes is_ascii_digit t) then Some (at_byte 0 DoesNotStartWithDigit)
     else float_cut_refusal (float_cut t)

@@ -5,7 +5,7 @@ use Rattle.std.specs.List.{list_all, list_any, take_while}
 use Rattle.litrs_base.specs.declared.integer.IntegerBase.{IntegerBase}
 use Rattle.litrs_base.specs.declared.integer.IntegerBase.TheVariants.{Binary, Octal, Decimal, Hexadecimal}
 use Rattle.litrs_base.specs.declared.err.ParseErrorKind.TheVariants.{Empty, DoesNotStartWithDigit, InvalidDigit, NoDigits, IntegerSuffixStartingWithE}
-use Rattle.litrs_base.specs.Refusal.{Refusal, plain, over, at}
+use Rattle.litrs_base.specs.Refusal.{Refusal, without_span, spanning, at_byte}
 use Rattle.litrs_base.specs.Characters.{letter_e, capital_e}
 use Rattle.litrs_base.specs.Text.{is_empty, byte_len, first_passes, begins_with}
 use Rattle.litrs_grammar.specs.Suffix.{is_suffix, suffix_refusal}
@@ -83,20 +83,20 @@ integer_cut t = record { base = base_of t; main = main_of t; suffix = after_main
 
 -- A text that begins with a decimal digit, by its main part and by what follows; the first row that
 -- fits decides.
-abbrev pub cut_refusal : IntegerParts → Option Refusal
-cut_refusal d =
+abbrev pub integer_cut_refusal : IntegerParts → Option Refusal
+integer_cut_refusal d =
     let start = byte_len (prefix d.base) in
     let end = byte_len (prefix d.base ++ d.main) in
     if not (is_suffix d.suffix) then
-    (if first_passes is_ascii_digit d.suffix then Some (at end InvalidDigit)
-    else Some (over end (byte_len (integer_text d)) (suffix_refusal d.suffix)))
-    else if first_passes is_e d.suffix then Some (at end IntegerSuffixStartingWithE)
-    else if not (list_any (is_digit d.base) d.main) then Some (over start end NoDigits)
+    (if first_passes is_ascii_digit d.suffix then Some (at_byte end InvalidDigit)
+    else Some (spanning end (byte_len (integer_text d)) (suffix_refusal d.suffix)))
+    else if first_passes is_e d.suffix then Some (at_byte end IntegerSuffixStartingWithE)
+    else if not (list_any (is_digit d.base) d.main) then Some (spanning start end NoDigits)
     else None
 
 -- the refusal of a text as an integer, None where there is none
 unfoldable pub integer_refusal : List ℕ → Option Refusal
 integer_refusal t =
-    if is_empty t then Some (plain Empty)
-    else if not (first_passes is_ascii_digit t) then Some (at 0 DoesNotStartWithDigit)
-    else cut_refusal (integer_cut t)
+    if is_empty t then Some (without_span Empty)
+    else if not (first_passes is_ascii_digit t) then Some (at_byte 0 DoesNotStartWithDigit)
+    else integer_cut_refusal (integer_cut t)

@@ -4,7 +4,7 @@ use Rattle.std.specs.Prelude.{◌≡◌, ℕ, ◌==◌, ◌||◌, Bool, List, dr
 use Rattle.std.specs.Char.{is_ascii_digit}
 use Rattle.std.specs.List.{prefix_len}
 use Rattle.litrs_base.specs.declared.err.ParseErrorKind.TheVariants.{Empty, InvalidLiteral, InvalidStringLiteralStart, InvalidByteStringLiteralStart, InvalidCStringLiteralStart}
-use Rattle.litrs_base.specs.Refusal.{Refusal, plain, at}
+use Rattle.litrs_base.specs.Refusal.{Refusal, without_span, at_byte}
 use Rattle.litrs_base.specs.declared.integer.IntegerBase.TheVariants.{Decimal}
 use Rattle.litrs_base.specs.Characters.{period}
 use Rattle.litrs_base.specs.Text.{is_empty, first_passes, begins_with}
@@ -24,9 +24,9 @@ use Rattle.litrs_grammar.specs.Literal.{LiteralKind, bool_literal, integer_liter
 
 -- a text that begins with neither front of its kind
 abbrev pub string_start_refusal : StringKind → Refusal
-string_start_refusal string_kind = at 0 InvalidStringLiteralStart
-string_start_refusal byte_string_kind = plain InvalidByteStringLiteralStart
-string_start_refusal c_string_kind = plain InvalidCStringLiteralStart
+string_start_refusal string_kind = at_byte 0 InvalidStringLiteralStart
+string_start_refusal byte_string_kind = without_span InvalidByteStringLiteralStart
+string_start_refusal c_string_kind = without_span InvalidCStringLiteralStart
 
 -- How a text starts: it is refused without looking further, or the table of quoted or of raw
 -- literals gives its refusal.
@@ -38,7 +38,7 @@ pub data StringStart : Type 0 where
 -- the first row that fits decides
 abbrev pub string_start : StringKind → List ℕ → StringStart
 string_start kind t =
-    if is_empty t then refused_start (plain Empty)
+    if is_empty t then refused_start (without_span Empty)
     else if begins_with (quoted_front kind) t then quoted_start
     else if begins_with (raw_front kind) t then raw_start
     else refused_start (string_start_refusal kind)
@@ -84,7 +84,7 @@ pub data Dispatch : Type 0 where
 -- the first row that fits decides
 unfoldable pub dispatch : List ℕ → Dispatch
 dispatch t =
-    if is_empty t then refused_as (plain Empty)
+    if is_empty t then refused_as (without_span Empty)
     else if is_bool t then parsed_as bool_literal
     else if first_passes is_ascii_digit t
     then (if begins_float t then parsed_as float_literal else parsed_as integer_literal)
@@ -94,7 +94,7 @@ dispatch t =
     else if begins_with (codes "b\"") t || begins_with (codes "br") t
     then parsed_as byte_string_literal
     else if begins_with (codes "c") t then parsed_as c_string_literal
-    else refused_as (plain InvalidLiteral)
+    else refused_as (without_span InvalidLiteral)
 
 -- the refusals of a text dispatched so; one that is parsed as a bool is a bool, and has none
 abbrev pub IsRefusalOfDispatch : Dispatch → List ℕ → Refusal → Type 0

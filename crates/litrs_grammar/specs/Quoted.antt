@@ -4,9 +4,9 @@
 use Rattle.std.specs.Prelude.{◌≡◌, ℕ, Bool, true, not, ◌==◌, ◌&&◌, if◌then◌else◌, List, [], ◌∷◌, ◌++◌, Option, Some, None, IsTrue, encode_utf8}
 use Rattle.std.specs.List.{list_all}
 use Rattle.litrs_base.specs.Quotes.{quoted_front, switches_of}
-use Rattle.litrs_base.specs.Refusal.{Refusal, plain, at, moved}
+use Rattle.litrs_base.specs.Refusal.{Refusal, without_span, at_byte, shifted}
 use Rattle.litrs_base.specs.declared.err.ParseErrorKind.TheVariants.{UnterminatedString, CarriageReturn, NulByte, NonAsciiInByteLiteral}
-use Rattle.litrs_base.specs.Characters.{line_feed, carriage_return, double_quote, backslash, is_blank, is_ascii_unless, is_no_nul_unless}
+use Rattle.litrs_base.specs.Characters.{line_feed, carriage_return, double_quote, backslash, is_blank, fits_charset, nul_is_allowed}
 use Rattle.litrs_base.specs.declared.quotes.Switches.{Switches}
 use Rattle.litrs_base.specs.declared.quotes.StringKind.{StringKind}
 use Rattle.litrs_grammar.specs.Escape.{Escape, escape_text, escape_value, value_bytes, allows_value, is_escape, escape_refusal}
@@ -37,7 +37,7 @@ item_value (continuation blanks) = []
 abbrev pub is_plain : Switches → ℕ → Bool
 is_plain w c =
     not (c == double_quote) && not (c == backslash) && not (c == carriage_return)
-    && is_ascii_unless w.unicode c && is_no_nul_unless w.allow_nul c
+    && fits_charset w.unicode c && nul_is_allowed w.allow_nul c
 
 abbrev pub is_item : Switches → Item → Bool
 is_item w (plain_item c) = is_plain w c
@@ -96,17 +96,17 @@ IsQuotedLiteral kind = IsQuoted (quoted_front kind) (switches_of kind)
 
 -- An item is taken into the list by what follows it. A continuation has all spaces, tabs and LFs;
 -- and neither a continuation nor an escape is taken that ends the text: it belongs to the rest.
-abbrev pub is_taken_before : List ℕ → Item → Bool
-is_taken_before after (plain_item c) = true
-is_taken_before after (escape_item e) = not (is_empty after)
-is_taken_before after (continuation blanks) =
+abbrev pub is_complete_before : List ℕ → Item → Bool
+is_complete_before after (plain_item c) = true
+is_complete_before after (escape_item e) = not (is_empty after)
+is_complete_before after (continuation blanks) =
     not (is_empty after) && not (first_passes is_blank after)
 
 -- the items are taken into the list, where the rest follows them
-abbrev pub stand_before : Switches → List ℕ → List Item → Bool
-stand_before w rest [] = true
-stand_before w rest (item ∷ items) =
-    is_item w item && is_taken_before (body_text items ++ rest) item && stand_before w rest items
+abbrev pub is_item_list : Switches → List ℕ → List Item → Bool
+is_item_list w rest [] = true
+is_item_list w rest (item ∷ items) =
+    is_item w item && is_complete_before (body_text items ++ rest) item && is_item_list w rest items
 
 -- a text without its last character
 abbrev pub without_last : List ℕ → List ℕ
@@ -120,19 +120,19 @@ without_last (c ∷ d ∷ t) = c ∷ without_last (d ∷ t)
 abbrev pub backslash_refusal : Switches → List ℕ → Option Refusal
 backslash_refusal w t =
     if first_passes (λ c. c == line_feed) t
-    then (if list_all is_blank t then Some (plain UnterminatedString) else None)
+    then (if list_all is_blank t then Some (without_span UnterminatedString) else None)
     else escape_refusal w (without_last (backslash ∷ t))
 
 -- Why nothing of the literal stands at the front of the rest; spans count from there. At its end
 -- the closing quote lacks. None: an item or the closing quote with a suffix stands there.
 unfoldable pub rest_refusal : Switches → List ℕ → Option Refusal
-rest_refusal w [] = Some (plain UnterminatedString)
+rest_refusal w [] = Some (without_span UnterminatedString)
 rest_refusal w (c ∷ t) =
     if c == backslash then backslash_refusal w t
-    else if c == carriage_return then Some (at 0 CarriageReturn)
-    else if not (allows_value w c) then Some (at 0 NulByte)
-    else if not (is_ascii_unless w.unicode c) then Some (at 0 NonAsciiInByteLiteral)
-    else if (c == double_quote) && not (is_suffix t) then Some (at 1 (suffix_refusal t))
+    else if c == carriage_return then Some (at_byte 0 CarriageReturn)
+    else if not (allows_value w c) then Some (at_byte 0 NulByte)
+    else if not (fits_charset w.unicode c) then Some (at_byte 0 NonAsciiInByteLiteral)
+    else if (c == double_quote) && not (is_suffix t) then Some (at_byte 1 (suffix_refusal t))
     else None
 
 -- The text is refused as a quoted literal after this front, as the rest decides. The span moves by
@@ -142,9 +142,9 @@ pub record IsQuotedRefusal (front : List ℕ) (w : Switches) (t : List ℕ) (e :
   pub rest : List ℕ
   pub cause : Refusal
   pub spells : front ++ (body_text items ++ rest) ≡ t
-  pub taken : IsTrue (stand_before w rest items)
+  pub taken : IsTrue (is_item_list w rest items)
   pub told : rest_refusal w rest ≡ Some cause
-  pub placed : moved (byte_len (front ++ body_text items)) cause ≡ e
+  pub placed : shifted (byte_len (front ++ body_text items)) cause ≡ e
 
 -- the same for one of the three kinds
 abbrev pub IsQuotedLiteralRefusal : StringKind → List ℕ → Refusal → Type 0

@@ -6,8 +6,8 @@ use Rattle.std.specs.Prelude.{◌≡◌, ℕ, ◌+◌, ◌≤◌, ◌==◌, ◌&
 use Rattle.std.specs.List.{list_all, prefix_len, slice_index}
 use Rattle.litrs_base.specs.declared.err.ParseErrorKind.{ParseErrorKind}
 use Rattle.litrs_base.specs.declared.err.ParseErrorKind.TheVariants.{InvalidLiteral, TooManyHashes, CarriageReturn, NulByte, NonAsciiInByteLiteral, UnterminatedRawString}
-use Rattle.litrs_base.specs.Refusal.{Refusal, plain, over, at}
-use Rattle.litrs_base.specs.Characters.{double_quote, hash, carriage_return, nul, is_ascii_unless, is_no_nul_unless}
+use Rattle.litrs_base.specs.Refusal.{Refusal, without_span, spanning, at_byte}
+use Rattle.litrs_base.specs.Characters.{double_quote, hash, carriage_return, nul, fits_charset, nul_is_allowed}
 use Rattle.litrs_base.specs.Text.{is_empty, byte_len, first_passes, begins_with}
 use Rattle.litrs_base.specs.declared.quotes.StringKind.{StringKind}
 use Rattle.litrs_base.specs.Quotes.{switches_of, raw_front}
@@ -42,7 +42,7 @@ occurs part (c ∷ cs) = begins_with part (c ∷ cs) || occurs part cs
 -- string. A backslash means nothing.
 abbrev pub is_raw_char : (unicode allow_nul : Bool) → ℕ → Bool
 is_raw_char unicode allow_nul c =
-    not (c == carriage_return) && (is_ascii_unless unicode c && is_no_nul_unless allow_nul c)
+    not (c == carriage_return) && (fits_charset unicode c && nul_is_allowed allow_nul c)
 
 -- a raw body between n hashes: its characters may stand there, and what would close it does not
 -- occur in it
@@ -114,10 +114,11 @@ raw_body_refusal unicode allow_nul n start t =
     let allowed = prefix_len (is_raw_char unicode allow_nul) body in
     let suffix = drop (length body + (1 + n)) t in
     if nat_lt allowed (length body)
-    then Some (at (start + byte_len (take allowed t)) (raw_char_refusal (slice_index t allowed)))
-    else if not (occurs (raw_closing n) t) then Some (plain UnterminatedRawString)
+    then Some (at_byte (start + byte_len (take allowed t))
+        (raw_char_refusal (slice_index t allowed)))
+    else if not (occurs (raw_closing n) t) then Some (without_span UnterminatedRawString)
     else if not (is_suffix suffix)
-    then Some (at (start + (byte_len body + (1 + n))) (suffix_refusal suffix))
+    then Some (at_byte (start + (byte_len body + (1 + n))) (suffix_refusal suffix))
     else None
 
 -- Why what follows a front, from the place start on, is no raw literal: None where it is one. The
@@ -126,9 +127,9 @@ unfoldable pub raw_refusal : (unicode allow_nul : Bool) (start : ℕ) → List �
 raw_refusal unicode allow_nul start t =
     let n = hash_len t in
     let after = drop n t in
-    if is_empty after then Some (plain InvalidLiteral)
-    else if nat_lt 255 n then Some (over start (start + n) TooManyHashes)
-    else if not (first_passes is_quote after) then Some (plain InvalidLiteral)
+    if is_empty after then Some (without_span InvalidLiteral)
+    else if nat_lt 255 n then Some (spanning start (start + n) TooManyHashes)
+    else if not (first_passes is_quote after) then Some (without_span InvalidLiteral)
     else raw_body_refusal unicode allow_nul n (start + (n + 1)) (drop 1 after)
 
 -- why a text that begins with the front of the kind is no raw literal of the kind

@@ -6,7 +6,7 @@ use Rattle.litrs_base.specs.CharEnd.{PointsAtCharacters}
 use Rattle.litrs_base.specs.Derivations.{HasNoDerivation}
 use Rattle.litrs_base.specs.Characters.{line_feed}
 use Rattle.litrs_base.specs.Finality.{is_final, is_open}
-use Rattle.litrs_base.specs.Refusal.{Refusal, plain, refusal_of, kind_of, char_span_of, IsInText, HasCharSpan}
+use Rattle.litrs_base.specs.Refusal.{Refusal, without_span, refusal_of, kind_of, char_span_of, IsInText, HasCharSpan}
 use Rattle.litrs_grammar.specs.Continuation.{BeginsBy, EndsBy}
 use Rattle.litrs_grammar.specs.Closing.{closing_of, IsClosedBy}
 use Rattle.litrs_grammar.specs.Literal.{Derivation, Parse, IsLiteralOf}
@@ -46,7 +46,7 @@ pub record IsOutOfMemory (parse : Parse) (t : List ℕ) (e : ParseError) : Type 
   pub derivation : Derivation
   pub literal : IsLiteralOf parse t derivation
   pub allocated : IsTrue (allocates derivation)
-  pub error : refusal_of e ≡ plain OutOfMemory
+  pub error : refusal_of e ≡ without_span OutOfMemory
 
 -- the error of a parse that may allocate
 abbrev pub IsRefusedOrOutOfMemory : Parse → List ℕ → ParseError → Type 0

@@ -13,7 +13,7 @@ use Rattle.litrs_base.specs.declared.err.ParseErrorKind.TheVariants.{Empty, Does
 use Rattle.litrs_base.specs.declared.escape.Unescape.{Unescape}
 use Rattle.litrs_base.specs.declared.escape.Unescape.TheVariants.{Byte, Unicode}
 use Rattle.litrs_base.specs.Unescape.{unescaped_number}
-use Rattle.litrs_base.specs.Refusal.{Refusal, refusal_of, char_span_of, IsInText, HasCharSpan, MovesWithin, at, plain, moved, moved_span}
+use Rattle.litrs_base.specs.Refusal.{Refusal, refusal_of, char_span_of, IsInText, HasCharSpan, MovesWithin, at_byte, without_span, shifted, shifted_span}
 use Rattle.litrs_base.specs.Text.{byte_len, first_passes, is_empty, begins_with}
 use Rattle.litrs_base.proofs.Begins.{begins_with-split, begins_with-append}
 use Rattle.litrs_base.proofs.ByteLen.{byte_len_one_ascii}
@@ -50,7 +50,7 @@ nothing [] none = refl
 nothing (b ∷ bs) none = absurd (omega arith)
 
 -- the text ends
-pub end_refused : (kind : CharKind) (bs : List ℕ) (e : ParseError) → length bs ≤ 0 → refusal_of e ≡ plain (unterminated_kind kind) → IsItemRefused kind (chars bs) e
+pub end_refused : (kind : CharKind) (bs : List ℕ) (e : ParseError) → length bs ≤ 0 → refusal_of e ≡ without_span (unterminated_kind kind) → IsItemRefused kind (chars bs) e
 end_refused kind bs e none is = record {
   table = ap (λ l. char_item_refusal kind (chars l)) (nothing bs (omega arith)) ∙ (ap (char_item_refusal kind) chars-nil ∙ ap Some (sym is));
   char_span = no_span (chars bs) e (unterminated_kind kind) is;
@@ -85,17 +85,17 @@ quote_only = only_char 39 (omega arith)
 
 -- two quotes
 quote_first : (kind : CharKind) (bs : List ℕ) → IsUtf8 bs → bs ≡ 39 ∷ drop 1 bs → first_passes (λ c. c == 39) (drop 1 bs) ≡ true →
-    char_item_refusal kind (chars bs) ≡ Some (at 0 UnescapedSingleQuote)
+    char_item_refusal kind (chars bs) ≡ Some (at_byte 0 UnescapedSingleQuote)
 quote_first kind bs u is quote =
     ap (char_item_refusal kind) (front_chars bs 39 (omega arith) is)
     ∙ if_true _ _ _ (first_passes-chars (λ c. c == 39) (drop 1 bs) quote_only (after_utf8 bs 39 (omega arith) u is) ∙ quote)
 
 pub quote_row : (kind : CharKind) (bs : List ℕ) → IsUtf8 bs → begins_with (39 ∷ []) bs ≡ true → first_passes (λ c. c == 39) (drop 1 bs) ≡ true →
-    char_item_refusal kind (chars bs) ≡ Some (at 0 UnescapedSingleQuote)
+    char_item_refusal kind (chars bs) ≡ Some (at_byte 0 UnescapedSingleQuote)
 quote_row kind bs u begins quote = quote_first kind bs u (front_byte bs 39 begins) quote
 
 pub empty_row : (kind : CharKind) (bs : List ℕ) → IsUtf8 bs → begins_with (39 ∷ []) bs ≡ true → first_passes (λ c. c == 39) (drop 1 bs) ≡ false →
-    char_item_refusal kind (chars bs) ≡ Some (plain (empty_kind kind))
+    char_item_refusal kind (chars bs) ≡ Some (without_span (empty_kind kind))
 empty_row kind bs u begins quote =
     let is = front_byte bs 39 begins in
     ap (char_item_refusal kind) (front_chars bs 39 (omega arith) is)
@@ -141,14 +141,14 @@ escape_item kind bs value len r = record {
 }
 
 -- a character that stands for itself
-special_first : (kind : CharKind) (c : ℕ) (t : List ℕ) → (c == 39) ≡ false → is_special_whitespace c ≡ true → char_item_refusal kind (c ∷ t) ≡ Some (at 0 UnescapedSpecialWhitespace)
+special_first : (kind : CharKind) (c : ℕ) (t : List ℕ) → (c == 39) ≡ false → is_special_whitespace c ≡ true → char_item_refusal kind (c ∷ t) ≡ Some (at_byte 0 UnescapedSpecialWhitespace)
 special_first kind c t quote special = if_false _ _ _ (and_left _ _ quote) ∙ (if_false _ _ _ quote ∙ if_true _ _ _ special)
 
 special_low : (c : ℕ) → is_special_whitespace c ≡ true → c < 128
 special_low c h = grind (arith, nat_tests)
 
 pub special_row : (kind : CharKind) (bs : List ℕ) (b : ℕ) → begins_with (b ∷ []) bs ≡ true → (b ≡ 39 → ⊥) → is_special_whitespace b ≡ true →
-    char_item_refusal kind (chars bs) ≡ Some (at 0 UnescapedSpecialWhitespace)
+    char_item_refusal kind (chars bs) ≡ Some (at_byte 0 UnescapedSpecialWhitespace)
 special_row kind bs b begins no_quote special =
     ap (char_item_refusal kind) (front_chars bs b (special_low b special) (front_byte bs b begins)) ∙ special_first kind b (chars (drop 1 bs)) (ne_eqb b 39 no_quote) special
 
@@ -194,13 +194,13 @@ wide_first bs b c t u is high same =
     let heads : w.first ∷ w.rest ≡ c ∷ t = sym w.is ∙ (ap chars (sym is) ∙ same) in
     let e : w.first ≡ c = cc in omega arith
 
-pub wide_row : (bs : List ℕ) (b : ℕ) → IsUtf8 bs → begins_with (b ∷ []) bs ≡ true → 128 ≤ b → char_item_refusal byte_kind (chars bs) ≡ Some (at 0 NonAsciiInByteLiteral)
+pub wide_row : (bs : List ℕ) (b : ℕ) → IsUtf8 bs → begins_with (b ∷ []) bs ≡ true → 128 ≤ b → char_item_refusal byte_kind (chars bs) ≡ Some (at_byte 0 NonAsciiInByteLiteral)
 wide_row bs b u begins high =
     let is = front_byte bs b begins in
     let w = chars_wide b (drop 1 bs) high (subst (λ (l : List ℕ). IsUtf8 l) is u) in
     ap (char_item_refusal byte_kind) (ap chars is ∙ w.is) ∙ wide_byte w.first w.rest w.wide
   where
-    wide_byte : (c : ℕ) (t : List ℕ) → 128 ≤ c → char_item_refusal byte_kind (c ∷ t) ≡ Some (at 0 NonAsciiInByteLiteral)
+    wide_byte : (c : ℕ) (t : List ℕ) → 128 ≤ c → char_item_refusal byte_kind (c ∷ t) ≡ Some (at_byte 0 NonAsciiInByteLiteral)
     wide_byte c t wide =
         let quote : (c == 39) ≡ false = ne_eqb c 39 (λ e. omega arith) in
         let slash : (c == 92) ≡ false = ne_eqb c 92 (λ e. omega arith) in
@@ -279,11 +279,11 @@ closed_after kind bs value len start u r none is_start =
 -- The closing quote
 
 pub unterminated_row : (kind : CharKind) (place : ℕ) (bs : List ℕ) → IsUtf8 bs → list_any (λ c. c == 39) bs ≡ false →
-    closing_refusal kind place (chars bs) ≡ Some (plain (unterminated_kind kind))
+    closing_refusal kind place (chars bs) ≡ Some (without_span (unterminated_kind kind))
 unterminated_row kind place bs u none = if_true _ _ _ (ap not (list_any-chars (λ c. c == 39) bs quote_only u ∙ none))
 
 pub overlong_row : (kind : CharKind) (place : ℕ) (bs : List ℕ) → IsUtf8 bs → list_any (λ c. c == 39) bs ≡ true → first_passes (λ c. c == 39) bs ≡ false →
-    closing_refusal kind place (chars bs) ≡ Some (plain (overlong_kind kind))
+    closing_refusal kind place (chars bs) ≡ Some (without_span (overlong_kind kind))
 overlong_row kind place bs u some never =
     if_false _ _ _ (ap not (list_any-chars (λ c. c == 39) bs quote_only u ∙ some)) ∙ if_true _ _ _ (ap not (first_passes-chars (λ c. c == 39) bs quote_only u ∙ never))
 
@@ -295,7 +295,7 @@ quote_chars : (bs : List ℕ) → first_passes (λ c. c == 39) bs ≡ true → c
 quote_chars bs quote = front_chars bs 39 (omega arith) (quote_begins bs quote)
 
 pub suffix_row : (kind : CharKind) (place : ℕ) (bs : List ℕ) → first_passes (λ c. c == 39) bs ≡ true → is_suffix (chars (drop 1 bs)) ≡ false →
-    closing_refusal kind place (chars bs) ≡ Some (at (place + 1) (suffix_refusal (chars (drop 1 bs))))
+    closing_refusal kind place (chars bs) ≡ Some (at_byte (place + 1) (suffix_refusal (chars (drop 1 bs))))
 suffix_row kind place bs quote none = ap (closing_refusal kind place) (quote_chars bs quote) ∙ if_true _ _ _ (ap not none)
 
 pub closed_row : (kind : CharKind) (place : ℕ) (bs : List ℕ) → first_passes (λ c. c == 39) bs ≡ true → is_suffix (chars (drop 1 bs)) ≡ true →
@@ -329,22 +329,22 @@ fronted byte_kind bs u begins =
 
 -- the refusal, moved by the front
 pub front_row : (kind : CharKind) (bs rest : List ℕ) (r : Refusal) → IsFronted kind bs rest → char_item_refusal kind (chars rest) ≡ Some r →
-    char_kind_refusal kind (chars bs) ≡ Some (moved (length (char_front kind)) r)
+    char_kind_refusal kind (chars bs) ≡ Some (shifted (length (char_front kind)) r)
 unfolding char_kind_refusal
 front_row kind bs rest r f table =
     let begins : begins_with (char_front kind) (chars bs) ≡ true = ap (begins_with (char_front kind)) f.characters ∙ begins_with-append (char_front kind) (chars rest) in
     let after : drop (length (char_front kind)) (chars bs) ≡ chars rest =
     ap (drop (length (char_front kind))) f.characters ∙ drop_at (char_front kind) (chars rest) (length (char_front kind)) refl in
-    if_true _ _ _ begins ∙ ap (option_map (moved (length (char_front kind)))) (ap (char_item_refusal kind) after ∙ table)
+    if_true _ _ _ begins ∙ ap (option_map (shifted (length (char_front kind)))) (ap (char_item_refusal kind) after ∙ table)
 
 -- an error after a front may be moved
 pub moves : (kind : CharKind) (bs rest : List ℕ) (e : ParseError) → IsUtf8 bs → IsFronted kind bs rest → IsItemRefused kind (chars rest) e → length bs < 2 ^ 64 →
     MovesWithin (length (char_front kind)) e
 moves kind bs rest e u f r small =
     let front = char_front kind in
-    let table = front_row kind bs rest (refusal_of e) f r.table ∙ ap (λ n. Some (moved n (refusal_of e))) (sym (front_size kind)) in
-    let inside : IsInText (front ++ chars rest) (moved (byte_len front) (refusal_of e)) =
-    subst (λ (t : List ℕ). IsInText t (moved (byte_len front) (refusal_of e))) f.characters (char_spans_lie_in_text kind (chars bs) (moved (byte_len front) (refusal_of e)) table) in
+    let table = front_row kind bs rest (refusal_of e) f r.table ∙ ap (λ n. Some (shifted n (refusal_of e))) (sym (front_size kind)) in
+    let inside : IsInText (front ++ chars rest) (shifted (byte_len front) (refusal_of e)) =
+    subst (λ (t : List ℕ). IsInText t (shifted (byte_len front) (refusal_of e))) f.characters (char_spans_lie_in_text kind (chars bs) (shifted (byte_len front) (refusal_of e)) table) in
     let size : byte_len (front ++ chars rest) ≡ length bs = ap byte_len (sym f.characters) ∙ ap length (encodes-chars bs u) in
     subst (λ (n : ℕ). MovesWithin n e) (front_size kind) (moves_within front (chars rest) e inside r.char_span (omega arith))
 
@@ -357,13 +357,13 @@ kind_refusal char_kind t r table = table
 kind_refusal byte_kind t r table = table
 
 pub char_refused : (kind : CharKind) (bs rest : List ℕ) (e f : ParseError) → IsFronted kind bs rest → IsItemRefused kind (chars rest) e →
-    refusal_of f ≡ moved (length (char_front kind)) (refusal_of e) → char_span_of f ≡ moved_span (length (char_front kind)) (char_span_of e) →
+    refusal_of f ≡ shifted (length (char_front kind)) (refusal_of e) → char_span_of f ≡ shifted_span (length (char_front kind)) (char_span_of e) →
     IsRefused (kind_parse (literal_of kind)) (chars bs) f
 char_refused kind bs rest e f fr r is_moved ends =
     is_refused (kind_parse (literal_of kind)) (chars bs) f
     (kind_refusal kind (chars bs) (refusal_of f) (front_row kind bs rest (refusal_of e) fr r.table ∙ ap Some (sym is_moved)))
     (subst (λ (t : List ℕ). HasCharSpan t f) (sym fr.characters)
-    (char_span_moved (char_front kind) (chars rest) e f (is_moved ∙ ap (λ n. moved n (refusal_of e)) (sym (front_size kind))) (ends ∙ ap (λ n. moved_span n (char_span_of e)) (sym (front_size kind))) r.char_span))
+    (char_span_moved (char_front kind) (chars rest) e f (is_moved ∙ ap (λ n. shifted n (refusal_of e)) (sym (front_size kind))) (ends ∙ ap (λ n. shifted_span n (char_span_of e)) (sym (front_size kind))) r.char_span))
 
 -- what is written so
 inner_written : (inner : List ℕ) → take (length (92 ∷ 117 ∷ 123 ∷ (inner ++ 125 ∷ [])) - 4) (inner ++ 125 ∷ []) ≡ inner
@@ -473,7 +473,7 @@ start_within kind bs value start u r =
 
 -- A text that does not begin with the front
 
-pub empty_start : (kind : CharKind) (bs : List ℕ) → is_empty bs ≡ true → char_kind_refusal kind (chars bs) ≡ Some (plain Empty)
+pub empty_start : (kind : CharKind) (bs : List ℕ) → is_empty bs ≡ true → char_kind_refusal kind (chars bs) ≡ Some (without_span Empty)
 unfolding char_kind_refusal
 empty_start char_kind [] none = ap (char_kind_refusal char_kind) chars-nil
 empty_start byte_kind [] none = ap (char_kind_refusal byte_kind) chars-nil
@@ -484,16 +484,16 @@ unfolding char_kind_refusal
 other_start char_kind bs u never = if_false _ _ _ (begins_with-chars (39 ∷ []) bs refl u ∙ never)
 other_start byte_kind bs u never = if_false _ _ _ (begins_with-chars (98 ∷ 39 ∷ []) bs refl u ∙ never)
 
-char_other : (t : List ℕ) → is_empty t ≡ false → start_refusal char_kind t ≡ at 0 DoesNotStartWithQuote
+char_other : (t : List ℕ) → is_empty t ≡ false → start_refusal char_kind t ≡ at_byte 0 DoesNotStartWithQuote
 char_other [] some = cc
 char_other (c ∷ t) some = refl
 
-byte_other : (t : List ℕ) → is_empty t ≡ false → start_refusal byte_kind t ≡ plain InvalidByteLiteralStart
+byte_other : (t : List ℕ) → is_empty t ≡ false → start_refusal byte_kind t ≡ without_span InvalidByteLiteralStart
 byte_other [] some = cc
 byte_other (c ∷ t) some = refl
 
-pub char_start : (bs : List ℕ) → IsUtf8 bs → is_empty bs ≡ false → begins_with (39 ∷ []) bs ≡ false → char_kind_refusal char_kind (chars bs) ≡ Some (at 0 DoesNotStartWithQuote)
+pub char_start : (bs : List ℕ) → IsUtf8 bs → is_empty bs ≡ false → begins_with (39 ∷ []) bs ≡ false → char_kind_refusal char_kind (chars bs) ≡ Some (at_byte 0 DoesNotStartWithQuote)
 char_start bs u some never = other_start char_kind bs u never ∙ ap Some (char_other (chars bs) (is_empty-chars bs u ∙ some))
 
-pub byte_start : (bs : List ℕ) → IsUtf8 bs → is_empty bs ≡ false → begins_with (98 ∷ 39 ∷ []) bs ≡ false → char_kind_refusal byte_kind (chars bs) ≡ Some (plain InvalidByteLiteralStart)
+pub byte_start : (bs : List ℕ) → IsUtf8 bs → is_empty bs ≡ false → begins_with (98 ∷ 39 ∷ []) bs ≡ false → char_kind_refusal byte_kind (chars bs) ≡ Some (without_span InvalidByteLiteralStart)
 byte_start bs u some never = other_start byte_kind bs u never ∙ ap Some (byte_other (chars bs) (is_empty-chars bs u ∙ some))

@@ -12,7 +12,7 @@ use Rattle.litrs_base.specs.declared.err.ParseErrorKind.TheVariants.{Unterminate
 use Rattle.litrs_base.specs.declared.escape.Unescape.{Unescape}
 use Rattle.litrs_base.specs.declared.escape.Unescape.TheVariants.{Byte}
 use Rattle.litrs_base.specs.Characters.{is_scalar}
-use Rattle.litrs_base.specs.Refusal.{refusal_of, IsInText, HasCharSpan, at, over}
+use Rattle.litrs_base.specs.Refusal.{refusal_of, IsInText, HasCharSpan, at_byte, spanning}
 use Rattle.litrs_base.specs.Text.{byte_len, first_passes, is_empty, begins_with}
 use Rattle.litrs_base.proofs.Begins.{begins_with-split}
 use Rattle.litrs_base.proofs.ByteLen.{byte_len_one_ascii}
@@ -141,7 +141,7 @@ nothing_left (c ∷ []) few = refl
 nothing_left (c ∷ d ∷ bs) few = absurd (omega arith)
 
 pub end_row : (w : Switches) (bs : List ℕ) → IsUtf8 bs → (is_empty (chars bs) || first_passes (λ c. c == 92) (chars bs)) ≡ true → length bs ≤ 1 →
-    escape_refusal w (chars bs) ≡ Some (at 0 UnterminatedEscape)
+    escape_refusal w (chars bs) ≡ Some (at_byte 0 UnterminatedEscape)
 unfolding escape_refusal
 end_row w [] u begins few = ap (escape_refusal w) chars-nil
 end_row w (c ∷ bs) u begins few =
@@ -153,12 +153,12 @@ pub few_bytes : (bs seen : List ℕ) → seen ≡ bs → length seen ≤ 1 → l
 few_bytes bs seen same none = let e = ap length same in omega arith
 
 -- by the letter
-pub unicode_off_row : (byte_escapes allow_nul : Bool) (t : List ℕ) → escape_refusal (switches false byte_escapes allow_nul) (92 ∷ 117 ∷ t) ≡ Some (over 0 2 UnicodeEscapeInByteLiteral)
+pub unicode_off_row : (byte_escapes allow_nul : Bool) (t : List ℕ) → escape_refusal (switches false byte_escapes allow_nul) (92 ∷ 117 ∷ t) ≡ Some (spanning 0 2 UnicodeEscapeInByteLiteral)
 unfolding escape_refusal
 unicode_off_row byte_escapes allow_nul t = refl
 
 unknown_at : (w : Switches) (c : ℕ) (t : List ℕ) → (c == 48) ≡ false → (c == 120) ≡ false → (c == 117) ≡ false → is_simple c ≡ false →
-    escape_refusal w (92 ∷ c ∷ t) ≡ Some (over 0 2 UnknownEscape)
+    escape_refusal w (92 ∷ c ∷ t) ≡ Some (spanning 0 2 UnknownEscape)
 unfolding escape_refusal
 unknown_at w c t nul hex unicode simple =
     if_false _ _ _ (ap (λ v. v && not w.allow_nul) nul) ∙ (if_false _ _ _ hex ∙ (if_false _ _ _ unicode ∙ if_false _ _ _ simple))
@@ -170,7 +170,7 @@ not_zero : (c : ℕ) → is_simple c ≡ false → (c == 48) ≡ false
 not_zero c simple = grind (arith, nat_tests)
 
 pub unknown_row : (w : Switches) (bs : List ℕ) (b : ℕ) → IsUtf8 bs → bs ≡ 92 ∷ b ∷ drop 2 bs → (b ≡ 120 → ⊥) → (b ≡ 117 → ⊥) → is_simple b ≡ false →
-    escape_refusal w (chars bs) ≡ Some (over 0 2 UnknownEscape)
+    escape_refusal w (chars bs) ≡ Some (spanning 0 2 UnknownEscape)
 unknown_row w bs b u is no_hex no_unicode simple = elim (cases_lt b 128) [
   | inl low ↦ ap (escape_refusal w) (letter_chars bs b low is) ∙ unknown_at w b (chars (drop 2 bs)) (not_zero b simple) (ne_eqb b 120 no_hex) (ne_eqb b 117 no_unicode) simple
   | inr high ↦ (let v = chars_wide b (drop 2 bs) high (utf8_after_ascii 92 (b ∷ drop 2 bs) (omega arith) (subst (λ (l : List ℕ). IsUtf8 l) is u)) in
@@ -192,7 +192,7 @@ simple_read w bs b value u is simple is_value allowed =
     (and_from _ _ simple (ap (allows_value w) (sym is_value) ∙ allowed)) (ap Byte (sym is_value)) (simple_size b (simple_low b simple))
 
 -- among the simple escapes only `\0` is NUL
-nul_at : (w : Switches) (t : List ℕ) → w.allow_nul ≡ false → escape_refusal w (92 ∷ 48 ∷ t) ≡ Some (over 0 2 DisallowedNulEscape)
+nul_at : (w : Switches) (t : List ℕ) → w.allow_nul ≡ false → escape_refusal w (92 ∷ 48 ∷ t) ≡ Some (spanning 0 2 DisallowedNulEscape)
 unfolding escape_refusal
 nul_at w t off = if_true _ _ _ (ap not off)
 
@@ -208,7 +208,7 @@ nul_value w value never = go w.allow_nul refl
     go false is = (is, eqb-true value 0 (not-false (value == 0) (ap (λ v. v || not (value == 0)) (sym is) ∙ never)))
 
 pub simple_nul_row : (w : Switches) (bs : List ℕ) (b value : ℕ) → bs ≡ 92 ∷ b ∷ drop 2 bs → is_simple b ≡ true → value ≡ simple_value b →
-    allows_value w value ≡ false → escape_refusal w (chars bs) ≡ Some (over 0 2 DisallowedNulEscape)
+    allows_value w value ≡ false → escape_refusal w (chars bs) ≡ Some (spanning 0 2 DisallowedNulEscape)
 simple_nul_row w bs b value is simple is_value never =
     let found = nul_value w value never in
     let letter : b ≡ 48 = nul_letter b simple (sym is_value ∙ found.1) in

@@ -14,11 +14,11 @@ use Rattle.std.proofs.lemmas.Str.{chars-nil, chars-append, IsUtf8-take, chars-Is
 use Rattle.litrs_base.specs.declared.integer.IntegerBase.TheVariants.{Decimal}
 use Rattle.litrs_base.specs.declared.err.ParseErrorKind.{ParseErrorKind}
 use Rattle.litrs_base.specs.declared.err.ParseErrorKind.TheVariants.{Empty, DoesNotStartWithDigit, UnexpectedChar, NoExponentDigits, UnexpectedIntegerLit}
-use Rattle.litrs_base.specs.Refusal.{Refusal, refusal, plain, over, at}
+use Rattle.litrs_base.specs.Refusal.{Refusal, refusal, without_span, spanning, at_byte}
 use Rattle.litrs_base.specs.Text.{is_empty, byte_len, first_passes}
 use Rattle.litrs_grammar.specs.Suffix.{is_suffix, suffix_refusal}
 use Rattle.litrs_grammar.specs.Integer.{is_e}
-use Rattle.litrs_grammar.specs.Float.{FloatParts, fraction_text, number_part, float_text, is_decimal_char, is_period, is_sign, fraction_of, exponent_of, after, float_cut, has_wrong_fraction, float_cut_refusal, float_refusal}
+use Rattle.litrs_grammar.specs.Float.{FloatParts, fraction_text, number_part, float_text, is_decimal_char, is_period, is_sign, fraction_of, exponent_of, text_after, float_cut, has_wrong_fraction, float_cut_refusal, float_refusal}
 use Rattle.litrs_lex.specs.declared.float.FloatCut.{FloatCut}
 use Rattle.litrs_lex.specs.FloatCut.{fraction_at, float_parts_at, IsFloatWithin, IsFloatAt, IsPartsCut}
 use Rattle.litrs_base.proofs.Chars.{chars_empty, chars_wide, ascii_by_test, chars_ascii, utf8_after_ascii, OnlyAscii, first_passes-chars}
@@ -103,13 +103,13 @@ integer_is : (bs : List ℕ) (d : FloatParts) → float_cut bs ≡ d → take_wh
 unfolding float_cut
 integer_is bs d e = ap (λ (p : FloatParts). p.integer) e
 
-fraction_is : (bs : List ℕ) (d : FloatParts) → float_cut bs ≡ d → fraction_of (after d.integer bs) ≡ d.fraction
+fraction_is : (bs : List ℕ) (d : FloatParts) → float_cut bs ≡ d → fraction_of (text_after d.integer bs) ≡ d.fraction
 unfolding float_cut
-fraction_is bs d e = ap (λ (p : FloatParts). fraction_of (after p.integer bs)) (sym e) ∙ ap (λ (p : FloatParts). p.fraction) e
+fraction_is bs d e = ap (λ (p : FloatParts). fraction_of (text_after p.integer bs)) (sym e) ∙ ap (λ (p : FloatParts). p.fraction) e
 
-exponent_is : (bs : List ℕ) (d : FloatParts) → float_cut bs ≡ d → exponent_of (after (d.integer ++ fraction_text d.fraction) bs) ≡ d.exponent
+exponent_is : (bs : List ℕ) (d : FloatParts) → float_cut bs ≡ d → exponent_of (text_after (d.integer ++ fraction_text d.fraction) bs) ≡ d.exponent
 unfolding float_cut
-exponent_is bs d e = ap (λ (p : FloatParts). exponent_of (after (p.integer ++ fraction_text p.fraction) bs)) (sym e) ∙ ap (λ (p : FloatParts). p.exponent) e
+exponent_is bs d e = ap (λ (p : FloatParts). exponent_of (text_after (p.integer ++ fraction_text p.fraction) bs)) (sym e) ∙ ap (λ (p : FloatParts). p.exponent) e
 
 record Places (cut : FloatCut) (d : FloatParts) : Type 0 where
   integer : length d.integer ≡ cut.end_integer
@@ -238,10 +238,10 @@ places_of_cut cut bs u h =
 -- the rows by the tests that the code makes
 abbrev pub rows_by : (integer fraction number len : ℕ) (kind : ParseErrorKind) (wrong_fraction no_digit suffix is_integer : Bool) → Option Refusal
 rows_by integer fraction number len kind wrong_fraction no_digit suffix is_integer =
-    if wrong_fraction then Some (at (integer + 1) UnexpectedChar)
-    else if no_digit then Some (over fraction number NoExponentDigits)
-    else if not suffix then Some (over number len kind)
-    else if is_integer then Some (plain UnexpectedIntegerLit)
+    if wrong_fraction then Some (at_byte (integer + 1) UnexpectedChar)
+    else if no_digit then Some (spanning fraction number NoExponentDigits)
+    else if not suffix then Some (spanning number len kind)
+    else if is_integer then Some (without_span UnexpectedIntegerLit)
     else None
 
 pub empty_by_length : (bs : List ℕ) → eqb (length bs) 0 ≡ is_empty bs
@@ -251,19 +251,19 @@ empty_by_length (b ∷ bs) = ne_eqb (suc (length bs)) 0 (λ e. omega arith)
 -- which row decides
 
 pub row_wrong_fraction : (i f n len : ℕ) (kind : ParseErrorKind) (wrong digit suffix integer : Bool) → wrong ≡ true →
-    rows_by i f n len kind wrong digit suffix integer ≡ Some (at (i + 1) UnexpectedChar)
+    rows_by i f n len kind wrong digit suffix integer ≡ Some (at_byte (i + 1) UnexpectedChar)
 row_wrong_fraction i f n len kind wrong digit suffix integer a = rw a refl
 
 pub row_no_digit : (i f n len : ℕ) (kind : ParseErrorKind) (wrong digit suffix integer : Bool) → wrong ≡ false → digit ≡ true →
-    rows_by i f n len kind wrong digit suffix integer ≡ Some (over f n NoExponentDigits)
+    rows_by i f n len kind wrong digit suffix integer ≡ Some (spanning f n NoExponentDigits)
 row_no_digit i f n len kind wrong digit suffix integer a b = rw (a, b) refl
 
 pub row_suffix : (i f n len : ℕ) (kind : ParseErrorKind) (wrong digit suffix integer : Bool) → wrong ≡ false → digit ≡ false → suffix ≡ false →
-    rows_by i f n len kind wrong digit suffix integer ≡ Some (over n len kind)
+    rows_by i f n len kind wrong digit suffix integer ≡ Some (spanning n len kind)
 row_suffix i f n len kind wrong digit suffix integer a b c = rw (a, b, c) refl
 
 pub row_integer : (i f n len : ℕ) (kind : ParseErrorKind) (wrong digit suffix integer : Bool) → wrong ≡ false → digit ≡ false → suffix ≡ true → integer ≡ true →
-    rows_by i f n len kind wrong digit suffix integer ≡ Some (plain UnexpectedIntegerLit)
+    rows_by i f n len kind wrong digit suffix integer ≡ Some (without_span UnexpectedIntegerLit)
 row_integer i f n len kind wrong digit suffix integer a b c d = rw (a, b, c, d) refl
 
 pub row_none : (i f n len : ℕ) (kind : ParseErrorKind) (wrong digit suffix integer : Bool) → wrong ≡ false → digit ≡ false → suffix ≡ true → integer ≡ false →
@@ -329,14 +329,14 @@ refusal_of_cut cut bs u h =
 
 -- the first row needs no more than the fraction
 wrong_row : (d : FloatParts) → has_wrong_fraction (fraction_text d.fraction ++ (d.exponent ++ d.suffix)) ≡ true →
-    float_cut_refusal d ≡ Some (at (length d.integer + 1) UnexpectedChar)
+    float_cut_refusal d ≡ Some (at_byte (length d.integer + 1) UnexpectedChar)
 wrong_row d wrong =
     row_wrong_fraction (length d.integer) (length d.integer + length (fraction_text d.fraction)) (length d.integer + length (fraction_text d.fraction) + length d.exponent)
     (byte_len (float_text d)) (suffix_refusal d.suffix) (has_wrong_fraction (fraction_text d.fraction ++ (d.exponent ++ d.suffix)))
     (not (is_empty d.exponent) && not (list_any is_ascii_digit d.exponent)) (is_suffix d.suffix) (not (is_some d.fraction || not (is_empty d.exponent))) wrong
 
 pub refusal_of_fraction : (bs : List ℕ) (n : ℕ) → IsUtf8 bs → n ≡ prefix_len is_decimal_char bs → has_wrong_fraction (drop n bs) ≡ true →
-    float_cut_refusal (float_cut (chars bs)) ≡ Some (at (n + 1) UnexpectedChar)
+    float_cut_refusal (float_cut (chars bs)) ≡ Some (at_byte (n + 1) UnexpectedChar)
 refusal_of_fraction bs n u is wrong =
     let c = cut_of bs in
     let d = c.parts in
@@ -345,7 +345,7 @@ refusal_of_fraction bs n u is wrong =
     let cut : FloatCut = record { end_integer = n; end_fraction = n + length (fraction_text d.fraction); end_number = n + length (fraction_text d.fraction) + length d.exponent } in
     let places : Places cut d = record { integer = integer; fraction = refl; exponent = refl } in
     ap float_cut_refusal (float_cut-chars bs c u)
-    ∙ (wrong_row (with_chars d) (wrong_fraction_at cut bs d u (fronts_of bs c) places ∙ wrong) ∙ ap (λ k. Some (at (k + 1) UnexpectedChar)) integer)
+    ∙ (wrong_row (with_chars d) (wrong_fraction_at cut bs d u (fronts_of bs c) places ∙ wrong) ∙ ap (λ k. Some (at_byte (k + 1) UnexpectedChar)) integer)
 
 -- something wrong after the period is at least one byte
 pub wrong_fraction_within : (t : List ℕ) → has_wrong_fraction t ≡ true → 2 ≤ length t
@@ -364,12 +364,12 @@ unfolding float_refusal
 refusal_of_digit t digit = rw (not_empty_by_first is_ascii_digit t digit, digit) refl
 
 -- the first two rows, by the bytes
-pub refusal-empty : (bs : List ℕ) → bs ≡ [] → float_refusal (chars bs) ≡ Some (plain Empty)
+pub refusal-empty : (bs : List ℕ) → bs ≡ [] → float_refusal (chars bs) ≡ Some (without_span Empty)
 unfolding float_refusal
 refusal-empty bs e = ap (λ t. float_refusal (chars t)) e ∙ ap float_refusal chars-nil
 
 pub refusal-no_digit : (bs : List ℕ) (b : ℕ) → IsUtf8 bs → slice_get bs 0 ≡ Some b → is_ascii_digit b ≡ false →
-    float_refusal (chars bs) ≡ Some (at 0 DoesNotStartWithDigit)
+    float_refusal (chars bs) ≡ Some (at_byte 0 DoesNotStartWithDigit)
 unfolding float_refusal
 refusal-no_digit bs b u first none =
     let other : first_passes is_ascii_digit bs ≡ false = first_passes_at is_ascii_digit bs b first ∙ none in
@@ -378,13 +378,13 @@ refusal-no_digit bs b u first none =
 -- the bytes up to the suffix are the number part
 pub number_part_at : (bs text front : List ℕ) (cut : FloatCut) → IsUtf8 text → text ≡ bs → IsFloatAt cut bs → front ≡ slice_range text 0 cut.end_number →
     chars front ≡ number_part (float_parts_at cut bs)
-number_part_at bs text front cut u same at is =
+number_part_at bs text front cut u same at_byte is =
     let d = float_parts_at cut bs in
     let utf8 : IsUtf8 bs = subst (λ (t : List ℕ). IsUtf8 t) same u in
     let all : cut.end_number - 0 ≡ cut.end_number = omega arith in
     let taken : front ≡ take cut.end_number bs = is ∙ (ap (λ t. slice_range t 0 cut.end_number) same ∙ ap (λ n. take n bs) all) in
     let split : take cut.end_number bs ++ drop cut.end_number bs ≡ bs = take-append-drop cut.end_number bs in
-    let front_utf8 : IsUtf8 (take cut.end_number bs) = IsUtf8-take bs cut.end_number utf8 at.places.number in
+    let front_utf8 : IsUtf8 (take cut.end_number bs) = IsUtf8-take bs cut.end_number utf8 at_byte.places.number in
     let whole : chars (take cut.end_number bs) ++ d.suffix ≡ number_part d ++ d.suffix =
-    sym (chars-append (take cut.end_number bs) (drop cut.end_number bs) front_utf8) ∙ (ap chars split ∙ (sym at.float.spells ∙ sym (number_part-suffix d))) in
+    sym (chars-append (take cut.end_number bs) (drop cut.end_number bs) front_utf8) ∙ (ap chars split ∙ (sym at_byte.float.spells ∙ sym (number_part-suffix d))) in
     ap chars taken ∙ append_cancel_right (chars (take cut.end_number bs)) (number_part d) d.suffix whole

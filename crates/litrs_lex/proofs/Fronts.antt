@@ -4,7 +4,7 @@ use Rattle.std.specs.Prelude.{codes, if◌then◌else◌}
 use Rattle.std.proofs.lemmas.Bool.{both_ways}
 use Rattle.litrs_base.specs.declared.err.ParseErrorKind.{ParseErrorKind}
 use Rattle.litrs_base.specs.declared.err.ParseErrorKind.TheVariants.{Empty, InvalidLiteral}
-use Rattle.litrs_base.specs.Refusal.{plain}
+use Rattle.litrs_base.specs.Refusal.{without_span}
 use Rattle.litrs_base.specs.Text.{is_empty, begins_with}
 use Rattle.litrs_base.proofs.Begins.{begins_with-split}
 use Rattle.litrs_grammar.specs.Literal.{bool_literal, integer_literal, float_literal, char_literal, byte_literal, string_literal, byte_string_literal, c_string_literal, string_literal_of}
@@ -28,7 +28,7 @@ unfolding dispatch
 some_text_at f (b ∷ bs) begins row other = refl
 some_text_at front.Empty [] begins row other = absurd (other refl)
 some_text_at (front.Bool value) [] begins row other =
-    let both : parsed_as bool_literal ≡ refused_as (plain Empty) = row in cc
+    let both : parsed_as bool_literal ≡ refused_as (without_span Empty) = row in cc
 some_text_at front.Number [] begins row other = cc
 some_text_at front.Char [] begins row other = cc
 some_text_at front.Byte [] begins row other = cc
@@ -78,7 +78,7 @@ char_alone (front.Raw byte_string_kind) bs row other = cc
 char_alone (front.Raw c_string_kind) bs row other = cc
 char_alone front.Other bs row other =
     row_by (begins_with (codes "c") bs) (parsed_as c_string_literal)
-    (refused_as (plain InvalidLiteral)) (parsed_as char_literal) (λ e. cc) (λ e. cc) row
+    (refused_as (without_span InvalidLiteral)) (parsed_as char_literal) (λ e. cc) (λ e. cc) row
 
 byte_alone : (f : Front) (bs : List ℕ) → row_of f bs ≡ parsed_as byte_literal →
     (f ≡ front.Byte → ⊥) → ⊥
@@ -97,7 +97,7 @@ byte_alone (front.Raw byte_string_kind) bs row other = cc
 byte_alone (front.Raw c_string_kind) bs row other = cc
 byte_alone front.Other bs row other =
     row_by (begins_with (codes "c") bs) (parsed_as c_string_literal)
-    (refused_as (plain InvalidLiteral)) (parsed_as byte_literal) (λ e. cc) (λ e. cc) row
+    (refused_as (without_span InvalidLiteral)) (parsed_as byte_literal) (λ e. cc) (λ e. cc) row
 
 -- a test is false that can't be true
 not_true : (test : Bool) → (test ≡ true → ⊥) → test ≡ false
@@ -173,7 +173,7 @@ string_alone : (kind : StringKind) (f : Front) (bs : List ℕ) →
     row_of f bs ≡ parsed_as (string_literal_of kind) →
     (f ≡ front.Quoted kind → ⊥) → (f ≡ front.Raw kind → ⊥) → (f ≡ front.Other → ⊥) → ⊥
 string_alone kind front.Empty bs row quoted raw other =
-    no_string_row kind (refused_as (plain Empty)) refl row
+    no_string_row kind (refused_as (without_span Empty)) refl row
 string_alone kind (front.Bool value) bs row quoted raw other =
     no_string_row kind (parsed_as bool_literal) refl row
 string_alone kind front.Number bs row quoted raw other =
@@ -193,10 +193,10 @@ string_alone kind front.Other bs row quoted raw other = other refl
 
 -- such a text is parsed as no string of another kind
 other_row : (bs : List ℕ) (row : Dispatch) → IsFront front.Other bs → dispatch bs ≡ row →
-    (parsed_as c_string_literal ≡ row → ⊥) → (refused_as (plain InvalidLiteral) ≡ row → ⊥) → ⊥
+    (parsed_as c_string_literal ≡ row → ⊥) → (refused_as (without_span InvalidLiteral) ≡ row → ⊥) → ⊥
 other_row bs row is named no_string no_literal =
     row_by (begins_with (codes "c") bs) (parsed_as c_string_literal)
-    (refused_as (plain InvalidLiteral)) row no_string no_literal (is.row ∙ named)
+    (refused_as (without_span InvalidLiteral)) row no_string no_literal (is.row ∙ named)
 
 other_quoted : (kind : StringKind) (bs : List ℕ) → IsFront front.Other bs →
     begins_with (quoted_front kind) bs ≡ true → ⊥

@@ -8,7 +8,7 @@ use Rattle.std.proofs.lemmas.List.{drop-drop}
 use Rattle.std.proofs.lemmas.Str.{chars-nil, chars_from_encodes, encodes-chars, encodes-append, IsUtf8-drop, IsUtf8-take}
 use Rattle.litrs_base.specs.declared.err.ParseErrorKind.TheVariants.{UnterminatedEscape, DisallowedNulEscape, InvalidXEscape, NonAsciiXEscape}
 use Rattle.litrs_base.specs.declared.escape.Unescape.TheVariants.{Byte}
-use Rattle.litrs_base.specs.Refusal.{over}
+use Rattle.litrs_base.specs.Refusal.{spanning}
 use Rattle.litrs_base.specs.Text.{byte_len, first_passes, begins_with}
 use Rattle.litrs_base.proofs.ByteLen.{byte_len_one_ascii, length-le-byte_len}
 use Rattle.litrs_base.proofs.Chars.{chars_ascii, chars_wide, utf8_after_ascii, first_passes-chars}
@@ -98,14 +98,14 @@ hex_text bs u begins =
     record { is = is; characters = letter_chars bs 120 (omega arith) is; utf8 = utf8_at bs 120 (omega arith) u is }
 
 pub hex_end_row : (w : Switches) (bs : List ℕ) → IsUtf8 bs → begins_with (92 ∷ 120 ∷ []) bs ≡ true → (IsCharBoundary bs 4 → ⊥) →
-    escape_refusal w (chars bs) ≡ Some (over 0 (length bs) UnterminatedEscape)
+    escape_refusal w (chars bs) ≡ Some (spanning 0 (length bs) UnterminatedEscape)
 hex_end_row w bs u begins off =
     let x = hex_text bs u begins in
     let r = drop 2 bs in
     let never : has_two_bytes (chars r) ≡ false =
     fails (has_two_bytes (chars r)) (λ two. off (subst (λ (l : List ℕ). IsCharBoundary l 4) (sym x.is) (before_two 92 120 r (two_cut r (chars r) x.utf8 refl two)))) in
     let size : 2 + byte_len (chars r) ≡ length bs = let e = byte_len-all r x.utf8 in let f = ap length x.is in omega arith in
-    ap (escape_refusal w) x.characters ∙ (to_hex w (chars r) ∙ (if_true _ _ _ (ap not never) ∙ ap (λ n. Some (over 0 n UnterminatedEscape)) size))
+    ap (escape_refusal w) x.characters ∙ (to_hex w (chars r) ∙ (if_true _ _ _ (ap not never) ∙ ap (λ n. Some (spanning 0 n UnterminatedEscape)) size))
 
 there : (bs : List ℕ) → IsHexText bs → IsCharBoundary bs 4 → has_two_bytes (chars (drop 2 bs)) ≡ true
 there bs x on = two_there (drop 2 bs) x.utf8 (after_two 92 120 (drop 2 bs) (subst (λ (l : List ℕ). IsCharBoundary l 4) x.is on))
@@ -114,7 +114,7 @@ second_at : (bs : List ℕ) (k : ℕ) → bs ≡ 92 ∷ 120 ∷ drop 2 bs → ge
 second_at bs k is = ap (λ l. get_or l (suc (suc k)) 0) is
 
 pub hex_digits_row : (w : Switches) (bs : List ℕ) → IsUtf8 bs → begins_with (92 ∷ 120 ∷ []) bs ≡ true → IsCharBoundary bs 4 →
-    (is_ascii_hexdigit (get_or bs 2 0) && is_ascii_hexdigit (get_or bs 3 0)) ≡ false → escape_refusal w (chars bs) ≡ Some (over 0 4 InvalidXEscape)
+    (is_ascii_hexdigit (get_or bs 2 0) && is_ascii_hexdigit (get_or bs 3 0)) ≡ false → escape_refusal w (chars bs) ≡ Some (spanning 0 4 InvalidXEscape)
 hex_digits_row w bs u begins on never =
     let x = hex_text bs u begins in
     let r = drop 2 bs in
@@ -146,13 +146,13 @@ pair_of bs high low u begins is_high is_low digits =
     }
 
 pub hex_byte_row : (w : Switches) (bs : List ℕ) (high low value : ℕ) → IsPair bs high low → value ≡ pair_value high low → allows_byte w value ≡ false →
-    escape_refusal w (chars bs) ≡ Some (over 0 4 NonAsciiXEscape)
+    escape_refusal w (chars bs) ≡ Some (spanning 0 4 NonAsciiXEscape)
 hex_byte_row w bs high low value p is_value never =
     ap (escape_refusal w) p.characters ∙ (to_hex w _ ∙ (if_false _ _ _ (ap not (two_bytes high low (chars (drop 4 bs)) p.high_digit p.low_digit))
     ∙ (if_false _ _ _ (ap not (and_from _ _ p.high_digit p.low_digit)) ∙ if_true _ _ _ (ap not (ap (allows_byte w) (sym is_value) ∙ never)))))
 
 pub hex_nul_row : (w : Switches) (bs : List ℕ) (high low value : ℕ) → IsPair bs high low → value ≡ pair_value high low → allows_byte w value ≡ true →
-    allows_value w value ≡ false → escape_refusal w (chars bs) ≡ Some (over 0 4 DisallowedNulEscape)
+    allows_value w value ≡ false → escape_refusal w (chars bs) ≡ Some (spanning 0 4 DisallowedNulEscape)
 hex_nul_row w bs high low value p is_value allowed never =
     ap (escape_refusal w) p.characters ∙ (to_hex w _ ∙ (if_false _ _ _ (ap not (two_bytes high low (chars (drop 4 bs)) p.high_digit p.low_digit))
     ∙ (if_false _ _ _ (ap not (and_from _ _ p.high_digit p.low_digit)) ∙ (if_false _ _ _ (ap not (ap (allows_byte w) (sym is_value) ∙ allowed)) ∙ if_true _ _ _ (ap not (ap (allows_value w) (sym is_value) ∙ never))))))

@@ -12,13 +12,13 @@ use Rattle.litrs_lex.specs.declared.integer.IntegerCut.{IntegerCut}
 use Rattle.litrs_base.specs.declared.integer.IntegerBase.{IntegerBase}
 use Rattle.litrs_base.specs.declared.integer.IntegerBase.TheVariants.{Binary, Octal, Decimal, Hexadecimal}
 use Rattle.litrs_base.specs.declared.err.ParseErrorKind.TheVariants.{Empty, DoesNotStartWithDigit}
-use Rattle.litrs_base.specs.Refusal.{plain, at}
+use Rattle.litrs_base.specs.Refusal.{without_span, at_byte}
 use Rattle.litrs_base.specs.Text.{is_empty, byte_len, first_passes, begins_with}
 use Rattle.litrs_grammar.specs.Suffix.{is_suffix, suffix_refusal}
 use Rattle.litrs_base.specs.Base.{prefix, is_digit, is_digit_or_underscore}
 use Rattle.litrs_base.specs.Numeral.{is_no_underscore}
-use Rattle.litrs_grammar.specs.Integer.{integer_text, is_e, base_of, integer_cut, cut_refusal, integer_refusal}
-use Rattle.litrs_lex.specs.IntegerCut.{parts_at, IsWithin, IsDigitsCut}
+use Rattle.litrs_grammar.specs.Integer.{integer_text, is_e, base_of, integer_cut, integer_cut_refusal, integer_refusal}
+use Rattle.litrs_lex.specs.IntegerCut.{integer_parts_at, IsIntegerWithin, IsDigitsCut}
 use Rattle.litrs_base.proofs.Chars.{chars_empty, OnlyAscii, IsAsciiFront, front_zero, front_front, begins_front, passing_front, prefix_len-chars, first_passes-chars, begins_with-chars, ascii_by_test}
 use Rattle.litrs_grammar.proofs.Laws.Integer.{cut_with, integer_cut-is, cut-spells, integer_rows, list_all-take_while}
 
@@ -108,7 +108,7 @@ number_len bs u =
     ∙ (length-append (prefix (base_of bs)) main ∙ ap (λ n. start_of bs + n) (length-prefix_len (is_digit_or_underscore (base_of bs)) (drop (start_of bs) bs)))
 
 -- the refusal of a text, by the cut of its bytes
-pub refusal_of_bytes : (bs : List ℕ) → IsUtf8 bs → cut_refusal (integer_cut (chars bs)) ≡
+pub refusal_of_bytes : (bs : List ℕ) → IsUtf8 bs → integer_cut_refusal (integer_cut (chars bs)) ≡
     integer_rows (start_of bs) (start_of bs + run_of bs) (length bs)
     (is_suffix (chars (drop (start_of bs + run_of bs) bs)))
     (first_passes is_ascii_digit (drop (start_of bs + run_of bs) bs))
@@ -128,7 +128,7 @@ refusal_of_bytes bs u =
     let len : byte_len (prefix base ++ (main ++ chars x)) ≡ length bs = byte_len-chars (prefix base ++ (main ++ chars x)) bs u spelled in
     let digit : first_passes is_ascii_digit (chars x) ≡ first_passes is_ascii_digit x = first_passes-chars is_ascii_digit x digit_is_ascii front.utf8 in
     let e : first_passes is_e (chars x) ≡ first_passes is_e x = first_passes-chars is_e x e_is_ascii front.utf8 in
-    ap cut_refusal cut
+    ap integer_cut_refusal cut
     ∙ (ap (λ n. integer_rows n (byte_len (prefix base ++ main)) (byte_len (prefix base ++ (main ++ chars x))) (is_suffix (chars x)) (first_passes is_ascii_digit (chars x)) (suffix_refusal (chars x)) (first_passes is_e (chars x)) (list_any (is_digit base) main)) start
     ∙ (ap (λ n. integer_rows (start_of bs) n (byte_len (prefix base ++ (main ++ chars x))) (is_suffix (chars x)) (first_passes is_ascii_digit (chars x)) (suffix_refusal (chars x)) (first_passes is_e (chars x)) (list_any (is_digit base) main)) end
     ∙ (ap (λ n. integer_rows (start_of bs) (start_of bs + run_of bs) n (is_suffix (chars x)) (first_passes is_ascii_digit (chars x)) (suffix_refusal (chars x)) (first_passes is_e (chars x)) (list_any (is_digit base) main)) len
@@ -146,7 +146,7 @@ cut_bytes_is cut bs h =
           ∙ ap (λ n. n + prefix_len (is_digit_or_underscore (base_of bs)) (drop n bs)) s),
     )
 
-pub refusal_of_cut : (cut : IntegerCut) (bs : List ℕ) → IsUtf8 bs → IsDigitsCut cut bs → cut_refusal (integer_cut (chars bs)) ≡
+pub refusal_of_cut : (cut : IntegerCut) (bs : List ℕ) → IsUtf8 bs → IsDigitsCut cut bs → integer_cut_refusal (integer_cut (chars bs)) ≡
     integer_rows cut.start_main cut.end_main (length bs)
     (is_suffix (chars (drop cut.end_main bs))) (first_passes is_ascii_digit (drop cut.end_main bs))
     (suffix_refusal (chars (drop cut.end_main bs))) (first_passes is_e (drop cut.end_main bs))
@@ -175,7 +175,7 @@ any_digit base (c ∷ t) all =
     λ i. first i || any_digit base t parts.1 i
 
 -- the same with the test that the code makes of the main part
-pub refusal_of_main : (cut : IntegerCut) (bs : List ℕ) → IsUtf8 bs → IsDigitsCut cut bs → cut_refusal (integer_cut (chars bs)) ≡
+pub refusal_of_main : (cut : IntegerCut) (bs : List ℕ) → IsUtf8 bs → IsDigitsCut cut bs → integer_cut_refusal (integer_cut (chars bs)) ≡
     integer_rows cut.start_main cut.end_main (length bs)
     (is_suffix (chars (drop cut.end_main bs))) (first_passes is_ascii_digit (drop cut.end_main bs))
     (suffix_refusal (chars (drop cut.end_main bs))) (first_passes is_e (drop cut.end_main bs))
@@ -192,13 +192,13 @@ refusal_of_main cut bs u h =
     (any_digit cut.base (slice_range bs cut.start_main cut.end_main) all)
 
 -- the parts that the cut names are those of the characters
-pub parts_of_cut : (cut : IntegerCut) (bs : List ℕ) → IsUtf8 bs → IsDigitsCut cut bs → integer_cut (chars bs) ≡ parts_at cut bs
+pub parts_of_cut : (cut : IntegerCut) (bs : List ℕ) → IsUtf8 bs → IsDigitsCut cut bs → integer_cut (chars bs) ≡ integer_parts_at cut bs
 parts_of_cut cut bs u h =
     let is = cut_bytes_is cut bs h in
     let run : start_of bs + run_of bs - start_of bs ≡ run_of bs = omega arith in
     rw (is.0, is.1, h.base, run, chars-IsAscii (take (run_of bs) (drop (start_of bs) bs)) (digits_front bs u).ascii) (cut-chars bs u)
 
-pub places_of_cut : (cut : IntegerCut) (bs : List ℕ) → IsUtf8 bs → IsDigitsCut cut bs → IsWithin cut bs
+pub places_of_cut : (cut : IntegerCut) (bs : List ℕ) → IsUtf8 bs → IsDigitsCut cut bs → IsIntegerWithin cut bs
 places_of_cut cut bs u h =
     let is = cut_bytes_is cut bs h in
     let front = number_front bs u in
@@ -234,12 +234,12 @@ filled_by_first [] b u e = cc
 filled_by_first (c ∷ bs) b u e = chars_empty (c ∷ bs) u ∙ ne_eqb (suc (length bs)) 0 (λ h. omega arith)
 
 -- the first two rows of numbers, by the bytes
-pub refusal-empty : (bs : List ℕ) → bs ≡ [] → integer_refusal (chars bs) ≡ Some (plain Empty)
+pub refusal-empty : (bs : List ℕ) → bs ≡ [] → integer_refusal (chars bs) ≡ Some (without_span Empty)
 unfolding integer_refusal
 refusal-empty bs e = ap (λ t. integer_refusal (chars t)) e ∙ ap integer_refusal chars-nil
 
 pub refusal-no_digit : (bs : List ℕ) (b : ℕ) → IsUtf8 bs → slice_get bs 0 ≡ Some b → first_passes is_ascii_digit bs ≡ false →
-    integer_refusal (chars bs) ≡ Some (at 0 DoesNotStartWithDigit)
+    integer_refusal (chars bs) ≡ Some (at_byte 0 DoesNotStartWithDigit)
 unfolding integer_refusal
 refusal-no_digit bs b u first none = rw (filled_by_first bs b u first, first_passes-chars is_ascii_digit bs digit_is_ascii u, none) refl
 

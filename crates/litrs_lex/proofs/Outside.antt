@@ -9,7 +9,7 @@ use Rattle.litrs_lex.proofs.Marks.{mark, either, both, marked}
 use Rattle.litrs_lex.specs.declared.search.Run.{Run}
 use Rattle.litrs_lex.specs.declared.search.Run.TheVariants.{Digits, Identifier, Blanks, Hashes}
 use Rattle.litrs_lex.specs.Run.{is_in_run}
-use Rattle.litrs_lex.specs.RunBytes.{last_digit, last_letter, first_other, second_other, third_other}
+use Rattle.litrs_lex.specs.RunBytes.{last_digit, last_letter, first_extra, second_extra, third_extra}
 
 -- a letter as a small one
 abbrev pub small : ℕ → ℕ
@@ -20,7 +20,7 @@ is_outside digit letter first second third x = ((((ltb x 48 || ltb digit x) && (
 
 -- the same with what lanes are compared with for the run
 abbrev compared : Run → ℕ → Bool
-compared run = is_outside (last_digit run) (last_letter run) (first_other run) (second_other run) (third_other run)
+compared run = is_outside (last_digit run) (last_letter run) (first_extra run) (second_extra run) (third_extra run)
 
 found : (run : Run) → agree_below (compared run) (λ b. not (is_in_run run b)) 256 ≡ true
 found (Digits Binary) = refl
@@ -44,7 +44,7 @@ differ a b = mark (not (eqb a b))
 
 -- the mask of a load is that of the bytes outside the run
 pub marks_outside : (run : Run) (v : List ℕ) (n digit letter first second third : ℕ) → length v ≡ n → n ≤ 64 → Each1 (Fits w8) v → digit ≡ last_digit run → letter ≡ last_letter run →
-    first ≡ first_other run → second ≡ second_other run → third ≡ third_other run →
+    first ≡ first_extra run → second ≡ second_extra run → third ≡ third_extra run →
     mask_l (map (top 7) (zip2 bit_and (zip2 bit_and (zip2 bit_and (zip2 bit_and
     (zip2 bit_or (zip2 below v (replicate n 48)) (zip2 below (replicate n digit) v))
     (zip2 bit_or (zip2 below (zip2 bit_or v (replicate n 32)) (replicate n 97)) (zip2 below (replicate n letter) (zip2 bit_or v (replicate n 32)))))

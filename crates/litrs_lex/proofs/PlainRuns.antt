@@ -16,7 +16,7 @@ use Rattle.litrs_base.specs.Text.{byte_len, first_passes}
 use Rattle.litrs_base.proofs.Chars.{chars_ascii, chars_wide}
 use Rattle.std.specs.Prelude.{not, ◌&&◌, ◌||◌, ◌==◌}
 use Rattle.std.proofs.lemmas.Bool.{ne_eqb, ltb-true, and_from}
-use Rattle.litrs_base.specs.Characters.{is_ascii, is_ascii_unless, is_no_nul_unless}
+use Rattle.litrs_base.specs.Characters.{is_ascii, fits_charset, nul_is_allowed}
 use Rattle.litrs_base.specs.declared.quotes.Switches.{Switches}
 use Rattle.litrs_grammar.specs.Quoted.{is_plain}
 
@@ -86,10 +86,10 @@ not_ascii d high = go (ltb d 128) refl
     go false e = e
     go true e = let low = ltb-true d 128 e in absurd (omega arith)
 
-high_rest : (c : ℕ) (u n : Bool) → 128 ≤ c → (is_ascii_unless u c && is_no_nul_unless n c) ≡ u
+high_rest : (c : ℕ) (u n : Bool) → 128 ≤ c → (fits_charset u c && nul_is_allowed n c) ≡ u
 high_rest c true true wide = refl
 high_rest c true false wide = ap not (ne_eqb c 0 (λ e. omega arith))
-high_rest c false n wide = ap (λ b. b && is_no_nul_unless n c) (not_ascii c wide)
+high_rest c false n wide = ap (λ b. b && nul_is_allowed n c) (not_ascii c wide)
 
 -- the test of plain characters is such a test
 pub plain_alike : (w : Switches) → AlikeFrom128 (is_plain w) w.unicode

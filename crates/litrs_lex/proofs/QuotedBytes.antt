@@ -14,8 +14,8 @@ use Rattle.litrs_base.specs.declared.err.ParseError.{ParseError}
 use Rattle.litrs_base.specs.declared.err.ParseErrorKind.TheVariants.{UnterminatedString, UnterminatedEscape, CarriageReturn, NulByte, NonAsciiInByteLiteral}
 use Rattle.litrs_base.specs.declared.escape.Unescape.{Unescape}
 use Rattle.litrs_base.specs.CharEnd.{IsCharEnd}
-use Rattle.litrs_base.specs.Characters.{is_blank, is_ascii, is_ascii_unless}
-use Rattle.litrs_base.specs.Refusal.{Refusal, refusal_of, HasCharSpan, plain, at}
+use Rattle.litrs_base.specs.Characters.{is_blank, is_ascii, fits_charset}
+use Rattle.litrs_base.specs.Refusal.{Refusal, refusal_of, HasCharSpan, without_span, at_byte}
 use Rattle.litrs_base.specs.Text.{byte_len, first_passes, is_empty}
 use Rattle.litrs_base.proofs.ByteLen.{byte_len_one_ascii, length-le-byte_len, byte_len_all_ascii}
 use Rattle.litrs_base.proofs.CharEnds.{char_span_on}
@@ -24,7 +24,7 @@ use Rattle.litrs_base.proofs.ListTests.{if_true, if_false}
 use Rattle.litrs_base.specs.declared.quotes.Switches.{Switches}
 use Rattle.litrs_grammar.specs.Escape.{Escape, escape_text, escape_value, value_bytes, simple_escape, hex_escape, unicode_escape, escape_refusal, allows_value, allows_byte, is_escape, is_simple, simple_value, pair_value}
 use Rattle.litrs_grammar.specs.Suffix.{is_suffix, suffix_refusal}
-use Rattle.litrs_grammar.specs.Quoted.{Item, plain_item, escape_item, continuation, item_text, item_value, is_item, is_taken_before, is_plain, body_value, without_last, rest_refusal}
+use Rattle.litrs_grammar.specs.Quoted.{Item, plain_item, escape_item, continuation, item_text, item_value, is_item, is_complete_before, is_plain, body_value, without_last, rest_refusal}
 use Rattle.litrs_grammar.proofs.Laws.Escape.{by_simple}
 use Rattle.litrs_grammar.proofs.QuotedItems.{last_of, without_last-append}
 use Rattle.litrs_grammar.proofs.Laws.Quoted.{quoted_values_fit_bodies}
@@ -76,7 +76,7 @@ item_some (continuation a) = let le = length-le-byte_len (92 ∷ 10 ∷ a) in om
 
 -- an item at the front, with its value
 pub item_at : (w : Switches) (bytes b : List ℕ) (a : Item) (n : ℕ) (value : Option Unescape) → IsUtf8 bytes → chars bytes ≡ item_text a ++ b → is_item w a ≡ true →
-    is_taken_before b a ≡ true → byte_len (item_text a) ≡ n → item_value a ≡ item_bytes value → IfSome value (λ v. IsTrue (is_pushable w.byte_escapes v)) →
+    is_complete_before b a ≡ true → byte_len (item_text a) ≡ n → item_value a ≡ item_bytes value → IfSome value (λ v. IsTrue (is_pushable w.byte_escapes v)) →
     IsItemAt w bytes n value
 item_at w bytes b a n value u split grammar taken size is_value pushable =
     let cut = cut_at bytes (item_text a) b u split in
@@ -85,7 +85,7 @@ item_at w bytes b a n value u split grammar taken size is_value pushable =
       item = a;
       split = split ∙ ap (λ l. item_text a ++ l) (sym rest);
       grammar = grammar;
-      taken = subst (λ (l : List ℕ). is_taken_before l a ≡ true) (sym rest) taken;
+      taken = subst (λ (l : List ℕ). is_complete_before l a ≡ true) (sym rest) taken;
       size = size;
       is_value = is_value;
       fits = omega arith;
@@ -178,7 +178,7 @@ continuation_at w bytes bs k is u count other =
     size refl tt
 
 -- refusals
-pub end_refused : (w : Switches) (bytes : List ℕ) → length bytes < 1 → rest_refusal w (chars bytes) ≡ Some (plain UnterminatedString)
+pub end_refused : (w : Switches) (bytes : List ℕ) → length bytes < 1 → rest_refusal w (chars bytes) ≡ Some (without_span UnterminatedString)
 unfolding rest_refusal
 end_refused w [] none = ap (rest_refusal w) chars-nil
 end_refused w (b ∷ bytes) none = absurd (omega arith)
@@ -190,12 +190,12 @@ blanks_only bs u whole =
     let none : drop n (chars bs) ≡ [] = front.rest ∙ (ap (λ k. chars (drop k bs)) whole ∙ (ap chars (drop-length bs) ∙ chars-nil)) in
     ap (list_all is_blank) (sym (take-append-drop n (chars bs)) ∙ (ap (λ l. take n (chars bs) ++ l) none ∙ append-nil (take n (chars bs)))) ∙ blanks_all bs u
 
-blanks_row : (w : Switches) (t : List ℕ) → list_all is_blank t ≡ true → rest_refusal w (92 ∷ 10 ∷ t) ≡ Some (plain UnterminatedString)
+blanks_row : (w : Switches) (t : List ℕ) → list_all is_blank t ≡ true → rest_refusal w (92 ∷ 10 ∷ t) ≡ Some (without_span UnterminatedString)
 unfolding rest_refusal
 blanks_row w t h = if_true (list_all is_blank t) _ _ h
 
 pub blanks_refused : (w : Switches) (bytes bs : List ℕ) (k : ℕ) → bytes ≡ 92 ∷ 10 ∷ bs → IsUtf8 bytes → k ≡ prefix_len is_blank bs → 2 + k ≡ length bytes →
-    rest_refusal w (chars bytes) ≡ Some (plain UnterminatedString)
+    rest_refusal w (chars bytes) ≡ Some (without_span UnterminatedString)
 blanks_refused w bytes bs k is u count whole =
     let text = after_two bs bytes is u in
     ap (rest_refusal w) (ap chars is ∙ lf_chars bs) ∙ blanks_row w (chars bs) (blanks_only bs text (let size = ap length is in omega arith))
@@ -211,12 +211,12 @@ pub escape_refused : (w : Switches) (bytes bs cut : List ℕ) (e : ParseError) �
     chars cut ≡ without_last (chars bytes) → IsEscapeRefused w (chars cut) e → rest_refusal w (chars bytes) ≡ Some (refusal_of e)
 escape_refused w bytes bs cut e is u other is_cut refused =
     let text = utf8_after_ascii 92 bs (omega arith) (subst (λ (l : List ℕ). IsUtf8 l) is u) in
-    let at = slash_chars bytes bs is in
-    ap (rest_refusal w) at ∙ escape_row w (chars bs) (Some (refusal_of e)) (first_passes-chars _ bs lf_ascii text ∙ other)
-    (ap (λ l. escape_refusal w (without_last l)) (sym at) ∙ (ap (escape_refusal w) (sym is_cut) ∙ refused.table))
+    let at_byte = slash_chars bytes bs is in
+    ap (rest_refusal w) at_byte ∙ escape_row w (chars bs) (Some (refusal_of e)) (first_passes-chars _ bs lf_ascii text ∙ other)
+    (ap (λ l. escape_refusal w (without_last l)) (sym at_byte) ∙ (ap (escape_refusal w) (sym is_cut) ∙ refused.table))
 
 -- the character span of its refusal is that in the text: of the empty text it passes the end
-first_row : (w : Switches) (e : Refusal) → escape_refusal w [] ≡ Some e → at 0 UnterminatedEscape ≡ e
+first_row : (w : Switches) (e : Refusal) → escape_refusal w [] ≡ Some e → at_byte 0 UnterminatedEscape ≡ e
 unfolding escape_refusal
 first_row w e is = cc
 
@@ -254,44 +254,44 @@ pub begins_cut : (bytes bs cut : List ℕ) → bytes ≡ 92 ∷ bs → cut ≡ w
 begins_cut bytes bs cut is is_cut =
     ap (λ l. is_empty l || first_passes (λ c. c == 92) l) (is_cut ∙ ap without_last (slash_chars bytes bs is)) ∙ cut_begins (chars bs)
 
-quote_row : (w : Switches) (t : List ℕ) → is_suffix t ≡ false → rest_refusal w (34 ∷ t) ≡ Some (at 1 (suffix_refusal t))
+quote_row : (w : Switches) (t : List ℕ) → is_suffix t ≡ false → rest_refusal w (34 ∷ t) ≡ Some (at_byte 1 (suffix_refusal t))
 unfolding rest_refusal
 quote_row w t h =
     if_false (not (allows_value w 34)) _ _ (ap not (or_right w.allow_nul true refl))
-    ∙ (if_false (not (is_ascii_unless w.unicode 34)) _ _ (ap not (or_right w.unicode true refl))
+    ∙ (if_false (not (fits_charset w.unicode 34)) _ _ (ap not (or_right w.unicode true refl))
     ∙ if_true (not (is_suffix t)) _ _ (not_from_false _ h))
 
 pub quote_chars : (bytes bs after : List ℕ) → bytes ≡ 34 ∷ bs → after ≡ bs → 34 ∷ chars after ≡ chars bytes
 quote_chars bytes bs after is same = ap (λ (l : List ℕ). 34 ∷ chars l) same ∙ (sym (chars_ascii 34 bs (omega arith)) ∙ ap chars (sym is))
 
 pub quote_refused : (w : Switches) (bytes bs after : List ℕ) → bytes ≡ 34 ∷ bs → after ≡ bs → is_suffix (chars after) ≡ false →
-    rest_refusal w (chars bytes) ≡ Some (at 1 (suffix_refusal (chars after)))
+    rest_refusal w (chars bytes) ≡ Some (at_byte 1 (suffix_refusal (chars after)))
 quote_refused w bytes bs after is same other = ap (rest_refusal w) (sym (quote_chars bytes bs after is same)) ∙ quote_row w (chars after) other
 
-return_row : (w : Switches) (t : List ℕ) → rest_refusal w (13 ∷ t) ≡ Some (at 0 CarriageReturn)
+return_row : (w : Switches) (t : List ℕ) → rest_refusal w (13 ∷ t) ≡ Some (at_byte 0 CarriageReturn)
 unfolding rest_refusal
 return_row w t = refl
 
-pub return_refused : (w : Switches) (bytes bs : List ℕ) → bytes ≡ 13 ∷ bs → rest_refusal w (chars bytes) ≡ Some (at 0 CarriageReturn)
+pub return_refused : (w : Switches) (bytes bs : List ℕ) → bytes ≡ 13 ∷ bs → rest_refusal w (chars bytes) ≡ Some (at_byte 0 CarriageReturn)
 return_refused w bytes bs is = ap (rest_refusal w) (ap chars is ∙ chars_ascii 13 bs (omega arith)) ∙ return_row w (chars bs)
 
-nul_row : (w : Switches) (t : List ℕ) (u n : Bool) → w.unicode ≡ u → w.allow_nul ≡ n → is_plain w 0 ≡ false → rest_refusal w (0 ∷ t) ≡ Some (at 0 NulByte)
+nul_row : (w : Switches) (t : List ℕ) (u n : Bool) → w.unicode ≡ u → w.allow_nul ≡ n → is_plain w 0 ≡ false → rest_refusal w (0 ∷ t) ≡ Some (at_byte 0 NulByte)
 unfolding rest_refusal
 nul_row w t u false a b h = if_true (not (allows_value w 0)) _ _ (rw b refl)
 nul_row w t u true a b h = absurd (both_ways (is_plain w 0) h (and_from _ _ (or_right w.unicode true refl) (rw b refl)))
 
-pub nul_refused : (w : Switches) (bytes bs : List ℕ) → bytes ≡ 0 ∷ bs → first_passes (is_plain w) (chars bytes) ≡ false → rest_refusal w (chars bytes) ≡ Some (at 0 NulByte)
+pub nul_refused : (w : Switches) (bytes bs : List ℕ) → bytes ≡ 0 ∷ bs → first_passes (is_plain w) (chars bytes) ≡ false → rest_refusal w (chars bytes) ≡ Some (at_byte 0 NulByte)
 nul_refused w bytes bs is h =
-    let at : chars bytes ≡ 0 ∷ chars bs = ap chars is ∙ chars_ascii 0 bs (omega arith) in
-    ap (rest_refusal w) at ∙ nul_row w (chars bs) w.unicode w.allow_nul refl refl (ap (first_passes (is_plain w)) (sym at) ∙ h)
+    let at_byte : chars bytes ≡ 0 ∷ chars bs = ap chars is ∙ chars_ascii 0 bs (omega arith) in
+    ap (rest_refusal w) at_byte ∙ nul_row w (chars bs) w.unicode w.allow_nul refl refl (ap (first_passes (is_plain w)) (sym at_byte) ∙ h)
 
-wide_row : (w : Switches) (c : ℕ) (t : List ℕ) → (c == 92) ≡ false → (c == 13) ≡ false → (c == 0) ≡ false → is_ascii_unless w.unicode c ≡ false →
-    rest_refusal w (c ∷ t) ≡ Some (at 0 NonAsciiInByteLiteral)
+wide_row : (w : Switches) (c : ℕ) (t : List ℕ) → (c == 92) ≡ false → (c == 13) ≡ false → (c == 0) ≡ false → fits_charset w.unicode c ≡ false →
+    rest_refusal w (c ∷ t) ≡ Some (at_byte 0 NonAsciiInByteLiteral)
 unfolding rest_refusal
 wide_row w c t a b d e =
     if_false (c == 92) _ _ a ∙ (if_false (c == 13) _ _ b
     ∙ (if_false (not (allows_value w c)) _ _ (ap not (or_right w.allow_nul _ (not_from_false _ d)))
-    ∙ if_true (not (is_ascii_unless w.unicode c)) _ _ (not_from_false _ e)))
+    ∙ if_true (not (fits_charset w.unicode c)) _ _ (not_from_false _ e)))
 
 -- a byte that is none of the others
 low_plain : (w : Switches) (b : ℕ) → b < 128 → (b == 34) ≡ false → (b == 92) ≡ false → (b == 13) ≡ false → (b == 0) ≡ false → is_plain w b ≡ true
@@ -300,15 +300,15 @@ low_plain w b low q s r z =
     (or_right w.unicode _ (lt-ltb b 128 low))) (or_right w.allow_nul _ (not_from_false _ z))
 
 pub wide_refused : (w : Switches) (bytes bs : List ℕ) (b : ℕ) → bytes ≡ b ∷ bs → IsUtf8 bytes → (b == 34) ≡ false → (b == 92) ≡ false → (b == 13) ≡ false → (b == 0) ≡ false →
-    first_passes (is_plain w) (chars bytes) ≡ false → rest_refusal w (chars bytes) ≡ Some (at 0 NonAsciiInByteLiteral)
+    first_passes (is_plain w) (chars bytes) ≡ false → rest_refusal w (chars bytes) ≡ Some (at_byte 0 NonAsciiInByteLiteral)
 wide_refused w bytes bs b is u q s r z h = elim (cases_lt b 128) [
-  | inl low ↦ (let at : chars bytes ≡ b ∷ chars bs = ap chars is ∙ chars_ascii b bs low in
-      absurd (both_ways (is_plain w b) (ap (first_passes (is_plain w)) (sym at) ∙ h) (low_plain w b low q s r z)))
+  | inl low ↦ (let at_byte : chars bytes ≡ b ∷ chars bs = ap chars is ∙ chars_ascii b bs low in
+      absurd (both_ways (is_plain w b) (ap (first_passes (is_plain w)) (sym at_byte) ∙ h) (low_plain w b low q s r z)))
   | inr high ↦ (let c = chars_wide b bs high (subst (λ (l : List ℕ). IsUtf8 l) is u) in
-      let at : chars bytes ≡ c.first ∷ c.rest = ap chars is ∙ c.is in
+      let at_byte : chars bytes ≡ c.first ∷ c.rest = ap chars is ∙ c.is in
       let wide = c.wide in
-      let off : w.unicode ≡ false = sym (plain_alike w c.first wide) ∙ (ap (first_passes (is_plain w)) (sym at) ∙ h) in
-      ap (rest_refusal w) at
+      let off : w.unicode ≡ false = sym (plain_alike w c.first wide) ∙ (ap (first_passes (is_plain w)) (sym at_byte) ∙ h) in
+      ap (rest_refusal w) at_byte
       ∙ wide_row w c.first c.rest (ne_eqb c.first 92 (λ e. omega arith)) (ne_eqb c.first 13 (λ e. omega arith)) (ne_eqb c.first 0 (λ e. omega arith))
       (rw off (le-ltb c.first 128 wide)))
 ]
@@ -374,7 +374,7 @@ free_row : (w : Switches) (t : List ℕ) → is_suffix t ≡ true → rest_refus
 unfolding rest_refusal
 free_row w t h =
     if_false (not (allows_value w 34)) _ _ (ap not (or_right w.allow_nul true refl))
-    ∙ (if_false (not (is_ascii_unless w.unicode 34)) _ _ (ap not (or_right w.unicode true refl))
+    ∙ (if_false (not (fits_charset w.unicode 34)) _ _ (ap not (or_right w.unicode true refl))
     ∙ if_false (not (is_suffix t)) _ _ (ap not h))
 
 pub quote_free : (w : Switches) (bytes bs after : List ℕ) → bytes ≡ 34 ∷ bs → after ≡ bs → is_suffix (chars after) ≡ true → rest_refusal w (chars bytes) ≡ None

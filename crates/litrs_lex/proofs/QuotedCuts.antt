@@ -6,7 +6,7 @@ use Rattle.std.proofs.lemmas.Bool.{ne_eqb, eq-eqb, true≢false}
 use Rattle.std.proofs.lemmas.Str.{chars-nil, encodes-chars, encodes-append, chars_from_encodes, IsUtf8-drop, IsUtf8-take}
 use Rattle.std.proofs.Math.Seq.{take-append_seam}
 use Rattle.litrs_base.specs.declared.err.ParseError.{ParseError}
-use Rattle.litrs_base.specs.Refusal.{Refusal, refusal_of, IsInText, moved, moved_span, char_span_of, HasCharSpan, MovesWithin}
+use Rattle.litrs_base.specs.Refusal.{Refusal, refusal_of, IsInText, shifted, shifted_span, char_span_of, HasCharSpan, MovesWithin}
 use Rattle.litrs_base.specs.Text.{byte_len, first_passes}
 use Rattle.litrs_base.proofs.ByteLen.{byte_len_one_ascii}
 use Rattle.litrs_base.proofs.CharEnds.{char_span_points, char_span_moved, moves_within}
@@ -15,7 +15,7 @@ use Rattle.litrs_base.specs.declared.quotes.Switches.{Switches}
 use Rattle.litrs_grammar.specs.Allocation.{has_backslash}
 use Rattle.litrs_grammar.specs.Suffix.{is_suffix}
 use Rattle.litrs_grammar.proofs.LongerTexts.Suffix.{is_suffix-nil}
-use Rattle.litrs_grammar.specs.Quoted.{Item, body_text, body_value, stand_before, is_body, is_plain, QuotedParts, IsQuoted, IsQuotedRefusal, rest_refusal}
+use Rattle.litrs_grammar.specs.Quoted.{Item, body_text, body_value, is_item_list, is_body, is_plain, QuotedParts, IsQuoted, IsQuotedRefusal, rest_refusal}
 use Rattle.litrs_grammar.proofs.QuotedItems.{body_stands, stands_body}
 use Rattle.litrs_grammar.proofs.Laws.Quoted.{quoted_texts_are_unique, quoted_texts_are_not_refused, quoted_refusals_are_unique, quoted_values_fit_bodies}
 use Rattle.litrs_grammar.proofs.LongerTexts.Quoted.{quoted_final, quoted_finality, quoted_items_stay, quoted_open}
@@ -49,7 +49,7 @@ refused_of w bytes offset e is =
 -- Where the rest after some items is refused, the text is
 
 pub refused_at : (w : Switches) (bytes : List ℕ) (offset place : ℕ) (h : List ℕ → Type 0) (e f : Refusal) → IsReadTo w bytes offset place h →
-    rest_refusal w (chars (drop place bytes)) ≡ Some e → f ≡ moved place e → IsQuotedRefusal (chars (take offset bytes)) w (chars bytes) f
+    rest_refusal w (chars (drop place bytes)) ≡ Some e → f ≡ shifted place e → IsQuotedRefusal (chars (take offset bytes)) w (chars bytes) f
 refused_at w bytes offset place h e f read told is = record {
   items = read.items;
   rest = chars (drop place bytes);
@@ -57,7 +57,7 @@ refused_at w bytes offset place h e f read told is = record {
   spells = read.spells;
   taken = read.taken;
   told = told;
-  placed = ap (λ n. moved n e) (sym read.size) ∙ sym is;
+  placed = ap (λ n. shifted n e) (sym read.size) ∙ sym is;
 }
 
 -- the bytes before the place are those of the front and of the items
@@ -68,23 +68,23 @@ front_of w bytes offset place h read = append_assoc (chars (take offset bytes)) 
 -- the refusal of the rest may be moved so far, and is then that of the text
 pub refuses : (w : Switches) (bytes rest : List ℕ) (offset place : ℕ) (h : List ℕ → Type 0) (e : ParseError) → IsUtf8 bytes → length bytes < 2 ^ 64 →
     IsReadTo w bytes offset place h → rest ≡ drop place bytes → IsRestRefused w (chars rest) e →
-    MovesWithin place e × ((f : ParseError) → refusal_of f ≡ moved place (refusal_of e) → char_span_of f ≡ moved_span place (char_span_of e) → IsBodyRefused w bytes offset f)
+    MovesWithin place e × ((f : ParseError) → refusal_of f ≡ shifted place (refusal_of e) → char_span_of f ≡ shifted_span place (char_span_of e) → IsBodyRefused w bytes offset f)
 refuses w bytes rest offset place h e u small read is told =
     let front = chars (take offset bytes) ++ body_text read.items in
     let rest_chars = chars (drop place bytes) in
     let here : rest_refusal w rest_chars ≡ Some (refusal_of e) = ap (λ (l : List ℕ). rest_refusal w (chars l)) (sym is) ∙ told.table in
     let ends : HasCharSpan rest_chars e = subst (λ (l : List ℕ). HasCharSpan (chars l) e) is told.char_span in
     let whole = front_of w bytes offset place h read in
-    let table = refused_at w bytes offset place h (refusal_of e) (moved (byte_len front) (refusal_of e)) read here (ap (λ n. moved n (refusal_of e)) (sym read.size)) in
-    let inside : IsInText (front ++ rest_chars) (moved (byte_len front) (refusal_of e)) =
-    subst (λ (l : List ℕ). IsInText l (moved (byte_len front) (refusal_of e))) (sym whole)
-    (quoted_spans_lie_in_text (chars (take offset bytes)) w (chars bytes) (moved (byte_len front) (refusal_of e)) table) in
+    let table = refused_at w bytes offset place h (refusal_of e) (shifted (byte_len front) (refusal_of e)) read here (ap (λ n. shifted n (refusal_of e)) (sym read.size)) in
+    let inside : IsInText (front ++ rest_chars) (shifted (byte_len front) (refusal_of e)) =
+    subst (λ (l : List ℕ). IsInText l (shifted (byte_len front) (refusal_of e))) (sym whole)
+    (quoted_spans_lie_in_text (chars (take offset bytes)) w (chars bytes) (shifted (byte_len front) (refusal_of e)) table) in
     let size : byte_len (front ++ rest_chars) ≡ length bytes = ap byte_len whole ∙ ap length (encodes-chars bytes u) in (
       subst (λ (n : ℕ). MovesWithin n e) (sym read.size) (moves_within front rest_chars e inside ends (omega arith)),
       λ f same span. record {
         table = refused_at w bytes offset place h (refusal_of e) (refusal_of f) read here same;
         char_span = subst (λ (l : List ℕ). HasCharSpan l f) whole
-            (char_span_moved front rest_chars e f (same ∙ ap (λ n. moved n (refusal_of e)) read.size) (span ∙ ap (λ n. moved_span n (char_span_of e)) read.size) ends);
+            (char_span_moved front rest_chars e f (same ∙ ap (λ n. shifted n (refusal_of e)) read.size) (span ∙ ap (λ n. shifted_span n (char_span_of e)) read.size) ends);
       },
     )
 
@@ -155,7 +155,7 @@ cut_of w bytes offset place n h u start b value_len free =
     let closed = closed_of w rest (inl b.quote) free in
     let front_cut = front_splits bytes offset u start in
     let q : QuotedParts = record { items = items; suffix = s } in
-    let good : is_body w items ≡ true = stands_body w items s (subst (λ l. stand_before w l items ≡ true) (sym closed.0) read.taken) in
+    let good : is_body w items ≡ true = stands_body w items s (subst (λ l. is_item_list w l items ≡ true) (sym closed.0) read.taken) in
     let mine : IsQuoted front w (chars bytes) q = record {
       spells = ap (λ l. front ++ (body ++ l)) closed.0 ∙ read.spells;
       body = good;

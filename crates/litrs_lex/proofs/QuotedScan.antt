@@ -10,7 +10,7 @@ use Rattle.litrs_base.specs.declared.escape.Unescape.{Unescape}
 use Rattle.litrs_base.specs.Text.{byte_len}
 use Rattle.litrs_base.proofs.Spans.{byte_len-append}
 use Rattle.litrs_base.specs.declared.quotes.Switches.{Switches}
-use Rattle.litrs_grammar.specs.Quoted.{Item, plain_item, item_text, item_value, is_item, is_taken_before, is_plain, body_text, body_value, stand_before}
+use Rattle.litrs_grammar.specs.Quoted.{Item, plain_item, item_text, item_value, is_item, is_complete_before, is_plain, body_text, body_value, is_item_list}
 use Rattle.litrs_grammar.proofs.Laws.Quoted.{body_text-append, body_value-append}
 use Rattle.litrs_lex.specs.QuotedItems.{IsPlainRun, IsItemAt, item_bytes}
 
@@ -18,7 +18,7 @@ use Rattle.litrs_lex.specs.QuotedItems.{IsPlainRun, IsItemAt, item_bytes}
 pub record ReadsSome (w : Switches) (front t rest : List ℕ) (at : ℕ) (value : List ℕ) : Type 0 where
   pub items : List Item
   pub spells : front ++ (body_text items ++ rest) ≡ t
-  pub taken : stand_before w rest items ≡ true
+  pub taken : is_item_list w rest items ≡ true
   pub place : at ≡ byte_len (front ++ body_text items)
   pub is_value : value ≡ body_value items
 
@@ -32,18 +32,18 @@ reads_none w front t rest spells = record {
 }
 
 -- items that stand before what items stand before
-pub stand_before-append : (w : Switches) (items more : List Item) (rest : List ℕ) → stand_before w (body_text more ++ rest) items ≡ true → stand_before w rest more ≡ true →
-    stand_before w rest (items ++ more) ≡ true
+pub stand_before-append : (w : Switches) (items more : List Item) (rest : List ℕ) → is_item_list w (body_text more ++ rest) items ≡ true → is_item_list w rest more ≡ true →
+    is_item_list w rest (items ++ more) ≡ true
 stand_before-append w [] more rest h g = g
 stand_before-append w (a ∷ items) more rest h g =
-    let p = and_parts _ (stand_before w (body_text more ++ rest) items) h in
+    let p = and_parts _ (is_item_list w (body_text more ++ rest) items) h in
     let q = and_parts (is_item w a) _ p.0 in
     let after : body_text items ++ (body_text more ++ rest) ≡ body_text (items ++ more) ++ rest =
     sym (append_assoc (body_text items) (body_text more) rest) ∙ ap (λ l. l ++ rest) (sym (body_text-append items more)) in
-    and_from _ _ (and_from _ _ q.0 (subst (λ l. is_taken_before l a ≡ true) after q.1)) (stand_before-append w items more rest p.1 g)
+    and_from _ _ (and_from _ _ q.0 (subst (λ l. is_complete_before l a ≡ true) after q.1)) (stand_before-append w items more rest p.1 g)
 
 reads_more : (w : Switches) (front t rest : List ℕ) (at : ℕ) (value : List ℕ) (more : List Item) → ReadsSome w front t (body_text more ++ rest) at value →
-    stand_before w rest more ≡ true → ReadsSome w front t rest (at + byte_len (body_text more)) (value ++ body_value more)
+    is_item_list w rest more ≡ true → ReadsSome w front t rest (at + byte_len (body_text more)) (value ++ body_value more)
 reads_more w front t rest at value more read g = record {
   items = read.items ++ more;
   spells = ap (λ l. front ++ (l ++ rest)) (body_text-append read.items more)
@@ -57,7 +57,7 @@ reads_more w front t rest at value more read g = record {
 
 -- more items, with their text, its length and their value
 reads_items : (w : Switches) (front t rest tail text bytes : List ℕ) (at end : ℕ) (value : List ℕ) (more : List Item) → ReadsSome w front t rest at value →
-    rest ≡ text ++ tail → body_text more ≡ text → at + byte_len text ≡ end → body_value more ≡ bytes → stand_before w tail more ≡ true →
+    rest ≡ text ++ tail → body_text more ≡ text → at + byte_len text ≡ end → body_value more ≡ bytes → is_item_list w tail more ≡ true →
     ReadsSome w front t tail end (value ++ bytes)
 reads_items w front t rest tail text bytes at end value more read split is_text place is_value stand =
     let before : ReadsSome w front t (body_text more ++ tail) at value =
@@ -80,7 +80,7 @@ pub plain_value : (run : List ℕ) → body_value (plain_items run) ≡ encode_u
 plain_value [] = refl
 plain_value (c ∷ run) = ap (λ l. encode_utf8 c ++ l) (plain_value run)
 
-pub plain_stand : (w : Switches) (rest run : List ℕ) → list_all (is_plain w) run ≡ true → stand_before w rest (plain_items run) ≡ true
+pub plain_stand : (w : Switches) (rest run : List ℕ) → list_all (is_plain w) run ≡ true → is_item_list w rest (plain_items run) ≡ true
 plain_stand w rest [] h = refl
 plain_stand w rest (c ∷ run) h =
     let p = and_parts (is_plain w c) (list_all (is_plain w) run) h in
@@ -126,8 +126,8 @@ pub reads_item : (w : Switches) (front t bytes rest after value : List ℕ) (at 
     drop len rest ≡ after → at + len ≡ end → ReadsSome w front t (chars (drop at bytes)) at value → ReadsSome w front t (chars after) end (value ++ item_bytes v)
 reads_item w front t bytes rest after value at len end v item is after_is on read =
     let tail : chars (drop len rest) ≡ chars after = ap chars after_is in
-    let stand : stand_before w (chars after) (item.item ∷ []) ≡ true =
-    subst (λ (l : List ℕ). stand_before w l (item.item ∷ []) ≡ true) tail (and_from _ _ (and_from _ _ item.grammar item.taken) refl) in
+    let stand : is_item_list w (chars after) (item.item ∷ []) ≡ true =
+    subst (λ (l : List ℕ). is_item_list w l (item.item ∷ []) ≡ true) tail (and_from _ _ (and_from _ _ item.grammar item.taken) refl) in
     reads_items w front t (chars (drop at bytes)) (chars after) (item_text item.item) (item_bytes v) at end value (item.item ∷ []) read
     (ap chars (sym is) ∙ (item.split ∙ ap (λ l. item_text item.item ++ l) tail))
     (append-nil (item_text item.item)) (ap (λ n. at + n) item.size ∙ on) (append-nil (item_value item.item) ∙ item.is_value) stand

@@ -13,7 +13,7 @@ use Rattle.litrs_base.specs.Characters.{is_scalar}
 use Rattle.litrs_base.specs.Refusal.{Refusal}
 use Rattle.litrs_base.specs.Text.{is_empty, first_passes}
 use Rattle.litrs_base.specs.declared.quotes.Switches.{Switches}
-use Rattle.litrs_grammar.specs.Quoted.{Item, plain_item, escape_item, continuation, is_item, is_taken_before, takes_all_blanks, is_body, body_text, body_value, stand_before, QuotedParts, IsQuoted, rest_refusal}
+use Rattle.litrs_grammar.specs.Quoted.{Item, plain_item, escape_item, continuation, is_item, is_complete_before, takes_all_blanks, is_body, body_text, body_value, is_item_list, QuotedParts, IsQuoted, rest_refusal}
 use Rattle.litrs_grammar.proofs.QuotedItems.{stands_body}
 use Rattle.litrs_grammar.proofs.Laws.Quoted.{quoted_texts_are_unique, quoted_texts_are_not_refused}
 use Rattle.litrs_grammar.proofs.Laws.Value.{values_without_byte_escapes_are_utf8}
@@ -33,7 +33,7 @@ value_by w bytes offset place h q None b is free =
     let closed = closed_of w rest (inl b.quote) free in
     let mine : IsQuoted front w (chars bytes) (record { items = b.read.items; suffix = drop 1 rest }) = record {
       spells = ap (λ l. front ++ (body_text b.read.items ++ l)) closed.0 ∙ b.read.spells;
-      body = stands_body w b.read.items (drop 1 rest) (subst (λ l. stand_before w l b.read.items ≡ true) (sym closed.0) b.read.taken);
+      body = stands_body w b.read.items (drop 1 rest) (subst (λ l. is_item_list w l b.read.items ≡ true) (sym closed.0) b.read.taken);
       suffix = closed.1;
     } in
     ap (λ (p : QuotedParts). body_value p.items) (quoted_texts_are_unique front w (chars bytes) _ q mine is)
@@ -111,16 +111,16 @@ plain_of w bytes offset place u at run quote free =
 
 -- The items read so far are a body of their own, whose value is UTF-8 where byte escapes are off
 
-alone : (a : Item) (x rest : List ℕ) → is_taken_before (x ++ rest) a ≡ true → takes_all_blanks a x ≡ true
+alone : (a : Item) (x rest : List ℕ) → is_complete_before (x ++ rest) a ≡ true → takes_all_blanks a x ≡ true
 alone (plain_item c) x rest h = refl
 alone (escape_item e) x rest h = refl
 alone (continuation blanks) [] rest h = refl
 alone (continuation blanks) (c ∷ x) rest h = (and_parts (not (is_empty (c ∷ (x ++ rest)))) _ h).1
 
-body_alone : (w : Switches) (rest : List ℕ) (items : List Item) → stand_before w rest items ≡ true → is_body w items ≡ true
+body_alone : (w : Switches) (rest : List ℕ) (items : List Item) → is_item_list w rest items ≡ true → is_body w items ≡ true
 body_alone w rest [] h = refl
 body_alone w rest (a ∷ items) h =
-    let p = and_parts _ (stand_before w rest items) h in
+    let p = and_parts _ (is_item_list w rest items) h in
     let q = and_parts (is_item w a) _ p.0 in
     and_from _ _ (and_from _ _ q.0 (alone a (body_text items) rest q.1)) (body_alone w rest items p.1)
 

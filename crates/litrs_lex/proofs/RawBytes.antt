@@ -13,7 +13,7 @@ use Rattle.litrs_base.specs.declared.err.ParseErrorKind.TheVariants.{InvalidLite
 use Rattle.litrs_base.specs.declared.err.ParseError.{ParseError}
 use Rattle.litrs_base.specs.Characters.{is_ascii}
 use Rattle.litrs_base.specs.Derivations.{IsOnlyDerivation}
-use Rattle.litrs_base.specs.Refusal.{Refusal, refusal, refusal_of, plain, over, at, IsInText, HasCharSpan}
+use Rattle.litrs_base.specs.Refusal.{Refusal, refusal, refusal_of, without_span, spanning, at_byte, IsInText, HasCharSpan}
 use Rattle.litrs_base.specs.Text.{is_empty, byte_len, first_passes, begins_with}
 use Rattle.litrs_base.proofs.Begins.{begins_with-split, begins_with-append}
 use Rattle.litrs_base.proofs.CharEnds.{char_span_points}
@@ -221,25 +221,25 @@ refusal_here u a n start place bytes utf8 s =
     ∙ ap (λ k. raw_body_refusal u a n k rest) (place_is u a n start place bytes utf8 s))
 
 -- the text ends there
-open_rest : (u a : Bool) (n place : ℕ) → raw_body_refusal u a n place [] ≡ Some (plain UnterminatedRawString)
+open_rest : (u a : Bool) (n place : ℕ) → raw_body_refusal u a n place [] ≡ Some (without_span UnterminatedRawString)
 unfolding raw_body_refusal
 open_rest u a n place = refl
 
 pub open_body : (u a : Bool) (n start place : ℕ) (bytes : List ℕ) → IsUtf8 (drop start bytes) → IsStop u a n start bytes place → drop place bytes ≡ [] →
-    raw_body_refusal u a n start (chars (drop start bytes)) ≡ Some (plain UnterminatedRawString)
+    raw_body_refusal u a n start (chars (drop start bytes)) ≡ Some (without_span UnterminatedRawString)
 open_body u a n start place bytes utf8 s none =
     refusal_here u a n start place bytes utf8 s ∙ (ap (raw_body_refusal u a n place) (ap chars none ∙ chars-nil) ∙ open_rest u a n place)
 
 -- a character that may not stand in the body
 body_by : (u a : Bool) (n place : ℕ) (t body : List ℕ) (allowed : ℕ) → Option Refusal
 body_by u a n place t body allowed =
-    if ltb allowed (length body) then Some (at (place + byte_len (take allowed t)) (raw_char_refusal (slice_index t allowed)))
-    else if not (occurs (raw_closing n) t) then Some (plain UnterminatedRawString)
-    else if not (is_suffix (drop (length body + (1 + n)) t)) then Some (at (place + (byte_len body + (1 + n))) (suffix_refusal (drop (length body + (1 + n)) t)))
+    if ltb allowed (length body) then Some (at_byte (place + byte_len (take allowed t)) (raw_char_refusal (slice_index t allowed)))
+    else if not (occurs (raw_closing n) t) then Some (without_span UnterminatedRawString)
+    else if not (is_suffix (drop (length body + (1 + n)) t)) then Some (at_byte (place + (byte_len body + (1 + n))) (suffix_refusal (drop (length body + (1 + n)) t)))
     else None
 
 refused_rest : (u a : Bool) (n place c : ℕ) (r : List ℕ) → is_raw_char u a c ≡ false → (34 == c) ≡ false →
-    raw_body_refusal u a n place (c ∷ r) ≡ Some (at place (raw_char_refusal c))
+    raw_body_refusal u a n place (c ∷ r) ≡ Some (at_byte place (raw_char_refusal c))
 unfolding raw_body_refusal body_by
 refused_rest u a n place c r not_raw other =
     let t : List ℕ = c ∷ r in
@@ -251,9 +251,9 @@ refused_rest u a n place c r not_raw other =
     ap (λ (b : List ℕ). body_by u a n place t b (prefix_len (is_raw_char u a) b)) body ∙ ap (body_by u a n place t (c ∷ take k r)) none in
     let some : ltb 0 (suc (length (take k r))) ≡ true = lt-ltb 0 (suc (length (take k r))) (omega arith) in
     let there : place + 0 ≡ place = omega arith in
-    whole ∙ (ap (λ v. if v then Some (at (place + 0) (raw_char_refusal c)) else if not (occurs (raw_closing n) t) then Some (plain UnterminatedRawString)
-    else if not (is_suffix (drop (length (c ∷ take k r) + (1 + n)) t)) then Some (at (place + (byte_len (c ∷ take k r) + (1 + n))) (suffix_refusal (drop (length (c ∷ take k r) + (1 + n)) t)))
-    else None) some ∙ ap (λ m. Some (at m (raw_char_refusal c))) there)
+    whole ∙ (ap (λ v. if v then Some (at_byte (place + 0) (raw_char_refusal c)) else if not (occurs (raw_closing n) t) then Some (without_span UnterminatedRawString)
+    else if not (is_suffix (drop (length (c ∷ take k r) + (1 + n)) t)) then Some (at_byte (place + (byte_len (c ∷ take k r) + (1 + n))) (suffix_refusal (drop (length (c ∷ take k r) + (1 + n)) t)))
+    else None) some ∙ ap (λ m. Some (at_byte m (raw_char_refusal c))) there)
 
 -- a character from 128 on is refused as its first byte is
 wide_refusal : (b c : ℕ) → 128 ≤ b → 128 ≤ c → raw_char_refusal c ≡ raw_char_refusal b
@@ -265,7 +265,7 @@ wide_refusal b c high wide =
     rw (p, q, r, s) refl
 
 refused_first : (u a : Bool) (n place b : ℕ) (bs : List ℕ) → IsUtf8 (b ∷ bs) → is_ordinary (raw_special u a) b ≡ false → (b == 34) ≡ false →
-    raw_body_refusal u a n place (chars (b ∷ bs)) ≡ Some (at place (raw_char_refusal b))
+    raw_body_refusal u a n place (chars (b ∷ bs)) ≡ Some (at_byte place (raw_char_refusal b))
 refused_first u a n place b bs utf8 stops other = elim (cases_lt b 128) [
   | inl low ↦ ap (raw_body_refusal u a n place) (chars_ascii b bs low) ∙ refused_rest u a n place b (chars bs) (stops_raw u a b stops other) (no_quote b other)
   | inr high ↦ (let w = chars_wide b bs high utf8 in
@@ -273,11 +273,11 @@ refused_first u a n place b bs utf8 stops other = elim (cases_lt b 128) [
       let another : (w.first == 34) ≡ false = (let wide = w.wide in ne_eqb w.first 34 (λ e. omega arith)) in
       ap (raw_body_refusal u a n place) w.is
       ∙ (refused_rest u a n place w.first w.rest (stops_raw u a w.first alike another) (no_quote w.first another)
-      ∙ ap (λ k. Some (at place k)) (wide_refusal b w.first high w.wide)))
+      ∙ ap (λ k. Some (at_byte place k)) (wide_refusal b w.first high w.wide)))
 ]
 
 pub refused_body : (u a : Bool) (n start place b : ℕ) (bytes r : List ℕ) → IsUtf8 (drop start bytes) → IsStop u a n start bytes place → drop place bytes ≡ b ∷ r →
-    (b == 34) ≡ false → raw_body_refusal u a n start (chars (drop start bytes)) ≡ Some (at place (raw_char_refusal b))
+    (b == 34) ≡ false → raw_body_refusal u a n start (chars (drop start bytes)) ≡ Some (at_byte place (raw_char_refusal b))
 refused_body u a n start place b bytes r utf8 s is other =
     refusal_here u a n start place bytes utf8 s ∙ (ap (λ l. raw_body_refusal u a n place (chars l)) is
     ∙ refused_first u a n place b r (subst (λ (l : List ℕ). IsUtf8 l) is s.utf8) (ap (first_passes (is_ordinary (raw_special u a))) (sym is) ∙ s.stops) other)
@@ -302,18 +302,18 @@ closing_at n place bytes within utf8 h =
     }
 
 closed_refusal : (u a : Bool) (n start place : ℕ) (bytes : List ℕ) → IsUtf8 (drop start bytes) → IsStop u a n start bytes place → Closing n place bytes →
-    raw_body_refusal u a n start (chars (drop start bytes)) ≡ (if not (is_suffix (chars (drop (place + 1 + n) bytes))) then Some (at (place + 1 + n) (suffix_refusal (chars (drop (place + 1 + n) bytes)))) else None)
+    raw_body_refusal u a n start (chars (drop start bytes)) ≡ (if not (is_suffix (chars (drop (place + 1 + n) bytes))) then Some (at_byte (place + 1 + n) (suffix_refusal (chars (drop (place + 1 + n) bytes)))) else None)
 closed_refusal u a n start place bytes utf8 s c =
     let x = chars (drop (place + 1 + n) bytes) in
     let there : place + (byte_len [] + (1 + n)) ≡ place + 1 + n = omega arith in
     refusal_here u a n start place bytes utf8 s ∙ (ap (raw_body_refusal u a n place) (sym c.spells)
-    ∙ (refusal_of_closed u a n place [] x refl ∙ ap (λ k. if not (is_suffix x) then Some (at k (suffix_refusal x)) else None) there))
+    ∙ (refusal_of_closed u a n place [] x refl ∙ ap (λ k. if not (is_suffix x) then Some (at_byte k (suffix_refusal x)) else None) there))
 
 pub suffix_refused : (u a : Bool) (n start place : ℕ) (bytes : List ℕ) → IsUtf8 (drop start bytes) → IsStop u a n start bytes place → Closing n place bytes →
     is_suffix (chars (drop (place + 1 + n) bytes)) ≡ false →
-    raw_body_refusal u a n start (chars (drop start bytes)) ≡ Some (at (place + 1 + n) (suffix_refusal (chars (drop (place + 1 + n) bytes))))
+    raw_body_refusal u a n start (chars (drop start bytes)) ≡ Some (at_byte (place + 1 + n) (suffix_refusal (chars (drop (place + 1 + n) bytes))))
 suffix_refused u a n start place bytes utf8 s c none = let x = chars (drop (place + 1 + n) bytes) in
-    closed_refusal u a n start place bytes utf8 s c ∙ ap (λ v. if not v then Some (at (place + 1 + n) (suffix_refusal x)) else None) none
+    closed_refusal u a n start place bytes utf8 s c ∙ ap (λ v. if not v then Some (at_byte (place + 1 + n) (suffix_refusal x)) else None) none
 
 -- what is no suffix is not empty
 pub suffix_within : (bytes : List ℕ) (place : ℕ) → place ≤ length bytes → is_suffix (chars (drop place bytes)) ≡ false → place + 1 ≤ length bytes
@@ -350,7 +350,7 @@ body_cut u a n start place bytes utf8 s c ends =
     ap (length_before p) (sym s.passed.spells) ∙ (scan ∙ (ap (λ l. length front + length_before p l) (sym c.spells) ∙ omega (arith, here))) in
     let back : place + 1 + n - (n + 1) ≡ place = omega arith in
     let low = s.from in record {
-      free = closed_refusal u a n start place bytes utf8 s c ∙ ap (λ v. if not v then Some (at (place + 1 + n) (suffix_refusal x)) else None) ends;
+      free = closed_refusal u a n start place bytes utf8 s c ∙ ap (λ v. if not v then Some (at_byte (place + 1 + n) (suffix_refusal x)) else None) ends;
       body = ap (λ k. take k t) before ∙ (ap (take (length front)) (sym s.passed.spells) ∙ (take_at front (chars (drop place bytes)) (length front) refl
           ∙ (front_bytes u a n start place bytes utf8 s ∙ ap (λ k. chars (slice_range bytes start k)) (sym back))));
       suffix = ap (λ k. drop (k + (1 + n)) t) before ∙ (ap (drop (length front + (1 + n))) (sym whole) ∙ after_closing n front x);
@@ -396,14 +396,14 @@ opening_of bs b r u is =
       utf8 = text;
     }
 
-pub opening_nothing : (u a : Bool) (start : ℕ) (bs : List ℕ) → IsUtf8 bs → drop (hash_len bs) bs ≡ [] → raw_refusal u a start (chars bs) ≡ Some (plain InvalidLiteral)
+pub opening_nothing : (u a : Bool) (start : ℕ) (bs : List ℕ) → IsUtf8 bs → drop (hash_len bs) bs ≡ [] → raw_refusal u a start (chars bs) ≡ Some (without_span InvalidLiteral)
 opening_nothing u a start bs utf8 is =
     let n : ℕ = hash_len bs in
     let body = raw_body_refusal u a n (start + (n + 1)) (drop 1 (chars (drop n bs))) in
     opening_is u a start bs utf8 ∙ ap (λ v. raw_rows start n body v (ltb 255 n) (first_passes is_quote (chars (drop n bs)))) (ap is_empty (ap chars is ∙ chars-nil))
 
 pub opening_many : (u a : Bool) (start b : ℕ) (bs r : List ℕ) → IsUtf8 bs → drop (hash_len bs) bs ≡ b ∷ r → 255 < hash_len bs →
-    raw_refusal u a start (chars bs) ≡ Some (over start (start + hash_len bs) TooManyHashes)
+    raw_refusal u a start (chars bs) ≡ Some (spanning start (start + hash_len bs) TooManyHashes)
 opening_many u a start b bs r utf8 is many =
     let n : ℕ = hash_len bs in
     let body = raw_body_refusal u a n (start + (n + 1)) (drop 1 (chars (drop n bs))) in
@@ -411,7 +411,7 @@ opening_many u a start b bs r utf8 is many =
     opening_is u a start bs utf8 ∙ (λ j. raw_rows start n body (o.some j) (lt-ltb 255 n many j) (first_passes is_quote (chars (drop n bs))))
 
 pub opening_other : (u a : Bool) (start b : ℕ) (bs r : List ℕ) → IsUtf8 bs → drop (hash_len bs) bs ≡ b ∷ r → hash_len bs ≤ 255 → (b == 34) ≡ false →
-    raw_refusal u a start (chars bs) ≡ Some (plain InvalidLiteral)
+    raw_refusal u a start (chars bs) ≡ Some (without_span InvalidLiteral)
 opening_other u a start b bs r utf8 is few other =
     let n : ℕ = hash_len bs in
     let body = raw_body_refusal u a n (start + (n + 1)) (drop 1 (chars (drop n bs))) in

@@ -11,7 +11,7 @@ use Rattle.std.proofs.lemmas.List.Sums.{take_while-cons, sum_by-cons, sum_by-app
 use Rattle.litrs_base.specs.declared.err.ParseErrorKind.TheVariants.{DisallowedNulEscape, UnicodeEscapeWithoutBrace, UnterminatedUnicodeEscape, InvalidStartOfUnicodeEscape, NonHexDigitInUnicodeEscape, TooManyDigitInUnicodeEscape, InvalidUnicodeEscapeChar}
 use Rattle.litrs_base.specs.declared.escape.Unescape.TheVariants.{Unicode}
 use Rattle.litrs_base.specs.Characters.{is_scalar}
-use Rattle.litrs_base.specs.Refusal.{at, over}
+use Rattle.litrs_base.specs.Refusal.{at_byte, spanning}
 use Rattle.litrs_base.specs.Text.{byte_len, first_passes, is_empty, begins_with}
 use Rattle.litrs_base.proofs.Begins.{begins_with-split}
 use Rattle.litrs_base.proofs.ByteLen.{byte_len_one_ascii, byte_len_all_ascii}
@@ -34,7 +34,7 @@ unfolding escape_refusal
 to_unicode w t = refl
 
 pub no_brace_row : (byte_escapes allow_nul : Bool) (bs : List ℕ) → IsUtf8 bs → bs ≡ 92 ∷ 117 ∷ drop 2 bs → first_passes (λ c. c == 123) (drop 2 bs) ≡ false →
-    escape_refusal (switches true byte_escapes allow_nul) (chars bs) ≡ Some (over 0 2 UnicodeEscapeWithoutBrace)
+    escape_refusal (switches true byte_escapes allow_nul) (chars bs) ≡ Some (spanning 0 2 UnicodeEscapeWithoutBrace)
 no_brace_row byte_escapes allow_nul bs u is never =
     let w = switches true byte_escapes allow_nul in
     ap (escape_refusal w) (letter_chars bs 117 (omega arith) is)
@@ -68,12 +68,12 @@ brace_only : OnlyAscii (λ c. c == 125)
 brace_only = only_char 125 (omega arith)
 
 pub unclosed_row : (byte_escapes allow_nul : Bool) (bs : List ℕ) → IsBraced bs → list_any (λ c. c == 125) (drop 3 bs) ≡ false →
-    escape_refusal (switches true byte_escapes allow_nul) (chars bs) ≡ Some (over 0 (length bs) UnterminatedUnicodeEscape)
+    escape_refusal (switches true byte_escapes allow_nul) (chars bs) ≡ Some (spanning 0 (length bs) UnterminatedUnicodeEscape)
 unclosed_row byte_escapes allow_nul bs b never =
     let r = drop 3 bs in
     let size : 2 + byte_len (123 ∷ chars r) ≡ length bs = let e = byte_len_one_ascii 123 (chars r) (omega arith) in let f = byte_len-all r b.utf8 in let g = b.size in omega arith in
     braced_refusal (switches true byte_escapes allow_nul) bs b
-    ∙ (if_true _ _ _ (ap not (list_any-chars (λ c. c == 125) r brace_only b.utf8 ∙ never)) ∙ ap (λ n. Some (over 0 n UnterminatedUnicodeEscape)) size)
+    ∙ (if_true _ _ _ (ap not (list_any-chars (λ c. c == 125) r brace_only b.utf8 ∙ never)) ∙ ap (λ n. Some (spanning 0 n UnterminatedUnicodeEscape)) size)
 
 -- what stands between the braces
 to_inner : (byte_escapes allow_nul : Bool) (inner t : List ℕ) (c : ℕ) (zs : List ℕ) → Split (λ c. c == 125) t inner c zs →
@@ -90,7 +90,7 @@ wrong_only : OnlyAscii is_wrong_start
 wrong_only c high = grind (arith, nat_tests)
 
 start_inner : (w : Switches) (inner t : List ℕ) (c : ℕ) (zs : List ℕ) → Split (λ c. c == 125) t inner c zs → first_passes is_wrong_start t ≡ true →
-    inner_refusal w inner ≡ Some (at 3 InvalidStartOfUnicodeEscape)
+    inner_refusal w inner ≡ Some (at_byte 3 InvalidStartOfUnicodeEscape)
 start_inner w [] t c zs s wrong = refl
 start_inner w (i ∷ inner) t c zs s wrong =
     let first : is_wrong_start i ≡ true = ap (first_passes is_wrong_start) s.spells ∙ wrong in
@@ -99,7 +99,7 @@ start_inner w (i ∷ inner) t c zs s wrong =
     if_true _ _ _ is
 
 pub start_row : (byte_escapes allow_nul : Bool) (bs : List ℕ) → IsBraced bs → list_any (λ c. c == 125) (drop 3 bs) ≡ true → first_passes is_wrong_start (drop 3 bs) ≡ true →
-    escape_refusal (switches true byte_escapes allow_nul) (chars bs) ≡ Some (at 3 InvalidStartOfUnicodeEscape)
+    escape_refusal (switches true byte_escapes allow_nul) (chars bs) ≡ Some (at_byte 3 InvalidStartOfUnicodeEscape)
 start_row byte_escapes allow_nul bs b any wrong =
     let r = drop 3 bs in
     let found = split_first (λ c. c == 125) (chars r) (list_any-chars (λ c. c == 125) r brace_only b.utf8 ∙ any) in
@@ -146,13 +146,13 @@ longer xs u us = let e = length-append xs (u ∷ us) in omega arith
 -- a character that is neither a hex digit nor an underscore
 nonhex_inner : (w : Switches) (xs : List ℕ) (u : ℕ) (us : List ℕ) → list_all is_hex_or_underscore xs ≡ true → is_hex_or_underscore u ≡ false → count_by is_ascii_hexdigit xs ≤ 6 →
     (is_empty (xs ++ u ∷ us) || first_passes (λ c. c == 95) (xs ++ u ∷ us)) ≡ false →
-    inner_refusal w (xs ++ u ∷ us) ≡ Some (at (3 + length xs) NonHexDigitInUnicodeEscape)
+    inner_refusal w (xs ++ u ∷ us) ≡ Some (at_byte (3 + length xs) NonHexDigitInUnicodeEscape)
 nonhex_inner w xs u us all other few right =
     let run : take_while is_hex_or_underscore (xs ++ u ∷ us) ≡ xs =
     take_while_front is_hex_or_underscore xs (u ∷ us) all ∙ (ap (λ l. xs ++ l) (take_while-cons is_hex_or_underscore u us ∙ if_false _ _ _ other) ∙ append-nil xs) in
     let stranger : has_stranger (xs ++ u ∷ us) ≡ true =
     ap (λ d. ltb (length d) (length (xs ++ u ∷ us)) && leb (count_by is_ascii_hexdigit d) 6) run ∙ and_from _ _ (lt-ltb _ _ (longer xs u us)) (le-leb _ _ few) in
-    if_false _ _ _ right ∙ (if_true _ _ _ stranger ∙ ap (λ l. Some (at (3 + length l) NonHexDigitInUnicodeEscape)) run)
+    if_false _ _ _ right ∙ (if_true _ _ _ stranger ∙ ap (λ l. Some (at_byte (3 + length l) NonHexDigitInUnicodeEscape)) run)
 
 count_more : (xs : List ℕ) (u : ℕ) (l : List ℕ) → is_ascii_hexdigit u ≡ true → count_by is_ascii_hexdigit xs ≡ 6 → 6 < count_by is_ascii_hexdigit (xs ++ u ∷ l)
 count_more xs u l digit six =
@@ -193,7 +193,7 @@ place_at p n (x ∷ xs) u l passes count = go n (p x) refl (sym (sum_by-cons one
 -- a seventh digit
 many_inner : (w : Switches) (xs : List ℕ) (u : ℕ) (us : List ℕ) → list_all is_hex_or_underscore xs ≡ true → is_ascii_hexdigit u ≡ true → count_by is_ascii_hexdigit xs ≡ 6 →
     (is_empty (xs ++ u ∷ us) || first_passes (λ c. c == 95) (xs ++ u ∷ us)) ≡ false →
-    inner_refusal w (xs ++ u ∷ us) ≡ Some (at (3 + length xs) TooManyDigitInUnicodeEscape)
+    inner_refusal w (xs ++ u ∷ us) ≡ Some (at_byte (3 + length xs) TooManyDigitInUnicodeEscape)
 many_inner w xs u us all digit six right =
     let run : take_while is_hex_or_underscore (xs ++ u ∷ us) ≡ xs ++ u ∷ take_while is_hex_or_underscore us =
     take_while_front is_hex_or_underscore xs (u ∷ us) all ∙ ap (λ l. xs ++ l) (take_while-cons is_hex_or_underscore u us ∙ if_true _ _ _ (or_left _ _ digit)) in
@@ -201,7 +201,7 @@ many_inner w xs u us all digit six right =
     let m = count_more xs u (take_while is_hex_or_underscore us) digit six in let e = ap (count_by is_ascii_hexdigit) run in omega arith in
     let many : leb (count_by is_ascii_hexdigit (take_while is_hex_or_underscore (xs ++ u ∷ us))) 6 ≡ false = fails _ (λ e. let few = leb-true _ _ e in omega arith) in
     if_false _ _ _ right ∙ (if_false _ _ _ (and_false _ _ many) ∙ (if_true _ _ _ (lt-ltb 6 _ (count_more xs u us digit six))
-    ∙ ap (λ n. Some (at (3 + n) TooManyDigitInUnicodeEscape)) (place_at is_ascii_hexdigit 6 xs u us digit six)))
+    ∙ ap (λ n. Some (at_byte (3 + n) TooManyDigitInUnicodeEscape)) (place_at is_ascii_hexdigit 6 xs u us digit six)))
 
 -- the digits in the text: xs are they, and ys the bytes after them
 pub record IsDigitText (bs xs ys : List ℕ) : Type 0 where
@@ -284,14 +284,14 @@ stopped bs xs ys b d any right open_end =
     }
 
 pub many_row : (byte_escapes allow_nul : Bool) (bs xs ys : List ℕ) → IsBraced bs → IsDigitText bs xs ys → IsStopped bs xs ys → count_by is_ascii_hexdigit xs ≡ 6 →
-    first_passes is_ascii_hexdigit ys ≡ true → escape_refusal (switches true byte_escapes allow_nul) (chars bs) ≡ Some (at (3 + length xs) TooManyDigitInUnicodeEscape)
+    first_passes is_ascii_hexdigit ys ≡ true → escape_refusal (switches true byte_escapes allow_nul) (chars bs) ≡ Some (at_byte (3 + length xs) TooManyDigitInUnicodeEscape)
 many_row byte_escapes allow_nul bs xs ys b d s six digit =
     let w = switches true byte_escapes allow_nul in
     braced_refusal w bs b ∙ (to_inner byte_escapes allow_nul s.inner (chars (drop 3 bs)) s.brace s.rest s.split ∙ (ap (inner_refusal w) s.inner_is
     ∙ many_inner w xs s.next s.more d.passes (first_next is_ascii_hexdigit ys s.next _ hexdigit_only d.utf8 s.next_is ∙ digit) six s.right))
 
 pub nonhex_row : (byte_escapes allow_nul : Bool) (bs xs ys : List ℕ) → IsBraced bs → IsDigitText bs xs ys → IsStopped bs xs ys → count_by is_ascii_hexdigit xs ≤ 6 →
-    first_passes is_hex_or_underscore ys ≡ false → escape_refusal (switches true byte_escapes allow_nul) (chars bs) ≡ Some (at (3 + length xs) NonHexDigitInUnicodeEscape)
+    first_passes is_hex_or_underscore ys ≡ false → escape_refusal (switches true byte_escapes allow_nul) (chars bs) ≡ Some (at_byte (3 + length xs) NonHexDigitInUnicodeEscape)
 nonhex_row byte_escapes allow_nul bs xs ys b d s few other =
     let w = switches true byte_escapes allow_nul in
     braced_refusal w bs b ∙ (to_inner byte_escapes allow_nul s.inner (chars (drop 3 bs)) s.brace s.rest s.split ∙ (ap (inner_refusal w) s.inner_is
@@ -328,20 +328,20 @@ closed_split bs xs c = record { spells = sym c.characters; before = list_all-wea
 
 closed_to_value : (byte_escapes allow_nul : Bool) (bs xs : List ℕ) → IsBraced bs → IsClosed bs xs → count_by is_ascii_hexdigit xs ≤ 6 →
     escape_refusal (switches true byte_escapes allow_nul) (chars bs)
-    ≡ (if not (allows_value (switches true byte_escapes allow_nul) (hex_value xs)) then Some (over 0 (4 + length xs) DisallowedNulEscape)
-    else if not (is_scalar (hex_value xs)) then Some (over 0 (4 + length xs) InvalidUnicodeEscapeChar) else None)
+    ≡ (if not (allows_value (switches true byte_escapes allow_nul) (hex_value xs)) then Some (spanning 0 (4 + length xs) DisallowedNulEscape)
+    else if not (is_scalar (hex_value xs)) then Some (spanning 0 (4 + length xs) InvalidUnicodeEscapeChar) else None)
 closed_to_value byte_escapes allow_nul bs xs b c few =
     braced_refusal (switches true byte_escapes allow_nul) bs b
     ∙ (to_inner byte_escapes allow_nul xs (chars (drop 3 bs)) 125 c.rest (closed_split bs xs c)
     ∙ (if_false _ _ _ (starts_inner xs c.first) ∙ (if_false _ _ _ (no_stranger xs c.passes) ∙ if_false _ _ _ (le-ltb _ _ few))))
 
 pub value_nul_row : (byte_escapes allow_nul : Bool) (bs xs : List ℕ) → IsBraced bs → IsClosed bs xs → count_by is_ascii_hexdigit xs ≤ 6 →
-    allows_value (switches true byte_escapes allow_nul) (hex_value xs) ≡ false → escape_refusal (switches true byte_escapes allow_nul) (chars bs) ≡ Some (over 0 (4 + length xs) DisallowedNulEscape)
+    allows_value (switches true byte_escapes allow_nul) (hex_value xs) ≡ false → escape_refusal (switches true byte_escapes allow_nul) (chars bs) ≡ Some (spanning 0 (4 + length xs) DisallowedNulEscape)
 value_nul_row byte_escapes allow_nul bs xs b c few never = closed_to_value byte_escapes allow_nul bs xs b c few ∙ if_true _ _ _ (ap not never)
 
 pub value_row : (byte_escapes allow_nul : Bool) (bs xs : List ℕ) → IsBraced bs → IsClosed bs xs → count_by is_ascii_hexdigit xs ≤ 6 →
     allows_value (switches true byte_escapes allow_nul) (hex_value xs) ≡ true → is_scalar (hex_value xs) ≡ false →
-    escape_refusal (switches true byte_escapes allow_nul) (chars bs) ≡ Some (over 0 (4 + length xs) InvalidUnicodeEscapeChar)
+    escape_refusal (switches true byte_escapes allow_nul) (chars bs) ≡ Some (spanning 0 (4 + length xs) InvalidUnicodeEscapeChar)
 value_row byte_escapes allow_nul bs xs b c few allowed never =
     closed_to_value byte_escapes allow_nul bs xs b c few ∙ (if_false _ _ _ (ap not allowed) ∙ if_true _ _ _ (ap not never))
 

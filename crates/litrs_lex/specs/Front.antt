@@ -2,7 +2,7 @@
 use Rattle.std.specs.Prelude.{◌≡◌, ℕ, List, codes, IsTrue, IsFalse, if◌then◌else◌}
 use Rattle.std.specs.Char.{is_ascii_digit}
 use Rattle.litrs_base.specs.declared.err.ParseErrorKind.TheVariants.{Empty, InvalidLiteral}
-use Rattle.litrs_base.specs.Refusal.{plain}
+use Rattle.litrs_base.specs.Refusal.{without_span}
 use Rattle.litrs_base.specs.Text.{is_empty, first_passes, begins_with}
 use Rattle.litrs_grammar.specs.Bool.{bool_text}
 use Rattle.litrs_grammar.specs.Literal.{bool_literal, integer_literal, float_literal, char_literal, byte_literal, c_string_literal, string_literal_of}
@@ -13,7 +13,7 @@ use Rattle.litrs_lex.specs.declared.kind.Front.TheVariants as front
 
 -- the row of the dispatch for the text with these bytes, which begins so
 abbrev pub row_of : Front → List ℕ → Dispatch
-row_of front.Empty bytes = refused_as (plain Empty)
+row_of front.Empty bytes = refused_as (without_span Empty)
 row_of (front.Bool value) bytes = parsed_as bool_literal
 row_of front.Number bytes =
     if begins_float bytes then parsed_as float_literal else parsed_as integer_literal
@@ -23,7 +23,7 @@ row_of (front.Quoted kind) bytes = parsed_as (string_literal_of kind)
 row_of (front.Raw kind) bytes = parsed_as (string_literal_of kind)
 row_of front.Other bytes =
     if begins_with (codes "c") bytes then parsed_as c_string_literal
-    else refused_as (plain InvalidLiteral)
+    else refused_as (without_span InvalidLiteral)
 
 -- The bytes begin so, or are so. The dispatch has one row for all texts that begin with `c`; those
 -- of them that begin with neither front of a C string begin as no literal.

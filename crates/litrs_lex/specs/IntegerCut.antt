@@ -7,23 +7,23 @@ use Rattle.litrs_base.specs.Base.{prefix, is_digit_or_underscore}
 use Rattle.litrs_grammar.specs.Integer.{IntegerParts, IsIntegerOf, base_of}
 
 -- the parts that a cut of the text with these bytes names
-abbrev pub parts_at : IntegerCut → List ℕ → IntegerParts
-parts_at cut bytes = record {
+abbrev pub integer_parts_at : IntegerCut → List ℕ → IntegerParts
+integer_parts_at cut bytes = record {
   base = cut.base;
   main = chars (slice_range bytes cut.start_main cut.end_main);
   suffix = chars (drop cut.end_main bytes);
 }
 
 -- the places stand in order within the text, on character boundaries
-pub record IsWithin (cut : IntegerCut) (bytes : List ℕ) : Type 0 where
+pub record IsIntegerWithin (cut : IntegerCut) (bytes : List ℕ) : Type 0 where
   pub in_order : cut.start_main ≤ cut.end_main
   pub start : IsCharBoundary bytes cut.start_main
   pub end : IsCharBoundary bytes cut.end_main
 
 -- the text is an integer, cut at these places
 pub record IsIntegerAt (cut : IntegerCut) (bytes : List ℕ) : Type 0 where
-  pub places : IsWithin cut bytes
-  pub integer : IsIntegerOf (chars bytes) (parts_at cut bytes)
+  pub places : IsIntegerWithin cut bytes
+  pub integer : IsIntegerOf (chars bytes) (integer_parts_at cut bytes)
 
 -- cut after the prefix and after all digits of the base and underscores that follow
 pub record IsDigitsCut (cut : IntegerCut) (bytes : List ℕ) : Type 0 where

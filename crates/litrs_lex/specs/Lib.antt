@@ -5,7 +5,7 @@ pub mod RunBytes
 pub mod Target
 pub mod Closing
 -- what a search has found out
-pub mod Marked
+pub mod Mask
 -- how a text begins
 pub mod Front
 -- what an escape holds

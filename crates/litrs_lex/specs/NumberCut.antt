@@ -8,7 +8,7 @@ use Rattle.litrs_grammar.specs.Literal.{LiteralKind, integer_literal, float_lite
 use Rattle.litrs_grammar.specs.LiteralRefusals.{begins_float}
 use Rattle.litrs_lex.specs.declared.number.NumberCut.{NumberCut}
 use Rattle.litrs_lex.specs.declared.number.NumberCut.TheVariants as number
-use Rattle.litrs_lex.specs.IntegerCut.{parts_at, IsWithin}
+use Rattle.litrs_lex.specs.IntegerCut.{integer_parts_at, IsIntegerWithin}
 use Rattle.litrs_lex.specs.FloatCut.{float_parts_at, IsFloatWithin}
 
 -- the kind of number that a text is parsed as
@@ -18,7 +18,8 @@ number_kind t = if begins_float t then float_literal else integer_literal
 -- the parts that the cut names are the only derivation of the text as a number of this kind
 abbrev pub IsNumberCut : NumberCut → List ℕ → Type 0
 IsNumberCut (number.Integer cut) bytes =
-    IsOnlyDerivation (IsIntegerOf (chars bytes)) (parts_at cut bytes) × IsWithin cut bytes
+    IsOnlyDerivation (IsIntegerOf (chars bytes)) (integer_parts_at cut bytes)
+    × IsIntegerWithin cut bytes
 IsNumberCut (number.Float cut) bytes =
     IsOnlyDerivation (IsFloatOf (chars bytes)) (float_parts_at cut bytes)
     × IsFloatWithin cut bytes

@@ -8,12 +8,12 @@ use Rattle.litrs_base.specs.CharEnd.{PointsAtCharacters}
 use Rattle.litrs_base.specs.Characters.{double_quote}
 use Rattle.litrs_base.specs.Derivations.{IsOnlyDerivation, HasNoDerivation}
 use Rattle.litrs_base.specs.Finality.{is_final, is_open}
-use Rattle.litrs_base.specs.Refusal.{Refusal, plain, refusal_of, kind_of, char_span_of, IsInText, HasCharSpan}
+use Rattle.litrs_base.specs.Refusal.{Refusal, without_span, refusal_of, kind_of, char_span_of, IsInText, HasCharSpan}
 use Rattle.litrs_base.specs.Text.{byte_len}
 use Rattle.litrs_base.specs.declared.quotes.Switches.{Switches}
 use Rattle.litrs_grammar.specs.Allocation.{has_backslash}
 use Rattle.litrs_grammar.specs.Continuation.{EndsBy}
-use Rattle.litrs_grammar.specs.Quoted.{QuotedParts, IsQuoted, IsQuotedRefusal, body_text, body_value, stand_before}
+use Rattle.litrs_grammar.specs.Quoted.{QuotedParts, IsQuoted, IsQuotedRefusal, body_text, body_value, is_item_list}
 use Rattle.litrs_grammar.specs.GoesOn.Quoted.{IsClosedQuoted}
 use Rattle.litrs_lex.specs.declared.quoted.QuotedCut.{QuotedCut}
 
@@ -35,7 +35,7 @@ pub record IsQuotedCut (w : Switches) (bytes : List ℕ) (offset : ℕ) (cut : Q
       IsFalse cut.has_escape →
       slice_range bytes offset (cut.start_suffix - 1) ≡ body_value parts.items
   pub items_stay : (more : List ℕ) →
-      IsTrue (stand_before w (double_quote ∷ (parts.suffix ++ more)) parts.items)
+      IsTrue (is_item_list w (double_quote ∷ (parts.suffix ++ more)) parts.items)
 
 -- The text of these bytes is no quoted literal whose body begins at the place. The table has the
 -- error's kind and span for it and no other pair, and never that of an allocation failure; the span
@@ -53,7 +53,7 @@ pub record IsQuotedRefused (w : Switches) (bytes : List ℕ) (offset : ℕ) (e :
   pub char_span : HasCharSpan (chars bytes) e
   pub char_ends : IfSome (char_span_of e) (PointsAtCharacters (chars bytes))
   pub of_text : kind_of e ≢ OutOfMemory
-  pub items_stay : (more : List ℕ) → IsTrue (stand_before w (table.rest ++ more) table.items)
+  pub items_stay : (more : List ℕ) → IsTrue (is_item_list w (table.rest ++ more) table.items)
   pub final : IsTrue (is_final (kind_of e)) →
       EndsBy (IsQuoted (chars (take offset bytes)) w) (chars bytes)
   pub stays : IsTrue (is_final (kind_of e)) → (more : List ℕ) →
@@ -74,7 +74,7 @@ pub record IsQuotedValue
 
 -- the error says that there was no memory
 abbrev pub IsOutOfMemory : ParseError → Type 0
-IsOutOfMemory e = refusal_of e ≡ plain OutOfMemory
+IsOutOfMemory e = refusal_of e ≡ without_span OutOfMemory
 
 -- The text is a quoted literal whose body has a backslash, and the error says that there was no
 -- memory for its value.

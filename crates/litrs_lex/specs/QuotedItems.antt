@@ -8,7 +8,7 @@ use Rattle.litrs_base.specs.Refusal.{Refusal}
 use Rattle.litrs_base.specs.Text.{byte_len, first_passes}
 use Rattle.litrs_base.specs.declared.quotes.Switches.{Switches}
 use Rattle.litrs_grammar.specs.Escape.{value_bytes}
-use Rattle.litrs_grammar.specs.Quoted.{Item, item_text, item_value, is_item, is_taken_before, is_plain, rest_refusal}
+use Rattle.litrs_grammar.specs.Quoted.{Item, item_text, item_value, is_item, is_complete_before, is_plain, rest_refusal}
 use Rattle.litrs_lex.specs.declared.search.Special.{Special}
 use Rattle.litrs_lex.specs.Container.{is_pushable}
 
@@ -40,7 +40,7 @@ pub record IsItemAt (w : Switches) (bytes : List ℕ) (len : ℕ) (value : Optio
   pub item : Item
   pub split : chars bytes ≡ item_text item ++ chars (drop len bytes)
   pub grammar : IsTrue (is_item w item)
-  pub taken : IsTrue (is_taken_before (chars (drop len bytes)) item)
+  pub taken : IsTrue (is_complete_before (chars (drop len bytes)) item)
   pub size : byte_len (item_text item) ≡ len
   pub is_value : item_value item ≡ item_bytes value
   pub pushable : IfSome value (λ v. IsTrue (is_pushable w.byte_escapes v))

@@ -6,8 +6,8 @@ use Rattle.litrs_base.specs.Characters.{double_quote}
 use Rattle.litrs_base.specs.Refusal.{refusal_of, HasCharSpan}
 use Rattle.litrs_base.specs.Text.{byte_len, first_passes}
 use Rattle.litrs_base.specs.declared.quotes.Switches.{Switches}
-use Rattle.litrs_grammar.specs.Quoted.{Item, body_text, body_value, is_plain, stand_before, rest_refusal, IsQuotedRefusal}
-use Rattle.litrs_lex.specs.Marked.{IsMarked}
+use Rattle.litrs_grammar.specs.Quoted.{Item, body_text, body_value, is_plain, is_item_list, rest_refusal, IsQuotedRefusal}
+use Rattle.litrs_lex.specs.Mask.{IsMaskOf}
 use Rattle.litrs_lex.specs.QuotedCut.{IsQuotedValue, IsQuotedOutOfMemory}
 use Rattle.litrs_lex.specs.QuotedItems.{IsPlainRun, IsItemAt, EndsItems, stops}
 use Rattle.litrs_lex.specs.declared.reading.Reading.{Reading}
@@ -23,7 +23,7 @@ pub record IsReadTo (w : Switches) (bytes : List ℕ) (offset place : ℕ) (hold
   pub items : List Item
   pub spells :
       chars (take offset bytes) ++ (body_text items ++ chars (drop place bytes)) ≡ chars bytes
-  pub taken : IsTrue (stand_before w (chars (drop place bytes)) items)
+  pub taken : IsTrue (is_item_list w (chars (drop place bytes)) items)
   pub size : place ≡ byte_len (chars (take offset bytes) ++ body_text items)
   pub boundary : IsCharBoundary bytes place
   pub fits : length (body_value items) ≤ place
@@ -36,7 +36,7 @@ pub record IsReading (w : Switches) (bytes : List ℕ) (offset : ℕ) (holds : L
   pub read : IsReadTo w bytes offset s.at holds
   pub run : IsPlainRun w bytes s.at s.place
   pub after : s.marked.start ≤ s.place
-  pub marked : IsMarked (stops w.unicode w.allow_nul) bytes s.marked
+  pub marked : IsMaskOf (stops w.unicode w.allow_nul) bytes s.marked
 
 -- The body is read up to its closing quote.
 pub record IsReadBody (w : Switches) (bytes : List ℕ) (offset : ℕ) (holds : List ℕ → Type 0)

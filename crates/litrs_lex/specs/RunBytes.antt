@@ -26,23 +26,23 @@ last_letter Blanks = 96
 last_letter Hashes = 96
 
 -- the bytes of a run that are neither digits nor letters: three, or one of them more than once
-abbrev pub first_other : Run → ℕ
-first_other (Digits base) = underscore
-first_other Identifier = underscore
-first_other Blanks = space
-first_other Hashes = hash
+abbrev pub first_extra : Run → ℕ
+first_extra (Digits base) = underscore
+first_extra Identifier = underscore
+first_extra Blanks = space
+first_extra Hashes = hash
 
-abbrev pub second_other : Run → ℕ
-second_other (Digits base) = underscore
-second_other Identifier = underscore
-second_other Blanks = tab
-second_other Hashes = hash
+abbrev pub second_extra : Run → ℕ
+second_extra (Digits base) = underscore
+second_extra Identifier = underscore
+second_extra Blanks = tab
+second_extra Hashes = hash
 
-abbrev pub third_other : Run → ℕ
-third_other (Digits base) = underscore
-third_other Identifier = underscore
-third_other Blanks = line_feed
-third_other Hashes = hash
+abbrev pub third_extra : Run → ℕ
+third_extra (Digits base) = underscore
+third_extra Identifier = underscore
+third_extra Blanks = line_feed
+third_extra Hashes = hash
 
 -- the bits of the table of classes that a byte of the run has one of
 abbrev pub classes : Run → ℕ

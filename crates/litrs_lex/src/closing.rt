@@ -4,9 +4,9 @@ ghost use Rattle.std.specs.List.{prefix_len};
 ghost use Rattle.litrs_lex.specs.Special.{is_special};
 ghost use Rattle.litrs_lex.specs.Closing.{may_close, is_inner, pairs, may_close_at};
 
-use crate::lanes::closing_marks;
-use crate::marked::next_special;
-use crate::search::{Special, first_marked, is_special};
+use crate::lanes::closing_mask;
+use crate::mask::next_special;
+use crate::search::{Special, is_special, lowest_bit_place};
 
 /// Whether a raw body may be closed at this byte, or the byte is special and no `"`. The other byte
 /// is the one that the last hash of a closing would be.
@@ -47,14 +47,14 @@ fn closing_by_lanes<const N: usize>(
     let end = bytes.len() - hashes;
     let mut i = from;
     while end - i >= N {
-        let found = closing_marks::<N>(bytes, i, hashes, what);
+        let found = closing_mask::<N>(bytes, i, hashes, what);
         if found != 0 {
             return i + found.trailing_zeros() as usize;
         }
         i += N;
     }
-    let left = closing_marks::<N>(bytes, end - N, hashes, what) >> (N - (end - i));
-    first_marked(left, i, end)
+    let left = closing_mask::<N>(bytes, end - N, hashes, what) >> (N - (end - i));
+    lowest_bit_place(left, i, end)
 }
 
 /// The search in the places that have a byte so many places after them.

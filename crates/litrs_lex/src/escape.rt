@@ -4,7 +4,7 @@ ghost use Rattle.std.specs.Char.{is_ascii_hexdigit};
 ghost use Rattle.std.specs.List.{list_any};
 ghost use Rattle.std.specs.Option.{SomeIff};
 ghost use Rattle.std.specs.Str.{chars};
-ghost use Rattle.litrs_base.specs.Characters.{backslash, letter_x, letter_u, underscore, open_brace, close_brace, is_ascii, is_no_nul_unless};
+ghost use Rattle.litrs_base.specs.Characters.{backslash, letter_x, letter_u, underscore, open_brace, close_brace, is_ascii, nul_is_allowed};
 ghost use Rattle.litrs_base.specs.Text.{first_passes, is_empty, begins_with};
 ghost use Rattle.litrs_grammar.specs.Escape.{is_simple, simple_value, pair_value};
 ghost use Rattle.litrs_lex.specs.Unescaped.{switches, IsUnescaped, IsEscapeRefused, HasEscapeRefusal, IsHexDigits};
@@ -173,7 +173,7 @@ fn allows_byte(allowed: Switches, value: u8) -> bool
 /// Whether an escape may have this value.
 #[inline(always)]
 fn allows_value(allowed: Switches, value: u32) -> bool
-    ensures { result ≡ is_no_nul_unless allowed.allow_nul value }
+    ensures { result ≡ nul_is_allowed allowed.allow_nul value }
 {
     allowed.allow_nul || value != 0
 }
@@ -207,7 +207,7 @@ fn unescape_unicode(input: &str, allowed: Switches) -> Result<(Unescape, usize),
     if is_closed(inner, digits) {
         unescape_digits(input, digits, allowed)
     } else {
-        Err(braces_refusal(input, digits))
+        Err(unicode_escape_refusal(input, digits))
     }
 }
 
@@ -302,7 +302,7 @@ fn unescape_digits(
 }
 
 /// Why a text that begins with `\u{` has no hex digit after it or no `}` after these digits.
-fn braces_refusal(input: &str, digits: HexDigits) -> ParseError
+fn unicode_escape_refusal(input: &str, digits: HexDigits) -> ParseError
     requires begins { IsTrue (begins_with (codes "\\u{") input.now) }
     requires digits { IsHexDigits (drop 3 input.now) digits }
     requires open { IsFalse (first_passes is_ascii_hexdigit (drop 3 input.now)

@@ -102,7 +102,7 @@ fn cut_refusal(cut: &FloatCut, input: &str) -> Option<(Option<Range<usize>>, Par
         end_fraction,
         end_number,
     } = *cut;
-    if lacks_digits(&input.as_bytes()[end_fraction..end_number]) {
+    if has_no_exponent_digit(&input.as_bytes()[end_fraction..end_number]) {
         return Some((
             Some(end_fraction..end_number),
             ParseErrorKind::NoExponentDigits,
@@ -165,7 +165,7 @@ fn has_wrong_fraction(bytes: &[u8]) -> bool
 }
 
 /// Whether there is an exponent, and no decimal digit in it.
-fn lacks_digits(exponent: &[u8]) -> bool
+fn has_no_exponent_digit(exponent: &[u8]) -> bool
     ensures { result ≡ (not (is_empty exponent.now) && not (list_any is_ascii_digit exponent.now)) }
 {
     !exponent.is_empty() && !has_digit(exponent)

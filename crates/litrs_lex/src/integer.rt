@@ -9,10 +9,10 @@ ghost use Rattle.litrs_base.specs.Numeral.{is_no_underscore};
 ghost use Rattle.litrs_base.specs.Refusal.{refusal};
 ghost use Rattle.litrs_base.specs.Derivations.{IsOnlyDerivation};
 ghost use Rattle.litrs_base.specs.Text.{first_passes};
-ghost use Rattle.litrs_grammar.specs.Integer.{IsIntegerOf, cut_refusal, integer_cut, is_e, base_of};
+ghost use Rattle.litrs_grammar.specs.Integer.{IsIntegerOf, integer_cut_refusal, integer_cut, is_e, base_of};
 ghost use Rattle.litrs_grammar.specs.Literal.{kind_parse, integer_literal};
 ghost use Rattle.litrs_grammar.specs.Refused.{IsRefused};
-ghost use Rattle.litrs_lex.specs.IntegerCut.{parts_at, IsWithin, IsDigitsCut};
+ghost use Rattle.litrs_lex.specs.IntegerCut.{integer_parts_at, IsIntegerWithin, IsDigitsCut};
 
 use crate::parse::{check_suffix, end_dec_digits};
 use crate::{Run, run_end};
@@ -45,8 +45,8 @@ pub struct IntegerCut {
 pub fn cut_integer(input: &str) -> Result<IntegerCut, ParseError>
     requires { IsTrue (first_passes is_ascii_digit input.now) }
     ensures ok { IfOk result (λ cut.
-        IsOnlyDerivation (IsIntegerOf (chars input.now)) (parts_at cut input.now)) }
-    ensures places { IfOk result (λ cut. IsWithin cut input.now) }
+        IsOnlyDerivation (IsIntegerOf (chars input.now)) (integer_parts_at cut input.now)) }
+    ensures places { IfOk result (λ cut. IsIntegerWithin cut input.now) }
     ensures refused { IfErr result (IsRefused (kind_parse integer_literal) (chars input.now)) }
 {
     cut_integer_at(input, cut_digits(input))
@@ -58,8 +58,8 @@ pub(crate) fn cut_integer_at(input: &str, cut: IntegerCut) -> Result<IntegerCut,
     requires digit { IsTrue (first_passes is_ascii_digit input.now) }
     requires cut { IsDigitsCut cut input.now }
     ensures ok { IfOk result (λ cut.
-        IsOnlyDerivation (IsIntegerOf (chars input.now)) (parts_at cut input.now)) }
-    ensures places { IfOk result (λ cut. IsWithin cut input.now) }
+        IsOnlyDerivation (IsIntegerOf (chars input.now)) (integer_parts_at cut input.now)) }
+    ensures places { IfOk result (λ cut. IsIntegerWithin cut input.now) }
     ensures refused { IfErr result (IsRefused (kind_parse integer_literal) (chars input.now)) }
 {
     match cut_refusal(&cut, input) {
@@ -87,7 +87,7 @@ pub(crate) fn cut_digits(input: &str) -> IntegerCut
 fn cut_refusal(cut: &IntegerCut, input: &str) -> Option<(Range<usize>, ParseErrorKind)>
     requires { IsDigitsCut cut.now input.now }
     ensures { option_map (λ r. refusal (Some r.0) r.1) result
-        ≡ cut_refusal (integer_cut (chars input.now)) }
+        ≡ integer_cut_refusal (integer_cut (chars input.now)) }
 {
     let IntegerCut {
         start_main,

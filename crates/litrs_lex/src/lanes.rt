@@ -5,7 +5,7 @@ ghost use Rattle.litrs_base.specs.Characters.{carriage_return, backslash, nul};
 ghost use Rattle.litrs_lex.specs.Special.{is_special};
 ghost use Rattle.litrs_lex.specs.Closing.{may_close, pairs};
 ghost use Rattle.litrs_lex.specs.Run.{is_in_run};
-ghost use Rattle.litrs_lex.specs.RunBytes.{last_digit, last_letter, first_other, second_other, third_other};
+ghost use Rattle.litrs_lex.specs.RunBytes.{last_digit, last_letter, first_extra, second_extra, third_extra};
 
 use crate::{Run, Special};
 use litrs_base::IntegerBase;
@@ -14,19 +14,19 @@ use std::simd::prelude::*;
 /// What lanes are compared with beside `"` and CR: two bytes, and a limit that none may pass.
 ///
 /// A byte that is not searched for stands as CR, and the limit as 255, which no byte passes.
-struct Sought {
+struct Needles {
     second: u8,
     third: u8,
     limit: u8,
 }
 
 #[inline(always)]
-fn needles(what: Special) -> Sought
+fn needles_of(what: Special) -> Needles
     ensures second { result.second ≡ if what.backslash then backslash else carriage_return }
     ensures third { result.third ≡ if what.nul then nul else carriage_return }
     ensures limit { result.limit ≡ if what.non_ascii then 127 else 255 }
 {
-    Sought {
+    Needles {
         second: if what.backslash { b'\\' } else { b'\r' },
         third: if what.nul { 0 } else { b'\r' },
         limit: if what.non_ascii { 127 } else { 255 },
@@ -35,15 +35,15 @@ fn needles(what: Special) -> Sought
 
 /// The special bytes of a vector: bit i is that of lane i.
 #[inline(always)]
-fn lane_marks<const N: usize>(lanes: Simd<u8, N>, what: Special) -> u64
+fn lane_mask<const N: usize>(lanes: Simd<u8, N>, what: Special) -> u64
     requires { N ≤ 64 }
     ensures { result ≡ mask_l (map (is_special what) lanes.entry) }
 {
-    let Sought {
+    let Needles {
         second,
         third,
         limit,
-    } = needles(what);
+    } = needles_of(what);
     (lanes.simd_eq(Simd::splat(b'"'))
         | lanes.simd_eq(Simd::splat(b'\r'))
         | lanes.simd_eq(Simd::splat(second))
@@ -53,29 +53,29 @@ fn lane_marks<const N: usize>(lanes: Simd<u8, N>, what: Special) -> u64
 
 /// The special bytes among the N from `at` on: bit i is that of the byte at `at + i`.
 #[inline(always)]
-pub(crate) fn special_marks<const N: usize>(bytes: &[u8], at: usize, what: Special) -> u64
+pub(crate) fn special_mask<const N: usize>(bytes: &[u8], at: usize, what: Special) -> u64
     requires { (at + N ≤ length bytes.now) × (N ≤ 64) }
     ensures { result ≡ mask_l (map (is_special what) (chunk at N bytes.now)) }
 {
-    lane_marks::<N>(Simd::from_slice(&bytes[at..]), what)
+    lane_mask::<N>(Simd::from_slice(&bytes[at..]), what)
 }
 
 /// The special bytes among the first four, and after them those among the last four: one comparison
 /// serves for both halves.
 #[inline(always)]
-pub(crate) fn marks_of_fours(bytes: &[u8], what: Special) -> u64
+pub(crate) fn mask_of_fours(bytes: &[u8], what: Special) -> u64
     requires { 4 ≤ length bytes.now }
     ensures { result ≡ mask_l (map (is_special what) (take 4 bytes.now
         ++ chunk (length bytes.now - 4) 4 bytes.now)) }
 {
     let first = u8x4::from_slice(bytes);
     let last = u8x4::from_slice(&bytes[bytes.len() - 4..]);
-    lane_marks::<8>(first.shuffle(last, [0, 1, 2, 3, 4, 5, 6, 7]), what)
+    lane_mask::<8>(first.shuffle(last, [0, 1, 2, 3, 4, 5, 6, 7]), what)
 }
 
-/// [`marks_of_fours`] of the first eight bytes and the last eight.
+/// [`mask_of_fours`] of the first eight bytes and the last eight.
 #[inline(always)]
-pub(crate) fn marks_of_eights(bytes: &[u8], what: Special) -> u64
+pub(crate) fn mask_of_eights(bytes: &[u8], what: Special) -> u64
     requires { 8 ≤ length bytes.now }
     ensures { result ≡ mask_l (map (is_special what) (take 8 bytes.now
         ++ chunk (length bytes.now - 8) 8 bytes.now)) }
@@ -83,13 +83,13 @@ pub(crate) fn marks_of_eights(bytes: &[u8], what: Special) -> u64
     let first = u8x8::from_slice(bytes);
     let last = u8x8::from_slice(&bytes[bytes.len() - 8..]);
     let both = first.shuffle(last, [0, 1, 2, 3, 4, 5, 6, 7, 8, 9, 10, 11, 12, 13, 14, 15]);
-    lane_marks::<16>(both, what)
+    lane_mask::<16>(both, what)
 }
 
 /// The places among the N from `at` on where a raw body may be closed, or whose byte is special and
 /// no `"`, in the same way. The last hash of a closing stands so many places after its `"`.
 #[inline(always)]
-pub(crate) fn closing_marks<const N: usize>(
+pub(crate) fn closing_mask<const N: usize>(
     bytes: &[u8],
     at: usize,
     hashes: usize,
@@ -98,11 +98,11 @@ pub(crate) fn closing_marks<const N: usize>(
     requires { (at + hashes + N ≤ length bytes.now) × (N ≤ 64) }
     ensures { result ≡ mask_l (map (may_close what) (chunk at N (pairs hashes bytes.now))) }
 {
-    let Sought {
+    let Needles {
         second,
         third,
         limit,
-    } = needles(what);
+    } = needles_of(what);
     let byte = Simd::<u8, N>::from_slice(&bytes[at..]);
     let last = Simd::<u8, N>::from_slice(&bytes[at + hashes..]);
     (byte.simd_eq(Simd::splat(b'"')) & last.simd_eq(Simd::splat(b'#'))
@@ -159,24 +159,24 @@ fn last_letter(run: Run) -> u8
 }
 
 /// The bytes of a run that are neither digits nor letters: three, or one of them more than once.
-struct Others {
+struct ExtraBytes {
     first: u8,
     second: u8,
     third: u8,
 }
 
 #[inline(always)]
-fn other_bytes(run: Run) -> Others
-    ensures first { result.first ≡ first_other run }
-    ensures second { result.second ≡ second_other run }
-    ensures third { result.third ≡ third_other run }
+fn extra_bytes(run: Run) -> ExtraBytes
+    ensures first { result.first ≡ first_extra run }
+    ensures second { result.second ≡ second_extra run }
+    ensures third { result.third ≡ third_extra run }
 {
     let (first, second, third) = match run {
         Run::Blanks => (b' ', b'\t', b'\n'),
         Run::Hashes => (b'#', b'#', b'#'),
         _ => (b'_', b'_', b'_'),
     };
-    Others {
+    ExtraBytes {
         first,
         second,
         third,
@@ -187,15 +187,15 @@ fn other_bytes(run: Run) -> Others
 ///
 /// Letters are compared as small ones: 20 is the bit that a capital one lacks.
 #[inline(always)]
-pub(crate) fn outside_marks<const N: usize>(bytes: &[u8], at: usize, run: Run) -> u64
+pub(crate) fn outside_mask<const N: usize>(bytes: &[u8], at: usize, run: Run) -> u64
     requires { (at + N ≤ length bytes.now) × (N ≤ 64) }
     ensures { result ≡ mask_l (map (λ b. not (is_in_run run b)) (chunk at N bytes.now)) }
 {
-    let Others {
+    let ExtraBytes {
         first,
         second,
         third,
-    } = other_bytes(run);
+    } = extra_bytes(run);
     let v = Simd::<u8, N>::from_slice(&bytes[at..]);
     let small = v | Simd::splat(0x20);
     ((v.simd_lt(Simd::splat(b'0')) | v.simd_gt(Simd::splat(last_digit(run))))

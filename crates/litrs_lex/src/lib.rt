@@ -17,7 +17,7 @@ pub use litrs_base::{
     Buffer, CharKind, FloatType, IntegerBase, IntegerType, ParseError, ParseErrorKind, StringKind,
     Switches, Text, Unescape,
 };
-pub use marked::next_special;
+pub use mask::next_special;
 pub use number::{NumberCut, cut_number};
 pub use parse::{check_suffix, end_dec_digits, first_byte_or_empty, hex_digit_value};
 pub use quoted::{QuotedCut, cut_quoted};
@@ -37,7 +37,7 @@ pub mod hashes;
 pub mod integer;
 pub mod kind;
 mod lanes;
-mod marked;
+mod mask;
 pub mod number;
 mod parse;
 pub mod quoted;

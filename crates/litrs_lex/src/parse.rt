@@ -6,7 +6,7 @@ ghost use Rattle.std.specs.Option.{SomeIff};
 ghost use Rattle.std.specs.Str.{chars, IsUtf8};
 ghost use Rattle.unicode_ident.specs.Ident.{is_xid_continue};
 ghost use Rattle.litrs_base.specs.Base.{is_digit_or_underscore};
-ghost use Rattle.litrs_base.specs.Refusal.{refusal_of, plain};
+ghost use Rattle.litrs_base.specs.Refusal.{refusal_of, without_span};
 ghost use Rattle.litrs_grammar.specs.Suffix.{starts_identifier, is_suffix, is_ascii_symbol, suffix_refusal};
 
 use crate::{Run, run_end};
@@ -56,7 +56,7 @@ pub fn hex_digit_value(digit: u8) -> Option<u8>
 /// `Empty` where there is none.
 pub fn first_byte_or_empty(s: &str) -> Result<u8, ParseError>
     ensures { MatchResult result (λ b. slice_get s.now 0 ≡ Some b)
-        (λ e. (s.now ≡ []) × (refusal_of e ≡ plain ParseErrorKind.Empty)) }
+        (λ e. (s.now ≡ []) × (refusal_of e ≡ without_span ParseErrorKind.Empty)) }
 {
     match s.as_bytes().first() {
         Some(first) => Ok(*first),

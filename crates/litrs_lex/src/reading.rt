@@ -3,7 +3,7 @@ ghost use Rattle.std.specs.Prelude.{not, ◌||◌, IsTrue};
 ghost use Rattle.litrs_lex.specs.Reading.{IsReading, HasReached};
 
 use crate::allowed::Allows;
-use crate::marked::Marked;
+use crate::mask::Mask;
 use crate::sink::Sink;
 use crate::stop::{Stop, plain_end, stop_at};
 use litrs_base::ParseError;
@@ -16,7 +16,7 @@ pub struct Reading {
     /// Plain characters stand from there up to here, and no more.
     pub place: usize,
     /// What a search has marked.
-    pub marked: Marked,
+    pub marked: Mask,
 }
 
 impl Reading {
@@ -41,7 +41,7 @@ impl Reading {
         Reading {
             at: offset,
             place,
-            marked: Marked::nothing_at(place),
+            marked: Mask::empty_at(place),
         }
     }
 }

@@ -6,7 +6,7 @@ use litrs_base::Unescape;
 use std::marker::Model;
 
 /// How many bytes a short run moves.
-const MOVED: usize = 16;
+const MOVE_LEN: usize = 16;
 
 /// The bytes of a value of at most `N` bytes.
 #[derive(Drop)]
@@ -85,9 +85,9 @@ impl<const N: usize> Room<N> {
             return true;
         }
         let count = end - start;
-        if count <= MOVED && text.len() - start >= MOVED && N - self.len >= MOVED {
-            let mut moved = [0; MOVED];
-            moved.copy_from_slice(&text[start..start + MOVED]);
+        if count <= MOVE_LEN && text.len() - start >= MOVE_LEN && N - self.len >= MOVE_LEN {
+            let mut moved = [0; MOVE_LEN];
+            moved.copy_from_slice(&text[start..start + MOVE_LEN]);
             copy_at(&mut self.room, self.len, &moved);
             self.len += count;
             true

@@ -8,7 +8,7 @@ ghost use Rattle.litrs_lex.specs.Run.{is_in_run};
 ghost use Rattle.litrs_lex.specs.RunBytes.{classes};
 ghost use Rattle.litrs_lex.specs.Target.{is_target, is_passed};
 
-use crate::lanes::{outside_marks, special_marks};
+use crate::lanes::{outside_mask, special_mask};
 use litrs_base::IntegerBase;
 
 /// Which bytes are special beside `"` and CR, which always are.
@@ -137,15 +137,15 @@ fn marks<const N: usize>(bytes: &[u8], at: usize, target: Target) -> u64
     ensures { result ≡ mask_l (map (is_target target) (chunk at N bytes.now)) }
 {
     match target {
-        Target::Special(what) => special_marks::<N>(bytes, at, what),
-        Target::Outside(run) => outside_marks::<N>(bytes, at, run),
+        Target::Special(what) => special_mask::<N>(bytes, at, what),
+        Target::Outside(run) => outside_mask::<N>(bytes, at, run),
     }
 }
 
 /// The place of the lowest mark, where bit 0 is the mark of the place `from`; `end` where there is
 /// none.
 #[inline(always)]
-pub(crate) fn first_marked(marks: u64, from: usize, end: usize) -> usize
+pub(crate) fn lowest_bit_place(marks: u64, from: usize, end: usize) -> usize
     requires { 0 < marks → from + trailing_zeros w64 marks ≤ end }
     ensures { result ≡ if marks == 0 then end else (from + trailing_zeros w64 marks) }
 {
@@ -173,7 +173,7 @@ fn by_lanes<const N: usize>(bytes: &[u8], from: usize, target: Target) -> usize
         i += N;
     }
     let left = marks::<N>(bytes, len - N, target) >> (N - (len - i));
-    first_marked(left, i, len)
+    lowest_bit_place(left, i, len)
 }
 
 /// The least place at or after `from` whose byte is a target; the length where there is none.

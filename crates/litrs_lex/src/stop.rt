@@ -8,10 +8,10 @@ ghost use Rattle.litrs_base.specs.declared.quotes.Switches.{Switches};
 ghost use Rattle.litrs_grammar.specs.Quoted.{is_plain, without_last};
 ghost use Rattle.litrs_lex.specs.QuotedItems.{IsPlainRun, stops};
 ghost use Rattle.litrs_lex.specs.Reading.{IsRestRefused, StandsAt};
-ghost use Rattle.litrs_lex.specs.Marked.{IsMarked};
+ghost use Rattle.litrs_lex.specs.Mask.{IsMaskOf};
 
 use crate::allowed::Allows;
-use crate::marked::{Marked, next_marked};
+use crate::mask::{Mask, next_special_masked};
 use crate::{Run, Special, Switches, next_special, run_end, unescape_with};
 use litrs_base::{ParseError, ParseErrorKind, Unescape};
 
@@ -84,23 +84,18 @@ pub(crate) fn first_plain_end<A: Allows>(input: &str, from: usize, allowed: A) -
 /// The same, and what is marked then, where it is known what was marked before. A backslash that
 /// stands there costs no search.
 #[inline(always)]
-pub(crate) fn plain_end(
-    input: &str,
-    from: usize,
-    allowed: Switches,
-    marked: Marked,
-) -> (usize, Marked)
+pub(crate) fn plain_end(input: &str, from: usize, allowed: Switches, marked: Mask) -> (usize, Mask)
     requires at { IsCharBoundary input.now from }
     requires after { marked.start ≤ from }
-    requires marked { IsMarked (stops allowed.unicode allowed.allow_nul) input.now marked }
+    requires marked { IsMaskOf (stops allowed.unicode allowed.allow_nul) input.now marked }
     ensures run { IsPlainRun allowed input.now from result.0 }
     ensures after { result.1.start ≤ result.0 }
-    ensures marked { IsMarked (stops allowed.unicode allowed.allow_nul) input.now result.1 }
+    ensures marked { IsMaskOf (stops allowed.unicode allowed.allow_nul) input.now result.1 }
 {
     if begins_escape(input, from) {
         (from, marked)
     } else {
-        next_marked(input.as_bytes(), from, special(allowed), marked)
+        next_special_masked(input.as_bytes(), from, special(allowed), marked)
     }
 }
 

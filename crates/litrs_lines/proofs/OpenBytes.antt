@@ -19,7 +19,7 @@ use Rattle.litrs_base.specs.declared.quotes.StringKind.TheVariants.{String as st
 use Rattle.litrs_base.specs.Quotes.{switches_of, quoted_front, raw_front}
 use Rattle.litrs_base.specs.declared.quotes.Switches.{Switches}
 use Rattle.litrs_grammar.specs.Escape.{escape_text, IsEscape}
-use Rattle.litrs_grammar.specs.Quoted.{Item, continuation, body_text, stand_before}
+use Rattle.litrs_grammar.specs.Quoted.{Item, continuation, body_text, is_item_list}
 use Rattle.litrs_grammar.specs.Raw.{hashes, hash_len, occurs, raw_closing, has_unicode, allows_nul, is_raw_char}
 use Rattle.litrs_grammar.specs.Laws.Raw.{NoClosingIn}
 use Rattle.litrs_grammar.proofs.Laws.Quoted.{body_text-append}
@@ -61,7 +61,7 @@ quoted_stays kind place bytes more u v s = record {
   boundary = stays_boundary bytes more place u v s.boundary;
   items = s.items;
   spells = s.spells ∙ stays_front bytes more place s.boundary.0;
-  taken = subst (λ (r : List ℕ). stand_before (switches_of kind) r s.items ≡ true) (sym (stays_rest bytes more place u s.boundary))
+  taken = subst (λ (r : List ℕ). is_item_list (switches_of kind) r s.items ≡ true) (sym (stays_rest bytes more place u s.boundary))
       (quoted_items_stay (switches_of kind) (chars (drop place bytes)) (chars more) s.items s.taken);
 }
 
@@ -170,7 +170,7 @@ quoted_reads kind place end bytes h u s ended =
       spells = ap (λ (l : List ℕ). quoted_front kind ++ l) (body_text-append s.items read.items)
           ∙ sym (append_assoc (quoted_front kind) (body_text s.items) (body_text read.items))
           ∙ ap (λ (l : List ℕ). l ++ body_text read.items) s.spells ∙ before;
-      taken = stand_before-append w s.items read.items rest (subst (λ (r : List ℕ). stand_before w r s.items ≡ true) after s.taken) read.taken;
+      taken = stand_before-append w s.items read.items rest (subst (λ (r : List ℕ). is_item_list w r s.items ≡ true) after s.taken) read.taken;
     }
 
 -- the whole text, by its items and the rest
@@ -197,7 +197,7 @@ continuation_next kind place n bytes u size s lone =
       items = s.items;
       blanks = [];
       spells = more_after (quoted_front kind) (body_text s.items) (92 ∷ []) (10 ∷ []) (chars bytes) whole ∙ sym (line_end bytes n size u);
-      taken = quoted_items_stay w (92 ∷ []) (10 ∷ []) s.items (subst (λ (r : List ℕ). stand_before w r s.items ≡ true) lone s.taken);
+      taken = quoted_items_stay w (92 ∷ []) (10 ∷ []) s.items (subst (λ (r : List ℕ). is_item_list w r s.items ≡ true) lone s.taken);
       blank = refl;
     }
 
@@ -211,7 +211,7 @@ record IsBlankRest (kind : StringKind) (bytes : List ℕ) : Type 0 where
   items : List Item
   blanks : List ℕ
   spells : quoted_front kind ++ (body_text items ++ 92 ∷ 10 ∷ blanks) ≡ chars bytes
-  taken : stand_before (switches_of kind) (92 ∷ 10 ∷ blanks) items ≡ true
+  taken : is_item_list (switches_of kind) (92 ∷ 10 ∷ blanks) items ≡ true
   blank : list_all is_blank blanks ≡ true
 
 blank_rest : (kind : StringKind) (place k n : ℕ) (bytes : List ℕ) → IsUtf8 bytes → n ≡ length bytes → IsContinuedTo kind place bytes → k ≡ prefix_len is_blank (drop place bytes) → place + k ≡ n →
@@ -282,7 +282,7 @@ continued_quoted kind place k bytes u s count inside =
       spells = ap (λ (l : List ℕ). quoted_front kind ++ l) (body_text-append s.items (item ∷ []) ∙ ap (λ (l : List ℕ). body_text s.items ++ l) (append-nil text))
           ∙ more_after (quoted_front kind) (body_text s.items) (92 ∷ 10 ∷ s.blanks) more (chars (take place bytes)) s.spells ∙ before;
       taken = stand_before-append w s.items (item ∷ []) rest
-          (subst (λ (r : List ℕ). stand_before w r s.items ≡ true) whole (quoted_items_stay w (92 ∷ 10 ∷ s.blanks) (more ++ rest) s.items s.taken))
+          (subst (λ (r : List ℕ). is_item_list w r s.items ≡ true) whole (quoted_items_stay w (92 ∷ 10 ∷ s.blanks) (more ++ rest) s.items s.taken))
           (and_from _ _ (and_from _ _ all (and_from _ _ (not_from_false _ some) (not_from_false _ stops))) refl);
     }
 

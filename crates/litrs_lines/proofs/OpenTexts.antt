@@ -9,7 +9,7 @@ use Rattle.litrs_base.proofs.Runs.{list_all-append, line_feed_last}
 use Rattle.litrs_base.specs.Characters.{is_blank}
 use Rattle.litrs_base.specs.Derivations.{HasNoDerivation}
 use Rattle.litrs_base.specs.Finality.{is_open}
-use Rattle.litrs_base.specs.Refusal.{Refusal, plain, at, moved}
+use Rattle.litrs_base.specs.Refusal.{Refusal, without_span, at_byte, shifted}
 use Rattle.litrs_base.specs.declared.err.ParseErrorKind.TheVariants.{UnterminatedString, UnterminatedRawString}
 use Rattle.litrs_base.specs.Text.{byte_len, begins_with}
 use Rattle.litrs_base.specs.declared.quotes.StringKind.{StringKind}
@@ -19,7 +19,7 @@ use Rattle.litrs_base.specs.declared.quotes.Switches.{Switches}
 use Rattle.litrs_grammar.specs.Suffix.{is_suffix, suffix_refusal}
 use Rattle.litrs_grammar.specs.Continuation.{BeginsBy}
 use Rattle.litrs_grammar.specs.Escape.{Escape, escape_text, IsEscape}
-use Rattle.litrs_grammar.specs.Quoted.{Item, plain_item, escape_item, body_text, stand_before, QuotedParts, rest_refusal, IsQuotedLiteral, IsQuotedRefusal, IsQuotedLiteralRefusal}
+use Rattle.litrs_grammar.specs.Quoted.{Item, plain_item, escape_item, body_text, is_item_list, QuotedParts, rest_refusal, IsQuotedLiteral, IsQuotedRefusal, IsQuotedLiteralRefusal}
 use Rattle.litrs_grammar.specs.GoesOn.Quoted.{IsOpenRest}
 use Rattle.litrs_grammar.specs.Raw.{hashes, occurs, raw_closing, has_unicode, allows_nul, is_raw_char, IsRawBody, RawParts, raw_refusal}
 use Rattle.litrs_grammar.specs.Literal.{quoted_parts, raw_parts, IsString, a_string, a_byte_string, a_c_string, IsLiteral, literal_parse, Begins, string_literal_of}
@@ -77,7 +77,7 @@ abbrev pub IsOpenEnd : Switches → List ℕ → Type 0
 IsOpenEnd w rest = IsOpenRest rest ⊎ ((rest ≡ 92 ∷ []) ⊎ ((e : Escape) × (rest ≡ escape_text e) × IsEscape w e))
 
 -- an open rest is refused as unterminated
-open_rest : (w : Switches) (rest : List ℕ) → IsOpenRest rest → rest_refusal w rest ≡ Some (plain UnterminatedString)
+open_rest : (w : Switches) (rest : List ℕ) → IsOpenRest rest → rest_refusal w rest ≡ Some (without_span UnterminatedString)
 unfolding rest_refusal
 open_rest w rest (inl none) = ap (rest_refusal w) none
 open_rest w rest (inr (blanks, is, all)) = ap (rest_refusal w) is ∙ if_true (list_all is_blank blanks) _ _ all
@@ -92,7 +92,7 @@ record IsOpenLine (kind : StringKind) (t : List ℕ) : Type 0 where
   items : List Item
   rest : List ℕ
   spells : quoted_front kind ++ (body_text items ++ rest) ≡ t ++ 10 ∷ []
-  taken : stand_before (switches_of kind) rest items ≡ true
+  taken : is_item_list (switches_of kind) rest items ≡ true
   shape : IsOpenRest rest
 
 -- no suffix goes on over a line
@@ -103,7 +103,7 @@ not_suffix s = by (is_suffix (s ++ 10 ∷ [])) refl
     by false is = refl
     by true is = absurd (both_ways _ (suffix_last (s ++ 10 ∷ []) is) (line_feed_last s))
 
-quote_refused : (kind : StringKind) (t : List ℕ) → is_suffix t ≡ false → rest_refusal (switches_of kind) (34 ∷ t) ≡ Some (at 1 (suffix_refusal t))
+quote_refused : (kind : StringKind) (t : List ℕ) → is_suffix t ≡ false → rest_refusal (switches_of kind) (34 ∷ t) ≡ Some (at_byte 1 (suffix_refusal t))
 unfolding rest_refusal
 quote_refused string_kind t other = if_true (not (is_suffix t)) _ _ (not_from_false _ other)
 quote_refused byte_string_kind t other = if_true (not (is_suffix t)) _ _ (not_from_false _ other)
@@ -115,19 +115,19 @@ open_is_none kind t q is line =
     let w = switches_of kind in
     let front = quoted_front kind in
     let after : List ℕ = q.suffix ++ 10 ∷ [] in
-    let closed : IsQuotedRefusal front w (t ++ 10 ∷ []) (moved (byte_len (front ++ body_text q.items)) (at 1 (suffix_refusal after))) = record {
+    let closed : IsQuotedRefusal front w (t ++ 10 ∷ []) (shifted (byte_len (front ++ body_text q.items)) (at_byte 1 (suffix_refusal after))) = record {
       items = q.items;
       rest = 34 ∷ after;
-      cause = at 1 (suffix_refusal after);
+      cause = at_byte 1 (suffix_refusal after);
       spells = more_after front (body_text q.items) (34 ∷ q.suffix) (10 ∷ []) t is.spells;
       taken = body_stands w q.items after is.body;
       told = quote_refused kind after (not_suffix q.suffix);
       placed = refl;
     } in
-    let unclosed : IsQuotedRefusal front w (t ++ 10 ∷ []) (moved (byte_len (front ++ body_text line.items)) (plain UnterminatedString)) = record {
+    let unclosed : IsQuotedRefusal front w (t ++ 10 ∷ []) (shifted (byte_len (front ++ body_text line.items)) (without_span UnterminatedString)) = record {
       items = line.items;
       rest = line.rest;
-      cause = plain UnterminatedString;
+      cause = without_span UnterminatedString;
       spells = line.spells;
       taken = line.taken;
       told = open_rest w line.rest line.shape;
@@ -136,22 +136,22 @@ open_is_none kind t q is line =
     let same = quoted_refusals_are_unique front w (t ++ 10 ∷ []) _ _ closed unclosed in
     both_ways (is_open (suffix_refusal after)) (shut_suffix after) (ap (λ (r : Refusal). is_open r.kind) same)
 
-line_feed_stands : (kind : StringKind) → stand_before (switches_of kind) [] (plain_item 10 ∷ []) ≡ true
+line_feed_stands : (kind : StringKind) → is_item_list (switches_of kind) [] (plain_item 10 ∷ []) ≡ true
 line_feed_stands string_kind = refl
 line_feed_stands byte_string_kind = refl
 line_feed_stands c_string_kind = refl
 
 quoted_begins : (kind : StringKind) (t : List ℕ) (items : List Item) (rest : List ℕ) → quoted_front kind ++ (body_text items ++ rest) ≡ t →
-    stand_before (switches_of kind) rest items ≡ true → IsOpenRest rest → Begins literal_parse t
+    is_item_list (switches_of kind) rest items ≡ true → IsOpenRest rest → Begins literal_parse t
 quoted_begins kind t items rest spells taken shape =
     let begins = rest_begins (quoted_front kind) (switches_of kind) t items rest spells taken (inl shape) in
     begins_literal kind t (begins.0, quoted_parts begins.1, begins.2, begins.3)
 
 line_of : (kind : StringKind) (t : List ℕ) (items : List Item) (rest : List ℕ) → quoted_front kind ++ (body_text items ++ rest) ≡ t →
-    stand_before (switches_of kind) rest items ≡ true → IsOpenEnd (switches_of kind) rest → IsOpenLine kind t
+    is_item_list (switches_of kind) rest items ≡ true → IsOpenEnd (switches_of kind) rest → IsOpenLine kind t
 line_of kind t items rest spells taken (inl (inl none)) =
     let w = switches_of kind in
-    let end : stand_before w [] items ≡ true = subst (λ (r : List ℕ). stand_before w r items ≡ true) none taken in
+    let end : is_item_list w [] items ≡ true = subst (λ (r : List ℕ). is_item_list w r items ≡ true) none taken in
     let text : body_text (items ++ plain_item 10 ∷ []) ++ [] ≡ body_text items ++ (rest ++ 10 ∷ []) =
     append-nil (body_text (items ++ plain_item 10 ∷ [])) ∙ body_text-append items (plain_item 10 ∷ []) ∙ ap (λ (r : List ℕ). body_text items ++ (r ++ 10 ∷ [])) (sym none) in record {
       items = items ++ plain_item 10 ∷ [];
@@ -178,7 +178,7 @@ line_of kind t items rest spells taken (inr (inr (e, is, grammar))) =
     let w = switches_of kind in
     let more : List Item = escape_item e ∷ plain_item 10 ∷ [] in
     let longer : rest ++ 10 ∷ [] ≡ body_text more ++ [] = ap (λ (r : List ℕ). r ++ 10 ∷ []) is ∙ sym (append-nil (body_text more)) in
-    let before : stand_before w (body_text more ++ []) items ≡ true = subst (λ (r : List ℕ). stand_before w r items ≡ true) longer (quoted_items_stay w rest (10 ∷ []) items taken) in
+    let before : is_item_list w (body_text more ++ []) items ≡ true = subst (λ (r : List ℕ). is_item_list w r items ≡ true) longer (quoted_items_stay w rest (10 ∷ []) items taken) in
     let text : body_text (items ++ more) ++ [] ≡ body_text items ++ (rest ++ 10 ∷ []) =
     append-nil (body_text (items ++ more)) ∙ body_text-append items more ∙ ap (λ (r : List ℕ). body_text items ++ (r ++ 10 ∷ [])) (sym is) in record {
       items = items ++ more;
@@ -197,7 +197,7 @@ no_quoted kind t x spells line = elim (quoted_texts_are_decided (quoted_front ki
 ]
 
 pub quoted_is_open : (kind : StringKind) (t : List ℕ) (items : List Item) (rest : List ℕ) → quoted_front kind ++ (body_text items ++ rest) ≡ t →
-    stand_before (switches_of kind) rest items ≡ true → IsOpenEnd (switches_of kind) rest → IsOpenText t
+    is_item_list (switches_of kind) rest items ≡ true → IsOpenEnd (switches_of kind) rest → IsOpenText t
 quoted_is_open kind t items rest spells taken shape =
     let line = line_of kind t items rest spells taken shape in (
       no_quoted kind t (body_text items ++ rest) spells line,
@@ -220,7 +220,7 @@ none_over_line n (c ∷ s) t none later =
     or_from _ _ (ap (λ v. (34 == c) && v) (hashes_before_line n s t) ∙ parts.0) (none_over_line n s t parts.1 later)
 
 raw_refused : (kind : StringKind) (n : ℕ) (body : List ℕ) → n ≤ 255 → IsRawBody (has_unicode kind) (allows_nul kind) n body →
-    raw_refusal (has_unicode kind) (allows_nul kind) (length (raw_front kind)) (hashes n ++ 34 ∷ body) ≡ Some (plain UnterminatedRawString)
+    raw_refusal (has_unicode kind) (allows_nul kind) (length (raw_front kind)) (hashes n ++ 34 ∷ body) ≡ Some (without_span UnterminatedRawString)
 raw_refused kind n body few grammar =
     let start = length (raw_front kind) in
     rows_of (has_unicode kind) (allows_nul kind) start n 34 body refl
@@ -252,7 +252,7 @@ raw_is_open kind n t body few spells grammar =
     let longer : IsRawBody (has_unicode kind) (allows_nul kind) n (body ++ 10 ∷ []) =
     record { allowed = line_in_body kind body grammar.allowed; unclosed = none_over_line n body [] grammar.unclosed refl } in
     let parts : RawParts = record { hash_count = n; body = body ++ 10 ∷ []; suffix = [] } in (
-      no_literal kind raw_start t (plain UnterminatedRawString) (ap dispatch (sym spells) ∙ dispatch_raw kind _) (ap (string_start kind) (sym spells) ∙ start_raw kind _)
+      no_literal kind raw_start t (without_span UnterminatedRawString) (ap dispatch (sym spells) ∙ dispatch_raw kind _) (ap (string_start kind) (sym spells) ∙ start_raw kind _)
           (ap (raw_refusal (has_unicode kind) (allows_nul kind) (length (raw_front kind))) after ∙ raw_refused kind n body few grammar),
       begins_literal kind (t ++ 10 ∷ []) (
         raw_closing n,

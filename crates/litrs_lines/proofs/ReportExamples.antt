@@ -3,7 +3,7 @@ use Rattle.std.specs.Prelude.{◌≡◌, ◌++◌, true, false, [], ◌∷◌, c
 use Rattle.std.proofs.Common.{inl, inr}
 use Rattle.std.specs.Fmt.{decimal}
 use Rattle.litrs_base.specs.declared.err.ParseErrorKind.TheVariants as kind
-use Rattle.litrs_base.specs.Refusal.{plain, at}
+use Rattle.litrs_base.specs.Refusal.{without_span, at_byte}
 use Rattle.litrs_base.specs.Numeral.{place_sum}
 use Rattle.litrs_grammar.specs.Integer.{integer_cut}
 use Rattle.litrs_grammar.specs.Escape.{simple_escape, hex_escape}
@@ -38,7 +38,7 @@ refusals : IsTextReport (codes "") (codes "error input is empty")
     × IsTextReport (codes "0;") (codes "error unexpected character (at " ++ decimal 1 ++ codes ".." ++ decimal 2 ++ codes ")")
     × IsTextReport (codes "foo") (codes "error invalid literal")
 unfolding computing
-refusals = (inr (plain kind.Empty, refl, refl), inr (at 1 kind.UnexpectedChar, refl, refl), inr (plain kind.InvalidLiteral, refl, refl))
+refusals = (inr (without_span kind.Empty, refl, refl), inr (at_byte 1 kind.UnexpectedChar, refl, refl), inr (without_span kind.InvalidLiteral, refl, refl))
 
 -- Values
 

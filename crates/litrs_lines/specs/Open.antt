@@ -7,7 +7,7 @@ use Rattle.litrs_base.specs.declared.quotes.StringKind.{StringKind}
 use Rattle.litrs_base.specs.Quotes.{switches_of, quoted_front, raw_front}
 use Rattle.litrs_base.specs.declared.quotes.Switches.{Switches}
 use Rattle.litrs_grammar.specs.Escape.{Escape, escape_text, IsEscape}
-use Rattle.litrs_grammar.specs.Quoted.{Item, body_text, stand_before}
+use Rattle.litrs_grammar.specs.Quoted.{Item, body_text, is_item_list}
 use Rattle.litrs_grammar.specs.Raw.{hashes, occurs, raw_closing, has_unicode, allows_nul, is_raw_char}
 use Rattle.litrs_lines.specs.declared.collector.body.Body.{Body}
 use Rattle.litrs_lines.specs.declared.collector.body.Body.TheVariants.{Quoted, Continuation, Raw}
@@ -23,7 +23,7 @@ pub record IsQuotedTo (kind : StringKind) (place : ℕ) (bytes : List ℕ) : Typ
   pub boundary : IsCharBoundary bytes place
   pub items : List Item
   pub spells : quoted_front kind ++ body_text items ≡ chars (take place bytes)
-  pub taken : IsTrue (stand_before (switches_of kind) (chars (drop place bytes)) items)
+  pub taken : IsTrue (is_item_list (switches_of kind) (chars (drop place bytes)) items)
 
 -- Up to the place it is the front, items, and a continuation so far.
 pub record IsContinuedTo (kind : StringKind) (place : ℕ) (bytes : List ℕ) : Type 0 where
@@ -33,7 +33,7 @@ pub record IsContinuedTo (kind : StringKind) (place : ℕ) (bytes : List ℕ) : 
   pub spells :
       quoted_front kind ++ (body_text items ++ backslash ∷ line_feed ∷ blanks)
       ≡ chars (take place bytes)
-  pub taken : IsTrue (stand_before (switches_of kind) (backslash ∷ line_feed ∷ blanks) items)
+  pub taken : IsTrue (is_item_list (switches_of kind) (backslash ∷ line_feed ∷ blanks) items)
   pub blank : IsTrue (list_all is_blank blanks)
 
 -- Up to the place it is the front, n hashes, the opening quote, and characters that may stand in a

@@ -10,7 +10,7 @@ use Rattle.unicode_ident.proofs.IdentLemmas.{is_xid_start-ascii, is_xid_continue
 use Rattle.litrs_base.specs.declared.err.ParseError.{ParseError}
 use Rattle.litrs_base.specs.declared.err.ParseErrorKind.{ParseErrorKind}
 use Rattle.litrs_base.specs.Text.{byte_len}
-use Rattle.litrs_base.specs.Refusal.{Refusal, at, moved, refusal_of}
+use Rattle.litrs_base.specs.Refusal.{Refusal, at_byte, shifted, refusal_of}
 use Rattle.litrs_base.specs.Derivations.{HasNoDerivation}
 use Rattle.litrs_base.proofs.ListTests.{if_false}
 use Rattle.litrs_base.proofs.Spans.{byte_len-append, byte_len_ascii}
@@ -30,7 +30,7 @@ use Rattle.litrs_prefix.proofs.Chars.{same_char, longer_char}
 use Rattle.litrs_prefix.proofs.Complete.{skip, here, name_after, no_suffix, suffix_kind, quote_place_39, PointsAtSuffix}
 
 abbrev refused_at : ℕ → List ℕ → Option Refusal
-refused_at place x = Some (at (place + 1) (suffix_refusal x))
+refused_at place x = Some (at_byte (place + 1) (suffix_refusal x))
 
 closing_refused : (kind : CharKind) (place : ℕ) (x : List ℕ) → is_suffix x ≡ false → closing_refusal kind place (39 ∷ x) ≡ refused_at place x
 closing_refused kind place x h = here (is_suffix x) _ _ h
@@ -72,7 +72,7 @@ item_refused kind (escaped_char e) x h g = escaped (escape_text e ++ 39 ∷ x) (
         ∙ (ap (λ l. closing_refusal kind (byte_len l) (drop (length (escape_text e)) (92 ∷ c ∷ r))) before
         ∙ (ap (closing_refusal kind (byte_len (escape_text e))) after ∙ closing_refused kind (byte_len (escape_text e)) x g))))
 
-kind_refused : (kind : CharKind) (inner : List ℕ) → char_kind_refusal kind (char_front kind ++ inner) ≡ option_map (moved (length (char_front kind))) (char_item_refusal kind inner)
+kind_refused : (kind : CharKind) (inner : List ℕ) → char_kind_refusal kind (char_front kind ++ inner) ≡ option_map (shifted (length (char_front kind))) (char_item_refusal kind inner)
 unfolding char_kind_refusal
 kind_refused char_kind inner = refl
 kind_refused byte_kind inner = refl
@@ -97,10 +97,10 @@ points_char kind bs l (c ∷ r) d e u spells h f none table =
     let item : List ℕ = char_item_text d.item in
     let inner : List ℕ = item ++ 39 ∷ x in
     let text : chars bs ≡ front ++ inner = sym spells ∙ longer_char kind l (c ∷ r) d h in
-    let points : char_kind_refusal kind (chars bs) ≡ option_map (moved (length front)) (refused_at (byte_len item) x) =
-    ap (char_kind_refusal kind) text ∙ (kind_refused kind inner ∙ ap (option_map (moved (length front))) (item_refused kind d.item x h.item (no_suffix d.suffix c r f))) in
-    let some : Some (moved (length front) (at (byte_len item + 1) (suffix_refusal x))) ≡ Some (refusal_of e) = sym points ∙ table in
-    let same : moved (length front) (at (byte_len item + 1) (suffix_refusal x)) ≡ refusal_of e = cc in
+    let points : char_kind_refusal kind (chars bs) ≡ option_map (shifted (length front)) (refused_at (byte_len item) x) =
+    ap (char_kind_refusal kind) text ∙ (kind_refused kind inner ∙ ap (option_map (shifted (length front))) (item_refused kind d.item x h.item (no_suffix d.suffix c r f))) in
+    let some : Some (shifted (length front) (at_byte (byte_len item + 1) (suffix_refusal x))) ≡ Some (refusal_of e) = sym points ∙ table in
+    let same : shifted (length front) (at_byte (byte_len item + 1) (suffix_refusal x)) ≡ refusal_of e = cc in
     let place = quote_place_39 bs (front ++ item) x u (text ∙ sym (append_assoc front item (39 ∷ x))) in
     let len : 1 + byte_len (front ++ item) ≡ byte_len item + 1 + length front = omega (arith, byte_len-append front item, front_ascii kind) in
     record {

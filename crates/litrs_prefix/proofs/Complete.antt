@@ -18,7 +18,7 @@ use Rattle.litrs_base.specs.Quotes.{switches_of, quoted_front}
 use Rattle.litrs_base.specs.declared.quotes.Switches.{Switches}
 use Rattle.litrs_base.specs.declared.err.ParseErrorKind.TheVariants.{UnexpectedChar, InvalidSuffix}
 use Rattle.litrs_base.specs.Text.{first_passes, byte_len}
-use Rattle.litrs_base.specs.Refusal.{Refusal, at, moved, refusal_of, kind_of, span_of}
+use Rattle.litrs_base.specs.Refusal.{Refusal, at_byte, shifted, refusal_of, kind_of, span_of}
 use Rattle.litrs_base.proofs.ListTests.{if_true, if_false}
 use Rattle.litrs_grammar.specs.Suffix.{is_suffix, starts_identifier, is_ascii_symbol, suffix_refusal}
 use Rattle.litrs_grammar.specs.Quoted.{QuotedParts, IsQuoted, IsQuotedRefusal, IsQuotedLiteral, IsQuotedLiteralRefusal, body_text, rest_refusal}
@@ -73,17 +73,17 @@ pub here : {A : Type 0} (b : Bool) (x y : A) → b ≡ false → (if not b then 
 here true x y h = absurd (true≢false h)
 here false x y h = refl
 
-quote_refused : (w : Switches) (x : List ℕ) → is_suffix x ≡ false → rest_refusal w (34 ∷ x) ≡ Some (at 1 (suffix_refusal x))
+quote_refused : (w : Switches) (x : List ℕ) → is_suffix x ≡ false → rest_refusal w (34 ∷ x) ≡ Some (at_byte 1 (suffix_refusal x))
 unfolding rest_refusal
 quote_refused w x h =
     skip _ _ _ (or_right w.allow_nul true refl) ∙ (skip _ _ _ (or_right w.unicode true refl) ∙ here (is_suffix x) _ _ h)
 
 pub quoted_refusal : (front : List ℕ) (w : Switches) (l : List ℕ) (c : ℕ) (r : List ℕ) (q : QuotedParts) → IsQuoted front w l q → ends_suffix q.suffix (c ∷ r) ≡ true →
-    IsQuotedRefusal front w (l ++ c ∷ r) (moved (byte_len (front ++ body_text q.items)) (at 1 (suffix_refusal (q.suffix ++ c ∷ r))))
+    IsQuotedRefusal front w (l ++ c ∷ r) (shifted (byte_len (front ++ body_text q.items)) (at_byte 1 (suffix_refusal (q.suffix ++ c ∷ r))))
 quoted_refusal front w l c r q h e = record {
   items = q.items;
   rest = 34 ∷ (q.suffix ++ c ∷ r);
-  cause = at 1 (suffix_refusal (q.suffix ++ c ∷ r));
+  cause = at_byte 1 (suffix_refusal (q.suffix ++ c ∷ r));
   spells = sym (longer front w l (c ∷ r) q h);
   taken = body_stands w q.items (q.suffix ++ c ∷ r) h.body;
   told = quote_refused w (q.suffix ++ c ∷ r) (no_suffix q.suffix c r e);
@@ -131,7 +131,7 @@ points_quoted kind bs l (c ∷ r) q e u spells h f none only =
     let front = quoted_front kind in
     let x : List ℕ = q.suffix ++ c ∷ r in
     let a : List ℕ = front ++ body_text q.items in
-    let refusal : Refusal = moved (byte_len a) (at 1 (suffix_refusal x)) in
+    let refusal : Refusal = shifted (byte_len a) (at_byte 1 (suffix_refusal x)) in
     let same : refusal ≡ refusal_of e = only refusal (subst (λ (t : List ℕ). IsQuotedLiteralRefusal kind t refusal) spells (quoted_refusal front (switches_of kind) l c r q h f)) in
     let split : chars bs ≡ a ++ 34 ∷ x = sym spells ∙ (longer front (switches_of kind) l (c ∷ r) q h ∙ sym (append_assoc front (body_text q.items) (34 ∷ x))) in
     let place = quote_place bs a x u split in

@@ -18,7 +18,7 @@ use Rattle.litrs_grammar.specs.CharByte.{CharParts, IsCharLiteral}
 use Rattle.litrs_grammar.specs.Quoted.{QuotedParts, IsQuotedLiteral}
 use Rattle.litrs_grammar.specs.Raw.{RawParts, IsRawLiteral}
 use Rattle.litrs_grammar.specs.Literal.{StringParts, quoted_parts, raw_parts, IsString, string_suffix, Derivation, a_bool, an_integer, a_float, a_char, a_byte, a_string, a_byte_string, a_c_string, IsLiteral, bool_literal, integer_literal, float_literal, char_literal, byte_literal, string_literal, byte_string_literal, c_string_literal, literal_kind, string_literal_of}
-use Rattle.litrs_base.specs.Refusal.{plain}
+use Rattle.litrs_base.specs.Refusal.{without_span}
 use Rattle.litrs_base.specs.declared.err.ParseErrorKind.TheVariants.{InvalidLiteral}
 use Rattle.litrs_base.proofs.Begins.{begins_with-split}
 use Rattle.litrs_grammar.specs.LiteralRefusals.{Dispatch, refused_as, parsed_as, dispatch, begins_float}
@@ -245,6 +245,6 @@ no_c_string t l r (raw_parts q) quoted raw spells h =
     true≢false (sym (ap (λ (s : List ℕ). begins_with (codes "cr") (s ++ r)) (sym h.spells)) ∙ (ap (begins_with (codes "cr")) spells ∙ raw))
 
 pub at_other : (t r : List ℕ) (d : Derivation) (v : Bool) → HasPrefix t d r → NoBoolBefore t r → begins_with (codes "c\"") t ≡ false → begins_with (codes "cr") t ≡ false →
-    IsRow (class_of (if v then parsed_as c_string_literal else refused_as (plain InvalidLiteral))) d → ⊥
+    IsRow (class_of (if v then parsed_as c_string_literal else refused_as (without_span InvalidLiteral))) d → ⊥
 at_other t r d false at none quoted raw row = at_none t r d at none row
 at_other t r d true at none quoted raw row = at_string ⊥ c_string_kind t r d at none row (λ l x spells h e. no_c_string t l r x quoted raw spells h)

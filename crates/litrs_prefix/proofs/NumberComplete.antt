@@ -13,11 +13,11 @@ use Rattle.litrs_base.specs.declared.integer.IntegerBase.{IntegerBase}
 use Rattle.litrs_base.specs.declared.integer.IntegerBase.TheVariants.{Binary, Octal, Decimal, Hexadecimal}
 use Rattle.litrs_base.specs.Base.{prefix, is_digit_or_underscore}
 use Rattle.litrs_base.specs.Text.{byte_len, first_passes, is_empty}
-use Rattle.litrs_base.specs.Refusal.{Refusal, over, refusal_of}
+use Rattle.litrs_base.specs.Refusal.{Refusal, spanning, refusal_of}
 use Rattle.litrs_base.specs.Derivations.{HasNoDerivation}
 use Rattle.litrs_base.proofs.Spans.{byte_len_ascii}
 use Rattle.litrs_grammar.specs.Suffix.{is_suffix, suffix_refusal}
-use Rattle.litrs_grammar.specs.Integer.{IntegerParts, IsIntegerOf, integer_text, is_e, cut_refusal, integer_refusal}
+use Rattle.litrs_grammar.specs.Integer.{IntegerParts, IsIntegerOf, integer_text, is_e, integer_cut_refusal, integer_refusal}
 use Rattle.litrs_grammar.specs.Float.{FloatParts, IsFloatOf, float_text, number_part, fraction_text, is_period, is_exponent, sign_len, is_float_form, is_decimal_char, is_decimal_literal, float_refusal}
 use Rattle.litrs_grammar.specs.LiteralRefusals.{is_float_mark, begins_float}
 use Rattle.litrs_base.proofs.Chars.{OnlyAscii, passing_front, prefix_len-chars}
@@ -41,11 +41,11 @@ digit_after [] c r h e = e
 digit_after (d ∷ x) c r h e = suffix_begins_otherwise is_ascii_digit (λ b f. grind (arith, nat_tests)) (λ b f. grind (arith, nat_tests)) (d ∷ x) h
 
 cut_refused : (d : IntegerParts) → is_suffix d.suffix ≡ false → first_passes is_ascii_digit d.suffix ≡ false →
-    cut_refusal d ≡ Some (over (byte_len (prefix d.base ++ d.main)) (byte_len (integer_text d)) (suffix_refusal d.suffix))
+    integer_cut_refusal d ≡ Some (spanning (byte_len (prefix d.base ++ d.main)) (byte_len (integer_text d)) (suffix_refusal d.suffix))
 cut_refused d a b = rw (a, b) refl
 
 integer_refused : (s : List ℕ) (c : ℕ) (r : List ℕ) (d : IntegerParts) → IsIntegerOf s d → ends_suffix d.suffix (c ∷ r) ≡ true → ends_integer d (c ∷ r) ≡ true →
-    integer_refusal (s ++ c ∷ r) ≡ Some (over (byte_len (prefix d.base ++ d.main)) (byte_len (integer_text (record { base = d.base; main = d.main; suffix = d.suffix ++ c ∷ r }))) (suffix_refusal (d.suffix ++ c ∷ r)))
+    integer_refusal (s ++ c ∷ r) ≡ Some (spanning (byte_len (prefix d.base ++ d.main)) (byte_len (integer_text (record { base = d.base; main = d.main; suffix = d.suffix ++ c ∷ r }))) (suffix_refusal (d.suffix ++ c ∷ r)))
 unfolding integer_refusal
 integer_refused s c r d h e f =
     let digit = first_passes-append is_ascii_digit s (c ∷ r) (starts_with_digit s d h) in
@@ -62,8 +62,8 @@ points_integer bs l (c ∷ r) d e u spells h f g none table =
     let x : List ℕ = d.suffix ++ c ∷ r in
     let a : List ℕ = prefix d.base ++ d.main in
     let end : ℕ = byte_len (integer_text (record { base = d.base; main = d.main; suffix = x })) in
-    let some : Some (over (byte_len a) end (suffix_refusal x)) ≡ Some (refusal_of e) = sym (integer_refused l c r d h f g) ∙ (ap integer_refusal spells ∙ table) in
-    let same : over (byte_len a) end (suffix_refusal x) ≡ refusal_of e = cc in
+    let some : Some (spanning (byte_len a) end (suffix_refusal x)) ≡ Some (refusal_of e) = sym (integer_refused l c r d h f g) ∙ (ap integer_refusal spells ∙ table) in
+    let same : spanning (byte_len a) end (suffix_refusal x) ≡ refusal_of e = cc in
     let cut = cut_at bs a x u (sym spells ∙ (longer_integer l (c ∷ r) d h ∙ sym (append_assoc (prefix d.base) d.main x))) in
     record {
       span = record { start = byte_len a; end = end };
@@ -104,11 +104,11 @@ exponent_row (Some []) (c ∷ p) x h = absurd (false≢true h)
 exponent_row (Some (a ∷ f)) (c ∷ p) x h = ap not (exponent_digit c p (and_parts (is_decimal_literal (a ∷ f)) _ h).1)
 
 rows_at_suffix : (i f n len : ℕ) (kind : ParseErrorKind) (empty digit wrong period exponent exponent_digit suffix : Bool) → empty ≡ false → digit ≡ true → wrong ≡ false →
-    (exponent && not exponent_digit) ≡ false → suffix ≡ false → number_rows empty digit (float_rows i f n len kind wrong period exponent exponent_digit suffix) ≡ Some (over n len kind)
+    (exponent && not exponent_digit) ≡ false → suffix ≡ false → number_rows empty digit (float_rows i f n len kind wrong period exponent exponent_digit suffix) ≡ Some (spanning n len kind)
 rows_at_suffix i f n len kind empty digit wrong period exponent exponent_digit suffix a b c e g = rw (a, b, c, e, g) refl
 
 float_refused : (s : List ℕ) (c : ℕ) (r : List ℕ) (d : FloatParts) → IsFloatOf s d → ends_suffix d.suffix (c ∷ r) ≡ true → ends_float d (c ∷ r) ≡ true → is_bare d.fraction ≡ false →
-    float_refusal (s ++ c ∷ r) ≡ Some (over (length d.integer + length (fraction_text d.fraction) + length d.exponent) (byte_len (float_text (with_rest d (c ∷ r)))) (suffix_refusal (d.suffix ++ c ∷ r)))
+    float_refusal (s ++ c ∷ r) ≡ Some (spanning (length d.integer + length (fraction_text d.fraction) + length d.exponent) (byte_len (float_text (with_rest d (c ∷ r)))) (suffix_refusal (d.suffix ++ c ∷ r)))
 float_refused s c r d h e f bare =
     let x : List ℕ = d.suffix ++ c ∷ r in
     let start = starts_digit d.integer (fraction_text d.fraction ++ (d.exponent ++ x)) h.grammar.integer in
@@ -130,8 +130,8 @@ points_float bs l (c ∷ r) d e u spells h f g bare none table =
     let x : List ℕ = d.suffix ++ c ∷ r in
     let place : ℕ = length d.integer + length (fraction_text d.fraction) + length d.exponent in
     let end : ℕ = byte_len (float_text (with_rest d (c ∷ r))) in
-    let some : Some (over place end (suffix_refusal x)) ≡ Some (refusal_of e) = sym (float_refused l c r d h f g bare) ∙ (ap float_refusal spells ∙ table) in
-    let same : over place end (suffix_refusal x) ≡ refusal_of e = cc in
+    let some : Some (spanning place end (suffix_refusal x)) ≡ Some (refusal_of e) = sym (float_refused l c r d h f g bare) ∙ (ap float_refusal spells ∙ table) in
+    let same : spanning place end (suffix_refusal x) ≡ refusal_of e = cc in
     let text : chars bs ≡ number_part d ++ x = sym spells ∙ (ap (λ (t : List ℕ). t ++ c ∷ r) (sym h.spells ∙ sym (number_part-suffix d)) ∙ append_assoc (number_part d) d.suffix (c ∷ r)) in
     let cut = cut_at bs (number_part d) x u text in
     let len = number_len d (float_is_cut d h.grammar) in

@@ -7,7 +7,7 @@ use Rattle.std.proofs.lemmas.List.{drop_at}
 use Rattle.litrs_base.specs.declared.err.ParseError.{ParseError}
 use Rattle.litrs_base.specs.declared.err.ParseErrorKind.{ParseErrorKind}
 use Rattle.litrs_base.specs.Text.{byte_len, begins_with}
-use Rattle.litrs_base.specs.Refusal.{Refusal, at, refusal_of}
+use Rattle.litrs_base.specs.Refusal.{Refusal, at_byte, refusal_of}
 use Rattle.litrs_base.specs.Derivations.{HasNoDerivation}
 use Rattle.litrs_base.proofs.Begins.{begins_with-split}
 use Rattle.litrs_base.proofs.Runs.{prefix_len_all}
@@ -31,7 +31,7 @@ use Rattle.litrs_prefix.proofs.Complete.{name_after, no_suffix, suffix_kind, Poi
 -- a raw literal and what makes its suffix none
 raw_refused : (unicode allow_nul : Bool) (start : ℕ) (d : RawParts) (x : List ℕ) → IsRaw unicode allow_nul d → is_suffix x ≡ false →
     raw_refusal unicode allow_nul start (hashes d.hash_count ++ (34 ∷ (d.body ++ (raw_closing d.hash_count ++ x))))
-    ≡ Some (at (start + (d.hash_count + 1) + (byte_len d.body + (1 + d.hash_count))) (suffix_refusal x))
+    ≡ Some (at_byte (start + (d.hash_count + 1) + (byte_len d.body + (1 + d.hash_count))) (suffix_refusal x))
 raw_refused unicode allow_nul start d x g none =
     let n = d.hash_count in
     let ok = is_raw_char unicode allow_nul in
@@ -39,7 +39,7 @@ raw_refused unicode allow_nul start d x g none =
     let few : ltb 255 n ≡ false = le-ltb 255 n g.hash_count in
     let all : prefix_len ok d.body ≡ length d.body = prefix_len_all ok d.body g.body.allowed in
     let none_refused : ltb (prefix_len ok d.body) (length d.body) ≡ false = le-ltb _ _ (omega (arith, all)) in
-    let body : raw_body_refusal unicode allow_nul n place (d.body ++ (raw_closing n ++ x)) ≡ Some (at (place + (byte_len d.body + (1 + n))) (suffix_refusal x)) =
+    let body : raw_body_refusal unicode allow_nul n place (d.body ++ (raw_closing n ++ x)) ≡ Some (at_byte (place + (byte_len d.body + (1 + n))) (suffix_refusal x)) =
     refusal_of_closed unicode allow_nul n place d.body x g.body.unclosed
     ∙ (λ j. raw_body_rows (place + byte_len (take (prefix_len ok d.body) (d.body ++ (raw_closing n ++ x)))) (place + (byte_len d.body + (1 + n)))
     (raw_char_refusal (slice_index (d.body ++ (raw_closing n ++ x)) (prefix_len ok d.body))) (suffix_refusal x) (none_refused j) true (none j)) in
@@ -104,11 +104,11 @@ points_raw kind bs l (c ∷ r) d e u begins front spells h f none table =
     let text : chars bs ≡ raw_front kind ++ inner = sym spells ∙ longer_raw kind l (c ∷ r) d h in
     let after : chars (drop (length (raw_front kind)) bs) ≡ inner =
     sym (raw_after kind bs u begins) ∙ (ap (λ (t : List ℕ). drop (length (raw_front kind)) t) text ∙ drop_at (raw_front kind) inner (length (raw_front kind)) refl) in
-    let points : raw_refusal (has_unicode kind) (allows_nul kind) (length (raw_front kind)) (chars (drop (length (raw_front kind)) bs)) ≡ Some (at place (suffix_refusal x)) =
+    let points : raw_refusal (has_unicode kind) (allows_nul kind) (length (raw_front kind)) (chars (drop (length (raw_front kind)) bs)) ≡ Some (at_byte place (suffix_refusal x)) =
     ap (raw_refusal (has_unicode kind) (allows_nul kind) (length (raw_front kind))) after
     ∙ raw_refused (has_unicode kind) (allows_nul kind) (length (raw_front kind)) d x h.grammar (no_suffix d.suffix c r f) in
-    let some : Some (at place (suffix_refusal x)) ≡ Some (refusal_of e) = sym points ∙ table in
-    let same : at place (suffix_refusal x) ≡ refusal_of e = cc in
+    let some : Some (at_byte place (suffix_refusal x)) ≡ Some (refusal_of e) = sym points ∙ table in
+    let same : at_byte place (suffix_refusal x) ≡ refusal_of e = cc in
     let cut = cut_at bs (before_suffix kind d) x u (text ∙ sym (before_spells kind d x)) in
     let len : byte_len (before_suffix kind d) ≡ place = before_len kind d in
     record {

@@ -5,7 +5,7 @@ use Rattle.std.specs.Str.{chars, IsUtf8, IsCharBoundary}
 use Rattle.std.proofs.lemmas.Bool.{true≢false}
 use Rattle.litrs_base.specs.declared.err.ParseErrorKind.TheVariants.{InvalidLiteral}
 use Rattle.litrs_base.specs.Derivations.{IsOnlyDerivation}
-use Rattle.litrs_base.specs.Refusal.{Refusal, plain}
+use Rattle.litrs_base.specs.Refusal.{Refusal, without_span}
 use Rattle.litrs_base.specs.Text.{begins_with}
 use Rattle.litrs_base.specs.declared.quotes.CharKind.TheVariants.{Char as char_kind, Byte as byte_kind}
 use Rattle.litrs_base.specs.declared.quotes.StringKind.{StringKind}
@@ -166,8 +166,8 @@ pub empty_before : (bs r : List ℕ) → IsUtf8 bs → IsFront front.Empty bs �
 empty_before bs r u is = λ d h. absurd (refused_row d _ (kind_at front.Empty bs _ d u is refl h))
 
 other_row : (bs : List ℕ) (v : Bool) (d : Derivation) → IsUtf8 bs → IsFront front.Other bs →
-    parsed_as (literal_kind d) ≡ (if v then parsed_as c_string_literal else refused_as (plain InvalidLiteral)) → IsLiteral (chars bs) d → ⊥
-other_row bs false d u is row h = refused_row d (plain InvalidLiteral) row
+    parsed_as (literal_kind d) ≡ (if v then parsed_as c_string_literal else refused_as (without_span InvalidLiteral)) → IsLiteral (chars bs) d → ⊥
+other_row bs false d u is row h = refused_row d (without_span InvalidLiteral) row
 other_row bs true d u is row h =
     let x = string_of c_string_kind d row in
     no_c_string (chars bs) (chars bs) [] x.0 (quoted_begins c_string_kind bs u ∙ is.begins.0) (raw_begins c_string_kind bs u ∙ is.begins.1) (append-nil (chars bs))

@@ -1,6 +1,6 @@
 -- What it means that a literal opens at the front of a text, and none stands there.
 use Rattle.std.specs.Prelude.{◌≡◌, ◌⊎◌, ◌<◌, ℕ, List, ◌++◌, IsTrue}
-use Rattle.litrs_base.specs.Refusal.{refusal_of, char_span_of, moved, moved_span}
+use Rattle.litrs_base.specs.Refusal.{refusal_of, char_span_of, shifted, shifted_span}
 use Rattle.litrs_base.specs.Text.{byte_len}
 use Rattle.litrs_grammar.specs.Literal.{literal_parse}
 use Rattle.litrs_grammar.specs.Refused.{IsRefused, IsOutOfMemory}
@@ -42,5 +42,5 @@ pub record IsMovedBy (start : ℕ) (t : List ℕ) (e : MalformedPrefix) : Type 0
   pub of_text : MalformedPrefix
   pub malformed : IsMalformedOrOutOfMemory t of_text
   pub len : e.len ≡ of_text.len
-  pub refusal : refusal_of e.error ≡ moved start (refusal_of of_text.error)
-  pub char_span : char_span_of e.error ≡ moved_span start (char_span_of of_text.error)
+  pub refusal : refusal_of e.error ≡ shifted start (refusal_of of_text.error)
+  pub char_span : char_span_of e.error ≡ shifted_span start (char_span_of of_text.error)

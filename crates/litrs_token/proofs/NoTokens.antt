@@ -8,7 +8,7 @@ use Rattle.std.proofs.lemmas.Bool.{both_ways}
 use Rattle.litrs_base.specs.declared.err.ParseError.{ParseError}
 use Rattle.litrs_base.specs.declared.err.ParseErrorKind.TheVariants.{Empty, InvalidLiteral}
 use Rattle.litrs_base.specs.Derivations.{HasNoDerivation}
-use Rattle.litrs_base.specs.Refusal.{plain}
+use Rattle.litrs_base.specs.Refusal.{without_span}
 use Rattle.litrs_base.specs.Text.{first_passes, begins_with}
 use Rattle.litrs_base.proofs.Begins.{begins_with-split}
 use Rattle.litrs_base.proofs.Chars.{begins_with-chars}
@@ -131,7 +131,7 @@ no_row bs row u is none k r =
     (sym (dispatch_literal (chars bs) r.derivation r.literal) ∙ (dispatch-chars bs u ∙ sym is))
 
 no_text : (bs : List ℕ) → IsUtf8 bs → IsFront front.Empty bs → IsNoLiteralToken (chars bs)
-no_text bs u is = no_row bs (refused_as (plain Empty)) u is.row (λ kind no_bool e. cc)
+no_text bs u is = no_row bs (refused_as (without_span Empty)) u is.row (λ kind no_bool e. cc)
 
 only_bool : (value : Bool) (bs : List ℕ) → IsUtf8 bs → IsFront (front.Bool value) bs →
     IsNoLiteralToken (chars bs)
@@ -152,13 +152,13 @@ other_at : (bs : List ℕ) (v : Bool) → IsUtf8 bs → IsFront front.Other bs �
 other_at bs true u is begins =
     no_string c_string_kind (chars bs)
     (dispatch-chars bs u ∙ sym (ap (λ w. if w then parsed_as c_string_literal
-    else refused_as (plain InvalidLiteral)) (sym begins) ∙ is.row))
+    else refused_as (without_span InvalidLiteral)) (sym begins) ∙ is.row))
     (λ d r. begins_c_string (chars bs) d r
     (begins_with-chars (codes "c\"") bs refl u ∙ is.begins.0)
     (begins_with-chars (codes "cr") bs refl u ∙ is.begins.1))
 other_at bs false u is begins =
-    no_row bs (refused_as (plain InvalidLiteral)) u
-    (ap (λ w. if w then parsed_as c_string_literal else refused_as (plain InvalidLiteral))
+    no_row bs (refused_as (without_span InvalidLiteral)) u
+    (ap (λ w. if w then parsed_as c_string_literal else refused_as (without_span InvalidLiteral))
     (sym begins) ∙ is.row)
     (λ kind no_bool e. cc)
 

@@ -4,7 +4,7 @@ use crate::parses::{Parse, buffer_name, each_kind, parsed};
 use crate::prefixes::Whole;
 use crate::rows::Row;
 use crate::trial::{Trial, again};
-use crate::{calls, prefixes, tokens};
+use crate::{builds, calls, prefixes, tokens};
 use litrs::{
     Buffer, ByteStringLit, CString, FromIntegerLiteral, IntegerLit, Literal, ParseError, StringLit,
     Text,
@@ -31,6 +31,7 @@ pub fn try_literal(trial: &mut Trial, row: &Row) {
 /// Tries the calls on a literal, and the prefixes of its text.
 fn try_whole(trial: &mut Trial, lit: &Literal<&str>, text: &str) {
     calls::try_literal(trial, lit);
+    builds::try_builds(trial, lit);
     let value = match value_of(lit) {
         Some((_, value)) => Some(value),
         None => None,

@@ -16,9 +16,11 @@ use std::process::ExitCode;
 use trial::Trial;
 
 mod answers;
+mod builds;
 mod calls;
 mod fronts;
 mod literals;
+mod messages;
 mod parses;
 mod prefixes;
 mod refusals;

@@ -4,7 +4,7 @@ use crate::parses::{Parse, buffer_name, parsed};
 use crate::prefixes::NO_LITERAL;
 use crate::rows::Row;
 use crate::trial::Trial;
-use crate::{calls, prefixes, tokens};
+use crate::{calls, messages, prefixes, tokens};
 use litrs::{Literal, ParseError, Text};
 
 /// The kinds of refusal after which no extension of the text is a literal for the same parse.
@@ -125,6 +125,7 @@ fn try_report(trial: &mut Trial, text: &str) {
 fn try_reported(trial: &mut Trial, error: ParseError, text: &str) {
     let report = format!(in trial.alloc; "error {error}\n");
     if let Some(report) = trial.own(report) {
+        messages::try_shown(trial, text, &error);
         calls::try_run(trial, text, report.as_str());
         calls::try_collector(trial, text, false);
     }

@@ -15,10 +15,7 @@ use litrs::{
     ByteLit, ByteStringLit, CStringLit, CharLit, IntegerBase, IntegerLit, Literal, ParseErrorKind,
     StringLit,
 };
-use litrs_build::{
-    BuildError, byte_literal, byte_string_literal, c_string_literal, char_literal, regroup,
-    string_literal,
-};
+use litrs_build::{BuildError, byte, byte_string, c_string, char, regroup, string};
 use std::alloc::Global;
 
 /// The literal in its form, None where the text is no literal.
@@ -119,7 +116,7 @@ fn written_char(alloc: Global, lit: &CharLit<&str>) -> Result<String, BuildError
     ensures { IfOk result (λ text.
         IsFormOf (a_char (char_parts lit.now)) (chars (string_bytes text))) }
 {
-    let built = char_literal(alloc, lit.value(), lit.suffix())?;
+    let built = char(alloc, lit.value(), lit.suffix())?;
     // Called for its contract: the text is a char.
     let _ = built.raw_input();
     let text = built.into_raw_input();
@@ -131,7 +128,7 @@ fn written_byte(alloc: Global, lit: &ByteLit<&str>) -> Result<String, BuildError
     ensures { IfOk result (λ text.
         IsFormOf (a_byte (byte_parts lit.now)) (chars (string_bytes text))) }
 {
-    let built = byte_literal(alloc, lit.value(), lit.suffix())?;
+    let built = byte(alloc, lit.value(), lit.suffix())?;
     // Called for its contract: the text is a byte.
     let _ = built.raw_input();
     let text = built.into_raw_input();
@@ -166,7 +163,7 @@ fn quoted_string(alloc: Global, lit: &StringLit<&str>) -> Result<String, BuildEr
     ensures { IfOk result (λ text.
         IsFormOf (a_string lit.now.parts) (chars (string_bytes text))) }
 {
-    let built = string_literal(alloc, lit.value(), lit.suffix())?;
+    let built = string(alloc, lit.value(), lit.suffix())?;
     // Called for its contract: the text is a string.
     let _ = built.raw_input();
     let text = built.into_raw_input();
@@ -201,7 +198,7 @@ fn quoted_byte_string(alloc: Global, lit: &ByteStringLit<&str>) -> Result<String
     ensures { IfOk result (λ text.
         IsFormOf (a_byte_string lit.now.parts) (chars (string_bytes text))) }
 {
-    let built = byte_string_literal(alloc, lit.value(), lit.suffix())?;
+    let built = byte_string(alloc, lit.value(), lit.suffix())?;
     // Called for its contract: the text is a byte string.
     let _ = built.raw_input();
     let text = built.into_raw_input();
@@ -236,7 +233,7 @@ fn quoted_c_string(alloc: Global, lit: &CStringLit<&str>) -> Result<String, Buil
     ensures { IfOk result (λ text.
         IsFormOf (a_c_string lit.now.parts) (chars (string_bytes text))) }
 {
-    let built = c_string_literal(alloc, lit.value().to_bytes(), lit.suffix())?;
+    let built = c_string(alloc, lit.value().to_bytes(), lit.suffix())?;
     // Called for its contract: the text is a C string.
     let _ = built.raw_input();
     let text = built.into_raw_input();

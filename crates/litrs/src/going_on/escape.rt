@@ -2,7 +2,7 @@
 ghost use Rattle.std.specs.Prelude.{◌≡◌, ◌↔◌, ◌&&◌, ◌==◌, Bool, true, count_by, IsTrue};
 ghost use Rattle.std.specs.Char.{is_ascii_hexdigit};
 ghost use Rattle.std.specs.Str.{chars};
-ghost use Rattle.litrs_base.specs.Characters.{backslash, is_scalar, is_no_nul_unless};
+ghost use Rattle.litrs_base.specs.Characters.{backslash, is_scalar, nul_is_allowed};
 ghost use Rattle.litrs_base.specs.Text.{first_passes};
 ghost use Rattle.litrs_grammar.specs.GoesOn.Escape.{BeginsEscape, escape_goes_on, hex_goes_on, braces_go_on, inner_goes_on};
 ghost use Rattle.litrs_lex.specs.Unescaped.{switches};
@@ -94,7 +94,7 @@ fn hex_digit_count(bytes: &[u8]) -> usize
 
 /// Whether a `\u{..}` may have this value.
 fn is_value(value: u32, allow_nul: bool) -> bool
-    ensures { result ≡ (is_no_nul_unless allow_nul value && is_scalar value) }
+    ensures { result ≡ (nul_is_allowed allow_nul value && is_scalar value) }
 {
     (allow_nul || value != 0) && char::from_u32(value).is_some()
 }

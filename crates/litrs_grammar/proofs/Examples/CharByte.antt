@@ -2,7 +2,7 @@
 use Prim.Native.String.{String}
 use Rattle.std.specs.Prelude.{◌≡◌, Some, None, codes, refl, true, false}
 use Rattle.litrs_base.specs.declared.err.ParseErrorKind.TheVariants as kind
-use Rattle.litrs_base.specs.Refusal.{Refusal, plain, at, over}
+use Rattle.litrs_base.specs.Refusal.{Refusal, without_span, at_byte, spanning}
 use Rattle.litrs_grammar.specs.Escape.{simple_escape, hex_escape, unicode_escape}
 use Rattle.litrs_base.specs.declared.quotes.CharKind.{CharKind}
 use Rattle.litrs_base.specs.declared.quotes.CharKind.TheVariants.{Char as char_kind, Byte as byte_kind}
@@ -115,142 +115,142 @@ accepted = (refl, refl, refl, refl, refl, refl, refl, refl, refl, refl, refl, re
 -- Refused texts, by the rows of the table
 
 rows-empty :
-    CharRefused "" (plain kind.Empty)
-    × ByteRefused "" (plain kind.Empty)
+    CharRefused "" (without_span kind.Empty)
+    × ByteRefused "" (without_span kind.Empty)
 unfolding computing
 rows-empty = (refl, refl)
 
-rows-does_not_start_with_quote : CharRefused "a'" (at 0 kind.DoesNotStartWithQuote)
+rows-does_not_start_with_quote : CharRefused "a'" (at_byte 0 kind.DoesNotStartWithQuote)
 unfolding computing
 rows-does_not_start_with_quote = refl
 
 rows-invalid_byte_literal_start :
-    ByteRefused "'a'" (plain kind.InvalidByteLiteralStart)
-    × ByteRefused "'" (plain kind.InvalidByteLiteralStart)
+    ByteRefused "'a'" (without_span kind.InvalidByteLiteralStart)
+    × ByteRefused "'" (without_span kind.InvalidByteLiteralStart)
 unfolding computing
 rows-invalid_byte_literal_start = (refl, refl)
 
 rows-unterminated_char_literal :
-    CharRefused "'" (plain kind.UnterminatedCharLiteral)
-    × CharRefused "'a" (plain kind.UnterminatedCharLiteral)
+    CharRefused "'" (without_span kind.UnterminatedCharLiteral)
+    × CharRefused "'a" (without_span kind.UnterminatedCharLiteral)
     -- an escaped quote closes nothing
-    × CharRefused "'\\'" (plain kind.UnterminatedCharLiteral)
-    × CharRefused "'\\x41" (plain kind.UnterminatedCharLiteral)
-    × CharRefused "'\\n" (plain kind.UnterminatedCharLiteral)
+    × CharRefused "'\\'" (without_span kind.UnterminatedCharLiteral)
+    × CharRefused "'\\x41" (without_span kind.UnterminatedCharLiteral)
+    × CharRefused "'\\n" (without_span kind.UnterminatedCharLiteral)
 unfolding computing
 rows-unterminated_char_literal = (refl, refl, refl, refl, refl)
 
 rows-unterminated_byte_literal :
-    ByteRefused "b'" (plain kind.UnterminatedByteLiteral)
-    × ByteRefused "b'a" (plain kind.UnterminatedByteLiteral)
+    ByteRefused "b'" (without_span kind.UnterminatedByteLiteral)
+    × ByteRefused "b'a" (without_span kind.UnterminatedByteLiteral)
 unfolding computing
 rows-unterminated_byte_literal = (refl, refl)
 
 rows-unescaped_single_quote :
-    CharRefused "'''" (at 1 kind.UnescapedSingleQuote)
-    × CharRefused "''''" (at 1 kind.UnescapedSingleQuote)
-    × ByteRefused "b'''" (at 2 kind.UnescapedSingleQuote)
+    CharRefused "'''" (at_byte 1 kind.UnescapedSingleQuote)
+    × CharRefused "''''" (at_byte 1 kind.UnescapedSingleQuote)
+    × ByteRefused "b'''" (at_byte 2 kind.UnescapedSingleQuote)
 unfolding computing
 rows-unescaped_single_quote = (refl, refl, refl)
 
 rows-empty_char_literal :
-    CharRefused "''" (plain kind.EmptyCharLiteral)
-    × CharRefused "''a'" (plain kind.EmptyCharLiteral)
+    CharRefused "''" (without_span kind.EmptyCharLiteral)
+    × CharRefused "''a'" (without_span kind.EmptyCharLiteral)
 unfolding computing
 rows-empty_char_literal = (refl, refl)
 
-rows-empty_byte_literal : ByteRefused "b''" (plain kind.EmptyByteLiteral)
+rows-empty_byte_literal : ByteRefused "b''" (without_span kind.EmptyByteLiteral)
 unfolding computing
 rows-empty_byte_literal = refl
 
 rows-unescaped_special_whitespace :
-    CharRefused "'\n'" (at 1 kind.UnescapedSpecialWhitespace)
-    × ByteRefused "b'\t'" (at 2 kind.UnescapedSpecialWhitespace)
-    × CharRefused "'\r'" (at 1 kind.UnescapedSpecialWhitespace)
-    × CharRefused "'\t'" (at 1 kind.UnescapedSpecialWhitespace)
-    × ByteRefused "b'\n" (at 2 kind.UnescapedSpecialWhitespace)
-    × ByteRefused "b'\r'" (at 2 kind.UnescapedSpecialWhitespace)
+    CharRefused "'\n'" (at_byte 1 kind.UnescapedSpecialWhitespace)
+    × ByteRefused "b'\t'" (at_byte 2 kind.UnescapedSpecialWhitespace)
+    × CharRefused "'\r'" (at_byte 1 kind.UnescapedSpecialWhitespace)
+    × CharRefused "'\t'" (at_byte 1 kind.UnescapedSpecialWhitespace)
+    × ByteRefused "b'\n" (at_byte 2 kind.UnescapedSpecialWhitespace)
+    × ByteRefused "b'\r'" (at_byte 2 kind.UnescapedSpecialWhitespace)
 unfolding computing
 rows-unescaped_special_whitespace = (refl, refl, refl, refl, refl, refl)
 
 rows-unterminated_escape :
-    ByteRefused "b'\\x'" (over 2 5 kind.UnterminatedEscape)
-    × CharRefused "'\\x🦊'" (over 1 8 kind.UnterminatedEscape)
+    ByteRefused "b'\\x'" (spanning 2 5 kind.UnterminatedEscape)
+    × CharRefused "'\\x🦊'" (spanning 1 8 kind.UnterminatedEscape)
     -- chars are parsed to the end of the text
-    × CharRefused "'\\x" (over 1 3 kind.UnterminatedEscape)
+    × CharRefused "'\\x" (spanning 1 3 kind.UnterminatedEscape)
 unfolding computing
 rows-unterminated_escape = (refl, refl, refl)
 
-rows-invalid_x_escape : ByteRefused "b'\\x1'" (over 2 6 kind.InvalidXEscape)
+rows-invalid_x_escape : ByteRefused "b'\\x1'" (spanning 2 6 kind.InvalidXEscape)
 unfolding computing
 rows-invalid_x_escape = refl
 
-rows-non_ascii_x_escape : CharRefused "'\\x80'" (over 1 5 kind.NonAsciiXEscape)
+rows-non_ascii_x_escape : CharRefused "'\\x80'" (spanning 1 5 kind.NonAsciiXEscape)
 unfolding computing
 rows-non_ascii_x_escape = refl
 
-rows-unicode_escape_in_byte_literal : ByteRefused "b'\\u{0}'" (over 2 4 kind.UnicodeEscapeInByteLiteral)
+rows-unicode_escape_in_byte_literal : ByteRefused "b'\\u{0}'" (spanning 2 4 kind.UnicodeEscapeInByteLiteral)
 unfolding computing
 rows-unicode_escape_in_byte_literal = refl
 
 rows-unterminated_unicode_escape :
-    CharRefused "'\\u{a0_b  '" (over 1 11 kind.UnterminatedUnicodeEscape)
+    CharRefused "'\\u{a0_b  '" (spanning 1 11 kind.UnterminatedUnicodeEscape)
     -- that no brace closes comes before what stands first inside
-    × CharRefused "'\\u{_" (over 1 5 kind.UnterminatedUnicodeEscape)
+    × CharRefused "'\\u{_" (spanning 1 5 kind.UnterminatedUnicodeEscape)
 unfolding computing
 rows-unterminated_unicode_escape = (refl, refl)
 
-rows-invalid_start_of_unicode_escape : CharRefused "'\\u{_}'" (at 4 kind.InvalidStartOfUnicodeEscape)
+rows-invalid_start_of_unicode_escape : CharRefused "'\\u{_}'" (at_byte 4 kind.InvalidStartOfUnicodeEscape)
 unfolding computing
 rows-invalid_start_of_unicode_escape = refl
 
-rows-non_hex_digit_in_unicode_escape : CharRefused "'\\u{3b_x}'" (at 7 kind.NonHexDigitInUnicodeEscape)
+rows-non_hex_digit_in_unicode_escape : CharRefused "'\\u{3b_x}'" (at_byte 7 kind.NonHexDigitInUnicodeEscape)
 unfolding computing
 rows-non_hex_digit_in_unicode_escape = refl
 
-rows-too_many_digit_in_unicode_escape : CharRefused "'\\u{1_23_4_56_7}'" (at 14 kind.TooManyDigitInUnicodeEscape)
+rows-too_many_digit_in_unicode_escape : CharRefused "'\\u{1_23_4_56_7}'" (at_byte 14 kind.TooManyDigitInUnicodeEscape)
 unfolding computing
 rows-too_many_digit_in_unicode_escape = refl
 
-rows-invalid_unicode_escape_char : CharRefused "'\\u{110000}'" (over 1 11 kind.InvalidUnicodeEscapeChar)
+rows-invalid_unicode_escape_char : CharRefused "'\\u{110000}'" (spanning 1 11 kind.InvalidUnicodeEscapeChar)
 unfolding computing
 rows-invalid_unicode_escape_char = refl
 
-rows-unknown_escape : CharRefused "'\\é'" (over 1 3 kind.UnknownEscape)
+rows-unknown_escape : CharRefused "'\\é'" (spanning 1 3 kind.UnknownEscape)
 unfolding computing
 rows-unknown_escape = refl
 
 rows-non_ascii_in_byte_literal :
-    ByteRefused "b'犬'" (at 2 kind.NonAsciiInByteLiteral)
-    × ByteRefused "b'\u{80}'" (at 2 kind.NonAsciiInByteLiteral)
+    ByteRefused "b'犬'" (at_byte 2 kind.NonAsciiInByteLiteral)
+    × ByteRefused "b'\u{80}'" (at_byte 2 kind.NonAsciiInByteLiteral)
     -- before the closing quote that lacks
-    × ByteRefused "b'\u{80}" (at 2 kind.NonAsciiInByteLiteral)
-    × ByteRefused "b'é" (at 2 kind.NonAsciiInByteLiteral)
+    × ByteRefused "b'\u{80}" (at_byte 2 kind.NonAsciiInByteLiteral)
+    × ByteRefused "b'é" (at_byte 2 kind.NonAsciiInByteLiteral)
 unfolding computing
 rows-non_ascii_in_byte_literal = (refl, refl, refl, refl)
 
 rows-overlong_char_literal :
-    CharRefused "'ab'" (plain kind.OverlongCharLiteral)
-    × CharRefused "'\\u{0}0'" (plain kind.OverlongCharLiteral)
+    CharRefused "'ab'" (without_span kind.OverlongCharLiteral)
+    × CharRefused "'\\u{0}0'" (without_span kind.OverlongCharLiteral)
 unfolding computing
 rows-overlong_char_literal = (refl, refl)
 
 rows-overlong_byte_literal :
-    ByteRefused "b'a _'" (plain kind.OverlongByteLiteral)
-    × ByteRefused "b'\\xFFa'" (plain kind.OverlongByteLiteral)
+    ByteRefused "b'a _'" (without_span kind.OverlongByteLiteral)
+    × ByteRefused "b'\\xFFa'" (without_span kind.OverlongByteLiteral)
 unfolding computing
 rows-overlong_byte_literal = (refl, refl)
 
 rows-unexpected_char :
-    ByteRefused "b' ''" (at 4 kind.UnexpectedChar)
-    × CharRefused "'a'\u{7f}" (at 3 kind.UnexpectedChar)
+    ByteRefused "b' ''" (at_byte 4 kind.UnexpectedChar)
+    × CharRefused "'a'\u{7f}" (at_byte 3 kind.UnexpectedChar)
 unfolding computing
 rows-unexpected_char = (refl, refl)
 
 rows-invalid_suffix :
-    CharRefused "'a'_" (at 3 kind.InvalidSuffix)
-    × CharRefused "'\\u{41}'_" (at 8 kind.InvalidSuffix)
-    × CharRefused "'é'_" (at 4 kind.InvalidSuffix)
-    × CharRefused "'a'\u{80}" (at 3 kind.InvalidSuffix)
+    CharRefused "'a'_" (at_byte 3 kind.InvalidSuffix)
+    × CharRefused "'\\u{41}'_" (at_byte 8 kind.InvalidSuffix)
+    × CharRefused "'é'_" (at_byte 4 kind.InvalidSuffix)
+    × CharRefused "'a'\u{80}" (at_byte 3 kind.InvalidSuffix)
 unfolding computing
 rows-invalid_suffix = (refl, refl, refl, refl)

@@ -4,7 +4,7 @@ use Rattle.std.specs.Prelude.{◌≡◌, [], ◌∷◌, Some, None, IsTrue, code
 use Rattle.litrs_base.specs.declared.escape.Unescape.{Unescape}
 use Rattle.litrs_base.specs.declared.escape.Unescape.TheVariants.{Byte, Unicode}
 use Rattle.litrs_base.specs.declared.err.ParseErrorKind.TheVariants as kind
-use Rattle.litrs_base.specs.Refusal.{Refusal, at, over}
+use Rattle.litrs_base.specs.Refusal.{Refusal, at_byte, spanning}
 use Rattle.litrs_base.specs.declared.quotes.Switches.{Switches}
 use Rattle.litrs_base.specs.Quotes.{char_switches, byte_switches, string_switches, byte_string_switches, c_string_switches}
 use Rattle.litrs_grammar.specs.Escape.{Escape, simple_escape, hex_escape, unicode_escape, escape_text, escape_value, value_bytes, is_escape, escape_refusal}
@@ -196,103 +196,103 @@ accepted = (
 -- Refused texts, by the rows of the table
 
 rows-unterminated_escape :
-    Refused string_switches "" (at 0 kind.UnterminatedEscape)
-    × Refused string_switches "\\" (at 0 kind.UnterminatedEscape)
+    Refused string_switches "" (at_byte 0 kind.UnterminatedEscape)
+    × Refused string_switches "\\" (at_byte 0 kind.UnterminatedEscape)
     -- no two bytes that end a character
-    × Refused byte_switches "\\x'" (over 0 3 kind.UnterminatedEscape)
-    × Refused char_switches "\\x🦊'" (over 0 7 kind.UnterminatedEscape)
-    × Refused char_switches "\\x0é'" (over 0 6 kind.UnterminatedEscape)
-    × Refused string_switches "\\x" (over 0 2 kind.UnterminatedEscape)
-    × Refused string_switches "\\xa" (over 0 3 kind.UnterminatedEscape)
+    × Refused byte_switches "\\x'" (spanning 0 3 kind.UnterminatedEscape)
+    × Refused char_switches "\\x🦊'" (spanning 0 7 kind.UnterminatedEscape)
+    × Refused char_switches "\\x0é'" (spanning 0 6 kind.UnterminatedEscape)
+    × Refused string_switches "\\x" (spanning 0 2 kind.UnterminatedEscape)
+    × Refused string_switches "\\xa" (spanning 0 3 kind.UnterminatedEscape)
 unfolding computing
 rows-unterminated_escape = (refl, refl, refl, refl, refl, refl, refl)
 
 rows-invalid_x_escape :
     -- a character of two bytes in place of the digits
-    Refused char_switches "\\xé'" (over 0 4 kind.InvalidXEscape)
-    × Refused byte_switches "\\x1'" (over 0 4 kind.InvalidXEscape)
-    × Refused char_switches "\\xé" (over 0 4 kind.InvalidXEscape)
-    × Refused char_switches "\\xg0'" (over 0 4 kind.InvalidXEscape)
+    Refused char_switches "\\xé'" (spanning 0 4 kind.InvalidXEscape)
+    × Refused byte_switches "\\x1'" (spanning 0 4 kind.InvalidXEscape)
+    × Refused char_switches "\\xé" (spanning 0 4 kind.InvalidXEscape)
+    × Refused char_switches "\\xg0'" (spanning 0 4 kind.InvalidXEscape)
 unfolding computing
 rows-invalid_x_escape = (refl, refl, refl, refl)
 
 rows-non_ascii_x_escape :
-    Refused string_switches "\\x80" (over 0 4 kind.NonAsciiXEscape)
-    × Refused char_switches "\\x80'" (over 0 4 kind.NonAsciiXEscape)
+    Refused string_switches "\\x80" (spanning 0 4 kind.NonAsciiXEscape)
+    × Refused char_switches "\\x80'" (spanning 0 4 kind.NonAsciiXEscape)
 unfolding computing
 rows-non_ascii_x_escape = (refl, refl)
 
 rows-unicode_escape_in_byte_literal :
-    Refused byte_switches "\\u{0}'" (over 0 2 kind.UnicodeEscapeInByteLiteral)
-    × Refused byte_switches "\\u'" (over 0 2 kind.UnicodeEscapeInByteLiteral)
+    Refused byte_switches "\\u{0}'" (spanning 0 2 kind.UnicodeEscapeInByteLiteral)
+    × Refused byte_switches "\\u'" (spanning 0 2 kind.UnicodeEscapeInByteLiteral)
 unfolding computing
 rows-unicode_escape_in_byte_literal = (refl, refl)
 
 rows-unicode_escape_without_brace :
-    Refused char_switches "\\u0041'" (over 0 2 kind.UnicodeEscapeWithoutBrace)
-    × Refused char_switches "\\u" (over 0 2 kind.UnicodeEscapeWithoutBrace)
+    Refused char_switches "\\u0041'" (spanning 0 2 kind.UnicodeEscapeWithoutBrace)
+    × Refused char_switches "\\u" (spanning 0 2 kind.UnicodeEscapeWithoutBrace)
 unfolding computing
 rows-unicode_escape_without_brace = (refl, refl)
 
 rows-unterminated_unicode_escape :
-    Refused char_switches "\\u{a0_b  '" (over 0 10 kind.UnterminatedUnicodeEscape)
-    × Refused char_switches "\\u{é'" (over 0 6 kind.UnterminatedUnicodeEscape)
+    Refused char_switches "\\u{a0_b  '" (spanning 0 10 kind.UnterminatedUnicodeEscape)
+    × Refused char_switches "\\u{é'" (spanning 0 6 kind.UnterminatedUnicodeEscape)
     -- that no brace closes comes before what stands first inside
-    × Refused char_switches "\\u{_" (over 0 4 kind.UnterminatedUnicodeEscape)
-    × Refused char_switches "\\u{" (over 0 3 kind.UnterminatedUnicodeEscape)
+    × Refused char_switches "\\u{_" (spanning 0 4 kind.UnterminatedUnicodeEscape)
+    × Refused char_switches "\\u{" (spanning 0 3 kind.UnterminatedUnicodeEscape)
 unfolding computing
 rows-unterminated_unicode_escape = (refl, refl, refl, refl)
 
 rows-invalid_start_of_unicode_escape :
-    Refused char_switches "\\u{_}'" (at 3 kind.InvalidStartOfUnicodeEscape)
-    × Refused string_switches "\\u{}a" (at 3 kind.InvalidStartOfUnicodeEscape)
-    × Refused char_switches "\\u{_x}'" (at 3 kind.InvalidStartOfUnicodeEscape)
+    Refused char_switches "\\u{_}'" (at_byte 3 kind.InvalidStartOfUnicodeEscape)
+    × Refused string_switches "\\u{}a" (at_byte 3 kind.InvalidStartOfUnicodeEscape)
+    × Refused char_switches "\\u{_x}'" (at_byte 3 kind.InvalidStartOfUnicodeEscape)
 unfolding computing
 rows-invalid_start_of_unicode_escape = (refl, refl, refl)
 
 rows-non_hex_digit_in_unicode_escape :
-    Refused char_switches "\\u{3b_x}'" (at 6 kind.NonHexDigitInUnicodeEscape)
+    Refused char_switches "\\u{3b_x}'" (at_byte 6 kind.NonHexDigitInUnicodeEscape)
     -- after six digits
-    × Refused char_switches "\\u{123456x7}'" (at 9 kind.NonHexDigitInUnicodeEscape)
-    × Refused char_switches "\\u{x}'" (at 3 kind.NonHexDigitInUnicodeEscape)
-    × Refused char_switches "\\u{1_x}" (at 5 kind.NonHexDigitInUnicodeEscape)
+    × Refused char_switches "\\u{123456x7}'" (at_byte 9 kind.NonHexDigitInUnicodeEscape)
+    × Refused char_switches "\\u{x}'" (at_byte 3 kind.NonHexDigitInUnicodeEscape)
+    × Refused char_switches "\\u{1_x}" (at_byte 5 kind.NonHexDigitInUnicodeEscape)
 unfolding computing
 rows-non_hex_digit_in_unicode_escape = (refl, refl, refl, refl)
 
 rows-too_many_digit_in_unicode_escape :
-    Refused char_switches "\\u{1_23_4_56_7}'" (at 13 kind.TooManyDigitInUnicodeEscape)
+    Refused char_switches "\\u{1_23_4_56_7}'" (at_byte 13 kind.TooManyDigitInUnicodeEscape)
     -- the first of the two decides
-    × Refused char_switches "\\u{1234567x}'" (at 9 kind.TooManyDigitInUnicodeEscape)
-    × Refused char_switches "\\u{abcdefa}'" (at 9 kind.TooManyDigitInUnicodeEscape)
-    × Refused char_switches "\\u{abcdefax}'" (at 9 kind.TooManyDigitInUnicodeEscape)
-    × Refused char_switches "\\u{123456__7}'" (at 11 kind.TooManyDigitInUnicodeEscape)
-    × Refused c_string_switches "\\u{0000000}\"" (at 9 kind.TooManyDigitInUnicodeEscape)
-    × Refused c_string_switches "\\u{1234567}" (at 9 kind.TooManyDigitInUnicodeEscape)
+    × Refused char_switches "\\u{1234567x}'" (at_byte 9 kind.TooManyDigitInUnicodeEscape)
+    × Refused char_switches "\\u{abcdefa}'" (at_byte 9 kind.TooManyDigitInUnicodeEscape)
+    × Refused char_switches "\\u{abcdefax}'" (at_byte 9 kind.TooManyDigitInUnicodeEscape)
+    × Refused char_switches "\\u{123456__7}'" (at_byte 11 kind.TooManyDigitInUnicodeEscape)
+    × Refused c_string_switches "\\u{0000000}\"" (at_byte 9 kind.TooManyDigitInUnicodeEscape)
+    × Refused c_string_switches "\\u{1234567}" (at_byte 9 kind.TooManyDigitInUnicodeEscape)
 unfolding computing
 rows-too_many_digit_in_unicode_escape = (refl, refl, refl, refl, refl, refl, refl)
 
 rows-disallowed_nul_escape :
-    Refused c_string_switches "\\0a" (over 0 2 kind.DisallowedNulEscape)
-    × Refused c_string_switches "\\x00" (over 0 4 kind.DisallowedNulEscape)
-    × Refused c_string_switches "\\u{0__}" (over 0 7 kind.DisallowedNulEscape)
-    × Refused c_string_switches "\\0" (over 0 2 kind.DisallowedNulEscape)
+    Refused c_string_switches "\\0a" (spanning 0 2 kind.DisallowedNulEscape)
+    × Refused c_string_switches "\\x00" (spanning 0 4 kind.DisallowedNulEscape)
+    × Refused c_string_switches "\\u{0__}" (spanning 0 7 kind.DisallowedNulEscape)
+    × Refused c_string_switches "\\0" (spanning 0 2 kind.DisallowedNulEscape)
 unfolding computing
 rows-disallowed_nul_escape = (refl, refl, refl, refl)
 
 rows-invalid_unicode_escape_char :
-    Refused char_switches "\\u{110000}'" (over 0 10 kind.InvalidUnicodeEscapeChar)
-    × Refused char_switches "\\u{d800}'" (over 0 8 kind.InvalidUnicodeEscapeChar)
-    × Refused char_switches "\\u{DFFF}'" (over 0 8 kind.InvalidUnicodeEscapeChar)
-    × Refused c_string_switches "\\u{d800}" (over 0 8 kind.InvalidUnicodeEscapeChar)
+    Refused char_switches "\\u{110000}'" (spanning 0 10 kind.InvalidUnicodeEscapeChar)
+    × Refused char_switches "\\u{d800}'" (spanning 0 8 kind.InvalidUnicodeEscapeChar)
+    × Refused char_switches "\\u{DFFF}'" (spanning 0 8 kind.InvalidUnicodeEscapeChar)
+    × Refused c_string_switches "\\u{d800}" (spanning 0 8 kind.InvalidUnicodeEscapeChar)
 unfolding computing
 rows-invalid_unicode_escape_char = (refl, refl, refl, refl)
 
 rows-unknown_escape :
     -- the span may end inside a character
-    Refused char_switches "\\é'" (over 0 2 kind.UnknownEscape)
-    × Refused byte_string_switches "\\\r" (over 0 2 kind.UnknownEscape)
-    × Refused string_switches "\\a" (over 0 2 kind.UnknownEscape)
-    × Refused string_switches "\\\n" (over 0 2 kind.UnknownEscape)
-    × Refused string_switches "\\`" (over 0 2 kind.UnknownEscape)
+    Refused char_switches "\\é'" (spanning 0 2 kind.UnknownEscape)
+    × Refused byte_string_switches "\\\r" (spanning 0 2 kind.UnknownEscape)
+    × Refused string_switches "\\a" (spanning 0 2 kind.UnknownEscape)
+    × Refused string_switches "\\\n" (spanning 0 2 kind.UnknownEscape)
+    × Refused string_switches "\\`" (spanning 0 2 kind.UnknownEscape)
 unfolding computing
 rows-unknown_escape = (refl, refl, refl, refl, refl)

@@ -5,7 +5,7 @@ use Rattle.std.proofs.lemmas.Bool.{false≢true}
 use Rattle.litrs_base.specs.declared.err.ParseErrorKind.TheVariants as kind
 use Rattle.litrs_base.specs.declared.float.FloatType.TheVariants as type
 use Rattle.litrs_base.specs.FloatTypes.{float_type_name}
-use Rattle.litrs_base.specs.Refusal.{Refusal, plain, over, at}
+use Rattle.litrs_base.specs.Refusal.{Refusal, without_span, spanning, at_byte}
 use Rattle.litrs_grammar.specs.Float.{FloatParts, IsFloatOf, number_part, is_decimal_literal, is_float_form, is_exponent, float_cut, float_refusal}
 use Rattle.litrs_grammar.proofs.Computing.{computing, float}
 
@@ -120,49 +120,49 @@ accepted = (refl, refl, refl, refl, refl, refl, refl)
 
 -- Refused texts, by the rows of the table
 
-rows-empty : Refused "" (plain kind.Empty)
+rows-empty : Refused "" (without_span kind.Empty)
 unfolding computing
 rows-empty = refl
 
 rows-does_not_start_with_digit :
-    Refused "_3" (at 0 kind.DoesNotStartWithDigit)
-    × Refused ".5" (at 0 kind.DoesNotStartWithDigit)
-    × Refused "f.5" (at 0 kind.DoesNotStartWithDigit)
+    Refused "_3" (at_byte 0 kind.DoesNotStartWithDigit)
+    × Refused ".5" (at_byte 0 kind.DoesNotStartWithDigit)
+    × Refused "f.5" (at_byte 0 kind.DoesNotStartWithDigit)
 unfolding computing
 rows-does_not_start_with_digit = (refl, refl, refl)
 
 rows-unexpected_char :
-    Refused "1.e4" (at 2 kind.UnexpectedChar)
-    × Refused "12345._987" (at 6 kind.UnexpectedChar)
-    × Refused "3.7+2" (over 3 5 kind.UnexpectedChar)
-    × Refused "55e3.1" (over 4 6 kind.UnexpectedChar)
-    × Refused "1.e" (at 2 kind.UnexpectedChar)
-    × Refused "1.x" (at 2 kind.UnexpectedChar)
-    × Refused "1..2" (at 2 kind.UnexpectedChar)
+    Refused "1.e4" (at_byte 2 kind.UnexpectedChar)
+    × Refused "12345._987" (at_byte 6 kind.UnexpectedChar)
+    × Refused "3.7+2" (spanning 3 5 kind.UnexpectedChar)
+    × Refused "55e3.1" (spanning 4 6 kind.UnexpectedChar)
+    × Refused "1.e" (at_byte 2 kind.UnexpectedChar)
+    × Refused "1.x" (at_byte 2 kind.UnexpectedChar)
+    × Refused "1..2" (at_byte 2 kind.UnexpectedChar)
 unfolding computing
 rows-unexpected_char = (refl, refl, refl, refl, refl, refl, refl)
 
 rows-no_exponent_digits :
-    Refused "0eel" (over 1 2 kind.NoExponentDigits)
-    × Refused "23E___f32" (over 2 6 kind.NoExponentDigits)
-    × Refused "3.7e-+3" (over 3 5 kind.NoExponentDigits)
-    × Refused "1e+" (over 1 3 kind.NoExponentDigits)
-    × Refused "1.5e_ " (over 3 5 kind.NoExponentDigits)
-    × Refused "1.0_e-" (over 4 6 kind.NoExponentDigits)
+    Refused "0eel" (spanning 1 2 kind.NoExponentDigits)
+    × Refused "23E___f32" (spanning 2 6 kind.NoExponentDigits)
+    × Refused "3.7e-+3" (spanning 3 5 kind.NoExponentDigits)
+    × Refused "1e+" (spanning 1 3 kind.NoExponentDigits)
+    × Refused "1.5e_ " (spanning 3 5 kind.NoExponentDigits)
+    × Refused "1.0_e-" (spanning 4 6 kind.NoExponentDigits)
 unfolding computing
 rows-no_exponent_digits = (refl, refl, refl, refl, refl, refl)
 
 rows-invalid_suffix :
-    Refused "0x44.5" (over 1 6 kind.InvalidSuffix)
-    × Refused "1.5🦊" (over 3 7 kind.InvalidSuffix)
-    × Refused "1x." (over 1 3 kind.InvalidSuffix)
-    × Refused "1e5é " (over 3 6 kind.InvalidSuffix)
+    Refused "0x44.5" (spanning 1 6 kind.InvalidSuffix)
+    × Refused "1.5🦊" (spanning 3 7 kind.InvalidSuffix)
+    × Refused "1x." (spanning 1 3 kind.InvalidSuffix)
+    × Refused "1e5é " (spanning 3 6 kind.InvalidSuffix)
 unfolding computing
 rows-invalid_suffix = (refl, refl, refl, refl)
 
 rows-unexpected_integer_lit :
-    Refused "35_389" (plain kind.UnexpectedIntegerLit)
-    × Refused "55f32" (plain kind.UnexpectedIntegerLit)
+    Refused "35_389" (without_span kind.UnexpectedIntegerLit)
+    × Refused "55f32" (without_span kind.UnexpectedIntegerLit)
 unfolding computing
 rows-unexpected_integer_lit = (refl, refl)
 

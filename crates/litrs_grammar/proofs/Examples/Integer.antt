@@ -7,7 +7,7 @@ use Rattle.litrs_base.specs.declared.integer.IntegerBase.{IntegerBase}
 use Rattle.litrs_base.specs.declared.integer.IntegerBase.TheVariants as base
 use Rattle.litrs_base.specs.declared.integer.IntegerType.{IntegerType}
 use Rattle.litrs_base.specs.declared.integer.IntegerType.TheVariants as type
-use Rattle.litrs_base.specs.Refusal.{Refusal, plain, at, over}
+use Rattle.litrs_base.specs.Refusal.{Refusal, without_span, at_byte, spanning}
 use Rattle.litrs_base.specs.Numeral.{numeral, greatest_of}
 use Rattle.litrs_base.specs.IntegerTypes.{type_name}
 use Rattle.litrs_base.specs.Base.{is_digit, is_digit_or_underscore}
@@ -194,57 +194,57 @@ accepted = (refl, refl, refl, refl, refl, refl, refl, refl, refl)
 
 -- Refused texts, by the rows of the table
 
-rows-empty : Refused "" (plain kind.Empty)
+rows-empty : Refused "" (without_span kind.Empty)
 unfolding computing
 rows-empty = refl
 
 rows-does_not_start_with_digit :
-    Refused "true" (at 0 kind.DoesNotStartWithDigit)
-    × Refused "a1" (at 0 kind.DoesNotStartWithDigit)
-    × Refused "_3" (at 0 kind.DoesNotStartWithDigit)
+    Refused "true" (at_byte 0 kind.DoesNotStartWithDigit)
+    × Refused "a1" (at_byte 0 kind.DoesNotStartWithDigit)
+    × Refused "_3" (at_byte 0 kind.DoesNotStartWithDigit)
 unfolding computing
 rows-does_not_start_with_digit = (refl, refl, refl)
 
 rows-invalid_digit :
-    Refused "0b12" (at 3 kind.InvalidDigit)
-    × Refused "0o8" (at 2 kind.InvalidDigit)
-    × Refused "0b2" (at 2 kind.InvalidDigit)
+    Refused "0b12" (at_byte 3 kind.InvalidDigit)
+    × Refused "0o8" (at_byte 2 kind.InvalidDigit)
+    × Refused "0b2" (at_byte 2 kind.InvalidDigit)
 unfolding computing
 rows-invalid_digit = (refl, refl, refl)
 
 rows-unexpected_char :
-    Refused "0 " (over 1 2 kind.UnexpectedChar)
-    × Refused "1." (over 1 2 kind.UnexpectedChar)
-    × Refused "0b/" (over 2 3 kind.UnexpectedChar)
-    × Refused "0o/" (over 2 3 kind.UnexpectedChar)
+    Refused "0 " (spanning 1 2 kind.UnexpectedChar)
+    × Refused "1." (spanning 1 2 kind.UnexpectedChar)
+    × Refused "0b/" (spanning 2 3 kind.UnexpectedChar)
+    × Refused "0o/" (spanning 2 3 kind.UnexpectedChar)
     -- the last ASCII character
-    × Refused "1\u{7f}" (over 1 2 kind.UnexpectedChar)
+    × Refused "1\u{7f}" (spanning 1 2 kind.UnexpectedChar)
 unfolding computing
 rows-unexpected_char = (refl, refl, refl, refl, refl)
 
 rows-invalid_suffix :
-    Refused "1🦊" (over 1 5 kind.InvalidSuffix)
-    × Refused "1e+x" (over 1 4 kind.InvalidSuffix)
-    × Refused "1a " (over 1 3 kind.InvalidSuffix)
-    × Refused "0xg " (over 2 4 kind.InvalidSuffix)
-    × Refused "1\u{80}" (over 1 3 kind.InvalidSuffix)
+    Refused "1🦊" (spanning 1 5 kind.InvalidSuffix)
+    × Refused "1e+x" (spanning 1 4 kind.InvalidSuffix)
+    × Refused "1a " (spanning 1 3 kind.InvalidSuffix)
+    × Refused "0xg " (spanning 2 4 kind.InvalidSuffix)
+    × Refused "1\u{80}" (spanning 1 3 kind.InvalidSuffix)
 unfolding computing
 rows-invalid_suffix = (refl, refl, refl, refl, refl)
 
 rows-integer_suffix_starting_with_e :
-    Refused "1e3" (at 1 kind.IntegerSuffixStartingWithE)
+    Refused "1e3" (at_byte 1 kind.IntegerSuffixStartingWithE)
     -- the prefix counts in the place
-    × Refused "0b1e3" (at 3 kind.IntegerSuffixStartingWithE)
-    × Refused "0be" (at 2 kind.IntegerSuffixStartingWithE)
-    × Refused "1E" (at 1 kind.IntegerSuffixStartingWithE)
+    × Refused "0b1e3" (at_byte 3 kind.IntegerSuffixStartingWithE)
+    × Refused "0be" (at_byte 2 kind.IntegerSuffixStartingWithE)
+    × Refused "1E" (at_byte 1 kind.IntegerSuffixStartingWithE)
 unfolding computing
 rows-integer_suffix_starting_with_e = (refl, refl, refl, refl)
 
 rows-no_digits :
-    Refused "0x" (over 2 2 kind.NoDigits)
-    × Refused "0xg" (over 2 2 kind.NoDigits)
-    × Refused "0o" (over 2 2 kind.NoDigits)
-    × Refused "0x_" (over 2 3 kind.NoDigits)
+    Refused "0x" (spanning 2 2 kind.NoDigits)
+    × Refused "0xg" (spanning 2 2 kind.NoDigits)
+    × Refused "0o" (spanning 2 2 kind.NoDigits)
+    × Refused "0x_" (spanning 2 3 kind.NoDigits)
 unfolding computing
 rows-no_digits = (refl, refl, refl, refl)
 

@@ -6,7 +6,7 @@ use Rattle.std.specs.Fmt.{decimal}
 use Rattle.litrs_base.specs.declared.err.ParseErrorKind.{ParseErrorKind}
 use Rattle.litrs_base.specs.declared.err.ParseErrorKind.TheVariants as kind
 use Rattle.litrs_base.specs.Kind.{kind_text}
-use Rattle.litrs_base.specs.Refusal.{plain, over, at, moved, refusal_text}
+use Rattle.litrs_base.specs.Refusal.{without_span, spanning, at_byte, shifted, refusal_text}
 use Rattle.litrs_base.specs.Finality.{is_final, is_open}
 use Rattle.litrs_grammar.proofs.Computing.{computing}
 
@@ -122,18 +122,18 @@ other_kinds = (
 -- Spans
 
 spans :
-    ((over 1 2 kind.Empty).span ≡ Some (record { start = 1; end = 2 }))
-    × ((plain kind.Empty).span ≡ None)
-    × ((at 3 kind.Empty).span ≡ Some (record { start = 3; end = 4 }))
-    × (moved 5 (over 1 3 kind.Empty) ≡ over 6 8 kind.Empty)
-    × (moved 5 (plain kind.InvalidDigit) ≡ plain kind.InvalidDigit)
+    ((spanning 1 2 kind.Empty).span ≡ Some (record { start = 1; end = 2 }))
+    × ((without_span kind.Empty).span ≡ None)
+    × ((at_byte 3 kind.Empty).span ≡ Some (record { start = 3; end = 4 }))
+    × (shifted 5 (spanning 1 3 kind.Empty) ≡ spanning 6 8 kind.Empty)
+    × (shifted 5 (without_span kind.InvalidDigit) ≡ without_span kind.InvalidDigit)
 unfolding computing
 spans = (refl, refl, refl, refl, refl)
 
 -- What is printed
 
 printed :
-    (refusal_text (over 1 11 kind.InvalidUnicodeEscapeChar) ≡ codes "value specified in `\\u{...}` escape is not a valid char (at " ++ decimal 1 ++ codes ".." ++ decimal 11 ++ codes ")")
-    × (refusal_text (plain kind.Empty) ≡ codes "input is empty")
+    (refusal_text (spanning 1 11 kind.InvalidUnicodeEscapeChar) ≡ codes "value specified in `\\u{...}` escape is not a valid char (at " ++ decimal 1 ++ codes ".." ++ decimal 11 ++ codes ")")
+    × (refusal_text (without_span kind.Empty) ≡ codes "input is empty")
 unfolding computing
 printed = (refl, refl)

@@ -5,7 +5,7 @@ use Rattle.std.specs.Prelude.{◌≡◌, true, false, ℕ, List, [], ◌∷◌, 
 use Rattle.std.proofs.lemmas.Bool.{false≢true}
 use Rattle.litrs_base.specs.declared.err.ParseErrorKind.TheVariants as kind
 use Rattle.litrs_base.specs.declared.integer.IntegerBase.TheVariants as base
-use Rattle.litrs_base.specs.Refusal.{Refusal, plain, at, over}
+use Rattle.litrs_base.specs.Refusal.{Refusal, without_span, at_byte, spanning}
 use Rattle.litrs_base.specs.Finality.{is_final, is_open}
 use Rattle.litrs_base.specs.Text.{IsText}
 use Rattle.litrs_grammar.specs.Escape.{simple_escape, unicode_escape}
@@ -109,116 +109,116 @@ bools = (refl, refl, refl, refl)
 
 -- Refused by `Literal::parse`, by the rows of the dispatch
 
-any-empty : Refused literal_parse "" (plain kind.Empty)
+any-empty : Refused literal_parse "" (without_span kind.Empty)
 unfolding computing
 any-empty = refl
 
 any-float :
-    Refused literal_parse "1.e4" (at 2 kind.UnexpectedChar)
-    × Refused literal_parse "0eel" (over 1 2 kind.NoExponentDigits)
-    × Refused literal_parse "98e" (over 2 3 kind.NoExponentDigits)
-    × Refused literal_parse "23E___f32" (over 2 6 kind.NoExponentDigits)
-    × Refused literal_parse "55e3.1" (over 4 6 kind.UnexpectedChar)
-    × Refused literal_parse "12345._987" (at 6 kind.UnexpectedChar)
+    Refused literal_parse "1.e4" (at_byte 2 kind.UnexpectedChar)
+    × Refused literal_parse "0eel" (spanning 1 2 kind.NoExponentDigits)
+    × Refused literal_parse "98e" (spanning 2 3 kind.NoExponentDigits)
+    × Refused literal_parse "23E___f32" (spanning 2 6 kind.NoExponentDigits)
+    × Refused literal_parse "55e3.1" (spanning 4 6 kind.UnexpectedChar)
+    × Refused literal_parse "12345._987" (at_byte 6 kind.UnexpectedChar)
 unfolding computing
 any-float = (refl, refl, refl, refl, refl, refl)
 
 any-integer :
-    Refused literal_parse "0b1e3" (at 3 kind.IntegerSuffixStartingWithE)
-    × Refused literal_parse "0xg" (over 2 2 kind.NoDigits)
+    Refused literal_parse "0b1e3" (at_byte 3 kind.IntegerSuffixStartingWithE)
+    × Refused literal_parse "0xg" (spanning 2 2 kind.NoDigits)
     -- the digits before the period are no decimal ones
-    × Refused literal_parse "0x44.5" (over 4 6 kind.UnexpectedChar)
+    × Refused literal_parse "0x44.5" (spanning 4 6 kind.UnexpectedChar)
 unfolding computing
 any-integer = (refl, refl, refl)
 
 any-char :
-    Refused literal_parse "'''" (at 1 kind.UnescapedSingleQuote)
-    × Refused literal_parse "'" (plain kind.UnterminatedCharLiteral)
+    Refused literal_parse "'''" (at_byte 1 kind.UnescapedSingleQuote)
+    × Refused literal_parse "'" (without_span kind.UnterminatedCharLiteral)
 unfolding computing
 any-char = (refl, refl)
 
 any-string :
-    Refused literal_parse "\"ab" (plain kind.UnterminatedString)
-    × Refused literal_parse "r##\"a\"#" (plain kind.UnterminatedRawString)
-    × Refused literal_parse "r" (plain kind.InvalidLiteral)
+    Refused literal_parse "\"ab" (without_span kind.UnterminatedString)
+    × Refused literal_parse "r##\"a\"#" (without_span kind.UnterminatedRawString)
+    × Refused literal_parse "r" (without_span kind.InvalidLiteral)
 unfolding computing
 any-string = (
-  refused_after (plain_item 97 ∷ plain_item 98 ∷ []) ([]) (plain kind.UnterminatedString) refl refl refl refl,
+  refused_after (plain_item 97 ∷ plain_item 98 ∷ []) ([]) (without_span kind.UnterminatedString) refl refl refl refl,
   refl,
   refl,
 )
 
 any-byte :
-    Refused literal_parse "b''" (plain kind.EmptyByteLiteral)
-    × Refused literal_parse "b'" (plain kind.UnterminatedByteLiteral)
+    Refused literal_parse "b''" (without_span kind.EmptyByteLiteral)
+    × Refused literal_parse "b'" (without_span kind.UnterminatedByteLiteral)
 unfolding computing
 any-byte = (refl, refl)
 
 any-byte_string :
-    Refused literal_parse "b\"\né" (at 3 kind.NonAsciiInByteLiteral)
-    × IsRefusal literal_parse (codes "br" ++ (hashes 256 ++ codes "\"")) (over 2 258 kind.TooManyHashes)
-    × Refused literal_parse "br" (plain kind.InvalidLiteral)
+    Refused literal_parse "b\"\né" (at_byte 3 kind.NonAsciiInByteLiteral)
+    × IsRefusal literal_parse (codes "br" ++ (hashes 256 ++ codes "\"")) (spanning 2 258 kind.TooManyHashes)
+    × Refused literal_parse "br" (without_span kind.InvalidLiteral)
 unfolding computing
 any-byte_string = (
-  refused_after (plain_item 10 ∷ []) (codes "é") (at 0 kind.NonAsciiInByteLiteral) refl refl refl refl,
+  refused_after (plain_item 10 ∷ []) (codes "é") (at_byte 0 kind.NonAsciiInByteLiteral) refl refl refl refl,
   refl,
   refl,
 )
 
 any-c_string :
-    Refused literal_parse "c\"\0\"" (at 2 kind.NulByte)
-    × Refused literal_parse "cr#\"foo \"# bar\"#" (at 10 kind.UnexpectedChar)
-    × Refused literal_parse "cat" (plain kind.InvalidCStringLiteralStart)
+    Refused literal_parse "c\"\0\"" (at_byte 2 kind.NulByte)
+    × Refused literal_parse "cr#\"foo \"# bar\"#" (at_byte 10 kind.UnexpectedChar)
+    × Refused literal_parse "cat" (without_span kind.InvalidCStringLiteralStart)
 unfolding computing
 any-c_string = (
-  refused_after ([]) (codes "\0\"") (at 0 kind.NulByte) refl refl refl refl,
+  refused_after ([]) (codes "\0\"") (at_byte 0 kind.NulByte) refl refl refl refl,
   refl,
   refl,
 )
 
 any-other :
-    Refused literal_parse "b" (plain kind.InvalidLiteral)
-    × Refused literal_parse "foo" (plain kind.InvalidLiteral)
-    × Refused literal_parse "fals" (plain kind.InvalidLiteral)
-    × Refused literal_parse "False" (plain kind.InvalidLiteral)
-    × Refused literal_parse ".5" (plain kind.InvalidLiteral)
-    × Refused literal_parse "_3" (plain kind.InvalidLiteral)
-    × Refused literal_parse " 0" (plain kind.InvalidLiteral)
-    × Refused literal_parse "a" (plain kind.InvalidLiteral)
-    × Refused literal_parse "truer" (plain kind.InvalidLiteral)
-    × Refused literal_parse "b`" (plain kind.InvalidLiteral)
+    Refused literal_parse "b" (without_span kind.InvalidLiteral)
+    × Refused literal_parse "foo" (without_span kind.InvalidLiteral)
+    × Refused literal_parse "fals" (without_span kind.InvalidLiteral)
+    × Refused literal_parse "False" (without_span kind.InvalidLiteral)
+    × Refused literal_parse ".5" (without_span kind.InvalidLiteral)
+    × Refused literal_parse "_3" (without_span kind.InvalidLiteral)
+    × Refused literal_parse " 0" (without_span kind.InvalidLiteral)
+    × Refused literal_parse "a" (without_span kind.InvalidLiteral)
+    × Refused literal_parse "truer" (without_span kind.InvalidLiteral)
+    × Refused literal_parse "b`" (without_span kind.InvalidLiteral)
 unfolding computing
 any-other = (refl, refl, refl, refl, refl, refl, refl, refl, refl, refl)
 
 -- Refused by the parse of one kind, by how the text starts
 
 one-number :
-    Refused (kind_parse integer_literal) "3.14" (over 1 4 kind.UnexpectedChar)
-    × Refused (kind_parse integer_literal) "x" (at 0 kind.DoesNotStartWithDigit)
-    × Refused (kind_parse float_literal) "3" (plain kind.UnexpectedIntegerLit)
-    × Refused (kind_parse float_literal) "0x44.5" (over 1 6 kind.InvalidSuffix)
+    Refused (kind_parse integer_literal) "3.14" (spanning 1 4 kind.UnexpectedChar)
+    × Refused (kind_parse integer_literal) "x" (at_byte 0 kind.DoesNotStartWithDigit)
+    × Refused (kind_parse float_literal) "3" (without_span kind.UnexpectedIntegerLit)
+    × Refused (kind_parse float_literal) "0x44.5" (spanning 1 6 kind.InvalidSuffix)
 unfolding computing
 one-number = (refl, refl, refl, refl)
 
 one-bool :
-    Refused (kind_parse bool_literal) "" (plain kind.InvalidLiteral)
-    × Refused (kind_parse bool_literal) "truee" (plain kind.InvalidLiteral)
+    Refused (kind_parse bool_literal) "" (without_span kind.InvalidLiteral)
+    × Refused (kind_parse bool_literal) "truee" (without_span kind.InvalidLiteral)
 unfolding computing
 one-bool = (refl, refl)
 
 one-char :
-    Refused (kind_parse char_literal) "x" (at 0 kind.DoesNotStartWithQuote)
-    × Refused (kind_parse byte_literal) "b" (plain kind.InvalidByteLiteralStart)
+    Refused (kind_parse char_literal) "x" (at_byte 0 kind.DoesNotStartWithQuote)
+    × Refused (kind_parse byte_literal) "b" (without_span kind.InvalidByteLiteralStart)
 unfolding computing
 one-char = (refl, refl)
 
 one-string :
-    Refused (kind_parse string_literal) "" (plain kind.Empty)
-    × Refused (kind_parse string_literal) "x" (at 0 kind.InvalidStringLiteralStart)
-    × Refused (kind_parse string_literal) "b\"\"" (at 0 kind.InvalidStringLiteralStart)
-    × Refused (kind_parse string_literal) "'" (at 0 kind.InvalidStringLiteralStart)
-    × Refused (kind_parse string_literal) "r#" (plain kind.InvalidLiteral)
-    × Refused (kind_parse string_literal) "\"a" (plain kind.UnterminatedString)
+    Refused (kind_parse string_literal) "" (without_span kind.Empty)
+    × Refused (kind_parse string_literal) "x" (at_byte 0 kind.InvalidStringLiteralStart)
+    × Refused (kind_parse string_literal) "b\"\"" (at_byte 0 kind.InvalidStringLiteralStart)
+    × Refused (kind_parse string_literal) "'" (at_byte 0 kind.InvalidStringLiteralStart)
+    × Refused (kind_parse string_literal) "r#" (without_span kind.InvalidLiteral)
+    × Refused (kind_parse string_literal) "\"a" (without_span kind.UnterminatedString)
 unfolding computing
 one-string = (
   refl,
@@ -226,37 +226,37 @@ one-string = (
   refl,
   refl,
   refl,
-  refused_after (plain_item 97 ∷ []) ([]) (plain kind.UnterminatedString) refl refl refl refl,
+  refused_after (plain_item 97 ∷ []) ([]) (without_span kind.UnterminatedString) refl refl refl refl,
 )
 
 one-byte_string :
-    Refused (kind_parse byte_string_literal) "" (plain kind.Empty)
-    × Refused (kind_parse byte_string_literal) "b" (plain kind.InvalidByteStringLiteralStart)
-    × Refused (kind_parse byte_string_literal) "\"" (plain kind.InvalidByteStringLiteralStart)
-    × Refused (kind_parse byte_string_literal) "br#" (plain kind.InvalidLiteral)
-    × Refused (kind_parse byte_string_literal) "b\"é" (at 2 kind.NonAsciiInByteLiteral)
+    Refused (kind_parse byte_string_literal) "" (without_span kind.Empty)
+    × Refused (kind_parse byte_string_literal) "b" (without_span kind.InvalidByteStringLiteralStart)
+    × Refused (kind_parse byte_string_literal) "\"" (without_span kind.InvalidByteStringLiteralStart)
+    × Refused (kind_parse byte_string_literal) "br#" (without_span kind.InvalidLiteral)
+    × Refused (kind_parse byte_string_literal) "b\"é" (at_byte 2 kind.NonAsciiInByteLiteral)
 unfolding computing
 one-byte_string = (
   refl,
   refl,
   refl,
   refl,
-  refused_after ([]) (codes "é") (at 0 kind.NonAsciiInByteLiteral) refl refl refl refl,
+  refused_after ([]) (codes "é") (at_byte 0 kind.NonAsciiInByteLiteral) refl refl refl refl,
 )
 
 one-c_string :
-    Refused (kind_parse c_string_literal) "" (plain kind.Empty)
-    × Refused (kind_parse c_string_literal) "c" (plain kind.InvalidCStringLiteralStart)
-    × Refused (kind_parse c_string_literal) "\"\"" (plain kind.InvalidCStringLiteralStart)
-    × Refused (kind_parse c_string_literal) "cr#" (plain kind.InvalidLiteral)
-    × Refused (kind_parse c_string_literal) "c\"\0" (at 2 kind.NulByte)
+    Refused (kind_parse c_string_literal) "" (without_span kind.Empty)
+    × Refused (kind_parse c_string_literal) "c" (without_span kind.InvalidCStringLiteralStart)
+    × Refused (kind_parse c_string_literal) "\"\"" (without_span kind.InvalidCStringLiteralStart)
+    × Refused (kind_parse c_string_literal) "cr#" (without_span kind.InvalidLiteral)
+    × Refused (kind_parse c_string_literal) "c\"\0" (at_byte 2 kind.NulByte)
 unfolding computing
 one-c_string = (
   refl,
   refl,
   refl,
   refl,
-  refused_after ([]) (codes "\0") (at 0 kind.NulByte) refl refl refl refl,
+  refused_after ([]) (codes "\0") (at_byte 0 kind.NulByte) refl refl refl refl,
 )
 
 -- Texts that begin literals
@@ -282,7 +282,7 @@ beginnings :
 unfolding computing
 beginnings = (
   (codes "\"\"", a_c_string (quoted_parts (record { items = []; suffix = [] })), refl, quoted refl refl refl),
-  (closing_of (codes "r##\"a\"#") (plain kind.UnterminatedRawString), raw_string, refl, (refl, raw refl refl refl refl refl)),
+  (closing_of (codes "r##\"a\"#") (without_span kind.UnterminatedRawString), raw_string, refl, (refl, raw refl refl refl refl refl)),
   (codes "true", a_bool true, refl, refl),
   (codes "e", a_bool true, refl, refl),
   (codes "1", an_integer (record { base = base.Hexadecimal; main = codes "1"; suffix = codes "" }), refl, prefixed refl refl refl refl refl refl (λ e. cc)),
@@ -318,12 +318,12 @@ unfolding computing
 finality = (refl, refl, refl, refl, refl, refl, refl, refl)
 
 closings :
-    (closing_of (codes "b\"ab") (plain kind.UnterminatedString) ≡ codes "\"")
-    × (closing_of (codes "r##\"a\"#") (plain kind.UnterminatedRawString) ≡ codes "\"##")
-    × (closing_of (codes "cr\"a") (plain kind.UnterminatedRawString) ≡ codes "\"")
-    × (closing_of (codes "br##\"a") (plain kind.UnterminatedRawString) ≡ codes "\"##")
-    × (closing_of (codes "cr#\"a") (plain kind.UnterminatedRawString) ≡ codes "\"#")
-    × (closing_of (codes "'a") (plain kind.UnterminatedCharLiteral) ≡ [])
+    (closing_of (codes "b\"ab") (without_span kind.UnterminatedString) ≡ codes "\"")
+    × (closing_of (codes "r##\"a\"#") (without_span kind.UnterminatedRawString) ≡ codes "\"##")
+    × (closing_of (codes "cr\"a") (without_span kind.UnterminatedRawString) ≡ codes "\"")
+    × (closing_of (codes "br##\"a") (without_span kind.UnterminatedRawString) ≡ codes "\"##")
+    × (closing_of (codes "cr#\"a") (without_span kind.UnterminatedRawString) ≡ codes "\"#")
+    × (closing_of (codes "'a") (without_span kind.UnterminatedCharLiteral) ≡ [])
 unfolding computing
 closings = (refl, refl, refl, refl, refl, refl)
 

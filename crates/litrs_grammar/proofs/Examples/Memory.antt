@@ -4,7 +4,7 @@ use Rattle.std.proofs.Common.{sym, ◌∙◌}
 use Rattle.std.proofs.lemmas.Bool.{false≢true}
 use Rattle.litrs_base.specs.declared.err.ParseError.{ParseError}
 use Rattle.litrs_base.specs.declared.err.ParseErrorKind.TheVariants as kind
-use Rattle.litrs_base.specs.Refusal.{plain, at, over, refusal_of}
+use Rattle.litrs_base.specs.Refusal.{without_span, at_byte, spanning, refusal_of}
 use Rattle.litrs_grammar.specs.Allocation.{may_allocate}
 use Rattle.litrs_grammar.specs.Escape.{simple_escape}
 use Rattle.litrs_grammar.specs.Literal.{a_string, quoted_parts, literal_parse}
@@ -16,7 +16,7 @@ use Rattle.litrs_grammar.proofs.Computing.{computing, quoted, refused_after}
 use Rattle.litrs_grammar.proofs.Laws.Literal.{literals_are_not_refused}
 
 -- the value of a string with an escape is allocated
-with_escape : (e : ParseError) → refusal_of e ≡ plain kind.OutOfMemory → IsOutOfMemory literal_parse (codes "\"\\n\"") e
+with_escape : (e : ParseError) → refusal_of e ≡ without_span kind.OutOfMemory → IsOutOfMemory literal_parse (codes "\"\\n\"") e
 unfolding computing
 with_escape e is = record {
   derivation = a_string (quoted_parts (record { items = escape_item (simple_escape 110) ∷ []; suffix = [] }));
@@ -33,10 +33,10 @@ without_backslash e failed =
     absurd (false≢true (sym none ∙ allocation_is_by_parts (codes "\"ab\"") failed.derivation failed.literal ∙ failed.allocated))
 
 -- a string that is not finished has no value
-unfinished_refusal : IsRefusal literal_parse (codes "\"a\\n") (over 2 3 kind.UnterminatedEscape)
+unfinished_refusal : IsRefusal literal_parse (codes "\"a\\n") (spanning 2 3 kind.UnterminatedEscape)
 unfolding computing
-unfinished_refusal = refused_after (plain_item 97 ∷ []) (codes "\\n") (at 0 kind.UnterminatedEscape) refl refl refl refl
+unfinished_refusal = refused_after (plain_item 97 ∷ []) (codes "\\n") (at_byte 0 kind.UnterminatedEscape) refl refl refl refl
 
 unfinished : (e : ParseError) → ¬ IsOutOfMemory literal_parse (codes "\"a\\n") e
 unfinished e failed =
-    literals_are_not_refused literal_parse (codes "\"a\\n") failed.derivation (over 2 3 kind.UnterminatedEscape) failed.literal unfinished_refusal
+    literals_are_not_refused literal_parse (codes "\"a\\n") failed.derivation (spanning 2 3 kind.UnterminatedEscape) failed.literal unfinished_refusal

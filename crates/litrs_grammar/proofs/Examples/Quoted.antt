@@ -3,14 +3,14 @@
 use Prim.Native.String.{String}
 use Rattle.std.specs.Prelude.{◌≡◌, ℕ, List, [], ◌∷◌, ◌++◌, map, Some, None, codes, refl, true, false, encode_utf8_all}
 use Rattle.litrs_base.specs.declared.err.ParseErrorKind.TheVariants as kind
-use Rattle.litrs_base.specs.Refusal.{Refusal, plain, at, over}
+use Rattle.litrs_base.specs.Refusal.{Refusal, without_span, at_byte, spanning}
 use Rattle.litrs_base.specs.Characters.{is_blank}
 use Rattle.litrs_base.specs.declared.quotes.StringKind.{StringKind}
 use Rattle.litrs_base.specs.declared.quotes.StringKind.TheVariants.{String as string_kind, ByteString as byte_string_kind, CString as c_string_kind}
 use Rattle.litrs_base.specs.declared.quotes.Switches.{Switches}
 use Rattle.litrs_base.specs.Quotes.{string_switches, byte_string_switches, c_string_switches}
 use Rattle.litrs_grammar.specs.Escape.{simple_escape, hex_escape, unicode_escape}
-use Rattle.litrs_grammar.specs.Quoted.{Item, plain_item, escape_item, continuation, body_value, is_body, IsQuotedLiteral, IsQuotedLiteralRefusal, rest_refusal, stand_before, is_plain}
+use Rattle.litrs_grammar.specs.Quoted.{Item, plain_item, escape_item, continuation, body_value, is_body, IsQuotedLiteral, IsQuotedLiteralRefusal, rest_refusal, is_item_list, is_plain}
 use Rattle.litrs_grammar.proofs.Computing.{computing, quoted, refused_after}
 
 -- characters that stand for themselves
@@ -139,19 +139,19 @@ accepted = (refl, refl, refl, refl, refl)
 -- Items that do not stand before a rest
 
 not_before :
-    (stand_before string_switches [] (continuation [] ∷ []) ≡ false)
-    × (stand_before string_switches [] (escape_item (simple_escape 110) ∷ []) ≡ false)
-    × (stand_before string_switches (codes " a") (continuation [] ∷ []) ≡ false)
-    × (stand_before string_switches (codes "a") (plain_item 13 ∷ []) ≡ false)
-    × (stand_before string_switches (codes "a") (plain_item 97 ∷ plain_item 13 ∷ []) ≡ false)
-    × (stand_before string_switches (codes "\ta") (continuation [] ∷ []) ≡ false)
+    (is_item_list string_switches [] (continuation [] ∷ []) ≡ false)
+    × (is_item_list string_switches [] (escape_item (simple_escape 110) ∷ []) ≡ false)
+    × (is_item_list string_switches (codes " a") (continuation [] ∷ []) ≡ false)
+    × (is_item_list string_switches (codes "a") (plain_item 13 ∷ []) ≡ false)
+    × (is_item_list string_switches (codes "a") (plain_item 97 ∷ plain_item 13 ∷ []) ≡ false)
+    × (is_item_list string_switches (codes "\ta") (continuation [] ∷ []) ≡ false)
 unfolding computing
 not_before = (refl, refl, refl, refl, refl, refl)
 
 before :
-    (stand_before string_switches (codes "\r") (continuation (codes " ") ∷ []) ≡ true)
-    × (stand_before string_switches (codes "a") (escape_item (simple_escape 110) ∷ []) ≡ true)
-    × (stand_before string_switches [] (plain_item 97 ∷ []) ≡ true)
+    (is_item_list string_switches (codes "\r") (continuation (codes " ") ∷ []) ≡ true)
+    × (is_item_list string_switches (codes "a") (escape_item (simple_escape 110) ∷ []) ≡ true)
+    × (is_item_list string_switches [] (plain_item 97 ∷ []) ≡ true)
 unfolding computing
 before = (refl, refl, refl)
 
@@ -159,85 +159,85 @@ before = (refl, refl, refl)
 
 rows-unterminated_string :
     -- a continuation that ends the text
-    Refused string_kind "\"foo\\\n  " (plain kind.UnterminatedString)
-    × Refused string_kind "\"ab" (plain kind.UnterminatedString)
-    × Refused string_kind "\"\\n\n" (plain kind.UnterminatedString)
-    × Refused string_kind "\"a\\\n  b" (plain kind.UnterminatedString)
-    × Refused string_kind "\"" (plain kind.UnterminatedString)
-    × Refused string_kind "\"\\\n\t\n" (plain kind.UnterminatedString)
+    Refused string_kind "\"foo\\\n  " (without_span kind.UnterminatedString)
+    × Refused string_kind "\"ab" (without_span kind.UnterminatedString)
+    × Refused string_kind "\"\\n\n" (without_span kind.UnterminatedString)
+    × Refused string_kind "\"a\\\n  b" (without_span kind.UnterminatedString)
+    × Refused string_kind "\"" (without_span kind.UnterminatedString)
+    × Refused string_kind "\"\\\n\t\n" (without_span kind.UnterminatedString)
 unfolding computing
 rows-unterminated_string = (
-  refused_after (plains "foo") (codes "\\\n  ") (plain kind.UnterminatedString) refl refl refl refl,
-  refused_after (plains "ab") [] (plain kind.UnterminatedString) refl refl refl refl,
-  refused_after (escape_item (simple_escape 110) ∷ plain_item 10 ∷ []) [] (plain kind.UnterminatedString) refl refl refl refl,
-  refused_after (plain_item 97 ∷ continuation (codes "  ") ∷ plain_item 98 ∷ []) [] (plain kind.UnterminatedString) refl refl refl refl,
-  refused_after [] [] (plain kind.UnterminatedString) refl refl refl refl,
-  refused_after [] (codes "\\\n\t\n") (plain kind.UnterminatedString) refl refl refl refl,
+  refused_after (plains "foo") (codes "\\\n  ") (without_span kind.UnterminatedString) refl refl refl refl,
+  refused_after (plains "ab") [] (without_span kind.UnterminatedString) refl refl refl refl,
+  refused_after (escape_item (simple_escape 110) ∷ plain_item 10 ∷ []) [] (without_span kind.UnterminatedString) refl refl refl refl,
+  refused_after (plain_item 97 ∷ continuation (codes "  ") ∷ plain_item 98 ∷ []) [] (without_span kind.UnterminatedString) refl refl refl refl,
+  refused_after [] [] (without_span kind.UnterminatedString) refl refl refl refl,
+  refused_after [] (codes "\\\n\t\n") (without_span kind.UnterminatedString) refl refl refl refl,
 )
 
 rows-unterminated_escape :
     -- an escape is parsed without the last character of the text
-    Refused string_kind "\"\\n" (over 1 2 kind.UnterminatedEscape)
-    × Refused string_kind "\"\\" (over 1 2 kind.UnterminatedEscape)
-    × Refused string_kind "\"\\é" (over 1 2 kind.UnterminatedEscape)
+    Refused string_kind "\"\\n" (spanning 1 2 kind.UnterminatedEscape)
+    × Refused string_kind "\"\\" (spanning 1 2 kind.UnterminatedEscape)
+    × Refused string_kind "\"\\é" (spanning 1 2 kind.UnterminatedEscape)
 unfolding computing
 rows-unterminated_escape = (
-  refused_after [] (codes "\\n") (at 0 kind.UnterminatedEscape) refl refl refl refl,
-  refused_after [] (codes "\\") (at 0 kind.UnterminatedEscape) refl refl refl refl,
-  refused_after [] (codes "\\é") (at 0 kind.UnterminatedEscape) refl refl refl refl,
+  refused_after [] (codes "\\n") (at_byte 0 kind.UnterminatedEscape) refl refl refl refl,
+  refused_after [] (codes "\\") (at_byte 0 kind.UnterminatedEscape) refl refl refl refl,
+  refused_after [] (codes "\\é") (at_byte 0 kind.UnterminatedEscape) refl refl refl refl,
 )
 
 rows-non_ascii_x_escape :
-    Refused string_kind "\"\\x80\"" (over 1 5 kind.NonAsciiXEscape)
-    × Refused string_kind "\"నక్క\\xB0\"" (over 13 17 kind.NonAsciiXEscape)
+    Refused string_kind "\"\\x80\"" (spanning 1 5 kind.NonAsciiXEscape)
+    × Refused string_kind "\"నక్క\\xB0\"" (spanning 13 17 kind.NonAsciiXEscape)
 unfolding computing
 rows-non_ascii_x_escape = (
-  refused_after [] (codes "\\x80\"") (over 0 4 kind.NonAsciiXEscape) refl refl refl refl,
-  refused_after (plains "నక్క") (codes "\\xB0\"") (over 0 4 kind.NonAsciiXEscape) refl refl refl refl,
+  refused_after [] (codes "\\x80\"") (spanning 0 4 kind.NonAsciiXEscape) refl refl refl refl,
+  refused_after (plains "నక్క") (codes "\\xB0\"") (spanning 0 4 kind.NonAsciiXEscape) refl refl refl refl,
 )
 
 rows-unterminated_unicode_escape :
-    Refused string_kind "\"\\u{41}" (over 1 6 kind.UnterminatedUnicodeEscape)
-    × Refused string_kind "\"\\u{12\"" (over 1 6 kind.UnterminatedUnicodeEscape)
-    × Refused string_kind "\"\\u{_" (over 1 4 kind.UnterminatedUnicodeEscape)
+    Refused string_kind "\"\\u{41}" (spanning 1 6 kind.UnterminatedUnicodeEscape)
+    × Refused string_kind "\"\\u{12\"" (spanning 1 6 kind.UnterminatedUnicodeEscape)
+    × Refused string_kind "\"\\u{_" (spanning 1 4 kind.UnterminatedUnicodeEscape)
 unfolding computing
 rows-unterminated_unicode_escape = (
-  refused_after [] (codes "\\u{41}") (over 0 5 kind.UnterminatedUnicodeEscape) refl refl refl refl,
-  refused_after [] (codes "\\u{12\"") (over 0 5 kind.UnterminatedUnicodeEscape) refl refl refl refl,
-  refused_after [] (codes "\\u{_") (over 0 3 kind.UnterminatedUnicodeEscape) refl refl refl refl,
+  refused_after [] (codes "\\u{41}") (spanning 0 5 kind.UnterminatedUnicodeEscape) refl refl refl refl,
+  refused_after [] (codes "\\u{12\"") (spanning 0 5 kind.UnterminatedUnicodeEscape) refl refl refl refl,
+  refused_after [] (codes "\\u{_") (spanning 0 3 kind.UnterminatedUnicodeEscape) refl refl refl refl,
 )
 
-rows-invalid_start_of_unicode_escape : Refused string_kind "\"🦊\\u{}a\"" (over 8 9 kind.InvalidStartOfUnicodeEscape)
+rows-invalid_start_of_unicode_escape : Refused string_kind "\"🦊\\u{}a\"" (spanning 8 9 kind.InvalidStartOfUnicodeEscape)
 unfolding computing
-rows-invalid_start_of_unicode_escape = refused_after (plains "🦊") (codes "\\u{}a\"") (at 3 kind.InvalidStartOfUnicodeEscape) refl refl refl refl
+rows-invalid_start_of_unicode_escape = refused_after (plains "🦊") (codes "\\u{}a\"") (at_byte 3 kind.InvalidStartOfUnicodeEscape) refl refl refl refl
 
-rows-too_many_digit_in_unicode_escape : Refused string_kind "\"నక్క\\u{1234567}🦊\"" (over 22 23 kind.TooManyDigitInUnicodeEscape)
+rows-too_many_digit_in_unicode_escape : Refused string_kind "\"నక్క\\u{1234567}🦊\"" (spanning 22 23 kind.TooManyDigitInUnicodeEscape)
 unfolding computing
-rows-too_many_digit_in_unicode_escape = refused_after (plains "నక్క") (codes "\\u{1234567}🦊\"") (at 9 kind.TooManyDigitInUnicodeEscape) refl refl refl refl
+rows-too_many_digit_in_unicode_escape = refused_after (plains "నక్క") (codes "\\u{1234567}🦊\"") (at_byte 9 kind.TooManyDigitInUnicodeEscape) refl refl refl refl
 
 rows-disallowed_nul_escape :
-    Refused c_string_kind "c\"\\u{0}🦊\"" (over 2 7 kind.DisallowedNulEscape)
-    × Refused c_string_kind "c\" \\u{00}\"" (over 3 9 kind.DisallowedNulEscape)
-    × Refused c_string_kind "c\"лиса\\u{0__}\"" (over 10 17 kind.DisallowedNulEscape)
+    Refused c_string_kind "c\"\\u{0}🦊\"" (spanning 2 7 kind.DisallowedNulEscape)
+    × Refused c_string_kind "c\" \\u{00}\"" (spanning 3 9 kind.DisallowedNulEscape)
+    × Refused c_string_kind "c\"лиса\\u{0__}\"" (spanning 10 17 kind.DisallowedNulEscape)
 unfolding computing
 rows-disallowed_nul_escape = (
-  refused_after [] (codes "\\u{0}🦊\"") (over 0 5 kind.DisallowedNulEscape) refl refl refl refl,
-  refused_after (plains " ") (codes "\\u{00}\"") (over 0 6 kind.DisallowedNulEscape) refl refl refl refl,
-  refused_after (plains "лиса") (codes "\\u{0__}\"") (over 0 7 kind.DisallowedNulEscape) refl refl refl refl,
+  refused_after [] (codes "\\u{0}🦊\"") (spanning 0 5 kind.DisallowedNulEscape) refl refl refl refl,
+  refused_after (plains " ") (codes "\\u{00}\"") (spanning 0 6 kind.DisallowedNulEscape) refl refl refl refl,
+  refused_after (plains "лиса") (codes "\\u{0__}\"") (spanning 0 7 kind.DisallowedNulEscape) refl refl refl refl,
 )
 
-rows-unknown_escape : Refused byte_string_kind "b\"a\\\r\"" (over 3 5 kind.UnknownEscape)
+rows-unknown_escape : Refused byte_string_kind "b\"a\\\r\"" (spanning 3 5 kind.UnknownEscape)
 unfolding computing
-rows-unknown_escape = refused_after (plains "a") (codes "\\\r\"") (over 0 2 kind.UnknownEscape) refl refl refl refl
+rows-unknown_escape = refused_after (plains "a") (codes "\\\r\"") (spanning 0 2 kind.UnknownEscape) refl refl refl refl
 
 rows-carriage_return :
-    Refused string_kind "\"a\r\"" (over 2 3 kind.CarriageReturn)
+    Refused string_kind "\"a\r\"" (spanning 2 3 kind.CarriageReturn)
     -- CR is no blank
-    × Refused string_kind "\"a\\\n\r\"" (at 4 kind.CarriageReturn)
+    × Refused string_kind "\"a\\\n\r\"" (at_byte 4 kind.CarriageReturn)
 unfolding computing
 rows-carriage_return = (
-  refused_after (plains "a") (codes "\r\"") (at 0 kind.CarriageReturn) refl refl refl refl,
-  refused_after (plain_item 97 ∷ continuation [] ∷ []) (codes "\r\"") (at 0 kind.CarriageReturn) refl refl refl refl,
+  refused_after (plains "a") (codes "\r\"") (at_byte 0 kind.CarriageReturn) refl refl refl refl,
+  refused_after (plain_item 97 ∷ continuation [] ∷ []) (codes "\r\"") (at_byte 0 kind.CarriageReturn) refl refl refl refl,
 )
 
 -- where NUL and characters beyond ASCII are both not allowed
@@ -245,48 +245,48 @@ abbrev strict : Switches
 strict = record { unicode = false; byte_escapes = true; allow_nul = false }
 
 rows-first_character :
-    (rest_refusal strict (13 ∷ 0 ∷ 233 ∷ []) ≡ Some (at 0 kind.CarriageReturn))
-    × (rest_refusal strict (0 ∷ 13 ∷ 233 ∷ []) ≡ Some (at 0 kind.NulByte))
-    × (rest_refusal strict (0 ∷ 233 ∷ 13 ∷ []) ≡ Some (at 0 kind.NulByte))
-    × (rest_refusal strict (233 ∷ 0 ∷ 13 ∷ []) ≡ Some (at 0 kind.NonAsciiInByteLiteral))
+    (rest_refusal strict (13 ∷ 0 ∷ 233 ∷ []) ≡ Some (at_byte 0 kind.CarriageReturn))
+    × (rest_refusal strict (0 ∷ 13 ∷ 233 ∷ []) ≡ Some (at_byte 0 kind.NulByte))
+    × (rest_refusal strict (0 ∷ 233 ∷ 13 ∷ []) ≡ Some (at_byte 0 kind.NulByte))
+    × (rest_refusal strict (233 ∷ 0 ∷ 13 ∷ []) ≡ Some (at_byte 0 kind.NonAsciiInByteLiteral))
 unfolding computing
 rows-first_character = (refl, refl, refl, refl)
 
-rows-nul_byte : Refused c_string_kind "c\"\0\"" (over 2 3 kind.NulByte)
+rows-nul_byte : Refused c_string_kind "c\"\0\"" (spanning 2 3 kind.NulByte)
 unfolding computing
-rows-nul_byte = refused_after [] (0 ∷ 34 ∷ []) (at 0 kind.NulByte) refl refl refl refl
+rows-nul_byte = refused_after [] (0 ∷ 34 ∷ []) (at_byte 0 kind.NulByte) refl refl refl refl
 
 rows-non_ascii_in_byte_literal :
-    Refused byte_string_kind "b\"\\nJosé" (over 7 8 kind.NonAsciiInByteLiteral)
-    × Refused byte_string_kind "b\"\u{80}" (at 2 kind.NonAsciiInByteLiteral)
+    Refused byte_string_kind "b\"\\nJosé" (spanning 7 8 kind.NonAsciiInByteLiteral)
+    × Refused byte_string_kind "b\"\u{80}" (at_byte 2 kind.NonAsciiInByteLiteral)
 unfolding computing
 rows-non_ascii_in_byte_literal = (
-  refused_after (escape_item (simple_escape 110) ∷ plains "Jos") (codes "é") (at 0 kind.NonAsciiInByteLiteral) refl refl refl refl,
-  refused_after [] (codes "\u{80}") (at 0 kind.NonAsciiInByteLiteral) refl refl refl refl,
+  refused_after (escape_item (simple_escape 110) ∷ plains "Jos") (codes "é") (at_byte 0 kind.NonAsciiInByteLiteral) refl refl refl refl,
+  refused_after [] (codes "\u{80}") (at_byte 0 kind.NonAsciiInByteLiteral) refl refl refl refl,
 )
 
 rows-unexpected_char :
-    Refused string_kind "\"a\" " (over 3 4 kind.UnexpectedChar)
-    × Refused c_string_kind "c\"\" " (at 3 kind.UnexpectedChar)
-    × Refused string_kind "\"a\"`x" (at 3 kind.UnexpectedChar)
+    Refused string_kind "\"a\" " (spanning 3 4 kind.UnexpectedChar)
+    × Refused c_string_kind "c\"\" " (at_byte 3 kind.UnexpectedChar)
+    × Refused string_kind "\"a\"`x" (at_byte 3 kind.UnexpectedChar)
 unfolding computing
 rows-unexpected_char = (
-  refused_after (plains "a") (codes "\" ") (at 1 kind.UnexpectedChar) refl refl refl refl,
-  refused_after [] (codes "\" ") (at 1 kind.UnexpectedChar) refl refl refl refl,
-  refused_after (plains "a") (codes "\"`x") (at 1 kind.UnexpectedChar) refl refl refl refl,
+  refused_after (plains "a") (codes "\" ") (at_byte 1 kind.UnexpectedChar) refl refl refl refl,
+  refused_after [] (codes "\" ") (at_byte 1 kind.UnexpectedChar) refl refl refl refl,
+  refused_after (plains "a") (codes "\"`x") (at_byte 1 kind.UnexpectedChar) refl refl refl refl,
 )
 
 rows-invalid_suffix :
-    Refused string_kind "\"fox\"peter\"" (over 5 6 kind.InvalidSuffix)
-    × Refused string_kind "\"a\"_" (over 3 4 kind.InvalidSuffix)
-    × Refused string_kind "\"\\n\"_" (at 4 kind.InvalidSuffix)
-    × Refused string_kind "\"a\"\u{80}" (at 3 kind.InvalidSuffix)
-    × Refused byte_string_kind "b\"\"é_ " (at 3 kind.InvalidSuffix)
+    Refused string_kind "\"fox\"peter\"" (spanning 5 6 kind.InvalidSuffix)
+    × Refused string_kind "\"a\"_" (spanning 3 4 kind.InvalidSuffix)
+    × Refused string_kind "\"\\n\"_" (at_byte 4 kind.InvalidSuffix)
+    × Refused string_kind "\"a\"\u{80}" (at_byte 3 kind.InvalidSuffix)
+    × Refused byte_string_kind "b\"\"é_ " (at_byte 3 kind.InvalidSuffix)
 unfolding computing
 rows-invalid_suffix = (
-  refused_after (plains "fox") (codes "\"peter\"") (at 1 kind.InvalidSuffix) refl refl refl refl,
-  refused_after (plains "a") (codes "\"_") (at 1 kind.InvalidSuffix) refl refl refl refl,
-  refused_after (escape_item (simple_escape 110) ∷ []) (codes "\"_") (at 1 kind.InvalidSuffix) refl refl refl refl,
-  refused_after (plains "a") (codes "\"\u{80}") (at 1 kind.InvalidSuffix) refl refl refl refl,
-  refused_after [] (codes "\"é_ ") (at 1 kind.InvalidSuffix) refl refl refl refl,
+  refused_after (plains "fox") (codes "\"peter\"") (at_byte 1 kind.InvalidSuffix) refl refl refl refl,
+  refused_after (plains "a") (codes "\"_") (at_byte 1 kind.InvalidSuffix) refl refl refl refl,
+  refused_after (escape_item (simple_escape 110) ∷ []) (codes "\"_") (at_byte 1 kind.InvalidSuffix) refl refl refl refl,
+  refused_after (plains "a") (codes "\"\u{80}") (at_byte 1 kind.InvalidSuffix) refl refl refl refl,
+  refused_after [] (codes "\"é_ ") (at_byte 1 kind.InvalidSuffix) refl refl refl refl,
 )

@@ -2,7 +2,7 @@
 use Prim.Native.String.{String}
 use Rattle.std.specs.Prelude.{◌≡◌, ℕ, List, [], ◌∷◌, ◌++◌, Some, None, refl, codes, true, false}
 use Rattle.litrs_base.specs.declared.err.ParseErrorKind.TheVariants as kind
-use Rattle.litrs_base.specs.Refusal.{Refusal, plain, over, at}
+use Rattle.litrs_base.specs.Refusal.{Refusal, without_span, spanning, at_byte}
 use Rattle.litrs_base.specs.declared.quotes.StringKind.{StringKind}
 use Rattle.litrs_base.specs.declared.quotes.StringKind.TheVariants.{String as string_kind, ByteString as byte_string_kind, CString as c_string_kind}
 use Rattle.litrs_grammar.specs.Raw.{hashes, raw_value, IsRawLiteral, raw_literal_refusal, raw_refusal, is_raw_char, raw_char_refusal, occurs, length_before}
@@ -80,10 +80,10 @@ kinds = (refl, refl, refl)
 
 -- where NUL and characters beyond ASCII are both not allowed, the first that stands in the text decides
 first_characters :
-    (raw_refusal false false 0 (34 ∷ 13 ∷ 0 ∷ 233 ∷ []) ≡ Some (at 1 kind.CarriageReturn))
-    × (raw_refusal false false 0 (34 ∷ 0 ∷ 13 ∷ 233 ∷ []) ≡ Some (at 1 kind.NulByte))
-    × (raw_refusal false false 0 (34 ∷ 0 ∷ 233 ∷ 13 ∷ []) ≡ Some (at 1 kind.NulByte))
-    × (raw_refusal false false 0 (34 ∷ 233 ∷ 0 ∷ 13 ∷ []) ≡ Some (at 1 kind.NonAsciiInByteLiteral))
+    (raw_refusal false false 0 (34 ∷ 13 ∷ 0 ∷ 233 ∷ []) ≡ Some (at_byte 1 kind.CarriageReturn))
+    × (raw_refusal false false 0 (34 ∷ 0 ∷ 13 ∷ 233 ∷ []) ≡ Some (at_byte 1 kind.NulByte))
+    × (raw_refusal false false 0 (34 ∷ 0 ∷ 233 ∷ 13 ∷ []) ≡ Some (at_byte 1 kind.NulByte))
+    × (raw_refusal false false 0 (34 ∷ 233 ∷ 0 ∷ 13 ∷ []) ≡ Some (at_byte 1 kind.NonAsciiInByteLiteral))
 unfolding computing
 first_characters = (refl, refl, refl, refl)
 
@@ -112,61 +112,61 @@ accepted = (refl, refl, refl, refl, refl, refl, refl)
 -- Refused texts, by the rows of the table
 
 rows-invalid_literal :
-    Refused string_kind (codes "r") (plain kind.InvalidLiteral)
-    × Refused string_kind (codes "r####") (plain kind.InvalidLiteral)
+    Refused string_kind (codes "r") (without_span kind.InvalidLiteral)
+    × Refused string_kind (codes "r####") (without_span kind.InvalidLiteral)
     -- before that the hashes are too many
-    × Refused string_kind (codes "r" ++ hashes 256) (plain kind.InvalidLiteral)
-    × Refused string_kind (codes "r####x") (plain kind.InvalidLiteral)
+    × Refused string_kind (codes "r" ++ hashes 256) (without_span kind.InvalidLiteral)
+    × Refused string_kind (codes "r####x") (without_span kind.InvalidLiteral)
 unfolding computing
 rows-invalid_literal = (refl, refl, refl, refl)
 
 rows-too_many_hashes :
-    Refused byte_string_kind (codes "br" ++ (hashes 256 ++ (codes "\"peter\"" ++ hashes 256))) (over 2 258 kind.TooManyHashes)
+    Refused byte_string_kind (codes "br" ++ (hashes 256 ++ (codes "\"peter\"" ++ hashes 256))) (spanning 2 258 kind.TooManyHashes)
     -- before the quote that lacks
-    × Refused string_kind (codes "r" ++ (hashes 256 ++ codes "x")) (over 1 257 kind.TooManyHashes)
-    × Refused string_kind (codes "r" ++ (hashes 257 ++ codes "\"")) (over 1 258 kind.TooManyHashes)
+    × Refused string_kind (codes "r" ++ (hashes 256 ++ codes "x")) (spanning 1 257 kind.TooManyHashes)
+    × Refused string_kind (codes "r" ++ (hashes 257 ++ codes "\"")) (spanning 1 258 kind.TooManyHashes)
 unfolding computing
 rows-too_many_hashes = (refl, refl, refl)
 
 rows-carriage_return :
-    Refused byte_string_kind (codes "br\"a\\\r\"") (at 5 kind.CarriageReturn)
-    × Refused c_string_kind (codes "cr\"\r\0\"") (at 3 kind.CarriageReturn)
-    × Refused string_kind (codes "r\"é\r") (at 4 kind.CarriageReturn)
-    × Refused string_kind (codes "r#\"a\r") (at 4 kind.CarriageReturn)
+    Refused byte_string_kind (codes "br\"a\\\r\"") (at_byte 5 kind.CarriageReturn)
+    × Refused c_string_kind (codes "cr\"\r\0\"") (at_byte 3 kind.CarriageReturn)
+    × Refused string_kind (codes "r\"é\r") (at_byte 4 kind.CarriageReturn)
+    × Refused string_kind (codes "r#\"a\r") (at_byte 4 kind.CarriageReturn)
 unfolding computing
 rows-carriage_return = (refl, refl, refl, refl)
 
 rows-nul_byte :
-    Refused c_string_kind (codes "cr\"a\0\"") (at 4 kind.NulByte)
+    Refused c_string_kind (codes "cr\"a\0\"") (at_byte 4 kind.NulByte)
     -- the first of the two decides
-    × Refused c_string_kind (codes "cr\"\0\r\"") (at 3 kind.NulByte)
+    × Refused c_string_kind (codes "cr\"\0\r\"") (at_byte 3 kind.NulByte)
 unfolding computing
 rows-nul_byte = (refl, refl)
 
 rows-non_ascii_in_byte_literal :
-    Refused byte_string_kind (codes "br\"x🦊baz\"") (at 4 kind.NonAsciiInByteLiteral)
-    × Refused byte_string_kind (codes "br\"\u{80}\"") (at 3 kind.NonAsciiInByteLiteral)
+    Refused byte_string_kind (codes "br\"x🦊baz\"") (at_byte 4 kind.NonAsciiInByteLiteral)
+    × Refused byte_string_kind (codes "br\"\u{80}\"") (at_byte 3 kind.NonAsciiInByteLiteral)
 unfolding computing
 rows-non_ascii_in_byte_literal = (refl, refl)
 
 rows-unterminated_raw_string :
-    Refused string_kind (codes "r####\"") (plain kind.UnterminatedRawString)
-    × Refused string_kind (codes "r##\"a\"#") (plain kind.UnterminatedRawString)
+    Refused string_kind (codes "r####\"") (without_span kind.UnterminatedRawString)
+    × Refused string_kind (codes "r##\"a\"#") (without_span kind.UnterminatedRawString)
 unfolding computing
 rows-unterminated_raw_string = (refl, refl)
 
 rows-unexpected_char :
     -- the first `"#` closes
-    Refused c_string_kind (codes "cr#\"foo \"# bar\"#") (at 10 kind.UnexpectedChar)
-    × Refused string_kind (codes "r\"a\"\r") (at 4 kind.UnexpectedChar)
+    Refused c_string_kind (codes "cr#\"foo \"# bar\"#") (at_byte 10 kind.UnexpectedChar)
+    × Refused string_kind (codes "r\"a\"\r") (at_byte 4 kind.UnexpectedChar)
 unfolding computing
 rows-unexpected_char = (refl, refl)
 
 rows-invalid_suffix :
-    Refused string_kind (codes "r\"a\"_") (at 4 kind.InvalidSuffix)
-    × Refused string_kind (codes "r\"🦊\"🦊") (at 7 kind.InvalidSuffix)
-    × Refused string_kind (codes "r\"\"\u{80}") (at 3 kind.InvalidSuffix)
+    Refused string_kind (codes "r\"a\"_") (at_byte 4 kind.InvalidSuffix)
+    × Refused string_kind (codes "r\"🦊\"🦊") (at_byte 7 kind.InvalidSuffix)
+    × Refused string_kind (codes "r\"\"\u{80}") (at_byte 3 kind.InvalidSuffix)
     -- a character that no body has, after the closing
-    × Refused byte_string_kind (codes "br\"\"é\"") (at 4 kind.InvalidSuffix)
+    × Refused byte_string_kind (codes "br\"\"é\"") (at_byte 4 kind.InvalidSuffix)
 unfolding computing
 rows-invalid_suffix = (refl, refl, refl, refl)

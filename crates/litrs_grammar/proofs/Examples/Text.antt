@@ -3,7 +3,7 @@ use Rattle.std.proofs.Common.{arith}
 use Rattle.std.proofs.lemmas.Bool.{false≢true}
 use Rattle.std.specs.Prelude.{◌≡◌, ℕ, [], ◌∷◌, codes, refl, true, false}
 use Rattle.std.specs.declared.ops.Range.{Range}
-use Rattle.litrs_base.specs.Characters.{nul, tab, line_feed, carriage_return, space, double_quote, hash, single_quote, plus, minus, period, digit_zero, capital_e, backslash, underscore, letter_b, letter_c, letter_e, letter_n, letter_r, letter_t, letter_u, letter_x, open_brace, close_brace, is_ascii, is_scalar, is_ascii_unless, is_no_nul_unless}
+use Rattle.litrs_base.specs.Characters.{nul, tab, line_feed, carriage_return, space, double_quote, hash, single_quote, plus, minus, period, digit_zero, capital_e, backslash, underscore, letter_b, letter_c, letter_e, letter_n, letter_r, letter_t, letter_u, letter_x, open_brace, close_brace, is_ascii, is_scalar, fits_charset, nul_is_allowed}
 use Rattle.litrs_base.specs.Text.{IsText, byte_len, is_empty, first_passes, begins_with, is_text}
 use Rattle.litrs_base.specs.CharEnd.{PointsAtCharacters}
 use Rattle.litrs_grammar.proofs.Computing.{computing}
@@ -20,15 +20,15 @@ named = (refl, refl)
 ascii :
     (is_ascii 127 ≡ true)
     × (is_ascii 128 ≡ false)
-    × (is_ascii_unless true 128 ≡ true)
-    × (is_ascii_unless false 128 ≡ false)
-    × (is_ascii_unless false 127 ≡ true)
+    × (fits_charset true 128 ≡ true)
+    × (fits_charset false 128 ≡ false)
+    × (fits_charset false 127 ≡ true)
 ascii = (refl, refl, refl, refl, refl)
 
 not_nul :
-    (is_no_nul_unless true 0 ≡ true)
-    × (is_no_nul_unless false 0 ≡ false)
-    × (is_no_nul_unless false 1 ≡ true)
+    (nul_is_allowed true 0 ≡ true)
+    × (nul_is_allowed false 0 ≡ false)
+    × (nul_is_allowed false 1 ≡ true)
 not_nul = (refl, refl, refl)
 
 scalars :

@@ -4,7 +4,7 @@ use Rattle.std.specs.Prelude.{◌==◌, if◌then◌else◌, option_map, is_some
 use Rattle.std.specs.List.{list_any, position_or_len}
 use Rattle.std.proofs.lemmas.Bool.{and_parts, and_from, not-true, eqb-true, false≢true, and_left, not_from_false}
 use Rattle.std.proofs.lemmas.List.{append_cancel_left, drop_at}
-use Rattle.litrs_base.specs.Refusal.{Refusal, moved}
+use Rattle.litrs_base.specs.Refusal.{Refusal, shifted}
 use Rattle.litrs_grammar.specs.Suffix.{is_suffix}
 use Rattle.litrs_base.specs.Text.{first_passes, byte_len, begins_with}
 use Rattle.litrs_base.specs.declared.quotes.Switches.{Switches}
@@ -197,7 +197,7 @@ chars_are_decided kind t = (read, refused_none)
     place : ℕ
     place = length (char_front kind)
 
-    moved_none : (o : Option Refusal) → option_map (moved (length (char_front kind))) o ≡ None → o ≡ None
+    moved_none : (o : Option Refusal) → option_map (shifted (length (char_front kind))) o ≡ None → o ≡ None
     moved_none None h = refl
     moved_none (Some e) h = cc
 
@@ -223,4 +223,4 @@ chars_are_decided kind t = (read, refused_none)
         let inner = char_item_text d.item ++ 39 ∷ d.suffix in
         let begins : begins_with (char_front kind) t ≡ true = subst (λ l. begins_with (char_front kind) l ≡ true) h.spells (begins_with-append (char_front kind) inner) in
         let after : drop (length (char_front kind)) t ≡ inner = subst (λ l. drop (length (char_front kind)) l ≡ inner) h.spells (drop_at (char_front kind) inner (length (char_front kind)) refl) in
-        if_true _ _ _ begins ∙ ap (option_map (moved (length (char_front kind)))) (ap (char_item_refusal kind) after ∙ item_none kind d.item d.suffix h.item h.suffix)
+        if_true _ _ _ begins ∙ ap (option_map (shifted (length (char_front kind)))) (ap (char_item_refusal kind) after ∙ item_none kind d.item d.suffix h.item h.suffix)

@@ -8,7 +8,7 @@ use Rattle.std.proofs.lemmas.Bool.{and_parts, and_from, true≢false, false≢tr
 use Rattle.std.proofs.lemmas.Bool.Decides.{nat_tests}
 use Rattle.litrs_base.specs.declared.err.ParseErrorKind.{ParseErrorKind}
 use Rattle.litrs_base.specs.declared.err.ParseErrorKind.TheVariants.{UnexpectedChar, NoExponentDigits, UnexpectedIntegerLit}
-use Rattle.litrs_base.specs.Refusal.{plain, at, over, Refusal}
+use Rattle.litrs_base.specs.Refusal.{without_span, at_byte, spanning, Refusal}
 use Rattle.litrs_base.specs.Text.{is_empty, byte_len, first_passes}
 use Rattle.litrs_grammar.specs.Suffix.{is_suffix, suffix_refusal}
 use Rattle.litrs_grammar.specs.Integer.{is_e}
@@ -24,10 +24,10 @@ use Rattle.litrs_grammar.proofs.FloatCuts.{cut_of_text, letter_period, letter_de
 -- a suffix after the number
 abbrev pub float_rows : (fraction exponent suffix len : ℕ) (kind : ParseErrorKind) (wrong_fraction has_fraction has_exponent exponent_digit suffix_after : Bool) → Option Refusal
 float_rows fraction exponent suffix len kind wrong_fraction has_fraction has_exponent exponent_digit suffix_after =
-    if wrong_fraction then Some (at (fraction + 1) UnexpectedChar)
-    else if has_exponent && not exponent_digit then Some (over exponent suffix NoExponentDigits)
-    else if not suffix_after then Some (over suffix len kind)
-    else if not (has_fraction || has_exponent) then Some (plain UnexpectedIntegerLit)
+    if wrong_fraction then Some (at_byte (fraction + 1) UnexpectedChar)
+    else if has_exponent && not exponent_digit then Some (spanning exponent suffix NoExponentDigits)
+    else if not suffix_after then Some (spanning suffix len kind)
+    else if not (has_fraction || has_exponent) then Some (without_span UnexpectedIntegerLit)
     else None
 
 -- the table by the parts of a text that is cut

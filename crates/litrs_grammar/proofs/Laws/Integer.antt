@@ -5,7 +5,7 @@ use Rattle.std.specs.List.{prefix_len, list_all, list_any, take_while}
 use Rattle.std.proofs.lemmas.List.{take_at, drop_at, take-append-drop}
 use Rattle.std.proofs.lemmas.List.Folds.{length-prefix_len}
 use Rattle.std.proofs.lemmas.Bool.{and_parts, and_from, or_parts, or_left}
-use Rattle.litrs_base.specs.Refusal.{Refusal, plain, over, at}
+use Rattle.litrs_base.specs.Refusal.{Refusal, without_span, spanning, at_byte}
 use Rattle.litrs_base.specs.declared.err.ParseErrorKind.{ParseErrorKind}
 use Rattle.litrs_base.specs.declared.err.ParseErrorKind.TheVariants.{Empty, DoesNotStartWithDigit, InvalidDigit, NoDigits, IntegerSuffixStartingWithE}
 use Rattle.std.specs.Prelude.{if◌then◌else◌, not}
@@ -15,22 +15,22 @@ use Rattle.litrs_base.specs.Text.{is_empty, byte_len, first_passes, begins_with}
 use Rattle.litrs_grammar.specs.Suffix.{is_suffix, suffix_refusal}
 use Rattle.litrs_base.specs.Base.{prefix, is_digit, is_digit_or_underscore}
 use Rattle.litrs_base.specs.Derivations.{IsOnlyDerivation, HasNoDerivation}
-use Rattle.litrs_grammar.specs.Integer.{IntegerParts, integer_text, IsInteger, IsIntegerOf, is_e, has_prefix, base_of, integer_cut, cut_refusal, integer_refusal}
+use Rattle.litrs_grammar.specs.Integer.{IntegerParts, integer_text, IsInteger, IsIntegerOf, is_e, has_prefix, base_of, integer_cut, integer_cut_refusal, integer_refusal}
 use Rattle.litrs_base.proofs.Begins.{begins_with-split}
 
 -- The rows of the refusals, by tests of the text
 
 abbrev pub integer_rows : (start end len : ℕ) (suffix_after digit_after : Bool) (kind : ParseErrorKind) (e_after some_digit : Bool) → Option Refusal
 integer_rows start end len suffix_after digit_after kind e_after some_digit =
-    if not suffix_after then (if digit_after then Some (at end InvalidDigit) else Some (over end len kind))
-    else if e_after then Some (at end IntegerSuffixStartingWithE)
-    else if not some_digit then Some (over start end NoDigits)
+    if not suffix_after then (if digit_after then Some (at_byte end InvalidDigit) else Some (spanning end len kind))
+    else if e_after then Some (at_byte end IntegerSuffixStartingWithE)
+    else if not some_digit then Some (spanning start end NoDigits)
     else None
 
 -- any number: the empty text, and one that does not begin with a decimal digit, come first
 abbrev pub number_rows : (no_character digit_first : Bool) → Option Refusal → Option Refusal
 number_rows no_character digit_first refusal =
-    if no_character then Some (plain Empty) else if not digit_first then Some (at 0 DoesNotStartWithDigit) else refusal
+    if no_character then Some (without_span Empty) else if not digit_first then Some (at_byte 0 DoesNotStartWithDigit) else refusal
 
 -- Lists
 
@@ -154,7 +154,7 @@ first_digit Decimal m x g = first_passes-append is_ascii_digit m x (g.decimal_di
 pub starts_with_digit : (t : List ℕ) (d : IntegerParts) → IsIntegerOf t d → first_passes is_ascii_digit t ≡ true
 starts_with_digit t d r = ap (first_passes is_ascii_digit) (sym r.spells) ∙ first_digit d.base d.main d.suffix r.grammar
 
-cut_refusal-free : (d : IntegerParts) → IsInteger d → cut_refusal d ≡ None
+cut_refusal-free : (d : IntegerParts) → IsInteger d → integer_cut_refusal d ≡ None
 cut_refusal-free d g = rw (g.suffix, g.no_exponent, g.some_digit) refl
 
 pub integer_refusal-free : (t : List ℕ) (d : IntegerParts) → IsIntegerOf t d → integer_refusal t ≡ None
@@ -200,9 +200,9 @@ decimal_main t base e digit =
 pub derivable : (t : List ℕ) → integer_refusal t ≡ None → IsIntegerOf t (integer_cut t)
 unfolding integer_refusal
 derivable t free =
-    let rows = number_rows-None (is_empty t) (first_passes is_ascii_digit t) (cut_refusal (integer_cut t)) free in
+    let rows = number_rows-None (is_empty t) (first_passes is_ascii_digit t) (integer_cut_refusal (integer_cut t)) free in
     let d = cut_with (base_of t) t in
-    let cut_free : cut_refusal d ≡ None = ap cut_refusal (sym (integer_cut-is t)) ∙ rows.2 in
+    let cut_free : integer_cut_refusal d ≡ None = ap integer_cut_refusal (sym (integer_cut-is t)) ∙ rows.2 in
     let facts = integer_rows-None (byte_len (prefix d.base)) (byte_len (prefix d.base ++ d.main)) (byte_len (integer_text d))
     (is_suffix d.suffix) (first_passes is_ascii_digit d.suffix) (suffix_refusal d.suffix)
     (first_passes is_e d.suffix) (list_any (is_digit d.base) d.main) cut_free in
@@ -230,6 +230,6 @@ pub only_cut : (t : List ℕ) → integer_refusal t ≡ None → IsOnlyDerivatio
 only_cut t free = (derivable t free, λ e r. only_integer t (integer_cut t) e (derivable t free) r)
 
 -- where a text begins with a digit the cut alone decides
-pub refusal_of_digit : (t : List ℕ) → first_passes is_ascii_digit t ≡ true → integer_refusal t ≡ cut_refusal (integer_cut t)
+pub refusal_of_digit : (t : List ℕ) → first_passes is_ascii_digit t ≡ true → integer_refusal t ≡ integer_cut_refusal (integer_cut t)
 unfolding integer_refusal
 refusal_of_digit t digit = rw (not_empty_by_first is_ascii_digit t digit, digit) refl

@@ -5,7 +5,7 @@ use Rattle.std.specs.Prelude.{if◌then◌else◌}
 use Rattle.std.specs.Char.{is_ascii_digit}
 use Rattle.std.proofs.lemmas.Bool.{and_parts, or_cases, eqb-true, true≢false, false_from_ne_true}
 use Rattle.litrs_base.specs.declared.err.ParseErrorKind.TheVariants.{Empty, InvalidLiteral}
-use Rattle.litrs_base.specs.Refusal.{Refusal, plain}
+use Rattle.litrs_base.specs.Refusal.{Refusal, without_span}
 use Rattle.litrs_base.specs.Text.{is_empty, first_passes, begins_with, is_text}
 use Rattle.litrs_base.specs.declared.quotes.StringKind.{StringKind}
 use Rattle.litrs_base.specs.declared.quotes.StringKind.TheVariants.{String as string_kind, ByteString as byte_string_kind, CString as c_string_kind}
@@ -65,11 +65,11 @@ is_bool-digit t digit = false_from_ne_true (is_bool t) (λ e. let b = some_bool 
 pub is_bool-none : (t : List ℕ) → ((b : Bool) → bool_text b ≡ t → ⊥) → is_bool t ≡ false
 is_bool-none t none = false_from_ne_true (is_bool t) (λ e. let b = some_bool t e in none b.0 b.1)
 
-pub bool_refusal-none : (t : List ℕ) → ((b : Bool) → bool_text b ≡ t → ⊥) → bool_refusal t ≡ Some (plain InvalidLiteral)
-bool_refusal-none t none = ap (λ v. if v then None else Some (plain InvalidLiteral)) (is_bool-none t none)
+pub bool_refusal-none : (t : List ℕ) → ((b : Bool) → bool_text b ≡ t → ⊥) → bool_refusal t ≡ Some (without_span InvalidLiteral)
+bool_refusal-none t none = ap (λ v. if v then None else Some (without_span InvalidLiteral)) (is_bool-none t none)
 
 bool_free : (t : List ℕ) (b : Bool) → bool_text b ≡ t → bool_refusal t ≡ None
-bool_free t b is = ap (λ v. if v then None else Some (plain InvalidLiteral)) (ap is_bool (sym is) ∙ is_bool-text b)
+bool_free t b is = ap (λ v. if v then None else Some (without_span InvalidLiteral)) (ap is_bool (sym is) ∙ is_bool-text b)
 
 -- The dispatch names the kind of a literal.
 
@@ -138,17 +138,17 @@ either_row P false x y e here below is = below is
 refusal_is : (P : Refusal → Type 0) (row e : Refusal) → P row → refused_as row ≡ refused_as e → P e
 refusal_is P row e holds is = subst P (let same : row ≡ e = cc in same) holds
 
-pub dispatch_refusal : (P : Refusal → Type 0) (t : List ℕ) (e : Refusal) → P (plain Empty) → P (plain InvalidLiteral) → dispatch t ≡ refused_as e → P e
+pub dispatch_refusal : (P : Refusal → Type 0) (t : List ℕ) (e : Refusal) → P (without_span Empty) → P (without_span InvalidLiteral) → dispatch t ≡ refused_as e → P e
 unfolding dispatch
 dispatch_refusal P t e empty invalid =
-    either_row P (is_empty t) _ _ e (refusal_is P (plain Empty) e empty)
+    either_row P (is_empty t) _ _ e (refusal_is P (without_span Empty) e empty)
     (else_row P (is_bool t) bool_literal _ e
     (either_row P (first_passes is_ascii_digit t) _ _ e (number_row P (begins_float t) e)
     (else_row P _ char_literal _ e
     (else_row P _ string_literal _ e
     (else_row P _ byte_literal _ e
     (else_row P _ byte_string_literal _ e
-    (else_row P _ c_string_literal _ e (refusal_is P (plain InvalidLiteral) e invalid))))))))
+    (else_row P _ c_string_literal _ e (refusal_is P (without_span InvalidLiteral) e invalid))))))))
 
 -- At most one derivation
 
@@ -274,7 +274,7 @@ start_says false false false e f = (λ is. cc, λ is. cc)
 
 pub string_start_says : (kind : StringKind) (t : List ℕ) → StartSays (string_start kind t) (begins_with (quoted_front kind) t) (begins_with (raw_front kind) t)
 string_start_says kind t =
-    start_says (is_empty t) (begins_with (quoted_front kind) t) (begins_with (raw_front kind) t) (plain Empty) (string_start_refusal kind)
+    start_says (is_empty t) (begins_with (quoted_front kind) t) (begins_with (raw_front kind) t) (without_span Empty) (string_start_refusal kind)
 
 abbrev IsStringDecided : StringKind → StringStart → List ℕ → Type 0
 IsStringDecided kind start t = ((d : StringParts) × IsString kind t d) ⊎ ((e : Refusal) × IsRefusalOfStart kind start t e)
@@ -310,7 +310,7 @@ named kind t name Derives Refuses is (inr r) = inr r
 bool_derivable : (t : List ℕ) → bool_refusal t ≡ None → (b : Bool) × (bool_text b ≡ t)
 bool_derivable t none = some_bool t (read (is_bool t) none)
   where
-    read : (v : Bool) → (if v then None else Some (plain InvalidLiteral)) ≡ None → v ≡ true
+    read : (v : Bool) → (if v then None else Some (without_span InvalidLiteral)) ≡ None → v ≡ true
     read true h = refl
     read false h = cc
 

@@ -9,12 +9,12 @@ use Rattle.std.proofs.lemmas.List.Folds.{list_any-append}
 use Rattle.std.proofs.lemmas.Str.{length-encode, len_utf8_bounds}
 use Rattle.litrs_base.specs.declared.quotes.StringKind.TheVariants.{String as string_kind, ByteString as byte_string_kind, CString as c_string_kind}
 use Rattle.litrs_base.specs.declared.quotes.Switches.{Switches}
-use Rattle.litrs_base.specs.Characters.{is_blank, is_ascii_unless}
-use Rattle.litrs_base.specs.Refusal.{Refusal, moved}
+use Rattle.litrs_base.specs.Characters.{is_blank, fits_charset}
+use Rattle.litrs_base.specs.Refusal.{Refusal, shifted}
 use Rattle.litrs_grammar.specs.Suffix.{is_suffix}
 use Rattle.litrs_base.specs.Text.{first_passes, byte_len}
 use Rattle.litrs_grammar.specs.Escape.{Escape, simple_escape, hex_escape, unicode_escape, escape_text, escape_value, value_bytes, is_escape, is_simple, hex_value, pair_value, allows_value}
-use Rattle.litrs_grammar.specs.Quoted.{Item, plain_item, escape_item, continuation, item_text, item_value, is_item, stand_before, body_text, body_value, is_body, takes_all_blanks, rest_refusal, QuotedParts, IsQuoted, IsQuotedRefusal}
+use Rattle.litrs_grammar.specs.Quoted.{Item, plain_item, escape_item, continuation, item_text, item_value, is_item, is_item_list, body_text, body_value, is_body, takes_all_blanks, rest_refusal, QuotedParts, IsQuoted, IsQuotedRefusal}
 use Rattle.litrs_grammar.specs.Raw.{is_nul}
 use Rattle.litrs_grammar.specs.Laws.Quoted.{QuotedBodiesAreUnique, QuotedTextsAreUnique, QuotedRefusalsAreUnique, QuotedTextsAreDecided, QuotedTextsAreNotRefused, QuotedBodiesJoin, QuotedValuesFitBodies, NoNulInQuotedCStrings, NoQuotedTextEndsWithLineFeed, QuotedLiteralsAreUnique}
 use Rattle.litrs_base.proofs.Spans.{byte_len-append}
@@ -47,7 +47,7 @@ quoted_refusals_are_unique front w t e f h g =
     let told : rest_refusal w h.rest ≡ Some g.cause = ap (rest_refusal w) both.1 ∙ g.told in
     let causes : h.cause ≡ g.cause = cc in
     let places : byte_len (front ++ body_text h.items) ≡ byte_len (front ++ body_text g.items) = ap (λ l. byte_len (front ++ body_text l)) both.0 in
-    sym h.placed ∙ ap (λ n. moved n h.cause) places ∙ ap (λ c. moved (byte_len (front ++ body_text g.items)) c) causes ∙ g.placed
+    sym h.placed ∙ ap (λ n. shifted n h.cause) places ∙ ap (λ c. shifted (byte_len (front ++ body_text g.items)) c) causes ∙ g.placed
 
 pub quoted_texts_are_decided : QuotedTextsAreDecided
 quoted_texts_are_decided front w t = go (read_items w t)
@@ -56,7 +56,7 @@ quoted_texts_are_decided front w t = go (read_items w t)
         ((q : QuotedParts) × IsQuoted front w (front ++ t) q) ⊎ ((e : Refusal) × IsQuotedRefusal front w (front ++ t) e)
     ended items rest read (inl (e, told)) =
         inr (
-          moved (byte_len (front ++ body_text items)) e,
+          shifted (byte_len (front ++ body_text items)) e,
           record {
             items = items;
             rest = rest;
@@ -72,7 +72,7 @@ quoted_texts_are_decided front w t = go (read_items w t)
           record { items = items; suffix = s },
           record {
             spells = ap (λ l. front ++ l) (ap (λ l. body_text items ++ l) closes ∙ read.spells);
-            body = stands_body w items s (subst (λ l. stand_before w l items ≡ true) (sym closes) read.taken);
+            body = stands_body w items s (subst (λ l. is_item_list w l items ≡ true) (sym closes) read.taken);
             suffix = suffix;
           },
         )
@@ -148,7 +148,7 @@ escape_size w (unicode_escape (c ∷ inner)) h =
 item_size : (w : Switches) (a : Item) → is_item w a ≡ true → HasSize (item_value a) (item_text a)
 item_size w (plain_item c) h =
     let p = and_parts _ (allows_value w c) h in
-    let q = and_parts _ (is_ascii_unless w.unicode c) p.0 in
+    let q = and_parts _ (fits_charset w.unicode c) p.0 in
     let r = and_parts _ (not (c == 13)) q.0 in
     let s = and_parts (not (c == 34)) (not (c == 92)) r.0 in
     inl (length_same (encode_utf8 c), or_from _ _ (not-true _ s.1) refl)

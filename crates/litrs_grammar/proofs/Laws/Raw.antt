@@ -4,7 +4,7 @@ use Rattle.std.specs.List.{prefix_len, slice_index}
 use Rattle.std.proofs.lemmas.Bool.{false≢true, eqb-true, ltb-false, le-ltb, not-false}
 use Rattle.std.proofs.lemmas.List.{take_at, drop_at, length-append, append_assoc}
 use Rattle.litrs_base.specs.declared.err.ParseErrorKind.{ParseErrorKind}
-use Rattle.litrs_base.specs.Refusal.{Refusal, plain, over, at}
+use Rattle.litrs_base.specs.Refusal.{Refusal, without_span, spanning, at_byte}
 use Rattle.litrs_base.specs.Text.{is_empty, byte_len, first_passes}
 use Rattle.litrs_grammar.specs.Suffix.{is_suffix, suffix_refusal}
 use Rattle.std.specs.Prelude.{not, if◌then◌else◌}
@@ -19,17 +19,17 @@ use Rattle.litrs_grammar.proofs.RawCuts.{length-hashes, hash_len-append, after_h
 -- the first closing; there is a closing; a suffix follows it.
 abbrev pub raw_body_rows : (place suffix_place : ℕ) (kind suffix_kind : ParseErrorKind) (refused closed suffix : Bool) → Option Refusal
 raw_body_rows place suffix_place kind suffix_kind refused closed suffix =
-    if refused then Some (at place kind)
-    else if not closed then Some (plain UnterminatedRawString)
-    else if not suffix then Some (at suffix_place suffix_kind)
+    if refused then Some (at_byte place kind)
+    else if not closed then Some (without_span UnterminatedRawString)
+    else if not suffix then Some (at_byte suffix_place suffix_kind)
     else None
 
 -- The rows before it: nothing is after the hashes; there are too many; `"` is after them.
 abbrev pub raw_rows : (start n : ℕ) (body_refusal : Option Refusal) (nothing too_many quote : Bool) → Option Refusal
 raw_rows start n body_refusal nothing too_many quote =
-    if nothing then Some (plain InvalidLiteral)
-    else if too_many then Some (over start (start + n) TooManyHashes)
-    else if not quote then Some (plain InvalidLiteral)
+    if nothing then Some (without_span InvalidLiteral)
+    else if too_many then Some (spanning start (start + n) TooManyHashes)
+    else if not quote then Some (without_span InvalidLiteral)
     else body_refusal
 
 -- the table by the parts of a text that is cut

@@ -8,7 +8,7 @@ use Rattle.std.proofs.lemmas.List.Folds.{list_all-append as all-append}
 use Rattle.litrs_base.specs.Characters.{is_scalar}
 use Rattle.litrs_base.specs.Derivations.{HasNoDerivation}
 use Rattle.litrs_base.specs.Finality.{is_final, is_open}
-use Rattle.litrs_base.specs.Refusal.{Refusal, moved}
+use Rattle.litrs_base.specs.Refusal.{Refusal, shifted}
 use Rattle.litrs_base.specs.Text.{IsText, byte_len, begins_with}
 use Rattle.litrs_base.proofs.Begins.{begins_with-split, begins_with-append}
 use Rattle.litrs_base.proofs.ListTests.{if_true, if_false}
@@ -139,7 +139,7 @@ abbrev final_row : Option Refusal → Bool
 final_row None = false
 final_row (Some r) = is_final r.kind
 
-moved_final : (n : ℕ) (o : Option Refusal) → final_row (option_map (moved n) o) ≡ final_row o
+moved_final : (n : ℕ) (o : Option Refusal) → final_row (option_map (shifted n) o) ≡ final_row o
 moved_final n None = refl
 moved_final n (Some r) = refl
 
@@ -262,7 +262,7 @@ goes_on_not_final kind t (inl begins) = front_not_final kind t (drop (length t) 
 goes_on_not_final kind t (inr (rest, spells, goes_on)) =
     let begins : begins_with (char_front kind) t ≡ true = ap (begins_with (char_front kind)) (sym spells) ∙ begins_with-append (char_front kind) rest in
     let after : drop (length (char_front kind)) t ≡ rest = ap (drop (length (char_front kind))) (sym spells) ∙ drop_at (char_front kind) rest (length (char_front kind)) refl in
-    ap final_row (if_true _ _ _ begins ∙ ap (λ l. option_map (moved (length (char_front kind))) (char_item_refusal kind l)) after)
+    ap final_row (if_true _ _ _ begins ∙ ap (λ l. option_map (shifted (length (char_front kind))) (char_item_refusal kind l)) after)
     ∙ moved_final (length (char_front kind)) (char_item_refusal kind rest) ∙ rest_not_final kind rest goes_on
 
 -- after a final refusal no extension of the text is a char or a byte
@@ -296,7 +296,7 @@ shut_item : (kind : CharKind) (t : List ℕ) → is_open_row (char_item_refusal 
 shut_item kind [] = shut_unterminated kind
 shut_item kind (c ∷ t) = search (shut_if, shut_empty, shut_escape, shut_closing) depth 8
 
-shut_moved : (n : ℕ) (o : Option Refusal) → is_open_row o ≡ false → is_open_row (option_map (moved n) o) ≡ false
+shut_moved : (n : ℕ) (o : Option Refusal) → is_open_row o ≡ false → is_open_row (option_map (shifted n) o) ≡ false
 shut_moved n None h = h
 shut_moved n (Some r) h = h
 

@@ -10,11 +10,11 @@ use Rattle.litrs_base.proofs.ListTests.{if_true, if_false}
 use Rattle.litrs_base.specs.Refusal.{Refusal}
 use Rattle.litrs_base.specs.declared.err.ParseErrorKind.TheVariants.{InvalidLiteral}
 use Rattle.litrs_base.specs.declared.integer.IntegerBase.TheVariants.{Decimal}
-use Rattle.litrs_base.specs.Refusal.{plain}
+use Rattle.litrs_base.specs.Refusal.{without_span}
 use Rattle.litrs_base.specs.Text.{first_passes, begins_with}
 use Rattle.litrs_base.specs.Base.{is_digit_or_underscore}
 use Rattle.litrs_grammar.specs.Bool.{is_bool}
-use Rattle.litrs_grammar.specs.Integer.{integer_refusal, base_of, cut_refusal}
+use Rattle.litrs_grammar.specs.Integer.{integer_refusal, base_of, integer_cut_refusal}
 use Rattle.litrs_grammar.specs.Literal.{LiteralKind, bool_literal, integer_literal, float_literal, char_literal, byte_literal, string_literal, byte_string_literal, c_string_literal}
 use Rattle.litrs_grammar.specs.LiteralRefusals.{Dispatch, refused_as, parsed_as, dispatch, is_float_mark, begins_float, IsKindRefusal}
 use Rattle.litrs_base.proofs.Runs.{IsRun, run_of, prefix_len_all}
@@ -39,7 +39,7 @@ other t =
     else if begins_with (codes "b'") t then parsed_as byte_literal
     else if begins_with (codes "b\"") t || begins_with (codes "br") t then parsed_as byte_string_literal
     else if begins_with (codes "c") t then parsed_as c_string_literal
-    else refused_as (plain InvalidLiteral)
+    else refused_as (without_span InvalidLiteral)
 
 abbrev number : List ℕ → Dispatch
 number t = if begins_float t then parsed_as float_literal else parsed_as integer_literal
@@ -51,7 +51,7 @@ single c x k false true r b s e1 e2 e3 e4 e5 h = rw (e1, e2) (rw (e1, e2) at h)
 single c x k false false true b s e1 e2 e3 e4 e5 h = rw (e1, e2, e3) (rw (e1, e2, e3) at h)
 single c x k false false false true s e1 e2 e3 e4 e5 h = absurd (let at : 98 ≡ c = eqb-true 98 c e4 in let g : other (98 ∷ []) ≡ parsed_as k = subst (λ n. other (n ∷ []) ≡ parsed_as k) (sym at) h in cc)
 single c x k false false false false true e1 e2 e3 e4 e5 h = rw (e1, e2, e3, e4, e5) (rw (e1, e2, e3, e4, e5) at h)
-single c x k false false false false false e1 e2 e3 e4 e5 h = absurd (let g : refused_as (plain InvalidLiteral) ≡ parsed_as k = rw (e1, e2, e3, e4, e5) at h in cc)
+single c x k false false false false false e1 e2 e3 e4 e5 h = absurd (let g : refused_as (without_span InvalidLiteral) ≡ parsed_as k = rw (e1, e2, e3, e4, e5) at h in cc)
 
 other_stays : (c : ℕ) (r x : List ℕ) (k : LiteralKind) → other (c ∷ r) ≡ parsed_as k → other (c ∷ (r ++ x)) ≡ parsed_as k
 other_stays c [] x k h = single c x k (39 == c) (34 == c) (114 == c) (98 == c) (99 == c) refl refl refl refl refl h
@@ -104,7 +104,7 @@ plain_digits : (t : List ℕ) → list_all (is_digit_or_underscore Decimal) t �
 plain_digits t h digit =
     let cut : cut_with (base_of t) t ≡ record { base = Decimal; main = t; suffix = [] } =
     ap (λ b. cut_with b t) (digits_base t h) ∙ ap (cut_with Decimal) (sym (append-nil t)) ∙ cut_parts Decimal t [] h refl in
-    refusal_of_digit t digit ∙ ap cut_refusal (integer_cut-is t ∙ cut) ∙ rw (is_suffix-nil, any_first t digit) refl
+    refusal_of_digit t digit ∙ ap integer_cut_refusal (integer_cut-is t ∙ cut) ∙ rw (is_suffix-nil, any_first t digit) refl
 
 drop-all : (t : List ℕ) → drop (length t) t ≡ []
 drop-all t = ap (drop (length t)) (sym (append-nil t)) ∙ drop_at t [] (length t) refl
@@ -143,7 +143,7 @@ dispatch_stays (c ∷ r) x k e h fault = go (is_bool (c ∷ r)) (is_ascii_digit 
     go true d is_b is_d =
         let kind : parsed_as bool_literal ≡ parsed_as k = rw is_b at h in
         let is : bool_literal ≡ k = cc in
-        let refused : (if is_bool (c ∷ r) then None else Some (plain InvalidLiteral)) ≡ Some e = subst (λ k. IsKindRefusal k (c ∷ r) e) (sym is) fault in
+        let refused : (if is_bool (c ∷ r) then None else Some (without_span InvalidLiteral)) ≡ Some e = subst (λ k. IsKindRefusal k (c ∷ r) e) (sym is) fault in
         let none : None ≡ Some e = rw is_b at refused in
         absurd (cc)
     go false true is_b is_d =
@@ -176,7 +176,7 @@ unnamed_single c x k e false true r b s e1 e2 e3 e4 e5 h g = absurd (let f : par
 unnamed_single c x k e false false true b s e1 e2 e3 e4 e5 h g = absurd (let f : parsed_as string_literal ≡ refused_as e = rw (e1, e2, e3) at h in cc)
 unnamed_single c x k e false false false true s e1 e2 e3 e4 e5 h g = eqb-true 98 c e4
 unnamed_single c x k e false false false false true e1 e2 e3 e4 e5 h g = absurd (let f : parsed_as c_string_literal ≡ refused_as e = rw (e1, e2, e3, e4, e5) at h in cc)
-unnamed_single c x k e false false false false false e1 e2 e3 e4 e5 h g = absurd (let f : refused_as (plain InvalidLiteral) ≡ parsed_as k = rw (e1, e2, e3, e4, e5) at g in cc)
+unnamed_single c x k e false false false false false e1 e2 e3 e4 e5 h g = absurd (let f : refused_as (without_span InvalidLiteral) ≡ parsed_as k = rw (e1, e2, e3, e4, e5) at g in cc)
 
 unnamed_other : (c : ℕ) (r x : List ℕ) (k : LiteralKind) (e : Refusal) → other (c ∷ r) ≡ refused_as e → other (c ∷ (r ++ x)) ≡ parsed_as k → unnamed_goes_on (c ∷ r) ≡ true
 unnamed_other c [] x k e h g =

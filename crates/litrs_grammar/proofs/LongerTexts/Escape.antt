@@ -5,7 +5,7 @@ use Rattle.std.specs.Char.{is_ascii_hexdigit, digit_value}
 use Rattle.std.specs.List.{list_all, list_any, before_first}
 use Rattle.std.proofs.lemmas.Bool.{and_parts, eqb-true, both_ways, false≢true, or_cases, or_right, or_left, and_from, leb-true, leb-false, le-leb}
 use Rattle.std.proofs.lemmas.List.Folds.{list_any-append, list_all-append as all-append}
-use Rattle.litrs_base.specs.Refusal.{Refusal, at, over}
+use Rattle.litrs_base.specs.Refusal.{Refusal, at_byte, spanning}
 use Rattle.litrs_base.specs.declared.err.ParseErrorKind.TheVariants.{UnterminatedEscape, UnicodeEscapeInByteLiteral, UnicodeEscapeWithoutBrace, UnterminatedUnicodeEscape}
 use Rattle.litrs_base.specs.Finality.{is_final}
 use Rattle.litrs_base.specs.Text.{byte_len, first_passes}
@@ -31,7 +31,7 @@ use Rattle.litrs_grammar.specs.GoesOn.Escape.{BeginsEscape, inner_goes_on, hex_g
 
 -- a refusal that is not final is no final one
 pub never : {A : Type 0} (k e : Refusal) → is_final k.kind ≡ false → is_final e.kind ≡ true → Some k ≡ Some e → A
-never k e n f same = let at : k ≡ e = cc in absurd (both_ways _ (subst (λ r. is_final r.kind ≡ false) at n) f)
+never k e n f same = let at_byte : k ≡ e = cc in absurd (both_ways _ (subst (λ r. is_final r.kind ≡ false) at_byte n) f)
 
 -- rows above which nothing changes
 pub keep : (b : Bool) (x y x' y' : Option Refusal) (e : Refusal) → (x ≡ Some e → x' ≡ Some e) → (y ≡ Some e → y' ≡ Some e) →
@@ -50,17 +50,17 @@ no_hexdigit c h = go (is_ascii_hexdigit c) refl
 
 hex_one : (w : Switches) (c d : ℕ) (x : List ℕ) (e : Refusal) → is_final e.kind ≡ true → (b : Bool) → (byte_len (c ∷ []) == 2) ≡ b →
     hex_refusal w (c ∷ []) ≡ Some e → hex_refusal w (c ∷ d ∷ x) ≡ Some e
-hex_one w c d x e f false g h = never (over 0 (2 + byte_len (c ∷ [])) UnterminatedEscape) e refl f (rw g at h)
+hex_one w c d x e f false g h = never (spanning 0 (2 + byte_len (c ∷ [])) UnterminatedEscape) e refl f (rw g at h)
 hex_one w c d x e f true g h =
     let no = no_hexdigit c g in
     rw (g, no) (rw (g, no) at h)
 
 hex_final : (w : Switches) (t x : List ℕ) (e : Refusal) → is_final e.kind ≡ true → hex_refusal w t ≡ Some e → hex_refusal w (t ++ x) ≡ Some e
-hex_final w [] x e f h = never (over 0 2 UnterminatedEscape) e refl f h
+hex_final w [] x e f h = never (spanning 0 2 UnterminatedEscape) e refl f h
 hex_final w (c ∷ []) [] e f h = h
 hex_final w (c ∷ []) (d ∷ x) e f h = hex_one w c d x e f (byte_len (c ∷ []) == 2) refl h
 hex_final w (c ∷ d ∷ t) x e f h =
-    keep (not (has_two_bytes (c ∷ d ∷ t))) _ _ _ _ e (never (over 0 (2 + byte_len (c ∷ d ∷ t)) UnterminatedEscape) e refl f) (λ r. r) h
+    keep (not (has_two_bytes (c ∷ d ∷ t))) _ _ _ _ e (never (spanning 0 (2 + byte_len (c ∷ d ∷ t)) UnterminatedEscape) e refl f) (λ r. r) h
 
 -- the text up to the first brace stays
 inner_same : (t x : List ℕ) → list_any (λ c. c == 125) t ≡ true → before_first (λ c. c == 125) (t ++ x) ≡ before_first (λ c. c == 125) t
@@ -78,16 +78,16 @@ any_same : (t x : List ℕ) → list_any (λ c. c == 125) t ≡ true → list_an
 any_same t x h = list_any-append (λ c. c == 125) t x ∙ or_left _ _ h
 
 brace_lacks : (u : Bool) (e : Refusal) (y : Option Refusal) → is_final e.kind ≡ true →
-    (if not u then Some (over 0 2 UnicodeEscapeInByteLiteral) else Some (over 0 2 UnicodeEscapeWithoutBrace)) ≡ Some e →
-    (if not u then Some (over 0 2 UnicodeEscapeInByteLiteral) else y) ≡ Some e
-brace_lacks true e y f h = never (over 0 2 UnicodeEscapeWithoutBrace) e refl f h
+    (if not u then Some (spanning 0 2 UnicodeEscapeInByteLiteral) else Some (spanning 0 2 UnicodeEscapeWithoutBrace)) ≡ Some e →
+    (if not u then Some (spanning 0 2 UnicodeEscapeInByteLiteral) else y) ≡ Some e
+brace_lacks true e y f h = never (spanning 0 2 UnicodeEscapeWithoutBrace) e refl f h
 brace_lacks false e y f h = h
 
 inner_row : (w : Switches) (c : ℕ) (t x : List ℕ) (b : Bool) (e : Refusal) → list_any (λ c. c == 125) (c ∷ t) ≡ b → (c == 123) ≡ true → is_final e.kind ≡ true →
-    (if not b then Some (over 0 (2 + byte_len (c ∷ t)) UnterminatedUnicodeEscape) else inner_refusal w (before_first (λ c. c == 125) t)) ≡ Some e →
-    (if not (list_any (λ c. c == 125) (c ∷ (t ++ x))) then Some (over 0 (2 + byte_len (c ∷ (t ++ x))) UnterminatedUnicodeEscape)
+    (if not b then Some (spanning 0 (2 + byte_len (c ∷ t)) UnterminatedUnicodeEscape) else inner_refusal w (before_first (λ c. c == 125) t)) ≡ Some e →
+    (if not (list_any (λ c. c == 125) (c ∷ (t ++ x))) then Some (spanning 0 (2 + byte_len (c ∷ (t ++ x))) UnterminatedUnicodeEscape)
     else inner_refusal w (before_first (λ c. c == 125) (t ++ x))) ≡ Some e
-inner_row w c t x false e any brace f h = never (over 0 (2 + byte_len (c ∷ t)) UnterminatedUnicodeEscape) e refl f h
+inner_row w c t x false e any brace f h = never (spanning 0 (2 + byte_len (c ∷ t)) UnterminatedUnicodeEscape) e refl f h
 inner_row w c t x true e any brace f h =
     let other : (c == 125) ≡ false = rw (eqb-true c 123 brace) refl in
     let inside : list_any (λ c. c == 125) t ≡ true = rw other at any in
@@ -100,18 +100,18 @@ unicode_final w (c ∷ t) x e f h =
     (λ g. braced (c == 123) refl g) h
   where
     braced : (b : Bool) → (c == 123) ≡ b →
-        (if not b then Some (over 0 2 UnicodeEscapeWithoutBrace) else (if not (list_any (λ c. c == 125) (c ∷ t)) then Some (over 0 (2 + byte_len (c ∷ t)) UnterminatedUnicodeEscape)
+        (if not b then Some (spanning 0 2 UnicodeEscapeWithoutBrace) else (if not (list_any (λ c. c == 125) (c ∷ t)) then Some (spanning 0 (2 + byte_len (c ∷ t)) UnterminatedUnicodeEscape)
         else inner_refusal w (before_first (λ c. c == 125) t))) ≡ Some e →
-        (if not (c == 123) then Some (over 0 2 UnicodeEscapeWithoutBrace) else (if not (list_any (λ c. c == 125) (c ∷ (t ++ x))) then Some (over 0 (2 + byte_len (c ∷ (t ++ x))) UnterminatedUnicodeEscape)
+        (if not (c == 123) then Some (spanning 0 2 UnicodeEscapeWithoutBrace) else (if not (list_any (λ c. c == 125) (c ∷ (t ++ x))) then Some (spanning 0 (2 + byte_len (c ∷ (t ++ x))) UnterminatedUnicodeEscape)
         else inner_refusal w (before_first (λ c. c == 125) (t ++ x)))) ≡ Some e
-    braced false g r = never (over 0 2 UnicodeEscapeWithoutBrace) e refl f r
+    braced false g r = never (spanning 0 2 UnicodeEscapeWithoutBrace) e refl f r
     braced true g r = if_false (not (c == 123)) _ _ (ap not g) ∙ inner_row w c t x (list_any (λ c. c == 125) (c ∷ t)) e refl g f r
 
 -- an escape refused with a final kind is refused alike whatever is appended
 pub escape_final : (w : Switches) (t x : List ℕ) (e : Refusal) → is_final e.kind ≡ true → escape_refusal w t ≡ Some e → escape_refusal w (t ++ x) ≡ Some e
 unfolding escape_refusal
-escape_final w [] x e f h = never (at 0 UnterminatedEscape) e refl f h
-escape_final w (c ∷ []) x e f h = never (at 0 UnterminatedEscape) e refl f h
+escape_final w [] x e f h = never (at_byte 0 UnterminatedEscape) e refl f h
+escape_final w (c ∷ []) x e f h = never (at_byte 0 UnterminatedEscape) e refl f h
 escape_final w (c ∷ d ∷ t) x e f h =
     keep ((d == 48) && not w.allow_nul) _ _ _ _ e (λ r. r)
     (keep (d == 120) _ _ _ _ e (hex_final w t x e f)
@@ -307,31 +307,31 @@ goes_on_of : (w : Switches) (t : List ℕ) (e : Escape) (c : ℕ) (x : List ℕ)
 goes_on_of w [] e c x same h = refl
 goes_on_of w (d ∷ []) (simple_escape b) c x same h = cc
 goes_on_of w (d ∷ f ∷ t) (simple_escape b) c x same h = cc
-goes_on_of w (d ∷ []) (hex_escape a b) c x same h = let at : d ≡ 120 = cc in subst (λ n. escape_goes_on w (n ∷ []) ≡ true) (sym at) refl
+goes_on_of w (d ∷ []) (hex_escape a b) c x same h = let at_byte : d ≡ 120 = cc in subst (λ n. escape_goes_on w (n ∷ []) ≡ true) (sym at_byte) refl
 goes_on_of w (d ∷ f ∷ []) (hex_escape a b) c x same h =
     let p = and_parts _ (allows_value w (pair_value a b)) h in
     let q = and_parts _ (allows_byte w (pair_value a b)) p.0 in
     let r = and_parts (is_ascii_hexdigit a) (is_ascii_hexdigit b) q.0 in
-    let at : d ≡ 120 = cc in
+    let at_byte : d ≡ 120 = cc in
     let same_digit : f ≡ a = cc in
-    subst (λ n. escape_goes_on w (n ∷ f ∷ []) ≡ true) (sym at) (subst (λ n. escape_goes_on w (120 ∷ n ∷ []) ≡ true) (sym same_digit)
+    subst (λ n. escape_goes_on w (n ∷ f ∷ []) ≡ true) (sym at_byte) (subst (λ n. escape_goes_on w (120 ∷ n ∷ []) ≡ true) (sym same_digit)
     (or_left _ _ (and_from _ _ r.0 (byte_one w.byte_escapes (digit_value a) (digit_value b) q.1))))
 goes_on_of w (d ∷ f ∷ g ∷ []) (hex_escape a b) c x same h = cc
 goes_on_of w (d ∷ f ∷ g ∷ k ∷ t) (hex_escape a b) c x same h = cc
 goes_on_of w (d ∷ []) (unicode_escape inner) c x same h =
-    let at : d ≡ 117 = cc in
-    subst (λ n. escape_goes_on w (n ∷ []) ≡ true) (sym at) (and_from _ _ (inner_of w inner h).unicode refl)
+    let at_byte : d ≡ 117 = cc in
+    subst (λ n. escape_goes_on w (n ∷ []) ≡ true) (sym at_byte) (and_from _ _ (inner_of w inner h).unicode refl)
 goes_on_of w (d ∷ f ∷ []) (unicode_escape inner) c x same h =
-    let at : d ≡ 117 = cc in
+    let at_byte : d ≡ 117 = cc in
     let brace : f ≡ 123 = cc in
-    subst (λ n. escape_goes_on w (n ∷ f ∷ []) ≡ true) (sym at) (subst (λ n. escape_goes_on w (117 ∷ n ∷ []) ≡ true) (sym brace)
+    subst (λ n. escape_goes_on w (n ∷ f ∷ []) ≡ true) (sym at_byte) (subst (λ n. escape_goes_on w (117 ∷ n ∷ []) ≡ true) (sym brace)
     (let u = (inner_of w inner h).unicode in and_from _ _ u (and_from _ _ u refl)))
 goes_on_of w (d ∷ f ∷ g ∷ t) (unicode_escape inner) c x same h =
-    let at : d ≡ 117 = cc in
+    let at_byte : d ≡ 117 = cc in
     let brace : f ≡ 123 = cc in
     let tails : (g ∷ t) ++ c ∷ x ≡ inner ++ 125 ∷ [] = cc in
     let z = front_before (g ∷ t) inner x 125 c tails in
-    subst (λ n. escape_goes_on w (n ∷ f ∷ g ∷ t) ≡ true) (sym at) (subst (λ n. escape_goes_on w (117 ∷ n ∷ g ∷ t) ≡ true) (sym brace)
+    subst (λ n. escape_goes_on w (n ∷ f ∷ g ∷ t) ≡ true) (sym at_byte) (subst (λ n. escape_goes_on w (117 ∷ n ∷ g ∷ t) ≡ true) (sym brace)
     (and_from _ _ (inner_of w inner h).unicode (inner_of_begun w g t z.0 (subst (λ l. IsInner w l) z.1 (inner_of w inner h)))))
 
 goes_on_from : (w : Switches) (t : List ℕ) (e : Refusal) → escape_refusal w (92 ∷ t) ≡ Some e → BeginsEscape w (92 ∷ t) → escape_goes_on w t ≡ true

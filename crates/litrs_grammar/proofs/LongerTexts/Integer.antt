@@ -11,12 +11,12 @@ use Rattle.litrs_base.specs.Refusal.{Refusal}
 use Rattle.litrs_base.specs.declared.err.ParseErrorKind.TheVariants.{Empty, NoDigits}
 use Rattle.litrs_base.specs.declared.integer.IntegerBase.{IntegerBase}
 use Rattle.litrs_base.specs.declared.integer.IntegerBase.TheVariants.{Binary, Octal, Decimal, Hexadecimal}
-use Rattle.litrs_base.specs.Refusal.{over, plain}
+use Rattle.litrs_base.specs.Refusal.{spanning, without_span}
 use Rattle.litrs_base.specs.Finality.{is_final}
 use Rattle.litrs_grammar.specs.Suffix.{is_suffix, suffix_refusal}
 use Rattle.litrs_base.specs.Text.{byte_len, first_passes, is_empty}
 use Rattle.litrs_base.specs.Base.{prefix, is_digit, is_digit_or_underscore}
-use Rattle.litrs_grammar.specs.Integer.{IntegerParts, integer_text, is_e, base_of, integer_cut, cut_refusal, integer_refusal, IsIntegerOf}
+use Rattle.litrs_grammar.specs.Integer.{IntegerParts, integer_text, is_e, base_of, integer_cut, integer_cut_refusal, integer_refusal, IsIntegerOf}
 use Rattle.litrs_base.proofs.Runs.{list_all-append, list_all-weaken}
 use Rattle.litrs_grammar.proofs.LineFeeds.{is_other, suffix_other, no_line_feed}
 use Rattle.litrs_grammar.proofs.Laws.Integer.{take_while_front, list_all-take_while, first_passes-rest, integer_rows-None, cut_with, integer_cut-is, cut-spells, derivable, integer_refusal-free, refusal_of_digit, starts_with_digit}
@@ -77,7 +77,7 @@ cut_one c d r is =
     one_is Hexadecimal = refl
 
 -- the rows by their tests
-rows_of : (d : IntegerParts) → cut_refusal d ≡ None → (is_suffix d.suffix ≡ true) × (first_passes is_e d.suffix ≡ false) × (list_any (is_digit d.base) d.main ≡ true)
+rows_of : (d : IntegerParts) → integer_cut_refusal d ≡ None → (is_suffix d.suffix ≡ true) × (first_passes is_e d.suffix ≡ false) × (list_any (is_digit d.base) d.main ≡ true)
 rows_of d h =
     integer_rows-None (byte_len (prefix d.base)) (byte_len (prefix d.base ++ d.main)) (byte_len (integer_text d))
     (is_suffix d.suffix) (first_passes is_ascii_digit d.suffix) (suffix_refusal d.suffix) (first_passes is_e d.suffix) (list_any (is_digit d.base) d.main) h
@@ -90,14 +90,14 @@ under_stays Hexadecimal = refl
 
 -- parts with a suffix that are refused are refused whatever is appended
 parts_stay : (base : IntegerBase) (m : List ℕ) (k : ℕ) (s x : List ℕ) (e : Refusal) → first_passes (is_digit_or_underscore base) (k ∷ s) ≡ false →
-    cut_refusal (record { base = base; main = m; suffix = k ∷ s }) ≡ Some e → cut_refusal (record { base = base; main = m; suffix = k ∷ (s ++ x) }) ≡ None → ⊥
+    integer_cut_refusal (record { base = base; main = m; suffix = k ∷ s }) ≡ Some e → integer_cut_refusal (record { base = base; main = m; suffix = k ∷ (s ++ x) }) ≡ None → ⊥
 parts_stay base m k s x e stops h none = go (is_suffix (k ∷ s)) refl
   where
     rows : (is_suffix (k ∷ (s ++ x)) ≡ true) × (is_e k ≡ false) × (list_any (is_digit base) m ≡ true)
     rows = rows_of (record { base = base; main = m; suffix = k ∷ (s ++ x) }) none
 
     go : (b : Bool) → is_suffix (k ∷ s) ≡ b → ⊥
-    go true e' = let free : cut_refusal (record { base = base; main = m; suffix = k ∷ s }) ≡ None = rw (e', rows.1, rows.2) refl in cc
+    go true e' = let free : integer_cut_refusal (record { base = base; main = m; suffix = k ∷ s }) ≡ None = rw (e', rows.1, rows.2) refl in cc
     go false e' =
         let lone : k ∷ s ≡ 95 ∷ [] = suffix_freed (k ∷ s) x e' rows.0 in
         both_ways _ stops (ap (first_passes (is_digit_or_underscore base)) lone ∙ under_stays base)
@@ -107,7 +107,7 @@ one_digit : (c : ℕ) → is_ascii_digit c ≡ true → integer_refusal (c ∷ [
 one_digit c h =
     let cut : cut_with Decimal (c ∷ []) ≡ record { base = Decimal; main = c ∷ []; suffix = [] } =
     cut_parts Decimal (c ∷ []) [] (and_from _ _ (or_left _ _ h) refl) refl in
-    refusal_of_digit (c ∷ []) h ∙ ap cut_refusal (integer_cut-is (c ∷ []) ∙ decimal ∙ cut) ∙ rw (is_suffix-nil, h) refl
+    refusal_of_digit (c ∷ []) h ∙ ap integer_cut_refusal (integer_cut-is (c ∷ []) ∙ decimal ∙ cut) ∙ rw (is_suffix-nil, h) refl
   where
     base_single : (b : Bool) → (48 == c) ≡ b → base_of (c ∷ []) ≡ Decimal
     base_single true e = rw e refl
@@ -125,10 +125,10 @@ begins_suffix c d r e digit h x lit reads = go (cut_with (base_of (c ∷ d ∷ r
     go (k ∷ s) is =
         let base = base_of (c ∷ d ∷ r) in
         let m = (cut_with base (c ∷ d ∷ r)).main in
-        let here : cut_refusal (record { base = base; main = m; suffix = k ∷ s }) ≡ Some e =
-        ap (λ y. cut_refusal (record { base = base; main = m; suffix = y })) (sym is) ∙ ap cut_refusal (sym (integer_cut-is (c ∷ d ∷ r))) ∙ sym (refusal_of_digit (c ∷ d ∷ r) digit) ∙ h in
-        let free : cut_refusal (record { base = base; main = m; suffix = k ∷ (s ++ x) }) ≡ None =
-        ap cut_refusal (sym (cut_more c d r x k s is)) ∙ sym (refusal_of_digit (c ∷ d ∷ (r ++ x)) digit) ∙ integer_refusal-free (c ∷ d ∷ (r ++ x)) lit reads in
+        let here : integer_cut_refusal (record { base = base; main = m; suffix = k ∷ s }) ≡ Some e =
+        ap (λ y. integer_cut_refusal (record { base = base; main = m; suffix = y })) (sym is) ∙ ap integer_cut_refusal (sym (integer_cut-is (c ∷ d ∷ r))) ∙ sym (refusal_of_digit (c ∷ d ∷ r) digit) ∙ h in
+        let free : integer_cut_refusal (record { base = base; main = m; suffix = k ∷ (s ++ x) }) ≡ None =
+        ap integer_cut_refusal (sym (cut_more c d r x k s is)) ∙ sym (refusal_of_digit (c ∷ d ∷ (r ++ x)) digit) ∙ integer_refusal-free (c ∷ d ∷ (r ++ x)) lit reads in
         absurd (parts_stay base m k s x e (ap (first_passes (is_digit_or_underscore base)) (sym is) ∙ cut_ends base (c ∷ d ∷ r)) here free)
 
 suffix_begins : (c d : ℕ) (r : List ℕ) → is_ascii_digit c ≡ true → (cut_with (base_of (c ∷ d ∷ r)) (c ∷ d ∷ r)).suffix ≡ [] → BeginsBy IsIntegerOf (c ∷ d ∷ r)
@@ -137,7 +137,7 @@ suffix_begins c d r digit is =
     let m = (cut_with base (c ∷ d ∷ r)).main in
     let some : list_any (is_digit base) (m ++ 49 ∷ []) ≡ true = list_any-append (is_digit base) m (49 ∷ []) ∙ or_right _ _ (one_digit_is base) in
     let free : integer_refusal (c ∷ d ∷ (r ++ 49 ∷ [])) ≡ None =
-    refusal_of_digit (c ∷ d ∷ (r ++ 49 ∷ [])) digit ∙ ap cut_refusal (cut_one c d r is) ∙ rw (is_suffix-nil, some) refl in
+    refusal_of_digit (c ∷ d ∷ (r ++ 49 ∷ [])) digit ∙ ap integer_cut_refusal (cut_one c d r is) ∙ rw (is_suffix-nil, some) refl in
     (49 ∷ [], integer_cut (c ∷ d ∷ (r ++ 49 ∷ [])), refl, derivable (c ∷ d ∷ (r ++ 49 ∷ [])) free)
   where
     one_digit_is : (base : IntegerBase) → list_any (is_digit base) (49 ∷ []) ≡ true
@@ -158,12 +158,12 @@ from_suffix [] e digit h is = cc
 from_suffix (c ∷ []) e digit h is = let free = one_digit c digit in absurd (cc)
 from_suffix (c ∷ d ∷ r) e digit h is = suffix_begins c d r digit (ap (λ p. p.suffix) (sym (integer_cut-is (c ∷ d ∷ r))) ∙ is)
 
-no_digits_kind : (d : IntegerParts) (e : Refusal) → d.suffix ≡ [] → is_final e.kind ≡ true → cut_refusal d ≡ Some e → ⊥
+no_digits_kind : (d : IntegerParts) (e : Refusal) → d.suffix ≡ [] → is_final e.kind ≡ true → integer_cut_refusal d ≡ Some e → ⊥
 no_digits_kind d e is f h = go (list_any (is_digit d.base) d.main) (rw (is, is_suffix-nil) at h)
   where
-    go : (b : Bool) → (if not b then Some (over (byte_len (prefix d.base)) (byte_len (prefix d.base ++ d.main)) NoDigits) else None) ≡ Some e → ⊥
+    go : (b : Bool) → (if not b then Some (spanning (byte_len (prefix d.base)) (byte_len (prefix d.base ++ d.main)) NoDigits) else None) ≡ Some e → ⊥
     go true g = cc
-    go false g = never (over (byte_len (prefix d.base)) (byte_len (prefix d.base ++ d.main)) NoDigits) e refl f g
+    go false g = never (spanning (byte_len (prefix d.base)) (byte_len (prefix d.base ++ d.main)) NoDigits) e refl f g
 
 no_integer : (t : List ℕ) (x : List ℕ) (d : IntegerParts) → first_passes is_ascii_digit t ≡ false → is_empty t ≡ false → IsIntegerOf (t ++ x) d → ⊥
 no_integer [] x d h n reads = cc
@@ -175,7 +175,7 @@ unfolding integer_refusal
 integer_finality t e h f x d reads = go (is_empty t) (first_passes is_ascii_digit t) refl refl
   where
     go : (n b : Bool) → is_empty t ≡ n → first_passes is_ascii_digit t ≡ b → ⊥
-    go true b is_n is_b = never (plain Empty) e refl f (rw is_n at h)
+    go true b is_n is_b = never (without_span Empty) e refl f (rw is_n at h)
     go false false is_n is_b = no_integer t x d is_b is_n reads
     go false true is_n is_b =
         no_digits_kind (integer_cut t) e (freed_suffix t e is_b h x d reads) f (sym (refusal_of_digit t is_b) ∙ h)

@@ -6,7 +6,7 @@ use Rattle.std.proofs.lemmas.Bool.{both_ways}
 use Rattle.std.proofs.lemmas.List.{append-nil, append_cancel_left, append_cancel_right}
 use Rattle.litrs_base.specs.declared.err.ParseErrorKind.TheVariants.{InvalidLiteral}
 use Rattle.litrs_base.specs.Finality.{is_final, is_open}
-use Rattle.litrs_base.specs.Refusal.{Refusal, plain}
+use Rattle.litrs_base.specs.Refusal.{Refusal, without_span}
 use Rattle.litrs_base.specs.declared.quotes.StringKind.{StringKind}
 use Rattle.litrs_base.specs.declared.quotes.StringKind.TheVariants.{String as string_kind, ByteString as byte_string_kind, CString as c_string_kind}
 use Rattle.litrs_base.specs.Quotes.{switches_of, quoted_front, raw_front}
@@ -210,7 +210,7 @@ start_closes kind raw_start t e is refused shut =
 
 -- One kind
 
-bool_kind : (t : List ℕ) (b : Bool) (e : Refusal) → (if b then None else Some (plain InvalidLiteral)) ≡ Some e → plain InvalidLiteral ≡ e
+bool_kind : (t : List ℕ) (b : Bool) (e : Refusal) → (if b then None else Some (without_span InvalidLiteral)) ≡ Some e → without_span InvalidLiteral ≡ e
 bool_kind t true e h = cc
 bool_kind t false e h = cc
 

@@ -4,15 +4,15 @@ use Rattle.std.specs.Prelude.{◌==◌, if◌then◌else◌, ◌↔◌}
 use Rattle.std.specs.List.{list_all}
 use Rattle.std.proofs.lemmas.Bool.{and_parts, and_from, eqb-true, both_ways, false≢true, or_right}
 use Rattle.std.proofs.lemmas.List.{append-nil}
-use Rattle.litrs_base.specs.Refusal.{Refusal, at, plain, moved}
+use Rattle.litrs_base.specs.Refusal.{Refusal, at_byte, without_span, shifted}
 use Rattle.litrs_base.specs.declared.err.ParseErrorKind.TheVariants.{UnterminatedEscape, UnterminatedString, InvalidSuffix, UnexpectedChar, CarriageReturn, NulByte, NonAsciiInByteLiteral}
-use Rattle.litrs_base.specs.Characters.{is_blank, is_ascii_unless, is_scalar}
+use Rattle.litrs_base.specs.Characters.{is_blank, fits_charset, is_scalar}
 use Rattle.litrs_base.specs.Finality.{is_final, is_open}
 use Rattle.litrs_grammar.specs.Suffix.{is_suffix, suffix_refusal, is_ascii_symbol}
 use Rattle.litrs_base.specs.Text.{byte_len, first_passes}
 use Rattle.litrs_base.specs.declared.quotes.Switches.{Switches}
 use Rattle.litrs_grammar.specs.Escape.{escape_refusal, allows_value, hex_refusal, unicode_refusal, inner_refusal, Escape, simple_escape, hex_escape, unicode_escape, escape_text, is_escape, is_simple, allows_byte, pair_value, is_hex_or_underscore}
-use Rattle.litrs_grammar.specs.Quoted.{Item, plain_item, escape_item, continuation, is_item, body_text, is_body, is_taken_before, stand_before, without_last, backslash_refusal, rest_refusal, IsQuoted, IsQuotedRefusal, takes_all_blanks, IsBodyOf}
+use Rattle.litrs_grammar.specs.Quoted.{Item, plain_item, escape_item, continuation, is_item, body_text, is_body, is_complete_before, is_item_list, without_last, backslash_refusal, rest_refusal, IsQuoted, IsQuotedRefusal, takes_all_blanks, IsBodyOf}
 use Rattle.litrs_grammar.proofs.QuotedItems.{without_last-append, last_of, escape_head}
 use Rattle.std.proofs.lemmas.Bool.Decides.{nat_tests}
 use Rattle.litrs_grammar.proofs.LongerTexts.Escape.{never, keep, escape_final}
@@ -31,32 +31,32 @@ use Rattle.litrs_grammar.specs.GoesOn.Escape.{BeginsEscape}
 use Rattle.litrs_grammar.proofs.LongerTexts.Suffix.{is_suffix-nil, underscore_x, front_of, suffix_final, suffix_freed}
 
 -- what is taken before a text is taken before a longer one
-taken_more : (a : Item) (b : List ℕ) (c : ℕ) (r x : List ℕ) → is_taken_before (b ++ c ∷ r) a ≡ true → is_taken_before (b ++ c ∷ (r ++ x)) a ≡ true
+taken_more : (a : Item) (b : List ℕ) (c : ℕ) (r x : List ℕ) → is_complete_before (b ++ c ∷ r) a ≡ true → is_complete_before (b ++ c ∷ (r ++ x)) a ≡ true
 taken_more (plain_item d) b c r x h = refl
 taken_more (escape_item e) [] c r x h = refl
 taken_more (escape_item e) (d ∷ b) c r x h = refl
 taken_more (continuation a) [] c r x h = h
 taken_more (continuation a) (d ∷ b) c r x h = h
 
-pub stand_more : (w : Switches) (items : List Item) (c : ℕ) (r x : List ℕ) → stand_before w (c ∷ r) items ≡ true → stand_before w (c ∷ (r ++ x)) items ≡ true
+pub stand_more : (w : Switches) (items : List Item) (c : ℕ) (r x : List ℕ) → is_item_list w (c ∷ r) items ≡ true → is_item_list w (c ∷ (r ++ x)) items ≡ true
 stand_more w [] c r x h = refl
 stand_more w (a ∷ items) c r x h =
-    let p = and_parts _ (stand_before w (c ∷ r) items) h in
+    let p = and_parts _ (is_item_list w (c ∷ r) items) h in
     let q = and_parts (is_item w a) _ p.0 in
     and_from _ _ (and_from _ _ q.0 (taken_more a (body_text items) c r x q.1)) (stand_more w items c r x p.1)
 
 -- what is taken at the end of a text is taken before every rest
-taken_anywhere : (a : Item) (b x : List ℕ) → is_taken_before (b ++ []) a ≡ true → is_taken_before (b ++ x) a ≡ true
+taken_anywhere : (a : Item) (b x : List ℕ) → is_complete_before (b ++ []) a ≡ true → is_complete_before (b ++ x) a ≡ true
 taken_anywhere (plain_item d) b x h = refl
 taken_anywhere (escape_item e) [] x h = cc
 taken_anywhere (escape_item e) (d ∷ b) x h = refl
 taken_anywhere (continuation a) [] x h = cc
 taken_anywhere (continuation a) (d ∷ b) x h = h
 
-stand_anywhere : (w : Switches) (items : List Item) (x : List ℕ) → stand_before w [] items ≡ true → stand_before w x items ≡ true
+stand_anywhere : (w : Switches) (items : List Item) (x : List ℕ) → is_item_list w [] items ≡ true → is_item_list w x items ≡ true
 stand_anywhere w [] x h = refl
 stand_anywhere w (a ∷ items) x h =
-    let p = and_parts _ (stand_before w [] items) h in
+    let p = and_parts _ (is_item_list w [] items) h in
     let q = and_parts (is_item w a) _ p.0 in
     and_from _ _ (and_from _ _ q.0 (taken_anywhere a (body_text items) x q.1)) (stand_anywhere w items x p.1)
 
@@ -72,34 +72,34 @@ cut_more c t (m ∷ x) =
     )
 
 backslash_row : (w : Switches) (c : ℕ) (t x : List ℕ) (e : Refusal) (b : Bool) → is_final e.kind ≡ true →
-    (if b then (if list_all is_blank (c ∷ t) then Some (plain UnterminatedString) else None) else escape_refusal w (without_last (92 ∷ c ∷ t))) ≡ Some e →
-    (if b then (if list_all is_blank (c ∷ (t ++ x)) then Some (plain UnterminatedString) else None) else escape_refusal w (without_last (92 ∷ c ∷ (t ++ x)))) ≡ Some e
+    (if b then (if list_all is_blank (c ∷ t) then Some (without_span UnterminatedString) else None) else escape_refusal w (without_last (92 ∷ c ∷ t))) ≡ Some e →
+    (if b then (if list_all is_blank (c ∷ (t ++ x)) then Some (without_span UnterminatedString) else None) else escape_refusal w (without_last (92 ∷ c ∷ (t ++ x)))) ≡ Some e
 backslash_row w c t x e false f h =
     let more = cut_more 92 (c ∷ t) x in
     ap (escape_refusal w) more.1 ∙ escape_final w (without_last (92 ∷ c ∷ t)) more.0 e f h
 backslash_row w c t x e true f h = blank (list_all is_blank (c ∷ t)) h
   where
-    blank : {A : Type 0} (b : Bool) → (if b then Some (plain UnterminatedString) else None) ≡ Some e → A
-    blank true g = never (plain UnterminatedString) e refl f g
+    blank : {A : Type 0} (b : Bool) → (if b then Some (without_span UnterminatedString) else None) ≡ Some e → A
+    blank true g = never (without_span UnterminatedString) e refl f g
     blank false g = cc
 
 no_escape : (w : Switches) (e : Refusal) → {A : Type 0} → is_final e.kind ≡ true → escape_refusal w [] ≡ Some e → A
 unfolding escape_refusal
-no_escape w e f h = never (at 0 UnterminatedEscape) e refl f h
+no_escape w e f h = never (at_byte 0 UnterminatedEscape) e refl f h
 
 backslash_final : (w : Switches) (t x : List ℕ) (e : Refusal) → is_final e.kind ≡ true → backslash_refusal w t ≡ Some e → backslash_refusal w (t ++ x) ≡ Some e
 backslash_final w [] x e f h = no_escape w e f h
 backslash_final w (c ∷ t) x e f h = backslash_row w c t x e (c == 10) f h
 
 suffix_row : (q b : Bool) (t x : List ℕ) (e : Refusal) → is_suffix t ≡ b → is_final e.kind ≡ true →
-    (if q && not b then Some (at 1 (suffix_refusal t)) else None) ≡ Some e →
-    (if q && not (is_suffix (t ++ x)) then Some (at 1 (suffix_refusal (t ++ x))) else None) ≡ Some e
+    (if q && not b then Some (at_byte 1 (suffix_refusal t)) else None) ≡ Some e →
+    (if q && not (is_suffix (t ++ x)) then Some (at_byte 1 (suffix_refusal (t ++ x))) else None) ≡ Some e
 suffix_row false b t x e s f h = cc
 suffix_row true true t x e s f h = cc
 suffix_row true false t x e s f h =
-    let same : at 1 (suffix_refusal t) ≡ e = cc in
+    let same : at_byte 1 (suffix_refusal t) ≡ e = cc in
     let more = suffix_final t x s (subst (λ r. is_final r.kind ≡ true) (sym same) f) in
-    rw more.0 (ap (λ k. Some (at 1 k)) more.1 ∙ h)
+    rw more.0 (ap (λ k. Some (at_byte 1 k)) more.1 ∙ h)
 
 -- a rest refused with a final kind is refused alike whatever is appended
 pub rest_final : (w : Switches) (c : ℕ) (t x : List ℕ) (e : Refusal) → is_final e.kind ≡ true → rest_refusal w (c ∷ t) ≡ Some e → rest_refusal w (c ∷ (t ++ x)) ≡ Some e
@@ -108,17 +108,17 @@ rest_final w c t x e f h =
     keep (c == 92) _ _ _ _ e (backslash_final w t x e f)
     (keep (c == 13) _ _ _ _ e (λ r. r)
     (keep (not (allows_value w c)) _ _ _ _ e (λ r. r)
-    (keep (not (is_ascii_unless w.unicode c)) _ _ _ _ e (λ r. r)
+    (keep (not (fits_charset w.unicode c)) _ _ _ _ e (λ r. r)
     (suffix_row (c == 34) (is_suffix t) t x e refl f)))) h
 
 at_end : {A : Type 0} (w : Switches) (e : Refusal) → is_final e.kind ≡ true → rest_refusal w [] ≡ Some e → A
 unfolding rest_refusal
-at_end w e f h = never (plain UnterminatedString) e refl f h
+at_end w e f h = never (without_span UnterminatedString) e refl f h
 
 -- what refuses the rest with more after it refuses the text with more after it
 pub refused_more : (front : List ℕ) (w : Switches) (t x : List ℕ) (items : List Item) (c : ℕ) (r : List ℕ) (cause : Refusal) →
-    front ++ (body_text items ++ c ∷ r) ≡ t → stand_before w (c ∷ r) items ≡ true → rest_refusal w (c ∷ (r ++ x)) ≡ Some cause →
-    IsQuotedRefusal front w (t ++ x) (moved (byte_len (front ++ body_text items)) cause)
+    front ++ (body_text items ++ c ∷ r) ≡ t → is_item_list w (c ∷ r) items ≡ true → rest_refusal w (c ∷ (r ++ x)) ≡ Some cause →
+    IsQuotedRefusal front w (t ++ x) (shifted (byte_len (front ++ body_text items)) cause)
 refused_more front w t x items c r cause spells taken told = record {
   items = items;
   rest = c ∷ (r ++ x);
@@ -136,7 +136,7 @@ quoted_final front w t x e f h = go h.rest h.spells h.taken h.told
     final_cause : is_final h.cause.kind ≡ true
     final_cause = subst (λ r. is_final r.kind ≡ true) (sym h.placed) f
 
-    go : (rest : List ℕ) → front ++ (body_text h.items ++ rest) ≡ t → stand_before w rest h.items ≡ true → rest_refusal w rest ≡ Some h.cause → IsQuotedRefusal front w (t ++ x) e
+    go : (rest : List ℕ) → front ++ (body_text h.items ++ rest) ≡ t → is_item_list w rest h.items ≡ true → rest_refusal w rest ≡ Some h.cause → IsQuotedRefusal front w (t ++ x) e
     go [] spells taken told = at_end w h.cause final_cause told
     go (c ∷ r) spells taken told =
         subst (λ r. IsQuotedRefusal front w (t ++ x) r) h.placed (refused_more front w t x h.items c r h.cause spells taken (rest_final w c r x h.cause final_cause told))
@@ -179,20 +179,20 @@ open_backslash : (w : Switches) (t : List ℕ) (e : Refusal) → is_open e.kind 
 open_backslash w [] e f h = never_open _ e (closed_escape w (without_last (92 ∷ []))) f h
 open_backslash w (c ∷ t) e f h = go (c == 10) refl h
   where
-    blank : (b : Bool) → list_all is_blank (c ∷ t) ≡ b → c ≡ 10 → (if b then Some (plain UnterminatedString) else None) ≡ Some e → IsOpenRest (92 ∷ c ∷ t)
-    blank false g at h = cc
-    blank true g at h = inr (t, ap (λ n. 92 ∷ n ∷ t) at, (and_parts (is_blank c) (list_all is_blank t) g).1)
+    blank : (b : Bool) → list_all is_blank (c ∷ t) ≡ b → c ≡ 10 → (if b then Some (without_span UnterminatedString) else None) ≡ Some e → IsOpenRest (92 ∷ c ∷ t)
+    blank false g at_byte h = cc
+    blank true g at_byte h = inr (t, ap (λ n. 92 ∷ n ∷ t) at_byte, (and_parts (is_blank c) (list_all is_blank t) g).1)
 
     go : (b : Bool) → (c == 10) ≡ b →
-        (if b then (if list_all is_blank (c ∷ t) then Some (plain UnterminatedString) else None) else escape_refusal w (without_last (92 ∷ c ∷ t))) ≡ Some e → IsOpenRest (92 ∷ c ∷ t)
+        (if b then (if list_all is_blank (c ∷ t) then Some (without_span UnterminatedString) else None) else escape_refusal w (without_last (92 ∷ c ∷ t))) ≡ Some e → IsOpenRest (92 ∷ c ∷ t)
     go false g h = never_open _ e (closed_escape w (without_last (92 ∷ c ∷ t))) f h
     go true g h = blank (list_all is_blank (c ∷ t)) refl (eqb-true c 10 g) h
 
 closed_rows : (w : Switches) (c : ℕ) (t : List ℕ) →
-    is_closed (if c == 13 then Some (at 0 CarriageReturn)
-    else if not (allows_value w c) then Some (at 0 NulByte)
-    else if not (is_ascii_unless w.unicode c) then Some (at 0 NonAsciiInByteLiteral)
-    else if (c == 34) && not (is_suffix t) then Some (at 1 (suffix_refusal t))
+    is_closed (if c == 13 then Some (at_byte 0 CarriageReturn)
+    else if not (allows_value w c) then Some (at_byte 0 NulByte)
+    else if not (fits_charset w.unicode c) then Some (at_byte 0 NonAsciiInByteLiteral)
+    else if (c == 34) && not (is_suffix t) then Some (at_byte 1 (suffix_refusal t))
     else None) ≡ true
 closed_rows w c t = search (closed_if, closed_suffix) depth 8
 
@@ -206,16 +206,16 @@ open_rest w (c ∷ t) e f h = go (c == 92) refl
     go false g = never_open _ e (closed_rows w c t) f (sym (if_false _ _ _ g) ∙ h)
 
 -- what stands before a rest is a body
-item_body : (a : Item) (t rest : List ℕ) → is_taken_before (t ++ rest) a ≡ true → takes_all_blanks a t ≡ true
+item_body : (a : Item) (t rest : List ℕ) → is_complete_before (t ++ rest) a ≡ true → takes_all_blanks a t ≡ true
 item_body (plain_item c) t rest h = refl
 item_body (escape_item e) t rest h = refl
 item_body (continuation b) [] rest h = refl
 item_body (continuation b) (c ∷ t) rest h = h
 
-pub stands_is_body : (w : Switches) (items : List Item) (rest : List ℕ) → stand_before w rest items ≡ true → is_body w items ≡ true
+pub stands_is_body : (w : Switches) (items : List Item) (rest : List ℕ) → is_item_list w rest items ≡ true → is_body w items ≡ true
 stands_is_body w [] rest h = refl
 stands_is_body w (a ∷ items) rest h =
-    let p = and_parts _ (stand_before w rest items) h in
+    let p = and_parts _ (is_item_list w rest items) h in
     let q = and_parts (is_item w a) _ p.0 in
     and_from _ _ (and_from _ _ q.0 (item_body a (body_text items) rest q.1)) (stands_is_body w items rest p.1)
 
@@ -230,7 +230,7 @@ closed_by front w t items body spells = record {
   body = spells;
 }
 
-pub closes : (front : List ℕ) (w : Switches) (t : List ℕ) (items : List Item) (rest : List ℕ) → front ++ (body_text items ++ rest) ≡ t → stand_before w rest items ≡ true → IsOpenRest rest → IsClosedQuoted front w t
+pub closes : (front : List ℕ) (w : Switches) (t : List ℕ) (items : List Item) (rest : List ℕ) → front ++ (body_text items ++ rest) ≡ t → is_item_list w rest items ≡ true → IsOpenRest rest → IsClosedQuoted front w t
 closes front w t items rest spelled taken shape = go shape
   where
     whole : is_body w items ≡ true
@@ -299,13 +299,13 @@ backslash_freed : (w : Switches) (t x : List ℕ) (e : Refusal) → backslash_re
 backslash_freed w [] x e h none = inr (inl (backslash_begins w))
 backslash_freed w (c ∷ t) x e h none = go (c == 10) refl h none
   where
-    blank : (b : Bool) → list_all is_blank (c ∷ t) ≡ b → c ≡ 10 → (if b then Some (plain UnterminatedString) else None) ≡ Some e → RestGoesOn w (92 ∷ c ∷ t)
-    blank false g at h = cc
-    blank true g at h = inl (inr (t, ap (λ n. 92 ∷ n ∷ t) at, (and_parts (is_blank c) (list_all is_blank t) g).1))
+    blank : (b : Bool) → list_all is_blank (c ∷ t) ≡ b → c ≡ 10 → (if b then Some (without_span UnterminatedString) else None) ≡ Some e → RestGoesOn w (92 ∷ c ∷ t)
+    blank false g at_byte h = cc
+    blank true g at_byte h = inl (inr (t, ap (λ n. 92 ∷ n ∷ t) at_byte, (and_parts (is_blank c) (list_all is_blank t) g).1))
 
     go : (b : Bool) → (c == 10) ≡ b →
-        (if b then (if list_all is_blank (c ∷ t) then Some (plain UnterminatedString) else None) else escape_refusal w (without_last (92 ∷ c ∷ t))) ≡ Some e →
-        (if b then (if list_all is_blank (c ∷ (t ++ x)) then Some (plain UnterminatedString) else None) else escape_refusal w (without_last (92 ∷ c ∷ (t ++ x)))) ≡ None →
+        (if b then (if list_all is_blank (c ∷ t) then Some (without_span UnterminatedString) else None) else escape_refusal w (without_last (92 ∷ c ∷ t))) ≡ Some e →
+        (if b then (if list_all is_blank (c ∷ (t ++ x)) then Some (without_span UnterminatedString) else None) else escape_refusal w (without_last (92 ∷ c ∷ (t ++ x)))) ≡ None →
         RestGoesOn w (92 ∷ c ∷ t)
     go true g r n = blank (list_all is_blank (c ∷ t)) refl (eqb-true c 10 g) r
     go false g r n = inr (inl (escape_freed w (c ∷ t) x e r n))
@@ -315,13 +315,13 @@ gone true x y y' e h n = cc
 gone false x y y' e h n = (h, n)
 
 quote_freed : (q a b : Bool) (c : ℕ) (t x : List ℕ) (e : Refusal) → (c == 34) ≡ q → is_suffix t ≡ a → is_suffix (t ++ x) ≡ b →
-    (if q && not a then Some (at 1 (suffix_refusal t)) else None) ≡ Some e →
-    (if q && not b then Some (at 1 (suffix_refusal (t ++ x))) else None) ≡ None → c ∷ t ≡ 34 ∷ 95 ∷ []
+    (if q && not a then Some (at_byte 1 (suffix_refusal t)) else None) ≡ Some e →
+    (if q && not b then Some (at_byte 1 (suffix_refusal (t ++ x))) else None) ≡ None → c ∷ t ≡ 34 ∷ 95 ∷ []
 quote_freed false a b c t x e q s s' h n = cc
 quote_freed true true b c t x e q s s' h n = cc
 quote_freed true false false c t x e q s s' h n = cc
 quote_freed true false true c t x e q s s' h n =
-    let at : c ≡ 34 = eqb-true c 34 q in
+    let at_byte : c ≡ 34 = eqb-true c 34 q in
     let more : t ≡ 95 ∷ [] = suffix_freed t x s s' in cc
 
 rest_freed : (w : Switches) (c : ℕ) (t x : List ℕ) (e : Refusal) → rest_refusal w (c ∷ t) ≡ Some e → rest_refusal w (c ∷ (t ++ x)) ≡ None → RestGoesOn w (c ∷ t)
@@ -329,27 +329,27 @@ unfolding rest_refusal
 rest_freed w c t x e h none = go (c == 92) refl h none
   where
     go : (b : Bool) → (c == 92) ≡ b →
-        (if b then backslash_refusal w t else (if c == 13 then Some (at 0 CarriageReturn)
-        else if not (allows_value w c) then Some (at 0 NulByte)
-        else if not (is_ascii_unless w.unicode c) then Some (at 0 NonAsciiInByteLiteral)
-        else if (c == 34) && not (is_suffix t) then Some (at 1 (suffix_refusal t))
+        (if b then backslash_refusal w t else (if c == 13 then Some (at_byte 0 CarriageReturn)
+        else if not (allows_value w c) then Some (at_byte 0 NulByte)
+        else if not (fits_charset w.unicode c) then Some (at_byte 0 NonAsciiInByteLiteral)
+        else if (c == 34) && not (is_suffix t) then Some (at_byte 1 (suffix_refusal t))
         else None)) ≡ Some e →
-        (if b then backslash_refusal w (t ++ x) else (if c == 13 then Some (at 0 CarriageReturn)
-        else if not (allows_value w c) then Some (at 0 NulByte)
-        else if not (is_ascii_unless w.unicode c) then Some (at 0 NonAsciiInByteLiteral)
-        else if (c == 34) && not (is_suffix (t ++ x)) then Some (at 1 (suffix_refusal (t ++ x)))
+        (if b then backslash_refusal w (t ++ x) else (if c == 13 then Some (at_byte 0 CarriageReturn)
+        else if not (allows_value w c) then Some (at_byte 0 NulByte)
+        else if not (fits_charset w.unicode c) then Some (at_byte 0 NonAsciiInByteLiteral)
+        else if (c == 34) && not (is_suffix (t ++ x)) then Some (at_byte 1 (suffix_refusal (t ++ x)))
         else None)) ≡ None → RestGoesOn w (c ∷ t)
     go true g r n = subst (λ m. RestGoesOn w (m ∷ t)) (sym (eqb-true c 92 g)) (backslash_freed w t x e r n)
     go false g r n =
         let a = gone (c == 13) _ _ _ e r n in
         let b = gone (not (allows_value w c)) _ _ _ e a.0 a.1 in
-        let d = gone (not (is_ascii_unless w.unicode c)) _ _ _ e b.0 b.1 in
+        let d = gone (not (fits_charset w.unicode c)) _ _ _ e b.0 b.1 in
         inr (inr (quote_freed (c == 34) (is_suffix t) (is_suffix (t ++ x)) c t x e refl refl refl d.0 d.1))
 
 pub begins_rest : (front : List ℕ) (w : Switches) (t : List ℕ) (e : Refusal) (h : IsQuotedRefusal front w t e) → BeginsBy (IsQuoted front w) t → RestGoesOn w h.rest
 begins_rest front w t e h (x, q, text, quoted) = go h.rest h.spells h.taken h.told
   where
-    go : (rest : List ℕ) → front ++ (body_text h.items ++ rest) ≡ t → stand_before w rest h.items ≡ true → rest_refusal w rest ≡ Some h.cause → RestGoesOn w rest
+    go : (rest : List ℕ) → front ++ (body_text h.items ++ rest) ≡ t → is_item_list w rest h.items ≡ true → rest_refusal w rest ≡ Some h.cause → RestGoesOn w rest
     go [] spells taken told = inl (inl refl)
     go (c ∷ r) spells taken told = by (rest_refusal w (c ∷ (r ++ x))) refl
       where
@@ -357,7 +357,7 @@ begins_rest front w t e h (x, q, text, quoted) = go h.rest h.spells h.taken h.to
         by (Some e') more = absurd (quoted_texts_are_not_refused front w (t ++ x) q _ quoted (refused_more front w t x h.items c r e' spells taken more))
         by None more = rest_freed w c r x h.cause told more
 
-pub rest_begins : (front : List ℕ) (w : Switches) (t : List ℕ) (items : List Item) (rest : List ℕ) → front ++ (body_text items ++ rest) ≡ t → stand_before w rest items ≡ true → RestGoesOn w rest → BeginsBy (IsQuoted front w) t
+pub rest_begins : (front : List ℕ) (w : Switches) (t : List ℕ) (items : List Item) (rest : List ℕ) → front ++ (body_text items ++ rest) ≡ t → is_item_list w rest items ≡ true → RestGoesOn w rest → BeginsBy (IsQuoted front w) t
 rest_begins front w t items rest spelled taken (inl shape) = let closed = closes front w t items rest spelled taken shape in (34 ∷ [], record { items = closed.items; suffix = [] }, refl, closed.literal)
 rest_begins front w t items rest spelled taken (inr (inl (esc, x, spells, grammar))) =
     let last : IsBodyOf w (escape_text esc) (escape_item esc ∷ []) = record { spells = append-nil (escape_text esc); body = and_from _ _ (and_from _ _ grammar refl) refl } in
@@ -400,12 +400,12 @@ quoted_begins front w t e h = (
 
 -- Texts that end with LF
 
-open_kind : (w : Switches) (rest : List ℕ) (e : Refusal) → IsOpenRest rest → rest_refusal w rest ≡ Some e → plain UnterminatedString ≡ e
+open_kind : (w : Switches) (rest : List ℕ) (e : Refusal) → IsOpenRest rest → rest_refusal w rest ≡ Some e → without_span UnterminatedString ≡ e
 unfolding rest_refusal
-open_kind w rest e (inl none) told = let h : Some (plain UnterminatedString) ≡ Some e = ap (rest_refusal w) (sym none) ∙ told in cc
+open_kind w rest e (inl none) told = let h : Some (without_span UnterminatedString) ≡ Some e = ap (rest_refusal w) (sym none) ∙ told in cc
 open_kind w rest e (inr (blanks, is, all)) told =
-    let h : (if list_all is_blank blanks then Some (plain UnterminatedString) else None) ≡ Some e = ap (rest_refusal w) (sym is) ∙ told in
-    let g : Some (plain UnterminatedString) ≡ Some e = rw all at h in cc
+    let h : (if list_all is_blank blanks then Some (without_span UnterminatedString) else None) ≡ Some e = ap (rest_refusal w) (sym is) ∙ told in
+    let g : Some (without_span UnterminatedString) ≡ Some e = rw all at h in cc
 
 -- a quoted text that ends with LF and is refused begins a literal exactly where its refusal is open
 pub quoted_line_end : (front : List ℕ) (w : Switches) (t : List ℕ) (e : Refusal) → IsQuotedRefusal front w (t ++ 10 ∷ []) e →
@@ -421,7 +421,7 @@ quoted_line_end front w t e h = (shut, λ begins. go h.rest h.spells h.told (beg
 
     by_shape : (rest : List ℕ) → rest_refusal w rest ≡ Some h.cause → IsOpenRest rest → is_open e.kind ≡ true
     by_shape rest told shape =
-        let same : plain UnterminatedString ≡ h.cause = open_kind w rest h.cause shape told in
+        let same : without_span UnterminatedString ≡ h.cause = open_kind w rest h.cause shape told in
         subst (λ r. is_open r.kind ≡ true) h.placed (subst (λ r. is_open r.kind ≡ true) same refl)
 
     go : (rest : List ℕ) → front ++ (body_text h.items ++ rest) ≡ t ++ 10 ∷ [] → rest_refusal w rest ≡ Some h.cause → RestGoesOn w rest → is_open e.kind ≡ true

@@ -10,7 +10,7 @@ use Rattle.std.proofs.lemmas.List.Folds.{list_all-append as all-append}
 use Rattle.litrs_base.specs.declared.err.ParseErrorKind.TheVariants.{InvalidLiteral, TooManyHashes, UnterminatedRawString}
 use Rattle.litrs_base.specs.Finality.{is_final, is_open}
 use Rattle.litrs_base.specs.Characters.{is_scalar}
-use Rattle.litrs_base.specs.Refusal.{Refusal, plain, over, at}
+use Rattle.litrs_base.specs.Refusal.{Refusal, without_span, spanning, at_byte}
 use Rattle.litrs_base.specs.Text.{IsText, byte_len, first_passes, begins_with}
 use Rattle.litrs_base.proofs.Runs.{list_all-weaken, prefix_len_all, IsRun, run_of, last_passes, is_line_feed, last_passes-all, last_passes-append}
 use Rattle.litrs_grammar.specs.Suffix.{is_suffix, suffix_refusal}
@@ -116,7 +116,7 @@ hash_allowed unicode allow_nul c bad = by (is_hash c) refl
 
 -- the character after a body that may not stand there is refused
 pub stopped_at : (unicode allow_nul : Bool) (n start : ℕ) (front : List ℕ) (c : ℕ) (t : List ℕ) → IsRawBody unicode allow_nul n front → is_raw_char unicode allow_nul c ≡ false →
-    raw_body_refusal unicode allow_nul n start (front ++ c ∷ t) ≡ Some (at (start + byte_len front) (raw_char_refusal c))
+    raw_body_refusal unicode allow_nul n start (front ++ c ∷ t) ≡ Some (at_byte (start + byte_len front) (raw_char_refusal c))
 unfolding raw_body_refusal
 stopped_at unicode allow_nul n start front c t grammar bad =
     let ok = is_raw_char unicode allow_nul in
@@ -132,12 +132,12 @@ stopped_at unicode allow_nul n start front c t grammar bad =
     rw (body, allowed, short, taken, character) refl
 
 pub stopped_refusal : (unicode allow_nul : Bool) (n start : ℕ) (t : List ℕ) (x : IsStopped unicode allow_nul n t) →
-    raw_body_refusal unicode allow_nul n start t ≡ Some (at (start + byte_len x.front) (raw_char_refusal x.character))
+    raw_body_refusal unicode allow_nul n start t ≡ Some (at_byte (start + byte_len x.front) (raw_char_refusal x.character))
 stopped_refusal unicode allow_nul n start t x =
     ap (raw_body_refusal unicode allow_nul n start) (sym x.spells) ∙ stopped_at unicode allow_nul n start x.front x.character x.after x.grammar x.disallowed
 
 pub closed_refusal : (unicode allow_nul : Bool) (n start : ℕ) (t after : List ℕ) (x : IsClosedRaw unicode allow_nul n t after) →
-    raw_body_refusal unicode allow_nul n start t ≡ (if not (is_suffix after) then Some (at (start + (byte_len x.body + (1 + n))) (suffix_refusal after)) else None)
+    raw_body_refusal unicode allow_nul n start t ≡ (if not (is_suffix after) then Some (at_byte (start + (byte_len x.body + (1 + n))) (suffix_refusal after)) else None)
 closed_refusal unicode allow_nul n start t after x =
     let ok = is_raw_char unicode allow_nul in
     let all : ltb (prefix_len ok x.body) (length x.body) ≡ false = le-ltb _ _ (omega (arith, prefix_len_all ok x.body x.grammar.allowed)) in
@@ -152,7 +152,7 @@ length_before_all n (c ∷ t) none =
     let parts : (begins_with (raw_closing n) (c ∷ t) ≡ false) × (occurs (raw_closing n) t ≡ false) = or_parts _ _ none in
     ap (λ v. cond v 0 (1 + length_before (raw_closing n) t)) parts.0 ∙ omega (arith, length_before_all n t parts.1)
 
-pub unclosed_refusal : (unicode allow_nul : Bool) (n start : ℕ) (t : List ℕ) → IsRawBody unicode allow_nul n t → raw_body_refusal unicode allow_nul n start t ≡ Some (plain UnterminatedRawString)
+pub unclosed_refusal : (unicode allow_nul : Bool) (n start : ℕ) (t : List ℕ) → IsRawBody unicode allow_nul n t → raw_body_refusal unicode allow_nul n start t ≡ Some (without_span UnterminatedRawString)
 unfolding raw_body_refusal
 unclosed_refusal unicode allow_nul n start t grammar =
     let ok = is_raw_char unicode allow_nul in
@@ -182,12 +182,12 @@ closed_more unicode allow_nul n t after more x = record {
 -- a final refusal stays
 
 suffix_row : (place : ℕ) (b : Bool) (t more : List ℕ) (r : Refusal) → is_suffix t ≡ b → is_final r.kind ≡ true →
-    (if not b then Some (at place (suffix_refusal t)) else None) ≡ Some r → (if not (is_suffix (t ++ more)) then Some (at place (suffix_refusal (t ++ more))) else None) ≡ Some r
+    (if not b then Some (at_byte place (suffix_refusal t)) else None) ≡ Some r → (if not (is_suffix (t ++ more)) then Some (at_byte place (suffix_refusal (t ++ more))) else None) ≡ Some r
 suffix_row place true t more r is final h = cc
 suffix_row place false t more r is final h =
-    let same : at place (suffix_refusal t) ≡ r = cc in
+    let same : at_byte place (suffix_refusal t) ≡ r = cc in
     let stays = suffix_final t more is (subst (λ e. is_final e.kind ≡ true) (sym same) final) in
-    rw stays.0 (ap (λ k. Some (at place k)) stays.1 ∙ h)
+    rw stays.0 (ap (λ k. Some (at_byte place k)) stays.1 ∙ h)
 
 body_final : (unicode allow_nul : Bool) (n start : ℕ) (t more : List ℕ) (r : Refusal) → is_final r.kind ≡ true →
     raw_body_refusal unicode allow_nul n start t ≡ Some r → raw_body_refusal unicode allow_nul n start (t ++ more) ≡ Some r
@@ -199,14 +199,14 @@ body_final unicode allow_nul n start t more r final h = by (raw_scan unicode all
     by (closed after x) =
         closed_refusal unicode allow_nul n start (t ++ more) (after ++ more) (closed_more unicode allow_nul n t after more x)
         ∙ suffix_row (start + (byte_len x.body + (1 + n))) (is_suffix after) after more r refl final (sym (closed_refusal unicode allow_nul n start t after x) ∙ h)
-    by (unclosed grammar) = never (plain UnterminatedRawString) r refl final (sym (unclosed_refusal unicode allow_nul n start t grammar) ∙ h)
+    by (unclosed grammar) = never (without_span UnterminatedRawString) r refl final (sym (unclosed_refusal unicode allow_nul n start t grammar) ∙ h)
 
 -- the table for a text of n hashes and another character
 pub rows_of : (unicode allow_nul : Bool) (start n c : ℕ) (t : List ℕ) → is_hash c ≡ false →
     raw_refusal unicode allow_nul start (hashes n ++ c ∷ t) ≡ raw_rows start n (raw_body_refusal unicode allow_nul n (start + (n + 1)) t) false (ltb 255 n) (is_quote c)
 rows_of unicode allow_nul start n c t stops = refusal_of_hashes unicode allow_nul start n (c ∷ t) stops
 
-pub rows_of_nothing : (unicode allow_nul : Bool) (start n : ℕ) → raw_refusal unicode allow_nul start (hashes n ++ []) ≡ Some (plain InvalidLiteral)
+pub rows_of_nothing : (unicode allow_nul : Bool) (start n : ℕ) → raw_refusal unicode allow_nul start (hashes n ++ []) ≡ Some (without_span InvalidLiteral)
 rows_of_nothing unicode allow_nul start n = refusal_of_hashes unicode allow_nul start n [] refl
 
 -- a raw text refused with a final kind is refused alike whatever is appended
@@ -218,7 +218,7 @@ raw_final unicode allow_nul start t more r final h = by cut.rest cut.spells cut.
     cut = hash_cut t
 
     by : (rest : List ℕ) → hashes cut.count ++ rest ≡ t → first_passes is_hash rest ≡ false → raw_refusal unicode allow_nul start (t ++ more) ≡ Some r
-    by [] spells stops = never (plain InvalidLiteral) r refl final (sym (rows_of_nothing unicode allow_nul start cut.count) ∙ ap (raw_refusal unicode allow_nul start) spells ∙ h)
+    by [] spells stops = never (without_span InvalidLiteral) r refl final (sym (rows_of_nothing unicode allow_nul start cut.count) ∙ ap (raw_refusal unicode allow_nul start) spells ∙ h)
     by (c ∷ rest) spells stops =
         ap (raw_refusal unicode allow_nul start) (ap (λ l. l ++ more) (sym spells) ∙ append_assoc (hashes cut.count) (c ∷ rest) more)
         ∙ rows_of unicode allow_nul start cut.count c (rest ++ more) stops
@@ -254,11 +254,11 @@ hash_len_least : (n : ℕ) (t : List ℕ) → n ≤ hash_len (hashes n ++ t)
 hash_len_least zero t = omega arith
 hash_len_least (suc n) t = omega (arith, hash_len_least n t)
 
-no_suffix_row : (place : ℕ) (b : Bool) (t : List ℕ) (r : Refusal) → (if not b then Some (at place (suffix_refusal t)) else None) ≡ Some r → b ≡ false
+no_suffix_row : (place : ℕ) (b : Bool) (t : List ℕ) (r : Refusal) → (if not b then Some (at_byte place (suffix_refusal t)) else None) ≡ Some r → b ≡ false
 no_suffix_row place true t r h = cc
 no_suffix_row place false t r h = refl
 
-suffix_row_free : (place : ℕ) (b : Bool) (t : List ℕ) → (if not b then Some (at place (suffix_refusal t)) else None) ≡ None → b ≡ true
+suffix_row_free : (place : ℕ) (b : Bool) (t : List ℕ) → (if not b then Some (at_byte place (suffix_refusal t)) else None) ≡ None → b ≡ true
 suffix_row_free place true t h = refl
 suffix_row_free place false t h = cc
 
@@ -366,7 +366,7 @@ shut_character : (c : ℕ) → is_open (raw_char_refusal c) ≡ false
 shut_character c = search shut_kind_if
 
 not_open : {A : Type 0} (k r : Refusal) → is_open k.kind ≡ false → is_open r.kind ≡ true → Some k ≡ Some r → A
-not_open k r shut is same = let at : k ≡ r = cc in absurd (true≢false (sym is ∙ subst (λ e. is_open e.kind ≡ false) at shut))
+not_open k r shut is same = let at_byte : k ≡ r = cc in absurd (true≢false (sym is ∙ subst (λ e. is_open e.kind ≡ false) at_byte shut))
 
 open_body : (unicode allow_nul : Bool) (n start : ℕ) (t : List ℕ) (r : Refusal) → is_open r.kind ≡ true → raw_body_refusal unicode allow_nul n start t ≡ Some r → IsRawBody unicode allow_nul n t
 open_body unicode allow_nul n start t r is h = by (raw_scan unicode allow_nul n t)
@@ -374,17 +374,17 @@ open_body unicode allow_nul n start t r is h = by (raw_scan unicode allow_nul n 
     by : RawScan unicode allow_nul n t → IsRawBody unicode allow_nul n t
     by (unclosed grammar) = grammar
     by (stopped x) =
-        not_open (at (start + byte_len x.front) (raw_char_refusal x.character)) r (shut_character x.character) is (sym (stopped_refusal unicode allow_nul n start t x) ∙ h)
+        not_open (at_byte (start + byte_len x.front) (raw_char_refusal x.character)) r (shut_character x.character) is (sym (stopped_refusal unicode allow_nul n start t x) ∙ h)
     by (closed after x) = suffix (is_suffix after) (sym (closed_refusal unicode allow_nul n start t after x) ∙ h)
       where
-        suffix : (b : Bool) → (if not b then Some (at (start + (byte_len x.body + (1 + n))) (suffix_refusal after)) else None) ≡ Some r → IsRawBody unicode allow_nul n t
+        suffix : (b : Bool) → (if not b then Some (at_byte (start + (byte_len x.body + (1 + n))) (suffix_refusal after)) else None) ≡ Some r → IsRawBody unicode allow_nul n t
         suffix true e = cc
-        suffix false e = not_open (at (start + (byte_len x.body + (1 + n))) (suffix_refusal after)) r (shut_suffix after) is e
+        suffix false e = not_open (at_byte (start + (byte_len x.body + (1 + n))) (suffix_refusal after)) r (shut_suffix after) is e
 
 rows_open : (start n : ℕ) (few quote : Bool) (o : Option Refusal) (r : Refusal) → is_open r.kind ≡ true → raw_rows start n o false few quote ≡ Some r →
     (few ≡ false) × (quote ≡ true) × (o ≡ Some r)
-rows_open start n true quote o r is h = not_open (over start (start + n) TooManyHashes) r refl is h
-rows_open start n false false o r is h = not_open (plain InvalidLiteral) r refl is h
+rows_open start n true quote o r is h = not_open (spanning start (start + n) TooManyHashes) r refl is h
+rows_open start n false false o r is h = not_open (without_span InvalidLiteral) r refl is h
 rows_open start n false true o r is h = (refl, refl, h)
 
 -- what follows the hashes and the quote of an open text is a raw body
@@ -402,7 +402,7 @@ open_cut unicode allow_nul start t r is h = by cut.rest cut.spells cut.stops
     cut = hash_cut t
 
     by : (rest : List ℕ) → hashes cut.count ++ rest ≡ t → first_passes is_hash rest ≡ false → IsOpenRaw unicode allow_nul t
-    by [] spells stops = not_open (plain InvalidLiteral) r refl is (sym (rows_of_nothing unicode allow_nul start cut.count) ∙ ap (raw_refusal unicode allow_nul start) spells ∙ h)
+    by [] spells stops = not_open (without_span InvalidLiteral) r refl is (sym (rows_of_nothing unicode allow_nul start cut.count) ∙ ap (raw_refusal unicode allow_nul start) spells ∙ h)
     by (c ∷ rest) spells stops =
         let rows = rows_open start cut.count (ltb 255 cut.count) (is_quote c) _ r is
         (sym (rows_of unicode allow_nul start cut.count c rest stops) ∙ ap (raw_refusal unicode allow_nul start) spells ∙ h) in
@@ -431,7 +431,7 @@ raw_open unicode allow_nul start t r is h =
 -- Texts that end with LF.
 
 -- what stands open is refused as open
-open_refusal : (unicode allow_nul : Bool) (start : ℕ) (t : List ℕ) → IsOpenRaw unicode allow_nul t → raw_refusal unicode allow_nul start t ≡ Some (plain UnterminatedRawString)
+open_refusal : (unicode allow_nul : Bool) (start : ℕ) (t : List ℕ) → IsOpenRaw unicode allow_nul t → raw_refusal unicode allow_nul start t ≡ Some (without_span UnterminatedRawString)
 open_refusal unicode allow_nul start t x =
     let n = x.hash_count in
     ap (raw_refusal unicode allow_nul start) (sym x.spells) ∙ rows_of unicode allow_nul start n 34 x.body refl
@@ -469,7 +469,7 @@ pub raw_line_end : (unicode allow_nul : Bool) (start : ℕ) (t : List ℕ) (r : 
 raw_line_end unicode allow_nul start t r last h = (
   λ is. (raw_closing (hash_len t), raw_open_parts t, closing_is_text (hash_len t), raw_open unicode allow_nul start t r is h),
   λ begins. (let x = line_end_open unicode allow_nul t last ((raw_begins unicode allow_nul start t r h).0 begins) in
-      let same : plain UnterminatedRawString ≡ r = (let told : Some (plain UnterminatedRawString) ≡ Some r = sym (open_refusal unicode allow_nul start t x) ∙ h in cc) in
+      let same : without_span UnterminatedRawString ≡ r = (let told : Some (without_span UnterminatedRawString) ≡ Some r = sym (open_refusal unicode allow_nul start t x) ∙ h in cc) in
       subst (λ e. is_open e.kind ≡ true) same refl),
 )
 
@@ -477,5 +477,5 @@ raw_line_end unicode allow_nul start t r last h = (
 pub raw_open_kind : (unicode allow_nul : Bool) (start : ℕ) (t : List ℕ) (r : Refusal) → is_open r.kind ≡ true → raw_refusal unicode allow_nul start t ≡ Some r →
     UnterminatedRawString ≡ r.kind
 raw_open_kind unicode allow_nul start t r is h =
-    let told : Some (plain UnterminatedRawString) ≡ Some r = sym (open_refusal unicode allow_nul start t (open_cut unicode allow_nul start t r is h)) ∙ h in
-    let same : plain UnterminatedRawString ≡ r = cc in ap (λ e. e.kind) same
+    let told : Some (without_span UnterminatedRawString) ≡ Some r = sym (open_refusal unicode allow_nul start t (open_cut unicode allow_nul start t r is h)) ∙ h in
+    let same : without_span UnterminatedRawString ≡ r = cc in ap (λ e. e.kind) same

@@ -6,7 +6,7 @@ use Rattle.std.proofs.lemmas.Bool.{or_left, or_right, or_cases}
 use Rattle.litrs_base.specs.declared.err.ParseErrorKind.TheVariants.{Empty}
 use Rattle.litrs_base.specs.Characters.{is_scalar}
 use Rattle.litrs_base.specs.Finality.{is_final, is_open}
-use Rattle.litrs_base.specs.Refusal.{Refusal, plain}
+use Rattle.litrs_base.specs.Refusal.{Refusal, without_span}
 use Rattle.litrs_base.specs.Text.{begins_with, is_empty}
 use Rattle.litrs_base.proofs.Begins.{begins_with-split, begins_with-append}
 use Rattle.litrs_base.proofs.Runs.{list_all-append}
@@ -153,9 +153,9 @@ start_line_end kind t e is x d lit = elim (starts_front kind (t ++ 10 ∷ []) x 
 ]
 
 -- what the rows give
-start_row : (P : Refusal → Type 0) (kind : StringKind) (t : List ℕ) (e : Refusal) → P (plain Empty) → P (string_start_refusal kind) → (empty quoted raw : Bool) →
-    (if empty then refused_start (plain Empty) else if quoted then quoted_start else if raw then raw_start else refused_start (string_start_refusal kind)) ≡ refused_start e → P e
-start_row P kind t e empty other true quoted raw is = subst P (let same : plain Empty ≡ e = cc in same) empty
+start_row : (P : Refusal → Type 0) (kind : StringKind) (t : List ℕ) (e : Refusal) → P (without_span Empty) → P (string_start_refusal kind) → (empty quoted raw : Bool) →
+    (if empty then refused_start (without_span Empty) else if quoted then quoted_start else if raw then raw_start else refused_start (string_start_refusal kind)) ≡ refused_start e → P e
+start_row P kind t e empty other true quoted raw is = subst P (let same : without_span Empty ≡ e = cc in same) empty
 start_row P kind t e empty other false true raw is = cc
 start_row P kind t e empty other false false true is = cc
 start_row P kind t e empty other false false false is = subst P (let same : string_start_refusal kind ≡ e = cc in same) other
@@ -184,7 +184,7 @@ no_longer a c d [] z same = cc
 no_longer a c d (e ∷ r) z same = cc
 
 string_final : (t : List ℕ) (e : Refusal) → string_start string_kind t ≡ refused_start e → is_final e.kind ≡ true → EndsBy (IsString string_kind) t
-string_final [] e is final x d lit = let same : refused_start (plain Empty) ≡ refused_start e = is in let kind : plain Empty ≡ e = cc in absurd (let f : is_final Empty ≡ true = ap (λ r. is_final r.kind) kind ∙ final in cc)
+string_final [] e is final x d lit = let same : refused_start (without_span Empty) ≡ refused_start e = is in let kind : without_span Empty ≡ e = cc in absurd (let f : is_final Empty ≡ true = ap (λ r. is_final r.kind) kind ∙ final in cc)
 string_final (c ∷ r) e is final x d lit = elim (starts_front string_kind (c ∷ r) x d e is lit) [
   | inl (k, z, s) ↦ no_longer 34 c k r z s
   | inr (k, z, s) ↦ no_longer 114 c k r z s

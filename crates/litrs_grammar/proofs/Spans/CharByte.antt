@@ -3,7 +3,7 @@ use Rattle.std.proofs.Common.{◌≡◌, ℕ, ◌+◌, ◌<◌, true, false, ◌
 use Rattle.std.specs.Prelude.{◌==◌, option_map, is_some}
 use Rattle.std.specs.List.{list_any}
 use Rattle.std.proofs.lemmas.Bool.{and_parts, eqb-true}
-use Rattle.litrs_base.specs.Refusal.{Refusal, moved, IsInText}
+use Rattle.litrs_base.specs.Refusal.{Refusal, shifted, IsInText}
 use Rattle.litrs_grammar.specs.Suffix.{is_suffix}
 use Rattle.litrs_base.specs.Text.{byte_len, first_passes, begins_with}
 use Rattle.litrs_grammar.specs.Escape.{escape_refusal}
@@ -59,7 +59,7 @@ start_fits kind [] = tt
 start_fits char_kind (c ∷ t) = first_byte c t
 start_fits byte_kind (c ∷ t) = tt
 
-fit_after : (front t : List ℕ) (o : Option Refusal) → AllFit t o → AllFit (front ++ t) (option_map (moved (byte_len front)) o)
+fit_after : (front t : List ℕ) (o : Option Refusal) → AllFit t o → AllFit (front ++ t) (option_map (shifted (byte_len front)) o)
 fit_after front t None h = tt
 fit_after front t (Some e) h = fit_later front t e h
 
@@ -68,12 +68,12 @@ unfolding char_kind_refusal
 char_fits kind t =
     fit_either t (begins_with (char_front kind) t) _ (Some (start_refusal kind t)) (λ e. begun e) (λ _. start_fits kind t)
   where
-    begun : begins_with (char_front kind) t ≡ true → AllFit t (option_map (moved (length (char_front kind))) (char_item_refusal kind (drop (length (char_front kind)) t)))
+    begun : begins_with (char_front kind) t ≡ true → AllFit t (option_map (shifted (length (char_front kind))) (char_item_refusal kind (drop (length (char_front kind)) t)))
     begun e =
         let rest = drop (length (char_front kind)) t in
         let fits = fit_after (char_front kind) rest (char_item_refusal kind rest) (item_fits kind rest) in
-        let Text : List ℕ → Type 0 = λ l. AllFit l (option_map (moved (byte_len (char_front kind))) (char_item_refusal kind rest)) in
-        let Place : ℕ → Type 0 = λ n. AllFit t (option_map (moved n) (char_item_refusal kind rest)) in
+        let Text : List ℕ → Type 0 = λ l. AllFit l (option_map (shifted (byte_len (char_front kind))) (char_item_refusal kind rest)) in
+        let Place : ℕ → Type 0 = λ n. AllFit t (option_map (shifted n) (char_item_refusal kind rest)) in
         subst Place (front_bytes kind) (subst Text (begins_with-split (char_front kind) t e) fits)
 
 pub char_spans_lie_in_text : CharSpansLieInText

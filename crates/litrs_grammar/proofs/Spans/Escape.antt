@@ -6,7 +6,7 @@ use Rattle.std.specs.List.{list_all, list_any, prefix_len, before_first}
 use Rattle.std.proofs.lemmas.Bool.{and_parts, and_from, and_cases, eqb-true, ltb-true, ltb-false, leb-false}
 use Rattle.std.proofs.lemmas.List.Folds.{list_all-append}
 use Rattle.std.proofs.lemmas.List.Sums.{take_while-cons, sum_by-cons}
-use Rattle.litrs_base.specs.Refusal.{Refusal, IsInText, moved, moved_span}
+use Rattle.litrs_base.specs.Refusal.{Refusal, IsInText, shifted, shifted_span}
 use Rattle.litrs_base.specs.Characters.{is_scalar}
 use Rattle.std.specs.declared.ops.Range.{Range}
 use Rattle.litrs_base.specs.Text.{is_empty, PointsInto, byte_len, first_passes}
@@ -87,10 +87,10 @@ fit_on t more (Some e) h = go e.span h
     go None h = h
     go (Some span) h = marks_on t more span.start span.end h
 
-pub fit_later : (front t : List ℕ) (e : Refusal) → IsInText t e → IsInText (front ++ t) (moved (byte_len front) e)
+pub fit_later : (front t : List ℕ) (e : Refusal) → IsInText t e → IsInText (front ++ t) (shifted (byte_len front) e)
 fit_later front t e h = go e.span h
   where
-    go : (s : Option (Range ℕ)) → IfSome s (PointsInto t) → IfSome (moved_span (byte_len front) s) (PointsInto (front ++ t))
+    go : (s : Option (Range ℕ)) → IfSome s (PointsInto t) → IfSome (shifted_span (byte_len front) s) (PointsInto (front ++ t))
     go None h = h
     go (Some span) h = marks_later front t span.start span.end h
 

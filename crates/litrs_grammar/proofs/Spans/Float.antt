@@ -7,7 +7,7 @@ use Rattle.std.proofs.lemmas.Bool.Decides.{nat_tests}
 use Rattle.std.proofs.lemmas.List.{length-append, append_assoc, append-nil}
 use Rattle.litrs_base.specs.declared.err.ParseErrorKind.{ParseErrorKind}
 use Rattle.litrs_base.specs.declared.err.ParseErrorKind.TheVariants.{Empty, UnexpectedChar, DoesNotStartWithDigit, NoExponentDigits, UnexpectedIntegerLit}
-use Rattle.litrs_base.specs.Refusal.{Refusal, IsInText, plain, over, at}
+use Rattle.litrs_base.specs.Refusal.{Refusal, IsInText, without_span, spanning, at_byte}
 use Rattle.litrs_base.specs.Text.{is_empty, byte_len}
 use Rattle.litrs_grammar.specs.Suffix.{suffix_refusal}
 use Rattle.litrs_grammar.specs.Integer.{is_e}
@@ -70,11 +70,11 @@ number_part_chars d cut =
 
 -- each row
 
-first_span : (t : List ℕ) (kind : ParseErrorKind) → is_empty t ≡ false → IsInText t (at 0 kind)
+first_span : (t : List ℕ) (kind : ParseErrorKind) → is_empty t ≡ false → IsInText t (at_byte 0 kind)
 first_span [] kind h = absurd (true≢false h)
 first_span (c ∷ cs) kind h = at_within (c ∷ cs) [] c cs 0 kind refl refl
 
-fraction_span : (t i r : List ℕ) (kind : ParseErrorKind) → i ++ r ≡ t → list_all is_decimal_char i ≡ true → has_wrong_fraction r ≡ true → IsInText t (at (length i + 1) kind)
+fraction_span : (t i r : List ℕ) (kind : ParseErrorKind) → i ++ r ≡ t → list_all is_decimal_char i ≡ true → has_wrong_fraction r ≡ true → IsInText t (at_byte (length i + 1) kind)
 fraction_span t i [] kind spells all wrong = absurd (false≢true wrong)
 fraction_span t i (c ∷ []) kind spells all wrong = absurd (false≢true (and_parts (is_period c) false wrong).1)
 fraction_span t i (c ∷ d ∷ cs) kind spells all wrong =
@@ -84,8 +84,8 @@ fraction_span t i (c ∷ d ∷ cs) kind spells all wrong =
 
 -- what holds of the refusal in each row holds of the table
 rows_hold : (P : Refusal → Type 0) (i f n len : ℕ) (kind : ParseErrorKind) (empty digit wrong_fraction period exponent exponent_digit suffix : Bool) →
-    ((k : ParseErrorKind) → P (plain k)) → (empty ≡ false → P (at 0 DoesNotStartWithDigit)) → (wrong_fraction ≡ true → P (at (i + 1) UnexpectedChar)) →
-    P (over f n NoExponentDigits) → P (over n len kind) → ForSome (number_rows empty digit (float_rows i f n len kind wrong_fraction period exponent exponent_digit suffix)) P
+    ((k : ParseErrorKind) → P (without_span k)) → (empty ≡ false → P (at_byte 0 DoesNotStartWithDigit)) → (wrong_fraction ≡ true → P (at_byte (i + 1) UnexpectedChar)) →
+    P (spanning f n NoExponentDigits) → P (spanning n len kind) → ForSome (number_rows empty digit (float_rows i f n len kind wrong_fraction period exponent exponent_digit suffix)) P
 rows_hold P i f n len kind true digit wrong period exponent edigit suffix a b c d e = of_some P _ (a Empty)
 rows_hold P i f n len kind false false wrong period exponent edigit suffix a b c d e = of_some P _ (b refl)
 rows_hold P i f n len kind false true true period exponent edigit suffix a b c d e = of_some P _ (c refl)

@@ -3,7 +3,7 @@ use Rattle.std.proofs.Common.{◌≡◌, ℕ, Bool, true, false, List, [], ◌�
 use Rattle.std.specs.Prelude.{if◌then◌else◌}
 use Rattle.std.proofs.lemmas.Bool.{true≢false}
 use Rattle.litrs_base.specs.declared.err.ParseErrorKind.TheVariants.{Empty, InvalidLiteral, InvalidStringLiteralStart, InvalidByteStringLiteralStart, InvalidCStringLiteralStart}
-use Rattle.litrs_base.specs.Refusal.{Refusal, plain, IsInText}
+use Rattle.litrs_base.specs.Refusal.{Refusal, without_span, IsInText}
 use Rattle.litrs_base.specs.Text.{begins_with}
 use Rattle.litrs_base.specs.declared.quotes.StringKind.{StringKind}
 use Rattle.litrs_base.specs.declared.quotes.StringKind.TheVariants.{String as string_kind, ByteString as byte_string_kind, CString as c_string_kind}
@@ -46,9 +46,9 @@ no_literal_ends_with_line_feed t (a_c_string d) r = string_last c_string_kind t 
 
 -- The spans of refusals
 
-bool_within : (t : List ℕ) (e : Refusal) (v : Bool) → (if v then None else Some (plain InvalidLiteral)) ≡ Some e → IsInText t e
+bool_within : (t : List ℕ) (e : Refusal) (v : Bool) → (if v then None else Some (without_span InvalidLiteral)) ≡ Some e → IsInText t e
 bool_within t e true h = cc
-bool_within t e false h = row_is t (plain InvalidLiteral) e (plain_within t InvalidLiteral) h
+bool_within t e false h = row_is t (without_span InvalidLiteral) e (plain_within t InvalidLiteral) h
 
 start_within : (kind : StringKind) (c : ℕ) (t : List ℕ) → IsInText (c ∷ t) (string_start_refusal kind)
 start_within string_kind c t = at_within (c ∷ t) [] c t 0 InvalidStringLiteralStart refl refl
@@ -61,7 +61,7 @@ last_start false true e f h = cc
 last_start false false e f h = cc
 
 no_start_within : (kind : StringKind) (t : List ℕ) (refusal : Refusal) → string_start kind t ≡ refused_start refusal → IsInText t refusal
-no_start_within kind [] refusal h = subst (λ e. IsInText [] e) (let same : plain Empty ≡ refusal = cc in same) (plain_within [] Empty)
+no_start_within kind [] refusal h = subst (λ e. IsInText [] e) (let same : without_span Empty ≡ refusal = cc in same) (plain_within [] Empty)
 no_start_within kind (c ∷ t) refusal h =
     subst (λ e. IsInText (c ∷ t) e) (last_start (begins_with (quoted_front kind) (c ∷ t)) (begins_with (raw_front kind) (c ∷ t)) (string_start_refusal kind) refusal h)
     (start_within kind c t)

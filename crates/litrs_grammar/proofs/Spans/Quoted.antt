@@ -3,9 +3,9 @@ use Rattle.std.proofs.Common.{◌≡◌, ℕ, ◌<◌, Bool, true, false, not, �
 use Rattle.std.specs.Prelude.{◌==◌, if◌then◌else◌}
 use Rattle.std.specs.List.{list_all}
 use Rattle.std.proofs.lemmas.Bool.{and_parts, eqb-true}
-use Rattle.litrs_base.specs.Refusal.{Refusal, plain, moved, IsInText}
+use Rattle.litrs_base.specs.Refusal.{Refusal, without_span, shifted, IsInText}
 use Rattle.litrs_base.specs.declared.err.ParseErrorKind.TheVariants.{UnterminatedString}
-use Rattle.litrs_base.specs.Characters.{is_blank, is_ascii_unless}
+use Rattle.litrs_base.specs.Characters.{is_blank, fits_charset}
 use Rattle.litrs_grammar.specs.Suffix.{is_suffix}
 use Rattle.litrs_base.specs.Text.{byte_len, first_passes}
 use Rattle.litrs_base.specs.declared.quotes.Switches.{Switches}
@@ -39,7 +39,7 @@ cut_escape_fits w (c ∷ t) =
 
 backslash_fits : (w : Switches) (t : List ℕ) → AllFit (92 ∷ t) (backslash_refusal w t)
 backslash_fits w t =
-    fit_either _ (first_passes (λ c. c == 10) t) (if list_all is_blank t then Some (plain UnterminatedString) else None) _
+    fit_either _ (first_passes (λ c. c == 10) t) (if list_all is_blank t then Some (without_span UnterminatedString) else None) _
     (λ _. fit_if _ (list_all is_blank t) _ None (λ _. tt) (λ _. tt))
     (λ _. cut_escape_fits w t)
 
@@ -50,7 +50,7 @@ rest_fits w (c ∷ t) =
     fit_either _ (c == 92) (backslash_refusal w t) _ (λ e. subst (λ n. AllFit (n ∷ t) (backslash_refusal w t)) (sym (eqb-true c 92 e)) (backslash_fits w t))
     (λ _. fit_if _ (c == 13) _ _ (λ _. first_byte c t)
     (λ _. fit_unless _ (allows_value w c) _ _ (λ _. first_byte c t)
-    (λ _. fit_unless _ (is_ascii_unless w.unicode c) _ _ (λ _. first_byte c t)
+    (λ _. fit_unless _ (fits_charset w.unicode c) _ _ (λ _. first_byte c t)
     (λ _. fit_if _ ((c == 34) && not (is_suffix t)) _ None (λ e. after_quote e) (λ _. tt)))))
   where
     not_suffix : (b : Bool) → not b ≡ true → b ≡ false
@@ -68,6 +68,6 @@ quoted_spans_lie_in_text front w t e h =
     let before = front ++ body_text h.items in
     let fits = fit_later before h.rest h.cause (fit_some h.rest (rest_refusal w h.rest) h.cause (rest_fits w h.rest) h.told) in
     let whole : before ++ h.rest ≡ t = append_assoc front (body_text h.items) h.rest ∙ h.spells in
-    let Text : List ℕ → Type 0 = λ l. IsInText l (moved (byte_len before) h.cause) in
+    let Text : List ℕ → Type 0 = λ l. IsInText l (shifted (byte_len before) h.cause) in
     let Refusal : Refusal → Type 0 = λ f. IsInText t f in
     subst Refusal h.placed (subst Text whole fits)

@@ -9,7 +9,7 @@ use Rattle.std.proofs.lemmas.List.{take-append-drop, drop_more, length-take-le, 
 use Rattle.std.proofs.lemmas.List.Folds.{list_any-append}
 use Rattle.litrs_base.specs.declared.err.ParseErrorKind.{ParseErrorKind}
 use Rattle.litrs_base.specs.declared.err.ParseErrorKind.TheVariants.{InvalidLiteral, TooManyHashes, UnterminatedRawString}
-use Rattle.litrs_base.specs.Refusal.{Refusal, IsInText, plain, over, at}
+use Rattle.litrs_base.specs.Refusal.{Refusal, IsInText, without_span, spanning, at_byte}
 use Rattle.litrs_base.specs.Text.{is_empty, byte_len, first_passes}
 use Rattle.litrs_grammar.specs.Suffix.{is_suffix, suffix_refusal}
 use Rattle.litrs_grammar.specs.Raw.{is_quote, is_hash, is_nul, hashes, raw_closing, is_raw_char, raw_value, RawParts, raw_text, IsRaw, length_before, raw_char_refusal, raw_body_refusal, raw_refusal}
@@ -23,7 +23,7 @@ use Rattle.litrs_grammar.proofs.Laws.Raw.{refusal_of_hashes, before_closing, aft
 -- what holds of the refusal in each row holds of the tables
 
 body_rows_hold : (P : Refusal → Type 0) (place suffix_place : ℕ) (kind suffix_kind : ParseErrorKind) (refused closed suffix : Bool) →
-    (refused ≡ true → P (at place kind)) → P (plain UnterminatedRawString) → (closed ≡ true → suffix ≡ false → P (at suffix_place suffix_kind)) →
+    (refused ≡ true → P (at_byte place kind)) → P (without_span UnterminatedRawString) → (closed ≡ true → suffix ≡ false → P (at_byte suffix_place suffix_kind)) →
     ForSome (raw_body_rows place suffix_place kind suffix_kind refused closed suffix) P
 body_rows_hold P place suffix_place kind suffix_kind true closed suffix a b c = of_some P _ (a refl)
 body_rows_hold P place suffix_place kind suffix_kind false false suffix a b c = of_some P _ b
@@ -31,7 +31,7 @@ body_rows_hold P place suffix_place kind suffix_kind false true false a b c = of
 body_rows_hold P place suffix_place kind suffix_kind false true true a b c = of_none P
 
 rows_hold : (P : Refusal → Type 0) (start n : ℕ) (body_refusal : Option Refusal) (nothing too_many quote : Bool) →
-    P (plain InvalidLiteral) → P (over start (start + n) TooManyHashes) → (quote ≡ true → ForSome body_refusal P) →
+    P (without_span InvalidLiteral) → P (spanning start (start + n) TooManyHashes) → (quote ≡ true → ForSome body_refusal P) →
     ForSome (raw_rows start n body_refusal nothing too_many quote) P
 rows_hold P start n body_refusal true too_many quote a b c = of_some P _ a
 rows_hold P start n body_refusal false true quote a b c = of_some P _ b
@@ -50,7 +50,7 @@ pub quoted_bytes : (n : ℕ) → byte_len (raw_closing n) ≡ 1 + n
 quoted_bytes n = byte_len-append (34 ∷ []) (hashes n) ∙ omega (arith, hashes_bytes n, byte_len_ascii (34 ∷ []) refl)
 
 -- a character in the text
-char_span : (t front r : List ℕ) (start k : ℕ) (kind : ParseErrorKind) → front ++ r ≡ t → byte_len front ≡ start → k < length r → IsInText t (at (start + byte_len (take k r)) kind)
+char_span : (t front r : List ℕ) (start k : ℕ) (kind : ParseErrorKind) → front ++ r ≡ t → byte_len front ≡ start → k < length r → IsInText t (at_byte (start + byte_len (take k r)) kind)
 char_span t front r start k kind spells at_start inside =
     let split : take k r ++ (get_or r k 0 ∷ drop (k + 1) r) ≡ r = ap (λ s. take k r ++ s) (sym (drop_more r k 0 inside)) ∙ take-append-drop k r in
     at_within t (front ++ take k r) (get_or r k 0) (drop (k + 1) r) (start + byte_len (take k r)) kind
@@ -58,14 +58,14 @@ char_span t front r start k kind spells at_start inside =
     (byte_len-append front (take k r) ∙ ap (λ m. m + byte_len (take k r)) at_start)
 
 -- what follows a closing, where that is not empty
-suffix_span : (t front x : List ℕ) (place : ℕ) (kind : ParseErrorKind) → front ++ x ≡ t → byte_len front ≡ place → is_suffix x ≡ false → IsInText t (at place kind)
+suffix_span : (t front x : List ℕ) (place : ℕ) (kind : ParseErrorKind) → front ++ x ≡ t → byte_len front ≡ place → is_suffix x ≡ false → IsInText t (at_byte place kind)
 unfolding is_suffix
 suffix_span t front [] place kind spells at_place h = absurd (true≢false h)
 suffix_span t front (c ∷ cs) place kind spells at_place h = at_within t front c cs place kind spells at_place
 
 closed_span : (t front r : List ℕ) (start n : ℕ) (kind : ParseErrorKind) → front ++ r ≡ t → byte_len front ≡ start → (c : ClosingCut n r) →
     is_suffix (drop (length (take (length_before (raw_closing n) r) r) + (1 + n)) r) ≡ false →
-    IsInText t (at (start + (byte_len (take (length_before (raw_closing n) r) r) + (1 + n))) kind)
+    IsInText t (at_byte (start + (byte_len (take (length_before (raw_closing n) r) r) + (1 + n))) kind)
 closed_span t front r start n kind spells at_start c h =
     let s : List ℕ = c.before ++ (raw_closing n ++ c.after) in
     let before : take (length_before (raw_closing n) r) r ≡ c.before =

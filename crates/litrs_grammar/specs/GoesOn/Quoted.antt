@@ -6,7 +6,7 @@ use Rattle.std.specs.List.{list_all}
 use Rattle.litrs_base.specs.Characters.{line_feed, double_quote, backslash, underscore, is_blank}
 use Rattle.litrs_base.specs.declared.quotes.Switches.{Switches}
 use Rattle.litrs_grammar.specs.GoesOn.Escape.{BeginsEscape}
-use Rattle.litrs_grammar.specs.Quoted.{Item, body_text, stand_before, IsQuoted}
+use Rattle.litrs_grammar.specs.Quoted.{Item, body_text, is_item_list, IsQuoted}
 
 -- An open rest: nothing, or a continuation that ends the text.
 abbrev pub IsOpenRest : List ℕ → Type 0
@@ -33,5 +33,5 @@ pub record QuotedGoesOn (front : List ℕ) (w : Switches) (t : List ℕ) : Type 
   pub items : List Item
   pub rest : List ℕ
   pub spells : front ++ (body_text items ++ rest) ≡ t
-  pub taken : IsTrue (stand_before w rest items)
+  pub taken : IsTrue (is_item_list w rest items)
   pub goes_on : RestGoesOn w rest

@@ -11,7 +11,7 @@ use Rattle.litrs_grammar.specs.Suffix.{is_suffix}
 use Rattle.litrs_base.specs.declared.quotes.Switches.{Switches}
 use Rattle.litrs_grammar.specs.Escape.{escape_refusal}
 use Rattle.litrs_grammar.specs.GoesOn.Escape.{BeginsEscape, escape_goes_on}
-use Rattle.litrs_grammar.specs.Quoted.{Item, stand_before, IsBodyOf, IsQuoted, IsQuotedRefusal}
+use Rattle.litrs_grammar.specs.Quoted.{Item, is_item_list, IsBodyOf, IsQuoted, IsQuotedRefusal}
 use Rattle.litrs_grammar.specs.Literal.{Derivation, IsLiteral, Parse, IsLiteralOf, Begins}
 use Rattle.litrs_grammar.specs.LiteralRefusals.{IsRefusal}
 use Rattle.litrs_grammar.specs.LiteralText.{literal_text, AreParts}
@@ -68,7 +68,7 @@ RefusedEscapesGoOn = (w : Switches) (t : List ℕ) (r : Refusal) →
 -- the items that are taken before a rest are taken before every longer rest
 abbrev pub QuotedItemsStay : Type 0
 QuotedItemsStay = (w : Switches) (rest more : List ℕ) (items : List Item) →
-    IsTrue (stand_before w rest items) → IsTrue (stand_before w (rest ++ more) items)
+    IsTrue (is_item_list w rest items) → IsTrue (is_item_list w (rest ++ more) items)
 
 -- a quoted text refused with a final kind is refused with the same kind and span whatever is
 -- appended

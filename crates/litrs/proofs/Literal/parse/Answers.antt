@@ -3,7 +3,7 @@ use Rattle.std.proofs.Common.{inl, refl, sym, ap, ◌∙◌}
 use Rattle.std.specs.Str.{chars}
 use Rattle.std.proofs.lemmas.Result.{err_from_is_err_and}
 use Rattle.litrs_base.specs.declared.err.ParseErrorKind.TheVariants.{Empty}
-use Rattle.litrs_base.specs.Refusal.{plain}
+use Rattle.litrs_base.specs.Refusal.{without_span}
 use Rattle.litrs_grammar.specs.Bool.{bool_text}
 use Rattle.litrs_grammar.specs.Literal.{a_bool, a_char, a_byte, char_literal, byte_literal, string_literal_of}
 use Rattle.litrs_grammar.proofs.Laws.Bool.{chars-bool_text}
@@ -17,7 +17,7 @@ pub returns-in-Empty-clause-refused : goal.returns-in-Empty-clause-refused
 returns-in-Empty-clause-refused g c =
     let is = c.in-Empty.ensures in
     start_error_at _ c.as_str.result.now Empty c.new.result c.as_str.ensures
-    (start_refused c.as_str.result.now (plain Empty) c.as_str.utf8 is.row) c.new.ensures.refusal
+    (start_refused c.as_str.result.now (without_span Empty) c.as_str.utf8 is.row) c.new.ensures.refusal
 
 pub returns-in-Bool-clause-raw : goal.returns-in-Bool-clause-raw
 returns-in-Bool-clause-raw g c =

@@ -4,7 +4,7 @@ use Rattle.std.specs.Prelude.{◌==◌}
 use Rattle.std.specs.Str.{chars}
 use Rattle.std.specs.List.{list_any}
 use Rattle.std.proofs.lemmas.Str.{IsCharBoundary-after_ascii}
-use Rattle.litrs_base.specs.Refusal.{plain, at, over}
+use Rattle.litrs_base.specs.Refusal.{without_span, at_byte, spanning}
 use Rattle.litrs_base.specs.Text.{first_passes}
 use Rattle.litrs_grammar.specs.CharByte.{closing_refusal}
 use Rattle.litrs_grammar.specs.Suffix.{is_suffix, suffix_refusal}
@@ -20,11 +20,11 @@ returns-then-not-begins_with_quote-clause-table c =
           overlong_row c.args.kind c.args.len c.range_from-after.result.now c.range_from-after.utf8
           (ap (list_any (λ n. n == 39)) (sym c.as_bytes-then-not-begins_with_quote.ensures.value) ∙ sym w.if-has_quote.ensures)
           (ap (first_passes (λ n. n == 39)) (sym c.as_bytes.ensures.value) ∙ sym c.if-not-begins_with_quote.ensures)
-          ∙ ap Some (ap plain (sym w.overlong_kind-refusal.ensures ∙ sym w.refusal-is) ∙ sym c.new.ensures.refusal)
+          ∙ ap Some (ap without_span (sym w.overlong_kind-refusal.ensures ∙ sym w.refusal-is) ∙ sym c.new.ensures.refusal)
       | else-has_quote w ↦
           unterminated_row c.args.kind c.args.len c.range_from-after.result.now c.range_from-after.utf8
           (ap (list_any (λ n. n == 39)) (sym c.as_bytes-then-not-begins_with_quote.ensures.value) ∙ sym w.if-has_quote.ensures)
-          ∙ ap Some (ap plain (sym w.unterminated_kind-refusal.ensures ∙ sym w.refusal-is) ∙ sym c.new.ensures.refusal)
+          ∙ ap Some (ap without_span (sym w.unterminated_kind-refusal.ensures ∙ sym w.refusal-is) ∙ sym c.new.ensures.refusal)
     ])
 
 pub range_from-requires : goal.range_from-requires
@@ -49,5 +49,5 @@ returns-in-Err-clause-table c =
     ∙ (suffix_row c.args.kind c.args.len c.range_from-after.result.now
     (ap (first_passes (λ n. n == 39)) (sym c.as_bytes.ensures.value) ∙ sym c.if-not-begins_with_quote.ensures)
     (ap (λ l. is_suffix (chars l)) (sym c.range_from.ensures.value) ∙ sym c.in-Err.ensures.ok)
-    ∙ (ap (λ l. Some (at (c.args.len + 1) (suffix_refusal (chars l)))) (sym c.range_from.ensures.value)
-    ∙ (ap (λ k. Some (at (c.args.len + 1) k)) (sym c.in-Err.ensures.err) ∙ (let two : c.args.len + 1 + 1 ≡ c.args.len + 2 = omega arith in ap Some (ap (λ n. over (c.args.len + 1) n c.in-Err.refusal) two ∙ sym c.in_text.ensures.refusal)))))
+    ∙ (ap (λ l. Some (at_byte (c.args.len + 1) (suffix_refusal (chars l)))) (sym c.range_from.ensures.value)
+    ∙ (ap (λ k. Some (at_byte (c.args.len + 1) k)) (sym c.in-Err.ensures.err) ∙ (let two : c.args.len + 1 + 1 ≡ c.args.len + 2 = omega arith in ap Some (ap (λ n. spanning (c.args.len + 1) n c.in-Err.refusal) two ∙ sym c.in_text.ensures.refusal)))))

@@ -3,7 +3,7 @@ use Rattle.std.proofs.Common.{sym, ap, ◌∙◌, Some}
 use Rattle.std.specs.Prelude.{◌==◌}
 use Rattle.litrs_base.specs.Text.{first_passes}
 use Rattle.litrs_base.proofs.CharEnds.{no_span}
-use Rattle.litrs_base.specs.Refusal.{plain}
+use Rattle.litrs_base.specs.Refusal.{without_span}
 use Rattle.litrs_grammar.specs.CharByte.{empty_kind}
 use Rattle.litrs_lex.proofs.EscapeBytes.{slice_from}
 use Rattle.litrs_lex.proofs.CharByteBytes.{quote_row, empty_row}
@@ -21,7 +21,7 @@ returns-then-begins_with_quote c =
 pub returns-else-begins_with_quote : goal.returns-else-begins_with_quote
 returns-else-begins_with_quote c =
     let same = slice_from c.args.rest.now c.as_bytes.result.now 1 c.as_bytes.ensures.value in
-    let is = c.new.ensures.refusal ∙ ap plain c.empty_kind.ensures in
+    let is = c.new.ensures.refusal ∙ ap without_span c.empty_kind.ensures in
     record {
       table = empty_row c.args.kind c.args.rest.now c.utf8.rest c.requires (ap (first_passes (λ n. n == 39)) (sym same) ∙ sym c.if-begins_with_quote.ensures)
           ∙ ap Some (sym is);

@@ -1,7 +1,7 @@
 -- The value.
 use Rattle.std.proofs.Common.{◌≡◌, ◌+◌, ap, ◌∙◌, sym, Some, drop}
-use Rattle.litrs_base.specs.Characters.{is_no_nul_unless, is_scalar}
-use Rattle.litrs_base.specs.Refusal.{over}
+use Rattle.litrs_base.specs.Characters.{nul_is_allowed, is_scalar}
+use Rattle.litrs_base.specs.Refusal.{spanning}
 use Rattle.litrs_base.specs.declared.err.ParseErrorKind.TheVariants.{DisallowedNulEscape, InvalidUnicodeEscapeChar}
 use Rattle.litrs_lex.proofs.EscapeBytes.{has_refusal, unicode_on, length-take-within, fails, scalar_by, by_scalar}
 use Rattle.litrs_lex.proofs.UnicodeEscapeBytes.{braced, digit_text, closed_text, value_nul_row, value_row, unicode_read}
@@ -14,8 +14,8 @@ returns-then-not-allows_value-clause-refused c =
     let closed = closed_text c.args.input.now _ _ (digit_text c.args.input.now c.args.digits b d) c.requires.closed in
     let size = length-take-within (drop 3 c.args.input.now) c.args.digits.len d.within in
     rw (unicode_on c.args.allowed c.requires.unicode) (has_refusal _ _ c.in_text.result
-    (value_nul_row c.args.allowed.byte_escapes c.args.allowed.allow_nul c.args.input.now _ b closed d.few (ap (is_no_nul_unless c.args.allowed.allow_nul) d.value ∙ sym c.if-not-allows_value.ensures)
-    ∙ (ap (λ n. Some (over 0 (4 + n) DisallowedNulEscape)) size ∙ ap Some (sym c.in_text.ensures.refusal)))
+    (value_nul_row c.args.allowed.byte_escapes c.args.allowed.allow_nul c.args.input.now _ b closed d.few (ap (nul_is_allowed c.args.allowed.allow_nul) d.value ∙ sym c.if-not-allows_value.ensures)
+    ∙ (ap (λ n. Some (spanning 0 (4 + n) DisallowedNulEscape)) size ∙ ap Some (sym c.in_text.ensures.refusal)))
     c.in_text.ensures.char_span)
 
 pub returns-in-Some-clause-ok : goal.returns-in-Some-clause-ok
@@ -26,7 +26,7 @@ returns-in-Some-clause-ok c =
     let same : c.args.digits.value ≡ c.in-Some.value = sym c.in-Some.ensures.value.1 in
     rw (unicode_on c.args.allowed c.requires.unicode) (unicode_read c.args.allowed.byte_escapes c.args.allowed.allow_nul c.args.input.now _ c.in-Some.value c.args.digits.len c.utf8.input b closed d.few (d.value ∙ same)
     (length-take-within (drop 3 c.args.input.now) c.args.digits.len d.within)
-    (ap (is_no_nul_unless c.args.allowed.allow_nul) (sym same) ∙ sym c.if-not-allows_value.ensures)
+    (ap (nul_is_allowed c.args.allowed.allow_nul) (sym same) ∙ sym c.if-not-allows_value.ensures)
     (ap is_scalar (sym same) ∙ scalar_by c.args.digits.value c.in-Some.ensures.value.0))
 
 pub returns-in-None-clause-refused : goal.returns-in-None-clause-refused
@@ -36,7 +36,7 @@ returns-in-None-clause-refused c =
     let closed = closed_text c.args.input.now _ _ (digit_text c.args.input.now c.args.digits b d) c.requires.closed in
     let size = length-take-within (drop 3 c.args.input.now) c.args.digits.len d.within in
     rw (unicode_on c.args.allowed c.requires.unicode) (has_refusal _ _ c.in_text-in-None.result
-    (value_row c.args.allowed.byte_escapes c.args.allowed.allow_nul c.args.input.now _ b closed d.few (ap (is_no_nul_unless c.args.allowed.allow_nul) d.value ∙ sym c.if-not-allows_value.ensures)
+    (value_row c.args.allowed.byte_escapes c.args.allowed.allow_nul c.args.input.now _ b closed d.few (ap (nul_is_allowed c.args.allowed.allow_nul) d.value ∙ sym c.if-not-allows_value.ensures)
     (ap is_scalar d.value ∙ fails _ (λ is. c.in-None.ensures.value (by_scalar c.args.digits.value is)))
-    ∙ (ap (λ n. Some (over 0 (4 + n) InvalidUnicodeEscapeChar)) size ∙ ap Some (sym c.in_text-in-None.ensures.refusal)))
+    ∙ (ap (λ n. Some (spanning 0 (4 + n) InvalidUnicodeEscapeChar)) size ∙ ap Some (sym c.in_text-in-None.ensures.refusal)))
     c.in_text-in-None.ensures.char_span)

@@ -2,7 +2,7 @@
 use Rattle.std.proofs.Common.{◌&&◌, get_or, ap, ◌∙◌, sym, Some, refl}
 use Rattle.std.proofs.lemmas.Bool.{false≢true}
 use Rattle.std.specs.Char.{is_ascii_hexdigit}
-use Rattle.litrs_base.specs.Characters.{is_no_nul_unless}
+use Rattle.litrs_base.specs.Characters.{nul_is_allowed}
 use Rattle.litrs_lex.proofs.EscapeBytes.{has_refusal, letter_of, first_slash, fails}
 use Rattle.litrs_lex.proofs.HexEscapeBytes.{hex_end_row, hex_digits_row, pair_of, hex_byte_row, hex_nul_row, hex_read}
 use Rattle.litrs_lex.proofs.escape.unescape_hex.Goals as goal
@@ -35,7 +35,7 @@ returns-then-not-allows_value-clause-refused c =
     let pair = pair_of c.args.input.now _ _ c.utf8.input c.requires (ap (λ l. get_or l 2 0) (sym seen)) (ap (λ l. get_or l 3 0) (sym seen)) c.in-Some.ensures.0 in
     has_refusal _ _ c.in_text-then-not-allows_value.result
     (hex_nul_row _ c.args.input.now _ _ c.in-Some.value pair c.in-Some.ensures.1 (sym c.if-not-allows_byte.ensures)
-    (ap (is_no_nul_unless c.args.allowed.allow_nul) (sym c.from.ensures) ∙ sym c.if-not-allows_value.ensures)
+    (ap (nul_is_allowed c.args.allowed.allow_nul) (sym c.from.ensures) ∙ sym c.if-not-allows_value.ensures)
     ∙ ap Some (sym c.in_text-then-not-allows_value.ensures.refusal))
     c.in_text-then-not-allows_value.ensures.char_span
 
@@ -44,4 +44,4 @@ returns-clause-ok c =
     let seen = c.as_bytes-bytes.ensures.value in
     let pair = pair_of c.args.input.now _ _ c.utf8.input c.requires (ap (λ l. get_or l 2 0) (sym seen)) (ap (λ l. get_or l 3 0) (sym seen)) c.in-Some.ensures.0 in
     hex_read _ c.args.input.now _ _ c.in-Some.value c.utf8.input pair c.in-Some.ensures.1 (sym c.if-not-allows_byte.ensures)
-    (ap (is_no_nul_unless c.args.allowed.allow_nul) (sym c.from.ensures) ∙ sym c.if-not-allows_value.ensures)
+    (ap (nul_is_allowed c.args.allowed.allow_nul) (sym c.from.ensures) ∙ sym c.if-not-allows_value.ensures)

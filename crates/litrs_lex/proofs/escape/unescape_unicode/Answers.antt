@@ -18,4 +18,4 @@ returns-then-not-opens_brace-clause-refused c =
 
 pub returns-else-is_closed-clause-refused : goal.returns-else-is_closed-clause-refused
 returns-else-is_closed-clause-refused c =
-    rw (unicode_on c.args.allowed c.requires.unicode) (c.braces_refusal.ensures c.args.allowed.byte_escapes c.args.allowed.allow_nul)
+    rw (unicode_on c.args.allowed c.requires.unicode) (c.unicode_escape_refusal.ensures c.args.allowed.byte_escapes c.args.allowed.allow_nul)

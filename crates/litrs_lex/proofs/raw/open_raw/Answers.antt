@@ -3,7 +3,7 @@ use Rattle.std.proofs.Common.{◌≡◌, ◌+◌, List, ℕ, drop, get_or, Some,
 use Rattle.std.proofs.lemmas.Bool.{ne_eqb}
 use Rattle.std.proofs.lemmas.Str.{IsUtf8-drop, IsCharBoundary-after_ascii}
 use Rattle.litrs_base.specs.declared.err.ParseErrorKind.TheVariants.{TooManyHashes}
-use Rattle.litrs_base.specs.Refusal.{over}
+use Rattle.litrs_base.specs.Refusal.{spanning}
 use Rattle.litrs_lex.proofs.RawBytes.{cons_at, none_at, after_hashes_is, hashes_at, opening_nothing, opening_many, opening_other, inside_text}
 use Rattle.litrs_lex.proofs.raw.open_raw.Goals as goal
 
@@ -29,7 +29,7 @@ returns-then-hashes-gt-MAX_HASHES-clause-refused c = λ unicode allow_nul.
     let is = after_hashes_is text offset n at.0 ∙ cons_at bytes text (offset + n) (get_or bytes (offset + n) 0) same at.1 c.if-opening-bytes.false refl in
     opening_many unicode allow_nul offset (get_or bytes (offset + n) 0) (drop offset text) (drop (offset + n + 1) text) (IsUtf8-drop text offset c.utf8.input c.requires) is
     (omega (arith, at.0, c.if-hashes-gt-MAX_HASHES.true))
-    ∙ ap (λ k. Some (over offset (offset + k) TooManyHashes)) (sym at.0)
+    ∙ ap (λ k. Some (spanning offset (offset + k) TooManyHashes)) (sym at.0)
 
 pub returns-then-bytes-opening-ne34-clause-refused : goal.returns-then-bytes-opening-ne34-clause-refused
 returns-then-bytes-opening-ne34-clause-refused c = λ unicode allow_nul.

@@ -11,10 +11,10 @@ pub loop-i-preserved : goal.loop-i-preserved
 loop-i-preserved g c =
     (omega (arith, run_through (is_target c.args.target) c.args.bytes.now c.loop-i.i g.row.N _ c.marks-found.ensures (omega arith) (omega arith), c.loop-i.invariant.0), omega arith)
 
-pub first_marked-requires : goal.first_marked-requires
-first_marked-requires g c = last_within (is_target c.args.target) c.args.bytes.now c.loop-i.i g.row.N _ c.marks.ensures (omega arith) (omega arith) (omega arith) (omega arith)
+pub lowest_bit_place-requires : goal.lowest_bit_place-requires
+lowest_bit_place-requires g c = last_within (is_target c.args.target) c.args.bytes.now c.loop-i.i g.row.N _ c.marks.ensures (omega arith) (omega arith) (omega arith) (omega arith)
 
 pub returns : goal.returns
 returns g c =
     let last = last_ends (is_target c.args.target) c.args.bytes.now c.loop-i.i g.row.N _ c.marks.ensures (omega arith) (omega arith) (omega arith) (omega arith) in
-    omega (arith, c.first_marked.ensures ∙ last, c.loop-i.invariant.0)
+    omega (arith, c.lowest_bit_place.ensures ∙ last, c.loop-i.invariant.0)

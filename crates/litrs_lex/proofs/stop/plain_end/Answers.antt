@@ -11,4 +11,4 @@ pub returns-else-begins_escape-clause-run : goal.returns-else-begins_escape-clau
 returns-else-begins_escape-clause-run c =
     plain_run _ c.args.input.now _ _ c.utf8.input c.requires.at
     (special_run c.args.allowed.unicode c.args.allowed.byte_escapes c.args.allowed.allow_nul c.args.input.now c.as_bytes.result.now _ _ c.as_bytes.ensures.value
-    (c.next_marked.ensures.place ∙ ap (λ (s : Special). c.args.from + prefix_len (is_ordinary s) (drop c.args.from c.as_bytes.result.now)) c.special.ensures))
+    (c.next_special_masked.ensures.place ∙ ap (λ (s : Special). c.args.from + prefix_len (is_ordinary s) (drop c.args.from c.as_bytes.result.now)) c.special.ensures))

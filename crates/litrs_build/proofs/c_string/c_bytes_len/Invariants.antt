@@ -1,6 +1,0 @@
--- The bytes that are left.
-use Rattle.std.proofs.Common.{length}
-use Rattle.litrs_build.proofs.c_string.c_bytes_len.Given as goal
-
-abbrev pub decreases-loop-rest : goal.decreases-loop-rest
-decreases-loop-rest l = length l.rest

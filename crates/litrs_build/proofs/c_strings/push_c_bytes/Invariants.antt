@@ -1,0 +1,13 @@
+-- What has been appended, and what the rest would append after it, are the whole.
+use Rattle.std.proofs.Common.{◌≡◌, ◌++◌, true, length, encode_utf8_all, string_bytes}
+use Rattle.litrs_grammar.specs.Quoted.{body_text}
+use Rattle.litrs_build.specs.CStrings.{c_items}
+use Rattle.litrs_build.proofs.c_strings.push_c_bytes.Given as goal
+
+abbrev pub invariant-loop-rest : goal.invariant-loop-rest
+invariant-loop-rest l =
+    string_bytes l.text ++ encode_utf8_all (body_text (c_items 0 l.follows_mark l.rest))
+    ≡ string_bytes l.fn.text ++ encode_utf8_all (body_text (c_items 0 true l.fn.value))
+
+abbrev pub decreases-loop-rest : goal.decreases-loop-rest
+decreases-loop-rest l = length l.rest

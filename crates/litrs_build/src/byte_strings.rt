@@ -1,0 +1,87 @@
+//! Byte strings.
+ghost use Rattle.std.specs.Prelude.{◌≡◌, ◌++◌, ◌∷◌, [], IfOk, IfErr, OnOk, IsTrue, string_bytes, encode_utf8_all, codes};
+ghost use Rattle.std.specs.Str.{chars};
+ghost use Rattle.litrs_base.specs.declared.quotes.StringKind.TheVariants.{ByteString as byte_string_kind};
+ghost use Rattle.litrs_grammar.specs.Quoted.{body_text};
+ghost use Rattle.litrs_grammar.specs.Literal.{string_value};
+ghost use Rattle.litrs_grammar.specs.LiteralText.{string_text};
+ghost use Rattle.litrs_grammar.specs.Suffix.{is_suffix};
+ghost use Rattle.litrs_build.specs.Errors.{suffix_error, IsErrorOf};
+ghost use Rattle.litrs_build.specs.Written.{byte_items, written_byte_string};
+
+use crate::error::{BuildError, memory_error};
+use crate::spelling::Spelling;
+use litrs::ByteStringLit;
+use litrs_lex::check_suffix;
+use std::alloc::{AllocError, Global};
+
+/// The byte string of some bytes, as `b"a\xff"`, with a suffix, which may be empty. There is one
+/// allocation for its text, and one for its value where the text has a backslash. See
+/// [the reference][ref].
+///
+/// # Errors
+///
+/// `NotASuffix` where the suffix is not one; else `Memory` where an allocation fails.
+///
+/// [ref]: https://doc.rust-lang.org/reference/tokens.html#byte-string-literals
+pub fn byte_string(
+    alloc: Global,
+    value: &[u8],
+    suffix: &str,
+) -> Result<ByteStringLit<String>, BuildError>
+    ensures written { IfOk result (λ lit. chars lit.raw
+        ≡ string_text byte_string_kind (written_byte_string value.now (chars suffix.now))) }
+    ensures parts { IfOk result (λ lit.
+        lit.parts ≡ written_byte_string value.now (chars suffix.now)) }
+    ensures value { IfOk result (λ lit. string_value lit.parts ≡ value.now) }
+    ensures suffix { IfOk result (λ _. IsTrue (is_suffix (chars suffix.now))) }
+    ensures refused { IfErr result (IsErrorOf (suffix_error (chars suffix.now))) }
+{
+    let text = write_byte_string(alloc, value, suffix)?;
+    match ByteStringLit::parse(alloc, text) {
+        Ok(lit) => Ok(lit),
+        Err(e) => Err(memory_error(&e)),
+    }
+}
+
+/// The text of a byte string.
+fn write_byte_string(alloc: Global, value: &[u8], suffix: &str) -> Result<String, BuildError>
+    ensures text { IfOk result (λ text. string_bytes text ≡ ((codes "b\""
+        ++ encode_utf8_all (body_text (byte_items value.now))) ++ 34 ∷ []) ++ suffix.now) }
+    ensures suffix { IfOk result (λ _. IsTrue (is_suffix (chars suffix.now))) }
+    ensures refused { IfErr result (IsErrorOf (suffix_error (chars suffix.now))) }
+{
+    if check_suffix(suffix).is_err() {
+        return Err(BuildError::NotASuffix);
+    }
+    let len = bytes_len(value)
+        .saturating_add(suffix.len())
+        .saturating_add(3);
+    // bounded by the length of the text, which was counted.
+    let mut text = String::with_capacity(alloc, len)?;
+    text.push_str("b\"")?;
+    push_bytes(&mut text, value)?;
+    text.push('"')?;
+    text.push_str(suffix)?;
+    Ok(text)
+}
+
+/// How many bytes the bytes have between quotes.
+fn bytes_len(value: &[u8]) -> usize {
+    let mut len: usize = 0;
+    for b in value {
+        len = len.saturating_add(Spelling::of_byte(*b, '"').len());
+    }
+    len
+}
+
+/// Appends the bytes as they stand between quotes.
+fn push_bytes(text: &mut String, value: &[u8]) -> Result<(), AllocError>
+    ensures { OnOk result (string_bytes text.new
+        ≡ string_bytes text.old ++ encode_utf8_all (body_text (byte_items value.now))) }
+{
+    for b in value {
+        Spelling::of_byte(*b, '"').push_to(text)?;
+    }
+    Ok(())
+}

@@ -1,0 +1,90 @@
+//! Strings.
+ghost use Rattle.std.specs.Prelude.{◌≡◌, ◌++◌, ◌∷◌, [], IfOk, IfErr, OnOk, IsTrue, true, string_bytes, encode_utf8_all, codes};
+ghost use Rattle.std.specs.Str.{chars};
+ghost use Rattle.litrs_base.specs.declared.quotes.StringKind.TheVariants.{String as string_kind};
+ghost use Rattle.litrs_grammar.specs.Quoted.{body_text};
+ghost use Rattle.litrs_grammar.specs.Literal.{string_value};
+ghost use Rattle.litrs_grammar.specs.LiteralText.{string_text};
+ghost use Rattle.litrs_grammar.specs.Suffix.{is_suffix};
+ghost use Rattle.litrs_build.specs.Errors.{suffix_error, IsErrorOf};
+ghost use Rattle.litrs_build.specs.Written.{char_items, written_string};
+
+use crate::error::{BuildError, memory_error};
+use crate::spelling::Spelling;
+use litrs::StringLit;
+use litrs_lex::check_suffix;
+use std::alloc::{AllocError, Global};
+
+/// The string of a text, as `"a\nb"`, with a suffix, which may be empty. There is one allocation
+/// for its text, and one for its value where the text has a backslash. See [the reference][ref].
+///
+/// # Errors
+///
+/// `NotASuffix` where the suffix is not one; else `Memory` where an allocation fails.
+///
+/// [ref]: https://doc.rust-lang.org/reference/tokens.html#string-literals
+pub fn string(alloc: Global, value: &str, suffix: &str) -> Result<StringLit<String>, BuildError>
+    ensures written { IfOk result (λ lit. chars lit.raw
+        ≡ string_text string_kind (written_string (chars value.now) (chars suffix.now))) }
+    ensures parts { IfOk result (λ lit.
+        lit.parts ≡ written_string (chars value.now) (chars suffix.now)) }
+    ensures value { IfOk result (λ lit. string_value lit.parts ≡ value.now) }
+    ensures suffix { IfOk result (λ _. IsTrue (is_suffix (chars suffix.now))) }
+    ensures refused { IfErr result (IsErrorOf (suffix_error (chars suffix.now))) }
+{
+    let text = write_string(alloc, value, suffix)?;
+    match StringLit::parse(alloc, text) {
+        Ok(lit) => Ok(lit),
+        Err(e) => Err(memory_error(&e)),
+    }
+}
+
+/// The text of a string.
+fn write_string(alloc: Global, value: &str, suffix: &str) -> Result<String, BuildError>
+    ensures text { IfOk result (λ text. string_bytes text ≡ ((codes "\""
+        ++ encode_utf8_all (body_text (char_items true (chars value.now)))) ++ 34 ∷ [])
+        ++ suffix.now) }
+    ensures suffix { IfOk result (λ _. IsTrue (is_suffix (chars suffix.now))) }
+    ensures refused { IfErr result (IsErrorOf (suffix_error (chars suffix.now))) }
+{
+    if check_suffix(suffix).is_err() {
+        return Err(BuildError::NotASuffix);
+    }
+    let len = chars_len(value)
+        .saturating_add(suffix.len())
+        .saturating_add(2);
+    // bounded by the length of the text, which was counted.
+    let mut text = String::with_capacity(alloc, len)?;
+    text.push_str("\"")?;
+    push_chars(&mut text, value)?;
+    text.push('"')?;
+    text.push_str(suffix)?;
+    Ok(text)
+}
+
+/// How many bytes the characters have between quotes.
+fn chars_len(value: &str) -> usize {
+    let mut len: usize = 0;
+    let mut follows_mark = true;
+    for c in value.chars() {
+        let spelling = Spelling::of_char(c, '"', follows_mark);
+        len = len.saturating_add(spelling.len());
+        follows_mark = spelling.is_escaped();
+    }
+    len
+}
+
+/// Appends the characters as they stand between quotes.
+fn push_chars(text: &mut String, value: &str) -> Result<(), AllocError>
+    ensures { OnOk result (string_bytes text.new ≡ string_bytes text.old
+        ++ encode_utf8_all (body_text (char_items true (chars value.now)))) }
+{
+    let mut follows_mark = true;
+    let mut rest = value.chars();
+    while let Some(c) = rest.next() {
+        let spelling = Spelling::of_char(c, '"', follows_mark);
+        spelling.push_to(text)?;
+        follows_mark = spelling.is_escaped();
+    }
+    Ok(())
+}

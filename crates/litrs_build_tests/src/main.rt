@@ -1,0 +1,29 @@
+//! Builds literals from values and parses them again: every character as a char and within a
+//! string, every byte, every pair of bytes in a byte string and a C string, and raw strings up to
+//! the greatest number of hashes. Each line counts the values that came back, in a text that was
+//! allocated with exactly its length.
+#![tactic(auto)]
+
+use std::io;
+
+mod bytes;
+mod characters;
+mod raws;
+mod suffixes;
+
+fn main(rt: HostRuntime) -> io::Result<()> {
+    let alloc = rt.alloc();
+    println!(rt; "chars: {}", characters::chars(alloc))?;
+    println!(rt; "strings: {}", characters::strings(alloc)?)?;
+    println!(rt; "bytes: {}", bytes::bytes(alloc))?;
+    println!(rt; "byte strings: {}", bytes::byte_strings(alloc))?;
+    println!(rt; "C strings: {}", bytes::c_strings(alloc))?;
+    println!(rt; "C strings with NUL: {}", bytes::refused_c_strings(alloc))?;
+    println!(rt; "raw strings: {}", raws::raw_strings(alloc)?)?;
+    println!(rt; "raw byte strings: {}", raws::raw_byte_strings(alloc)?)?;
+    println!(rt; "raw bytes: {}", raws::raw_bytes(alloc))?;
+    println!(rt; "raw strings with CR: {}", raws::refused_raw_strings(alloc))?;
+    println!(rt; "suffixes: {}", suffixes::accepted(alloc))?;
+    println!(rt; "no suffixes: {}", suffixes::refused(alloc))?;
+    Ok(())
+}

@@ -1,0 +1,145 @@
+//! The literals that are built from the value of another one.
+use crate::answers::{kind_of, value_of};
+use crate::trial::{Trial, again};
+use litrs::{Literal, Text};
+use litrs_build::BuildError;
+use std::alloc::Global;
+
+/// The longest text that is tried here.
+const LONGEST: usize = 1000;
+
+/// Tries that the literal of the same value and suffix is built.
+pub fn try_builds(trial: &mut Trial, lit: &Literal<&str>) {
+    if lit.raw_input().len() > LONGEST {
+        return;
+    }
+    trial.at = ("litrs_build", "&str");
+    again!(trial, call_of(lit), is_build_refused(trial, lit));
+    match (lit, value_of(lit)) {
+        (Literal::CString(_), _) => {}
+        (_, Some((true, _))) => again!(trial, raw_call_of(lit), is_raw_refused(trial, lit)),
+        _ => {}
+    }
+}
+
+/// The call that builds a literal of this kind from its value.
+fn call_of(lit: &Literal<&str>) -> &'static str {
+    match lit {
+        Literal::Integer(_) => "grouped_integer",
+        Literal::Float(_) => "float",
+        Literal::Char(_) => "char",
+        Literal::Byte(_) => "byte",
+        Literal::String(_) => "string",
+        Literal::ByteString(_) => "byte_string",
+        Literal::CString(_) => "c_string",
+        Literal::Bool(_) => "bool",
+    }
+}
+
+/// The call that builds a raw string of this kind.
+fn raw_call_of(lit: &Literal<&str>) -> &'static str {
+    match lit {
+        Literal::ByteString(_) => "raw_byte_string",
+        _ => "raw_string",
+    }
+}
+
+/// Builds the literal, and tries it. Whether memory was refused.
+fn is_build_refused(trial: &mut Trial, lit: &Literal<&str>) -> bool {
+    let built = built(trial.alloc, lit);
+    is_refused(trial, lit, built)
+}
+
+/// Builds the raw string, and tries it. Whether memory was refused.
+fn is_raw_refused(trial: &mut Trial, lit: &Literal<&str>) -> bool {
+    let built = raw_built(trial.alloc, lit);
+    is_refused(trial, lit, built)
+}
+
+/// The literal of the value and the suffix, of a bool a copy.
+fn built(alloc: Global, lit: &Literal<&str>) -> Result<Literal<String>, BuildError> {
+    let suffix = lit.suffix();
+    Ok(match lit {
+        Literal::Bool(lit) => Literal::Bool(*lit),
+        Literal::Integer(lit) => match lit.value::<u128>() {
+            Some(value) => {
+                let built = litrs_build::grouped_integer(alloc, value, lit.base(), 3, suffix)?;
+                Literal::Integer(built)
+            }
+            None => Literal::Integer(litrs_build::regroup(alloc, lit, 3)?),
+        },
+        Literal::Float(lit) => {
+            let fraction = lit.fractional_part();
+            let (integer, exponent) = (lit.integer_part(), lit.exponent_part());
+            Literal::Float(litrs_build::float(alloc, integer, fraction, exponent, suffix)?)
+        }
+        Literal::Char(lit) => Literal::Char(litrs_build::char(alloc, lit.value(), suffix)?),
+        Literal::Byte(lit) => Literal::Byte(litrs_build::byte(alloc, lit.value(), suffix)?),
+        Literal::String(lit) => Literal::String(litrs_build::string(alloc, lit.value(), suffix)?),
+        Literal::ByteString(lit) => {
+            Literal::ByteString(litrs_build::byte_string(alloc, lit.value(), suffix)?)
+        }
+        Literal::CString(lit) => {
+            Literal::CString(litrs_build::c_string(alloc, lit.value().to_bytes(), suffix)?)
+        }
+    })
+}
+
+/// The raw literal of the value and the suffix of a raw string.
+fn raw_built(alloc: Global, lit: &Literal<&str>) -> Result<Literal<String>, BuildError> {
+    let suffix = lit.suffix();
+    Ok(match lit {
+        Literal::ByteString(lit) => {
+            Literal::ByteString(litrs_build::raw_byte_string(alloc, lit.value(), suffix)?)
+        }
+        Literal::String(lit) => {
+            Literal::String(litrs_build::raw_string(alloc, lit.value(), suffix)?)
+        }
+        _ => built(alloc, lit)?,
+    })
+}
+
+/// Tries that a literal was built that is as this one. Whether memory was refused.
+fn is_refused(
+    trial: &mut Trial,
+    lit: &Literal<&str>,
+    built: Result<Literal<String>, BuildError>,
+) -> bool {
+    match &built {
+        Ok(found) => {
+            trial.check(is_alike(lit, found), "is built as another literal");
+            false
+        }
+        Err(BuildError::Memory) => true,
+        Err(_) => {
+            trial.check(false, "is not built");
+            false
+        }
+    }
+}
+
+/// Whether two literals have one kind, value and suffix.
+fn is_alike<A: Text, B: Text>(a: &Literal<A>, b: &Literal<B>) -> bool {
+    kind_of(a) == kind_of(b) && a.suffix() == b.suffix() && has_same_value(a, b)
+}
+
+/// Whether two literals of one kind have the same value, of floats all before the suffix.
+fn has_same_value<A: Text, B: Text>(a: &Literal<A>, b: &Literal<B>) -> bool {
+    match (a, b) {
+        (Literal::Bool(a), Literal::Bool(b)) => a.value() == b.value(),
+        (Literal::Integer(a), Literal::Integer(b)) => {
+            a.base() == b.base() && a.value::<u128>() == b.value::<u128>()
+        }
+        (Literal::Float(a), Literal::Float(b)) => a.number_part() == b.number_part(),
+        (Literal::Char(a), Literal::Char(b)) => a.value() == b.value(),
+        (Literal::Byte(a), Literal::Byte(b)) => a.value() == b.value(),
+        _ => has_same_bytes(value_of(a), value_of(b)),
+    }
+}
+
+fn has_same_bytes(a: Option<(bool, &[u8])>, b: Option<(bool, &[u8])>) -> bool {
+    match (a, b) {
+        (Some((_, a)), Some((_, b))) => a == b,
+        _ => false,
+    }
+}
