@@ -115,7 +115,7 @@ raw_body_refusal unicode allow_nul n start t =
     let suffix = drop (length body + (1 + n)) t in
     if nat_lt allowed (length body)
     then Some (at_byte (start + byte_len (take allowed t))
-        (raw_char_refusal (slice_index t allowed)))
+    (raw_char_refusal (slice_index t allowed)))
     else if not (occurs (raw_closing n) t) then Some (without_span UnterminatedRawString)
     else if not (is_suffix suffix)
     then Some (at_byte (start + (byte_len body + (1 + n))) (suffix_refusal suffix))
