@@ -9,6 +9,9 @@ pub mod CString
 pub mod ParsedStrings
 -- what a literal of any kind holds
 pub mod LiteralDerivation
+-- the kinds of chars and strings
+pub mod CharKind
+pub mod StringKind
 -- digits, however they are grouped
 pub mod Digits
 -- what begins a literal

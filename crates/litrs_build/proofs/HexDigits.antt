@@ -12,7 +12,12 @@ use Rattle.std.proofs.lemmas.List.Sums.{count_by-le-length}
 use Rattle.std.proofs.Math.Nat.{pow-zero, pow-suc}
 use Rattle.litrs_base.specs.Numeral.{place_sum, is_no_underscore, numeral}
 use Rattle.litrs_base.specs.Text.{first_passes}
-use Rattle.litrs_lex.proofs.NumeralLemmas.{passes_at}
+
+-- what all of a list pass, each of them passes
+passes_at : (p : ℕ → Bool) (t : List ℕ) (i : ℕ) → list_all p t ≡ true → i < length t → p (get_or t i 0) ≡ true
+passes_at p [] i all h = absurd (omega arith)
+passes_at p (c ∷ t) zero all h = (and_parts (p c) (list_all p t) all).0
+passes_at p (c ∷ t) (suc i) all h = passes_at p t i (and_parts (p c) (list_all p t) all).1 (omega arith)
 
 -- the sixteen digits
 abbrev pub hex_glyphs : List ℕ

@@ -2,7 +2,8 @@
 use Rattle.std.proofs.Common.{◌≡◌, sym, ap, subst, List, ℕ, ◌∙◌, refl}
 use Rattle.std.specs.Prelude.{string_bytes}
 use Rattle.std.specs.Str.{chars}
-use Rattle.litrs.specs.CharByte.{CharParts, byte_kind, IsCharLiteral, char_value}
+use Rattle.litrs.specs.CharByte.{CharParts, IsCharLiteral, char_value}
+use Rattle.litrs.specs.CharKind.{byte_kind}
 use Rattle.litrs.specs.CharLiteral.{byte_parts}
 use Rattle.litrs_build.specs.Written.{written_byte}
 use Rattle.uses_formatter.proofs.form.written_byte.Goals as goal

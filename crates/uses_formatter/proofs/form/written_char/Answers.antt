@@ -2,7 +2,8 @@
 use Rattle.std.proofs.Common.{◌≡◌, sym, ap, subst, List, ℕ, ◌∙◌, refl}
 use Rattle.std.specs.Prelude.{string_bytes}
 use Rattle.std.specs.Str.{chars}
-use Rattle.litrs.specs.CharByte.{CharParts, char_kind, IsCharLiteral, char_value}
+use Rattle.litrs.specs.CharByte.{CharParts, IsCharLiteral, char_value}
+use Rattle.litrs.specs.CharKind.{char_kind}
 use Rattle.litrs.specs.CharLiteral.{char_parts}
 use Rattle.litrs_build.specs.Written.{written_char}
 use Rattle.uses_formatter.proofs.form.written_char.Goals as goal
