@@ -1,11 +1,10 @@
 -- Escapes: what their bytes say of the characters.
-use Rattle.std.proofs.Common.{◌≡◌, ℕ, zero, suc, ◌+◌, ◌-◌, ◌<◌, ◌≤◌, Bool, true, false, not, ◌&&◌, ◌||◌, List, [], ◌∷◌, ◌++◌, length, take, drop, get_or, Some, None, refl, sym, ap, ◌∙◌, subst, arith, inl, inr}
+use Rattle.std.proofs.Common.{◌≡◌, ℕ, suc, ◌+◌, ◌<◌, ◌≤◌, Bool, true, false, not, ◌&&◌, ◌||◌, List, [], ◌∷◌, ◌++◌, length, drop, get_or, Some, None, refl, sym, ap, ◌∙◌, subst, arith, inl, inr}
 use Rattle.std.specs.Prelude.{◌==◌, Result, Ok, Err, IfErr}
 use Rattle.std.specs.Char.{IsScalar}
 use Rattle.std.specs.Str.{chars, IsUtf8, IsCharBoundary}
 use Rattle.std.proofs.lemmas.Bool.{eq-eqb, not-false, and_from, ne_eqb, eqb-true, cases_lt, false≢true}
 use Rattle.std.proofs.lemmas.Bool.Decides.{nat_tests}
-use Rattle.std.proofs.lemmas.List.{take_rest}
 use Rattle.std.proofs.lemmas.Str.{chars-nil}
 use Rattle.litrs_base.specs.declared.err.ParseError.{ParseError}
 use Rattle.litrs_base.specs.declared.err.ParseErrorKind.TheVariants.{UnterminatedEscape, DisallowedNulEscape, UnicodeEscapeInByteLiteral, UnknownEscape}
@@ -214,26 +213,9 @@ simple_nul_row w bs b value is simple is_value never =
     let letter : b ≡ 48 = nul_letter b simple (sym is_value ∙ found.1) in
     ap (escape_refusal w) (letter_chars bs b (simple_low b simple) is) ∙ (ap (λ n. escape_refusal w (92 ∷ n ∷ chars (drop 2 bs))) letter ∙ nul_at w (chars (drop 2 bs)) found.0)
 
--- a test that fails
-pub fails : (b : Bool) → (b ≡ true → ⊥) → b ≡ false
-fails true never = absurd (never refl)
-fails false never = refl
-
 pub letter_of : (bs : List ℕ) (b : ℕ) → begins_with (92 ∷ b ∷ []) bs ≡ true → bs ≡ 92 ∷ b ∷ drop 2 bs
 letter_of bs b begins = sym (begins_with-split (92 ∷ b ∷ []) bs begins)
-
-pub length-take-within : (bs : List ℕ) (n : ℕ) → n ≤ length bs → length (take n bs) ≡ n
-length-take-within bs zero within = refl
-length-take-within [] (suc n) within = absurd (omega arith)
-length-take-within (b ∷ bs) (suc n) within = ap suc (length-take-within bs n (omega arith))
-
--- what a slice from a place on is
-pub slice_from : (bs seen : List ℕ) (k : ℕ) → seen ≡ bs → take (length seen - k) (drop k seen) ≡ drop k bs
-slice_from bs seen k same = take_rest seen k ∙ ap (drop k) same
 
 -- a scalar value by the test
 pub scalar_by : (c : ℕ) → IsScalar c → is_scalar c ≡ true
 scalar_by c h = grind (arith, nat_tests)
-
-pub by_scalar : (c : ℕ) → is_scalar c ≡ true → IsScalar c
-by_scalar c h = h

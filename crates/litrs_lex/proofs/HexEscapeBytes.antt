@@ -3,8 +3,8 @@ use Rattle.std.proofs.Common.{◌≡◌, ℕ, suc, ◌+◌, ◌<◌, Bool, true,
 use Rattle.std.specs.Prelude.{◌==◌, encode_utf8_all}
 use Rattle.std.specs.Char.{is_ascii_hexdigit}
 use Rattle.std.specs.Str.{chars, IsUtf8, IsCharBoundary}
-use Rattle.std.proofs.lemmas.Bool.{eq-eqb, and_parts, and_from, eqb-true, cases_lt, or_cases, or_left, true≢false, and_left, or_right}
-use Rattle.std.proofs.lemmas.List.{drop-drop}
+use Rattle.std.proofs.lemmas.Bool.{eq-eqb, and_parts, and_from, eqb-true, cases_lt, or_cases, or_left, true≢false, and_left, or_right, false_from_ne_true}
+use Rattle.std.proofs.lemmas.List.{drop-drop, length-take-le}
 use Rattle.std.proofs.lemmas.Str.{chars-nil, chars_from_encodes, encodes-chars, encodes-append, IsUtf8-drop, IsUtf8-take}
 use Rattle.litrs_base.specs.declared.err.ParseErrorKind.TheVariants.{UnterminatedEscape, DisallowedNulEscape, InvalidXEscape, NonAsciiXEscape}
 use Rattle.litrs_base.specs.declared.escape.Unescape.TheVariants.{Byte}
@@ -19,7 +19,7 @@ use Rattle.litrs_grammar.proofs.Laws.Escape.{hexdigit_ascii, two_bytes}
 use Rattle.litrs_lex.specs.Unescaped.{IsUnescaped}
 use Rattle.litrs_lex.proofs.CharCuts.{cut_at, byte_len-all}
 use Rattle.litrs_lex.proofs.HexDigitBytes.{hexdigit_only}
-use Rattle.litrs_lex.proofs.EscapeBytes.{unescaped, letter_chars, utf8_at, fails, letter_of, length-take-within}
+use Rattle.litrs_lex.proofs.EscapeBytes.{unescaped, letter_chars, utf8_at, letter_of}
 
 -- what two bytes that are characters are
 two_by : (a b : List ℕ) → byte_len a ≡ 2 → has_two_bytes (a ++ b) ≡ true
@@ -37,7 +37,7 @@ two_there r u on =
     encodes-append (chars (take 2 r)) (chars (drop 2 r)) ∙ (ap (λ l. l ++ encode_utf8_all (chars (drop 2 r))) (encodes-chars (take 2 r) front)
     ∙ (ap (λ l. take 2 r ++ l) (encodes-chars (drop 2 r) after) ∙ take-append-drop 2 r)) in
     let split : chars (take 2 r) ++ chars (drop 2 r) ≡ chars r = chars_from_encodes (chars (take 2 r) ++ chars (drop 2 r)) r u spelled in
-    let size : byte_len (chars (take 2 r)) ≡ 2 = ap length (encodes-chars (take 2 r) front) ∙ length-take-within r 2 on.0 in
+    let size : byte_len (chars (take 2 r)) ≡ 2 = ap length (encodes-chars (take 2 r) front) ∙ length-take-le 2 r on.0 in
     ap has_two_bytes (sym split) ∙ two_by (chars (take 2 r)) (chars (drop 2 r)) size
 
 two_cut : (r t : List ℕ) → IsUtf8 r → chars r ≡ t → has_two_bytes t ≡ true → IsCharBoundary r 2
@@ -103,7 +103,7 @@ hex_end_row w bs u begins off =
     let x = hex_text bs u begins in
     let r = drop 2 bs in
     let never : has_two_bytes (chars r) ≡ false =
-    fails (has_two_bytes (chars r)) (λ two. off (subst (λ (l : List ℕ). IsCharBoundary l 4) (sym x.is) (before_two 92 120 r (two_cut r (chars r) x.utf8 refl two)))) in
+    false_from_ne_true (has_two_bytes (chars r)) (λ two. off (subst (λ (l : List ℕ). IsCharBoundary l 4) (sym x.is) (before_two 92 120 r (two_cut r (chars r) x.utf8 refl two)))) in
     let size : 2 + byte_len (chars r) ≡ length bs = let e = byte_len-all r x.utf8 in let f = ap length x.is in omega arith in
     ap (escape_refusal w) x.characters ∙ (to_hex w (chars r) ∙ (if_true _ _ _ (ap not never) ∙ ap (λ n. Some (spanning 0 n UnterminatedEscape)) size))
 

@@ -1,11 +1,5 @@
-pub mod Marks
 pub mod MarkedRuns
 pub mod Needles
-pub mod Outside
-pub mod Pairs
-pub mod ClosingMarks
-pub mod Closings
-pub mod ByteSearch
 pub mod SuffixBytes
 pub mod NumeralLemmas
 pub mod IntegerBytes
@@ -26,9 +20,6 @@ pub mod QuotedScan
 pub mod QuotedBytes
 pub mod QuotedCuts
 pub mod QuotedValues
-pub mod Quotes
 pub mod Readings
 pub mod Sinks
-pub mod CharRuns
 pub mod RawBytes
-pub mod RawSteps

@@ -1,14 +1,40 @@
 -- What the lanes are compared with finds the special bytes.
 use Rattle.std.proofs.Common.{◌≡◌, ℕ, ◌%◌, ◌^◌, ◌≤◌, ltb, eqb, Bool, true, false, ◌||◌, cond, List, [], ◌∷◌, map, length, replicate, Fits, w8, refl, ap, ◌∙◌, arith}
 use Rattle.std.proofs.lemmas.Bool.{agree_below, agree_below_at}
-use Rattle.std.proofs.lemmas.Simd.{zip2_splat, zip2_splat_left}
+use Rattle.std.proofs.lemmas.Simd.{zip2_splat, zip2_splat_left, zip2_of_maps, map-map, mask_l-mod}
+use Rattle.std.proofs.lemmas.List.{length-map}
 use lib.Bits.{bit_or}
 use lib.Lanes.{zip2, mask_l, top, Each1}
-use Rattle.litrs_lex.proofs.Marks.{mark, either, marked}
 use Rattle.litrs_lex.specs.declared.search.Special.{Special}
 use Rattle.litrs_lex.specs.Special.{is_special}
 
-abbrev pub is_hit : (second third limit : ℕ) → ℕ → Bool
+-- lanes that are 255 where a test holds and 0 elsewhere, and the mask of them
+abbrev mark : Bool → ℕ
+mark b = cond b 255 0
+
+mark-or : (a b : Bool) → bit_or (mark a) (mark b) ≡ mark (a || b)
+mark-or true true = refl
+mark-or true false = refl
+mark-or false true = refl
+mark-or false false = refl
+
+mark-top : (b : Bool) → top 7 (mark b) ≡ b
+mark-top true = refl
+mark-top false = refl
+
+map-same : {A B : Type 0} → (f g : A → B) → ((x : A) → f x ≡ g x) → (xs : List A) → map f xs ≡ map g xs
+map-same f g same [] = refl
+map-same f g same (x ∷ xs) = λ i. same x i ∷ map-same f g same xs i
+
+either : {X : Type 0} (p q : X → Bool) (v : List X) {a b : List ℕ} → a ≡ map (λ x. mark (p x)) v → b ≡ map (λ x. mark (q x)) v → zip2 bit_or a b ≡ map (λ x. mark (p x || q x)) v
+either p q v l r = zip2_of_maps bit_or (λ x. mark (p x)) (λ x. mark (q x)) v l r ∙ map-same _ (λ x. mark (p x || q x)) (λ x. mark-or (p x) (q x)) v
+
+marked : {X : Type 0} (p : X → Bool) (v : List X) {z : List ℕ} → length v ≤ 64 → z ≡ map (λ x. mark (p x)) v → mask_l (map (top 7) z) % 2 ^ 64 ≡ mask_l (map p v)
+marked p v short lanes =
+    ap (λ l. mask_l (map (top 7) l) % 2 ^ 64) lanes ∙ ap (λ l. mask_l l % 2 ^ 64) (map-map (top 7) (λ x. mark (p x)) v ∙ map-same _ p (λ x. mark-top (p x)) v)
+    ∙ mask_l-mod (map p v) 64 (omega (arith, length-map v p))
+
+abbrev is_hit : (second third limit : ℕ) → ℕ → Bool
 is_hit second third limit x = (((eqb x 34 || eqb x 13) || eqb x second) || eqb x third) || ltb limit x
 
 found : (s z n : Bool) →
@@ -22,7 +48,7 @@ found false true false = refl
 found false false true = refl
 found false false false = refl
 
-pub hits_special : (what : Special) (v : List ℕ) → Each1 (Fits w8) v →
+hits_special : (what : Special) (v : List ℕ) → Each1 (Fits w8) v →
     map (is_hit (cond what.backslash 92 13) (cond what.nul 0 13) (cond what.non_ascii 127 255)) v ≡ map (is_special what) v
 hits_special what [] fits = refl
 hits_special what (x ∷ xs) fits =

@@ -1,24 +1,25 @@
 -- Runs of plain characters, from a search in bytes. How many bytes pass a test that has one answer for all characters from
 -- 128 on is how many the characters have that pass.
-use Rattle.std.proofs.Common.{◌≡◌, ℕ, zero, suc, ◌+◌, ◌<◌, ◌≤◌, Bool, true, false, cond, ltb, List, [], ◌∷◌, ◌++◌, length, drop, take, get_or, refl, sym, ap, subst, ◌∙◌, arith, inl, inr, append_assoc, length-append}
+use Rattle.std.proofs.Common.{◌≡◌, ℕ, suc, ◌+◌, ◌<◌, ◌≤◌, Bool, true, false, cond, ltb, List, [], ◌∷◌, ◌++◌, length, drop, take, get_or, refl, sym, ap, subst, ◌∙◌, arith, inl, inr, length-append}
 use Rattle.std.specs.Prelude.{encode_utf8, encode_utf8_all}
 use Rattle.std.specs.List.{prefix_len, list_all, take_while}
 use Rattle.std.specs.Str.{chars, IsUtf8, IsCharBoundary}
 use Rattle.std.proofs.lemmas.Bool.{cases_lt}
 use Rattle.std.proofs.lemmas.List.{append-nil, take-append-drop, drop-drop, length-drop}
-use Rattle.std.proofs.lemmas.List.Sums.{prefix_len-le-length}
-use Rattle.std.proofs.Math.Seq.{drop-append_seam}
+use Rattle.std.proofs.lemmas.List.Sums.{take_while-cons}
+use Rattle.litrs_lex.proofs.CharCuts.{cut_at}
 use Rattle.litrs_lex.specs.Special.{is_ordinary}
 use Rattle.litrs_lex.specs.QuotedItems.{IsPlainRun}
 use Rattle.litrs_lex.specs.Unescaped.{switches}
-use Rattle.std.proofs.lemmas.Str.{chars-nil, encode_ascii, inside_one, length-encode, len_utf8_bounds, encodes-chars, encodes-append, chars_from_encodes, IsUtf8-past_char, IsCharBoundary-from_drop, IsUtf8-drop}
+use Rattle.std.proofs.lemmas.Str.{chars-nil, encode_ascii, inside_one, length-encode, len_utf8_bounds, encodes-chars, IsCharBoundary-from_drop, IsUtf8-drop}
 use Rattle.litrs_base.specs.Text.{byte_len, first_passes}
 use Rattle.litrs_base.proofs.Chars.{chars_ascii, chars_wide}
 use Rattle.std.specs.Prelude.{not, ◌&&◌, ◌||◌, ◌==◌}
-use Rattle.std.proofs.lemmas.Bool.{ne_eqb, ltb-true, and_from}
+use Rattle.std.proofs.lemmas.Bool.{ne_eqb, eqb-true, ltb-true}
 use Rattle.litrs_base.specs.Characters.{is_ascii, fits_charset, nul_is_allowed}
 use Rattle.litrs_base.specs.declared.quotes.Switches.{Switches}
 use Rattle.litrs_grammar.specs.Quoted.{is_plain}
+use Rattle.litrs_grammar.proofs.Laws.Integer.{list_all-take_while, first_passes-rest}
 
 abbrev pub AlikeFrom128 : (ℕ → Bool) → Bool → Type 0
 AlikeFrom128 p h = (c : ℕ) → 128 ≤ c → p c ≡ h
@@ -63,23 +64,17 @@ wide_case p h c cs run b alike is rec wide =
     by false a = a
     by true a = a ∙ (ap (λ n. length (encode_utf8 c) + n) rec ∙ sym (length-append (encode_utf8 c) (encode_utf8_all run)))
 
-pub take_while-cons : (p : ℕ → Bool) (c : ℕ) (cs : List ℕ) (b : Bool) → p c ≡ b → take_while p (c ∷ cs) ≡ cond b (c ∷ take_while p cs) []
-take_while-cons p c cs false is = ap (λ v. take (cond v (1 + prefix_len p cs) 0) (c ∷ cs)) is
-take_while-cons p c cs true is =
-    let one : 1 + prefix_len p cs ≡ suc (prefix_len p cs) = omega arith in
-    ap (λ v. take (cond v (1 + prefix_len p cs) 0) (c ∷ cs)) is ∙ ap (λ n. take n (c ∷ cs)) one
-
 -- how many bytes pass is how many the characters have that pass
 pub run_len : (p : ℕ → Bool) (h : Bool) → AlikeFrom128 p h → (cs : List ℕ) → prefix_len p (encode_utf8_all cs) ≡ byte_len (take_while p cs)
 run_len p h alike [] = refl
 run_len p h alike (c ∷ cs) =
     let rec = run_len p h alike cs in
     elim (cases_lt c 128) [
-      | inl low ↦ low_case p c cs (take_while p cs) (p c) refl rec low ∙ ap byte_len (sym (take_while-cons p c cs (p c) refl))
-      | inr wide ↦ wide_case p h c cs (take_while p cs) (p c) alike refl rec wide ∙ ap byte_len (sym (take_while-cons p c cs (p c) refl))
+      | inl low ↦ low_case p c cs (take_while p cs) (p c) refl rec low ∙ ap byte_len (sym (take_while-cons p c cs))
+      | inr wide ↦ wide_case p h c cs (take_while p cs) (p c) alike refl rec wide ∙ ap byte_len (sym (take_while-cons p c cs))
     ]
 
-not_ascii : (d : ℕ) → 128 ≤ d → is_ascii d ≡ false
+pub not_ascii : (d : ℕ) → 128 ≤ d → is_ascii d ≡ false
 not_ascii d high = go (ltb d 128) refl
   where
     go : (b : Bool) → ltb d 128 ≡ b → is_ascii d ≡ false
@@ -99,31 +94,6 @@ plain_alike w c wide =
     let d = ne_eqb c 13 (λ e. omega arith) in
     rw a (rw b (rw d (high_rest c w.unicode w.allow_nul wide)))
 
-list_all-step : (p : ℕ → Bool) (c : ℕ) (cs : List ℕ) (b : Bool) → p c ≡ b → list_all p (take_while p cs) ≡ true → list_all p (take_while p (c ∷ cs)) ≡ true
-list_all-step p c cs false is rec = ap (list_all p) (take_while-cons p c cs false is)
-list_all-step p c cs true is rec = ap (list_all p) (take_while-cons p c cs true is) ∙ and_from _ _ is rec
-
-pub list_all-take : (p : ℕ → Bool) (cs : List ℕ) → list_all p (take_while p cs) ≡ true
-list_all-take p [] = refl
-list_all-take p (c ∷ cs) = list_all-step p c cs (p c) refl (list_all-take p cs)
-
-pub utf8_after : (run bs rest : List ℕ) → IsUtf8 bs → bs ≡ encode_utf8_all run ++ rest → IsUtf8 rest
-utf8_after [] bs rest u same = subst (λ (l : List ℕ). IsUtf8 l) same u
-utf8_after (c ∷ run) bs rest u same =
-    let split : bs ≡ encode_utf8 c ++ (encode_utf8_all run ++ rest) = same ∙ append_assoc (encode_utf8 c) (encode_utf8_all run) rest in
-    utf8_after run (encode_utf8_all run ++ rest) rest (IsUtf8-past_char bs (encode_utf8_all run ++ rest) c u split) refl
-
--- the first byte after the run does not pass, nor does the first character
-first_stops : (p : ℕ → Bool) (b : ℕ) (bs : List ℕ) (v : Bool) → p b ≡ v → first_passes p (drop (prefix_len p bs) bs) ≡ false →
-    first_passes p (drop (cond v (1 + prefix_len p bs) 0) (b ∷ bs)) ≡ false
-first_stops p b bs false is rec = is
-first_stops p b bs true is rec =
-    let one : 1 + prefix_len p bs ≡ suc (prefix_len p bs) = omega arith in ap (λ n. first_passes p (drop n (b ∷ bs))) one ∙ rec
-
-pub stops_at : (p : ℕ → Bool) (bs : List ℕ) → first_passes p (drop (prefix_len p bs) bs) ≡ false
-stops_at p [] = refl
-stops_at p (b ∷ bs) = first_stops p b bs (p b) refl (stops_at p bs)
-
 pub first_passes-alike : (p : ℕ → Bool) (h : Bool) (bs : List ℕ) → AlikeFrom128 p h → IsUtf8 bs → first_passes p (chars bs) ≡ first_passes p bs
 first_passes-alike p h [] alike u = ap (first_passes p) chars-nil
 first_passes-alike p h (b ∷ bs) alike u = elim (cases_lt b 128) [
@@ -131,36 +101,51 @@ first_passes-alike p h (b ∷ bs) alike u = elim (cases_lt b 128) [
   | inr high ↦ (let w = chars_wide b bs high u in ap (first_passes p) w.is ∙ (alike w.first w.wide ∙ sym (alike b high)))
 ]
 
+-- The first n bytes are characters that pass, and the byte after them does not.
+pub record IsCharRun (p : ℕ → Bool) (bs : List ℕ) (n : ℕ) : Type 0 where
+  pub run : List ℕ
+  pub split : run ++ chars (drop n bs) ≡ chars bs
+  pub passes : list_all p run ≡ true
+  pub utf8 : IsUtf8 (drop n bs)
+  pub within : n ≤ length bs
+  pub size : byte_len run ≡ n
+  pub stops : first_passes p (drop n bs) ≡ false
+
+pub char_run : (p : ℕ → Bool) (h : Bool) → AlikeFrom128 p h → (bs : List ℕ) → IsUtf8 bs → IsCharRun p bs (prefix_len p bs)
+char_run p h alike bs u =
+    let cs = chars bs in
+    let m = prefix_len p cs in
+    let n : byte_len (take m cs) ≡ prefix_len p bs = sym (run_len p h alike cs) ∙ ap (prefix_len p) (encodes-chars bs u) in
+    let cut = cut_at bs (take m cs) (drop m cs) u (sym (take-append-drop m cs)) in record {
+      run = take m cs;
+      split = ap (λ l. take m cs ++ l) (sym (ap (λ k. chars (drop k bs)) n) ∙ cut.rest) ∙ take-append-drop m cs;
+      passes = list_all-take_while p cs;
+      utf8 = subst (λ (k : ℕ). IsUtf8 (drop k bs)) n cut.utf8;
+      within = subst (λ (k : ℕ). k ≤ length bs) n cut.within;
+      size = n;
+      stops = first_passes-rest p bs;
+    }
+
 -- the bytes from a place on up to the first that is no plain character are a run
 pub plain_run : (w : Switches) (bytes : List ℕ) (from end : ℕ) → IsUtf8 bytes → IsCharBoundary bytes from → end ≡ from + prefix_len (is_plain w) (drop from bytes) →
     IsPlainRun w bytes from end
 plain_run w bytes from end whole start is =
     let p = is_plain w in
     let bs = drop from bytes in
-    let u : IsUtf8 bs = IsUtf8-drop bytes from whole start in
-    let cs = chars bs in
-    let m = prefix_len p cs in
-    let enc : encode_utf8_all cs ≡ bs = encodes-chars bs u in
-    let n : prefix_len p bs ≡ length (encode_utf8_all (take m cs)) = ap (prefix_len p) (sym enc) ∙ run_len p w.unicode (plain_alike w) cs in
-    let both : bs ≡ encode_utf8_all (take m cs) ++ encode_utf8_all (drop m cs) =
-    sym enc ∙ (ap encode_utf8_all (sym (take-append-drop m cs)) ∙ encodes-append (take m cs) (drop m cs)) in
-    let seam : drop (prefix_len p bs) bs ≡ encode_utf8_all (drop m cs) =
-    ap (λ k. drop k bs) n ∙ (ap (drop (length (encode_utf8_all (take m cs)))) both ∙ drop-append_seam (encode_utf8_all (take m cs)) (encode_utf8_all (drop m cs))) in
+    let r = char_run p w.unicode (plain_alike w) bs (IsUtf8-drop bytes from whole start) in
     let same : drop (prefix_len p bs) bs ≡ drop end bytes = drop-drop (prefix_len p bs) from bytes ∙ ap (λ k. drop k bytes) (sym is) in
-    let after : drop end bytes ≡ encode_utf8_all (drop m cs) = sym same ∙ seam in
-    let text : IsUtf8 (drop end bytes) = utf8_after (take m cs) bs _ u (both ∙ ap (λ l. encode_utf8_all (take m cs) ++ l) (sym after)) in
-    let rest : drop m cs ≡ chars (drop end bytes) = chars_from_encodes (drop m cs) _ text (sym after) in
-    let fits : end ≤ length bytes = omega (arith, prefix_len-le-length p bs, length-drop from bytes, start.0) in record {
-      run = take m cs;
-      split = sym (take-append-drop m cs) ∙ ap (λ l. take m cs ++ l) rest;
-      plain = list_all-take p cs;
-      size = omega arith;
+    let text : IsUtf8 (drop end bytes) = subst (λ (l : List ℕ). IsUtf8 l) same r.utf8 in
+    let fits : end ≤ length bytes = omega (arith, r.within, length-drop from bytes, start.0) in record {
+      run = r.run;
+      split = sym r.split ∙ ap (λ l. r.run ++ chars l) same;
+      plain = r.passes;
+      size = omega (arith, r.size);
       boundary = IsCharBoundary-from_drop bytes end fits text;
-      stops = first_passes-alike p w.unicode _ (plain_alike w) text ∙ (ap (first_passes p) (sym same) ∙ stops_at p bs);
+      stops = first_passes-alike p w.unicode _ (plain_alike w) text ∙ (ap (first_passes p) (sym same) ∙ r.stops);
     }
 
 -- the search stops at what is no plain character, where it looks for backslashes, and for the bytes that the switches exclude
-same_tests : (quote return slash zero ascii u n : Bool) →
+pub same_tests : (quote return slash zero ascii u n : Bool) →
     not (quote || return || (true && slash) || (not n && zero) || (not u && not ascii)) ≡ (not quote && not slash && not return && (u || ascii) && (n || not zero))
 same_tests true r s z a u n = refl
 same_tests false true true z a u n = refl
@@ -179,30 +164,21 @@ same_tests false false false false true false false = refl
 same_tests false false false false false false true = refl
 same_tests false false false false false false false = refl
 
-prefix_len-same : (p q : ℕ → Bool) → ((b : ℕ) → p b ≡ q b) → (bs : List ℕ) → prefix_len p bs ≡ prefix_len q bs
-prefix_len-same p q same [] = refl
-prefix_len-same p q same (b ∷ bs) =
-    ap (λ v. cond v (1 + prefix_len p bs) 0) (same b) ∙ ap (λ n. cond (q b) (1 + n) 0) (prefix_len-same p q same bs)
-
 pub special_run : (u e n : Bool) (text bytes : List ℕ) (from end : ℕ) → bytes ≡ text →
     end ≡ from + prefix_len (is_ordinary (record { backslash = true; nul = not n; non_ascii = not u })) (drop from bytes) →
     end ≡ from + prefix_len (is_plain (switches u e n)) (drop from text)
 special_run u e n text bytes from end is place =
-    let same = prefix_len-same (is_ordinary (record { backslash = true; nul = not n; non_ascii = not u })) (is_plain (switches u e n))
-    (λ b. same_tests (b == 34) (b == 13) (b == 92) (b == 0) (is_ascii b) u n) (drop from bytes) in
+    let p = is_ordinary (record { backslash = true; nul = not n; non_ascii = not u }) in
+    let same : prefix_len p (drop from bytes) ≡ prefix_len (is_plain (switches u e n)) (drop from bytes) =
+    λ i. prefix_len (λ b. same_tests (b == 34) (b == 13) (b == 92) (b == 0) (is_ascii b) u n i) (drop from bytes) in
     let last : prefix_len (is_plain (switches u e n)) (drop from bytes) ≡ prefix_len (is_plain (switches u e n)) (drop from text) =
     ap (λ (l : List ℕ). prefix_len (is_plain (switches u e n)) (drop from l)) is in
     omega arith
 
--- no character is plain before a byte at which the plain ones end
-stop_first : (w : Switches) (c : ℕ) (bytes : List ℕ) (n : ℕ) → is_plain w c ≡ false → n < length bytes → get_or bytes n 0 ≡ c → prefix_len (is_plain w) (drop n bytes) ≡ 0
-stop_first w c [] n other inside h = absurd (omega arith)
-stop_first w c (b ∷ bytes) zero other inside h = ap (λ x. prefix_len (is_plain w) (x ∷ bytes)) h ∙ rw other refl
-stop_first w c (b ∷ bytes) (suc n) other inside h = stop_first w c bytes n other (omega arith) h
+-- a backslash is no plain character, so a run is empty there
+slash_first : (w : Switches) (rest : List ℕ) → first_passes (λ c. c == 92) rest ≡ true → prefix_len (is_plain w) rest ≡ 0
+slash_first w [] h = refl
+slash_first w (b ∷ rest) h = ap (λ c. prefix_len (is_plain w) (c ∷ rest)) (eqb-true b 92 h)
 
-pub empty_run : (w : Switches) (c : ℕ) (bytes seen : List ℕ) (from : ℕ) → is_plain w c ≡ false → IsUtf8 bytes → IsCharBoundary bytes from → seen ≡ bytes → from < length seen →
-    get_or seen from 0 ≡ c → IsPlainRun w bytes from from
-empty_run w c bytes seen from other u start same inside stop =
-    let size = ap length same in
-    let none : prefix_len (is_plain w) (drop from bytes) ≡ 0 = stop_first w c bytes from other (omega arith) (ap (λ (l : List ℕ). get_or l from 0) (sym same) ∙ stop) in
-    plain_run w bytes from from u start (omega arith)
+pub empty_run : (w : Switches) (bytes : List ℕ) (from : ℕ) → IsUtf8 bytes → IsCharBoundary bytes from → first_passes (λ c. c == 92) (drop from bytes) ≡ true → IsPlainRun w bytes from from
+empty_run w bytes from u start slash = let none = slash_first w (drop from bytes) slash in plain_run w bytes from from u start (omega arith)

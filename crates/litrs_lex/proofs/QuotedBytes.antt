@@ -1,15 +1,15 @@
 -- What stands at the front of the rest of a quoted body, by its bytes.
-use Rattle.std.proofs.Common.{◌≡◌, ℕ, ◌+◌, ◌≤◌, ◌<◌, Bool, true, false, not, ◌||◌, List, [], ◌∷◌, ◌++◌, ◌-◌, length, drop, take, get_or, refl, sym, ap, subst, ◌∙◌, append_assoc, length-append, arith, suc, Some, None, Option, inl, inr}
+use Rattle.std.proofs.Common.{◌≡◌, ℕ, ◌+◌, ◌≤◌, ◌<◌, Bool, true, false, not, ◌||◌, List, [], ◌∷◌, ◌++◌, ◌-◌, length, drop, take, get_or, refl, sym, ap, subst, ◌∙◌, append_assoc, arith, Some, None, Option, inl, inr}
 use Rattle.std.specs.Prelude.{slice_range, encode_utf8, encode_utf8_all, ◌==◌, IfSome, IsTrue}
 use Rattle.std.specs.List.{list_all, prefix_len}
 use Rattle.std.specs.Option.{MatchOption}
 use Rattle.std.specs.Str.{chars, IsUtf8, IsCharBoundary}
 use Rattle.std.specs.declared.ops.Range.{Range}
 use Rattle.std.proofs.lemmas.Bool.{and_parts, and_from, not_from_false, ne_eqb, cases_lt, or_right, eqb-true, both_ways, false≢true, lt-ltb, le-ltb}
-use Rattle.std.proofs.lemmas.List.{append-nil, take-append-drop, length-drop, take_all, take_more}
+use Rattle.std.proofs.lemmas.List.{append-nil, take-append-drop, length-drop, length-take-le, take_all, take_more}
 use Rattle.std.proofs.lemmas.List.Sums.{prefix_len-le-length}
-use Rattle.std.proofs.lemmas.Str.{chars-nil, encode_ascii, chars_from_encodes, encodes-chars, encodes-append, IsCharBoundary-from_drop}
-use Rattle.std.proofs.Math.Seq.{take-length, drop-append_seam, drop-length}
+use Rattle.std.proofs.lemmas.Str.{chars-nil, encode_ascii, chars_from_encodes, encodes-chars, encodes-append, IsCharBoundary-after_ascii}
+use Rattle.std.proofs.Math.Seq.{drop-length}
 use Rattle.litrs_base.specs.declared.err.ParseError.{ParseError}
 use Rattle.litrs_base.specs.declared.err.ParseErrorKind.TheVariants.{UnterminatedString, UnterminatedEscape, CarriageReturn, NulByte, NonAsciiInByteLiteral}
 use Rattle.litrs_base.specs.declared.escape.Unescape.{Unescape}
@@ -26,33 +26,14 @@ use Rattle.litrs_grammar.specs.Escape.{Escape, escape_text, escape_value, value_
 use Rattle.litrs_grammar.specs.Suffix.{is_suffix, suffix_refusal}
 use Rattle.litrs_grammar.specs.Quoted.{Item, plain_item, escape_item, continuation, item_text, item_value, is_item, is_complete_before, is_plain, body_value, without_last, rest_refusal}
 use Rattle.litrs_grammar.proofs.Laws.Escape.{by_simple}
+use Rattle.litrs_grammar.proofs.Laws.Integer.{list_all-take_while, first_passes-rest}
 use Rattle.litrs_grammar.proofs.QuotedItems.{last_of, without_last-append}
 use Rattle.litrs_grammar.proofs.Laws.Quoted.{quoted_values_fit_bodies}
 use Rattle.litrs_lex.specs.QuotedItems.{IsItemAt, EndsItems, item_bytes}
 use Rattle.litrs_lex.specs.Container.{is_pushable}
 use Rattle.litrs_lex.specs.Unescaped.{IsUnescaped, IsEscapeRefused}
-use Rattle.litrs_lex.proofs.PlainRuns.{utf8_after, list_all-take, plain_alike, stops_at}
-use Rattle.litrs_lex.proofs.QuotedScan.{length-take-within}
-
--- a text is cut where its characters are
-pub record IsCut (bytes a b : List ℕ) : Type 0 where
-  pub rest : chars (drop (byte_len a) bytes) ≡ b
-  pub utf8 : IsUtf8 (drop (byte_len a) bytes)
-  pub within : byte_len a ≤ length bytes
-  pub boundary : IsCharBoundary bytes (byte_len a)
-
-pub cut_at : (bytes a b : List ℕ) → IsUtf8 bytes → chars bytes ≡ a ++ b → IsCut bytes a b
-cut_at bytes a b u split =
-    let both : bytes ≡ encode_utf8_all a ++ encode_utf8_all b = sym (encodes-chars bytes u) ∙ (ap encode_utf8_all split ∙ encodes-append a b) in
-    let after : drop (byte_len a) bytes ≡ encode_utf8_all b = ap (drop (byte_len a)) both ∙ drop-append_seam (encode_utf8_all a) (encode_utf8_all b) in
-    let text : IsUtf8 (drop (byte_len a) bytes) = utf8_after a bytes _ u (both ∙ ap (λ l. encode_utf8_all a ++ l) (sym after)) in
-    let size : length bytes ≡ byte_len a + byte_len b = ap length both ∙ length-append (encode_utf8_all a) (encode_utf8_all b) in
-    let fits : byte_len a ≤ length bytes = omega arith in record {
-      rest = sym (chars_from_encodes b _ text (sym after));
-      utf8 = text;
-      within = fits;
-      boundary = IsCharBoundary-from_drop bytes (byte_len a) fits text;
-    }
+use Rattle.litrs_lex.proofs.CharCuts.{cut_at}
+use Rattle.litrs_lex.proofs.PlainRuns.{plain_alike}
 
 -- an item has a value no longer than its text, which is not empty
 item_fits : (w : Switches) (a : Item) → is_item w a ≡ true → length (item_value a) ≤ byte_len (item_text a)
@@ -146,7 +127,7 @@ not_empty : (bs : List ℕ) → IsUtf8 bs → 0 < length bs → is_empty (chars 
 not_empty bs u some = chars_empty bs u ∙ ne_eqb (length bs) 0 (λ e. omega arith)
 
 blanks_all : (bs : List ℕ) → IsUtf8 bs → list_all is_blank (take (prefix_len is_blank bs) (chars bs)) ≡ true
-blanks_all bs u = ap (λ n. list_all is_blank (take n (chars bs))) (sym (prefix_len-chars is_blank bs blank_ascii u)) ∙ list_all-take is_blank (chars bs)
+blanks_all bs u = ap (λ n. list_all is_blank (take n (chars bs))) (sym (prefix_len-chars is_blank bs blank_ascii u)) ∙ list_all-take_while is_blank (chars bs)
 
 after_two : (bs bytes : List ℕ) → bytes ≡ 92 ∷ 10 ∷ bs → IsUtf8 bytes → IsUtf8 bs
 after_two bs bytes is u =
@@ -165,7 +146,7 @@ continuation_at w bytes bs k is u count other =
     let front = passing_front is_blank bs blank_ascii text in
     let blanks = take n (chars bs) in
     let within = front.within in
-    let sizes : length blanks ≡ n = ap length front.taken ∙ length-take-within n bs within in
+    let sizes : length blanks ≡ n = ap length front.taken ∙ length-take-le n bs within in
     let size : byte_len (92 ∷ 10 ∷ blanks) ≡ 2 + k =
     byte_len_one_ascii 92 (10 ∷ blanks) (omega arith) ∙ (ap (λ m. 1 + m) (byte_len_one_ascii 10 blanks (omega arith))
     ∙ (let one = byte_len_all_ascii is_blank (λ c e. ascii_from_test is_blank c blank_ascii e) blanks (blanks_all bs text) in omega arith)) in
@@ -174,7 +155,7 @@ continuation_at w bytes bs k is u count other =
     let some : 0 < length (drop n bs) = omega (arith, length-drop n bs) in
     item_at w bytes (chars (drop n bs)) (continuation blanks) (2 + k) None u split (blanks_all bs text)
     (and_from _ _ (not_from_false _ (not_empty (drop n bs) front.utf8 some))
-    (not_from_false _ (first_passes-chars is_blank (drop n bs) blank_ascii front.utf8 ∙ stops_at is_blank bs)))
+    (not_from_false _ (first_passes-chars is_blank (drop n bs) blank_ascii front.utf8 ∙ first_passes-rest is_blank bs)))
     size refl tt
 
 -- refusals
@@ -325,18 +306,10 @@ first_at (d ∷ bytes) b some is = ap (λ n. n ∷ bytes) is
 pub first_of : (bytes seen : List ℕ) (b : ℕ) → seen ≡ bytes → 1 ≤ length seen → get_or seen 0 0 ≡ b → bytes ≡ b ∷ drop 1 bytes
 first_of bytes seen b same some is = subst (λ (l : List ℕ). l ≡ b ∷ drop 1 l) same (first_at seen b some is)
 
--- what a slice pattern binds after the first byte
-pub rest_is : (bytes : List ℕ) → take (length bytes - 1) (drop 1 bytes) ≡ drop 1 bytes
-rest_is [] = refl
-rest_is (b ∷ bytes) = ap (λ n. take n bytes) (let e : suc (length bytes) - 1 ≡ length bytes = omega arith in e) ∙ take-length bytes
-
 -- the two bytes of a continuation
 lf_first : (bs : List ℕ) → first_passes (λ c. c == 10) bs ≡ true → bs ≡ 10 ∷ drop 1 bs
 lf_first [] h = absurd (false≢true h)
 lf_first (b ∷ bs) h = ap (λ n. n ∷ bs) (eqb-true b 10 h)
-
-pub after_is : (bytes seen : List ℕ) → seen ≡ bytes → take (length seen - 1) (drop 1 seen) ≡ drop 1 bytes
-after_is bytes seen same = ap (λ l. take (length l - 1) (drop 1 l)) same ∙ rest_is bytes
 
 pub two_of : (bytes after more : List ℕ) → bytes ≡ 92 ∷ drop 1 bytes → after ≡ drop 1 bytes → first_passes (λ c. c == 10) after ≡ true → more ≡ drop 1 after →
     bytes ≡ 92 ∷ 10 ∷ more
@@ -394,3 +367,23 @@ closed_of w rest (inl quote) free =
     let is = first_is rest quote in
     (is, told_suffix w (drop 1 rest) _ refl (ap (rest_refusal w) is ∙ free))
 closed_of w rest (inr refused) free = let some = refused.1 in cc
+
+-- the closing quote by its byte
+pub quote_first : (bytes bs : List ℕ) → bytes ≡ 34 ∷ bs → first_passes (λ c. c == 34) (chars bytes) ≡ true
+quote_first bytes bs is = ap (λ l. first_passes (λ c. c == 34) (chars l)) is ∙ ap (first_passes (λ c. c == 34)) (chars_ascii 34 bs (omega arith))
+
+quote_ascii : OnlyAscii (λ c. c == 34)
+quote_ascii c high = ne_eqb c 34 (λ e. omega arith)
+
+first_byte : (bs : List ℕ) → first_passes (λ c. c == 34) bs ≡ true → bs ≡ 34 ∷ drop 1 bs
+first_byte [] h = absurd (false≢true h)
+first_byte (b ∷ bs) h = ap (λ n. n ∷ bs) (eqb-true b 34 h)
+
+-- the closing quote is the first byte
+pub quote_byte : (bytes : List ℕ) → IsUtf8 bytes → first_passes (λ c. c == 34) (chars bytes) ≡ true → bytes ≡ 34 ∷ drop 1 bytes
+quote_byte bytes u h = first_byte bytes (sym (first_passes-chars _ bytes quote_ascii u) ∙ h)
+
+pub quote_boundary : (bytes : List ℕ) → IsUtf8 bytes → first_passes (λ c. c == 34) (chars bytes) ≡ true → IsCharBoundary bytes 1
+quote_boundary bytes u h =
+    let is = quote_byte bytes u h in let size = ap length is in let first = ap (λ (l : List ℕ). get_or l 0 0) is in
+    IsCharBoundary-after_ascii bytes 0 u (omega arith) (omega arith)

@@ -24,7 +24,8 @@ use Rattle.litrs_grammar.proofs.RefusalKinds.{quoted_of_text}
 use Rattle.litrs_grammar.proofs.Laws.Value.{plain_bodies_are_their_values}
 use Rattle.litrs_lex.specs.QuotedCut.{IsQuotedCut, IsQuotedRefused}
 use Rattle.litrs_lex.specs.Reading.{IsReadTo, IsReadBody, IsItemsEnd, IsBodyRefused, IsRestRefused}
-use Rattle.litrs_lex.proofs.QuotedBytes.{cut_at, closed_of, quote_free}
+use Rattle.litrs_lex.proofs.CharCuts.{cut_at}
+use Rattle.litrs_lex.proofs.QuotedBytes.{closed_of, quote_free}
 use Rattle.litrs_lex.proofs.QuotedScan.{front_splits}
 
 -- The refusal

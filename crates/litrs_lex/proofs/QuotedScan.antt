@@ -1,10 +1,10 @@
 -- The items of a quoted body that are parsed so far, and what follows them.
-use Rattle.std.proofs.Common.{◌≡◌, ℕ, ◌+◌, ◌≤◌, true, List, [], ◌∷◌, ◌++◌, length, drop, take, refl, sym, ap, subst, ◌∙◌, append_assoc, arith, Option}
+use Rattle.std.proofs.Common.{◌≡◌, ℕ, ◌+◌, true, List, [], ◌∷◌, ◌++◌, length, drop, take, refl, sym, ap, subst, ◌∙◌, append_assoc, arith, Option}
 use Rattle.std.specs.Prelude.{encode_utf8, encode_utf8_all}
 use Rattle.std.specs.List.{list_all}
 use Rattle.std.specs.Str.{chars, IsUtf8, IsCharBoundary}
 use Rattle.std.proofs.lemmas.Bool.{and_parts, and_from}
-use Rattle.std.proofs.lemmas.List.{append-nil, take-append-drop, length-take, drop-drop, length-drop}
+use Rattle.std.proofs.lemmas.List.{append-nil, take-append-drop, length-take-le, drop-drop, length-drop}
 use Rattle.std.proofs.lemmas.Str.{chars_from_encodes, encodes-chars, encodes-append, IsUtf8-drop, IsUtf8-take, IsCharBoundary-from_drop}
 use Rattle.litrs_base.specs.declared.escape.Unescape.{Unescape}
 use Rattle.litrs_base.specs.Text.{byte_len}
@@ -90,9 +90,6 @@ plain_stand w rest (c ∷ run) h =
 utf8_front : (bytes : List ℕ) (n : ℕ) → IsUtf8 bytes → IsCharBoundary bytes n → IsUtf8 (take n bytes)
 utf8_front bytes n u at = IsUtf8-take bytes n u at
 
-pub length-take-within : (n : ℕ) (bytes : List ℕ) → n ≤ length bytes → length (take n bytes) ≡ n
-length-take-within n bytes h = omega (arith, length-take n bytes)
-
 -- a text cut on a character boundary
 pub front_splits : (bytes : List ℕ) (n : ℕ) → IsUtf8 bytes → IsCharBoundary bytes n →
     (chars (take n bytes) ++ chars (drop n bytes) ≡ chars bytes) × (byte_len (chars (take n bytes)) ≡ n)
@@ -104,7 +101,7 @@ front_splits bytes n u at =
     ∙ (ap (λ l. l ++ encode_utf8_all (chars (drop n bytes))) (encodes-chars (take n bytes) front)
     ∙ (ap (λ l. take n bytes ++ l) (encodes-chars (drop n bytes) after) ∙ take-append-drop n bytes)) in (
       chars_from_encodes _ bytes u spelled,
-      ap length (encodes-chars (take n bytes) front) ∙ length-take-within n bytes at.0,
+      ap length (encodes-chars (take n bytes) front) ∙ length-take-le n bytes at.0,
     )
 
 pub reads_start : (w : Switches) (bytes : List ℕ) (n : ℕ) → IsUtf8 bytes → IsCharBoundary bytes n →

@@ -5,7 +5,7 @@ use Rattle.std.specs.declared.ops.Range.{Range}
 use Rattle.std.specs.Str.{chars, IsUtf8, IsCharBoundary}
 use Rattle.std.specs.List.{prefix_len, list_all, slice_index}
 use Rattle.std.proofs.Math.Seq.{drop-append-add}
-use Rattle.std.proofs.lemmas.Bool.{and_parts, and_from, ltb-true, ne_eqb, eqb-true, not-true, not-false, cases_lt, lt-ltb, le-ltb, true≢false, false≢true}
+use Rattle.std.proofs.lemmas.Bool.{and_parts, and_from, ne_eqb, eqb-true, not-true, not-false, cases_lt, lt-ltb, le-ltb, true≢false, false≢true}
 use Rattle.std.proofs.lemmas.List.{length-append, length-drop, length-take-le, drop_more, drop_all, drop-drop, take_at, append_assoc, append_cancel_right, take-append-drop}
 use Rattle.std.proofs.lemmas.Str.{chars-nil, chars-append, encodes-chars, IsUtf8-take, IsCharBoundary-from_drop}
 use Rattle.litrs_base.specs.declared.err.ParseErrorKind.{ParseErrorKind}
@@ -30,36 +30,20 @@ use Rattle.litrs_grammar.proofs.Laws.Raw.{raw_rows, refusal_of_closed, after_clo
 use Rattle.litrs_grammar.proofs.RawScans.{raw_scans_go_on, raw_refusals_go_on}
 use Rattle.litrs_grammar.proofs.Spans.Raw.{raw_refusal_within}
 use Rattle.litrs_lex.specs.RawCut.{raw_parts_at, IsRawCut, IsRawRefused, raw_special, IsPassed, IsStop, IsRawOpening, IsBodyCut}
-use Rattle.litrs_lex.proofs.PlainRuns.{AlikeFrom128}
-use Rattle.litrs_lex.proofs.CharRuns.{IsCharRun, char_run}
+use Rattle.litrs_lex.proofs.PlainRuns.{AlikeFrom128, IsCharRun, char_run, not_ascii, same_tests}
 use Rattle.litrs_lex.proofs.FloatBytes.{chars_after, utf8_after, rest_is}
 use Rattle.litrs_lex.proofs.SuffixBytes.{is_suffix-nil}
 
 -- One character: the search stops at those that may not stand in a body, and at `"`.
 
-same_tests : (quote return slash zero ascii u a : Bool) →
-    not (quote || return || (false && slash) || (not a && zero) || (not u && not ascii)) ≡ (not quote && (not return && ((u || ascii) && (a || not zero))))
-same_tests true r s z c u a = refl
-same_tests false true s z c u a = refl
-same_tests false false s true true true true = refl
-same_tests false false s true true true false = refl
-same_tests false false s true true false true = refl
-same_tests false false s true true false false = refl
-same_tests false false s true false true true = refl
-same_tests false false s true false true false = refl
-same_tests false false s true false false true = refl
-same_tests false false s true false false false = refl
-same_tests false false s false true true true = refl
-same_tests false false s false true true false = refl
-same_tests false false s false true false true = refl
-same_tests false false s false true false false = refl
-same_tests false false s false false true true = refl
-same_tests false false s false false true false = refl
-same_tests false false s false false false true = refl
-same_tests false false s false false false false = refl
+regrouped : (quote return x y : Bool) → (not quote && true && not return && x && y) ≡ (not quote && (not return && (x && y)))
+regrouped true r x y = refl
+regrouped false true x y = refl
+regrouped false false true y = refl
+regrouped false false false y = refl
 
 ordinary_is : (u a : Bool) (c : ℕ) → is_ordinary (raw_special u a) c ≡ (not (c == 34) && is_raw_char u a c)
-ordinary_is u a c = same_tests (c == 34) (c == 13) (c == 92) (c == 0) (is_ascii c) u a
+ordinary_is u a c = same_tests (c == 34) (c == 13) false (c == 0) (is_ascii c) u a ∙ regrouped (c == 34) (c == 13) (u || is_ascii c) (a || not (c == 0))
 
 no_quote : (c : ℕ) → (c == 34) ≡ false → (34 == c) ≡ false
 no_quote c other = ne_eqb 34 c (λ e. true≢false (sym (eq-eqb c 34 (sym e)) ∙ other))
@@ -73,13 +57,6 @@ ordinary_no_quote u a c h = no_quote c (not-true _ (and_parts (not (c == 34)) (i
 -- what is neither ordinary nor `"` may not stand in a body
 stops_raw : (u a : Bool) (c : ℕ) → is_ordinary (raw_special u a) c ≡ false → (c == 34) ≡ false → is_raw_char u a c ≡ false
 stops_raw u a c h other = ap (λ v. not v && is_raw_char u a c) (sym other) ∙ (sym (ordinary_is u a c) ∙ h)
-
-not_ascii : (c : ℕ) → 128 ≤ c → is_ascii c ≡ false
-not_ascii c high = go (ltb c 128) refl
-  where
-    go : (b : Bool) → ltb c 128 ≡ b → is_ascii c ≡ false
-    go false e = e
-    go true e = let low = ltb-true c 128 e in absurd (omega arith)
 
 high_tests : (u a : Bool) → (not false && (not false && ((u || false) && (a || not false)))) ≡ u
 high_tests true true = refl

@@ -9,8 +9,10 @@ use Rattle.litrs_base.specs.Text.{byte_len, first_passes}
 use Rattle.litrs_base.specs.declared.quotes.Switches.{Switches}
 use Rattle.litrs_grammar.specs.Quoted.{body_value}
 use Rattle.litrs_lex.specs.Container.{is_pushable}
-use Rattle.litrs_lex.specs.QuotedItems.{IsPlainRun, IsItemAt, item_bytes}
-use Rattle.litrs_lex.specs.Reading.{IsReadTo, IsReadBody, IsItemsEnd, StandsAt}
+use Rattle.litrs_lex.specs.Mask.{IsMaskOf}
+use Rattle.litrs_lex.specs.QuotedItems.{IsPlainRun, IsItemAt, item_bytes, stops}
+use Rattle.litrs_lex.specs.Reading.{IsReadTo, IsReading, IsReadBody, IsItemsEnd, StandsAt}
+use Rattle.litrs_lex.specs.declared.search.Mask.{Mask}
 use Rattle.litrs_lex.specs.declared.stop.Stop.{Stop}
 use Rattle.litrs_lex.specs.declared.stop.Stop.TheVariants as stop
 use Rattle.litrs_lex.proofs.QuotedCuts.{slice_of}
@@ -43,6 +45,16 @@ back w bytes value offset at h r b fit held = record {
 -- nothing is read yet
 pub read_none : (w : Switches) (bytes : List ℕ) (offset : ℕ) (h : List ℕ → Type 0) → IsUtf8 bytes → IsCharBoundary bytes offset → h [] → IsReadTo w bytes offset offset h
 read_none w bytes offset h u at none = back w bytes [] offset offset h (reads_start w bytes offset u at) at (omega arith) none
+
+-- so is it in a state at the front
+pub reading_none : (w : Switches) (bytes : List ℕ) (offset place : ℕ) (m : Mask) (h : List ℕ → Type 0) → IsUtf8 bytes → IsCharBoundary bytes offset → h [] →
+    IsPlainRun w bytes offset place → m.start ≤ place → IsMaskOf (stops w.unicode w.allow_nul) bytes m → IsReading w bytes offset h (record { at = offset; place = place; marked = m })
+reading_none w bytes offset place m h u at none run after marked = record {
+  read = read_none w bytes offset h u at none;
+  run = run;
+  after = after;
+  marked = marked;
+}
 
 -- another sink holds the same
 pub read_held : (w : Switches) (bytes : List ℕ) (offset at : ℕ) (h k : List ℕ → Type 0) → IsReadTo w bytes offset at h → ((v : List ℕ) → h v → k v) → IsReadTo w bytes offset at k

@@ -13,7 +13,7 @@ use Rattle.unicode_ident.proofs.IdentLemmas.{is_xid_continue-ascii}
 use Rattle.std.proofs.lemmas.Bool.{le-ltb}
 use Rattle.litrs_base.specs.declared.err.ParseErrorKind.TheVariants.{UnexpectedChar, InvalidSuffix}
 use Rattle.litrs_base.proofs.Chars.{OnlyAscii, first_passes-chars, ascii_from_test, chars_ascii, utf8_after_ascii}
-use Rattle.litrs_lex.specs.declared.search.Run.TheVariants.{Identifier}
+use Rattle.litrs_lex.specs.declared.run.Run.TheVariants.{Identifier}
 use Rattle.litrs_lex.specs.Run.{is_in_run}
 
 pub is_suffix-nil : is_suffix [] ≡ true

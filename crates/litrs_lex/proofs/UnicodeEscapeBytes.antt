@@ -4,7 +4,7 @@ use Rattle.std.specs.Prelude.{◌==◌, count_by, take_while, if◌then◌else�
 use Rattle.std.specs.Char.{is_ascii_hexdigit}
 use Rattle.std.specs.List.{list_all, list_any, before_first}
 use Rattle.std.specs.Str.{chars, IsUtf8}
-use Rattle.std.proofs.lemmas.Bool.{and_parts, and_from, not-true, eqb-true, or_left, true≢false, lt-ltb, le-ltb, leb-true, le-leb, or_right}
+use Rattle.std.proofs.lemmas.Bool.{and_parts, and_from, not-true, eqb-true, or_left, true≢false, lt-ltb, le-ltb, leb-true, le-leb, or_right, false_from_ne_true}
 use Rattle.std.proofs.lemmas.Bool.Decides.{nat_tests}
 use Rattle.std.proofs.lemmas.List.{append-nil}
 use Rattle.std.proofs.lemmas.List.Sums.{take_while-cons, sum_by-cons, sum_by-append}
@@ -27,7 +27,7 @@ use Rattle.litrs_lex.specs.Unescaped.{switches, IsUnescaped, IsHexDigits}
 use Rattle.litrs_lex.proofs.CharCuts.{byte_len-all}
 use Rattle.litrs_lex.proofs.AsciiTests.{only_char, list_any-chars, ascii_front, first_next}
 use Rattle.litrs_lex.proofs.HexDigitBytes.{hexdigit_only, hex_or_underscore_only}
-use Rattle.litrs_lex.proofs.EscapeBytes.{unescaped, first_slash, letter_chars, utf8_at, fails}
+use Rattle.litrs_lex.proofs.EscapeBytes.{unescaped, first_slash, letter_chars, utf8_at}
 
 to_unicode : (w : Switches) (t : List ℕ) → escape_refusal w (92 ∷ 117 ∷ t) ≡ unicode_refusal w t
 unfolding escape_refusal
@@ -199,7 +199,7 @@ many_inner w xs u us all digit six right =
     take_while_front is_hex_or_underscore xs (u ∷ us) all ∙ ap (λ l. xs ++ l) (take_while-cons is_hex_or_underscore u us ∙ if_true _ _ _ (or_left _ _ digit)) in
     let more : 6 < count_by is_ascii_hexdigit (take_while is_hex_or_underscore (xs ++ u ∷ us)) =
     let m = count_more xs u (take_while is_hex_or_underscore us) digit six in let e = ap (count_by is_ascii_hexdigit) run in omega arith in
-    let many : leb (count_by is_ascii_hexdigit (take_while is_hex_or_underscore (xs ++ u ∷ us))) 6 ≡ false = fails _ (λ e. let few = leb-true _ _ e in omega arith) in
+    let many : leb (count_by is_ascii_hexdigit (take_while is_hex_or_underscore (xs ++ u ∷ us))) 6 ≡ false = false_from_ne_true _ (λ e. let few = leb-true _ _ e in omega arith) in
     if_false _ _ _ right ∙ (if_false _ _ _ (and_false _ _ many) ∙ (if_true _ _ _ (lt-ltb 6 _ (count_more xs u us digit six))
     ∙ ap (λ n. Some (at_byte (3 + n) TooManyDigitInUnicodeEscape)) (place_at is_ascii_hexdigit 6 xs u us digit six)))
 

@@ -1,9 +1,6 @@
 -- what a search stops at
 pub mod Special
 pub mod Run
-pub mod RunBytes
-pub mod Target
-pub mod Closing
 -- what a search has found out
 pub mod Mask
 -- how a text begins

@@ -1,7 +1,7 @@
 -- Which bytes of a part are special.
 use Rattle.std.specs.Prelude.{◌≡◌, ℕ, ◌+◌, ◌-◌, ◌≤◌, List, length, map}
 use Rattle.std.specs.Simd.Lanes.{mask_l, chunk}
-use Rattle.litrs_lex.specs.declared.mask.Mask.{Mask}
+use Rattle.litrs_lex.specs.declared.search.Mask.{Mask}
 use Rattle.litrs_lex.specs.declared.search.Special.{Special}
 use Rattle.litrs_lex.specs.Special.{is_special}
 

@@ -1,5 +1,5 @@
 -- Where a raw string is cut, in bytes.
-use Rattle.std.specs.Prelude.{◌≡◌, ◌==◌, ◌&&◌, ◌||◌, ℕ, ◌+◌, ◌-◌, ◌≤◌, Bool, false, not, List, ◌∷◌, ◌++◌, length, take, slice_index, slice_range, drop, Some, None, IfSome, IsTrue, IsFalse}
+use Rattle.std.specs.Prelude.{◌≡◌, ℕ, ◌+◌, ◌-◌, ◌≤◌, Bool, false, not, List, ◌∷◌, ◌++◌, length, take, slice_range, drop, Some, None, IfSome, IsTrue, IsFalse}
 use Rattle.std.specs.List.{list_all}
 use Rattle.std.specs.Str.{chars, IsUtf8, IsCharBoundary}
 use Rattle.litrs_base.specs.declared.err.ParseError.{ParseError}
@@ -8,7 +8,7 @@ use Rattle.litrs_base.specs.Derivations.{IsOnlyDerivation, HasNoDerivation}
 use Rattle.litrs_base.specs.Finality.{is_final, is_open}
 use Rattle.litrs_base.specs.Refusal.{refusal_of, kind_of, char_span_of, IsInText, HasCharSpan}
 use Rattle.litrs_base.specs.Characters.{double_quote}
-use Rattle.litrs_base.specs.Text.{first_passes, begins_with}
+use Rattle.litrs_base.specs.Text.{first_passes}
 use Rattle.litrs_lex.specs.declared.search.Special.{Special}
 use Rattle.litrs_lex.specs.Special.{is_ordinary}
 use Rattle.litrs_grammar.specs.Continuation.{EndsBy}
@@ -76,12 +76,6 @@ pub record IsRawOpening (offset : ℕ) (bytes : List ℕ) (opening : ℕ × ℕ)
 abbrev pub raw_special : (unicode allow_nul : Bool) → Special
 raw_special unicode allow_nul =
     record { backslash = false; nul = not allow_nul; non_ascii = not unicode }
-
--- the byte at the place is none of these, or a quote at which no closing with n hashes begins
-abbrev pub is_inner_at : Special → ℕ → List ℕ → ℕ → Bool
-is_inner_at what n bytes k =
-    is_ordinary what (slice_index bytes k)
-    || (slice_index bytes k == double_quote && not (begins_with (raw_closing n) (drop k bytes)))
 
 -- The characters of t in front of rest may stand in a raw body, and at none of them a closing with
 -- n hashes begins.

@@ -1,11 +1,10 @@
 //! Where a char or a byte is cut.
-ghost use Rattle.std.specs.Prelude.{◌≡◌, ◌≢◌, ◌+◌, ◌==◌, ◌∷◌, [], codes, drop, IsTrue, IfOk, IfErr, None, Some};
-ghost use Rattle.std.specs.List.{list_any};
+ghost use Rattle.std.specs.Prelude.{◌≡◌, ◌≢◌, ◌+◌, ◌∷◌, [], codes, drop, IsTrue, IfOk, IfErr, None, Some};
 ghost use Rattle.std.specs.Str.{chars, IsCharBoundary};
 ghost use Rattle.litrs_base.specs.Characters.{single_quote, backslash};
 ghost use Rattle.litrs_base.specs.Derivations.{IsOnlyDerivation};
 ghost use Rattle.litrs_base.specs.Refusal.{refusal_of, HasCharSpan};
-ghost use Rattle.litrs_base.specs.Text.{begins_with, first_passes};
+ghost use Rattle.litrs_base.specs.Text.{begins_with};
 ghost use Rattle.litrs_base.specs.declared.quotes.CharKind.TheVariants.{Char as char_kind, Byte as byte_kind};
 ghost use Rattle.litrs_grammar.specs.CharByte.{char_value, IsCharLiteral, is_special_whitespace, unterminated_kind, empty_kind, overlong_kind, closing_refusal};
 ghost use Rattle.litrs_grammar.specs.Literal.{kind_parse, char_literal, byte_literal};
@@ -13,9 +12,8 @@ ghost use Rattle.litrs_grammar.specs.Refused.{IsRefused};
 ghost use Rattle.litrs_lex.specs.CharCut.{char_parts_at, IsItemRead, IsItemRefused, IsCutAfter};
 
 use crate::escape::unescape_with;
-use crate::parse::{check_suffix, split_first_char};
+use crate::parse::{begins_with_byte, check_suffix, has_byte, split_first_char};
 use litrs_base::{CharKind, ParseError, ParseErrorKind, Unescape};
-use memchr::memchr;
 
 /// Cuts a char, a text that begins with `'`: its value, and the place in bytes where its suffix
 /// starts. Of `'\n'u8` that is LF and 4. See [the reference][ref].
@@ -115,7 +113,7 @@ fn quote_refusal(rest: &str, kind: CharKind) -> ParseError
     requires { IsTrue (begins_with (single_quote ∷ []) rest.now) }
     ensures { IsItemRefused kind (chars rest.now) result }
 {
-    if begins_with_quote(&rest.as_bytes()[1..]) {
+    if begins_with_byte(&rest.as_bytes()[1..], b'\'') {
         ParseError::in_text(rest, Some(0..1), ParseErrorKind::UnescapedSingleQuote)
     } else {
         ParseError::new(None, empty_kind(kind))
@@ -160,8 +158,8 @@ fn check_closing(rest: &str, len: usize, kind: CharKind) -> Result<usize, ParseE
     ensures char_span { IfErr result (HasCharSpan (chars rest.now)) }
 {
     let after = &rest[len..];
-    if !begins_with_quote(after.as_bytes()) {
-        let refusal = if has_quote(after.as_bytes()) {
+    if !begins_with_byte(after.as_bytes(), b'\'') {
+        let refusal = if has_byte(after.as_bytes(), b'\'') {
             overlong_kind(kind)
         } else {
             unterminated_kind(kind)
@@ -179,23 +177,6 @@ fn is_special_whitespace(byte: u8) -> bool
     ensures { result ≡ is_special_whitespace byte }
 {
     matches!(byte, b'\n' | b'\t' | b'\r')
-}
-
-/// Whether `'` stands first.
-fn begins_with_quote(bytes: &[u8]) -> bool
-    ensures { result ≡ first_passes (λ c. c == single_quote) bytes.now }
-{
-    matches!(bytes.first(), Some(b'\''))
-}
-
-/// Whether `'` is among the bytes.
-///
-/// A call, so that the cut of a char stays small.
-#[inline(never)]
-fn has_quote(bytes: &[u8]) -> bool
-    ensures { result ≡ list_any (λ c. c == single_quote) bytes.now }
-{
-    memchr(b'\'', bytes).is_some()
 }
 
 /// The refusal of a literal that is not closed.

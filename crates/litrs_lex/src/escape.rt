@@ -1,7 +1,6 @@
 //! Escapes.
 ghost use Rattle.std.specs.Prelude.{◌≡◌, ◌≢◌, [], ◌∷◌, ◌+◌, ◌<◌, ◌≤◌, Bool, true, ◌&&◌, ◌||◌, ◌==◌, codes, drop, length, IfOk, IfErr, IsTrue, IsFalse};
 ghost use Rattle.std.specs.Char.{is_ascii_hexdigit};
-ghost use Rattle.std.specs.List.{list_any};
 ghost use Rattle.std.specs.Option.{SomeIff};
 ghost use Rattle.std.specs.Str.{chars};
 ghost use Rattle.litrs_base.specs.Characters.{backslash, letter_x, letter_u, underscore, open_brace, close_brace, is_ascii, nul_is_allowed};
@@ -9,9 +8,8 @@ ghost use Rattle.litrs_base.specs.Text.{first_passes, is_empty, begins_with};
 ghost use Rattle.litrs_grammar.specs.Escape.{is_simple, simple_value, pair_value};
 ghost use Rattle.litrs_lex.specs.Unescaped.{switches, IsUnescaped, IsEscapeRefused, HasEscapeRefusal, IsHexDigits};
 
-use crate::parse::hex_digit_value;
+use crate::parse::{begins_with_byte, has_byte, hex_digit_value};
 use litrs_base::{ParseError, ParseErrorKind, Switches, Unescape};
-use memchr::memchr;
 
 /// Parses the escape at the front of a text that is empty or begins with a backslash: what it
 /// stands for, and its length in bytes. Of `\n12` that is the byte 10, with length 2. See
@@ -110,32 +108,19 @@ fn unescape_simple(
     Ok((Unescape::Byte(value), 2))
 }
 
-/// What a backslash and each letter stand for, 255 where they are no escape.
-static SIMPLE_VALUES: [u8; 256] = *b"\
-    \xff\xff\xff\xff\xff\xff\xff\xff\xff\xff\xff\xff\xff\xff\xff\xff\
-    \xff\xff\xff\xff\xff\xff\xff\xff\xff\xff\xff\xff\xff\xff\xff\xff\
-    \xff\xff\x22\xff\xff\xff\xff\x27\xff\xff\xff\xff\xff\xff\xff\xff\
-    \x00\xff\xff\xff\xff\xff\xff\xff\xff\xff\xff\xff\xff\xff\xff\xff\
-    \xff\xff\xff\xff\xff\xff\xff\xff\xff\xff\xff\xff\xff\xff\xff\xff\
-    \xff\xff\xff\xff\xff\xff\xff\xff\xff\xff\xff\xff\x5c\xff\xff\xff\
-    \xff\xff\xff\xff\xff\xff\xff\xff\xff\xff\xff\xff\xff\xff\x0a\xff\
-    \xff\xff\x0d\xff\x09\xff\xff\xff\xff\xff\xff\xff\xff\xff\xff\xff\
-    \xff\xff\xff\xff\xff\xff\xff\xff\xff\xff\xff\xff\xff\xff\xff\xff\
-    \xff\xff\xff\xff\xff\xff\xff\xff\xff\xff\xff\xff\xff\xff\xff\xff\
-    \xff\xff\xff\xff\xff\xff\xff\xff\xff\xff\xff\xff\xff\xff\xff\xff\
-    \xff\xff\xff\xff\xff\xff\xff\xff\xff\xff\xff\xff\xff\xff\xff\xff\
-    \xff\xff\xff\xff\xff\xff\xff\xff\xff\xff\xff\xff\xff\xff\xff\xff\
-    \xff\xff\xff\xff\xff\xff\xff\xff\xff\xff\xff\xff\xff\xff\xff\xff\
-    \xff\xff\xff\xff\xff\xff\xff\xff\xff\xff\xff\xff\xff\xff\xff\xff\
-    \xff\xff\xff\xff\xff\xff\xff\xff\xff\xff\xff\xff\xff\xff\xff\xff";
-
 /// What a backslash and this letter stand for, or None where they are no escape.
 #[inline(always)]
 fn simple_value(letter: u8) -> Option<u8>
     ensures { SomeIff result (IsTrue (is_simple letter)) (simple_value letter) }
 {
-    let value = SIMPLE_VALUES[letter as usize];
-    if value < 128 { Some(value) } else { None }
+    match letter {
+        b'n' => Some(b'\n'),
+        b'r' => Some(b'\r'),
+        b't' => Some(b'\t'),
+        b'0' => Some(0),
+        b'\\' | b'"' | b'\'' => Some(letter),
+        _ => None,
+    }
 }
 
 /// The escape of a text that begins with `\x`.
@@ -198,7 +183,7 @@ fn unescape_unicode(input: &str, allowed: Switches) -> Result<(Unescape, usize),
     ensures refused { IfErr result (HasEscapeRefusal allowed (chars input.now)) }
 {
     let bytes = input.as_bytes();
-    if !opens_brace(bytes) {
+    if !begins_with_byte(&bytes[2..], b'{') {
         let kind = ParseErrorKind::UnicodeEscapeWithoutBrace;
         return Err(ParseError::in_text(input, Some(0..2), kind));
     }
@@ -209,14 +194,6 @@ fn unescape_unicode(input: &str, allowed: Switches) -> Result<(Unescape, usize),
     } else {
         Err(unicode_escape_refusal(input, digits))
     }
-}
-
-/// Whether `{` follows the first two bytes.
-#[inline(always)]
-fn opens_brace(bytes: &[u8]) -> bool
-    ensures { result ≡ first_passes (λ c. c == open_brace) (drop 2 bytes.now) }
-{
-    matches!(bytes.get(2), Some(b'{'))
 }
 
 /// Whether a hex digit stands first, and `}` after the digits.
@@ -233,10 +210,7 @@ fn is_closed(inner: &[u8], digits: HexDigits) -> bool
 fn begins_with_hex_digit(bytes: &[u8]) -> bool
     ensures { result ≡ first_passes is_ascii_hexdigit bytes.now }
 {
-    match bytes {
-        [first, ..] => first.is_ascii_hexdigit(),
-        [] => false,
-    }
+    matches!(bytes.first(), Some(first) if first.is_ascii_hexdigit())
 }
 
 /// Hex digits, at most six, and underscores.
@@ -312,7 +286,7 @@ fn unicode_escape_refusal(input: &str, digits: HexDigits) -> ParseError
 {
     let inner = &input.as_bytes()[3..];
     let place = 3 + digits.len;
-    if !has_close_brace(inner) {
+    if !has_byte(inner, b'}') {
         let kind = ParseErrorKind::UnterminatedUnicodeEscape;
         ParseError::in_text(input, Some(0..input.len()), kind)
     } else if begins_wrongly(inner) {
@@ -332,11 +306,4 @@ fn begins_wrongly(bytes: &[u8]) -> bool
     ensures { result ≡ first_passes (λ c. (c == close_brace) || (c == underscore)) bytes.now }
 {
     matches!(bytes.first(), Some(b'}' | b'_'))
-}
-
-/// Whether `}` is among the bytes.
-fn has_close_brace(bytes: &[u8]) -> bool
-    ensures { result ≡ list_any (λ c. c == close_brace) bytes.now }
-{
-    memchr(b'}', bytes).is_some()
 }

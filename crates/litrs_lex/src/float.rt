@@ -103,10 +103,8 @@ fn cut_refusal(cut: &FloatCut, input: &str) -> Option<(Option<Range<usize>>, Par
         end_number,
     } = *cut;
     if has_no_exponent_digit(&input.as_bytes()[end_fraction..end_number]) {
-        return Some((
-            Some(end_fraction..end_number),
-            ParseErrorKind::NoExponentDigits,
-        ));
+        let span = end_fraction..end_number;
+        return Some((Some(span), ParseErrorKind::NoExponentDigits));
     }
     let (_, suffix) = input.split_at(end_number);
     if let Err(kind) = check_suffix(suffix) {
@@ -148,20 +146,14 @@ fn sign_len(bytes: &[u8]) -> usize
     ensures len { result ≡ sign_len bytes.now }
     ensures within { result ≤ length bytes.now }
 {
-    match bytes {
-        [b'+' | b'-', ..] => 1,
-        _ => 0,
-    }
+    usize::from(matches!(bytes, [b'+' | b'-', ..]))
 }
 
 /// Whether a period stands first, and after it something else than a decimal digit.
 fn has_wrong_fraction(bytes: &[u8]) -> bool
     ensures { result ≡ has_wrong_fraction bytes.now }
 {
-    match bytes {
-        [b'.', next, ..] => !next.is_ascii_digit(),
-        _ => false,
-    }
+    matches!(bytes, [b'.', next, ..] if !next.is_ascii_digit())
 }
 
 /// Whether there is an exponent, and no decimal digit in it.

@@ -1,13 +1,18 @@
 //! Hashes of raw strings.
-ghost use Rattle.std.specs.Prelude.{◌≡◌, ◌≤◌, ◌&&◌, not, length};
+ghost use Rattle.std.specs.Prelude.{◌≡◌, ◌≤◌, ◌&&◌, not, length, map};
+ghost use Rattle.std.specs.Simd.Lanes.{mask_l, chunk};
 ghost use Rattle.std.specs.List.{list_all};
 ghost use Rattle.litrs_base.specs.Text.{first_passes, begins_with};
 ghost use Rattle.litrs_grammar.specs.Raw.{hashes, hash_len, is_hash, is_quote, raw_closing};
 
 use crate::{Run, run_end};
+use std::simd::prelude::*;
 
 /// The most hashes that a raw literal may have.
 pub const MAX_HASHES: usize = 255;
+
+/// How many bytes are compared in a step.
+const STEP: usize = 16;
 
 /// Whether `"` stands first, with fewer hashes after it: a quote that does not close a body between
 /// so many hashes.
@@ -16,16 +21,9 @@ pub fn is_inner_quote(bytes: &[u8], hashes: usize) -> bool
         ≡ (first_passes is_quote bytes.now && not (begins_with (raw_closing hashes) bytes.now)) }
 {
     match bytes {
-        [b'"', after @ ..] => !begins_with_hashes(after, hashes),
+        [b'"', after @ ..] => hash_len(after) < hashes,
         _ => false,
     }
-}
-
-/// Whether so many hashes stand first.
-fn begins_with_hashes(bytes: &[u8], count: usize) -> bool
-    ensures { result ≡ begins_with (hashes count) bytes.now }
-{
-    count <= bytes.len() && are_hashes(&bytes[..count])
 }
 
 /// Whether all are hashes.
@@ -42,18 +40,32 @@ pub fn hash_len(bytes: &[u8]) -> usize
     ensures within { result ≤ length bytes.now }
 {
     match bytes {
-        // A search by lanes costs more than a comparison of each where there are few.
+        // Where there are few, a comparison of each costs less.
         [b'#', b'#', b'#', b'#', ..] => hash_len_of_many(bytes),
         _ => bytes.iter().take_while(|b| **b == b'#').count(),
     }
 }
 
-/// [`hash_len`] by a search. It is not inlined, so that callers hold no more than what few hashes
-/// take.
+/// [`hash_len`] by 16 bytes a step, as far as all 16 are hashes.
 #[inline(never)]
 fn hash_len_of_many(bytes: &[u8]) -> usize
     ensures len { result ≡ hash_len bytes.now }
     ensures within { result ≤ length bytes.now }
 {
-    run_end(bytes, Run::Hashes)
+    let mut len = 0;
+    while bytes.len() - len >= STEP && other_marks(&bytes[len..]) == 0 {
+        len += STEP;
+    }
+    len + run_end(&bytes[len..], Run::Hashes)
+}
+
+/// Which of the first 16 bytes are no hashes: bit i is that of the byte at i.
+#[inline(always)]
+fn other_marks(bytes: &[u8]) -> u64
+    requires { 16 ≤ length bytes.now }
+    ensures { result ≡ mask_l (map (λ b. not (is_hash b)) (chunk 0 16 bytes.now)) }
+{
+    u8x16::from_slice(bytes)
+        .simd_ne(Simd::splat(b'#'))
+        .to_bitmask()
 }

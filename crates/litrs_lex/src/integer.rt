@@ -14,7 +14,7 @@ ghost use Rattle.litrs_grammar.specs.Literal.{kind_parse, integer_literal};
 ghost use Rattle.litrs_grammar.specs.Refused.{IsRefused};
 ghost use Rattle.litrs_lex.specs.IntegerCut.{integer_parts_at, IsIntegerWithin, IsDigitsCut};
 
-use crate::parse::{check_suffix, end_dec_digits};
+use crate::parse::check_suffix;
 use crate::{Run, run_end};
 use litrs_base::IntegerBase::{Binary, Decimal, Hexadecimal, Octal};
 use litrs_base::{IntegerBase, ParseError, ParseErrorKind};
@@ -75,7 +75,7 @@ pub(crate) fn cut_digits(input: &str) -> IntegerCut
     let bytes = input.as_bytes();
     let base = base_of(bytes);
     let start_main = base.prefix().len();
-    let end_main = start_main + digits_len(base, &bytes[start_main..]);
+    let end_main = start_main + run_end(&bytes[start_main..], Run::Digits(base));
     IntegerCut {
         start_main,
         end_main,
@@ -104,10 +104,8 @@ fn cut_refusal(cut: &IntegerCut, input: &str) -> Option<(Range<usize>, ParseErro
         });
     }
     if begins_with_e(after) {
-        return Some((
-            end_main..end_main + 1,
-            ParseErrorKind::IntegerSuffixStartingWithE,
-        ));
+        let span = end_main..end_main + 1;
+        return Some((span, ParseErrorKind::IntegerSuffixStartingWithE));
     }
     if has_digit(&number.as_bytes()[start_main..]) {
         None
@@ -120,20 +118,14 @@ fn cut_refusal(cut: &IntegerCut, input: &str) -> Option<(Range<usize>, ParseErro
 fn begins_with_digit(bytes: &[u8]) -> bool
     ensures { result ≡ first_passes is_ascii_digit bytes.now }
 {
-    match bytes {
-        [first, ..] => first.is_ascii_digit(),
-        [] => false,
-    }
+    matches!(bytes.first(), Some(first) if first.is_ascii_digit())
 }
 
 /// Whether `e` or `E` stands first.
 fn begins_with_e(bytes: &[u8]) -> bool
     ensures { result ≡ first_passes is_e bytes.now }
 {
-    match bytes {
-        [first, ..] => *first == b'e' || *first == b'E',
-        [] => false,
-    }
+    matches!(bytes, [b'e' | b'E', ..])
 }
 
 /// The base, by the front of a text: `0b`, `0o` and `0x` are always the prefix, and
@@ -142,34 +134,10 @@ fn base_of(bytes: &[u8]) -> IntegerBase
     ensures { result ≡ base_of bytes.now }
 {
     match bytes {
-        [b'0', letter, ..] => base_of_letter(*letter),
+        [b'0', b'b', ..] => Binary,
+        [b'0', b'o', ..] => Octal,
+        [b'0', b'x', ..] => Hexadecimal,
         _ => Decimal,
-    }
-}
-
-/// [`base_of`] a text that begins with `0` and this byte.
-fn base_of_letter(letter: u8) -> IntegerBase
-    ensures { result ≡ base_of (digit_zero ∷ letter ∷ []) }
-{
-    match letter {
-        b'b' => Binary,
-        b'o' => Octal,
-        b'x' => Hexadecimal,
-        _ => Decimal,
-    }
-}
-
-/// How many digits of this base and underscores stand at the front, in bytes: by a search for each
-/// base, which compares them with constants.
-#[inline(never)]
-fn digits_len(base: IntegerBase, bytes: &[u8]) -> usize
-    ensures { result ≡ prefix_len (is_digit_or_underscore base) bytes.now }
-{
-    match base {
-        IntegerBase::Binary => run_end(bytes, Run::Digits(IntegerBase::Binary)),
-        IntegerBase::Octal => run_end(bytes, Run::Digits(IntegerBase::Octal)),
-        IntegerBase::Decimal => end_dec_digits(bytes),
-        IntegerBase::Hexadecimal => run_end(bytes, Run::Digits(IntegerBase::Hexadecimal)),
     }
 }
 

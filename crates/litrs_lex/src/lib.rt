@@ -17,18 +17,17 @@ pub use litrs_base::{
     Buffer, CharKind, FloatType, IntegerBase, IntegerType, ParseError, ParseErrorKind, StringKind,
     Switches, Text, Unescape,
 };
-pub use mask::next_special;
 pub use number::{NumberCut, cut_number};
 pub use parse::{check_suffix, end_dec_digits, first_byte_or_empty, hex_digit_value};
 pub use quoted::{QuotedCut, cut_quoted};
 pub use raw::scan_raw_string;
-pub use search::{Run, Special, run_end};
+pub use run::{Run, run_end};
+pub use search::{Special, next_special};
 pub use string::{unescape_string, unescape_string_with};
 
 pub mod allowed;
 mod bool;
 pub mod char;
-mod closing;
 pub mod container;
 pub mod escape;
 mod filled;
@@ -36,14 +35,13 @@ pub mod float;
 pub mod hashes;
 pub mod integer;
 pub mod kind;
-mod lanes;
-mod mask;
 pub mod number;
 mod parse;
 pub mod quoted;
 pub mod raw;
 mod reading;
 mod room;
+mod run;
 mod search;
 mod sink;
 mod stop;

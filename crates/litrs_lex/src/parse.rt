@@ -1,16 +1,18 @@
 //! Suffixes and digits.
 ghost use Rattle.std.specs.Prelude.{◌≡◌, ◌≤◌, length, [], ◌∷◌, ◌||◌, ◌==◌, is_ok, IsTrue, IfErr, IfSome, IfNone, MatchResult, slice_get};
 ghost use Rattle.std.specs.Char.{digit_value, is_ascii_hexdigit};
-ghost use Rattle.std.specs.List.{list_all, prefix_len};
+ghost use Rattle.std.specs.List.{list_all, list_any, prefix_len};
 ghost use Rattle.std.specs.Option.{SomeIff};
 ghost use Rattle.std.specs.Str.{chars, IsUtf8};
 ghost use Rattle.unicode_ident.specs.Ident.{is_xid_continue};
 ghost use Rattle.litrs_base.specs.Base.{is_digit_or_underscore};
 ghost use Rattle.litrs_base.specs.Refusal.{refusal_of, without_span};
+ghost use Rattle.litrs_base.specs.Text.{first_passes};
 ghost use Rattle.litrs_grammar.specs.Suffix.{starts_identifier, is_suffix, is_ascii_symbol, suffix_refusal};
 
 use crate::{Run, run_end};
 use litrs_base::{IntegerBase, ParseError, ParseErrorKind};
+use memchr::memchr;
 
 /// How many decimal digits and underscores stand at the front, in bytes: 4 of `1_0_a2`.
 // Not inlined, so that the search stands once.
@@ -62,6 +64,24 @@ pub fn first_byte_or_empty(s: &str) -> Result<u8, ParseError>
         Some(first) => Ok(*first),
         None => Err(ParseError::new(None, ParseErrorKind::Empty)),
     }
+}
+
+/// Whether this byte stands first.
+#[inline(always)]
+pub(crate) fn begins_with_byte(bytes: &[u8], byte: u8) -> bool
+    ensures { result ≡ first_passes (λ c. c == byte) bytes.now }
+{
+    matches!(bytes.first(), Some(first) if *first == byte)
+}
+
+/// Whether this byte is among the bytes.
+///
+/// A call, so that what asks it in a refusal stays small.
+#[inline(never)]
+pub(crate) fn has_byte(bytes: &[u8], byte: u8) -> bool
+    ensures { result ≡ list_any (λ c. c == byte) bytes.now }
+{
+    memchr(byte, bytes).is_some()
 }
 
 /// The first character of the text and what follows it, or None where there is none.

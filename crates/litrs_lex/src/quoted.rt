@@ -11,6 +11,7 @@ ghost use Rattle.litrs_lex.specs.Unescaped.{switches};
 
 use crate::allowed::Allows;
 use crate::reading::{Reached, Reading, read_items};
+use crate::search::Mask;
 use crate::sink::Counted;
 use crate::stop::first_plain_end;
 use crate::{Switches, check_suffix};
@@ -105,7 +106,11 @@ fn beginning<A: Allows>(input: &str, offset: usize, allowed: A) -> Reading
     ensures { IsReading (A.allowed allowed) input.now offset (λ v. v ≡ []) result }
 {
     let place = first_plain_end(input, offset, allowed);
-    Reading::after_plain(input, offset, place, allowed)
+    Reading {
+        at: offset,
+        place,
+        marked: Mask::empty_at(place),
+    }
 }
 
 /// Whether a suffix or nothing follows the closing quote.

@@ -1,14 +1,13 @@
 //! Raw strings of the three kinds.
-ghost use Rattle.std.specs.Prelude.{◌≡◌, ◌≤◌, ◌<◌, ℕ, Bool, slice_index, length, drop, IsTrue, IfOk, IfErr, Some};
+ghost use Rattle.std.specs.Prelude.{◌≡◌, ◌≤◌, Bool, length, drop, IsTrue, IfOk, IfErr, Some};
 ghost use Rattle.std.specs.Str.{chars, IsUtf8, IsCharBoundary};
 ghost use Rattle.litrs_base.specs.Refusal.{refusal};
 ghost use Rattle.litrs_base.specs.Text.{first_passes, begins_with};
 ghost use Rattle.litrs_grammar.specs.Raw.{is_quote, raw_closing, raw_char_refusal, raw_body_refusal, raw_refusal};
-ghost use Rattle.litrs_lex.specs.RawCut.{IsRawCut, IsRawRefused, IsRawOpening, IsStop, IsBodyCut, is_inner_at};
-ghost use Rattle.litrs_lex.specs.Special.{is_special};
+ghost use Rattle.litrs_lex.specs.RawCut.{IsRawCut, IsRawRefused, IsRawOpening, IsStop, IsBodyCut};
 
-use crate::closing::next_closing;
 use crate::hashes::{MAX_HASHES, hash_len, is_inner_quote};
+use crate::search::{Mask, next_special_masked};
 use crate::{Special, Switches, check_suffix, next_special};
 use litrs_base::{ParseError, ParseErrorKind};
 use std::ops::Range;
@@ -143,74 +142,24 @@ fn cut_body(
 /// The first place from `start` on where a raw body is closed by a quote and so many hashes, or
 /// where a byte stands that may not stand in it; else the end of the text. In `a"b"#` from 0 on
 /// with one hash that is 3.
-#[inline(always)]
+#[inline(never)]
 pub fn body_end(bytes: &[u8], start: usize, hashes: usize, allowed: Switches) -> usize
     requires { (start ≤ length bytes.now) × IsUtf8 (drop start bytes.now) }
     ensures stop { IsStop allowed.unicode allowed.allow_nul hashes start bytes.now result }
     ensures closing { IsTrue (first_passes is_quote (drop result bytes.now))
         → IsTrue (begins_with (raw_closing hashes) (drop result bytes.now)) }
 {
-    match (allowed.unicode, allowed.allow_nul) {
-        (true, true) => closing_place::<true, true>(bytes, start, hashes),
-        (true, false) => closing_place::<true, false>(bytes, start, hashes),
-        (false, true) => closing_place::<false, true>(bytes, start, hashes),
-        (false, false) => closing_place::<false, false>(bytes, start, hashes),
-    }
-}
-
-/// [`body_end`] in the literals of one kind, so that the search has no switch to test.
-#[inline(never)]
-fn closing_place<const UNICODE: bool, const ALLOW_NUL: bool>(
-    bytes: &[u8],
-    start: usize,
-    hashes: usize,
-) -> usize
-    requires { (start ≤ length bytes.now) × IsUtf8 (drop start bytes.now) }
-    ensures stop { IsStop UNICODE ALLOW_NUL hashes start bytes.now result }
-    ensures closing { IsTrue (first_passes is_quote (drop result bytes.now))
-        → IsTrue (begins_with (raw_closing hashes) (drop result bytes.now)) }
-{
     let what = Special {
         backslash: false,
-        nul: !ALLOW_NUL,
-        non_ascii: !UNICODE,
+        nul: !allowed.allow_nul,
+        non_ascii: !allowed.unicode,
     };
-    let mut from = start;
-    loop {
-        let place = next_stop(bytes, from, hashes, what, from == start);
-        if !is_inner_quote(&bytes[place..], hashes) {
-            return place;
-        }
-        from = place + 1;
+    let mut place = next_special(bytes, start, what);
+    let mut marked = Mask::empty_at(place);
+    while is_inner_quote(&bytes[place..], hashes) {
+        (place, marked) = next_special_masked(bytes, place + 1, what, marked);
     }
-}
-
-/// A place from `from` on with a special byte, or the end of the text: before it stand no special
-/// bytes but quotes that do not close the body.
-///
-/// The search for what closes a body costs more to begin, so it begins after a first inner quote.
-#[inline(always)]
-fn next_stop(bytes: &[u8], from: usize, hashes: usize, what: Special, is_first: bool) -> usize
-    requires { from ≤ length bytes.now }
-    ensures from { from ≤ result }
-    ensures within { result ≤ length bytes.now }
-    ensures inner { (k : ℕ) → from ≤ k → k < result →
-        IsTrue (is_inner_at what hashes bytes.now k) }
-    ensures stops { result < length bytes.now →
-        IsTrue (is_special what (slice_index bytes.now result)) }
-{
-    if is_first || hashes == 0 {
-        next_special(bytes, from, what)
-    } else {
-        // `next_closing` is a call that is passed an address. With that of a copy the switches of
-        // `what` stay constants in the search above.
-        let again = Special {
-            backslash: what.backslash,
-            nul: what.nul,
-            non_ascii: what.non_ascii,
-        };
-        next_closing(bytes, from, hashes, again)
-    }
+    place
 }
 
 /// Why a byte may not stand in a raw body.

@@ -3,7 +3,7 @@ ghost use Rattle.std.specs.Prelude.{not, ◌||◌, IsTrue};
 ghost use Rattle.litrs_lex.specs.Reading.{IsReading, HasReached};
 
 use crate::allowed::Allows;
-use crate::mask::Mask;
+use crate::search::Mask;
 use crate::sink::Sink;
 use crate::stop::{Stop, plain_end, stop_at};
 use litrs_base::ParseError;
@@ -17,33 +17,6 @@ pub struct Reading {
     pub place: usize,
     /// What a search has marked.
     pub marked: Mask,
-}
-
-impl Reading {
-    ghost use Rattle.std.specs.Prelude.{◌≡◌, []};
-    ghost use Rattle.std.specs.Str.{IsCharBoundary};
-    ghost use Rattle.litrs_lex.specs.QuotedItems.{IsPlainRun};
-    ghost use Rattle.litrs_lex.specs.Reading.{IsReading};
-
-    /// The state at the front of a body, whose plain characters there end at the place.
-    #[inline(always)]
-    pub(crate) fn after_plain<A: Allows>(
-        input: &str,
-        offset: usize,
-        place: usize,
-        _allowed: A,
-    ) -> Reading
-        requires at { IsCharBoundary input.now offset }
-        requires run { IsPlainRun (A.allowed _allowed) input.now offset place }
-        ensures { IsReading (A.allowed _allowed) input.now offset (λ v. v ≡ []) result }
-    {
-        let _text = input;
-        Reading {
-            at: offset,
-            place,
-            marked: Mask::empty_at(place),
-        }
-    }
 }
 
 /// Where the reading ends.

@@ -1,15 +1,12 @@
-//! The search for the end of a run.
-ghost use Rattle.std.specs.Prelude.{◌≡◌, ◌==◌, ◌+◌, ◌≤◌, ◌<◌, length, drop, map, if◌then◌else◌};
+//! The search for the next special byte of a body, and for one after the other.
+ghost use Rattle.std.specs.Prelude.{◌≡◌, ◌==◌, ◌+◌, ◌-◌, ◌≤◌, ◌<◌, List, ℕ, length, drop, map, if◌then◌else◌};
+ghost use Rattle.std.specs.Simd.Lanes.{mask_l, chunk};
 ghost use Rattle.std.specs.List.{prefix_len};
 ghost use Rattle.std.specs.Int.{w64, trailing_zeros};
-ghost use Rattle.std.specs.Simd.Lanes.{mask_l, chunk};
-ghost use Rattle.litrs_lex.specs.Special.{is_special};
-ghost use Rattle.litrs_lex.specs.Run.{is_in_run};
-ghost use Rattle.litrs_lex.specs.RunBytes.{classes};
-ghost use Rattle.litrs_lex.specs.Target.{is_target, is_passed};
+ghost use Rattle.litrs_lex.specs.Special.{is_special, is_ordinary};
+ghost use Rattle.litrs_lex.specs.Mask.{IsMaskOf};
 
-use crate::lanes::{outside_mask, special_mask};
-use litrs_base::IntegerBase;
+use std::simd::prelude::*;
 
 /// Which bytes are special beside `"` and CR, which always are.
 #[derive(Clone, Copy, Debug, PartialEq, Eq)]
@@ -22,30 +19,165 @@ pub struct Special {
     pub non_ascii: bool,
 }
 
-/// What a run is made of.
+/// How many bytes one load marks in a long text.
+const LOAD: usize = 32;
+
+/// Which bytes of a part of a text are special, as far as a search has found out. Places count
+/// bytes.
 #[derive(Clone, Copy, Debug, PartialEq, Eq)]
-pub enum Run {
-    /// Digits of the base, and underscores.
-    Digits(IntegerBase),
-    /// ASCII letters, decimal digits and underscores.
-    Identifier,
-    /// Spaces, tabs and LFs.
-    Blanks,
-    /// `#`.
-    Hashes,
+pub struct Mask {
+    /// Where the part starts.
+    pub start: usize,
+    /// Where it ends, at most 32 bytes further on.
+    pub end: usize,
+    /// Bit i is set where the byte at `start + i` is special.
+    pub bits: u64,
 }
 
-/// The bytes that a search looks for.
-#[derive(Clone, Copy)]
-pub(crate) enum Target {
-    /// The special bytes.
-    Special(Special),
-    /// Those outside of the run.
-    Outside(Run),
+impl Mask {
+    /// An empty part at the place.
+    #[inline(always)]
+    pub fn empty_at(place: usize) -> Mask
+        ensures start { result.start ≡ place }
+        ensures marked { (what : Special) (bytes : List ℕ) → place ≤ length bytes →
+            IsMaskOf what bytes result }
+    {
+        Mask {
+            start: place,
+            end: place,
+            bits: 0,
+        }
+    }
+}
+
+/// The least place at or after `from` whose byte is special: `"`, CR, or another of `what`; the
+/// length where there is none. Places count bytes.
+///
+/// `from` may not pass the length.
+///
+/// ```
+/// let what = Special { backslash: true, nul: false, non_ascii: false };
+/// assert_eq!(rt; next_special(b"ab\\n\"", 0, what), 2);
+/// assert_eq!(rt; next_special(b"ab\\n\"", 3, what), 4);
+/// assert_eq!(rt; next_special(b"ab", 1, what), 2);
+/// ```
+///
+/// The Rust Reference, Tokens, String literals: the characters that end a run of plain ones.
+#[inline(always)]
+pub fn next_special(bytes: &[u8], from: usize, what: Special) -> usize
+    requires { from ≤ length bytes.now }
+    ensures place { result ≡ from + prefix_len (is_ordinary what) (drop from bytes.now) }
+    ensures within { result ≤ length bytes.now }
+{
+    next_special_masked(bytes, from, what, Mask::empty_at(from)).0
+}
+
+/// [`next_special`], and what is marked then. Where a special byte is known
+/// from an earlier search, nothing is read: so special bytes that stand close to each other cost
+/// one load.
+///
+/// `from` may not pass the length, nor stand before what is marked.
+///
+/// ```
+/// let what = Special { backslash: true, nul: false, non_ascii: false };
+/// let (first, marked) = next_special_masked(b"a\\n\\t\"", 0, what, Mask::empty_at(0));
+/// let (second, _) = next_special_masked(b"a\\n\\t\"", first + 2, what, marked);
+/// assert_eq!(rt; (first, second), (1, 3));
+/// ```
+#[inline(always)]
+pub fn next_special_masked(bytes: &[u8], from: usize, what: Special, marked: Mask) -> (usize, Mask)
+    requires from { from ≤ length bytes.now }
+    requires after { marked.start ≤ from }
+    requires marked { IsMaskOf what bytes.now marked }
+    ensures place { result.0 ≡ from + prefix_len (is_ordinary what) (drop from bytes.now) }
+    ensures after { result.1.start ≤ result.0 }
+    ensures marked { IsMaskOf what bytes.now result.1 }
+{
+    let mut unread = from;
+    if from < marked.end {
+        let found = marked.bits >> (from - marked.start);
+        if found != 0 {
+            return (from + found.trailing_zeros() as usize, marked);
+        }
+        unread = marked.end;
+    }
+    load_mask(bytes, unread, what, marked)
+}
+
+/// The same where nothing from `from` on is marked: all of a short text is newly marked, and up to
+/// 32 bytes of a longer one.
+#[inline(always)]
+fn load_mask(bytes: &[u8], from: usize, what: Special, marked: Mask) -> (usize, Mask)
+    requires from { from ≤ length bytes.now }
+    requires after { marked.start ≤ from }
+    requires marked { IsMaskOf what bytes.now marked }
+    ensures place { result.0 ≡ from + prefix_len (is_ordinary what) (drop from bytes.now) }
+    ensures after { result.1.start ≤ result.0 }
+    ensures marked { IsMaskOf what bytes.now result.1 }
+{
+    match bytes.len() {
+        0..=3 => (from + ordinary_len(&bytes[from..], what), marked),
+        4..=7 => mask_all::<4>(bytes, from, what),
+        8..=15 => mask_all::<8>(bytes, from, what),
+        16..=31 => mask_all::<16>(bytes, from, what),
+        _ => mask_by_lanes(bytes, from, what),
+    }
+}
+
+/// [`load_mask`] of N to 2 N bytes, by a load of the first N and one of the last: the marks of the
+/// last that the first have too are shifted out.
+#[inline(always)]
+fn mask_all<const N: usize>(bytes: &[u8], from: usize, what: Special) -> (usize, Mask)
+    requires within { from ≤ length bytes.now }
+    requires size { (N ≤ length bytes.now) × (length bytes.now ≤ N + N) × (N ≤ 16) }
+    ensures place { result.0 ≡ from + prefix_len (is_ordinary what) (drop from bytes.now) }
+    ensures after { result.1.start ≤ result.0 }
+    ensures marked { IsMaskOf what bytes.now result.1 }
+{
+    let end = bytes.len();
+    let first = special_mask::<N>(bytes, 0, what);
+    let last = special_mask::<N>(bytes, end - N, what);
+    let after = last >> (N + N - end);
+    let bits = (first + (after << N)) >> from;
+    let start = from;
+    (
+        lowest_bit_place(bits, start, end),
+        Mask { start, end, bits },
+    )
+}
+
+/// [`load_mask`] of at least 32 bytes, by so many a step. The last load is of the last 32, and
+/// the marks of those before what is left are shifted out.
+#[inline(always)]
+fn mask_by_lanes(bytes: &[u8], from: usize, what: Special) -> (usize, Mask)
+    requires { (from ≤ length bytes.now) × (32 ≤ length bytes.now) }
+    ensures place { result.0 ≡ from + prefix_len (is_ordinary what) (drop from bytes.now) }
+    ensures after { result.1.start ≤ result.0 }
+    ensures marked { IsMaskOf what bytes.now result.1 }
+{
+    let len = bytes.len();
+    let mut start = from;
+    while len - start >= LOAD {
+        let bits = special_mask::<LOAD>(bytes, start, what);
+        if bits != 0 {
+            let end = start + LOAD;
+            return (
+                start + bits.trailing_zeros() as usize,
+                Mask { start, end, bits },
+            );
+        }
+        start += LOAD;
+    }
+    let bits = special_mask::<LOAD>(bytes, len - LOAD, what) >> (LOAD - (len - start));
+    let end = len;
+    (
+        lowest_bit_place(bits, start, len),
+        Mask { start, end, bits },
+    )
 }
 
 #[inline(always)]
-pub(crate) fn is_special(byte: u8, what: Special) -> bool
+fn is_special(byte: u8, what: Special) -> bool
     ensures { result ≡ is_special what byte }
 {
     byte == b'"'
@@ -55,97 +187,19 @@ pub(crate) fn is_special(byte: u8, what: Special) -> bool
         || what.non_ascii && !byte.is_ascii()
 }
 
-/// What each byte is, one bit each: a digit of base 2, 8, 10 or 16, an ASCII letter, an underscore,
-/// a blank, `#`.
-static CLASSES: [u8; 256] = *b"\
-    \x00\x00\x00\x00\x00\x00\x00\x00\x00\x40\x40\x00\x00\x00\x00\x00\
-    \x00\x00\x00\x00\x00\x00\x00\x00\x00\x00\x00\x00\x00\x00\x00\x00\
-    \x40\x00\x00\x80\x00\x00\x00\x00\x00\x00\x00\x00\x00\x00\x00\x00\
-    \x0f\x0f\x0e\x0e\x0e\x0e\x0e\x0e\x0c\x0c\x00\x00\x00\x00\x00\x00\
-    \x00\x18\x18\x18\x18\x18\x18\x10\x10\x10\x10\x10\x10\x10\x10\x10\
-    \x10\x10\x10\x10\x10\x10\x10\x10\x10\x10\x10\x00\x00\x00\x00\x20\
-    \x00\x18\x18\x18\x18\x18\x18\x10\x10\x10\x10\x10\x10\x10\x10\x10\
-    \x10\x10\x10\x10\x10\x10\x10\x10\x10\x10\x10\x00\x00\x00\x00\x00\
-    \x00\x00\x00\x00\x00\x00\x00\x00\x00\x00\x00\x00\x00\x00\x00\x00\
-    \x00\x00\x00\x00\x00\x00\x00\x00\x00\x00\x00\x00\x00\x00\x00\x00\
-    \x00\x00\x00\x00\x00\x00\x00\x00\x00\x00\x00\x00\x00\x00\x00\x00\
-    \x00\x00\x00\x00\x00\x00\x00\x00\x00\x00\x00\x00\x00\x00\x00\x00\
-    \x00\x00\x00\x00\x00\x00\x00\x00\x00\x00\x00\x00\x00\x00\x00\x00\
-    \x00\x00\x00\x00\x00\x00\x00\x00\x00\x00\x00\x00\x00\x00\x00\x00\
-    \x00\x00\x00\x00\x00\x00\x00\x00\x00\x00\x00\x00\x00\x00\x00\x00\
-    \x00\x00\x00\x00\x00\x00\x00\x00\x00\x00\x00\x00\x00\x00\x00\x00";
-
-/// The bits of [`CLASSES`] that the digits of each base and underscores have. In a table, since a
-/// search whose base is not constant branched on it else.
-static DIGIT_CLASSES: [u8; 4] = *b"\x21\x22\x24\x28";
-
+/// How many bytes stand before the first special one, by single bytes.
 #[inline(always)]
-fn digit_classes(base: IntegerBase) -> u8
-    ensures { result ≡ classes (Run.Digits base) }
-{
-    DIGIT_CLASSES[base as usize]
-}
-
-/// The bits of [`CLASSES`] that the bytes of the run have, at least one of them.
-#[inline(always)]
-fn classes(run: Run) -> u8
-    ensures { result ≡ classes run }
-{
-    match run {
-        Run::Digits(base) => digit_classes(base),
-        Run::Identifier => 0x34,
-        Run::Blanks => 0x40,
-        Run::Hashes => 0x80,
-    }
-}
-
-#[inline(always)]
-fn is_in_run(byte: u8, run: Run) -> bool
-    ensures { result ≡ is_in_run run byte }
-{
-    CLASSES[byte as usize] & classes(run) != 0
-}
-
-#[inline(always)]
-fn is_target(byte: u8, target: Target) -> bool
-    ensures { result ≡ is_target target byte }
-{
-    match target {
-        Target::Special(what) => is_special(byte, what),
-        Target::Outside(run) => !is_in_run(byte, run),
-    }
-}
-
-/// The search by single bytes.
-#[inline(always)]
-pub(crate) fn by_bytes(bytes: &[u8], from: usize, target: Target) -> usize
-    requires { from ≤ length bytes.now }
-    ensures place { result ≡ from + prefix_len (is_passed target) (drop from bytes.now) }
+fn ordinary_len(bytes: &[u8], what: Special) -> usize
+    ensures len { result ≡ prefix_len (is_ordinary what) bytes.now }
     ensures within { result ≤ length bytes.now }
 {
-    let mut i = from;
-    while i < bytes.len() && !is_target(bytes[i], target) {
-        i += 1;
-    }
-    i
-}
-
-/// The targets among the N bytes from `at` on: bit i is that of the byte at `at + i`.
-#[inline(always)]
-fn marks<const N: usize>(bytes: &[u8], at: usize, target: Target) -> u64
-    requires { (at + N ≤ length bytes.now) × (N ≤ 64) }
-    ensures { result ≡ mask_l (map (is_target target) (chunk at N bytes.now)) }
-{
-    match target {
-        Target::Special(what) => special_mask::<N>(bytes, at, what),
-        Target::Outside(run) => outside_mask::<N>(bytes, at, run),
-    }
+    bytes.iter().take_while(|b| !is_special(**b, what)).count()
 }
 
 /// The place of the lowest mark, where bit 0 is the mark of the place `from`; `end` where there is
 /// none.
 #[inline(always)]
-pub(crate) fn lowest_bit_place(marks: u64, from: usize, end: usize) -> usize
+fn lowest_bit_place(marks: u64, from: usize, end: usize) -> usize
     requires { 0 < marks → from + trailing_zeros w64 marks ≤ end }
     ensures { result ≡ if marks == 0 then end else (from + trailing_zeros w64 marks) }
 {
@@ -156,59 +210,29 @@ pub(crate) fn lowest_bit_place(marks: u64, from: usize, end: usize) -> usize
     }
 }
 
-/// The search by N bytes a step. The last load is of the last N bytes, and its marks of the places
-/// before what is left are shifted out.
+/// The byte to compare lanes with, or the other one where it is not searched for.
 #[inline(always)]
-fn by_lanes<const N: usize>(bytes: &[u8], from: usize, target: Target) -> usize
-    requires { (from ≤ length bytes.now) × (N ≤ length bytes.now) × (0 < N) × (N < 64) }
-    ensures place { result ≡ from + prefix_len (is_passed target) (drop from bytes.now) }
+fn needle(is_wanted: bool, byte: u8, other: u8) -> u8
+    ensures { result ≡ if is_wanted then byte else other }
 {
-    let len = bytes.len();
-    let mut i = from;
-    while len - i >= N {
-        let found = marks::<N>(bytes, i, target);
-        if found != 0 {
-            return i + found.trailing_zeros() as usize;
-        }
-        i += N;
-    }
-    let left = marks::<N>(bytes, len - N, target) >> (N - (len - i));
-    lowest_bit_place(left, i, len)
+    if is_wanted { byte } else { other }
 }
 
-/// The least place at or after `from` whose byte is a target; the length where there is none.
-#[inline(always)]
-#[tactic(auto, using(crate::proofs::MarkedRuns::run_bound))]
-fn next_target(bytes: &[u8], from: usize, target: Target) -> usize
-    requires { from ≤ length bytes.now }
-    ensures place { result ≡ from + prefix_len (is_passed target) (drop from bytes.now) }
-    ensures within { result ≤ length bytes.now }
-{
-    match bytes.len() {
-        0..=3 => by_bytes(bytes, from, target),
-        4..=7 => by_lanes::<4>(bytes, from, target),
-        8..=15 => by_lanes::<8>(bytes, from, target),
-        16..=31 => by_lanes::<16>(bytes, from, target),
-        _ => by_lanes::<32>(bytes, from, target),
-    }
-}
-
-/// How many bytes at the front are of the run.
+/// The special bytes among the N from `at` on: bit i is that of the byte at `at + i`.
 ///
-/// ```
-/// assert_eq!(rt; run_end(b"1_0a2", Run::Digits(IntegerBase::Decimal)), 3);
-/// assert_eq!(rt; run_end(b"1_0a2", Run::Digits(IntegerBase::Hexadecimal)), 5);
-/// assert_eq!(rt; run_end("größe".as_bytes(), Run::Identifier), 2);
-/// assert_eq!(rt; run_end(b" \t\na", Run::Blanks), 3);
-/// assert_eq!(rt; run_end(b"##\"#", Run::Hashes), 2);
-/// ```
-///
-/// The Rust Reference, Tokens, Integer literals, String literals and Raw string literals, and
-/// Identifiers.
+/// A byte that is not searched for stands as CR, and the limit as 255, which no byte passes.
 #[inline(always)]
-pub fn run_end(bytes: &[u8], run: Run) -> usize
-    ensures run { result ≡ prefix_len (is_in_run run) bytes.now }
-    ensures within { result ≤ length bytes.now }
+fn special_mask<const N: usize>(bytes: &[u8], at: usize, what: Special) -> u64
+    requires { (at + N ≤ length bytes.now) × (N ≤ 64) }
+    ensures { result ≡ mask_l (map (is_special what) (chunk at N bytes.now)) }
 {
-    next_target(bytes, 0, Target::Outside(run))
+    let second = needle(what.backslash, b'\\', b'\r');
+    let third = needle(what.nul, 0, b'\r');
+    let limit = needle(what.non_ascii, 127, 255);
+    let lanes = Simd::<u8, N>::from_slice(&bytes[at..]);
+    (lanes.simd_eq(Simd::splat(b'"'))
+        | lanes.simd_eq(Simd::splat(b'\r'))
+        | lanes.simd_eq(Simd::splat(second))
+        | lanes.simd_eq(Simd::splat(third))
+        | lanes.simd_gt(Simd::splat(limit))).to_bitmask()
 }

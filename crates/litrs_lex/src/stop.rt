@@ -11,7 +11,8 @@ ghost use Rattle.litrs_lex.specs.Reading.{IsRestRefused, StandsAt};
 ghost use Rattle.litrs_lex.specs.Mask.{IsMaskOf};
 
 use crate::allowed::Allows;
-use crate::mask::{Mask, next_special_masked};
+use crate::parse::begins_with_byte;
+use crate::search::{Mask, next_special_masked};
 use crate::{Run, Special, Switches, next_special, run_end, unescape_with};
 use litrs_base::{ParseError, ParseErrorKind, Unescape};
 
@@ -40,8 +41,8 @@ pub(crate) fn stop_at(rest: &str, allowed: Switches) -> Result<Stop, ParseError>
     };
     match *first {
         b'"' => Ok(Stop::Quote),
-        b'\\' if begins_with_line_feed(after) => {
-            let len = 2 + blanks_len(&after[1..]);
+        b'\\' if begins_with_byte(after, b'\n') => {
+            let len = 2 + run_end(&after[1..], Run::Blanks);
             if len == rest.len() {
                 Err(ParseError::new(None, ParseErrorKind::UnterminatedString))
             } else {
@@ -92,47 +93,10 @@ pub(crate) fn plain_end(input: &str, from: usize, allowed: Switches, marked: Mas
     ensures after { result.1.start ≤ result.0 }
     ensures marked { IsMaskOf (stops allowed.unicode allowed.allow_nul) input.now result.1 }
 {
-    if begins_escape(input, from) {
+    if begins_with_byte(&input.as_bytes()[from..], b'\\') {
         (from, marked)
     } else {
         next_special_masked(input.as_bytes(), from, special(allowed), marked)
-    }
-}
-
-/// Whether a backslash stands there: then no plain character does.
-#[inline(always)]
-fn begins_escape(input: &str, from: usize) -> bool
-    requires { IsCharBoundary input.now from }
-    ensures { IsTrue result → (w : Switches) → IsPlainRun w input.now from from }
-{
-    matches!(input.as_bytes().get(from), Some(b'\\'))
-}
-
-/// Whether LF stands first.
-#[inline(always)]
-fn begins_with_line_feed(bytes: &[u8]) -> bool
-    ensures { result ≡ first_passes (λ c. c == line_feed) bytes.now }
-{
-    matches!(bytes, [b'\n', ..])
-}
-
-/// How many spaces, tabs and LFs stand at the front.
-fn blanks_len(bytes: &[u8]) -> usize
-    ensures count { result ≡ prefix_len is_blank bytes.now }
-    ensures within { result ≤ length bytes.now }
-{
-    match bytes {
-        // A search by lanes costs more than a comparison of each where there are few.
-        [
-            b' ' | b'\t' | b'\n',
-            b' ' | b'\t' | b'\n',
-            b' ' | b'\t' | b'\n',
-            ..
-        ] => { run_end(bytes, Run::Blanks) }
-        _ => bytes
-            .iter()
-            .take_while(|b| matches!(**b, b' ' | b'\t' | b'\n'))
-            .count(),
     }
 }
 

@@ -14,6 +14,7 @@ use crate::filled::Filled;
 use crate::quoted::{closed, is_quote};
 use crate::reading::{Reached, Reading, read_items};
 use crate::room::Room;
+use crate::search::Mask;
 use crate::sink::Counted;
 use crate::stop::first_plain_end;
 use litrs_base::{ParseError, ParseErrorKind};
@@ -110,7 +111,11 @@ fn read_value<C: EscapeContainer, A: Allows>(
     requires run { IsPlainRun (A.allowed allowed) input.now offset place }
     ensures { IsReadAsValue C.contents (A.allowed allowed) input.now offset result }
 {
-    let from = Reading::after_plain(input, offset, place, allowed);
+    let from = Reading {
+        at: offset,
+        place,
+        marked: Mask::empty_at(place),
+    };
     let mut room = Room::<SHORT>::new();
     match read_items(input, offset, from, allowed, &mut room) {
         Reached::Quote(place) => finished(alloc, input, offset, place, allowed, room.as_bytes()),
@@ -138,7 +143,7 @@ fn finished<C: EscapeContainer, A: Allows>(
     if value.len() == place - offset {
         return Ok((None, place + 1));
     }
-    match copied(alloc, value, room_for(value.len(), allowed)) {
+    match copied(alloc, value, value.len(), allowed) {
         Ok(made) => Ok((Some(made), place + 1)),
         // allocation failed: of the container for the value.
         Err(_) => Err(ParseError::new(None, ParseErrorKind::OutOfMemory)),
@@ -192,8 +197,7 @@ fn read_twice<C: EscapeContainer, A: Allows>(
             if counted.len == place - offset {
                 return Ok((None, place + 1));
             }
-            let room = room_for(counted.len, allowed);
-            match filled(alloc, input, offset, from, allowed, value, room) {
+            match filled(alloc, input, offset, from, allowed, value, counted.len) {
                 Some(made) => Ok((Some(made), place + 1)),
                 // allocation failed: of the container for the value.
                 None => Err(ParseError::new(None, ParseErrorKind::OutOfMemory)),
@@ -204,33 +208,29 @@ fn read_twice<C: EscapeContainer, A: Allows>(
     }
 }
 
-/// How many bytes the value takes, with the closing zero of a C string.
-#[inline(always)]
-fn room_for<A: Allows>(len: usize, allowed: A) -> usize
-    requires { len < usize.MAX }
-    ensures { result ≡ if (A.allowed allowed).allow_nul then len else (len + 1) }
-{
-    if allowed.switches().allow_nul {
-        len
-    } else {
-        len + 1
-    }
-}
-
-/// A container with room for this many bytes, which has these.
-fn copied<C: EscapeContainer>(alloc: Global, bytes: &[u8], room: usize) -> Result<C, AllocError>
-    requires { IsFalse C.TAKES_BYTES → IsUtf8 bytes.now }
+/// A container with these bytes, and room for a value of this length, with the closing zero of a C
+/// string.
+fn copied<C: EscapeContainer, A: Allows>(
+    alloc: Global,
+    bytes: &[u8],
+    len: usize,
+    allowed: A,
+) -> Result<C, AllocError>
+    requires text { IsFalse C.TAKES_BYTES → IsUtf8 bytes.now }
+    requires small { len < usize.MAX }
     ensures contents { IfOk result (λ value. C.contents value ≡ bytes.now) }
-    ensures room { IfOk result (λ value. room ≤ C.capacity value) }
+    ensures room { IfOk result (λ value.
+        (if (A.allowed allowed).allow_nul then len else (len + 1)) ≤ C.capacity value) }
 {
+    let zero = !allowed.switches().allow_nul;
     // bounded by the length of the value, or one more for a closing zero.
-    let mut value = C::with_capacity(alloc, room)?;
+    let mut value = C::with_capacity(alloc, len + usize::from(zero))?;
     value.push_bytes(bytes)?;
     Ok(value)
 }
 
-/// The value of a literal, in a container with room for this many bytes: these bytes, and what the
-/// items from the state on stand for. None where there is no memory.
+/// The value of a literal, which has this length: these bytes, and what the items from the state on
+/// stand for. None where there is no memory.
 fn filled<C: EscapeContainer, A: Allows>(
     alloc: Global,
     input: &str,
@@ -238,17 +238,18 @@ fn filled<C: EscapeContainer, A: Allows>(
     from: Reading,
     allowed: A,
     value: &[u8],
-    room: usize,
+    len: usize,
 ) -> Option<C>
     requires fits { IsTrue (not (A.allowed allowed).byte_escapes || C.TAKES_BYTES) }
     requires from { IsReading (A.allowed allowed) input.now offset (λ v. value.now ≡ v) from }
+    requires small { len < usize.MAX }
     requires literal { (q : QuotedParts) ×
         IsQuoted (chars (take offset input.now)) (A.allowed allowed) (chars input.now) q }
     ensures { IfSome result (λ made. (q : QuotedParts) →
         IsQuoted (chars (take offset input.now)) (A.allowed allowed) (chars input.now) q →
         C.contents made ≡ body_value q.items) }
 {
-    let Ok(into) = copied(alloc, value, room) else {
+    let Ok(into) = copied(alloc, value, len, allowed) else {
         return None;
     };
     let mut sink = Filled {

@@ -30,7 +30,7 @@ use Rattle.litrs_lex.specs.Unescaped.{IsUnescaped}
 use Rattle.litrs_lex.proofs.FloatBytes.{chars_after}
 use Rattle.litrs_lex.specs.Reading.{IsItemsEnd}
 use Rattle.litrs_lex.specs.RawCut.{IsStop, IsRawOpening}
-use Rattle.litrs_lex.proofs.PlainRuns.{list_all-take, stops_at}
+use Rattle.litrs_grammar.proofs.Laws.Integer.{list_all-take_while, first_passes-rest}
 use Rattle.litrs_lex.proofs.QuotedBytes.{blank_ascii}
 use Rattle.litrs_lex.proofs.QuotedScan.{front_splits, stand_before-append}
 use Rattle.litrs_lex.proofs.StringFronts.{quoted_boundary, quoted_before}
@@ -204,7 +204,7 @@ continuation_next kind place n bytes u size s lone =
 -- Continuations
 
 blanks_front : (bs : List ℕ) → IsUtf8 bs → list_all is_blank (take (prefix_len is_blank bs) (chars bs)) ≡ true
-blanks_front bs u = ap (λ (n : ℕ). list_all is_blank (take n (chars bs))) (sym (prefix_len-chars is_blank bs blank_ascii u)) ∙ list_all-take is_blank (chars bs)
+blanks_front bs u = ap (λ (n : ℕ). list_all is_blank (take n (chars bs))) (sym (prefix_len-chars is_blank bs blank_ascii u)) ∙ list_all-take_while is_blank (chars bs)
 
 -- all that is left is blank
 record IsBlankRest (kind : StringKind) (bytes : List ℕ) : Type 0 where
@@ -273,7 +273,7 @@ continued_quoted kind place k bytes u s count inside =
     ∙ (front_splits bytes place u s.boundary).0 ∙ sym (front_splits bytes (place + k) u boundary).0) in
     let some : is_empty rest ≡ false = chars_empty (drop (place + k) bytes) left ∙ ne_eqb (length (drop (place + k) bytes)) 0 (λ e. omega (arith, length-drop (place + k) bytes)) in
     let stops : first_passes is_blank rest ≡ false =
-    first_passes-chars is_blank (drop (place + k) bytes) blank_ascii left ∙ ap (first_passes is_blank) (sym there) ∙ stops_at is_blank bs in
+    first_passes-chars is_blank (drop (place + k) bytes) blank_ascii left ∙ ap (first_passes is_blank) (sym there) ∙ first_passes-rest is_blank bs in
     let all : list_all is_blank (s.blanks ++ more) ≡ true = list_all-append is_blank s.blanks more s.blank (blanks_front bs utf8) in
     let whole : (92 ∷ 10 ∷ s.blanks) ++ (more ++ rest) ≡ (text ++ []) ++ rest =
     sym (append_assoc (92 ∷ 10 ∷ s.blanks) more rest) ∙ ap (λ (l : List ℕ). l ++ rest) (sym (append-nil text)) in record {

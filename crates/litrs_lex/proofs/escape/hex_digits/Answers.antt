@@ -1,9 +1,8 @@
 -- A digit more, or underscores.
-use Rattle.std.proofs.Common.{◌≡◌, ℕ, ◌-◌, List, cond, drop, length, get_or, ap, ◌∙◌, refl, sym, arith}
+use Rattle.std.proofs.Common.{◌≡◌, ℕ, cond, get_or, ap, ◌∙◌, refl, arith}
 use Rattle.std.specs.Char.{is_ascii_hexdigit}
 use Rattle.std.proofs.lemmas.Grind.{pow_more}
 use Rattle.std.proofs.lemmas.Bool.{or_left}
-use Rattle.std.proofs.lemmas.List.{length-drop, take_all}
 use Rattle.litrs_grammar.specs.Escape.{is_hex_or_underscore}
 use Rattle.litrs_lex.proofs.NumeralLemmas.{numeral-nil, numeral_digit}
 use Rattle.litrs_lex.proofs.HexDigitBytes.{six_digits, digit_small, all_more, count_one, digit_no_underscore, underscore_more}

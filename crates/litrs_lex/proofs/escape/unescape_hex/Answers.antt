@@ -1,9 +1,9 @@
 -- Each exit by its row.
 use Rattle.std.proofs.Common.{◌&&◌, get_or, ap, ◌∙◌, sym, Some, refl}
-use Rattle.std.proofs.lemmas.Bool.{false≢true}
+use Rattle.std.proofs.lemmas.Bool.{false≢true, false_from_ne_true}
 use Rattle.std.specs.Char.{is_ascii_hexdigit}
 use Rattle.litrs_base.specs.Characters.{nul_is_allowed}
-use Rattle.litrs_lex.proofs.EscapeBytes.{has_refusal, letter_of, first_slash, fails}
+use Rattle.litrs_lex.proofs.EscapeBytes.{has_refusal}
 use Rattle.litrs_lex.proofs.HexEscapeBytes.{hex_end_row, hex_digits_row, pair_of, hex_byte_row, hex_nul_row, hex_read}
 use Rattle.litrs_lex.proofs.escape.unescape_hex.Goals as goal
 
@@ -17,7 +17,7 @@ pub returns-in_default-clause-refused : goal.returns-in_default-clause-refused
 returns-in_default-clause-refused c =
     has_refusal _ _ c.in_text-in_default.result
     (hex_digits_row _ c.args.input.now c.utf8.input c.requires (c.if-not-is_char_boundary.ensures.test.0 refl)
-    (ap (λ l. is_ascii_hexdigit (get_or l 2 0) && is_ascii_hexdigit (get_or l 3 0)) (sym c.as_bytes-bytes.ensures.value) ∙ fails _ c.in_default.ensures)
+    (ap (λ l. is_ascii_hexdigit (get_or l 2 0) && is_ascii_hexdigit (get_or l 3 0)) (sym c.as_bytes-bytes.ensures.value) ∙ false_from_ne_true _ c.in_default.ensures)
     ∙ ap Some (sym c.in_text-in_default.ensures.refusal))
     c.in_text-in_default.ensures.char_span
 

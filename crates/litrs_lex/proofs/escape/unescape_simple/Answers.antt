@@ -1,14 +1,15 @@
 -- Each exit by its row.
 use Rattle.std.proofs.Common.{ap, ◌∙◌, sym, Some}
+use Rattle.std.proofs.lemmas.Bool.{false_from_ne_true}
 use Rattle.litrs_base.specs.Characters.{nul_is_allowed}
-use Rattle.litrs_lex.proofs.EscapeBytes.{has_refusal, letter_of, unknown_row, simple_read, simple_nul_row, first_slash, fails}
+use Rattle.litrs_lex.proofs.EscapeBytes.{has_refusal, letter_of, unknown_row, simple_read, simple_nul_row}
 use Rattle.litrs_lex.proofs.escape.unescape_simple.Goals as goal
 
 pub returns-in_default-clause-refused : goal.returns-in_default-clause-refused
 returns-in_default-clause-refused c =
     let is = letter_of c.args.input.now c.args.letter c.requires.begins in
     has_refusal _ _ c.in_text.result
-    (unknown_row _ c.args.input.now c.args.letter c.utf8.input is c.requires.no_hex c.requires.no_unicode (fails _ c.in_default.ensures) ∙ ap Some (sym c.in_text.ensures.refusal))
+    (unknown_row _ c.args.input.now c.args.letter c.utf8.input is c.requires.no_hex c.requires.no_unicode (false_from_ne_true _ c.in_default.ensures) ∙ ap Some (sym c.in_text.ensures.refusal))
     c.in_text.ensures.char_span
 
 pub returns-then-not-allows_value-clause-refused : goal.returns-then-not-allows_value-clause-refused

@@ -1,8 +1,7 @@
 -- The quote is one byte.
 use Rattle.std.proofs.Common.{sym, ap, ◌∙◌, Some}
 use Rattle.litrs_base.specs.Refusal.{at_byte}
-use Rattle.litrs_lex.proofs.QuotedBytes.{quote_refused, quote_free}
-use Rattle.litrs_lex.proofs.Quotes.{quote_byte, quote_boundary}
+use Rattle.litrs_lex.proofs.QuotedBytes.{quote_refused, quote_free, quote_byte, quote_boundary}
 use Rattle.litrs_lex.proofs.quoted.quote_refusal.Goals as goal
 
 pub range_from-requires : goal.range_from-requires

@@ -1,17 +1,19 @@
 -- Each arm by its lemma.
 use Rattle.std.proofs.Common.{get_or, drop, take, ◌-◌, length, refl, sym, ap, ◌∙◌, arith, Some}
+use Rattle.litrs_lex.proofs.FloatBytes.{rest_is}
+use Rattle.litrs_base.proofs.CharEnds.{no_span}
 use Rattle.std.specs.Prelude.{◌==◌}
 use Rattle.std.specs.Str.{chars}
+use Rattle.std.proofs.lemmas.List.{take_rest}
 use Rattle.std.proofs.lemmas.Bool.{ne_eqb}
 use Rattle.litrs_base.specs.Text.{first_passes}
-use Rattle.litrs_lex.proofs.QuotedBytes.{first_of, rest_is, two_of, end_refused, return_refused, nul_refused, wide_refused, blanks_refused, after_is, continuation_at, escape_at, escape_refused, escape_span, begins_cut}
-use Rattle.litrs_lex.proofs.Quotes.{quote_first, no_span}
+use Rattle.litrs_lex.proofs.QuotedBytes.{first_of, two_of, end_refused, return_refused, nul_refused, wide_refused, blanks_refused, continuation_at, escape_at, escape_refused, escape_span, begins_cut, quote_first}
 use Rattle.litrs_lex.proofs.stop.stop_at.Goals as goal
 
 pub returns-in_default-clause-refused : goal.returns-in_default-clause-refused
 returns-in_default-clause-refused c = record {
   table = end_refused _ c.args.rest.now (let n = c.in_default.len_below in let e = ap length c.as_bytes.ensures.value in omega arith) ∙ ap Some (sym c.new.ensures.refusal);
-  char_span = no_span (chars c.args.rest.now) c.new.result c.new.ensures.refusal;
+  char_span = no_span (chars c.args.rest.now) c.new.result _ c.new.ensures.refusal;
 }
 
 pub unescape_with-requires : goal.unescape_with-requires
@@ -24,20 +26,20 @@ pub returns-then-len-rest-clause-refused : goal.returns-then-len-rest-clause-ref
 returns-then-len-rest-clause-refused c =
     let first = first_of c.args.rest.now c.as_bytes.result.now 92 c.as_bytes.ensures.value c.in-len1-up.len_at_least c.in-92.is in record {
       table = blanks_refused _ c.args.rest.now _ _
-          (two_of c.args.rest.now _ _ first (after_is c.args.rest.now c.as_bytes.result.now c.as_bytes.ensures.value)
-          (sym c.begins_with_line_feed.ensures ∙ c.if-begins_with_line_feed.true) (rest_is (take (length c.as_bytes.result.now - 1) (drop 1 c.as_bytes.result.now))))
-          c.utf8.rest c.blanks_len-len.ensures.count c.if-len-rest.true
+          (two_of c.args.rest.now _ _ first (rest_is c.as_bytes.result.now c.args.rest.now 1 c.as_bytes.ensures.value)
+          (sym c.begins_with_byte.ensures ∙ c.if-begins_with_byte.true) (take_rest (take (length c.as_bytes.result.now - 1) (drop 1 c.as_bytes.result.now)) 1))
+          c.utf8.rest c.run_end-len.ensures.run c.if-len-rest.true
           ∙ ap Some (sym c.new-then-len-rest.ensures.refusal);
-      char_span = no_span (chars c.args.rest.now) c.new-then-len-rest.result c.new-then-len-rest.ensures.refusal;
+      char_span = no_span (chars c.args.rest.now) c.new-then-len-rest.result _ c.new-then-len-rest.ensures.refusal;
     }
 
 pub returns-else-len-rest-clause-ok : goal.returns-else-len-rest-clause-ok
 returns-else-len-rest-clause-ok c =
     let first = first_of c.args.rest.now c.as_bytes.result.now 92 c.as_bytes.ensures.value c.in-len1-up.len_at_least c.in-92.is in
     continuation_at _ c.args.rest.now _ _
-    (two_of c.args.rest.now _ _ first (after_is c.args.rest.now c.as_bytes.result.now c.as_bytes.ensures.value)
-    (sym c.begins_with_line_feed.ensures ∙ c.if-begins_with_line_feed.true) (rest_is (take (length c.as_bytes.result.now - 1) (drop 1 c.as_bytes.result.now))))
-    c.utf8.rest c.blanks_len-len.ensures.count c.if-len-rest.false
+    (two_of c.args.rest.now _ _ first (rest_is c.as_bytes.result.now c.args.rest.now 1 c.as_bytes.ensures.value)
+    (sym c.begins_with_byte.ensures ∙ c.if-begins_with_byte.true) (take_rest (take (length c.as_bytes.result.now - 1) (drop 1 c.as_bytes.result.now)) 1))
+    c.utf8.rest c.run_end-len.ensures.run c.if-len-rest.false
 
 pub returns-in-Ok-clause-ok : goal.returns-in-Ok-clause-ok
 returns-in-Ok-clause-ok c =
@@ -49,8 +51,8 @@ pub returns-in-Err-clause-refused : goal.returns-in-Err-clause-refused
 returns-in-Err-clause-refused c =
     let first = first_of c.args.rest.now c.as_bytes.result.now 92 c.as_bytes.ensures.value c.in-len1-up.len_at_least c.in-92.is in record {
       table = escape_refused _ c.args.rest.now _ c.without_last.result.now _ first c.utf8.rest
-          (ap (first_passes (λ b. b == 10)) (sym (after_is c.args.rest.now c.as_bytes.result.now c.as_bytes.ensures.value))
-          ∙ (sym c.begins_with_line_feed.ensures ∙ c.if-begins_with_line_feed.false))
+          (ap (first_passes (λ b. b == 10)) (sym (rest_is c.as_bytes.result.now c.args.rest.now 1 c.as_bytes.ensures.value))
+          ∙ (sym c.begins_with_byte.ensures ∙ c.if-begins_with_byte.false))
           c.without_last.ensures c.in-Err.ensures.refused;
       char_span = escape_span _ c.args.rest.now _ c.without_last.result.now _ first c.without_last.ensures c.in-Err.ensures.refused;
     }

@@ -3,8 +3,8 @@ use Rattle.std.proofs.Common.{◌∙◌}
 use Rattle.litrs_lex.proofs.QuotedValues.{held_is_utf8, whole_value, none_refused}
 use Rattle.litrs_lex.proofs.string.filled.Goals as goal
 
-pub copied-requires : goal.copied-requires
-copied-requires g c = λ none. held_is_utf8 _ c.args.input.now _ _ _ g.C.EscapeContainer.TAKES_BYTES c.utf8.input c.requires.from.read c.requires.fits none
+pub copied-requires-clause-text : goal.copied-requires-clause-text
+copied-requires-clause-text g c = λ none. held_is_utf8 _ c.args.input.now _ _ _ g.C.EscapeContainer.TAKES_BYTES c.utf8.input c.requires.from.read c.requires.fits none
 
 pub finish-requires : goal.finish-requires
 finish-requires g c = c.in-Quote.ensures.read.held.1

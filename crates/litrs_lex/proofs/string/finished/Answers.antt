@@ -11,8 +11,8 @@ pub returns-then-value-place : goal.returns-then-value-place
 returns-then-value-place g c =
     none_of _ c.args.input.now _ _ _ _ c.utf8.input c.requires.at c.requires.read (ap length c.requires.read.read.held) c.in_ok-closed.ensures.ok c.if-value-place.true
 
-pub copied-requires : goal.copied-requires
-copied-requires g c = λ none. held_is_utf8 _ c.args.input.now _ _ _ g.C.EscapeContainer.TAKES_BYTES c.utf8.input c.requires.read.read c.requires.fits none
+pub copied-requires-clause-text : goal.copied-requires-clause-text
+copied-requires-clause-text g c = λ none. held_is_utf8 _ c.args.input.now _ _ _ g.C.EscapeContainer.TAKES_BYTES c.utf8.input c.requires.read.read c.requires.fits none
 
 pub returns-in-Ok : goal.returns-in-Ok
 returns-in-Ok g c =

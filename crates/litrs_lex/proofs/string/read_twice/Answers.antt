@@ -25,8 +25,8 @@ returns-in-None g c =
 pub returns-in-Refused : goal.returns-in-Refused
 returns-in-Refused g c = inl c.in-Refused.ensures.1
 
-pub room_for-room-requires : goal.room_for-room-requires
-room_for-room-requires g c =
+pub filled-requires-clause-small : goal.filled-requires-clause-small
+filled-requires-clause-small g c =
     let body = c.in-Quote.ensures in
     let fit = body.read.fits in let held = body.read.held in let within = body.read.boundary.0 in omega arith
 

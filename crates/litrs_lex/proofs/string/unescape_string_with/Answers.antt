@@ -1,8 +1,8 @@
 -- Plain characters alone, or what the loop reads.
 use Rattle.std.proofs.Common.{◌≡◌, [], ◌∷◌, drop, sym, ◌∙◌}
+use Rattle.litrs_lex.proofs.QuotedBytes.{quote_first}
 use Rattle.litrs_lex.proofs.QuotedCuts.{lone_quote_free}
 use Rattle.litrs_lex.proofs.QuotedValues.{plain_of, value_read, refusal_read}
-use Rattle.litrs_lex.proofs.Quotes.{quote_first}
 use Rattle.litrs_lex.proofs.string.unescape_string_with.Goals as goal
 
 pub returns-then-is_quote-clause-ok : goal.returns-then-is_quote-clause-ok

@@ -1,5 +1,0 @@
-use Rattle.std.proofs.Common.{rules}
-use Rattle.litrs_lex.proofs.search.classes.Goals as goal
-
-pub returns-in-Identifier : goal.returns-in-Identifier
-returns-in-Identifier c = search rules

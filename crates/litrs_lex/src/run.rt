@@ -1,0 +1,82 @@
+//! The end of a run.
+ghost use Rattle.std.specs.Prelude.{◌≡◌, ◌≤◌, length};
+ghost use Rattle.std.specs.List.{prefix_len};
+ghost use Rattle.litrs_lex.specs.Run.{is_in_run, classes};
+
+use litrs_base::IntegerBase;
+
+/// What a run is made of.
+#[derive(Clone, Copy, Debug, PartialEq, Eq)]
+pub enum Run {
+    /// Digits of the base, and underscores.
+    Digits(IntegerBase),
+    /// ASCII letters, decimal digits and underscores.
+    Identifier,
+    /// Spaces, tabs and LFs.
+    Blanks,
+    /// `#`.
+    Hashes,
+}
+
+/// What each byte is, one bit each: a digit of base 2, 8, 10 or 16, an ASCII letter, an underscore,
+/// a blank, `#`.
+static CLASSES: [u8; 256] = *b"\
+    \x00\x00\x00\x00\x00\x00\x00\x00\x00\x40\x40\x00\x00\x00\x00\x00\
+    \x00\x00\x00\x00\x00\x00\x00\x00\x00\x00\x00\x00\x00\x00\x00\x00\
+    \x40\x00\x00\x80\x00\x00\x00\x00\x00\x00\x00\x00\x00\x00\x00\x00\
+    \x0f\x0f\x0e\x0e\x0e\x0e\x0e\x0e\x0c\x0c\x00\x00\x00\x00\x00\x00\
+    \x00\x18\x18\x18\x18\x18\x18\x10\x10\x10\x10\x10\x10\x10\x10\x10\
+    \x10\x10\x10\x10\x10\x10\x10\x10\x10\x10\x10\x00\x00\x00\x00\x20\
+    \x00\x18\x18\x18\x18\x18\x18\x10\x10\x10\x10\x10\x10\x10\x10\x10\
+    \x10\x10\x10\x10\x10\x10\x10\x10\x10\x10\x10\x00\x00\x00\x00\x00\
+    \x00\x00\x00\x00\x00\x00\x00\x00\x00\x00\x00\x00\x00\x00\x00\x00\
+    \x00\x00\x00\x00\x00\x00\x00\x00\x00\x00\x00\x00\x00\x00\x00\x00\
+    \x00\x00\x00\x00\x00\x00\x00\x00\x00\x00\x00\x00\x00\x00\x00\x00\
+    \x00\x00\x00\x00\x00\x00\x00\x00\x00\x00\x00\x00\x00\x00\x00\x00\
+    \x00\x00\x00\x00\x00\x00\x00\x00\x00\x00\x00\x00\x00\x00\x00\x00\
+    \x00\x00\x00\x00\x00\x00\x00\x00\x00\x00\x00\x00\x00\x00\x00\x00\
+    \x00\x00\x00\x00\x00\x00\x00\x00\x00\x00\x00\x00\x00\x00\x00\x00\
+    \x00\x00\x00\x00\x00\x00\x00\x00\x00\x00\x00\x00\x00\x00\x00\x00";
+
+/// The bits of [`CLASSES`] that the bytes of the run have, at least one of them.
+#[inline(always)]
+fn classes(run: Run) -> u8
+    ensures { result ≡ classes run }
+{
+    match run {
+        Run::Digits(IntegerBase::Binary) => 0x21,
+        Run::Digits(IntegerBase::Octal) => 0x22,
+        Run::Digits(IntegerBase::Decimal) => 0x24,
+        Run::Digits(IntegerBase::Hexadecimal) => 0x28,
+        Run::Identifier => 0x34,
+        Run::Blanks => 0x40,
+        Run::Hashes => 0x80,
+    }
+}
+
+#[inline(always)]
+fn is_in_run(byte: u8, run: Run) -> bool
+    ensures { result ≡ is_in_run run byte }
+{
+    CLASSES[byte as usize] & classes(run) != 0
+}
+
+/// How many bytes at the front are of the run.
+///
+/// ```
+/// assert_eq!(rt; run_end(b"1_0a2", Run::Digits(IntegerBase::Decimal)), 3);
+/// assert_eq!(rt; run_end(b"1_0a2", Run::Digits(IntegerBase::Hexadecimal)), 5);
+/// assert_eq!(rt; run_end("größe".as_bytes(), Run::Identifier), 2);
+/// assert_eq!(rt; run_end(b" \t\na", Run::Blanks), 3);
+/// assert_eq!(rt; run_end(b"##\"#", Run::Hashes), 2);
+/// ```
+///
+/// The Rust Reference, Tokens, Integer literals, String literals and Raw string literals, and
+/// Identifiers.
+#[inline(always)]
+pub fn run_end(bytes: &[u8], run: Run) -> usize
+    ensures run { result ≡ prefix_len (is_in_run run) bytes.now }
+    ensures within { result ≤ length bytes.now }
+{
+    bytes.iter().take_while(|b| is_in_run(**b, run)).count()
+}
