@@ -20,6 +20,7 @@ fail.
 """
 import concurrent.futures
 import dataclasses
+import difflib
 import os
 import pathlib
 import re
@@ -27,6 +28,7 @@ import shutil
 import subprocess
 import sys
 import tempfile
+import time
 
 import libraries
 
@@ -117,23 +119,51 @@ def owners_of(file, text, offset):
 
 @dataclasses.dataclass
 class WrongBody:
-    """An edit of a crate: its name, its changes (file, old and new text), what it touches, and
-    whether it is to be refused."""
+    """An edit of a crate: its name, the lines that it changes, what it touches, and whether it is to
+    be refused. A change is a file, the first line, the line after the last, and the new lines."""
 
     name: str
     changes: list
     owners: set
     is_wrong: bool = True
 
-    def applied(self, texts, originals):
-        """The texts with this edit in them, or None where an old text is not there just once."""
-        texts = dict(texts)
-        for file, old, new in self.changes:
-            text = texts.get(file, originals[file])
-            if text.count(old) != 1:
-                return None
-            texts[file] = text.replace(old, new)
-        return texts
+    def clashes(self, other):
+        """Whether both touch a function, or change a line."""
+        return any(
+            a == b or a.endswith("::") and b.startswith(a) or b.endswith("::") and a.startswith(b)
+            for a in self.owners
+            for b in other.owners
+        ) or any(
+            file == its_file and max(start, its_start) < min(max(end, start + 1), max(its_end, its_start + 1))
+            for file, start, end, _ in self.changes
+            for its_file, its_start, its_end, _ in other.changes
+        )
+
+
+def same(old, new):
+    """Whether two texts differ in blanks alone, by which an edit tells an old text from another."""
+    return "".join(old.split()) == "".join(new.split())
+
+
+def changes_of(originals, texts):
+    """The lines that differ in more than blanks, file by file."""
+    changes = []
+    for file, text in texts.items():
+        old, new = (it.splitlines(keepends=True) for it in (originals[file], text))
+        for _, *at in difflib.SequenceMatcher(None, old, new, autojunk=False).get_opcodes():
+            before, after = old[at[0] : at[1]], new[at[2] : at[3]]
+            if not same("".join(before), "".join(after)):
+                changes.append((file, at[0], at[1], after))
+    return changes
+
+
+def texts_with(originals, bodies):
+    """The texts of the files with all these edits in them, of which no two clash."""
+    lines = {file: text.splitlines(keepends=True) for file, text in originals.items()}
+    changes = [it for body in bodies for it in body.changes]
+    for file, start, end, new in sorted(changes, key=lambda it: it[1], reverse=True):
+        lines[file][start:end] = new
+    return {file: "".join(it) for file, it in lines.items()}
 
 
 class Unreadable(Exception):
@@ -142,7 +172,7 @@ class Unreadable(Exception):
 
 def read_edit(path, originals, is_wrong=True):
     """The wrong body of a file."""
-    changes, owners, file, old = [], set(), None, None
+    owners, file, old = set(), None, None
     texts = dict(originals)
     for line in path.read_text(encoding="utf-8").splitlines():
         if line.startswith("file: "):
@@ -155,12 +185,12 @@ def read_edit(path, originals, is_wrong=True):
             if count != 1:
                 raise Unreadable(f"{path}: this stands {count} times in {file}: {old}")
             at = texts[file].index(old) + len(old) - len(old.lstrip())
-            owners |= owners_of(file.removeprefix("src/"), texts[file], at)
+            if not same(old, new):
+                owners |= owners_of(file.removeprefix("src/"), texts[file], at)
             texts[file] = texts[file].replace(old, new)
-            changes.append((file, old, new))
     if not owners or texts == originals:
         raise Unreadable(f"{path}: it changes no function")
-    return WrongBody(path.stem, changes, owners, is_wrong)
+    return WrongBody(path.stem, changes_of(originals, texts), owners, is_wrong)
 
 
 class Crate(libraries.Crate):
@@ -179,6 +209,10 @@ class Crate(libraries.Crate):
                     self.bodies.append(read_edit(path, self.originals, is_wrong))
             except Unreadable as fault:
                 self.unreadable.append(str(fault))
+
+    def proof_lines(self):
+        """How many lines its proofs have."""
+        return sum(len(it.read_text().splitlines()) for it in self.folder.glob("proofs/**/*.antt"))
 
     def count(self):
         """How many bodies it has, in words."""
@@ -269,19 +303,23 @@ class Trial:
         self.words = crate.command(crates, self.work)
         self.report, self.checks = [], 0
 
-    def check(self, bodies, texts):
-        """Checks what these wrong bodies touch, and what that calls, in the copy with these texts."""
-        for file, text in {**self.crate.originals, **texts}.items():
+    def check(self, bodies):
+        """Checks what these wrong bodies touch, and what that calls, in the copy with them."""
+        texts = texts_with(self.crate.originals, bodies)
+        for file, text in texts.items():
             (self.copy / file).write_text(text)
         how = {"stdout": subprocess.PIPE, "stderr": subprocess.STDOUT, "text": True}
         self.work.mkdir(exist_ok=True)
         self.checks += 1
         paths = sorted({it.removesuffix("::") for body in bodies for it in body.owners})
         words = [*self.words, *(word for it in paths for word in ("--only", it))]
+        begun = time.monotonic()
         try:
             ran = subprocess.run(words, cwd=self.copy, timeout=SECONDS, check=False, **how)
         except subprocess.TimeoutExpired:
             return Answer(self.crate, texts, f"no answer in {SECONDS} seconds")
+        took = time.monotonic() - begun
+        print(f"{self.crate.name}: a check of {len(bodies)} took {took:.0f} s", flush=True)
         return Answer(self.crate, texts, ran.stdout)
 
     def settle(self, body, goal, how):
@@ -301,27 +339,23 @@ class Trial:
 
     def alone(self, body):
         """Tries a wrong body by itself."""
-        texts = body.applied({}, self.crate.originals)
-        answer = self.check([body], texts)
+        answer = self.check([body])
         if answer.is_verdict:
             return self.settle(body, answer.goal_of(body), "alone")
         said = " ".join(answer.lines[:3])[:300]
         self.note(body, False, f"CANNOT BE CHECKED: {said}")
 
     def next_round(self, left):
-        """As many of these as fit beside each other, and the texts with them."""
-        group, touched, texts = [], set(), {}
+        """As many of these as fit beside each other."""
+        group = []
         for body in left:
-            clash = any(a.startswith(b) or b.startswith(a) for a in body.owners for b in touched
-                        if a == b or a.endswith("::") or b.endswith("::"))
-            new = None if clash else body.applied(texts, self.crate.originals)
-            if new is not None:
-                group, touched, texts = [*group, body], touched | body.owners, new
-        return group, texts
+            if not any(body.clashes(it) for it in group):
+                group.append(body)
+        return group
 
-    def unreadable(self, answer, group, texts):
+    def unreadable(self, answer, group):
         """Those of the group whose text the checker cannot read, by the places that it names."""
-        named = set()
+        named, texts = set(), texts_with(self.crate.originals, group)
         for line in answer.lines:
             for file, number in PLACE.findall(line):
                 named |= answer.paths_at(self.crate, texts, "src", file, number)
@@ -329,19 +363,23 @@ class Trial:
 
     def run(self):
         """Tries all, and returns what came of each."""
-        left, single = self.crate.bodies, []
+        left, tried_once, single = self.crate.bodies, [], []
         while left:
-            group, texts = self.next_round(left)
+            group = self.next_round(left)
             left = [it for it in left if it not in group]
-            answer = self.check(group, texts)
+            answer = self.check(group)
             if not answer.is_verdict:
-                bad = self.unreadable(answer, group, texts)
+                bad = self.unreadable(answer, group)
                 single += bad
                 left = [it for it in group if it not in bad] + left
                 continue
             for body in group:
                 if goal := answer.goal_of(body):
                     self.settle(body, goal, f"with {len(group) - 1} others")
+                elif body.is_wrong and body not in tried_once:
+                    # (the goal may rest on a function that another one of the group has broken)
+                    tried_once.append(body)
+                    left = [*left, body]
                 else:
                     single.append(body)
         for body in single:
@@ -367,9 +405,8 @@ def try_all(tried, crates):
     """Tries the bodies of these crates, and returns what came of each."""
     for crate in tried:
         libraries.stop_unless_built(crate.below(crates))
-    # Those that take long come first: programs, whose check reads every library, and large crates.
-    size = {it.name: len(it.bodies) * sum(map(len, it.originals.values())) for it in tried}
-    tried.sort(key=lambda it: ("src/main.rt" not in it.originals, -size[it.name]))
+    # Those that take long come first.
+    tried.sort(key=lambda it: -it.proof_lines())
     outcomes = []
     with tempfile.TemporaryDirectory(prefix="wrong-bodies-") as room:
         with concurrent.futures.ThreadPoolExecutor(len(os.sched_getaffinity(0))) as pool:
