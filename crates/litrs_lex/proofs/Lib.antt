@@ -9,9 +9,7 @@ pub mod FloatBytes
 pub mod NumberBytes
 pub mod AsciiTests
 pub mod CharCuts
-pub mod HexDigitBytes
 pub mod EscapeBytes
-pub mod HexEscapeBytes
 pub mod UnicodeEscapeBytes
 pub mod CharByteBytes
 pub mod StringFronts

@@ -26,8 +26,7 @@ use Rattle.litrs_lex.specs.declared.escape.HexDigits.{HexDigits}
 use Rattle.litrs_lex.specs.Unescaped.{switches, IsUnescaped, IsHexDigits}
 use Rattle.litrs_lex.proofs.CharCuts.{byte_len-all}
 use Rattle.litrs_lex.proofs.AsciiTests.{only_char, list_any-chars, ascii_front, first_next}
-use Rattle.litrs_lex.proofs.HexDigitBytes.{hexdigit_only, hex_or_underscore_only}
-use Rattle.litrs_lex.proofs.EscapeBytes.{unescaped, first_slash, letter_chars, utf8_at}
+use Rattle.litrs_lex.proofs.EscapeBytes.{unescaped, first_slash, letter_chars, utf8_at, hexdigit_only, hex_or_underscore_only}
 
 to_unicode : (w : Switches) (t : List ℕ) → escape_refusal w (92 ∷ 117 ∷ t) ≡ unicode_refusal w t
 unfolding escape_refusal

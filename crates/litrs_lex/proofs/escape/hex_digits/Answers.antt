@@ -5,7 +5,7 @@ use Rattle.std.proofs.lemmas.Grind.{pow_more}
 use Rattle.std.proofs.lemmas.Bool.{or_left}
 use Rattle.litrs_grammar.specs.Escape.{is_hex_or_underscore}
 use Rattle.litrs_lex.proofs.NumeralLemmas.{numeral-nil, numeral_digit}
-use Rattle.litrs_lex.proofs.HexDigitBytes.{six_digits, digit_small, all_more, count_one, digit_no_underscore, underscore_more}
+use Rattle.litrs_lex.proofs.EscapeBytes.{six_digits, digit_small, all_more, count_one, digit_no_underscore, underscore_more}
 use Rattle.litrs_lex.proofs.escape.hex_digits.Goals as goal
 
 pub loop-len-init : goal.loop-len-init

@@ -3,8 +3,7 @@ use Rattle.std.proofs.Common.{◌&&◌, get_or, ap, ◌∙◌, sym, Some, refl}
 use Rattle.std.proofs.lemmas.Bool.{false≢true, false_from_ne_true}
 use Rattle.std.specs.Char.{is_ascii_hexdigit}
 use Rattle.litrs_base.specs.Characters.{nul_is_allowed}
-use Rattle.litrs_lex.proofs.EscapeBytes.{has_refusal}
-use Rattle.litrs_lex.proofs.HexEscapeBytes.{hex_end_row, hex_digits_row, pair_of, hex_byte_row, hex_nul_row, hex_read}
+use Rattle.litrs_lex.proofs.EscapeBytes.{has_refusal, hex_end_row, hex_digits_row, pair_of, hex_byte_row, hex_nul_row, hex_read}
 use Rattle.litrs_lex.proofs.escape.unescape_hex.Goals as goal
 
 pub returns-then-not-is_char_boundary-clause-refused : goal.returns-then-not-is_char_boundary-clause-refused

@@ -9,8 +9,7 @@ use Rattle.std.proofs.lemmas.Bool.{true≢false, false_from_ne_true}
 use Rattle.litrs_base.specs.Refusal.{at_byte}
 use Rattle.litrs_base.specs.Text.{first_passes}
 use Rattle.litrs_base.specs.declared.err.ParseErrorKind.TheVariants.{TooManyDigitInUnicodeEscape, NonHexDigitInUnicodeEscape}
-use Rattle.litrs_lex.proofs.HexDigitBytes.{digit_or_underscore}
-use Rattle.litrs_lex.proofs.EscapeBytes.{has_refusal}
+use Rattle.litrs_lex.proofs.EscapeBytes.{has_refusal, digit_or_underscore}
 use Rattle.litrs_lex.proofs.UnicodeEscapeBytes.{braced, digit_text, unclosed_row, start_row, stopped, many_row, nonhex_row, is_wrong_start}
 use Rattle.litrs_lex.proofs.escape.unicode_escape_refusal.Goals as goal
 
