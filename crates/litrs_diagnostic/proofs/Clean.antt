@@ -14,8 +14,9 @@ use Rattle.litrs_base.proofs.Runs.{list_all-append, list_all-weaken}
 use Rattle.litrs_diagnostic.specs.Printable.{is_printable}
 use Rattle.litrs_diagnostic.specs.Position.{is_line_feed, line_number, column_number}
 use Rattle.litrs_diagnostic.specs.Shown.{blank, caret, shown, shown_char, columns}
-use Rattle.litrs_diagnostic.specs.Line.{Line, start_line, end_line}
-use Rattle.litrs_diagnostic.specs.Diagnostic.{blanks, carets, gap_text, line_text, lines_text, message_text, diagnostic_text, is_line_feed_or_printable}
+use Rattle.litrs_diagnostic.specs.Line.{start_line, end_line}
+use Rattle.litrs_diagnostic.specs.Window.{Window, fitted}
+use Rattle.litrs_diagnostic.specs.Diagnostic.{blanks, carets, dots, gap_text, line_text, lines_text, message_text, diagnostic_text, is_line_feed_or_printable}
 use Rattle.litrs_diagnostic.proofs.Widths.{IsPlain, ArePlain, plain_escape}
 
 -- ---- printable ASCII
@@ -140,22 +141,30 @@ piece xs ys h k =
 line_end : (ys : List ℕ) → IsClean ys → IsClean (10 ∷ ys)
 line_end ys h = record { all = h.all }
 
-line_clean : (margin number : ℕ) (l : Line) → IsClean (line_text margin number l)
+dots_printable : (is_cut : Bool) → list_all is_printable (dots is_cut) ≡ true
+dots_printable true = plain_by_test (codes "...") refl
+dots_printable false = refl
+
+line_clean : (margin number : ℕ) (l : Window) → IsClean (line_text margin number l)
 unfolding line_text
 line_clean margin number l =
     piece (decimal number) _ (decimal_printable number)
     (piece (blanks (margin - length (decimal number))) _
     (blanks_printable (margin - length (decimal number)))
     (piece (codes " | ") _ (plain_by_test (codes " | ") refl)
+    (piece (dots l.is_cut_before) _ (dots_printable l.is_cut_before)
     (piece (shown l.before) _ (shown_printable l.before)
     (piece (shown l.marked) _ (shown_printable l.marked)
     (piece (shown l.after) _ (shown_printable l.after)
-    (line_end (blanks margin ++ (codes " | " ++
-    (blanks (columns (shown l.before)) ++ (carets l.marked ++ 10 ∷ []))))
+    (piece (dots l.is_cut_after) _ (dots_printable l.is_cut_after)
+    (line_end (blanks margin ++ (codes " | " ++ (blanks (length (dots l.is_cut_before)) ++
+    (blanks (columns (shown l.before)) ++ (carets l.marked ++ 10 ∷ [])))))
     (piece (blanks margin) _ (blanks_printable margin)
     (piece (codes " | ") _ (plain_by_test (codes " | ") refl)
+    (piece (blanks (length (dots l.is_cut_before))) _
+    (blanks_printable (length (dots l.is_cut_before)))
     (piece (blanks (columns (shown l.before))) _ (blanks_printable (columns (shown l.before)))
-    (piece (carets l.marked) (10 ∷ []) (carets_printable l.marked) one_line_end))))))))))
+    (piece (carets l.marked) (10 ∷ []) (carets_printable l.marked) one_line_end)))))))))))))
 
 clean_cond : (b : Bool) (xs ys : List ℕ) → IsClean xs → IsClean ys → IsClean (cond b xs ys)
 clean_cond true xs ys h k = h
@@ -166,49 +175,49 @@ gap_clean first last =
     clean_cond (nat_lt (first + 1) last) (codes "...\n") []
     (piece (codes "...") (10 ∷ []) (plain_by_test (codes "...") refl) one_line_end) none_clean
 
-lines_clean : (margin : ℕ) (before range after : List ℕ) →
-    IsClean (lines_text margin before range after)
+lines_clean : (margin first_line width : ℕ) (before range after : List ℕ) →
+    IsClean (lines_text margin first_line width before range after)
 unfolding lines_text
-lines_clean margin before range after =
-    let first = line_number before in
-    let last = line_number (before ++ range) in
-    let more = gap_text first last ++ line_text margin last (end_line range after) in
-    both_clean (line_text margin first (start_line before range after))
+lines_clean margin first_line width before range after =
+    let first = line_number first_line before in
+    let last = line_number first_line (before ++ range) in
+    let more = gap_text first last ++ line_text margin last (fitted width (end_line range after)) in
+    both_clean (line_text margin first (fitted width (start_line before range after)))
     (cond (nat_lt first last) more [])
-    (line_clean margin first (start_line before range after))
+    (line_clean margin first (fitted width (start_line before range after)))
     (clean_cond (nat_lt first last) more []
-    (both_clean (gap_text first last) (line_text margin last (end_line range after))
-    (gap_clean first last) (line_clean margin last (end_line range after)))
+    (both_clean (gap_text first last) (line_text margin last (fitted width (end_line range after)))
+    (gap_clean first last) (line_clean margin last (fitted width (end_line range after))))
     none_clean)
 
-message_clean : (name message before range after : List ℕ) →
-    IsClean (message_text name message before range after)
+message_clean : (first_line width : ℕ) (name message before range after : List ℕ) →
+    IsClean (message_text first_line width name message before range after)
 unfolding message_text
-message_clean name message before range after =
-    let margin = length (decimal (line_number (before ++ range))) in
+message_clean first_line width name message before range after =
+    let margin = length (decimal (line_number first_line (before ++ range))) in
     piece (codes "error: ") _ (plain_by_test (codes "error: ") refl)
     (piece (shown message) _ (shown_printable message)
     (line_end (blanks margin ++ (codes "--> " ++
-    (shown name ++ (codes ":" ++ (decimal (line_number before)
+    (shown name ++ (codes ":" ++ (decimal (line_number first_line before)
     ++ (codes ":" ++ (decimal (column_number before)
-    ++ 10 ∷ (blanks margin ++ (codes " |\n" ++ lines_text margin before range after)))))))))
+    ++ 10 ∷ (blanks margin ++ (codes " |\n" ++ lines_text margin first_line width before range after)))))))))
     (piece (blanks margin) _ (blanks_printable margin)
     (piece (codes "--> ") _ (plain_by_test (codes "--> ") refl)
     (piece (shown name) _ (shown_printable name)
     (piece (codes ":") _ (plain_by_test (codes ":") refl)
-    (piece (decimal (line_number before)) _ (decimal_printable (line_number before))
+    (piece (decimal (line_number first_line before)) _ (decimal_printable (line_number first_line before))
     (piece (codes ":") _ (plain_by_test (codes ":") refl)
     (piece (decimal (column_number before)) _ (decimal_printable (column_number before))
-    (line_end (blanks margin ++ (codes " |\n" ++ lines_text margin before range after))
+    (line_end (blanks margin ++ (codes " |\n" ++ lines_text margin first_line width before range after))
     (piece (blanks margin) _ (blanks_printable margin)
-    (piece (codes " |") (10 ∷ lines_text margin before range after)
+    (piece (codes " |") (10 ∷ lines_text margin first_line width before range after)
     (plain_by_test (codes " |") refl)
-    (line_end (lines_text margin before range after)
-    (lines_clean margin before range after))))))))))))))
+    (line_end (lines_text margin first_line width before range after)
+    (lines_clean margin first_line width before range after))))))))))))))
 
-pub diagnostic_clean : (name message source : List ℕ) (start end : ℕ) →
-    list_all is_line_feed_or_printable (diagnostic_text name message source start end) ≡ true
+pub diagnostic_clean : (name message source : List ℕ) (first_line width start end : ℕ) →
+    list_all is_line_feed_or_printable (diagnostic_text name message source first_line width start end) ≡ true
 unfolding diagnostic_text
-diagnostic_clean name message source start end =
-    (message_clean (chars name) (chars message) (chars (take start source))
+diagnostic_clean name message source first_line width start end =
+    (message_clean first_line width (chars name) (chars message) (chars (take start source))
     (chars (slice_range source start end)) (chars (drop end source))).all

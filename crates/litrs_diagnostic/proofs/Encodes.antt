@@ -23,21 +23,24 @@ shown_more cs c =
     ∙ ap encode_utf8_all (sym (flat_map-append shown_char cs (c ∷ [])
     ∙ ap (λ (l : List ℕ). shown cs ++ l) (append-nil (shown_char c))))
 
+pub columns_more : (cs : List ℕ) (c : ℕ) → columns (shown (cs ++ c ∷ []))
+    ≡ columns (shown cs) + columns (shown_char c)
+columns_more cs c =
+    ap columns (flat_map-append shown_char cs (c ∷ [])
+    ∙ ap (λ (l : List ℕ). shown cs ++ l) (append-nil (shown_char c)))
+    ∙ sum_by-append char_columns (shown cs) (shown_char c)
+
 -- and so many marks are below it
 pub below_more : (cs : List ℕ) (c mark : ℕ) →
     encode_utf8_all (replicate (columns (shown cs)) mark)
     ++ encode_utf8_all (replicate (columns (shown_char c)) mark)
     ≡ encode_utf8_all (replicate (columns (shown (cs ++ c ∷ []))) mark)
 below_more cs c mark =
-    let both : columns (shown (cs ++ c ∷ [])) ≡ columns (shown cs) + columns (shown_char c) =
-    ap columns (flat_map-append shown_char cs (c ∷ [])
-    ∙ ap (λ (l : List ℕ). shown cs ++ l) (append-nil (shown_char c)))
-    ∙ sum_by-append char_columns (shown cs) (shown_char c) in
     sym (encodes-append (replicate (columns (shown cs)) mark)
     (replicate (columns (shown_char c)) mark))
     ∙ ap encode_utf8_all (replicate-append-replicate (columns (shown cs))
     (columns (shown_char c)) mark
-    ∙ ap (λ (n : ℕ). replicate n mark) (sym both))
+    ∙ ap (λ (n : ℕ). replicate n mark) (sym (columns_more cs c)))
 
 -- the characters of a string whose bytes are those of a text
 pub written_characters : {Z : Type 0} (s : String Z) (t : List ℕ) →

@@ -6,6 +6,8 @@ pub mod ByteLines
 pub mod Encodes
 -- how wide a character is shown
 pub mod Widths
+-- as many characters as are shown in a width
+pub mod Within
 -- how many digits a number has
 pub mod Digits
 -- a text that is cut at both ends of a range

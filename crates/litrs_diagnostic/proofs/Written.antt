@@ -11,8 +11,9 @@ use Rattle.std.proofs.lemmas.Str.Ascii.{IsAscii-cons, IsAscii-nil}
 use Rattle.litrs_base.proofs.Chars.{ascii_by_test}
 use Rattle.litrs_diagnostic.specs.Shown.{caret, char_columns, columns, shown, shown_char}
 use Rattle.litrs_diagnostic.specs.Position.{is_line_feed, line_number, column_number}
-use Rattle.litrs_diagnostic.specs.Line.{Line, start_line, end_line}
-use Rattle.litrs_diagnostic.specs.Diagnostic.{blanks, carets, line_text, gap_text, lines_text, message_text}
+use Rattle.litrs_diagnostic.specs.Line.{start_line, end_line}
+use Rattle.litrs_diagnostic.specs.Window.{Window, fitted}
+use Rattle.litrs_diagnostic.specs.Diagnostic.{blanks, carets, dots, line_text, gap_text, lines_text, message_text}
 
 -- ---- carets
 
@@ -103,32 +104,35 @@ text_then xs ys bs more = encodes-append xs ys ∙ ap (λ (l : List ℕ). encode
 newline : encode_utf8_all (10 ∷ []) ≡ 10 ∷ []
 newline = encodes-IsAscii (10 ∷ []) (ascii_by_test (10 ∷ []) refl)
 
+dots_then : (is_cut : Bool) (ys bs : List ℕ) → encode_utf8_all ys ≡ bs →
+    encode_utf8_all (dots is_cut ++ ys) ≡ dots is_cut ++ bs
+dots_then true ys bs more = ascii_then (codes "...") ys bs refl more
+dots_then false ys bs more = more
+
 -- the line, and what is below it, as they are written
-pub line_bytes : (margin number filling : ℕ) (l : Line) →
+-- `start` and `end` are the dots of the line.
+pub line_bytes : (margin number filling : ℕ) (start end : List ℕ) (l : Window) →
     filling ≡ margin - length (decimal number) →
-    (decimal number ++ (encode_utf8_all (blanks filling) ++ (codes " | "
+    start ≡ dots l.is_cut_before → end ≡ dots l.is_cut_after →
+    (decimal number ++ (encode_utf8_all (blanks filling) ++ (codes " | " ++ (start
     ++ (encode_utf8_all (shown l.before) ++ (encode_utf8_all (shown l.marked)
-    ++ (encode_utf8_all (shown l.after) ++ 10 ∷ []))))))
+    ++ (encode_utf8_all (shown l.after) ++ (end ++ 10 ∷ []))))))))
     ++ (encode_utf8_all (blanks margin) ++ (codes " | "
+    ++ (encode_utf8_all (blanks (length start))
     ++ (encode_utf8_all (blanks (columns (shown l.before)))
-    ++ (encode_utf8_all (carets l.marked) ++ 10 ∷ []))))
+    ++ (encode_utf8_all (carets l.marked) ++ 10 ∷ [])))))
     ≡ encode_utf8_all (line_text margin number l)
 unfolding line_text
-line_bytes margin number filling l same =
-    let below : List ℕ = encode_utf8_all (blanks margin) ++ (codes " | "
-    ++ (encode_utf8_all (blanks (columns (shown l.before)))
-    ++ (encode_utf8_all (carets l.marked) ++ 10 ∷ []))) in
-    ap (λ (n : ℕ). (decimal number ++ (encode_utf8_all (blanks n) ++ (codes " | "
-    ++ (encode_utf8_all (shown l.before) ++ (encode_utf8_all (shown l.marked)
-    ++ (encode_utf8_all (shown l.after) ++ 10 ∷ [])))))) ++ below) same
-    ∙ (simp append_assoc refl
+line_bytes margin number filling start end l is_filling is_start is_end =
+    rw (is_filling, is_start, is_end) (simp append_assoc refl
     ∙ sym (decimal_then number _ _ (text_then (blanks (margin - length (decimal number))) _ _
-    (ascii_then (codes " | ") _ _ refl
+    (ascii_then (codes " | ") _ _ refl (dots_then l.is_cut_before _ _
     (text_then (shown l.before) _ _ (text_then (shown l.marked) _ _
-    (text_then (shown l.after) _ _ (ascii_then (10 ∷ []) _ _ refl
+    (text_then (shown l.after) _ _ (dots_then l.is_cut_after _ _ (ascii_then (10 ∷ []) _ _ refl
     (text_then (blanks margin) _ _ (ascii_then (codes " | ") _ _ refl
+    (text_then (blanks (length (dots l.is_cut_before))) _ _
     (text_then (blanks (columns (shown l.before))) _ _
-    (text_then (carets l.marked) _ _ newline))))))))))))
+    (text_then (carets l.marked) _ _ newline)))))))))))))))
 
 -- ---- all of it
 
@@ -146,20 +150,20 @@ heading_more : (name message : List ℕ) (margin line column : ℕ) (a b : List 
     ≡ heading name message margin line column (a ++ b)
 heading_more name message margin line column a b = simp append_assoc refl
 
-heading_then : (name message before range after bs : List ℕ) →
-    encode_utf8_all (lines_text (length (decimal (line_number (before ++ range)))) before range
-    after) ≡ bs →
-    heading name message (length (decimal (line_number (before ++ range)))) (line_number before)
+heading_then : (first_line width : ℕ) (name message before range after bs : List ℕ) →
+    encode_utf8_all (lines_text (length (decimal (line_number first_line (before ++ range)))) first_line width before
+    range after) ≡ bs →
+    heading name message (length (decimal (line_number first_line (before ++ range)))) (line_number first_line before)
     (column_number before) bs
-    ≡ encode_utf8_all (message_text name message before range after)
+    ≡ encode_utf8_all (message_text first_line width name message before range after)
 unfolding message_text
-heading_then name message before range after bs more =
-    let margin = length (decimal (line_number (before ++ range))) in
+heading_then first_line width name message before range after bs more =
+    let margin = length (decimal (line_number first_line (before ++ range))) in
     simp append_assoc refl
     ∙ sym (ascii_then (codes "error: ") _ _ refl
     (text_then (shown message) _ _ (ascii_then (10 ∷ []) _ _ refl (text_then (blanks margin) _ _
     (ascii_then (codes "--> ") _ _ refl (text_then (shown name) _ _
-    (ascii_then (codes ":") _ _ refl (decimal_then (line_number before) _ _
+    (ascii_then (codes ":") _ _ refl (decimal_then (line_number first_line before) _ _
     (ascii_then (codes ":") _ _ refl (decimal_then (column_number before) _ _
     (ascii_then (10 ∷ []) _ _ refl (text_then (blanks margin) _ _
     (ascii_then (codes " |\n") _ bs refl more)))))))))))))
@@ -173,61 +177,65 @@ gap_then : (first last : ℕ) (ys bs : List ℕ) → encode_utf8_all ys ≡ bs �
     encode_utf8_all (gap_text first last ++ ys) ≡ gap_text first last ++ bs
 gap_then first last ys bs more = cond_then (nat_lt (first + 1) last) ys bs more
 
-one_line : (margin : ℕ) (before range after : List ℕ) →
-    nat_lt (line_number before) (line_number (before ++ range)) ≡ false →
-    encode_utf8_all (lines_text margin before range after)
-    ≡ encode_utf8_all (line_text margin (line_number before) (start_line before range after))
+one_line : (margin first_line width : ℕ) (before range after : List ℕ) →
+    nat_lt (line_number first_line before) (line_number first_line (before ++ range)) ≡ false →
+    encode_utf8_all (lines_text margin first_line width before range after)
+    ≡ encode_utf8_all (line_text margin (line_number first_line before)
+    (fitted width (start_line before range after)))
 unfolding lines_text
-one_line margin before range after same = rw same
-    (ap encode_utf8_all (append-nil (line_text margin (line_number before)
-    (start_line before range after))))
+one_line margin first_line width before range after same = rw same
+    (ap encode_utf8_all (append-nil (line_text margin (line_number first_line before)
+    (fitted width (start_line before range after)))))
 
-two_lines : (margin : ℕ) (before range after : List ℕ) →
-    nat_lt (line_number before) (line_number (before ++ range)) ≡ true →
-    encode_utf8_all (lines_text margin before range after)
-    ≡ encode_utf8_all (line_text margin (line_number before) (start_line before range after))
-    ++ (gap_text (line_number before) (line_number (before ++ range))
-    ++ encode_utf8_all (line_text margin (line_number (before ++ range)) (end_line range after)))
+two_lines : (margin first_line width : ℕ) (before range after : List ℕ) →
+    nat_lt (line_number first_line before) (line_number first_line (before ++ range)) ≡ true →
+    encode_utf8_all (lines_text margin first_line width before range after)
+    ≡ encode_utf8_all (line_text margin (line_number first_line before)
+    (fitted width (start_line before range after)))
+    ++ (gap_text (line_number first_line before) (line_number first_line (before ++ range))
+    ++ encode_utf8_all (line_text margin (line_number first_line (before ++ range))
+    (fitted width (end_line range after))))
 unfolding lines_text
-two_lines margin before range after less =
-    rw less (text_then (line_text margin (line_number before) (start_line before range after)) _ _
-    (gap_then (line_number before) (line_number (before ++ range)) _ _ refl))
+two_lines margin first_line width before range after less =
+    rw less (text_then (line_text margin (line_number first_line before)
+    (fitted width (start_line before range after))) _ _
+    (gap_then (line_number first_line before) (line_number first_line (before ++ range)) _ _ refl))
 
-pub last_number : (before range : List ℕ) → line_number (before ++ range)
-    ≡ line_number before + count_by is_line_feed range
-last_number before range =
+pub last_number : (first_line : ℕ) (before range : List ℕ) → line_number first_line (before ++ range)
+    ≡ line_number first_line before + count_by is_line_feed range
+last_number first_line before range =
     let sum = sum_by-append (λ c. cond (is_line_feed c) 1 0) before range in omega (arith, sum)
 
-pub one_line_bytes : (name message before range after : List ℕ) (margin line column : ℕ)
-    (l : Line) →
-    margin ≡ length (decimal (line_number (before ++ range))) → line ≡ line_number before →
+pub one_line_bytes : (first_line width : ℕ) (name message before range after : List ℕ)
+    (margin line column : ℕ) (l : Window) →
+    margin ≡ length (decimal (line_number first_line (before ++ range))) → line ≡ line_number first_line before →
     column ≡ column_number before →
-    l ≡ start_line before range after → line_number (before ++ range) ≤ line_number before →
+    l ≡ fitted width (start_line before range after) → line_number first_line (before ++ range) ≤ line_number first_line before →
     heading name message margin line column (encode_utf8_all (line_text margin line l))
-    ≡ encode_utf8_all (message_text name message before range after)
-one_line_bytes name message before range after margin line column l is_margin is_line is_column
+    ≡ encode_utf8_all (message_text first_line width name message before range after)
+one_line_bytes first_line width name message before range after margin line column l is_margin is_line is_column
     is_l same =
     rw (is_margin, is_line, is_column, is_l)
-    (heading_then name message before range after _
-    (one_line (length (decimal (line_number (before ++ range)))) before range after
-    (le-ltb (line_number before) (line_number (before ++ range)) same)))
+    (heading_then first_line width name message before range after _
+    (one_line (length (decimal (line_number first_line (before ++ range)))) first_line width before range after
+    (le-ltb (line_number first_line before) (line_number first_line (before ++ range)) same)))
 
-pub two_lines_bytes : (name message before range after : List ℕ) (margin line column last : ℕ)
-    (gap : List ℕ) (l m : Line) →
-    margin ≡ length (decimal (line_number (before ++ range))) → line ≡ line_number before →
+pub two_lines_bytes : (first_line width : ℕ) (name message before range after : List ℕ)
+    (margin line column last : ℕ) (gap : List ℕ) (l m : Window) →
+    margin ≡ length (decimal (line_number first_line (before ++ range))) → line ≡ line_number first_line before →
     column ≡ column_number before →
-    last ≡ line_number (before ++ range) → gap
-    ≡ gap_text (line_number before) (line_number (before ++ range)) →
-    l ≡ start_line before range after → m ≡ end_line range after →
-    line_number before < line_number (before ++ range) →
+    last ≡ line_number first_line (before ++ range) → gap
+    ≡ gap_text (line_number first_line before) (line_number first_line (before ++ range)) →
+    l ≡ fitted width (start_line before range after) → m ≡ fitted width (end_line range after) →
+    line_number first_line before < line_number first_line (before ++ range) →
     heading name message margin line column (encode_utf8_all (line_text margin line l))
     ++ (gap ++ encode_utf8_all (line_text margin last m))
-    ≡ encode_utf8_all (message_text name message before range after)
-two_lines_bytes name message before range after margin line column last gap l m is_margin is_line
+    ≡ encode_utf8_all (message_text first_line width name message before range after)
+two_lines_bytes first_line width name message before range after margin line column last gap l m is_margin is_line
     is_column is_last is_gap is_l is_m less =
     rw (is_margin, is_line, is_column, is_last, is_gap, is_l, is_m)
-    (heading_more name message (length (decimal (line_number (before ++ range))))
-    (line_number before) (column_number before) _ _
-    ∙ heading_then name message before range after _
-    (two_lines (length (decimal (line_number (before ++ range)))) before range after
-    (lt-ltb (line_number before) (line_number (before ++ range)) less)))
+    (heading_more name message (length (decimal (line_number first_line (before ++ range))))
+    (line_number first_line before) (column_number before) _ _
+    ∙ heading_then first_line width name message before range after _
+    (two_lines (length (decimal (line_number first_line (before ++ range)))) first_line width before range after
+    (lt-ltb (line_number first_line before) (line_number first_line (before ++ range)) less)))

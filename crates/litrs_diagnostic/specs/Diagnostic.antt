@@ -5,7 +5,8 @@ use Rattle.std.specs.Str.{chars}
 use Rattle.litrs_diagnostic.specs.Position.{is_line_feed, line_number, column_number}
 use Rattle.litrs_diagnostic.specs.Printable.{is_printable}
 use Rattle.litrs_diagnostic.specs.Shown.{blank, caret, shown, columns}
-use Rattle.litrs_diagnostic.specs.Line.{Line, start_line, end_line}
+use Rattle.litrs_diagnostic.specs.Line.{start_line, end_line}
+use Rattle.litrs_diagnostic.specs.Window.{Window, fitted}
 
 abbrev pub blanks : ℕ → List ℕ
 blanks n = replicate n blank
@@ -18,44 +19,50 @@ line_feed = 10 ∷ []
 abbrev pub carets : List ℕ → List ℕ
 carets marked = replicate (max 1 (columns (shown marked))) caret
 
--- The line with its number in a margin of this width, and below it blanks as wide as what is shown
--- before what is marked, and carets as wide as what is shown of that.
-unfoldable pub line_text : (margin number : ℕ) → Line → List ℕ
+-- `...` in place of the rest of a line
+abbrev pub dots : (is_cut : Bool) → List ℕ
+dots is_cut = if is_cut then codes "..." else []
+
+-- What is shown of a line, after its number in a margin of this width; and below it blanks as wide
+-- as what is shown before what is marked, and carets as wide as what is shown of that.
+unfoldable pub line_text : (margin number : ℕ) → Window → List ℕ
 line_text margin number line =
+    let start = dots line.is_cut_before in
     decimal number ++ (blanks (margin - length (decimal number)) ++ (codes " | "
-    ++ (shown line.before ++ (shown line.marked ++ (shown line.after ++ (line_feed
-    ++ (blanks margin ++ (codes " | "
-    ++ (blanks (columns (shown line.before)) ++ (carets line.marked ++ line_feed))))))))))
+    ++ (start ++ (shown line.before ++ (shown line.marked ++ (shown line.after
+    ++ (dots line.is_cut_after ++ (line_feed ++ (blanks margin ++ (codes " | "
+    ++ (blanks (length start) ++ (blanks (columns (shown line.before))
+    ++ (carets line.marked ++ line_feed)))))))))))))
 
 -- `...` where there are lines between those of these numbers
 abbrev pub gap_text : (first last : ℕ) → List ℕ
 gap_text first last = if nat_lt (first + 1) last then codes "...\n" else []
 
 -- The lines that are shown: that on which the range begins, and, where it ends on a later one, that
--- one, after `...` where there are lines between them.
-unfoldable pub lines_text : (margin : ℕ) (before range after : List ℕ) → List ℕ
-lines_text margin before range after =
-    let first = line_number before in
-    let last = line_number (before ++ range) in
-    line_text margin first (start_line before range after)
+-- one, after `...` where there are lines between them. Of each no more than so many columns.
+unfoldable pub lines_text : (margin first_line width : ℕ) (before range after : List ℕ) → List ℕ
+lines_text margin first_line width before range after =
+    let first = line_number first_line before in
+    let last = line_number first_line (before ++ range) in
+    line_text margin first (fitted width (start_line before range after))
     ++ (if nat_lt first last
-    then gap_text first last ++ line_text margin last (end_line range after)
+    then gap_text first last ++ line_text margin last (fitted width (end_line range after))
     else [])
 
 -- The message, the place of the range's start, and the lines. The margin is as wide as the greatest
 -- number in it.
-unfoldable pub message_text : (name message before range after : List ℕ) → List ℕ
-message_text name message before range after =
-    let margin = length (decimal (line_number (before ++ range))) in
+unfoldable pub message_text : (first_line width : ℕ) (name message before range after : List ℕ) → List ℕ
+message_text first_line width name message before range after =
+    let margin = length (decimal (line_number first_line (before ++ range))) in
     codes "error: " ++ (shown message ++ (line_feed
     ++ (blanks margin ++ (codes "--> " ++ (shown name ++ (codes ":"
-    ++ (decimal (line_number before) ++ (codes ":" ++ (decimal (column_number before) ++ (line_feed
-    ++ (blanks margin ++ (codes " |\n" ++ lines_text margin before range after))))))))))))
+    ++ (decimal (line_number first_line before) ++ (codes ":" ++ (decimal (column_number before) ++ (line_feed
+    ++ (blanks margin ++ (codes " |\n" ++ lines_text margin first_line width before range after))))))))))))
 
 -- The characters that are written of a message on the bytes from start to end of the source.
-unfoldable pub diagnostic_text : (name message source : List ℕ) (start end : ℕ) → List ℕ
-diagnostic_text name message source start end =
-    message_text (chars name) (chars message)
+unfoldable pub diagnostic_text : (name message source : List ℕ) (first_line width start end : ℕ) → List ℕ
+diagnostic_text name message source first_line width start end =
+    message_text first_line width (chars name) (chars message)
     (chars (take start source)) (chars (slice_range source start end)) (chars (drop end source))
 
 -- an LF or a printable character: nothing else is written

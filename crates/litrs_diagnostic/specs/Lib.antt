@@ -6,7 +6,9 @@ pub mod Printable
 pub mod Shown
 -- the lines that a range marks
 pub mod Line
--- the lines of the program
+-- what is shown of a line
+pub mod Window
+-- the lines and windows of the program
 pub mod Rows
 -- all that is written
 pub mod Diagnostic

@@ -11,9 +11,9 @@ unfoldable pub last_line : List ℕ → List ℕ
 last_line [] = []
 last_line (c ∷ t) = if list_any is_line_feed (c ∷ t) then last_line t else c ∷ t
 
--- The number of the line after these characters of the text: one more than their LFs.
-abbrev pub line_number : List ℕ → ℕ
-line_number before = count_by is_line_feed before + 1
+-- The number of the line after these characters of a text whose first line has this number.
+abbrev pub line_number : (first_line : ℕ) → List ℕ → ℕ
+line_number first_line before = first_line + count_by is_line_feed before
 
 -- The column after these characters of the text: one more than those since the last LF, or since
 -- the text began.

@@ -1,11 +1,22 @@
 -- A line of the program as a line.
 use Rattle.std.specs.Str.{chars}
 use Rattle.litrs_diagnostic.specs.declared.lines.Line as code
+use Rattle.litrs_diagnostic.specs.declared.window.Window as code_window
 use Rattle.litrs_diagnostic.specs.Line.{Line}
+use Rattle.litrs_diagnostic.specs.Window.{Window}
 
 abbrev pub line_of : code.Line → Line
 line_of line = record {
   before = chars line.before.now;
   marked = chars line.marked.now;
   after = chars line.after.now;
+}
+
+abbrev pub window_of : code_window.Window → Window
+window_of window = record {
+  before = chars window.before.now;
+  marked = chars window.marked.now;
+  after = chars window.after.now;
+  is_cut_before = window.is_cut_before;
+  is_cut_after = window.is_cut_after;
 }

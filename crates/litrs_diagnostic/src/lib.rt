@@ -12,7 +12,8 @@
 //!             let end = start + 1;
 //!             let message = "a tab";
 //!             let name = "settings";
-//!             let refusal = Diagnostic { name, source, start, end, message };
+//!             let width = 100;
+//!             let refusal = Diagnostic { name, source, start, end, message, width };
 //!             Ok(Some(shown(alloc, &refusal)?))
 //!         }
 //!         None => Ok(None),
@@ -32,7 +33,9 @@
 //!
 //! Nothing is written but LFs and printable characters: of the source, the name and the message a
 //! tab is shown as four blanks, and any other character that is not printable by its number, as
-//! `\u{202e}`. The source is read up to the end of the last line that is shown.
+//! `\u{202e}`. Of a line that has more columns than a given width the part around the range is
+//! shown, and `...` in place of the rest. The source is read up to the end of the last line that is
+//! shown.
 #![tactic(auto)]
 
 ghost use Rattle.std.specs.Prelude.{◌≡◌, IfOk, IsTrue, string_bytes};
@@ -46,6 +49,7 @@ mod message;
 mod places;
 mod printable;
 mod row;
+mod window;
 
 pub use message::Diagnostic;
 pub use places::{LineColumn, position};
@@ -59,7 +63,7 @@ use std::alloc::{AllocError, Global};
 pub fn shown(alloc: Global, diagnostic: &Diagnostic) -> Result<String, AllocError>
     ensures text { IfOk result (λ written. chars (string_bytes written) ≡ diagnostic_text
         diagnostic.now.name.now diagnostic.now.message.now diagnostic.now.source.now
-        diagnostic.now.start diagnostic.now.end) }
+        diagnostic.now.first_line diagnostic.now.width diagnostic.now.start diagnostic.now.end) }
     ensures printable { IfOk result (λ written. IsTrue (
         list_all is_line_feed_or_printable (chars (string_bytes written)))) }
 {

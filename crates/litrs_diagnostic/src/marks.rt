@@ -109,7 +109,7 @@ fn write_shown<W: fmt::Write>(f: &mut fmt::Formatter<W>, c: char) -> fmt::Result
 }
 
 /// How many columns wide a character is shown.
-fn shown_width(c: char) -> usize
+pub(crate) fn shown_width(c: char) -> usize
     ensures { result ≡ columns (shown_char c) }
 {
     if c == '\t' {

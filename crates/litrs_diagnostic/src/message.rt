@@ -7,6 +7,7 @@ use crate::lines::{end_line, start_line};
 use crate::marks::{Blanks, Shown};
 use crate::places::{LineColumn, line_feeds, position};
 use crate::row::{Row, digit_count};
+use crate::window::fitted;
 use std::fmt;
 
 /// A message on a range of a text.
@@ -15,7 +16,8 @@ use std::fmt;
 /// and at the end of the text. It is shown by `Display`, or by [`shown`](crate::shown): the line on
 /// which it begins, and, where it ends on a later one, that line too, each with carets below what
 /// the line has of the range, at least one. A CR before the LF of a line is not shown, unless the
-/// range begins between them.
+/// range begins between them. Of a line that has more columns than `width` the range is shown
+/// first, as far as it has room, and then what is around it.
 #[derive(Clone, Copy, Debug)]
 pub struct Diagnostic<'a> {
     /// What the text is called, as by the path of its file.
@@ -26,8 +28,13 @@ pub struct Diagnostic<'a> {
     pub start: usize,
     /// Where it ends.
     pub end: usize,
+    /// The number of the text's first line: 1, but where the text is taken out of a longer one.
+    pub first_line: u32,
     /// What there is to say of the range.
     pub message: &'a str,
+    /// How many columns of a line are shown at most, besides its number and the `...` in place of
+    /// the rest: of rustc, 140 where it does not know how wide its terminal is.
+    pub width: usize,
     /// The range begins on a character boundary of the text.
     pub ghost start_cuts: { IsCharBoundary source.now start },
     /// The range ends on one.
@@ -42,12 +49,13 @@ impl fmt::Display for Diagnostic<'_> {
     ghost use Rattle.litrs_diagnostic.specs.Diagnostic.{diagnostic_text};
 
     ghost output = { λ d. Some (encode_utf8_all (
-        diagnostic_text d.name.now d.message.now d.source.now d.start d.end)) };
+        diagnostic_text d.name.now d.message.now d.source.now d.first_line d.width d.start d.end)) };
 
     fn fmt<W: fmt::Write>(&self, f: &mut fmt::Formatter<W>) -> fmt::Result {
         let message = Shown(self.message);
         let name = Shown(self.name);
         let LineColumn { line, column } = position(self.source, self.start);
+        let line = self.first_line as usize + (line - 1);
         let last = line + line_feeds(&self.source[self.start..self.end]);
         let digits = digit_count(last);
         let margin = Blanks(digits);
@@ -56,7 +64,7 @@ impl fmt::Display for Diagnostic<'_> {
         let first = Row {
             margin: digits,
             number: line,
-            line: start_line(self.source, self.start, self.end),
+            line: fitted(start_line(self.source, self.start, self.end), self.width),
         };
         write!(f, "{margin} |\n{first}")?;
         if line < last {
@@ -64,7 +72,7 @@ impl fmt::Display for Diagnostic<'_> {
             let end = Row {
                 margin: digits,
                 number: last,
-                line: end_line(self.source, self.start, self.end),
+                line: fitted(end_line(self.source, self.start, self.end), self.width),
             };
             write!(f, "{gap}{end}")?;
         }

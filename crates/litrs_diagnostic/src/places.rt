@@ -19,7 +19,7 @@ pub struct LineColumn {
 /// place 15, before the `2`, is column 8 of line 2.
 pub fn position(source: &str, at: usize) -> LineColumn
     requires { IsCharBoundary source.now at }
-    ensures line { result.line ≡ line_number (chars (take at source.now)) }
+    ensures line { result.line ≡ line_number 1 (chars (take at source.now)) }
     ensures column { result.column ≡ column_number (chars (take at source.now)) }
     ensures bound { result.line ≤ at + 1 }
 {

@@ -2,10 +2,10 @@
 ghost use Rattle.std.specs.Prelude.{◌≡◌, length};
 ghost use Rattle.std.specs.Fmt.{decimal};
 ghost use Rattle.std.specs.Str.{encode_utf8_all};
-ghost use Rattle.litrs_diagnostic.specs.Diagnostic.{line_text};
+ghost use Rattle.litrs_diagnostic.specs.Diagnostic.{dots, line_text};
 
-use crate::lines::Line;
 use crate::marks::{Below, Blanks, Carets, Shown};
+use crate::window::Window;
 use std::fmt;
 
 /// A line in lines of text that have a margin of this width before them.
@@ -13,36 +13,42 @@ use std::fmt;
 pub(crate) struct Row<'a> {
     pub(crate) margin: usize,
     pub(crate) number: usize,
-    pub(crate) line: Line<'a>,
+    pub(crate) line: Window<'a>,
 }
 
 impl fmt::Display for Row<'_> {
     ghost use Rattle.std.specs.Prelude.{Some};
-    ghost use Rattle.litrs_diagnostic.specs.Rows.{line_of};
+    ghost use Rattle.litrs_diagnostic.specs.Rows.{window_of};
 
     ghost output = { λ row. Some (encode_utf8_all (
-        line_text row.margin row.number (line_of row.line))) };
+        line_text row.margin row.number (window_of row.line))) };
 
     fn fmt<W: fmt::Write>(&self, f: &mut fmt::Formatter<W>) -> fmt::Result {
         let number = self.number;
-        let Line {
-            before,
-            marked,
-            after,
-        } = self.line;
+        let line = self.line;
         let filling = Blanks(self.margin.saturating_sub(digit_count(number)));
-        let before_marked = Shown(before);
-        let shown = Shown(marked);
-        let after_marked = Shown(after);
+        let start = dots(line.is_cut_before);
+        let before = Shown(line.before);
+        let marked = Shown(line.marked);
+        let after = Shown(line.after);
+        let end = dots(line.is_cut_after);
         write!(
             f,
-            "{number}{filling} | {before_marked}{shown}{after_marked}\n"
+            "{number}{filling} | {start}{before}{marked}{after}{end}\n"
         )?;
         let margin = Blanks(self.margin);
-        let below = Below(before);
-        let carets = Carets(marked);
-        write!(f, "{margin} | {below}{carets}\n")
+        let indent = Blanks(start.len());
+        let below = Below(line.before);
+        let carets = Carets(line.marked);
+        write!(f, "{margin} | {indent}{below}{carets}\n")
     }
+}
+
+/// What is written in place of the rest of a line.
+fn dots(is_cut: bool) -> &'static str
+    ensures { result.now ≡ dots is_cut }
+{
+    if is_cut { "..." } else { "" }
 }
 
 /// How many digits a number has.

@@ -1,5 +1,5 @@
-//! Shows diagnostics on texts that are hard to show: each line of the input is a range, in bytes,
-//! and a text, as a string literal.
+//! Shows diagnostics on texts that are hard to show: each line of the input is a range, in bytes, a
+//! width, the number of the first line, and a text, as a string literal.
 //!
 //! Of the first seven rows the lines are those that rustc 1.95 writes, but for its message and the
 //! name of its input. It differs in other rows:
@@ -10,49 +10,69 @@
 //!   character, U+FFFD in place of a bidi control, and a zero-width joiner not at all.
 //! - An LF at the end of the text begins a line of its own; rustc counts it to the line before.
 //! - A blank follows the `|` before an empty line.
+//! - Of a line that is cut, the `...` are not counted to the width, and what is before the range has
+//!   half of what the range leaves of it; rustc shows the line from its start as long as the range
+//!   has room, and a range that is wider whole.
 #![tactic(auto)]
 
-use litrs::{ParseError, StringLit};
+use litrs::StringLit;
 use litrs_diagnostic::{Diagnostic, shown};
 use std::alloc::{AllocError, Global};
 use std::io;
 
+/// A row of the input.
+#[derive(Clone, Copy)]
+struct Row<'a> {
+    start: usize,
+    end: usize,
+    width: usize,
+    first_line: u32,
+    literal: &'a str,
+}
+
+/// The parts of a row.
+fn parts(row: &str) -> Option<Row<'_>> {
+    let (range, rest) = row.split_once(' ')?;
+    let (start, end) = range.split_once("..")?;
+    let (width, rest) = rest.split_once(' ')?;
+    let (first_line, literal) = rest.split_once(' ')?;
+    Some(Row {
+        start: start.parse().ok()?,
+        end: end.parse().ok()?,
+        width: width.parse().ok()?,
+        first_line: first_line.parse().ok()?,
+        literal,
+    })
+}
+
 /// The lines on a row of the input, or what is wrong with the row.
-fn lines(alloc: Global, row: &str) -> Result<String, AllocError> {
-    let Some((range, literal)) = row.split_once(' ') else {
-        return format!(in alloc; "no blank after the range: {row}\n");
+fn lines(alloc: Global, text: &str) -> Result<String, AllocError> {
+    let Some(row) = parts(text) else {
+        return format!(in alloc; "not a row: {text}\n");
     };
-    let Some((start, end)) = range.split_once("..") else {
-        return format!(in alloc; "no range: {row}\n");
-    };
-    let (Ok(start), Ok(end)) = (start.parse::<usize>(), end.parse::<usize>()) else {
-        return format!(in alloc; "no numbers: {row}\n");
-    };
-    match StringLit::parse(alloc, literal) {
-        Ok(text) => marked(alloc, text.value(), start, end),
-        Err(error) => refused(alloc, row, &error),
+    match StringLit::parse(alloc, row.literal) {
+        Ok(source) => marked(alloc, source.value(), row),
+        Err(error) => format!(in alloc; "{text}: {error}\n"),
     }
 }
 
-/// The lines on a range of a text, or that it is none of the text.
-fn marked(alloc: Global, source: &str, start: usize, end: usize) -> Result<String, AllocError> {
+/// The lines on the range of a text, or that it is none of the text.
+fn marked(alloc: Global, source: &str, row: Row) -> Result<String, AllocError> {
+    let (start, end) = (row.start, row.end);
     if start <= end && source.is_char_boundary(start) && source.is_char_boundary(end) {
         let diagnostic = Diagnostic {
             name: "row",
             source,
             start,
             end,
+            first_line: row.first_line,
             message: "here",
+            width: row.width,
         };
         shown(alloc, &diagnostic)
     } else {
         format!(in alloc; "no range of the text: {start}..{end}\n")
     }
-}
-
-/// The lines on a row whose text is no string literal, by the span of its refusal.
-fn refused(alloc: Global, row: &str, error: &ParseError) -> Result<String, AllocError> {
-    format!(in alloc; "{row}: {error}\n")
 }
 
 fn main(rt: HostRuntime) -> io::Result<()> {

@@ -29,7 +29,9 @@ fn is_shown_refused(trial: &mut Trial, text: &str, error: &ParseError) -> bool {
         source: text,
         start,
         end,
+        first_line: 1,
         message,
+        width: 140,
     };
     match &shown(trial.alloc, &diagnostic) {
         Ok(lines) => {

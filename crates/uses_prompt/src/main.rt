@@ -24,6 +24,9 @@ use std::{io, str};
 /// The line that gives up the literal that goes on.
 const CANCEL: &str = ":cancel";
 
+/// So many columns of a line are shown around what is wrong.
+const WIDTH: usize = 100;
+
 /// What is said where a literal goes on after its first line.
 const HINT: &str = "the literal goes on in the next line; :cancel gives it up\n";
 
@@ -44,19 +47,19 @@ fn refusal(alloc: Global, text: &str, error: &ParseError) -> Result<String, Allo
     requires { IsRefused literal_parse (chars text.now) error.now }
     ensures { let span = marked_span (chars text.now) error.now in
         IfOk result (λ lines. chars (string_bytes lines) ≡ diagnostic_text
-        (codes "prompt") (kind_text (kind_of error.now)) text.now span.start span.end) }
+        (codes "prompt") (kind_text (kind_of error.now)) text.now 1 WIDTH span.start span.end) }
 {
     let span = error.marked_span(text);
-    shown(
-        alloc,
-        &Diagnostic {
-            name: "prompt",
-            source: text,
-            start: span.start,
-            end: span.end,
-            message: error.kind().description(),
-        },
-    )
+    let diagnostic = Diagnostic {
+        name: "prompt",
+        source: text,
+        start: span.start,
+        end: span.end,
+        first_line: 1,
+        message: error.kind().description(),
+        width: WIDTH,
+    };
+    shown(alloc, &diagnostic)
 }
 
 /// Forgets the lines so far.

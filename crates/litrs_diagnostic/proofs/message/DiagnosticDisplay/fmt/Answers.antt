@@ -1,12 +1,13 @@
 -- The heading, the first line, and the last where it is another.
-use Rattle.std.proofs.Common.{rules, ◌≡◌, ◌+◌, ◌++◌, ℕ, List, length, take, drop, count_by, ap, ◌∙◌, arith}
+use Rattle.std.proofs.Common.{rules, ◌≡◌, ◌+◌, ◌-◌, ◌++◌, ℕ, List, length, take, drop, count_by, ap, ◌∙◌, arith}
 use Rattle.std.specs.List.{slice_range}
 use Rattle.std.specs.Str.{chars}
 use Rattle.std.specs.Fmt.{decimal}
 use Rattle.std.proofs.Output.{has_written_append, has_written_of_eq}
 use Rattle.litrs_diagnostic.specs.Position.{is_line_feed, line_number}
 use Rattle.litrs_diagnostic.specs.Diagnostic.{diagnostic_text, gap_text}
-use Rattle.litrs_diagnostic.specs.Rows.{line_of}
+use Rattle.litrs_diagnostic.specs.Window.{fitted}
+use Rattle.litrs_diagnostic.specs.Rows.{window_of}
 use Rattle.litrs_diagnostic.proofs.Written.{last_number, one_line_bytes, two_lines_bytes}
 use Rattle.litrs_diagnostic.proofs.message.DiagnosticDisplay.fmt.Goals as goal
 
@@ -18,20 +19,23 @@ returns-else-line-last-clause-writes g c = λ plain ok.
     let range = chars (slice_range d.source.now d.start d.end) in
     let feeds : c.line_feeds.result ≡ count_by is_line_feed range = c.line_feeds.ensures.value
     ∙ ap (λ (l : List ℕ). count_by is_line_feed (chars l)) c.range.ensures.value in
-    let line : c.position-line.result.line ≡ line_number before = c.position-line.ensures.line in
-    let last = last_number before range in
-    let is_last : c.position-line.result.line + c.line_feeds.result
-    ≡ line_number (before ++ range) = omega (arith, feeds, line, last) in
+    let from_1 = c.position-line.ensures.line in
+    let line : d.first_line + (c.position-line.result.line - 1) ≡ line_number d.first_line before =
+    omega (arith, from_1) in
+    let last = last_number d.first_line before range in
+    let is_last : d.first_line + (c.position-line.result.line - 1) + c.line_feeds.result
+    ≡ line_number d.first_line (before ++ range) = omega (arith, feeds, line, last) in
     let margin = c.digit_count-digits.ensures ∙ ap (λ (n : ℕ). length (decimal n)) is_last in
+    let first = c.fitted.ensures ∙ ap (fitted d.width) c.start_line.ensures in
     let one = c.write.ensures.writes plain (search rules) in
     let two = c.write-2.ensures.writes one.plain (search rules) in
     let three = c.write-3.ensures.writes two.plain (search rules) in
     has_written_of_eq _ _ _ _ _
-    (one_line_bytes (chars d.name.now) (chars d.message.now) before range
+    (one_line_bytes d.first_line d.width (chars d.name.now) (chars d.message.now) before range
     (chars (drop d.end d.source.now))
-    c.digit_count-digits.result c.position-line.result.line c.position-line.result.column
-    (line_of c.start_line.result)
-    margin line c.position-line.ensures.column c.start_line.ensures (omega (arith, is_last, line)))
+    c.digit_count-digits.result (d.first_line + (c.position-line.result.line - 1)) c.position-line.result.column
+    (window_of c.fitted.result)
+    margin line c.position-line.ensures.column first (omega (arith, is_last, line)))
     (has_written_append _ _ _ _ _ _ (has_written_append _ _ _ _ _ _ one two) three)
 
 pub returns-in_ok-write-4-clause-writes : goal.returns-in_ok-write-4-clause-writes
@@ -42,25 +46,30 @@ returns-in_ok-write-4-clause-writes g c = λ plain ok.
     let range = chars (slice_range d.source.now d.start d.end) in
     let feeds : c.line_feeds.result ≡ count_by is_line_feed range = c.line_feeds.ensures.value
     ∙ ap (λ (l : List ℕ). count_by is_line_feed (chars l)) c.range.ensures.value in
-    let line : c.position-line.result.line ≡ line_number before = c.position-line.ensures.line in
-    let last = last_number before range in
-    let is_last : c.position-line.result.line + c.line_feeds.result
-    ≡ line_number (before ++ range) = omega (arith, feeds, line, last) in
+    let from_1 = c.position-line.ensures.line in
+    let line : d.first_line + (c.position-line.result.line - 1) ≡ line_number d.first_line before =
+    omega (arith, from_1) in
+    let last = last_number d.first_line before range in
+    let is_last : d.first_line + (c.position-line.result.line - 1) + c.line_feeds.result
+    ≡ line_number d.first_line (before ++ range) = omega (arith, feeds, line, last) in
     let margin = c.digit_count-digits.ensures ∙ ap (λ (n : ℕ). length (decimal n)) is_last in
     let gap = c.gap-gap.ensures ∙ ap (λ (n : ℕ). gap_text n
-    (c.position-line.result.line + c.line_feeds.result)) line
-    ∙ ap (λ (n : ℕ). gap_text (line_number before) n) is_last in
+    (d.first_line + (c.position-line.result.line - 1) + c.line_feeds.result)) line
+    ∙ ap (λ (n : ℕ). gap_text (line_number d.first_line before) n) is_last in
+    let first = c.fitted.ensures ∙ ap (fitted d.width) c.start_line.ensures in
     let one = c.write.ensures.writes plain (search rules) in
     let two = c.write-2.ensures.writes one.plain (search rules) in
     let three = c.write-3.ensures.writes two.plain (search rules) in
+    let second = c.fitted-then-line-last.ensures ∙ ap (fitted d.width) c.end_line.ensures in
     let four = c.write-then-line-last.ensures.writes three.plain (search rules) in
     has_written_of_eq _ _ _ _ _
-    (two_lines_bytes (chars d.name.now) (chars d.message.now) before range
+    (two_lines_bytes d.first_line d.width (chars d.name.now) (chars d.message.now) before range
     (chars (drop d.end d.source.now))
-    c.digit_count-digits.result c.position-line.result.line c.position-line.result.column
-    (c.position-line.result.line + c.line_feeds.result)
-    c.gap-gap.result.now (line_of c.start_line.result) (line_of c.end_line.result)
-    margin line c.position-line.ensures.column is_last gap c.start_line.ensures c.end_line.ensures
+    c.digit_count-digits.result (d.first_line + (c.position-line.result.line - 1)) c.position-line.result.column
+    (d.first_line + (c.position-line.result.line - 1) + c.line_feeds.result)
+    c.gap-gap.result.now (window_of c.fitted.result)
+    (window_of c.fitted-then-line-last.result)
+    margin line c.position-line.ensures.column is_last gap first second
     (omega (arith, is_last, line)))
     (has_written_append _ _ _ _ _ _ (has_written_append _ _ _ _ _ _
     (has_written_append _ _ _ _ _ _ one two) three) four)

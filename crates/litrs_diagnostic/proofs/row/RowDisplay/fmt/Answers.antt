@@ -1,7 +1,7 @@
 -- The two lines, one after the other.
 use Rattle.std.proofs.Common.{rules, ◌-◌, ℕ, ap, ◌∙◌}
 use Rattle.std.proofs.Output.{has_written_append, has_written_of_eq}
-use Rattle.litrs_diagnostic.specs.Rows.{line_of}
+use Rattle.litrs_diagnostic.specs.Rows.{window_of}
 use Rattle.litrs_diagnostic.proofs.Written.{line_bytes}
 use Rattle.litrs_diagnostic.proofs.row.RowDisplay.fmt.Goals as goal
 
@@ -12,5 +12,6 @@ returns-clause-writes g c = λ plain ok.
     let two = c.write-2.ensures.writes one.plain ok in
     let filling = c.saturating_sub.ensures ∙ ap (λ (n : ℕ). row.margin - n) c.digit_count.ensures in
     has_written_of_eq _ _ _ _ _ (line_bytes row.margin row.number c.saturating_sub.result
-    (line_of row.line) filling)
+    c.dots-start.result.now c.dots-end.result.now (window_of row.line) filling c.dots-start.ensures
+    c.dots-end.ensures)
     (has_written_append _ _ _ _ _ _ one two)

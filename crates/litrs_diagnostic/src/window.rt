@@ -1,0 +1,120 @@
+//! What is shown of a line that has more columns than a given width.
+ghost use Rattle.std.specs.Prelude.{◌≡◌, ◌<◌, ◌≤◌, ◌-◌, ◌++◌, ◌∷◌, [], IfSome, IfNone, length};
+ghost use Rattle.std.specs.Char.{encode_utf8};
+ghost use Rattle.std.specs.Str.{chars, IsUtf8};
+ghost use Rattle.litrs_diagnostic.specs.Shown.{shown, columns};
+ghost use Rattle.litrs_diagnostic.specs.Window.{prefix_within, suffix_within, is_shorter, fitted};
+ghost use Rattle.litrs_diagnostic.specs.Rows.{line_of, window_of};
+
+use crate::lines::Line;
+use crate::marks::shown_width;
+
+/// The part of a line that is shown, and at which of its ends the line goes on.
+#[derive(Clone, Copy)]
+pub(crate) struct Window<'a> {
+    pub(crate) before: &'a str,
+    pub(crate) marked: &'a str,
+    pub(crate) after: &'a str,
+    pub(crate) is_cut_before: bool,
+    pub(crate) is_cut_after: bool,
+}
+
+/// What is shown of a line in so many columns.
+pub(crate) fn fitted(line: Line<'_>, width: usize) -> Window<'_>
+    ensures { window_of result ≡ fitted width (line_of line.entry) }
+{
+    let (marked, rest) = prefix_within(line.marked, width);
+    if is_shorter(marked, line.marked) {
+        return Window {
+            before: "",
+            marked,
+            after: "",
+            is_cut_before: is_shorter("", line.before),
+            is_cut_after: true,
+        };
+    }
+    let (_, spare) = prefix_within(line.after, rest);
+    let room = spare.max(rest / 2);
+    let (before, left) = suffix_within(line.before, room);
+    let (after, _) = prefix_within(line.after, rest - (room - left));
+    Window {
+        before,
+        marked: line.marked,
+        after,
+        is_cut_before: is_shorter(before, line.before),
+        is_cut_after: is_shorter(after, line.after),
+    }
+}
+
+/// Whether the part of a text has fewer characters than the text.
+fn is_shorter(part: &str, text: &str) -> bool
+    ensures { result ≡ is_shorter (chars part.now) (chars text.now) }
+{
+    part.chars().count() < text.chars().count()
+}
+
+/// The longest prefix of the text that is shown in so many columns, and how many of them are left.
+fn prefix_within(text: &str, width: usize) -> (&str, usize)
+    ensures prefix { chars result.0.now ≡ prefix_within width (chars text.now) }
+    ensures left { result.1 ≡ width - columns (shown (chars result.0.now)) }
+    ensures fits { columns (shown (chars result.0.now)) ≤ width }
+{
+    let mut left = width;
+    let mut rest = text;
+    while let Some((c, more)) = split_first_char(rest) {
+        let columns = shown_width(c);
+        if columns > left {
+            break;
+        }
+        left -= columns;
+        rest = more;
+    }
+    let (prefix, _) = text.split_at(text.len() - rest.len());
+    (prefix, left)
+}
+
+/// The longest suffix of the text that is shown in so many columns, and how many of them are left.
+fn suffix_within(text: &str, width: usize) -> (&str, usize)
+    ensures suffix { chars result.0.now ≡ suffix_within width (chars text.now) }
+    ensures left { result.1 ≡ width - columns (shown (chars result.0.now)) }
+    ensures fits { columns (shown (chars result.0.now)) ≤ width }
+{
+    let mut left = width;
+    let mut rest = text;
+    while let Some((more, c)) = split_last_char(rest) {
+        let columns = shown_width(c);
+        if columns > left {
+            break;
+        }
+        left -= columns;
+        rest = more;
+    }
+    let (_, suffix) = text.split_at(rest.len());
+    (suffix, left)
+}
+
+/// The first character of the text and what follows it, or None where there is none.
+fn split_first_char(text: &str) -> Option<(char, &str)>
+    ensures empty { IfNone result (chars text.now ≡ []) }
+    ensures parts { IfSome result (λ parts. chars text.now ≡ parts.0 ∷ chars parts.1.now) }
+    ensures bytes { IfSome result (λ parts. text.now ≡ encode_utf8 parts.0 ++ parts.1.now) }
+    ensures rest { IfSome result (λ parts. IsUtf8 parts.1.now) }
+    ensures shorter { IfSome result (λ parts. length parts.1.now < length text.now) }
+{
+    let mut chars = text.chars();
+    let first = chars.next()?;
+    Some((first, chars.as_str()))
+}
+
+/// What is before the last character of the text, and that, or None where there is none.
+fn split_last_char(text: &str) -> Option<(&str, char)>
+    ensures empty { IfNone result (chars text.now ≡ []) }
+    ensures parts { IfSome result (λ parts. chars text.now ≡ chars parts.0.now ++ parts.1 ∷ []) }
+    ensures bytes { IfSome result (λ parts. text.now ≡ parts.0.now ++ encode_utf8 parts.1) }
+    ensures rest { IfSome result (λ parts. IsUtf8 parts.0.now) }
+    ensures shorter { IfSome result (λ parts. length parts.0.now < length text.now) }
+{
+    let mut chars = text.chars();
+    let last = chars.next_back()?;
+    Some((chars.as_str(), last))
+}
