@@ -10,9 +10,9 @@ none is named. A wrong body is a file `crates/CRATE/wrong/NAME.edit` of lines `f
 once in its file, the script names every such edit and stops.
 
 As many as fit, one a function, are put into a copy of their crate, and the crate is checked once
-for all of them. One that this check does not report is checked alone. It counts as refused only
-where a goal of its own function is open: a proof that merely names what the edit took away shows
-nothing of the contract.
+for all of them. One that this check does not report is checked with those of the next round, and
+then alone. It counts as refused only where a goal of its own function is open: a proof that merely
+names what the edit took away shows nothing of the contract.
 
 The edits in `.ci/harmless/`, named by crate, do not change what their function does, so they must
 not be refused. They are tried in the same way, are counted apart, and show that this script can
@@ -129,15 +129,18 @@ class WrongBody:
 
     def clashes(self, other):
         """Whether both touch a function, or change a line."""
+        owners = ((a, b) for a in self.owners for b in other.owners)
+        changes = ((a, b) for a in self.changes for b in other.changes)
         return any(
             a == b or a.endswith("::") and b.startswith(a) or b.endswith("::") and a.startswith(b)
-            for a in self.owners
-            for b in other.owners
-        ) or any(
-            file == its_file and max(start, its_start) < min(max(end, start + 1), max(its_end, its_start + 1))
-            for file, start, end, _ in self.changes
-            for its_file, its_start, its_end, _ in other.changes
-        )
+            for a, b in owners
+        ) or any(a[0] == b[0] and overlap(*a[1:3], *b[1:3]) for a, b in changes)
+
+
+def overlap(start, end, other_start, other_end):
+    """Whether two ranges have a line in common. An empty one has that before which it adds."""
+    least_end = min(max(end, start + 1), max(other_end, other_start + 1))
+    return max(start, other_start) < least_end
 
 
 def same(old, new):
@@ -149,11 +152,13 @@ def changes_of(originals, texts):
     """The lines that differ in more than blanks, file by file."""
     changes = []
     for file, text in texts.items():
+        if text == originals[file]:
+            continue
         old, new = (it.splitlines(keepends=True) for it in (originals[file], text))
-        for _, *at in difflib.SequenceMatcher(None, old, new, autojunk=False).get_opcodes():
-            before, after = old[at[0] : at[1]], new[at[2] : at[3]]
-            if not same("".join(before), "".join(after)):
-                changes.append((file, at[0], at[1], after))
+        matcher = difflib.SequenceMatcher(None, old, new, autojunk=False)
+        for _, start, end, new_start, new_end in matcher.get_opcodes():
+            if not same("".join(old[start:end]), "".join(new[new_start:new_end])):
+                changes.append((file, start, end, new[new_start:new_end]))
     return changes
 
 

@@ -1,4 +1,5 @@
 //! `run` and its devices, and the collector.
 mod collector;
 mod devices;
+mod inputs;
 mod runs;

@@ -1,8 +1,7 @@
 //! Literals and refusals as the table writes them.
-use litrs::{FloatLit, IntegerLit, Literal, ParseError, Text};
+use litrs::{CStringLit, FloatLit, IntegerLit, Literal, ParseError, StringLit, Text};
 use std::alloc::{AllocError, Global};
-use std::fmt::Display;
-use std::ops::Range;
+use std::fmt::Write;
 
 /// The kind of a literal.
 pub fn kind_of<B: Text>(lit: &Literal<B>) -> &'static str {
@@ -21,11 +20,19 @@ pub fn kind_of<B: Text>(lit: &Literal<B>) -> &'static str {
 /// The value of a string of one of the three kinds, and whether it is raw.
 pub fn value_of<B: Text>(lit: &Literal<B>) -> Option<(bool, &[u8])> {
     match lit {
-        Literal::String(lit) => Some((lit.is_raw_string(), lit.value().as_bytes())),
+        Literal::String(lit) => Some(string_value(lit)),
         Literal::ByteString(lit) => Some((lit.is_raw_byte_string(), lit.value())),
-        Literal::CString(lit) => Some((lit.is_raw_c_string(), lit.value().to_bytes())),
+        Literal::CString(lit) => Some(c_string_value(lit)),
         _ => None,
     }
+}
+
+fn string_value<B: Text>(lit: &StringLit<B>) -> (bool, &[u8]) {
+    (lit.is_raw_string(), lit.value().as_bytes())
+}
+
+fn c_string_value<B: Text>(lit: &CStringLit<B>) -> (bool, &[u8]) {
+    (lit.is_raw_c_string(), lit.value().to_bytes())
 }
 
 /// Whether a literal is a quoted string of one of the three kinds with a backslash.
@@ -36,89 +43,62 @@ pub fn is_escaped<B: Text>(lit: &Literal<B>) -> bool {
     }
 }
 
-/// Adds the fields of a literal, by its accessors.
-pub fn push_fields<B: Text>(
-    alloc: Global,
-    fields: &mut Vec<u8>,
-    lit: &Literal<B>,
-) -> Result<(), AllocError> {
-    push_field(fields, kind_of(lit))?;
-    push_field(fields, lit.suffix())?;
-    push_parts(alloc, fields, lit)
+/// Writes the fields of a literal, by its accessors, but the value of a string.
+pub fn write_fields<B: Text>(fields: &mut String, lit: &Literal<B>) -> Result<(), AllocError> {
+    write!(fields, "{}\t{}\t", kind_of(lit), lit.suffix())?;
+    write_parts(fields, lit)
 }
 
-/// Adds a text and a tab.
-fn push_field(fields: &mut Vec<u8>, text: &str) -> Result<(), AllocError> {
-    fields.extend_from_slice(text.as_bytes())?;
-    fields.extend_from_slice(b"\t")
-}
-
-/// Adds what is printed of a value.
-fn push_printed<D: Display>(
-    alloc: Global,
-    fields: &mut Vec<u8>,
-    value: &D,
-) -> Result<(), AllocError> {
-    let printed = value.to_string(alloc)?;
-    fields.extend_from_slice(printed.as_bytes())
-}
-
-/// Adds a number in hex.
-fn push_hex(alloc: Global, fields: &mut Vec<u8>, value: u32) -> Result<(), AllocError> {
-    let printed = format!(in alloc; "{value:x}")?;
-    fields.extend_from_slice(printed.as_bytes())
-}
-
-/// Adds the fields of a kind.
-fn push_parts<B: Text>(
-    alloc: Global,
-    fields: &mut Vec<u8>,
-    lit: &Literal<B>,
-) -> Result<(), AllocError> {
+/// Writes the fields of a kind.
+fn write_parts<B: Text>(fields: &mut String, lit: &Literal<B>) -> Result<(), AllocError> {
     match lit {
-        Literal::Bool(lit) => push_printed(alloc, fields, &lit.value()),
-        Literal::Integer(lit) => push_integer(alloc, fields, lit),
-        Literal::Float(lit) => push_float(fields, lit),
-        Literal::Char(lit) => push_hex(alloc, fields, u32::from(lit.value())),
-        Literal::Byte(lit) => push_hex(alloc, fields, u32::from(lit.value())),
+        Literal::Bool(lit) => write!(fields, "{}", lit.value()),
+        Literal::Integer(lit) => write_integer(fields, lit),
+        Literal::Float(lit) => write_float(fields, lit),
+        Literal::Char(lit) => write!(fields, "{:x}", u32::from(lit.value())),
+        Literal::Byte(lit) => write!(fields, "{:x}", u32::from(lit.value())),
         Literal::String(_) | Literal::ByteString(_) | Literal::CString(_) => {
-            push_string(fields, lit)
+            write!(fields, "{}\t", body_of(lit))
         }
     }
 }
 
-fn push_integer<B: Text>(
-    alloc: Global,
-    fields: &mut Vec<u8>,
-    lit: &IntegerLit<B>,
-) -> Result<(), AllocError> {
-    push_printed(alloc, fields, &lit.base().value())?;
-    push_field(fields, "")?;
-    push_field(fields, lit.raw_main_part())?;
-    match lit.value::<u128>() {
-        Some(value) => push_printed(alloc, fields, &value),
-        None => fields.extend_from_slice(b"none"),
+fn write_integer<B: Text>(fields: &mut String, lit: &IntegerLit<B>) -> Result<(), AllocError> {
+    let (base, digits) = (lit.base().value(), lit.raw_main_part());
+    match number_of(lit) {
+        Some(value) => write!(fields, "{base}\t{digits}\t{value}"),
+        None => write!(fields, "{base}\t{digits}\tnone"),
     }
 }
 
-fn push_float<B: Text>(fields: &mut Vec<u8>, lit: &FloatLit<B>) -> Result<(), AllocError> {
-    push_field(fields, lit.number_part())?;
-    push_field(fields, lit.integer_part())?;
-    push_field(fields, lit.fractional_part().unwrap_or("-"))?;
-    fields.extend_from_slice(lit.exponent_part().as_bytes())
+/// The value, if it has 128 bits at most.
+pub fn number_of<B: Text>(lit: &IntegerLit<B>) -> Option<u128> {
+    lit.value()
 }
 
-fn push_string<B: Text>(fields: &mut Vec<u8>, lit: &Literal<B>) -> Result<(), AllocError> {
-    let Some((is_raw, value)) = value_of(lit) else {
-        return Ok(());
+fn write_float<B: Text>(fields: &mut String, lit: &FloatLit<B>) -> Result<(), AllocError> {
+    let (number, integer) = (lit.number_part(), lit.integer_part());
+    let fraction = lit.fractional_part().unwrap_or("-");
+    let exponent = lit.exponent_part();
+    write!(fields, "{number}\t{integer}\t{fraction}\t{exponent}")
+}
+
+/// How the body of a string of one of the three kinds is written.
+fn body_of<B: Text>(lit: &Literal<B>) -> &'static str {
+    match value_of(lit) {
+        Some((true, _)) => "raw",
+        _ if is_escaped(lit) => "escaped",
+        _ => "plain",
+    }
+}
+
+/// Whether these are the fields of a literal, of which all but the value of a string are given.
+pub fn are_fields<B: Text>(answer: &[u8], fields: &str, lit: &Literal<B>) -> bool {
+    let value = match value_of(lit) {
+        Some((_, value)) => value,
+        None => b"",
     };
-    let body = match (is_raw, is_escaped(lit)) {
-        (true, _) => "raw",
-        (false, true) => "escaped",
-        (false, false) => "plain",
-    };
-    push_field(fields, body)?;
-    fields.extend_from_slice(value)
+    answer.strip_prefix(fields.as_bytes()) == Some(value)
 }
 
 /// The name of the kind of a refusal.
@@ -127,29 +107,15 @@ pub fn kind_name(alloc: Global, error: &ParseError) -> Result<String, AllocError
     format!(in alloc; "{kind:?}")
 }
 
-/// Adds the fields of a refusal of a kind of this name, without what is printed of it.
-pub fn push_refusal(
-    alloc: Global,
-    fields: &mut Vec<u8>,
+/// Writes the fields of a refusal of a kind of this name, without what is printed of it.
+pub fn write_refusal(
+    fields: &mut String,
     kind: &str,
     error: &ParseError,
 ) -> Result<(), AllocError> {
-    push_field(fields, "refused")?;
-    push_field(fields, kind)?;
-    push_span(alloc, fields, error.span())?;
-    push_field(fields, "")?;
-    push_span(alloc, fields, error.char_span())
-}
-
-fn push_span(
-    alloc: Global,
-    fields: &mut Vec<u8>,
-    span: Option<Range<usize>>,
-) -> Result<(), AllocError> {
-    let Some(span) = span else {
-        return fields.extend_from_slice(b"-");
-    };
-    push_printed(alloc, fields, &span.start)?;
-    fields.extend_from_slice(b"..")?;
-    push_printed(alloc, fields, &span.end)
+    match (error.span(), error.char_span()) {
+        (Some(span), Some(chars)) => write!(fields, "refused\t{kind}\t{span:?}\t{chars:?}"),
+        (None, None) => write!(fields, "refused\t{kind}\t-\t-"),
+        _ => write!(fields, "refused\t{kind}\tby one span"),
+    }
 }

@@ -1,7 +1,8 @@
 //! The literals that are built from the value of another one.
-use crate::answers::{kind_of, value_of};
+use crate::answers::{kind_of, number_of, value_of};
+use crate::parses::any;
 use crate::trial::{Trial, again};
-use litrs::{Literal, Text};
+use litrs::{FloatLit, IntegerLit, Literal, Text};
 use litrs_build::BuildError;
 use std::alloc::Global;
 
@@ -47,65 +48,71 @@ fn raw_call_of(lit: &Literal<&str>) -> &'static str {
 /// Builds the literal, and tries it. Whether memory was refused.
 fn is_build_refused(trial: &mut Trial, lit: &Literal<&str>) -> bool {
     let built = built(trial.alloc, lit);
-    is_refused(trial, lit, built)
+    is_refused(trial, lit, &built)
 }
 
 /// Builds the raw string, and tries it. Whether memory was refused.
 fn is_raw_refused(trial: &mut Trial, lit: &Literal<&str>) -> bool {
     let built = raw_built(trial.alloc, lit);
-    is_refused(trial, lit, built)
+    is_refused(trial, lit, &built)
 }
 
 /// The literal of the value and the suffix, of a bool a copy.
 fn built(alloc: Global, lit: &Literal<&str>) -> Result<Literal<String>, BuildError> {
+    match lit {
+        Literal::Bool(lit) => Ok(Literal::Bool(*lit)),
+        Literal::Integer(lit) => built_integer(alloc, lit),
+        Literal::Float(lit) => built_float(alloc, lit),
+        Literal::Char(lit) => any(litrs_build::char(alloc, lit.value(), lit.suffix())),
+        Literal::Byte(lit) => any(litrs_build::byte(alloc, lit.value(), lit.suffix())),
+        _ => built_string(alloc, lit),
+    }
+}
+
+/// The integer of the value, the base and the suffix.
+fn built_integer(alloc: Global, lit: &IntegerLit<&str>) -> Result<Literal<String>, BuildError> {
+    match number_of(lit) {
+        Some(value) => any(litrs_build::grouped_integer(alloc, value, lit.base(), 3, lit.suffix())),
+        None => Ok(Literal::Integer(litrs_build::regroup(alloc, lit, 3)?)),
+    }
+}
+
+/// The float of the parts and the suffix.
+fn built_float(alloc: Global, lit: &FloatLit<&str>) -> Result<Literal<String>, BuildError> {
+    let (integer, fraction) = (lit.integer_part(), lit.fractional_part());
+    any(litrs_build::float(alloc, integer, fraction, lit.exponent_part(), lit.suffix()))
+}
+
+/// The string of one of the three kinds of the value and the suffix.
+fn built_string(alloc: Global, lit: &Literal<&str>) -> Result<Literal<String>, BuildError> {
     let suffix = lit.suffix();
-    Ok(match lit {
-        Literal::Bool(lit) => Literal::Bool(*lit),
-        Literal::Integer(lit) => match lit.value::<u128>() {
-            Some(value) => {
-                let built = litrs_build::grouped_integer(alloc, value, lit.base(), 3, suffix)?;
-                Literal::Integer(built)
-            }
-            None => Literal::Integer(litrs_build::regroup(alloc, lit, 3)?),
-        },
-        Literal::Float(lit) => {
-            let fraction = lit.fractional_part();
-            let (integer, exponent) = (lit.integer_part(), lit.exponent_part());
-            Literal::Float(litrs_build::float(alloc, integer, fraction, exponent, suffix)?)
+    match (lit, value_of(lit)) {
+        (Literal::String(lit), _) => any(litrs_build::string(alloc, lit.value(), suffix)),
+        (Literal::ByteString(_), Some((_, value))) => {
+            any(litrs_build::byte_string(alloc, value, suffix))
         }
-        Literal::Char(lit) => Literal::Char(litrs_build::char(alloc, lit.value(), suffix)?),
-        Literal::Byte(lit) => Literal::Byte(litrs_build::byte(alloc, lit.value(), suffix)?),
-        Literal::String(lit) => Literal::String(litrs_build::string(alloc, lit.value(), suffix)?),
-        Literal::ByteString(lit) => {
-            Literal::ByteString(litrs_build::byte_string(alloc, lit.value(), suffix)?)
-        }
-        Literal::CString(lit) => {
-            Literal::CString(litrs_build::c_string(alloc, lit.value().to_bytes(), suffix)?)
-        }
-    })
+        (_, Some((_, value))) => any(litrs_build::c_string(alloc, value, suffix)),
+        (_, None) => any(litrs_build::string(alloc, "", suffix)),
+    }
 }
 
 /// The raw literal of the value and the suffix of a raw string.
 fn raw_built(alloc: Global, lit: &Literal<&str>) -> Result<Literal<String>, BuildError> {
     let suffix = lit.suffix();
-    Ok(match lit {
-        Literal::ByteString(lit) => {
-            Literal::ByteString(litrs_build::raw_byte_string(alloc, lit.value(), suffix)?)
-        }
-        Literal::String(lit) => {
-            Literal::String(litrs_build::raw_string(alloc, lit.value(), suffix)?)
-        }
-        _ => built(alloc, lit)?,
-    })
+    match lit {
+        Literal::ByteString(lit) => any(litrs_build::raw_byte_string(alloc, lit.value(), suffix)),
+        Literal::String(lit) => any(litrs_build::raw_string(alloc, lit.value(), suffix)),
+        _ => built(alloc, lit),
+    }
 }
 
 /// Tries that a literal was built that is as this one. Whether memory was refused.
 fn is_refused(
     trial: &mut Trial,
     lit: &Literal<&str>,
-    built: Result<Literal<String>, BuildError>,
+    built: &Result<Literal<String>, BuildError>,
 ) -> bool {
-    match &built {
+    match built {
         Ok(found) => {
             trial.check(is_alike(lit, found), "is built as another literal");
             false
@@ -128,7 +135,7 @@ fn has_same_value<A: Text, B: Text>(a: &Literal<A>, b: &Literal<B>) -> bool {
     match (a, b) {
         (Literal::Bool(a), Literal::Bool(b)) => a.value() == b.value(),
         (Literal::Integer(a), Literal::Integer(b)) => {
-            a.base() == b.base() && a.value::<u128>() == b.value::<u128>()
+            a.base() == b.base() && number_of(a) == number_of(b)
         }
         (Literal::Float(a), Literal::Float(b)) => a.number_part() == b.number_part(),
         (Literal::Char(a), Literal::Char(b)) => a.value() == b.value(),

@@ -30,18 +30,28 @@ pub fn try_literal(trial: &mut Trial, lit: &Literal<&str>) {
         Literal::Bool(_) => {}
         _ => try_compile_error(trial, text),
     }
+    try_strings(trial, lit);
+}
+
+/// Tries the calls on the value of a string, and what unescapes it.
+fn try_strings(trial: &mut Trial, lit: &Literal<&str>) {
     match lit {
         Literal::String(lit) => try_string(trial, lit.value()),
         Literal::CString(lit) => try_c_string(trial, lit.value()),
         _ => {}
     }
     if let Some((false, _)) = value_of(lit) {
-        try_unescaped(trial, lit);
-        trial.at = ("EscapeContainer", "String");
-        try_container::<String>(trial, text);
-        trial.at = ("EscapeContainer", "Vec<u8>");
-        try_container::<Vec<u8>>(trial, text);
+        try_containers(trial, lit);
     }
+}
+
+/// Tries what unescapes the body of a quoted string, and the containers of a text.
+fn try_containers(trial: &mut Trial, lit: &Literal<&str>) {
+    try_unescaped(trial, lit);
+    trial.at = ("EscapeContainer", "String");
+    try_container::<String>(trial, lit.raw_input());
+    trial.at = ("EscapeContainer", "Vec<u8>");
+    try_container::<Vec<u8>>(trial, lit.raw_input());
 }
 
 /// Tries what unescapes the body of a quoted string.

@@ -1,6 +1,6 @@
 //! Literals over both buffers, by each accessor, and their copies.
-use crate::answers::{is_escaped, push_fields, value_of};
-use crate::parses::{Parse, buffer_name, each_kind, parsed};
+use crate::answers::{are_fields, is_escaped, value_of, write_fields};
+use crate::parses::{Parse, any, buffer_name, each_kind, parsed};
 use crate::prefixes::Whole;
 use crate::rows::Row;
 use crate::trial::{Trial, again};
@@ -9,14 +9,16 @@ use litrs::{
     Buffer, ByteStringLit, CString, FromIntegerLiteral, IntegerLit, Literal, ParseError, StringLit,
     Text,
 };
-use std::alloc::AllocError;
+use std::alloc::{AllocError, Global};
 use std::borrow::{CowSlice, CowStr};
 
 /// Tries a literal by the parses of its row, and its prefixes.
 pub fn try_literal(trial: &mut Trial, row: &Row) {
     let text = row.text.as_str();
     for parse in &row.parses {
-        if try_over(trial, *parse, &text, row) && try_over(trial, *parse, &row.text, row) {
+        try_over(trial, *parse, &text, row);
+        try_over(trial, *parse, &row.text, row);
+        if trial.holds() {
             try_borrowed(trial, *parse, row);
             tokens::try_tokens(trial, *parse, row);
         }
@@ -40,32 +42,16 @@ fn try_whole(trial: &mut Trial, lit: &Literal<&str>, text: &str) {
     prefixes::try_prefixes(trial, text, &Whole { is_literal, value });
 }
 
-/// Tries the literal that a parse makes of a text. Whether it makes one.
-fn try_over<B: Buffer>(trial: &mut Trial, parse: Parse, text: &B, row: &Row) -> bool {
+/// Tries the literal that a parse makes of a text.
+fn try_over<B: Buffer>(trial: &mut Trial, parse: Parse, text: &B, row: &Row) {
     trial.at = (parse.name(), buffer_name::<B>());
-    let answer = parsed(trial, parse, text);
-    try_answer(trial, parse, &answer, text, row)
-}
-
-/// Tries what a parse answers on the text of a literal. Whether that is one.
-fn try_answer<B: Buffer>(
-    trial: &mut Trial,
-    parse: Parse,
-    answer: &Result<Literal<B>, ParseError>,
-    text: &B,
-    row: &Row,
-) -> bool {
-    match answer {
+    match &parsed(trial, parse, text) {
         Ok(lit) => {
             try_parts(trial, lit, row);
             try_copy(trial, parse, lit, text, row);
             try_value(trial, parse, lit, text);
-            true
         }
-        Err(_) => {
-            trial.check(false, "is refused");
-            false
-        }
+        Err(_) => trial.check(false, "is refused"),
     }
 }
 
@@ -82,10 +68,11 @@ fn try_parts<B: Text>(trial: &mut Trial, lit: &Literal<B>, row: &Row) {
 
 /// Tries that a literal has these fields.
 fn try_fields<B: Text>(trial: &mut Trial, lit: &Literal<B>, answer: &[u8]) {
-    let mut fields = Vec::new(trial.alloc);
-    let pushed = push_fields(trial.alloc, &mut fields, lit);
-    trial.own(pushed);
-    trial.check(fields.as_slice() == answer, "has other parts");
+    let mut fields = String::new(trial.alloc);
+    let written = write_fields(&mut fields, lit);
+    trial.own(written);
+    let holds = are_fields(answer, fields.as_str(), lit);
+    trial.check(holds, "has other parts");
 }
 
 /// Tries that a literal is printed as its text.
@@ -202,8 +189,8 @@ fn try_clone<B: Text>(trial: &mut Trial, lit: &Literal<B>, copy: Literal<B>, row
 
 /// Whether a parse makes a literal of the text that is equal to this one.
 fn is_parsed<B: Text>(trial: &mut Trial, parse: Parse, text: &B, lit: &Literal<B>) -> bool {
-    match parsed(trial, parse, text) {
-        Ok(again) => again == *lit,
+    match &parsed(trial, parse, text) {
+        Ok(again) => *again == *lit,
         Err(_) => false,
     }
 }
@@ -252,40 +239,37 @@ fn is_own_refused(trial: &mut Trial, parse: Parse, row: &Row) -> bool {
 
 /// The same of a literal, by the call of the type whose parse this is.
 fn is_literal_refused(trial: &mut Trial, parse: Parse, lit: Literal<&str>, row: &Row) -> bool {
-    if matches!(parse, Parse::Literal) {
-        return is_owned_refused(trial, parse, lit.into_owned(trial.alloc), row);
-    }
-    is_kind_refused(trial, parse, lit, row)
-}
-
-/// The same of a literal of each kind.
-fn is_kind_refused(trial: &mut Trial, parse: Parse, lit: Literal<&str>, row: &Row) -> bool {
-    let alloc = trial.alloc;
-    match lit {
-        Literal::Bool(_) => false,
-        Literal::Integer(lit) => is_owned_refused(trial, parse, lit.to_owned(alloc), row),
-        Literal::Float(lit) => is_owned_refused(trial, parse, lit.to_owned(alloc), row),
-        Literal::Char(lit) => is_owned_refused(trial, parse, lit.to_owned(alloc), row),
-        Literal::String(lit) => is_owned_refused(trial, parse, lit.into_owned(alloc), row),
-        Literal::Byte(lit) => is_owned_refused(trial, parse, lit.to_owned(alloc), row),
-        Literal::ByteString(lit) => is_owned_refused(trial, parse, lit.into_owned(alloc), row),
-        Literal::CString(lit) => is_owned_refused(trial, parse, lit.into_owned(alloc), row),
-    }
-}
-
-/// Tries a literal that was made to own its text. Whether memory was refused.
-fn is_owned_refused<L: Into<Literal<String>>>(
-    trial: &mut Trial,
-    parse: Parse,
-    owned: Result<L, AllocError>,
-    row: &Row,
-) -> bool {
-    match owned {
+    let owned = match parse {
+        Parse::Literal => lit.into_owned(trial.alloc),
+        _ => kind_into_owned(trial.alloc, lit),
+    };
+    match &owned {
         Ok(owned) => {
-            try_owned(trial, parse, &owned.into(), row);
+            try_owned(trial, parse, owned, row);
             false
         }
         Err(_) => true,
+    }
+}
+
+/// The literal that owns its text, by the call of its kind.
+fn kind_into_owned(alloc: Global, lit: Literal<&str>) -> Result<Literal<String>, AllocError> {
+    match lit {
+        Literal::Integer(lit) => any(lit.to_owned(alloc)),
+        Literal::Float(lit) => any(lit.to_owned(alloc)),
+        Literal::Char(lit) => any(lit.to_owned(alloc)),
+        Literal::Byte(lit) => any(lit.to_owned(alloc)),
+        lit => string_into_owned(alloc, lit),
+    }
+}
+
+/// The same of a string of one of the three kinds. A bool has no text.
+fn string_into_owned(alloc: Global, lit: Literal<&str>) -> Result<Literal<String>, AllocError> {
+    match lit {
+        Literal::String(lit) => any(lit.into_owned(alloc)),
+        Literal::ByteString(lit) => any(lit.into_owned(alloc)),
+        Literal::CString(lit) => any(lit.into_owned(alloc)),
+        lit => lit.into_owned(alloc),
     }
 }
 

@@ -41,22 +41,37 @@ fn main(rt: HostRuntime) -> ExitCode {
 
 /// Tries each row, and prints what there is to say. Whether all rows hold.
 fn try_table(rt: &HostRuntime) -> io::Result<bool> {
-    let alloc = rt.alloc();
-    let mut output = BufWriter::new(alloc, io::writer(rt))?;
-    let mut trial = Trial::new(alloc);
-    for line in BufReader::new(alloc, rt.reader())?.lines(alloc) {
-        try_line(&mut trial, line?.as_str())?;
-        output.write_all(trial.report.as_bytes())?;
-        trial.report.clear();
+    let mut trial = Trial::new(rt.alloc());
+    let mut output = BufWriter::new(rt.alloc(), io::writer(rt))?;
+    try_lines(rt, &mut trial, &mut output)?;
+    write_held(&mut output, trial.held, trial.rows)?;
+    Ok(trial.held == trial.rows)
+}
+
+/// Tries the row of each line.
+fn try_lines<W: Write>(rt: &HostRuntime, trial: &mut Trial, output: &mut W) -> io::Result<()> {
+    for line in BufReader::new(rt.alloc(), rt.reader())?.lines(rt.alloc()) {
+        print_tried(trial, line?.as_str(), output)?;
     }
-    let (held, rows) = (trial.held, trial.rows);
+    Ok(())
+}
+
+/// Tries the row of a line, and prints what there is to say of it.
+fn print_tried<W: Write>(trial: &mut Trial, line: &str, output: &mut W) -> io::Result<()> {
+    try_line(trial, line)?;
+    output.write_all(trial.report.as_bytes())?;
+    trial.report.clear();
+    Ok(())
+}
+
+/// Prints how many rows hold.
+fn write_held<W: Write>(output: &mut W, held: u64, rows: u64) -> io::Result<()> {
     if held == rows {
         writeln!(output, "{rows} rows hold")?;
     } else {
         writeln!(output, "{held} of {rows} rows hold")?;
     }
-    output.flush()?;
-    Ok(held == rows)
+    output.flush()
 }
 
 /// Tries the row of a line, if it is one.
@@ -75,15 +90,19 @@ fn try_line(trial: &mut Trial, line: &str) -> Result<(), AllocError> {
 }
 
 fn try_row(trial: &mut Trial, line: &str) -> Result<(), RowError> {
-    let row = Row::read(trial.alloc, line)?;
-    if line.starts_with("parse_prefix\t") {
-        fronts::try_front(trial, &row);
-    } else if row.parses.is_empty() {
-        prefixes::try_goes_on(trial, &row);
-    } else if row.answer.starts_with("refused\t".as_bytes()) {
-        refusals::try_refusal(trial, &row);
-    } else {
-        literals::try_literal(trial, &row);
-    }
+    try_by_kind(trial, &Row::read(trial.alloc, line)?, line);
     Ok(())
+}
+
+/// Tries what the row of this line speaks of.
+fn try_by_kind(trial: &mut Trial, row: &Row, line: &str) {
+    if line.starts_with("parse_prefix\t") {
+        fronts::try_front(trial, row);
+    } else if row.parses.is_empty() {
+        prefixes::try_goes_on(trial, row);
+    } else if row.answer.starts_with("refused\t".as_bytes()) {
+        refusals::try_refusal(trial, row);
+    } else {
+        literals::try_literal(trial, row);
+    }
 }

@@ -92,12 +92,28 @@ fn try_error(
     whole: &Whole,
     longer: &mut String,
 ) {
+    try_place(trial, parse, text, error);
+    if text.len() <= LONGEST {
+        try_longer_texts(trial, parse, text, error, whole, longer);
+    }
+}
+
+/// Tries how a parse refuses a prefix.
+fn try_place(trial: &mut Trial, parse: Parse, text: &str, error: &ParseError) {
     let holds = is_refused_at(error, other_start(parse, text));
     trial.check(holds, "does not refuse the start");
     trial.check(has_place(text, error), "is refused outside of the text");
-    if text.len() > LONGEST {
-        return;
-    }
+}
+
+/// Tries what a refusal of a prefix says of longer texts.
+fn try_longer_texts(
+    trial: &mut Trial,
+    parse: Parse,
+    text: &str,
+    error: &ParseError,
+    whole: &Whole,
+    longer: &mut String,
+) {
     if error.is_final() {
         try_appended(trial, parse, text, longer);
     }
@@ -237,8 +253,7 @@ struct Body<'a> {
 
 /// Tries that the parse takes a closed text, a string of this body and no suffix.
 fn try_longer(trial: &mut Trial, parse: Parse, longer: &str, body: &Body, whole: &Whole) {
-    let answer = parsed(trial, parse, &longer);
-    let holds = is_closed(&answer, longer, body, whole);
+    let holds = is_closed(&parsed(trial, parse, &longer), longer, body, whole);
     trial.check(holds, "does not take the closed text");
 }
 
@@ -289,15 +304,23 @@ pub fn try_goes_on(trial: &mut Trial, row: &Row) {
     trial.at = ("goes_on", "&str");
     let text = row.text.as_str();
     let answer = str::from_utf8(row.answer.as_slice()).unwrap_or("");
-    trial.check(goes_on(text) == (answer == "yes"), "says otherwise");
+    trial.check(begins_literal(text) == (answer == "yes"), "says otherwise");
     match answer.parse::<usize>() {
-        Ok(end) => {
-            for (place, _) in text.char_indices() {
-                let holds = goes_on(&text[..place]) == (place < end);
-                trial.check(holds, "says otherwise of a prefix");
-            }
-        }
+        Ok(end) => try_prefixes_to(trial, text, end),
         Err(_) => trial.check(matches!(answer, "yes" | "no"), "has no such answer"),
     }
     try_prefixes(trial, text, &NO_LITERAL);
+}
+
+/// Tries that the prefixes that begin a literal are those below a length.
+fn try_prefixes_to(trial: &mut Trial, text: &str, end: usize) {
+    for (place, _) in text.char_indices() {
+        let holds = begins_literal(&text[..place]) == (place < end);
+        trial.check(holds, "says otherwise of a prefix");
+    }
+}
+
+/// The call, of which the loops need to know nothing.
+fn begins_literal(text: &str) -> bool {
+    goes_on(text)
 }

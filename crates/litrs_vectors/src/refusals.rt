@@ -1,5 +1,5 @@
 //! Refused texts over both buffers.
-use crate::answers::{kind_name, push_refusal};
+use crate::answers::{kind_name, write_refusal};
 use crate::parses::{Parse, buffer_name, parsed};
 use crate::prefixes::NO_LITERAL;
 use crate::rows::Row;
@@ -92,10 +92,10 @@ fn try_kind(trial: &mut Trial, error: &ParseError, kind: &str) {
 
 /// Tries that the row has the fields of an error, and then either none or what is printed of it.
 fn try_fields(trial: &mut Trial, error: &ParseError, kind: &str, answer: &[u8]) {
-    let mut fields = Vec::new(trial.alloc);
-    let pushed = push_refusal(trial.alloc, &mut fields, kind, error);
-    trial.own(pushed);
-    match answer.strip_prefix(fields.as_slice()) {
+    let mut fields = String::new(trial.alloc);
+    let written = write_refusal(&mut fields, kind, error);
+    trial.own(written);
+    match answer.strip_prefix(fields.as_bytes()) {
         Some(rest) => try_printed(trial, error, rest),
         None => trial.check(false, "is refused otherwise"),
     }

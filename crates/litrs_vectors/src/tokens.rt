@@ -314,10 +314,21 @@ fn try_bool(trial: &mut Trial, ident: Ident, lit: BoolLit) {
 
 /// Tries that a bool is read from the tree of an identifier.
 fn try_tree(trial: &mut Trial, tree: TokenTree, lit: BoolLit) {
-    let expected = Literal::Bool(lit);
-    trial.check(BoolLit::try_from(&tree) == Ok(lit), "is not read as a bool");
-    try_not_refused(trial, Literal::from_tree_ref(trial.alloc, &tree), &expected);
-    try_not_refused(trial, Literal::from_tree(trial.alloc, tree), &expected);
+    trial.check(is_bool(&tree, lit), "is not read as a bool");
+    try_kept_tree(trial, &tree, &Literal::Bool(lit));
+    let read = Literal::from_tree(trial.alloc, tree);
+    try_not_refused(trial, read, &Literal::Bool(lit));
+}
+
+/// Whether the tree is read as this bool.
+fn is_bool(tree: &TokenTree, lit: BoolLit) -> bool {
+    BoolLit::try_from(tree) == Ok(lit)
+}
+
+/// Tries that the literal is read from a tree that is kept.
+fn try_kept_tree(trial: &mut Trial, tree: &TokenTree, lit: &Literal<String>) {
+    let read = Literal::from_tree_ref(trial.alloc, tree);
+    try_not_refused(trial, read, lit);
 }
 
 /// Tries what was read, where no memory is needed.

@@ -95,6 +95,11 @@ impl Trial {
         }
     }
 
+    /// Whether all that was tried of the row holds.
+    pub fn holds(&self) -> bool {
+        self.fault.is_none()
+    }
+
     /// Notes what does not hold, if it is the first of the row.
     pub fn check(&mut self, holds: bool, what: &'static str) {
         if !holds && self.fault.is_none() {
@@ -126,29 +131,20 @@ impl Trial {
 
 /// Adds the line on what does not hold of a text.
 fn push_fault(report: &mut String, line: u64, text: &str, fault: Fault) -> Result<(), AllocError> {
-    write!(report, "line {line}: {text}: ")?;
-    push_place(report, fault.at)?;
-    report.push_str(": ")?;
-    report.push_str(fault.what)?;
-    if let Some(len) = fault.prefix {
-        write!(report, ", in {len} bytes")?;
+    let (kind, buffer) = fault.at;
+    let what = fault.what;
+    write!(report, "line {line}: {text}: {kind} over {buffer}: {what}")?;
+    match fault.prefix {
+        Some(len) => writeln!(report, ", in {len} bytes"),
+        None => report.push_str("\n"),
     }
-    report.push_str("\n")
 }
 
 /// Adds the line on a call that was refused memory.
 fn push_refused(report: &mut String, line: u64, at: Place, call: &str) -> Result<(), AllocError> {
-    report.push_str("refused ")?;
-    report.push_str(at.0)?;
-    report.push_str("::")?;
-    report.push_str(call)?;
-    report.push_str(" over ")?;
-    report.push_str(at.1)?;
-    writeln!(report, " at line {line}")
-}
-
-fn push_place(report: &mut String, at: Place) -> Result<(), AllocError> {
-    report.push_str(at.0)?;
-    report.push_str(" over ")?;
-    report.push_str(at.1)
+    let (kind, buffer) = at;
+    writeln!(
+        report,
+        "refused {kind}::{call} over {buffer} at line {line}"
+    )
 }

@@ -7,34 +7,44 @@ use std::process::Abort;
 /// The value of a string over two lines, of which the first goes on.
 fn has_value(alloc: Global, first: &str, second: &str, value: &str) -> Result<bool, AllocError> {
     let mut collector = Collector::new(alloc);
-    match collector.feed(first)? {
-        Step::More => {}
-        _ => return Ok(false),
-    }
-    match collector.feed(second)? {
-        Step::Literal(Literal::String(lit)) => Ok(lit.value() == value && collector.is_empty()),
-        _ => Ok(false),
+    let begins = is_more(&collector.feed(first)?);
+    let holds = is_string(&collector.feed(second)?, value);
+    Ok(begins && holds && collector.is_empty())
+}
+
+fn is_more(step: &Step) -> bool {
+    matches!(step, Step::More)
+}
+
+/// Whether a step is a string of this value.
+fn is_string(step: &Step, value: &str) -> bool {
+    match step {
+        Step::Literal(Literal::String(lit)) => lit.value() == value,
+        _ => false,
     }
 }
 
 /// Whether a line is refused as such, and then not held.
 fn is_refused(alloc: Global, line: &str, kind: ParseErrorKind) -> Result<bool, AllocError> {
     let mut collector = Collector::new(alloc);
-    match collector.feed(line)? {
-        Step::Refused(e) => Ok(e.kind() == kind && collector.is_empty()),
-        _ => Ok(false),
+    let holds = is_refusal(&collector.feed(line)?, kind);
+    Ok(holds && collector.is_empty())
+}
+
+/// Whether a step is a refusal of this kind.
+fn is_refusal(step: &Step, kind: ParseErrorKind) -> bool {
+    match step {
+        Step::Refused(e) => e.kind() == kind,
+        _ => false,
     }
 }
 
 /// Whether a line goes on, and is refused as such where none follows.
 fn ends_as(alloc: Global, line: &str, kind: ParseErrorKind) -> Result<bool, AllocError> {
     let mut collector = Collector::new(alloc);
-    match collector.feed(line)? {
-        Step::More => {}
-        _ => return Ok(false),
-    }
-    match collector.finish() {
-        Some(e) => Ok(e.kind() == kind),
+    let goes_on = is_more(&collector.feed(line)?);
+    match &collector.finish() {
+        Some(e) => Ok(goes_on && e.kind() == kind),
         None => Ok(false),
     }
 }

@@ -1,15 +1,8 @@
-//! Buffers and the containers of values.
-use litrs_base::{Text, Unescape};
+//! The containers of values.
+use litrs_base::Unescape;
 use litrs_lex::EscapeContainer;
 use std::alloc::{AllocError, Global};
 use std::process::Abort;
-
-#[test]
-fn constants(rt: HostRuntime) {
-    assert!(rt; !<&str as Text>::OWNS && String::OWNS);
-    assert!(rt; !<&str as Text>::owns_text() && String::owns_text());
-    assert!(rt; !String::TAKES_BYTES && Vec::<u8>::TAKES_BYTES);
-}
 
 /// Pushes each form of value as often as told, ten bytes a time.
 fn push_values<C: EscapeContainer>(container: &mut C, count: usize) -> Result<(), AllocError> {
