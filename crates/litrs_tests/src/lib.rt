@@ -10,6 +10,8 @@ mod containers;
 #[cfg(test)]
 mod errors;
 #[cfg(test)]
+mod lengths;
+#[cfg(test)]
 mod lines;
 #[cfg(test)]
 mod mismatches;

@@ -1,50 +1,101 @@
-//! Literals of each length are printed while there is memory.
-use litrs::Literal;
-use std::alloc::Global;
+//! What is printed at a width and at a precision. Integers, floats and refused tokens ignore both.
+use litrs::ParseErrorKind::Empty;
+use litrs::{FloatType, IntegerType, Literal, ParseError};
+use std::alloc::{AllocError, Global};
+use std::fmt::{Display, Write};
 use std::process::Abort;
 
-/// What literals have before and after a part of letters that are digits too.
+/// A literal, and what is printed of it to the right, to the left and in the middle of 16 columns,
+/// and at a precision of 2.
 const PRINTED: &[(&str, &str)] = &[
-    ("0x", "_u8"),
-    ("1.5f", ""),
-    ("'a'x", ""),
-    ("b'a'x", ""),
-    ("\"", "\"x"),
-    ("r#\"", "\"#"),
-    ("b\"", "\\n\""),
-    ("c\"", "\""),
+    (
+        "true",
+        "            true|true            |      true      |tr|",
+    ),
+    ("0x1_u8", "0x1_u8|0x1_u8|0x1_u8|0x1_u8|"),
+    ("9.5", "9.5|9.5|9.5|9.5|"),
+    (
+        "'é'u8",
+        "           'é'u8|'é'u8           |     'é'u8      |'é|",
+    ),
+    (
+        "\"é\"x",
+        "            \"é\"x|\"é\"x            |      \"é\"x      |\"é|",
+    ),
+    (
+        "b'a'é",
+        "           b'a'é|b'a'é           |     b'a'é      |b'|",
+    ),
+    (
+        "br\"a\"",
+        "           br\"a\"|br\"a\"           |     br\"a\"      |br|",
+    ),
+    (
+        "c\"é\"x",
+        "           c\"é\"x|c\"é\"x           |     c\"é\"x      |c\"|",
+    ),
 ];
 
-/// Whether all of the literal of a text is printed.
-fn is_printed(alloc: Global, text: &str) -> bool {
-    match &Literal::parse(alloc, text) {
-        Ok(lit) => match &lit.to_string(alloc) {
-            Ok(printed) => printed.as_str() == text,
-            Err(_) => false,
-        },
+/// The same of the refusal of an empty text at 3..4: the description has the width.
+const REFUSAL: &str = concat!(
+    "  input is empty (at 3..4)|",
+    "input is empty   (at 3..4)| input is empty  (at 3..4)|in (at 3..4)|",
+);
+
+/// Whether this is printed of the value.
+fn is_printed<D: Display>(alloc: Global, value: &D, expected: &str) -> bool {
+    let mut printed = String::new(alloc);
+    push_columns(&mut printed, value).is_ok()
+        && write!(printed, "{value:.2}|").is_ok()
+        && printed.as_str() == expected
+}
+
+/// Adds what is printed of the value in 16 columns.
+fn push_columns<D: Display>(printed: &mut String, value: &D) -> Result<(), AllocError> {
+    write!(printed, "{value:>16}|")?;
+    write!(printed, "{value:<16}|")?;
+    write!(printed, "{value:^16}|")
+}
+
+/// Whether this is printed of the literal of the text.
+fn is_literal_printed(alloc: Global, text: &str, expected: &str) -> bool {
+    match Literal::parse(alloc, text) {
+        Ok(lit) => is_printed(alloc, &lit, expected),
         Err(_) => false,
     }
 }
 
-/// Whether that is so of a literal of each form, with this part.
-fn are_printed(alloc: Global, part: &str) -> bool {
-    for (front, end) in PRINTED {
-        match &format!(in alloc; "{front}{part}{end}") {
-            Ok(text) if is_printed(alloc, text.as_str()) => {}
-            _ => return false,
-        }
+#[test]
+fn literals(rt: HostRuntime) {
+    for (text, expected) in PRINTED {
+        assert!(rt; is_literal_printed(rt.alloc(), text, expected), "{text}");
     }
-    true
 }
 
 #[test]
-fn literals_of_each_length_are_printed(rt: HostRuntime) {
+fn types_and_refusals(rt: HostRuntime) {
     let alloc = rt.alloc();
-    let mut part = String::new(alloc);
-    for count in 1..5_000 {
-        assert!(rt;
-            part.push('a').is_ok() && are_printed(alloc, part.as_str()),
-            "{count} parts"
-        );
-    }
+    assert!(rt;
+        is_printed(
+            alloc,
+            &IntegerType::U128,
+            "            u128|u128            |      u128      |u1|"
+        )
+    );
+    assert!(rt;
+        is_printed(
+            alloc,
+            &FloatType::F64,
+            "             f64|f64             |      f64       |f6|"
+        )
+    );
+    assert!(rt;
+        is_printed(
+            alloc,
+            &Empty,
+            "  input is empty|input is empty  | input is empty |in|"
+        )
+    );
+    let refusal = ParseError::new(Some(3..4), Empty);
+    assert!(rt; is_printed(alloc, &refusal, REFUSAL));
 }
