@@ -4,13 +4,14 @@
  * and in the second this one and all later ones; both go on to their end. What a copy prints, and
  * its status, are appended to the file that REFUSED names:
  *
- *     one 7 80 0 12     or `all`, the number of the allocation and how many bytes it is of, the
- *                       status, the bytes that follow
+ *     one 7 80 0 0 12   or `all`, the number of the allocation and how many bytes it is of, those
+ *                       that the block had before, the status, the bytes that follow
  *     1 rows hold..     what it printed on both standard outputs, and a line end
  *
  * The process itself then goes on, and nothing is refused to it. */
 #include <errno.h>
 #include <fcntl.h>
+#include <malloc.h>
 #include <stdio.h>
 #include <stdlib.h>
 #include <sys/wait.h>
@@ -26,7 +27,7 @@ void *__libc_memalign(size_t align, size_t size);
 
 static int records = -1;
 static unsigned long number;
-static size_t asked;
+static size_t asked, before;
 static enum { COPIES, REFUSES_ALL, REFUSES_NONE } state = REFUSES_NONE;
 static char printed[1 << 16];
 
@@ -49,7 +50,7 @@ static size_t read_all(int from) {
 /* Copies the process. Whether this is the copy; else it has ended. */
 static int is_copy(const char *how) {
     int pipes[2], status;
-    char head[64];
+    char head[96];
     if (pipe(pipes) != 0)
         fail();
     pid_t copy = fork();
@@ -69,21 +70,22 @@ static int is_copy(const char *how) {
     if (waitpid(copy, &status, 0) != copy)
         fail();
     status = WIFEXITED(status) ? WEXITSTATUS(status) : 128 + WTERMSIG(status);
-    const char *form = "%s %lu %zu %d %zu\n";
-    int length = snprintf(head, sizeof head, form, how, number, asked, status, size);
+    const char *form = "%s %lu %zu %zu %d %zu\n";
+    int length = snprintf(head, sizeof head, form, how, number, asked, before, status, size);
     printed[size] = '\n';
     if (write(records, head, length) != length || write(records, printed, size + 1) < 0)
         fail();
     return 0;
 }
 
-/* Whether the allocation of so many bytes that is asked for is refused. */
-static int is_refused(size_t size) {
+/* Whether an allocation of so many bytes, for a block or a new one, is refused. */
+static int is_refused(void *block, size_t size) {
     if (state == REFUSES_NONE)
         return 0;
     if (state == COPIES) {
         number++;
         asked = size;
+        before = malloc_usable_size(block);
         if (is_copy("one")) {
             state = REFUSES_NONE;
         } else if (is_copy("all")) {
@@ -97,23 +99,23 @@ static int is_refused(size_t size) {
 }
 
 void *malloc(size_t size) {
-    return is_refused(size) ? NULL : __libc_malloc(size);
+    return is_refused(NULL, size) ? NULL : __libc_malloc(size);
 }
 
 void *calloc(size_t count, size_t size) {
-    return is_refused(count * size) ? NULL : __libc_calloc(count, size);
+    return is_refused(NULL, count * size) ? NULL : __libc_calloc(count, size);
 }
 
 void *realloc(void *block, size_t size) {
-    return is_refused(size) ? NULL : __libc_realloc(block, size);
+    return is_refused(block, size) ? NULL : __libc_realloc(block, size);
 }
 
 void *aligned_alloc(size_t align, size_t size) {
-    return is_refused(size) ? NULL : __libc_memalign(align, size);
+    return is_refused(NULL, size) ? NULL : __libc_memalign(align, size);
 }
 
 int posix_memalign(void **block, size_t align, size_t size) {
-    if (is_refused(size))
+    if (is_refused(NULL, size))
         return ENOMEM;
     *block = __libc_memalign(align, size);
     return *block == NULL ? ENOMEM : 0;

@@ -11,7 +11,8 @@ refused, and as one in which all from there on are.
 
 Where one is refused, either a call of the library answered it, and the program prints which one,
 makes the call again and has all else to say as before; or it was one of the program's own, and it
-ends with `out of memory` and the status 1. Where all from there on are refused, it ends so.
+ends with `out of memory` and the status 1. Where all from there on are refused, it ends so. Where
+a block was to be made smaller, and stays as it is, it may also go on as if nothing were refused.
 
 Among the rows are strings of each kind whose values have every length up to 300. What a call asks
 for to hold such a value, over both buffers, has to be as many bytes as the value has, with its
@@ -197,11 +198,12 @@ class Build:
         feeds = 0
         with open(records, "rb") as file:
             for head in file:
-                how, allocation, asked, status, size = head.split()
+                how, allocation, asked, before, status, size = head.split()
                 printed = file.read(int(size) + 1)[:-1]
                 self.copies += 1
                 feeds += how == b"one" and printed.startswith(FEED)
-                if not self.is_right(how, printed, int(status)):
+                stays = int(asked) <= int(before) and (printed, status) == (HOLDS, b"0")
+                if not stays and not self.is_right(how, printed, int(status)):
                     what = f"allocation {int(allocation)}, {how.decode()} refused"
                     self.fault(row, f"{what}: {printed}, status {int(status)}")
                 call = refused_call(printed)

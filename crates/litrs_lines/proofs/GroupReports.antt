@@ -6,24 +6,25 @@ use Rattle.litrs_base.specs.declared.err.ParseError.{ParseError}
 use Rattle.std.proofs.lemmas.Bool.{false≢true}
 use Rattle.litrs_base.specs.Finality.{is_final}
 use Rattle.litrs_base.specs.Refusal.{Refusal, refusal_of, kind_of}
-use Rattle.litrs_grammar.specs.Literal.{Derivation, IsLiteral, IsLiteralOf, literal_parse}
+use Rattle.litrs_grammar.specs.Literal.{Derivation, IsLiteral, literal_parse}
 use Rattle.litrs_grammar.specs.Refused.{IsRefusedOrOutOfMemory}
 use Rattle.litrs.specs.LiteralDerivation.{derivation}
 use Rattle.litrs_lines.specs.declared.collector.Step.{Step}
 use Rattle.litrs_lines.specs.declared.collector.Step.TheVariants.{More, Literal, Refused}
 use Rattle.litrs_lines.specs.Held.{IsRefusalOfHeld}
-use Rattle.litrs_lines.specs.Steps.{IsStep, held_after}
+use Rattle.litrs_lines.specs.Steps.{IsUnfinished, IsStep, held_after}
 use Rattle.litrs_lines.specs.declared.RunError.{RunError}
 use Rattle.litrs_lines.specs.declared.group.Reporter.{Reporter}
 use Rattle.litrs_lines.specs.Groups.{joined, IsNoText, IsFinished}
 use Rattle.litrs_lines.specs.Report.{literal_report, refusal_report, IsTextReport}
 use Rattle.litrs_lines.specs.Reports.{AreReports, AreGroupReports}
 use Rattle.litrs_lines.specs.ReportLaws.{LinesHaveReports, ReportsAreUnique}
-use Rattle.litrs_lines.specs.Ended.{unless_held, AreEndedReports, AreLastReports}
+use Rattle.litrs_lines.specs.Ended.{unless_held, LineEnds, AreEndedReports, AreLastReports}
 use Rattle.litrs_lines.specs.Sent.{Sends, AddsBytes, ReportsLines}
 use Rattle.litrs_lines.specs.Stopped.{AppendsBeginning}
 use Rattle.litrs_lines.proofs.Sending.{adds, sends_more, writes_nothing, stops_later, stops_longer, stops_now}
 use Rattle.litrs_lines.proofs.ReportLemmas.{texts_have_reports, AreReports-one, AreReports-append, one_list_of_reports}
+use Rattle.litrs_lines.proofs.StepLemmas.{begins_none}
 use Rattle.litrs_lines.proofs.GroupLemmas.{unless_held-some, lines_end, LinesEnd-one, LinesEnd-append, grouped, groups_are_unique}
 
 -- ---- each list of lines has them
@@ -225,11 +226,50 @@ pub refusal_finishes : (held line : List ℕ) (e : ParseError) → held ≡ [] �
 refusal_finishes held line e none text (inl refused) final = record {
   nothing = none;
   text = text;
-  finished = inr (λ begins. refused.final final (10 ∷ begins.0) begins.1
-      (subst (λ (t : List ℕ). IsLiteralOf literal_parse t begins.1) (append_assoc (chars line) (10 ∷ []) begins.0) begins.3));
+  finished = inr (begins_none line e refused final);
   report = inr (refusal_of e, refused.table, refl);
 }
 refusal_finishes held line e none text (inr lack) final = absurd (false≢true (sym (ap (λ (r : Refusal). is_final r.kind) lack.error) ∙ final))
+
+-- ---- a line after lines that are held, and the text of all of them
+
+-- the line is held too
+pub goes_on_reported : (old new : Reporter) (line : List ℕ) (a : Option (List ℕ)) → IsUtf8 line → IsUnfinished (old.collector ++ line) →
+    new.collector ≡ (old.collector ++ line) ++ 10 ∷ [] → string_bytes new.unwritten ≡ string_bytes old.unwritten → ReportsLines (Ok tt) old (line ∷ []) new a a
+goes_on_reported old new line a text is after kept = (
+  [],
+  ([], LinesEnd-one old.collector line [] new.collector (inl (text, is, refl, after)), refl),
+  adds a (string_bytes old.unwritten) (string_bytes new.unwritten) [] (kept ∙ sym (append-nil (string_bytes old.unwritten))),
+)
+
+-- the line ends what the text ends where nothing is held
+same_ends : (held line : List ℕ) (texts : List (List ℕ)) (left : List ℕ) → IsUtf8 line → IsUtf8 (held ++ line) → LineEnds [] (held ++ line) texts left → LineEnds held line texts left
+same_ends held line texts left one whole (inl more) = inl (one, more.1, more.2, more.3)
+same_ends held line texts left one whole (inr (inl ends)) = inr (inl (one, ends.1, ends.2, ends.3))
+same_ends held line texts left one whole (inr (inr other)) = absurd (other.0 whole)
+
+-- so its reports are those on the text
+joined_ends : (held line none text left out : List ℕ) → none ≡ [] → text ≡ held ++ line → IsUtf8 line → IsUtf8 text → AreEndedReports none (text ∷ []) left out →
+    AreEndedReports held (line ∷ []) left out
+joined_ends held line none text left out nothing is one whole ended =
+    let same = subst (λ (t : List ℕ). AreEndedReports [] (t ∷ []) left out) is (subst (λ (h : List ℕ). AreEndedReports h (text ∷ []) left out) nothing ended) in
+    let ends = same.1 in
+    (same.0, (ends.0, ends.1, ends.2, same_ends held line ends.0 ends.1 one (subst IsUtf8 is whole) ends.3, ends.4, ends.5), same.2)
+
+pub joined_reported : (result : Result (Unit {0}) RunError) (old taken new : Reporter) (line text : List ℕ) (a b : Option (List ℕ)) → taken.collector ≡ [] →
+    string_bytes taken.unwritten ≡ string_bytes old.unwritten → text ≡ old.collector ++ line → IsUtf8 line → IsUtf8 text → ReportsLines result taken (text ∷ []) new a b →
+    ReportsLines result old (line ∷ []) new a b
+joined_reported (Ok _) old taken new line text a b nothing kept is one whole r = (
+  r.0,
+  joined_ends old.collector line taken.collector text new.collector r.0 nothing is one whole r.1,
+  subst (λ (u : List ℕ). Sends a u b (string_bytes new.unwritten) r.0) kept r.2,
+)
+joined_reported (Err _) old taken new line text a b nothing kept is one whole r = (
+  r.0,
+  r.1,
+  joined_ends old.collector line taken.collector text r.0 r.1 nothing is one whole r.2,
+  subst (λ (u : List ℕ). AppendsBeginning a b (u ++ r.1)) kept r.3,
+)
 
 -- the report on lines that are held
 pub held_adds : (old new held : List ℕ) (e : ParseError) → IsRefusalOfHeld held e → new ≡ old ++ (refusal_report (refusal_of e) ++ 10 ∷ []) → AddsHeld held old new

@@ -1,15 +1,15 @@
 -- Texts that end with LF, the steps of texts, and texts that are held.
 use Rattle.std.proofs.Common.{◌≡◌, ◌∙◌, ◌⊎◌, inl, inr, ℕ, Bool, true, false, List, [], ◌∷◌, ◌++◌, refl, sym, ap, subst, append-nil, append_assoc, arith, length, take, ◌-◌, ◌+◌, ◌<◌, length-append, slice_index, Result, Ok, Err, OnErr}
-use Rattle.std.specs.Prelude.{IsTrue, ◌↔◌, ◌==◌}
+use Rattle.std.specs.Prelude.{IsTrue, IsFalse, IfOk, ◌↔◌, ◌==◌}
 use Rattle.std.specs.Str.{chars, IsUtf8, IsCharBoundary}
 use Rattle.std.specs.String.Boundary.{IsSplitPoint}
 use Rattle.std.proofs.Math.Seq.{take-append_seam, get_or-append_seam}
 use Rattle.std.proofs.lemmas.Str.{chars-append, IsUtf8-append, IsUtf8-from_ascii, IsCharBoundary-at_seam}
 use Rattle.litrs_base.specs.Derivations.{HasNoDerivation}
 use Rattle.litrs_base.proofs.Chars.{ascii_by_test}
-use Rattle.litrs_base.specs.Finality.{is_open}
-use Rattle.litrs_base.specs.Refusal.{Refusal, refusal_of}
-use Rattle.litrs_grammar.specs.Literal.{IsLiteral, literal_parse, Begins}
+use Rattle.litrs_base.specs.Finality.{is_final, is_open}
+use Rattle.litrs_base.specs.Refusal.{Refusal, refusal_of, kind_of}
+use Rattle.litrs_grammar.specs.Literal.{IsLiteral, IsLiteralOf, literal_parse, Begins}
 use Rattle.litrs_grammar.specs.LiteralRefusals.{IsRefusal}
 use Rattle.litrs_grammar.proofs.Laws.Literal.{literals_are_not_refused, texts_are_decided}
 use Rattle.litrs_grammar.proofs.Spans.Literal.{no_literal_ends_with_line_feed}
@@ -114,11 +114,28 @@ is_refused_step t text longer e test u is more refused begins closed = (
   λ line. let both : true ≡ false = sym (begins.1 (subst (Begins literal_parse) (sym (read_line t longer u more)) line)) ∙ closed in cc,
 )
 
+-- after a refusal of a final kind no line makes a literal of the text
+pub begins_none : (t : List ℕ) (e : ParseError) → IsRefused literal_parse (chars t) e → is_final (kind_of e) ≡ true → BeginsByLine t → ⊥
+begins_none t e refused final begins =
+    refused.final final (10 ∷ begins.0) begins.1 (subst (λ (u : List ℕ). IsLiteralOf literal_parse u begins.1) (append_assoc (chars t) (10 ∷ []) begins.0) begins.3)
+
 -- what is held after a step
 pub step_is_held : (t held : List ℕ) (step : Step) → IsStep t step → held ≡ held_after t step → IsHeld held
 step_is_held t held More is after = line_is_held t held after is.0
 step_is_held t held (Literal lit) is after = nothing_is_held held after
 step_is_held t held (Refused e) is after = nothing_is_held held after
+
+-- and after an error it is what was held before
+pub result_is_held : {E : Type 0} (t old new : List ℕ) (r : Result Step E) → IsHeld old → IfOk r (IsStep t) → IfOk r (λ step. new ≡ held_after t step) → OnErr r (new ≡ old) → IsHeld new
+result_is_held t old new (Ok step) held is after same = step_is_held t new step is after
+result_is_held t old new (Err e) held is after same = subst IsHeld (sym same) held
+
+-- what is held where a line is added if a string is then known to go on
+pub pushed_is_held : {E : Type 0} (old line new : List ℕ) (r : Result Bool E) → IsHeld old →
+    IfOk r (λ goes_on. IsTrue goes_on → IsUnfinished (old ++ line) × (new ≡ (old ++ line) ++ 10 ∷ [])) → IfOk r (λ goes_on. IsFalse goes_on → new ≡ old) → OnErr r (new ≡ old) → IsHeld new
+pushed_is_held old line new (Ok true) held more same err = line_is_held (old ++ line) new (more refl).1 (more refl).0.0
+pushed_is_held old line new (Ok false) held more same err = subst IsHeld (sym (same refl)) held
+pushed_is_held old line new (Err e) held more same err = subst IsHeld (sym err) held
 
 -- the last character of a text that ends with LF is popped
 popped : (bytes front left : List ℕ) (n : ℕ) → n ≡ length bytes → front ++ 10 ∷ [] ≡ bytes →
@@ -150,12 +167,6 @@ extends_more old line mid new u is longer = (
   IsUtf8-append line longer.0 u longer.1,
   longer.2 ∙ ap (λ (x : List ℕ). x ++ longer.0) is ∙ append_assoc old line longer.0,
 )
-
--- a text with a line after it has it after what stands before the place where it was added
-pub added_line : (old line new : List ℕ) (len : ℕ) → IsUtf8 line → new ≡ old ++ line → len ≡ length old → Extends (take len new) new
-added_line old line new len u is n =
-    let front : take len new ≡ old = ap (λ (k : ℕ). take k new) n ∙ (ap (take (length old)) is ∙ take-append_seam old line) in
-    (line, u, is ∙ ap (λ (x : List ℕ). x ++ line) (sym front))
 
 line_feed_is_utf8 : IsUtf8 (10 ∷ [])
 line_feed_is_utf8 = IsUtf8-from_ascii (10 ∷ []) (ascii_by_test (10 ∷ []) refl)

@@ -3,7 +3,7 @@
 //! A literal may have line breaks in it, as a string in which one stands. A [`Collector`] is fed
 //! one line after the other, and answers to each whether the lines that it then has are a literal,
 //! begin one, or neither.
-ghost use Rattle.std.specs.Prelude.{◌≡◌, ◌≢◌, ◌≤◌, ◌↔◌, ◌∷◌, ◌++◌, [], length, take, IsTrue, IsFalse, IfOk, OnOk, OnErr, IfSome, IfNone, MatchResult, string_bytes};
+ghost use Rattle.std.specs.Prelude.{◌≡◌, ◌≢◌, ◌↔◌, ◌∷◌, ◌++◌, [], None, IsTrue, IsFalse, IfOk, OnOk, OnErr, IfSome, IfNone, MatchResult, string_bytes};
 ghost use Rattle.std.specs.Str.{chars, IsUtf8};
 ghost use Rattle.litrs_base.specs.Characters.{line_feed};
 ghost use Rattle.litrs_grammar.specs.Literal.{literal_parse, Begins};
@@ -16,6 +16,7 @@ use crate::collector::body::{Open, open_after};
 use litrs::{Literal, ParseError, ParseErrorKind};
 use std::alloc::{AllocError, Global};
 use std::marker::Model;
+use std::mem;
 
 mod body;
 pub mod laws;
@@ -107,7 +108,69 @@ impl Collector {
         ensures held { IfOk result (λ step. self.new ≡ held_after (self.old ++ line.now) step) }
         ensures err { OnErr result (self.new ≡ self.old) }
     {
-        feed_text(&mut self.held, &mut self.known, line)
+        if self.is_empty() {
+            self.feed_first(line)
+        } else {
+            self.feed_next(line)
+        }
+    }
+
+    /// [`Collector::feed`] where no line is held. A literal is copied once it is known to be one,
+    /// and a final refusal is decided by the same parse.
+    #[inline(never)]
+    fn feed_first(&mut self, line: &str) -> Result<Step, AllocError>
+        requires { self.old ≡ [] }
+        ensures step { IfOk result (IsStep (self.old ++ line.now)) }
+        ensures utf8 { OnOk result (IsUtf8 (self.old ++ line.now)) }
+        ensures held { IfOk result (λ step. self.new ≡ held_after (self.old ++ line.now) step) }
+        ensures err { OnErr result (self.new ≡ self.old) }
+    {
+        let alloc = *self.held.allocator();
+        match Literal::parse(alloc, line) {
+            Ok(lit) => Ok(Step::Literal(lit.into_owned(alloc)?)),
+            Err(e) => match e.kind() {
+                ParseErrorKind::OutOfMemory => Err(AllocError),
+                _ if e.is_final() => Ok(Step::Refused(e)),
+                _ => self.feed_next(line),
+            },
+        }
+    }
+
+    /// [`Collector::feed`] after the lines that are held, or of a line whose parse alone does not
+    /// decide the step.
+    #[inline(never)]
+    fn feed_next(&mut self, line: &str) -> Result<Step, AllocError>
+        ensures step { IfOk result (IsStep (self.old ++ line.now)) }
+        ensures utf8 { OnOk result (IsUtf8 (self.old ++ line.now)) }
+        ensures held { IfOk result (λ step. self.new ≡ held_after (self.old ++ line.now) step) }
+        ensures err { OnErr result (self.new ≡ self.old) }
+    {
+        if self.push(line)? {
+            return Ok(Step::More);
+        }
+        read_added(&mut self.held, &mut self.known, line)
+    }
+
+    /// Adds a line where a string is then known to go on after it, and returns true. Else, and
+    /// after an error, the lines held are those of before.
+    #[inline(always)]
+    pub(crate) fn push(&mut self, line: &str) -> Result<bool, AllocError>
+        ensures goes_on { IfOk result (λ goes_on. IsTrue goes_on →
+            IsUnfinished (self.old ++ line.now)
+            × (self.new ≡ (self.old ++ line.now) ++ line_feed ∷ [])) }
+        ensures other { IfOk result (λ goes_on. IsFalse goes_on → self.new ≡ self.old) }
+        ensures err { OnErr result (self.new ≡ self.old) }
+        ensures utf8 { IsUtf8 (self.old ++ line.now) }
+    {
+        push_line(&mut self.held, &mut self.known, line)
+    }
+
+    /// Takes the lines that are held, joined by LF with this one after them. No line is held then.
+    pub(crate) fn take_with(&mut self, line: &str) -> Result<String, AllocError>
+        ensures text { IfOk result (λ text. string_bytes text ≡ self.old ++ line.now) }
+        ensures held { self.new ≡ [] }
+    {
+        take_text(&mut self.held, &mut self.known, line)
     }
 
     /// Whether no line is held.
@@ -117,8 +180,8 @@ impl Collector {
         self.held.is_empty()
     }
 
-    /// The lines that are held, joined by LF, in the order in which they were fed; empty if and only
-    /// if none is held.
+    /// The lines that are held, joined by LF, in the order in which they were fed; empty if and
+    /// only if none is held.
     pub fn text(&self) -> &str
         ensures none { self.now ≡ [] → result.now ≡ [] }
         ensures lines { self.now ≢ [] → result.now ++ line_feed ∷ [] ≡ self.now }
@@ -210,25 +273,25 @@ fn read_held(held: &mut String) -> Result<Step, AllocError>
     Ok(Step::Refused(refusal))
 }
 
-/// Adds a line to the held text, and an LF where a string is then known to go on after it. Returns
-/// true if the string goes on. After an error the text may have some of the line at its end.
+/// Adds a line and an LF to the held text where a string is then known to go on after them, and
+/// returns true. Else, and after an error, the text is as before.
 #[inline(always)]
 fn push_line(held: &mut String, known: &mut Option<Open>, line: &str) -> Result<bool, AllocError>
     requires { IsKnown (string_bytes held.old) known.old }
     ensures goes_on { IfOk result (λ goes_on. IsTrue goes_on →
         IsUnfinished (string_bytes held.old ++ line.now)
-        × (string_bytes held.new ≡ (string_bytes held.old ++ line.now) ++ line_feed ∷ [])
-        × IsKnown (string_bytes held.new) known.new) }
+        × (string_bytes held.new ≡ (string_bytes held.old ++ line.now) ++ line_feed ∷ [])) }
     ensures other { IfOk result (λ goes_on. IsFalse goes_on →
-        (string_bytes held.new ≡ string_bytes held.old ++ line.now)
-        × (known.new ≡ known.old)) }
-    ensures err { OnErr result
-        (Extends (string_bytes held.old) (string_bytes held.new) × (known.new ≡ known.old)) }
+        string_bytes held.new ≡ string_bytes held.old) }
+    ensures err { OnErr result (string_bytes held.new ≡ string_bytes held.old) }
+    ensures known { IsKnown (string_bytes held.new) known.new }
 {
+    let len = held.len();
     // bounded by the length of the line, with its LF.
     held.reserve(line.len() + 1)?;
     held.push_str(line)?;
     let Some(next) = open_after(held.as_str(), *known) else {
+        held.truncate(len);
         return Ok(false);
     };
     held.push('\n')?;
@@ -236,9 +299,11 @@ fn push_line(held: &mut String, known: &mut Option<Open>, line: &str) -> Result<
     Ok(true)
 }
 
-/// Adds a line to the text that is held, which is as before after an error.
-#[inline(always)]
-fn add_line(held: &mut String, known: &mut Option<Open>, line: &str) -> Result<Step, AllocError>
+/// Adds a line to the held text, which is as before after an error, and reads all of it.
+///
+/// It is not inlined, so that a line after which a string goes on costs no room for a literal.
+#[inline(never)]
+fn read_added(held: &mut String, known: &mut Option<Open>, line: &str) -> Result<Step, AllocError>
     requires { IsKnown (string_bytes held.old) known.old }
     ensures step { IfOk result (IsStep (string_bytes held.old ++ line.now)) }
     ensures held { IfOk result (λ step.
@@ -247,30 +312,7 @@ fn add_line(held: &mut String, known: &mut Option<Open>, line: &str) -> Result<S
     ensures known { IsKnown (string_bytes held.new) known.new }
 {
     let len = held.len();
-    match push_line(held, known, line) {
-        Ok(true) => Ok(Step::More),
-        Ok(false) => read_added(held, known, len),
-        Err(error) => {
-            held.truncate(len);
-            Err(error)
-        }
-    }
-}
-
-/// [`read_held`] where all from this place on was just added, which is taken off after an error.
-///
-/// It is not inlined, so that a line after which a string goes on costs no room for a literal.
-#[inline(never)]
-fn read_added(held: &mut String, known: &mut Option<Open>, len: usize) -> Result<Step, AllocError>
-    requires within { len ≤ length (string_bytes held.old) }
-    requires added { Extends (take len (string_bytes held.old)) (string_bytes held.old) }
-    requires known { IsKnown (take len (string_bytes held.old)) known.old }
-    ensures step { IfOk result (IsStep (string_bytes held.old)) }
-    ensures held { IfOk result (λ step.
-        string_bytes held.new ≡ held_after (string_bytes held.old) step) }
-    ensures err { OnErr result (string_bytes held.new ≡ take len (string_bytes held.old)) }
-    ensures known { IsKnown (string_bytes held.new) known.new }
-{
+    held.push_str(line)?;
     match read_held(held) {
         Ok(step) => {
             *known = None;
@@ -283,41 +325,18 @@ fn read_added(held: &mut String, known: &mut Option<Open>, len: usize) -> Result
     }
 }
 
-/// [`add_line`], without a copy of a line that is a literal by itself.
-fn feed_text(held: &mut String, known: &mut Option<Open>, line: &str) -> Result<Step, AllocError>
-    requires held { IsHeld (string_bytes held.old) }
-    requires known { IsKnown (string_bytes held.old) known.old }
-    ensures step { IfOk result (IsStep (string_bytes held.old ++ line.now)) }
-    ensures utf8 { IsUtf8 (string_bytes held.old ++ line.now) }
-    ensures held { IfOk result (λ step.
-        string_bytes held.new ≡ held_after (string_bytes held.old ++ line.now) step) }
-    ensures err { OnErr result (string_bytes held.new ≡ string_bytes held.old) }
-    ensures is_held { IsHeld (string_bytes held.new) }
-    ensures is_known { IsKnown (string_bytes held.new) known.new }
+/// Takes the text that is held, with a line after it, in a block of no more bytes than it has.
+fn take_text(held: &mut String, known: &mut Option<Open>, line: &str) -> Result<String, AllocError>
+    ensures text { IfOk result (λ text. string_bytes text ≡ string_bytes held.old ++ line.now) }
+    ensures held { string_bytes held.new ≡ [] }
+    ensures known { known.new ≡ None }
 {
-    if held.is_empty() {
-        feed_first(held, known, line)
-    } else {
-        add_line(held, known, line)
-    }
-}
-
-/// [`feed_text`] where nothing is held.
-#[inline(never)]
-fn feed_first(held: &mut String, known: &mut Option<Open>, line: &str) -> Result<Step, AllocError>
-    requires none { string_bytes held.old ≡ [] }
-    requires known { IsKnown (string_bytes held.old) known.old }
-    ensures step { IfOk result (IsStep (string_bytes held.old ++ line.now)) }
-    ensures held { IfOk result (λ step.
-        string_bytes held.new ≡ held_after (string_bytes held.old ++ line.now) step) }
-    ensures err { OnErr result (string_bytes held.new ≡ string_bytes held.old) }
-    ensures known { IsKnown (string_bytes held.new) known.new }
-{
+    *known = None;
     let alloc = *held.allocator();
-    if let Ok(lit) = read(alloc, line)? {
-        return Ok(Step::Literal(lit));
-    }
-    add_line(held, known, line)
+    let mut text = mem::replace(held, String::new(alloc));
+    text.push_str(line)?;
+    text.shrink_to_fit();
+    Ok(text)
 }
 
 /// The refusal of the lines that are held.

@@ -60,14 +60,18 @@ impl Reporter {
             (O.write_failed writer.new) }
     {
         if self.collector.is_empty() {
-            self.process_first(writer, line)
-        } else {
-            self.process_next(writer, line)
+            return self.process_first(writer, line);
         }
+        if self.collector.push(line)? {
+            return Ok(());
+        }
+        let text = self.collector.take_with(line)?;
+        self.process_first(writer, text.as_str())
     }
 
-    /// [`Reporter::process_text`] where no line is held. The text of a literal is not copied, and
-    /// the line is read again only where its refusal is not final.
+    /// [`Reporter::process_text`] where no line is held: of a line, or of the text of several. The
+    /// text of a literal is not copied, and the text is read again only where its refusal is not
+    /// final.
     fn process_first<O: Output>(&mut self, writer: &mut O, line: &str) -> Result<(), RunError>
         requires works { O.has_failed writer.old ≡ false }
         requires first { self.old.collector ≡ [] }

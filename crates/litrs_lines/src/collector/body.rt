@@ -2,16 +2,17 @@
 //!
 //! What is known of the lines that are held stays known with more lines after them, so that only
 //! the next line is read.
-ghost use Rattle.std.specs.Prelude.{◌≡◌, ◌∷◌, [], ◌++◌, IfSome, IsTrue};
-ghost use Rattle.std.specs.Str.{chars};
+ghost use Rattle.std.specs.Prelude.{◌≡◌, ◌∷◌, [], ◌++◌, ⊤, IfSome, IsTrue};
+ghost use Rattle.std.specs.Str.{chars, IsCharBoundary};
 ghost use Rattle.litrs_base.specs.Characters.{line_feed, backslash};
 ghost use Rattle.litrs_base.specs.Quotes.{switches_of};
+ghost use Rattle.litrs_lex.specs.Reading.{IsItemsEnd};
 ghost use Rattle.litrs_lines.specs.Open.{IsEscapeOrEmpty, IsOpen, IsKnown, IsQuotedTo, IsContinuedTo, IsRawTo};
 ghost use Rattle.litrs_lines.specs.Steps.{IsUnfinished};
 
 use litrs_lex::quoted::items_end;
 use litrs_lex::raw::{body_end, open_raw};
-use litrs_lex::{Front, Run, StringKind, run_end, unescape};
+use litrs_lex::{Front, InByteString, InCString, InString, Run, StringKind, run_end, unescape};
 
 /// What goes on at a place in a string.
 #[derive(Clone, Copy)]
@@ -91,7 +92,7 @@ fn quoted_line(text: &str, kind: StringKind, place: usize) -> Option<Open>
     ensures unfinished { IfSome result (λ _. IsUnfinished text.now) }
     ensures next { IfSome result (IsOpen (text.now ++ line_feed ∷ [])) }
 {
-    let end = items_end(text, place, kind.switches());
+    let end = items_end_of(kind, text, place);
     if is_escape_or_empty(&text[end..], kind) {
         Some(Open {
             kind,
@@ -106,6 +107,19 @@ fn quoted_line(text: &str, kind: StringKind, place: usize) -> Option<Open>
         })
     } else {
         None
+    }
+}
+
+/// [`items_end`] of a body of this kind, compiled for each.
+#[inline(always)]
+fn items_end_of(kind: StringKind, text: &str, place: usize) -> usize
+    requires { IsCharBoundary text.now place }
+    ensures { IsItemsEnd (switches_of kind) text.now place (λ _. ⊤) result }
+{
+    match kind {
+        StringKind::String => items_end(text, place, InString),
+        StringKind::ByteString => items_end(text, place, InByteString),
+        StringKind::CString => items_end(text, place, InCString),
     }
 }
 

@@ -1,14 +1,11 @@
 -- What is known of the text stays known with the line after it.
-use Rattle.std.proofs.Common.{◌≡◌, ◌∙◌, ℕ, List, ◌++◌, [], refl, sym, ap, subst, append-nil}
+use Rattle.std.proofs.Common.{◌≡◌, ◌∙◌, ℕ, List, ◌++◌, sym, ap, subst}
 use Rattle.std.specs.Prelude.{string_bytes}
-use Rattle.std.proofs.lemmas.Str.{IsUtf8-nil, IsUtf8-string_bytes}
+use Rattle.std.proofs.lemmas.Str.{IsUtf8-string_bytes}
 use Rattle.litrs_lines.specs.Open.{IsKnown}
 use Rattle.litrs_lines.proofs.OpenBytes.{known_stays}
-use Rattle.litrs_lines.proofs.StepLemmas.{OnErr-holds}
+use Rattle.litrs_lines.proofs.StepLemmas.{may_be_cut}
 use Rattle.litrs_lines.proofs.collector.push_line.Goals as goal
-
-pub returns-in_err-reserve-clause-err : goal.returns-in_err-reserve-clause-err
-returns-in_err-reserve-clause-err c = OnErr-holds c.from_residual.result (([], IsUtf8-nil, c.in_err-reserve.ensures.bytes ∙ sym (append-nil _)), refl)
 
 pub open_after-requires : goal.open_after-requires
 open_after-requires c =
@@ -16,3 +13,9 @@ open_after-requires c =
     let line : List ℕ = c.args.line.now in
     let text : c.as_str.result.now ≡ held ++ line = c.as_str.ensures.value ∙ c.in_ok-push_str.ensures.bytes ∙ ap (λ (x : List ℕ). x ++ line) c.in_ok-reserve.ensures.bytes in
     subst (λ (x : List ℕ). IsKnown x c.args.known.now) (sym text) (known_stays c.args.known.now held line (IsUtf8-string_bytes c.args.held.now) c.utf8.line c.requires)
+
+pub truncate-requires : goal.truncate-requires
+truncate-requires c =
+    let held : List ℕ = string_bytes c.args.held.now in
+    let text : string_bytes c.push_str.new.self ≡ held ++ c.args.line.now = c.in_ok-push_str.ensures.bytes ∙ ap (λ (x : List ℕ). x ++ c.args.line.now) c.in_ok-reserve.ensures.bytes in
+    λ _. may_be_cut held (string_bytes c.push_str.new.self) c.len-len.result (c.args.line.now, c.utf8.line, text) (c.len-len.ensures ∙ c.args.held.now.bytes.ok.0)
