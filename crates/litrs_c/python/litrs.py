@@ -39,9 +39,7 @@ StaticText = _structure("StaticText", text=ctypes.c_char_p, size=_SIZE)
 _TEXT = [ctypes.c_char_p, _SIZE]
 _CALLS = {
     "parse": (_Answer, _TEXT),
-    "parse_into": (None, [*_TEXT, ctypes.POINTER(_Answer)]),
     "parse_prefix": (_Prefix, _TEXT),
-    "parse_prefix_into": (_SIZE, [*_TEXT, ctypes.POINTER(_Answer)]),
     "value": (_Written, _TEXT * 2),
     "message": (_Written, _TEXT * 2),
     "goes_on": (_BOOL, _TEXT),

@@ -250,9 +250,9 @@ pub extern "C" fn litrs_parse_prefix(alloc: Global, text: &[u8]) -> PrefixAnswer
     PrefixAnswer { answer, len }
 }
 
-/// Writes to the caller's answer what [`litrs_parse_prefix`] answers: the status, and of the literal
-/// and the refusal the one that the status speaks of. The other stays as it was. The result is how
-/// many bytes the literal has, or what was meant as one; 0 where none opens.
+/// Writes to the caller's answer what [`litrs_parse_prefix`] answers: the status, and of the
+/// literal and the refusal the one that the status speaks of. The other stays as it was. The
+/// result is how many bytes the literal has, or what was meant as one; 0 where none opens.
 #[unsafe(no_mangle)]
 pub extern "C" fn litrs_parse_prefix_into(alloc: Global, text: &[u8], answer: &mut Answer) -> usize
     ensures statuses { answer.new.status ≤ NO_PREFIX }

@@ -2,9 +2,9 @@
 //! that is no literal stays as it is.
 //!
 //! Digits of integers are in lower case. Where they have a `_` they are put into groups of three,
-//! or of four where the base is not ten; else they have none. Chars, bytes and quoted strings of all
-//! kinds have the shortest escapes, and only where a character is not shown as it is. Raw strings,
-//! floats and bools stay as they are.
+//! or of four where the base is not ten; else they have none. Chars, bytes and quoted strings of
+//! all kinds have the shortest escapes, and only where a character is not shown as it is. Raw
+//! strings, floats and bools stay as they are.
 #![tactic(auto)]
 
 mod form;

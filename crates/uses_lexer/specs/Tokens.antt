@@ -25,7 +25,8 @@ ends_name c = not (is_xid_continue c)
 
 -- characters of a name, and more
 abbrev pub IsNameAnd : List ℕ → Type 0
-IsNameAnd text = (name : List ℕ) × (more : List ℕ) × (name ++ more ≡ text) × NoCharPasses ends_name name
+IsNameAnd text =
+    (name : List ℕ) × (more : List ℕ) × (name ++ more ≡ text) × NoCharPasses ends_name name
 
 -- What the text of a token is before the rest of the line, by its kind: white space alone,
 -- characters of a name alone, such characters and more, a quote and such characters, the literal at

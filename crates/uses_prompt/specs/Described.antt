@@ -24,4 +24,5 @@ named_line name part = codes "  " ++ (name ++ (codes " " ++ (part ++ codes "\n")
 pub record IsDescribed (d : Derivation) (written : List ℕ) : Type 0 where
   pub parts : List ℕ
   pub spells : written ≡
-      kind_name d ++ (codes " " ++ (parts ++ named_line (codes "suffix") (encode_utf8_all (suffix_of d))))
+      kind_name d
+      ++ (codes " " ++ (parts ++ named_line (codes "suffix") (encode_utf8_all (suffix_of d))))
