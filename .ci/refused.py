@@ -100,7 +100,7 @@ def calls():
     yield "litrs_prefix::parse_prefix over &str"
     for call in ["char", "byte", "string", "byte_string", "c_string", "grouped_integer", "float"]:
         yield f"litrs_build::{call} over &str"
-    for call in ["raw_string", "raw_byte_string"]:
+    for call in ["raw_string", "raw_byte_string", "raw_c_string", "unescaped"]:
         yield f"litrs_build::{call} over &str"
     yield "litrs_diagnostic::shown over &str"
     yield "MemOutput::new over &str"

@@ -5,7 +5,8 @@
 
 FORMATTER is the program uses_formatter, which `rt run` leaves in crates/uses_formatter/out/. It is
 fed chars, strings, byte strings and C strings whose characters and bytes are written by their
-numbers, and what it prints goes into a Rust program that compares each literal with its value.
+numbers, and raw strings of each kind with more hashes than they need. What it prints goes into a
+Rust program that compares each literal with its value.
 The program is compiled with every warning an error, lints on text that changes direction among
 them. Run by hand; the gate does not need a compiler of Rust.
 """
@@ -20,6 +21,7 @@ FORMATTER = TOP / "crates/uses_formatter/out/uses_formatter"
 SEED = 1
 CHARS = 20_000
 STRINGS = 4_000
+HASHES = 8 * "#"
 
 
 def scalars(draw):
@@ -53,6 +55,12 @@ def samples(draw):
         yield f'b"{bytes_numbered(data)}"', f"L == &{data}"
         data = [draw.choice([1, 9, 10, 34, 39, 92, 0xC3, 0xA9, 0xFF, 0x7F, 65]) for _ in data]
         yield f'c"{bytes_numbered(data)}"', f"L.to_bytes() == {data} as [u8; {len(data)}]"
+        text = "".join(draw.choice('ab"#\\é ') for _ in range(draw.randrange(8)))
+        data = list(text.encode())
+        yield f'r{HASHES}"{text}"{HASHES}', f"L.as_bytes() == {data} as [u8; {len(data)}]"
+        yield f'cr{HASHES}"{text}"{HASHES}', f"L.to_bytes() == {data} as [u8; {len(data)}]"
+        data = [b for b in data if b < 128]
+        yield f'br{HASHES}"{bytes(data).decode()}"{HASHES}', f"L == &{data}"
 
 
 def main():

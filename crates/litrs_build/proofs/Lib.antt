@@ -21,4 +21,8 @@ pub mod CTexts
 pub mod Hashes
 pub mod RawTexts
 pub mod RawBytes
+pub mod RawCBytes
+pub mod RawLiterals
+-- string literals that are written anew
+pub mod WrittenAnew
 pub mod MemoryErrors

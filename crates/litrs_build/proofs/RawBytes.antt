@@ -1,12 +1,12 @@
 -- Raw byte strings: where all bytes are ASCII they are their own characters.
 use Rattle.std.proofs.Common.{◌≡◌, ℕ, Bool, true, false, not, ◌&&◌, cond, eqb, List, [], ◌∷◌, refl, sym, ap, subst, ◌∙◌, arith}
-use Rattle.std.specs.Prelude.{Option, Some, None, IsTrue, IsFalse, nat_le}
+use Rattle.std.specs.Prelude.{Some, None, nat_le}
 use Rattle.std.specs.Char.{encode_utf8}
 use Rattle.std.specs.List.{list_all}
-use Rattle.std.specs.Str.{chars, IsUtf8, encode_utf8_all}
+use Rattle.std.specs.Str.{chars, IsUtf8}
 use Rattle.std.proofs.lemmas.Bool.{and_from, and_parts, ltb-true, true≢false, false_from_ne_true}
 use Rattle.std.proofs.lemmas.Str.{encodes-chars, chars-encodes}
-use lib.Utf8.{scalar, scalars, low_scalar}
+use lib.Utf8.{scalars, low_scalar}
 use Rattle.litrs_base.specs.Characters.{is_ascii, fits_charset, nul_is_allowed}
 use Rattle.litrs_base.specs.declared.quotes.StringKind.TheVariants.{ByteString as byte_string_kind}
 use Rattle.litrs_grammar.specs.Suffix.{is_suffix}
@@ -20,7 +20,9 @@ use Rattle.litrs_build.proofs.Hashes.{same_tests}
 use Rattle.litrs_build.proofs.Spellings.{encodes_ascii}
 use Rattle.litrs_build.proofs.RawTexts.{raw_bytes, raw_derives, possible_by}
 
-raw_is_ascii : (bs : List ℕ) → list_all (is_raw_char false true) bs ≡ true → list_all is_ascii bs ≡ true
+-- the characters of a raw byte string are ASCII
+pub raw_is_ascii : (bs : List ℕ) → list_all (is_raw_char false true) bs ≡ true →
+    list_all is_ascii bs ≡ true
 raw_is_ascii [] all = refl
 raw_is_ascii (c ∷ bs) all =
     let both = and_parts (is_raw_char false true c) (list_all (is_raw_char false true) bs) all in
@@ -42,43 +44,57 @@ ascii_chars bs all = ap chars (sym (encodes_ascii bs all)) ∙ chars-encodes bs 
 
 value_ascii : (bs : List ℕ) → is_raw_value false true bs ≡ true → list_all is_ascii bs ≡ true
 value_ascii bs raw =
-    raw_is_ascii bs (and_parts (list_all (is_raw_char false true) bs) (nat_le (hashes_needed bs) 255) raw).0
+    raw_is_ascii bs (and_parts (list_all (is_raw_char false true) bs)
+    (nat_le (hashes_needed bs) 255) raw).0
 
-values_same : (bs : List ℕ) → IsUtf8 bs → is_raw_value false true (chars bs) ≡ is_raw_value false true bs
+values_same : (bs : List ℕ) → IsUtf8 bs →
+    is_raw_value false true (chars bs) ≡ is_raw_value false true bs
 values_same bs u =
     same_tests (is_raw_value false true (chars bs)) (is_raw_value false true bs)
-    (λ raw. ap (is_raw_value false true) (sym (encodes-chars bs u) ∙ encodes_ascii (chars bs) (value_ascii (chars bs) raw)) ∙ raw)
+    (λ raw. ap (is_raw_value false true) (sym (encodes-chars bs u)
+    ∙ encodes_ascii (chars bs) (value_ascii (chars bs) raw)) ∙ raw)
     (λ raw. ap (is_raw_value false true) (ascii_chars bs (value_ascii bs raw)) ∙ raw)
 
 -- the characters of a body have the error of its bytes
-pub raw_same : (body bs suffix : List ℕ) → body ≡ bs → IsUtf8 bs → raw_error false true (chars body) suffix ≡ raw_error false true bs suffix
+pub raw_same : (body bs suffix : List ℕ) → body ≡ bs → IsUtf8 bs →
+    raw_error false true (chars body) suffix ≡ raw_error false true bs suffix
 raw_same body bs suffix same u =
     ap (λ (t : List ℕ). raw_error false true (chars t) suffix) same
-    ∙ ap (λ (r : Bool). cond (not (is_suffix suffix)) (Some NotASuffix) (cond r None (Some NotRaw))) (values_same bs u)
+    ∙ ap (λ (r : Bool). cond (not (is_suffix suffix)) (Some NotASuffix) (cond r None (Some NotRaw)))
+    (values_same bs u)
 
-not_raw_by : (s r : Bool) (e : BuildError) → r ≡ false → (s ≡ true → e ≡ NotRaw) → (s ≡ false → e ≡ NotASuffix) →
+not_raw_by : (s r : Bool) (e : BuildError) → r ≡ false → (s ≡ true → e ≡ NotRaw) →
+    (s ≡ false → e ≡ NotASuffix) →
     IsErrorOf (cond (not s) (Some NotASuffix) (cond r None (Some NotRaw))) e
 not_raw_by true true e raw when_suffix when_none = absurd (true≢false raw)
 not_raw_by true false e raw when_suffix when_none = when_suffix refl
 not_raw_by false r e raw when_suffix when_none = when_none refl
 
 -- what is not UTF-8 is no raw value
-pub not_raw : (bs suffix : List ℕ) (e : BuildError) → (IsUtf8 bs → ⊥) → (is_suffix suffix ≡ true → e ≡ NotRaw) →
+pub not_raw : (bs suffix : List ℕ) (e : BuildError) → (IsUtf8 bs → ⊥) →
+    (is_suffix suffix ≡ true → e ≡ NotRaw) →
     (is_suffix suffix ≡ false → e ≡ NotASuffix) → IsErrorOf (raw_error false true bs suffix) e
 not_raw bs suffix e none when_suffix when_none =
     not_raw_by (is_suffix suffix) (is_raw_value false true bs) e
-    (false_from_ne_true (is_raw_value false true bs) (λ raw. none (ascii_utf8 bs (value_ascii bs raw)))) when_suffix when_none
+    (false_from_ne_true (is_raw_value false true bs)
+    (λ raw. none (ascii_utf8 bs (value_ascii bs raw)))) when_suffix when_none
 
-pub raw_byte_string_derives : (value suffix bytes : List ℕ) → IsUtf8 suffix → raw_error false true value (chars suffix) ≡ None →
-    bytes ≡ raw_bytes (98 ∷ 114 ∷ []) (hashes_needed (chars value)) value suffix → IsString byte_string_kind (chars bytes) (written_raw value (chars suffix))
+pub raw_byte_string_derives : (value suffix bytes : List ℕ) → IsUtf8 suffix →
+    raw_error false true value (chars suffix) ≡ None →
+    bytes ≡ raw_bytes (98 ∷ 114 ∷ []) (hashes_needed (chars value)) value suffix →
+    IsString byte_string_kind (chars bytes) (written_raw value (chars suffix))
 unfolding encode_utf8
 raw_byte_string_derives value suffix bytes u possible is =
     let both = possible_by (is_suffix (chars suffix)) (is_raw_value false true value) possible in
     let ascii = value_ascii value both.1 in
     let v = ascii_utf8 value ascii in
-    subst (λ (t : List ℕ). IsString byte_string_kind (chars bytes) (written_raw t (chars suffix))) (ascii_chars value ascii)
-    (raw_derives byte_string_kind value suffix bytes refl refl v u (raw_same value value (chars suffix) refl v ∙ possible) is)
+    subst (λ (t : List ℕ). IsString byte_string_kind (chars bytes) (written_raw t (chars suffix)))
+    (ascii_chars value ascii)
+    (raw_derives byte_string_kind value suffix bytes refl refl v u
+    (raw_same value value (chars suffix) refl v ∙ possible) is)
 
-pub raw_bytes-value : (value suffix : List ℕ) → raw_error false true value suffix ≡ None → string_value (written_raw value suffix) ≡ value
+pub raw_bytes-value : (value suffix : List ℕ) → raw_error false true value suffix ≡ None →
+    string_value (written_raw value suffix) ≡ value
 raw_bytes-value value suffix possible =
-    encodes_ascii value (value_ascii value (possible_by (is_suffix suffix) (is_raw_value false true value) possible).1)
+    encodes_ascii value (value_ascii value
+    (possible_by (is_suffix suffix) (is_raw_value false true value) possible).1)

@@ -8,6 +8,8 @@ pub mod Written
 pub mod CStrings
 -- raw literals
 pub mod Raw
+-- the same literal, built of its value
+pub mod WrittenAnew
 -- which error comes
 pub mod Errors
 -- digits, and how they are grouped

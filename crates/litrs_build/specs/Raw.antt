@@ -1,11 +1,15 @@
 -- Raw literals: how many hashes they have, and which values they have. The Rust Reference, Tokens,
 -- Literals: "Raw string literals", "Raw byte string literals" and "Raw C string literals".
-use Rattle.std.specs.Prelude.{ℕ, ◌+◌, Bool, not, ◌==◌, ◌&&◌, nat_lt, nat_le, if◌then◌else◌, List, [], ◌∷◌, Option, Some, None}
+use Rattle.std.specs.Prelude.{ℕ, ◌+◌, Bool, true, false, not, ◌==◌, ◌&&◌, nat_lt, nat_le, if◌then◌else◌, List, [], ◌∷◌, Option, Some, None}
 use Rattle.std.specs.List.{list_all}
+use Rattle.std.specs.Str.{chars, is_utf8}
 use Rattle.litrs_base.specs.Characters.{hash}
+use Rattle.litrs_base.specs.declared.quotes.StringKind.{StringKind}
+use Rattle.litrs_base.specs.declared.quotes.StringKind.TheVariants.{String as string_kind, ByteString as byte_string_kind, CString as c_string_kind}
 use Rattle.litrs_grammar.specs.Suffix.{is_suffix}
 use Rattle.litrs_grammar.specs.Raw.{is_quote, hash_len, is_raw_char}
 use Rattle.litrs_grammar.specs.Literal.{StringParts, raw_parts}
+use Rattle.litrs_build.specs.CStrings.{c_string_error}
 use Rattle.litrs_build.specs.declared.error.BuildError.{BuildError}
 use Rattle.litrs_build.specs.declared.error.BuildError.TheVariants.{NotASuffix, NotRaw}
 
@@ -36,6 +40,25 @@ raw_error unicode allow_nul body suffix =
     if not (is_suffix suffix) then Some NotASuffix
     else if is_raw_value unicode allow_nul body then None
     else Some NotRaw
+
+-- the bytes are the value of some raw C string: they are the UTF-8 of such a body
+abbrev pub is_raw_c_value : List ℕ → Bool
+is_raw_c_value bytes = is_utf8 bytes && is_raw_value true false (chars bytes)
+
+-- where no error is expected of a C string, the bytes have to be the value of a raw one
+abbrev pub or_not_raw : Option BuildError → (is_value : Bool) → Option BuildError
+or_not_raw (Some e) is_value = Some e
+or_not_raw None is_value = if is_value then None else Some NotRaw
+
+-- why no raw C string has the bytes and the suffix
+abbrev pub raw_c_error : List ℕ → List ℕ → Option BuildError
+raw_c_error bytes suffix = or_not_raw (c_string_error bytes suffix) (is_raw_c_value bytes)
+
+-- the same for each kind
+abbrev pub raw_kind_error : StringKind → (value suffix : List ℕ) → Option BuildError
+raw_kind_error string_kind value suffix = raw_error true true (chars value) suffix
+raw_kind_error byte_string_kind value suffix = raw_error false true value suffix
+raw_kind_error c_string_kind value suffix = raw_c_error value suffix
 
 -- how long the run of hashes is that a quote begins, the quote among them, after one more
 -- character; 0 outside such a run

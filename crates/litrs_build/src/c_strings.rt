@@ -49,11 +49,8 @@ fn write_c_string(alloc: Global, value: &[u8], suffix: &str) -> Result<String, B
     ensures possible { IfOk result (λ _. c_string_error value.now (chars suffix.now) ≡ None) }
     ensures refused { IfErr result (IsErrorOf (c_string_error value.now (chars suffix.now))) }
 {
-    if check_suffix(suffix).is_err() {
-        return Err(BuildError::NotASuffix);
-    }
-    if let Some(at) = nul_place(value) {
-        return Err(BuildError::HasNul { at });
+    if let Some(e) = c_string_error(value, suffix) {
+        return Err(e);
     }
     let len = c_bytes_len(value)
         .saturating_add(suffix.len())
@@ -65,6 +62,17 @@ fn write_c_string(alloc: Global, value: &[u8], suffix: &str) -> Result<String, B
     text.push('"')?;
     text.push_str(suffix)?;
     Ok(text)
+}
+
+/// Why no C string has the bytes and the suffix.
+pub(crate) fn c_string_error(value: &[u8], suffix: &str) -> Option<BuildError>
+    ensures { result ≡ c_string_error value.now (chars suffix.now) }
+{
+    if check_suffix(suffix).is_err() {
+        return Some(BuildError::NotASuffix);
+    }
+    let at = nul_place(value)?;
+    Some(BuildError::HasNul { at })
 }
 
 /// Where the first NUL stands.

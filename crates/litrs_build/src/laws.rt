@@ -1,5 +1,5 @@
 //! Laws of what is written.
-ghost use Rattle.litrs_build.specs.Laws.{CharsArePrintable, BytesArePrintable, StringsArePrintable, ByteStringsArePrintable, CStringsArePrintable, RawLiteralsNeedHashes};
+ghost use Rattle.litrs_build.specs.Laws.{CharsArePrintable, BytesArePrintable, StringsArePrintable, ByteStringsArePrintable, CStringsArePrintable, RawLiteralsNeedHashes, RawLiteralsAreBuilt};
 
 /// Between the quotes of a char all is printable.
 #[tactic(auto, using(crate::proofs::PrintableTexts::chars_are_printable))]
@@ -35,4 +35,10 @@ pub fn c_strings_are_printable()
 #[tactic(auto, using(crate::proofs::Hashes::raw_literals_need_hashes))]
 pub fn raw_literals_need_hashes()
     ensures { RawLiteralsNeedHashes }
+{}
+
+/// Each raw literal is one that is built of its value and its suffix.
+#[tactic(auto, using(crate::proofs::RawLiterals::raw_literals_are_built))]
+pub fn raw_literals_are_built()
+    ensures { RawLiteralsAreBuilt }
 {}

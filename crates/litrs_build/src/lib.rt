@@ -10,9 +10,13 @@
 //! | the same, and the byte FF | [`c_string`] | `c"é\"\n\xff"` |
 //! | `a"#` | [`raw_string`] | `r##"a"#"##` |
 //! | the same as bytes | [`raw_byte_string`] | `br##"a"#"##` |
+//! | the same as the bytes of a C string | [`raw_c_string`] | `cr##"a"#"##` |
 //! | 255 in base sixteen, and `u8` | [`integer`] | `0xffu8` |
 //! | 1048575 in base sixteen, in groups of four | [`grouped_integer`] | `0xf_ffff` |
 //! | the parts `1`, `5` and `e3` | [`float`] | `1.5e3` |
+//!
+//! [`unescaped`] writes a literal anew, with the same kind, value and suffix, and [`regroup`] an
+//! integer in groups of digits.
 //!
 //! Each escape is the shortest: `\n`, `\r`, `\t`, `\0`, `\\` and the quote that closes; `\x` and
 //! two digits for other ASCII characters that are not printable, and for bytes that are no text;
@@ -36,6 +40,7 @@
 //! ```
 #![tactic(auto)]
 
+pub use again::unescaped;
 pub use byte_strings::byte_string;
 pub use c_strings::c_string;
 pub use chars::{byte, char};
@@ -43,9 +48,10 @@ pub use error::BuildError;
 pub use floats::float;
 pub use integers::{grouped_integer, integer, regroup};
 pub use printable::is_printable;
-pub use raw::{raw_byte_string, raw_string};
+pub use raw::{raw_byte_string, raw_c_string, raw_string};
 pub use strings::string;
 
+mod again;
 mod byte_strings;
 mod c_strings;
 mod chars;

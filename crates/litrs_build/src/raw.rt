@@ -2,16 +2,17 @@
 ghost use Rattle.std.specs.Prelude.{◌≡◌, ◌+◌, ◌<◌, ◌^◌, ◌++◌, ◌∷◌, [], true, Some, None, IfOk, IfErr, OnOk, IfSome, IfNone, IsTrue, IsFalse, ◌≤◌, false, codes, string_bytes, replicate};
 ghost use Rattle.std.specs.Str.{chars};
 ghost use Rattle.std.specs.List.{list_all};
-ghost use Rattle.litrs_base.specs.declared.quotes.StringKind.TheVariants.{String as string_kind, ByteString as byte_string_kind};
+ghost use Rattle.litrs_base.specs.declared.quotes.StringKind.TheVariants.{String as string_kind, ByteString as byte_string_kind, CString as c_string_kind};
 ghost use Rattle.litrs_grammar.specs.Suffix.{is_suffix};
 ghost use Rattle.litrs_grammar.specs.Raw.{is_raw_char};
 ghost use Rattle.litrs_grammar.specs.Literal.{string_value};
 ghost use Rattle.litrs_grammar.specs.LiteralText.{string_text};
 ghost use Rattle.litrs_build.specs.Errors.{IsErrorOf};
-ghost use Rattle.litrs_build.specs.Raw.{greater, hashes_needed, is_raw_value, raw_error, run_after, written_raw};
+ghost use Rattle.litrs_build.specs.Raw.{greater, hashes_needed, is_raw_value, raw_c_error, raw_error, run_after, written_raw};
 
+use crate::c_strings::c_string_error;
 use crate::error::{BuildError, memory_error};
-use litrs::{ByteStringLit, StringLit};
+use litrs::{ByteStringLit, CStringLit, StringLit};
 use litrs_lex::check_suffix;
 use std::alloc::{AllocError, Global};
 use std::str;
@@ -75,6 +76,37 @@ pub fn raw_byte_string(
     }
 }
 
+/// The raw C string of some bytes, without the NUL that closes it, as `cr"C:\"` and `cr#"a"b"#`, with
+/// the least number of hashes that serves and a suffix, which may be empty. There is one allocation
+/// for its text, and one for its value. See [the reference][ref].
+///
+/// # Errors
+///
+/// `NotASuffix` where the suffix is not one; else `HasNul` at the first NUL of the value; else
+/// `NotRaw` where the bytes are not UTF-8, have a CR or need more than 255 hashes; else `Memory`
+/// where an allocation fails.
+///
+/// [ref]: https://doc.rust-lang.org/reference/tokens.html#raw-c-string-literals
+pub fn raw_c_string(
+    alloc: Global,
+    value: &[u8],
+    suffix: &str,
+) -> Result<CStringLit<String>, BuildError>
+    ensures written { IfOk result (λ lit. chars lit.raw
+        ≡ string_text c_string_kind (written_raw (chars value.now) (chars suffix.now))) }
+    ensures parts { IfOk result (λ lit.
+        lit.parts ≡ written_raw (chars value.now) (chars suffix.now)) }
+    ensures value { IfOk result (λ lit. string_value lit.parts ≡ value.now) }
+    ensures possible { IfOk result (λ _. raw_c_error value.now (chars suffix.now) ≡ None) }
+    ensures refused { IfErr result (IsErrorOf (raw_c_error value.now (chars suffix.now))) }
+{
+    let text = write_raw_c(alloc, value, suffix)?;
+    match CStringLit::parse(alloc, text) {
+        Ok(lit) => Ok(lit),
+        Err(e) => Err(memory_error(&e)),
+    }
+}
+
 /// The text of a raw literal: what it begins with, hashes, the body between quotes, as many hashes
 /// and the suffix. Where `unicode` is off the body is ASCII, and where `allow_nul` is, not NUL.
 fn write_raw(
@@ -131,6 +163,24 @@ fn write_raw_bytes(alloc: Global, value: &[u8], suffix: &str) -> Result<String, 
     match str::from_utf8(value) {
         Ok(body) => write_raw(alloc, "br", body, suffix, false, true),
         Err(_) => Err(refusal_of_raw(suffix)),
+    }
+}
+
+/// The text of a raw C string.
+fn write_raw_c(alloc: Global, value: &[u8], suffix: &str) -> Result<String, BuildError>
+    ensures text { IfOk result (λ text.
+        let hashes = replicate (hashes_needed (chars value.now)) 35 in
+        string_bytes text ≡ (((((codes "cr" ++ hashes) ++ 34 ∷ []) ++ value.now) ++ 34 ∷ [])
+        ++ hashes) ++ suffix.now) }
+    ensures possible { IfOk result (λ _. raw_c_error value.now (chars suffix.now) ≡ None) }
+    ensures refused { IfErr result (IsErrorOf (raw_c_error value.now (chars suffix.now))) }
+{
+    if let Some(e) = c_string_error(value, suffix) {
+        return Err(e);
+    }
+    match str::from_utf8(value) {
+        Ok(body) => write_raw(alloc, "cr", body, suffix, true, false),
+        Err(_) => Err(BuildError::NotRaw),
     }
 }
 

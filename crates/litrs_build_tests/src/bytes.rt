@@ -76,7 +76,7 @@ fn c_string_comes_back(alloc: Global, value: &[u8]) -> bool {
 }
 
 /// Whether a literal is the C string of some bytes.
-fn is_c_string_of(alloc: Global, literal: &str, value: &[u8]) -> bool {
+pub fn is_c_string_of(alloc: Global, literal: &str, value: &[u8]) -> bool {
     match CStringLit::parse(alloc, literal) {
         Ok(lit) => lit.value().to_bytes() == value && lit.suffix() == "_x",
         Err(_) => false,

@@ -16,10 +16,9 @@ pub fn try_builds(trial: &mut Trial, lit: &Literal<&str>) {
     }
     trial.at = ("litrs_build", "&str");
     again!(trial, call_of(lit), is_build_refused(trial, lit));
-    match (lit, value_of(lit)) {
-        (Literal::CString(_), _) => {}
-        (_, Some((true, _))) => again!(trial, raw_call_of(lit), is_raw_refused(trial, lit)),
-        _ => {}
+    again!(trial, "unescaped", is_unescaped_refused(trial, lit));
+    if let Some((true, _)) = value_of(lit) {
+        again!(trial, raw_call_of(lit), is_raw_refused(trial, lit));
     }
 }
 
@@ -41,6 +40,7 @@ fn call_of(lit: &Literal<&str>) -> &'static str {
 fn raw_call_of(lit: &Literal<&str>) -> &'static str {
     match lit {
         Literal::ByteString(_) => "raw_byte_string",
+        Literal::CString(_) => "raw_c_string",
         _ => "raw_string",
     }
 }
@@ -55,6 +55,29 @@ fn is_build_refused(trial: &mut Trial, lit: &Literal<&str>) -> bool {
 fn is_raw_refused(trial: &mut Trial, lit: &Literal<&str>) -> bool {
     let built = raw_built(trial.alloc, lit);
     is_refused(trial, lit, &built)
+}
+
+/// Writes the literal anew, and tries it. Whether memory was refused.
+fn is_unescaped_refused(trial: &mut Trial, lit: &Literal<&str>) -> bool {
+    match &litrs_build::unescaped(trial.alloc, lit) {
+        Ok(found) => {
+            trial.check(is_alike(lit, found), "is written as another literal");
+            trial.check(
+                is_raw(lit) == is_raw(found),
+                "is not written raw or quoted as it is",
+            );
+            false
+        }
+        Err(_) => true,
+    }
+}
+
+/// Whether a literal is raw.
+fn is_raw<B: Text>(lit: &Literal<B>) -> bool {
+    match value_of(lit) {
+        Some((is_raw, _)) => is_raw,
+        None => false,
+    }
 }
 
 /// The literal of the value and the suffix, of a bool a copy.
@@ -99,9 +122,14 @@ fn built_string(alloc: Global, lit: &Literal<&str>) -> Result<Literal<String>, B
 /// The raw literal of the value and the suffix of a raw string.
 fn raw_built(alloc: Global, lit: &Literal<&str>) -> Result<Literal<String>, BuildError> {
     let suffix = lit.suffix();
-    match lit {
-        Literal::ByteString(lit) => any(litrs_build::raw_byte_string(alloc, lit.value(), suffix)),
-        Literal::String(lit) => any(litrs_build::raw_string(alloc, lit.value(), suffix)),
+    match (lit, value_of(lit)) {
+        (Literal::String(lit), _) => any(litrs_build::raw_string(alloc, lit.value(), suffix)),
+        (Literal::ByteString(_), Some((_, value))) => {
+            any(litrs_build::raw_byte_string(alloc, value, suffix))
+        }
+        (Literal::CString(_), Some((_, value))) => {
+            any(litrs_build::raw_c_string(alloc, value, suffix))
+        }
         _ => built(alloc, lit),
     }
 }

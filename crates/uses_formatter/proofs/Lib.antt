@@ -1,2 +1,2 @@
--- the form of a literal
-pub mod Forms
+-- digits in groups
+pub mod Groups

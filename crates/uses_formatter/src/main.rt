@@ -1,21 +1,101 @@
 //! Writes literals in one form: a literal a line, with its kind, its value and its suffix. A line
-//! that is no literal stays as it is.
+//! that is no literal stays as it is, and so does one that is in its form.
 //!
 //! Digits of integers are in lower case. Where they have a `_` they are put into groups of three,
-//! or of four where the base is not ten; else they have none. Chars, bytes and quoted strings of
-//! all kinds have the shortest escapes, and only where a character is not shown as it is. Raw
-//! strings, floats and bools stay as they are.
+//! or of four where the base is not ten; else they have none. Other literals are written as
+//! [`litrs_build::unescaped`] writes them: escapes only where a character is not shown as it is,
+//! each the shortest, and raw strings with the least number of hashes.
 #![tactic(auto)]
 
-mod form;
+ghost use Rattle.std.specs.Prelude.{◌≡◌, IfOk, MatchOption};
+ghost use Rattle.std.specs.List.{list_any};
+ghost use Rattle.std.specs.Str.{chars};
+ghost use Rattle.litrs.specs.Derivations.{HasNoDerivation};
+ghost use Rattle.litrs.specs.Float.{is_underscore};
+ghost use Rattle.litrs.specs.IntegerLiteral.{integer_parts};
+ghost use Rattle.litrs.specs.Literal.{IsLiteral, an_integer};
+ghost use Rattle.litrs.specs.LiteralDerivation.{derivation, literal_raw};
+ghost use Rattle.uses_formatter.specs.Form.{group_len, group_of, IsForm, IsFormOf};
 
-use form::formatted;
+use litrs::{IntegerBase, IntegerLit, Literal, ParseErrorKind};
+use litrs_build::{regroup, unescaped};
+use std::alloc::{AllocError, Global};
 
 fn main(rt: HostRuntime) -> anyhow::Result<()> {
     for line in rt.lines(rt.alloc()) {
         let line = line?;
-        let form = formatted(rt.alloc(), line.as_str())?;
-        println!(rt; "{}", form.unwrap_or(line))?;
+        match formatted(rt.alloc(), line.as_str())? {
+            Some(lit) => println!(rt; "{lit}")?,
+            None => println!(rt; "{line}")?,
+        }
     }
     Ok(())
+}
+
+/// The literal in its form, None where the text is no literal.
+pub fn formatted(alloc: Global, text: &str) -> Result<Option<Literal<String>>, AllocError>
+    ensures { IfOk result (λ form. MatchOption form
+        (HasNoDerivation (IsLiteral (chars text.now)))
+        (λ lit. IsForm (chars text.now) (chars (literal_raw lit)))) }
+{
+    match &Literal::parse(alloc, text) {
+        Ok(lit) => {
+            let written = written(alloc, lit)?;
+            Ok(Some(written))
+        }
+        Err(e) => match e.kind() {
+            ParseErrorKind::OutOfMemory => Err(AllocError),
+            _ => Ok(None),
+        },
+    }
+}
+
+/// What is written for a literal.
+fn written(alloc: Global, lit: &Literal<&str>) -> Result<Literal<String>, AllocError>
+    ensures { IfOk result (λ written.
+        IsFormOf (derivation lit.now) (chars (literal_raw written))) }
+{
+    match lit {
+        Literal::Integer(lit) => regrouped(alloc, lit),
+        _ => unescaped(alloc, lit),
+    }
+}
+
+/// The integer with its digits in groups, if it has groups.
+fn regrouped(alloc: Global, lit: &IntegerLit<&str>) -> Result<Literal<String>, AllocError>
+    ensures { IfOk result (λ written.
+        IsFormOf (an_integer (integer_parts lit.now)) (chars (literal_raw written))) }
+{
+    // Called for its contract: the parts are those of an integer.
+    let _ = lit.raw_input();
+    let regrouped = regroup(alloc, lit, group_of(lit))?;
+    Ok(Literal::Integer(regrouped))
+}
+
+/// How many digits a group has, 0 where the digits are in no groups.
+fn group_of(lit: &IntegerLit<&str>) -> usize
+    ensures { result ≡ group_of (integer_parts lit.now) }
+{
+    if has_underscore(lit.raw_main_part()) {
+        group_len(lit.base())
+    } else {
+        0
+    }
+}
+
+/// How many digits of the base make a group.
+fn group_len(base: IntegerBase) -> usize
+    ensures { result ≡ group_len base }
+{
+    match base {
+        IntegerBase::Decimal => 3,
+        IntegerBase::Binary | IntegerBase::Octal | IntegerBase::Hexadecimal => 4,
+    }
+}
+
+/// Whether a `_` is among the characters.
+fn has_underscore(main: &str) -> bool
+    ensures { result ≡ list_any is_underscore (chars main.now) }
+{
+    main.chars().any(|c| c == '_')
 }

@@ -10,27 +10,34 @@ use Rattle.litrs_build.proofs.byte_strings.byte_string.Goals as goal
 pub returns-in-Ok-clause-written : goal.returns-in-Ok-clause-written
 returns-in-Ok-clause-written c =
     ap chars c.in-Ok.ensures.raw
-    ∙ sym (byte_string_derives c.args.value.now c.args.suffix.now (string_bytes c.in_ok-text.text) (λ i. let f = c.type_inv.value i in omega arith) c.utf8.suffix
+    ∙ sym (byte_string_derives c.args.value.now c.args.suffix.now (string_bytes c.in_ok-text.text)
+    (λ i. let f = c.type_inv.value i in omega arith) c.utf8.suffix
     c.in_ok-text.ensures.suffix c.in_ok-text.ensures.text).spells
 
 pub returns-in-Ok-clause-parts : goal.returns-in-Ok-clause-parts
 returns-in-Ok-clause-parts c =
     sym (c.in-Ok.ensures.ok.1 (written_byte_string c.args.value.now (chars c.args.suffix.now))
-    (byte_string_derives c.args.value.now c.args.suffix.now (string_bytes c.in_ok-text.text) (λ i. let f = c.type_inv.value i in omega arith) c.utf8.suffix
+    (byte_string_derives c.args.value.now c.args.suffix.now (string_bytes c.in_ok-text.text)
+    (λ i. let f = c.type_inv.value i in omega arith) c.utf8.suffix
     c.in_ok-text.ensures.suffix c.in_ok-text.ensures.text))
 
 pub returns-in-Ok-clause-value : goal.returns-in-Ok-clause-value
 returns-in-Ok-clause-value c =
-    sym (ap string_value (c.in-Ok.ensures.ok.1 (written_byte_string c.args.value.now (chars c.args.suffix.now))
-    (byte_string_derives c.args.value.now c.args.suffix.now (string_bytes c.in_ok-text.text) (λ i. let f = c.type_inv.value i in omega arith) c.utf8.suffix
+    sym (ap string_value
+    (c.in-Ok.ensures.ok.1 (written_byte_string c.args.value.now (chars c.args.suffix.now))
+    (byte_string_derives c.args.value.now c.args.suffix.now (string_bytes c.in_ok-text.text)
+    (λ i. let f = c.type_inv.value i in omega arith) c.utf8.suffix
     c.in_ok-text.ensures.suffix c.in_ok-text.ensures.text)))
-    ∙ written_byte_string-value c.args.value.now (chars c.args.suffix.now) (λ i. let f = c.type_inv.value i in omega arith)
+    ∙ written_byte_string-value c.args.value.now (chars c.args.suffix.now)
+    (λ i. let f = c.type_inv.value i in omega arith)
 
 pub memory_error-requires : goal.memory_error-requires
 memory_error-requires c =
-    out_of_memory _ _ _ (a_byte_string (written_byte_string c.args.value.now (chars c.args.suffix.now))) (
+    out_of_memory _ _ _ (a_byte_string
+    (written_byte_string c.args.value.now (chars c.args.suffix.now))) (
       refl,
-      (byte_string_derives c.args.value.now c.args.suffix.now (string_bytes c.in_ok-text.text) (λ i. let f = c.type_inv.value i in omega arith) c.utf8.suffix
+      (byte_string_derives c.args.value.now c.args.suffix.now (string_bytes c.in_ok-text.text)
+          (λ i. let f = c.type_inv.value i in omega arith) c.utf8.suffix
           c.in_ok-text.ensures.suffix c.in_ok-text.ensures.text),
     )
     c.in-Err.ensures.refused

@@ -7,4 +7,5 @@ use Rattle.litrs_build.proofs.byte_strings.push_bytes.Given as goal
 
 abbrev pub invariant-loop-b : goal.invariant-loop-b
 invariant-loop-b l =
-    string_bytes l.text ≡ string_bytes l.initial.text ++ encode_utf8_all (body_text (byte_items (take l.b-index l.value)))
+    string_bytes l.text ≡ string_bytes l.initial.text
+    ++ encode_utf8_all (body_text (byte_items (take l.b-index l.value)))

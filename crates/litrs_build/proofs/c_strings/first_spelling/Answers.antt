@@ -5,4 +5,5 @@ use Rattle.litrs_build.proofs.c_strings.first_spelling.Goals as goal
 
 pub returns-in-Some-clause-within : goal.returns-in-Some-clause-within
 returns-in-Some-clause-within c =
-    rw c.len_utf8.ensures.value (len_within c.args.bytes.now c.in-Some.c c.requires (sym c.first_char.ensures ∙ c.in-Some.is))
+    rw c.len_utf8.ensures.value
+    (len_within c.args.bytes.now c.in-Some.c c.requires (sym c.first_char.ensures ∙ c.in-Some.is))

@@ -2,8 +2,7 @@
 use Rattle.std.proofs.Common.{◌≡◌, true, ℕ, List, sym, ◌∙◌, Bor}
 use Rattle.std.specs.Prelude.{option_map, string_bytes}
 use Rattle.std.specs.Str.{chars}
-use Rattle.std.proofs.lemmas.Result.{err_from_is_err_and}
-use Rattle.litrs_grammar.specs.Float.{FloatParts, IsFloat, IsFloatOf}
+use Rattle.litrs_grammar.specs.Float.{FloatParts, IsFloatOf}
 use Rattle.litrs_build.specs.BuiltFloat.{is_float}
 use Rattle.litrs_build.proofs.FloatLemmas.{float_of_test}
 use Rattle.litrs_build.proofs.floats.float.Goals as goal
@@ -28,7 +27,8 @@ returns-clause-parts c =
       suffix = chars c.args.suffix.now;
     } in
     let test : is_float d ≡ true = sym c.is_float.ensures ∙ c.if-not-is_float.false in
-    let is : IsFloatOf (chars (string_bytes c.in_ok-text.text)) d = record { spells = sym c.in_ok-text.ensures; grammar = float_of_test d test } in
+    let is : IsFloatOf (chars (string_bytes c.in_ok-text.text)) d =
+    record { spells = sym c.in_ok-text.ensures; grammar = float_of_test d test } in
     sym (c.float_of.ensures.only.1 d is)
 
 pub returns-clause-not_a_float : goal.returns-clause-not_a_float

@@ -6,4 +6,6 @@ use Rattle.litrs_build.proofs.floats.has_float_form.Goals as goal
 
 pub returns-in-None : goal.returns-in-None
 returns-in-None c =
-    rw c.in-None.is (c.is_exponent.ensures ∙ (ap is_exponent c.as_bytes.ensures.value ∙ sym (exponent-chars c.args.exponent.now c.utf8.exponent)))
+    rw c.in-None.is (c.is_exponent.ensures
+    ∙ (ap is_exponent c.as_bytes.ensures.value
+    ∙ sym (exponent-chars c.args.exponent.now c.utf8.exponent)))

@@ -14,11 +14,15 @@ pub returns-then-is_ok : goal.returns-then-is_ok
 returns-then-is_ok c =
     let bs = c.args.suffix.now in
     let exponent = c.args.exponent.now in
-    let suffix : is_suffix (chars bs) ≡ true = sym c.check_suffix.ensures.ok ∙ (sym c.is_ok.ensures.value ∙ c.if-is_ok.true) in
-    let bare : c.is_empty.result ≡ is_empty (chars exponent) = c.is_empty.ensures ∙ sym (chars_empty exponent c.utf8.exponent) in
+    let suffix : is_suffix (chars bs) ≡ true = sym c.check_suffix.ensures.ok
+    ∙ (sym c.is_ok.ensures.value ∙ c.if-is_ok.true) in
+    let bare : c.is_empty.result ≡ is_empty (chars exponent) = c.is_empty.ensures
+    ∙ sym (chars_empty exponent c.utf8.exponent) in
     let line = first_passes-chars is_underscore bs underscore_is_ascii c.utf8.suffix in
     let letter = first_passes-chars is_e bs e_is_ascii c.utf8.suffix in
     c.begins_apart.ensures
-    ∙ ((λ i. not (first_passes is_underscore (c.as_bytes.ensures.value i)) && not (bare i && first_passes is_e (c.as_bytes.ensures.value i)))
-    ∙ sym (ap (λ v. v && (not (first_passes is_underscore (chars bs)) && not (is_empty (chars exponent) && first_passes is_e (chars bs)))) suffix
+    ∙ ((λ i. not (first_passes is_underscore (c.as_bytes.ensures.value i))
+    && not (bare i && first_passes is_e (c.as_bytes.ensures.value i)))
+    ∙ sym (ap (λ v. v && (not (first_passes is_underscore (chars bs))
+    && not (is_empty (chars exponent) && first_passes is_e (chars bs)))) suffix
     ∙ (λ i. not (line i) && not (is_empty (chars exponent) && letter i))))

@@ -8,4 +8,5 @@ use Rattle.litrs_build.proofs.floats.push_part.Goals as goal
 pub returns : goal.returns
 returns c =
     ap chars c.in_ok-push_str.ensures.bytes
-    ∙ chars-append (string_bytes c.args.text.now) c.args.part.now (IsUtf8-string_bytes c.args.text.now)
+    ∙ chars-append (string_bytes c.args.text.now) c.args.part.now
+    (IsUtf8-string_bytes c.args.text.now)

@@ -12,8 +12,10 @@ pub returns-then-is_ok : goal.returns-then-is_ok
 returns-then-is_ok c =
     let bs = c.args.suffix.now in
     let base = c.args.base in
-    let suffix : is_suffix (chars bs) ≡ true = sym c.check_suffix.ensures.ok ∙ (sym c.is_ok.ensures.value ∙ c.if-is_ok.true) in
+    let suffix : is_suffix (chars bs) ≡ true = sym c.check_suffix.ensures.ok
+    ∙ (sym c.is_ok.ensures.value ∙ c.if-is_ok.true) in
     let apart = not (first_passes is_e bs) && not (first_passes (is_digit_or_underscore base) bs) in
     c.begins_apart.ensures
-    ∙ (ap (λ t. not (first_passes is_e t) && not (first_passes (is_digit_or_underscore base) t)) c.as_bytes.ensures.value
+    ∙ (ap (λ t. not (first_passes is_e t) && not (first_passes (is_digit_or_underscore base) t))
+    c.as_bytes.ensures.value
     ∙ sym (suffix-chars base bs c.utf8.suffix ∙ ap (λ v. v && apart) suffix))

@@ -17,12 +17,15 @@ returns-then-is_lone_zero c =
     let zero = first_passes (λ d. eqb d 48) main in
     let letter = first_passes is_base_letter (chars suffix) in
     let lone : (eqb (length (filter is_no_underscore main)) 1 && zero) ≡ true =
-    ap (λ n. eqb n 1 && zero) (sym c.requires.count) ∙ (sym c.is_lone_zero.ensures ∙ c.if-is_lone_zero.true) in
+    ap (λ n. eqb n 1 && zero) (sym c.requires.count)
+    ∙ (sym c.is_lone_zero.ensures ∙ c.if-is_lone_zero.true) in
     c.begins_with_base_letter.ensures
     ∙ (ap (first_passes is_base_letter) c.as_bytes.ensures.value
     ∙ (sym (letter-chars suffix c.utf8.suffix)
-    ∙ sym (ap (λ (b : IntegerBase). needs_separator b (digits_of main) (chars suffix)) c.in-Decimal.is
-    ∙ (separated main (chars suffix) (c.requires.decimal c.in-Decimal.is) ∙ ap (λ v. v && letter) lone))))
+    ∙ sym (ap (λ (b : IntegerBase). needs_separator b (digits_of main) (chars suffix))
+    c.in-Decimal.is
+    ∙ (separated main (chars suffix) (c.requires.decimal c.in-Decimal.is)
+    ∙ ap (λ v. v && letter) lone))))
 
 pub returns-else-is_lone_zero : goal.returns-else-is_lone_zero
 returns-else-is_lone_zero c =
@@ -31,7 +34,10 @@ returns-else-is_lone_zero c =
     let zero = first_passes (λ d. eqb d 48) main in
     let letter = first_passes is_base_letter (chars suffix) in
     let lone : (eqb (length (filter is_no_underscore main)) 1 && zero) ≡ false =
-    ap (λ n. eqb n 1 && zero) (sym c.requires.count) ∙ (sym c.is_lone_zero.ensures ∙ c.if-is_lone_zero.false) in
+    ap (λ n. eqb n 1 && zero) (sym c.requires.count)
+    ∙ (sym c.is_lone_zero.ensures ∙ c.if-is_lone_zero.false) in
     c.if-is_lone_zero.false
-    ∙ sym (ap (λ (b : IntegerBase). needs_separator b (digits_of main) (chars suffix)) c.in-Decimal.is
-    ∙ (separated main (chars suffix) (c.requires.decimal c.in-Decimal.is) ∙ ap (λ v. v && letter) lone))
+    ∙ sym (ap (λ (b : IntegerBase). needs_separator b (digits_of main) (chars suffix))
+    c.in-Decimal.is
+    ∙ (separated main (chars suffix) (c.requires.decimal c.in-Decimal.is)
+    ∙ ap (λ v. v && letter) lone))

@@ -1,5 +1,5 @@
 -- One more digit, or a `_` that is left out.
-use Rattle.std.proofs.Common.{◌≡◌, ◌≤◌, ◌<◌, ◌+◌, ◌-◌, ◌++◌, suc, length, drop, get_or, string_bytes, sym, ap, ◌∙◌, arith}
+use Rattle.std.proofs.Common.{◌≡◌, ◌≤◌, ◌+◌, ◌-◌, ◌++◌, suc, length, drop, get_or, string_bytes, sym, ap, ◌∙◌, arith}
 use Rattle.std.specs.Prelude.{filter}
 use Rattle.std.proofs.lemmas.List.{drop_more, drop_all}
 use Rattle.litrs_base.specs.Numeral.{is_no_underscore}
@@ -14,7 +14,8 @@ returns c =
     let i = c.loop-byte.byte-index in
     let past : length main ≤ i = omega arith in
     push_done c.args.group (string_bytes c.loop-byte.text) _
-    (ap (λ t. string_bytes c.loop-byte.text ++ grouped c.args.group (digits_of t)) (sym (drop_all i main past)) ∙ c.loop-byte.invariant.written)
+    (ap (λ t. string_bytes c.loop-byte.text ++ grouped c.args.group (digits_of t))
+    (sym (drop_all i main past)) ∙ c.loop-byte.invariant.written)
 
 pub loop-byte-preserved : goal.loop-byte-preserved
 loop-byte-preserved c =
@@ -32,7 +33,11 @@ loop-byte-preserved c =
     let count : after - 1 ≡ length (filter is_no_underscore r) = omega arith in
     record {
       count = count;
-      written = push_step group byte (after - 1) c.to_ascii_lowercase.result c.ends_group.result r text (string_bytes c.push_digit.new.text) _
-          c.if-byte-eq95.false count c.to_ascii_lowercase.ensures.value c.ends_group.ensures c.in_ok-push_digit.ensures
-          (ap (λ t. text ++ grouped group (digits_of t)) (sym front) ∙ c.loop-byte.invariant.written);
+      written = push_step group byte
+          (after - 1) c.to_ascii_lowercase.result c.ends_group.result r text
+          (string_bytes c.push_digit.new.text) _
+          c.if-byte-eq95.false count c.to_ascii_lowercase.ensures.value c.ends_group.ensures
+          c.in_ok-push_digit.ensures
+          (ap (λ t. text ++ grouped group (digits_of t)) (sym front)
+          ∙ c.loop-byte.invariant.written);
     }

@@ -4,7 +4,7 @@ use Rattle.std.specs.Char.{digit_char}
 use Rattle.std.specs.Int.Digits.{digits_of}
 use Rattle.std.proofs.lemmas.List.{append-nil, drop_all, length-set}
 use Rattle.litrs_base.specs.Base.{base_value}
-use Rattle.litrs_build.proofs.DigitLemmas.{two_le, digits_fit, write_step, write_fits, write_done, write_zero}
+use Rattle.litrs_build.proofs.DigitLemmas.{two_le, digits_fit, write_step, write_fits, write_zero}
 use Rattle.litrs_build.proofs.integers.write_digits.Goals as goal
 
 pub returns-then-value-eq0-clause-digits : goal.returns-then-value-eq0-clause-digits
@@ -27,7 +27,8 @@ loop-rest-init c =
 
 pub overflow_sub-start : goal.overflow_sub-start
 overflow_sub-start c =
-    (write_fits (base_value c.args.base) c.loop-rest.rest c.loop-rest.start (two_le c.args.base) c.loop-rest-test.true c.loop-rest.invariant.fits).0
+    (write_fits (base_value c.args.base) c.loop-rest.rest c.loop-rest.start
+    (two_le c.args.base) c.loop-rest-test.true c.loop-rest.invariant.fits).0
 
 pub loop-rest-preserved : goal.loop-rest-preserved
 loop-rest-preserved c =
@@ -41,7 +42,8 @@ loop-rest-preserved c =
     let some : 0 < rest = c.loop-rest-test.true in
     let fits = write_fits b rest start two some held.fits in
     let radix : c.from-radix.result ≡ b = c.from-radix.ensures ∙ c.value.ensures in
-    let digit : c.digit_char.result ≡ digit_char (rest % b) = c.digit_char.ensures ∙ ap (λ r. digit_char (rest % r)) radix in
+    let digit : c.digit_char.result ≡ digit_char (rest % b) = c.digit_char.ensures
+    ∙ ap (λ r. digit_char (rest % r)) radix in
     let room = held.room in
     let within = held.within in
     let inside : start ≤ length buffer = omega arith in
@@ -49,6 +51,7 @@ loop-rest-preserved c =
       within = omega arith;
       room = length-set buffer (start - 1) c.digit_char.result ∙ held.room;
       fits = subst (λ (r : ℕ). length (digits_of b (rest / r)) ≤ start - 1) (sym radix) fits.1;
-      written = (λ i. map digit_char (digits_of b (rest / radix i)) ++ drop (start - 1) (set buffer (start - 1) (digit i)))
+      written = (λ i. map digit_char (digits_of b (rest / radix i))
+          ++ drop (start - 1) (set buffer (start - 1) (digit i)))
           ∙ write_step b rest start buffer all two some fits.0 inside held.written;
     }

@@ -1,5 +1,5 @@
 -- The text is the integer that is built, and has no other parts.
-use Rattle.std.proofs.Common.{◌≡◌, sym}
+use Rattle.std.proofs.Common.{sym}
 use Rattle.std.specs.Prelude.{string_bytes}
 use Rattle.std.specs.Str.{chars}
 use Rattle.litrs_grammar.specs.Integer.{IsIntegerOf}
@@ -20,8 +20,10 @@ integer_of-requires c =
     let filled = some_digit_of base main c.requires.some_digit in (
       built_integer base c.args.group (digits_of main) (chars c.args.suffix.now),
       record {
-        spells = sym (text_of base c.args.group (digits_of main) c.args.suffix.now (string_bytes c.in_ok-text.text) all c.in_ok-text.ensures);
-        grammar = is_built base c.args.group (digits_of main) (chars c.args.suffix.now) filled all c.requires.suffix;
+        spells = sym (text_of base c.args.group (digits_of main) c.args.suffix.now
+            (string_bytes c.in_ok-text.text) all c.in_ok-text.ensures);
+        grammar = is_built base c.args.group (digits_of main)
+            (chars c.args.suffix.now) filled all c.requires.suffix;
       },
     )
 
@@ -33,7 +35,9 @@ returns-clause-parts c =
     let all = all_digits_of base main c.requires.digits in
     let filled = some_digit_of base main c.requires.some_digit in
     let is : IsIntegerOf (chars (string_bytes c.in_ok-text.text)) d = record {
-      spells = sym (text_of base c.args.group (digits_of main) c.args.suffix.now (string_bytes c.in_ok-text.text) all c.in_ok-text.ensures);
-      grammar = is_built base c.args.group (digits_of main) (chars c.args.suffix.now) filled all c.requires.suffix;
+      spells = sym (text_of base c.args.group (digits_of main) c.args.suffix.now
+          (string_bytes c.in_ok-text.text) all c.in_ok-text.ensures);
+      grammar = is_built base c.args.group (digits_of main)
+          (chars c.args.suffix.now) filled all c.requires.suffix;
     } in
     sym (c.integer_of.ensures.only.1 d is)

@@ -9,4 +9,5 @@ abbrev pub invariant-loop-c : goal.invariant-loop-c
 invariant-loop-c l =
     let rest = chars_rest l.rest in
     IsUtf8 rest × (l.run + length rest ≤ length l.fn.value) × (l.run ≤ l.most)
-    × (greater (greater l.most (pending l.run (chars rest))) (hashes_needed (chars rest)) ≡ hashes_needed (chars l.fn.value))
+    × (greater (greater l.most (pending l.run (chars rest))) (hashes_needed (chars rest))
+    ≡ hashes_needed (chars l.fn.value))

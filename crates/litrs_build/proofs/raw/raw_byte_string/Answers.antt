@@ -10,19 +10,23 @@ use Rattle.litrs_build.proofs.raw.raw_byte_string.Goals as goal
 pub returns-in-Ok-clause-written : goal.returns-in-Ok-clause-written
 returns-in-Ok-clause-written c =
     ap chars c.in-Ok.ensures.raw
-    ∙ sym (raw_byte_string_derives c.args.value.now c.args.suffix.now (string_bytes c.in_ok-text.text) c.utf8.suffix
+    ∙ sym (raw_byte_string_derives c.args.value.now c.args.suffix.now
+    (string_bytes c.in_ok-text.text) c.utf8.suffix
     c.in_ok-text.ensures.possible c.in_ok-text.ensures.text).spells
 
 pub returns-in-Ok-clause-parts : goal.returns-in-Ok-clause-parts
 returns-in-Ok-clause-parts c =
     sym (c.in-Ok.ensures.ok.1 (written_raw c.args.value.now (chars c.args.suffix.now))
-    (raw_byte_string_derives c.args.value.now c.args.suffix.now (string_bytes c.in_ok-text.text) c.utf8.suffix
+    (raw_byte_string_derives c.args.value.now c.args.suffix.now
+    (string_bytes c.in_ok-text.text) c.utf8.suffix
     c.in_ok-text.ensures.possible c.in_ok-text.ensures.text))
 
 pub returns-in-Ok-clause-value : goal.returns-in-Ok-clause-value
 returns-in-Ok-clause-value c =
-    sym (ap string_value (c.in-Ok.ensures.ok.1 (written_raw c.args.value.now (chars c.args.suffix.now))
-    (raw_byte_string_derives c.args.value.now c.args.suffix.now (string_bytes c.in_ok-text.text) c.utf8.suffix
+    sym (ap string_value
+    (c.in-Ok.ensures.ok.1 (written_raw c.args.value.now (chars c.args.suffix.now))
+    (raw_byte_string_derives c.args.value.now c.args.suffix.now
+    (string_bytes c.in_ok-text.text) c.utf8.suffix
     c.in_ok-text.ensures.possible c.in_ok-text.ensures.text)))
     ∙ raw_bytes-value c.args.value.now (chars c.args.suffix.now) c.in_ok-text.ensures.possible
 
@@ -30,7 +34,8 @@ pub memory_error-requires : goal.memory_error-requires
 memory_error-requires c =
     out_of_memory _ _ _ (a_byte_string (written_raw c.args.value.now (chars c.args.suffix.now))) (
       refl,
-      (raw_byte_string_derives c.args.value.now c.args.suffix.now (string_bytes c.in_ok-text.text) c.utf8.suffix
+      (raw_byte_string_derives c.args.value.now c.args.suffix.now
+          (string_bytes c.in_ok-text.text) c.utf8.suffix
           c.in_ok-text.ensures.possible c.in_ok-text.ensures.text),
     )
     c.in-Err.ensures.refused

@@ -8,5 +8,6 @@ use Rattle.litrs_build.proofs.strings.push_chars.Given as goal
 abbrev pub invariant-loop-c : goal.invariant-loop-c
 invariant-loop-c l =
     IsUtf8 (chars_rest l.rest)
-    × (string_bytes l.text ++ encode_utf8_all (body_text (char_items l.follows_mark (chars (chars_rest l.rest))))
+    × (string_bytes l.text
+    ++ encode_utf8_all (body_text (char_items l.follows_mark (chars (chars_rest l.rest))))
     ≡ string_bytes l.fn.text ++ encode_utf8_all (body_text (char_items true (chars l.fn.value))))

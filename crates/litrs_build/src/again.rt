@@ -1,0 +1,173 @@
+//! Literals that are written anew.
+ghost use Rattle.std.specs.Prelude.{◌≡◌, IfOk, IfErr};
+ghost use Rattle.std.specs.Str.{chars};
+ghost use Rattle.litrs_base.specs.declared.quotes.StringKind.TheVariants.{String as string_kind, ByteString as byte_string_kind, CString as c_string_kind};
+ghost use Rattle.litrs_grammar.specs.CharByte.{char_value};
+ghost use Rattle.litrs_grammar.specs.Literal.{IsLiteral, string_value, suffix_of};
+ghost use Rattle.litrs_grammar.specs.LiteralText.{literal_text};
+ghost use Rattle.litrs.specs.CharLiteral.{char_parts, byte_parts};
+ghost use Rattle.litrs.specs.LiteralDerivation.{derivation, literal_raw};
+ghost use Rattle.litrs_build.specs.WrittenAnew.{HaveSameValue, unescaped, unescaped_byte, unescaped_char, unescaped_string};
+
+use crate::byte_strings::byte_string;
+use crate::c_strings::c_string;
+use crate::chars::{byte, char};
+use crate::error::{BuildError, memory_error};
+use crate::raw::{raw_byte_string, raw_c_string, raw_string};
+use crate::strings::string;
+use litrs::{ByteLit, ByteStringLit, CStringLit, CharLit, Literal, StringLit, Text};
+use std::alloc::{AllocError, Global};
+
+/// The same literal as it is built of its value, with escapes only where they are needed: of
+/// `"\u{61}\'"x` it is `"a'"x`. Kind, value and suffix stay.
+///
+/// A char, a byte and a quoted string are written as [`char`], [`byte`], [`string`],
+/// [`byte_string`] and [`c_string`] write them. A raw string stays raw, as [`raw_string`],
+/// [`raw_byte_string`] and [`raw_c_string`] write it: with the least number of hashes that serves.
+/// A bool, an integer and a float keep their text. What is answered is its own answer. It allocates
+/// as those calls do, for an integer and a float once, and for a bool not at all.
+///
+/// # Errors
+///
+/// `AllocError` where an allocation fails.
+pub fn unescaped<B: Text>(alloc: Global, lit: &Literal<B>) -> Result<Literal<String>, AllocError>
+    ensures literal { IfOk result (λ built.
+        IsLiteral (chars (literal_raw built)) (derivation built)) }
+    ensures written { IfOk result (λ built.
+        chars (literal_raw built) ≡ literal_text (unescaped (derivation lit.now))) }
+    ensures parts { IfOk result (λ built. derivation built ≡ unescaped (derivation lit.now)) }
+    ensures value { IfOk result (λ built.
+        HaveSameValue (derivation lit.now) (derivation built)) }
+    ensures suffix { IfOk result (λ built.
+        suffix_of (derivation built) ≡ suffix_of (derivation lit.now)) }
+    ensures again { IfOk result (λ built. unescaped (derivation built) ≡ derivation built) }
+{
+    match built(alloc, lit) {
+        Ok(built) => Ok(with_text(built)),
+        Err(BuildError::Memory) => Err(AllocError),
+        Err(_) => unreachable!(),
+    }
+}
+
+/// The literal, of which the text is known.
+fn with_text(lit: Literal<String>) -> Literal<String>
+    ensures same { result ≡ lit }
+    ensures literal { IsLiteral (chars (literal_raw lit)) (derivation lit) }
+    ensures written { chars (literal_raw lit) ≡ literal_text (derivation lit) }
+{
+    // Called for its contract: the text is a literal with these parts.
+    let _ = lit.raw_input();
+    lit
+}
+
+/// The same literal as it is built of its value.
+fn built<B: Text>(alloc: Global, lit: &Literal<B>) -> Result<Literal<String>, BuildError>
+    ensures parts { IfOk result (λ built. derivation built ≡ unescaped (derivation lit.now)) }
+    ensures value { IfOk result (λ built.
+        HaveSameValue (derivation lit.now) (derivation built)) }
+    ensures errors { IfErr result (λ e. e ≡ BuildError.Memory) }
+{
+    match lit {
+        Literal::Bool(lit) => Ok(Literal::Bool(*lit)),
+        Literal::Integer(_) => kept(alloc, lit),
+        Literal::Float(_) => kept(alloc, lit),
+        Literal::Char(lit) => Ok(Literal::Char(built_char(alloc, lit)?)),
+        Literal::Byte(lit) => Ok(Literal::Byte(built_byte(alloc, lit)?)),
+        Literal::String(lit) => Ok(Literal::String(built_string(alloc, lit)?)),
+        Literal::ByteString(lit) => Ok(Literal::ByteString(built_byte_string(alloc, lit)?)),
+        Literal::CString(lit) => Ok(Literal::CString(built_c_string(alloc, lit)?)),
+    }
+}
+
+/// The literal with its own text.
+fn kept<B: Text>(alloc: Global, lit: &Literal<B>) -> Result<Literal<String>, BuildError>
+    ensures parts { IfOk result (λ copy. derivation copy ≡ derivation lit.now) }
+    ensures errors { IfErr result (λ e. e ≡ BuildError.Memory) }
+{
+    let text = String::from_str(alloc, lit.raw_input())?;
+    match Literal::parse(alloc, text) {
+        Ok(copy) => Ok(copy),
+        Err(e) => Err(memory_error(&e)),
+    }
+}
+
+/// The char of the same character.
+fn built_char<B: Text>(alloc: Global, lit: &CharLit<B>) -> Result<CharLit<String>, BuildError>
+    ensures parts { IfOk result (λ built.
+        char_parts built ≡ unescaped_char (char_parts lit.now)) }
+    ensures value { IfOk result (λ built.
+        char_value (char_parts built).item ≡ char_value (char_parts lit.now).item) }
+    ensures errors { IfErr result (λ e. e ≡ BuildError.Memory) }
+{
+    // Called for its contract: the suffix is one.
+    let _ = lit.raw_input();
+    char(alloc, lit.value(), lit.suffix())
+}
+
+/// The byte of the same number.
+fn built_byte<B: Text>(alloc: Global, lit: &ByteLit<B>) -> Result<ByteLit<String>, BuildError>
+    ensures parts { IfOk result (λ built.
+        byte_parts built ≡ unescaped_byte (byte_parts lit.now)) }
+    ensures value { IfOk result (λ built.
+        char_value (byte_parts built).item ≡ char_value (byte_parts lit.now).item) }
+    ensures errors { IfErr result (λ e. e ≡ BuildError.Memory) }
+{
+    // Called for its contract: the suffix is one.
+    let _ = lit.raw_input();
+    byte(alloc, lit.value(), lit.suffix())
+}
+
+/// The string of the same text, quoted or raw.
+fn built_string<B: Text>(alloc: Global, lit: &StringLit<B>) -> Result<StringLit<String>, BuildError>
+    ensures parts { IfOk result (λ built.
+        built.parts ≡ unescaped_string string_kind lit.now.parts) }
+    ensures value { IfOk result (λ built. string_value built.parts ≡ string_value lit.now.parts) }
+    ensures errors { IfErr result (λ e. e ≡ BuildError.Memory) }
+{
+    // Called for its contract: the parts are those of a string.
+    let _ = lit.raw_input();
+    if lit.is_raw_string() {
+        raw_string(alloc, lit.value(), lit.suffix())
+    } else {
+        string(alloc, lit.value(), lit.suffix())
+    }
+}
+
+/// The byte string of the same bytes, quoted or raw.
+fn built_byte_string<B: Text>(
+    alloc: Global,
+    lit: &ByteStringLit<B>,
+) -> Result<ByteStringLit<String>, BuildError>
+    ensures parts { IfOk result (λ built.
+        built.parts ≡ unescaped_string byte_string_kind lit.now.parts) }
+    ensures value { IfOk result (λ built. string_value built.parts ≡ string_value lit.now.parts) }
+    ensures errors { IfErr result (λ e. e ≡ BuildError.Memory) }
+{
+    // Called for its contract: the parts are those of a byte string.
+    let _ = lit.raw_input();
+    if lit.is_raw_byte_string() {
+        raw_byte_string(alloc, lit.value(), lit.suffix())
+    } else {
+        byte_string(alloc, lit.value(), lit.suffix())
+    }
+}
+
+/// The C string of the same bytes, quoted or raw.
+fn built_c_string<B: Text>(
+    alloc: Global,
+    lit: &CStringLit<B>,
+) -> Result<CStringLit<String>, BuildError>
+    ensures parts { IfOk result (λ built.
+        built.parts ≡ unescaped_string c_string_kind lit.now.parts) }
+    ensures value { IfOk result (λ built. string_value built.parts ≡ string_value lit.now.parts) }
+    ensures errors { IfErr result (λ e. e ≡ BuildError.Memory) }
+{
+    // Called for its contract: the parts are those of a C string.
+    let _ = lit.raw_input();
+    let value = lit.value().to_bytes();
+    if lit.is_raw_c_string() {
+        raw_c_string(alloc, value, lit.suffix())
+    } else {
+        c_string(alloc, value, lit.suffix())
+    }
+}
