@@ -16,6 +16,7 @@ const STEP: usize = 16;
 
 /// Whether `"` stands first, with fewer hashes after it: a quote that does not close a body between
 /// so many hashes.
+#[inline(always)]
 pub fn is_inner_quote(bytes: &[u8], hashes: usize) -> bool
     ensures { result
         ≡ (first_passes is_quote bytes.now && not (begins_with (raw_closing hashes) bytes.now)) }
