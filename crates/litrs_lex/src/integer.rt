@@ -69,6 +69,8 @@ pub(crate) fn cut_integer_at(input: &str, cut: IntegerCut) -> Result<IntegerCut,
 }
 
 /// The text cut after the prefix and after all digits of the base and underscores.
+// Inlined, since a base that is stored as a byte is loaded as a word.
+#[inline(always)]
 pub(crate) fn cut_digits(input: &str) -> IntegerCut
     ensures { IsDigitsCut result input.now }
 {
