@@ -106,9 +106,7 @@ class Tests:
         at = 0
         for wanted, it in zip(FOUND, objects):
             text, _, wrong = wanted.partition(":")
-            at = SOURCE.index(text, at)
-            while text == "1" and SOURCE[at - 3 : at] == "foo":
-                at = SOURCE.index(text, at + 1)
+            at = re.compile(rf"(?<!\w){re.escape(text)}(?!\w)").search(SOURCE, at).start()
             place = at + (text.index(wrong) if wrong else 0)
             before = SOURCE[:place]
             line, column = before.count("\n") + 1, place - before.rfind("\n")
