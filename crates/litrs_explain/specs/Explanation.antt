@@ -1,0 +1,109 @@
+-- The lines on a literal.
+use Rattle.std.specs.Prelude.{ℕ, nat_le, List, [], ◌∷◌, ◌++◌, Option, Some, None, codes, if◌then◌else◌}
+use Rattle.std.specs.Fmt.{decimal}
+use Rattle.std.specs.List.{flat_map}
+use Rattle.std.specs.Str.{chars, encode_utf8_all}
+use Rattle.litrs_base.specs.declared.integer.IntegerType.{IntegerType}
+use Rattle.litrs_base.specs.declared.integer.IntegerType.TheVariants.{U8, U16, U32, U64, U128, Usize, I8, I16, I32, I64, I128, Isize}
+use Rattle.litrs_base.specs.Base.{base_value}
+use Rattle.litrs_base.specs.IntegerTypes.{type_name}
+use Rattle.litrs_base.specs.Numeral.{greatest_of}
+use Rattle.litrs_grammar.specs.Bool.{bool_text}
+use Rattle.litrs_grammar.specs.CharByte.{char_text, char_value}
+use Rattle.litrs_grammar.specs.Float.{FloatParts}
+use Rattle.litrs_grammar.specs.Integer.{IntegerParts, integer_value}
+use Rattle.litrs_grammar.specs.Literal.{Derivation, a_bool, an_integer, a_float, a_char, a_byte, a_string, a_byte_string, a_c_string, string_value, suffix_of}
+use Rattle.litrs.specs.CharKind.{char_kind}
+use Rattle.litrs.specs.StringKind.{string_kind, byte_string_kind, c_string_kind}
+use Rattle.litrs.specs.LiteralText.{string_text}
+use Rattle.litrs_build.specs.Written.{written_char, written_string, written_byte_string}
+use Rattle.litrs_build.specs.CStrings.{written_c_string}
+
+-- what the kind is called
+abbrev pub kind_name : Derivation → List ℕ
+kind_name (a_bool b) = codes "bool"
+kind_name (an_integer d) = codes "integer"
+kind_name (a_float d) = codes "float"
+kind_name (a_char d) = codes "char"
+kind_name (a_byte d) = codes "byte"
+kind_name (a_string d) = codes "string"
+kind_name (a_byte_string d) = codes "byte string"
+kind_name (a_c_string d) = codes "C string"
+
+-- a line on a part of this name
+abbrev pub field : (name part : List ℕ) → List ℕ
+field name part = codes "  " ++ (name ++ (codes " " ++ (part ++ codes "\n")))
+
+-- the same, or none where the part is empty
+abbrev pub field_of_part : (name part : List ℕ) → List ℕ
+field_of_part name [] = []
+field_of_part name part = field name part
+
+-- a number in decimal, where 128 bits hold it
+abbrev pub integer_text : ℕ → List ℕ
+integer_text n = if nat_le n (greatest_of U128) then decimal n else codes "2^128 or more"
+
+-- all integer types
+abbrev pub integer_types : List IntegerType
+integer_types =
+    U8 ∷ U16 ∷ U32 ∷ U64 ∷ U128 ∷ Usize ∷ I8 ∷ I16 ∷ I32 ∷ I64 ∷ I128 ∷ Isize ∷ []
+
+-- a blank and the name of the type, where it has the number
+abbrev pub name_where_fits : ℕ → IntegerType → List ℕ
+name_where_fits n ty = if nat_le n (greatest_of ty) then codes " " ++ type_name ty else []
+
+-- those of the types, one after the other
+abbrev pub names_of : ℕ → List IntegerType → List ℕ
+names_of n types = flat_map (name_where_fits n) types
+
+-- those of all types
+abbrev pub names_that_fit : ℕ → List ℕ
+names_that_fit n =
+    if nat_le n (greatest_of U128) then names_of n integer_types else codes " no integer type"
+
+-- the lines on the value, the base and the digits of an integer, and on the types that have it
+abbrev pub integer_fields : IntegerParts → List ℕ
+integer_fields d =
+    codes "  value " ++ (integer_text (integer_value d)
+    ++ (codes "\n  base " ++ (decimal (base_value d.base)
+    ++ (codes "\n  digits " ++ (encode_utf8_all d.main
+    ++ (codes "\n  fits" ++ (names_that_fit (integer_value d) ++ codes "\n")))))))
+
+-- the line on the digits after a period, which may be none, and no line where there is no period
+abbrev pub fraction_field : Option (List ℕ) → List ℕ
+fraction_field None = []
+fraction_field (Some digits) = field (codes "fraction") (encode_utf8_all digits)
+
+-- the lines on the parts of a float
+abbrev pub float_fields : FloatParts → List ℕ
+float_fields d =
+    codes "  integer part " ++ (encode_utf8_all d.integer
+    ++ (codes "\n" ++ (fraction_field d.fraction
+    ++ field_of_part (codes "exponent") (encode_utf8_all d.exponent))))
+
+-- The literal of the value, as it is built: what is not printable in it is escaped.
+abbrev pub value_text : Derivation → List ℕ
+value_text (a_char d) = char_text char_kind (written_char (char_value d.item) [])
+value_text (a_string d) = string_text string_kind (written_string (chars (string_value d)) [])
+value_text (a_byte_string d) =
+    string_text byte_string_kind (written_byte_string (string_value d) [])
+value_text (a_c_string d) = string_text c_string_kind (written_c_string (string_value d) [])
+value_text _ = []
+
+-- The lines on the value and on the parts but the suffix: of a byte its number, of a char and a
+-- string the literal of the value.
+abbrev pub fields : Derivation → List ℕ
+fields (a_bool b) = field (codes "value") (bool_text b)
+fields (an_integer d) = integer_fields d
+fields (a_float d) = float_fields d
+fields (a_byte d) = field (codes "value") (decimal (char_value d.item))
+fields (a_char d) = field (codes "value") (encode_utf8_all (value_text (a_char d)))
+fields (a_string d) = field (codes "value") (encode_utf8_all (value_text (a_string d)))
+fields (a_byte_string d) = field (codes "value") (encode_utf8_all (value_text (a_byte_string d)))
+fields (a_c_string d) = field (codes "value") (encode_utf8_all (value_text (a_c_string d)))
+
+-- a line on the kind, and below it those on the value and the parts
+abbrev pub explanation : Derivation → List ℕ
+explanation d =
+    kind_name d ++ (codes "\n" ++ (fields d
+    ++ field_of_part (codes "suffix") (encode_utf8_all (suffix_of d))))
