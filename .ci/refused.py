@@ -117,7 +117,7 @@ def escaped(data):
 def some_lengths(draw):
     """Lengths around each constant of the code, and others."""
     lengths = {0, 1, 5, 333, 1000, 5000}
-    for constant in [8, 16, 32, 64, 80, 128, 1024, 8192, 16384]:
+    for constant in [8, 16, 32, 64, 80, 128, 1024, 4096, 8192, 16384]:
         lengths |= {constant - 1, constant, constant + 1}
     return sorted(lengths | {draw.randrange(5000) for _ in range(DRAWN)})
 
