@@ -1,6 +1,6 @@
 -- Chars and bytes. The Rust Reference, Tokens, Literals: "Character literals" and "Byte literals".
-use Rattle.std.specs.Prelude.{◌≡◌, ℕ, ◌+◌, Bool, true, not, ◌==◌, ◌&&◌, ◌||◌, if◌then◌else◌, List, [], ◌∷◌, ◌++◌, Option, Some, None, IsTrue, length, take, drop, slice_index, option_map, is_some}
-use Rattle.std.specs.List.{list_any, position_or_len}
+use Rattle.std.specs.Prelude.{◌≡◌, ℕ, ◌+◌, Bool, true, not, ◌==◌, ◌&&◌, ◌||◌, if◌then◌else◌, List, [], ◌∷◌, ◌++◌, Option, Some, None, IsTrue, length, take, drop, option_map, is_some}
+use Rattle.std.specs.List.{list_any}
 use Rattle.litrs_base.specs.declared.quotes.CharKind.{CharKind}
 use Rattle.litrs_base.specs.declared.quotes.CharKind.TheVariants.{Char as char_kind, Byte as byte_kind}
 use Rattle.litrs_base.specs.Quotes.{char_front, char_switches_of}
@@ -8,8 +8,8 @@ use Rattle.litrs_base.specs.Unescape.{unescaped_number}
 use Rattle.litrs_base.specs.Refusal.{Refusal, without_span, at_byte, shifted}
 use Rattle.litrs_base.specs.declared.err.ParseErrorKind.{ParseErrorKind}
 use Rattle.litrs_base.specs.declared.err.ParseErrorKind.TheVariants.{Empty, DoesNotStartWithQuote, InvalidByteLiteralStart, UnterminatedCharLiteral, UnterminatedByteLiteral, UnescapedSingleQuote, EmptyCharLiteral, EmptyByteLiteral, UnescapedSpecialWhitespace, NonAsciiInByteLiteral, OverlongCharLiteral, OverlongByteLiteral}
-use Rattle.litrs_base.specs.Characters.{line_feed, tab, carriage_return, single_quote, backslash, letter_x, letter_u, close_brace, is_ascii}
-use Rattle.litrs_grammar.specs.Escape.{Escape, escape_text, escape_value, is_escape, escape_refusal}
+use Rattle.litrs_base.specs.Characters.{line_feed, tab, carriage_return, single_quote, backslash, is_ascii}
+use Rattle.litrs_grammar.specs.Escape.{Escape, escape_text, escape_value, is_escape, escape_at_front, escape_refusal}
 use Rattle.litrs_grammar.specs.Suffix.{is_suffix, suffix_refusal}
 use Rattle.litrs_base.specs.Text.{byte_len, first_passes, begins_with}
 
@@ -81,16 +81,9 @@ start_refusal kind [] = without_span Empty
 start_refusal char_kind (c ∷ t) = at_byte 0 DoesNotStartWithQuote
 start_refusal byte_kind (c ∷ t) = without_span InvalidByteLiteralStart
 
--- how many characters the escape has that stands at the front of a text
-abbrev pub escape_length : List ℕ → ℕ
-escape_length t =
-    if slice_index t 1 == letter_x then 4
-    else if slice_index t 1 == letter_u then position_or_len (λ c. c == close_brace) t + 1
-    else 2
-
--- how many the item has that begins with this character
-abbrev pub char_item_length : ℕ → List ℕ → ℕ
-char_item_length c t = if c == backslash then escape_length t else 1
+-- the item that a text with this first character begins with, if it begins with one
+abbrev pub char_item_at_front : ℕ → List ℕ → CharItem
+char_item_at_front c t = if c == backslash then escaped_char (escape_at_front t) else plain_char c
 
 -- by what follows the item, which has this many bytes
 abbrev pub closing_refusal : CharKind → ℕ → List ℕ → Option Refusal
@@ -105,7 +98,7 @@ closing_refusal kind place t =
 abbrev pub char_item_refusal : CharKind → List ℕ → Option Refusal
 char_item_refusal kind [] = Some (without_span (unterminated_kind kind))
 char_item_refusal kind (c ∷ t) =
-    let n = char_item_length c (c ∷ t) in
+    let n = length (char_item_text (char_item_at_front c (c ∷ t))) in
     if (c == single_quote) && first_passes (λ d. d == single_quote) t
     then Some (at_byte 0 UnescapedSingleQuote)
     else if c == single_quote then Some (without_span (empty_kind kind))

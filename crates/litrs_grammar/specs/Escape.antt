@@ -89,6 +89,16 @@ is_escape w (unicode_escape inner) =
 abbrev pub IsEscape : Switches → Escape → Type 0
 IsEscape w e = IsTrue (is_escape w e)
 
+-- The escape that a text begins with, if it begins with one: a backslash and what follows it, which
+-- is `x` and two characters, `u` and the characters up to the first `}`, or one character.
+abbrev pub escape_at_front : List ℕ → Escape
+escape_at_front t =
+    let letter = slice_index t 1 in
+    if letter == letter_x then hex_escape (slice_index t 2) (slice_index t 3)
+    else if letter == letter_u
+    then unicode_escape (before_first (λ c. c == close_brace) (drop 3 t))
+    else simple_escape letter
+
 -- Why a text has no escape at its front. The text is empty or begins with the backslash, from which
 -- the spans count; of the rows of each function the first that fits decides, and where none fits an
 -- escape stands there.

@@ -94,13 +94,13 @@ IsQuotedLiteral kind = IsQuoted (quoted_front kind) (switches_of kind)
 -- Why a text is no quoted literal. It is the front, the text of a list of items, and a rest which
 -- alone decides why.
 
--- An item is taken into the list by what follows it. A continuation has all spaces, tabs and LFs;
+-- An item is taken into the list by what follows it. A continuation takes all blanks, as in a body;
 -- and neither a continuation nor an escape is taken that ends the text: it belongs to the rest.
 abbrev pub is_complete_before : List ℕ → Item → Bool
 is_complete_before after (plain_item c) = true
 is_complete_before after (escape_item e) = not (is_empty after)
 is_complete_before after (continuation blanks) =
-    not (is_empty after) && not (first_passes is_blank after)
+    not (is_empty after) && takes_all_blanks (continuation blanks) after
 
 -- the items are taken into the list, where the rest follows them
 abbrev pub is_item_list : Switches → List ℕ → List Item → Bool

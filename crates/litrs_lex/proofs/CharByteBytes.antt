@@ -27,12 +27,12 @@ use Rattle.litrs_base.specs.declared.quotes.CharKind.TheVariants.{Char as char_k
 use Rattle.litrs_base.specs.Quotes.{char_front, char_switches_of}
 use Rattle.litrs_grammar.specs.Escape.{Escape, simple_escape, hex_escape, unicode_escape, is_escape, is_simple, escape_text, escape_value, escape_refusal}
 use Rattle.litrs_grammar.specs.Suffix.{is_suffix, suffix_refusal}
-use Rattle.litrs_grammar.specs.CharByte.{CharItem, plain_char, escaped_char, char_item_text, char_value, is_special_whitespace, allows_char, is_char_item, CharParts, IsCharLiteral, unterminated_kind, empty_kind, overlong_kind, start_refusal, escape_length, char_item_length, closing_refusal, char_item_refusal, char_kind_refusal}
+use Rattle.litrs_grammar.specs.CharByte.{CharItem, plain_char, escaped_char, char_item_text, char_value, is_special_whitespace, allows_char, is_char_item, CharParts, IsCharLiteral, unterminated_kind, empty_kind, overlong_kind, start_refusal, closing_refusal, char_item_refusal, char_kind_refusal}
 use Rattle.litrs_grammar.specs.Literal.{kind_parse, LiteralKind, char_literal, byte_literal}
 use Rattle.litrs_grammar.specs.LiteralRefusals.{IsKindRefusal}
 use Rattle.litrs_grammar.specs.Refused.{IsRefused}
 use Rattle.litrs_base.specs.Derivations.{IsOnlyDerivation}
-use Rattle.litrs_grammar.proofs.Laws.CharByte.{chars_are_unique, closing_read, escape_length_is}
+use Rattle.litrs_grammar.proofs.Laws.CharByte.{chars_are_unique, closing_read, item_closing}
 use Rattle.litrs_grammar.proofs.Spans.CharByte.{char_spans_lie_in_text}
 use Rattle.litrs_grammar.proofs.Laws.Escape.{by_simple, refusal_escape}
 use Rattle.litrs_grammar.proofs.QuotedItems.{escape_head}
@@ -218,42 +218,12 @@ wide_item bs b c t len u begins high same size =
     (is_plain char_kind c (ne_eqb c 39 (λ e. omega arith)) (ne_eqb c 92 (λ e. omega arith)) (wide_special c wide) refl) refl refl (sym size)
 
 -- what follows the item decides
-item_then : (kind : CharKind) (a : CharItem) (rest : List ℕ) → is_char_item kind a ≡ true →
-    char_item_refusal kind (char_item_text a ++ rest) ≡ closing_refusal kind (byte_len (char_item_text a)) rest
-item_then kind (plain_char c) rest h =
-    let p = and_parts _ (allows_char kind c) h in
-    let q = and_parts _ (not (is_special_whitespace c)) p.0 in
-    let r = and_parts (not (c == 39)) (not (c == 92)) q.0 in
-    let one : char_item_length c (c ∷ rest) ≡ 1 = if_false _ _ _ (not-true _ r.1) in
-    if_false _ _ _ (and_left _ _ (not-true _ r.0))
-    ∙ (if_false _ _ _ (not-true _ r.0)
-    ∙ (if_false _ _ _ (not-true _ q.1)
-    ∙ (if_false _ _ _ (and_left _ _ (not-true _ r.1))
-    ∙ (if_false _ _ _ (ap not p.1)
-    ∙ ap (λ n. closing_refusal kind (byte_len (take n (c ∷ rest))) (drop n (c ∷ rest))) one))))
-item_then kind (escaped_char e) rest h = escaped (escape_head e rest)
-  where
-    escaped : (c : ℕ) × (r : List ℕ) × (escape_text e ++ rest ≡ 92 ∷ c ∷ r) → char_item_refusal kind (escape_text e ++ rest) ≡ closing_refusal kind (byte_len (escape_text e)) rest
-    escaped (c, r, head) =
-        let w = char_switches_of kind in
-        let none : escape_refusal w (92 ∷ c ∷ r) ≡ None = subst (λ (l : List ℕ). escape_refusal w l ≡ None) head (refusal_escape w e rest h) in
-        let size : escape_length (92 ∷ c ∷ r) ≡ length (escape_text e) = subst (λ (l : List ℕ). escape_length l ≡ length (escape_text e)) head (escape_length_is w e rest h) in
-        let after : drop (length (escape_text e)) (92 ∷ c ∷ r) ≡ rest =
-        subst (λ (l : List ℕ). drop (length (escape_text e)) l ≡ rest) head (drop_at (escape_text e) rest (length (escape_text e)) refl) in
-        let before : take (length (escape_text e)) (92 ∷ c ∷ r) ≡ escape_text e =
-        subst (λ (l : List ℕ). take (length (escape_text e)) l ≡ escape_text e) head (take_at (escape_text e) rest (length (escape_text e)) refl) in
-        ap (char_item_refusal kind) head
-        ∙ (if_false _ _ _ (ap is_some none)
-        ∙ (if_false _ _ _ (ap not (backslash_allowed kind))
-        ∙ (ap (λ n. closing_refusal kind (byte_len (take n (92 ∷ c ∷ r))) (drop n (92 ∷ c ∷ r))) size
-        ∙ (ap (λ l. closing_refusal kind (byte_len l) (drop (length (escape_text e)) (92 ∷ c ∷ r))) before ∙ ap (closing_refusal kind (byte_len (escape_text e))) after))))
-
 pub after_item : (kind : CharKind) (bs : List ℕ) (value : Unescape) (len : ℕ) → IsUtf8 bs → IsItemRead kind bs value len →
     char_item_refusal kind (chars bs) ≡ closing_refusal kind len (chars (drop len bs))
 after_item kind bs value len u r =
     let cut = cut_at bs (char_item_text r.item) r.rest u (sym r.spells) in
     let rest : chars (drop len bs) ≡ r.rest = subst (λ (n : ℕ). chars (drop n bs) ≡ r.rest) r.size cut.rest in
-    ap (char_item_refusal kind) (sym r.spells) ∙ (item_then kind r.item r.rest r.grammar ∙ (ap (λ n. closing_refusal kind n r.rest) r.size ∙ ap (closing_refusal kind len) (sym rest)))
+    ap (char_item_refusal kind) (sym r.spells) ∙ (item_closing kind r.item r.rest r.grammar ∙ (ap (λ n. closing_refusal kind n r.rest) r.size ∙ ap (closing_refusal kind len) (sym rest)))
 
 pub closing_refused : (kind : CharKind) (bs : List ℕ) (value : Unescape) (len : ℕ) (e : ParseError) → IsUtf8 bs → IsItemRead kind bs value len →
     closing_refusal kind len (chars (drop len bs)) ≡ Some (refusal_of e) → HasCharSpan (chars bs) e → IsItemRefused kind (chars bs) e

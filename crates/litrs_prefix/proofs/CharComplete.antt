@@ -19,10 +19,8 @@ use Rattle.litrs_grammar.specs.Escape.{escape_text, escape_refusal}
 use Rattle.litrs_base.specs.declared.quotes.CharKind.{CharKind}
 use Rattle.litrs_base.specs.declared.quotes.CharKind.TheVariants.{Char as char_kind, Byte as byte_kind}
 use Rattle.litrs_base.specs.Quotes.{char_front, char_switches_of}
-use Rattle.litrs_grammar.specs.CharByte.{CharItem, plain_char, escaped_char, char_item_text, is_special_whitespace, allows_char, is_char_item, CharParts, IsCharLiteral, escape_length, char_item_length, closing_refusal, char_item_refusal, char_kind_refusal}
-use Rattle.litrs_grammar.proofs.QuotedItems.{escape_head}
-use Rattle.litrs_grammar.proofs.Laws.Escape.{refusal_escape}
-use Rattle.litrs_grammar.proofs.Laws.CharByte.{escape_length_is, backslash_allowed}
+use Rattle.litrs_grammar.specs.CharByte.{CharItem, plain_char, escaped_char, char_item_text, is_special_whitespace, allows_char, is_char_item, CharParts, IsCharLiteral, closing_refusal, char_item_refusal, char_kind_refusal}
+use Rattle.litrs_grammar.proofs.Laws.CharByte.{item_closing}
 use Rattle.litrs_prefix.specs.Prefix.{ends_suffix}
 use Rattle.litrs_prefix.specs.Opens.{after_name}
 use Rattle.litrs_prefix.specs.Ends.{IsSuffixKind}
@@ -35,42 +33,10 @@ refused_at place x = Some (at_byte (place + 1) (suffix_refusal x))
 closing_refused : (kind : CharKind) (place : ℕ) (x : List ℕ) → is_suffix x ≡ false → closing_refusal kind place (39 ∷ x) ≡ refused_at place x
 closing_refused kind place x h = here (is_suffix x) _ _ h
 
-abbrev after_item : CharKind → List ℕ → ℕ → Option Refusal
-after_item kind t n = closing_refusal kind (byte_len (take n t)) (drop n t)
-
-pass_none : (o y z : Option Refusal) → o ≡ None → y ≡ z → (if true && is_some o then o else y) ≡ z
-pass_none o y z h g = rw h g
-
 -- an item, its quote, and what makes the suffix none
 item_refused : (kind : CharKind) (a : CharItem) (x : List ℕ) → is_char_item kind a ≡ true → is_suffix x ≡ false →
     char_item_refusal kind (char_item_text a ++ 39 ∷ x) ≡ refused_at (byte_len (char_item_text a)) x
-item_refused kind (plain_char c) x h g =
-    let p = and_parts _ (allows_char kind c) h in
-    let q = and_parts _ (not (is_special_whitespace c)) p.0 in
-    let r = and_parts (not (c == 39)) (not (c == 92)) q.0 in
-    let one : char_item_length c (c ∷ 39 ∷ x) ≡ 1 = if_false _ _ _ (not-true _ r.1) in
-    if_false _ _ _ (and_left _ _ (not-true _ r.0))
-    ∙ (if_false _ _ _ (not-true _ r.0)
-    ∙ (if_false _ _ _ (not-true _ q.1)
-    ∙ (if_false _ _ _ (and_left _ _ (not-true _ r.1))
-    ∙ (skip (allows_char kind c) _ _ p.1
-    ∙ subst (λ n. after_item kind (c ∷ 39 ∷ x) n ≡ refused_at (byte_len (c ∷ [])) x) (sym one) (closing_refused kind _ x g)))))
-item_refused kind (escaped_char e) x h g = escaped (escape_text e ++ 39 ∷ x) (escape_head e (39 ∷ x)) refl
-  where
-    escaped : (t : List ℕ) → (c : ℕ) × (r : List ℕ) × (t ≡ 92 ∷ c ∷ r) → t ≡ escape_text e ++ 39 ∷ x → char_item_refusal kind t ≡ refused_at (byte_len (escape_text e)) x
-    escaped t (c, r, head) same =
-        let whole : escape_text e ++ 39 ∷ x ≡ 92 ∷ c ∷ r = sym same ∙ head in
-        let w = char_switches_of kind in
-        let none : escape_refusal w (92 ∷ c ∷ r) ≡ None = subst (λ l. escape_refusal w l ≡ None) whole (refusal_escape w e (39 ∷ x) h) in
-        let size : escape_length (92 ∷ c ∷ r) ≡ length (escape_text e) = subst (λ l. escape_length l ≡ length (escape_text e)) whole (escape_length_is w e (39 ∷ x) h) in
-        let after : drop (length (escape_text e)) (92 ∷ c ∷ r) ≡ 39 ∷ x = subst (λ l. drop (length (escape_text e)) l ≡ 39 ∷ x) whole (drop_at (escape_text e) (39 ∷ x) (length (escape_text e)) refl) in
-        let before : take (length (escape_text e)) (92 ∷ c ∷ r) ≡ escape_text e = subst (λ l. take (length (escape_text e)) l ≡ escape_text e) whole (take-append_seam (escape_text e) (39 ∷ x)) in
-        ap (char_item_refusal kind) head
-        ∙ pass_none _ _ _ none
-        (skip (allows_char kind 92) _ _ (backslash_allowed kind)
-        ∙ (ap (after_item kind (92 ∷ c ∷ r)) size
-        ∙ (ap (λ l. closing_refusal kind (byte_len l) (drop (length (escape_text e)) (92 ∷ c ∷ r))) before
-        ∙ (ap (closing_refusal kind (byte_len (escape_text e))) after ∙ closing_refused kind (byte_len (escape_text e)) x g))))
+item_refused kind a x h g = item_closing kind a (39 ∷ x) h ∙ closing_refused kind (byte_len (char_item_text a)) x g
 
 kind_refused : (kind : CharKind) (inner : List ℕ) → char_kind_refusal kind (char_front kind ++ inner) ≡ option_map (shifted (length (char_front kind))) (char_item_refusal kind inner)
 unfolding char_kind_refusal

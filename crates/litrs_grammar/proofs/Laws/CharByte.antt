@@ -1,9 +1,9 @@
 -- The laws of chars and bytes.
 use Rattle.std.proofs.Common.{◌≡◌, ℕ, Bool, true, false, not, ◌&&◌, List, [], ◌∷◌, ◌++◌, length, take, drop, Option, Some, None, refl, sym, ap, ◌∙◌, subst, arith, append_assoc, length-append}
 use Rattle.std.specs.Prelude.{◌==◌, if◌then◌else◌, option_map, is_some}
-use Rattle.std.specs.List.{list_any, position_or_len}
+use Rattle.std.specs.List.{list_any, before_first}
 use Rattle.std.proofs.lemmas.Bool.{and_parts, and_from, not-true, eqb-true, false≢true, and_left, not_from_false}
-use Rattle.std.proofs.lemmas.List.{append_cancel_left, drop_at}
+use Rattle.std.proofs.lemmas.List.{append_cancel_left, drop_at, take_at}
 use Rattle.litrs_base.specs.Refusal.{Refusal, shifted}
 use Rattle.litrs_grammar.specs.Suffix.{is_suffix}
 use Rattle.litrs_base.specs.Text.{first_passes, byte_len, begins_with}
@@ -11,10 +11,10 @@ use Rattle.litrs_base.specs.declared.quotes.Switches.{Switches}
 use Rattle.litrs_base.specs.declared.quotes.CharKind.{CharKind}
 use Rattle.litrs_base.specs.declared.quotes.CharKind.TheVariants.{Char as char_kind, Byte as byte_kind}
 use Rattle.litrs_base.specs.Quotes.{char_front, char_switches_of}
-use Rattle.litrs_grammar.specs.Escape.{Escape, simple_escape, hex_escape, unicode_escape, escape_text, is_escape, is_simple, escape_refusal}
-use Rattle.litrs_grammar.specs.CharByte.{CharItem, plain_char, escaped_char, char_item_text, is_special_whitespace, allows_char, is_char_item, CharParts, IsCharLiteral, escape_length, char_item_length, closing_refusal, char_item_refusal, char_kind_refusal}
+use Rattle.litrs_grammar.specs.Escape.{Escape, simple_escape, hex_escape, unicode_escape, escape_text, is_escape, is_simple, escape_at_front, escape_refusal}
+use Rattle.litrs_grammar.specs.CharByte.{CharItem, plain_char, escaped_char, char_item_text, is_special_whitespace, allows_char, is_char_item, CharParts, IsCharLiteral, char_item_at_front, closing_refusal, char_item_refusal, char_kind_refusal}
 use Rattle.litrs_grammar.specs.Laws.CharByte.{CharsAreUnique, CharsAreDecided, NoCharEndsWithLineFeed}
-use Rattle.litrs_base.proofs.ListTests.{unless_none, none_if, none_unless, if_true, if_false, position_or_len-split}
+use Rattle.litrs_base.proofs.ListTests.{unless_none, none_if, none_unless, if_true, if_false, before_first-split}
 use Rattle.litrs_base.proofs.Begins.{begins_with-split, begins_with-append}
 use Rattle.litrs_base.proofs.Spans.{none_from}
 use Rattle.litrs_grammar.proofs.Laws.Escape.{by_simple, same_escape, refusal_escape, read_escape, HasEscape, unicode_parts}
@@ -57,16 +57,14 @@ no_char_ends_with_line_feed kind t d h =
     closed_before_line_feed (char_front kind ++ char_item_text d.item) 39 d.suffix t refl h.suffix
     (append_assoc (char_front kind) (char_item_text d.item) (39 ∷ d.suffix) ∙ h.spells)
 
--- the length of an escape, by the text
-pub escape_length_is : (w : Switches) (e : Escape) (x : List ℕ) → is_escape w e ≡ true → escape_length (escape_text e ++ x) ≡ length (escape_text e)
-escape_length_is w (simple_escape c) x h =
+-- the escape that a text begins with
+pub escape_at_front_is : (w : Switches) (e : Escape) (x : List ℕ) → is_escape w e ≡ true → escape_at_front (escape_text e ++ x) ≡ e
+escape_at_front_is w (simple_escape c) x h =
     let simple = and_parts (is_simple c) _ h in
-    by_simple (λ c. escape_length (92 ∷ c ∷ x) ≡ 2) c simple.0 refl refl refl refl refl refl refl
-escape_length_is w (hex_escape c d) x h = refl
-escape_length_is w (unicode_escape inner) x h =
-    let at = position_or_len-split (λ c. c == 125) inner 125 x (unicode_parts w inner h) refl in
-    let at' : position_or_len (λ c. c == 125) ((inner ++ 125 ∷ []) ++ x) ≡ length inner = ap (position_or_len (λ c. c == 125)) (append_assoc inner (125 ∷ []) x) ∙ at in
-    omega (arith, at', length-append inner (125 ∷ []))
+    by_simple (λ c. escape_at_front (92 ∷ c ∷ x) ≡ simple_escape c) c simple.0 refl refl refl refl refl refl refl
+escape_at_front_is w (hex_escape c d) x h = refl
+escape_at_front_is w (unicode_escape inner) x h =
+    ap unicode_escape (ap (before_first (λ c. c == 125)) (append_assoc inner (125 ∷ []) x) ∙ before_first-split (λ c. c == 125) inner 125 x (unicode_parts w inner h) refl)
 
 -- the closing quote and a suffix
 closing_none : (kind : CharKind) (place : ℕ) (s : List ℕ) → is_suffix s ≡ true → closing_refusal kind place (39 ∷ s) ≡ None
@@ -90,41 +88,54 @@ pub backslash_allowed : (kind : CharKind) → allows_char kind 92 ≡ true
 backslash_allowed char_kind = refl
 backslash_allowed byte_kind = refl
 
-none_some : (b : Bool) (o y : Option Refusal) → o ≡ None → y ≡ None → (if b && is_some o then o else y) ≡ None
-none_some true o y h g = rw h g
-none_some false o y h g = g
+-- the row of an escape passes on where one stands there
+pub none_row : (b : Bool) (o y : Option Refusal) → o ≡ None → (if b && is_some o then o else y) ≡ y
+none_row false o y h = refl
+none_row true o y h = rw h refl
 
 some_none : (b : Bool) (o y : Option Refusal) → (if b && is_some o then o else y) ≡ None → ((b && is_some o) ≡ false) × (y ≡ None)
 some_none false o y h = (refl, h)
 some_none true None y h = (refl, h)
 some_none true (Some e) y h = cc
 
--- the table has no row for an item, the closing quote and a suffix
-item_none : (kind : CharKind) (a : CharItem) (s : List ℕ) → is_char_item kind a ≡ true → is_suffix s ≡ true → char_item_refusal kind (char_item_text a ++ 39 ∷ s) ≡ None
-item_none kind (plain_char c) s h g =
-    let p = and_parts _ (allows_char kind c) h in
+-- what follows the item that begins with this character
+abbrev after_char_item : CharKind → List ℕ → CharItem → Option Refusal
+after_char_item kind t item = after_item kind t (length (char_item_text item))
+
+-- after an item what follows it decides
+pub item_closing : (kind : CharKind) (item : CharItem) (t : List ℕ) → is_char_item kind item ≡ true →
+    char_item_refusal kind (char_item_text item ++ t) ≡ closing_refusal kind (byte_len (char_item_text item)) t
+item_closing kind (plain_char c) t is =
+    let p = and_parts _ (allows_char kind c) is in
     let q = and_parts _ (not (is_special_whitespace c)) p.0 in
     let r = and_parts (not (c == 39)) (not (c == 92)) q.0 in
-    let one : char_item_length c (c ∷ 39 ∷ s) ≡ 1 = if_false _ _ _ (not-true _ r.1) in
-    none_if _ _ _ (and_left _ _ (not-true _ r.0))
-    (none_if _ _ _ (not-true _ r.0)
-    (none_if _ _ _ (not-true _ q.1)
-    (if_false _ _ _ (and_left _ _ (not-true _ r.1))
-    ∙ none_unless _ _ _ p.1 (subst (λ n. after_item kind (c ∷ 39 ∷ s) n ≡ None) (sym one) (closing_none kind _ s g)))))
-item_none kind (escaped_char e) s h g = escaped (escape_text e ++ 39 ∷ s) (escape_head e (39 ∷ s)) refl
+    let item : char_item_at_front c (c ∷ t) ≡ plain_char c = if_false _ _ _ (not-true _ r.1) in
+    if_false _ _ _ (and_left _ _ (not-true _ r.0))
+    ∙ if_false _ _ _ (not-true _ r.0)
+    ∙ if_false _ _ _ (not-true _ q.1)
+    ∙ if_false _ _ _ (and_left _ _ (not-true _ r.1))
+    ∙ if_false _ _ _ (ap not p.1)
+    ∙ ap (after_char_item kind (c ∷ t)) item
+item_closing kind (escaped_char e) t is = escaped (escape_head e t)
   where
-    escaped : (t : List ℕ) → (c : ℕ) × (r : List ℕ) × (t ≡ 92 ∷ c ∷ r) → t ≡ escape_text e ++ 39 ∷ s → char_item_refusal kind t ≡ None
-    escaped t (c, r, head) same =
-        let whole : escape_text e ++ 39 ∷ s ≡ 92 ∷ c ∷ r = sym same ∙ head in
-        let w = char_switches_of kind in
-        let none : escape_refusal w (92 ∷ c ∷ r) ≡ None = subst (λ l. escape_refusal w l ≡ None) whole (refusal_escape w e (39 ∷ s) h) in
-        let size : escape_length (92 ∷ c ∷ r) ≡ length (escape_text e) = subst (λ l. escape_length l ≡ length (escape_text e)) whole (escape_length_is w e (39 ∷ s) h) in
-        let after : drop (length (escape_text e)) (92 ∷ c ∷ r) ≡ 39 ∷ s = subst (λ l. drop (length (escape_text e)) l ≡ 39 ∷ s) whole (drop_at (escape_text e) (39 ∷ s) (length (escape_text e)) refl) in
-        subst (λ l. char_item_refusal kind l ≡ None) (sym head)
-        (none_some true _ _ none
-        (none_unless _ _ _ (backslash_allowed kind)
-        (subst (λ n. after_item kind (92 ∷ c ∷ r) n ≡ None) (sym size)
-        (subst (λ l. closing_refusal kind (byte_len (take (length (escape_text e)) (92 ∷ c ∷ r))) l ≡ None) (sym after) (closing_none kind _ s g)))))
+    w : Switches
+    w = char_switches_of kind
+
+    escaped : (c : ℕ) × (s : List ℕ) × (escape_text e ++ t ≡ 92 ∷ c ∷ s) → char_item_refusal kind (escape_text e ++ t) ≡ closing_refusal kind (byte_len (escape_text e)) t
+    escaped (c, s, head) =
+        let none : escape_refusal w (92 ∷ c ∷ s) ≡ None = ap (escape_refusal w) (sym head) ∙ refusal_escape w e t is in
+        let item : escape_at_front (92 ∷ c ∷ s) ≡ e = ap escape_at_front (sym head) ∙ escape_at_front_is w e t is in
+        let taken : take (length (escape_text e)) (92 ∷ c ∷ s) ≡ escape_text e = ap (take (length (escape_text e))) (sym head) ∙ take_at (escape_text e) t (length (escape_text e)) refl in
+        let after : drop (length (escape_text e)) (92 ∷ c ∷ s) ≡ t = ap (drop (length (escape_text e))) (sym head) ∙ drop_at (escape_text e) t (length (escape_text e)) refl in
+        ap (char_item_refusal kind) head
+        ∙ none_row true _ _ none
+        ∙ if_false _ _ _ (ap not (backslash_allowed kind))
+        ∙ ap (λ f. after_char_item kind (92 ∷ c ∷ s) (escaped_char f)) item
+        ∙ (λ j. closing_refusal kind (byte_len (taken j)) (after j))
+
+-- the table has no row for an item, the closing quote and a suffix
+item_none : (kind : CharKind) (a : CharItem) (s : List ℕ) → is_char_item kind a ≡ true → is_suffix s ≡ true → char_item_refusal kind (char_item_text a ++ 39 ∷ s) ≡ None
+item_none kind a s h g = item_closing kind a (39 ∷ s) h ∙ closing_none kind _ s g
 
 -- where the table has no row, an item, the closing quote and a suffix stand there
 pub record HasChar (kind : CharKind) (t : List ℕ) (a : CharItem) (s : List ℕ) : Type 0 where
@@ -139,15 +150,15 @@ not_some : (o : Option Refusal) → is_some o ≡ false → o ≡ None
 not_some None h = refl
 not_some (Some e) h = cc
 
-escape_before : (kind : CharKind) (t : List ℕ) → escape_refusal (char_switches_of kind) (92 ∷ t) ≡ None → after_item kind (92 ∷ t) (escape_length (92 ∷ t)) ≡ None → SomeChar kind (92 ∷ t)
+escape_before : (kind : CharKind) (t : List ℕ) → escape_refusal (char_switches_of kind) (92 ∷ t) ≡ None → after_char_item kind (92 ∷ t) (escaped_char (escape_at_front (92 ∷ t))) ≡ None → SomeChar kind (92 ∷ t)
 escape_before kind t none h = go (read_escape (char_switches_of kind) t none)
   where
     go : (e : Escape) × (rest : List ℕ) × HasEscape (char_switches_of kind) (92 ∷ t) e rest → SomeChar kind (92 ∷ t)
     go (e, rest, here) =
-        let size : escape_length (92 ∷ t) ≡ length (escape_text e) =
-        subst (λ l. escape_length l ≡ length (escape_text e)) here.spells (escape_length_is (char_switches_of kind) e rest here.grammar) in
-        let after : drop (escape_length (92 ∷ t)) (92 ∷ t) ≡ rest =
-        ap (λ n. drop n (92 ∷ t)) size ∙ subst (λ l. drop (length (escape_text e)) l ≡ rest) here.spells (drop_at (escape_text e) rest (length (escape_text e)) refl) in
+        let item : escape_at_front (92 ∷ t) ≡ e =
+        subst (λ l. escape_at_front l ≡ e) here.spells (escape_at_front_is (char_switches_of kind) e rest here.grammar) in
+        let after : drop (length (escape_text (escape_at_front (92 ∷ t)))) (92 ∷ t) ≡ rest =
+        ap (λ f. drop (length (escape_text f)) (92 ∷ t)) item ∙ subst (λ l. drop (length (escape_text e)) l ≡ rest) here.spells (drop_at (escape_text e) rest (length (escape_text e)) refl) in
         let closes = closing_read kind _ _ h in (
           escaped_char e,
           closes.0,
@@ -170,10 +181,10 @@ item_read kind (c ∷ t) h =
   where
     by_backslash : (b : Bool) → (c == 92) ≡ b → (c == 39) ≡ false → is_special_whitespace c ≡ false →
         ((c == 92) && is_some (escape_refusal (char_switches_of kind) (c ∷ t))) ≡ false → allows_char kind c ≡ true →
-        after_item kind (c ∷ t) (char_item_length c (c ∷ t)) ≡ None → SomeChar kind (c ∷ t)
+        after_char_item kind (c ∷ t) (char_item_at_front c (c ∷ t)) ≡ None → SomeChar kind (c ∷ t)
     by_backslash false n quote special none allowed after =
-        let one : char_item_length c (c ∷ t) ≡ 1 = if_false _ _ _ n in
-        let closes = closing_read kind _ _ (subst (λ n. after_item kind (c ∷ t) n ≡ None) one after) in (
+        let item : char_item_at_front c (c ∷ t) ≡ plain_char c = if_false _ _ _ n in
+        let closes = closing_read kind _ _ (subst (λ a. after_char_item kind (c ∷ t) a ≡ None) item after) in (
           plain_char c,
           closes.0,
           record {
@@ -184,11 +195,11 @@ item_read kind (c ∷ t) h =
         )
     by_backslash true y quote special none allowed after =
         let at : c ≡ 92 = eqb-true c 92 y in
-        let size : char_item_length c (c ∷ t) ≡ escape_length (c ∷ t) = if_true _ _ _ y in
+        let item : char_item_at_front c (c ∷ t) ≡ escaped_char (escape_at_front (c ∷ t)) = if_true _ _ _ y in
         let never : is_some (escape_refusal (char_switches_of kind) (c ∷ t)) ≡ false = subst (λ b. (b && is_some (escape_refusal (char_switches_of kind) (c ∷ t))) ≡ false) y none in
         subst (λ n. SomeChar kind (n ∷ t)) (sym at)
         (escape_before kind t (subst (λ n. escape_refusal (char_switches_of kind) (n ∷ t) ≡ None) at (not_some _ never))
-        (subst (λ n. after_item kind (n ∷ t) (escape_length (n ∷ t)) ≡ None) at (subst (λ n. after_item kind (c ∷ t) n ≡ None) size after)))
+        (subst (λ n. after_char_item kind (n ∷ t) (escaped_char (escape_at_front (n ∷ t))) ≡ None) at (subst (λ a. after_char_item kind (c ∷ t) a ≡ None) item after)))
 
 pub chars_are_decided : CharsAreDecided
 unfolding char_kind_refusal

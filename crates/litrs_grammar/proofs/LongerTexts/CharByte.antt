@@ -19,13 +19,13 @@ use Rattle.litrs_base.specs.declared.quotes.CharKind.{CharKind}
 use Rattle.litrs_base.specs.declared.quotes.CharKind.TheVariants.{Char as char_kind, Byte as byte_kind}
 use Rattle.litrs_base.specs.Quotes.{char_front, char_switches_of}
 use Rattle.litrs_grammar.specs.Escape.{Escape, escape_text, is_escape, escape_refusal}
-use Rattle.litrs_grammar.specs.CharByte.{CharItem, plain_char, escaped_char, char_item_text, is_special_whitespace, allows_char, is_char_item, CharParts, IsCharLiteral, unterminated_kind, empty_kind, overlong_kind, start_refusal, char_item_length, escape_length, closing_refusal, char_item_refusal, char_kind_refusal}
+use Rattle.litrs_grammar.specs.CharByte.{CharItem, plain_char, escaped_char, char_item_text, is_special_whitespace, allows_char, is_char_item, CharParts, IsCharLiteral, unterminated_kind, empty_kind, overlong_kind, start_refusal, closing_refusal, char_item_refusal, char_kind_refusal}
 use Rattle.litrs_grammar.specs.Continuation.{BeginsBy, EndsBy}
 use Rattle.litrs_grammar.specs.GoesOn.CharByte.{CharRestGoesOn, CharGoesOn}
 use Rattle.litrs_grammar.proofs.LongerTexts.Suffix.{front_of, suffix_freed, is_suffix-nil, underscore_x}
 use Rattle.litrs_grammar.proofs.LongerTexts.OpenRows.{is_open_row, shut_if, shut_suffix, shut_escape}
 use Rattle.litrs_grammar.proofs.LineFeeds.{is_other, escape_other, suffix_other, no_line_feed}
-use Rattle.litrs_grammar.proofs.Laws.CharByte.{chars_are_decided, escape_length_is, backslash_allowed}
+use Rattle.litrs_grammar.proofs.Laws.CharByte.{chars_are_decided, item_closing, none_row, backslash_allowed}
 use Rattle.litrs_grammar.proofs.Laws.Escape.{refusal_escape, read_escape, HasEscape, same_escape}
 use Rattle.litrs_grammar.proofs.LongerTexts.Escape.{escape_final}
 use Rattle.litrs_grammar.proofs.QuotedItems.{escape_head}
@@ -146,41 +146,6 @@ moved_final n (Some r) = refl
 unterminated_not_final : (kind : CharKind) → is_final (unterminated_kind kind) ≡ false
 unterminated_not_final char_kind = refl
 unterminated_not_final byte_kind = refl
-
-none_row : (b : Bool) (o y : Option Refusal) → o ≡ None → (if b && is_some o then o else y) ≡ y
-none_row false o y h = refl
-none_row true o y h = rw h refl
-
--- an item is followed by what closes it
-item_closing : (kind : CharKind) (item : CharItem) (t : List ℕ) → is_char_item kind item ≡ true →
-    char_item_refusal kind (char_item_text item ++ t) ≡ closing_refusal kind (byte_len (char_item_text item)) t
-item_closing kind (plain_char c) t is =
-    let p = and_parts _ (allows_char kind c) is in
-    let q = and_parts _ (not (is_special_whitespace c)) p.0 in
-    let r = and_parts (not (c == 39)) (not (c == 92)) q.0 in
-    let one : char_item_length c (c ∷ t) ≡ 1 = if_false _ _ _ (not-true _ r.1) in
-    if_false _ _ _ (and_left _ _ (not-true _ r.0))
-    ∙ if_false _ _ _ (not-true _ r.0)
-    ∙ if_false _ _ _ (not-true _ q.1)
-    ∙ if_false _ _ _ (and_left _ _ (not-true _ r.1))
-    ∙ if_false _ _ _ (ap not p.1)
-    ∙ ap (λ n. closing_refusal kind (byte_len (take n (c ∷ t))) (drop n (c ∷ t))) one
-item_closing kind (escaped_char e) t is = escaped (escape_head e t)
-  where
-    w : Switches
-    w = char_switches_of kind
-
-    escaped : (c : ℕ) × (s : List ℕ) × (escape_text e ++ t ≡ 92 ∷ c ∷ s) → char_item_refusal kind (escape_text e ++ t) ≡ closing_refusal kind (byte_len (escape_text e)) t
-    escaped (c, s, head) =
-        let none : escape_refusal w (92 ∷ c ∷ s) ≡ None = ap (escape_refusal w) (sym head) ∙ refusal_escape w e t is in
-        let size : escape_length (92 ∷ c ∷ s) ≡ length (escape_text e) = ap escape_length (sym head) ∙ escape_length_is w e t is in
-        let taken : take (length (escape_text e)) (92 ∷ c ∷ s) ≡ escape_text e = ap (take (length (escape_text e))) (sym head) ∙ take_at (escape_text e) t (length (escape_text e)) refl in
-        let after : drop (length (escape_text e)) (92 ∷ c ∷ s) ≡ t = ap (drop (length (escape_text e))) (sym head) ∙ drop_at (escape_text e) t (length (escape_text e)) refl in
-        ap (char_item_refusal kind) head
-        ∙ none_row true _ _ none
-        ∙ if_false _ _ _ (ap not (backslash_allowed kind))
-        ∙ ap (λ n. closing_refusal kind (byte_len (take n (92 ∷ c ∷ s))) (drop n (92 ∷ c ∷ s))) size
-        ∙ (λ j. closing_refusal kind (byte_len (taken j)) (after j))
 
 -- nothing closes it
 closing_nothing : (kind : CharKind) (item : CharItem) (t : List ℕ) → is_char_item kind item ≡ true → char_item_text item ≡ t → final_row (char_item_refusal kind t) ≡ false

@@ -10,7 +10,7 @@ use Rattle.litrs_grammar.specs.Escape.{escape_refusal}
 use Rattle.litrs_base.specs.declared.quotes.CharKind.{CharKind}
 use Rattle.litrs_base.specs.declared.quotes.CharKind.TheVariants.{Char as char_kind, Byte as byte_kind}
 use Rattle.litrs_base.specs.Quotes.{char_front, char_switches_of}
-use Rattle.litrs_grammar.specs.CharByte.{is_special_whitespace, allows_char, char_item_length, closing_refusal, char_item_refusal, start_refusal, char_kind_refusal}
+use Rattle.litrs_grammar.specs.CharByte.{char_item_text, is_special_whitespace, allows_char, char_item_at_front, closing_refusal, char_item_refusal, start_refusal, char_kind_refusal}
 use Rattle.litrs_grammar.specs.Laws.CharByte.{CharSpansLieInText}
 use Rattle.litrs_base.proofs.Spans.{byte_len-append}
 use Rattle.litrs_base.proofs.ByteLen.{byte_len_one_ascii}
@@ -36,7 +36,7 @@ closing_fits kind before (c ∷ t) =
 item_fits : (kind : CharKind) (t : List ℕ) → AllFit t (char_item_refusal kind t)
 item_fits kind [] = tt
 item_fits kind (c ∷ t) =
-    let n = char_item_length c (c ∷ t) in
+    let n = length (char_item_text (char_item_at_front c (c ∷ t))) in
     fit_if _ ((c == 39) && first_passes (λ d. d == 39) t) _ _ (λ _. first_byte c t)
     (λ _. fit_if _ (c == 39) _ _ (λ _. tt)
     (λ _. fit_if _ (is_special_whitespace c) _ _ (λ _. first_byte c t)
