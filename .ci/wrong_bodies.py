@@ -3,9 +3,12 @@
 
     .ci/wrong_bodies.py [CRATE ..]
     .ci/wrong_bodies.py --read [CRATE ..]     reads them, and tries none
+    .ci/wrong_bodies.py --follow LOG          tries all, beside the `rt ci` that writes this log
 
 At the top of the repository, after `rt ci`, over the libraries that it built; of all crates where
-none is named. A wrong body is a file `crates/CRATE/wrong/NAME.edit` of lines `file:`, `old:` and
+none is named. With `--follow` the bodies of a crate are tried as soon as the log says that the
+crates below it are proved, over copies of their libraries, and at the least priority: on processors
+that `rt ci` and what comes after it leave idle. A wrong body is a file `crates/CRATE/wrong/NAME.edit` of lines `file:`, `old:` and
 `new:`, as in `must-fail/`. Each is read before any is tried: where an old text does not stand just
 once in its file, the script names every such edit and stops.
 
@@ -24,10 +27,12 @@ import difflib
 import os
 import pathlib
 import re
+import resource
 import shutil
 import subprocess
 import sys
 import tempfile
+import threading
 import time
 
 import libraries
@@ -45,6 +50,8 @@ PLACE = re.compile(r"\bsrc/(\S+?\.rt):(\d+):\d+")
 # What the checker says of a goal that has no answer in proofs/ and that its search did not prove.
 NOTE = re.compile(r"note: src/(\S+?):(\d+):\d+: it is not proved that (.*)")
 OPEN = re.compile(r"no proof: .*?(`search` did not prove .*)")
+# What `rt ci` says of a crate that is proved.
+PROVED = re.compile(r"(?m)^rt: (\w+) proved$")
 # What it says of a proof that names something the edit took away.
 MISSING = re.compile(r"has no field|is not in scope|has no `|was not admitted")
 
@@ -102,19 +109,19 @@ def path_of(file, *names):
 
 
 def owners_of(file, text, offset):
-    """The paths of the functions that a change at this place touches. A path that ends in `::` stands
-    for all that is in an impl."""
+    """The paths of the functions that a change at this place touches: the one it stands in; of a
+    constant those that name it, in its impl if it has one. A path that ends in `::` stands for all
+    that is in an impl."""
     around, inside = owner_at(text, offset)
     if inside and inside[0] == "fn":
         return {path_of(file, around, inside[1])}
-    if around:
-        return {path_of(file, around) + "::"}
     owners = set()
-    for found in re.finditer(rf"\b{inside[1]}\b", text) if inside else ():
-        around_it, user = owner_at(text, found.start())
-        if user and user[0] == "fn":
-            owners.add(path_of(file, around_it, user[1]))
-    return owners
+    if inside and inside[0] == "const":
+        for found in re.finditer(rf"\b{inside[1]}\b", text):
+            around_it, user = owner_at(text, found.start())
+            if user and user[0] == "fn" and around in (None, around_it):
+                owners.add(path_of(file, around_it, user[1]))
+    return owners or ({path_of(file, around) + "::"} if around else owners)
 
 
 @dataclasses.dataclass
@@ -406,23 +413,77 @@ def unreadable(tried, crates):
     return faults
 
 
-def try_all(tried, crates):
-    """Tries the bodies of these crates, and returns what came of each."""
-    for crate in tried:
-        libraries.stop_unless_built(crate.below(crates))
-    # Those that take long come first.
-    tried.sort(key=lambda it: -it.proof_lines())
+class Proofs:
+    """What an `rt ci` that runs beside this script has proved, by the log that it writes."""
+
+    def __init__(self, log, crates, room):
+        self.log, self.crates, self.room = pathlib.Path(log), crates, pathlib.Path(room)
+        self.proved, self.changed = set(), threading.Condition()
+        # (rt ci may put back the libraries that it found, so these are copies)
+        libraries.library_folder = lambda name: self.room / name
+        threading.Thread(target=self.follow, daemon=True).start()
+
+    def follow(self):
+        """Copies the library of each crate once the log says that it is proved."""
+        while len(self.proved) < len(self.crates):
+            log = self.log.read_text() if self.log.exists() else ""
+            for name in sorted(set(PROVED.findall(log)) - self.proved):
+                rlib = libraries.TOP / "crates" / name / "out/rlib"
+                if rlib.exists():
+                    shutil.copytree(rlib, self.room / name)
+                with self.changed:
+                    self.proved.add(name)
+                    self.changed.notify_all()
+            time.sleep(1)
+
+    def next_of(self, waiting):
+        """Takes the first of these crates for which all below it are proved, and waits for one."""
+        with self.changed:
+            while waiting:
+                for crate in waiting:
+                    if self.proved.issuperset(crate.below(self.crates)):
+                        waiting.remove(crate)
+                        return crate
+                self.changed.wait()
+        return None
+
+
+def try_in_turn(waiting, next_of, crates, room):
+    """Tries the bodies of one crate after the other, and returns what came of each."""
     outcomes = []
-    with tempfile.TemporaryDirectory(prefix="wrong-bodies-") as room:
-        with concurrent.futures.ThreadPoolExecutor(len(os.sched_getaffinity(0))) as pool:
-            for report in pool.map(lambda it: Trial(it, crates, room).run(), tried):
-                print(*(it.line for it in report), sep="\n", flush=True)
-                outcomes += report
+    while (crate := next_of(waiting)) is not None:
+        report = Trial(crate, crates, room).run()
+        print(*(it.line for it in report), sep="\n", flush=True)
+        outcomes += report
     return outcomes
 
 
+def try_all(tried, crates, log):
+    """Tries the bodies of these crates, and returns what came of each."""
+    # Those that take long come first.
+    waiting = sorted(tried, key=lambda it: -it.proof_lines())
+    with tempfile.TemporaryDirectory(prefix="wrong-bodies-") as room:
+        if log:
+            os.nice(19)
+            next_of = Proofs(log, crates, pathlib.Path(room, "libraries")).next_of
+        else:
+            for crate in tried:
+                libraries.stop_unless_built(crate.below(crates))
+            lock = threading.Lock()
+
+            def next_of(waiting):
+                with lock:
+                    return waiting.pop(0) if waiting else None
+
+        lanes = len(os.sched_getaffinity(0))
+        with concurrent.futures.ThreadPoolExecutor(lanes) as pool:
+            begun = [pool.submit(try_in_turn, waiting, next_of, crates, room) for _ in range(lanes)]
+            return [outcome for it in begun for outcome in it.result()]
+
+
 def main(words):
-    names = [it for it in words if it != "--read"]
+    log = words.pop(words.index("--follow") + 1) if "--follow" in words else None
+    names = [it for it in words if not it.startswith("--")]
     crates = libraries.crates_of(libraries.TOP)
     if unknown := [it for it in names if it not in crates]:
         sys.exit(f"crates.txt has no crate {', '.join(unknown)}")
@@ -436,7 +497,9 @@ def main(words):
         print(*(f"{it.name}: {it.count()}" for it in tried), sep="\n")
         print(f"wrong: {sum(it.is_wrong for crate in tried for it in crate.bodies)} can be read")
         return 0
-    outcomes = try_all(tried, crates)
+    outcomes = try_all(tried, crates, log)
+    used = resource.getrusage(resource.RUSAGE_CHILDREN)
+    print(f"processor time of the checks: {used.ru_utime + used.ru_stime:.0f} s")
     failed = [it.line for it in outcomes if not it.holds]
     print(*(f"FAILED: {it}" for it in failed), sep="\n", end="\n" if failed else "")
     for name, is_wrong in (("harmless", False), ("wrong", True)):

@@ -76,9 +76,9 @@ pub fn raw_byte_string(
     }
 }
 
-/// The raw C string of some bytes, without the NUL that closes it, as `cr"C:\"` and `cr#"a"b"#`, with
-/// the least number of hashes that serves and a suffix, which may be empty. There is one allocation
-/// for its text, and one for its value. See [the reference][ref].
+/// The raw C string of some bytes, without the NUL that closes it, as `cr"C:\"` and `cr#"a"b"#`,
+/// with the least number of hashes that serves and a suffix, which may be empty. There is one
+/// allocation for its text, and one for its value. See [the reference][ref].
 ///
 /// # Errors
 ///

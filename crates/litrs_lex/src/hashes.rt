@@ -34,27 +34,18 @@ pub fn are_hashes(bytes: &[u8]) -> bool
     hash_len(bytes) == bytes.len()
 }
 
-/// How many hashes stand first.
+/// How many hashes stand first, by 16 bytes a step as long as there are so many.
 #[inline(always)]
 pub fn hash_len(bytes: &[u8]) -> usize
     ensures len { result ≡ hash_len bytes.now }
     ensures within { result ≤ length bytes.now }
 {
-    match bytes {
-        // Where there are few, a comparison of each costs less.
-        [b'#', b'#', b'#', b'#', ..] => hash_len_of_many(bytes),
-        _ => bytes.iter().take_while(|b| **b == b'#').count(),
-    }
-}
-
-/// [`hash_len`] by 16 bytes a step, as far as all 16 are hashes.
-#[inline(never)]
-fn hash_len_of_many(bytes: &[u8]) -> usize
-    ensures len { result ≡ hash_len bytes.now }
-    ensures within { result ≤ length bytes.now }
-{
     let mut len = 0;
-    while bytes.len() - len >= STEP && other_marks(&bytes[len..]) == 0 {
+    while bytes.len() - len >= STEP {
+        let others = other_marks(&bytes[len..]);
+        if others != 0 {
+            return len + others.trailing_zeros() as usize;
+        }
         len += STEP;
     }
     len + run_end(&bytes[len..], Run::Hashes)
