@@ -232,11 +232,10 @@ class Crate(libraries.Crate):
         also = f" and {harmless} harmless" if harmless else ""
         return f"{len(self.bodies) - harmless} wrong bodies{also}"
 
-    def command(self, crates, work):
-        """The words of a check of the crate, over what earlier checks left in the folder `work`."""
+    def command(self, crates):
+        """The words of a check of the crate."""
         root = "src/main.rt" if "src/main.rt" in self.originals else "src/lib.rt"
-        words = libraries.words_of("check", self, crates, root)
-        return [*words, "--jobs", "1", "--incremental", str(work)]
+        return [*libraries.words_of("check", self, crates, root), "--jobs", "1"]
 
 
 def messages_of(output):
@@ -308,11 +307,14 @@ class Trial:
         for part in ("src", "specs", "proofs"):
             if (crate.folder / part).exists():
                 shutil.copytree(crate.folder / part, self.copy / part)
-        self.work = self.copy / "incremental"
-        kept = crate.folder / "out/incremental"
+        self.words = crate.command(crates)
+        kept, work = crate.folder / "out/incremental", self.copy / "incremental"
         if kept.exists():
-            shutil.copytree(kept, self.work)
-        self.words = crate.command(crates, self.work)
+            shutil.copytree(kept, work)
+        if kept.exists() or len(self.next_round(crate.bodies)) < len(crate.bodies):
+            # (what a lone check keeps, nothing takes: it only costs)
+            work.mkdir(exist_ok=True)
+            self.words += ["--incremental", str(work)]
         self.report, self.checks = [], 0
 
     def check(self, bodies):
@@ -321,7 +323,6 @@ class Trial:
         for file, text in texts.items():
             (self.copy / file).write_text(text)
         how = {"stdout": subprocess.PIPE, "stderr": subprocess.STDOUT, "text": True}
-        self.work.mkdir(exist_ok=True)
         self.checks += 1
         paths = sorted({it.removesuffix("::") for body in bodies for it in body.owners})
         words = [*self.words, *(word for it in paths for word in ("--only", it))]
