@@ -1,12 +1,10 @@
 -- The reports on the groups that end with lines: each list of lines has them, and how they go on from line to line.
-use Rattle.std.proofs.Common.{◌≡◌, ◌∙◌, true, inl, inr, ℕ, List, [], ◌∷◌, ◌++◌, refl, sym, ap, subst, append_assoc, append-nil}
-use Rattle.std.specs.Prelude.{map, codes, Option, Result, Ok, Err, OnOk, is_ok, if◌then◌else◌, string_bytes}
+use Rattle.std.proofs.Common.{◌≡◌, ◌∙◌, Bool, true, false, inl, inr, ℕ, List, [], ◌∷◌, ◌++◌, refl, sym, ap, subst, append_assoc, append-nil}
+use Rattle.std.specs.Prelude.{map, codes, Option, Result, Ok, Err, OnOk, is_ok, if◌then◌else◌, string_bytes, IsTrue, ◌↔◌}
 use Rattle.std.specs.Str.{chars, IsUtf8}
 use Rattle.litrs_base.specs.declared.err.ParseError.{ParseError}
-use Rattle.std.proofs.lemmas.Bool.{false≢true}
-use Rattle.litrs_base.specs.Finality.{is_final}
-use Rattle.litrs_base.specs.Refusal.{Refusal, refusal_of, kind_of}
-use Rattle.litrs_grammar.specs.Literal.{Derivation, IsLiteral, literal_parse}
+use Rattle.litrs_base.specs.Refusal.{refusal_of}
+use Rattle.litrs_grammar.specs.Literal.{Derivation, IsLiteral, IsLiteralOf, Begins, literal_parse}
 use Rattle.litrs_grammar.specs.Refused.{IsRefusedOrOutOfMemory}
 use Rattle.litrs.specs.LiteralDerivation.{derivation}
 use Rattle.litrs_lines.specs.declared.collector.Step.{Step}
@@ -24,7 +22,7 @@ use Rattle.litrs_lines.specs.Sent.{Sends, AddsBytes, ReportsLines}
 use Rattle.litrs_lines.specs.Stopped.{AppendsBeginning}
 use Rattle.litrs_lines.proofs.Sending.{adds, sends_more, writes_nothing, stops_later, stops_longer, stops_now}
 use Rattle.litrs_lines.proofs.ReportLemmas.{texts_have_reports, AreReports-one, AreReports-append, one_list_of_reports}
-use Rattle.litrs_lines.proofs.StepLemmas.{begins_none}
+use Rattle.litrs_lines.proofs.StepLemmas.{line_begins_none}
 use Rattle.litrs_lines.proofs.GroupLemmas.{unless_held-some, lines_end, LinesEnd-one, LinesEnd-append, grouped, groups_are_unique}
 
 -- ---- each list of lines has them
@@ -220,16 +218,18 @@ literal_finishes held line d none text is = record {
   report = inl (d, is, refl);
 }
 
--- after a final kind no line makes a literal of it
-pub refusal_finishes : (held line : List ℕ) (e : ParseError) → held ≡ [] → IsUtf8 line → IsRefusedOrOutOfMemory literal_parse (chars line) e → is_final (kind_of e) ≡ true →
-    Finishes held line (refusal_report (refusal_of e))
-refusal_finishes held line e none text (inl refused) final = record {
+-- a line that begins no literal, and is not out of memory
+pub refusal_finishes : (held line : List ℕ) (e : ParseError) (test : Bool) → held ≡ [] → IsUtf8 line → IsRefusedOrOutOfMemory literal_parse (chars line) e →
+    IsTrue test ↔ Begins literal_parse (chars line) → test ≡ false → Finishes held line (refusal_report (refusal_of e))
+refusal_finishes held line e test none text (inl refused) goes fails = record {
   nothing = none;
   text = text;
-  finished = inr (begins_none line e refused final);
+  finished = inr (line_begins_none line test goes fails);
   report = inr (refusal_of e, refused.table, refl);
 }
-refusal_finishes held line e none text (inr lack) final = absurd (false≢true (sym (ap (λ (r : Refusal). is_final r.kind) lack.error) ∙ final))
+refusal_finishes held line e test none text (inr lack) goes fails =
+    let begins : Begins literal_parse (chars line) = ([], lack.derivation, refl, subst (λ (u : List ℕ). IsLiteralOf literal_parse u lack.derivation) (sym (append-nil (chars line))) lack.literal) in
+    let both : true ≡ false = sym (goes.1 begins) ∙ fails in cc
 
 -- ---- a line after lines that are held, and the text of all of them
 

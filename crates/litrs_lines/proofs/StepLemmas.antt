@@ -5,7 +5,11 @@ use Rattle.std.specs.Str.{chars, IsUtf8, IsCharBoundary}
 use Rattle.std.specs.String.Boundary.{IsSplitPoint}
 use Rattle.std.proofs.Math.Seq.{take-append_seam, get_or-append_seam}
 use Rattle.std.proofs.lemmas.Str.{chars-append, IsUtf8-append, IsUtf8-from_ascii, IsCharBoundary-at_seam}
+use Rattle.std.proofs.lemmas.Bool.{false≢true}
 use Rattle.litrs_base.specs.Derivations.{HasNoDerivation}
+use Rattle.litrs_base.specs.Text.{IsText}
+use Rattle.litrs_base.specs.declared.err.ParseErrorKind.{ParseErrorKind}
+use Rattle.litrs_base.specs.declared.err.ParseErrorKind.TheVariants.{UnterminatedString, UnterminatedRawString}
 use Rattle.litrs_base.proofs.Chars.{ascii_by_test}
 use Rattle.litrs_base.specs.Finality.{is_final, is_open}
 use Rattle.litrs_base.specs.Refusal.{Refusal, refusal_of, kind_of}
@@ -14,7 +18,10 @@ use Rattle.litrs_grammar.specs.LiteralRefusals.{IsRefusal}
 use Rattle.litrs_grammar.proofs.Laws.Literal.{literals_are_not_refused, texts_are_decided}
 use Rattle.litrs_grammar.proofs.Spans.Literal.{no_literal_ends_with_line_feed}
 use Rattle.litrs_base.specs.declared.err.ParseError.{ParseError}
-use Rattle.litrs_grammar.specs.Refused.{IsRefused}
+use Rattle.litrs_grammar.specs.Closing.{after_raw_front, closing_text, closing_of, a_string_of}
+use Rattle.litrs_grammar.specs.Raw.{hash_len}
+use Rattle.litrs_grammar.specs.Refused.{IsRefused, IsRefusedOrOutOfMemory}
+use Rattle.litrs_grammar.proofs.LongerTexts.Raw.{closing_is_text}
 use Rattle.litrs_grammar.specs.Quoted.{without_last}
 use Rattle.litrs_grammar.proofs.QuotedItems.{without_last-append}
 use Rattle.litrs_grammar.proofs.LongerTexts.Literal.{line_ends_are_decided}
@@ -114,10 +121,28 @@ is_refused_step t text longer e test u is more refused begins closed = (
   λ line. let both : true ≡ false = sym (begins.1 (subst (Begins literal_parse) (sym (read_line t longer u more)) line)) ∙ closed in cc,
 )
 
--- after a refusal of a final kind no line makes a literal of the text
-pub begins_none : (t : List ℕ) (e : ParseError) → IsRefused literal_parse (chars t) e → is_final (kind_of e) ≡ true → BeginsByLine t → ⊥
-begins_none t e refused final begins =
-    refused.final final (10 ∷ begins.0) begins.1 (subst (λ (u : List ℕ). IsLiteralOf literal_parse u begins.1) (append_assoc (chars t) (10 ∷ []) begins.0) begins.3)
+-- Whether a text begins a literal, where its refusal tells.
+
+closing_text_is_text : (t : List ℕ) (kind : ParseErrorKind) → IsText (closing_text t kind)
+closing_text_is_text t UnterminatedRawString = closing_is_text (hash_len (after_raw_front t))
+closing_text_is_text t _ = refl
+
+pub open_begins : (t : List ℕ) (e : ParseError) → IsRefusedOrOutOfMemory literal_parse t e → is_open (kind_of e) ≡ true → Begins literal_parse t
+open_begins t e (inl refused) opened =
+    let closed = refused.closes opened in
+    (closing_of t (refusal_of e), a_string_of closed.kind closed.parts, closing_text_is_text t (kind_of e), closed.literal)
+open_begins t e (inr lack) opened = absurd (false≢true (sym (ap (λ (r : Refusal). is_open r.kind) lack.error) ∙ opened))
+
+pub final_begins_none : (t : List ℕ) (e : ParseError) → IsRefusedOrOutOfMemory literal_parse t e → is_final (kind_of e) ≡ true → Begins literal_parse t → ⊥
+final_begins_none t e (inl refused) final begins = refused.final final begins.0 begins.1 begins.3
+final_begins_none t e (inr lack) final begins = false≢true (sym (ap (λ (r : Refusal). is_final r.kind) lack.error) ∙ final)
+
+-- a text that begins no literal begins none with an LF after it
+pub line_begins_none : (t : List ℕ) (test : Bool) → IsTrue test ↔ Begins literal_parse (chars t) → test ≡ false → BeginsByLine t → ⊥
+line_begins_none t test goes fails line =
+    let begins : Begins literal_parse (chars t) =
+    (10 ∷ line.0, line.1, line.2, subst (λ (u : List ℕ). IsLiteralOf literal_parse u line.1) (append_assoc (chars t) (10 ∷ []) line.0) line.3) in
+    let both : true ≡ false = sym (goes.1 begins) ∙ fails in cc
 
 -- what is held after a step
 pub step_is_held : (t held : List ℕ) (step : Step) → IsStep t step → held ≡ held_after t step → IsHeld held

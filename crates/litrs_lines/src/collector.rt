@@ -7,13 +7,13 @@ ghost use Rattle.std.specs.Prelude.{◌≡◌, ◌≢◌, ◌↔◌, ◌∷◌, 
 ghost use Rattle.std.specs.Str.{chars, IsUtf8};
 ghost use Rattle.litrs_base.specs.Characters.{line_feed};
 ghost use Rattle.litrs_grammar.specs.Literal.{literal_parse, Begins};
-ghost use Rattle.litrs_grammar.specs.Refused.{IsRefused};
+ghost use Rattle.litrs_grammar.specs.Refused.{IsRefused, IsRefusedOrOutOfMemory};
 ghost use Rattle.litrs_lines.specs.Held.{EndsWithLineFeed, Extends, IsHeld, IsRefusalOfHeld};
 ghost use Rattle.litrs_lines.specs.Open.{IsKnown};
 ghost use Rattle.litrs_lines.specs.Steps.{IsReadAs, IsUnfinished, IsStep, held_after};
 
 use crate::collector::body::{Open, open_after};
-use litrs::{Literal, ParseError, ParseErrorKind};
+use litrs::{Literal, ParseError, ParseErrorKind, goes_on};
 use std::alloc::{AllocError, Global};
 use std::marker::Model;
 use std::mem;
@@ -116,7 +116,7 @@ impl Collector {
     }
 
     /// [`Collector::feed`] where no line is held. A literal is copied once it is known to be one,
-    /// and a final refusal is decided by the same parse.
+    /// and a line that begins none is not.
     #[inline(never)]
     fn feed_first(&mut self, line: &str) -> Result<Step, AllocError>
         requires { self.old ≡ [] }
@@ -130,7 +130,7 @@ impl Collector {
             Ok(lit) => Ok(Step::Literal(lit.into_owned(alloc)?)),
             Err(e) => match e.kind() {
                 ParseErrorKind::OutOfMemory => Err(AllocError),
-                _ if e.is_final() => Ok(Step::Refused(e)),
+                _ if !may_go_on(line, &e) => Ok(Step::Refused(e)),
                 _ => self.feed_next(line),
             },
         }
@@ -233,6 +233,15 @@ fn read(alloc: Global, text: &str) -> Result<Result<Literal<String>, ParseError>
             _ => Ok(Err(e)),
         },
     }
+}
+
+/// Whether a line that is refused so begins a literal: [`goes_on`], which is asked only where the
+/// refusal does not tell.
+pub(crate) fn may_go_on(line: &str, refusal: &ParseError) -> bool
+    requires { IsRefusedOrOutOfMemory literal_parse (chars line.now) refusal.now }
+    ensures { IsTrue result ↔ Begins literal_parse (chars line.now) }
+{
+    refusal.is_open() || (!refusal.is_final() && goes_on(line))
 }
 
 /// Whether a text that ends with LF begins a literal. No such text is one, so nothing is allocated.

@@ -1,7 +1,7 @@
 //! The reports on the groups that lines make.
 
 use crate::RunError;
-use crate::collector::{Collector, Step};
+use crate::collector::{Collector, Step, may_go_on};
 use crate::device::Output;
 use crate::report::{report_literal, report_refusal};
 use litrs::{Literal, ParseErrorKind};
@@ -70,8 +70,7 @@ impl Reporter {
     }
 
     /// [`Reporter::process_text`] where no line is held: of a line, or of the text of several. The
-    /// text of a literal is not copied, and the text is read again only where its refusal is not
-    /// final.
+    /// text of a literal is not copied, nor one that begins none.
     fn process_first<O: Output>(&mut self, writer: &mut O, line: &str) -> Result<(), RunError>
         requires works { O.has_failed writer.old ≡ false }
         requires first { self.old.collector ≡ [] }
@@ -84,7 +83,7 @@ impl Reporter {
         match Literal::parse(alloc, line) {
             Ok(lit) => report_literal(&mut self.unwritten, writer, &lit),
             Err(e) if e.kind() == ParseErrorKind::OutOfMemory => Err(RunError::Memory),
-            Err(e) if e.is_final() => Ok(report_refusal(&mut self.unwritten, &e)?),
+            Err(e) if !may_go_on(line, &e) => Ok(report_refusal(&mut self.unwritten, &e)?),
             Err(_) => self.process_next(writer, line),
         }
     }

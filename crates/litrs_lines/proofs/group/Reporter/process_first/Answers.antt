@@ -26,5 +26,5 @@ pub returns-in_ok-report_refusal-in-Err-2-clause-reports : goal.returns-in_ok-re
 returns-in_ok-report_refusal-in-Err-2-clause-reports g c =
     let new : Reporter = record { collector = c.args.self.now.collector; unwritten = c.report_refusal.new.out } in
     first_reported (Ok tt) c.args.self.now new c.args.line.now (g.O.Output.contents c.args.writer.now) (g.O.Output.contents c.args.writer.now) _ refl
-    (refusal_finishes c.args.self.now.collector c.args.line.now _ c.requires.first c.utf8.line c.in-Err.ensures.refused (sym c.is_final.ensures ∙ c.if-is_final.true))
+    (refusal_finishes c.args.self.now.collector c.args.line.now _ _ c.requires.first c.utf8.line c.in-Err.ensures.refused c.may_go_on.ensures c.if-not-may_go_on.true)
     (adds _ _ _ _ c.in_ok-report_refusal-in-Err-2.ensures)
