@@ -9,9 +9,9 @@ use Rattle.std.proofs.lemmas.Bool.{false≢true}
 use Rattle.litrs_base.specs.Derivations.{HasNoDerivation}
 use Rattle.litrs_base.specs.Text.{IsText}
 use Rattle.litrs_base.specs.declared.err.ParseErrorKind.{ParseErrorKind}
-use Rattle.litrs_base.specs.declared.err.ParseErrorKind.TheVariants.{UnterminatedString, UnterminatedRawString}
+use Rattle.litrs_base.specs.declared.err.ParseErrorKind.TheVariants.{UnterminatedRawString}
 use Rattle.litrs_base.proofs.Chars.{ascii_by_test}
-use Rattle.litrs_base.specs.Finality.{is_final, is_open}
+use Rattle.litrs_base.specs.Finality.{is_open}
 use Rattle.litrs_base.specs.Refusal.{Refusal, refusal_of, kind_of}
 use Rattle.litrs_grammar.specs.Literal.{IsLiteral, IsLiteralOf, literal_parse, Begins}
 use Rattle.litrs_grammar.specs.LiteralRefusals.{IsRefusal}
@@ -132,10 +132,6 @@ open_begins t e (inl refused) opened =
     let closed = refused.closes opened in
     (closing_of t (refusal_of e), a_string_of closed.kind closed.parts, closing_text_is_text t (kind_of e), closed.literal)
 open_begins t e (inr lack) opened = absurd (false≢true (sym (ap (λ (r : Refusal). is_open r.kind) lack.error) ∙ opened))
-
-pub final_begins_none : (t : List ℕ) (e : ParseError) → IsRefusedOrOutOfMemory literal_parse t e → is_final (kind_of e) ≡ true → Begins literal_parse t → ⊥
-final_begins_none t e (inl refused) final begins = refused.final final begins.0 begins.1 begins.3
-final_begins_none t e (inr lack) final begins = false≢true (sym (ap (λ (r : Refusal). is_final r.kind) lack.error) ∙ final)
 
 -- a text that begins no literal begins none with an LF after it
 pub line_begins_none : (t : List ℕ) (test : Bool) → IsTrue test ↔ Begins literal_parse (chars t) → test ≡ false → BeginsByLine t → ⊥
