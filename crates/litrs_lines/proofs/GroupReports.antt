@@ -10,7 +10,7 @@ use Rattle.litrs.specs.LiteralDerivation.{derivation}
 use Rattle.litrs_lines.specs.declared.collector.Step.{Step}
 use Rattle.litrs_lines.specs.declared.collector.Step.TheVariants.{More, Literal, Refused}
 use Rattle.litrs_lines.specs.Held.{IsRefusalOfHeld}
-use Rattle.litrs_lines.specs.Steps.{IsUnfinished, IsStep, held_after}
+use Rattle.litrs_lines.specs.Steps.{IsUnfinished, Feeds}
 use Rattle.litrs_lines.specs.Groups.{joined, IsNoText, IsFinished}
 use Rattle.litrs_lines.specs.Report.{literal_report, refusal_report, IsTextReport}
 use Rattle.litrs_lines.specs.Reports.{AreReports, AreGroupReports}
@@ -97,33 +97,25 @@ step_bytes (Literal lit) = literal_report (derivation lit) ++ 10 ∷ []
 step_bytes (Refused e) = refusal_report (refusal_of e) ++ 10 ∷ []
 
 -- it is the reports on the groups that the line ends
-step_reports : (held line left : List ℕ) (step : Step) → IsUtf8 line → IsUtf8 (held ++ line) → IsStep (held ++ line) step → left ≡ held_after (held ++ line) step →
-    AreEndedReports held (line ∷ []) left (step_bytes step)
-step_reports held line left More text whole is after =
-    ([], LinesEnd-one held line [] left (inl (text, is, refl, after)), refl)
-step_reports held line left (Literal lit) text whole is after = (
+step_reports : (held line left : List ℕ) (step : Step) → IsUtf8 line → Feeds (held ++ line) left step → AreEndedReports held (line ∷ []) left (step_bytes step)
+step_reports held line left More text fed =
+    ([], LinesEnd-one held line [] left (inl (text, fed.is, refl, fed.after)), refl)
+step_reports held line left (Literal lit) text fed = (
   (held ++ line) ∷ [],
-  LinesEnd-one held line ((held ++ line) ∷ []) left (inr (inl (text, inl (derivation lit, is.1.0), refl, after))),
-  AreReports-one (held ++ line) (literal_report (derivation lit)) (inl (whole, inl (derivation lit, is.1.0, refl))),
+  LinesEnd-one held line ((held ++ line) ∷ []) left (inr (inl (text, inl (derivation lit, fed.is.1.0), refl, fed.after))),
+  AreReports-one (held ++ line) (literal_report (derivation lit)) (inl (fed.utf8, inl (derivation lit, fed.is.1.0, refl))),
 )
-step_reports held line left (Refused e) text whole is after = (
+step_reports held line left (Refused e) text fed = (
   (held ++ line) ∷ [],
-  LinesEnd-one held line ((held ++ line) ∷ []) left (inr (inl (text, inr is.1, refl, after))),
-  AreReports-one (held ++ line) (refusal_report (refusal_of e)) (inl (whole, inr (refusal_of e, is.0.table, refl))),
+  LinesEnd-one held line ((held ++ line) ∷ []) left (inr (inl (text, inr fed.is.1, refl, fed.after))),
+  AreReports-one (held ++ line) (refusal_report (refusal_of e)) (inl (fed.utf8, inr (refusal_of e, fed.is.0.table, refl))),
 )
-
--- the step that a line makes
-pub record Steps (held line left : List ℕ) (step : Step) : Type 0 where
-  pub text : IsUtf8 line
-  pub whole : IsUtf8 (held ++ line)
-  pub is : IsStep (held ++ line) step
-  pub after : left ≡ held_after (held ++ line) step
 
 -- what is added for the step is the reports
-pub step_reported : (held line after left out : List ℕ) (step : Step) → Steps held line after step → AreBytes after (step_bytes step) left out → AreEndedReports held (line ∷ []) left out
-step_reported held line after left out step s is =
+pub step_reported : (held line after left out : List ℕ) (step : Step) → IsUtf8 line → Feeds (held ++ line) after step → AreBytes after (step_bytes step) left out → AreEndedReports held (line ∷ []) left out
+step_reported held line after left out step text fed is =
     subst (λ (o : List ℕ). AreEndedReports held (line ∷ []) left o) (sym is.1)
-    (subst (λ (l : List ℕ). AreEndedReports held (line ∷ []) l (step_bytes step)) (sym is.0) (step_reports held line after step s.text s.whole s.is s.after))
+    (subst (λ (l : List ℕ). AreEndedReports held (line ∷ []) l (step_bytes step)) (sym is.0) (step_reports held line after step text fed))
 
 -- ---- a line by itself, whose literal or refusal is known
 

@@ -1,6 +1,6 @@
 -- Texts that end with LF, the steps of texts, and texts that are held.
-use Rattle.std.proofs.Common.{◌≡◌, ◌∙◌, ◌⊎◌, inl, inr, ℕ, Bool, true, false, List, [], ◌∷◌, ◌++◌, refl, sym, ap, subst, append-nil, append_assoc, arith, length, take, ◌-◌, ◌+◌, ◌<◌, length-append, slice_index, Result, Ok, Err, OnErr}
-use Rattle.std.specs.Prelude.{IsTrue, IsFalse, IfOk, ◌↔◌, ◌==◌}
+use Rattle.std.proofs.Common.{◌≡◌, ◌∙◌, ◌⊎◌, inl, inr, ℕ, Bool, true, false, List, [], ◌∷◌, ◌++◌, refl, sym, ap, subst, append-nil, append_assoc, arith, length, take, ◌-◌, ◌+◌, ◌<◌, length-append, slice_index, Result, Ok, Err, OnOk, OnErr}
+use Rattle.std.specs.Prelude.{IsTrue, IfOk, ◌↔◌, ◌==◌}
 use Rattle.std.specs.Str.{chars, IsUtf8, IsCharBoundary}
 use Rattle.std.specs.String.Boundary.{IsSplitPoint}
 use Rattle.std.proofs.Math.Seq.{take-append_seam, get_or-append_seam}
@@ -29,7 +29,7 @@ use Rattle.litrs.specs.LiteralDerivation.{derivation}
 use Rattle.litrs_lines.specs.declared.collector.Step.{Step}
 use Rattle.litrs_lines.specs.declared.collector.Step.TheVariants.{More, Literal, Refused}
 use Rattle.litrs_lines.specs.Held.{EndsWithLineFeed, Extends, IsHeld}
-use Rattle.litrs_lines.specs.Steps.{BeginsByLine, IsUnfinished, IsStep, held_after}
+use Rattle.litrs_lines.specs.Steps.{BeginsByLine, IsUnfinished, IsStep, held_after, Feeds, Pushes}
 use Rattle.litrs_lines.specs.StepLaws.{StepsAreDecided, StepsAreUnique}
 
 -- what holds anyway holds on an error
@@ -141,22 +141,35 @@ line_begins_none t test goes fails line =
     let both : true ≡ false = sym (goes.1 begins) ∙ fails in cc
 
 -- what is held after a step
-pub step_is_held : (t held : List ℕ) (step : Step) → IsStep t step → held ≡ held_after t step → IsHeld held
+step_is_held : (t held : List ℕ) (step : Step) → IsStep t step → held ≡ held_after t step → IsHeld held
 step_is_held t held More is after = line_is_held t held after is.0
 step_is_held t held (Literal lit) is after = nothing_is_held held after
 step_is_held t held (Refused e) is after = nothing_is_held held after
 
 -- and after an error it is what was held before
-pub result_is_held : {E : Type 0} (t old new : List ℕ) (r : Result Step E) → IsHeld old → IfOk r (IsStep t) → IfOk r (λ step. new ≡ held_after t step) → OnErr r (new ≡ old) → IsHeld new
-result_is_held t old new (Ok step) held is after same = step_is_held t new step is after
-result_is_held t old new (Err e) held is after same = subst IsHeld (sym same) held
+pub result_is_held : {E : Type 0} (t old new : List ℕ) (r : Result Step E) → IsHeld old → IfOk r (Feeds t new) → OnErr r (new ≡ old) → IsHeld new
+result_is_held t old new (Ok step) held fed same = step_is_held t new step fed.is fed.after
+result_is_held t old new (Err e) held fed same = subst IsHeld (sym same) held
 
 -- what is held where a line is added if a string is then known to go on
-pub pushed_is_held : {E : Type 0} (old line new : List ℕ) (r : Result Bool E) → IsHeld old →
-    IfOk r (λ goes_on. IsTrue goes_on → IsUnfinished (old ++ line) × (new ≡ (old ++ line) ++ 10 ∷ [])) → IfOk r (λ goes_on. IsFalse goes_on → new ≡ old) → OnErr r (new ≡ old) → IsHeld new
-pushed_is_held old line new (Ok true) held more same err = line_is_held (old ++ line) new (more refl).1 (more refl).0.0
-pushed_is_held old line new (Ok false) held more same err = subst IsHeld (sym (same refl)) held
-pushed_is_held old line new (Err e) held more same err = subst IsHeld (sym err) held
+pub pushed_is_held : {E : Type 0} (old line new : List ℕ) (r : Result Bool E) → IsHeld old → IfOk r (Pushes old line new) → OnErr r (new ≡ old) → IsHeld new
+pushed_is_held old line new (Ok true) held pushed err = line_is_held (old ++ line) new (pushed.more refl).1 (pushed.more refl).0.0
+pushed_is_held old line new (Ok false) held pushed err = subst IsHeld (sym (pushed.other refl)) held
+pushed_is_held old line new (Err e) held pushed err = subst IsHeld (sym err) held
+
+-- what is fed, by parts
+
+pub fed_is : {E : Type 0} (t new : List ℕ) (r : Result Step E) → IfOk r (Feeds t new) → IfOk r (IsStep t)
+fed_is t new (Ok step) fed = fed.is
+fed_is t new (Err e) fed = tt
+
+pub fed_utf8 : {E : Type 0} (t new : List ℕ) (r : Result Step E) → IfOk r (Feeds t new) → OnOk r (IsUtf8 t)
+fed_utf8 t new (Ok step) fed = fed.utf8
+fed_utf8 t new (Err e) fed = tt
+
+pub fed_after : {E : Type 0} (t new : List ℕ) (r : Result Step E) → IfOk r (Feeds t new) → IfOk r (λ step. new ≡ held_after t step)
+fed_after t new (Ok step) fed = fed.after
+fed_after t new (Err e) fed = tt
 
 -- the last character of a text that ends with LF is popped
 popped : (bytes front left : List ℕ) (n : ℕ) → n ≡ length bytes → front ++ 10 ∷ [] ≡ bytes →

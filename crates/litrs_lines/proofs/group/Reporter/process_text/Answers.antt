@@ -13,7 +13,7 @@ returns-in_err-push g c =
 
 pub returns-then-branch : goal.returns-then-branch
 returns-then-branch g c =
-    let pushed = c.in_ok-push.ensures.goes_on c.if-branch.true in
+    let pushed = c.in_ok-push.ensures.pushed.more c.if-branch.true in
     leaves_added _ _ _ _ _ _ [] (record { collector = refl; unwritten = refl; writer = refl }) refl (goes_on_reported c.args.self.now.collector.now c.args.line.now c.push.new.self c.utf8.line pushed.0 pushed.1) (sym (append-nil _))
 
 pub returns-in_err-text : goal.returns-in_err-text
@@ -24,7 +24,7 @@ returns-in_err-text g c =
 
 pub returns : goal.returns
 returns g c =
-    let kept = c.in_ok-push.ensures.other c.if-branch.false in
+    let kept = c.in_ok-push.ensures.pushed.other c.if-branch.false in
     let text = c.as_str.ensures.value ∙ c.in_ok-text.ensures.text in
     leaves_from _ _ _ _ _ _ _ _ _ (record { collector = refl; unwritten = refl; writer = refl }) refl refl
     (λ left out is. joined_ends c.args.self.now.collector.now c.args.line.now c.take_with.new.self c.as_str.result.now left out c.in_ok-text.ensures.held (rw kept at text) c.utf8.line c.as_str.utf8 is)
