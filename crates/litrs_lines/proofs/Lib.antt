@@ -2,6 +2,7 @@ pub mod StepLemmas
 pub mod OpenTexts
 pub mod OpenBytes
 pub mod Sending
+pub mod Leaving
 pub mod GroupReports
 pub mod GroupLemmas
 pub mod ReportLemmas

@@ -20,7 +20,7 @@ use Rattle.std.proofs.Common.{eqb-true, ltb, cond, add-one, get_or, take-append-
 use Rattle.std.proofs.lemmas.List.{get_or-take, take_rest}
 use Rattle.litrs_lines.specs.Ended.{AreEndedReports, AreLastReports}
 use Rattle.litrs_lines.specs.Reports.{AreGroupReports, AppendsReports}
-use Rattle.litrs_lines.proofs.GroupReports.{group_reports, last_reports, have_last_reports, ended-none, ended-append, last-append, Adds, Stops, adds-none, adds-append, stops-append}
+use Rattle.litrs_lines.proofs.GroupReports.{group_reports, last_reports, have_last_reports, ended-none, ended-append, ended-longer, last-append}
 use Rattle.litrs_lines.specs.Lines.{is_line_feed, HasNoLineFeed, before_last_part, last_part, ended_parts, open_part, unless_empty, strip_cr, ended_parts_of, ended_lines, open_line, lines_of}
 
 -- the first part of a split, and those after it
@@ -215,57 +215,49 @@ goes_on line rest held at =
     let none : HasNoLineFeed (line ++ rest) = All-append EndsNoLine line rest held (none_found rest at) in
     record { leaves = open_line-none (line ++ rest) none; lines = ended_lines-none (line ++ rest) none }
 
--- of all lines some were taken, and the reports on the groups that end with them were added; the rest is left
-pub record TakesOn (held : List ℕ) (all rest : List (List ℕ)) (left : List ℕ) (a : Option (List ℕ)) (old : List ℕ) (b : Option (List ℕ)) (new : List ℕ) : Type 0 where
+-- of all lines some were taken, and these are the reports on the groups that end with them; the rest is left
+pub record TakesOn (held : List ℕ) (all rest : List (List ℕ)) (left out : List ℕ) : Type 0 where
   pub lines : List (List ℕ)
   pub is : all ≡ lines ++ rest
-  pub adds : Adds held lines left a old b new
+  pub ended : AreEndedReports held lines left out
 
-pub takes_none : (held : List ℕ) (all : List (List ℕ)) (a : Option (List ℕ)) (old : List ℕ) → TakesOn held all all held a old a old
-takes_none held all a old = record { lines = []; is = refl; adds = adds-none held a old }
+pub takes_line : (held line : List ℕ) (all rest more : List (List ℕ)) (between left out next : List ℕ) → rest ≡ line ∷ more → TakesOn held all rest between out →
+    AreEndedReports between (line ∷ []) left next → TakesOn held all more left (out ++ next)
+takes_line held line all rest more between left out next cut so_far ended = record {
+  lines = so_far.lines ++ line ∷ [];
+  is = so_far.is ∙ ap (λ (ls : List (List ℕ)). so_far.lines ++ ls) cut ∙ sym (append_assoc so_far.lines (line ∷ []) more);
+  ended = ended-append held so_far.lines (line ∷ []) between left out next so_far.ended ended;
+}
+
+-- those on all lines begin with them
+pub takes_longer : (held : List ℕ) (all rest : List (List ℕ)) (between out : List ℕ) → TakesOn held all rest between out →
+    (left : List ℕ) × (next : List ℕ) × AreEndedReports held all left (out ++ next)
+takes_longer held all rest between out so_far =
+    let longer = ended-longer held so_far.lines rest between out so_far.ended in
+    (longer.0, longer.1, subst (λ (ls : List (List ℕ)). AreEndedReports held ls longer.0 (out ++ longer.1)) (sym so_far.is) longer.2)
+
+-- where none is left all were taken
+pub takes_all : (held : List ℕ) (all rest : List (List ℕ)) (left out : List ℕ) → rest ≡ [] → TakesOn held all rest left out → AreEndedReports held all left out
+takes_all held all rest left out none so_far =
+    subst (λ (ls : List (List ℕ)). AreEndedReports held ls left out) (sym (so_far.is ∙ ap (λ (ls : List (List ℕ)). so_far.lines ++ ls) none ∙ append-nil so_far.lines)) so_far.ended
 
 -- a step over a line that ends
-pub record StepsOn (held : List ℕ) (all : List (List ℕ)) (left : List ℕ) (a : Option (List ℕ)) (old : List ℕ) (c : Option (List ℕ)) (new line rest line' rest' : List ℕ) : Type 0 where
+pub record StepsOn (line rest line' rest' : List ℕ) (end : ℕ) : Type 0 where
   pub unended : HasNoLineFeed line'
   pub leaves : open_line (line ++ rest) ≡ open_line (line' ++ rest')
-  pub takes : TakesOn held all (ended_lines (line' ++ rest')) left a old c new
+  pub lines : ended_lines (line ++ rest) ≡ strip_cr (line ++ take end rest) ∷ ended_lines (line' ++ rest')
 
-pub steps_on : (held : List ℕ) (all : List (List ℕ)) (between left : List ℕ) (a b c : Option (List ℕ)) (old front new line rest line' : List ℕ) (end : ℕ) → HasNoLineFeed line → Some end ≡ position is_line_feed rest
-    → TakesOn held all (ended_lines (line ++ rest)) between a old b front → line' ≡ [] → Adds between (strip_cr (line ++ take end rest) ∷ []) left b front c new
-    → StepsOn held all left a old c new line rest line' (take (length rest - (end + 1)) (drop (end + 1) rest))
-steps_on held all between left a b c old front new line rest line' end unended at so_far none more =
+pub steps_on : (line rest line' : List ℕ) (end : ℕ) → HasNoLineFeed line → Some end ≡ position is_line_feed rest → line' ≡ [] →
+    StepsOn line rest line' (take (length rest - (end + 1)) (drop (end + 1) rest)) end
+steps_on line rest line' end unended at none =
     let step = ends_line line rest end unended (sym at) in
-    let whole : List ℕ = strip_cr (line ++ take end rest) in
     let rest' = take (length rest - (end + 1)) (drop (end + 1) rest) in
     let empty : line' ++ rest' ≡ drop (end + 1) rest = ap (λ xs. xs ++ rest') none ∙ take_rest rest (end + 1) in
-    let after : List (List ℕ) = ended_lines (drop (end + 1) rest) in
-    let same : after ≡ ended_lines (line' ++ rest') = ap ended_lines (sym empty) in
     record {
       unended = subst HasNoLineFeed (sym none) (All-nil EndsNoLine);
       leaves = step.leaves ∙ ap open_line (sym empty);
-      takes = record {
-        lines = so_far.lines ++ whole ∷ [];
-        is = so_far.is ∙ ap (λ (ls : List (List ℕ)). so_far.lines ++ ls) step.lines
-            ∙ sym (append_assoc so_far.lines (whole ∷ []) after) ∙ ap (λ (ls : List (List ℕ)). (so_far.lines ++ whole ∷ []) ++ ls) same;
-        adds = adds-append held so_far.lines (whole ∷ []) between left a b c old front new so_far.adds more;
-      };
+      lines = step.lines ∙ ap (λ (ls : List (List ℕ)). strip_cr (line ++ take end rest) ∷ ls) (ap ended_lines (sym empty));
     }
-
--- a failure at a line that ends
-pub stops_on : (held : List ℕ) (all : List (List ℕ)) (between : List ℕ) (a b c : Option (List ℕ)) (old front line rest : List ℕ) (end : ℕ) → HasNoLineFeed line → Some end ≡ position is_line_feed rest
-    → TakesOn held all (ended_lines (line ++ rest)) between a old b front → Stops between (strip_cr (line ++ take end rest) ∷ []) b front c → Stops held all a old c
-stops_on held all between a b c old front line rest end unended at so_far part =
-    let step = ends_line line rest end unended (sym at) in
-    let whole : List ℕ = strip_cr (line ++ take end rest) in
-    let after : List (List ℕ) = ended_lines (drop (end + 1) rest) in
-    let is : all ≡ (so_far.lines ++ whole ∷ []) ++ after =
-    so_far.is ∙ ap (λ (ls : List (List ℕ)). so_far.lines ++ ls) step.lines ∙ sym (append_assoc so_far.lines (whole ∷ []) after) in
-    subst (λ (ls : List (List ℕ)). Stops held ls a old c) (sym is) (stops-append held so_far.lines (whole ∷ []) after between a b c old front so_far.adds part)
-
--- where none is left all were taken
-pub takes_all : (held : List ℕ) (all rest : List (List ℕ)) (left : List ℕ) (a : Option (List ℕ)) (old : List ℕ) (b : Option (List ℕ)) (new : List ℕ) → TakesOn held all rest left a old b new → rest ≡ [] → Adds held all left a old b new
-takes_all held all rest left a old b new so_far none =
-    subst (λ (ls : List (List ℕ)). Adds held ls left a old b new) (sym (so_far.is ∙ ap (λ (ls : List (List ℕ)). so_far.lines ++ ls) none ∙ append-nil so_far.lines)) so_far.adds
 
 -- ---- appended bytes
 
@@ -292,31 +284,9 @@ pub OnOk-holds : {T E P : Type 0} (r : Result T E) → P → OnOk r P
 OnOk-holds (Ok x) p = p
 OnOk-holds (Err e) p = tt
 
-pub OnOk-map : {T E P Q : Type 0} (r : Result T E) → (P → Q) → OnOk r P → OnOk r Q
-OnOk-map (Ok x) f p = f p
-OnOk-map (Err e) f p = tt
-
 pub OnErr-holds : {T E P : Type 0} (r : Result T E) → P → OnErr r P
 OnErr-holds (Ok x) p = tt
 OnErr-holds (Err e) p = p
-
-pub OnErr-map : {T E P Q : Type 0} (r : Result T E) → (P → Q) → OnErr r P → OnErr r Q
-OnErr-map (Ok x) f p = tt
-OnErr-map (Err e) f p = f p
-
--- ---- a last line that has no end
-
-pub unless_empty-none : (line : List ℕ) → length line ≡ 0 → unless_empty line ≡ []
-unless_empty-none [] none = refl
-unless_empty-none (b ∷ bs) none = absurd (omega arith)
-
-pub unless_empty-some : (line : List ℕ) → 0 < length line → unless_empty line ≡ line ∷ []
-unless_empty-some [] some = absurd (omega arith)
-unless_empty-some (b ∷ bs) some = refl
-
--- where it is empty nothing is added
-pub nothing_last : (held line : List ℕ) (a : Option (List ℕ)) (old : List ℕ) → length line ≡ 0 → Adds held (unless_empty line) held a old a old
-nothing_last held line a old none = subst (λ (ls : List (List ℕ)). Adds held ls held a old a old) (sym (unless_empty-none line none)) (adds-none held a old)
 
 -- ---- reads
 
@@ -330,11 +300,6 @@ one_more_read are_reads count first old new (inl none) one more =
     let is : 1 ≡ count + 1 = omega (arith, none.0) in
     inr (subst (λ (n : ℕ). are_reads n first new) is (subst (λ s. are_reads 1 s new) (sym none.1) one))
 one_more_read are_reads count first old new (inr reads) one more = inr (more count first reads)
-
-pub many_reads : {S : Type 0} (are_reads : ℕ → S → S → Type 0) (count many : ℕ) (first now : S) → AreReadsOrNone are_reads count first now →
-    count ≡ many → 0 < many → are_reads many first now
-many_reads are_reads count many first now (inl none) is some = absurd (omega (arith, none.0))
-many_reads are_reads count many first now (inr reads) is some = subst (λ (n : ℕ). are_reads n first now) is reads
 
 -- ---- the whole lines
 
@@ -481,6 +446,16 @@ module _ {left_old left contents_old contents : Option (List ℕ)} {line held : 
         reports = group_reports (lines_of run.taken) (run.so_far ++ out) (reports_on_all last out is all);
         appends = Appends-trans contents_old contents contents_new run.so_far out run.writes writes;
       })
+
+-- what is the same has the same value
+pub same_of : {A B : Type 0} (f : A → B) (a b : A) (v : B) → a ≡ b → f b ≡ v → f a ≡ v
+same_of f a b v same is = ap f same ∙ is
+
+-- the same run, of the same contents and of the same lines that are held
+pub runs_same : (left_old left contents_old a b : Option (List ℕ)) (line held same : List ℕ) (reads : ℕ) → b ≡ a → same ≡ held →
+    RunsOn left_old left contents_old a line held reads → RunsOn left_old left contents_old b line same reads
+runs_same left_old left contents_old a b line held same reads is is_held run =
+    subst (λ (c : Option (List ℕ)). RunsOn left_old left contents_old c line same reads) (sym is) (subst (λ (h : List ℕ). RunsOn left_old left contents_old a line h reads) (sym is_held) run)
 
 pub take_none : (count : ℕ) (bytes : List ℕ) → count ≡ 0 → take count bytes ≡ []
 take_none count bytes none = ap (λ n. take n bytes) none

@@ -13,9 +13,7 @@ use Rattle.litrs_grammar.proofs.Laws.Literal.{literals_are_unique, literals_are_
 use Rattle.litrs_lines.specs.Report.{value_text, integer_front, fraction_field, float_report, char_report, raw_field, hex_bytes, string_front, literal_report, refusal_report, IsTextReport, IsReport}
 use Rattle.litrs_lines.specs.ReportParts.{front_of_string, literal_front, hex_value}
 use Rattle.litrs_lines.specs.Reports.{AreReports}
-use Rattle.litrs_lines.specs.Sent.{Sends}
-use Rattle.litrs_lines.specs.Stopped.{AppendsBeginning}
-use Rattle.litrs_lines.proofs.Sending.{adds, sends_more, stops_later, stops_now}
+use Rattle.litrs_lines.specs.Sent.{AreBytes}
 
 -- Each text has a report
 
@@ -163,22 +161,7 @@ report_cut d value end is =
     ap (λ l. l ++ end) (report_of_parts d) ∙ append_assoc (literal_front d) (hex_bytes (hex_value d)) end
     ∙ ap (λ l. literal_front d ++ (hex_bytes l ++ end)) (sym is)
 
--- the front is added, the bytes in hex, and an LF
-pub report_sends : (a b : Option (List ℕ)) (p q r s value : List ℕ) (d : Derivation) → value ≡ hex_value d → q ≡ p ++ literal_front d →
-    Sends a q b r (hex_bytes value) → s ≡ r ++ 10 ∷ [] → Sends a p b s (literal_report d ++ 10 ∷ [])
-report_sends a b p q r s value d is front hex end =
-    subst (Sends a p b s) (sym (report_cut d value (10 ∷ []) is))
-    (sends_more a a b p q s (literal_front d) (hex_bytes value ++ 10 ∷ []) (adds a p q (literal_front d) front)
-    (sends_more a b b q r s (hex_bytes value) (10 ∷ []) hex (adds b r s (10 ∷ []) end)))
-
--- a failure at the bytes in hex
-pub report_stops : (a b : Option (List ℕ)) (p q value : List ℕ) (d : Derivation) → value ≡ hex_value d → q ≡ p ++ literal_front d →
-    AppendsBeginning a b (q ++ hex_bytes value) → AppendsBeginning a b (p ++ (literal_report d ++ 10 ∷ []))
-report_stops a b p q value d is front part =
-    stops_later a a b p q (literal_front d) (hex_bytes value) (10 ∷ []) _ (adds a p q (literal_front d) front) part
-    (ap (λ (l : List ℕ). p ++ l) (report_cut d value (10 ∷ []) is))
-
--- a failure at the LF
-pub report_stops_at_end : (a b : Option (List ℕ)) (p q r value : List ℕ) (d : Derivation) → value ≡ hex_value d → q ≡ p ++ literal_front d →
-    Sends a q b r (hex_bytes value) → AppendsBeginning a b (p ++ (literal_report d ++ 10 ∷ []))
-report_stops_at_end a b p q r value d is front hex = report_stops a b p q value d is front (stops_now a b q r (hex_bytes value) hex)
+-- the front, the bytes in hex, and an LF
+pub report_spelled : (held left out value : List ℕ) (d : Derivation) → value ≡ hex_value d → AreBytes held ((literal_front d ++ hex_bytes value) ++ 10 ∷ []) left out → AreBytes held (literal_report d ++ 10 ∷ []) left out
+report_spelled held left out value d is bytes =
+    (bytes.0, bytes.1 ∙ append_assoc (literal_front d) (hex_bytes value) (10 ∷ []) ∙ sym (report_cut d value (10 ∷ []) is))

@@ -1,20 +1,27 @@
 -- Texts that end with LF, the steps of texts, and texts that are held.
-use Rattle.std.proofs.Common.{◌≡◌, ◌∙◌, ◌⊎◌, inl, inr, ℕ, Bool, true, false, List, [], ◌∷◌, ◌++◌, refl, sym, ap, subst, append-nil, append_assoc, arith, length, take, ◌-◌, ◌+◌, ◌<◌, length-append, slice_index, Result, Ok, Err, OnErr}
-use Rattle.std.specs.Prelude.{IsTrue, IsFalse, IfOk, ◌↔◌, ◌==◌}
+use Rattle.std.proofs.Common.{◌≡◌, ◌∙◌, ◌⊎◌, inl, inr, ℕ, Bool, true, false, List, [], ◌∷◌, ◌++◌, refl, sym, ap, subst, append-nil, append_assoc, arith, length, take, ◌-◌, ◌+◌, ◌<◌, length-append, slice_index, Result, Ok, Err, OnOk, OnErr}
+use Rattle.std.specs.Prelude.{IsTrue, IfOk, ◌↔◌, ◌==◌}
 use Rattle.std.specs.Str.{chars, IsUtf8, IsCharBoundary}
 use Rattle.std.specs.String.Boundary.{IsSplitPoint}
 use Rattle.std.proofs.Math.Seq.{take-append_seam, get_or-append_seam}
 use Rattle.std.proofs.lemmas.Str.{chars-append, IsUtf8-append, IsUtf8-from_ascii, IsCharBoundary-at_seam}
+use Rattle.std.proofs.lemmas.Bool.{false≢true}
 use Rattle.litrs_base.specs.Derivations.{HasNoDerivation}
+use Rattle.litrs_base.specs.Text.{IsText}
+use Rattle.litrs_base.specs.declared.err.ParseErrorKind.{ParseErrorKind}
+use Rattle.litrs_base.specs.declared.err.ParseErrorKind.TheVariants.{UnterminatedRawString}
 use Rattle.litrs_base.proofs.Chars.{ascii_by_test}
-use Rattle.litrs_base.specs.Finality.{is_final, is_open}
+use Rattle.litrs_base.specs.Finality.{is_open}
 use Rattle.litrs_base.specs.Refusal.{Refusal, refusal_of, kind_of}
 use Rattle.litrs_grammar.specs.Literal.{IsLiteral, IsLiteralOf, literal_parse, Begins}
 use Rattle.litrs_grammar.specs.LiteralRefusals.{IsRefusal}
 use Rattle.litrs_grammar.proofs.Laws.Literal.{literals_are_not_refused, texts_are_decided}
 use Rattle.litrs_grammar.proofs.Spans.Literal.{no_literal_ends_with_line_feed}
 use Rattle.litrs_base.specs.declared.err.ParseError.{ParseError}
-use Rattle.litrs_grammar.specs.Refused.{IsRefused}
+use Rattle.litrs_grammar.specs.Closing.{after_raw_front, closing_text, closing_of, a_string_of}
+use Rattle.litrs_grammar.specs.Raw.{hash_len}
+use Rattle.litrs_grammar.specs.Refused.{IsRefused, IsRefusedOrOutOfMemory}
+use Rattle.litrs_grammar.proofs.LongerTexts.Raw.{closing_is_text}
 use Rattle.litrs_grammar.specs.Quoted.{without_last}
 use Rattle.litrs_grammar.proofs.QuotedItems.{without_last-append}
 use Rattle.litrs_grammar.proofs.LongerTexts.Literal.{line_ends_are_decided}
@@ -22,7 +29,7 @@ use Rattle.litrs.specs.LiteralDerivation.{derivation}
 use Rattle.litrs_lines.specs.declared.collector.Step.{Step}
 use Rattle.litrs_lines.specs.declared.collector.Step.TheVariants.{More, Literal, Refused}
 use Rattle.litrs_lines.specs.Held.{EndsWithLineFeed, Extends, IsHeld}
-use Rattle.litrs_lines.specs.Steps.{BeginsByLine, IsUnfinished, IsStep, held_after}
+use Rattle.litrs_lines.specs.Steps.{BeginsByLine, IsUnfinished, IsStep, held_after, Feeds, Pushes}
 use Rattle.litrs_lines.specs.StepLaws.{StepsAreDecided, StepsAreUnique}
 
 -- what holds anyway holds on an error
@@ -114,28 +121,55 @@ is_refused_step t text longer e test u is more refused begins closed = (
   λ line. let both : true ≡ false = sym (begins.1 (subst (Begins literal_parse) (sym (read_line t longer u more)) line)) ∙ closed in cc,
 )
 
--- after a refusal of a final kind no line makes a literal of the text
-pub begins_none : (t : List ℕ) (e : ParseError) → IsRefused literal_parse (chars t) e → is_final (kind_of e) ≡ true → BeginsByLine t → ⊥
-begins_none t e refused final begins =
-    refused.final final (10 ∷ begins.0) begins.1 (subst (λ (u : List ℕ). IsLiteralOf literal_parse u begins.1) (append_assoc (chars t) (10 ∷ []) begins.0) begins.3)
+-- Whether a text begins a literal, where its refusal tells.
+
+closing_text_is_text : (t : List ℕ) (kind : ParseErrorKind) → IsText (closing_text t kind)
+closing_text_is_text t UnterminatedRawString = closing_is_text (hash_len (after_raw_front t))
+closing_text_is_text t _ = refl
+
+pub open_begins : (t : List ℕ) (e : ParseError) → IsRefusedOrOutOfMemory literal_parse t e → is_open (kind_of e) ≡ true → Begins literal_parse t
+open_begins t e (inl refused) opened =
+    let closed = refused.closes opened in
+    (closing_of t (refusal_of e), a_string_of closed.kind closed.parts, closing_text_is_text t (kind_of e), closed.literal)
+open_begins t e (inr lack) opened = absurd (false≢true (sym (ap (λ (r : Refusal). is_open r.kind) lack.error) ∙ opened))
+
+-- a text that begins no literal begins none with an LF after it
+pub line_begins_none : (t : List ℕ) (test : Bool) → IsTrue test ↔ Begins literal_parse (chars t) → test ≡ false → BeginsByLine t → ⊥
+line_begins_none t test goes fails line =
+    let begins : Begins literal_parse (chars t) =
+    (10 ∷ line.0, line.1, line.2, subst (λ (u : List ℕ). IsLiteralOf literal_parse u line.1) (append_assoc (chars t) (10 ∷ []) line.0) line.3) in
+    let both : true ≡ false = sym (goes.1 begins) ∙ fails in cc
 
 -- what is held after a step
-pub step_is_held : (t held : List ℕ) (step : Step) → IsStep t step → held ≡ held_after t step → IsHeld held
+step_is_held : (t held : List ℕ) (step : Step) → IsStep t step → held ≡ held_after t step → IsHeld held
 step_is_held t held More is after = line_is_held t held after is.0
 step_is_held t held (Literal lit) is after = nothing_is_held held after
 step_is_held t held (Refused e) is after = nothing_is_held held after
 
 -- and after an error it is what was held before
-pub result_is_held : {E : Type 0} (t old new : List ℕ) (r : Result Step E) → IsHeld old → IfOk r (IsStep t) → IfOk r (λ step. new ≡ held_after t step) → OnErr r (new ≡ old) → IsHeld new
-result_is_held t old new (Ok step) held is after same = step_is_held t new step is after
-result_is_held t old new (Err e) held is after same = subst IsHeld (sym same) held
+pub result_is_held : {E : Type 0} (t old new : List ℕ) (r : Result Step E) → IsHeld old → IfOk r (Feeds t new) → OnErr r (new ≡ old) → IsHeld new
+result_is_held t old new (Ok step) held fed same = step_is_held t new step fed.is fed.after
+result_is_held t old new (Err e) held fed same = subst IsHeld (sym same) held
 
 -- what is held where a line is added if a string is then known to go on
-pub pushed_is_held : {E : Type 0} (old line new : List ℕ) (r : Result Bool E) → IsHeld old →
-    IfOk r (λ goes_on. IsTrue goes_on → IsUnfinished (old ++ line) × (new ≡ (old ++ line) ++ 10 ∷ [])) → IfOk r (λ goes_on. IsFalse goes_on → new ≡ old) → OnErr r (new ≡ old) → IsHeld new
-pushed_is_held old line new (Ok true) held more same err = line_is_held (old ++ line) new (more refl).1 (more refl).0.0
-pushed_is_held old line new (Ok false) held more same err = subst IsHeld (sym (same refl)) held
-pushed_is_held old line new (Err e) held more same err = subst IsHeld (sym err) held
+pub pushed_is_held : {E : Type 0} (old line new : List ℕ) (r : Result Bool E) → IsHeld old → IfOk r (Pushes old line new) → OnErr r (new ≡ old) → IsHeld new
+pushed_is_held old line new (Ok true) held pushed err = line_is_held (old ++ line) new (pushed.more refl).1 (pushed.more refl).0.0
+pushed_is_held old line new (Ok false) held pushed err = subst IsHeld (sym (pushed.other refl)) held
+pushed_is_held old line new (Err e) held pushed err = subst IsHeld (sym err) held
+
+-- what is fed, by parts
+
+pub fed_is : {E : Type 0} (t new : List ℕ) (r : Result Step E) → IfOk r (Feeds t new) → IfOk r (IsStep t)
+fed_is t new (Ok step) fed = fed.is
+fed_is t new (Err e) fed = tt
+
+pub fed_utf8 : {E : Type 0} (t new : List ℕ) (r : Result Step E) → IfOk r (Feeds t new) → OnOk r (IsUtf8 t)
+fed_utf8 t new (Ok step) fed = fed.utf8
+fed_utf8 t new (Err e) fed = tt
+
+pub fed_after : {E : Type 0} (t new : List ℕ) (r : Result Step E) → IfOk r (Feeds t new) → IfOk r (λ step. new ≡ held_after t step)
+fed_after t new (Ok step) fed = fed.after
+fed_after t new (Err e) fed = tt
 
 -- the last character of a text that ends with LF is popped
 popped : (bytes front left : List ℕ) (n : ℕ) → n ≡ length bytes → front ++ 10 ∷ [] ≡ bytes →

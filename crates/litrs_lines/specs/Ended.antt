@@ -50,6 +50,10 @@ abbrev pub AreEndedReports : (held : List ℕ) (lines : List (List ℕ)) (left o
 AreEndedReports held lines left out =
     (texts : List (List ℕ)) × LinesEnd held lines texts left × AreReports texts out
 
+-- out is the report on the group that is held, where there is one, and then none is
+abbrev pub IsHeldReport : (held left out : List ℕ) → Type 0
+IsHeldReport held left out = AreReports (unless_held held) out × (left ≡ [])
+
 -- out is those reports, and one on the group that is held after the lines: no line follows
 abbrev pub AreLastReports : (held : List ℕ) (lines : List (List ℕ)) (out : List ℕ) → Type 0
 AreLastReports held lines out =

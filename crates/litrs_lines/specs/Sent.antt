@@ -1,20 +1,26 @@
 -- What a step of a run leaves: reports that are not yet written, and an output.
-use Rattle.std.specs.Prelude.{◌≡◌, ℕ, Bool, true, false, List, ◌++◌, Option, Result, Ok, Err, string_bytes}
+use Rattle.std.specs.Prelude.{◌≡◌, ℕ, Bool, true, List, ◌++◌, Option, Result, Ok, Err, string_bytes}
 use Rattle.std.specs.Io.KnownBytes.{Appends}
 use Rattle.litrs_lines.specs.declared.RunError.{RunError}
 use Rattle.litrs_lines.specs.declared.group.Reporter.{Reporter}
 use Rattle.litrs_lines.specs.declared.RunError.TheVariants.{Read, Write, Memory}
-use Rattle.litrs_lines.specs.Ended.{AreEndedReports}
 use Rattle.litrs_lines.specs.Stopped.{AppendsBeginning}
 
--- A step on an output that works answers `Write` if and only if the output has then failed, by a
--- failed write. It never answers `Read`.
+-- A step answers `Write` if and only if the output fails in it, by a failed write. It never answers
+-- `Read`.
 abbrev pub NamesFailure : (result : Result (Unit {0}) RunError)
-    (has_failed write_failed : Bool) → Type 0
-NamesFailure (Ok _) has_failed write_failed = has_failed ≡ false
-NamesFailure (Err Read) has_failed write_failed = ⊥
-NamesFailure (Err Write) has_failed write_failed = (has_failed ≡ true) × (write_failed ≡ true)
-NamesFailure (Err Memory) has_failed write_failed = has_failed ≡ false
+    (failed_old failed_new write_failed : Bool) → Type 0
+NamesFailure (Ok _) failed_old failed_new write_failed = failed_new ≡ failed_old
+NamesFailure (Err Read) failed_old failed_new write_failed = ⊥
+NamesFailure (Err Write) failed_old failed_new write_failed =
+    (failed_new ≡ true) × (write_failed ≡ true)
+NamesFailure (Err Memory) failed_old failed_new write_failed = failed_new ≡ failed_old
+
+-- All of these bytes were appended to known ones, or on an error a prefix of them.
+abbrev pub WritesBytes : (result : Result (Unit {0}) RunError) (bytes : List ℕ)
+    (old new : Option (List ℕ)) → Type 0
+WritesBytes (Ok _) bytes old new = Appends old new bytes
+WritesBytes (Err _) bytes old new = AppendsBeginning old new bytes
 
 -- these bytes were added to what is not yet written, and a prefix of all that was then written
 pub record Sends (old : Option (List ℕ)) (unwritten_old : List ℕ) (new : Option (List ℕ))
@@ -23,30 +29,35 @@ pub record Sends (old : Option (List ℕ)) (unwritten_old : List ℕ) (new : Opt
   pub spells : written ++ unwritten_new ≡ unwritten_old ++ bytes
   pub appends : Appends old new written
 
--- All of these bytes were appended to known ones, or on an error a prefix of them.
-abbrev pub WritesBytes : (result : Result (Unit {0}) RunError) (bytes : List ℕ)
-    (old new : Option (List ℕ)) → Type 0
-WritesBytes (Ok _) bytes old new = Appends old new bytes
-WritesBytes (Err _) bytes old new = AppendsBeginning old new bytes
+-- The reporter has the same collector, the same reports and the same output: what a caller sees of
+-- these is what is behind it.
+pub record IsSameReporter {O : Type 0} (old new : Reporter O) : Type 0 where
+  pub collector : new.collector.ghost_name ≡ old.collector.ghost_name
+  pub unwritten : new.unwritten.ghost_name ≡ old.unwritten.ghost_name
+  pub writer : new.writer.ghost_name ≡ old.writer.ghost_name
 
--- A step adds these bytes: on `Ok` they were added, and on an error a prefix of what was not yet
--- written and of them was written.
-abbrev pub AddsBytes : (result : Result (Unit {0}) RunError) (bytes : List ℕ)
-    (old : Option (List ℕ)) (unwritten_old : List ℕ) (new : Option (List ℕ))
-    (unwritten_new : List ℕ) → Type 0
-AddsBytes (Ok _) bytes old unwritten_old new unwritten_new =
-    Sends old unwritten_old new unwritten_new bytes
-AddsBytes (Err _) bytes old unwritten_old new unwritten_new =
-    AppendsBeginning old new (unwritten_old ++ bytes)
+-- On `Ok` bytes were added, and on an error a prefix of what was not yet written and of them was
+-- written. `Adds` says which lines these may leave, and which bytes they are.
+abbrev pub SendsSome : (result : Result (Unit {0}) RunError) (old : Option (List ℕ))
+    (unwritten_old : List ℕ) (new : Option (List ℕ)) (unwritten_new left_new : List ℕ)
+    (Adds : (left out : List ℕ) → Type 0) → Type 0
+SendsSome (Ok _) old unwritten_old new unwritten_new left_new Adds =
+    (out : List ℕ) × Adds left_new out × Sends old unwritten_old new unwritten_new out
+SendsSome (Err _) old unwritten_old new unwritten_new left_new Adds =
+    (left : List ℕ) × (out : List ℕ) × Adds left out
+    × AppendsBeginning old new (unwritten_old ++ out)
 
--- A step over these lines: on `Ok` the reports on the groups that end with them were added, and the
--- group that goes on is held. On an error a prefix of what was not yet written and of these reports
--- was written.
-abbrev pub ReportsLines : (result : Result (Unit {0}) RunError) (old : Reporter)
-    (lines : List (List ℕ)) (new : Reporter) (contents_old contents_new : Option (List ℕ)) → Type 0
-ReportsLines (Ok _) old lines new contents_old contents_new =
-    (out : List ℕ) × AreEndedReports old.collector lines new.collector out
-    × Sends contents_old (string_bytes old.unwritten) contents_new (string_bytes new.unwritten) out
-ReportsLines (Err _) old lines new contents_old contents_new =
-    (left : List ℕ) × (out : List ℕ) × AreEndedReports old.collector lines left out
-    × AppendsBeginning contents_old contents_new (string_bytes old.unwritten ++ out)
+-- What a step leaves, over the output's ghost members: the lines that are held after it, and the
+-- bytes that it added or began to write, are as `Adds` says, and its answer names a failure.
+pub record Leaves {O : Type 0} (contents : O → Option (List ℕ)) (has_failed write_failed : O → Bool)
+    (result : Result (Unit {0}) RunError) (old new : Reporter O)
+    (Adds : (left out : List ℕ) → Type 0) : Type 0 where
+  pub same : IsSameReporter old new
+  pub adds : SendsSome result (contents old.writer.now) (string_bytes old.unwritten.now)
+      (contents new.writer.now) (string_bytes new.unwritten.now) new.collector.now Adds
+  pub failure : NamesFailure result (has_failed old.writer.now) (has_failed new.writer.now)
+      (write_failed new.writer.now)
+
+-- these bytes are added, and the same is held
+abbrev pub AreBytes : (held bytes left out : List ℕ) → Type 0
+AreBytes held bytes left out = (left ≡ held) × (out ≡ bytes)

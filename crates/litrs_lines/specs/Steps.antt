@@ -1,6 +1,6 @@
 -- What a collector answers to the lines that it has, joined by LF.
-use Rattle.std.specs.Prelude.{◌≡◌, ℕ, List, [], ◌∷◌, ◌++◌}
-use Rattle.std.specs.Str.{chars}
+use Rattle.std.specs.Prelude.{◌≡◌, ℕ, Bool, List, [], ◌∷◌, ◌++◌, IsTrue, IsFalse}
+use Rattle.std.specs.Str.{chars, IsUtf8}
 use Rattle.litrs.specs.declared.Literal.{Literal as AnyLiteral}
 use Rattle.litrs.specs.LiteralDerivation.{literal_raw, derivation}
 use Rattle.litrs_base.specs.Characters.{line_feed}
@@ -34,3 +34,16 @@ IsStep t (Refused e) = IsRefused literal_parse (chars t) e × (BeginsByLine t �
 abbrev pub held_after : List ℕ → Step → List ℕ
 held_after t More = t ++ line_feed ∷ []
 held_after t _ = []
+
+-- what a line leaves with which the text is this one: the answer, which is its step, and what is then
+-- held
+pub record Feeds (text held : List ℕ) (step : Step) : Type 0 where
+  pub utf8 : IsUtf8 text
+  pub is : IsStep text step
+  pub after : held ≡ held_after text step
+
+-- What a line leaves that is added where a string is then known to go on after it. Where it was,
+-- the text is unfinished, and held with an LF after it; else the same is held as before.
+pub record Pushes (old line new : List ℕ) (goes_on : Bool) : Type 0 where
+  pub more : IsTrue goes_on → IsUnfinished (old ++ line) × (new ≡ (old ++ line) ++ line_feed ∷ [])
+  pub other : IsFalse goes_on → new ≡ old

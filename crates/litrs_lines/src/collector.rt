@@ -3,17 +3,17 @@
 //! A literal may have line breaks in it, as a string in which one stands. A [`Collector`] is fed
 //! one line after the other, and answers to each whether the lines that it then has are a literal,
 //! begin one, or neither.
-ghost use Rattle.std.specs.Prelude.{◌≡◌, ◌≢◌, ◌↔◌, ◌∷◌, ◌++◌, [], None, IsTrue, IsFalse, IfOk, OnOk, OnErr, IfSome, IfNone, MatchResult, string_bytes};
+ghost use Rattle.std.specs.Prelude.{◌≡◌, ◌≢◌, ◌↔◌, ◌∷◌, ◌++◌, [], None, IsTrue, IfOk, OnOk, OnErr, IfSome, IfNone, MatchResult, string_bytes};
 ghost use Rattle.std.specs.Str.{chars, IsUtf8};
 ghost use Rattle.litrs_base.specs.Characters.{line_feed};
 ghost use Rattle.litrs_grammar.specs.Literal.{literal_parse, Begins};
-ghost use Rattle.litrs_grammar.specs.Refused.{IsRefused};
+ghost use Rattle.litrs_grammar.specs.Refused.{IsRefused, IsRefusedOrOutOfMemory};
 ghost use Rattle.litrs_lines.specs.Held.{EndsWithLineFeed, Extends, IsHeld, IsRefusalOfHeld};
 ghost use Rattle.litrs_lines.specs.Open.{IsKnown};
-ghost use Rattle.litrs_lines.specs.Steps.{IsReadAs, IsUnfinished, IsStep, held_after};
+ghost use Rattle.litrs_lines.specs.Steps.{IsReadAs, IsStep, held_after, Feeds, Pushes};
 
 use crate::collector::body::{Open, open_after};
-use litrs::{Literal, ParseError, ParseErrorKind};
+use litrs::{Literal, ParseError, ParseErrorKind, goes_on};
 use std::alloc::{AllocError, Global};
 use std::marker::Model;
 use std::mem;
@@ -116,13 +116,11 @@ impl Collector {
     }
 
     /// [`Collector::feed`] where no line is held. A literal is copied once it is known to be one,
-    /// and a final refusal is decided by the same parse.
+    /// and a line that begins none is not.
     #[inline(never)]
     fn feed_first(&mut self, line: &str) -> Result<Step, AllocError>
         requires { self.old ≡ [] }
-        ensures step { IfOk result (IsStep (self.old ++ line.now)) }
-        ensures utf8 { OnOk result (IsUtf8 (self.old ++ line.now)) }
-        ensures held { IfOk result (λ step. self.new ≡ held_after (self.old ++ line.now) step) }
+        ensures fed { IfOk result (Feeds (self.old ++ line.now) self.new) }
         ensures err { OnErr result (self.new ≡ self.old) }
     {
         let alloc = *self.held.allocator();
@@ -130,7 +128,7 @@ impl Collector {
             Ok(lit) => Ok(Step::Literal(lit.into_owned(alloc)?)),
             Err(e) => match e.kind() {
                 ParseErrorKind::OutOfMemory => Err(AllocError),
-                _ if e.is_final() => Ok(Step::Refused(e)),
+                _ if !may_go_on(line, &e) => Ok(Step::Refused(e)),
                 _ => self.feed_next(line),
             },
         }
@@ -140,9 +138,7 @@ impl Collector {
     /// decide the step.
     #[inline(never)]
     fn feed_next(&mut self, line: &str) -> Result<Step, AllocError>
-        ensures step { IfOk result (IsStep (self.old ++ line.now)) }
-        ensures utf8 { OnOk result (IsUtf8 (self.old ++ line.now)) }
-        ensures held { IfOk result (λ step. self.new ≡ held_after (self.old ++ line.now) step) }
+        ensures fed { IfOk result (Feeds (self.old ++ line.now) self.new) }
         ensures err { OnErr result (self.new ≡ self.old) }
     {
         if self.push(line)? {
@@ -155,10 +151,7 @@ impl Collector {
     /// after an error, the lines held are those of before.
     #[inline(always)]
     pub(crate) fn push(&mut self, line: &str) -> Result<bool, AllocError>
-        ensures goes_on { IfOk result (λ goes_on. IsTrue goes_on →
-            IsUnfinished (self.old ++ line.now)
-            × (self.new ≡ (self.old ++ line.now) ++ line_feed ∷ [])) }
-        ensures other { IfOk result (λ goes_on. IsFalse goes_on → self.new ≡ self.old) }
+        ensures pushed { IfOk result (Pushes self.old line.now self.new) }
         ensures err { OnErr result (self.new ≡ self.old) }
         ensures utf8 { IsUtf8 (self.old ++ line.now) }
     {
@@ -235,6 +228,15 @@ fn read(alloc: Global, text: &str) -> Result<Result<Literal<String>, ParseError>
     }
 }
 
+/// Whether a line that is refused so begins a literal: [`goes_on`], which is asked only where the
+/// refusal does not tell.
+pub(crate) fn may_go_on(line: &str, refusal: &ParseError) -> bool
+    requires { IsRefusedOrOutOfMemory literal_parse (chars line.now) refusal.now }
+    ensures { IsTrue result ↔ Begins literal_parse (chars line.now) }
+{
+    refusal.is_open() || (!refusal.is_final() && goes_on(line))
+}
+
 /// Whether a text that ends with LF begins a literal. No such text is one, so nothing is allocated.
 fn begins(alloc: Global, text: &str) -> bool
     requires { EndsWithLineFeed (chars text.now) }
@@ -251,9 +253,7 @@ fn begins(alloc: Global, text: &str) -> bool
 /// may have an LF at its end.
 #[inline(never)]
 fn read_held(held: &mut String) -> Result<Step, AllocError>
-    ensures step { IfOk result (IsStep (string_bytes held.old)) }
-    ensures held { IfOk result (λ step.
-        string_bytes held.new ≡ held_after (string_bytes held.old) step) }
+    ensures fed { IfOk result (Feeds (string_bytes held.old) (string_bytes held.new)) }
     ensures err { OnErr result (Extends (string_bytes held.old) (string_bytes held.new)) }
 {
     let alloc = *held.allocator();
@@ -278,11 +278,7 @@ fn read_held(held: &mut String) -> Result<Step, AllocError>
 #[inline(always)]
 fn push_line(held: &mut String, known: &mut Option<Open>, line: &str) -> Result<bool, AllocError>
     requires { IsKnown (string_bytes held.old) known.old }
-    ensures goes_on { IfOk result (λ goes_on. IsTrue goes_on →
-        IsUnfinished (string_bytes held.old ++ line.now)
-        × (string_bytes held.new ≡ (string_bytes held.old ++ line.now) ++ line_feed ∷ [])) }
-    ensures other { IfOk result (λ goes_on. IsFalse goes_on →
-        string_bytes held.new ≡ string_bytes held.old) }
+    ensures pushed { IfOk result (Pushes (string_bytes held.old) line.now (string_bytes held.new)) }
     ensures err { OnErr result (string_bytes held.new ≡ string_bytes held.old) }
     ensures known { IsKnown (string_bytes held.new) known.new }
 {
@@ -305,9 +301,7 @@ fn push_line(held: &mut String, known: &mut Option<Open>, line: &str) -> Result<
 #[inline(never)]
 fn read_added(held: &mut String, known: &mut Option<Open>, line: &str) -> Result<Step, AllocError>
     requires { IsKnown (string_bytes held.old) known.old }
-    ensures step { IfOk result (IsStep (string_bytes held.old ++ line.now)) }
-    ensures held { IfOk result (λ step.
-        string_bytes held.new ≡ held_after (string_bytes held.old ++ line.now) step) }
+    ensures fed { IfOk result (Feeds (string_bytes held.old ++ line.now) (string_bytes held.new)) }
     ensures err { OnErr result (string_bytes held.new ≡ string_bytes held.old) }
     ensures known { IsKnown (string_bytes held.new) known.new }
 {

@@ -1,13 +1,13 @@
 //! Reads lines and writes a report on each literal that they are, and on each text that is none.
 #![tactic(auto)]
 
-ghost use Rattle.std.specs.Prelude.{◌≡◌, ◌≢◌, ◌↔◌, ◌⊎◌, ◌∷◌, [], ◌++◌, ◌-◌, ◌^◌, ℕ, List, true, false, Some, IsSome, IfSome, IfErr, IsErrOf, OnOk, OnErr, position, string_bytes};
-ghost use Rattle.std.specs.Io.KnownBytes.{Appends, IsAtEnd};
+ghost use Rattle.std.specs.Prelude.{◌≡◌, ◌↔◌, ◌⊎◌, ◌∷◌, [], ◌++◌, ◌-◌, ◌^◌, true, false, Some, IsSome, IfSome, IsErrOf, OnOk, OnErr, position, string_bytes};
+ghost use Rattle.std.specs.Io.KnownBytes.{IsAtEnd};
 ghost use Rattle.litrs_lines.specs.Stopped.{StopsWithin};
 ghost use Rattle.litrs_lines.specs.Lines.{is_line_feed, HasNoLineFeed, strip_cr, ended_lines, open_line, unless_empty, lines_of};
-ghost use Rattle.litrs_lines.specs.Ended.{AreLastReports};
+ghost use Rattle.litrs_lines.specs.Ended.{AreEndedReports, AreLastReports};
 ghost use Rattle.litrs_lines.specs.Reports.{AppendsReports};
-ghost use Rattle.litrs_lines.specs.Sent.{NamesFailure, WritesBytes, AddsBytes, ReportsLines};
+ghost use Rattle.litrs_lines.specs.Sent.{NamesFailure, WritesBytes, Leaves};
 
 pub use collector::{Collector, Step};
 pub use device::{Failed, Input, Output};
@@ -95,22 +95,19 @@ fn strip_cr(line: &[u8]) -> &[u8]
 /// Processes the line that `end` ends, without one CR at its end, and goes on with an empty one.
 fn end_line<O: Output>(
     line: &mut Vec<u8>,
-    reporter: &mut Reporter,
-    writer: &mut O,
+    reporter: &mut Reporter<O>,
     end: &[u8],
 ) -> Result<(), RunError>
-    requires works { O.has_failed writer.old ≡ false }
     ensures line { OnOk result (line.new.items ≡ []) }
-    ensures reports { ReportsLines result
-        reporter.old (strip_cr (line.old.items ++ end.now) ∷ []) reporter.new
-        (O.contents writer.old) (O.contents writer.new) }
-    ensures failure { NamesFailure result (O.has_failed writer.new) (O.write_failed writer.new) }
+    ensures adds { Leaves O.contents O.has_failed O.write_failed result reporter.old reporter.new
+        (AreEndedReports reporter.old.collector.now
+        (strip_cr (line.old.items ++ end.now) ∷ [])) }
 {
     if line.is_empty() {
-        return reporter.process_line(writer, strip_cr(end));
+        return reporter.process_line(strip_cr(end));
     }
     line.extend_from_slice(end)?;
-    reporter.process_line(writer, strip_cr(line))?;
+    reporter.process_line(strip_cr(line))?;
     line.clear();
     Ok(())
 }
@@ -118,21 +115,17 @@ fn end_line<O: Output>(
 /// Processes the lines that end in `piece`, and keeps the one that goes on.
 fn gather<O: Output>(
     line: &mut Vec<u8>,
-    reporter: &mut Reporter,
-    writer: &mut O,
+    reporter: &mut Reporter<O>,
     piece: &[u8],
 ) -> Result<(), RunError>
-    requires line { HasNoLineFeed line.old.items }
-    requires works { O.has_failed writer.old ≡ false }
+    requires { HasNoLineFeed line.old.items }
     ensures line { OnOk result (line.new.items ≡ open_line (line.old.items ++ piece.now)) }
-    ensures reports { ReportsLines result
-        reporter.old (ended_lines (line.old.items ++ piece.now)) reporter.new
-        (O.contents writer.old) (O.contents writer.new) }
-    ensures failure { NamesFailure result (O.has_failed writer.new) (O.write_failed writer.new) }
+    ensures adds { Leaves O.contents O.has_failed O.write_failed result reporter.old reporter.new
+        (AreEndedReports reporter.old.collector.now (ended_lines (line.old.items ++ piece.now))) }
 {
     let mut rest = piece;
     while let Some(end) = line_end(rest) {
-        end_line(line, reporter, writer, &rest[..end])?;
+        end_line(line, reporter, &rest[..end])?;
         rest = &rest[end + 1..];
     }
     line.extend_from_slice(rest)?;
@@ -141,10 +134,9 @@ fn gather<O: Output>(
 
 /// Writes all of `bytes`.
 fn write_all<O: Output>(writer: &mut O, bytes: &[u8]) -> Result<(), RunError>
-    requires { O.has_failed writer.old ≡ false }
     ensures bytes { WritesBytes result bytes.now (O.contents writer.old) (O.contents writer.new) }
-    ensures write { IfErr result (λ e. e ≡ RunError.Write) }
-    ensures failure { NamesFailure result (O.has_failed writer.new) (O.write_failed writer.new) }
+    ensures failure { NamesFailure result (O.has_failed writer.old) (O.has_failed writer.new)
+        (O.write_failed writer.new) }
 {
     let mut rest = bytes;
     while !rest.is_empty() {
@@ -159,82 +151,49 @@ fn write_all<O: Output>(writer: &mut O, bytes: &[u8]) -> Result<(), RunError>
 /// Processes the next piece of the input: writes the reports on the groups that end in it.
 fn process_piece<O: Output>(
     line: &mut Vec<u8>,
-    reporter: &mut Reporter,
-    writer: &mut O,
+    reporter: &mut Reporter<O>,
     piece: &[u8],
 ) -> Result<(), RunError>
-    requires line { HasNoLineFeed line.old.items }
-    requires works { O.has_failed writer.old ≡ false }
+    requires { HasNoLineFeed line.old.items }
     ensures line { OnOk result (line.new.items ≡ open_line (line.old.items ++ piece.now)) }
-    ensures reports { ReportsLines result
-        reporter.old (ended_lines (line.old.items ++ piece.now)) reporter.new
-        (O.contents writer.old) (O.contents writer.new) }
-    ensures written { OnOk result (string_bytes reporter.new.unwritten ≡ []) }
-    ensures failure { NamesFailure result (O.has_failed writer.new) (O.write_failed writer.new) }
+    ensures adds { Leaves O.contents O.has_failed O.write_failed result reporter.old reporter.new
+        (AreEndedReports reporter.old.collector.now (ended_lines (line.old.items ++ piece.now))) }
+    ensures written { OnOk result (string_bytes reporter.new.unwritten.now ≡ []) }
 {
-    gather(line, reporter, writer, piece)?;
-    write_all(writer, reporter.unwritten.as_bytes())?;
-    reporter.unwritten.clear();
-    Ok(())
+    gather(line, reporter, piece)?;
+    reporter.write_unwritten()
 }
 
 /// Processes a last line that has no end, where it is not empty.
-fn process_open_line<O: Output>(
-    line: &[u8],
-    reporter: &mut Reporter,
-    writer: &mut O,
-) -> Result<(), RunError>
-    requires works { O.has_failed writer.old ≡ false }
-    ensures reports { ReportsLines result reporter.old (unless_empty line.now) reporter.new
-        (O.contents writer.old) (O.contents writer.new) }
-    ensures failure { NamesFailure result (O.has_failed writer.new) (O.write_failed writer.new) }
+fn process_open_line<O: Output>(line: &[u8], reporter: &mut Reporter<O>) -> Result<(), RunError>
+    ensures { Leaves O.contents O.has_failed O.write_failed result reporter.old reporter.new
+        (AreEndedReports reporter.old.collector.now (unless_empty line.now)) }
 {
     if line.is_empty() {
         return Ok(());
     }
-    reporter.process_line(writer, line)
+    reporter.process_line(line)
 }
 
 /// Reports on a last line that has no end, where it is not empty, and on the lines that are then
 /// held.
-fn report_last<O: Output>(
-    line: &[u8],
-    reporter: &mut Reporter,
-    writer: &mut O,
-) -> Result<(), RunError>
-    requires works { O.has_failed writer.old ≡ false }
-    ensures reports { (out : List ℕ)
-        × AreLastReports reporter.old.collector (unless_empty line.now) out
-        × AddsBytes result out (O.contents writer.old) (string_bytes reporter.old.unwritten)
-        (O.contents writer.new) (string_bytes reporter.new.unwritten) }
-    ensures failure { NamesFailure result (O.has_failed writer.new) (O.write_failed writer.new) }
+fn report_last<O: Output>(line: &[u8], reporter: &mut Reporter<O>) -> Result<(), RunError>
+    ensures { Leaves O.contents O.has_failed O.write_failed result reporter.old reporter.new
+        (λ _. AreLastReports reporter.old.collector.now (unless_empty line.now)) }
 {
-    process_open_line(line, reporter, writer)?;
-    reporter.report_held()?;
-    Ok(())
+    process_open_line(line, reporter)?;
+    reporter.report_held()
 }
 
 /// Processes the end of the input: writes the reports on a last line that has no end and on the
-/// lines that are held, and flushes.
-fn finish<O: Output>(line: &[u8], reporter: &mut Reporter, writer: &mut O) -> Result<(), RunError>
-    requires none { string_bytes reporter.old.unwritten ≡ [] }
-    requires works { O.has_failed writer.old ≡ false }
-    ensures reports { (out : List ℕ)
-        × AreLastReports reporter.old.collector (unless_empty line.now) out
-        × WritesBytes result out (O.contents writer.old) (O.contents writer.new) }
-    ensures flushed { OnOk result (O.is_flushed writer.new ≡ true) }
-    ensures read { result ≢ Err RunError.Read }
-    ensures write { IsErrOf result RunError.Write ↔ (O.has_failed writer.new ≡ true) }
-    ensures flush { IsErrOf result RunError.Write → O.write_failed writer.new ≡ false →
-        (out : List ℕ) × AreLastReports reporter.old.collector (unless_empty line.now) out
-        × Appends (O.contents writer.old) (O.contents writer.new) out }
+/// lines that are held.
+fn finish<O: Output>(line: &[u8], reporter: &mut Reporter<O>) -> Result<(), RunError>
+    ensures adds { Leaves O.contents O.has_failed O.write_failed result reporter.old reporter.new
+        (λ _. AreLastReports reporter.old.collector.now (unless_empty line.now)) }
+    ensures written { OnOk result (string_bytes reporter.new.unwritten.now ≡ []) }
 {
-    report_last(line, reporter, writer)?;
-    write_all(writer, reporter.unwritten.as_bytes())?;
-    match writer.flush() {
-        Ok(()) => Ok(()),
-        Err(Failed) => Err(RunError::Write),
-    }
+    report_last(line, reporter)?;
+    reporter.write_unwritten()
 }
 
 /// Reads to the end of the input, writes the report on each group of lines and an LF after it, and
@@ -289,16 +248,26 @@ pub fn run<I: Input, O: Output>(
 {
     let mut buffer = [0; BUFFER_LEN];
     let mut line = Vec::new(alloc);
-    let mut reporter = Reporter::new(alloc);
+    let mut collector = Collector::new(alloc);
+    let mut unwritten = String::new(alloc);
     for _turn in 0..u64::MAX {
         let count = match reader.read(&mut buffer) {
             Ok(count) => count,
             Err(Failed) => return Err(RunError::Read),
         };
+        let mut reporter = Reporter {
+            collector: &mut collector,
+            unwritten: &mut unwritten,
+            writer,
+        };
         if count == 0 {
-            return finish(line.as_slice(), &mut reporter, writer);
+            finish(line.as_slice(), &mut reporter)?;
+            return match reporter.writer.flush() {
+                Ok(()) => Ok(()),
+                Err(Failed) => Err(RunError::Write),
+            };
         }
-        process_piece(&mut line, &mut reporter, writer, &buffer[..count])?;
+        process_piece(&mut line, &mut reporter, &buffer[..count])?;
     }
     Err(RunError::Read)
 }

@@ -1,5 +1,5 @@
 //! The report on a literal, and on a refusal.
-ghost use Rattle.std.specs.Prelude.{◌≡◌, ◌≤◌, length, ◌∷◌, [], ◌++◌, false, OnOk, string_bytes};
+ghost use Rattle.std.specs.Prelude.{◌≡◌, ◌≤◌, length, ◌∷◌, [], ◌++◌, OnOk, string_bytes};
 ghost use Rattle.litrs.specs.LiteralDerivation.{derivation};
 ghost use Rattle.litrs_grammar.specs.Integer.{integer_value};
 ghost use Rattle.litrs.specs.CharLiteral.{char_parts, byte_parts};
@@ -8,12 +8,13 @@ ghost use Rattle.litrs.specs.IntegerLiteral.{integer_parts};
 ghost use Rattle.litrs_grammar.specs.Literal.{an_integer, a_float, a_char, a_byte};
 ghost use Rattle.litrs_lines.specs.Report.{value_text, integer_front, fraction_field, float_report, char_report, raw_field, hex_bytes, string_front, literal_report, refusal_report};
 ghost use Rattle.litrs_lines.specs.ReportParts.{literal_front, hex_value};
-ghost use Rattle.litrs_lines.specs.Sent.{NamesFailure, AddsBytes};
+ghost use Rattle.litrs_lines.specs.Sent.{Leaves, AreBytes};
 ghost use Rattle.litrs_base.specs.Characters.{line_feed};
 ghost use Rattle.litrs_base.specs.Refusal.{refusal_of};
 
+use crate::RunError;
 use crate::device::Output;
-use crate::{RunError, write_all};
+use crate::group::Reporter;
 use litrs::{Buffer, ByteLit, CharLit, FloatLit, IntegerLit, Literal, ParseError};
 use std::alloc::AllocError;
 use std::str;
@@ -43,19 +44,16 @@ fn push_refusal_report(out: &mut String, error: &ParseError) -> Result<(), Alloc
 
 /// Adds the report on a literal, and an LF. Where its value is long, it is written in pieces.
 pub(crate) fn report_literal<B: Buffer, O: Output>(
-    reports: &mut String,
-    writer: &mut O,
+    reporter: &mut Reporter<O>,
     lit: &Literal<B>,
 ) -> Result<(), RunError>
-    requires { O.has_failed writer.old ≡ false }
-    ensures adds { AddsBytes result (literal_report (derivation lit.now) ++ line_feed ∷ [])
-        (O.contents writer.old) (string_bytes reports.old)
-        (O.contents writer.new) (string_bytes reports.new) }
-    ensures failure { NamesFailure result (O.has_failed writer.new) (O.write_failed writer.new) }
+    ensures { Leaves O.contents O.has_failed O.write_failed result reporter.old reporter.new
+        (AreBytes reporter.old.collector.now
+        (literal_report (derivation lit.now) ++ line_feed ∷ [])) }
 {
-    push_front(reports, lit)?;
-    send_hex(reports, writer, hex_value(lit))?;
-    reports.push('\n')?;
+    push_front(reporter.unwritten, lit)?;
+    send_hex(reporter, hex_value(lit))?;
+    reporter.unwritten.push('\n')?;
     Ok(())
 }
 
@@ -240,21 +238,17 @@ fn raw_field(is_raw: bool) -> &'static str
 }
 
 /// Adds bytes in hex. Where these are many, they are written in pieces.
-fn send_hex<O: Output>(reports: &mut String, writer: &mut O, bytes: &[u8]) -> Result<(), RunError>
-    requires { O.has_failed writer.old ≡ false }
-    ensures adds { AddsBytes result (hex_bytes bytes.now)
-        (O.contents writer.old) (string_bytes reports.old)
-        (O.contents writer.new) (string_bytes reports.new) }
-    ensures failure { NamesFailure result (O.has_failed writer.new) (O.write_failed writer.new) }
+fn send_hex<O: Output>(reporter: &mut Reporter<O>, bytes: &[u8]) -> Result<(), RunError>
+    ensures { Leaves O.contents O.has_failed O.write_failed result reporter.old reporter.new
+        (AreBytes reporter.old.collector.now (hex_bytes bytes.now)) }
 {
     let mut rest = bytes;
     while rest.len() > PIECE_LEN {
-        push_hex(reports, &rest[..PIECE_LEN])?;
-        write_all(writer, reports.as_bytes())?;
-        reports.clear();
+        push_hex(reporter.unwritten, &rest[..PIECE_LEN])?;
+        reporter.write_unwritten()?;
         rest = &rest[PIECE_LEN..];
     }
-    push_hex(reports, rest)?;
+    push_hex(reporter.unwritten, rest)?;
     Ok(())
 }
 

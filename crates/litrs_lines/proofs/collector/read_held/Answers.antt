@@ -11,18 +11,26 @@ pub begins-requires : goal.begins-requires
 begins-requires c =
     ends_with_line_feed (string_bytes c.args.held.now) _ (IsUtf8-string_bytes c.args.held.now) (c.as_str-2.ensures.value ∙ c.in_ok-push.ensures.bytes ∙ ap (λ (x : List ℕ). string_bytes c.args.held.now ++ x) (c.in_ok-push.ensures.ascii (search rules)))
 
-pub returns-then-begins-clause-step : goal.returns-then-begins-clause-step
-returns-then-begins-clause-step c =
+pub returns-then-begins-clause-fed : goal.returns-then-begins-clause-fed
+returns-then-begins-clause-fed c =
     let t : List ℕ = string_bytes c.args.held.now in
     let more : c.as_str-2.result.now ≡ t ++ 10 ∷ [] = c.as_str-2.ensures.value ∙ c.in_ok-push.ensures.bytes ∙ ap (λ (x : List ℕ). t ++ x) (c.in_ok-push.ensures.ascii (search rules)) in
     let refused = rw c.in-Ok-Err.field-0-is at c.in-Ok-Err.ensures in
-    is_unfinished t c.as_str.result.now c.as_str-2.result.now c.in-Ok-Err.e c.begins.result (IsUtf8-string_bytes c.args.held.now) c.as_str.ensures.value
-    more refused c.begins.ensures c.if-begins.true
+    record {
+      utf8 = IsUtf8-string_bytes c.args.held.now;
+      is = is_unfinished t c.as_str.result.now c.as_str-2.result.now c.in-Ok-Err.e c.begins.result (IsUtf8-string_bytes c.args.held.now) c.as_str.ensures.value
+          more refused c.begins.ensures c.if-begins.true;
+      after = sym c.as_str-2.ensures.value ∙ more;
+    }
 
-pub returns-clause-step : goal.returns-clause-step
-returns-clause-step c =
+pub returns-clause-fed : goal.returns-clause-fed
+returns-clause-fed c =
     let t : List ℕ = string_bytes c.args.held.now in
     let more : c.as_str-2.result.now ≡ t ++ 10 ∷ [] = c.as_str-2.ensures.value ∙ c.in_ok-push.ensures.bytes ∙ ap (λ (x : List ℕ). t ++ x) (c.in_ok-push.ensures.ascii (search rules)) in
     let refused = rw c.in-Ok-Err.field-0-is at c.in-Ok-Err.ensures in
-    is_refused_step t c.as_str.result.now c.as_str-2.result.now c.in-Ok-Err.e c.begins.result (IsUtf8-string_bytes c.args.held.now) c.as_str.ensures.value
-    more refused c.begins.ensures c.if-begins.false
+    record {
+      utf8 = IsUtf8-string_bytes c.args.held.now;
+      is = is_refused_step t c.as_str.result.now c.as_str-2.result.now c.in-Ok-Err.e c.begins.result (IsUtf8-string_bytes c.args.held.now) c.as_str.ensures.value
+          more refused c.begins.ensures c.if-begins.false;
+      after = c.clear-2.ensures.bytes;
+    }

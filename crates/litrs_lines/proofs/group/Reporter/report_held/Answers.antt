@@ -1,20 +1,17 @@
-use Rattle.std.proofs.Common.{◌∙◌, ℕ, List, sym, subst}
-use Rattle.std.specs.Prelude.{string_bytes}
+use Rattle.std.proofs.Common.{◌∙◌, ℕ, List, [], refl, subst}
+use Rattle.std.proofs.lemmas.Result.{err_from_is_err_and}
 use Rattle.litrs_lines.specs.Held.{IsRefusalOfHeld}
-use Rattle.litrs_lines.proofs.LinesLemmas.{OnOk-map, OnOk-holds}
-use Rattle.litrs_lines.proofs.GroupReports.{held_adds, nothing_held_adds}
+use Rattle.litrs_lines.proofs.Leaving.{leaves_memory, leaves_added}
+use Rattle.litrs_lines.proofs.GroupReports.{held_adds}
 use Rattle.litrs_lines.proofs.group.Reporter.report_held.Goals as goal
 
-pub returns-in-Some : goal.returns-in-Some
-returns-in-Some c = record {
-  held = OnOk-holds c.report_refusal.result (c.replace.ensures.after ∙ c.new.ensures);
-  reports = OnOk-map c.report_refusal.result
-      (held_adds (string_bytes c.args.self.now.unwritten) (string_bytes c.report_refusal.new.out) c.args.self.now.collector c.in-Some.e (subst (λ (h : List ℕ). IsRefusalOfHeld h c.in-Some.e) c.replace.ensures.value c.in-Some.ensures.refusal))
-      c.report_refusal.ensures;
-}
+pub returns-in_err-report_refusal-in-Some : goal.returns-in_err-report_refusal-in-Some
+returns-in_err-report_refusal-in-Some g c =
+    let p = err_from_is_err_and c.from_residual.result c.from_residual.ensures.1 in
+    rw (p.1, p.2) (leaves_memory _ _ _ _ _ _ [] _ (record { collector = refl; unwritten = refl; writer = refl }) refl
+    (held_adds c.args.self.now.collector.now [] c.in-Some.e refl (subst (λ (h : List ℕ). IsRefusalOfHeld h c.in-Some.e) c.replace.ensures.value c.in-Some.ensures.refusal)))
 
-pub returns-in-None : goal.returns-in-None
-returns-in-None c = record {
-  held = c.replace.ensures.after ∙ c.new.ensures;
-  reports = nothing_held_adds (string_bytes c.args.self.now.unwritten) c.args.self.now.collector (sym c.replace.ensures.value ∙ c.in-None.ensures.none);
-}
+pub returns-in_ok-report_refusal-in-Some : goal.returns-in_ok-report_refusal-in-Some
+returns-in_ok-report_refusal-in-Some g c = leaves_added _ _ _ _ _ _ _ (record { collector = refl; unwritten = refl; writer = refl }) refl
+    (held_adds c.args.self.now.collector.now c.replace.new.dest c.in-Some.e (c.replace.ensures.after ∙ c.new.ensures) (subst (λ (h : List ℕ). IsRefusalOfHeld h c.in-Some.e) c.replace.ensures.value c.in-Some.ensures.refusal))
+    c.in_ok-report_refusal-in-Some.ensures
