@@ -1,8 +1,8 @@
 -- The lines are those on the kind, the value and the parts.
 use Rattle.std.proofs.Common.{string_bytes}
 use Rattle.litrs.specs.LiteralDerivation.{derivation}
-use Rattle.litrs_explain.proofs.Explained.{part_is, explanation_made}
-use Rattle.litrs_explain.proofs.lines.explain.Goals as goal
+use Rattle.litrs_explanation.proofs.Explained.{part_is, explanation_made}
+use Rattle.litrs_explanation.proofs.explanation.Goals as goal
 
 pub returns : goal.returns
 returns g c =

@@ -7,7 +7,7 @@ use Rattle.litrs_base.specs.Base.{base_value}
 use Rattle.litrs_grammar.specs.Float.{FloatParts}
 use Rattle.litrs_grammar.specs.Integer.{IntegerParts, integer_value}
 use Rattle.litrs_grammar.specs.Literal.{Derivation, suffix_of}
-use Rattle.litrs_explain.specs.Explanation.{kind_name, field, field_of_part, fields, integer_text, names_that_fit, integer_fields, fraction_field, float_fields, explanation}
+use Rattle.litrs_explanation.specs.Explanation.{kind_name, field, field_of_part, fields, integer_text, names_that_fit, integer_fields, fraction_field, float_fields, explanation}
 
 -- the bytes of a part are those of its characters
 pub part_is : (bytes part : List ℕ) → IsUtf8 bytes → chars bytes ≡ part → bytes ≡ encode_utf8_all part

@@ -2,9 +2,9 @@
 use Rattle.std.proofs.Common.{◌≡◌, string_bytes}
 use Rattle.std.proofs.lemmas.Result.{IfOk-weaker}
 use Rattle.litrs.specs.FloatLiteral.{float_parts}
-use Rattle.litrs_explain.specs.Explanation.{float_fields}
-use Rattle.litrs_explain.proofs.Explained.{part_is, float_made}
-use Rattle.litrs_explain.proofs.lines.float_fields.Goals as goal
+use Rattle.litrs_explanation.specs.Explanation.{float_fields}
+use Rattle.litrs_explanation.proofs.Explained.{part_is, float_made}
+use Rattle.litrs_explanation.proofs.float_fields.Goals as goal
 
 pub returns : goal.returns
 returns g c =

@@ -8,8 +8,8 @@ use Rattle.litrs.specs.StringKind.{string_kind, byte_string_kind, c_string_kind}
 use Rattle.litrs.specs.LiteralText.{string_text}
 use Rattle.litrs_build.specs.Written.{written_char, written_string, written_byte_string}
 use Rattle.litrs_build.specs.CStrings.{written_c_string}
-use Rattle.litrs_explain.proofs.Explained.{value_made}
-use Rattle.litrs_explain.proofs.lines.fields.Goals as goal
+use Rattle.litrs_explanation.proofs.Explained.{value_made}
+use Rattle.litrs_explanation.proofs.fields.Goals as goal
 
 pub returns-in_ok-field-in-Char : goal.returns-in_ok-field-in-Char
 returns-in_ok-field-in-Char g c =

@@ -3,9 +3,9 @@ use Rattle.std.proofs.Common.{◌≡◌, ap, ◌∙◌, string_bytes}
 use Rattle.std.proofs.lemmas.Result.{IfOk-weaker}
 use Rattle.litrs_base.specs.Base.{base_value}
 use Rattle.litrs.specs.IntegerLiteral.{integer_parts}
-use Rattle.litrs_explain.specs.Explanation.{integer_fields}
-use Rattle.litrs_explain.proofs.Explained.{part_is, integer_made}
-use Rattle.litrs_explain.proofs.lines.integer_fields.Goals as goal
+use Rattle.litrs_explanation.specs.Explanation.{integer_fields}
+use Rattle.litrs_explanation.proofs.Explained.{part_is, integer_made}
+use Rattle.litrs_explanation.proofs.integer_fields.Goals as goal
 
 pub returns : goal.returns
 returns g c =

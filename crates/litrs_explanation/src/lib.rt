@@ -1,14 +1,45 @@
-//! The lines on a literal.
+//! Explains a literal to a person: a line on its kind, one on its value, and one on each of its parts.
+//!
+//! ```
+//! use litrs::Literal;
+//! use litrs_explanation::{BuildError, explanation};
+//! use std::alloc::Global;
+//!
+//! /// What there is to say of a text that is a literal.
+//! fn explained(alloc: Global, text: &str) -> Result<Option<String>, BuildError> {
+//!     match &Literal::parse(alloc, text) {
+//!         Ok(lit) => Ok(Some(explanation(alloc, lit)?)),
+//!         Err(_) => Ok(None),
+//!     }
+//! }
+//! ```
+//!
+//! Of `0xFF_u8` it is
+//!
+//! ```text
+//! integer
+//!   value 255
+//!   base 16
+//!   digits FF_
+//!   fits u8 u16 u32 u64 u128 usize i16 i32 i64 i128 isize
+//!   suffix u8
+//! ```
+//!
+//! The value of a char or a string is the literal that `litrs_build` builds of it, so that nothing
+//! but LFs and printable characters is written.
+#![tactic(auto)]
+
 ghost use Rattle.std.specs.Prelude.{◌≡◌, IfOk, codes, string_bytes};
 ghost use Rattle.litrs_base.specs.Numeral.{greatest_of};
 ghost use Rattle.litrs.specs.LiteralDerivation.{derivation};
 ghost use Rattle.litrs_grammar.specs.Integer.{integer_value};
 ghost use Rattle.litrs.specs.IntegerLiteral.{integer_parts};
 ghost use Rattle.litrs.specs.FloatLiteral.{float_parts};
-ghost use Rattle.litrs_explain.specs.Explanation.{kind_name, explanation, fields, field, field_of_part, integer_text, names_that_fit, names_of, integer_fields, float_fields, fraction_field};
+ghost use Rattle.litrs_explanation.specs.Explanation.{kind_name, explanation, fields, field, field_of_part, integer_text, names_that_fit, names_of, integer_fields, float_fields, fraction_field};
 
 use litrs::{Buffer, FloatLit, IntegerLit, IntegerType, Literal};
-use litrs_build::{BuildError, byte_string, c_string, char, string};
+pub use litrs_build::BuildError;
+use litrs_build::{byte_string, c_string, char, string};
 use std::alloc::{AllocError, Global};
 
 /// All integer types, in the order in which they are named.
@@ -28,7 +59,11 @@ const INTEGER_TYPES: [IntegerType; 12] = [
 ];
 
 /// A line on the kind of a literal, one on its value, and one on each of its parts.
-pub(crate) fn explain<B: Buffer>(alloc: Global, literal: &Literal<B>) -> Result<String, BuildError>
+///
+/// # Errors
+///
+/// Where an allocation failed.
+pub fn explanation<B: Buffer>(alloc: Global, literal: &Literal<B>) -> Result<String, BuildError>
     ensures { IfOk result (λ lines. string_bytes lines ≡ explanation (derivation literal.now)) }
 {
     let kind = kind_name(literal);
@@ -39,7 +74,7 @@ pub(crate) fn explain<B: Buffer>(alloc: Global, literal: &Literal<B>) -> Result<
 }
 
 /// What the kind of a literal is called.
-pub(crate) fn kind_name<B: Buffer>(literal: &Literal<B>) -> &'static str
+pub fn kind_name<B: Buffer>(literal: &Literal<B>) -> &'static str
     ensures { result.now ≡ kind_name (derivation literal.now) }
 {
     match literal {
@@ -113,11 +148,12 @@ fn integer_fields<B: Buffer>(alloc: Global, lit: &IntegerLit<B>) -> Result<Strin
     format!(in alloc; "  value {value}\n  base {base}\n  digits {digits}\n  fits{fits}\n")
 }
 
-/// The value of an integer in decimal.
-pub(crate) fn integer_text<B: Buffer>(
-    alloc: Global,
-    lit: &IntegerLit<B>,
-) -> Result<String, AllocError>
+/// The value of an integer in decimal, or `2^128 or more`.
+///
+/// # Errors
+///
+/// Where an allocation failed.
+pub fn integer_text<B: Buffer>(alloc: Global, lit: &IntegerLit<B>) -> Result<String, AllocError>
     ensures { IfOk result (λ text. string_bytes text
         ≡ integer_text (integer_value (integer_parts lit.now))) }
 {
@@ -128,11 +164,12 @@ pub(crate) fn integer_text<B: Buffer>(
 }
 
 /// The names of the types that have the value of the integer, whatever its suffix, with a blank
-/// before each.
-pub(crate) fn names_that_fit<B: Buffer>(
-    alloc: Global,
-    lit: &IntegerLit<B>,
-) -> Result<String, AllocError>
+/// before each; ` no integer type` where none has.
+///
+/// # Errors
+///
+/// Where an allocation failed.
+pub fn names_that_fit<B: Buffer>(alloc: Global, lit: &IntegerLit<B>) -> Result<String, AllocError>
     ensures { IfOk result (λ names. string_bytes names
         ≡ names_that_fit (integer_value (integer_parts lit.now))) }
 {

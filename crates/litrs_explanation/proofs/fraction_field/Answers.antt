@@ -2,9 +2,9 @@
 use Rattle.std.proofs.Common.{◌≡◌, string_bytes}
 use Rattle.std.proofs.lemmas.Result.{IfOk-weaker}
 use Rattle.litrs.specs.FloatLiteral.{float_parts}
-use Rattle.litrs_explain.specs.Explanation.{fraction_field}
-use Rattle.litrs_explain.proofs.Explained.{fraction_made}
-use Rattle.litrs_explain.proofs.lines.fraction_field.Goals as goal
+use Rattle.litrs_explanation.specs.Explanation.{fraction_field}
+use Rattle.litrs_explanation.proofs.Explained.{fraction_made}
+use Rattle.litrs_explanation.proofs.fraction_field.Goals as goal
 
 pub returns-in-Some : goal.returns-in-Some
 returns-in-Some g c =
