@@ -6,13 +6,15 @@
 Runs both builds of crates/litrs_explain, which `rt ci` leaves in its out/: JSON, whose values are
 those that Python gives; any text, whose places are counted by Python; colors, which change nothing
 else; files, one of which is absent; wrong arguments; bytes that are not UTF-8; an output that is
-closed; and a long text, of which no more is held than its longest literal.
+closed; a long text, of which no more is held than its longest literal; and a long line that is
+refused again and again, where each refusal is shown at its place, and costs what is around it.
 """
 import ast
 import json
 import os
 import pathlib
 import re
+import resource
 import subprocess
 import sys
 import tempfile
@@ -155,6 +157,35 @@ class Tests:
         ran = subprocess.run(["sh", "-c", words], capture_output=True, check=False)
         self.hold(ran.stderr == b"" and b"exponent e3" in ran.stdout, f"a long text: {ran}")
 
+    def seconds(self, *words, given):
+        """The processor time of a run that refuses something."""
+        before = resource.getrusage(resource.RUSAGE_CHILDREN)
+        how = {"input": given, "stdout": subprocess.DEVNULL, "timeout": 100, "check": False}
+        try:
+            ran = subprocess.run([self.program, *words], **how)
+            self.hold(ran.returncode == 1, f"{words} over a long line ends with {ran.returncode}")
+        except subprocess.TimeoutExpired:
+            return float("inf")
+        after = resource.getrusage(resource.RUSAGE_CHILDREN)
+        return after.ru_utime + after.ru_stime - before.ru_utime - before.ru_stime
+
+    def try_refused(self):
+        """A line of which each word is refused."""
+        wrong, count = "'ab' ", 2000
+        line = wrong * count
+        objects = self.objects("--prefix", given=line, status=1)
+        columns = [it["column"] for it in objects]
+        self.hold(columns == list(range(1, len(line), len(wrong))), "the columns of a long line")
+        start = len(wrong) * (count // 2)
+        end = start + 4
+        shown = f"...{line[start - 48 : end + 48]}...\n  | {' ' * 51}^^^^\n"
+        report = f" --> <stdin>:1:{start + 1}\n  |\n1 | {shown}"
+        out, _, _ = self.run("--prefix", given=line.encode())
+        self.hold(report.encode() in out, f"what is shown of a long line at {start}")
+        for words in (["--prefix"], ["--prefix", "--format", "json"]):
+            short, long = (self.seconds(*words, given=b"'ab' " * it) for it in (20_000, 80_000))
+            self.hold(long < 8 * short + 0.5, f"{words}: {short} s, and {long} s for four times it")
+
 
 def main():
     faults, number = [], 0
@@ -169,6 +200,7 @@ def main():
             tests.try_files(folder)
             tests.try_closed()
             tests.try_long(folder)
+            tests.try_refused()
         number, faults = number + tests.number, faults + tests.faults
     print(*faults[:20], sep="\n", end="\n" if faults else "")
     print(f"explain: {number - len(faults)} passed, {len(faults)} failed")

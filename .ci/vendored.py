@@ -26,7 +26,8 @@ import libraries
 from libraries import TOP
 
 # The libraries that have a page CALLING.md.
-CALLED = ["litrs", "litrs_token", "litrs_prefix", "litrs_build", "litrs_diagnostic", "litrs_lines"]
+CALLED = ["litrs", "litrs_token", "litrs_prefix", "litrs_build", "litrs_diagnostic"]
+CALLED += ["litrs_explanation", "litrs_lines"]
 COPIED = [*CALLED, "litrs_c", "litrs_lines_fails"]
 # What of a crate's folder is not copied.
 LEFT = {"out", "wrong", "must-fail"}

@@ -12,7 +12,7 @@ use Rattle.ucd_category.specs.GeneralCategoryRows.{general_category_rows}
 use Rattle.ucd_table.specs.Rows.{value_in}
 use Rattle.litrs_base.proofs.Runs.{list_all-append, list_all-weaken}
 use Rattle.litrs_diagnostic.specs.Printable.{is_printable}
-use Rattle.litrs_diagnostic.specs.Position.{is_line_feed, line_number, column_number}
+use Rattle.litrs_diagnostic.specs.Position.{is_line_feed, line_number, column_in}
 use Rattle.litrs_diagnostic.specs.Shown.{blank, caret, shown, shown_char, columns}
 use Rattle.litrs_diagnostic.specs.Line.{start_line, end_line}
 use Rattle.litrs_diagnostic.specs.Window.{Window, fitted}
@@ -190,16 +190,16 @@ lines_clean margin first_line width before range after =
     (gap_clean first last) (line_clean margin last (fitted width (end_line range after))))
     none_clean)
 
-message_clean : (first_line width : ℕ) (name message before range after : List ℕ) →
-    IsClean (message_text first_line width name message before range after)
+message_clean : (first_line first_column width : ℕ) (name message before range after : List ℕ) →
+    IsClean (message_text first_line first_column width name message before range after)
 unfolding message_text
-message_clean first_line width name message before range after =
+message_clean first_line first_column width name message before range after =
     let margin = length (decimal (line_number first_line (before ++ range))) in
     piece (codes "error: ") _ (plain_by_test (codes "error: ") refl)
     (piece (shown message) _ (shown_printable message)
     (line_end (blanks margin ++ (codes "--> " ++
     (shown name ++ (codes ":" ++ (decimal (line_number first_line before)
-    ++ (codes ":" ++ (decimal (column_number before)
+    ++ (codes ":" ++ (decimal (column_in first_column before)
     ++ 10 ∷ (blanks margin ++ (codes " |\n" ++ lines_text margin first_line width before range after)))))))))
     (piece (blanks margin) _ (blanks_printable margin)
     (piece (codes "--> ") _ (plain_by_test (codes "--> ") refl)
@@ -207,7 +207,7 @@ message_clean first_line width name message before range after =
     (piece (codes ":") _ (plain_by_test (codes ":") refl)
     (piece (decimal (line_number first_line before)) _ (decimal_printable (line_number first_line before))
     (piece (codes ":") _ (plain_by_test (codes ":") refl)
-    (piece (decimal (column_number before)) _ (decimal_printable (column_number before))
+    (piece (decimal (column_in first_column before)) _ (decimal_printable (column_in first_column before))
     (line_end (blanks margin ++ (codes " |\n" ++ lines_text margin first_line width before range after))
     (piece (blanks margin) _ (blanks_printable margin)
     (piece (codes " |") (10 ∷ lines_text margin first_line width before range after)
@@ -215,9 +215,9 @@ message_clean first_line width name message before range after =
     (line_end (lines_text margin first_line width before range after)
     (lines_clean margin first_line width before range after))))))))))))))
 
-pub diagnostic_clean : (name message source : List ℕ) (first_line width start end : ℕ) →
-    list_all is_line_feed_or_printable (diagnostic_text name message source first_line width start end) ≡ true
+pub diagnostic_clean : (name message source : List ℕ) (first_line first_column width start end : ℕ) →
+    list_all is_line_feed_or_printable (diagnostic_text name message source first_line first_column width start end) ≡ true
 unfolding diagnostic_text
-diagnostic_clean name message source first_line width start end =
-    (message_clean first_line width (chars name) (chars message) (chars (take start source))
+diagnostic_clean name message source first_line first_column width start end =
+    (message_clean first_line first_column width (chars name) (chars message) (chars (take start source))
     (chars (slice_range source start end)) (chars (drop end source))).all

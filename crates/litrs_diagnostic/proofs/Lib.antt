@@ -8,6 +8,8 @@ pub mod Encodes
 pub mod Widths
 -- as many characters as are shown in a width
 pub mod Within
+-- whether that is all of the text
+pub mod Shorter
 -- how many digits a number has
 pub mod Digits
 -- a text that is cut at both ends of a range

@@ -1,9 +1,11 @@
 -- The first and the last line of a text, where its LFs are known.
-use Rattle.std.proofs.Common.{◌≡◌, ◌≢◌, ℕ, Bool, true, false, ◌&&◌, ◌||◌, eqb, List, [], ◌∷◌, ◌++◌, refl, ap, true≢false, ne_eqb}
+use Rattle.std.proofs.Common.{◌≡◌, ◌≢◌, ◌<◌, ◌+◌, ◌-◌, ℕ, Bool, true, false, ◌&&◌, ◌||◌, cond, eqb, List, [], ◌∷◌, ◌++◌, length, count_by, refl, ap, inl, inr, true≢false, ne_eqb, arith}
+use Rattle.std.proofs.lemmas.Bool.{cases_Bool}
+use Rattle.std.proofs.lemmas.List.Sums.{sum_by-append}
 use Rattle.std.specs.List.{list_any}
 use Rattle.std.specs.Str.{NonePass}
 use Rattle.litrs_base.proofs.ListTests.{list_any-split}
-use Rattle.litrs_diagnostic.specs.Position.{is_line_feed, last_line}
+use Rattle.litrs_diagnostic.specs.Position.{is_line_feed, last_line, line_number, column_number, column_in}
 use Rattle.litrs_diagnostic.specs.Line.{is_carriage_return, ends_line, first_line}
 
 pub or_parts : (a b : Bool) → (a || b) ≡ false → (a ≡ false) × (b ≡ false)
@@ -38,6 +40,45 @@ unfolding last_line
 last_line-after [] ys h = last_line-none ys h
 last_line-after (x ∷ xs) ys h =
     let some = list_any-split is_line_feed (x ∷ xs) 10 ys refl in rw some (last_line-after xs ys h)
+
+-- ---- columns
+
+none_counted : (p : ℕ → Bool) (t : List ℕ) → list_any p t ≡ false → count_by p t ≡ 0
+none_counted p [] h = refl
+none_counted p (c ∷ t) h =
+    let parts = or_parts (p c) (list_any p t) h in rw parts.0 (none_counted p t parts.1)
+
+some_counted : (p : ℕ → Bool) (t : List ℕ) → list_any p t ≡ true → 0 < count_by p t
+some_counted p [] h = cc
+some_counted p (c ∷ t) h = elim (cases_Bool (p c)) [
+  | inl passes ↦
+      let sum : count_by p (c ∷ t) ≡ count_by p (c ∷ []) + count_by p t =
+      sum_by-append (λ x. cond (p x) 1 0) (c ∷ []) t in
+      let one : count_by p (c ∷ []) ≡ 1 = rw passes refl in omega arith
+  | inr fails ↦ rw fails (some_counted p t (rw fails at h))
+]
+
+-- in the first line it counts from that of the first character
+pub column_in_first : (first_column line column : ℕ) (t : List ℕ) → line ≡ line_number 1 t →
+    column ≡ column_number t → line ≡ 1 → first_column + (column - 1) ≡ column_in first_column t
+unfolding column_in
+column_in_first first_column line column t is_line is_column first =
+    elim (cases_Bool (list_any is_line_feed t)) [
+      | inl found ↦ let some = some_counted is_line_feed t found in absurd (omega arith)
+      | inr none ↦
+          let size : length (last_line t) ≡ length t = ap length (last_line-none t none) in
+          rw none (omega arith)
+    ]
+
+-- in a later one from 1
+pub column_in_later : (first_column line column : ℕ) (t : List ℕ) → line ≡ line_number 1 t →
+    column ≡ column_number t → line ≢ 1 → column ≡ column_in first_column t
+unfolding column_in
+column_in_later first_column line column t is_line is_column later =
+    elim (cases_Bool (list_any is_line_feed t)) [
+      | inl found ↦ rw found is_column
+      | inr none ↦ let no = none_counted is_line_feed t none in absurd (later (omega arith))
+    ]
 
 -- ---- the first line
 

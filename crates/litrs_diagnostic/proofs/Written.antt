@@ -10,7 +10,7 @@ use Rattle.std.proofs.lemmas.Str.{encodes-append, encodes-IsAscii}
 use Rattle.std.proofs.lemmas.Str.Ascii.{IsAscii-cons, IsAscii-nil}
 use Rattle.litrs_base.proofs.Chars.{ascii_by_test}
 use Rattle.litrs_diagnostic.specs.Shown.{caret, char_columns, columns, shown, shown_char}
-use Rattle.litrs_diagnostic.specs.Position.{is_line_feed, line_number, column_number}
+use Rattle.litrs_diagnostic.specs.Position.{is_line_feed, line_number, column_in}
 use Rattle.litrs_diagnostic.specs.Line.{start_line, end_line}
 use Rattle.litrs_diagnostic.specs.Window.{Window, fitted}
 use Rattle.litrs_diagnostic.specs.Diagnostic.{blanks, carets, dots, line_text, gap_text, lines_text, message_text}
@@ -150,21 +150,21 @@ heading_more : (name message : List ℕ) (margin line column : ℕ) (a b : List 
     ≡ heading name message margin line column (a ++ b)
 heading_more name message margin line column a b = simp append_assoc refl
 
-heading_then : (first_line width : ℕ) (name message before range after bs : List ℕ) →
+heading_then : (first_line first_column width : ℕ) (name message before range after bs : List ℕ) →
     encode_utf8_all (lines_text (length (decimal (line_number first_line (before ++ range)))) first_line width before
     range after) ≡ bs →
     heading name message (length (decimal (line_number first_line (before ++ range)))) (line_number first_line before)
-    (column_number before) bs
-    ≡ encode_utf8_all (message_text first_line width name message before range after)
+    (column_in first_column before) bs
+    ≡ encode_utf8_all (message_text first_line first_column width name message before range after)
 unfolding message_text
-heading_then first_line width name message before range after bs more =
+heading_then first_line first_column width name message before range after bs more =
     let margin = length (decimal (line_number first_line (before ++ range))) in
     simp append_assoc refl
     ∙ sym (ascii_then (codes "error: ") _ _ refl
     (text_then (shown message) _ _ (ascii_then (10 ∷ []) _ _ refl (text_then (blanks margin) _ _
     (ascii_then (codes "--> ") _ _ refl (text_then (shown name) _ _
     (ascii_then (codes ":") _ _ refl (decimal_then (line_number first_line before) _ _
-    (ascii_then (codes ":") _ _ refl (decimal_then (column_number before) _ _
+    (ascii_then (codes ":") _ _ refl (decimal_then (column_in first_column before) _ _
     (ascii_then (10 ∷ []) _ _ refl (text_then (blanks margin) _ _
     (ascii_then (codes " |\n") _ bs refl more)))))))))))))
 
@@ -206,36 +206,36 @@ pub last_number : (first_line : ℕ) (before range : List ℕ) → line_number f
 last_number first_line before range =
     let sum = sum_by-append (λ c. cond (is_line_feed c) 1 0) before range in omega (arith, sum)
 
-pub one_line_bytes : (first_line width : ℕ) (name message before range after : List ℕ)
+pub one_line_bytes : (first_line first_column width : ℕ) (name message before range after : List ℕ)
     (margin line column : ℕ) (l : Window) →
     margin ≡ length (decimal (line_number first_line (before ++ range))) → line ≡ line_number first_line before →
-    column ≡ column_number before →
+    column ≡ column_in first_column before →
     l ≡ fitted width (start_line before range after) → line_number first_line (before ++ range) ≤ line_number first_line before →
     heading name message margin line column (encode_utf8_all (line_text margin line l))
-    ≡ encode_utf8_all (message_text first_line width name message before range after)
-one_line_bytes first_line width name message before range after margin line column l is_margin is_line is_column
+    ≡ encode_utf8_all (message_text first_line first_column width name message before range after)
+one_line_bytes first_line first_column width name message before range after margin line column l is_margin is_line is_column
     is_l same =
     rw (is_margin, is_line, is_column, is_l)
-    (heading_then first_line width name message before range after _
+    (heading_then first_line first_column width name message before range after _
     (one_line (length (decimal (line_number first_line (before ++ range)))) first_line width before range after
     (le-ltb (line_number first_line before) (line_number first_line (before ++ range)) same)))
 
-pub two_lines_bytes : (first_line width : ℕ) (name message before range after : List ℕ)
+pub two_lines_bytes : (first_line first_column width : ℕ) (name message before range after : List ℕ)
     (margin line column last : ℕ) (gap : List ℕ) (l m : Window) →
     margin ≡ length (decimal (line_number first_line (before ++ range))) → line ≡ line_number first_line before →
-    column ≡ column_number before →
+    column ≡ column_in first_column before →
     last ≡ line_number first_line (before ++ range) → gap
     ≡ gap_text (line_number first_line before) (line_number first_line (before ++ range)) →
     l ≡ fitted width (start_line before range after) → m ≡ fitted width (end_line range after) →
     line_number first_line before < line_number first_line (before ++ range) →
     heading name message margin line column (encode_utf8_all (line_text margin line l))
     ++ (gap ++ encode_utf8_all (line_text margin last m))
-    ≡ encode_utf8_all (message_text first_line width name message before range after)
-two_lines_bytes first_line width name message before range after margin line column last gap l m is_margin is_line
+    ≡ encode_utf8_all (message_text first_line first_column width name message before range after)
+two_lines_bytes first_line first_column width name message before range after margin line column last gap l m is_margin is_line
     is_column is_last is_gap is_l is_m less =
     rw (is_margin, is_line, is_column, is_last, is_gap, is_l, is_m)
     (heading_more name message (length (decimal (line_number first_line (before ++ range))))
-    (line_number first_line before) (column_number before) _ _
-    ∙ heading_then first_line width name message before range after _
+    (line_number first_line before) (column_in first_column before) _ _
+    ∙ heading_then first_line first_column width name message before range after _
     (two_lines (length (decimal (line_number first_line (before ++ range)))) first_line width before range after
     (lt-ltb (line_number first_line before) (line_number first_line (before ++ range)) less)))

@@ -2,7 +2,10 @@
 use Rattle.std.specs.Prelude.{ℕ, Bool, ◌||◌, ◌+◌, ◌-◌, List, [], ◌∷◌, ◌++◌, length, take, drop, replicate, max, nat_lt, codes, slice_range, if◌then◌else◌}
 use Rattle.std.specs.Fmt.{decimal}
 use Rattle.std.specs.Str.{chars}
-use Rattle.litrs_diagnostic.specs.Position.{is_line_feed, line_number, column_number}
+use Rattle.litrs_base.specs.declared.err.ParseError.{ParseError}
+use Rattle.litrs_base.specs.Kind.{kind_text}
+use Rattle.litrs_base.specs.Refusal.{kind_of, marked_span}
+use Rattle.litrs_diagnostic.specs.Position.{is_line_feed, line_number, column_in}
 use Rattle.litrs_diagnostic.specs.Printable.{is_printable}
 use Rattle.litrs_diagnostic.specs.Shown.{blank, caret, shown, columns}
 use Rattle.litrs_diagnostic.specs.Line.{start_line, end_line}
@@ -51,19 +54,26 @@ lines_text margin first_line width before range after =
 
 -- The message, the place of the range's start, and the lines. The margin is as wide as the greatest
 -- number in it.
-unfoldable pub message_text : (first_line width : ℕ) (name message before range after : List ℕ) → List ℕ
-message_text first_line width name message before range after =
+unfoldable pub message_text : (first_line first_column width : ℕ) (name message before range after : List ℕ) → List ℕ
+message_text first_line first_column width name message before range after =
     let margin = length (decimal (line_number first_line (before ++ range))) in
     codes "error: " ++ (shown message ++ (line_feed
     ++ (blanks margin ++ (codes "--> " ++ (shown name ++ (codes ":"
-    ++ (decimal (line_number first_line before) ++ (codes ":" ++ (decimal (column_number before) ++ (line_feed
+    ++ (decimal (line_number first_line before) ++ (codes ":" ++ (decimal (column_in first_column before) ++ (line_feed
     ++ (blanks margin ++ (codes " |\n" ++ lines_text margin first_line width before range after))))))))))))
 
--- The characters that are written of a message on the bytes from start to end of the source.
-unfoldable pub diagnostic_text : (name message source : List ℕ) (first_line width start end : ℕ) → List ℕ
-diagnostic_text name message source first_line width start end =
-    message_text first_line width (chars name) (chars message)
+-- The characters that are written of a message on the bytes from start to end of the source, whose
+-- first character has this line and this column.
+unfoldable pub diagnostic_text : (name message source : List ℕ) (first_line first_column width start end : ℕ) → List ℕ
+diagnostic_text name message source first_line first_column width start end =
+    message_text first_line first_column width (chars name) (chars message)
     (chars (take start source)) (chars (slice_range source start end)) (chars (drop end source))
+
+-- Those that are written of the refusal of a text: its kind, on what is to be marked of the text.
+abbrev pub refusal_text : (name text : List ℕ) → ParseError → (width : ℕ) → List ℕ
+refusal_text name text e width =
+    let span = marked_span (chars text) e in
+    diagnostic_text name (kind_text (kind_of e)) text 1 1 width span.start span.end
 
 -- an LF or a printable character: nothing else is written
 abbrev pub is_line_feed_or_printable : ℕ → Bool

@@ -12,3 +12,7 @@ pub mod Window
 pub mod Rows
 -- all that is written
 pub mod Diagnostic
+-- The words of the contracts, so that users name this crate alone
+pub use Rattle.litrs_base.specs.CharEnd
+pub use Rattle.litrs_base.specs.Kind
+pub use Rattle.litrs_base.specs.Refusal

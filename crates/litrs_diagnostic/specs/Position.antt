@@ -19,3 +19,8 @@ line_number first_line before = first_line + count_by is_line_feed before
 -- the text began.
 abbrev pub column_number : List ℕ → ℕ
 column_number before = length (last_line before) + 1
+
+-- The same of a text whose first character has this column, which counts in its first line alone.
+unfoldable pub column_in : (first_column : ℕ) → List ℕ → ℕ
+column_in first_column before =
+    if list_any is_line_feed before then column_number before else first_column + length before

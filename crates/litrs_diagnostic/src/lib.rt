@@ -13,7 +13,10 @@
 //!             let message = "a tab";
 //!             let name = "settings";
 //!             let width = 100;
-//!             let refusal = Diagnostic { name, source, start, end, message, width };
+//!             let (first_line, first_column) = (1, 1);
+//!             let refusal = Diagnostic {
+//!                 name, source, start, end, first_line, first_column, message, width,
+//!             };
 //!             Ok(Some(shown(alloc, &refusal)?))
 //!         }
 //!         None => Ok(None),
@@ -35,7 +38,7 @@
 //! tab is shown as four blanks, and any other character that is not printable by its number, as
 //! `\u{202e}`. Of a line that has more columns than a given width the part around the range is
 //! shown, and `...` in place of the rest. The source is read up to the end of the last line that is
-//! shown.
+//! shown. [`shown_refusal`] shows the refusal of a text by a parse.
 #![tactic(auto)]
 
 ghost use Rattle.std.specs.Prelude.{◌≡◌, IfOk, IsTrue, string_bytes};
@@ -48,11 +51,13 @@ mod marks;
 mod message;
 mod places;
 mod printable;
+mod refusal;
 mod row;
 mod window;
 
 pub use message::Diagnostic;
 pub use places::{LineColumn, position};
+pub use refusal::shown_refusal;
 use std::alloc::{AllocError, Global};
 
 /// What is written of a diagnostic, in lines that each end with LF.
@@ -63,7 +68,8 @@ use std::alloc::{AllocError, Global};
 pub fn shown(alloc: Global, diagnostic: &Diagnostic) -> Result<String, AllocError>
     ensures text { IfOk result (λ written. chars (string_bytes written) ≡ diagnostic_text
         diagnostic.now.name.now diagnostic.now.message.now diagnostic.now.source.now
-        diagnostic.now.first_line diagnostic.now.width diagnostic.now.start diagnostic.now.end) }
+        diagnostic.now.first_line diagnostic.now.first_column diagnostic.now.width
+        diagnostic.now.start diagnostic.now.end) }
     ensures printable { IfOk result (λ written. IsTrue (
         list_all is_line_feed_or_printable (chars (string_bytes written)))) }
 {

@@ -5,7 +5,7 @@ ghost use Rattle.litrs_diagnostic.specs.Diagnostic.{gap_text};
 
 use crate::lines::{end_line, start_line};
 use crate::marks::{Blanks, Shown};
-use crate::places::{LineColumn, line_feeds, position};
+use crate::places::{LineColumn, line_feeds, place_in};
 use crate::row::{Row, digit_count};
 use crate::window::fitted;
 use std::fmt;
@@ -30,6 +30,8 @@ pub struct Diagnostic<'a> {
     pub end: usize,
     /// The number of the text's first line: 1, but where the text is taken out of a longer one.
     pub first_line: u32,
+    /// The column of its first character: 1, but where the text is taken out of the midst of a line.
+    pub first_column: u32,
     /// What there is to say of the range.
     pub message: &'a str,
     /// How many columns of a line are shown at most, besides its number and the `...` in place of
@@ -49,13 +51,18 @@ impl fmt::Display for Diagnostic<'_> {
     ghost use Rattle.litrs_diagnostic.specs.Diagnostic.{diagnostic_text};
 
     ghost output = { λ d. Some (encode_utf8_all (
-        diagnostic_text d.name.now d.message.now d.source.now d.first_line d.width d.start d.end)) };
+        diagnostic_text d.name.now d.message.now d.source.now d.first_line d.first_column d.width
+        d.start d.end)) };
 
     fn fmt<W: fmt::Write>(&self, f: &mut fmt::Formatter<W>) -> fmt::Result {
         let message = Shown(self.message);
         let name = Shown(self.name);
-        let LineColumn { line, column } = position(self.source, self.start);
-        let line = self.first_line as usize + (line - 1);
+        let LineColumn { line, column } = place_in(
+            self.source,
+            self.start,
+            self.first_line,
+            self.first_column,
+        );
         let last = line + line_feeds(&self.source[self.start..self.end]);
         let digits = digit_count(last);
         let margin = Blanks(digits);

@@ -1,7 +1,7 @@
 //! Lines and columns.
-ghost use Rattle.std.specs.Prelude.{◌≡◌, ◌≤◌, ◌+◌, ◌++◌, ℕ, List, take, length, count_by};
+ghost use Rattle.std.specs.Prelude.{◌≡◌, ◌≤◌, ◌+◌, ◌++◌, ◌^◌, ℕ, List, take, length, count_by};
 ghost use Rattle.std.specs.Str.{chars, IsCharBoundary};
-ghost use Rattle.litrs_diagnostic.specs.Position.{is_line_feed, last_line, line_number, column_number};
+ghost use Rattle.litrs_diagnostic.specs.Position.{is_line_feed, last_line, line_number, column_number, column_in};
 
 /// A place in a text.
 #[derive(Clone, Copy, Debug, PartialEq, Eq)]
@@ -22,11 +22,30 @@ pub fn position(source: &str, at: usize) -> LineColumn
     ensures line { result.line ≡ line_number 1 (chars (take at source.now)) }
     ensures column { result.column ≡ column_number (chars (take at source.now)) }
     ensures bound { result.line ≤ at + 1 }
+    ensures column_bound { result.column ≤ at + 1 }
 {
     let (before, _) = source.split_at(at);
     LineColumn {
         line: line_feeds(before) + 1,
         column: last_line(before).chars().count() + 1,
+    }
+}
+
+/// The same of a text whose first character has this line and this column.
+pub(crate) fn place_in(source: &str, at: usize, first_line: u32, first_column: u32) -> LineColumn
+    requires { IsCharBoundary source.now at }
+    ensures line { result.line ≡ line_number first_line (chars (take at source.now)) }
+    ensures column { result.column ≡ column_in first_column (chars (take at source.now)) }
+    ensures bound { result.line ≤ at + 2 ^ 32 }
+{
+    let LineColumn { line, column } = position(source, at);
+    LineColumn {
+        line: first_line as usize + (line - 1),
+        column: if line == 1 {
+            first_column as usize + (column - 1)
+        } else {
+            column
+        },
     }
 }
 

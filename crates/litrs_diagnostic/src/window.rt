@@ -1,5 +1,5 @@
 //! What is shown of a line that has more columns than a given width.
-ghost use Rattle.std.specs.Prelude.{◌≡◌, ◌<◌, ◌≤◌, ◌-◌, ◌++◌, ◌∷◌, [], IfSome, IfNone, length};
+ghost use Rattle.std.specs.Prelude.{◌≡◌, ◌<◌, ◌≤◌, ◌-◌, ◌++◌, ◌∷◌, ◌⊎◌, [], IfSome, IfNone, List, ℕ, length};
 ghost use Rattle.std.specs.Char.{encode_utf8};
 ghost use Rattle.std.specs.Str.{chars, IsUtf8};
 ghost use Rattle.litrs_diagnostic.specs.Shown.{shown, columns};
@@ -46,15 +46,19 @@ pub(crate) fn fitted(line: Line<'_>, width: usize) -> Window<'_>
     }
 }
 
-/// Whether the part of a text has fewer characters than the text.
+/// Whether a prefix or a suffix of a text has fewer characters than the text: where it has fewer
+/// bytes.
 fn is_shorter(part: &str, text: &str) -> bool
+    requires { (rest : List ℕ)
+        × ((text.now ≡ part.now ++ rest) ⊎ (text.now ≡ rest ++ part.now)) }
     ensures { result ≡ is_shorter (chars part.now) (chars text.now) }
 {
-    part.chars().count() < text.chars().count()
+    part.len() < text.len()
 }
 
 /// The longest prefix of the text that is shown in so many columns, and how many of them are left.
 fn prefix_within(text: &str, width: usize) -> (&str, usize)
+    ensures cut { (rest : List ℕ) × (text.now ≡ result.0.now ++ rest) }
     ensures prefix { chars result.0.now ≡ prefix_within width (chars text.now) }
     ensures left { result.1 ≡ width - columns (shown (chars result.0.now)) }
     ensures fits { columns (shown (chars result.0.now)) ≤ width }
@@ -75,6 +79,7 @@ fn prefix_within(text: &str, width: usize) -> (&str, usize)
 
 /// The longest suffix of the text that is shown in so many columns, and how many of them are left.
 fn suffix_within(text: &str, width: usize) -> (&str, usize)
+    ensures cut { (rest : List ℕ) × (text.now ≡ rest ++ result.0.now) }
     ensures suffix { chars result.0.now ≡ suffix_within width (chars text.now) }
     ensures left { result.1 ≡ width - columns (shown (chars result.0.now)) }
     ensures fits { columns (shown (chars result.0.now)) ≤ width }

@@ -1,5 +1,6 @@
 //! Shows diagnostics on texts that are hard to show: each line of the input is a range, in bytes, a
-//! width, the number of the first line, and a text, as a string literal.
+//! width, the line and the column of the first character, of which the column may be left out, and a
+//! text, as a string literal.
 //!
 //! Of the first seven rows the lines are those that rustc 1.95 writes, but for its message and the
 //! name of its input. It differs in other rows:
@@ -27,6 +28,7 @@ struct Row<'a> {
     end: usize,
     width: usize,
     first_line: u32,
+    first_column: u32,
     literal: &'a str,
 }
 
@@ -35,12 +37,14 @@ fn parts(row: &str) -> Option<Row<'_>> {
     let (range, rest) = row.split_once(' ')?;
     let (start, end) = range.split_once("..")?;
     let (width, rest) = rest.split_once(' ')?;
-    let (first_line, literal) = rest.split_once(' ')?;
+    let (place, literal) = rest.split_once(' ')?;
+    let (first_line, first_column) = place.split_once(':').unwrap_or((place, "1"));
     Some(Row {
         start: start.parse().ok()?,
         end: end.parse().ok()?,
         width: width.parse().ok()?,
         first_line: first_line.parse().ok()?,
+        first_column: first_column.parse().ok()?,
         literal,
     })
 }
@@ -66,6 +70,7 @@ fn marked(alloc: Global, source: &str, row: Row) -> Result<String, AllocError> {
             start,
             end,
             first_line: row.first_line,
+            first_column: row.first_column,
             message: "here",
             width: row.width,
         };

@@ -1,11 +1,12 @@
 //! Explains a file line by line.
 use crate::find::{Piece, first_piece, is_in_name};
 use crate::options::Options;
-use crate::report::{Place, Refusal, Reports};
+use crate::report::{AROUND, Place, Refusal, Reports};
 use litrs::ParseError;
-use litrs_build::BuildError;
+use litrs_explanation::BuildError;
 use litrs_lines::{Collector, Step};
 use std::alloc::{AllocError, Global};
+use std::ops::Range;
 use std::{mem, str};
 
 /// Explains the literals of a file, which is fed line by line.
@@ -14,14 +15,15 @@ pub(crate) struct Explainer<'a> {
     pub(crate) reports: Reports<'a>,
     /// The lines of a literal that goes on, from where it opens.
     collector: Collector,
-    /// The same lines from the start of the first; the last line that was fed, where none goes on.
+    /// The same lines, and somewhat of what is before them in the first; the last line that was
+    /// fed, where none goes on.
     text: String,
+    /// Where the text begins.
+    place: Place,
     /// Where the literal that goes on opens in the text, in bytes.
     opening: usize,
-    /// The number of the line with which the text begins.
-    first_line: u32,
-    /// The number of the line that is fed next.
-    next_line: u32,
+    /// Where the line begins that is fed next.
+    next_line: Place,
 }
 
 impl<'a> Explainer<'a> {
@@ -37,9 +39,9 @@ impl<'a> Explainer<'a> {
             },
             collector: Collector::new(alloc),
             text: String::new(alloc),
+            place: Place::START,
             opening: 0,
-            first_line: 1,
-            next_line: 1,
+            next_line: Place::START,
         }
     }
 
@@ -57,7 +59,7 @@ impl<'a> Explainer<'a> {
                 let source = str::from_utf8(front).unwrap_or("");
                 self.reports.add_refusal(Refusal {
                     source,
-                    first_line: self.next_line,
+                    place: self.next_line,
                     start: source.len(),
                     end: source.len(),
                     message: "byte that is not UTF-8",
@@ -65,7 +67,7 @@ impl<'a> Explainer<'a> {
                 })?;
             }
         }
-        self.next_line = self.next_line.saturating_add(1);
+        self.next_line.line = self.next_line.line.saturating_add(1);
         Ok(())
     }
 
@@ -79,7 +81,10 @@ impl<'a> Explainer<'a> {
         let collector = mem::replace(&mut self.collector, Collector::new(alloc));
         let text = mem::replace(&mut self.text, String::new(alloc));
         match collector.finish() {
-            Some(error) => self.refuse(text.as_str(), self.opening, &error),
+            Some(error) => {
+                let meant = self.opening..text.len();
+                self.refuse(text.as_str(), self.start(), meant, &error)
+            },
             None => Ok(()),
         }
     }
@@ -91,13 +96,17 @@ impl<'a> Explainer<'a> {
         if self.collector.is_empty() {
             text.clear();
             self.opening = 0;
-            self.first_line = self.next_line;
+            self.place = self.next_line;
         } else {
             text.push('\n')?;
         }
         text.push_str(line)?;
         if self.reports.options.prefix {
-            self.feed_any(text.as_str(), line)?;
+            let kept = self.feed_any(text.as_str(), line)?;
+            if kept > 0 {
+                let (_, rest) = cut(text.as_str(), kept);
+                text = String::from_str(alloc, rest)?;
+            }
         } else {
             self.feed_literal(text.as_str(), line)?;
         }
@@ -107,22 +116,25 @@ impl<'a> Explainer<'a> {
 
     /// [`Explainer::feed_text`] where lines are literals; the text is the lines with this one.
     fn feed_literal(&mut self, text: &str, line: &str) -> Result<(), BuildError> {
-        let start = self.start();
         match self.collector.feed(line)? {
             Step::More => Ok(()),
-            Step::Literal(literal) => self.reports.add_literal(start, &literal),
-            Step::Refused(error) => Ok(self.refuse(text, 0, &error)?),
+            Step::Literal(literal) => self.reports.add_literal(self.place, &literal),
+            Step::Refused(error) => {
+                self.refuse(text, self.start(), 0..text.len(), &error)?;
+                Ok(())
+            },
         }
     }
 
-    /// [`Explainer::feed_text`] where the literals of any text are found.
-    fn feed_any(&mut self, text: &str, line: &str) -> Result<(), BuildError> {
+    /// [`Explainer::feed_text`] where the literals of any text are found. From where on the text is
+    /// kept, if a literal goes on.
+    fn feed_any(&mut self, text: &str, line: &str) -> Result<usize, BuildError> {
         if !self.collector.is_empty() && self.goes_on(line)? {
-            return Ok(());
+            return Ok(0);
         }
-        let (before, mut rest) = cut(text, self.opening);
-        let mut place = self.start().after(before);
-        let mut placed = rest;
+        let mut literal_mark = self.start();
+        let mut refusal_mark = self.start();
+        let (_, mut rest) = cut(text, self.opening);
         let mut in_name = false;
         while let Some((piece, next)) = first_piece(self.reports.alloc, rest, in_name)? {
             let at = text.len().saturating_sub(rest.len());
@@ -133,22 +145,23 @@ impl<'a> Explainer<'a> {
             match piece {
                 Piece::Other(_) => {}
                 Piece::Literal(literal) => {
-                    let (front, _) = cut(placed, placed.len().saturating_sub(rest.len()));
-                    place = place.after(front);
-                    placed = rest;
-                    self.reports.add_literal(place, &literal)?;
+                    literal_mark = literal_mark.moved(text, at);
+                    self.reports.add_literal(literal_mark.place, &literal)?;
                 }
                 Piece::Malformed(error) => {
+                    refusal_mark = refusal_mark.moved_before(text, at);
                     if next.is_empty() && self.goes_on(rest)? {
-                        self.opening = at;
-                        return Ok(());
+                        self.place = refusal_mark.place;
+                        self.opening = at.saturating_sub(refusal_mark.at);
+                        return Ok(refusal_mark.at);
                     }
-                    self.refuse(text, at, &error)?;
+                    let meant = at..text.len().saturating_sub(next.len());
+                    self.refuse(text, refusal_mark, meant, &error)?;
                 }
             }
             rest = next;
         }
-        Ok(())
+        Ok(0)
     }
 
     /// Whether the lines that are held and this one begin a literal that goes on; if they do, they
@@ -160,27 +173,66 @@ impl<'a> Explainer<'a> {
         }
     }
 
-    /// Where the text begins.
-    fn start(&self) -> Place {
-        Place {
-            line: self.first_line as usize,
-            column: 1,
+    /// The start of the text.
+    fn start(&self) -> Mark {
+        Mark {
+            at: 0,
+            place: self.place,
         }
     }
 
-    /// Adds the report on the refusal of what begins there in the text, in bytes.
-    fn refuse(&mut self, text: &str, at: usize, error: &ParseError) -> Result<(), AllocError> {
-        let (_, piece) = cut(text, at);
+    /// Adds the report on the refusal of what is meant as a literal, from this place in the text on
+    /// to that one, in bytes. The mark stands before it.
+    fn refuse(
+        &mut self,
+        text: &str,
+        mark: Mark,
+        meant: Range<usize>,
+        error: &ParseError,
+    ) -> Result<(), AllocError> {
+        let (front, _) = cut(text, meant.end);
+        let (_, piece) = cut(front, meant.start);
         let span = error.marked_span(piece);
+        let start = meant.start.saturating_add(span.start);
+        let end = meant.start.saturating_add(span.end);
+        let mark = mark.moved_before(text, start);
+        let (source, _) = cut(text, text.floor_char_boundary(end.saturating_add(AROUND)));
+        let (_, source) = cut(source, mark.at);
         let refusal = Refusal {
-            source: text,
-            first_line: self.first_line,
-            start: at.saturating_add(span.start),
-            end: at.saturating_add(span.end),
+            source,
+            place: mark.place,
+            start: start.saturating_sub(mark.at),
+            end: end.saturating_sub(mark.at),
             message: error.kind().description(),
             mends: !error.is_final(),
         };
         self.reports.add_refusal(refusal)
+    }
+}
+
+/// A place in a text whose line and column are known.
+#[derive(Clone, Copy)]
+struct Mark {
+    /// In bytes from the start of the text.
+    at: usize,
+    place: Place,
+}
+
+impl Mark {
+    /// The mark after it at this place of the text.
+    fn moved(self, text: &str, at: usize) -> Mark {
+        let (front, _) = cut(text, at);
+        let (_, passed) = cut(front, self.at);
+        Mark {
+            at,
+            place: self.place.after(passed),
+        }
+    }
+
+    /// The mark after it somewhat before this place of the text.
+    fn moved_before(self, text: &str, at: usize) -> Mark {
+        let before = text.floor_char_boundary(at.saturating_sub(AROUND));
+        self.moved(text, before.max(self.at))
     }
 }
 

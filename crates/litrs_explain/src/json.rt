@@ -1,7 +1,7 @@
 //! Literals and refusals as JSON, an object a line.
-use crate::lines::{integer_text, kind_name, names_that_fit};
 use crate::report::{Place, Refusal};
 use litrs::{Buffer, FloatLit, IntegerLit, Literal};
+use litrs_explanation::{integer_text, kind_name, names_that_fit};
 use serde_json::Value;
 use std::alloc::{AllocError, Global};
 

@@ -17,7 +17,6 @@
 mod explainer;
 mod find;
 mod json;
-mod lines;
 mod options;
 mod program;
 mod report;

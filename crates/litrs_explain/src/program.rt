@@ -3,7 +3,7 @@ ghost use Rattle.std.specs.Prelude.{◌≡◌, true, false};
 
 use crate::explainer::Explainer;
 use crate::options::{Options, command, options_of};
-use litrs_build::BuildError;
+use litrs_explanation::BuildError;
 use std::fs::File;
 use std::io::{BufRead, BufReader, ErrorKind, Read, Write};
 use std::rt::Runtime;

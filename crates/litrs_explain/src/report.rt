@@ -3,15 +3,18 @@ ghost use Rattle.std.specs.Prelude.{◌≤◌};
 ghost use Rattle.std.specs.Str.{IsCharBoundary};
 
 use crate::json::{literal_object, refusal_object};
-use crate::lines::explain;
 use crate::options::Options;
 use litrs::{Buffer, Literal};
-use litrs_build::BuildError;
 use litrs_diagnostic::{Diagnostic, position};
+use litrs_explanation::{BuildError, explanation};
 use std::alloc::{AllocError, Global};
 
 /// So many columns of a line are shown around what is wrong.
 const WIDTH: usize = 100;
+
+/// So many bytes before and after what is wrong are read for them. Each column takes four at most;
+/// the others are for characters that have none.
+pub(crate) const AROUND: usize = 1024;
 
 /// What is written before a colored text: the place of a literal, and the first line of a refusal.
 const GREEN: &str = "\x1b[32m";
@@ -31,6 +34,9 @@ pub(crate) struct Place {
 }
 
 impl Place {
+    /// The start of a file.
+    pub(crate) const START: Place = Place { line: 1, column: 1 };
+
     /// The place after a text that begins here.
     pub(crate) fn after(self, text: &str) -> Place {
         let end = position(text, text.len());
@@ -48,12 +54,12 @@ impl Place {
     }
 }
 
-/// What is wrong in a text, which begins where a line does.
+/// What is wrong in a text.
 #[derive(Clone, Copy)]
 pub(crate) struct Refusal<'a> {
     pub(crate) source: &'a str,
-    /// The number of the line with which the text begins.
-    pub(crate) first_line: u32,
+    /// Where the text begins.
+    pub(crate) place: Place,
     /// Where what is wrong begins and ends in the text, in bytes.
     pub(crate) start: usize,
     pub(crate) end: usize,
@@ -90,7 +96,7 @@ impl Reports<'_> {
         let Place { line, column } = place;
         let name = self.name;
         let (start, end) = colors(self.options.color, GREEN);
-        let lines = explain(self.alloc, literal)?;
+        let lines = explanation(self.alloc, literal)?;
         write!(self.text, "{start}{name}:{line}:{column}:{end} {lines}")?;
         Ok(())
     }
@@ -100,12 +106,9 @@ impl Reports<'_> {
         self.refused = true;
         let (start, end) = cuts(refusal.source, refusal.start, refusal.end);
         if self.options.json {
-            let place = Place {
-                line: refusal.first_line as usize,
-                column: 1,
-            };
             let (before, _) = refusal.source.split_at(start);
-            let object = refusal_object(self.alloc, self.name, place.after(before), refusal)?;
+            let place = refusal.place.after(before);
+            let object = refusal_object(self.alloc, self.name, place, refusal)?;
             return self.text.push_str(object.as_str());
         }
         let diagnostic = Diagnostic {
@@ -113,7 +116,8 @@ impl Reports<'_> {
             source: refusal.source,
             start,
             end,
-            first_line: refusal.first_line,
+            first_line: narrowed(refusal.place.line),
+            first_column: narrowed(refusal.place.column),
             message: refusal.message,
             width: WIDTH,
         };
@@ -129,6 +133,11 @@ impl Reports<'_> {
 /// What is written before and after a colored text.
 fn colors(color: bool, start: &'static str) -> (&'static str, &'static str) {
     if color { (start, PLAIN) } else { ("", "") }
+}
+
+/// The number, or the greatest that 32 bits hold.
+fn narrowed(number: usize) -> u32 {
+    u32::try_from(number).unwrap_or(u32::MAX)
 }
 
 /// Both places, where the text may be cut at them and they are in order; else those of all of it.

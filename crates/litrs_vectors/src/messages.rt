@@ -30,6 +30,7 @@ fn is_shown_refused(trial: &mut Trial, text: &str, error: &ParseError) -> bool {
         start,
         end,
         first_line: 1,
+        first_column: 1,
         message,
         width: 140,
     };

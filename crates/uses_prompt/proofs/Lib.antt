@@ -1,2 +1,2 @@
--- the lines that are held at the end
-pub mod Lines
+-- the lines that are read
+pub mod Said

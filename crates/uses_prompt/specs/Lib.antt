@@ -1,2 +1,2 @@
--- what is written of a literal
-pub mod Described
+-- what is answered to a line
+pub mod Answered

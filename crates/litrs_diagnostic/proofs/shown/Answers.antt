@@ -10,12 +10,12 @@ returns-clause-text c =
     let d = c.args.diagnostic.now in
     IfOk-weaker c.format.result _ _
     (λ written is. written_characters written (diagnostic_text d.name.now d.message.now
-    d.source.now d.first_line d.width d.start d.end) is) c.format.ensures.ok
+    d.source.now d.first_line d.first_column d.width d.start d.end) is) c.format.ensures.ok
 
 pub returns-clause-printable : goal.returns-clause-printable
 returns-clause-printable c =
     let d = c.args.diagnostic.now in
     IfOk-weaker c.format.result _ _
     (λ written is. rw (written_characters written
-    (diagnostic_text d.name.now d.message.now d.source.now d.first_line d.width d.start d.end) is)
-    (diagnostic_clean d.name.now d.message.now d.source.now d.first_line d.width d.start d.end)) c.format.ensures.ok
+    (diagnostic_text d.name.now d.message.now d.source.now d.first_line d.first_column d.width d.start d.end) is)
+    (diagnostic_clean d.name.now d.message.now d.source.now d.first_line d.first_column d.width d.start d.end)) c.format.ensures.ok

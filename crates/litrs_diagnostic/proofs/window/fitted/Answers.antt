@@ -1,5 +1,5 @@
 -- What is marked first, and then what is before and after it.
-use Rattle.std.proofs.Common.{◌≡◌, ◌-◌, ℕ, List, ap, ◌∙◌, sym, arith}
+use Rattle.std.proofs.Common.{◌≡◌, ◌-◌, ℕ, List, refl, ap, ◌∙◌, sym, inl, arith}
 use Rattle.std.specs.Str.{chars}
 use Rattle.std.proofs.lemmas.Str.{chars-nil}
 use Rattle.litrs_diagnostic.specs.Shown.{columns, shown}
@@ -7,6 +7,9 @@ use Rattle.litrs_diagnostic.specs.Window.{prefix_within, suffix_within}
 use Rattle.litrs_diagnostic.specs.Rows.{line_of}
 use Rattle.litrs_diagnostic.proofs.Within.{narrow, wide}
 use Rattle.litrs_diagnostic.proofs.window.fitted.Goals as goal
+
+pub is_shorter-requires-then-is_shorter : goal.is_shorter-requires-then-is_shorter
+is_shorter-requires-then-is_shorter c = (c.args.line.before.now, inl refl)
 
 pub returns-then-is_shorter : goal.returns-then-is_shorter
 returns-then-is_shorter c =

@@ -1,5 +1,6 @@
 -- Each turn takes one character, while columns are left.
-use Rattle.std.proofs.Common.{◌≡◌, ◌++◌, ◌∷◌, [], arith}
+use Rattle.std.proofs.Common.{◌≡◌, ◌-◌, ◌++◌, ◌∷◌, [], length, sym, arith}
+use Rattle.std.proofs.lemmas.List.{take-append-drop}
 use Rattle.std.specs.Char.{encode_utf8}
 use Rattle.std.specs.Str.{chars}
 use Rattle.litrs_diagnostic.specs.Window.{prefix_within}
@@ -34,7 +35,9 @@ returns c =
       | in_default w ↦ none_within c.loop-c.left _ w.in_default.ensures.empty
     ] in
     let ends = all_taken c.args.width c.loop-c.left c.args.text.now now.0 c.loop-c.rest.now now.1 c.utf8.text now.2 none in
+    let whole = take-append-drop (length c.args.text.now - length c.loop-c.rest.now) c.args.text.now in
     record {
+      cut = (c.split_at.result.1.now, sym (rw (c.split_at.ensures.front, c.split_at.ensures.back) whole));
       prefix = rw c.split_at.ensures.front ends.prefix;
       left = rw c.split_at.ensures.front ends.remains;
       fits = rw c.split_at.ensures.front ends.fits;

@@ -1,5 +1,6 @@
 -- Each turn takes one character, while columns are left.
-use Rattle.std.proofs.Common.{◌≡◌, ◌++◌, ◌∷◌, [], reverse, ap, arith}
+use Rattle.std.proofs.Common.{◌≡◌, ◌++◌, ◌∷◌, [], length, reverse, sym, ap, arith}
+use Rattle.std.proofs.lemmas.List.{take-append-drop}
 use Rattle.std.specs.Char.{encode_utf8}
 use Rattle.std.specs.Str.{chars}
 use Rattle.litrs_diagnostic.specs.Window.{prefix_within}
@@ -35,7 +36,9 @@ returns c =
       | in_default w ↦ none_within c.loop-more.left _ (ap reverse w.in_default.ensures.empty)
     ] in
     let ends = all_taken_back c.args.width c.loop-more.left c.args.text.now c.loop-more.rest.now now.0 now.1 c.utf8.text now.2 none in
+    let whole = take-append-drop (length c.loop-more.rest.now) c.args.text.now in
     record {
+      cut = (c.split_at.result.0.now, sym (rw (c.split_at.ensures.front, c.split_at.ensures.back) whole));
       suffix = rw c.split_at.ensures.back ends.suffix;
       left = rw c.split_at.ensures.back ends.remains;
       fits = rw c.split_at.ensures.back ends.fits;

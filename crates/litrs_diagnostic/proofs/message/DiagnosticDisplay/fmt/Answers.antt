@@ -19,11 +19,9 @@ returns-else-line-last-clause-writes g c = λ plain ok.
     let range = chars (slice_range d.source.now d.start d.end) in
     let feeds : c.line_feeds.result ≡ count_by is_line_feed range = c.line_feeds.ensures.value
     ∙ ap (λ (l : List ℕ). count_by is_line_feed (chars l)) c.range.ensures.value in
-    let from_1 = c.position-line.ensures.line in
-    let line : d.first_line + (c.position-line.result.line - 1) ≡ line_number d.first_line before =
-    omega (arith, from_1) in
+    let line = c.place_in-line.ensures.line in
     let last = last_number d.first_line before range in
-    let is_last : d.first_line + (c.position-line.result.line - 1) + c.line_feeds.result
+    let is_last : c.place_in-line.result.line + c.line_feeds.result
     ≡ line_number d.first_line (before ++ range) = omega (arith, feeds, line, last) in
     let margin = c.digit_count-digits.ensures ∙ ap (λ (n : ℕ). length (decimal n)) is_last in
     let first = c.fitted.ensures ∙ ap (fitted d.width) c.start_line.ensures in
@@ -31,11 +29,11 @@ returns-else-line-last-clause-writes g c = λ plain ok.
     let two = c.write-2.ensures.writes one.plain (search rules) in
     let three = c.write-3.ensures.writes two.plain (search rules) in
     has_written_of_eq _ _ _ _ _
-    (one_line_bytes d.first_line d.width (chars d.name.now) (chars d.message.now) before range
+    (one_line_bytes d.first_line d.first_column d.width (chars d.name.now) (chars d.message.now) before range
     (chars (drop d.end d.source.now))
-    c.digit_count-digits.result (d.first_line + (c.position-line.result.line - 1)) c.position-line.result.column
+    c.digit_count-digits.result c.place_in-line.result.line c.place_in-line.result.column
     (window_of c.fitted.result)
-    margin line c.position-line.ensures.column first (omega (arith, is_last, line)))
+    margin line c.place_in-line.ensures.column first (omega (arith, is_last, line)))
     (has_written_append _ _ _ _ _ _ (has_written_append _ _ _ _ _ _ one two) three)
 
 pub returns-in_ok-write-4-clause-writes : goal.returns-in_ok-write-4-clause-writes
@@ -46,15 +44,13 @@ returns-in_ok-write-4-clause-writes g c = λ plain ok.
     let range = chars (slice_range d.source.now d.start d.end) in
     let feeds : c.line_feeds.result ≡ count_by is_line_feed range = c.line_feeds.ensures.value
     ∙ ap (λ (l : List ℕ). count_by is_line_feed (chars l)) c.range.ensures.value in
-    let from_1 = c.position-line.ensures.line in
-    let line : d.first_line + (c.position-line.result.line - 1) ≡ line_number d.first_line before =
-    omega (arith, from_1) in
+    let line = c.place_in-line.ensures.line in
     let last = last_number d.first_line before range in
-    let is_last : d.first_line + (c.position-line.result.line - 1) + c.line_feeds.result
+    let is_last : c.place_in-line.result.line + c.line_feeds.result
     ≡ line_number d.first_line (before ++ range) = omega (arith, feeds, line, last) in
     let margin = c.digit_count-digits.ensures ∙ ap (λ (n : ℕ). length (decimal n)) is_last in
     let gap = c.gap-gap.ensures ∙ ap (λ (n : ℕ). gap_text n
-    (d.first_line + (c.position-line.result.line - 1) + c.line_feeds.result)) line
+    (c.place_in-line.result.line + c.line_feeds.result)) line
     ∙ ap (λ (n : ℕ). gap_text (line_number d.first_line before) n) is_last in
     let first = c.fitted.ensures ∙ ap (fitted d.width) c.start_line.ensures in
     let one = c.write.ensures.writes plain (search rules) in
@@ -63,13 +59,13 @@ returns-in_ok-write-4-clause-writes g c = λ plain ok.
     let second = c.fitted-then-line-last.ensures ∙ ap (fitted d.width) c.end_line.ensures in
     let four = c.write-then-line-last.ensures.writes three.plain (search rules) in
     has_written_of_eq _ _ _ _ _
-    (two_lines_bytes d.first_line d.width (chars d.name.now) (chars d.message.now) before range
+    (two_lines_bytes d.first_line d.first_column d.width (chars d.name.now) (chars d.message.now) before range
     (chars (drop d.end d.source.now))
-    c.digit_count-digits.result (d.first_line + (c.position-line.result.line - 1)) c.position-line.result.column
-    (d.first_line + (c.position-line.result.line - 1) + c.line_feeds.result)
+    c.digit_count-digits.result c.place_in-line.result.line c.place_in-line.result.column
+    (c.place_in-line.result.line + c.line_feeds.result)
     c.gap-gap.result.now (window_of c.fitted.result)
     (window_of c.fitted-then-line-last.result)
-    margin line c.position-line.ensures.column is_last gap first second
+    margin line c.place_in-line.ensures.column is_last gap first second
     (omega (arith, is_last, line)))
     (has_written_append _ _ _ _ _ _ (has_written_append _ _ _ _ _ _
     (has_written_append _ _ _ _ _ _ one two) three) four)

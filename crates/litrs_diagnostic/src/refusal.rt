@@ -1,0 +1,45 @@
+//! What is wrong with a text.
+ghost use Rattle.std.specs.Prelude.{◌≡◌, IfOk, IfSome, IsTrue, string_bytes};
+ghost use Rattle.std.specs.List.{list_all};
+ghost use Rattle.std.specs.Str.{chars};
+ghost use Rattle.litrs_base.specs.CharEnd.{PointsAtCharacters};
+ghost use Rattle.litrs_base.specs.Refusal.{char_span_of};
+ghost use Rattle.litrs_diagnostic.specs.Diagnostic.{refusal_text, is_line_feed_or_printable};
+
+use crate::message::Diagnostic;
+use crate::shown;
+use litrs_base::ParseError;
+use std::alloc::{AllocError, Global};
+
+/// What is written of the refusal of a text by a parse: what is wrong, and the lines that it marks
+/// in the text, where each has so many columns at most.
+///
+/// # Errors
+///
+/// Where there is no memory for the lines.
+pub fn shown_refusal(
+    alloc: Global,
+    name: &str,
+    text: &str,
+    error: &ParseError,
+    width: usize,
+) -> Result<String, AllocError>
+    requires { IfSome (char_span_of error.now) (PointsAtCharacters (chars text.now)) }
+    ensures text { IfOk result (λ lines.
+        chars (string_bytes lines) ≡ refusal_text name.now text.now error.now width) }
+    ensures printable { IfOk result (λ lines. IsTrue (
+        list_all is_line_feed_or_printable (chars (string_bytes lines)))) }
+{
+    let span = error.marked_span(text);
+    let diagnostic = Diagnostic {
+        name,
+        source: text,
+        start: span.start,
+        end: span.end,
+        first_line: 1,
+        first_column: 1,
+        message: error.kind().description(),
+        width,
+    };
+    shown(alloc, &diagnostic)
+}

@@ -1,0 +1,2 @@
+-- the lines on a literal, put together
+pub mod Explained

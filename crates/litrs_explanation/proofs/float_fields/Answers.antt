@@ -1,0 +1,16 @@
+-- The lines are those on the parts.
+use Rattle.std.proofs.Common.{◌≡◌, string_bytes}
+use Rattle.std.proofs.lemmas.Result.{IfOk-weaker}
+use Rattle.litrs.specs.FloatLiteral.{float_parts}
+use Rattle.litrs_explanation.specs.Explanation.{float_fields}
+use Rattle.litrs_explanation.proofs.Explained.{part_is, float_made}
+use Rattle.litrs_explanation.proofs.float_fields.Goals as goal
+
+pub returns : goal.returns
+returns g c =
+    IfOk-weaker c.format.result _ (λ lines. string_bytes lines ≡ float_fields (float_parts c.args.lit.now))
+    (λ lines made. float_made c.integer_part-integer.result.now (string_bytes c.in_ok-fraction.fraction) (string_bytes c.in_ok-exponent.exponent) c.exponent_part.result.now
+    (string_bytes lines) (float_parts c.args.lit.now)
+    (part_is c.integer_part-integer.result.now _ c.integer_part-integer.utf8 c.integer_part-integer.ensures) c.in_ok-fraction.ensures c.in_ok-exponent.ensures
+    (part_is c.exponent_part.result.now _ c.exponent_part.utf8 c.exponent_part.ensures) made)
+    c.format.ensures.ok

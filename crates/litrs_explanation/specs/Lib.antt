@@ -1,0 +1,7 @@
+-- the lines on a literal
+pub mod Explanation
+-- The words of the contracts, so that users name this crate alone
+pub use Rattle.litrs_grammar.specs.Integer
+pub use Rattle.litrs_grammar.specs.Literal
+pub use Rattle.litrs.specs.IntegerLiteral
+pub use Rattle.litrs.specs.LiteralDerivation

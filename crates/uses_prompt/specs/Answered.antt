@@ -1,0 +1,52 @@
+-- What the prompt answers to a line.
+use Rattle.std.specs.Prelude.{◌≡◌, ◌≢◌, ℕ, List, [], ◌∷◌, ◌++◌, codes}
+use Rattle.std.specs.Str.{chars}
+use Rattle.litrs_diagnostic.specs.Diagnostic.{refusal_text}
+use Rattle.litrs_explanation.specs.Explanation.{explanation}
+use Rattle.litrs_lines.specs.Literal.{literal_parse}
+use Rattle.litrs_lines.specs.LiteralDerivation.{derivation}
+use Rattle.litrs_lines.specs.Refused.{IsRefused}
+use Rattle.litrs_lines.specs.Steps.{IsStep, held_after}
+use Rattle.litrs_lines.specs.declared.collector.Step.{Step}
+use Rattle.litrs_lines.specs.declared.collector.Step.TheVariants.{More, Literal, Refused}
+use Rattle.litrs.specs.declared.ParseError.{ParseError}
+
+-- the line gives up the lines that are held
+abbrev pub Cancels : (held line : List ℕ) → Type 0
+Cancels held line = (line ≡ codes ":cancel") × (held ≢ [])
+
+-- what is said where a literal goes on: a hint after its first line
+abbrev pub hint : (held : List ℕ) → List ℕ
+hint [] = codes "the literal goes on in the next line; :cancel gives it up\n"
+hint (c ∷ held) = []
+
+-- the lines on the refusal of a text
+abbrev pub ShowsRefusal : (text : List ℕ) → ParseError → (answer : List ℕ) → Type 0
+ShowsRefusal text e answer = chars answer ≡ refusal_text (codes "prompt") text e 100
+
+-- What is said of all lines, where these were held before the last: the hint, the explanation of
+-- the literal, or the refusal.
+abbrev pub IsAnswerTo : (held text : List ℕ) → Step → (answer : List ℕ) → Type 0
+IsAnswerTo held text More answer = answer ≡ hint held
+IsAnswerTo held text (Literal lit) answer = answer ≡ explanation (derivation lit)
+IsAnswerTo held text (Refused e) answer = ShowsRefusal text e answer
+
+-- The lines that are held, and this one, are what they are; that is said; and they are held where
+-- they go on.
+pub record IsRead (held line after answer : List ℕ) : Type 0 where
+  pub step : Step
+  pub is : IsStep (held ++ line) step
+  pub says : IsAnswerTo held (held ++ line) step answer
+  pub holds : after ≡ held_after (held ++ line) step
+
+-- What is answered to a line, and what is held after it: nothing where it gives up what is held.
+pub record IsAnswered (held line after answer : List ℕ) : Type 0 where
+  pub given_up : Cancels held line → (after ≡ []) × (answer ≡ [])
+  pub read : ¬ Cancels held line → IsRead held line after answer
+
+-- at the end: the refusal of the lines that are held, if any is
+abbrev pub IsLastAnswer : (held answer : List ℕ) → Type 0
+IsLastAnswer [] answer = answer ≡ []
+IsLastAnswer (c ∷ held) answer =
+    (lines : List ℕ) × (e : ParseError) × (lines ++ 10 ∷ [] ≡ c ∷ held)
+    × IsRefused literal_parse (chars lines) e × ShowsRefusal lines e answer
