@@ -116,6 +116,8 @@ class Tests:
             self.hold(it["kind"] == "refused" if wrong else it["text"] == text, f"{wanted}: {it}")
             at += len(text)
         self.hold(objects[-1]["more_text_can_mend"], "more text can mend the last")
+        mends = [it["more_text_can_mend"] for it in self.objects(given="cat\n1e\n", status=1)]
+        self.hold(mends == [False, True], f"what more text can mend: {mends}")
 
     def try_colors(self):
         given = b"1\n0b12\n'a'\n"

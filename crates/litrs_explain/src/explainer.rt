@@ -204,7 +204,7 @@ impl<'a> Explainer<'a> {
             start: start.saturating_sub(mark.at),
             end: end.saturating_sub(mark.at),
             message: error.kind().description(),
-            mends: !error.is_final(),
+            mends: litrs::goes_on(piece),
         };
         self.reports.add_refusal(refusal)
     }
