@@ -44,6 +44,7 @@ fn answer(
             return Ok(String::from_str(alloc, if is_first { HINT } else { "" })?);
         }
         Step::Literal(literal) => explanation(alloc, &literal)?,
+        // bounded by the columns of the text, of which so many are shown.
         Step::Refused(error) => shown_refusal(alloc, "prompt", text.as_str(), &error, WIDTH)?,
     };
     text.clear();
@@ -56,6 +57,7 @@ fn last_answer(alloc: Global, collector: Collector) -> Result<String, AllocError
 {
     let text = String::from_str(alloc, collector.text())?;
     match collector.finish() {
+        // bounded by the columns of the text, of which so many are shown.
         Some(error) => shown_refusal(alloc, "prompt", text.as_str(), &error, WIDTH),
         None => Ok(String::new(alloc)),
     }
