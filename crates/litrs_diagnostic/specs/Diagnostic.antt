@@ -54,17 +54,21 @@ lines_text margin first_line width before range after =
 
 -- The message, the place of the range's start, and the lines. The margin is as wide as the greatest
 -- number in it.
-unfoldable pub message_text : (first_line first_column width : ℕ) (name message before range after : List ℕ) → List ℕ
+unfoldable pub message_text : (first_line first_column width : ℕ)
+    (name message before range after : List ℕ) → List ℕ
 message_text first_line first_column width name message before range after =
     let margin = length (decimal (line_number first_line (before ++ range))) in
     codes "error: " ++ (shown message ++ (line_feed
     ++ (blanks margin ++ (codes "--> " ++ (shown name ++ (codes ":"
-    ++ (decimal (line_number first_line before) ++ (codes ":" ++ (decimal (column_in first_column before) ++ (line_feed
-    ++ (blanks margin ++ (codes " |\n" ++ lines_text margin first_line width before range after))))))))))))
+    ++ (decimal (line_number first_line before) ++ (codes ":"
+    ++ (decimal (column_in first_column before) ++ (line_feed
+    ++ (blanks margin ++ (codes " |\n"
+    ++ lines_text margin first_line width before range after))))))))))))
 
 -- The characters that are written of a message on the bytes from start to end of the source, whose
 -- first character has this line and this column.
-unfoldable pub diagnostic_text : (name message source : List ℕ) (first_line first_column width start end : ℕ) → List ℕ
+unfoldable pub diagnostic_text : (name message source : List ℕ)
+    (first_line first_column width start end : ℕ) → List ℕ
 diagnostic_text name message source first_line first_column width start end =
     message_text first_line first_column width (chars name) (chars message)
     (chars (take start source)) (chars (slice_range source start end)) (chars (drop end source))

@@ -88,7 +88,8 @@ fn float_parts<B: Buffer>(alloc: Global, lit: &FloatLit<B>) -> Result<String, Al
     };
     let fraction = lit.fractional_part().unwrap_or("null");
     format!(in alloc;
-        "\"integer\":\"{integer}\",\"fraction\":{quote}{fraction}{quote},\"exponent\":\"{exponent}\""
+        "\"integer\":\"{integer}\",\"fraction\":{quote}{fraction}{quote},\
+        \"exponent\":\"{exponent}\""
     )
 }
 
