@@ -35,8 +35,8 @@ abbrev pub held_after : List ℕ → Step → List ℕ
 held_after t More = t ++ line_feed ∷ []
 held_after t _ = []
 
--- what a line leaves with which the text is this one: the answer, which is its step, and what is then
--- held
+-- what a line leaves with which the text is this one: the answer is its step, and what is held
+-- follows from both
 pub record Feeds (text held : List ℕ) (step : Step) : Type 0 where
   pub utf8 : IsUtf8 text
   pub is : IsStep text step

@@ -116,7 +116,7 @@ impl Collector {
     }
 
     /// [`Collector::feed`] where no line is held. A literal is copied once it is known to be one,
-    /// and a line that begins none is not.
+    /// and a line that begins none is refused with no copy.
     #[inline(never)]
     fn feed_first(&mut self, line: &str) -> Result<Step, AllocError>
         requires { self.old ≡ [] }

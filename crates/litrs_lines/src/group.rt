@@ -48,8 +48,8 @@ impl<O: Output> Reporter<'_, O> {
         self.process_first(text.as_str())
     }
 
-    /// [`Reporter::process_text`] where no line is held: of a line, or of the text of several. The
-    /// text of a literal is not copied, nor one that begins none.
+    /// [`Reporter::process_text`] where no line is held: of a line, or of the text of several. A
+    /// text that is a literal, or that begins none, is not copied.
     fn process_first(&mut self, line: &str) -> Result<(), RunError>
         requires { self.old.collector.now ≡ [] }
         ensures { Leaves O.contents O.has_failed O.write_failed result self.old self.new
