@@ -109,19 +109,19 @@ def path_of(file, *names):
 
 
 def owners_of(file, text, offset):
-    """The paths of the functions that a change at this place touches: the one it stands in; of a
-    constant those that name it, in its impl if it has one. A path that ends in `::` stands for all
-    that is in an impl."""
+    """The paths of the functions that a change at this place touches. A path that ends in `::` stands
+    for all that is in an impl."""
     around, inside = owner_at(text, offset)
     if inside and inside[0] == "fn":
         return {path_of(file, around, inside[1])}
+    if around:
+        return {path_of(file, around) + "::"}
     owners = set()
-    if inside and inside[0] == "const":
-        for found in re.finditer(rf"\b{inside[1]}\b", text):
-            around_it, user = owner_at(text, found.start())
-            if user and user[0] == "fn" and around in (None, around_it):
-                owners.add(path_of(file, around_it, user[1]))
-    return owners or ({path_of(file, around) + "::"} if around else owners)
+    for found in re.finditer(rf"\b{inside[1]}\b", text) if inside else ():
+        around_it, user = owner_at(text, found.start())
+        if user and user[0] == "fn":
+            owners.add(path_of(file, around_it, user[1]))
+    return owners
 
 
 @dataclasses.dataclass
