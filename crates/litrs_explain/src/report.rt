@@ -137,7 +137,7 @@ fn colors(color: bool, start: &'static str) -> (&'static str, &'static str) {
 
 /// The number, or the greatest that 32 bits hold.
 fn narrowed(number: usize) -> u32 {
-    // bounded by 32 bits: it is the number of a line or a column, for which nothing is allocated.
+    // bounded by the type: it is the number of a line or a column, and no amount of memory
     u32::try_from(number).unwrap_or(u32::MAX)
 }
 

@@ -1,5 +1,5 @@
 //! A prompt for literals: asks on where a literal goes on in the next line, explains it, and shows
-//! what is wrong where there is none.
+//! what is wrong where there is none, at most 100 columns of a line.
 #![tactic(auto)]
 
 ghost use Rattle.std.specs.Prelude.{◌≡◌, IfOk, string_bytes};
@@ -14,9 +14,6 @@ use std::str;
 
 /// What is said where a literal goes on after its first line.
 const HINT: &str = "the literal goes on in the next line; :cancel gives it up\n";
-
-/// So many columns of a line are shown around what is wrong.
-const WIDTH: usize = 100;
 
 /// What is answered to a line. The lines so far, with an LF after each, are in `text` too, since a
 /// collector does not keep what it refuses.
@@ -44,8 +41,7 @@ fn answer(
             return Ok(String::from_str(alloc, if is_first { HINT } else { "" })?);
         }
         Step::Literal(literal) => explanation(alloc, &literal)?,
-        // bounded by the columns of the text, of which so many are shown.
-        Step::Refused(error) => shown_refusal(alloc, "prompt", text.as_str(), &error, WIDTH)?,
+        Step::Refused(error) => shown_refusal(alloc, "prompt", text.as_str(), &error, 100)?,
     };
     text.clear();
     Ok(answer)
@@ -57,8 +53,7 @@ fn last_answer(alloc: Global, collector: Collector) -> Result<String, AllocError
 {
     let text = String::from_str(alloc, collector.text())?;
     match collector.finish() {
-        // bounded by the columns of the text, of which so many are shown.
-        Some(error) => shown_refusal(alloc, "prompt", text.as_str(), &error, WIDTH),
+        Some(error) => shown_refusal(alloc, "prompt", text.as_str(), &error, 100),
         None => Ok(String::new(alloc)),
     }
 }
