@@ -15,7 +15,8 @@ once in its file, the script names every such edit and stops.
 As many as fit, one a function, are put into a copy of their crate, and the crate is checked once
 for all of them. One that this check does not report is checked with those of the next round, and
 then alone. It counts as refused only where a goal of its own function is open: a proof that merely
-names what the edit took away shows nothing of the contract.
+names what the edit took away shows nothing of the contract. A function that no edit changes is not
+proved again: its proof is left out, and those that call it go by its contract.
 
 The edits in `.ci/harmless/`, named by crate, do not change what their function does, so they must
 not be refused. They are tried in the same way, are counted apart, and show that this script can
@@ -52,6 +53,13 @@ NOTE = re.compile(r"note: src/(\S+?):(\d+):\d+: it is not proved that (.*)")
 OPEN = re.compile(r"no proof: .*?(`search` did not prove .*)")
 # What `rt ci` says of a crate that is proved.
 PROVED = re.compile(r"(?m)^rt: (\w+) proved$")
+# The proof of a function that no edit changes.
+LEFT_OUT = """-- left out: what calls the function goes by its contract
+use Rattle.{crate}.proofs.{module}.Statement.{{statement}}
+
+pub {name}_spec : {{M : Type 1}} → statement M
+{name}_spec = left_out
+"""
 # What it says of a proof that names something the edit took away.
 MISSING = re.compile(r"has no field|is not in scope|has no `|was not admitted")
 
@@ -102,6 +110,20 @@ def owner_at(text, offset):
     return around, inside
 
 
+def functions_of(file, text):
+    """The paths of the functions of a source file, but for those that a trait declares."""
+    around, is_trait = None, False
+    for line in text.split("\n"):
+        if line.startswith("impl"):
+            around, is_trait = segment_of(line), False
+        elif re.match(r"(?:pub )?trait ", line):
+            is_trait = True
+        elif line.startswith("}"):
+            around, is_trait = None, False
+        elif (found := FUNCTION.match(line)) and not is_trait:
+            yield path_of(file, around, found[1])
+
+
 def path_of(file, *names):
     """The checker's path of an item in `src/FILE`."""
     parts = [] if file in ("lib.rt", "main.rt") else file.removesuffix(".rt").split("/")
@@ -133,6 +155,10 @@ class WrongBody:
     changes: list
     owners: set
     is_wrong: bool = True
+
+    def touches(self, path):
+        """Whether it touches the function of this path."""
+        return any(it == path or it.endswith("::") and path.startswith(it) for it in self.owners)
 
     def clashes(self, other):
         """Whether both touch a function, or change a line."""
@@ -282,10 +308,7 @@ class Answer:
     def goal_of(self, body):
         """A goal of what the wrong body touches that is open, with its function."""
         for path, goal in self.goals.items():
-            touched = path in body.owners or any(
-                it.endswith("::") and path.startswith(it) for it in body.owners
-            )
-            if touched and path not in self.proved:
+            if body.touches(path) and path not in self.proved:
                 return f"{path}: {goal}"
         return None
 
@@ -304,7 +327,7 @@ class Trial:
 
     def __init__(self, crate, crates, room):
         self.crate, self.copy = crate, pathlib.Path(room, crate.name)
-        for part in ("src", "specs", "proofs"):
+        for part in ("src", "specs"):
             if (crate.folder / part).exists():
                 shutil.copytree(crate.folder / part, self.copy / part)
         self.words = crate.command(crates)
@@ -317,11 +340,27 @@ class Trial:
             self.words += ["--incremental", str(work)]
         self.report, self.checks = [], 0
 
+    def leave_out(self, bodies):
+        """Copies the proofs, without those of the functions that none of these bodies touches."""
+        shutil.rmtree(self.copy / "proofs", ignore_errors=True)
+        if (self.crate.folder / "proofs").exists():
+            shutil.copytree(self.crate.folder / "proofs", self.copy / "proofs")
+        for file, text in self.crate.originals.items():
+            for path in functions_of(file.removeprefix("src/"), text):
+                if not any(it.touches(path) for it in bodies):
+                    *_, name = parts = path.split("::")
+                    folder = self.copy.joinpath("proofs", *parts)
+                    shutil.rmtree(folder, ignore_errors=True)
+                    folder.mkdir(parents=True)
+                    names = {"crate": self.crate.name, "module": ".".join(parts), "name": name}
+                    (folder / "Proof.antt").write_text(LEFT_OUT.format(**names))
+
     def check(self, bodies):
-        """Checks what these wrong bodies touch, and what that calls, in the copy with them."""
+        """Checks what these wrong bodies touch, in the copy with them."""
         texts = texts_with(self.crate.originals, bodies)
         for file, text in texts.items():
             (self.copy / file).write_text(text)
+        self.leave_out(bodies)
         how = {"stdout": subprocess.PIPE, "stderr": subprocess.STDOUT, "text": True}
         self.checks += 1
         paths = sorted({it.removesuffix("::") for body in bodies for it in body.owners})
