@@ -34,9 +34,22 @@ pub fn are_hashes(bytes: &[u8]) -> bool
     hash_len(bytes) == bytes.len()
 }
 
-/// How many hashes stand first, by 16 bytes a step as long as there are so many.
+/// How many hashes stand first.
 #[inline(always)]
 pub fn hash_len(bytes: &[u8]) -> usize
+    ensures len { result ≡ hash_len bytes.now }
+    ensures within { result ≤ length bytes.now }
+{
+    match bytes {
+        // Where there are few, a comparison of each costs less.
+        [b'#', b'#', b'#', b'#', ..] => hash_len_of_many(bytes),
+        _ => bytes.iter().take_while(|b| **b == b'#').count(),
+    }
+}
+
+/// [`hash_len`] by 16 bytes a step, as long as there are so many.
+#[inline(never)]
+fn hash_len_of_many(bytes: &[u8]) -> usize
     ensures len { result ≡ hash_len bytes.now }
     ensures within { result ≤ length bytes.now }
 {

@@ -62,19 +62,11 @@ impl Sink for Counted {
 
     #[inline(always)]
     fn push(&mut self, value: Option<Unescape>) -> bool {
-        self.len += value_len(value);
+        self.len += match value {
+            None => 0,
+            Some(Unescape::Byte(_)) => 1,
+            Some(Unescape::Unicode(c)) => c.len_utf8(),
+        };
         true
-    }
-}
-
-/// How many bytes an item with a backslash stands for.
-#[inline(always)]
-fn value_len(value: Option<Unescape>) -> usize
-    ensures { result ≡ length (item_bytes value) }
-{
-    match value {
-        None => 0,
-        Some(Unescape::Byte(_)) => 1,
-        Some(Unescape::Unicode(c)) => c.len_utf8(),
     }
 }

@@ -7,7 +7,7 @@ use lib.Lanes.{chunk, mask_l}
 use Rattle.litrs_grammar.specs.Raw.{is_hash, hash_len}
 use Rattle.litrs_lex.proofs.FloatBytes.{rest_is}
 use Rattle.litrs_lex.proofs.MarkedRuns.{run_through, run_stops, run_bound}
-use Rattle.litrs_lex.proofs.hashes.hash_len.Goals as goal
+use Rattle.litrs_lex.proofs.hashes.hash_len_of_many.Goals as goal
 
 -- the marks of the 16 bytes from a place on
 abbrev Step : List ℕ → ℕ → ℕ
