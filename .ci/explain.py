@@ -8,6 +8,7 @@ those that Python gives; any text, whose places are counted by Python; colors, w
 else; files, one of which is absent; wrong arguments; bytes that are not UTF-8; an output that is
 closed; a long text, of which no more is held than its longest literal; and a long line that is
 refused again and again, where each refusal is shown at its place, and costs what is around it.
+Each allocation of a run is refused in turn: it ends with status 2, and what it wrote is a prefix.
 """
 import ast
 import json
@@ -45,6 +46,8 @@ let t = c"open
 """
 FOUND = ['"a\nb"', 'r#"x"y"#', "0b12:2", "1", "2", "'x'", '"\\q":\\q', "b'\\xff'", "1.5e3f32"]
 FOUND += ["true", 'c"open:c"open']
+# A literal of each kind.
+KINDS = ["true", "0xFF_u8", "1.5e3f32", "'\\u{1f98a}'", "b'\\xff'", '"a\\tb"', 'b"\\xff"', 'c"\\n"']
 
 
 class Tests:
@@ -189,6 +192,28 @@ class Tests:
             self.hold(long < 8 * short + 0.5, f"{words}: {short} s, and {long} s for four times it")
 
 
+    def try_memory(self, folder):
+        """Each allocation refused in turn, over a literal of each kind and some refusals."""
+        library, text, records = (folder / it for it in ("refuse.so", "text", "records"))
+        words = ["cc", "-O1", "-shared", "-fPIC", "-o", library, TOP / ".ci" / "refuse.c"]
+        subprocess.run(words, check=True)
+        text.write_text(f"{' '.join(KINDS)}\n'ab' 0b12 1e\n\"a\nb\" \"open\n")
+        for format in ("text", "json"):
+            words = [self.program, "--prefix", "--format", format, text]
+            env = {"LD_PRELOAD": library, "REFUSED": records}
+            ran = subprocess.run(words, capture_output=True, env=env, timeout=100, check=False)
+            self.hold((ran.returncode, ran.stderr) == (1, b""), f"{ran.returncode} {ran.stderr}")
+            with open(records, "rb") as file:
+                for head in file:
+                    how, number, asked, before, status, size = head.split()
+                    printed = file.read(int(size) + 1)[:-1]
+                    stays = int(asked) <= int(before) and (printed, status) == (ran.stdout, b"1")
+                    reports, _, message = printed.rpartition(b"litrs_explain: ")
+                    stops = status == b"2" and message and ran.stdout.startswith(reports)
+                    what = f"allocation {number} {how} refused: {printed[-200:]}, {status}"
+                    self.hold(stays or stops, what)
+
+
 def main():
     faults, number = [], 0
     for program in (str(PROGRAM), f"{PROGRAM}.by-rattle"):
@@ -203,6 +228,7 @@ def main():
             tests.try_closed()
             tests.try_long(folder)
             tests.try_refused()
+            tests.try_memory(folder)
         number, faults = number + tests.number, faults + tests.faults
     print(*faults[:20], sep="\n", end="\n" if faults else "")
     print(f"explain: {number - len(faults)} passed, {len(faults)} failed")
