@@ -4,10 +4,10 @@
 .ci/refused.py [--seed SEED] [ROWS]
 
 Runs both builds of crates/litrs_vectors, which `rt ci` leaves in its out/, on each row of its table
-and of texts that are generated here, or on the rows of the file ROWS alone, a row a process. Some of the lengths in generated texts are drawn anew in each run; SEED,
-which is printed, draws the same again. By
-.ci/refuse.c a process goes on from each of its allocations also as a copy in which that one is
-refused, and as one in which all from there on are.
+and of texts that are generated here, or on the rows of the file ROWS alone, a row a process, without
+the prefixes of its text. Some of the lengths in generated texts are drawn anew in each run; SEED,
+which is printed, draws the same again. By .ci/refuse.c a process goes on from each of its
+allocations also as a copy in which that one is refused, and as one in which all from there on are.
 
 Where one is refused, either a call of the library answered it, and the program prints which one,
 makes the call again and has all else to say as before; or it was one of the program's own, and it
@@ -42,7 +42,8 @@ OTHERS = ["IntegerLit", "FloatLit", "CharLit", "ByteLit"]
 HOLDS = b"1 rows hold\n"
 FEED = b"refused Collector::feed "
 ENDED = b"litrs_vectors: out of memory\n"
-REFUSED = re.compile("refused (.*) at line 1")
+REFUSED = re.compile("refused (.*) at line 2")
+WITHOUT_PREFIXES = "prefixes\tno\n"
 # The most copies of a part in a text.
 LONGEST = 10_000
 # How many lengths of parts are drawn, below 5,000 with each allocation refused in turn, and below
@@ -62,7 +63,7 @@ VALUES = {
     "Literal::from_tree over String",
     "CString::clone over CString",
 }
-# With this suffix a text is so long that the program tries no prefixes of it.
+# With this suffix a text is so long that the program makes few other calls on it.
 SUFFIX = "u" + 1000 * "8"
 SECONDS = 600
 
@@ -188,7 +189,7 @@ class Build:
         records = self.folder / f"{self.program.name}.{number}"
         done = subprocess.run(
             [self.program],
-            input=f"{row}\n".encode(),
+            input=f"{WITHOUT_PREFIXES}{row}\n".encode(),
             capture_output=True,
             env={"LD_PRELOAD": self.library, "REFUSED": records},
             timeout=SECONDS,

@@ -28,7 +28,7 @@ from libraries import TOP
 # The libraries that have a page CALLING.md.
 CALLED = ["litrs", "litrs_token", "litrs_prefix", "litrs_build", "litrs_diagnostic"]
 CALLED += ["litrs_explanation", "litrs_lines"]
-COPIED = [*CALLED, "litrs_c", "litrs_lines_fails"]
+COPIED = [*CALLED, "litrs_c", "litrs_lines_cli"]
 # What of a crate's folder is not copied.
 LEFT = {"out", "wrong", "must-fail"}
 BLOCK = re.compile(r"^```(\w+)\n(.*?)^```$", re.M | re.S)
@@ -175,7 +175,7 @@ def faults_of_callers(folder, callers, room):
 
 
 def main():
-    libraries.stop_unless_built(names_of_copies() - {"litrs_c", "litrs_lines_fails"})
+    libraries.stop_unless_built(names_of_copies() - {"litrs_c", "litrs_lines_cli"})
     pages = [(TOP / "crates" / it / "CALLING.md").read_text() for it in CALLED]
     callers = [it for page in pages for it in callers_of(page)]
     with tempfile.TemporaryDirectory(prefix="vendored-") as name:

@@ -38,7 +38,7 @@ import time
 
 import libraries
 
-# How long a check may take.
+# How much processor time a check may take: how long it waits for a processor says nothing of it.
 SECONDS = 1800
 HARMLESS = pathlib.Path(".ci/harmless")
 
@@ -282,10 +282,11 @@ class Answer:
         lines = messages_of(output)
         # (the last line counts the functions that were checked)
         self.is_verdict = lines[-1].startswith("only=")
-        self.lines, self.goals, self.proved = lines, {}, set()
+        self.lines, self.goals, self.stated, self.proved = lines, {}, set(), set()
         for line in lines:
             if found := STATUS.match(line):
                 path = found[1].removeprefix(f"{crate.name}::")
+                self.stated.add(path)
                 self.proved |= {path} if found[2].startswith("proved") else set()
                 if goals := OPEN.match(found[2]):
                     self.goals[path] = goals[1]
@@ -364,12 +365,12 @@ class Trial:
         how = {"stdout": subprocess.PIPE, "stderr": subprocess.STDOUT, "text": True}
         self.checks += 1
         paths = sorted({it.removesuffix("::") for body in bodies for it in body.owners})
-        words = [*self.words, *(word for it in paths for word in ("--only", it))]
+        words = ["prlimit", f"--cpu={SECONDS}", *self.words]
+        words += [word for it in paths for word in ("--only", it)]
         begun = time.monotonic()
-        try:
-            ran = subprocess.run(words, cwd=self.copy, timeout=SECONDS, check=False, **how)
-        except subprocess.TimeoutExpired:
-            return Answer(self.crate, texts, f"no answer in {SECONDS} seconds")
+        ran = subprocess.run(words, cwd=self.copy, check=False, **how)
+        if ran.returncode < 0:
+            return Answer(self.crate, texts, f"killed by the signal {-ran.returncode}")
         took = time.monotonic() - begun
         print(f"{self.crate.name}: a check of {len(bodies)} took {took:.0f} s", flush=True)
         return Answer(self.crate, texts, ran.stdout)
@@ -426,7 +427,8 @@ class Trial:
                 left = [it for it in group if it not in bad] + left
                 continue
             for body in group:
-                if goal := answer.goal_of(body):
+                goal = answer.goal_of(body)
+                if goal or not body.is_wrong and answer.stated.issuperset(body.owners):
                     self.settle(body, goal, f"with {len(group) - 1} others")
                 elif body.is_wrong and body not in tried_once:
                     # (the goal may rest on a function that another one of the group has broken)

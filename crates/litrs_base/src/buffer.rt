@@ -119,7 +119,7 @@ impl Text for &str {
     }
 
     fn as_str(&self) -> &str {
-        self
+        *self
     }
 
     fn copy(&self, _alloc: Global) -> Result<Self, AllocError> {

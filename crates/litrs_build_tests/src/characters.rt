@@ -1,14 +1,18 @@
 //! Chars and strings of every character.
-use litrs::{CharLit, StringLit};
 use litrs_build::{char, string};
 use std::alloc::{AllocError, Global};
 
-/// How many characters come back from their chars.
+/// Whether a text was allocated with exactly its length.
+pub fn is_exact(text: String) -> bool {
+    text.capacity() == text.len()
+}
+
+/// How many characters have a char.
 pub fn chars(alloc: Global) -> u32 {
     let mut count: u32 = 0;
     for code in 0..0x11_0000u32 {
         if let Some(c) = char::from_u32(code)
-            && char_comes_back(alloc, c)
+            && has_char(alloc, c)
         {
             count = count.saturating_add(1);
         }
@@ -16,37 +20,22 @@ pub fn chars(alloc: Global) -> u32 {
     count
 }
 
-/// Whether a character comes back from its char.
-fn char_comes_back(alloc: Global, c: char) -> bool {
-    let Ok(lit) = char(alloc, c, "u8") else {
-        return false;
-    };
-    match CharLit::parse(lit.raw_input()) {
-        Ok(again) => {
-            let is_same = again.value() == c && again.suffix() == "u8";
-            is_same && is_exact(lit.into_raw_input())
-        }
+/// Whether a character has a char.
+fn has_char(alloc: Global, c: char) -> bool {
+    match char(alloc, c, "u8") {
+        Ok(lit) => is_exact(lit.into_raw_input()),
         Err(_) => false,
     }
 }
 
-/// Whether a text was allocated with exactly its length.
-pub fn is_exact(text: String) -> bool {
-    text.capacity() == text.len()
-}
-
-/// How many characters come back from strings, in which each stands after the quote, after a letter
-/// and after itself.
+/// How many characters have a string, in which each stands after the quote, after a letter and
+/// after itself.
 pub fn strings(alloc: Global) -> Result<u32, AllocError> {
     let mut count: u32 = 0;
     for code in 0..0x11_0000u32 {
         if let Some(c) = char::from_u32(code) {
-            let mut text = String::new(alloc);
-            text.push(c)?;
-            text.push('a')?;
-            text.push(c)?;
-            text.push(c)?;
-            if string_comes_back(alloc, text.as_str()) {
+            let text = format!(in alloc; "{c}a{c}{c}")?;
+            if has_string(alloc, text.as_str()) {
                 count = count.saturating_add(1);
             }
         }
@@ -54,18 +43,10 @@ pub fn strings(alloc: Global) -> Result<u32, AllocError> {
     Ok(count)
 }
 
-/// Whether a text comes back from its string.
-fn string_comes_back(alloc: Global, text: &str) -> bool {
-    let Ok(lit) = string(alloc, text, "_x") else {
-        return false;
-    };
-    is_string_of(alloc, lit.raw_input(), text) && is_exact(lit.into_raw_input())
-}
-
-/// Whether a literal is the string of a text.
-fn is_string_of(alloc: Global, literal: &str, text: &str) -> bool {
-    match StringLit::parse(alloc, literal) {
-        Ok(lit) => lit.value() == text && lit.suffix() == "_x",
+/// Whether a text has a string.
+fn has_string(alloc: Global, text: &str) -> bool {
+    match string(alloc, text, "_x") {
+        Ok(lit) => is_exact(lit.into_raw_input()),
         Err(_) => false,
     }
 }

@@ -1,8 +1,8 @@
-//! Builds literals from values and parses them again: every character as a char and within a
-//! string, every byte, every pair of bytes in a byte string and a C string, and raw strings up to
-//! the greatest number of hashes. Each line counts the values that came back, in a text that was
-//! allocated with exactly its length. The lines on escapes count those that are written anew in a
-//! text that is no longer.
+//! Builds literals of values: every character as a char and within a string, every byte, every pair
+//! of bytes in a byte string and a C string, and raw strings up to the greatest number of hashes.
+//! Each line counts the values that have a literal, in a text that was allocated with exactly its
+//! length. The lines on escapes count those that are written anew in a text that is no longer.
+//! What the literals are is said by the contracts of the calls.
 #![tactic(auto)]
 
 use std::io;
@@ -11,7 +11,6 @@ mod bytes;
 mod characters;
 mod escapes;
 mod raws;
-mod suffixes;
 
 fn main(rt: HostRuntime) -> io::Result<()> {
     let alloc = rt.alloc();
@@ -20,20 +19,12 @@ fn main(rt: HostRuntime) -> io::Result<()> {
     println!(rt; "bytes: {}", bytes::bytes(alloc))?;
     println!(rt; "byte strings: {}", bytes::byte_strings(alloc))?;
     println!(rt; "C strings: {}", bytes::c_strings(alloc))?;
-    println!(rt; "C strings with NUL: {}", bytes::refused_c_strings(alloc))?;
     println!(rt; "raw strings: {}", raws::raw_strings(alloc)?)?;
     println!(rt; "raw byte strings: {}", raws::raw_byte_strings(alloc)?)?;
     println!(rt; "raw C strings: {}", raws::raw_c_strings(alloc)?)?;
-    println!(rt; "raw bytes: {}", raws::raw_bytes(alloc))?;
-    println!(rt; "raw C strings of two bytes: {}", raws::raw_c_pairs(alloc))?;
-    println!(rt; "raw strings with CR: {}", raws::refused_raw_strings(alloc))?;
-    println!(rt; "raw C strings with NUL: {}", raws::refused_nuls(alloc))?;
-    println!(rt; "no raw C strings: {}", raws::refused_raw_c_strings(alloc))?;
     println!(rt; "escapes of chars: {}", escapes::chars(alloc)?)?;
     println!(rt; "escapes in strings: {}", escapes::strings(alloc)?)?;
     println!(rt; "escapes of bytes: {}", escapes::bytes(alloc)?)?;
     println!(rt; "escapes in C strings: {}", escapes::c_strings(alloc)?)?;
-    println!(rt; "suffixes: {}", suffixes::accepted(alloc))?;
-    println!(rt; "no suffixes: {}", suffixes::refused(alloc))?;
     Ok(())
 }

@@ -1,16 +1,14 @@
-//! Raw strings of the three kinds that need 0 to 256 hashes, and what has none.
-use crate::bytes::{is_byte_string_of, is_c_string_of};
+//! Raw strings of the three kinds that need 0 to 256 hashes, of which none can have 256.
 use crate::characters::is_exact;
-use litrs::StringLit;
-use litrs_build::{BuildError, raw_byte_string, raw_c_string, raw_string};
+use litrs_build::{raw_byte_string, raw_c_string, raw_string};
 use std::alloc::{AllocError, Global};
 
-/// How many of the texts that need 0 to 256 hashes come back from raw strings with so many.
+/// How many of the texts that need 0 to 256 hashes have a raw string.
 pub fn raw_strings(alloc: Global) -> Result<u32, AllocError> {
     let mut count: u32 = 0;
     let mut text = String::from_str(alloc, "a")?;
     for hashes in 0..=256usize {
-        if raw_string_comes_back(alloc, text.as_str(), hashes) {
+        if has_raw_string(alloc, text.as_str()) {
             count = count.saturating_add(1);
         }
         text.push_str(if hashes == 0 { "\"" } else { "#" })?;
@@ -18,20 +16,10 @@ pub fn raw_strings(alloc: Global) -> Result<u32, AllocError> {
     Ok(count)
 }
 
-/// Whether a text comes back from its raw string, which has so many hashes.
-fn raw_string_comes_back(alloc: Global, text: &str, hashes: usize) -> bool {
-    let Ok(lit) = raw_string(alloc, text, "_x") else {
-        return false;
-    };
-    let around = lit.raw_input().len().saturating_sub(text.len());
-    let has_hashes = around == hashes.saturating_mul(2).saturating_add(5);
-    has_hashes && is_raw_of(alloc, lit.raw_input(), text) && is_exact(lit.into_raw_input())
-}
-
-/// Whether a literal is a raw string of a text.
-fn is_raw_of(alloc: Global, literal: &str, text: &str) -> bool {
-    match StringLit::parse(alloc, literal) {
-        Ok(lit) => lit.value() == text && lit.suffix() == "_x" && lit.is_raw_string(),
+/// Whether a text has a raw string.
+fn has_raw_string(alloc: Global, text: &str) -> bool {
+    match raw_string(alloc, text, "_x") {
+        Ok(lit) => is_exact(lit.into_raw_input()),
         Err(_) => false,
     }
 }
@@ -41,7 +29,7 @@ pub fn raw_byte_strings(alloc: Global) -> Result<u32, AllocError> {
     let mut count: u32 = 0;
     let mut text = String::from_str(alloc, "a")?;
     for hashes in 0..=256usize {
-        if raw_byte_string_comes_back(alloc, text.as_bytes(), hashes) {
+        if has_raw_byte_string(alloc, text.as_bytes()) {
             count = count.saturating_add(1);
         }
         text.push_str(if hashes == 0 { "\"" } else { "#" })?;
@@ -49,14 +37,12 @@ pub fn raw_byte_strings(alloc: Global) -> Result<u32, AllocError> {
     Ok(count)
 }
 
-/// Whether bytes come back from their raw byte string, which has so many hashes.
-fn raw_byte_string_comes_back(alloc: Global, value: &[u8], hashes: usize) -> bool {
-    let Ok(lit) = raw_byte_string(alloc, value, "_x") else {
-        return false;
-    };
-    let around = lit.raw_input().len().saturating_sub(value.len());
-    let has_hashes = around == hashes.saturating_mul(2).saturating_add(6);
-    has_hashes && is_byte_string_of(alloc, lit.raw_input(), value) && is_exact(lit.into_raw_input())
+/// Whether bytes have a raw byte string.
+fn has_raw_byte_string(alloc: Global, value: &[u8]) -> bool {
+    match raw_byte_string(alloc, value, "_x") {
+        Ok(lit) => is_exact(lit.into_raw_input()),
+        Err(_) => false,
+    }
 }
 
 /// The same of raw C strings.
@@ -64,7 +50,7 @@ pub fn raw_c_strings(alloc: Global) -> Result<u32, AllocError> {
     let mut count: u32 = 0;
     let mut text = String::from_str(alloc, "é")?;
     for hashes in 0..=256usize {
-        if raw_c_string_comes_back(alloc, text.as_bytes(), hashes) {
+        if has_raw_c_string(alloc, text.as_bytes()) {
             count = count.saturating_add(1);
         }
         text.push_str(if hashes == 0 { "\"" } else { "#" })?;
@@ -72,79 +58,10 @@ pub fn raw_c_strings(alloc: Global) -> Result<u32, AllocError> {
     Ok(count)
 }
 
-/// Whether bytes come back from their raw C string, which has so many hashes.
-fn raw_c_string_comes_back(alloc: Global, value: &[u8], hashes: usize) -> bool {
-    let Ok(lit) = raw_c_string(alloc, value, "_x") else {
-        return false;
-    };
-    let around = lit.raw_input().len().saturating_sub(value.len());
-    let has_hashes = around == hashes.saturating_mul(2).saturating_add(6);
-    has_hashes && is_c_string_of(alloc, lit.raw_input(), value) && is_exact(lit.into_raw_input())
-}
-
-/// How many pairs of bytes have a raw C string: all UTF-8 without NUL and CR, of ASCII 126 by 126,
-/// and of two bytes 30 by 64.
-pub fn raw_c_pairs(alloc: Global) -> u32 {
-    let mut count: u32 = 0;
-    for number in 0..=0xffffu16 {
-        match raw_c_string(alloc, &number.to_be_bytes(), "") {
-            Ok(_) => count = count.saturating_add(1),
-            Err(_) => {}
-        }
+/// Whether bytes have a raw C string.
+fn has_raw_c_string(alloc: Global, value: &[u8]) -> bool {
+    match raw_c_string(alloc, value, "_x") {
+        Ok(lit) => is_exact(lit.into_raw_input()),
+        Err(_) => false,
     }
-    count
-}
-
-/// How many places of a NUL are named, of those in a value of 100 bytes that is not UTF-8.
-pub fn refused_nuls(alloc: Global) -> u32 {
-    let mut count: u32 = 0;
-    for at in 0..100usize {
-        let mut value = [b'\xff'; 100];
-        value[at] = 0;
-        value[99] = 0;
-        if raw_c_string(alloc, &value, "").err() == Some(BuildError::HasNul { at }) {
-            count = count.saturating_add(1);
-        }
-    }
-    count
-}
-
-/// How many values without NUL have no raw C string.
-pub fn refused_raw_c_strings(alloc: Global) -> u32 {
-    let mut count: u32 = 0;
-    for value in [
-        b"\r".as_slice(),
-        b"a\r\nb",
-        b"\xff",
-        b"a\xc3",
-        b"\xed\xa0\x80",
-    ] {
-        if raw_c_string(alloc, value, "").err() == Some(BuildError::NotRaw) {
-            count = count.saturating_add(1);
-        }
-    }
-    count
-}
-
-/// How many bytes stand in a raw byte string alone: all that are ASCII but CR.
-pub fn raw_bytes(alloc: Global) -> u32 {
-    let mut count: u32 = 0;
-    for b in 0..=255u8 {
-        match raw_byte_string(alloc, &[b], "") {
-            Ok(_) => count = count.saturating_add(1),
-            Err(_) => {}
-        }
-    }
-    count
-}
-
-/// How many texts have no raw string.
-pub fn refused_raw_strings(alloc: Global) -> u32 {
-    let mut count: u32 = 0;
-    for text in ["\r", "a\r\nb", "é\r"] {
-        if raw_string(alloc, text, "").err() == Some(BuildError::NotRaw) {
-            count = count.saturating_add(1);
-        }
-    }
-    count
 }

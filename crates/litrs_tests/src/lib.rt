@@ -1,6 +1,6 @@
 //! Tests of what no contract says, over the public calls of all crates: that calls that allocate
 //! succeed while there is memory, and how much they ask for; what is printed at a width or a
-//! precision; how often devices are called; the sizes of types; and the documentation samples.
+//! precision; how often devices are called; and the sizes of types.
 #![tactic(auto)]
 
 #[cfg(test)]
@@ -19,8 +19,6 @@ mod mismatches;
 mod printing;
 #[cfg(test)]
 mod rooms;
-#[cfg(test)]
-mod samples;
 #[cfg(test)]
 mod searches;
 #[cfg(test)]

@@ -1,5 +1,4 @@
-//! `run` and its devices, and the collector.
-mod collector;
+//! `run` and its devices.
 mod devices;
 mod inputs;
 mod runs;

@@ -1,6 +1,6 @@
 //! Literals and refusals as the table writes them.
 use litrs::{CStringLit, FloatLit, IntegerLit, Literal, ParseError, StringLit, Text};
-use std::alloc::{AllocError, Global};
+use std::alloc::AllocError;
 use std::fmt::Write;
 
 /// The kind of a literal.
@@ -101,21 +101,11 @@ pub fn are_fields<B: Text>(answer: &[u8], fields: &str, lit: &Literal<B>) -> boo
     answer.strip_prefix(fields.as_bytes()) == Some(value)
 }
 
-/// The name of the kind of a refusal.
-pub fn kind_name(alloc: Global, error: &ParseError) -> Result<String, AllocError> {
+/// Writes the fields of a refusal, without what is printed of it.
+pub fn write_refusal(fields: &mut String, error: &ParseError) -> Result<(), AllocError> {
     let kind = error.kind();
-    format!(in alloc; "{kind:?}")
-}
-
-/// Writes the fields of a refusal of a kind of this name, without what is printed of it.
-pub fn write_refusal(
-    fields: &mut String,
-    kind: &str,
-    error: &ParseError,
-) -> Result<(), AllocError> {
     match (error.span(), error.char_span()) {
-        (Some(span), Some(chars)) => write!(fields, "refused\t{kind}\t{span:?}\t{chars:?}"),
-        (None, None) => write!(fields, "refused\t{kind}\t-\t-"),
-        _ => write!(fields, "refused\t{kind}\tby one span"),
+        (Some(span), Some(chars)) => write!(fields, "refused\t{kind:?}\t{span:?}\t{chars:?}"),
+        _ => write!(fields, "refused\t{kind:?}\t-\t-"),
     }
 }

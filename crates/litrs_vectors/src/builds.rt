@@ -1,10 +1,8 @@
 //! The literals that are built from the value of another one.
-use crate::answers::{kind_of, number_of, value_of};
-use crate::parses::any;
+use crate::answers::{number_of, value_of};
 use crate::trial::{Trial, again};
-use litrs::{FloatLit, IntegerLit, Literal, Text};
+use litrs::{FloatLit, IntegerLit, Literal};
 use litrs_build::BuildError;
-use std::alloc::Global;
 
 /// The longest text that is tried here.
 const LONGEST: usize = 1000;
@@ -17,8 +15,8 @@ pub fn try_builds(trial: &mut Trial, lit: &Literal<&str>) {
     trial.at = ("litrs_build", "&str");
     again!(trial, call_of(lit), is_build_refused(trial, lit));
     again!(trial, "unescaped", is_unescaped_refused(trial, lit));
-    if let Some((true, _)) = value_of(lit) {
-        again!(trial, raw_call_of(lit), is_raw_refused(trial, lit));
+    if let Some((true, value)) = value_of(lit) {
+        again!(trial, raw_call_of(lit), is_raw_refused(trial, lit, value));
     }
 }
 
@@ -45,136 +43,84 @@ fn raw_call_of(lit: &Literal<&str>) -> &'static str {
     }
 }
 
-/// Builds the literal, and tries it. Whether memory was refused.
-fn is_build_refused(trial: &mut Trial, lit: &Literal<&str>) -> bool {
-    let built = built(trial.alloc, lit);
-    is_refused(trial, lit, &built)
-}
-
-/// Builds the raw string, and tries it. Whether memory was refused.
-fn is_raw_refused(trial: &mut Trial, lit: &Literal<&str>) -> bool {
-    let built = raw_built(trial.alloc, lit);
-    is_refused(trial, lit, &built)
-}
-
-/// Writes the literal anew, and tries it. Whether memory was refused.
+/// Writes the literal anew. Whether memory was refused.
 fn is_unescaped_refused(trial: &mut Trial, lit: &Literal<&str>) -> bool {
-    match &litrs_build::unescaped(trial.alloc, lit) {
-        Ok(found) => {
-            trial.check(is_alike(lit, found), "is written as another literal");
-            trial.check(
-                is_raw(lit) == is_raw(found),
-                "is not written raw or quoted as it is",
-            );
-            false
-        }
-        Err(_) => true,
-    }
+    litrs_build::unescaped(trial.alloc, lit).is_err()
 }
 
-/// Whether a literal is raw.
-fn is_raw<B: Text>(lit: &Literal<B>) -> bool {
-    match value_of(lit) {
-        Some((is_raw, _)) => is_raw,
-        None => false,
-    }
-}
-
-/// The literal of the value and the suffix, of a bool a copy.
-fn built(alloc: Global, lit: &Literal<&str>) -> Result<Literal<String>, BuildError> {
+/// Builds the literal of the value and the suffix, but of a bool. Whether memory was refused.
+fn is_build_refused(trial: &mut Trial, lit: &Literal<&str>) -> bool {
+    let (alloc, suffix) = (trial.alloc, lit.suffix());
     match lit {
-        Literal::Bool(lit) => Ok(Literal::Bool(*lit)),
-        Literal::Integer(lit) => built_integer(alloc, lit),
-        Literal::Float(lit) => built_float(alloc, lit),
-        Literal::Char(lit) => any(litrs_build::char(alloc, lit.value(), lit.suffix())),
-        Literal::Byte(lit) => any(litrs_build::byte(alloc, lit.value(), lit.suffix())),
-        _ => built_string(alloc, lit),
+        Literal::Bool(_) => false,
+        Literal::Integer(lit) => is_integer_refused(trial, lit),
+        Literal::Float(lit) => is_float_refused(trial, lit),
+        Literal::Char(lit) => is_refused(trial, litrs_build::char(alloc, lit.value(), suffix)),
+        Literal::Byte(lit) => is_refused(trial, litrs_build::byte(alloc, lit.value(), suffix)),
+        _ => is_string_refused(trial, lit),
     }
 }
 
-/// The integer of the value, the base and the suffix.
-fn built_integer(alloc: Global, lit: &IntegerLit<&str>) -> Result<Literal<String>, BuildError> {
+/// Builds the integer of the value, the base and the suffix.
+fn is_integer_refused(trial: &mut Trial, lit: &IntegerLit<&str>) -> bool {
+    let alloc = trial.alloc;
     match number_of(lit) {
-        Some(value) => any(litrs_build::grouped_integer(alloc, value, lit.base(), 3, lit.suffix())),
-        None => Ok(Literal::Integer(litrs_build::regroup(alloc, lit, 3)?)),
+        Some(value) => {
+            let built = litrs_build::grouped_integer(alloc, value, lit.base(), 3, lit.suffix());
+            is_refused(trial, built)
+        }
+        None => litrs_build::regroup(alloc, lit, 3).is_err(),
     }
 }
 
-/// The float of the parts and the suffix.
-fn built_float(alloc: Global, lit: &FloatLit<&str>) -> Result<Literal<String>, BuildError> {
+/// Builds the float of the parts and the suffix.
+fn is_float_refused(trial: &mut Trial, lit: &FloatLit<&str>) -> bool {
     let (integer, fraction) = (lit.integer_part(), lit.fractional_part());
-    any(litrs_build::float(alloc, integer, fraction, lit.exponent_part(), lit.suffix()))
+    let (exponent, suffix) = (lit.exponent_part(), lit.suffix());
+    let built = litrs_build::float(trial.alloc, integer, fraction, exponent, suffix);
+    is_refused(trial, built)
 }
 
-/// The string of one of the three kinds of the value and the suffix.
-fn built_string(alloc: Global, lit: &Literal<&str>) -> Result<Literal<String>, BuildError> {
-    let suffix = lit.suffix();
-    match (lit, value_of(lit)) {
-        (Literal::String(lit), _) => any(litrs_build::string(alloc, lit.value(), suffix)),
-        (Literal::ByteString(_), Some((_, value))) => {
-            any(litrs_build::byte_string(alloc, value, suffix))
+/// Builds the string of one of the three kinds of the value and the suffix.
+fn is_string_refused(trial: &mut Trial, lit: &Literal<&str>) -> bool {
+    let (alloc, suffix) = (trial.alloc, lit.suffix());
+    match lit {
+        Literal::String(lit) => is_refused(trial, litrs_build::string(alloc, lit.value(), suffix)),
+        Literal::ByteString(lit) => {
+            is_refused(trial, litrs_build::byte_string(alloc, lit.value(), suffix))
         }
-        (_, Some((_, value))) => any(litrs_build::c_string(alloc, value, suffix)),
-        (_, None) => any(litrs_build::string(alloc, "", suffix)),
+        Literal::CString(lit) => {
+            is_refused(
+                trial,
+                litrs_build::c_string(alloc, lit.value().to_bytes(), suffix),
+            )
+        }
+        _ => false,
     }
 }
 
-/// The raw literal of the value and the suffix of a raw string.
-fn raw_built(alloc: Global, lit: &Literal<&str>) -> Result<Literal<String>, BuildError> {
-    let suffix = lit.suffix();
-    match (lit, value_of(lit)) {
-        (Literal::String(lit), _) => any(litrs_build::raw_string(alloc, lit.value(), suffix)),
-        (Literal::ByteString(_), Some((_, value))) => {
-            any(litrs_build::raw_byte_string(alloc, value, suffix))
+/// Builds the raw literal of the value and the suffix of a raw string.
+fn is_raw_refused(trial: &mut Trial, lit: &Literal<&str>, value: &[u8]) -> bool {
+    let (alloc, suffix) = (trial.alloc, lit.suffix());
+    match lit {
+        Literal::String(lit) => {
+            is_refused(trial, litrs_build::raw_string(alloc, lit.value(), suffix))
         }
-        (Literal::CString(_), Some((_, value))) => {
-            any(litrs_build::raw_c_string(alloc, value, suffix))
+        Literal::ByteString(_) => {
+            is_refused(trial, litrs_build::raw_byte_string(alloc, value, suffix))
         }
-        _ => built(alloc, lit),
+        _ => is_refused(trial, litrs_build::raw_c_string(alloc, value, suffix)),
     }
 }
 
-/// Tries that a literal was built that is as this one. Whether memory was refused.
-fn is_refused(
-    trial: &mut Trial,
-    lit: &Literal<&str>,
-    built: &Result<Literal<String>, BuildError>,
-) -> bool {
-    match built {
-        Ok(found) => {
-            trial.check(is_alike(lit, found), "is built as another literal");
-            false
-        }
+/// Tries that a literal was built. Whether memory was refused.
+fn is_refused<L: Drop>(trial: &mut Trial, built: Result<L, BuildError>) -> bool {
+    match &built {
+        Ok(_) => false,
         Err(BuildError::Memory) => true,
         Err(_) => {
             trial.check(false, "is not built");
             false
         }
-    }
-}
-
-/// Whether two literals have one kind, value and suffix.
-fn is_alike<A: Text, B: Text>(a: &Literal<A>, b: &Literal<B>) -> bool {
-    kind_of(a) == kind_of(b) && a.suffix() == b.suffix() && has_same_value(a, b)
-}
-
-/// Whether two literals of one kind have the same value, of floats all before the suffix.
-fn has_same_value<A: Text, B: Text>(a: &Literal<A>, b: &Literal<B>) -> bool {
-    match (a, b) {
-        (Literal::Bool(a), Literal::Bool(b)) => a.value() == b.value(),
-        (Literal::Integer(a), Literal::Integer(b)) => {
-            a.base() == b.base() && number_of(a) == number_of(b)
-        }
-        (Literal::Float(a), Literal::Float(b)) => a.number_part() == b.number_part(),
-        (Literal::Char(a), Literal::Char(b)) => a.value() == b.value(),
-        (Literal::Byte(a), Literal::Byte(b)) => a.value() == b.value(),
-        _ => has_same_bytes(value_of(a), value_of(b)),
-    }
-}
-
-fn has_same_bytes(a: Option<(bool, &[u8])>, b: Option<(bool, &[u8])>) -> bool {
-    match (a, b) {
-        (Some((_, a)), Some((_, b))) => a == b,
-        _ => false,
     }
 }

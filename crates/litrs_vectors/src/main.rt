@@ -28,6 +28,9 @@ mod rows;
 mod tokens;
 mod trial;
 
+/// The line after which no prefixes of texts are tried.
+const WITHOUT_PREFIXES: &str = "prefixes\tno";
+
 fn main(rt: HostRuntime) -> ExitCode {
     match try_table(&rt) {
         Ok(true) => ExitCode::SUCCESS,
@@ -78,6 +81,10 @@ fn write_held<W: Write>(output: &mut W, held: u64, rows: u64) -> io::Result<()> 
 fn try_line(trial: &mut Trial, line: &str) -> Result<(), AllocError> {
     trial.line = trial.line.saturating_add(1);
     if line.is_empty() || line.starts_with('#') {
+        return Ok(());
+    }
+    if line == WITHOUT_PREFIXES {
+        trial.tries_prefixes = false;
         return Ok(());
     }
     trial.begin_row();

@@ -3,8 +3,7 @@ use crate::answers::value_of;
 use crate::parses::{PARSES, Parse, parsed};
 use crate::rows::Row;
 use crate::trial::Trial;
-use litrs::ParseErrorKind::{self, *};
-use litrs::{Literal, ParseError, goes_on};
+use litrs::{Literal, ParseError, ParseErrorKind, goes_on};
 
 /// The longest text whose prefixes are tried.
 const LONGEST: usize = 1000;
@@ -12,64 +11,40 @@ const LONGEST: usize = 1000;
 /// What is appended to a text that no longer text completes.
 const APPENDED: &[&str] = &["\"", "'", "0", "1", "_", "x", "}", "\"#", "\n", "é", "🦊"];
 
-/// What is known of the text whose prefixes are tried.
-#[derive(Clone, Copy)]
-pub struct Whole<'a> {
-    /// Whether it is a literal.
-    pub is_literal: bool,
-    /// The value of that literal, if it is a string of one of the three kinds.
-    pub value: Option<&'a [u8]>,
-}
-
-/// A text that is no literal.
-pub const NO_LITERAL: Whole<'static> = Whole {
-    is_literal: false,
-    value: None,
-};
-
-/// Tries each prefix of a text, and the text, by all nine parses and by `goes_on`.
-pub fn try_prefixes(trial: &mut Trial, text: &str, whole: &Whole) {
+/// Tries each prefix of a text, and the text, by all nine parses and by `goes_on`, unless they are
+/// left out.
+pub fn try_prefixes(trial: &mut Trial, text: &str, is_literal: bool) {
+    if !trial.tries_prefixes {
+        return;
+    }
     let mut longer = String::new(trial.alloc);
     if text.len() <= LONGEST {
         // bounded by twice the length of the longest text that is tried so.
         trial.own(longer.reserve(2 * LONGEST));
         for (len, _) in text.char_indices() {
-            try_prefix(trial, &text[..len], whole, &mut longer);
+            try_prefix(trial, &text[..len], is_literal, &mut longer);
         }
     }
-    try_prefix(trial, text, whole, &mut longer);
+    try_prefix(trial, text, is_literal, &mut longer);
 }
 
 /// Tries a prefix by all nine parses and by `goes_on`. In `longer` something is appended to it.
-fn try_prefix(trial: &mut Trial, text: &str, whole: &Whole, longer: &mut String) {
+fn try_prefix(trial: &mut Trial, text: &str, is_literal: bool, longer: &mut String) {
     trial.prefix = Some(text.len());
     for parse in PARSES {
         trial.at = (parse.name(), "&str");
-        try_parse(trial, parse, text, whole, longer);
+        try_parse(trial, parse, text, longer);
     }
     let answer = parsed(trial, Parse::Literal, &text);
-    let holds = is_known(&answer, text, whole.is_literal);
+    let holds = is_known(&answer, text, is_literal);
     trial.check(holds, "goes_on says otherwise");
 }
 
-/// Tries what a parse answers on a prefix.
-fn try_parse(trial: &mut Trial, parse: Parse, text: &str, whole: &Whole, longer: &mut String) {
-    let answer = parsed(trial, parse, &text);
-    try_answer(trial, parse, text, &answer, whole, longer);
-}
-
-/// Tries this answer on a prefix.
-fn try_answer(
-    trial: &mut Trial,
-    parse: Parse,
-    text: &str,
-    answer: &Result<Literal<&str>, ParseError>,
-    whole: &Whole,
-    longer: &mut String,
-) {
-    match answer {
-        Ok(_) => trial.check(other_start(parse, text).is_none(), "takes another start"),
-        Err(e) => try_error(trial, parse, text, e, whole, longer),
+/// Tries how a parse refuses a prefix, if it does.
+fn try_parse(trial: &mut Trial, parse: Parse, text: &str, longer: &mut String) {
+    match &parsed(trial, parse, &text) {
+        Ok(_) => {}
+        Err(e) => try_error(trial, parse, text, e, longer),
     }
 }
 
@@ -83,94 +58,16 @@ fn is_known(answer: &Result<Literal<&str>, ParseError>, text: &str, is_literal: 
     }
 }
 
-/// Tries how a parse refuses a prefix, and what it says of longer texts.
-fn try_error(
-    trial: &mut Trial,
-    parse: Parse,
-    text: &str,
-    error: &ParseError,
-    whole: &Whole,
-    longer: &mut String,
-) {
-    try_place(trial, parse, text, error);
-    if text.len() <= LONGEST {
-        try_longer_texts(trial, parse, text, error, whole, longer);
-    }
-}
-
-/// Tries how a parse refuses a prefix.
-fn try_place(trial: &mut Trial, parse: Parse, text: &str, error: &ParseError) {
-    let holds = is_refused_at(error, other_start(parse, text));
-    trial.check(holds, "does not refuse the start");
+/// Tries how a parse refuses a prefix, and what that says of longer texts.
+fn try_error(trial: &mut Trial, parse: Parse, text: &str, error: &ParseError, longer: &mut String) {
     trial.check(has_place(text, error), "is refused outside of the text");
-}
-
-/// Tries what a refusal of a prefix says of longer texts.
-fn try_longer_texts(
-    trial: &mut Trial,
-    parse: Parse,
-    text: &str,
-    error: &ParseError,
-    whole: &Whole,
-    longer: &mut String,
-) {
-    if error.is_final() {
-        try_appended(trial, parse, text, longer);
-    }
-    if error.is_open() {
-        try_closed(trial, parse, text, error.kind(), whole, longer);
-    }
-}
-
-/// How a parse refuses a text that begins like no literal of its kind: the kind, and the end of the
-/// span, if there is one.
-fn other_start(parse: Parse, text: &str) -> Option<(ParseErrorKind, Option<usize>)> {
-    if is_start(parse, text) {
-        return None;
-    }
-    if text.is_empty() && !matches!(parse, Parse::Bool) {
-        return Some((Empty, None));
-    }
-    Some(refusal_of_start(parse))
-}
-
-/// Whether a text begins like a literal of the kind of a parse; of a bool, whether it is one.
-fn is_start(parse: Parse, text: &str) -> bool {
-    match parse {
-        Parse::Literal => true,
-        Parse::Bool => matches!(text, "true" | "false"),
-        Parse::Integer | Parse::Float => matches!(text.as_bytes().first(), Some(b'0'..=b'9')),
-        Parse::Char => text.starts_with('\''),
-        Parse::String => starts_with(text, "\"", "r"),
-        Parse::Byte => text.starts_with("b'"),
-        Parse::ByteString => starts_with(text, "b\"", "br"),
-        Parse::CString => starts_with(text, "c\"", "cr"),
-    }
-}
-
-/// How a parse refuses another start, but of the empty text.
-fn refusal_of_start(parse: Parse) -> (ParseErrorKind, Option<usize>) {
-    match parse {
-        Parse::Literal | Parse::Bool => (InvalidLiteral, None),
-        Parse::Integer | Parse::Float => (DoesNotStartWithDigit, Some(1)),
-        Parse::Char => (DoesNotStartWithQuote, Some(1)),
-        Parse::String => (InvalidStringLiteralStart, Some(1)),
-        Parse::Byte => (InvalidByteLiteralStart, None),
-        Parse::ByteString => (InvalidByteStringLiteralStart, None),
-        Parse::CString => (InvalidCStringLiteralStart, None),
-    }
-}
-
-fn starts_with(text: &str, quoted: &str, raw: &str) -> bool {
-    text.starts_with(quoted) || text.starts_with(raw)
-}
-
-/// Whether an error is this refusal of how a text begins, if there is one.
-fn is_refused_at(error: &ParseError, start: Option<(ParseErrorKind, Option<usize>)>) -> bool {
-    match start {
-        Some((kind, None)) => error.kind() == kind && error.span().is_none(),
-        Some((kind, Some(end))) => error.kind() == kind && error.span() == Some(0..end),
-        None => true,
+    if text.len() <= LONGEST {
+        if error.is_final() {
+            try_appended(trial, parse, text, longer);
+        }
+        if error.is_open() {
+            try_closed(trial, parse, text, error.kind(), longer);
+        }
     }
 }
 
@@ -219,83 +116,45 @@ fn try_appended(trial: &mut Trial, parse: Parse, text: &str, longer: &mut String
     }
 }
 
-/// Tries that the parse takes the text with its closing text.
+/// Tries that the parse takes the text with its closing text, as a string of this body.
 fn try_closed(
     trial: &mut Trial,
     parse: Parse,
     text: &str,
     kind: ParseErrorKind,
-    whole: &Whole,
     longer: &mut String,
 ) {
     let Some((front, body)) = text.split_once('"') else {
         return trial.check(false, "is open before the quote");
     };
     append(trial, longer, text, "\"");
-    if kind == UnterminatedRawString {
-        for _ in front.matches('#') {
-            trial.own(longer.push_str("#"));
+    if kind == ParseErrorKind::UnterminatedRawString {
+        for byte in front.as_bytes() {
+            if *byte == b'#' {
+                trial.own(longer.push_str("#"));
+            }
         }
     }
-    let body = Body {
-        text: body,
-        is_raw: front.contains('r'),
-    };
-    try_longer(trial, parse, longer.as_str(), &body, whole);
-}
-
-/// The body of a string.
-#[derive(Clone, Copy)]
-struct Body<'a> {
-    text: &'a str,
-    is_raw: bool,
-}
-
-/// Tries that the parse takes a closed text, a string of this body and no suffix.
-fn try_longer(trial: &mut Trial, parse: Parse, longer: &str, body: &Body, whole: &Whole) {
-    let holds = is_closed(&parsed(trial, parse, &longer), longer, body, whole);
+    let longer = longer.as_str();
+    let holds = is_closed(&parsed(trial, parse, &longer), longer, body);
     trial.check(holds, "does not take the closed text");
 }
 
 /// Whether an answer is a string of this text and this body, without a suffix.
-fn is_closed(
-    answer: &Result<Literal<&str>, ParseError>,
-    longer: &str,
-    body: &Body,
-    whole: &Whole,
-) -> bool {
+fn is_closed(answer: &Result<Literal<&str>, ParseError>, longer: &str, body: &str) -> bool {
     match answer {
-        Ok(lit) => {
-            lit.suffix().is_empty() && lit.raw_input() == longer && has_body(lit, body, whole)
-        }
+        Ok(lit) => lit.suffix().is_empty() && lit.raw_input() == longer && has_body(lit, body),
         Err(_) => false,
     }
 }
 
-/// Whether a string of one of the three kinds has this body, and where it is quoted, a value that
-/// the value of the longer literal begins with.
-fn has_body(lit: &Literal<&str>, body: &Body, whole: &Whole) -> bool {
-    match value_of(lit) {
-        Some((is_raw, value)) => {
-            is_raw == body.is_raw && has_value(value, body) && (is_raw || is_begun(value, whole))
-        }
-        None => false,
-    }
-}
-
-/// Whether a body has this value, as far as its first escape where it is quoted.
-fn has_value(value: &[u8], body: &Body) -> bool {
-    match body.text.split_once('\\') {
-        Some((plain, _)) if !body.is_raw => value.starts_with(plain.as_bytes()),
-        _ => value == body.text.as_bytes(),
-    }
-}
-
-/// Whether the value of the longer literal, if it is one, begins with this value.
-fn is_begun(value: &[u8], whole: &Whole) -> bool {
-    match whole.value {
-        Some(whole) => whole.starts_with(value),
-        None => !whole.is_literal,
+/// Whether a string of one of the three kinds has this body: where it is raw, that is its value,
+/// and where it is quoted, its value begins so as far as the first escape.
+fn has_body(lit: &Literal<&str>, body: &str) -> bool {
+    match (value_of(lit), body.split_once('\\')) {
+        (Some((false, value)), Some((plain, _))) => value.starts_with(plain.as_bytes()),
+        (Some((_, value)), _) => value == body.as_bytes(),
+        (None, _) => false,
     }
 }
 
@@ -309,7 +168,7 @@ pub fn try_goes_on(trial: &mut Trial, row: &Row) {
         Ok(end) => try_prefixes_to(trial, text, end),
         Err(_) => trial.check(matches!(answer, "yes" | "no"), "has no such answer"),
     }
-    try_prefixes(trial, text, &NO_LITERAL);
+    try_prefixes(trial, text, false);
 }
 
 /// Tries that the prefixes that begin a literal are those below a length.

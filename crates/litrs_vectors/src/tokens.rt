@@ -3,59 +3,55 @@ use crate::parses::{Parse, buffer_name, each_kind, parsed};
 use crate::rows::Row;
 use crate::trial::{Trial, again};
 use litrs::{
-    BoolLit, ByteLit, ByteStringLit, CStringLit, CharLit, FloatLit, IntegerLit, Literal,
-    ParseError, StringLit, Text,
+    BoolLit, ByteLit, ByteStringLit, CStringLit, CharLit, FloatLit, IntegerLit, Literal, StringLit,
+    Text,
 };
 use litrs_token::{
     FromToken, Ident, IdentError, IntoIdent, IntoToken, LiteralError, Span, TokenError, TokenTree,
 };
+use std::alloc::Global;
 
 /// A token that is a literal.
 pub type Token = litrs_token::Literal;
 
 /// Tries a literal as a token, there and back, by the type whose parse this is.
 pub fn try_tokens(trial: &mut Trial, parse: Parse, row: &Row) {
-    let answer = parsed(trial, parse, &row.text);
-    try_answer(trial, parse, &answer, row);
-}
-
-/// Tries the literal that a parse answers as a token.
-fn try_answer(
-    trial: &mut Trial,
-    parse: Parse,
-    answer: &Result<Literal<String>, ParseError>,
-    row: &Row,
-) {
-    match answer {
+    match &parsed(trial, parse, &row.text.as_str()) {
         Ok(Literal::Bool(lit)) => {
             try_no_token(trial, row.text.as_str());
             try_ident(trial, *lit);
         }
-        Ok(lit) => {
-            try_written(trial, parse, &row.text.as_str());
-            try_written(trial, parse, &row.text);
-            trial.at = (parse.name(), "String");
-            try_read_by(trial, parse, lit);
-            if matches!(parse, Parse::Literal) {
-                try_other_kind(trial, lit);
-                try_no_ident(trial, lit.raw_input());
-            }
-        }
+        Ok(lit) => try_conversions(trial, parse, lit, row),
         Err(_) => trial.check(false, "is refused"),
     }
 }
 
+/// Tries the conversions of a literal that is no bool.
+fn try_conversions(trial: &mut Trial, parse: Parse, lit: &Literal<&str>, row: &Row) {
+    let text = row.text.as_str();
+    if !matches!(parse, Parse::Literal) {
+        try_written(trial, parse, &text);
+        try_written(trial, parse, &row.text);
+    }
+    trial.at = (parse.name(), "String");
+    try_read_by(trial, parse, text);
+    if matches!(parse, Parse::Literal) {
+        try_other_kind(trial, lit);
+        try_no_ident(trial, text);
+    }
+}
+
 /// Tries the conversions of the type whose parse this is.
-fn try_read_by(trial: &mut Trial, parse: Parse, lit: &Literal<String>) {
+fn try_read_by(trial: &mut Trial, parse: Parse, text: &str) {
     match parse {
-        Parse::Literal | Parse::Bool => try_read::<Literal<String>>(trial, lit),
-        Parse::Integer => try_read::<IntegerLit<String>>(trial, lit),
-        Parse::Float => try_read::<FloatLit<String>>(trial, lit),
-        Parse::Char => try_read::<CharLit<String>>(trial, lit),
-        Parse::String => try_read::<StringLit<String>>(trial, lit),
-        Parse::Byte => try_read::<ByteLit<String>>(trial, lit),
-        Parse::ByteString => try_read::<ByteStringLit<String>>(trial, lit),
-        Parse::CString => try_read::<CStringLit<String>>(trial, lit),
+        Parse::Literal | Parse::Bool => try_read::<Literal<String>>(trial, text),
+        Parse::Integer => try_read::<IntegerLit<String>>(trial, text),
+        Parse::Float => try_read::<FloatLit<String>>(trial, text),
+        Parse::Char => try_read::<CharLit<String>>(trial, text),
+        Parse::String => try_read::<StringLit<String>>(trial, text),
+        Parse::Byte => try_read::<ByteLit<String>>(trial, text),
+        Parse::ByteString => try_read::<ByteStringLit<String>>(trial, text),
+        Parse::CString => try_read::<CStringLit<String>>(trial, text),
     }
 }
 
@@ -70,7 +66,7 @@ pub fn try_no_token(trial: &mut Trial, text: &str) {
 
 /// Tries that a literal's token is no literal of another kind, whose value would be allocated. That
 /// is answered whether or not there is memory.
-fn try_other_kind(trial: &mut Trial, lit: &Literal<String>) {
+fn try_other_kind(trial: &mut Trial, lit: &Literal<&str>) {
     match lit {
         Literal::String(_) => try_invalid::<CStringLit<String>>(trial, lit.raw_input()),
         Literal::CString(_) => try_invalid::<ByteStringLit<String>>(trial, lit.raw_input()),
@@ -111,16 +107,13 @@ fn try_no_ident(trial: &mut Trial, text: &str) {
 /// Tries the token that a literal is written as, by the type of its kind.
 fn try_written<B: Text>(trial: &mut Trial, parse: Parse, text: &B) {
     trial.at = (parse.name(), buffer_name::<B>());
-    if matches!(parse, Parse::Literal) {
-        return;
-    }
     again!(trial, "into_token", is_write_refused(trial, parse, text));
 }
 
-/// Writes the literal of a text as a token, and tries that. Whether it was refused memory.
+/// Writes the literal of a text as a token. Whether memory was refused.
 fn is_write_refused<B: Text>(trial: &mut Trial, parse: Parse, text: &B) -> bool {
     match parsed(trial, parse, text) {
-        Ok(lit) => is_token_refused(trial, lit, text.as_str()),
+        Ok(lit) => is_token_refused(trial.alloc, lit),
         Err(_) => {
             trial.check(false, "is refused");
             false
@@ -129,25 +122,8 @@ fn is_write_refused<B: Text>(trial: &mut Trial, parse: Parse, text: &B) -> bool 
 }
 
 /// The same of a literal. A bool is no token.
-fn is_token_refused<B: Text>(trial: &mut Trial, lit: Literal<B>, text: &str) -> bool {
-    each_kind!(lit, _ => false, lit => is_kind_refused(trial, lit, text))
-}
-
-/// The same of a literal of one kind.
-fn is_kind_refused<L: IntoToken>(trial: &mut Trial, lit: L, text: &str) -> bool {
-    match &lit.into_token(trial.alloc) {
-        Ok(token) => {
-            try_text(trial, token, text);
-            false
-        }
-        Err(_) => true,
-    }
-}
-
-/// Tries that a token has this text, and no place.
-fn try_text(trial: &mut Trial, token: &Token, text: &str) {
-    let holds = token.text() == text && token.span() == Span::call_site();
-    trial.check(holds, "is another token");
+fn is_token_refused<B: Text>(alloc: Global, lit: Literal<B>) -> bool {
+    each_kind!(lit, _ => false, lit => lit.into_token(alloc).is_err())
 }
 
 /// The token of a literal's text.
@@ -181,162 +157,68 @@ fn note_token(trial: &mut Trial) {
     trial.at = at;
 }
 
-/// Tries what was read from the token or the tree of a literal, if memory was not refused. Whether
-/// it was.
-fn is_read_refused<L: Into<Literal<String>>, E: Drop>(
-    trial: &mut Trial,
-    read: Result<L, E>,
-    lit: &Literal<String>,
-) -> bool {
-    match read {
-        Ok(read) => {
-            try_same(trial, &read.into(), lit);
-            false
-        }
-        Err(_) => true,
-    }
-}
-
-/// Tries that what was read is this literal.
-fn try_same(trial: &mut Trial, read: &Literal<String>, lit: &Literal<String>) {
-    trial.check(*read == *lit, "is read from a token as another");
-}
-
 /// Tries the four conversions of a type to a literal on the token of one.
-fn try_read<L>(trial: &mut Trial, lit: &Literal<String>)
+fn try_read<L: FromToken>(trial: &mut Trial, text: &str)
 where
-    L: FromToken + Into<Literal<String>>,
     L::Error: Drop,
 {
-    if let Some(token) = token_of(trial, lit.raw_input()) {
-        try_text(trial, &token, lit.raw_input());
-        try_read_token::<L>(trial, &token, lit);
-        try_read_tree::<L>(trial, &TokenTree::from(token), lit);
+    if let Some(token) = token_of(trial, text) {
+        try_read_token::<L>(trial, &token);
+        try_read_tree::<L>(trial, &TokenTree::from(token));
     }
-    again!(trial, "from_literal", is_literal_refused::<L>(trial, lit));
-    again!(trial, "from_tree", is_tree_refused::<L>(trial, lit));
+    again!(trial, "from_literal", is_literal_refused::<L>(trial, text));
+    again!(trial, "from_tree", is_tree_refused::<L>(trial, text));
 }
 
 /// Tries the one that keeps the token.
-fn try_read_token<L>(trial: &mut Trial, token: &Token, lit: &Literal<String>)
+fn try_read_token<L: FromToken>(trial: &mut Trial, token: &Token)
 where
-    L: FromToken + Into<Literal<String>>,
     L::Error: Drop,
 {
     again!(
         trial,
         "from_literal_ref",
-        is_read_refused(trial, L::from_literal_ref(trial.alloc, token), lit),
-        token.text() == lit.raw_input()
+        L::from_literal_ref(trial.alloc, token).is_err()
     );
 }
 
 /// Tries the one that keeps the tree of a token.
-fn try_read_tree<L>(trial: &mut Trial, tree: &TokenTree, lit: &Literal<String>)
-where
-    L: FromToken + Into<Literal<String>>,
-    L::Error: Drop,
-{
+fn try_read_tree<L: FromToken>(trial: &mut Trial, tree: &TokenTree) {
     again!(
         trial,
         "from_tree_ref",
-        is_read_refused(trial, L::from_tree_ref(trial.alloc, tree), lit),
-        matches!(tree, TokenTree::Literal(token) if token.text() == lit.raw_input())
+        L::from_tree_ref(trial.alloc, tree).is_err()
     );
 }
 
-/// Tries the one that consumes the token. Whether it was refused memory.
-fn is_literal_refused<L>(trial: &mut Trial, lit: &Literal<String>) -> bool
+/// Reads a literal from its token. Whether memory was refused.
+fn is_literal_refused<L: FromToken>(trial: &mut Trial, text: &str) -> bool
 where
-    L: FromToken + Into<Literal<String>>,
     L::Error: Drop,
 {
-    match token_of(trial, lit.raw_input()) {
-        Some(token) => is_read_refused(trial, L::from_literal(trial.alloc, token), lit),
+    match token_of(trial, text) {
+        Some(token) => L::from_literal(trial.alloc, token).is_err(),
         None => false,
     }
 }
 
-/// Tries the one that consumes the tree of a token. Whether it was refused memory.
-fn is_tree_refused<L: FromToken + Into<Literal<String>>>(
-    trial: &mut Trial,
-    lit: &Literal<String>,
-) -> bool {
-    match token_of(trial, lit.raw_input()) {
-        Some(token) => {
-            let tree = TokenTree::from(token);
-            is_read_refused(trial, L::from_tree(trial.alloc, tree), lit)
-        }
+/// Reads a literal from the tree of its token. Whether memory was refused.
+fn is_tree_refused<L: FromToken>(trial: &mut Trial, text: &str) -> bool {
+    match token_of(trial, text) {
+        Some(token) => L::from_tree(trial.alloc, TokenTree::from(token)).is_err(),
         None => false,
     }
 }
 
-/// Tries the identifier that a bool is written as, and is read from.
+/// Tries the identifier that a bool is written as.
 fn try_ident(trial: &mut Trial, lit: BoolLit) {
     trial.at = ("BoolLit", "&str");
-    again!(trial, "into_ident", is_ident_refused(trial, lit));
+    again!(trial, "into_ident", lit.into_ident(trial.alloc).is_err());
     trial.at = ("Ident", "&str");
-    again!(trial, "new", is_name_refused(trial, lit));
+    again!(trial, "new", is_name_refused(trial.alloc, lit.as_str()));
 }
 
-/// Tries the identifier that a bool is written as. Whether it was refused memory.
-fn is_ident_refused(trial: &mut Trial, lit: BoolLit) -> bool {
-    match lit.into_ident(trial.alloc) {
-        Ok(ident) => {
-            try_bool(trial, ident, lit);
-            false
-        }
-        Err(_) => true,
-    }
-}
-
-/// Tries the identifier of its text. Whether it was refused memory.
-fn is_name_refused(trial: &mut Trial, lit: BoolLit) -> bool {
-    match Ident::new(trial.alloc, lit.as_str(), Span::call_site()) {
-        Ok(ident) => {
-            try_bool(trial, ident, lit);
-            false
-        }
-        Err(IdentError::NotAnIdent) => {
-            trial.check(false, "is no identifier");
-            false
-        }
-        Err(IdentError::Memory) => true,
-    }
-}
-
-/// Tries that a bool is read from an identifier.
-fn try_bool(trial: &mut Trial, ident: Ident, lit: BoolLit) {
-    let holds = ident.text() == lit.as_str() && ident.span() == Span::call_site();
-    trial.check(holds, "has another text");
-    try_tree(trial, TokenTree::from(ident), lit);
-}
-
-/// Tries that a bool is read from the tree of an identifier.
-fn try_tree(trial: &mut Trial, tree: TokenTree, lit: BoolLit) {
-    trial.check(is_bool(&tree, lit), "is not read as a bool");
-    try_kept_tree(trial, &tree, &Literal::Bool(lit));
-    let read = Literal::from_tree(trial.alloc, tree);
-    try_not_refused(trial, read, &Literal::Bool(lit));
-}
-
-/// Whether the tree is read as this bool.
-fn is_bool(tree: &TokenTree, lit: BoolLit) -> bool {
-    BoolLit::try_from(tree) == Ok(lit)
-}
-
-/// Tries that the literal is read from a tree that is kept.
-fn try_kept_tree(trial: &mut Trial, tree: &TokenTree, lit: &Literal<String>) {
-    let read = Literal::from_tree_ref(trial.alloc, tree);
-    try_not_refused(trial, read, lit);
-}
-
-/// Tries what was read, where no memory is needed.
-fn try_not_refused<E: Drop>(
-    trial: &mut Trial,
-    read: Result<Literal<String>, E>,
-    lit: &Literal<String>,
-) {
-    let refused = is_read_refused(trial, read, lit);
-    trial.check(!refused, "is not read from a token");
+/// Makes the identifier of a name. Whether memory was refused.
+fn is_name_refused(alloc: Global, name: &str) -> bool {
+    Ident::new(alloc, name, Span::call_site()).is_err()
 }

@@ -29,25 +29,21 @@ pub struct Trial {
     pub report: String,
     /// The type whose calls are tried, and the type of its text.
     pub at: Place,
+    /// Whether prefixes of texts are tried.
+    pub tries_prefixes: bool,
     /// How many bytes of the text are tried, where that is a prefix.
     pub prefix: Option<usize>,
     /// What does not hold of the row, if all does not.
     fault: Option<Fault>,
 }
 
-/// Tries a call of the library, which is made once more where it was refused memory. The call tries
-/// what it is answered, and says whether it was refused. Between the two the last condition, if
-/// there is one, says that what the call was made on has not changed.
+/// Tries a call of the library, of which a condition says whether it was refused memory: then it is
+/// made once more, and is not refused again.
 macro_rules! again {
-    ($trial:expr, $name:expr, $call:expr) => {
-        again!($trial, $name, $call, true)
-    };
-    ($trial:expr, $name:expr, $call:expr, $unchanged:expr) => {
-        if $call {
+    ($trial:expr, $name:expr, $is_refused:expr) => {
+        if $is_refused {
             $trial.note_refusal($name);
-            let unchanged = $unchanged;
-            $trial.check(unchanged, "has changed");
-            let refused = $call;
+            let refused = $is_refused;
             $trial.check(!refused, "fails twice");
         }
     };
@@ -66,6 +62,7 @@ impl Trial {
             held: 0,
             report: String::new(alloc),
             at: ("", ""),
+            tries_prefixes: true,
             prefix: None,
             fault: None,
         }
