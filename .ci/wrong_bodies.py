@@ -16,7 +16,7 @@ As many as fit, one a function, are put into a copy of their crate, and the crat
 for all of them. One that this check does not report is checked with those of the next round, and
 then alone. It counts as refused only where a goal of its own function is open: a proof that merely
 names what the edit took away shows nothing of the contract. A function that no edit changes is not
-proved again: its proof is left out, and those that call it go by its contract.
+proved again: it has neither body nor proof in the copy, and those that call it go by its contract.
 
 The edits in `.ci/harmless/`, named by crate, do not change what their function does, so they must
 not be refused. They are tried in the same way, are counted apart, and show that this script can
@@ -42,18 +42,21 @@ import libraries
 SECONDS = 1800
 HARMLESS = pathlib.Path(".ci/harmless")
 
-FUNCTION = re.compile(r'\s*(?:pub(?:\(\w+\))? )?(?:(?:const|unsafe|final|extern "C") )*fn (\w+)')
-CONSTANT = re.compile(r"\s*(?:pub(?:\(\w+\))? )?(?:const|static) (\w+): .*=")
-GHOST = re.compile(r"\s*ghost (\w+) ")
+VISIBLE = r"(?P<indent>\s*)(?:pub(?:\(\w+\))? )?"
+FUNCTION = re.compile(VISIBLE + r'(?:(?:const|unsafe|final|extern "C") )*fn (?P<name>\w+)')
+CONSTANT = re.compile(VISIBLE + r"(?:const|static) (?P<name>\w+): .*=")
+GHOST = re.compile(r"\s*ghost (?P<name>\w+) ")
 STATUS = re.compile(r"(?:fn|impl) (\S+): (.*)")
 ERROR = re.compile(r"(?:\./)?(proofs|src)/(\S+?):(\d+):\d+: error: (.*)")
 PLACE = re.compile(r"\bsrc/(\S+?\.rt):(\d+):\d+")
 # What the checker says of a goal that has no answer in proofs/ and that its search did not prove.
 NOTE = re.compile(r"note: src/(\S+?):(\d+):\d+: it is not proved that (.*)")
 OPEN = re.compile(r"no proof: .*?(`search` did not prove .*)")
-# What `rt ci` says of a crate that is proved.
-PROVED = re.compile(r"(?m)^rt: (\w+) proved$")
-# The proof of a function that no edit changes.
+# What `rt ci` says of a crate that is proved, and the line that `.ci/run` adds once it has ended.
+PROVED = re.compile(r"(?m)^rt: (\w+) proved\b")
+ENDED = "rt ci has ended\n"
+# The body and the proof of a function that no edit changes.
+NO_BODY = "unreachable!()\n"
 LEFT_OUT = """-- left out: what calls the function goes by its contract
 use Rattle.{crate}.proofs.{module}.Statement.{{statement}}
 
@@ -105,15 +108,16 @@ def owner_at(text, offset):
         else:
             for kind, pattern in (("fn", FUNCTION), ("const", CONSTANT), ("ghost", GHOST)):
                 if found := pattern.match(line):
-                    inside = (kind, found[1])
+                    inside = (kind, found["name"])
                     break
     return around, inside
 
 
-def functions_of(file, text):
-    """The paths of the functions of a source file, but for those that a trait declares."""
+def functions_of(file, lines):
+    """The functions of a source file, but for those that a trait declares: the path of each, and the
+    number of its first line."""
     around, is_trait = None, False
-    for line in text.split("\n"):
+    for number, line in enumerate(lines):
         if line.startswith("impl"):
             around, is_trait = segment_of(line), False
         elif re.match(r"(?:pub )?trait ", line):
@@ -121,7 +125,19 @@ def functions_of(file, text):
         elif line.startswith("}"):
             around, is_trait = None, False
         elif (found := FUNCTION.match(line)) and not is_trait:
-            yield path_of(file, around, found[1])
+            yield path_of(file, around, found["name"]), number
+
+
+def body_of(lines, start):
+    """The first line of the body of the function that begins at this line, and the line after the
+    last, in the layout of `rt fmt`; None of a body without lines."""
+    indent = FUNCTION.match(lines[start])["indent"]
+    for number in range(start, len(lines)):
+        line = lines[number].rstrip("\n")
+        if line.endswith("{}"):
+            return None
+        if line.endswith("{") and (number == start or line.startswith((f"{indent}{{", f"{indent})"))):
+            return number + 1, lines.index(f"{indent}}}\n", number)
 
 
 def path_of(file, *names):
@@ -341,27 +357,35 @@ class Trial:
             self.words += ["--incremental", str(work)]
         self.report, self.checks = [], 0
 
-    def leave_out(self, bodies):
-        """Copies the proofs, without those of the functions that none of these bodies touches."""
+    def leave_out(self, bodies, texts):
+        """Writes these texts and the proofs into the copy. A function that none of the bodies touches
+        has neither body nor proof there."""
         shutil.rmtree(self.copy / "proofs", ignore_errors=True)
         if (self.crate.folder / "proofs").exists():
             shutil.copytree(self.crate.folder / "proofs", self.copy / "proofs")
-        for file, text in self.crate.originals.items():
-            for path in functions_of(file.removeprefix("src/"), text):
+        for file, text in texts.items():
+            lines = text.splitlines(keepends=True)
+            for path, start in functions_of(file.removeprefix("src/"), lines):
                 if not any(it.touches(path) for it in bodies):
-                    *_, name = parts = path.split("::")
-                    folder = self.copy.joinpath("proofs", *parts)
-                    shutil.rmtree(folder, ignore_errors=True)
-                    folder.mkdir(parents=True)
-                    names = {"crate": self.crate.name, "module": ".".join(parts), "name": name}
-                    (folder / "Proof.antt").write_text(LEFT_OUT.format(**names))
+                    self.leave_out_proof(path)
+                    if place := body_of(lines, start):
+                        blank = ["\n"] * (place[1] - place[0] - 1)
+                        lines[slice(*place)] = [NO_BODY, *blank]
+            (self.copy / file).write_text("".join(lines))
+
+    def leave_out_proof(self, path):
+        """Leaves out the proof of the function of this path."""
+        *_, name = parts = path.split("::")
+        folder = self.copy.joinpath("proofs", *parts)
+        shutil.rmtree(folder, ignore_errors=True)
+        folder.mkdir(parents=True)
+        names = {"crate": self.crate.name, "module": ".".join(parts), "name": name}
+        (folder / "Proof.antt").write_text(LEFT_OUT.format(**names))
 
     def check(self, bodies):
         """Checks what these wrong bodies touch, in the copy with them."""
         texts = texts_with(self.crate.originals, bodies)
-        for file, text in texts.items():
-            (self.copy / file).write_text(text)
-        self.leave_out(bodies)
+        self.leave_out(bodies, texts)
         how = {"stdout": subprocess.PIPE, "stderr": subprocess.STDOUT, "text": True}
         self.checks += 1
         paths = sorted({it.removesuffix("::") for body in bodies for it in body.owners})
@@ -463,20 +487,30 @@ class Proofs:
         self.proved, self.changed = set(), threading.Condition()
         # (rt ci may put back the libraries that it found, so these are copies)
         libraries.library_folder = lambda name: self.room / name
-        threading.Thread(target=self.follow, daemon=True).start()
+        self.following = threading.Thread(target=self.follow, daemon=True)
+        self.following.start()
 
     def follow(self):
-        """Copies the library of each crate once the log says that it is proved."""
+        """Copies the library of each crate once the log says that it is proved, and those that are
+        left at the end of the log, which says nothing of what `rt ci` had proved before."""
         while len(self.proved) < len(self.crates):
-            log = self.log.read_text() if self.log.exists() else ""
-            for name in sorted(set(PROVED.findall(log)) - self.proved):
-                rlib = libraries.TOP / "crates" / name / "out/rlib"
-                if rlib.exists():
-                    shutil.copytree(rlib, self.room / name)
-                with self.changed:
-                    self.proved.add(name)
-                    self.changed.notify_all()
+            log = self.log.read_text(errors="replace") if self.log.exists() else ""
+            is_over = log.endswith(ENDED)
+            for name in sorted(set(self.crates if is_over else PROVED.findall(log)) - self.proved):
+                if self.is_copied(name) or is_over:
+                    with self.changed:
+                        self.proved.add(name)
+                        self.changed.notify_all()
             time.sleep(1)
+
+    def is_copied(self, name):
+        """Copies the library of a crate. Whether all of it was there."""
+        try:
+            shutil.copytree(libraries.TOP / "crates" / name / "out/rlib", self.room / name)
+        except OSError:
+            shutil.rmtree(self.room / name, ignore_errors=True)
+            return False
+        return True
 
     def next_of(self, waiting):
         """Takes the first of these crates for which all below it are proved, and waits for one."""
@@ -486,7 +520,9 @@ class Proofs:
                     if self.proved.issuperset(crate.below(self.crates)):
                         waiting.remove(crate)
                         return crate
-                self.changed.wait()
+                if not self.following.is_alive():
+                    sys.exit("the log of rt ci is followed no longer")
+                self.changed.wait(10)
         return None
 
 
