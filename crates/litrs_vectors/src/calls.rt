@@ -5,9 +5,10 @@ use crate::trial::{Trial, again};
 use litrs::{BoolLit, Literal};
 use litrs_base::Unescape;
 use litrs_lex::{EscapeContainer, unescape_string};
-use litrs_lines::{Collector, MemInput, MemOutput, Output, run};
+use litrs_lines::{Collector, MemInput, MemOutput, Output, Step, run};
 use litrs_token::TokenTree;
 use std::alloc::Global;
+use std::convert::AsSlice;
 
 /// The longest text that is tried here.
 const LONGEST: usize = 1000;
@@ -22,7 +23,7 @@ const PIECE: usize = 4096;
 pub fn try_literal(trial: &mut Trial, lit: &Literal<&str>) {
     let text = lit.raw_input();
     try_run(trial, text);
-    try_collector(trial, text);
+    try_collector(trial, text, true);
     try_compile_error(trial, lit);
     try_value(trial, lit);
     if let Some((false, _)) = value_of(lit) {
@@ -73,8 +74,8 @@ fn is_unescape_refused(alloc: Global, lit: &Literal<&str>) -> bool {
     }
 }
 
-/// Tries a container: one call after the other.
-fn try_container<C: EscapeContainer>(trial: &mut Trial, text: &str) {
+/// Tries a container: one call after the other, of which those that were refused changed nothing.
+fn try_container<C: EscapeContainer + AsSlice<u8>>(trial: &mut Trial, text: &str) {
     again!(
         trial,
         "with_capacity",
@@ -89,6 +90,16 @@ fn try_container<C: EscapeContainer>(trial: &mut Trial, text: &str) {
         // bounded by the length of the longest text that is tried so.
         container.reserve(LONGEST).is_err()
     );
+    let holds = is_pushed(container.as_slice(), text);
+    trial.check(holds, "has other contents");
+}
+
+/// Whether a container has what is pushed below.
+fn is_pushed(bytes: &[u8], text: &str) -> bool {
+    match bytes.strip_prefix(text.as_bytes()) {
+        Some(rest) => rest.strip_prefix("é".as_bytes()) == Some(text.as_bytes()),
+        None => false,
+    }
 }
 
 /// Tries the calls that add to a container.
@@ -126,21 +137,35 @@ fn is_run_refused(alloc: Global, text: &str) -> bool {
     }
 }
 
-/// Tries a collector that is fed the lines of a text.
-pub fn try_collector(trial: &mut Trial, text: &str) {
+/// Tries a collector that is fed the lines of a text: they are a literal if and only if the text is.
+pub fn try_collector(trial: &mut Trial, text: &str, is_literal: bool) {
     if text.len() > LONGEST {
         return;
     }
     trial.at = ("Collector", "&str");
     let mut collector = Collector::new(trial.alloc);
+    let mut is_found = false;
     for line in text.split('\n') {
-        try_feed(trial, &mut collector, line);
+        again!(
+            trial,
+            "feed",
+            is_feed_refused(&mut collector, line, text, &mut is_found)
+        );
     }
+    trial.check(is_found == is_literal, "is something else to a collector");
 }
 
-/// Tries a line that a collector is fed.
-fn try_feed(trial: &mut Trial, collector: &mut Collector, line: &str) {
-    again!(trial, "feed", collector.feed(line).is_err());
+/// Feeds a line, and finds whether the lines are then the literal of this text. Whether memory was
+/// refused.
+fn is_feed_refused(collector: &mut Collector, line: &str, text: &str, is_found: &mut bool) -> bool {
+    match collector.feed(line) {
+        Ok(Step::Literal(lit)) => {
+            *is_found = lit.raw_input() == text;
+            false
+        }
+        Ok(_) => false,
+        Err(_) => true,
+    }
 }
 
 /// Tries the compile error of the token of a literal that is no bool.

@@ -36,8 +36,8 @@ fn try_over<B: Text>(trial: &mut Trial, parse: Parse, text: &B, row: &Row) {
     trial.at = (parse.name(), buffer_name::<B>());
     match &parsed(trial, parse, text) {
         Ok(lit) => {
-            try_parts(trial, lit, row);
             again!(trial, "clone", is_clone_refused(trial.alloc, parse, lit));
+            try_parts(trial, lit, row);
         }
         Err(_) => trial.check(false, "is refused"),
     }

@@ -59,5 +59,5 @@ fn try_report(trial: &mut Trial, text: &str) {
         Err(e) => messages::try_shown(trial, text, e),
     }
     calls::try_run(trial, text);
-    calls::try_collector(trial, text);
+    calls::try_collector(trial, text, false);
 }

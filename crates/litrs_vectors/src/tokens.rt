@@ -164,6 +164,7 @@ where
 {
     if let Some(token) = token_of(trial, text) {
         try_read_token::<L>(trial, &token);
+        trial.check(token.text() == text, "has another text");
         try_read_tree::<L>(trial, &TokenTree::from(token));
     }
     again!(trial, "from_literal", is_literal_refused::<L>(trial, text));
