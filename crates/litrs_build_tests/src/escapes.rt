@@ -57,12 +57,17 @@ pub fn c_strings(alloc: Global) -> Result<u32, AllocError> {
 }
 
 /// Whether a text is a literal that, written anew, is no longer.
-fn is_no_longer(alloc: Global, literal: &str) -> bool {
-    match &Literal::parse(alloc, literal) {
-        Ok(lit) => match &unescaped(alloc, lit) {
-            Ok(again) => again.raw_input().len() <= literal.len(),
-            Err(_) => false,
-        },
+fn is_no_longer(alloc: Global, text: &str) -> bool {
+    match &Literal::parse(alloc, text) {
+        Ok(lit) => is_no_longer_anew(alloc, lit),
+        Err(_) => false,
+    }
+}
+
+/// Whether a literal that is written anew is no longer.
+fn is_no_longer_anew(alloc: Global, lit: &Literal<&str>) -> bool {
+    match &unescaped(alloc, lit) {
+        Ok(again) => again.raw_input().len() <= lit.raw_input().len(),
         Err(_) => false,
     }
 }

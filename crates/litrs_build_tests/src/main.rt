@@ -5,6 +5,7 @@
 //! What the literals are is said by the contracts of the calls.
 #![tactic(auto)]
 
+use std::alloc::{AllocError, Global};
 use std::io;
 
 mod bytes;
@@ -12,19 +13,44 @@ mod characters;
 mod escapes;
 mod raws;
 
+/// What is counted.
+const NAMES: [&str; 12] = [
+    "chars",
+    "strings",
+    "bytes",
+    "byte strings",
+    "C strings",
+    "raw strings",
+    "raw byte strings",
+    "raw C strings",
+    "escapes of chars",
+    "escapes in strings",
+    "escapes of bytes",
+    "escapes in C strings",
+];
+
+/// The counts, in the order of their names.
+fn counts(alloc: Global) -> Result<[u32; 12], AllocError> {
+    Ok([
+        characters::chars(alloc),
+        characters::strings(alloc)?,
+        bytes::bytes(alloc),
+        bytes::byte_strings(alloc),
+        bytes::c_strings(alloc),
+        raws::raw_strings(alloc)?,
+        raws::raw_byte_strings(alloc)?,
+        raws::raw_c_strings(alloc)?,
+        escapes::chars(alloc)?,
+        escapes::strings(alloc)?,
+        escapes::bytes(alloc)?,
+        escapes::c_strings(alloc)?,
+    ])
+}
+
 fn main(rt: HostRuntime) -> io::Result<()> {
-    let alloc = rt.alloc();
-    println!(rt; "chars: {}", characters::chars(alloc))?;
-    println!(rt; "strings: {}", characters::strings(alloc)?)?;
-    println!(rt; "bytes: {}", bytes::bytes(alloc))?;
-    println!(rt; "byte strings: {}", bytes::byte_strings(alloc))?;
-    println!(rt; "C strings: {}", bytes::c_strings(alloc))?;
-    println!(rt; "raw strings: {}", raws::raw_strings(alloc)?)?;
-    println!(rt; "raw byte strings: {}", raws::raw_byte_strings(alloc)?)?;
-    println!(rt; "raw C strings: {}", raws::raw_c_strings(alloc)?)?;
-    println!(rt; "escapes of chars: {}", escapes::chars(alloc)?)?;
-    println!(rt; "escapes in strings: {}", escapes::strings(alloc)?)?;
-    println!(rt; "escapes of bytes: {}", escapes::bytes(alloc)?)?;
-    println!(rt; "escapes in C strings: {}", escapes::c_strings(alloc)?)?;
+    let counts = counts(rt.alloc())?;
+    for (name, count) in NAMES.iter().zip(counts.iter()) {
+        println!(rt; "{name}: {count}")?;
+    }
     Ok(())
 }

@@ -47,24 +47,42 @@ pub(crate) fn status(refused: bool, failed: bool) -> u8
 /// Runs the program over the arguments, files, input and outputs of the runtime. Where the reader
 /// of the output has closed it, the run ends in silence, with the status of what was read.
 pub(crate) fn run<R: Runtime + AllocGlobal>(rt: &R, is_terminal: bool) -> Result<u8, Stop> {
-    let alloc = rt.alloc();
     let words = env::args(rt).map_err(Stop::Read)?;
     // bounded by the arguments
-    let words: Vec<String> = words.collect(alloc).map_err(BuildError::from)?;
-    let command = command(alloc).map_err(BuildError::from)?;
-    let matches = match command.try_get_matches_from(words.as_slice()) {
-        Ok(matches) => matches,
+    let words: Vec<String> = words.collect(rt.alloc()).map_err(BuildError::from)?;
+    run_on(rt, words.as_slice(), is_terminal)
+}
+
+/// Runs the program over these arguments.
+fn run_on<R: Runtime + AllocGlobal>(
+    rt: &R,
+    words: &[String],
+    is_terminal: bool,
+) -> Result<u8, Stop> {
+    let command = command(rt.alloc()).map_err(BuildError::from)?;
+    match &command.try_get_matches_from(words) {
+        Ok(matches) => {
+            let options = options_of(matches, is_terminal);
+            explain_named(rt, matches.get_strs("file"), options)
+        }
         Err(error) => {
             error.print(rt).map_err(Stop::Write)?;
-            return Ok(if error.exit_code() == 0 { 0 } else { 2 });
+            Ok(if error.exit_code() == 0 { 0 } else { 2 })
         }
-    };
-    let options = options_of(&matches, is_terminal);
+    }
+}
+
+/// The status of a run over these files.
+fn explain_named<R: Runtime + AllocGlobal>(
+    rt: &R,
+    files: Option<&[&str]>,
+    options: Options,
+) -> Result<u8, Stop> {
     let mut end = End {
         refused: false,
         failed: false,
     };
-    match explain_all(rt, matches.get_strs("file"), options, &mut end) {
+    match explain_all(rt, files, options, &mut end) {
         Err(Stop::Write(error)) if error.kind() == ErrorKind::BrokenPipe => {}
         other => other?,
     }
@@ -117,7 +135,22 @@ where
     let alloc = rt.alloc();
     let mut reader = BufReader::new(alloc, reader.map_err(Stop::Read)?).map_err(Stop::Read)?;
     let mut explainer = Explainer::new(alloc, name, options);
-    let mut line = Vec::new(alloc);
+    let explained = explain_lines(rt, &mut reader, &mut explainer, options.is_terminal);
+    *refused |= explainer.reports.refused;
+    explained
+}
+
+/// Explains the lines of a file.
+fn explain_lines<R: Runtime + AllocGlobal, F: Read>(
+    rt: &R,
+    reader: &mut BufReader<F>,
+    explainer: &mut Explainer,
+    is_terminal: bool,
+) -> Result<(), Stop>
+where
+    F: Drop,
+{
+    let mut line = Vec::new(rt.alloc());
     for _ in 0..u64::MAX {
         line.clear();
         let len = reader.read_until(b'\n', &mut line).map_err(Stop::Read)?;
@@ -125,13 +158,11 @@ where
             break;
         }
         explainer.feed(&line)?;
-        *refused |= explainer.reports.refused;
-        if options.is_terminal || explainer.reports.text.len() >= BUFFER_LEN {
+        if is_terminal || explainer.reports.text.len() >= BUFFER_LEN {
             send(rt, &mut explainer.reports.text)?;
         }
     }
     explainer.finish().map_err(BuildError::from)?;
-    *refused |= explainer.reports.refused;
     send(rt, &mut explainer.reports.text)
 }
 

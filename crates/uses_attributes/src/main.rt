@@ -8,28 +8,25 @@ mod setting;
 mod value;
 
 use describe::describe;
-use setting::{Fault, read_settings};
+use setting::{Settings, read_settings};
 use std::alloc::{AllocError, Global};
 use std::io;
 
 /// What is written on a line.
 fn report(alloc: Global, line: &str) -> Result<String, AllocError> {
-    let mut out = String::new(alloc);
     let settings = read_settings(alloc, line)?;
+    written(alloc, &settings)
+}
+
+/// What is written on the settings of a line.
+fn written(alloc: Global, settings: &Settings) -> Result<String, AllocError> {
+    let mut out = String::new(alloc);
     for setting in &settings.found {
         let described = describe(alloc, setting)?;
         out.push_str(described.as_str())?;
     }
-    match &settings.fault {
-        Some(Fault::NoEquals(place)) => writeln!(out, "  no `=` at {place}")?,
-        Some(Fault::NoLiteral(place)) => writeln!(out, "  no literal at {place}")?,
-        Some(Fault::NoNumber(place)) => writeln!(out, "  no number at {place}")?,
-        Some(Fault::NoComma(place)) => writeln!(out, "  no comma at {place}")?,
-        Some(Fault::Malformed(malformed)) => {
-            let error = &malformed.error;
-            writeln!(out, "  {error}")?;
-        }
-        None => {}
+    if let Some(fault) = &settings.fault {
+        writeln!(out, "  {fault}")?;
     }
     Ok(out)
 }

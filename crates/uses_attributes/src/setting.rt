@@ -10,6 +10,7 @@ ghost use Rattle.uses_attributes.specs.Settings.{sign, is_number, is_of_name, na
 use litrs::{Literal, ParseErrorKind};
 use litrs_prefix::{MalformedPrefix, Prefix, parse_prefix_at};
 use std::alloc::{AllocError, Global};
+use std::fmt;
 
 /// One `name = value` of a line.
 #[derive(Drop)]
@@ -35,6 +36,18 @@ pub enum Fault {
     NoComma(usize),
     /// A literal opens and none stands there. The spans count from the start of the line.
     Malformed(MalformedPrefix),
+}
+
+impl fmt::Display for Fault {
+    fn fmt<W: fmt::Write>(&self, f: &mut fmt::Formatter<W>) -> fmt::Result {
+        match self {
+            Fault::NoEquals(place) => write!(f, "no `=` at {place}"),
+            Fault::NoLiteral(place) => write!(f, "no literal at {place}"),
+            Fault::NoNumber(place) => write!(f, "no number at {place}"),
+            Fault::NoComma(place) => write!(f, "no comma at {place}"),
+            Fault::Malformed(malformed) => write!(f, "{}", malformed.error),
+        }
+    }
 }
 
 /// The settings of a line.

@@ -12,16 +12,9 @@ use token::{TokenKind, tokens};
 fn report(alloc: Global, line: &str) -> Result<String, AllocError> {
     let mut out = String::new(alloc);
     for token in &tokens(alloc, line)? {
-        let text = token.text;
         match token.kind {
             TokenKind::Blank => {}
-            TokenKind::Name => writeln!(out, "  name {text}")?,
-            TokenKind::RawName => writeln!(out, "  raw name {text}")?,
-            TokenKind::Lifetime => writeln!(out, "  lifetime {text}")?,
-            TokenKind::Literal => writeln!(out, "  literal {text}")?,
-            TokenKind::Punctuation => writeln!(out, "  punctuation {text}")?,
-            TokenKind::ReservedPrefix => writeln!(out, "  reserved prefix {text}")?,
-            TokenKind::Malformed(kind) => writeln!(out, "  malformed {text}: {kind}")?,
+            _ => writeln!(out, "  {token}")?,
         }
     }
     Ok(out)

@@ -11,6 +11,7 @@ use crate::name::{after_name, name_len};
 use litrs::ParseErrorKind;
 use litrs_prefix::{parse_prefix, prefix_len};
 use std::alloc::{AllocError, Global};
+use std::fmt;
 
 /// What a token is.
 #[derive(Clone, Copy)]
@@ -38,6 +39,22 @@ pub enum TokenKind {
 pub struct Token<'a> {
     pub kind: TokenKind,
     pub text: &'a str,
+}
+
+impl fmt::Display for Token<'_> {
+    fn fmt<W: fmt::Write>(&self, f: &mut fmt::Formatter<W>) -> fmt::Result {
+        let text = self.text;
+        match self.kind {
+            TokenKind::Blank => write!(f, "blank {text}"),
+            TokenKind::Name => write!(f, "name {text}"),
+            TokenKind::RawName => write!(f, "raw name {text}"),
+            TokenKind::Lifetime => write!(f, "lifetime {text}"),
+            TokenKind::Literal => write!(f, "literal {text}"),
+            TokenKind::Punctuation => write!(f, "punctuation {text}"),
+            TokenKind::ReservedPrefix => write!(f, "reserved prefix {text}"),
+            TokenKind::Malformed(kind) => write!(f, "malformed {text}: {kind}"),
+        }
+    }
 }
 
 /// The tokens of a line. They spell it, and each is what its kind says: each literal is the literal

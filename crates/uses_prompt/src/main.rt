@@ -58,21 +58,39 @@ fn last_answer(alloc: Global, collector: Collector) -> Result<String, AllocError
     }
 }
 
+/// What is answered to a line of the input, which may be no text.
+fn reply(
+    alloc: Global,
+    collector: &mut Collector,
+    text: &mut String,
+    line: &[u8],
+) -> Result<String, BuildError>
+    requires { string_bytes text.old ≡ collector.old }
+    ensures { IfOk result (λ _. string_bytes text.new ≡ collector.new) }
+{
+    match str::from_utf8(line) {
+        Ok(line) => answer(
+            alloc,
+            collector,
+            text,
+            line.strip_suffix('\r').unwrap_or(line),
+        ),
+        Err(e) => {
+            let place = e.valid_up_to();
+            Ok(format!(in alloc; "not UTF-8 at byte {place}: ignored\n")?)
+        }
+    }
+}
+
 fn main(rt: HostRuntime) -> anyhow::Result<()> {
     let alloc = rt.alloc();
     let mut collector = Collector::new(alloc);
     let mut text = String::new(alloc);
     print!(rt; "> ")?;
     for line in rt.reader().split(alloc, b'\n') {
-        let line = line?;
-        match str::from_utf8(line.as_slice()) {
-            Ok(line) => {
-                let line = line.strip_suffix('\r').unwrap_or(line);
-                print!(rt; "{}", answer(alloc, &mut collector, &mut text, line)?)?;
-            }
-            Err(e) => println!(rt; "not UTF-8 at byte {}: ignored", e.valid_up_to())?,
-        }
-        print!(rt; "{}", if collector.is_empty() { "> " } else { ". " })?;
+        let reply = reply(alloc, &mut collector, &mut text, line?.as_slice())?;
+        let sign = if collector.is_empty() { "> " } else { ". " };
+        print!(rt; "{reply}{sign}")?;
     }
     print!(rt; "\n{}", last_answer(alloc, collector)?)?;
     Ok(())
