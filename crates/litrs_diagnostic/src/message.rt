@@ -30,7 +30,8 @@ pub struct Diagnostic<'a> {
     pub end: usize,
     /// The number of the text's first line: 1, but where the text is taken out of a longer one.
     pub first_line: u32,
-    /// The column of its first character: 1, but where the text is taken out of the midst of a line.
+    /// The column of its first character: 1, but where the text is taken out of the midst of a
+    /// line.
     pub first_column: u32,
     /// What there is to say of the range.
     pub message: &'a str,

@@ -1,6 +1,6 @@
-//! Shows diagnostics on texts that are hard to show: each line of the input is a range, in bytes, a
-//! width, the line and the column of the first character, of which the column may be left out, and a
-//! text, as a string literal.
+//! Shows diagnostics on texts that are hard to show: each line of the input is a range, in bytes,
+//! a width, the line and the column of the first character, of which the column may be left out, and
+//! a text, as a string literal.
 //!
 //! Of the first seven rows the lines are those that rustc 1.95 writes, but for its message and the
 //! name of its input. It differs in other rows:
@@ -11,9 +11,9 @@
 //!   character, U+FFFD in place of a bidi control, and a zero-width joiner not at all.
 //! - An LF at the end of the text begins a line of its own; rustc counts it to the line before.
 //! - A blank follows the `|` before an empty line.
-//! - Of a line that is cut, the `...` are not counted to the width, and what is before the range has
-//!   half of what the range leaves of it; rustc shows the line from its start as long as the range
-//!   has room, and a range that is wider whole.
+//! - Of a line that is cut, the `...` are not counted to the width, and what is before the range
+//!   has half of what the range leaves of it; rustc shows the line from its start as long as the
+//!   range has room, and a range that is wider whole.
 #![tactic(auto)]
 
 use litrs::StringLit;

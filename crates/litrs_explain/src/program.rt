@@ -9,7 +9,7 @@ use std::io::{BufRead, BufReader, ErrorKind, Read, Write};
 use std::rt::Runtime;
 use std::{env, io};
 
-/// So many bytes of reports are written at once.
+/// From this length on, reports are written out.
 const BUFFER_LEN: usize = 8192;
 
 /// Why a file was not explained to its end.

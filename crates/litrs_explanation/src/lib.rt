@@ -1,4 +1,4 @@
-//! Explains a literal to a person: a line on its kind, one on its value, and one on each of its parts.
+//! Explains a literal to a person: a line on its kind, one on its value, one on each of its parts.
 //!
 //! ```
 //! use litrs::Literal;

@@ -41,7 +41,7 @@ pub fn hash_len(bytes: &[u8]) -> usize
     ensures within { result ≤ length bytes.now }
 {
     match bytes {
-        // Where there are few, a comparison of each costs less.
+        // Few hashes are compared one by one.
         [b'#', b'#', b'#', b'#', ..] => hash_len_of_many(bytes),
         _ => bytes.iter().take_while(|b| **b == b'#').count(),
     }

@@ -137,7 +137,7 @@ fn is_run_refused(alloc: Global, text: &str) -> bool {
     }
 }
 
-/// Tries a collector that is fed the lines of a text: they are a literal if and only if the text is.
+/// Tries a collector that is fed the lines of a text, which are a literal if and only if it is one.
 pub fn try_collector(trial: &mut Trial, text: &str, is_literal: bool) {
     if text.len() > LONGEST {
         return;
