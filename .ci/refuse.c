@@ -1,8 +1,9 @@
 /* Refuses each allocation of a process in turn. The process loads this by LD_PRELOAD.
  *
  * Before an allocation the process is copied twice. In the first copy this allocation is refused,
- * and in the second this one and all later ones; both go on to their end. What a copy prints, and
- * its status, are appended to the file that REFUSED names:
+ * and in the second, which is not made where REFUSED_ALONE is set, this one and all later ones; both
+ * go on to their end. What a copy prints, and its status, are appended to the file that REFUSED
+ * names:
  *
  *     one 7 80 0 0 12   or `all`, the number of the allocation and how many bytes it is of, those
  *                       that the block had before, the status, the bytes that follow
@@ -25,7 +26,7 @@ void *__libc_calloc(size_t count, size_t size);
 void *__libc_realloc(void *block, size_t size);
 void *__libc_memalign(size_t align, size_t size);
 
-static int records = -1;
+static int records = -1, alone;
 static unsigned long number;
 static size_t asked, before;
 static enum { COPIES, REFUSES_ALL, REFUSES_NONE } state = REFUSES_NONE;
@@ -88,7 +89,7 @@ static int is_refused(void *block, size_t size) {
         before = malloc_usable_size(block);
         if (is_copy("one")) {
             state = REFUSES_NONE;
-        } else if (is_copy("all")) {
+        } else if (!alone && is_copy("all")) {
             state = REFUSES_ALL;
         } else {
             return 0;
@@ -125,6 +126,7 @@ __attribute__((constructor)) static void begin(void) {
     const char *file = getenv("REFUSED");
     if (file == NULL)
         return;
+    alone = getenv("REFUSED_ALONE") != NULL;
     records = open(file, O_WRONLY | O_CREAT | O_TRUNC | O_CLOEXEC, 0600);
     if (records < 0)
         fail();

@@ -10,13 +10,16 @@ which is printed, draws the same again. By .ci/refuse.c a process goes on from e
 allocations also as a copy in which that one is refused, and as one in which all from there on are.
 
 Where one is refused, either a call of the library answered it, and the program prints which one,
-makes the call again and has all else to say as before; or it was one of the program's own, and it
-ends with `out of memory` and the status 1. Where all from there on are refused, it ends so. Where
-a block was to be made smaller, and stays as it is, it may also go on as if nothing were refused.
+makes the call again and has all else to say as before, also of what the refused call was made on:
+the parts of a literal, the contents of a container, the text of a token, the lines of a collector;
+or it was one of the program's own, and it ends with `out of memory` and the status 1. Where all from
+there on are refused, it ends so. Where a block was to be made smaller, and stays as it is, it may
+also go on as if nothing were refused.
 
 Among the rows are strings of each kind whose values have every length up to 300. What a call asks
 for to hold such a value, over both buffers, has to be as many bytes as the value has, with its
-closing zero where it is a C string.
+closing zero where it is a C string. Of these rows no copy is made in which all allocations from one
+on are refused.
 
 Last, each build runs with nothing refused on texts with parts of every length below 512 and of some
 that are drawn, and every row has to hold.
@@ -187,11 +190,14 @@ class Build:
         takes, so many have to be asked for."""
         number, (row, room) = task
         records = self.folder / f"{self.program.name}.{number}"
+        environment = {"LD_PRELOAD": self.library, "REFUSED": records}
+        if room is not None:
+            environment["REFUSED_ALONE"] = "yes"
         done = subprocess.run(
             [self.program],
             input=f"{WITHOUT_PREFIXES}{row}\n".encode(),
             capture_output=True,
-            env={"LD_PRELOAD": self.library, "REFUSED": records},
+            env=environment,
             timeout=SECONDS,
         )
         if (done.stdout, done.stderr, done.returncode) != (HOLDS, b"", 0):

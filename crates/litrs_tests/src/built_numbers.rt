@@ -5,7 +5,7 @@ use std::alloc::{AllocError, Global};
 use std::process::Abort;
 
 /// Whether a text has no more room than for it.
-fn is_exact(text: String) -> bool {
+pub fn is_exact(text: String) -> bool {
     text.capacity() == text.len()
 }
 

@@ -4,7 +4,13 @@
 #![tactic(auto)]
 
 #[cfg(test)]
+mod built_bytes;
+#[cfg(test)]
+mod built_characters;
+#[cfg(test)]
 mod built_numbers;
+#[cfg(test)]
+mod built_raws;
 #[cfg(test)]
 mod containers;
 #[cfg(test)]
@@ -17,6 +23,8 @@ mod lines;
 mod mismatches;
 #[cfg(test)]
 mod printing;
+#[cfg(test)]
+mod rewritten;
 #[cfg(test)]
 mod rooms;
 #[cfg(test)]

@@ -13,3 +13,9 @@ pub returns-in-Err-cut_integer_at-clause-refused : goal.returns-in-Err-cut_integ
 returns-in-Err-cut_integer_at-clause-refused c =
     refused_by_kind c.args.input.now false c.in-Err-cut_integer_at.e c.utf8.input
     (ap begins_float (sym c.as_bytes.ensures.value) ∙ sym c.if-begins_float.ensures) c.in-Err-cut_integer_at.ensures.refused
+
+pub returns-in-Ok-clause-ok : goal.returns-in-Ok-clause-ok
+returns-in-Ok-clause-ok c = (c.in-Ok.ensures.ok, c.in-Ok.ensures.places)
+
+pub returns-in-Ok-cut_integer_at-clause-ok : goal.returns-in-Ok-cut_integer_at-clause-ok
+returns-in-Ok-cut_integer_at-clause-ok c = (c.in-Ok-cut_integer_at.ensures.ok, c.in-Ok-cut_integer_at.ensures.places)

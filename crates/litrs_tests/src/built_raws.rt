@@ -1,10 +1,12 @@
-//! Raw strings of the three kinds that need 0 to 256 hashes, of which none can have 256.
-use crate::characters::is_exact;
+//! Raw strings of the three kinds that need 0 to 256 hashes, of which none can have 256, each built in
+//! one allocation.
+use crate::built_numbers::is_exact;
 use litrs_build::{raw_byte_string, raw_c_string, raw_string};
 use std::alloc::{AllocError, Global};
+use std::process::Abort;
 
 /// How many of the texts that need 0 to 256 hashes have a raw string.
-pub fn raw_strings(alloc: Global) -> Result<u32, AllocError> {
+fn raw_strings(alloc: Global) -> Result<u32, AllocError> {
     let mut count: u32 = 0;
     let mut text = String::from_str(alloc, "a")?;
     for hashes in 0..=256usize {
@@ -25,7 +27,7 @@ fn has_raw_string(alloc: Global, text: &str) -> bool {
 }
 
 /// The same of raw byte strings.
-pub fn raw_byte_strings(alloc: Global) -> Result<u32, AllocError> {
+fn raw_byte_strings(alloc: Global) -> Result<u32, AllocError> {
     let mut count: u32 = 0;
     let mut text = String::from_str(alloc, "a")?;
     for hashes in 0..=256usize {
@@ -46,7 +48,7 @@ fn has_raw_byte_string(alloc: Global, value: &[u8]) -> bool {
 }
 
 /// The same of raw C strings.
-pub fn raw_c_strings(alloc: Global) -> Result<u32, AllocError> {
+fn raw_c_strings(alloc: Global) -> Result<u32, AllocError> {
     let mut count: u32 = 0;
     let mut text = String::from_str(alloc, "é")?;
     for hashes in 0..=256usize {
@@ -64,4 +66,11 @@ fn has_raw_c_string(alloc: Global, value: &[u8]) -> bool {
         Ok(lit) => is_exact(lit.into_raw_input()),
         Err(_) => false,
     }
+}
+
+#[test]
+fn every_number_of_hashes(rt: HostRuntime) {
+    assert!(rt; raw_strings(rt.alloc()) == Ok(256));
+    assert!(rt; raw_byte_strings(rt.alloc()) == Ok(256));
+    assert!(rt; raw_c_strings(rt.alloc()) == Ok(256));
 }

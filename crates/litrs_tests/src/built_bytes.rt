@@ -1,10 +1,11 @@
-//! Bytes, and every pair of bytes.
-use crate::characters::is_exact;
+//! Bytes, and byte strings and C strings of every pair of bytes, each built in one allocation.
+use crate::built_numbers::is_exact;
 use litrs_build::{byte, byte_string, c_string};
 use std::alloc::Global;
+use std::process::Abort;
 
 /// How many bytes have a literal.
-pub fn bytes(alloc: Global) -> u32 {
+fn bytes(alloc: Global) -> u32 {
     let mut count: u32 = 0;
     for b in 0..=255u8 {
         if has_byte(alloc, b) {
@@ -23,7 +24,7 @@ fn has_byte(alloc: Global, b: u8) -> bool {
 }
 
 /// How many pairs of bytes have a byte string.
-pub fn byte_strings(alloc: Global) -> u32 {
+fn byte_strings(alloc: Global) -> u32 {
     let mut count: u32 = 0;
     for number in 0..=0xffffu16 {
         if has_byte_string(alloc, &number.to_be_bytes()) {
@@ -42,7 +43,7 @@ fn has_byte_string(alloc: Global, value: &[u8]) -> bool {
 }
 
 /// How many pairs of bytes have a C string: those without a NUL.
-pub fn c_strings(alloc: Global) -> u32 {
+fn c_strings(alloc: Global) -> u32 {
     let mut count: u32 = 0;
     for number in 0..=0xffffu16 {
         if has_c_string(alloc, &number.to_be_bytes()) {
@@ -58,4 +59,11 @@ fn has_c_string(alloc: Global, value: &[u8]) -> bool {
         Ok(lit) => is_exact(lit.into_raw_input()),
         Err(_) => false,
     }
+}
+
+#[test]
+fn every_byte(rt: HostRuntime) {
+    assert!(rt; bytes(rt.alloc()) == 256);
+    assert!(rt; byte_strings(rt.alloc()) == 256 * 256);
+    assert!(rt; c_strings(rt.alloc()) == 255 * 255);
 }

@@ -1,10 +1,14 @@
-//! Literals of escapes, which are written anew.
+//! Literals of escapes, which are written anew in no longer a text.
 use litrs::Literal;
 use litrs_build::unescaped;
 use std::alloc::{AllocError, Global};
+use std::process::Abort;
+
+/// How many characters there are.
+const CHARACTERS: u32 = 0x11_0000 - 0x800;
 
 /// How many characters, each the escape of a char, are written anew in no longer a text.
-pub fn chars(alloc: Global) -> Result<u32, AllocError> {
+fn chars(alloc: Global) -> Result<u32, AllocError> {
     let mut count: u32 = 0;
     for code in 0..0x11_0000u32 {
         if char::from_u32(code).is_some() {
@@ -18,7 +22,7 @@ pub fn chars(alloc: Global) -> Result<u32, AllocError> {
 }
 
 /// The same of strings of such an escape, a letter and the escape again.
-pub fn strings(alloc: Global) -> Result<u32, AllocError> {
+fn strings(alloc: Global) -> Result<u32, AllocError> {
     let mut count: u32 = 0;
     for code in 0..0x11_0000u32 {
         if char::from_u32(code).is_some() {
@@ -32,7 +36,7 @@ pub fn strings(alloc: Global) -> Result<u32, AllocError> {
 }
 
 /// How many bytes, each the escape of a byte, are written anew in no longer a text.
-pub fn bytes(alloc: Global) -> Result<u32, AllocError> {
+fn bytes(alloc: Global) -> Result<u32, AllocError> {
     let mut count: u32 = 0;
     for b in 0..=255u8 {
         let literal = format!(in alloc; "b'\\x{b:02X}'u8")?;
@@ -44,7 +48,7 @@ pub fn bytes(alloc: Global) -> Result<u32, AllocError> {
 }
 
 /// How many pairs of bytes, the escapes of a C string, are written anew in no longer a text.
-pub fn c_strings(alloc: Global) -> Result<u32, AllocError> {
+fn c_strings(alloc: Global) -> Result<u32, AllocError> {
     let mut count: u32 = 0;
     for number in 0..=0xffffu16 {
         let [a, b] = number.to_be_bytes();
@@ -70,4 +74,12 @@ fn is_no_longer_anew(alloc: Global, lit: &Literal<&str>) -> bool {
         Ok(again) => again.raw_input().len() <= lit.raw_input().len(),
         Err(_) => false,
     }
+}
+
+#[test]
+fn every_escape(rt: HostRuntime) {
+    assert!(rt; chars(rt.alloc()) == Ok(CHARACTERS));
+    assert!(rt; strings(rt.alloc()) == Ok(CHARACTERS));
+    assert!(rt; bytes(rt.alloc()) == Ok(256));
+    assert!(rt; c_strings(rt.alloc()) == Ok(255 * 255));
 }

@@ -1,14 +1,14 @@
-//! Chars and strings of every character.
+//! Chars and strings of every character, each built in one allocation.
+use crate::built_numbers::is_exact;
 use litrs_build::{char, string};
 use std::alloc::{AllocError, Global};
+use std::process::Abort;
 
-/// Whether a text was allocated with exactly its length.
-pub fn is_exact(text: String) -> bool {
-    text.capacity() == text.len()
-}
+/// How many characters there are.
+const CHARACTERS: u32 = 0x11_0000 - 0x800;
 
 /// How many characters have a char.
-pub fn chars(alloc: Global) -> u32 {
+fn chars(alloc: Global) -> u32 {
     let mut count: u32 = 0;
     for code in 0..0x11_0000u32 {
         if let Some(c) = char::from_u32(code)
@@ -30,7 +30,7 @@ fn has_char(alloc: Global, c: char) -> bool {
 
 /// How many characters have a string, in which each stands after the quote, after a letter and
 /// after itself.
-pub fn strings(alloc: Global) -> Result<u32, AllocError> {
+fn strings(alloc: Global) -> Result<u32, AllocError> {
     let mut count: u32 = 0;
     for code in 0..0x11_0000u32 {
         if let Some(c) = char::from_u32(code) {
@@ -49,4 +49,10 @@ fn has_string(alloc: Global, text: &str) -> bool {
         Ok(lit) => is_exact(lit.into_raw_input()),
         Err(_) => false,
     }
+}
+
+#[test]
+fn every_character(rt: HostRuntime) {
+    assert!(rt; chars(rt.alloc()) == CHARACTERS);
+    assert!(rt; strings(rt.alloc()) == Ok(CHARACTERS));
 }
