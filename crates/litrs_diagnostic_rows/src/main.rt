@@ -1,6 +1,6 @@
 //! Shows diagnostics on texts that are hard to show: each line of the input is a range, in bytes,
-//! a width, the line and the column of the first character, of which the column may be left out, and
-//! a text, as a string literal.
+//! a width, the line and the column of the first character, of which the column may be left out,
+//! and a text, as a string literal.
 //!
 //! Of the first seven rows the lines are those that rustc 1.95 writes, but for its message and the
 //! name of its input. It differs in other rows:

@@ -1,5 +1,5 @@
-//! Raw strings of the three kinds that need 0 to 256 hashes, of which none can have 256, each built in
-//! one allocation.
+//! Raw strings of the three kinds that need 0 to 256 hashes, of which none can have 256, each built
+//! in one allocation.
 use crate::built_numbers::is_exact;
 use litrs_build::{raw_byte_string, raw_c_string, raw_string};
 use std::alloc::{AllocError, Global};
