@@ -8,9 +8,11 @@
 At the top of the repository, after `rt ci`, over the libraries that it built; of all crates where
 none is named. With `--follow` the bodies of a crate are tried as soon as the log says that the
 crates below it are proved, over copies of their libraries, and at the least priority: on processors
-that `rt ci` and what comes after it leave idle. A wrong body is a file `crates/CRATE/wrong/NAME.edit` of lines `file:`, `old:` and
-`new:`, as in `must-fail/`. Each is read before any is tried: where an old text does not stand just
-once in its file, the script names every such edit and stops.
+that `rt ci` and what comes after it leave idle.
+
+A wrong body is a file `crates/CRATE/wrong/NAME.edit` of lines `file:`, `old:` and `new:`, as in
+`must-fail/`. Each is read before any is tried: where an old text does not stand just once in its
+file, the script names every such edit and stops.
 
 As many as fit, one a function, are put into a copy of their crate, and the crate is checked once
 for all of them. One that this check does not report is checked with those of the next round, and
@@ -52,8 +54,9 @@ PLACE = re.compile(r"\bsrc/(\S+?\.rt):(\d+):\d+")
 # What the checker says of a goal that has no answer in proofs/ and that its search did not prove.
 NOTE = re.compile(r"note: src/(\S+?):(\d+):\d+: it is not proved that (.*)")
 OPEN = re.compile(r"no proof: .*?(`search` did not prove .*)")
-# What `rt ci` says of a crate that is proved, and the line that `.ci/run` adds once it has ended.
-PROVED = re.compile(r"(?m)^rt: (\w+) proved\b")
+# What `rt ci` says of a crate that is proved, in this run or in an earlier one, and the line that
+# `.ci/run` adds once it has ended.
+PROVED = re.compile(r"(?m)^rt: (\w+) (?:proved|is kept)\b")
 ENDED = "rt ci has ended\n"
 # The body and the proof of a function that no edit changes.
 NO_BODY = "unreachable!()\n"
@@ -492,7 +495,7 @@ class Proofs:
 
     def follow(self):
         """Copies the library of each crate once the log says that it is proved, and those that are
-        left at the end of the log, which says nothing of what `rt ci` had proved before."""
+        left at the end of the log."""
         while len(self.proved) < len(self.crates):
             log = self.log.read_text(errors="replace") if self.log.exists() else ""
             is_over = log.endswith(ENDED)
