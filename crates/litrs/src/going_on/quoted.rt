@@ -14,7 +14,7 @@ ghost use Rattle.litrs.specs.Begins.{IsClosed};
 use crate::going_on::escape::escape_goes_on;
 use crate::going_on::front::begins_with;
 use crate::going_on::suffix::suffix_goes_on;
-use litrs_lex::quoted::{is_quote, items_end};
+use litrs_lex::quoted::{is_lone_quote, items_end};
 use litrs_lex::{StringKind, Switches};
 
 /// Whether a text that begins as a quoted string of the kind begins a string of it.
@@ -76,7 +76,7 @@ fn rest_goes_on(rest: &str, allowed: Switches) -> bool
     ensures { IsTrue result ↔ (IsClosed (chars rest.now)
         ⊎ RestGoesOn allowed (chars rest.now)) }
 {
-    if is_quote(rest.as_bytes()) {
+    if is_lone_quote(rest.as_bytes()) {
         true
     } else {
         let Switches {
