@@ -82,8 +82,8 @@ pub(crate) fn first_plain_end<A: Allows>(input: &str, from: usize, allowed: A) -
     next_special(input.as_bytes(), from, special(switches))
 }
 
-/// [`first_plain_end`] from an earlier mask, and the new mask. A backslash that stands there costs
-/// no search.
+/// [`first_plain_end`] from an earlier mask, and the new mask. A backslash at `from` costs no
+/// search.
 #[inline(always)]
 pub(crate) fn plain_end(input: &str, from: usize, allowed: Switches, mask: Mask) -> (usize, Mask)
     requires at { IsCharBoundary input.now from }
