@@ -14,7 +14,7 @@ use Rattle.litrs_grammar.specs.Suffix.{is_suffix, suffix_refusal}
 use Rattle.litrs_base.specs.declared.quotes.Switches.{Switches}
 use Rattle.litrs_grammar.specs.Escape.{escape_text}
 use Rattle.litrs_grammar.specs.GoesOn.Escape.{BeginsEscape}
-use Rattle.litrs_grammar.specs.Quoted.{Item, body_text, is_item_list, rest_refusal, IsQuoted, IsQuotedRefusal}
+use Rattle.litrs_grammar.specs.Quoted.{Item, body_text, is_item_list, item_refusal, IsQuoted, IsQuotedRefusal}
 use Rattle.litrs_grammar.specs.GoesOn.Quoted.{RestGoesOn}
 use Rattle.litrs_grammar.specs.Continuation.{BeginsBy}
 use Rattle.litrs_grammar.proofs.QuotedItems.{escape_head}
@@ -71,9 +71,9 @@ quote_rest w t s c b same quote is =
     (closing_rest w s))
 
 -- a continuation
-line_feed_row : (w : Switches) (s : List ℕ) (e : Refusal) → rest_refusal w (92 ∷ 10 ∷ s) ≡ Some e →
+line_feed_row : (w : Switches) (s : List ℕ) (e : Refusal) → item_refusal w (92 ∷ 10 ∷ s) ≡ Some e →
     list_all is_blank s ≡ true
-unfolding rest_refusal
+unfolding item_refusal
 line_feed_row w s e h = by (list_all is_blank s) h
   where
     by : (b : Bool) → (if b then Some (without_span UnterminatedString) else None) ≡ Some e → b ≡ true
@@ -129,13 +129,13 @@ other_rest w t s c same quote slash = no (λ goes. never (subst (Goes w) same go
 -- The text
 
 suffix_row : (w : Switches) (s : List ℕ) → is_suffix s ≡ false →
-    rest_refusal w (34 ∷ s) ≡ Some (at_byte 1 (suffix_refusal s))
-unfolding rest_refusal
+    item_refusal w (34 ∷ s) ≡ Some (at_byte 1 (suffix_refusal s))
+unfolding item_refusal
 suffix_row w s none = rw (or_right w.allow_nul true refl, or_right w.unicode true refl, none) refl
 
 rest_refused : (front : List ℕ) (w : Switches) (t : List ℕ) (items : List Item) (rest : List ℕ)
     (e : Refusal) → front ++ (body_text items ++ rest) ≡ t → is_item_list w rest items ≡ true →
-    rest_refusal w rest ≡ Some e → BeginsBy (IsQuoted front w) t → RestGoesOn w rest
+    item_refusal w rest ≡ Some e → BeginsBy (IsQuoted front w) t → RestGoesOn w rest
 rest_refused front w t items rest e spells taken told begins =
     let h : IsQuotedRefusal front w t (shifted (byte_len (front ++ body_text items)) e) =
     record {
@@ -144,7 +144,7 @@ rest_refused front w t items rest e spells taken told begins =
       cause = e;
       spells = spells;
       taken = taken;
-      told = told;
+      decided = told;
       placed = refl;
     } in
     begins_rest front w t (shifted (byte_len (front ++ body_text items)) e) h begins

@@ -15,10 +15,10 @@ use Rattle.litrs_grammar.specs.Literal.{a_bool, literal_parse, bool_literal, c_s
 use Rattle.litrs_grammar.specs.LiteralRefusals.{refused_as, parsed_as, dispatch}
 use Rattle.litrs_grammar.specs.Bool.{bool_text}
 use Rattle.litrs_base.proofs.Begins.{begins_with-split}
-use Rattle.litrs_grammar.specs.GoesOn.Unnamed.{unnamed_goes_on}
+use Rattle.litrs_grammar.specs.GoesOn.Undispatched.{undispatched_goes_on}
 use Rattle.litrs_base.specs.declared.quotes.StringKind.TheVariants.{CString as c_string_kind}
 use Rattle.litrs_grammar.proofs.Laws.Bool.{chars-bool_text}
-use Rattle.litrs_grammar.proofs.LongerTexts.Dispatch.{unnamed_begins}
+use Rattle.litrs_grammar.proofs.LongerTexts.Dispatch.{undispatched_begins}
 use Rattle.litrs_grammar.proofs.LongerTexts.Literal.{back}
 use Rattle.litrs_lex.proofs.Dispatch.{dispatch-chars}
 use Rattle.litrs_lex.specs.declared.kind.Front.{Front}
@@ -49,8 +49,8 @@ fronts-chars (c ∷ word) (b ∷ bs) low u =
           ∙ sym (and_left (b == c) _ (ne_eqb b c (λ same. omega arith))))
     ]
 
-unnamed-chars : (bs : List ℕ) → IsUtf8 bs → unnamed_goes_on (chars bs) ≡ unnamed_goes_on bs
-unnamed-chars bs u = rw (
+undispatched-chars : (bs : List ℕ) → IsUtf8 bs → undispatched_goes_on (chars bs) ≡ undispatched_goes_on bs
+undispatched-chars bs u = rw (
   fronts-chars (codes "true") bs refl u,
   fronts-chars (codes "false")
       bs refl u,
@@ -58,12 +58,12 @@ unnamed-chars bs u = rw (
 ) refl
 
 pub word_decided : (bs seen : List ℕ) (e : Refusal) (b : Bool) → IsUtf8 bs →
-    refused_as e ≡ dispatch bs → seen ≡ bs → b ≡ unnamed_goes_on seen →
+    refused_as e ≡ dispatch bs → seen ≡ bs → b ≡ undispatched_goes_on seen →
     IsTrue b ↔ Begins literal_parse (chars bs)
 word_decided bs seen e b u row same is =
-    answer_is b (unnamed_goes_on (chars bs))
-    (is ∙ ap unnamed_goes_on same ∙ sym (unnamed-chars bs u))
-    (back (unnamed_begins (chars bs) e (dispatch-chars bs u ∙ sym row)))
+    answer_is b (undispatched_goes_on (chars bs))
+    (is ∙ ap undispatched_goes_on same ∙ sym (undispatched-chars bs u))
+    (back (undispatched_begins (chars bs) e (dispatch-chars bs u ∙ sym row)))
 
 -- a word that begins with none of the letters begins none of the words
 other_letter : (a b d e x y z w : Bool) → a || (b || (d || e)) ≡ false →
@@ -76,7 +76,7 @@ other_letter false false false true x y z w none = cc
 
 pub other_word : (word : List ℕ) → is_empty word
     || first_passes (λ c. (c == 116) || ((c == 102) || ((c == 98) || (c == 99)))) word ≡ false →
-    unnamed_goes_on word || begins_with word (codes "c") ≡ false
+    undispatched_goes_on word || begins_with word (codes "c") ≡ false
 other_word [] none = cc
 other_word (c ∷ cs) none = other_letter (c == 116) (c == 102) (c == 98) (c == 99) _ _ _ _ none
 
@@ -92,7 +92,7 @@ shorter : (front word : List ℕ) → length front < 5 → 5 ≤ length word →
 shorter front word short long = no_front front word (omega arith) (λ e. omega (arith, ap length e))
 
 pub long_word : (word : List ℕ) → 5 ≤ length word → (word ≡ bool_text false → ⊥) →
-    unnamed_goes_on word || begins_with word (codes "c") ≡ false
+    undispatched_goes_on word || begins_with word (codes "c") ≡ false
 long_word word long other = rw (
   shorter (codes "true") word (omega arith) long,
   no_front (bool_text false) word long other,
@@ -149,18 +149,18 @@ other_first (b ∷ bs) some other =
     (ap (λ k. begins_with (codes "c") (k ∷ bs)) same)))
 
 -- a text that begins with `c` begins no other word
-c_word : (bs : List ℕ) → begins_with (codes "c") bs ≡ true → unnamed_goes_on bs ≡ false
+c_word : (bs : List ℕ) → begins_with (codes "c") bs ≡ true → undispatched_goes_on bs ≡ false
 c_word [] begins = cc
 c_word (b ∷ bs) begins =
-    ap (λ k. unnamed_goes_on (k ∷ bs)) (sym (eqb-true 99 b (and_parts (99 == b) true begins).0))
+    ap (λ k. undispatched_goes_on (k ∷ bs)) (sym (eqb-true 99 b (and_parts (99 == b) true begins).0))
 
 pub other_decided : (bs seen : List ℕ) (b : Bool) → IsUtf8 bs → IsFront front.Other bs →
-    seen ≡ bs → b ≡ unnamed_goes_on seen || begins_with seen (codes "c") →
+    seen ≡ bs → b ≡ undispatched_goes_on seen || begins_with seen (codes "c") →
     IsTrue b ↔ Begins literal_parse (chars bs)
 other_decided bs seen b u is same answer = at (begins_with (codes "c") bs) refl
   where
-    now : b ≡ unnamed_goes_on bs || begins_with bs (codes "c")
-    now = answer ∙ ap (λ l. unnamed_goes_on l || begins_with l (codes "c")) same
+    now : b ≡ undispatched_goes_on bs || begins_with bs (codes "c")
+    now = answer ∙ ap (λ l. undispatched_goes_on l || begins_with l (codes "c")) same
 
     row : (v : Bool) → begins_with (codes "c") bs ≡ v →
         (if v then parsed_as c_string_literal else refused_as (without_span InvalidLiteral)) ≡ dispatch bs
@@ -172,5 +172,5 @@ other_decided bs seen b u is same answer = at (begins_with (codes "c") bs) refl
         (lone_string bs b u test is.begins.0 is.begins.1
         (now ∙ ap (λ v. v || begins_with bs (codes "c")) (c_word bs test)))
     at false test = word_decided bs bs (without_span InvalidLiteral) b u (row false test) refl
-        (now ∙ ap (λ v. unnamed_goes_on bs || v)
-        (other_first bs (some_text front.Other bs is (λ e. cc)) test) ∙ or-false (unnamed_goes_on bs))
+        (now ∙ ap (λ v. undispatched_goes_on bs || v)
+        (other_first bs (some_text front.Other bs is (λ e. cc)) test) ∙ or-false (undispatched_goes_on bs))

@@ -41,7 +41,7 @@ pub(crate) fn read_string<C: EscapeContainer, A: Allows>(
     match front {
         Front::Quoted(found) if found == kind => quoted_value(alloc, input, offset, allowed),
         Front::Raw(found) if found == kind => {
-            let (place, start_suffix) = raw_value(input, offset, kind.switches())?;
+            let (place, start_suffix) = raw_place(input, offset, kind.switches())?;
             Ok((KeptValue::InText(place), start_suffix))
         }
         Front::Empty => Err(ParseError::new(None, ParseErrorKind::Empty)),
@@ -102,7 +102,7 @@ fn quoted_value<C: EscapeContainer, A: Allows>(
 /// Cuts a raw string whose `r` ends at `offset`: where its body stands and its suffix begins.
 /// `offset` and the switches are those of [`scan_raw_string`].
 #[inline(never)]
-fn raw_value(
+fn raw_place(
     input: &str,
     offset: usize,
     allowed: Switches,

@@ -148,9 +148,7 @@ impl<B: Text> Literal<B> {
     /// `Empty`; the refusal of the kind that the text begins like, as `UnexpectedChar` at 1..2 for
     /// `0 `; `InvalidLiteral` where no kind begins so. `OutOfMemory`, with no span, where the text
     /// is a literal and there is no memory for its value.
-    // Inlined, with the parse of each kind, so that a literal is made where the caller keeps it and
-    // is not passed through memory. What cuts a text is a call, so that this stays small enough to
-    // be inlined.
+    // Inlined, as each parse is: CONTRIBUTING says why.
     #[inline(always)]
     pub fn parse(alloc: Global, input: B) -> Result<Literal<B>, ParseError>
         ensures raw { IfOk result (λ lit. literal_raw lit ≡ B.bytes input) }

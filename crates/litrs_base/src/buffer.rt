@@ -32,7 +32,7 @@ pub trait Text: sealed::Sealed + Drop {
     fn as_str(&self) -> &str
         ensures { result.now ≡ bytes self.now };
 
-    /// The same text again. For a `&str` it does not allocate, and succeeds.
+    /// Copies the text. For a `&str` it does not allocate, and succeeds.
     ///
     /// # Errors
     ///

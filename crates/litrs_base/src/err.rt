@@ -175,7 +175,7 @@ impl ParseError {
         }
     }
 
-    /// The same refusal again: of `0b12` the kind and both spans. It does not allocate.
+    /// Clones the refusal. It does not allocate.
     pub fn clone(&self) -> ParseError
         ensures { result ≡ self.now }
     {

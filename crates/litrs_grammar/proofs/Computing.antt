@@ -16,7 +16,7 @@ use Rattle.litrs_base.specs.declared.quotes.CharKind.{CharKind}
 use Rattle.litrs_base.specs.declared.quotes.StringKind.{StringKind}
 use Rattle.litrs_base.specs.Quotes.{raw_front}
 use Rattle.litrs_grammar.specs.Escape.{escape_refusal}
-use Rattle.litrs_grammar.specs.Quoted.{Item, body_text, is_body, QuotedParts, quoted_text, IsQuoted, is_item_list, rest_refusal, IsQuotedRefusal}
+use Rattle.litrs_grammar.specs.Quoted.{Item, body_text, is_body, QuotedParts, quoted_text, IsQuoted, is_item_list, item_refusal, IsQuotedRefusal}
 use Rattle.litrs_grammar.specs.CharByte.{CharParts, char_text, is_char_item, IsCharLiteral, char_kind_refusal}
 use Rattle.litrs_grammar.specs.Integer.{is_e, has_prefix, IntegerParts, integer_text, IsIntegerOf, integer_cut, integer_refusal}
 use Rattle.litrs_grammar.specs.Float.{FloatParts, float_text, is_underscore, is_exponent, is_decimal_literal, is_float_form, IsFloatOf, float_cut, float_refusal}
@@ -24,7 +24,7 @@ use Rattle.litrs_grammar.specs.Raw.{RawParts, raw_text, raw_closing, occurs, is_
 use Rattle.litrs_grammar.specs.LiteralRefusals.{dispatch}
 
 unfoldable pub computing : Unit {0}
-unfolding encode_utf8 unicode_ident is_suffix place_sum escape_refusal rest_refusal char_kind_refusal dispatch integer_cut integer_refusal float_refusal float_cut is_exponent raw_refusal raw_body_refusal
+unfolding encode_utf8 unicode_ident is_suffix place_sum escape_refusal item_refusal char_kind_refusal dispatch integer_cut integer_refusal float_refusal float_cut is_exponent raw_refusal raw_body_refusal
 computing = tt
 
 -- an integer that has a prefix
@@ -86,10 +86,10 @@ quoted spells body suffix = record { spells = spells; body = body; suffix = suff
 
 -- a text that is refused as one: the items before the refused place, the rest, and why
 pub refused_after : {front : List ℕ} {w : Switches} {t : List ℕ} {e : Refusal} (items : List Item) (rest : List ℕ) (cause : Refusal) →
-    front ++ (body_text items ++ rest) ≡ t → IsTrue (is_item_list w rest items) → rest_refusal w rest ≡ Some cause →
+    front ++ (body_text items ++ rest) ≡ t → IsTrue (is_item_list w rest items) → item_refusal w rest ≡ Some cause →
     shifted (byte_len (front ++ body_text items)) cause ≡ e → IsQuotedRefusal front w t e
 refused_after items rest cause spells taken told placed =
-    record { items = items; rest = rest; cause = cause; spells = spells; taken = taken; told = told; placed = placed }
+    record { items = items; rest = rest; cause = cause; spells = spells; taken = taken; decided = told; placed = placed }
 
 -- a raw string of any kind
 pub raw : {kind : StringKind} {t : List ℕ} {d : RawParts} → raw_front kind ++ raw_text d ≡ t → nat_le d.hash_count 255 ≡ true →

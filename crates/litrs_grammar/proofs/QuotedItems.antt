@@ -12,7 +12,7 @@ use Rattle.litrs_grammar.specs.Suffix.{is_suffix}
 use Rattle.litrs_base.specs.Text.{is_empty, first_passes}
 use Rattle.litrs_base.specs.declared.quotes.Switches.{Switches}
 use Rattle.litrs_grammar.specs.Escape.{Escape, simple_escape, hex_escape, unicode_escape, escape_text, is_escape, is_simple, escape_refusal, allows_value}
-use Rattle.litrs_grammar.specs.Quoted.{Item, plain_item, escape_item, continuation, item_text, is_item, is_plain, body_text, is_body, takes_all_blanks, is_complete_before, is_item_list, without_last, backslash_refusal, rest_refusal}
+use Rattle.litrs_grammar.specs.Quoted.{Item, plain_item, escape_item, continuation, item_text, is_item, is_plain, body_text, is_body, takes_all_blanks, is_complete_before, is_item_list, without_last, backslash_refusal, item_refusal}
 use Rattle.litrs_base.proofs.ListTests.{unless_none, none_if, none_unless, if_true, if_false}
 use Rattle.litrs_base.proofs.Spans.{none_from}
 use Rattle.litrs_grammar.proofs.Laws.Escape.{same_escape, refusal_escape, read_escape}
@@ -127,8 +127,8 @@ last_of c [] = (c, refl)
 last_of c (d ∷ t) = let rec = last_of d t in (rec.0, ap (λ l. c ∷ l) rec.1)
 
 -- the rest may begin with an item that the text goes on after
-plain_no_refusal : (w : Switches) (c : ℕ) (t : List ℕ) → is_plain w c ≡ true → rest_refusal w (c ∷ t) ≡ None
-unfolding rest_refusal
+plain_no_refusal : (w : Switches) (c : ℕ) (t : List ℕ) → is_plain w c ≡ true → item_refusal w (c ∷ t) ≡ None
+unfolding item_refusal
 plain_no_refusal w c t h =
     let a = and_parts _ (allows_value w c) h in
     let b = and_parts _ (fits_charset w.unicode c) a.0 in
@@ -140,13 +140,13 @@ plain_no_refusal w c t h =
     (none_unless (fits_charset w.unicode c) _ _ b.1
     (none_if _ _ _ (and_left _ _ (not-true _ e.0)) refl)))
 
-escape_no_refusal : (w : Switches) (e : Escape) (c : ℕ) (t : List ℕ) → is_escape w e ≡ true → rest_refusal w (escape_text e ++ c ∷ t) ≡ None
-unfolding rest_refusal
+escape_no_refusal : (w : Switches) (e : Escape) (c : ℕ) (t : List ℕ) → is_escape w e ≡ true → item_refusal w (escape_text e ++ c ∷ t) ≡ None
+unfolding item_refusal
 escape_no_refusal w e c t h =
     let head = escape_head e (c ∷ t) in
     let cut : without_last (92 ∷ head.0 ∷ head.1) ≡ escape_text e ++ without_last (c ∷ t) =
     ap without_last (sym head.2) ∙ without_last-append (escape_text e) c t in
-    subst (λ l. rest_refusal w l ≡ None) (sym head.2)
+    subst (λ l. item_refusal w l ≡ None) (sym head.2)
     (if_false (head.0 == 10) _ _ (escape_second w e (c ∷ t) head.0 head.1 h head.2)
     ∙ ap (escape_refusal w) cut ∙ refusal_escape w e (without_last (c ∷ t)) h)
 
@@ -154,11 +154,11 @@ list_all-stop : (a : List ℕ) (c : ℕ) (t : List ℕ) → is_blank c ≡ false
 list_all-stop [] c t h = rw h refl
 list_all-stop (d ∷ a) c t h = and_right _ _ (list_all-stop a c t h)
 
-continuation_no_refusal : (w : Switches) (a : List ℕ) (c : ℕ) (t : List ℕ) → is_blank c ≡ false → rest_refusal w (92 ∷ 10 ∷ (a ++ c ∷ t)) ≡ None
-unfolding rest_refusal
+continuation_no_refusal : (w : Switches) (a : List ℕ) (c : ℕ) (t : List ℕ) → is_blank c ≡ false → item_refusal w (92 ∷ 10 ∷ (a ++ c ∷ t)) ≡ None
+unfolding item_refusal
 continuation_no_refusal w a c t h = none_if _ _ _ (list_all-stop a c t h) refl
 
-pub item_no_refusal : (w : Switches) (a : Item) (after : List ℕ) → is_item w a ≡ true → is_complete_before after a ≡ true → rest_refusal w (item_text a ++ after) ≡ None
+pub item_no_refusal : (w : Switches) (a : Item) (after : List ℕ) → is_item w a ≡ true → is_complete_before after a ≡ true → item_refusal w (item_text a ++ after) ≡ None
 item_no_refusal w (plain_item c) after h k = plain_no_refusal w c after h
 item_no_refusal w (escape_item e) [] h k = cc
 item_no_refusal w (escape_item e) (c ∷ t) h k = escape_no_refusal w e c t h
@@ -166,9 +166,9 @@ item_no_refusal w (continuation a) [] h k = cc
 item_no_refusal w (continuation a) (c ∷ t) h k = continuation_no_refusal w a c t (not-true _ k)
 
 -- a refused rest begins with no item
-pub refused_no_item : (w : Switches) (x : List ℕ) (e : Refusal) → rest_refusal w x ≡ Some e → NoItem w x
+pub refused_no_item : (w : Switches) (x : List ℕ) (e : Refusal) → item_refusal w x ≡ Some e → NoItem w x
 refused_no_item w x e told a after h k same =
-    let none : rest_refusal w x ≡ None = subst (λ l. rest_refusal w l ≡ None) same (item_no_refusal w a after h k) in
+    let none : item_refusal w x ≡ None = subst (λ l. item_refusal w l ≡ None) same (item_no_refusal w a after h k) in
     cc
 
 -- What stands at the front of a text: an item, a reason to refuse it, or the closing quote and a suffix.
@@ -230,7 +230,7 @@ escape_here w (c ∷ t) h =
     more (d ∷ x) = refl
 
 abbrev pub Front : Switches → List ℕ → Type 0
-Front w t = SomeItem w t ⊎ (((e : Refusal) × (rest_refusal w t ≡ Some e)) ⊎ Closes t)
+Front w t = SomeItem w t ⊎ (((e : Refusal) × (item_refusal w t ≡ Some e)) ⊎ Closes t)
 
 after_backslash : (w : Switches) (t : List ℕ) → backslash_refusal w t ≡ None → SomeItem w (92 ∷ t)
 after_backslash w [] h = escape_here w [] h
@@ -245,8 +245,8 @@ after_backslash w (c ∷ t) h = go (c == 10) refl h
         let stops = none_from _ _ _ g in
         subst (λ n. SomeItem w (92 ∷ n ∷ t)) (sym at) (continuation_here w t (subst (λ n. (is_blank n && list_all is_blank t) ≡ false) at stops.0))
 
-front_cons : (w : Switches) (c : ℕ) (t : List ℕ) (b q : Bool) → (c == 92) ≡ b → (c == 34) ≡ q → rest_refusal w (c ∷ t) ≡ None → Front w (c ∷ t)
-unfolding rest_refusal
+front_cons : (w : Switches) (c : ℕ) (t : List ℕ) (b q : Bool) → (c == 92) ≡ b → (c == 34) ≡ q → item_refusal w (c ∷ t) ≡ None → Front w (c ∷ t)
+unfolding item_refusal
 front_cons w c t true q b_is q_is h =
     let at = eqb-true c 92 b_is in
     inl (subst (λ n. SomeItem w (n ∷ t)) (sym at) (after_backslash w t (sym (if_true _ _ _ b_is) ∙ h)))
@@ -270,18 +270,18 @@ front_cons w c t false false b_is q_is h =
       },
     )
 
-at_end : (w : Switches) → rest_refusal w [] ≡ None → ⊥
-unfolding rest_refusal
+at_end : (w : Switches) → item_refusal w [] ≡ None → ⊥
+unfolding item_refusal
 at_end w h = cc
 
 pub front : (w : Switches) (t : List ℕ) → Front w t
-front w t = go t (rest_refusal w t) refl
+front w t = go t (item_refusal w t) refl
   where
-    none : (t : List ℕ) → rest_refusal w t ≡ None → Front w t
+    none : (t : List ℕ) → item_refusal w t ≡ None → Front w t
     none [] h = absurd (at_end w h)
     none (c ∷ t) h = front_cons w c t (c == 92) (c == 34) refl refl h
 
-    go : (t : List ℕ) (o : Option Refusal) → rest_refusal w t ≡ o → Front w t
+    go : (t : List ℕ) (o : Option Refusal) → item_refusal w t ≡ o → Front w t
     go t (Some e) told = inr (inl (e, told))
     go t None told = none t told
 
@@ -289,7 +289,7 @@ front w t = go t (rest_refusal w t) refl
 pub record Derives (w : Switches) (t : List ℕ) (items : List Item) (rest : List ℕ) : Type 0 where
   pub spells : body_text items ++ rest ≡ t
   pub taken : is_item_list w rest items ≡ true
-  pub ends : ((e : Refusal) × (rest_refusal w rest ≡ Some e)) ⊎ Closes rest
+  pub ends : ((e : Refusal) × (item_refusal w rest ≡ Some e)) ⊎ Closes rest
 
 abbrev pub SomeReading : Switches → List ℕ → Type 0
 SomeReading w t = (items : List Item) × (rest : List ℕ) × Derives w t items rest

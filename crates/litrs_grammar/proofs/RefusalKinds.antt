@@ -18,7 +18,7 @@ use Rattle.litrs_grammar.specs.Integer.{integer_refusal}
 use Rattle.litrs_grammar.specs.Float.{float_refusal}
 use Rattle.litrs_grammar.specs.Escape.{hex_refusal, inner_refusal, unicode_refusal, escape_refusal}
 use Rattle.litrs_grammar.specs.CharByte.{unterminated_kind, empty_kind, overlong_kind, start_refusal, closing_refusal, char_item_refusal, char_kind_refusal}
-use Rattle.litrs_grammar.specs.Quoted.{backslash_refusal, rest_refusal, IsQuotedRefusal}
+use Rattle.litrs_grammar.specs.Quoted.{backslash_refusal, item_refusal, IsQuotedRefusal}
 use Rattle.litrs_grammar.specs.Raw.{raw_char_refusal, raw_body_refusal, raw_refusal, raw_literal_refusal}
 use Rattle.litrs_grammar.specs.Literal.{LiteralKind, bool_literal, integer_literal, float_literal, char_literal, byte_literal, string_literal, byte_string_literal, c_string_literal, literal_parse, kind_parse}
 use Rattle.litrs_grammar.specs.LiteralRefusals.{StringStart, refused_start, quoted_start, raw_start, string_start, string_start_refusal, IsRefusalOfStart, IsKindRefusal, Dispatch, refused_as, parsed_as, dispatch, IsRefusalOfDispatch}
@@ -73,8 +73,8 @@ fine_escape w (c ∷ letter ∷ t) = search (fine_if, fine_hex, fine_unicode)
 fine_backslash : (w : Switches) (t : List ℕ) → is_fine (backslash_refusal w t) ≡ true
 fine_backslash w t = search (fine_if, fine_escape)
 
-fine_rest : (w : Switches) (t : List ℕ) → is_fine (rest_refusal w t) ≡ true
-unfolding rest_refusal
+fine_rest : (w : Switches) (t : List ℕ) → is_fine (item_refusal w t) ≡ true
+unfolding item_refusal
 fine_rest w [] = refl
 fine_rest w (c ∷ t) = search (fine_if, fine_backslash, fine_suffix) depth 8
 
@@ -149,7 +149,7 @@ pub integer_refusal_of_text : (t : List ℕ) (e : Refusal) → integer_refusal t
 integer_refusal_of_text t e refused = of_table (integer_refusal t) e (fine_integer t) refused
 
 pub quoted_of_text : (front : List ℕ) (w : Switches) (t : List ℕ) (e : Refusal) → IsQuotedRefusal front w t e → IsOfText e
-quoted_of_text front w t e h = subst IsOfText h.placed (of_table (rest_refusal w h.rest) h.cause (fine_rest w h.rest) h.told)
+quoted_of_text front w t e h = subst IsOfText h.placed (of_table (item_refusal w h.rest) h.cause (fine_rest w h.rest) h.decided)
 
 string_start_of_text : (kind : StringKind) → IsOfText (string_start_refusal kind)
 string_start_of_text string_kind memory = cc

@@ -8,7 +8,7 @@ pub mod CharByte
 pub mod Integer
 pub mod Float
 pub mod Bool
-pub mod Unnamed
+pub mod Undispatched
 use Rattle.std.specs.Prelude.{ℕ, List, IsTrue, length, drop}
 use Rattle.litrs_base.specs.declared.quotes.StringKind.{StringKind}
 use Rattle.litrs_base.specs.declared.quotes.StringKind.TheVariants.{String as string_kind, ByteString as byte_string_kind, CString as c_string_kind}
@@ -25,7 +25,7 @@ use Rattle.litrs_grammar.specs.GoesOn.CharByte.{CharGoesOn}
 use Rattle.litrs_grammar.specs.GoesOn.Quoted.{QuotedGoesOn}
 use Rattle.litrs_grammar.specs.GoesOn.Raw.{RawGoesOn}
 use Rattle.litrs_grammar.specs.GoesOn.String.{start_goes_on}
-use Rattle.litrs_grammar.specs.GoesOn.Unnamed.{unnamed_goes_on}
+use Rattle.litrs_grammar.specs.GoesOn.Undispatched.{undispatched_goes_on}
 
 -- a text that starts so, as a string of the kind
 abbrev pub StartGoesOn : StringKind → StringStart → List ℕ → Type 0
@@ -51,7 +51,7 @@ KindGoesOn c_string_literal t = StringGoesOn c_string_kind t
 
 -- a text that is dispatched so, as a literal of any kind
 abbrev pub DispatchedGoesOn : Dispatch → List ℕ → Type 0
-DispatchedGoesOn (refused_as refusal) t = IsTrue (unnamed_goes_on t)
+DispatchedGoesOn (refused_as refusal) t = IsTrue (undispatched_goes_on t)
 DispatchedGoesOn (parsed_as kind) t = KindGoesOn kind t
 
 -- the text that the parse refuses goes on

@@ -125,9 +125,9 @@ backslash_refusal w t =
 
 -- Why nothing of the literal stands at the front of the rest; spans count from there. At its end
 -- the closing quote lacks. None: an item or the closing quote with a suffix stands there.
-unfoldable pub rest_refusal : Switches → List ℕ → Option Refusal
-rest_refusal w [] = Some (without_span UnterminatedString)
-rest_refusal w (c ∷ t) =
+unfoldable pub item_refusal : Switches → List ℕ → Option Refusal
+item_refusal w [] = Some (without_span UnterminatedString)
+item_refusal w (c ∷ t) =
     if c == backslash then backslash_refusal w t
     else if c == carriage_return then Some (at_byte 0 CarriageReturn)
     else if not (allows_value w c) then Some (at_byte 0 NulByte)
@@ -143,7 +143,7 @@ pub record IsQuotedRefusal (front : List ℕ) (w : Switches) (t : List ℕ) (e :
   pub cause : Refusal
   pub spells : front ++ (body_text items ++ rest) ≡ t
   pub taken : IsTrue (is_item_list w rest items)
-  pub told : rest_refusal w rest ≡ Some cause
+  pub decided : item_refusal w rest ≡ Some cause
   pub placed : shifted (byte_len (front ++ body_text items)) cause ≡ e
 
 -- the same for one of the three kinds

@@ -24,7 +24,7 @@ use Rattle.litrs_base.proofs.ListTests.{if_true, if_false}
 use Rattle.litrs_base.specs.declared.quotes.Switches.{Switches}
 use Rattle.litrs_grammar.specs.Escape.{Escape, escape_text, escape_value, value_bytes, simple_escape, hex_escape, unicode_escape, escape_refusal, allows_value, allows_byte, is_escape, is_simple, simple_value, pair_value}
 use Rattle.litrs_grammar.specs.Suffix.{is_suffix, suffix_refusal}
-use Rattle.litrs_grammar.specs.Quoted.{Item, plain_item, escape_item, continuation, item_text, item_value, is_item, is_complete_before, is_plain, body_value, without_last, rest_refusal}
+use Rattle.litrs_grammar.specs.Quoted.{Item, plain_item, escape_item, continuation, item_text, item_value, is_item, is_complete_before, is_plain, body_value, without_last, item_refusal}
 use Rattle.litrs_grammar.proofs.Laws.Escape.{by_simple}
 use Rattle.litrs_grammar.proofs.Laws.Integer.{list_all-take_while, first_passes-rest}
 use Rattle.litrs_grammar.proofs.QuotedItems.{last_of, without_last-append}
@@ -159,9 +159,9 @@ continuation_at w bytes bs k is u count other =
     size refl tt
 
 -- refusals
-pub end_refused : (w : Switches) (bytes : List ℕ) → length bytes < 1 → rest_refusal w (chars bytes) ≡ Some (without_span UnterminatedString)
-unfolding rest_refusal
-end_refused w [] none = ap (rest_refusal w) chars-nil
+pub end_refused : (w : Switches) (bytes : List ℕ) → length bytes < 1 → item_refusal w (chars bytes) ≡ Some (without_span UnterminatedString)
+unfolding item_refusal
+end_refused w [] none = ap (item_refusal w) chars-nil
 end_refused w (b ∷ bytes) none = absurd (omega arith)
 
 blanks_only : (bs : List ℕ) → IsUtf8 bs → prefix_len is_blank bs ≡ length bs → list_all is_blank (chars bs) ≡ true
@@ -171,29 +171,29 @@ blanks_only bs u whole =
     let none : drop n (chars bs) ≡ [] = front.rest ∙ (ap (λ k. chars (drop k bs)) whole ∙ (ap chars (drop-length bs) ∙ chars-nil)) in
     ap (list_all is_blank) (sym (take-append-drop n (chars bs)) ∙ (ap (λ l. take n (chars bs) ++ l) none ∙ append-nil (take n (chars bs)))) ∙ blanks_all bs u
 
-blanks_row : (w : Switches) (t : List ℕ) → list_all is_blank t ≡ true → rest_refusal w (92 ∷ 10 ∷ t) ≡ Some (without_span UnterminatedString)
-unfolding rest_refusal
+blanks_row : (w : Switches) (t : List ℕ) → list_all is_blank t ≡ true → item_refusal w (92 ∷ 10 ∷ t) ≡ Some (without_span UnterminatedString)
+unfolding item_refusal
 blanks_row w t h = if_true (list_all is_blank t) _ _ h
 
 pub blanks_refused : (w : Switches) (bytes bs : List ℕ) (k : ℕ) → bytes ≡ 92 ∷ 10 ∷ bs → IsUtf8 bytes → k ≡ prefix_len is_blank bs → 2 + k ≡ length bytes →
-    rest_refusal w (chars bytes) ≡ Some (without_span UnterminatedString)
+    item_refusal w (chars bytes) ≡ Some (without_span UnterminatedString)
 blanks_refused w bytes bs k is u count whole =
     let text = after_two bs bytes is u in
-    ap (rest_refusal w) (ap chars is ∙ lf_chars bs) ∙ blanks_row w (chars bs) (blanks_only bs text (let size = ap length is in omega arith))
+    ap (item_refusal w) (ap chars is ∙ lf_chars bs) ∙ blanks_row w (chars bs) (blanks_only bs text (let size = ap length is in omega arith))
 
-escape_row : (w : Switches) (t : List ℕ) (o : Option Refusal) → first_passes (λ c. c == 10) t ≡ false → escape_refusal w (without_last (92 ∷ t)) ≡ o → rest_refusal w (92 ∷ t) ≡ o
-unfolding rest_refusal
+escape_row : (w : Switches) (t : List ℕ) (o : Option Refusal) → first_passes (λ c. c == 10) t ≡ false → escape_refusal w (without_last (92 ∷ t)) ≡ o → item_refusal w (92 ∷ t) ≡ o
+unfolding item_refusal
 escape_row w t o h told = if_false (first_passes (λ c. c == 10) t) _ _ h ∙ told
 
 lf_ascii : OnlyAscii (λ c. c == 10)
 lf_ascii c high = ne_eqb c 10 (λ e. omega arith)
 
 pub escape_refused : (w : Switches) (bytes bs cut : List ℕ) (e : ParseError) → bytes ≡ 92 ∷ bs → IsUtf8 bytes → first_passes (λ c. c == 10) bs ≡ false →
-    chars cut ≡ without_last (chars bytes) → IsEscapeRefused w (chars cut) e → rest_refusal w (chars bytes) ≡ Some (refusal_of e)
+    chars cut ≡ without_last (chars bytes) → IsEscapeRefused w (chars cut) e → item_refusal w (chars bytes) ≡ Some (refusal_of e)
 escape_refused w bytes bs cut e is u other is_cut refused =
     let text = utf8_after_ascii 92 bs (omega arith) (subst (λ (l : List ℕ). IsUtf8 l) is u) in
     let at_byte = slash_chars bytes bs is in
-    ap (rest_refusal w) at_byte ∙ escape_row w (chars bs) (Some (refusal_of e)) (first_passes-chars _ bs lf_ascii text ∙ other)
+    ap (item_refusal w) at_byte ∙ escape_row w (chars bs) (Some (refusal_of e)) (first_passes-chars _ bs lf_ascii text ∙ other)
     (ap (λ l. escape_refusal w (without_last l)) (sym at_byte) ∙ (ap (escape_refusal w) (sym is_cut) ∙ refused.table))
 
 -- the character span of its refusal is that in the text: of the empty text it passes the end
@@ -235,8 +235,8 @@ pub begins_cut : (bytes bs cut : List ℕ) → bytes ≡ 92 ∷ bs → cut ≡ w
 begins_cut bytes bs cut is is_cut =
     ap (λ l. is_empty l || first_passes (λ c. c == 92) l) (is_cut ∙ ap without_last (slash_chars bytes bs is)) ∙ cut_begins (chars bs)
 
-quote_row : (w : Switches) (t : List ℕ) → is_suffix t ≡ false → rest_refusal w (34 ∷ t) ≡ Some (at_byte 1 (suffix_refusal t))
-unfolding rest_refusal
+quote_row : (w : Switches) (t : List ℕ) → is_suffix t ≡ false → item_refusal w (34 ∷ t) ≡ Some (at_byte 1 (suffix_refusal t))
+unfolding item_refusal
 quote_row w t h =
     if_false (not (allows_value w 34)) _ _ (ap not (or_right w.allow_nul true refl))
     ∙ (if_false (not (fits_charset w.unicode 34)) _ _ (ap not (or_right w.unicode true refl))
@@ -246,29 +246,29 @@ pub quote_chars : (bytes bs after : List ℕ) → bytes ≡ 34 ∷ bs → after 
 quote_chars bytes bs after is same = ap (λ (l : List ℕ). 34 ∷ chars l) same ∙ (sym (chars_ascii 34 bs (omega arith)) ∙ ap chars (sym is))
 
 pub quote_refused : (w : Switches) (bytes bs after : List ℕ) → bytes ≡ 34 ∷ bs → after ≡ bs → is_suffix (chars after) ≡ false →
-    rest_refusal w (chars bytes) ≡ Some (at_byte 1 (suffix_refusal (chars after)))
-quote_refused w bytes bs after is same other = ap (rest_refusal w) (sym (quote_chars bytes bs after is same)) ∙ quote_row w (chars after) other
+    item_refusal w (chars bytes) ≡ Some (at_byte 1 (suffix_refusal (chars after)))
+quote_refused w bytes bs after is same other = ap (item_refusal w) (sym (quote_chars bytes bs after is same)) ∙ quote_row w (chars after) other
 
-return_row : (w : Switches) (t : List ℕ) → rest_refusal w (13 ∷ t) ≡ Some (at_byte 0 CarriageReturn)
-unfolding rest_refusal
+return_row : (w : Switches) (t : List ℕ) → item_refusal w (13 ∷ t) ≡ Some (at_byte 0 CarriageReturn)
+unfolding item_refusal
 return_row w t = refl
 
-pub return_refused : (w : Switches) (bytes bs : List ℕ) → bytes ≡ 13 ∷ bs → rest_refusal w (chars bytes) ≡ Some (at_byte 0 CarriageReturn)
-return_refused w bytes bs is = ap (rest_refusal w) (ap chars is ∙ chars_ascii 13 bs (omega arith)) ∙ return_row w (chars bs)
+pub return_refused : (w : Switches) (bytes bs : List ℕ) → bytes ≡ 13 ∷ bs → item_refusal w (chars bytes) ≡ Some (at_byte 0 CarriageReturn)
+return_refused w bytes bs is = ap (item_refusal w) (ap chars is ∙ chars_ascii 13 bs (omega arith)) ∙ return_row w (chars bs)
 
-nul_row : (w : Switches) (t : List ℕ) (u n : Bool) → w.unicode ≡ u → w.allow_nul ≡ n → is_plain w 0 ≡ false → rest_refusal w (0 ∷ t) ≡ Some (at_byte 0 NulByte)
-unfolding rest_refusal
+nul_row : (w : Switches) (t : List ℕ) (u n : Bool) → w.unicode ≡ u → w.allow_nul ≡ n → is_plain w 0 ≡ false → item_refusal w (0 ∷ t) ≡ Some (at_byte 0 NulByte)
+unfolding item_refusal
 nul_row w t u false a b h = if_true (not (allows_value w 0)) _ _ (rw b refl)
 nul_row w t u true a b h = absurd (both_ways (is_plain w 0) h (and_from _ _ (or_right w.unicode true refl) (rw b refl)))
 
-pub nul_refused : (w : Switches) (bytes bs : List ℕ) → bytes ≡ 0 ∷ bs → first_passes (is_plain w) (chars bytes) ≡ false → rest_refusal w (chars bytes) ≡ Some (at_byte 0 NulByte)
+pub nul_refused : (w : Switches) (bytes bs : List ℕ) → bytes ≡ 0 ∷ bs → first_passes (is_plain w) (chars bytes) ≡ false → item_refusal w (chars bytes) ≡ Some (at_byte 0 NulByte)
 nul_refused w bytes bs is h =
     let at_byte : chars bytes ≡ 0 ∷ chars bs = ap chars is ∙ chars_ascii 0 bs (omega arith) in
-    ap (rest_refusal w) at_byte ∙ nul_row w (chars bs) w.unicode w.allow_nul refl refl (ap (first_passes (is_plain w)) (sym at_byte) ∙ h)
+    ap (item_refusal w) at_byte ∙ nul_row w (chars bs) w.unicode w.allow_nul refl refl (ap (first_passes (is_plain w)) (sym at_byte) ∙ h)
 
 wide_row : (w : Switches) (c : ℕ) (t : List ℕ) → (c == 92) ≡ false → (c == 13) ≡ false → (c == 0) ≡ false → fits_charset w.unicode c ≡ false →
-    rest_refusal w (c ∷ t) ≡ Some (at_byte 0 NonAsciiInByteLiteral)
-unfolding rest_refusal
+    item_refusal w (c ∷ t) ≡ Some (at_byte 0 NonAsciiInByteLiteral)
+unfolding item_refusal
 wide_row w c t a b d e =
     if_false (c == 92) _ _ a ∙ (if_false (c == 13) _ _ b
     ∙ (if_false (not (allows_value w c)) _ _ (ap not (or_right w.allow_nul _ (not_from_false _ d)))
@@ -281,7 +281,7 @@ low_plain w b low q s r z =
     (or_right w.unicode _ (lt-ltb b 128 low))) (or_right w.allow_nul _ (not_from_false _ z))
 
 pub wide_refused : (w : Switches) (bytes bs : List ℕ) (b : ℕ) → bytes ≡ b ∷ bs → IsUtf8 bytes → (b == 34) ≡ false → (b == 92) ≡ false → (b == 13) ≡ false → (b == 0) ≡ false →
-    first_passes (is_plain w) (chars bytes) ≡ false → rest_refusal w (chars bytes) ≡ Some (at_byte 0 NonAsciiInByteLiteral)
+    first_passes (is_plain w) (chars bytes) ≡ false → item_refusal w (chars bytes) ≡ Some (at_byte 0 NonAsciiInByteLiteral)
 wide_refused w bytes bs b is u q s r z h = elim (cases_lt b 128) [
   | inl low ↦ (let at_byte : chars bytes ≡ b ∷ chars bs = ap chars is ∙ chars_ascii b bs low in
       absurd (both_ways (is_plain w b) (ap (first_passes (is_plain w)) (sym at_byte) ∙ h) (low_plain w b low q s r z)))
@@ -289,7 +289,7 @@ wide_refused w bytes bs b is u q s r z h = elim (cases_lt b 128) [
       let at_byte : chars bytes ≡ c.first ∷ c.rest = ap chars is ∙ c.is in
       let wide = c.wide in
       let off : w.unicode ≡ false = sym (plain_alike w c.first wide) ∙ (ap (first_passes (is_plain w)) (sym at_byte) ∙ h) in
-      ap (rest_refusal w) at_byte
+      ap (item_refusal w) at_byte
       ∙ wide_row w c.first c.rest (ne_eqb c.first 92 (λ e. omega arith)) (ne_eqb c.first 13 (λ e. omega arith)) (ne_eqb c.first 0 (λ e. omega arith))
       (rw off (le-ltb c.first 128 wide)))
 ]
@@ -343,18 +343,18 @@ stepped_back [] t None u v h = ap chars h.1 ∙ (chars-nil ∙ sym (ap without_l
 stepped_back (b ∷ text) t None u v h = absurd (let none = h.0 in omega arith)
 stepped_back text t (Some c) u v h = last_cut text t c u h v
 
-free_row : (w : Switches) (t : List ℕ) → is_suffix t ≡ true → rest_refusal w (34 ∷ t) ≡ None
-unfolding rest_refusal
+free_row : (w : Switches) (t : List ℕ) → is_suffix t ≡ true → item_refusal w (34 ∷ t) ≡ None
+unfolding item_refusal
 free_row w t h =
     if_false (not (allows_value w 34)) _ _ (ap not (or_right w.allow_nul true refl))
     ∙ (if_false (not (fits_charset w.unicode 34)) _ _ (ap not (or_right w.unicode true refl))
     ∙ if_false (not (is_suffix t)) _ _ (ap not h))
 
-pub quote_free : (w : Switches) (bytes bs after : List ℕ) → bytes ≡ 34 ∷ bs → after ≡ bs → is_suffix (chars after) ≡ true → rest_refusal w (chars bytes) ≡ None
-quote_free w bytes bs after is same h = ap (rest_refusal w) (sym (quote_chars bytes bs after is same)) ∙ free_row w (chars after) h
+pub quote_free : (w : Switches) (bytes bs after : List ℕ) → bytes ≡ 34 ∷ bs → after ≡ bs → is_suffix (chars after) ≡ true → item_refusal w (chars bytes) ≡ None
+quote_free w bytes bs after is same h = ap (item_refusal w) (sym (quote_chars bytes bs after is same)) ∙ free_row w (chars after) h
 
 -- the closing quote stands where the items end and nothing is refused
-told_suffix : (w : Switches) (s : List ℕ) (b : Bool) → is_suffix s ≡ b → rest_refusal w (34 ∷ s) ≡ None → b ≡ true
+told_suffix : (w : Switches) (s : List ℕ) (b : Bool) → is_suffix s ≡ b → item_refusal w (34 ∷ s) ≡ None → b ≡ true
 told_suffix w s true is none = refl
 told_suffix w s false is none = let some = quote_row w s is in cc
 
@@ -362,10 +362,10 @@ first_is : (t : List ℕ) → first_passes (λ c. c == 34) t ≡ true → 34 ∷
 first_is [] h = absurd (false≢true h)
 first_is (c ∷ t) h = ap (λ n. n ∷ t) (sym (eqb-true c 34 h))
 
-pub closed_of : (w : Switches) (rest : List ℕ) → EndsItems w rest → rest_refusal w rest ≡ None → (34 ∷ drop 1 rest ≡ rest) × (is_suffix (drop 1 rest) ≡ true)
+pub closed_of : (w : Switches) (rest : List ℕ) → EndsItems w rest → item_refusal w rest ≡ None → (34 ∷ drop 1 rest ≡ rest) × (is_suffix (drop 1 rest) ≡ true)
 closed_of w rest (inl quote) free =
     let is = first_is rest quote in
-    (is, told_suffix w (drop 1 rest) _ refl (ap (rest_refusal w) is ∙ free))
+    (is, told_suffix w (drop 1 rest) _ refl (ap (item_refusal w) is ∙ free))
 closed_of w rest (inr refused) free = let some = refused.1 in cc
 
 -- the closing quote by its byte

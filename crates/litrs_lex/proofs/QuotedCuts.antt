@@ -15,7 +15,7 @@ use Rattle.litrs_base.specs.declared.quotes.Switches.{Switches}
 use Rattle.litrs_grammar.specs.Allocation.{has_backslash}
 use Rattle.litrs_grammar.specs.Suffix.{is_suffix}
 use Rattle.litrs_grammar.proofs.LongerTexts.Suffix.{is_suffix-nil}
-use Rattle.litrs_grammar.specs.Quoted.{Item, body_text, body_value, is_item_list, is_body, is_plain, QuotedParts, IsQuoted, IsQuotedRefusal, rest_refusal}
+use Rattle.litrs_grammar.specs.Quoted.{Item, body_text, body_value, is_item_list, is_body, is_plain, QuotedParts, IsQuoted, IsQuotedRefusal, item_refusal}
 use Rattle.litrs_grammar.proofs.QuotedItems.{body_stands, stands_body}
 use Rattle.litrs_grammar.proofs.Laws.Quoted.{quoted_texts_are_unique, quoted_texts_are_not_refused, quoted_refusals_are_unique, quoted_values_fit_bodies}
 use Rattle.litrs_grammar.proofs.LongerTexts.Quoted.{quoted_final, quoted_finality, quoted_items_stay, quoted_open}
@@ -50,14 +50,14 @@ refused_of w bytes offset e is =
 -- Where the rest after some items is refused, the text is
 
 pub refused_at : (w : Switches) (bytes : List ℕ) (offset place : ℕ) (h : List ℕ → Type 0) (e f : Refusal) → IsReadTo w bytes offset place h →
-    rest_refusal w (chars (drop place bytes)) ≡ Some e → f ≡ shifted place e → IsQuotedRefusal (chars (take offset bytes)) w (chars bytes) f
+    item_refusal w (chars (drop place bytes)) ≡ Some e → f ≡ shifted place e → IsQuotedRefusal (chars (take offset bytes)) w (chars bytes) f
 refused_at w bytes offset place h e f read told is = record {
   items = read.items;
   rest = chars (drop place bytes);
   cause = e;
   spells = read.spells;
   taken = read.taken;
-  told = told;
+  decided = told;
   placed = ap (λ n. shifted n e) (sym read.size) ∙ sym is;
 }
 
@@ -73,7 +73,7 @@ pub refuses : (w : Switches) (bytes rest : List ℕ) (offset place : ℕ) (h : L
 refuses w bytes rest offset place h e u small read is told =
     let front = chars (take offset bytes) ++ body_text read.items in
     let rest_chars = chars (drop place bytes) in
-    let here : rest_refusal w rest_chars ≡ Some (refusal_of e) = ap (λ (l : List ℕ). rest_refusal w (chars l)) (sym is) ∙ told.table in
+    let here : item_refusal w rest_chars ≡ Some (refusal_of e) = ap (λ (l : List ℕ). item_refusal w (chars l)) (sym is) ∙ told.table in
     let ends : HasCharSpan rest_chars e = subst (λ (l : List ℕ). HasCharSpan (chars l) e) is told.char_span in
     let whole = front_of w bytes offset place h read in
     let table = refused_at w bytes offset place h (refusal_of e) (shifted (byte_len front) (refusal_of e)) read here (ap (λ n. shifted n (refusal_of e)) (sym read.size)) in
@@ -95,7 +95,7 @@ pub ends_here : (w : Switches) (bytes rest : List ℕ) (offset place : ℕ) (h :
 ends_here w bytes rest offset place h e read stops is told = record {
   read = read;
   stops = stops;
-  ends = inr (_, ap (λ (l : List ℕ). rest_refusal w (chars l)) (sym is) ∙ told.table);
+  ends = inr (_, ap (λ (l : List ℕ). item_refusal w (chars l)) (sym is) ∙ told.table);
 }
 
 pub from_offset : (w : Switches) (bytes : List ℕ) (offset place : ℕ) (h : List ℕ → Type 0) → IsUtf8 bytes → IsCharBoundary bytes offset → IsReadTo w bytes offset place h → offset ≤ place
@@ -139,12 +139,12 @@ after_front [] x y h = h
 after_front (c ∷ front) x y h = after_front front x y (let same : front ++ x ≡ front ++ y = cc in same)
 
 -- the closing quote ends the text, and the empty text is a suffix
-pub lone_quote_free : (w : Switches) (rest : List ℕ) → rest ≡ 34 ∷ [] → rest_refusal w (chars rest) ≡ None
+pub lone_quote_free : (w : Switches) (rest : List ℕ) → rest ≡ 34 ∷ [] → item_refusal w (chars rest) ≡ None
 lone_quote_free w rest is = quote_free w rest _ _ is refl (ap is_suffix chars-nil ∙ is_suffix-nil)
 
 -- the cut of a body that is read and closed
 pub cut_of : (w : Switches) (bytes : List ℕ) (offset place n : ℕ) (h : List ℕ → Type 0) → IsUtf8 bytes → IsCharBoundary bytes offset → (b : IsReadBody w bytes offset h place) →
-    n ≡ length (body_value b.read.items) → rest_refusal w (chars (drop place bytes)) ≡ None →
+    n ≡ length (body_value b.read.items) → item_refusal w (chars (drop place bytes)) ≡ None →
     IsQuotedCut w bytes offset (record { value_len = n; has_escape = not (n == place - offset); start_suffix = place + 1 })
 cut_of w bytes offset place n h u start b value_len free =
     let read = b.read in

@@ -32,15 +32,15 @@ reads_none w front t rest spells = record {
 }
 
 -- items that stand before what items stand before
-pub stand_before-append : (w : Switches) (items more : List Item) (rest : List ℕ) → is_item_list w (body_text more ++ rest) items ≡ true → is_item_list w rest more ≡ true →
+pub is_item_list-append : (w : Switches) (items more : List Item) (rest : List ℕ) → is_item_list w (body_text more ++ rest) items ≡ true → is_item_list w rest more ≡ true →
     is_item_list w rest (items ++ more) ≡ true
-stand_before-append w [] more rest h g = g
-stand_before-append w (a ∷ items) more rest h g =
+is_item_list-append w [] more rest h g = g
+is_item_list-append w (a ∷ items) more rest h g =
     let p = and_parts _ (is_item_list w (body_text more ++ rest) items) h in
     let q = and_parts (is_item w a) _ p.0 in
     let after : body_text items ++ (body_text more ++ rest) ≡ body_text (items ++ more) ++ rest =
     sym (append_assoc (body_text items) (body_text more) rest) ∙ ap (λ l. l ++ rest) (sym (body_text-append items more)) in
-    and_from _ _ (and_from _ _ q.0 (subst (λ l. is_complete_before l a ≡ true) after q.1)) (stand_before-append w items more rest p.1 g)
+    and_from _ _ (and_from _ _ q.0 (subst (λ l. is_complete_before l a ≡ true) after q.1)) (is_item_list-append w items more rest p.1 g)
 
 reads_more : (w : Switches) (front t rest : List ℕ) (at : ℕ) (value : List ℕ) (more : List Item) → ReadsSome w front t (body_text more ++ rest) at value →
     is_item_list w rest more ≡ true → ReadsSome w front t rest (at + byte_len (body_text more)) (value ++ body_value more)
@@ -48,7 +48,7 @@ reads_more w front t rest at value more read g = record {
   items = read.items ++ more;
   spells = ap (λ l. front ++ (l ++ rest)) (body_text-append read.items more)
       ∙ ap (λ l. front ++ l) (append_assoc (body_text read.items) (body_text more) rest) ∙ read.spells;
-  taken = stand_before-append w read.items more rest read.taken g;
+  taken = is_item_list-append w read.items more rest read.taken g;
   place = ap (λ n. n + byte_len (body_text more)) read.place
       ∙ (sym (byte_len-append (front ++ body_text read.items) (body_text more))
       ∙ ap byte_len (append_assoc front (body_text read.items) (body_text more) ∙ ap (λ l. front ++ l) (sym (body_text-append read.items more))));

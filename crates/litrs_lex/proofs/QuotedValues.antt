@@ -13,7 +13,7 @@ use Rattle.litrs_base.specs.Characters.{is_scalar}
 use Rattle.litrs_base.specs.Refusal.{Refusal}
 use Rattle.litrs_base.specs.Text.{is_empty, first_passes}
 use Rattle.litrs_base.specs.declared.quotes.Switches.{Switches}
-use Rattle.litrs_grammar.specs.Quoted.{Item, plain_item, escape_item, continuation, is_item, is_complete_before, takes_all_blanks, is_body, body_text, body_value, is_item_list, QuotedParts, IsQuoted, rest_refusal}
+use Rattle.litrs_grammar.specs.Quoted.{Item, plain_item, escape_item, continuation, is_item, is_complete_before, takes_all_blanks, is_body, body_text, body_value, is_item_list, QuotedParts, IsQuoted, item_refusal}
 use Rattle.litrs_grammar.proofs.QuotedItems.{stands_body}
 use Rattle.litrs_grammar.proofs.Laws.Quoted.{quoted_texts_are_unique, quoted_texts_are_not_refused}
 use Rattle.litrs_grammar.proofs.Laws.Value.{values_without_byte_escapes_are_utf8}
@@ -26,7 +26,7 @@ use Rattle.litrs_lex.proofs.Readings.{read_none, read_run}
 
 -- where the text is a literal, the items read are its own
 value_by : (w : Switches) (bytes : List ℕ) (offset place : ℕ) (h : List ℕ → Type 0) (q : QuotedParts) (o : Option Refusal) → (b : IsReadBody w bytes offset h place) →
-    IsQuoted (chars (take offset bytes)) w (chars bytes) q → rest_refusal w (chars (drop place bytes)) ≡ o → body_value b.read.items ≡ body_value q.items
+    IsQuoted (chars (take offset bytes)) w (chars bytes) q → item_refusal w (chars (drop place bytes)) ≡ o → body_value b.read.items ≡ body_value q.items
 value_by w bytes offset place h q None b is free =
     let front = chars (take offset bytes) in
     let rest = chars (drop place bytes) in
@@ -44,13 +44,13 @@ value_by w bytes offset place h q (Some e) b is told =
       cause = e;
       spells = b.read.spells;
       taken = b.read.taken;
-      told = told;
+      decided = told;
       placed = refl;
     }))
 
 pub whole_value : (w : Switches) (bytes : List ℕ) (offset place : ℕ) (h : List ℕ → Type 0) (q : QuotedParts) → (b : IsReadBody w bytes offset h place) →
     IsQuoted (chars (take offset bytes)) w (chars bytes) q → body_value b.read.items ≡ body_value q.items
-whole_value w bytes offset place h q b is = value_by w bytes offset place h q (rest_refusal w (chars (drop place bytes))) b is refl
+whole_value w bytes offset place h q b is = value_by w bytes offset place h q (item_refusal w (chars (drop place bytes))) b is refl
 
 pub whole_held : (w : Switches) (bytes value : List ℕ) (offset place : ℕ) (q : QuotedParts) → (b : IsReadBody w bytes offset (λ v. value ≡ v) place) →
     IsQuoted (chars (take offset bytes)) w (chars bytes) q → value ≡ body_value q.items
@@ -63,7 +63,7 @@ none_refused w bytes offset e q refused is = quoted_texts_are_not_refused (chars
 
 -- the body has no backslash
 pub none_of : (w : Switches) (bytes : List ℕ) (offset place n : ℕ) (h : List ℕ → Type 0) → IsUtf8 bytes → IsCharBoundary bytes offset → (b : IsReadBody w bytes offset h place) →
-    n ≡ length (body_value b.read.items) → rest_refusal w (chars (drop place bytes)) ≡ None → n ≡ place - offset → IsQuotedValue w bytes offset None (place + 1)
+    n ≡ length (body_value b.read.items) → item_refusal w (chars (drop place bytes)) ≡ None → n ≡ place - offset → IsQuotedValue w bytes offset None (place + 1)
 none_of w bytes offset place n h u at b is free same = record {
   cut = record { value_len = n; has_escape = not (n == place - offset); start_suffix = place + 1 };
   is_cut = cut_of w bytes offset place n h u at b is free;
@@ -74,7 +74,7 @@ none_of w bytes offset place n h u at b is free same = record {
 
 -- the body has one
 pub some_of : (w : Switches) (bytes : List ℕ) (offset place n : ℕ) (h : List ℕ → Type 0) → IsUtf8 bytes → IsCharBoundary bytes offset → (b : IsReadBody w bytes offset h place) →
-    n ≡ length (body_value b.read.items) → rest_refusal w (chars (drop place bytes)) ≡ None → (n ≡ place - offset → ⊥) → (v : List ℕ) →
+    n ≡ length (body_value b.read.items) → item_refusal w (chars (drop place bytes)) ≡ None → (n ≡ place - offset → ⊥) → (v : List ℕ) →
     ((q : QuotedParts) → IsQuoted (chars (take offset bytes)) w (chars bytes) q → v ≡ body_value q.items) → IsQuotedValue w bytes offset (Some v) (place + 1)
 some_of w bytes offset place n h u at b is free other v held =
     let cut = cut_of w bytes offset place n h u at b is free in record {
@@ -87,7 +87,7 @@ some_of w bytes offset place n h u at b is free other v held =
 
 -- it has one, and there is no memory for its value
 pub no_memory_of : (w : Switches) (bytes : List ℕ) (offset place n : ℕ) (h : List ℕ → Type 0) (e : ParseError) → IsUtf8 bytes → IsCharBoundary bytes offset →
-    (b : IsReadBody w bytes offset h place) → n ≡ length (body_value b.read.items) → rest_refusal w (chars (drop place bytes)) ≡ None → (n ≡ place - offset → ⊥) → IsOutOfMemory e →
+    (b : IsReadBody w bytes offset h place) → n ≡ length (body_value b.read.items) → item_refusal w (chars (drop place bytes)) ≡ None → (n ≡ place - offset → ⊥) → IsOutOfMemory e →
     IsQuotedOutOfMemory w bytes offset e
 no_memory_of w bytes offset place n h e u at b is free other error = record {
   cut = record { value_len = n; has_escape = not (n == place - offset); start_suffix = place + 1 };
@@ -98,7 +98,7 @@ no_memory_of w bytes offset place n h e u at b is free other error = record {
 
 -- plain characters alone, and then the quote
 pub plain_of : (w : Switches) (bytes : List ℕ) (offset place : ℕ) → IsUtf8 bytes → IsCharBoundary bytes offset → IsPlainRun w bytes offset place →
-    first_passes (λ c. c == 34) (chars (drop place bytes)) ≡ true → rest_refusal w (chars (drop place bytes)) ≡ None → IsQuotedValue w bytes offset None (place + 1)
+    first_passes (λ c. c == 34) (chars (drop place bytes)) ≡ true → item_refusal w (chars (drop place bytes)) ≡ None → IsQuotedValue w bytes offset None (place + 1)
 plain_of w bytes offset place u at run quote free =
     let size = run.size in let within = run.boundary.0 in
     let len : length (take (place - offset) (drop offset bytes)) ≡ place - offset = length-take-le (place - offset) (drop offset bytes) (omega (arith, length-drop offset bytes)) in

@@ -29,7 +29,7 @@ use Rattle.litrs_grammar.proofs.RawClosings.{raw_scans_stay}
 use Rattle.litrs_grammar.proofs.Laws.Raw.{raw_rows, refusal_of_closed, after_closing, length_closing, only_parts, parts_of, refused}
 use Rattle.litrs_grammar.proofs.RawScans.{raw_scans_go_on, raw_refusals_go_on}
 use Rattle.litrs_grammar.proofs.Spans.Raw.{raw_refusal_within}
-use Rattle.litrs_lex.specs.RawCut.{raw_parts_at, IsRawCut, IsRawRefused, raw_special, IsPassed, IsStop, IsRawOpening, IsBodyCut}
+use Rattle.litrs_lex.specs.RawCut.{raw_parts_at, IsRawCut, IsRawRefused, raw_special, IsPastBody, IsStop, IsRawOpening, IsBodyCut}
 use Rattle.litrs_lex.proofs.PlainRuns.{AlikeFrom128, IsCharRun, char_run, not_ascii, same_tests}
 use Rattle.litrs_lex.proofs.FloatBytes.{chars_after, utf8_after, rest_is}
 use Rattle.litrs_lex.proofs.SuffixBytes.{is_suffix-nil}
@@ -106,10 +106,10 @@ no_closing_more n front more rest none after i below = elim (cases_lt i (length 
 
 -- The steps of the search
 
-pub passed_none : (u a : Bool) (n : ℕ) (t : List ℕ) → IsPassed u a n t t
+pub passed_none : (u a : Bool) (n : ℕ) (t : List ℕ) → IsPastBody u a n t t
 passed_none u a n t = record { front = []; spells = refl; allowed = refl; unclosed = λ i below. absurd (omega arith) }
 
-passed_more : (u a : Bool) (n : ℕ) (t more rest : List ℕ) → IsPassed u a n t (more ++ rest) → list_all (is_raw_char u a) more ≡ true → NoClosingIn n more rest → IsPassed u a n t rest
+passed_more : (u a : Bool) (n : ℕ) (t more rest : List ℕ) → IsPastBody u a n t (more ++ rest) → list_all (is_raw_char u a) more ≡ true → NoClosingIn n more rest → IsPastBody u a n t rest
 passed_more u a n t more rest s all none = record {
   front = s.front ++ more;
   spells = append_assoc s.front more rest ∙ s.spells;
@@ -117,9 +117,9 @@ passed_more u a n t more rest s all none = record {
   unclosed = no_closing_more n s.front more rest s.unclosed none;
 }
 
-passed_run : (u a : Bool) (n : ℕ) (t bs : List ℕ) (k : ℕ) → IsPassed u a n t (chars bs) → IsCharRun (is_ordinary (raw_special u a)) bs k → IsPassed u a n t (chars (drop k bs))
+passed_run : (u a : Bool) (n : ℕ) (t bs : List ℕ) (k : ℕ) → IsPastBody u a n t (chars bs) → IsCharRun (is_ordinary (raw_special u a)) bs k → IsPastBody u a n t (chars (drop k bs))
 passed_run u a n t bs k s r =
-    passed_more u a n t r.run (chars (drop k bs)) (subst (IsPassed u a n t) (sym r.split) s)
+    passed_more u a n t r.run (chars (drop k bs)) (subst (IsPastBody u a n t) (sym r.split) s)
     (list_all-weaken (is_ordinary (raw_special u a)) (is_raw_char u a) (ordinary_raw u a) r.run r.passes) (no_closing_run u a n r.run (chars (drop k bs)) r.passes)
 
 closing_is_ascii : (n : ℕ) → list_all is_ascii_char (raw_closing n) ≡ true
@@ -130,15 +130,15 @@ closing_is_ascii n = hashes_are_ascii n
     hashes_are_ascii (suc n) = hashes_are_ascii n
 
 -- a quote that closes nothing
-passed_quote : (u a : Bool) (n : ℕ) (t bs : List ℕ) → IsUtf8 (34 ∷ bs) → IsPassed u a n t (chars (34 ∷ bs)) → begins_with (raw_closing n) (34 ∷ bs) ≡ false → IsPassed u a n t (chars bs)
+passed_quote : (u a : Bool) (n : ℕ) (t bs : List ℕ) → IsUtf8 (34 ∷ bs) → IsPastBody u a n t (chars (34 ∷ bs)) → begins_with (raw_closing n) (34 ∷ bs) ≡ false → IsPastBody u a n t (chars bs)
 passed_quote u a n t bs utf8 s none =
     let one : chars (34 ∷ bs) ≡ 34 ∷ chars bs = chars_ascii 34 bs (omega arith) in
     let same : begins_with (raw_closing n) (34 ∷ chars bs) ≡ false =
     ap (begins_with (raw_closing n)) (sym one) ∙ (begins_with-chars (raw_closing n) (34 ∷ bs) (closing_is_ascii n) utf8 ∙ none) in
-    passed_more u a n t (34 ∷ []) (chars bs) (subst (IsPassed u a n t) one s) (and_from _ _ (quote_raw u a) refl) (no_closing_one n 34 (chars bs) same)
+    passed_more u a n t (34 ∷ []) (chars bs) (subst (IsPastBody u a n t) one s) (and_from _ _ (quote_raw u a) refl) (no_closing_one n 34 (chars bs) same)
 
 pub stop_made : (u a : Bool) (n start from place : ℕ) (bytes : List ℕ) → start ≤ from → from ≤ length bytes → IsUtf8 (drop from bytes) →
-    IsPassed u a n (chars (drop start bytes)) (chars (drop from bytes)) → place ≡ from + prefix_len (is_ordinary (raw_special u a)) (drop from bytes) → IsStop u a n start bytes place
+    IsPastBody u a n (chars (drop start bytes)) (chars (drop from bytes)) → place ≡ from + prefix_len (is_ordinary (raw_special u a)) (drop from bytes) → IsStop u a n start bytes place
 stop_made u a n start from place bytes low within utf8 s is =
     let p = is_ordinary (raw_special u a) in
     let bs = drop from bytes in
@@ -147,17 +147,17 @@ stop_made u a n start from place bytes low within utf8 s is =
       from = omega arith;
       within = omega (arith, r.within, length-drop from bytes);
       utf8 = subst (λ (l : List ℕ). IsUtf8 l) there r.utf8;
-      passed = subst (λ (l : List ℕ). IsPassed u a n (chars (drop start bytes)) (chars l)) there (passed_run u a n (chars (drop start bytes)) bs (prefix_len p bs) s r);
+      passed = subst (λ (l : List ℕ). IsPastBody u a n (chars (drop start bytes)) (chars l)) there (passed_run u a n (chars (drop start bytes)) bs (prefix_len p bs) s r);
       stops = ap (first_passes p) (sym there) ∙ r.stops;
     }
 
 pub record After (u a : Bool) (n start place : ℕ) (bytes : List ℕ) : Type 0 where
   pub within : place + 1 ≤ length bytes
   pub utf8 : IsUtf8 (drop (place + 1) bytes)
-  pub passed : IsPassed u a n (chars (drop start bytes)) (chars (drop (place + 1) bytes))
+  pub passed : IsPastBody u a n (chars (drop start bytes)) (chars (drop (place + 1) bytes))
 
 after_first : (u a : Bool) (n start place : ℕ) (bytes rest : List ℕ) → drop place bytes ≡ rest → place ≤ length bytes → IsUtf8 rest →
-    IsPassed u a n (chars (drop start bytes)) (chars rest) → (first_passes is_quote rest && not (begins_with (raw_closing n) rest)) ≡ true → After u a n start place bytes
+    IsPastBody u a n (chars (drop start bytes)) (chars rest) → (first_passes is_quote rest && not (begins_with (raw_closing n) rest)) ≡ true → After u a n start place bytes
 after_first u a n start place bytes [] is within utf8 s inner = absurd (false≢true inner)
 after_first u a n start place bytes (b ∷ r) is within utf8 s inner =
     let parts = and_parts (is_quote b) (not (begins_with (raw_closing n) (b ∷ r))) inner in
@@ -165,10 +165,10 @@ after_first u a n start place bytes (b ∷ r) is within utf8 s inner =
     let there : drop (place + 1) bytes ≡ r = sym (drop-drop 1 place bytes) ∙ ap (drop 1) is in
     let none : begins_with (raw_closing n) (34 ∷ r) ≡ false = ap (λ c. begins_with (raw_closing n) (c ∷ r)) (sym quote) ∙ not-true _ parts.1 in
     let text : IsUtf8 (34 ∷ r) = subst (λ (c : ℕ). IsUtf8 (c ∷ r)) quote utf8 in
-    let passed : IsPassed u a n (chars (drop start bytes)) (chars (34 ∷ r)) = subst (λ (c : ℕ). IsPassed u a n (chars (drop start bytes)) (chars (c ∷ r))) quote s in record {
+    let passed : IsPastBody u a n (chars (drop start bytes)) (chars (34 ∷ r)) = subst (λ (c : ℕ). IsPastBody u a n (chars (drop start bytes)) (chars (c ∷ r))) quote s in record {
       within = omega (arith, ap length is, length-drop place bytes);
       utf8 = subst (λ (l : List ℕ). IsUtf8 l) (sym there) (utf8_after_ascii 34 r (omega arith) text);
-      passed = subst (λ (l : List ℕ). IsPassed u a n (chars (drop start bytes)) (chars l)) (sym there) (passed_quote u a n (chars (drop start bytes)) r text passed none);
+      passed = subst (λ (l : List ℕ). IsPastBody u a n (chars (drop start bytes)) (chars l)) (sym there) (passed_quote u a n (chars (drop start bytes)) r text passed none);
     }
 
 -- after a quote that closes nothing

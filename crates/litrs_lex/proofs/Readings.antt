@@ -48,12 +48,12 @@ read_none w bytes offset h u at none = back w bytes [] offset offset h (reads_st
 
 -- so is it in a state at the front
 pub reading_none : (w : Switches) (bytes : List ℕ) (offset place : ℕ) (m : Mask) (h : List ℕ → Type 0) → IsUtf8 bytes → IsCharBoundary bytes offset → h [] →
-    IsPlainRun w bytes offset place → m.start ≤ place → IsMaskOf (stops w.unicode w.allow_nul) bytes m → IsReading w bytes offset h (record { at = offset; place = place; marked = m })
-reading_none w bytes offset place m h u at none run after marked = record {
+    IsPlainRun w bytes offset place → m.start ≤ place → IsMaskOf (stops w.unicode w.allow_nul) bytes m → IsReading w bytes offset h (record { at = offset; place = place; mask = m })
+reading_none w bytes offset place m h u at none run after mask = record {
   read = read_none w bytes offset h u at none;
   run = run;
   after = after;
-  marked = marked;
+  mask = mask;
 }
 
 -- another sink holds the same

@@ -8,7 +8,7 @@ use Rattle.litrs_base.specs.Refusal.{Refusal}
 use Rattle.litrs_base.specs.Text.{byte_len, first_passes}
 use Rattle.litrs_base.specs.declared.quotes.Switches.{Switches}
 use Rattle.litrs_grammar.specs.Escape.{value_bytes}
-use Rattle.litrs_grammar.specs.Quoted.{Item, item_text, item_value, is_item, is_complete_before, is_plain, rest_refusal}
+use Rattle.litrs_grammar.specs.Quoted.{Item, item_text, item_value, is_item, is_complete_before, is_plain, item_refusal}
 use Rattle.litrs_lex.specs.declared.search.Special.{Special}
 use Rattle.litrs_lex.specs.Container.{is_pushable}
 
@@ -53,4 +53,4 @@ pub record IsItemAt (w : Switches) (bytes : List ℕ) (len : ℕ) (value : Optio
 abbrev pub EndsItems : Switches → List ℕ → Type 0
 EndsItems w rest =
     IsTrue (first_passes (λ c. c == double_quote) rest)
-    ⊎ ((e : Refusal) × (rest_refusal w rest ≡ Some e))
+    ⊎ ((e : Refusal) × (item_refusal w rest ≡ Some e))

@@ -79,7 +79,7 @@ raw_special unicode allow_nul =
 
 -- The characters of t in front of rest may stand in a raw body, and at none of them a closing with
 -- n hashes begins.
-pub record IsPassed (unicode allow_nul : Bool) (n : ℕ) (t rest : List ℕ) : Type 0 where
+pub record IsPastBody (unicode allow_nul : Bool) (n : ℕ) (t rest : List ℕ) : Type 0 where
   pub front : List ℕ
   pub spells : front ++ rest ≡ t
   pub allowed : IsTrue (list_all (is_raw_char unicode allow_nul) front)
@@ -92,7 +92,7 @@ pub record IsStop (unicode allow_nul : Bool) (n start : ℕ) (bytes : List ℕ) 
   pub from : start ≤ place
   pub within : place ≤ length bytes
   pub utf8 : IsUtf8 (drop place bytes)
-  pub passed : IsPassed unicode allow_nul n (chars (drop start bytes)) (chars (drop place bytes))
+  pub passed : IsPastBody unicode allow_nul n (chars (drop start bytes)) (chars (drop place bytes))
   pub stops : IsFalse
       (first_passes (is_ordinary (raw_special unicode allow_nul)) (drop place bytes))
 

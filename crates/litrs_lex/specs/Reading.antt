@@ -6,7 +6,7 @@ use Rattle.litrs_base.specs.Characters.{double_quote}
 use Rattle.litrs_base.specs.Refusal.{refusal_of, HasCharSpan}
 use Rattle.litrs_base.specs.Text.{byte_len, first_passes}
 use Rattle.litrs_base.specs.declared.quotes.Switches.{Switches}
-use Rattle.litrs_grammar.specs.Quoted.{Item, body_text, body_value, is_plain, is_item_list, rest_refusal, IsQuotedRefusal}
+use Rattle.litrs_grammar.specs.Quoted.{Item, body_text, body_value, is_plain, is_item_list, item_refusal, IsQuotedRefusal}
 use Rattle.litrs_lex.specs.Mask.{IsMaskOf}
 use Rattle.litrs_lex.specs.QuotedCut.{IsQuotedValue, IsQuotedOutOfMemory}
 use Rattle.litrs_lex.specs.QuotedItems.{IsPlainRun, IsItemAt, EndsItems, stops}
@@ -30,13 +30,13 @@ pub record IsReadTo (w : Switches) (bytes : List ℕ) (offset place : ℕ) (hold
   pub held : holds (body_value items)
 
 -- The items before the state's first place are read, plain characters stand from there up to the
--- second, and what is marked stands before that.
+-- second, and the mask starts at most there.
 pub record IsReading (w : Switches) (bytes : List ℕ) (offset : ℕ) (holds : List ℕ → Type 0)
     (s : Reading) : Type 0 where
   pub read : IsReadTo w bytes offset s.at holds
   pub run : IsPlainRun w bytes s.at s.place
-  pub after : s.marked.start ≤ s.place
-  pub marked : IsMaskOf (stops w.unicode w.allow_nul) bytes s.marked
+  pub after : s.mask.start ≤ s.place
+  pub mask : IsMaskOf (stops w.unicode w.allow_nul) bytes s.mask
 
 -- The body is read up to its closing quote.
 pub record IsReadBody (w : Switches) (bytes : List ℕ) (offset : ℕ) (holds : List ℕ → Type 0)
@@ -60,7 +60,7 @@ pub record IsBodyRefused (w : Switches) (bytes : List ℕ) (offset : ℕ) (e : P
 
 -- The table refuses the rest with the error, counted from its front.
 pub record IsRestRefused (w : Switches) (rest : List ℕ) (e : ParseError) : Type 0 where
-  pub table : rest_refusal w rest ≡ Some (refusal_of e)
+  pub table : item_refusal w rest ≡ Some (refusal_of e)
   pub char_span : HasCharSpan rest e
 
 -- the quote stands at the front, or this item

@@ -174,8 +174,7 @@ pub fn check_suffix(s: &str) -> Result<(), ParseErrorKind>
 
 /// [`check_suffix`] of a text that is not empty.
 ///
-/// It is not inlined, so that callers hold no more than the test for the empty text, which most
-/// suffixes are.
+/// Not inlined: most suffixes are empty, and callers need only that test.
 #[inline(never)]
 fn check_some_suffix(s: &str) -> Result<(), ParseErrorKind>
     ensures ok { is_ok result ≡ is_suffix (chars s.now) }

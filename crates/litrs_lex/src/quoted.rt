@@ -4,7 +4,7 @@ ghost use Rattle.std.specs.Str.{chars, IsCharBoundary};
 ghost use Rattle.litrs_base.specs.Characters.{double_quote};
 ghost use Rattle.litrs_base.specs.Text.{first_passes};
 ghost use Rattle.litrs_base.specs.declared.quotes.Switches.{Switches};
-ghost use Rattle.litrs_grammar.specs.Quoted.{rest_refusal};
+ghost use Rattle.litrs_grammar.specs.Quoted.{item_refusal};
 ghost use Rattle.litrs_lex.specs.QuotedCut.{IsQuotedCut, IsQuotedRefused};
 ghost use Rattle.litrs_lex.specs.Reading.{IsReading, IsReadBody, IsBodyRefused, IsRestRefused, IsItemsEnd};
 ghost use Rattle.litrs_lex.specs.Unescaped.{switches};
@@ -109,7 +109,7 @@ fn beginning<A: Allows>(input: &str, offset: usize, allowed: A) -> Reading
     Reading {
         at: offset,
         place,
-        marked: Mask::empty_at(place),
+        mask: Mask::empty_at(place),
     }
 }
 
@@ -127,7 +127,7 @@ pub(crate) fn closed<A: Allows>(
 ) -> Result<(), ParseError>
     requires { IsReadBody (A.allowed allowed) input.now offset (λ _. ⊤) place }
     ensures ok { IfOk result (λ _.
-        rest_refusal (A.allowed allowed) (chars (drop place input.now)) ≡ None) }
+        item_refusal (A.allowed allowed) (chars (drop place input.now)) ≡ None) }
     ensures refused { IfErr result (IsBodyRefused (A.allowed allowed) input.now offset) }
 {
     match quote_refusal(&input[place..]) {
@@ -140,7 +140,7 @@ pub(crate) fn closed<A: Allows>(
 #[inline(always)]
 fn quote_refusal(rest: &str) -> Option<ParseError>
     requires { IsTrue (first_passes (λ c. c == double_quote) (chars rest.now)) }
-    ensures none { IfNone result ((w : Switches) → rest_refusal w (chars rest.now) ≡ None) }
+    ensures none { IfNone result ((w : Switches) → item_refusal w (chars rest.now) ≡ None) }
     ensures refusal { IfSome result (λ e.
         (w : Switches) → IsRestRefused w (chars rest.now) e) }
 {
@@ -152,7 +152,7 @@ fn quote_refusal(rest: &str) -> Option<ParseError>
 
 /// Whether a quote is all there is. It is the equality of texts, without a call.
 #[inline(always)]
-pub fn is_quote(bytes: &[u8]) -> bool
+pub fn is_lone_quote(bytes: &[u8]) -> bool
     ensures quote { IsTrue result → bytes.now ≡ codes "\"" }
     ensures other { IsFalse result → bytes.now ≢ codes "\"" }
 {

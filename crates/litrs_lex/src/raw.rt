@@ -155,9 +155,9 @@ pub fn body_end(bytes: &[u8], start: usize, hashes: usize, allowed: Switches) ->
         non_ascii: !allowed.unicode,
     };
     let mut place = next_special(bytes, start, what);
-    let mut marked = Mask::empty_at(place);
+    let mut mask = Mask::empty_at(place);
     while is_inner_quote(&bytes[place..], hashes) {
-        (place, marked) = next_special_masked(bytes, place + 1, what, marked);
+        (place, mask) = next_special_masked(bytes, place + 1, what, mask);
     }
     place
 }

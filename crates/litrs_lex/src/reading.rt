@@ -15,8 +15,8 @@ pub struct Reading {
     pub at: usize,
     /// Plain characters stand from there up to here, and no more.
     pub place: usize,
-    /// What a search has marked.
-    pub marked: Mask,
+    /// The mask of the last search.
+    pub mask: Mask,
 }
 
 /// Where the reading ends.
@@ -47,10 +47,10 @@ pub(crate) fn read_items<S: Sink, A: Allows>(
     let switches = allowed.switches();
     let mut at = from.at;
     let mut place = from.place;
-    let mut marked = from.marked;
+    let mut mask = from.mask;
     loop {
         if !sink.push_run(input, at, place) {
-            return Reached::Full(Reading { at, place, marked });
+            return Reached::Full(Reading { at, place, mask });
         }
         match stop_at(&input[place..], switches) {
             Ok(Stop::Quote) => return Reached::Quote(place),
@@ -59,11 +59,11 @@ pub(crate) fn read_items<S: Sink, A: Allows>(
                     return Reached::Full(Reading {
                         at: place,
                         place,
-                        marked,
+                        mask,
                     });
                 }
                 at = place + len;
-                (place, marked) = plain_end(input, at, switches, marked);
+                (place, mask) = plain_end(input, at, switches, mask);
             }
             Err(e) => return Reached::Refused(place, e.offset_span(place)),
         }

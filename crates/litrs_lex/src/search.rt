@@ -19,7 +19,7 @@ pub struct Special {
     pub non_ascii: bool,
 }
 
-/// How many bytes one load marks in a long text.
+/// How many bytes of a long text one load reads.
 const LOAD: usize = 32;
 
 /// Which bytes of a part of a text are special, as far as a search has found out. Places count
@@ -39,7 +39,7 @@ impl Mask {
     #[inline(always)]
     pub fn empty_at(place: usize) -> Mask
         ensures start { result.start ≡ place }
-        ensures marked { (what : Special) (bytes : List ℕ) → place ≤ length bytes →
+        ensures mask { (what : Special) (bytes : List ℕ) → place ≤ length bytes →
             IsMaskOf what bytes result }
     {
         Mask {
@@ -72,51 +72,50 @@ pub fn next_special(bytes: &[u8], from: usize, what: Special) -> usize
     next_special_masked(bytes, from, what, Mask::empty_at(from)).0
 }
 
-/// [`next_special`], and what is marked then. Where a special byte is known
-/// from an earlier search, nothing is read: so special bytes that stand close to each other cost
+/// [`next_special`] from an earlier mask, and the new mask. Where the earlier one has a special
+/// byte at or after `from`, nothing is read: so special bytes that stand close to each other cost
 /// one load.
 ///
-/// `from` may not pass the length, nor stand before what is marked.
+/// `from` may not pass the length, nor stand before where the mask starts.
 ///
 /// ```
 /// let what = Special { backslash: true, nul: false, non_ascii: false };
-/// let (first, marked) = next_special_masked(b"a\\n\\t\"", 0, what, Mask::empty_at(0));
-/// let (second, _) = next_special_masked(b"a\\n\\t\"", first + 2, what, marked);
+/// let (first, mask) = next_special_masked(b"a\\n\\t\"", 0, what, Mask::empty_at(0));
+/// let (second, _) = next_special_masked(b"a\\n\\t\"", first + 2, what, mask);
 /// assert_eq!(rt; (first, second), (1, 3));
 /// ```
 #[inline(always)]
-pub fn next_special_masked(bytes: &[u8], from: usize, what: Special, marked: Mask) -> (usize, Mask)
+pub fn next_special_masked(bytes: &[u8], from: usize, what: Special, mask: Mask) -> (usize, Mask)
     requires from { from ≤ length bytes.now }
-    requires after { marked.start ≤ from }
-    requires marked { IsMaskOf what bytes.now marked }
+    requires after { mask.start ≤ from }
+    requires mask { IsMaskOf what bytes.now mask }
     ensures place { result.0 ≡ from + prefix_len (is_ordinary what) (drop from bytes.now) }
     ensures after { result.1.start ≤ result.0 }
-    ensures marked { IsMaskOf what bytes.now result.1 }
+    ensures mask { IsMaskOf what bytes.now result.1 }
 {
     let mut unread = from;
-    if from < marked.end {
-        let found = marked.bits >> (from - marked.start);
+    if from < mask.end {
+        let found = mask.bits >> (from - mask.start);
         if found != 0 {
-            return (from + found.trailing_zeros() as usize, marked);
+            return (from + found.trailing_zeros() as usize, mask);
         }
-        unread = marked.end;
+        unread = mask.end;
     }
-    load_mask(bytes, unread, what, marked)
+    load_mask(bytes, unread, what, mask)
 }
 
-/// The same where nothing from `from` on is marked: all of a short text is newly marked, and up to
-/// 32 bytes of a longer one.
+/// Loads a new mask at `from`: the whole text if it is short, else 32 bytes.
 #[inline(always)]
-fn load_mask(bytes: &[u8], from: usize, what: Special, marked: Mask) -> (usize, Mask)
+fn load_mask(bytes: &[u8], from: usize, what: Special, mask: Mask) -> (usize, Mask)
     requires from { from ≤ length bytes.now }
-    requires after { marked.start ≤ from }
-    requires marked { IsMaskOf what bytes.now marked }
+    requires after { mask.start ≤ from }
+    requires mask { IsMaskOf what bytes.now mask }
     ensures place { result.0 ≡ from + prefix_len (is_ordinary what) (drop from bytes.now) }
     ensures after { result.1.start ≤ result.0 }
-    ensures marked { IsMaskOf what bytes.now result.1 }
+    ensures mask { IsMaskOf what bytes.now result.1 }
 {
     match bytes.len() {
-        0..=3 => (from + ordinary_len(&bytes[from..], what), marked),
+        0..=3 => (from + ordinary_len(&bytes[from..], what), mask),
         4..=7 => mask_all::<4>(bytes, from, what),
         8..=15 => mask_all::<8>(bytes, from, what),
         16..=31 => mask_all::<16>(bytes, from, what),
@@ -124,7 +123,7 @@ fn load_mask(bytes: &[u8], from: usize, what: Special, marked: Mask) -> (usize, 
     }
 }
 
-/// [`load_mask`] of N to 2 N bytes, by a load of the first N and one of the last: the marks of the
+/// [`load_mask`] of N to 2 N bytes, by a load of the first N and one of the last: the bits of the
 /// last that the first have too are shifted out.
 #[inline(always)]
 fn mask_all<const N: usize>(bytes: &[u8], from: usize, what: Special) -> (usize, Mask)
@@ -132,7 +131,7 @@ fn mask_all<const N: usize>(bytes: &[u8], from: usize, what: Special) -> (usize,
     requires size { (N ≤ length bytes.now) × (length bytes.now ≤ N + N) × (N ≤ 16) }
     ensures place { result.0 ≡ from + prefix_len (is_ordinary what) (drop from bytes.now) }
     ensures after { result.1.start ≤ result.0 }
-    ensures marked { IsMaskOf what bytes.now result.1 }
+    ensures mask { IsMaskOf what bytes.now result.1 }
 {
     let end = bytes.len();
     let first = special_mask::<N>(bytes, 0, what);
@@ -147,13 +146,13 @@ fn mask_all<const N: usize>(bytes: &[u8], from: usize, what: Special) -> (usize,
 }
 
 /// [`load_mask`] of at least 32 bytes, by so many a step. The last load is of the last 32, and
-/// the marks of those before what is left are shifted out.
+/// the bits of those before what is left are shifted out.
 #[inline(always)]
 fn mask_by_lanes(bytes: &[u8], from: usize, what: Special) -> (usize, Mask)
     requires { (from ≤ length bytes.now) × (32 ≤ length bytes.now) }
     ensures place { result.0 ≡ from + prefix_len (is_ordinary what) (drop from bytes.now) }
     ensures after { result.1.start ≤ result.0 }
-    ensures marked { IsMaskOf what bytes.now result.1 }
+    ensures mask { IsMaskOf what bytes.now result.1 }
 {
     let len = bytes.len();
     let mut start = from;
@@ -196,17 +195,17 @@ fn ordinary_len(bytes: &[u8], what: Special) -> usize
     bytes.iter().take_while(|b| !is_special(**b, what)).count()
 }
 
-/// The place of the lowest mark, where bit 0 is the mark of the place `from`; `end` where there is
-/// none.
+/// The place of the lowest bit that is set, where bit 0 is that of the place `from`; `end` where
+/// none is.
 #[inline(always)]
-fn lowest_bit_place(marks: u64, from: usize, end: usize) -> usize
-    requires { 0 < marks → from + trailing_zeros w64 marks ≤ end }
-    ensures { result ≡ if marks == 0 then end else (from + trailing_zeros w64 marks) }
+fn lowest_bit_place(bits: u64, from: usize, end: usize) -> usize
+    requires { 0 < bits → from + trailing_zeros w64 bits ≤ end }
+    ensures { result ≡ if bits == 0 then end else (from + trailing_zeros w64 bits) }
 {
-    if marks == 0 {
+    if bits == 0 {
         end
     } else {
-        from + marks.trailing_zeros() as usize
+        from + bits.trailing_zeros() as usize
     }
 }
 

@@ -82,21 +82,21 @@ pub(crate) fn first_plain_end<A: Allows>(input: &str, from: usize, allowed: A) -
     next_special(input.as_bytes(), from, special(switches))
 }
 
-/// The same, and what is marked then, where it is known what was marked before. A backslash that
-/// stands there costs no search.
+/// [`first_plain_end`] from an earlier mask, and the new mask. A backslash at `from` costs no
+/// search.
 #[inline(always)]
-pub(crate) fn plain_end(input: &str, from: usize, allowed: Switches, marked: Mask) -> (usize, Mask)
+pub(crate) fn plain_end(input: &str, from: usize, allowed: Switches, mask: Mask) -> (usize, Mask)
     requires at { IsCharBoundary input.now from }
-    requires after { marked.start ≤ from }
-    requires marked { IsMaskOf (stops allowed.unicode allowed.allow_nul) input.now marked }
+    requires after { mask.start ≤ from }
+    requires mask { IsMaskOf (stops allowed.unicode allowed.allow_nul) input.now mask }
     ensures run { IsPlainRun allowed input.now from result.0 }
     ensures after { result.1.start ≤ result.0 }
-    ensures marked { IsMaskOf (stops allowed.unicode allowed.allow_nul) input.now result.1 }
+    ensures mask { IsMaskOf (stops allowed.unicode allowed.allow_nul) input.now result.1 }
 {
     if begins_with_byte(&input.as_bytes()[from..], b'\\') {
-        (from, marked)
+        (from, mask)
     } else {
-        next_special_masked(input.as_bytes(), from, special(allowed), marked)
+        next_special_masked(input.as_bytes(), from, special(allowed), mask)
     }
 }
 

@@ -11,7 +11,7 @@ use crate::Switches;
 use crate::allowed::Allows;
 use crate::container::EscapeContainer;
 use crate::filled::Filled;
-use crate::quoted::{closed, is_quote};
+use crate::quoted::{closed, is_lone_quote};
 use crate::reading::{Reached, Reading, read_items};
 use crate::room::Room;
 use crate::search::Mask;
@@ -90,7 +90,7 @@ pub fn unescape_string_with<C: EscapeContainer, A: Allows>(
 {
     let place = first_plain_end(input, offset, allowed);
     // Asked first: most strings end so, and take no room for a value or a refusal.
-    if is_quote(input[place..].as_bytes()) {
+    if is_lone_quote(input[place..].as_bytes()) {
         Ok((None, place + 1))
     } else {
         read_value(alloc, input, offset, place, allowed)
@@ -114,7 +114,7 @@ fn read_value<C: EscapeContainer, A: Allows>(
     let from = Reading {
         at: offset,
         place,
-        marked: Mask::empty_at(place),
+        mask: Mask::empty_at(place),
     };
     let mut room = Room::<SHORT>::new();
     match read_items(input, offset, from, allowed, &mut room) {

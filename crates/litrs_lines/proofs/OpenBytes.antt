@@ -32,7 +32,7 @@ use Rattle.litrs_lex.specs.Reading.{IsItemsEnd}
 use Rattle.litrs_lex.specs.RawCut.{IsStop, IsRawOpening}
 use Rattle.litrs_grammar.proofs.Laws.Integer.{list_all-take_while, first_passes-rest}
 use Rattle.litrs_lex.proofs.QuotedBytes.{blank_ascii}
-use Rattle.litrs_lex.proofs.QuotedScan.{front_splits, stand_before-append}
+use Rattle.litrs_lex.proofs.QuotedScan.{front_splits, is_item_list-append}
 use Rattle.litrs_lex.proofs.StringFronts.{quoted_boundary, quoted_before}
 use Rattle.litrs_lines.specs.declared.collector.body.Body.{Body}
 use Rattle.litrs_lines.specs.declared.collector.body.Body.TheVariants.{Quoted, Continuation, Raw}
@@ -170,7 +170,7 @@ quoted_reads kind place end bytes h u s ended =
       spells = ap (λ (l : List ℕ). quoted_front kind ++ l) (body_text-append s.items read.items)
           ∙ sym (append_assoc (quoted_front kind) (body_text s.items) (body_text read.items))
           ∙ ap (λ (l : List ℕ). l ++ body_text read.items) s.spells ∙ before;
-      taken = stand_before-append w s.items read.items rest (subst (λ (r : List ℕ). is_item_list w r s.items ≡ true) after s.taken) read.taken;
+      taken = is_item_list-append w s.items read.items rest (subst (λ (r : List ℕ). is_item_list w r s.items ≡ true) after s.taken) read.taken;
     }
 
 -- the whole text, by its items and the rest
@@ -281,7 +281,7 @@ continued_quoted kind place k bytes u s count inside =
       items = s.items ++ item ∷ [];
       spells = ap (λ (l : List ℕ). quoted_front kind ++ l) (body_text-append s.items (item ∷ []) ∙ ap (λ (l : List ℕ). body_text s.items ++ l) (append-nil text))
           ∙ more_after (quoted_front kind) (body_text s.items) (92 ∷ 10 ∷ s.blanks) more (chars (take place bytes)) s.spells ∙ before;
-      taken = stand_before-append w s.items (item ∷ []) rest
+      taken = is_item_list-append w s.items (item ∷ []) rest
           (subst (λ (r : List ℕ). is_item_list w r s.items ≡ true) whole (quoted_items_stay w (92 ∷ 10 ∷ s.blanks) (more ++ rest) s.items s.taken))
           (and_from _ _ (and_from _ _ all (and_from _ _ (not_from_false _ some) (not_from_false _ stops))) refl);
     }

@@ -19,7 +19,7 @@ use Rattle.litrs_base.specs.declared.quotes.Switches.{Switches}
 use Rattle.litrs_grammar.specs.Suffix.{is_suffix, suffix_refusal}
 use Rattle.litrs_grammar.specs.Continuation.{BeginsBy}
 use Rattle.litrs_grammar.specs.Escape.{Escape, escape_text, IsEscape}
-use Rattle.litrs_grammar.specs.Quoted.{Item, plain_item, escape_item, body_text, is_item_list, QuotedParts, rest_refusal, IsQuotedLiteral, IsQuotedRefusal, IsQuotedLiteralRefusal}
+use Rattle.litrs_grammar.specs.Quoted.{Item, plain_item, escape_item, body_text, is_item_list, QuotedParts, item_refusal, IsQuotedLiteral, IsQuotedRefusal, IsQuotedLiteralRefusal}
 use Rattle.litrs_grammar.specs.GoesOn.Quoted.{IsOpenRest}
 use Rattle.litrs_grammar.specs.Raw.{hashes, occurs, raw_closing, has_unicode, allows_nul, is_raw_char, IsRawBody, RawParts, raw_refusal}
 use Rattle.litrs_grammar.specs.Literal.{quoted_parts, raw_parts, IsString, a_string, a_byte_string, a_c_string, IsLiteral, literal_parse, Begins, string_literal_of}
@@ -33,7 +33,7 @@ use Rattle.litrs_grammar.proofs.SuffixStart.{suffix_last}
 use Rattle.litrs_grammar.proofs.LongerTexts.Quoted.{quoted_items_stay, rest_begins}
 use Rattle.litrs_grammar.proofs.LongerTexts.Raw.{closing_is_text, rows_of, unclosed_refusal}
 use Rattle.litrs_grammar.proofs.LongerTexts.Suffix.{is_suffix-nil}
-use Rattle.litrs_lex.proofs.QuotedScan.{stand_before-append}
+use Rattle.litrs_lex.proofs.QuotedScan.{is_item_list-append}
 
 -- no literal, and with LF after it the beginning of one
 abbrev pub IsOpenText : List ℕ → Type 0
@@ -77,10 +77,10 @@ abbrev pub IsOpenEnd : Switches → List ℕ → Type 0
 IsOpenEnd w rest = IsOpenRest rest ⊎ ((rest ≡ 92 ∷ []) ⊎ ((e : Escape) × (rest ≡ escape_text e) × IsEscape w e))
 
 -- an open rest is refused as unterminated
-open_rest : (w : Switches) (rest : List ℕ) → IsOpenRest rest → rest_refusal w rest ≡ Some (without_span UnterminatedString)
-unfolding rest_refusal
-open_rest w rest (inl none) = ap (rest_refusal w) none
-open_rest w rest (inr (blanks, is, all)) = ap (rest_refusal w) is ∙ if_true (list_all is_blank blanks) _ _ all
+open_rest : (w : Switches) (rest : List ℕ) → IsOpenRest rest → item_refusal w rest ≡ Some (without_span UnterminatedString)
+unfolding item_refusal
+open_rest w rest (inl none) = ap (item_refusal w) none
+open_rest w rest (inr (blanks, is, all)) = ap (item_refusal w) is ∙ if_true (list_all is_blank blanks) _ _ all
 
 -- more after the rest
 pub more_after : (front text rest more t : List ℕ) → front ++ (text ++ rest) ≡ t → front ++ (text ++ (rest ++ more)) ≡ t ++ more
@@ -103,8 +103,8 @@ not_suffix s = by (is_suffix (s ++ 10 ∷ [])) refl
     by false is = refl
     by true is = absurd (both_ways _ (suffix_last (s ++ 10 ∷ []) is) (line_feed_last s))
 
-quote_refused : (kind : StringKind) (t : List ℕ) → is_suffix t ≡ false → rest_refusal (switches_of kind) (34 ∷ t) ≡ Some (at_byte 1 (suffix_refusal t))
-unfolding rest_refusal
+quote_refused : (kind : StringKind) (t : List ℕ) → is_suffix t ≡ false → item_refusal (switches_of kind) (34 ∷ t) ≡ Some (at_byte 1 (suffix_refusal t))
+unfolding item_refusal
 quote_refused string_kind t other = if_true (not (is_suffix t)) _ _ (not_from_false _ other)
 quote_refused byte_string_kind t other = if_true (not (is_suffix t)) _ _ (not_from_false _ other)
 quote_refused c_string_kind t other = if_true (not (is_suffix t)) _ _ (not_from_false _ other)
@@ -121,7 +121,7 @@ open_is_none kind t q is line =
       cause = at_byte 1 (suffix_refusal after);
       spells = more_after front (body_text q.items) (34 ∷ q.suffix) (10 ∷ []) t is.spells;
       taken = body_stands w q.items after is.body;
-      told = quote_refused kind after (not_suffix q.suffix);
+      decided = quote_refused kind after (not_suffix q.suffix);
       placed = refl;
     } in
     let unclosed : IsQuotedRefusal front w (t ++ 10 ∷ []) (shifted (byte_len (front ++ body_text line.items)) (without_span UnterminatedString)) = record {
@@ -130,7 +130,7 @@ open_is_none kind t q is line =
       cause = without_span UnterminatedString;
       spells = line.spells;
       taken = line.taken;
-      told = open_rest w line.rest line.shape;
+      decided = open_rest w line.rest line.shape;
       placed = refl;
     } in
     let same = quoted_refusals_are_unique front w (t ++ 10 ∷ []) _ _ closed unclosed in
@@ -157,7 +157,7 @@ line_of kind t items rest spells taken (inl (inl none)) =
       items = items ++ plain_item 10 ∷ [];
       rest = [];
       spells = ap (λ (l : List ℕ). quoted_front kind ++ l) text ∙ more_after (quoted_front kind) (body_text items) rest (10 ∷ []) t spells;
-      taken = stand_before-append w items (plain_item 10 ∷ []) [] (quoted_items_stay w [] (10 ∷ []) items end) (line_feed_stands kind);
+      taken = is_item_list-append w items (plain_item 10 ∷ []) [] (quoted_items_stay w [] (10 ∷ []) items end) (line_feed_stands kind);
       shape = inl refl;
     }
 line_of kind t items rest spells taken (inl (inr (blanks, is, all))) = record {
@@ -184,7 +184,7 @@ line_of kind t items rest spells taken (inr (inr (e, is, grammar))) =
       items = items ++ more;
       rest = [];
       spells = ap (λ (l : List ℕ). quoted_front kind ++ l) text ∙ more_after (quoted_front kind) (body_text items) rest (10 ∷ []) t spells;
-      taken = stand_before-append w items more [] before (and_from _ _ (and_from _ _ grammar refl) (line_feed_stands kind));
+      taken = is_item_list-append w items more [] before (and_from _ _ (and_from _ _ grammar refl) (line_feed_stands kind));
       shape = inl refl;
     }
 

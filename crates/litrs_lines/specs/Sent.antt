@@ -30,7 +30,7 @@ pub record Sends (old : Option (List ℕ)) (unwritten_old : List ℕ) (new : Opt
   pub appends : Appends old new written
 
 -- The reporter has the same collector, the same reports and the same output: what a caller sees of
--- these is what is behind it.
+-- these is what it points to.
 pub record IsSameReporter {O : Type 0} (old new : Reporter O) : Type 0 where
   pub collector : new.collector.ghost_name ≡ old.collector.ghost_name
   pub unwritten : new.unwritten.ghost_name ≡ old.unwritten.ghost_name

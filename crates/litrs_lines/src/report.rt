@@ -109,7 +109,7 @@ fn push_integer_report<B: Buffer>(out: &mut String, lit: &IntegerLit<B>) -> Resu
         ≡ string_bytes out.old ++ literal_report (an_integer (integer_parts lit.now))) }
 {
     push_integer_front(out, lit.base().value(), lit.raw_main_part(), lit.suffix())?;
-    push_value(out, lit)
+    push_integer_value(out, lit)
 }
 
 /// Adds the report on an integer up to its value.
@@ -137,7 +137,7 @@ fn push_field(out: &mut String, name: &str, value: &str) -> Result<(), AllocErro
 }
 
 /// Adds the value of an integer in decimal, or `none`.
-fn push_value<B: Buffer>(out: &mut String, lit: &IntegerLit<B>) -> Result<(), AllocError>
+fn push_integer_value<B: Buffer>(out: &mut String, lit: &IntegerLit<B>) -> Result<(), AllocError>
     ensures { OnOk result (
         string_bytes out.new
         ≡ string_bytes out.old ++ value_text (integer_value (integer_parts lit.now))) }

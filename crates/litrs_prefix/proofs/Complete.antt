@@ -21,7 +21,7 @@ use Rattle.litrs_base.specs.Text.{first_passes, byte_len}
 use Rattle.litrs_base.specs.Refusal.{Refusal, at_byte, shifted, refusal_of, kind_of, span_of}
 use Rattle.litrs_base.proofs.ListTests.{if_true, if_false}
 use Rattle.litrs_grammar.specs.Suffix.{is_suffix, starts_identifier, is_ascii_symbol, suffix_refusal}
-use Rattle.litrs_grammar.specs.Quoted.{QuotedParts, IsQuoted, IsQuotedRefusal, IsQuotedLiteral, IsQuotedLiteralRefusal, body_text, rest_refusal}
+use Rattle.litrs_grammar.specs.Quoted.{QuotedParts, IsQuoted, IsQuotedRefusal, IsQuotedLiteral, IsQuotedLiteralRefusal, body_text, item_refusal}
 use Rattle.litrs_grammar.proofs.QuotedItems.{body_stands}
 use Rattle.litrs_prefix.specs.Prefix.{ends_suffix}
 use Rattle.litrs_prefix.specs.Opens.{after_run, after_name}
@@ -73,8 +73,8 @@ pub here : {A : Type 0} (b : Bool) (x y : A) → b ≡ false → (if not b then 
 here true x y h = absurd (true≢false h)
 here false x y h = refl
 
-quote_refused : (w : Switches) (x : List ℕ) → is_suffix x ≡ false → rest_refusal w (34 ∷ x) ≡ Some (at_byte 1 (suffix_refusal x))
-unfolding rest_refusal
+quote_refused : (w : Switches) (x : List ℕ) → is_suffix x ≡ false → item_refusal w (34 ∷ x) ≡ Some (at_byte 1 (suffix_refusal x))
+unfolding item_refusal
 quote_refused w x h =
     skip _ _ _ (or_right w.allow_nul true refl) ∙ (skip _ _ _ (or_right w.unicode true refl) ∙ here (is_suffix x) _ _ h)
 
@@ -86,7 +86,7 @@ quoted_refusal front w l c r q h e = record {
   cause = at_byte 1 (suffix_refusal (q.suffix ++ c ∷ r));
   spells = sym (longer front w l (c ∷ r) q h);
   taken = body_stands w q.items (q.suffix ++ c ∷ r) h.body;
-  told = quote_refused w (q.suffix ++ c ∷ r) (no_suffix q.suffix c r e);
+  decided = quote_refused w (q.suffix ++ c ∷ r) (no_suffix q.suffix c r e);
   placed = refl;
 }
 

@@ -41,7 +41,7 @@ pub fn literal_end(text: &str) -> Option<usize>
     }
 }
 
-/// The same, or 0, where no literal ends.
+/// [`literal_end`], with 0 for None.
 fn some_end(text: &str) -> usize
     ensures boundary { IsCharBoundary text.now result }
     ensures literal { (d : Derivation) (r : List ℕ) → HasPrefix (chars text.now) d r →

@@ -85,10 +85,10 @@ pub record StandsAt (line : List ℕ) (place : ℕ) (rest : List ℕ) : Type 0 w
 -- The text has a name and `=`, and after blanks this value, without the sign that it has if this is
 -- negative.
 pub record HasValue (text : List ℕ) (negative : Bool) (value : List ℕ) : Type 0 where
-  pub behind : List ℕ
+  pub after_equals : List ℕ
   pub signed : List ℕ
-  pub spells : name_part text ++ 61 ∷ behind ≡ text
-  pub blanks : IsTrimStart behind signed
+  pub spells : name_part text ++ 61 ∷ after_equals ≡ text
+  pub blanks : IsTrimStart after_equals signed
   pub sign_is : sign negative ++ value ≡ signed
   pub no_sign : IsFalse negative → (more : List ℕ) → value ≢ 45 ∷ more
 

@@ -14,7 +14,7 @@ ghost use Rattle.litrs.specs.Begins.{IsClosed};
 use crate::going_on::escape::escape_goes_on;
 use crate::going_on::front::begins_with;
 use crate::going_on::suffix::suffix_goes_on;
-use litrs_lex::quoted::{is_quote, items_end};
+use litrs_lex::quoted::{is_lone_quote, items_end};
 use litrs_lex::{StringKind, Switches};
 
 /// Whether a text that begins as a quoted string of the kind begins a string of it.
@@ -30,7 +30,7 @@ pub(crate) fn quoted_goes_on(text: &str, kind: StringKind) -> bool
     }
 }
 
-/// [`quoted_goes_on`] of strings, in a call of their own, which asks for no kind.
+/// [`quoted_goes_on`] of strings, compiled for the kind.
 #[inline(never)]
 fn string_goes_on(text: &str) -> bool
     requires { IsTrue (begins_with (quoted_front string_kind) text.now) }
@@ -76,7 +76,7 @@ fn rest_goes_on(rest: &str, allowed: Switches) -> bool
     ensures { IsTrue result ↔ (IsClosed (chars rest.now)
         ⊎ RestGoesOn allowed (chars rest.now)) }
 {
-    if is_quote(rest.as_bytes()) {
+    if is_lone_quote(rest.as_bytes()) {
         true
     } else {
         let Switches {
@@ -88,7 +88,9 @@ fn rest_goes_on(rest: &str, allowed: Switches) -> bool
     }
 }
 
-/// [`rest_goes_on`] of any rest, in a call.
+/// [`rest_goes_on`] of any rest.
+///
+/// Not inlined: most rests are a quote alone.
 #[inline(never)]
 fn other_rest_goes_on(rest: &str, unicode: bool, byte_escapes: bool, allow_nul: bool) -> bool
     requires { EndsItems (switches unicode byte_escapes allow_nul) (chars rest.now) }

@@ -2,7 +2,7 @@
 ghost use Rattle.std.specs.Prelude.{◌≡◌, ◌≢◌, ◌==◌, ◌||◌, false, codes};
 ghost use Rattle.litrs_base.specs.Text.{is_empty, first_passes, begins_with};
 ghost use Rattle.litrs_grammar.specs.Bool.{bool_text};
-ghost use Rattle.litrs_grammar.specs.GoesOn.Unnamed.{unnamed_goes_on};
+ghost use Rattle.litrs_grammar.specs.GoesOn.Undispatched.{undispatched_goes_on};
 
 use crate::going_on::front::begins_with;
 
@@ -11,7 +11,7 @@ use crate::going_on::front::begins_with;
 #[inline(always)]
 pub(crate) fn is_prefix_of_a_front(word: &[u8]) -> bool
     requires { word.now ≢ bool_text false }
-    ensures { result ≡ (unnamed_goes_on word.now || begins_with word.now (codes "c")) }
+    ensures { result ≡ (undispatched_goes_on word.now || begins_with word.now (codes "c")) }
 {
     // The other words are shorter, and most names are not.
     if word.len() > 4 {
@@ -35,7 +35,7 @@ fn begins_like_a_front(word: &[u8]) -> bool
 #[inline(never)]
 #[tactic(auto, using(crate::proofs::Fronts::starts_with_front))]
 fn any_front_starts_with(word: &[u8]) -> bool
-    ensures { result ≡ (unnamed_goes_on word.now || begins_with word.now (codes "c")) }
+    ensures { result ≡ (undispatched_goes_on word.now || begins_with word.now (codes "c")) }
 {
     b"true".starts_with(word)
         || b"false".starts_with(word)

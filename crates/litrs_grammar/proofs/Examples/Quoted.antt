@@ -10,7 +10,7 @@ use Rattle.litrs_base.specs.declared.quotes.StringKind.TheVariants.{String as st
 use Rattle.litrs_base.specs.declared.quotes.Switches.{Switches}
 use Rattle.litrs_base.specs.Quotes.{string_switches, byte_string_switches, c_string_switches}
 use Rattle.litrs_grammar.specs.Escape.{simple_escape, hex_escape, unicode_escape}
-use Rattle.litrs_grammar.specs.Quoted.{Item, plain_item, escape_item, continuation, body_value, is_body, IsQuotedLiteral, IsQuotedLiteralRefusal, rest_refusal, is_item_list, is_plain}
+use Rattle.litrs_grammar.specs.Quoted.{Item, plain_item, escape_item, continuation, body_value, is_body, IsQuotedLiteral, IsQuotedLiteralRefusal, item_refusal, is_item_list, is_plain}
 use Rattle.litrs_grammar.proofs.Computing.{computing, quoted, refused_after}
 
 -- characters that stand for themselves
@@ -128,11 +128,11 @@ not_bodies = (refl, refl, refl, refl, refl, refl)
 -- Rests that no row fits, as an item or the end stands there
 
 accepted :
-    (rest_refusal string_switches (codes "a") ≡ None)
-    × (rest_refusal string_switches (codes "\"x") ≡ None)
-    × (rest_refusal string_switches (codes "\\\n b") ≡ None)
-    × (rest_refusal string_switches (codes "\\n\"") ≡ None)
-    × (rest_refusal string_switches (codes "\\u{0}\"") ≡ None)
+    (item_refusal string_switches (codes "a") ≡ None)
+    × (item_refusal string_switches (codes "\"x") ≡ None)
+    × (item_refusal string_switches (codes "\\\n b") ≡ None)
+    × (item_refusal string_switches (codes "\\n\"") ≡ None)
+    × (item_refusal string_switches (codes "\\u{0}\"") ≡ None)
 unfolding computing
 accepted = (refl, refl, refl, refl, refl)
 
@@ -245,10 +245,10 @@ abbrev strict : Switches
 strict = record { unicode = false; byte_escapes = true; allow_nul = false }
 
 rows-first_character :
-    (rest_refusal strict (13 ∷ 0 ∷ 233 ∷ []) ≡ Some (at_byte 0 kind.CarriageReturn))
-    × (rest_refusal strict (0 ∷ 13 ∷ 233 ∷ []) ≡ Some (at_byte 0 kind.NulByte))
-    × (rest_refusal strict (0 ∷ 233 ∷ 13 ∷ []) ≡ Some (at_byte 0 kind.NulByte))
-    × (rest_refusal strict (233 ∷ 0 ∷ 13 ∷ []) ≡ Some (at_byte 0 kind.NonAsciiInByteLiteral))
+    (item_refusal strict (13 ∷ 0 ∷ 233 ∷ []) ≡ Some (at_byte 0 kind.CarriageReturn))
+    × (item_refusal strict (0 ∷ 13 ∷ 233 ∷ []) ≡ Some (at_byte 0 kind.NulByte))
+    × (item_refusal strict (0 ∷ 233 ∷ 13 ∷ []) ≡ Some (at_byte 0 kind.NulByte))
+    × (item_refusal strict (233 ∷ 0 ∷ 13 ∷ []) ≡ Some (at_byte 0 kind.NonAsciiInByteLiteral))
 unfolding computing
 rows-first_character = (refl, refl, refl, refl)
 

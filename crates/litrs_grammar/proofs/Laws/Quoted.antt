@@ -14,7 +14,7 @@ use Rattle.litrs_base.specs.Refusal.{Refusal, shifted}
 use Rattle.litrs_grammar.specs.Suffix.{is_suffix}
 use Rattle.litrs_base.specs.Text.{first_passes, byte_len}
 use Rattle.litrs_grammar.specs.Escape.{Escape, simple_escape, hex_escape, unicode_escape, escape_text, escape_value, value_bytes, is_escape, is_simple, hex_value, pair_value, allows_value}
-use Rattle.litrs_grammar.specs.Quoted.{Item, plain_item, escape_item, continuation, item_text, item_value, is_item, is_item_list, body_text, body_value, is_body, takes_all_blanks, rest_refusal, QuotedParts, IsQuoted, IsQuotedRefusal}
+use Rattle.litrs_grammar.specs.Quoted.{Item, plain_item, escape_item, continuation, item_text, item_value, is_item, is_item_list, body_text, body_value, is_body, takes_all_blanks, item_refusal, QuotedParts, IsQuoted, IsQuotedRefusal}
 use Rattle.litrs_grammar.specs.Raw.{is_nul}
 use Rattle.litrs_grammar.specs.Laws.Quoted.{QuotedBodiesAreUnique, QuotedTextsAreUnique, QuotedRefusalsAreUnique, QuotedTextsAreDecided, QuotedTextsAreNotRefused, QuotedBodiesJoin, QuotedValuesFitBodies, NoNulInQuotedCStrings, NoQuotedTextEndsWithLineFeed, QuotedLiteralsAreUnique}
 use Rattle.litrs_base.proofs.Spans.{byte_len-append}
@@ -42,9 +42,9 @@ quoted_texts_are_unique front w t q r h g =
 
 pub quoted_refusals_are_unique : QuotedRefusalsAreUnique
 quoted_refusals_are_unique front w t e f h g =
-    let both = same_items w h.items g.items h.rest g.rest h.taken g.taken (refused_no_item w h.rest h.cause h.told) (refused_no_item w g.rest g.cause g.told)
+    let both = same_items w h.items g.items h.rest g.rest h.taken g.taken (refused_no_item w h.rest h.cause h.decided) (refused_no_item w g.rest g.cause g.decided)
     (append_cancel_left front _ _ (h.spells ∙ sym g.spells)) in
-    let told : rest_refusal w h.rest ≡ Some g.cause = ap (rest_refusal w) both.1 ∙ g.told in
+    let told : item_refusal w h.rest ≡ Some g.cause = ap (item_refusal w) both.1 ∙ g.decided in
     let causes : h.cause ≡ g.cause = cc in
     let places : byte_len (front ++ body_text h.items) ≡ byte_len (front ++ body_text g.items) = ap (λ l. byte_len (front ++ body_text l)) both.0 in
     sym h.placed ∙ ap (λ n. shifted n h.cause) places ∙ ap (λ c. shifted (byte_len (front ++ body_text g.items)) c) causes ∙ g.placed
@@ -52,7 +52,7 @@ quoted_refusals_are_unique front w t e f h g =
 pub quoted_texts_are_decided : QuotedTextsAreDecided
 quoted_texts_are_decided front w t = go (read_items w t)
   where
-    ended : (items : List Item) (rest : List ℕ) → Derives w t items rest → (((e : Refusal) × (rest_refusal w rest ≡ Some e)) ⊎ Closes rest) →
+    ended : (items : List Item) (rest : List ℕ) → Derives w t items rest → (((e : Refusal) × (item_refusal w rest ≡ Some e)) ⊎ Closes rest) →
         ((q : QuotedParts) × IsQuoted front w (front ++ t) q) ⊎ ((e : Refusal) × IsQuotedRefusal front w (front ++ t) e)
     ended items rest read (inl (e, told)) =
         inr (
@@ -63,7 +63,7 @@ quoted_texts_are_decided front w t = go (read_items w t)
             cause = e;
             spells = ap (λ l. front ++ l) read.spells;
             taken = read.taken;
-            told = told;
+            decided = told;
             placed = refl;
           },
         )
@@ -81,8 +81,8 @@ quoted_texts_are_decided front w t = go (read_items w t)
     go (items, rest, read) = ended items rest read read.ends
 
 -- a closing quote and a suffix are not refused
-closed_no_refusal : (w : Switches) (s : List ℕ) → is_suffix s ≡ true → rest_refusal w (34 ∷ s) ≡ None
-unfolding rest_refusal
+closed_no_refusal : (w : Switches) (s : List ℕ) → is_suffix s ≡ true → item_refusal w (34 ∷ s) ≡ None
+unfolding item_refusal
 closed_no_refusal w s h =
     none_unless _ _ _ (or_right w.allow_nul true refl)
     (none_unless _ _ _ (or_right w.unicode true refl)
@@ -91,9 +91,9 @@ closed_no_refusal w s h =
 pub quoted_texts_are_not_refused : QuotedTextsAreNotRefused
 quoted_texts_are_not_refused front w t q e h g =
     let both = same_items w q.items g.items (34 ∷ q.suffix) g.rest (body_stands w q.items q.suffix h.body) g.taken (quote_no_item w q.suffix)
-    (refused_no_item w g.rest g.cause g.told) (append_cancel_left front _ _ (h.spells ∙ sym g.spells)) in
+    (refused_no_item w g.rest g.cause g.decided) (append_cancel_left front _ _ (h.spells ∙ sym g.spells)) in
     let none = closed_no_refusal w q.suffix h.suffix in
-    let told : rest_refusal w (34 ∷ q.suffix) ≡ Some g.cause = ap (rest_refusal w) both.1 ∙ g.told in
+    let told : item_refusal w (34 ∷ q.suffix) ≡ Some g.cause = ap (item_refusal w) both.1 ∙ g.decided in
     cc
 
 pub body_text-append : (items others : List Item) → body_text (items ++ others) ≡ body_text items ++ body_text others

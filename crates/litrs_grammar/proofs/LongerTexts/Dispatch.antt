@@ -25,7 +25,7 @@ use Rattle.std.specs.Prelude.{◌↔◌}
 use Rattle.litrs_grammar.specs.CharByte.{plain_char}
 use Rattle.litrs_grammar.specs.Literal.{a_bool, a_byte, Derivation, IsLiteral, literal_kind, literal_parse, kind_parse, Begins}
 use Rattle.litrs_grammar.specs.GoesOn.Bool.{bool_goes_on}
-use Rattle.litrs_grammar.specs.GoesOn.Unnamed.{unnamed_goes_on}
+use Rattle.litrs_grammar.specs.GoesOn.Undispatched.{undispatched_goes_on}
 use Rattle.litrs_grammar.proofs.LongerTexts.Suffix.{is_suffix-nil}
 use Rattle.litrs_grammar.proofs.LongerTexts.Bool.{bool_front, bool_begins}
 use Rattle.litrs_grammar.proofs.LineFeeds.{is_other, no_line_feed}
@@ -169,30 +169,30 @@ literal_begins t k e named fault = (own, any)
 -- Texts that no kind is named for
 
 -- a character alone
-unnamed_single : (c : ℕ) (x : List ℕ) (k : LiteralKind) (e : Refusal) (p q r b s : Bool) → (39 == c) ≡ p → (34 == c) ≡ q → (114 == c) ≡ r → (98 == c) ≡ b → (99 == c) ≡ s →
+undispatched_single : (c : ℕ) (x : List ℕ) (k : LiteralKind) (e : Refusal) (p q r b s : Bool) → (39 == c) ≡ p → (34 == c) ≡ q → (114 == c) ≡ r → (98 == c) ≡ b → (99 == c) ≡ s →
     other (c ∷ []) ≡ refused_as e → other (c ∷ x) ≡ parsed_as k → 98 ≡ c
-unnamed_single c x k e true q r b s e1 e2 e3 e4 e5 h g = absurd (let f : parsed_as char_literal ≡ refused_as e = rw e1 at h in cc)
-unnamed_single c x k e false true r b s e1 e2 e3 e4 e5 h g = absurd (let f : parsed_as string_literal ≡ refused_as e = rw (e1, e2) at h in cc)
-unnamed_single c x k e false false true b s e1 e2 e3 e4 e5 h g = absurd (let f : parsed_as string_literal ≡ refused_as e = rw (e1, e2, e3) at h in cc)
-unnamed_single c x k e false false false true s e1 e2 e3 e4 e5 h g = eqb-true 98 c e4
-unnamed_single c x k e false false false false true e1 e2 e3 e4 e5 h g = absurd (let f : parsed_as c_string_literal ≡ refused_as e = rw (e1, e2, e3, e4, e5) at h in cc)
-unnamed_single c x k e false false false false false e1 e2 e3 e4 e5 h g = absurd (let f : refused_as (without_span InvalidLiteral) ≡ parsed_as k = rw (e1, e2, e3, e4, e5) at g in cc)
+undispatched_single c x k e true q r b s e1 e2 e3 e4 e5 h g = absurd (let f : parsed_as char_literal ≡ refused_as e = rw e1 at h in cc)
+undispatched_single c x k e false true r b s e1 e2 e3 e4 e5 h g = absurd (let f : parsed_as string_literal ≡ refused_as e = rw (e1, e2) at h in cc)
+undispatched_single c x k e false false true b s e1 e2 e3 e4 e5 h g = absurd (let f : parsed_as string_literal ≡ refused_as e = rw (e1, e2, e3) at h in cc)
+undispatched_single c x k e false false false true s e1 e2 e3 e4 e5 h g = eqb-true 98 c e4
+undispatched_single c x k e false false false false true e1 e2 e3 e4 e5 h g = absurd (let f : parsed_as c_string_literal ≡ refused_as e = rw (e1, e2, e3, e4, e5) at h in cc)
+undispatched_single c x k e false false false false false e1 e2 e3 e4 e5 h g = absurd (let f : refused_as (without_span InvalidLiteral) ≡ parsed_as k = rw (e1, e2, e3, e4, e5) at g in cc)
 
-unnamed_other : (c : ℕ) (r x : List ℕ) (k : LiteralKind) (e : Refusal) → other (c ∷ r) ≡ refused_as e → other (c ∷ (r ++ x)) ≡ parsed_as k → unnamed_goes_on (c ∷ r) ≡ true
-unnamed_other c [] x k e h g =
-    let at = unnamed_single c x k e (39 == c) (34 == c) (114 == c) (98 == c) (99 == c) refl refl refl refl refl h g in
-    subst (λ n. unnamed_goes_on (n ∷ []) ≡ true) at refl
-unnamed_other c (d ∷ r) x k e h g = absurd (let f : refused_as e ≡ parsed_as k = sym h ∙ g in cc)
+undispatched_other : (c : ℕ) (r x : List ℕ) (k : LiteralKind) (e : Refusal) → other (c ∷ r) ≡ refused_as e → other (c ∷ (r ++ x)) ≡ parsed_as k → undispatched_goes_on (c ∷ r) ≡ true
+undispatched_other c [] x k e h g =
+    let at = undispatched_single c x k e (39 == c) (34 == c) (114 == c) (98 == c) (99 == c) refl refl refl refl refl h g in
+    subst (λ n. undispatched_goes_on (n ∷ []) ≡ true) at refl
+undispatched_other c (d ∷ r) x k e h g = absurd (let f : refused_as e ≡ parsed_as k = sym h ∙ g in cc)
 
 number_named : (b : Bool) (e : Refusal) → (if b then parsed_as float_literal else parsed_as integer_literal) ≡ refused_as e → ⊥
 number_named true e h = cc
 number_named false e h = cc
 
 -- a text that no kind is named for begins a literal only where it is a prefix of a bool or `b`
-pub unnamed_front : (t x : List ℕ) (d : Derivation) (e : Refusal) → dispatch t ≡ refused_as e → IsLiteral (t ++ x) d → unnamed_goes_on t ≡ true
+pub undispatched_front : (t x : List ℕ) (d : Derivation) (e : Refusal) → dispatch t ≡ refused_as e → IsLiteral (t ++ x) d → undispatched_goes_on t ≡ true
 unfolding dispatch
-unnamed_front [] x d e h lit = refl
-unnamed_front (c ∷ r) x d e h lit = go (is_bool (c ∷ (r ++ x))) (is_bool (c ∷ r)) (is_ascii_digit c) refl refl refl
+undispatched_front [] x d e h lit = refl
+undispatched_front (c ∷ r) x d e h lit = go (is_bool (c ∷ (r ++ x))) (is_bool (c ∷ r)) (is_ascii_digit c) refl refl refl
   where
     k : LiteralKind
     k = literal_kind d
@@ -200,12 +200,12 @@ unnamed_front (c ∷ r) x d e h lit = go (is_bool (c ∷ (r ++ x))) (is_bool (c 
     named : dispatch (c ∷ (r ++ x)) ≡ parsed_as k
     named = dispatch_literal (c ∷ (r ++ x)) d lit
 
-    go : (l b n : Bool) → is_bool (c ∷ (r ++ x)) ≡ l → is_bool (c ∷ r) ≡ b → is_ascii_digit c ≡ n → unnamed_goes_on (c ∷ r) ≡ true
+    go : (l b n : Bool) → is_bool (c ∷ (r ++ x)) ≡ l → is_bool (c ∷ r) ≡ b → is_ascii_digit c ≡ n → undispatched_goes_on (c ∷ r) ≡ true
     go true b n is_l is_b is_n = let whole = some_bool (c ∷ (r ++ x)) is_l in or_left _ _ (bool_front (c ∷ r) x whole.0 whole.1)
     go false true n is_l is_b is_n = absurd (let f : parsed_as bool_literal ≡ refused_as e = sym (if_true (is_bool (c ∷ r)) _ _ is_b) ∙ h in cc)
     go false false true is_l is_b is_n = absurd (number_named (begins_float (c ∷ r)) e (sym (if_false (is_bool (c ∷ r)) _ _ is_b ∙ if_true (is_ascii_digit c) _ _ is_n) ∙ h))
     go false false false is_l is_b is_n =
-        unnamed_other c r x k e (sym (if_false (is_bool (c ∷ r)) _ _ is_b ∙ if_false (is_ascii_digit c) _ _ is_n) ∙ h)
+        undispatched_other c r x k e (sym (if_false (is_bool (c ∷ r)) _ _ is_b ∙ if_false (is_ascii_digit c) _ _ is_n) ∙ h)
         (sym (if_false (is_bool (c ∷ (r ++ x))) _ _ is_l ∙ if_false (is_ascii_digit c) _ _ is_n) ∙ named)
 
 bool_completes : (t : List ℕ) → bool_goes_on t ≡ true → Begins literal_parse t
@@ -219,10 +219,10 @@ b_completes (c ∷ []) h =
 b_completes (c ∷ d ∷ r) h = absurd (false≢true (and_parts (c == 98) _ h).1)
 
 -- exactly there
-pub unnamed_begins : (t : List ℕ) (e : Refusal) → dispatch t ≡ refused_as e → Begins literal_parse t ↔ (unnamed_goes_on t ≡ true)
-unnamed_begins t e h = (λ begins. unnamed_front t begins.0 begins.1 e h begins.3, from)
+pub undispatched_begins : (t : List ℕ) (e : Refusal) → dispatch t ≡ refused_as e → Begins literal_parse t ↔ (undispatched_goes_on t ≡ true)
+undispatched_begins t e h = (λ begins. undispatched_front t begins.0 begins.1 e h begins.3, from)
   where
-    from : unnamed_goes_on t ≡ true → Begins literal_parse t
+    from : undispatched_goes_on t ≡ true → Begins literal_parse t
     from g = elim (or_cases (bool_goes_on t) (begins_with t (codes "b")) g) [
       | inl front ↦ bool_completes t front
       | inr front ↦ b_completes t front
@@ -232,8 +232,8 @@ last_not_b : (t u : List ℕ) → list_all is_other u ≡ true → begins_with (
 last_not_b t u others begins = no_line_feed t (drop (length (t ++ 10 ∷ [])) u) (ap (list_all is_other) (begins_with-split (t ++ 10 ∷ []) u begins) ∙ others)
 
 -- none of them ends with LF
-pub unnamed_line_end : (t : List ℕ) → unnamed_goes_on (t ++ 10 ∷ []) ≡ true → ⊥
-unnamed_line_end t h = elim (or_cases (bool_goes_on (t ++ 10 ∷ [])) (begins_with (t ++ 10 ∷ []) (codes "b")) h) [
+pub undispatched_line_end : (t : List ℕ) → undispatched_goes_on (t ++ 10 ∷ []) ≡ true → ⊥
+undispatched_line_end t h = elim (or_cases (bool_goes_on (t ++ 10 ∷ [])) (begins_with (t ++ 10 ∷ []) (codes "b")) h) [
   | inr front ↦ last_not_b t (codes "b") refl front
   | inl front ↦ elim (or_cases (begins_with (t ++ 10 ∷ []) (codes "true")) (begins_with (t ++ 10 ∷ []) (codes "false")) front) [
     | inl of_true ↦ last_not_b t (codes "true") refl of_true

@@ -36,7 +36,7 @@ use Rattle.litrs_grammar.proofs.LongerTexts.Float.{float_begins, float_finality,
 use Rattle.litrs_grammar.proofs.LongerTexts.CharByte.{char_begins, char_finality, char_not_open, char_line_end}
 use Rattle.litrs_grammar.proofs.LongerTexts.Quoted.{quoted_finality, quoted_open, quoted_open_kind, quoted_begins, quoted_line_end}
 use Rattle.litrs_grammar.proofs.LongerTexts.Raw.{raw_finality, raw_begins, raw_open, raw_open_kind, raw_line_end}
-use Rattle.litrs_grammar.proofs.LongerTexts.Dispatch.{dispatch_stays, literal_begins, unnamed_begins, unnamed_line_end}
+use Rattle.litrs_grammar.proofs.LongerTexts.Dispatch.{dispatch_stays, literal_begins, undispatched_begins, undispatched_line_end}
 use Rattle.litrs_grammar.proofs.LongerTexts.String.{after_raw, quoted_string_ends, quoted_string_begins, raw_string_ends, raw_string_begins, start_begins, start_line_end, start_not_open, start_final, raw_other}
 
 -- The parts of one kind
@@ -291,24 +291,24 @@ pub own_kind : (t x : List ℕ) (k : LiteralKind) (d : Derivation) (e : Refusal)
 own_kind t x k d e named refused lit =
     let same : parsed_as (literal_kind d) ≡ parsed_as k = sym (dispatch_literal (t ++ x) d lit) ∙ dispatch_stays t x k e named refused in cc
 
-pub unnamed_not_final : (t : List ℕ) (e : Refusal) → dispatch t ≡ refused_as e → is_final e.kind ≡ false
-unnamed_not_final t e is = dispatch_refusal (λ r. is_final r.kind ≡ false) t e refl refl is
+pub undispatched_not_final : (t : List ℕ) (e : Refusal) → dispatch t ≡ refused_as e → is_final e.kind ≡ false
+undispatched_not_final t e is = dispatch_refusal (λ r. is_final r.kind ≡ false) t e refl refl is
 
-pub unnamed_not_open : (t : List ℕ) (e : Refusal) → dispatch t ≡ refused_as e → is_open e.kind ≡ false
-unnamed_not_open t e is = dispatch_refusal (λ r. is_open r.kind ≡ false) t e refl refl is
+pub undispatched_not_open : (t : List ℕ) (e : Refusal) → dispatch t ≡ refused_as e → is_open e.kind ≡ false
+undispatched_not_open t e is = dispatch_refusal (λ r. is_open r.kind ≡ false) t e refl refl is
 
 dispatched_ends : (o : Dispatch) (t : List ℕ) (e : Refusal) → dispatch t ≡ o → IsRefusalOfDispatch o t e → is_final e.kind ≡ true → EndsBy IsLiteral t
-dispatched_ends (refused_as refusal) t e named refused final = absurd (both_ways _ (unnamed_not_final t e (named ∙ ap refused_as refused)) final)
+dispatched_ends (refused_as refusal) t e named refused final = absurd (both_ways _ (undispatched_not_final t e (named ∙ ap refused_as refused)) final)
 dispatched_ends (parsed_as k) t e named refused final =
     λ x d lit. ends_kind k t (kind_ends k t e refused final) x d (own_kind t x k d e named refused lit, lit)
 
 dispatched_goes : (o : Dispatch) (t : List ℕ) (e : Refusal) → dispatch t ≡ o → IsRefusalOfDispatch o t e → Begins literal_parse t ↔ DispatchedGoesOn o t
-dispatched_goes (refused_as refusal) t e named refused = unnamed_begins t refusal named
+dispatched_goes (refused_as refusal) t e named refused = undispatched_begins t refusal named
 dispatched_goes (parsed_as k) t e named refused = chain (literal_begins t k e named refused) (chain (begins_kind k t) (kind_goes k t e refused))
 
 dispatched_line : (o : Dispatch) (t : List ℕ) (e : Refusal) → dispatch (t ++ 10 ∷ []) ≡ o → IsRefusalOfDispatch o (t ++ 10 ∷ []) e → (is_open e.kind ≡ true) ↔ Begins literal_parse (t ++ 10 ∷ [])
 dispatched_line (refused_as refusal) t e named refused =
-    neither (is_open e.kind) (unnamed_not_open (t ++ 10 ∷ []) e (named ∙ ap refused_as refused)) (λ begins. unnamed_line_end t ((unnamed_begins (t ++ 10 ∷ []) refusal named).0 begins))
+    neither (is_open e.kind) (undispatched_not_open (t ++ 10 ∷ []) e (named ∙ ap refused_as refused)) (λ begins. undispatched_line_end t ((undispatched_begins (t ++ 10 ∷ []) refusal named).0 begins))
 dispatched_line (parsed_as k) t e named refused =
     chain (kind_line k t e refused) (chain (back (begins_kind k (t ++ 10 ∷ []))) (back (literal_begins (t ++ 10 ∷ []) k e named refused)))
 
@@ -316,7 +316,7 @@ any_kind : (k : LiteralKind) (t closing : List ℕ) → IsClosedBy (IsLiteralOf 
 any_kind k t closing shut = record { kind = shut.kind; parts = shut.parts; literal = shut.literal.1; no_suffix = shut.no_suffix; body = shut.body }
 
 dispatched_closes : (o : Dispatch) (t : List ℕ) (e : Refusal) → dispatch t ≡ o → IsRefusalOfDispatch o t e → is_open e.kind ≡ true → IsClosedBy (IsLiteralOf literal_parse) t (closing_of t e)
-dispatched_closes (refused_as refusal) t e named refused is = absurd (both_ways _ (unnamed_not_open t e (named ∙ ap refused_as refused)) is)
+dispatched_closes (refused_as refusal) t e named refused is = absurd (both_ways _ (undispatched_not_open t e (named ∙ ap refused_as refused)) is)
 dispatched_closes (parsed_as k) t e named refused is = any_kind k t (closing_of t e) (kind_closes k t e refused is)
 
 -- The laws

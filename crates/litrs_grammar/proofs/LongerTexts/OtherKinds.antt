@@ -42,7 +42,7 @@ other_kinds_may_go_on UnescapedSingleQuote other memory = cc
 other_kinds_may_go_on UnescapedSpecialWhitespace other memory = cc
 other_kinds_may_go_on DoesNotStartWithQuote other memory = cc
 other_kinds_may_go_on UnterminatedRawString other memory = (literal_parse, codes "r\"", without_span UnterminatedRawString, refl, refl, (codes "\"", a_string (raw_parts (record { hash_count = 0; body = []; suffix = [] })), refl, record { spells = refl; grammar = record { hash_count = omega arith; body = record { allowed = refl; unclosed = refl }; suffix = refl } }))
-other_kinds_may_go_on UnterminatedString other memory = (literal_parse, codes "\"", without_span UnterminatedString, record { items = []; rest = []; cause = without_span UnterminatedString; spells = refl; taken = refl; told = refl; placed = refl }, refl, (codes "\"", a_string (quoted_parts (record { items = []; suffix = [] })), refl, record { spells = refl; body = refl; suffix = refl }))
+other_kinds_may_go_on UnterminatedString other memory = (literal_parse, codes "\"", without_span UnterminatedString, record { items = []; rest = []; cause = without_span UnterminatedString; spells = refl; taken = refl; decided = refl; placed = refl }, refl, (codes "\"", a_string (quoted_parts (record { items = []; suffix = [] })), refl, record { spells = refl; body = refl; suffix = refl }))
 other_kinds_may_go_on InvalidStringLiteralStart other memory = cc
 other_kinds_may_go_on InvalidByteLiteralStart other memory = (kind_parse byte_literal, codes "b", without_span InvalidByteLiteralStart, refl, refl, (codes "'a'", a_byte (record { item = plain_char 97; suffix = [] }), refl, (refl, record { spells = refl; item = refl; suffix = refl })))
 other_kinds_may_go_on InvalidByteStringLiteralStart other memory = (kind_parse byte_string_literal, codes "b", without_span InvalidByteStringLiteralStart, refl, refl, (codes "\"\"", a_byte_string (quoted_parts (record { items = []; suffix = [] })), refl, (refl, record { spells = refl; body = refl; suffix = refl })))
@@ -51,7 +51,7 @@ other_kinds_may_go_on DisallowedNulEscape other memory = cc
 other_kinds_may_go_on NulByte other memory = cc
 other_kinds_may_go_on CarriageReturn other memory = cc
 other_kinds_may_go_on TooManyHashes other memory = cc
-other_kinds_may_go_on InvalidSuffix other memory = (literal_parse, codes "\"\"_", at_byte 2 InvalidSuffix, record { items = []; rest = codes "\"_"; cause = at_byte 1 InvalidSuffix; spells = refl; taken = refl; told = refl; placed = refl }, refl, (codes "x", a_string (quoted_parts (record { items = []; suffix = codes "_x" })), refl, record { spells = refl; body = refl; suffix = refl }))
+other_kinds_may_go_on InvalidSuffix other memory = (literal_parse, codes "\"\"_", at_byte 2 InvalidSuffix, record { items = []; rest = codes "\"_"; cause = at_byte 1 InvalidSuffix; spells = refl; taken = refl; decided = refl; placed = refl }, refl, (codes "x", a_string (quoted_parts (record { items = []; suffix = codes "_x" })), refl, record { spells = refl; body = refl; suffix = refl }))
 other_kinds_may_go_on UnexpectedIntegerLit other memory = (kind_parse float_literal, codes "3", without_span UnexpectedIntegerLit, refl, refl, (codes ".", a_float (record { integer = codes "3"; fraction = Some []; exponent = []; suffix = [] }), refl, (refl, record { spells = refl; grammar = record { integer = refl; form = refl; suffix = refl; no_underscore = refl; no_letter = λ e. refl } })))
 other_kinds_may_go_on IntegerSuffixStartingWithE other memory = cc
 other_kinds_may_go_on OutOfMemory other memory = absurd (memory refl)

@@ -12,7 +12,7 @@ use Rattle.litrs_grammar.specs.Suffix.{is_suffix, suffix_refusal, is_ascii_symbo
 use Rattle.litrs_base.specs.Text.{byte_len, first_passes}
 use Rattle.litrs_base.specs.declared.quotes.Switches.{Switches}
 use Rattle.litrs_grammar.specs.Escape.{escape_refusal, allows_value, hex_refusal, unicode_refusal, inner_refusal, Escape, simple_escape, hex_escape, unicode_escape, escape_text, is_escape, is_simple, allows_byte, pair_value, is_hex_or_underscore}
-use Rattle.litrs_grammar.specs.Quoted.{Item, plain_item, escape_item, continuation, is_item, body_text, is_body, is_complete_before, is_item_list, without_last, backslash_refusal, rest_refusal, IsQuoted, IsQuotedRefusal, takes_all_blanks, IsBodyOf}
+use Rattle.litrs_grammar.specs.Quoted.{Item, plain_item, escape_item, continuation, is_item, body_text, is_body, is_complete_before, is_item_list, without_last, backslash_refusal, item_refusal, IsQuoted, IsQuotedRefusal, takes_all_blanks, IsBodyOf}
 use Rattle.litrs_grammar.proofs.QuotedItems.{without_last-append, last_of, escape_head}
 use Rattle.std.proofs.lemmas.Bool.Decides.{nat_tests}
 use Rattle.litrs_grammar.proofs.LongerTexts.Escape.{never, keep, escape_final}
@@ -102,8 +102,8 @@ suffix_row true false t x e s f h =
     rw more.0 (ap (λ k. Some (at_byte 1 k)) more.1 ∙ h)
 
 -- a rest refused with a final kind is refused alike whatever is appended
-pub rest_final : (w : Switches) (c : ℕ) (t x : List ℕ) (e : Refusal) → is_final e.kind ≡ true → rest_refusal w (c ∷ t) ≡ Some e → rest_refusal w (c ∷ (t ++ x)) ≡ Some e
-unfolding rest_refusal
+pub rest_final : (w : Switches) (c : ℕ) (t x : List ℕ) (e : Refusal) → is_final e.kind ≡ true → item_refusal w (c ∷ t) ≡ Some e → item_refusal w (c ∷ (t ++ x)) ≡ Some e
+unfolding item_refusal
 rest_final w c t x e f h =
     keep (c == 92) _ _ _ _ e (backslash_final w t x e f)
     (keep (c == 13) _ _ _ _ e (λ r. r)
@@ -111,13 +111,13 @@ rest_final w c t x e f h =
     (keep (not (fits_charset w.unicode c)) _ _ _ _ e (λ r. r)
     (suffix_row (c == 34) (is_suffix t) t x e refl f)))) h
 
-at_end : {A : Type 0} (w : Switches) (e : Refusal) → is_final e.kind ≡ true → rest_refusal w [] ≡ Some e → A
-unfolding rest_refusal
+at_end : {A : Type 0} (w : Switches) (e : Refusal) → is_final e.kind ≡ true → item_refusal w [] ≡ Some e → A
+unfolding item_refusal
 at_end w e f h = never (without_span UnterminatedString) e refl f h
 
 -- what refuses the rest with more after it refuses the text with more after it
 pub refused_more : (front : List ℕ) (w : Switches) (t x : List ℕ) (items : List Item) (c : ℕ) (r : List ℕ) (cause : Refusal) →
-    front ++ (body_text items ++ c ∷ r) ≡ t → is_item_list w (c ∷ r) items ≡ true → rest_refusal w (c ∷ (r ++ x)) ≡ Some cause →
+    front ++ (body_text items ++ c ∷ r) ≡ t → is_item_list w (c ∷ r) items ≡ true → item_refusal w (c ∷ (r ++ x)) ≡ Some cause →
     IsQuotedRefusal front w (t ++ x) (shifted (byte_len (front ++ body_text items)) cause)
 refused_more front w t x items c r cause spells taken told = record {
   items = items;
@@ -125,18 +125,18 @@ refused_more front w t x items c r cause spells taken told = record {
   cause = cause;
   spells = ap (λ l. front ++ l) (sym (append_assoc (body_text items) (c ∷ r) x)) ∙ sym (append_assoc front (body_text items ++ c ∷ r) x) ∙ ap (λ l. l ++ x) spells;
   taken = stand_more w items c r x taken;
-  told = told;
+  decided = told;
   placed = refl;
 }
 
 -- a quoted text refused with a final kind is refused alike whatever is appended
 pub quoted_final : (front : List ℕ) (w : Switches) (t x : List ℕ) (e : Refusal) → is_final e.kind ≡ true → IsQuotedRefusal front w t e → IsQuotedRefusal front w (t ++ x) e
-quoted_final front w t x e f h = go h.rest h.spells h.taken h.told
+quoted_final front w t x e f h = go h.rest h.spells h.taken h.decided
   where
     final_cause : is_final h.cause.kind ≡ true
     final_cause = subst (λ r. is_final r.kind ≡ true) (sym h.placed) f
 
-    go : (rest : List ℕ) → front ++ (body_text h.items ++ rest) ≡ t → is_item_list w rest h.items ≡ true → rest_refusal w rest ≡ Some h.cause → IsQuotedRefusal front w (t ++ x) e
+    go : (rest : List ℕ) → front ++ (body_text h.items ++ rest) ≡ t → is_item_list w rest h.items ≡ true → item_refusal w rest ≡ Some h.cause → IsQuotedRefusal front w (t ++ x) e
     go [] spells taken told = at_end w h.cause final_cause told
     go (c ∷ r) spells taken told =
         subst (λ r. IsQuotedRefusal front w (t ++ x) r) h.placed (refused_more front w t x h.items c r h.cause spells taken (rest_final w c r x h.cause final_cause told))
@@ -196,8 +196,8 @@ closed_rows : (w : Switches) (c : ℕ) (t : List ℕ) →
     else None) ≡ true
 closed_rows w c t = search (closed_if, closed_suffix) depth 8
 
-pub open_rest : (w : Switches) (rest : List ℕ) (e : Refusal) → is_open e.kind ≡ true → rest_refusal w rest ≡ Some e → IsOpenRest rest
-unfolding rest_refusal
+pub open_rest : (w : Switches) (rest : List ℕ) (e : Refusal) → is_open e.kind ≡ true → item_refusal w rest ≡ Some e → IsOpenRest rest
+unfolding item_refusal
 open_rest w [] e f h = inl refl
 open_rest w (c ∷ t) e f h = go (c == 92) refl
   where
@@ -248,7 +248,7 @@ closes front w t items rest spelled taken shape = go shape
 pub quoted_open : (front : List ℕ) (w : Switches) (t : List ℕ) (e : Refusal) → is_open e.kind ≡ true → IsQuotedRefusal front w t e → IsClosedQuoted front w t
 quoted_open front w t e f h =
     let open_cause : is_open h.cause.kind ≡ true = subst (λ r. is_open r.kind ≡ true) (sym h.placed) f in
-    closes front w t h.items h.rest h.spells h.taken (open_rest w h.rest h.cause open_cause h.told)
+    closes front w t h.items h.rest h.spells h.taken (open_rest w h.rest h.cause open_cause h.decided)
 
 -- Which go on
 
@@ -324,8 +324,8 @@ quote_freed true false true c t x e q s s' h n =
     let at_byte : c ≡ 34 = eqb-true c 34 q in
     let more : t ≡ 95 ∷ [] = suffix_freed t x s s' in cc
 
-rest_freed : (w : Switches) (c : ℕ) (t x : List ℕ) (e : Refusal) → rest_refusal w (c ∷ t) ≡ Some e → rest_refusal w (c ∷ (t ++ x)) ≡ None → RestGoesOn w (c ∷ t)
-unfolding rest_refusal
+rest_freed : (w : Switches) (c : ℕ) (t x : List ℕ) (e : Refusal) → item_refusal w (c ∷ t) ≡ Some e → item_refusal w (c ∷ (t ++ x)) ≡ None → RestGoesOn w (c ∷ t)
+unfolding item_refusal
 rest_freed w c t x e h none = go (c == 92) refl h none
   where
     go : (b : Bool) → (c == 92) ≡ b →
@@ -347,13 +347,13 @@ rest_freed w c t x e h none = go (c == 92) refl h none
         inr (inr (quote_freed (c == 34) (is_suffix t) (is_suffix (t ++ x)) c t x e refl refl refl d.0 d.1))
 
 pub begins_rest : (front : List ℕ) (w : Switches) (t : List ℕ) (e : Refusal) (h : IsQuotedRefusal front w t e) → BeginsBy (IsQuoted front w) t → RestGoesOn w h.rest
-begins_rest front w t e h (x, q, text, quoted) = go h.rest h.spells h.taken h.told
+begins_rest front w t e h (x, q, text, quoted) = go h.rest h.spells h.taken h.decided
   where
-    go : (rest : List ℕ) → front ++ (body_text h.items ++ rest) ≡ t → is_item_list w rest h.items ≡ true → rest_refusal w rest ≡ Some h.cause → RestGoesOn w rest
+    go : (rest : List ℕ) → front ++ (body_text h.items ++ rest) ≡ t → is_item_list w rest h.items ≡ true → item_refusal w rest ≡ Some h.cause → RestGoesOn w rest
     go [] spells taken told = inl (inl refl)
-    go (c ∷ r) spells taken told = by (rest_refusal w (c ∷ (r ++ x))) refl
+    go (c ∷ r) spells taken told = by (item_refusal w (c ∷ (r ++ x))) refl
       where
-        by : (o : Option Refusal) → rest_refusal w (c ∷ (r ++ x)) ≡ o → RestGoesOn w (c ∷ r)
+        by : (o : Option Refusal) → item_refusal w (c ∷ (r ++ x)) ≡ o → RestGoesOn w (c ∷ r)
         by (Some e') more = absurd (quoted_texts_are_not_refused front w (t ++ x) q _ quoted (refused_more front w t x h.items c r e' spells taken more))
         by None more = rest_freed w c r x h.cause told more
 
@@ -400,17 +400,17 @@ quoted_begins front w t e h = (
 
 -- Texts that end with LF
 
-open_kind : (w : Switches) (rest : List ℕ) (e : Refusal) → IsOpenRest rest → rest_refusal w rest ≡ Some e → without_span UnterminatedString ≡ e
-unfolding rest_refusal
-open_kind w rest e (inl none) told = let h : Some (without_span UnterminatedString) ≡ Some e = ap (rest_refusal w) (sym none) ∙ told in cc
+open_kind : (w : Switches) (rest : List ℕ) (e : Refusal) → IsOpenRest rest → item_refusal w rest ≡ Some e → without_span UnterminatedString ≡ e
+unfolding item_refusal
+open_kind w rest e (inl none) told = let h : Some (without_span UnterminatedString) ≡ Some e = ap (item_refusal w) (sym none) ∙ told in cc
 open_kind w rest e (inr (blanks, is, all)) told =
-    let h : (if list_all is_blank blanks then Some (without_span UnterminatedString) else None) ≡ Some e = ap (rest_refusal w) (sym is) ∙ told in
+    let h : (if list_all is_blank blanks then Some (without_span UnterminatedString) else None) ≡ Some e = ap (item_refusal w) (sym is) ∙ told in
     let g : Some (without_span UnterminatedString) ≡ Some e = rw all at h in cc
 
 -- a quoted text that ends with LF and is refused begins a literal exactly where its refusal is open
 pub quoted_line_end : (front : List ℕ) (w : Switches) (t : List ℕ) (e : Refusal) → IsQuotedRefusal front w (t ++ 10 ∷ []) e →
     (is_open e.kind ≡ true) ↔ BeginsBy (IsQuoted front w) (t ++ 10 ∷ [])
-quoted_line_end front w t e h = (shut, λ begins. go h.rest h.spells h.told (begins_rest front w (t ++ 10 ∷ []) e h begins))
+quoted_line_end front w t e h = (shut, λ begins. go h.rest h.spells h.decided (begins_rest front w (t ++ 10 ∷ []) e h begins))
   where
     shut : is_open e.kind ≡ true → BeginsBy (IsQuoted front w) (t ++ 10 ∷ [])
     shut f = let closed = quoted_open front w (t ++ 10 ∷ []) e f h in (34 ∷ [], record { items = closed.items; suffix = [] }, refl, closed.literal)
@@ -419,12 +419,12 @@ quoted_line_end front w t e h = (shut, λ begins. go h.rest h.spells h.told (beg
     feed c r spells = sym (last_passes-append is_line_feed (front ++ body_text h.items) c r)
         ∙ ap (last_passes is_line_feed) (append_assoc front (body_text h.items) (c ∷ r) ∙ spells) ∙ line_feed_last t
 
-    by_shape : (rest : List ℕ) → rest_refusal w rest ≡ Some h.cause → IsOpenRest rest → is_open e.kind ≡ true
+    by_shape : (rest : List ℕ) → item_refusal w rest ≡ Some h.cause → IsOpenRest rest → is_open e.kind ≡ true
     by_shape rest told shape =
         let same : without_span UnterminatedString ≡ h.cause = open_kind w rest h.cause shape told in
         subst (λ r. is_open r.kind ≡ true) h.placed (subst (λ r. is_open r.kind ≡ true) same refl)
 
-    go : (rest : List ℕ) → front ++ (body_text h.items ++ rest) ≡ t ++ 10 ∷ [] → rest_refusal w rest ≡ Some h.cause → RestGoesOn w rest → is_open e.kind ≡ true
+    go : (rest : List ℕ) → front ++ (body_text h.items ++ rest) ≡ t ++ 10 ∷ [] → item_refusal w rest ≡ Some h.cause → RestGoesOn w rest → is_open e.kind ≡ true
     go rest spells told (inl shape) = by_shape rest told shape
     go [] spells told (inr goes) = by_shape [] told (inl refl)
     go (c ∷ r) spells told (inr (inl (esc, x, same, grammar))) =
@@ -439,7 +439,7 @@ quoted_finality front w t e h f x q quoted = quoted_texts_are_not_refused front 
 pub quoted_open_kind : (front : List ℕ) (w : Switches) (t : List ℕ) (e : Refusal) → is_open e.kind ≡ true → IsQuotedRefusal front w t e → UnterminatedString ≡ e.kind
 quoted_open_kind front w t e f h =
     let open_cause : is_open h.cause.kind ≡ true = subst (λ r. is_open r.kind ≡ true) (sym h.placed) f in
-    ap (λ r. r.kind) (open_kind w h.rest h.cause (open_rest w h.rest h.cause open_cause h.told) h.told) ∙ ap (λ r. r.kind) h.placed
+    ap (λ r. r.kind) (open_kind w h.rest h.cause (open_rest w h.rest h.cause open_cause h.decided) h.decided) ∙ ap (λ r. r.kind) h.placed
 
 -- The laws
 

@@ -10,7 +10,7 @@ use Rattle.litrs_grammar.specs.Suffix.{is_suffix}
 use Rattle.litrs_base.specs.Text.{byte_len, first_passes}
 use Rattle.litrs_base.specs.declared.quotes.Switches.{Switches}
 use Rattle.litrs_grammar.specs.Escape.{escape_refusal, allows_value}
-use Rattle.litrs_grammar.specs.Quoted.{body_text, without_last, backslash_refusal, rest_refusal}
+use Rattle.litrs_grammar.specs.Quoted.{body_text, without_last, backslash_refusal, item_refusal}
 use Rattle.litrs_grammar.specs.Laws.Quoted.{QuotedSpansLieInText}
 use Rattle.litrs_base.proofs.ByteLen.{byte_len_one_ascii, length-le-byte_len}
 use Rattle.litrs_grammar.proofs.Spans.Escape.{Marks, AllFit, marks_start, marks_byte, fit_if, fit_unless, fit_either, fit_some, fit_on, fit_later, escape_fits}
@@ -43,8 +43,8 @@ backslash_fits w t =
     (λ _. fit_if _ (list_all is_blank t) _ None (λ _. tt) (λ _. tt))
     (λ _. cut_escape_fits w t)
 
-rest_fits : (w : Switches) (rest : List ℕ) → AllFit rest (rest_refusal w rest)
-unfolding rest_refusal
+rest_fits : (w : Switches) (rest : List ℕ) → AllFit rest (item_refusal w rest)
+unfolding item_refusal
 rest_fits w [] = tt
 rest_fits w (c ∷ t) =
     fit_either _ (c == 92) (backslash_refusal w t) _ (λ e. subst (λ n. AllFit (n ∷ t) (backslash_refusal w t)) (sym (eqb-true c 92 e)) (backslash_fits w t))
@@ -66,7 +66,7 @@ rest_fits w (c ∷ t) =
 pub quoted_spans_lie_in_text : QuotedSpansLieInText
 quoted_spans_lie_in_text front w t e h =
     let before = front ++ body_text h.items in
-    let fits = fit_later before h.rest h.cause (fit_some h.rest (rest_refusal w h.rest) h.cause (rest_fits w h.rest) h.told) in
+    let fits = fit_later before h.rest h.cause (fit_some h.rest (item_refusal w h.rest) h.cause (rest_fits w h.rest) h.decided) in
     let whole : before ++ h.rest ≡ t = append_assoc front (body_text h.items) h.rest ∙ h.spells in
     let Text : List ℕ → Type 0 = λ l. IsInText l (shifted (byte_len before) h.cause) in
     let Refusal : Refusal → Type 0 = λ f. IsInText t f in

@@ -13,7 +13,8 @@ abbrev pub BeginsEscape : Switches → List ℕ → Type 0
 BeginsEscape w t = (e : Escape) × (more : List ℕ) × (t ++ more ≡ escape_text e) × IsEscape w e
 
 -- After `\u{`, where no `}` follows: nothing, or hex digits and underscores, a digit first, and
--- either at most five digits, as then one more mends every value, or what a `}` makes an escape.
+-- either at most five digits, after which one more can always make the value valid, or what a `}`
+-- makes an escape.
 abbrev pub inner_goes_on : Switches → List ℕ → Bool
 inner_goes_on w t =
     w.unicode

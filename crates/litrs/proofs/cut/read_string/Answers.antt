@@ -73,8 +73,8 @@ quoted_value-requires-clause-at g c =
     (quoted_boundary c.args.kind c.args.input.now c.utf8.input
     (quoted_by c.in-Quoted.found c.args.kind c.args.front c.args.input.now c.requires.front c.in-Quoted.is same))
 
-pub raw_value-requires : goal.raw_value-requires
-raw_value-requires g c =
+pub raw_place-requires : goal.raw_place-requires
+raw_place-requires g c =
     let seen = same_true the_type (search rules) _ c.args.kind (sym c.if-eq-2.ensures) in
     let same : c.in-Raw.found ≡ c.args.kind = cc in
     rw (c.front_len-offset.ensures.raw)

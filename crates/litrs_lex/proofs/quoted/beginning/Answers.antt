@@ -7,4 +7,4 @@ pub returns : goal.returns
 returns g c =
     let run = c.first_plain_end-place.ensures in
     let start = c.empty_at.ensures.start in
-    reading_none _ c.args.input.now _ _ _ (λ v. v ≡ []) c.utf8.input c.requires refl run (omega arith) (c.empty_at.ensures.marked _ _ run.boundary.0)
+    reading_none _ c.args.input.now _ _ _ (λ v. v ≡ []) c.utf8.input c.requires refl run (omega arith) (c.empty_at.ensures.mask _ _ run.boundary.0)

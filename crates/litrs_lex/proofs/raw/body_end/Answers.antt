@@ -18,7 +18,7 @@ loop-what-init c =
       stop_made w.unicode w.allow_nul c.args.hashes c.args.start c.args.start c.next_special-place.result c.args.bytes.now (omega arith) c.requires.0 c.requires.1
           (passed_none w.unicode w.allow_nul c.args.hashes _) c.next_special-place.ensures.place,
       omega arith,
-      c.empty_at-marked.ensures.marked _ _ c.next_special-place.ensures.within,
+      c.empty_at-mask.ensures.mask _ _ c.next_special-place.ensures.within,
     )
 
 pub next_special_masked-requires-clause-from : goal.next_special_masked-requires-clause-from
@@ -29,8 +29,8 @@ next_special_masked-requires-clause-from c =
 pub next_special_masked-requires-clause-after : goal.next_special_masked-requires-clause-after
 next_special_masked-requires-clause-after c = omega (arith, c.loop-what.invariant.1)
 
-pub next_special_masked-requires-clause-marked : goal.next_special_masked-requires-clause-marked
-next_special_masked-requires-clause-marked c = c.loop-what.invariant.2
+pub next_special_masked-requires-clause-mask : goal.next_special_masked-requires-clause-mask
+next_special_masked-requires-clause-mask c = c.loop-what.invariant.2
 
 pub loop-what-preserved : goal.loop-what-preserved
 loop-what-preserved c =
@@ -44,7 +44,7 @@ loop-what-preserved c =
     let b = after_quote w.unicode w.allow_nul n c.args.start place bytes before inner in (
       stop_made w.unicode w.allow_nul n c.args.start (place + 1) c.next_special_masked.result.0 bytes (omega arith) b.within b.utf8 b.passed c.next_special_masked.ensures.place,
       c.next_special_masked.ensures.after,
-      c.next_special_masked.ensures.marked,
+      c.next_special_masked.ensures.mask,
     )
 
 pub returns-clause-stop : goal.returns-clause-stop

@@ -7,7 +7,7 @@ use Rattle.litrs_lex.proofs.raw.body_end.Given as goal
 abbrev pub invariant-loop-what : goal.invariant-loop-what
 invariant-loop-what l =
     IsStop l.fn.allowed.unicode l.fn.allowed.allow_nul l.hashes l.start l.bytes l.place
-    × (l.marked.start ≤ l.place) × IsMaskOf (raw_special l.fn.allowed.unicode l.fn.allowed.allow_nul) l.bytes l.marked
+    × (l.mask.start ≤ l.place) × IsMaskOf (raw_special l.fn.allowed.unicode l.fn.allowed.allow_nul) l.bytes l.mask
 
 abbrev pub decreases-loop-what : goal.decreases-loop-what
 decreases-loop-what l = length l.bytes - l.place

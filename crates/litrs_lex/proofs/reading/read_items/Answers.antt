@@ -36,14 +36,14 @@ returns-then-not-push g c =
     let s = c.loop-switches.invariant in
     let kept = c.push.ensures.full c.if-not-push.true in (
       kept.0,
-      subst (λ (w : Switches). IsReading w c.args.input.now c.args.offset (g.S.Sink.holds c.push.new.self) (record { at = c.loop-switches.place; place = c.loop-switches.place; marked = c.loop-switches.marked }))
+      subst (λ (w : Switches). IsReading w c.args.input.now c.args.offset (g.S.Sink.holds c.push.new.self) (record { at = c.loop-switches.place; place = c.loop-switches.place; mask = c.loop-switches.mask }))
           c.switches-switches.ensures (record {
             read = read_held _ c.args.input.now _ _ _ _
                 (read_run _ c.args.input.now _ _ _ _ (g.S.Sink.holds c.push_run.new.self) c.utf8.input s.read s.run (c.push_run.ensures.taken c.if-not-push_run.false))
                 kept.1;
             run = no_run _ _ _ _ s.run;
             after = s.after;
-            marked = s.marked;
+            mask = s.mask;
           }),
     )
 
@@ -55,7 +55,7 @@ loop-switches-preserved g c =
           c.range_from.ensures.value (item_of _ c.range_from.result.now c.in-Ok-Item.field-0-is c.in-Ok-Item.ensures.ok) (c.push.ensures.taken c.if-not-push.false);
       run = c.plain_end.ensures.run;
       after = c.plain_end.ensures.after;
-      marked = c.plain_end.ensures.marked;
+      mask = c.plain_end.ensures.mask;
     }
 
 pub offset_span-requires : goal.offset_span-requires

@@ -4,7 +4,7 @@ use Rattle.litrs_lex.specs.Reading.{IsReading}
 use Rattle.litrs_lex.proofs.reading.read_items.Given as goal
 
 abbrev pub invariant-loop-switches : goal.invariant-loop-switches
-invariant-loop-switches g l = IsReading l.switches l.input l.offset (g.S.Sink.holds l.sink) (record { at = l.at; place = l.place; marked = l.marked })
+invariant-loop-switches g l = IsReading l.switches l.input l.offset (g.S.Sink.holds l.sink) (record { at = l.at; place = l.place; mask = l.mask })
 
 abbrev pub decreases-loop-switches : goal.decreases-loop-switches
 decreases-loop-switches g l = length l.input - l.at

@@ -22,8 +22,8 @@ returns-clause-place g c =
     let marks = loads_from (is_special c.args.what) c.args.bytes.now g.row.N c.args.from _ _ c.special_mask-first.ensures c.special_mask-last.ensures (omega arith) (omega arith) (omega arith) in
     c.lowest_bit_place.ensures ∙ rest_ends (is_special c.args.what) c.args.bytes.now c.args.from _ marks (omega arith) (omega arith)
 
-pub returns-clause-marked : goal.returns-clause-marked
-returns-clause-marked g c =
+pub returns-clause-mask : goal.returns-clause-mask
+returns-clause-mask g c =
     let bytes = c.args.bytes.now in
     let from = c.args.from in
     let marks = loads_from (is_special c.args.what) bytes g.row.N from _ _ c.special_mask-first.ensures c.special_mask-last.ensures (omega arith) (omega arith) (omega arith) in record {

@@ -25,8 +25,8 @@ returns-clause-place c =
     let last = last_ends (is_special c.args.what) c.args.bytes.now c.loop-start.start 32 _ c.special_mask.ensures (omega arith) (omega arith) (omega arith) (omega arith) in
     omega (arith, c.lowest_bit_place.ensures ∙ last, c.loop-start.invariant.0)
 
-pub returns-clause-marked : goal.returns-clause-marked
-returns-clause-marked c =
+pub returns-clause-mask : goal.returns-clause-mask
+returns-clause-mask c =
     let bytes = c.args.bytes.now in
     let start = c.loop-start.start in record {
       ordered = omega arith;

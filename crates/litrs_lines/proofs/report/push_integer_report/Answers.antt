@@ -15,7 +15,7 @@ returns g c =
     let suffix = c.suffix.result.now in
     let base = c.value.ensures ∙ ap base_value c.base.ensures in
     let made = c.in_ok-push_integer_front.ensures ∙ ap (λ (n : ℕ). old ++ integer_front n digits suffix) base in
-    on_ok_weaker c.push_value.result
-    (λ valued. integer_report_made old (string_bytes c.push_integer_front.new.out) (string_bytes c.push_value.new.out) digits suffix (integer_parts c.args.lit.now)
+    on_ok_weaker c.push_integer_value.result
+    (λ valued. integer_report_made old (string_bytes c.push_integer_front.new.out) (string_bytes c.push_integer_value.new.out) digits suffix (integer_parts c.args.lit.now)
     c.raw_main_part.utf8 c.suffix.utf8 c.raw_main_part.ensures c.suffix.ensures made valued)
-    c.push_value.ensures
+    c.push_integer_value.ensures

@@ -6,5 +6,5 @@ use Rattle.litrs_grammar.specs.GoesOn.Bool.{bool_goes_on}
 
 -- a prefix of `true` or `false`, which may be empty, or `b` alone, which a byte or a byte string
 -- begins with
-abbrev pub unnamed_goes_on : List ℕ → Bool
-unnamed_goes_on t = bool_goes_on t || begins_with t (codes "b")
+abbrev pub undispatched_goes_on : List ℕ → Bool
+undispatched_goes_on t = bool_goes_on t || begins_with t (codes "b")

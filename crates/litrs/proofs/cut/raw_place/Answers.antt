@@ -1,6 +1,6 @@
 -- The places of the body.
 use Rattle.litrs.proofs.ParsedStrings.{parsed_raw_cut}
-use Rattle.litrs.proofs.cut.raw_value.Goals as goal
+use Rattle.litrs.proofs.cut.raw_place.Goals as goal
 
 pub returns-clause-ok : goal.returns-clause-ok
 returns-clause-ok c =
