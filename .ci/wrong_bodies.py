@@ -98,8 +98,10 @@ def segment_of(header):
 
 def owner_at(text, offset):
     """The impl or trait around this place of a source file, and the function, constant or ghost
-    member that it stands in, each None where there is none."""
+    member that it stands in, or that its attribute is of, each None where there is none."""
     end = text.find("\n", offset)
+    while text[text.rfind("\n", 0, end) + 1 : end].lstrip().startswith("#["):
+        end = text.find("\n", end + 1)
     around = inside = None
     for line in text[: end if end >= 0 else len(text)].split("\n"):
         if line.startswith("impl"):
