@@ -6,8 +6,9 @@
 After `rt ci`. `bin/vendor` copies the libraries that have a page CALLING.md, the C library and a
 program, twice: the second time over a copy that was changed. Each crate there must be ours, file by
 file, with our line in crates.txt, our version and no broken link, and there must be no other. So
-what `rt ci` proved of ours holds of the copies: the callers of each page are proved over the
-libraries that it left.
+what `rt ci` proved of ours holds of the copies: the callers of all pages are proved over the
+libraries that it left, as modules of one crate, since a crate costs more than a caller. Each may
+name no other crate than those of the line of crates.txt that its page gives it.
 
 The lines of README are run too, in their order, from an absent folder on: its program, compiled
 there from copied sources, must print what README says. The line that runs a program here must end
@@ -31,6 +32,8 @@ CALLED += ["litrs_explanation", "litrs_lines"]
 COPIED = [*CALLED, "litrs_c", "litrs_lines_cli"]
 # What of a crate's folder is not copied.
 LEFT = {"out", "wrong", "must-fail"}
+# How a caller begins.
+TACTICS = "#![tactic(auto)]\n"
 BLOCK = re.compile(r"^```(\w+)\n(.*?)^```$", re.M | re.S)
 README = (TOP / "README.md").read_text()
 VERSION = re.search(r"^## \[(\d\S*)\]", (TOP / "CHANGELOG.md").read_text(), re.M)[1]
@@ -107,7 +110,7 @@ def callers_of(page):
     callers = []
     for block in BLOCK.finditer(page):
         spans = re.findall(r"`([^`\n]+)`", BLOCK.sub("", page[: block.start()]))
-        if block[1] == "rust" and block[2].startswith("#![tactic(auto)]"):
+        if block[1] == "rust" and block[2].startswith(TACTICS):
             line = next(it for it in reversed(spans) if re.fullmatch(r"\w+: [\w ]+", it))
             callers.append(Caller(line, {"src/lib.rt": block[2]}))
         elif block[1] == "antt":
@@ -116,25 +119,45 @@ def callers_of(page):
     return callers
 
 
-def add_crate(folder, caller):
-    """Adds a crate to a repository. Returns its folder."""
-    crate = folder / "crates" / caller.line.split(":")[0]
-    for path, text in caller.files.items():
-        (crate / path).parent.mkdir(parents=True, exist_ok=True)
-        (crate / path).write_text(text)
+def strangers(caller):
+    """The crates that a caller names and its line does not."""
+    name, deps = caller.line.split(":")
+    libraries_of_kit = {it.stem for it in (libraries.KIT / "rlibs").glob("*.rlib")}
+    known = {*libraries.crates_of(TOP), *libraries_of_kit} - {"std", name}
+    text = "\n".join(caller.files.values())
+    named = set(re.findall(r"\b([a-z]\w*)(?=::)|\bRattle\.(\w+)", text))
+    return sorted({it for pair in named for it in pair} & known - set(deps.split()))
+
+
+def add_callers(folder, callers):
+    """Adds a crate to a repository, each of whose modules is a caller. Returns its folder."""
+    crate = folder / "crates/callers"
+    root, deps = TACTICS, set()
+    for caller in callers:
+        name = caller.line.split(":")[0]
+        root += f"pub mod {name};\n"
+        deps |= set(caller.line.split(":")[1].split())
+        for path, text in caller.files.items():
+            inside = pathlib.Path(path.replace("proofs/", f"proofs/{name}/"))
+            if path == "src/lib.rt":
+                inside, text = pathlib.Path(f"src/{name}.rt"), text.removeprefix(TACTICS)
+            text = text.replace(f"Rattle.{name}.proofs.", f"Rattle.callers.proofs.{name}.")
+            (crate / inside).parent.mkdir(parents=True, exist_ok=True)
+            (crate / inside).write_text(text)
+    (crate / "src/lib.rt").write_text(root)
     with (folder / "crates.txt").open("a") as lines:
-        lines.write(f"{caller.line}\n")
+        lines.write(f"callers: {' '.join(sorted(deps))}\n")
     return crate
 
 
 def fault_of_proof(folder, crate):
-    """Why the caller in this folder is not proved over the libraries, if it is not."""
+    """Why the callers in this folder are not proved over the libraries, if they are not."""
     crates = libraries.crates_of(folder)
     words = libraries.words_of("check", crates[crate.name], crates, "src/lib.rt")
     how = {"cwd": crate, "stdout": subprocess.PIPE, "stderr": subprocess.STDOUT, "text": True}
     ran = subprocess.run([*words, "--jobs", "1"], check=False, **how)
     if ran.returncode or not re.search(r"^logic=proved ", ran.stdout, re.M):
-        return f"{crate.name} is not proved: {ran.stdout[-2000:]}"
+        return f"the callers are not proved: {ran.stdout[-2000:]}"
     return None
 
 
@@ -167,11 +190,14 @@ def fault_of_line_here():
 
 def faults_of_callers(folder, callers, room):
     """What fails of the callers and of README, as many at once as there are processors."""
-    crates = [add_crate(folder, it) for it in callers]
+    for caller in callers:
+        if named := strangers(caller):
+            yield f"{caller.line}: it names {named}"
+    crate = add_callers(folder, callers)
     with concurrent.futures.ThreadPoolExecutor(len(os.sched_getaffinity(0))) as pool:
-        tried = [pool.submit(fault_of_readme, room), pool.submit(fault_of_line_here)]
-        tried += [pool.submit(fault_of_proof, folder, it) for it in crates]
-    return [it.result() for it in tried if it.result()]
+        tried = [pool.submit(fault_of_proof, folder, crate)]
+        tried += [pool.submit(fault_of_readme, room), pool.submit(fault_of_line_here)]
+    yield from (it.result() for it in tried if it.result())
 
 
 def main():
@@ -185,8 +211,8 @@ def main():
         faults = list(faults_of_copies(folder))
         if VERSION not in README:
             faults.append(f"README does not say the version {VERSION}")
-        tried = 1 if faults else len(callers) + 3
-        faults = faults or faults_of_callers(folder, callers, room)
+        tried = 1 if faults else len(callers) + 4
+        faults = faults or list(faults_of_callers(folder, callers, room))
     print(*faults, sep="\n", end="\n" if faults else "")
     print(f"vendored: {tried - len(faults)} passed, {len(faults)} failed")
     return 1 if faults else 0
