@@ -104,7 +104,8 @@ pub fn next_special_masked(bytes: &[u8], from: usize, what: Special, mask: Mask)
     load_mask(bytes, unread, what, mask)
 }
 
-/// Loads a new mask at `from`: the whole text if it is short, else 32 bytes.
+/// [`next_special`] by new masks: one of the whole text if it is short, else of 32 bytes at a time.
+/// Of at most three bytes none is made.
 #[inline(always)]
 fn load_mask(bytes: &[u8], from: usize, what: Special, mask: Mask) -> (usize, Mask)
     requires from { from ≤ length bytes.now }
