@@ -1,7 +1,8 @@
 //! The end of a run.
-ghost use Rattle.std.specs.Prelude.{◌≡◌, ◌≤◌, length};
+ghost use Rattle.std.specs.Prelude.{◌≡◌, ◌≤◌, ◌<◌, ℕ, not, eqb, bit_and, get_or, length};
 ghost use Rattle.std.specs.List.{prefix_len};
-ghost use Rattle.litrs_lex.specs.Run.{is_in_run, classes};
+ghost use Rattle.litrs_lex.specs.Run.{is_in_run};
+ghost use Rattle.litrs_lex.specs.declared.run.TheConstants.{CLASSES};
 
 use litrs_base::IntegerBase;
 
@@ -38,10 +39,11 @@ static CLASSES: [u8; 256] = *b"\
     \x00\x00\x00\x00\x00\x00\x00\x00\x00\x00\x00\x00\x00\x00\x00\x00\
     \x00\x00\x00\x00\x00\x00\x00\x00\x00\x00\x00\x00\x00\x00\x00\x00";
 
-/// The bits of [`CLASSES`] that the bytes of the run have, at least one of them.
+/// The bits of [`CLASSES`] of which the bytes of the run have one, and no others have.
 #[inline(always)]
 fn classes(run: Run) -> u8
-    ensures { result ≡ classes run }
+    ensures { (byte : ℕ) → byte < 256 →
+        not (eqb (bit_and (get_or CLASSES byte 0) result) 0) ≡ is_in_run run byte }
 {
     match run {
         Run::Digits(IntegerBase::Binary) => 0x21,
