@@ -9,7 +9,8 @@
 //! on standard error.
 #![tactic(auto)]
 
-use rows::{Row, RowError};
+use parses::Parse;
+use rows::Row;
 use std::alloc::AllocError;
 use std::io::{self, BufRead, BufReader, BufWriter, Write};
 use std::process::ExitCode;
@@ -88,28 +89,35 @@ fn try_line(trial: &mut Trial, line: &str) -> Result<(), AllocError> {
         return Ok(());
     }
     trial.begin_row();
-    match try_row(trial, line) {
-        Ok(()) => {}
-        Err(RowError::Malformed(what)) => trial.check(false, what),
-        Err(RowError::OutOfMemory) => return Err(AllocError),
+    match &Row::read(trial, line) {
+        Some(row) if trial.holds() => try_row(trial, row),
+        _ => {}
     }
     trial.end_row(line)
 }
 
-fn try_row(trial: &mut Trial, line: &str) -> Result<(), RowError> {
-    try_by_kind(trial, &Row::read(trial.alloc, line)?, line);
-    Ok(())
+/// Tries what a row speaks of.
+fn try_row(trial: &mut Trial, row: &Row) {
+    match row.names {
+        "parse_prefix" => fronts::try_front(trial, row),
+        "goes_on" => prefixes::try_goes_on(trial, row),
+        _ => try_text(trial, row),
+    }
 }
 
-/// Tries what the row of this line speaks of.
-fn try_by_kind(trial: &mut Trial, row: &Row, line: &str) {
-    if line.starts_with("parse_prefix\t") {
-        fronts::try_front(trial, row);
-    } else if row.parses.is_empty() {
-        prefixes::try_goes_on(trial, row);
-    } else if row.answer.starts_with("refused\t".as_bytes()) {
-        refusals::try_refusal(trial, row);
-    } else {
-        literals::try_literal(trial, row);
+/// Tries a text by the parses of its row, and its prefixes.
+fn try_text(trial: &mut Trial, row: &Row) {
+    let is_literal = !row.answer.starts_with("refused\t".as_bytes());
+    for name in row.names.split(',') {
+        match Parse::from_name(name) {
+            Some(parse) if is_literal => literals::try_literal(trial, parse, row),
+            Some(parse) => refusals::try_refusal(trial, parse, row),
+            None => trial.check(false, "has an unknown parse"),
+        }
     }
+    let text = row.text.as_str();
+    if is_literal {
+        calls::try_calls(trial, text);
+    }
+    prefixes::try_prefixes(trial, text, is_literal);
 }

@@ -92,9 +92,9 @@ impl Trial {
         }
     }
 
-    /// Whether all that was tried of the row holds.
+    /// Whether all that was tried of the row holds, and the program has had the memory for it.
     pub fn holds(&self) -> bool {
-        self.fault.is_none()
+        self.fault.is_none() && self.refusal.is_none()
     }
 
     /// Notes what does not hold, if it is the first of the row.
