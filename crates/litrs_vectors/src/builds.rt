@@ -84,16 +84,17 @@ fn is_string_refused(trial: &mut Trial, lit: &Literal<&str>) -> bool {
 
 /// Builds the raw string of the value and the suffix of a raw string. Whether memory was refused.
 pub fn is_raw_refused(trial: &mut Trial, lit: &Literal<&str>) -> bool {
+    let Some((true, value)) = value_of(lit) else {
+        return false;
+    };
     let (alloc, suffix) = (trial.alloc, lit.suffix());
-    match (lit, value_of(lit)) {
-        (Literal::String(lit), Some((true, _))) => {
-            is_refused(trial, litrs_build::raw_string(alloc, lit.value(), suffix))
-        }
-        (Literal::ByteString(_), Some((true, value))) => {
+    match lit {
+        Literal::ByteString(_) => {
             is_refused(trial, litrs_build::raw_byte_string(alloc, value, suffix))
         }
-        (Literal::CString(_), Some((true, value))) => {
-            is_refused(trial, litrs_build::raw_c_string(alloc, value, suffix))
+        Literal::CString(_) => is_refused(trial, litrs_build::raw_c_string(alloc, value, suffix)),
+        Literal::String(lit) => {
+            is_refused(trial, litrs_build::raw_string(alloc, lit.value(), suffix))
         }
         _ => false,
     }

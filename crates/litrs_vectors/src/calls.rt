@@ -89,9 +89,7 @@ pub fn try_calls(trial: &mut Trial, text: &str) {
 /// Tries the calls on a literal, its token and its value.
 fn try_literal(trial: &mut Trial, lit: &Literal<&str>) {
     for call in CALLS {
-        let (at, name) = call.names(lit);
-        trial.at = at;
-        again!(trial, name, call.is_refused(trial, lit));
+        try_call(trial, call, lit);
     }
     let text = lit.raw_input();
     if !matches!(lit, Literal::Bool(_)) {
@@ -103,6 +101,13 @@ fn try_literal(trial: &mut Trial, lit: &Literal<&str>) {
         trial.at = ("EscapeContainer", "Vec<u8>");
         try_container::<Vec<u8>>(trial, text);
     }
+}
+
+/// Tries a call on a literal.
+fn try_call(trial: &mut Trial, call: Call, lit: &Literal<&str>) {
+    let (at, name) = call.names(lit);
+    trial.at = at;
+    again!(trial, name, call.is_refused(trial, lit));
 }
 
 /// Makes a token of the value of a string, or a copy of that of a C string. Whether memory was
@@ -222,9 +227,10 @@ fn is_feed_refused(collector: &mut Collector, line: &str, text: &str, is_found: 
     match collector.feed(line) {
         Ok(Step::Literal(lit)) => {
             *is_found = lit.raw_input() == text;
+            discard(lit);
             false
         }
-        Ok(_) => false,
+        Ok(Step::More | Step::Refused(_)) => false,
         Err(_) => true,
     }
 }

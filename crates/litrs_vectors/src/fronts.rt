@@ -24,7 +24,10 @@ pub fn try_front(trial: &mut Trial, row: &Row) {
     trial.at = ("litrs_prefix", "&str");
     let answer = str::from_utf8(row.answer.as_slice()).unwrap_or("");
     // Of `other` and `literal 4` the last field is the answer here, and the compiler has another.
-    let wanted = answer.rsplit('\t').next().unwrap_or("");
+    let wanted = match answer.rsplit_once('\t') {
+        Some((_, last)) => last,
+        None => answer,
+    };
     again!(
         trial,
         "parse_prefix",

@@ -22,21 +22,23 @@ pub fn try_literal(trial: &mut Trial, parse: Parse, row: &Row) {
 fn try_over<B: Text>(trial: &mut Trial, parse: Parse, text: &B, row: &Row) {
     trial.at = (parse.name(), buffer_name::<B>());
     match parsed(trial, parse, text) {
-        Ok(lit) => try_parts(trial, parse, lit, row),
+        Ok(lit) => {
+            again!(trial, "clone", is_clone_refused(trial.alloc, parse, &lit));
+            try_parts(trial, &lit, row);
+            discard(lit);
+        }
         Err(_) => trial.check(false, "is refused"),
     }
 }
 
-/// Tries the copy of a literal, each accessor, and what is printed of it.
-fn try_parts<B: Text>(trial: &mut Trial, parse: Parse, lit: Literal<B>, row: &Row) {
-    again!(trial, "clone", is_clone_refused(trial.alloc, parse, &lit));
+/// Tries each accessor of a literal, and what is printed of it.
+fn try_parts<B: Text>(trial: &mut Trial, lit: &Literal<B>, row: &Row) {
     let text = row.text.as_str();
     trial.check(lit.raw_input() == text, "has another text");
-    let holds = are_fields(row.answer.as_slice(), &lit);
+    let holds = are_fields(row.answer.as_slice(), lit);
     trial.check(holds, "has other parts");
     let printed = lit.to_string(trial.alloc);
     try_printed(trial, printed, text);
-    discard(lit);
 }
 
 /// Tries that a literal is printed as its text.

@@ -12,7 +12,7 @@
 use parses::Parse;
 use rows::Row;
 use std::alloc::AllocError;
-use std::io::{self, BufRead, BufReader, BufWriter, Write};
+use std::io;
 use std::process::ExitCode;
 use trial::Trial;
 
@@ -45,37 +45,19 @@ fn main(rt: HostRuntime) -> ExitCode {
 
 /// Tries each row, and prints what there is to say. Whether all rows hold.
 fn try_table(rt: &HostRuntime) -> io::Result<bool> {
+    let table = io::read_to_string(rt.alloc(), rt.reader())?;
     let mut trial = Trial::new(rt.alloc());
-    let mut output = BufWriter::new(rt.alloc(), io::writer(rt))?;
-    try_lines(rt, &mut trial, &mut output)?;
-    write_held(&mut output, trial.held, trial.rows)?;
+    try_lines(&mut trial, table.as_str())?;
+    print!(rt; "{}", trial.report)?;
     Ok(trial.held == trial.rows)
 }
 
-/// Tries the row of each line.
-fn try_lines<W: Write>(rt: &HostRuntime, trial: &mut Trial, output: &mut W) -> io::Result<()> {
-    for line in BufReader::new(rt.alloc(), rt.reader())?.lines(rt.alloc()) {
-        print_tried(trial, line?.as_str(), output)?;
+/// Tries the row of each line, and reports how many hold.
+fn try_lines(trial: &mut Trial, table: &str) -> Result<(), AllocError> {
+    for line in table.lines() {
+        try_line(trial, line)?;
     }
-    Ok(())
-}
-
-/// Tries the row of a line, and prints what there is to say of it.
-fn print_tried<W: Write>(trial: &mut Trial, line: &str, output: &mut W) -> io::Result<()> {
-    try_line(trial, line)?;
-    output.write_all(trial.report.as_bytes())?;
-    trial.report.clear();
-    Ok(())
-}
-
-/// Prints how many rows hold.
-fn write_held<W: Write>(output: &mut W, held: u64, rows: u64) -> io::Result<()> {
-    if held == rows {
-        writeln!(output, "{rows} rows hold")?;
-    } else {
-        writeln!(output, "{held} of {rows} rows hold")?;
-    }
-    output.flush()
+    trial.end()
 }
 
 /// Tries the row of a line, if it is one.

@@ -47,8 +47,8 @@ fn try_parse(trial: &mut Trial, parse: Parse, text: &str, longer: &mut String) {
     }
 }
 
-/// Whether `goes_on` says of a text, which may be a prefix of a literal, what its refusal does, or
-/// that it is none.
+/// Whether `goes_on` says of a text what its refusal does, of a prefix of a literal or of another.
+/// Where the text is a literal there is no refusal.
 fn is_known(refusal: Option<ParseError>, text: &str, is_literal: bool) -> bool {
     match refusal {
         Some(e) if e.is_final() => !goes_on(text),
@@ -128,23 +128,27 @@ fn try_closed(
     };
     append(trial, longer, text, "\"");
     if kind == ParseErrorKind::UnterminatedRawString {
-        for byte in front.as_bytes() {
-            if *byte == b'#' {
-                trial.own(longer.push_str("#"));
-            }
-        }
+        push_hashes(trial, longer, front);
     }
     let longer = longer.as_str();
     let holds = is_closed(parsed(trial, parse, &longer), longer, body);
     trial.check(holds, "does not take the closed text");
 }
 
-/// Whether an answer is a string of this text and this body, without a suffix.
+/// Adds the hashes of the front of a raw string.
+fn push_hashes(trial: &mut Trial, longer: &mut String, front: &str) {
+    for byte in front.as_bytes() {
+        if *byte == b'#' {
+            trial.own(longer.push_str("#"));
+        }
+    }
+}
+
+/// Whether an answer is such a string.
 fn is_closed(answer: Result<Literal<&str>, ParseError>, longer: &str, body: &str) -> bool {
     match answer {
         Ok(lit) => {
-            let is_whole = lit.suffix().is_empty() && lit.raw_input() == longer;
-            let holds = is_whole && has_body(&lit, body);
+            let holds = has_body(&lit, longer, body);
             discard(lit);
             holds
         }
@@ -152,9 +156,13 @@ fn is_closed(answer: Result<Literal<&str>, ParseError>, longer: &str, body: &str
     }
 }
 
-/// Whether a string of one of the three kinds has this body: where it is raw, that is its value,
-/// and where it is quoted, its value begins so as far as the first escape.
-fn has_body(lit: &Literal<&str>, body: &str) -> bool {
+/// Whether a literal without a suffix has this text and, as a string of one of the three kinds, this
+/// body: where it is raw, that is its value, and where it is quoted, its value begins so as far as
+/// the first escape.
+fn has_body(lit: &Literal<&str>, text: &str, body: &str) -> bool {
+    if !lit.suffix().is_empty() || lit.raw_input() != text {
+        return false;
+    }
     match (value_of(lit), body.split_once('\\')) {
         (Some((false, value)), Some((plain, _))) => value.starts_with(plain.as_bytes()),
         (Some((_, value)), _) => value == body.as_bytes(),

@@ -25,7 +25,7 @@ pub struct Trial {
     pub rows: u64,
     /// How many of them hold.
     pub held: u64,
-    /// Lines that are still to be printed.
+    /// The lines that are to be printed.
     pub report: String,
     /// The type whose calls are tried, and the type of its text.
     pub at: Place,
@@ -89,6 +89,15 @@ impl Trial {
                 self.held = self.held.saturating_add(1);
                 Ok(())
             }
+        }
+    }
+
+    /// Reports how many rows hold.
+    pub fn end(&mut self) -> Result<(), AllocError> {
+        if self.held == self.rows {
+            writeln!(self.report, "{} rows hold", self.rows)
+        } else {
+            writeln!(self.report, "{} of {} rows hold", self.held, self.rows)
         }
     }
 
