@@ -60,12 +60,14 @@ fn front_of(alloc: Global, text: &str) -> Front {
 /// A literal, if its text and the rest are the whole.
 fn literal_of(text: &str, prefix: Prefix) -> Front {
     let front = prefix.literal.raw_input();
-    let found = match text.strip_prefix(front) {
-        Some(rest) if rest == prefix.rest => Front::Literal(front.len()),
-        _ => Front::None,
-    };
+    let is_whole = text.strip_prefix(front) == Some(prefix.rest);
+    let len = front.len();
     discard(prefix);
-    found
+    if is_whole {
+        Front::Literal(len)
+    } else {
+        Front::None
+    }
 }
 
 /// What the error says. A reader that goes on after no byte would never end.

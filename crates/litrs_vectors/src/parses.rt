@@ -86,28 +86,14 @@ pub fn any<L: Into<Literal<B>>, B: Text, E>(answer: Result<L, E>) -> Result<Lite
 fn parse_by<B: Text>(alloc: Global, parse: Parse, text: B) -> Result<Literal<B>, ParseError> {
     match parse {
         Parse::Literal => Literal::parse(alloc, text),
-        Parse::String | Parse::ByteString | Parse::CString => parse_string(alloc, parse, text),
-        _ => parse_other(parse, text),
-    }
-}
-
-/// What the parse of a string makes of it.
-fn parse_string<B: Text>(alloc: Global, parse: Parse, text: B) -> Result<Literal<B>, ParseError> {
-    match parse {
-        Parse::ByteString => any(ByteStringLit::parse(alloc, text)),
-        Parse::CString => any(CStringLit::parse(alloc, text)),
-        _ => any(StringLit::parse(alloc, text)),
-    }
-}
-
-/// What the parse of another kind makes of it.
-fn parse_other<B: Text>(parse: Parse, text: B) -> Result<Literal<B>, ParseError> {
-    match parse {
+        Parse::Bool => any(BoolLit::parse(text.as_str())),
         Parse::Integer => any(IntegerLit::parse(text)),
         Parse::Float => any(FloatLit::parse(text)),
         Parse::Char => any(CharLit::parse(text)),
+        Parse::String => any(StringLit::parse(alloc, text)),
         Parse::Byte => any(ByteLit::parse(text)),
-        _ => any(BoolLit::parse(text.as_str())),
+        Parse::ByteString => any(ByteStringLit::parse(alloc, text)),
+        Parse::CString => any(CStringLit::parse(alloc, text)),
     }
 }
 

@@ -144,11 +144,12 @@ fn push_hashes(trial: &mut Trial, longer: &mut String, front: &str) {
     }
 }
 
-/// Whether an answer is such a string.
+/// Whether an answer is a string of this text and this body, without a suffix.
 fn is_closed(answer: Result<Literal<&str>, ParseError>, longer: &str, body: &str) -> bool {
     match answer {
         Ok(lit) => {
-            let holds = has_body(&lit, longer, body);
+            let is_whole = lit.suffix().is_empty() && lit.raw_input() == longer;
+            let holds = is_whole && has_body(&lit, body);
             discard(lit);
             holds
         }
@@ -156,13 +157,9 @@ fn is_closed(answer: Result<Literal<&str>, ParseError>, longer: &str, body: &str
     }
 }
 
-/// Whether a literal without a suffix has this text and, as a string of one of the three kinds, this
-/// body: where it is raw, that is its value, and where it is quoted, its value begins so as far as
-/// the first escape.
-fn has_body(lit: &Literal<&str>, text: &str, body: &str) -> bool {
-    if !lit.suffix().is_empty() || lit.raw_input() != text {
-        return false;
-    }
+/// Whether a string of one of the three kinds has this body: where it is raw, that is its value,
+/// and where it is quoted, its value begins so as far as the first escape.
+fn has_body(lit: &Literal<&str>, body: &str) -> bool {
     match (value_of(lit), body.split_once('\\')) {
         (Some((false, value)), Some((plain, _))) => value.starts_with(plain.as_bytes()),
         (Some((_, value)), _) => value == body.as_bytes(),

@@ -1,5 +1,5 @@
 //! Literals that are written as tokens and read from them.
-use crate::parses::{Parse, buffer_name, each_kind, fails, parsed};
+use crate::parses::{Parse, buffer_name, discard, each_kind, fails, parsed};
 use crate::rows::Row;
 use crate::trial::{Trial, again};
 use litrs::{
@@ -159,33 +159,30 @@ where
     L::Error: Drop,
 {
     if let Some(token) = token_of(trial, text) {
-        try_read_token::<L>(trial, &token);
-        trial.check(token.text() == text, "has another text");
-        try_read_tree::<L>(trial, &TokenTree::from(token));
+        try_kept::<L>(trial, token, text);
     }
     again!(trial, "from_literal", is_literal_refused::<L>(trial, text));
     again!(trial, "from_tree", is_tree_refused::<L>(trial, text));
 }
 
-/// Tries the one that keeps the token.
-fn try_read_token<L: FromToken>(trial: &mut Trial, token: &Token)
+/// Tries the two that keep the token of a text, and its tree.
+fn try_kept<L: FromToken>(trial: &mut Trial, token: Token, text: &str)
 where
     L::Error: Drop,
 {
     again!(
         trial,
         "from_literal_ref",
-        fails(L::from_literal_ref(trial.alloc, token))
+        fails(L::from_literal_ref(trial.alloc, &token))
     );
-}
-
-/// Tries the one that keeps the tree of a token.
-fn try_read_tree<L: FromToken>(trial: &mut Trial, tree: &TokenTree) {
+    trial.check(token.text() == text, "has another text");
+    let tree = TokenTree::from(token);
     again!(
         trial,
         "from_tree_ref",
-        fails(L::from_tree_ref(trial.alloc, tree))
+        fails(L::from_tree_ref(trial.alloc, &tree))
     );
+    discard(tree);
 }
 
 /// Reads a literal from its token. Whether memory was refused.
