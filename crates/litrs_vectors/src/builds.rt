@@ -40,14 +40,7 @@ pub fn is_build_refused(trial: &mut Trial, lit: &Literal<&str>) -> bool {
         Literal::Float(lit) => is_float_refused(trial, lit),
         Literal::Char(lit) => is_refused(trial, litrs_build::char(alloc, lit.value(), suffix)),
         Literal::Byte(lit) => is_refused(trial, litrs_build::byte(alloc, lit.value(), suffix)),
-        Literal::String(lit) => is_refused(trial, litrs_build::string(alloc, lit.value(), suffix)),
-        Literal::ByteString(lit) => {
-            is_refused(trial, litrs_build::byte_string(alloc, lit.value(), suffix))
-        }
-        Literal::CString(lit) => {
-            let value = lit.value().to_bytes();
-            is_refused(trial, litrs_build::c_string(alloc, value, suffix))
-        }
+        _ => is_string_refused(trial, lit),
     }
 }
 
@@ -69,6 +62,24 @@ fn is_float_refused(trial: &mut Trial, lit: &FloatLit<&str>) -> bool {
     let (exponent, suffix) = (lit.exponent_part(), lit.suffix());
     let built = litrs_build::float(trial.alloc, integer, fraction, exponent, suffix);
     is_refused(trial, built)
+}
+
+/// Builds the string of one of the three kinds of the value and the suffix.
+fn is_string_refused(trial: &mut Trial, lit: &Literal<&str>) -> bool {
+    let (alloc, suffix) = (trial.alloc, lit.suffix());
+    match lit {
+        Literal::String(lit) => is_refused(trial, litrs_build::string(alloc, lit.value(), suffix)),
+        Literal::ByteString(lit) => {
+            is_refused(trial, litrs_build::byte_string(alloc, lit.value(), suffix))
+        }
+        Literal::CString(lit) => {
+            is_refused(
+                trial,
+                litrs_build::c_string(alloc, lit.value().to_bytes(), suffix),
+            )
+        }
+        _ => false,
+    }
 }
 
 /// Builds the raw string of the value and the suffix of a raw string. Whether memory was refused.

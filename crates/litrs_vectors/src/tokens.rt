@@ -165,7 +165,7 @@ where
     again!(trial, "from_tree", is_tree_refused::<L>(trial, text));
 }
 
-/// Tries the two that keep the token of a text, and its tree.
+/// Tries the two that keep the token of a text, or its tree.
 fn try_kept<L: FromToken>(trial: &mut Trial, token: Token, text: &str)
 where
     L::Error: Drop,
@@ -176,7 +176,11 @@ where
         fails(L::from_literal_ref(trial.alloc, &token))
     );
     trial.check(token.text() == text, "has another text");
-    let tree = TokenTree::from(token);
+    try_tree::<L>(trial, TokenTree::from(token));
+}
+
+/// Tries the one that keeps the tree of a token.
+fn try_tree<L: FromToken>(trial: &mut Trial, tree: TokenTree) {
     again!(
         trial,
         "from_tree_ref",
