@@ -43,31 +43,42 @@ pub fn is_escaped<B: Text>(lit: &Literal<B>) -> bool {
     }
 }
 
-/// Writes the fields of a literal, by its accessors, but the value of a string.
-pub fn write_fields<B: Text>(fields: &mut String, lit: &Literal<B>) -> Result<(), AllocError> {
-    write!(fields, "{}\t{}\t", kind_of(lit), lit.suffix())?;
-    write_parts(fields, lit)
-}
-
-/// Writes the fields of a kind.
-fn write_parts<B: Text>(fields: &mut String, lit: &Literal<B>) -> Result<(), AllocError> {
-    match lit {
-        Literal::Bool(lit) => write!(fields, "{}", lit.value()),
-        Literal::Integer(lit) => write_integer(fields, lit),
-        Literal::Float(lit) => write_float(fields, lit),
-        Literal::Char(lit) => write!(fields, "{:x}", u32::from(lit.value())),
-        Literal::Byte(lit) => write!(fields, "{:x}", u32::from(lit.value())),
-        Literal::String(_) | Literal::ByteString(_) | Literal::CString(_) => {
-            write!(fields, "{}\t", body_of(lit))
-        }
+/// Whether these are the fields of a literal, by its accessors.
+pub fn are_fields<B: Text>(answer: &[u8], lit: &Literal<B>) -> bool {
+    match after(after(Some(answer), kind_of(lit)), lit.suffix()) {
+        Some(parts) => are_parts(parts, lit),
+        None => false,
     }
 }
 
-fn write_integer<B: Text>(fields: &mut String, lit: &IntegerLit<B>) -> Result<(), AllocError> {
-    let (base, digits) = (lit.base().value(), lit.raw_main_part());
-    match number_of(lit) {
-        Some(value) => write!(fields, "{base}\t{digits}\t{value}"),
-        None => write!(fields, "{base}\t{digits}\tnone"),
+/// What follows this field and a tab, if they come first.
+fn after<'a>(fields: Option<&'a [u8]>, field: &str) -> Option<&'a [u8]> {
+    fields?.strip_prefix(field.as_bytes())?.strip_prefix(b"\t")
+}
+
+/// Whether these are the fields of the literal's kind.
+fn are_parts<B: Text>(parts: &[u8], lit: &Literal<B>) -> bool {
+    match lit {
+        Literal::Bool(lit) => parts == (if lit.value() { "true" } else { "false" }).as_bytes(),
+        Literal::Integer(lit) => is_integer(parts, lit),
+        Literal::Float(lit) => is_float(parts, lit),
+        Literal::Char(lit) => is_hex(parts, u32::from(lit.value())),
+        Literal::Byte(lit) => is_hex(parts, u32::from(lit.value())),
+        Literal::String(_) | Literal::ByteString(_) | Literal::CString(_) => is_string(parts, lit),
+    }
+}
+
+fn is_integer<B: Text>(parts: &[u8], lit: &IntegerLit<B>) -> bool {
+    let base = match lit.base().value() {
+        2 => "2",
+        8 => "8",
+        10 => "10",
+        16 => "16",
+        _ => "another",
+    };
+    match after(after(Some(parts), base), lit.raw_main_part()) {
+        Some(field) => is_decimal(field, number_of(lit)),
+        None => false,
     }
 }
 
@@ -76,11 +87,35 @@ pub fn number_of<B: Text>(lit: &IntegerLit<B>) -> Option<u128> {
     lit.value()
 }
 
-fn write_float<B: Text>(fields: &mut String, lit: &FloatLit<B>) -> Result<(), AllocError> {
-    let (number, integer) = (lit.number_part(), lit.integer_part());
+/// Whether a field is a number in decimal, or `none`.
+fn is_decimal(field: &[u8], number: Option<u128>) -> bool {
+    match (str::from_utf8(field), number) {
+        (Ok(digits), Some(number)) => digits.parse::<u128>().ok() == Some(number),
+        (_, None) => field == "none".as_bytes(),
+        (Err(_), Some(_)) => false,
+    }
+}
+
+/// Whether a field is a number in hex.
+fn is_hex(field: &[u8], number: u32) -> bool {
+    match str::from_utf8(field) {
+        Ok(digits) => u32::from_str_radix(digits, 16).ok() == Some(number),
+        Err(_) => false,
+    }
+}
+
+fn is_float<B: Text>(parts: &[u8], lit: &FloatLit<B>) -> bool {
     let fraction = lit.fractional_part().unwrap_or("-");
-    let exponent = lit.exponent_part();
-    write!(fields, "{number}\t{integer}\t{fraction}\t{exponent}")
+    let numbers = after(after(Some(parts), lit.number_part()), lit.integer_part());
+    after(numbers, fraction) == Some(lit.exponent_part().as_bytes())
+}
+
+/// Whether these are the fields of a string of one of the three kinds.
+fn is_string<B: Text>(parts: &[u8], lit: &Literal<B>) -> bool {
+    match value_of(lit) {
+        Some((_, value)) => after(Some(parts), body_of(lit)) == Some(value),
+        None => false,
+    }
 }
 
 /// How the body of a string of one of the three kinds is written.
@@ -92,20 +127,11 @@ fn body_of<B: Text>(lit: &Literal<B>) -> &'static str {
     }
 }
 
-/// Whether these are the fields of a literal, of which all but the value of a string are given.
-pub fn are_fields<B: Text>(answer: &[u8], fields: &str, lit: &Literal<B>) -> bool {
-    let value = match value_of(lit) {
-        Some((_, value)) => value,
-        None => b"",
-    };
-    answer.strip_prefix(fields.as_bytes()) == Some(value)
-}
-
 /// Writes the fields of a refusal, without what is printed of it.
 pub fn write_refusal(fields: &mut String, error: &ParseError) -> Result<(), AllocError> {
-    let kind = error.kind();
+    write!(fields, "refused\t{:?}\t", error.kind())?;
     match (error.span(), error.char_span()) {
-        (Some(span), Some(chars)) => write!(fields, "refused\t{kind:?}\t{span:?}\t{chars:?}"),
-        _ => write!(fields, "refused\t{kind:?}\t-\t-"),
+        (Some(span), Some(chars)) => write!(fields, "{span:?}\t{chars:?}"),
+        _ => fields.push_str("-\t-"),
     }
 }

@@ -1,27 +1,15 @@
 //! The literals that are built from the value of another one.
 use crate::answers::{number_of, value_of};
-use crate::trial::{Trial, again};
+use crate::parses::fails;
+use crate::trial::{Place, Trial};
 use litrs::{FloatLit, IntegerLit, Literal};
 use litrs_build::BuildError;
 
-/// The longest text that is tried here.
-const LONGEST: usize = 1000;
-
-/// Tries that the literal of the same value and suffix is built.
-pub fn try_builds(trial: &mut Trial, lit: &Literal<&str>) {
-    if lit.raw_input().len() > LONGEST {
-        return;
-    }
-    trial.at = ("litrs_build", "&str");
-    again!(trial, call_of(lit), is_build_refused(trial, lit));
-    again!(trial, "unescaped", is_unescaped_refused(trial, lit));
-    if let Some((true, value)) = value_of(lit) {
-        again!(trial, raw_call_of(lit), is_raw_refused(trial, lit, value));
-    }
-}
+/// What builds literals.
+pub const PLACE: Place = ("litrs_build", "&str");
 
 /// The call that builds a literal of this kind from its value.
-fn call_of(lit: &Literal<&str>) -> &'static str {
+pub fn call_of(lit: &Literal<&str>) -> &'static str {
     match lit {
         Literal::Integer(_) => "grouped_integer",
         Literal::Float(_) => "float",
@@ -35,7 +23,7 @@ fn call_of(lit: &Literal<&str>) -> &'static str {
 }
 
 /// The call that builds a raw string of this kind.
-fn raw_call_of(lit: &Literal<&str>) -> &'static str {
+pub fn raw_call_of(lit: &Literal<&str>) -> &'static str {
     match lit {
         Literal::ByteString(_) => "raw_byte_string",
         Literal::CString(_) => "raw_c_string",
@@ -43,13 +31,8 @@ fn raw_call_of(lit: &Literal<&str>) -> &'static str {
     }
 }
 
-/// Writes the literal anew. Whether memory was refused.
-fn is_unescaped_refused(trial: &mut Trial, lit: &Literal<&str>) -> bool {
-    litrs_build::unescaped(trial.alloc, lit).is_err()
-}
-
 /// Builds the literal of the value and the suffix, but of a bool. Whether memory was refused.
-fn is_build_refused(trial: &mut Trial, lit: &Literal<&str>) -> bool {
+pub fn is_build_refused(trial: &mut Trial, lit: &Literal<&str>) -> bool {
     let (alloc, suffix) = (trial.alloc, lit.suffix());
     match lit {
         Literal::Bool(_) => false,
@@ -69,7 +52,7 @@ fn is_integer_refused(trial: &mut Trial, lit: &IntegerLit<&str>) -> bool {
             let built = litrs_build::grouped_integer(alloc, value, lit.base(), 3, lit.suffix());
             is_refused(trial, built)
         }
-        None => litrs_build::regroup(alloc, lit, 3).is_err(),
+        None => fails(litrs_build::regroup(alloc, lit, 3)),
     }
 }
 
@@ -99,17 +82,21 @@ fn is_string_refused(trial: &mut Trial, lit: &Literal<&str>) -> bool {
     }
 }
 
-/// Builds the raw literal of the value and the suffix of a raw string.
-fn is_raw_refused(trial: &mut Trial, lit: &Literal<&str>, value: &[u8]) -> bool {
+/// Builds the raw string of the value and the suffix of a raw string. Whether memory was refused.
+pub fn is_raw_refused(trial: &mut Trial, lit: &Literal<&str>) -> bool {
+    let Some((true, value)) = value_of(lit) else {
+        return false;
+    };
     let (alloc, suffix) = (trial.alloc, lit.suffix());
     match lit {
-        Literal::String(lit) => {
-            is_refused(trial, litrs_build::raw_string(alloc, lit.value(), suffix))
-        }
         Literal::ByteString(_) => {
             is_refused(trial, litrs_build::raw_byte_string(alloc, value, suffix))
         }
-        _ => is_refused(trial, litrs_build::raw_c_string(alloc, value, suffix)),
+        Literal::CString(_) => is_refused(trial, litrs_build::raw_c_string(alloc, value, suffix)),
+        Literal::String(lit) => {
+            is_refused(trial, litrs_build::raw_string(alloc, lit.value(), suffix))
+        }
+        _ => false,
     }
 }
 

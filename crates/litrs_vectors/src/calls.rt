@@ -1,13 +1,15 @@
 //! The calls that allocate beside those of the literal types.
 use crate::answers::value_of;
+use crate::builds;
+use crate::parses::{Parse, discard, fails, parsed};
 use crate::tokens::{Token, token_of};
-use crate::trial::{Trial, again};
+use crate::trial::{Place, Trial, again};
 use litrs::{BoolLit, Literal};
 use litrs_base::Unescape;
 use litrs_lex::{EscapeContainer, unescape_string};
 use litrs_lines::{Collector, MemInput, MemOutput, Output, Step, run};
 use litrs_token::TokenTree;
-use std::alloc::Global;
+use std::alloc::{AllocError, Global};
 use std::convert::AsSlice;
 
 /// The longest text that is tried here.
@@ -19,20 +21,81 @@ const ROOM: usize = 8 * LONGEST;
 /// How many bytes a device takes in a call.
 const PIECE: usize = 4096;
 
-/// Tries the calls on a literal, its text and its value.
-pub fn try_literal(trial: &mut Trial, lit: &Literal<&str>) {
-    let text = lit.raw_input();
+/// A call on a literal, or on its value.
+#[derive(Clone, Copy)]
+enum Call {
+    /// Unescapes the body of a quoted string.
+    Unescape,
+    /// Makes a token of the value of a string, or a copy of that of a C string.
+    Value,
+    /// Builds the literal of the value and the suffix.
+    Build,
+    /// Builds the raw string of the value and the suffix.
+    BuildRaw,
+    /// Writes the literal anew.
+    Unescaped,
+}
+
+/// All such calls.
+const CALLS: [Call; 5] = [
+    Call::Unescape,
+    Call::Value,
+    Call::Build,
+    Call::BuildRaw,
+    Call::Unescaped,
+];
+
+impl Call {
+    /// Where the call is on a literal of this kind, and its name.
+    fn names(self, lit: &Literal<&str>) -> (Place, &'static str) {
+        match self {
+            Call::Unescape => (("litrs_lex", "&str"), "unescape_string"),
+            Call::Value => match lit {
+                Literal::CString(_) => (("CString", "CString"), "clone"),
+                _ => (("litrs_token::Literal", "&str"), "string"),
+            },
+            Call::Build => (builds::PLACE, builds::call_of(lit)),
+            Call::BuildRaw => (builds::PLACE, builds::raw_call_of(lit)),
+            Call::Unescaped => (builds::PLACE, "unescaped"),
+        }
+    }
+
+    /// Makes the call, if it is one on a literal of this kind. Whether memory was refused.
+    fn is_refused(self, trial: &mut Trial, lit: &Literal<&str>) -> bool {
+        match self {
+            Call::Unescape => is_unescape_refused(trial.alloc, lit),
+            Call::Value => is_value_refused(trial.alloc, lit),
+            _ if lit.raw_input().len() > LONGEST => false,
+            Call::Build => builds::is_build_refused(trial, lit),
+            Call::BuildRaw => builds::is_raw_refused(trial, lit),
+            Call::Unescaped => fails(litrs_build::unescaped(trial.alloc, lit)),
+        }
+    }
+}
+
+/// Tries the calls on the literal of a text that are no methods of it.
+pub fn try_calls(trial: &mut Trial, text: &str) {
     try_run(trial, text);
     try_collector(trial, text, true);
-    try_compile_error(trial, lit);
-    try_value(trial, lit);
+    match parsed(trial, Parse::Literal, &text) {
+        Ok(lit) => {
+            try_literal(trial, &lit);
+            discard(lit);
+        }
+        Err(_) => trial.check(false, "is refused"),
+    }
+}
+
+/// Tries the calls on a literal, its token and its value.
+fn try_literal(trial: &mut Trial, lit: &Literal<&str>) {
+    for call in CALLS {
+        try_call(trial, call, lit);
+    }
+    let text = lit.raw_input();
+    if !matches!(lit, Literal::Bool(_)) {
+        try_compile_error(trial, text);
+    }
     if let Some((false, _)) = value_of(lit) {
-        trial.at = ("litrs_lex", "&str");
-        again!(
-            trial,
-            "unescape_string",
-            is_unescape_refused(trial.alloc, lit)
-        );
         trial.at = ("EscapeContainer", "String");
         try_container::<String>(trial, text);
         trial.at = ("EscapeContainer", "Vec<u8>");
@@ -40,35 +103,38 @@ pub fn try_literal(trial: &mut Trial, lit: &Literal<&str>) {
     }
 }
 
-/// Tries the calls on the value of a string.
-fn try_value(trial: &mut Trial, lit: &Literal<&str>) {
+/// Tries a call on a literal.
+fn try_call(trial: &mut Trial, call: Call, lit: &Literal<&str>) {
+    let (at, name) = call.names(lit);
+    trial.at = at;
+    again!(trial, name, call.is_refused(trial, lit));
+}
+
+/// Makes a token of the value of a string, or a copy of that of a C string. Whether memory was
+/// refused.
+fn is_value_refused(alloc: Global, lit: &Literal<&str>) -> bool {
     match lit {
-        Literal::String(lit) => {
-            trial.at = ("litrs_token::Literal", "&str");
-            let value = lit.value();
-            again!(trial, "string", Token::string(trial.alloc, value).is_err());
-        }
-        Literal::CString(lit) => {
-            trial.at = ("CString", "CString");
-            let value = lit.value();
-            again!(trial, "clone", value.clone(trial.alloc).is_err());
-        }
-        _ => {}
+        Literal::String(lit) => fails(Token::string(alloc, lit.value())),
+        Literal::CString(lit) => fails(lit.value().clone(alloc)),
+        _ => false,
     }
 }
 
 /// Unescapes the body of a quoted string of any kind. Whether memory was refused.
 fn is_unescape_refused(alloc: Global, lit: &Literal<&str>) -> bool {
+    let Some((false, _)) = value_of(lit) else {
+        return false;
+    };
     let text = lit.raw_input();
     match lit {
         Literal::ByteString(_) if text.is_char_boundary(2) => {
-            unescape_string::<Vec<u8>>(alloc, text, 2, false, true, true).is_err()
+            fails(unescape_string::<Vec<u8>>(alloc, text, 2, false, true, true))
         }
         Literal::CString(_) if text.is_char_boundary(2) => {
-            unescape_string::<Vec<u8>>(alloc, text, 2, true, true, false).is_err()
+            fails(unescape_string::<Vec<u8>>(alloc, text, 2, true, true, false))
         }
         _ if text.is_char_boundary(1) => {
-            unescape_string::<String>(alloc, text, 1, true, false, true).is_err()
+            fails(unescape_string::<String>(alloc, text, 1, true, false, true))
         }
         _ => true,
     }
@@ -80,7 +146,7 @@ fn try_container<C: EscapeContainer + AsSlice<u8>>(trial: &mut Trial, text: &str
         trial,
         "with_capacity",
         // bounded by the length of the longest text that is tried so.
-        C::with_capacity(trial.alloc, LONGEST).is_err()
+        fails(C::with_capacity(trial.alloc, LONGEST))
     );
     let mut container = C::new(trial.alloc);
     try_adding(trial, &mut container, text);
@@ -117,23 +183,23 @@ pub fn try_run(trial: &mut Trial, text: &str) {
         return;
     }
     trial.at = ("MemOutput", "&str");
-    again!(trial, "new", output(trial.alloc).is_none());
+    again!(trial, "new", fails(output(trial.alloc)));
     trial.at = ("litrs_lines", "&str");
     again!(trial, "run", is_run_refused(trial.alloc, text));
 }
 
 /// An output that has room for the reports on a text.
-fn output(alloc: Global) -> Option<MemOutput> {
+fn output(alloc: Global) -> Result<MemOutput, AllocError> {
     // bounded by what every output of this program has.
-    MemOutput::new(alloc, ROOM, PIECE, None).ok()
+    MemOutput::new(alloc, ROOM, PIECE, None)
 }
 
 /// Runs over a text that is the only line of an input. Whether memory was refused.
 fn is_run_refused(alloc: Global, text: &str) -> bool {
     let mut input = MemInput::new(text.as_bytes(), PIECE, None);
     match &mut output(alloc) {
-        Some(output) => output.failed() || run(alloc, &mut input, output).is_err(),
-        None => true,
+        Ok(output) => output.failed() || run(alloc, &mut input, output).is_err(),
+        Err(_) => true,
     }
 }
 
@@ -161,19 +227,17 @@ fn is_feed_refused(collector: &mut Collector, line: &str, text: &str, is_found: 
     match collector.feed(line) {
         Ok(Step::Literal(lit)) => {
             *is_found = lit.raw_input() == text;
+            discard(lit);
             false
         }
-        Ok(_) => false,
+        Ok(Step::More | Step::Refused(_)) => false,
         Err(_) => true,
     }
 }
 
-/// Tries the compile error of the token of a literal that is no bool.
-fn try_compile_error(trial: &mut Trial, lit: &Literal<&str>) {
-    if matches!(lit, Literal::Bool(_)) {
-        return;
-    }
-    if let Some(token) = token_of(trial, lit.raw_input()) {
+/// Tries the compile error of the token of a literal's text.
+fn try_compile_error(trial: &mut Trial, text: &str) {
+    if let Some(token) = token_of(trial, text) {
         try_no_bool(trial, TokenTree::from(token));
     }
 }
@@ -187,7 +251,7 @@ fn try_no_bool(trial: &mut Trial, tree: TokenTree) {
             again!(
                 trial,
                 "to_compile_error",
-                invalid.to_compile_error(trial.alloc).is_err()
+                fails(invalid.to_compile_error(trial.alloc))
             );
         }
     }

@@ -1,11 +1,13 @@
 //! Rows on the literal at the front of a longer text.
+use crate::parses::discard;
 use crate::rows::Row;
 use crate::trial::{Trial, again};
 use litrs::ParseErrorKind;
 use litrs_prefix::{MalformedPrefix, Prefix, parse_prefix, prefix_len};
+use std::alloc::Global;
 
 /// What stands at the front of a text.
-#[derive(Clone, Copy, PartialEq, Eq)]
+#[derive(Clone, Copy)]
 enum Front {
     /// A literal of so many bytes.
     Literal(usize),
@@ -20,58 +22,51 @@ enum Front {
 /// Tries what the row says of the front of its text.
 pub fn try_front(trial: &mut Trial, row: &Row) {
     trial.at = ("litrs_prefix", "&str");
-    match wanted(row.answer.as_slice()) {
-        Some(wanted) => {
-            again!(
-                trial,
-                "parse_prefix",
-                is_refused(trial, row.text.as_str(), wanted)
-            );
-        }
-        None => trial.check(false, "is no answer"),
-    }
+    let answer = str::from_utf8(row.answer.as_slice()).unwrap_or("");
+    // Of `other` and `literal 4` the last field is the answer here, and the compiler has another.
+    let wanted = match answer.rsplit_once('\t') {
+        Some((_, last)) => last,
+        None => answer,
+    };
+    again!(
+        trial,
+        "parse_prefix",
+        is_refused(trial, row.text.as_str(), wanted)
+    );
 }
 
-/// What a row says: of `other` and `literal 4` the last, which is the answer here where the
-/// compiler has another.
-fn wanted(answer: &[u8]) -> Option<Front> {
-    let mut found = None;
-    for word in str::from_utf8(answer).ok()?.split('\t') {
-        found = match word {
-            "literal" => found,
-            "refused" | "malformed" => Some(Front::Malformed),
-            "other" | "none" => Some(Front::None),
-            _ => Some(Front::Literal(word.parse().ok()?)),
-        };
-    }
-    found
-}
-
-/// Tries the text. Whether memory was refused.
-fn is_refused(trial: &mut Trial, text: &str, wanted: Front) -> bool {
-    let found = match parse_prefix(trial.alloc, text) {
-        Ok(Some(prefix)) => front_of(text, &prefix),
-        Ok(None) => Front::None,
-        Err(malformed) => malformed_of(&malformed),
+/// Tries the front of the text. Whether memory was refused.
+fn is_refused(trial: &mut Trial, text: &str, wanted: &str) -> bool {
+    let (holds, len) = match front_of(trial.alloc, text) {
+        Front::Literal(len) => (wanted.parse::<usize>().ok() == Some(len), Some(len)),
+        Front::Malformed => (matches!(wanted, "refused" | "malformed"), None),
+        Front::None => (matches!(wanted, "other" | "none"), None),
+        Front::Refused => return true,
     };
-    if found == Front::Refused {
-        return true;
-    }
-    trial.check(found == wanted, "has another front");
-    let len = match found {
-        Front::Literal(len) => Some(len),
-        _ => None,
-    };
+    trial.check(holds, "has another front");
     trial.check(prefix_len(text) == len, "has another length");
     false
 }
 
+/// What the library finds at the front of the text.
+fn front_of(alloc: Global, text: &str) -> Front {
+    match parse_prefix(alloc, text) {
+        Ok(Some(prefix)) => literal_of(text, prefix),
+        Ok(None) => Front::None,
+        Err(malformed) => malformed_of(&malformed),
+    }
+}
+
 /// A literal, if its text and the rest are the whole.
-fn front_of(text: &str, prefix: &Prefix) -> Front {
+fn literal_of(text: &str, prefix: Prefix) -> Front {
     let front = prefix.literal.raw_input();
-    match text.strip_prefix(front) {
-        Some(rest) if rest == prefix.rest => Front::Literal(front.len()),
-        _ => Front::None,
+    let is_whole = text.strip_prefix(front) == Some(prefix.rest);
+    let len = front.len();
+    discard(prefix);
+    if is_whole {
+        Front::Literal(len)
+    } else {
+        Front::None
     }
 }
 

@@ -9,9 +9,10 @@
 //! on standard error.
 #![tactic(auto)]
 
-use rows::{Row, RowError};
+use parses::Parse;
+use rows::Row;
 use std::alloc::AllocError;
-use std::io::{self, BufRead, BufReader, BufWriter, Write};
+use std::io;
 use std::process::ExitCode;
 use trial::Trial;
 
@@ -44,37 +45,19 @@ fn main(rt: HostRuntime) -> ExitCode {
 
 /// Tries each row, and prints what there is to say. Whether all rows hold.
 fn try_table(rt: &HostRuntime) -> io::Result<bool> {
+    let table = io::read_to_string(rt.alloc(), rt.reader())?;
     let mut trial = Trial::new(rt.alloc());
-    let mut output = BufWriter::new(rt.alloc(), io::writer(rt))?;
-    try_lines(rt, &mut trial, &mut output)?;
-    write_held(&mut output, trial.held, trial.rows)?;
+    try_lines(&mut trial, table.as_str())?;
+    print!(rt; "{}", trial.report)?;
     Ok(trial.held == trial.rows)
 }
 
-/// Tries the row of each line.
-fn try_lines<W: Write>(rt: &HostRuntime, trial: &mut Trial, output: &mut W) -> io::Result<()> {
-    for line in BufReader::new(rt.alloc(), rt.reader())?.lines(rt.alloc()) {
-        print_tried(trial, line?.as_str(), output)?;
+/// Tries the row of each line, and reports how many hold.
+fn try_lines(trial: &mut Trial, table: &str) -> Result<(), AllocError> {
+    for line in table.lines() {
+        try_line(trial, line)?;
     }
-    Ok(())
-}
-
-/// Tries the row of a line, and prints what there is to say of it.
-fn print_tried<W: Write>(trial: &mut Trial, line: &str, output: &mut W) -> io::Result<()> {
-    try_line(trial, line)?;
-    output.write_all(trial.report.as_bytes())?;
-    trial.report.clear();
-    Ok(())
-}
-
-/// Prints how many rows hold.
-fn write_held<W: Write>(output: &mut W, held: u64, rows: u64) -> io::Result<()> {
-    if held == rows {
-        writeln!(output, "{rows} rows hold")?;
-    } else {
-        writeln!(output, "{held} of {rows} rows hold")?;
-    }
-    output.flush()
+    trial.end()
 }
 
 /// Tries the row of a line, if it is one.
@@ -88,28 +71,35 @@ fn try_line(trial: &mut Trial, line: &str) -> Result<(), AllocError> {
         return Ok(());
     }
     trial.begin_row();
-    match try_row(trial, line) {
-        Ok(()) => {}
-        Err(RowError::Malformed(what)) => trial.check(false, what),
-        Err(RowError::OutOfMemory) => return Err(AllocError),
+    match &Row::read(trial, line) {
+        Some(row) if trial.holds() => try_row(trial, row),
+        _ => {}
     }
     trial.end_row(line)
 }
 
-fn try_row(trial: &mut Trial, line: &str) -> Result<(), RowError> {
-    try_by_kind(trial, &Row::read(trial.alloc, line)?, line);
-    Ok(())
+/// Tries what a row speaks of.
+fn try_row(trial: &mut Trial, row: &Row) {
+    match row.names {
+        "parse_prefix" => fronts::try_front(trial, row),
+        "goes_on" => prefixes::try_goes_on(trial, row),
+        _ => try_text(trial, row),
+    }
 }
 
-/// Tries what the row of this line speaks of.
-fn try_by_kind(trial: &mut Trial, row: &Row, line: &str) {
-    if line.starts_with("parse_prefix\t") {
-        fronts::try_front(trial, row);
-    } else if row.parses.is_empty() {
-        prefixes::try_goes_on(trial, row);
-    } else if row.answer.starts_with("refused\t".as_bytes()) {
-        refusals::try_refusal(trial, row);
-    } else {
-        literals::try_literal(trial, row);
+/// Tries a text by the parses of its row, and its prefixes.
+fn try_text(trial: &mut Trial, row: &Row) {
+    let is_literal = !row.answer.starts_with("refused\t".as_bytes());
+    for name in row.names.split(',') {
+        match Parse::from_name(name) {
+            Some(parse) if is_literal => literals::try_literal(trial, parse, row),
+            Some(parse) => refusals::try_refusal(trial, parse, row),
+            None => trial.check(false, "has an unknown parse"),
+        }
     }
+    let text = row.text.as_str();
+    if is_literal {
+        calls::try_calls(trial, text);
+    }
+    prefixes::try_prefixes(trial, text, is_literal);
 }

@@ -1,4 +1,5 @@
 //! The lines that show a refusal.
+use crate::parses::fails;
 use crate::trial::{Trial, again};
 use litrs::ParseError;
 use litrs_diagnostic::{Diagnostic, shown};
@@ -33,5 +34,5 @@ fn is_shown_refused(trial: &mut Trial, text: &str, error: &ParseError) -> bool {
         message: error.kind().description(),
         width: 140,
     };
-    shown(trial.alloc, &diagnostic).is_err()
+    fails(shown(trial.alloc, &diagnostic))
 }

@@ -66,6 +66,14 @@ pub fn buffer_name<B: Text>() -> &'static str {
     if B::OWNS { "String" } else { "&str" }
 }
 
+/// Whether a call fails. What it answers is dropped.
+pub fn fails<T: Drop, E: Drop>(answer: Result<T, E>) -> bool {
+    answer.is_err()
+}
+
+/// Lets a value of any type go.
+pub fn discard<T: Drop>(_value: T) {}
+
 /// What a call on a type of one kind answers, as what the call on `Literal` would.
 pub fn any<L: Into<Literal<B>>, B: Text, E>(answer: Result<L, E>) -> Result<Literal<B>, E> {
     match answer {
@@ -78,28 +86,14 @@ pub fn any<L: Into<Literal<B>>, B: Text, E>(answer: Result<L, E>) -> Result<Lite
 fn parse_by<B: Text>(alloc: Global, parse: Parse, text: B) -> Result<Literal<B>, ParseError> {
     match parse {
         Parse::Literal => Literal::parse(alloc, text),
-        Parse::String | Parse::ByteString | Parse::CString => parse_string(alloc, parse, text),
-        _ => parse_other(parse, text),
-    }
-}
-
-/// What the parse of a string makes of it.
-fn parse_string<B: Text>(alloc: Global, parse: Parse, text: B) -> Result<Literal<B>, ParseError> {
-    match parse {
-        Parse::ByteString => any(ByteStringLit::parse(alloc, text)),
-        Parse::CString => any(CStringLit::parse(alloc, text)),
-        _ => any(StringLit::parse(alloc, text)),
-    }
-}
-
-/// What the parse of another kind makes of it.
-fn parse_other<B: Text>(parse: Parse, text: B) -> Result<Literal<B>, ParseError> {
-    match parse {
+        Parse::Bool => any(BoolLit::parse(text.as_str())),
         Parse::Integer => any(IntegerLit::parse(text)),
         Parse::Float => any(FloatLit::parse(text)),
         Parse::Char => any(CharLit::parse(text)),
+        Parse::String => any(StringLit::parse(alloc, text)),
         Parse::Byte => any(ByteLit::parse(text)),
-        _ => any(BoolLit::parse(text.as_str())),
+        Parse::ByteString => any(ByteStringLit::parse(alloc, text)),
+        Parse::CString => any(CStringLit::parse(alloc, text)),
     }
 }
 
@@ -158,11 +152,16 @@ pub fn parsed<B: Text>(
     parse: Parse,
     text: &B,
 ) -> Result<Literal<B>, ParseError> {
-    let answer = parse_copy(trial, parse, text);
-    if is_out_of_memory(&answer) {
-        return parsed_again(trial, parse, text);
+    match parse_copy(trial, parse, text) {
+        Ok(lit) => Ok(lit),
+        Err(e) if e.kind() == ParseErrorKind::OutOfMemory => parsed_again(trial, parse, text),
+        Err(e) => Err(e),
     }
-    answer
+}
+
+/// How this parse refuses the text, if it does.
+pub fn refusal<B: Text>(trial: &mut Trial, parse: Parse, text: &B) -> Option<ParseError> {
+    parsed(trial, parse, text).err()
 }
 
 /// What this parse makes of the text, for which memory was refused once.
@@ -181,14 +180,6 @@ fn parsed_again<B: Text>(
     );
     trial.at = at;
     answer
-}
-
-/// Whether memory was refused.
-fn is_out_of_memory<B: Text>(answer: &Result<Literal<B>, ParseError>) -> bool {
-    match answer {
-        Ok(_) => false,
-        Err(e) => e.kind() == ParseErrorKind::OutOfMemory,
-    }
 }
 
 /// Whether the text is a literal whose value is allocated.

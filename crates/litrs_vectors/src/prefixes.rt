@@ -1,6 +1,6 @@
 //! Prefixes of texts, and texts with something appended, by all nine parses.
 use crate::answers::value_of;
-use crate::parses::{PARSES, Parse, parsed};
+use crate::parses::{PARSES, Parse, discard, parsed, refusal};
 use crate::rows::Row;
 use crate::trial::Trial;
 use litrs::{Literal, ParseError, ParseErrorKind, goes_on};
@@ -35,26 +35,25 @@ fn try_prefix(trial: &mut Trial, text: &str, is_literal: bool, longer: &mut Stri
         trial.at = (parse.name(), "&str");
         try_parse(trial, parse, text, longer);
     }
-    let answer = parsed(trial, Parse::Literal, &text);
-    let holds = is_known(&answer, text, is_literal);
+    let refusal = refusal(trial, Parse::Literal, &text);
+    let holds = is_known(refusal, text, is_literal);
     trial.check(holds, "goes_on says otherwise");
 }
 
 /// Tries how a parse refuses a prefix, if it does.
 fn try_parse(trial: &mut Trial, parse: Parse, text: &str, longer: &mut String) {
-    match &parsed(trial, parse, &text) {
-        Ok(_) => {}
-        Err(e) => try_error(trial, parse, text, e, longer),
+    if let Some(error) = refusal(trial, parse, &text) {
+        try_error(trial, parse, text, &error, longer);
     }
 }
 
-/// Whether `goes_on` says of a text what the answer of its parse does, of a prefix of a literal or
-/// of another.
-fn is_known(answer: &Result<Literal<&str>, ParseError>, text: &str, is_literal: bool) -> bool {
-    match answer {
-        Ok(_) => goes_on(text),
-        Err(e) if e.is_final() => !goes_on(text),
-        Err(e) => goes_on(text) || !e.is_open() && !is_literal,
+/// Whether `goes_on` says of a text what its refusal does, of a prefix of a literal or of another.
+/// Where the text is a literal there is no refusal.
+fn is_known(refusal: Option<ParseError>, text: &str, is_literal: bool) -> bool {
+    match refusal {
+        Some(e) if e.is_final() => !goes_on(text),
+        Some(e) => goes_on(text) || !e.is_open() && !is_literal,
+        None => goes_on(text),
     }
 }
 
@@ -111,8 +110,8 @@ fn append(trial: &mut Trial, longer: &mut String, text: &str, end: &str) {
 fn try_appended(trial: &mut Trial, parse: Parse, text: &str, longer: &mut String) {
     for end in APPENDED {
         append(trial, longer, text, end);
-        let answer = parsed(trial, parse, &longer.as_str());
-        trial.check(answer.is_err(), "takes a longer text");
+        let is_refused = refusal(trial, parse, &longer.as_str()).is_some();
+        trial.check(is_refused, "takes a longer text");
     }
 }
 
@@ -129,21 +128,31 @@ fn try_closed(
     };
     append(trial, longer, text, "\"");
     if kind == ParseErrorKind::UnterminatedRawString {
-        for byte in front.as_bytes() {
-            if *byte == b'#' {
-                trial.own(longer.push_str("#"));
-            }
-        }
+        push_hashes(trial, longer, front);
     }
     let longer = longer.as_str();
-    let holds = is_closed(&parsed(trial, parse, &longer), longer, body);
+    let holds = is_closed(parsed(trial, parse, &longer), longer, body);
     trial.check(holds, "does not take the closed text");
 }
 
+/// Adds the hashes of the front of a raw string.
+fn push_hashes(trial: &mut Trial, longer: &mut String, front: &str) {
+    for byte in front.as_bytes() {
+        if *byte == b'#' {
+            trial.own(longer.push_str("#"));
+        }
+    }
+}
+
 /// Whether an answer is a string of this text and this body, without a suffix.
-fn is_closed(answer: &Result<Literal<&str>, ParseError>, longer: &str, body: &str) -> bool {
+fn is_closed(answer: Result<Literal<&str>, ParseError>, longer: &str, body: &str) -> bool {
     match answer {
-        Ok(lit) => lit.suffix().is_empty() && lit.raw_input() == longer && has_body(lit, body),
+        Ok(lit) => {
+            let is_whole = lit.suffix().is_empty() && lit.raw_input() == longer;
+            let holds = is_whole && has_body(&lit, body);
+            discard(lit);
+            holds
+        }
         Err(_) => false,
     }
 }

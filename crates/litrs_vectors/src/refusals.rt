@@ -1,31 +1,28 @@
 //! Refused texts over both buffers.
 use crate::answers::write_refusal;
-use crate::parses::{Parse, buffer_name, parsed};
+use crate::parses::{Parse, buffer_name, refusal};
 use crate::rows::Row;
 use crate::trial::Trial;
-use crate::{calls, messages, prefixes, tokens};
+use crate::{calls, messages, tokens};
 use litrs::{ParseError, Text};
 
-/// Tries a refused text by the parses of its row, and its prefixes.
-pub fn try_refusal(trial: &mut Trial, row: &Row) {
+/// Tries the refused text of a row by one of its parses.
+pub fn try_refusal(trial: &mut Trial, parse: Parse, row: &Row) {
     let text = row.text.as_str();
-    for parse in &row.parses {
-        try_over(trial, *parse, &text, row);
-        try_over(trial, *parse, &row.text, row);
-        if matches!(parse, Parse::Literal) {
-            tokens::try_no_token(trial, text);
-            try_report(trial, text);
-        }
+    try_over(trial, parse, &text, row);
+    try_over(trial, parse, &row.text, row);
+    if matches!(parse, Parse::Literal) {
+        tokens::try_no_token(trial, text);
+        try_report(trial, text);
     }
-    prefixes::try_prefixes(trial, text, false);
 }
 
 /// Tries how a parse refuses a text.
 fn try_over<B: Text>(trial: &mut Trial, parse: Parse, text: &B, row: &Row) {
     trial.at = (parse.name(), buffer_name::<B>());
-    match &parsed(trial, parse, text) {
-        Ok(_) => trial.check(false, "is a literal"),
-        Err(e) => try_error(trial, e, row.answer.as_slice()),
+    match &refusal(trial, parse, text) {
+        Some(error) => try_error(trial, error, row.answer.as_slice()),
+        None => trial.check(false, "is a literal"),
     }
 }
 
@@ -54,9 +51,8 @@ fn try_printed(trial: &mut Trial, error: &ParseError, bytes: &[u8]) {
 
 /// Tries the report on a text that is refused.
 fn try_report(trial: &mut Trial, text: &str) {
-    match &parsed(trial, Parse::Literal, &text) {
-        Ok(_) => trial.check(false, "is a literal"),
-        Err(e) => messages::try_shown(trial, text, e),
+    if let Some(error) = &refusal(trial, Parse::Literal, &text) {
+        messages::try_shown(trial, text, error);
     }
     calls::try_run(trial, text);
     calls::try_collector(trial, text, false);

@@ -1,137 +1,98 @@
 //! The rows of a table.
-use crate::parses::Parse;
-use std::alloc::{AllocError, AllocFailed, Global};
-
-/// Why a line is not tried.
-#[derive(Clone, Copy)]
-pub enum RowError {
-    /// It is no row, and what is wrong with it.
-    Malformed(&'static str),
-    /// There is no memory for it.
-    OutOfMemory,
-}
-
-impl From<AllocError> for RowError {
-    fn from(_: AllocError) -> Self {
-        RowError::OutOfMemory
-    }
-}
-
-impl<T: Drop> From<AllocFailed<T>> for RowError {
-    fn from(_: AllocFailed<T>) -> Self {
-        RowError::OutOfMemory
-    }
-}
+use crate::trial::Trial;
 
 /// A text, and what is said of it.
 #[derive(Drop)]
-pub struct Row {
-    /// The parses that answer so; none in a row on `goes_on` or on `parse_prefix`.
-    pub parses: Vec<Parse>,
+pub struct Row<'a> {
+    /// The names of the calls that answer so.
+    pub names: &'a str,
     /// The text.
     pub text: String,
     /// The further fields, with tabs between them.
     pub answer: Vec<u8>,
 }
 
-impl Row {
-    /// Reads the row of a line.
-    pub fn read(alloc: Global, line: &str) -> Result<Row, RowError> {
-        let Some((names, fields)) = line.split_once('\t') else {
-            return Err(RowError::Malformed("has one field"));
-        };
-        let Some((text, answer)) = fields.split_once('\t') else {
-            return Err(RowError::Malformed("has two fields"));
-        };
-        let Ok(text) = String::from_utf8(unescaped(alloc, text)?) else {
-            return Err(RowError::Malformed("has a text that is not UTF-8"));
-        };
-        Ok(Row {
-            parses: read_parses(alloc, names)?,
-            text,
-            answer: unescaped(alloc, answer)?,
+impl<'a> Row<'a> {
+    /// Reads the row of a line, if it is one.
+    pub fn read(trial: &mut Trial, line: &'a str) -> Option<Row<'a>> {
+        let (names, fields) = split(trial, line, '\t')?;
+        let (text, answer) = split(trial, fields, '\t')?;
+        Some(Row {
+            names,
+            text: read_text(trial, text)?,
+            answer: unescaped(trial, answer),
         })
     }
 }
 
-fn read_parses(alloc: Global, names: &str) -> Result<Vec<Parse>, RowError> {
-    let mut parses = Vec::new(alloc);
-    if names == "goes_on" || names == "parse_prefix" {
-        return Ok(parses);
-    }
-    for name in names.split(',') {
-        match Parse::from_name(name) {
-            Some(parse) => parses.push(parse)?,
-            None => return Err(RowError::Malformed("has an unknown parse")),
-        }
-    }
-    Ok(parses)
+/// What stands before a character, and what after it.
+fn split<'a>(trial: &mut Trial, text: &'a str, at: char) -> Option<(&'a str, &'a str)> {
+    let parts = text.split_once(at);
+    trial.check(parts.is_some(), "lacks a field, or a part of one");
+    parts
+}
+
+/// The text that a field stands for.
+fn read_text(trial: &mut Trial, field: &str) -> Option<String> {
+    let text = String::from_utf8(unescaped(trial, field)).ok();
+    trial.check(text.is_some(), "has a text that is not UTF-8");
+    text
 }
 
 /// The bytes that a field stands for.
-fn unescaped(alloc: Global, field: &str) -> Result<Vec<u8>, RowError> {
-    let mut bytes = Vec::new(alloc);
-    push_field(alloc, &mut bytes, field)?;
-    Ok(bytes)
-}
-
-/// Adds the bytes that a field stands for.
-fn push_field(alloc: Global, bytes: &mut Vec<u8>, field: &str) -> Result<(), RowError> {
+fn unescaped(trial: &mut Trial, field: &str) -> Vec<u8> {
+    let mut bytes = Vec::new(trial.alloc);
     let mut pieces = field.split("%(");
-    push_text(bytes, pieces.next().unwrap_or(""))?;
+    push_text(trial, &mut bytes, pieces.next().unwrap_or(""));
     for piece in pieces {
-        push_repeated(alloc, bytes, piece)?;
+        push_repeated(trial, &mut bytes, piece);
     }
-    Ok(())
+    bytes
 }
 
 /// Adds a text in which `%` and two hex digits stand for a byte.
-fn push_text(bytes: &mut Vec<u8>, text: &str) -> Result<(), RowError> {
+fn push_text(trial: &mut Trial, bytes: &mut Vec<u8>, text: &str) {
     let mut pieces = text.split('%');
-    bytes.extend_from_slice(pieces.next().unwrap_or("").as_bytes())?;
+    push(trial, bytes, pieces.next().unwrap_or("").as_bytes());
     for piece in pieces {
-        push_escaped(bytes, piece)?;
+        push_escaped(trial, bytes, piece);
     }
-    Ok(())
 }
 
 /// Adds the byte of two hex digits, and the text after them.
-fn push_escaped(bytes: &mut Vec<u8>, piece: &str) -> Result<(), RowError> {
-    let Some((digits, plain)) = piece.split_at_checked(2) else {
-        return Err(RowError::Malformed("has an escape without digits"));
-    };
+fn push_escaped(trial: &mut Trial, bytes: &mut Vec<u8>, piece: &str) {
+    let (digits, plain) = piece.split_at_checked(2).unwrap_or(("", ""));
     match u8::from_str_radix(digits, 16) {
-        Ok(byte) => Ok(push_byte(bytes, byte, plain)?),
-        Err(_) => Err(RowError::Malformed("has an escape without hex digits")),
+        Ok(byte) => {
+            push(trial, bytes, &[byte]);
+            push(trial, bytes, plain.as_bytes());
+        }
+        Err(_) => trial.check(false, "has an escape without hex digits"),
     }
-}
-
-fn push_byte(bytes: &mut Vec<u8>, byte: u8, plain: &str) -> Result<(), AllocError> {
-    bytes.extend_from_slice(&[byte])?;
-    bytes.extend_from_slice(plain.as_bytes())
 }
 
 /// Adds the part of `N*PART)` so many times, and the text after it.
-fn push_repeated(alloc: Global, bytes: &mut Vec<u8>, piece: &str) -> Result<(), RowError> {
-    let Some((repeated, text)) = piece.split_once(')') else {
-        return Err(RowError::Malformed("has a repeated part without an end"));
-    };
-    let Some((count, part)) = repeated.split_once('*') else {
-        return Err(RowError::Malformed("has a repeated part without a count"));
-    };
-    match count.parse::<u32>() {
-        Ok(count) => push_copies(alloc, bytes, part, count)?,
-        Err(_) => return Err(RowError::Malformed("has a count that is no number")),
+fn push_repeated(trial: &mut Trial, bytes: &mut Vec<u8>, piece: &str) {
+    if let Some((repeated, text)) = split(trial, piece, ')') {
+        if let Some((count, part)) = split(trial, repeated, '*') {
+            let count = count.parse::<u32>().ok();
+            trial.check(count.is_some(), "has a count that is no number");
+            push_copies(trial, bytes, part, count.unwrap_or(0));
+        }
+        push_text(trial, bytes, text);
     }
-    push_text(bytes, text)
 }
 
 /// Adds what a text stands for so many times.
-fn push_copies(alloc: Global, bytes: &mut Vec<u8>, part: &str, count: u32) -> Result<(), RowError> {
-    let mut unescaped = Vec::new(alloc);
-    push_text(&mut unescaped, part)?;
+fn push_copies(trial: &mut Trial, bytes: &mut Vec<u8>, part: &str, count: u32) {
+    let mut unescaped = Vec::new(trial.alloc);
+    push_text(trial, &mut unescaped, part);
     for _ in 0..count {
-        bytes.extend_from_slice(unescaped.as_slice())?;
+        push(trial, bytes, unescaped.as_slice());
     }
-    Ok(())
+}
+
+/// Adds bytes.
+fn push(trial: &mut Trial, bytes: &mut Vec<u8>, more: &[u8]) {
+    trial.own(bytes.extend_from_slice(more));
 }

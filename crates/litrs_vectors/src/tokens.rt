@@ -1,5 +1,5 @@
 //! Literals that are written as tokens and read from them.
-use crate::parses::{Parse, buffer_name, each_kind, parsed};
+use crate::parses::{Parse, buffer_name, discard, each_kind, fails, parsed};
 use crate::rows::Row;
 use crate::trial::{Trial, again};
 use litrs::{
@@ -14,21 +14,14 @@ use std::alloc::Global;
 /// A token that is a literal.
 pub type Token = litrs_token::Literal;
 
-/// Tries a literal as a token, there and back, by the type whose parse this is.
+/// Tries the literal of a row as a token, there and back, by the type whose parse this is.
 pub fn try_tokens(trial: &mut Trial, parse: Parse, row: &Row) {
-    match &parsed(trial, parse, &row.text.as_str()) {
-        Ok(Literal::Bool(lit)) => {
-            try_no_token(trial, row.text.as_str());
-            try_ident(trial, *lit);
-        }
-        Ok(lit) => try_conversions(trial, parse, lit, row),
-        Err(_) => trial.check(false, "is refused"),
-    }
-}
-
-/// Tries the conversions of a literal that is no bool.
-fn try_conversions(trial: &mut Trial, parse: Parse, lit: &Literal<&str>, row: &Row) {
     let text = row.text.as_str();
+    if row.answer.starts_with("bool\t".as_bytes()) {
+        try_no_token(trial, text);
+        try_ident(trial, text);
+        return;
+    }
     if !matches!(parse, Parse::Literal) {
         try_written(trial, parse, &text);
         try_written(trial, parse, &row.text);
@@ -36,7 +29,7 @@ fn try_conversions(trial: &mut Trial, parse: Parse, lit: &Literal<&str>, row: &R
     trial.at = (parse.name(), "String");
     try_read_by(trial, parse, text);
     if matches!(parse, Parse::Literal) {
-        try_other_kind(trial, lit);
+        try_other_kind(trial, row);
         try_no_ident(trial, text);
     }
 }
@@ -66,11 +59,14 @@ pub fn try_no_token(trial: &mut Trial, text: &str) {
 
 /// Tries that a literal's token is no literal of another kind, whose value would be allocated. That
 /// is answered whether or not there is memory.
-fn try_other_kind(trial: &mut Trial, lit: &Literal<&str>) {
-    match lit {
-        Literal::String(_) => try_invalid::<CStringLit<String>>(trial, lit.raw_input()),
-        Literal::CString(_) => try_invalid::<ByteStringLit<String>>(trial, lit.raw_input()),
-        _ => try_invalid::<StringLit<String>>(trial, lit.raw_input()),
+fn try_other_kind(trial: &mut Trial, row: &Row) {
+    let text = row.text.as_str();
+    if row.answer.starts_with("string\t".as_bytes()) {
+        try_invalid::<CStringLit<String>>(trial, text);
+    } else if row.answer.starts_with("cstring\t".as_bytes()) {
+        try_invalid::<ByteStringLit<String>>(trial, text);
+    } else {
+        try_invalid::<StringLit<String>>(trial, text);
     }
 }
 
@@ -123,7 +119,7 @@ fn is_write_refused<B: Text>(trial: &mut Trial, parse: Parse, text: &B) -> bool 
 
 /// The same of a literal. A bool is no token.
 fn is_token_refused<B: Text>(alloc: Global, lit: Literal<B>) -> bool {
-    each_kind!(lit, _ => false, lit => lit.into_token(alloc).is_err())
+    each_kind!(lit, _ => false, lit => fails(lit.into_token(alloc)))
 }
 
 /// The token of a literal's text.
@@ -163,33 +159,34 @@ where
     L::Error: Drop,
 {
     if let Some(token) = token_of(trial, text) {
-        try_read_token::<L>(trial, &token);
-        trial.check(token.text() == text, "has another text");
-        try_read_tree::<L>(trial, &TokenTree::from(token));
+        try_kept::<L>(trial, token, text);
     }
     again!(trial, "from_literal", is_literal_refused::<L>(trial, text));
     again!(trial, "from_tree", is_tree_refused::<L>(trial, text));
 }
 
-/// Tries the one that keeps the token.
-fn try_read_token<L: FromToken>(trial: &mut Trial, token: &Token)
+/// Tries the two that keep the token of a text, or its tree.
+fn try_kept<L: FromToken>(trial: &mut Trial, token: Token, text: &str)
 where
     L::Error: Drop,
 {
     again!(
         trial,
         "from_literal_ref",
-        L::from_literal_ref(trial.alloc, token).is_err()
+        fails(L::from_literal_ref(trial.alloc, &token))
     );
+    trial.check(token.text() == text, "has another text");
+    try_tree::<L>(trial, TokenTree::from(token));
 }
 
 /// Tries the one that keeps the tree of a token.
-fn try_read_tree<L: FromToken>(trial: &mut Trial, tree: &TokenTree) {
+fn try_tree<L: FromToken>(trial: &mut Trial, tree: TokenTree) {
     again!(
         trial,
         "from_tree_ref",
-        L::from_tree_ref(trial.alloc, tree).is_err()
+        fails(L::from_tree_ref(trial.alloc, &tree))
     );
+    discard(tree);
 }
 
 /// Reads a literal from its token. Whether memory was refused.
@@ -198,7 +195,7 @@ where
     L::Error: Drop,
 {
     match token_of(trial, text) {
-        Some(token) => L::from_literal(trial.alloc, token).is_err(),
+        Some(token) => fails(L::from_literal(trial.alloc, token)),
         None => false,
     }
 }
@@ -206,20 +203,28 @@ where
 /// Reads a literal from the tree of its token. Whether memory was refused.
 fn is_tree_refused<L: FromToken>(trial: &mut Trial, text: &str) -> bool {
     match token_of(trial, text) {
-        Some(token) => L::from_tree(trial.alloc, TokenTree::from(token)).is_err(),
+        Some(token) => fails(L::from_tree(trial.alloc, TokenTree::from(token))),
         None => false,
     }
 }
 
-/// Tries the identifier that a bool is written as.
-fn try_ident(trial: &mut Trial, lit: BoolLit) {
+/// Tries the identifier that the bool of a text is written as.
+fn try_ident(trial: &mut Trial, text: &str) {
     trial.at = ("BoolLit", "&str");
-    again!(trial, "into_ident", lit.into_ident(trial.alloc).is_err());
+    again!(trial, "into_ident", is_ident_refused(trial.alloc, text));
     trial.at = ("Ident", "&str");
-    again!(trial, "new", is_name_refused(trial.alloc, lit.as_str()));
+    again!(trial, "new", is_name_refused(trial.alloc, text));
+}
+
+/// Writes the bool of a text as an identifier. Whether memory was refused.
+fn is_ident_refused(alloc: Global, text: &str) -> bool {
+    match BoolLit::parse(text) {
+        Ok(lit) => fails(lit.into_ident(alloc)),
+        Err(_) => true,
+    }
 }
 
 /// Makes the identifier of a name. Whether memory was refused.
 fn is_name_refused(alloc: Global, name: &str) -> bool {
-    Ident::new(alloc, name, Span::call_site()).is_err()
+    fails(Ident::new(alloc, name, Span::call_site()))
 }

@@ -25,7 +25,7 @@ pub struct Trial {
     pub rows: u64,
     /// How many of them hold.
     pub held: u64,
-    /// Lines that are still to be printed.
+    /// The lines that are to be printed.
     pub report: String,
     /// The type whose calls are tried, and the type of its text.
     pub at: Place,
@@ -92,9 +92,18 @@ impl Trial {
         }
     }
 
-    /// Whether all that was tried of the row holds.
+    /// Reports how many rows hold.
+    pub fn end(&mut self) -> Result<(), AllocError> {
+        if self.held == self.rows {
+            writeln!(self.report, "{} rows hold", self.rows)
+        } else {
+            writeln!(self.report, "{} of {} rows hold", self.held, self.rows)
+        }
+    }
+
+    /// Whether all that was tried of the row holds, and the program has had the memory for it.
     pub fn holds(&self) -> bool {
-        self.fault.is_none()
+        self.fault.is_none() && self.refusal.is_none()
     }
 
     /// Notes what does not hold, if it is the first of the row.
