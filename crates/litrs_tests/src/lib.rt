@@ -30,6 +30,8 @@ mod rooms;
 #[cfg(test)]
 mod searches;
 #[cfg(test)]
+mod shown;
+#[cfg(test)]
 mod sizes;
 #[cfg(test)]
 mod tokens;
