@@ -22,6 +22,8 @@ mod lines;
 #[cfg(test)]
 mod mismatches;
 #[cfg(test)]
+mod printed;
+#[cfg(test)]
 mod printing;
 #[cfg(test)]
 mod rewritten;
