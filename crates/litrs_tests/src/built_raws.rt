@@ -88,7 +88,11 @@ fn has_raw_c_string(alloc: Global, value: &[u8]) -> bool {
 
 #[test]
 fn every_number_of_hashes(rt: HostRuntime) {
-    assert!(rt; raw_strings(rt.alloc()) == 256);
-    assert!(rt; raw_byte_strings(rt.alloc()) == 256);
-    assert!(rt; raw_c_strings(rt.alloc()) == 256);
+    let alloc = rt.alloc();
+    let counts = [
+        raw_strings(alloc),
+        raw_byte_strings(alloc),
+        raw_c_strings(alloc),
+    ];
+    assert!(rt; counts == [256, 256, 256], "{counts:?}");
 }

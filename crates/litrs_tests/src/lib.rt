@@ -1,6 +1,6 @@
 //! Tests of what no contract says, over the public calls of all crates: that calls that allocate
 //! succeed while there is memory, and how much they ask for; what is printed at a width or a
-//! precision; how often devices are called; and the sizes of types.
+//! precision, and of diagnostics; how often devices are called; and the sizes of types.
 #![tactic(auto)]
 
 #[cfg(test)]
