@@ -63,7 +63,7 @@ fn has_c_string(alloc: Global, value: &[u8]) -> bool {
 
 #[test]
 fn every_byte(rt: HostRuntime) {
-    assert!(rt; bytes(rt.alloc()) == 256);
-    assert!(rt; byte_strings(rt.alloc()) == 256 * 256);
-    assert!(rt; c_strings(rt.alloc()) == 255 * 255);
+    let alloc = rt.alloc();
+    let counts = [bytes(alloc), byte_strings(alloc), c_strings(alloc)];
+    assert!(rt; counts == [256, 256 * 256, 255 * 255], "{counts:?}");
 }

@@ -55,10 +55,17 @@ fn is_float(built: Result<FloatLit<String>, BuildError>) -> bool {
     }
 }
 
+/// What floats have after their integer part: a fractional part, an exponent and a suffix.
+const FLOATS: &[(Option<&str>, &str, &str)] = &[
+    (Some("3_33__"), "E3", ""),
+    (Some(""), "", ""),
+    (None, "e-1", "f32"),
+];
+
 #[test]
 fn floats_of_parts(rt: HostRuntime) {
-    let alloc = rt.alloc();
-    assert!(rt; is_float(float(alloc, "147", Some("3_33__"), "E3", "")));
-    assert!(rt; is_float(float(alloc, "147", Some(""), "", "")));
-    assert!(rt; is_float(float(alloc, "147", None, "e-1", "f32")));
+    for (fraction, exponent, suffix) in FLOATS {
+        let built = float(rt.alloc(), "147", *fraction, exponent, suffix);
+        assert!(rt; is_float(built), "{exponent}{suffix}");
+    }
 }

@@ -2,20 +2,38 @@
 //! in one allocation.
 use crate::built_numbers::is_exact;
 use litrs_build::{raw_byte_string, raw_c_string, raw_string};
-use std::alloc::{AllocError, Global};
+use std::alloc::Global;
 use std::process::Abort;
 
-/// How many of the texts that need 0 to 256 hashes have a raw string.
-fn raw_strings(alloc: Global) -> Result<u32, AllocError> {
+/// A text whose starts need 0 to 256 hashes.
+const TEXT: &str = concat!(
+    "a\"",
+    "################################################################",
+    "################################################################",
+    "################################################################",
+    "###############################################################",
+);
+
+/// The same of a text that is not ASCII.
+const NON_ASCII_TEXT: &str = concat!(
+    "é\"",
+    "################################################################",
+    "################################################################",
+    "################################################################",
+    "###############################################################",
+);
+
+/// How many of the starts have a raw string.
+fn raw_strings(alloc: Global) -> u32 {
     let mut count: u32 = 0;
-    let mut text = String::from_str(alloc, "a")?;
-    for hashes in 0..=256usize {
-        if has_raw_string(alloc, text.as_str()) {
+    for end in 1..=TEXT.len() {
+        if let Some(start) = TEXT.get(..end)
+            && has_raw_string(alloc, start)
+        {
             count = count.saturating_add(1);
         }
-        text.push_str(if hashes == 0 { "\"" } else { "#" })?;
     }
-    Ok(count)
+    count
 }
 
 /// Whether a text has a raw string.
@@ -27,16 +45,16 @@ fn has_raw_string(alloc: Global, text: &str) -> bool {
 }
 
 /// The same of raw byte strings.
-fn raw_byte_strings(alloc: Global) -> Result<u32, AllocError> {
+fn raw_byte_strings(alloc: Global) -> u32 {
     let mut count: u32 = 0;
-    let mut text = String::from_str(alloc, "a")?;
-    for hashes in 0..=256usize {
-        if has_raw_byte_string(alloc, text.as_bytes()) {
+    for end in 1..=TEXT.len() {
+        if let Some(start) = TEXT.get(..end)
+            && has_raw_byte_string(alloc, start.as_bytes())
+        {
             count = count.saturating_add(1);
         }
-        text.push_str(if hashes == 0 { "\"" } else { "#" })?;
     }
-    Ok(count)
+    count
 }
 
 /// Whether bytes have a raw byte string.
@@ -48,16 +66,16 @@ fn has_raw_byte_string(alloc: Global, value: &[u8]) -> bool {
 }
 
 /// The same of raw C strings.
-fn raw_c_strings(alloc: Global) -> Result<u32, AllocError> {
+fn raw_c_strings(alloc: Global) -> u32 {
     let mut count: u32 = 0;
-    let mut text = String::from_str(alloc, "é")?;
-    for hashes in 0..=256usize {
-        if has_raw_c_string(alloc, text.as_bytes()) {
+    for end in 1..=NON_ASCII_TEXT.len() {
+        if let Some(start) = NON_ASCII_TEXT.get(..end)
+            && has_raw_c_string(alloc, start.as_bytes())
+        {
             count = count.saturating_add(1);
         }
-        text.push_str(if hashes == 0 { "\"" } else { "#" })?;
     }
-    Ok(count)
+    count
 }
 
 /// Whether bytes have a raw C string.
@@ -70,7 +88,11 @@ fn has_raw_c_string(alloc: Global, value: &[u8]) -> bool {
 
 #[test]
 fn every_number_of_hashes(rt: HostRuntime) {
-    assert!(rt; raw_strings(rt.alloc()) == Ok(256));
-    assert!(rt; raw_byte_strings(rt.alloc()) == Ok(256));
-    assert!(rt; raw_c_strings(rt.alloc()) == Ok(256));
+    let alloc = rt.alloc();
+    let counts = [
+        raw_strings(alloc),
+        raw_byte_strings(alloc),
+        raw_c_strings(alloc),
+    ];
+    assert!(rt; counts == [256, 256, 256], "{counts:?}");
 }

@@ -2,6 +2,7 @@
 use litrs_base::ParseError;
 use litrs_base::ParseErrorKind::{self, *};
 use std::alloc::Global;
+use std::fmt::Display;
 use std::process::Abort;
 
 /// Each kind, in order.
@@ -56,9 +57,14 @@ fn is_printed(alloc: Global, kind: ParseErrorKind) -> bool {
     let refusal = ParseError::new(None, kind);
     let placed = ParseError::new(Some(0..usize::MAX), kind);
     !kind.description().is_empty()
-        && kind.to_string(alloc).is_ok()
-        && refusal.to_string(alloc).is_ok()
-        && placed.to_string(alloc).is_ok()
+        && has_text(alloc, &kind)
+        && has_text(alloc, &refusal)
+        && has_text(alloc, &placed)
+}
+
+/// Whether there is a text of a value.
+fn has_text<D: Display>(alloc: Global, value: &D) -> bool {
+    value.to_string(alloc).is_ok()
 }
 
 #[test]

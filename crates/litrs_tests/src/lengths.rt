@@ -1,6 +1,7 @@
 //! Literals of each length are printed while there is memory.
+use crate::printed::is_printed;
 use litrs::Literal;
-use std::alloc::Global;
+use std::alloc::{AllocError, Global};
 use std::process::Abort;
 
 /// What literals have before and after a part of letters that are digits too.
@@ -16,12 +17,17 @@ const PRINTED: &[(&str, &str)] = &[
 ];
 
 /// Whether all of the literal of a text is printed.
-fn is_printed(alloc: Global, text: &str) -> bool {
-    match &Literal::parse(alloc, text) {
-        Ok(lit) => match &lit.to_string(alloc) {
-            Ok(printed) => printed.as_str() == text,
-            Err(_) => false,
-        },
+fn is_literal_printed(alloc: Global, text: &str) -> bool {
+    match Literal::parse(alloc, text) {
+        Ok(lit) => is_printed(alloc, &lit, text),
+        Err(_) => false,
+    }
+}
+
+/// Whether there is a text, and that is so of it.
+fn is_text_printed(alloc: Global, text: &Result<String, AllocError>) -> bool {
+    match text {
+        Ok(text) => is_literal_printed(alloc, text.as_str()),
         Err(_) => false,
     }
 }
@@ -29,9 +35,8 @@ fn is_printed(alloc: Global, text: &str) -> bool {
 /// Whether that is so of a literal of each form, with this part.
 fn are_printed(alloc: Global, part: &str) -> bool {
     for (front, end) in PRINTED {
-        match &format!(in alloc; "{front}{part}{end}") {
-            Ok(text) if is_printed(alloc, text.as_str()) => {}
-            _ => return false,
+        if !is_text_printed(alloc, &format!(in alloc; "{front}{part}{end}")) {
+            return false;
         }
     }
     true

@@ -1,6 +1,6 @@
 //! Tests of what no contract says, over the public calls of all crates: that calls that allocate
 //! succeed while there is memory, and how much they ask for; what is printed at a width or a
-//! precision; how often devices are called; and the sizes of types.
+//! precision, and of diagnostics; how often devices are called; and the sizes of types.
 #![tactic(auto)]
 
 #[cfg(test)]
@@ -22,6 +22,8 @@ mod lines;
 #[cfg(test)]
 mod mismatches;
 #[cfg(test)]
+mod printed;
+#[cfg(test)]
 mod printing;
 #[cfg(test)]
 mod rewritten;
@@ -29,6 +31,8 @@ mod rewritten;
 mod rooms;
 #[cfg(test)]
 mod searches;
+#[cfg(test)]
+mod shown;
 #[cfg(test)]
 mod sizes;
 #[cfg(test)]

@@ -1,4 +1,5 @@
 //! What is printed of a token of each kind where a literal of each kind is expected.
+use crate::printed::is_printed;
 use litrs::{
     BoolLit, ByteLit, ByteStringLit, CStringLit, CharLit, FloatLit, IntegerLit, StringLit,
 };
@@ -6,7 +7,7 @@ use litrs_token::{
     Delimiter, FromToken, Group, Ident, InvalidToken, Literal, Punct, Spacing, Span, TokenError,
     TokenTree,
 };
-use std::alloc::{AllocError, Global};
+use std::alloc::Global;
 use std::process::Abort;
 
 const A_LITERAL: &str = "a literal";
@@ -38,106 +39,84 @@ const LITERALS: &[(&str, &str)] = &[
     ("c\"Ferris\"", A_C_STRING),
 ];
 
-/// A tree, and what it is called.
-#[derive(Drop)]
-struct Found {
-    tree: TokenTree,
-    called: &'static str,
-}
-
-/// The trees that are no literal.
-fn other_trees(alloc: Global) -> Option<Vec<Found>> {
-    let minus = Punct::new('-', Spacing::Alone);
-    let name = Ident::new(alloc, "x", Span::call_site()).ok()?;
-    let group = Group::new(Delimiter::Parenthesis, Vec::new(alloc));
-    let mut trees = Vec::new(alloc);
-    add(
-        &mut trees,
-        TokenTree::from(minus),
-        "a punctuation character",
-    )
-    .ok()?;
-    add(&mut trees, TokenTree::from(name), "an identifier").ok()?;
-    add(&mut trees, TokenTree::from(group), "a group").ok()?;
-    Some(trees)
-}
-
-/// The trees that are a literal.
-fn literal_trees(alloc: Global) -> Option<Vec<Found>> {
-    let mut trees = Vec::new(alloc);
-    for (text, called) in LITERALS {
-        let literal = Literal::from_text(alloc, text).ok()?;
-        add(&mut trees, TokenTree::from(literal), called).ok()?;
-    }
-    Some(trees)
-}
-
-fn add(trees: &mut Vec<Found>, tree: TokenTree, called: &'static str) -> Result<(), AllocError> {
-    trees.push(Found { tree, called })?;
-    Ok(())
-}
-
 /// Whether this is printed of a token where another was expected.
-fn is_printed(alloc: Global, invalid: &InvalidToken, expected: &str, found: &str) -> bool {
-    match &format!(in alloc; "expected {expected}, but found {found}") {
-        Ok(message) => match &invalid.to_string(alloc) {
-            Ok(printed) => printed.as_str() == message.as_str(),
-            Err(_) => false,
-        },
+fn is_mismatch(alloc: Global, invalid: &InvalidToken, expected: &str, found: &str) -> bool {
+    match format!(in alloc; "expected {expected}, but found {found}") {
+        Ok(message) => is_printed(alloc, invalid, message.as_str()),
         Err(_) => false,
     }
 }
 
-/// Whether each of the trees is refused where this is expected, but one that is called so.
-fn are_refused<T: FromToken>(alloc: Global, trees: &[Found], expected: &str) -> bool {
-    for found in trees {
-        let holds = match &T::from_tree_ref(alloc, &found.tree) {
-            Ok(_) => found.called == expected,
-            Err(TokenError::Invalid(invalid)) => is_printed(alloc, invalid, expected, found.called),
-            Err(TokenError::Memory) => false,
-        };
-        if !holds {
-            return false;
-        }
+/// Whether a tree that is called so is refused where this is expected, if that is another.
+fn is_refused<T: FromToken>(alloc: Global, tree: &TokenTree, expected: &str, called: &str) -> bool {
+    match &T::from_tree_ref(alloc, tree) {
+        Ok(_) => called == expected,
+        Err(TokenError::Invalid(invalid)) => is_mismatch(alloc, invalid, expected, called),
+        Err(TokenError::Memory) => false,
     }
-    true
 }
 
-/// Whether each of the trees is refused as a bool.
-fn are_no_bools(alloc: Global, trees: &[Found]) -> bool {
-    for found in trees {
-        let holds = match &BoolLit::try_from(&found.tree) {
-            Ok(_) => false,
-            Err(invalid) => is_printed(alloc, invalid, A_BOOL, found.called),
-        };
-        if !holds {
-            return false;
-        }
+/// Whether a tree that is called so is refused as a bool.
+fn is_no_bool(alloc: Global, tree: &TokenTree, called: &str) -> bool {
+    match BoolLit::try_from(tree) {
+        Ok(_) => false,
+        Err(invalid) => is_mismatch(alloc, &invalid, A_BOOL, called),
     }
-    true
 }
 
-/// Whether each of the trees is refused by the types of one kind.
-fn are_of_one_kind(alloc: Global, trees: &[Found]) -> bool {
-    are_refused::<IntegerLit<String>>(alloc, trees, AN_INTEGER)
-        && are_refused::<FloatLit<String>>(alloc, trees, A_FLOAT)
-        && are_refused::<CharLit<String>>(alloc, trees, A_CHAR)
-        && are_refused::<ByteLit<String>>(alloc, trees, A_BYTE)
-        && are_refused::<StringLit<String>>(alloc, trees, A_STRING)
-        && are_refused::<ByteStringLit<String>>(alloc, trees, A_BYTE_STRING)
-        && are_refused::<CStringLit<String>>(alloc, trees, A_C_STRING)
-        && are_no_bools(alloc, trees)
+/// Whether a tree that is called so is refused by the types of one kind, but that of its own.
+fn is_of_one_kind(alloc: Global, tree: &TokenTree, called: &str) -> bool {
+    is_refused::<IntegerLit<String>>(alloc, tree, AN_INTEGER, called)
+        && is_refused::<FloatLit<String>>(alloc, tree, A_FLOAT, called)
+        && is_refused::<CharLit<String>>(alloc, tree, A_CHAR, called)
+        && is_refused::<ByteLit<String>>(alloc, tree, A_BYTE, called)
+        && is_refused::<StringLit<String>>(alloc, tree, A_STRING, called)
+        && is_refused::<ByteStringLit<String>>(alloc, tree, A_BYTE_STRING, called)
+        && is_refused::<CStringLit<String>>(alloc, tree, A_C_STRING, called)
+        && is_no_bool(alloc, tree, called)
+}
+
+/// Whether the literal of a text, which is called so, is.
+fn is_literal_of_one_kind(alloc: Global, text: &str, called: &str) -> bool {
+    match Literal::from_text(alloc, text) {
+        Ok(literal) => is_of_one_kind(alloc, &TokenTree::from(literal), called),
+        Err(_) => false,
+    }
+}
+
+/// Whether a tree that is called so is refused by the types of one kind, and as any literal.
+fn is_no_literal(alloc: Global, tree: &TokenTree, called: &str) -> bool {
+    is_of_one_kind(alloc, tree, called)
+        && is_refused::<litrs::Literal<String>>(alloc, tree, A_LITERAL, called)
+}
+
+/// Whether a punctuation character is.
+fn is_punct_no_literal(alloc: Global) -> bool {
+    let tree = TokenTree::from(Punct::new('-', Spacing::Alone));
+    is_no_literal(alloc, &tree, "a punctuation character")
+}
+
+/// Whether a group is.
+fn is_group_no_literal(alloc: Global) -> bool {
+    let tree = TokenTree::from(Group::new(Delimiter::Parenthesis, Vec::new(alloc)));
+    is_no_literal(alloc, &tree, "a group")
+}
+
+/// Whether an identifier is.
+fn is_ident_no_literal(alloc: Global) -> bool {
+    match Ident::new(alloc, "x", Span::call_site()) {
+        Ok(name) => is_no_literal(alloc, &TokenTree::from(name), "an identifier"),
+        Err(_) => false,
+    }
 }
 
 #[test]
 fn each_kind_where_another_is_expected(rt: HostRuntime) {
     let alloc = rt.alloc();
-    match (other_trees(alloc), literal_trees(alloc)) {
-        (Some(others), Some(literals)) => {
-            assert!(rt; are_of_one_kind(alloc, &others));
-            assert!(rt; are_of_one_kind(alloc, &literals));
-            assert!(rt; are_refused::<litrs::Literal<String>>(alloc, &others, A_LITERAL));
-        }
-        _ => panic!(rt; "trees of each kind"),
+    assert!(rt; is_punct_no_literal(alloc));
+    assert!(rt; is_ident_no_literal(alloc));
+    assert!(rt; is_group_no_literal(alloc));
+    for (text, called) in LITERALS {
+        assert!(rt; is_literal_of_one_kind(alloc, text, called), "{text}");
     }
 }

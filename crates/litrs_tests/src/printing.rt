@@ -1,8 +1,8 @@
 //! What is printed at a width and at a precision. Integers, floats and refused tokens ignore both.
 use litrs::ParseErrorKind::Empty;
 use litrs::{FloatType, IntegerType, Literal, ParseError};
-use std::alloc::{AllocError, Global};
-use std::fmt::{Display, Write};
+use std::alloc::Global;
+use std::fmt::Display;
 use std::process::Abort;
 
 /// A literal, and what is printed of it to the right, to the left and in the middle of 16 columns,
@@ -42,19 +42,12 @@ const REFUSAL: &str = concat!(
     "input is empty   (at 3..4)| input is empty  (at 3..4)|in (at 3..4)|",
 );
 
-/// Whether this is printed of the value.
+/// Whether this is printed of the value in 16 columns and at the precision.
 fn is_printed<D: Display>(alloc: Global, value: &D, expected: &str) -> bool {
-    let mut printed = String::new(alloc);
-    push_columns(&mut printed, value).is_ok()
-        && write!(printed, "{value:.2}|").is_ok()
-        && printed.as_str() == expected
-}
-
-/// Adds what is printed of the value in 16 columns.
-fn push_columns<D: Display>(printed: &mut String, value: &D) -> Result<(), AllocError> {
-    write!(printed, "{value:>16}|")?;
-    write!(printed, "{value:<16}|")?;
-    write!(printed, "{value:^16}|")
+    match format!(in alloc; "{value:>16}|{value:<16}|{value:^16}|{value:.2}|") {
+        Ok(printed) => printed.as_str() == expected,
+        Err(_) => false,
+    }
 }
 
 /// Whether this is printed of the literal of the text.

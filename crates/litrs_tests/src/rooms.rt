@@ -21,7 +21,7 @@ fn has_room(alloc: Global, text: &str, len: usize) -> bool {
     if !text.is_char_boundary(2) {
         return false;
     }
-    match &unescape_string::<Vec<u8>>(alloc, text, 2, true, true, false) {
+    match unescape_string::<Vec<u8>>(alloc, text, 2, true, true, false) {
         Ok((Some(value), _)) => value.len() == len && value.capacity() == len.saturating_add(1),
         _ => false,
     }

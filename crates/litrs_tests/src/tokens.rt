@@ -21,8 +21,8 @@ fn refused_string(alloc: Global) -> Option<InvalidToken> {
 }
 
 /// Whether the message is printed of the token, whatever the width and the precision.
-fn is_message_printed(alloc: Global, invalid: InvalidToken) -> bool {
-    match &format!(in alloc; "{invalid:>200}{invalid:.3}") {
+fn is_message_printed(alloc: Global, invalid: &InvalidToken) -> bool {
+    match format!(in alloc; "{invalid:>200}{invalid:.3}") {
         Ok(printed) => printed.len() == 2 * MESSAGE.len() && printed.starts_with(MESSAGE),
         Err(_) => false,
     }
@@ -31,7 +31,7 @@ fn is_message_printed(alloc: Global, invalid: InvalidToken) -> bool {
 #[test]
 fn messages(rt: HostRuntime) {
     match refused_string(rt.alloc()) {
-        Some(invalid) => assert!(rt; is_message_printed(rt.alloc(), invalid)),
+        Some(invalid) => assert!(rt; is_message_printed(rt.alloc(), &invalid)),
         None => panic!(rt; "a string is no integer"),
     }
 }

@@ -106,14 +106,20 @@ fn run_over(alloc: Global, reader: &mut Reader, writer: &mut Writer) -> Result<(
     run(alloc, &mut input, &mut output)
 }
 
+/// Whether every call of devices was made.
+fn has_called_all(reader: &Reader, writer: &Writer) -> bool {
+    writer.bytes.as_slice() == REPORTS
+        && reader.calls.made == READS
+        && writer.calls.made == WRITES
+        && writer.flushes == 1
+}
+
 #[test]
 fn a_run_calls_its_devices(rt: HostRuntime) {
     let mut reader = make_reader(NEVER);
     let mut writer = make_writer(rt.alloc(), NEVER);
     let result = run_over(rt.alloc(), &mut reader, &mut writer);
-    assert!(rt; result.is_ok() && writer.bytes.as_slice() == REPORTS);
-    assert!(rt; reader.calls.made == READS);
-    assert!(rt; writer.calls.made == WRITES && writer.flushes == 1);
+    assert!(rt; result.is_ok() && has_called_all(&reader, &writer));
 }
 
 /// Whether the read of this number, which fails, is the last call.

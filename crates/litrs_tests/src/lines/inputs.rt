@@ -24,7 +24,7 @@ fn are_reported(alloc: Global, lines: &[u8]) -> bool {
 
 /// Whether there are reports on the line so many times.
 fn are_lines(alloc: Global, line: &str, count: usize) -> bool {
-    match &repeated(alloc, line, count) {
+    match repeated(alloc, line, count) {
         Ok(lines) => are_reported(alloc, lines.as_bytes()),
         Err(_) => false,
     }

@@ -57,13 +57,13 @@ fn run_over(
 /// Whether a run in pieces of these sizes gives the reports.
 fn gives(alloc: Global, lines: &[u8], reports: &[u8], read: usize, write: usize) -> bool {
     match run_over(alloc, lines, (read, write), (None, None)) {
-        Ok(run) => has_given(run, reports),
+        Ok(run) => has_given(&run, reports),
         Err(_) => false,
     }
 }
 
 /// Whether a run has given the reports.
-fn has_given(run: Run, reports: &[u8]) -> bool {
+fn has_given(run: &Run, reports: &[u8]) -> bool {
     run.result.is_ok() && run.output.bytes() == reports && !run.output.failed()
 }
 
@@ -88,19 +88,25 @@ fn pieces_of_any_size_give_the_same(rt: HostRuntime) {
 
 /// How many LF there are.
 fn count_lines(bytes: &[u8]) -> usize {
-    bytes.iter().filter(|b| **b == b'\n').count()
+    let mut count: usize = 0;
+    for b in bytes {
+        if *b == b'\n' {
+            count = count.saturating_add(1);
+        }
+    }
+    count
 }
 
 /// Whether the read of this number, which fails, ends the run: what is written by then is the
 /// reports on the lines that were read, in reads of one byte.
 fn ends_at_read(alloc: Global, number: usize) -> bool {
     match run_over(alloc, LINES, (1, 3), (Some(number as u64), None)) {
-        Ok(run) => has_ended_at_read(run, number),
+        Ok(run) => has_ended_at_read(&run, number),
         Err(_) => false,
     }
 }
 
-fn has_ended_at_read(run: Run, number: usize) -> bool {
+fn has_ended_at_read(run: &Run, number: usize) -> bool {
     let read = LINES.get(..number).unwrap_or(&[]);
     let written = run.output.bytes();
     matches!(run.result, Err(RunError::Read))
@@ -119,12 +125,12 @@ fn each_read_fails(rt: HostRuntime) {
 /// by then.
 fn ends_at_write(alloc: Global, number: u64, written: usize) -> bool {
     match run_over(alloc, LINES, (4096, 4), (None, Some(number))) {
-        Ok(run) => has_ended_at_write(run, written),
+        Ok(run) => has_ended_at_write(&run, written),
         Err(_) => false,
     }
 }
 
-fn has_ended_at_write(run: Run, written: usize) -> bool {
+fn has_ended_at_write(run: &Run, written: usize) -> bool {
     let bytes = run.output.bytes();
     matches!(run.result, Err(RunError::Write))
         && REPORTS.starts_with(bytes)
