@@ -43,6 +43,8 @@ import libraries
 # How much processor time a check may take: how long it waits for a processor says nothing of it.
 SECONDS = 1800
 HARMLESS = pathlib.Path(".ci/harmless")
+# In so many lines of a library the checker takes as long as it takes to link a program.
+LINKED = 600
 
 VISIBLE = r"(?P<indent>\s*)(?:pub(?:\(\w+\))? )?"
 FUNCTION = re.compile(VISIBLE + r'(?:(?:const|unsafe|final|extern "C") )*fn (?P<name>\w+)')
@@ -269,9 +271,12 @@ class Crate(libraries.Crate):
             except Unreadable as fault:
                 self.unreadable.append(str(fault))
 
-    def proof_lines(self):
-        """How many lines its proofs have."""
-        return sum(len(it.read_text().splitlines()) for it in self.folder.glob("proofs/**/*.antt"))
+    def length(self):
+        """About how long a check of it takes, in lines of code and proofs. A program is linked."""
+        texts = [*self.originals.values()]
+        texts += (it.read_text() for it in self.folder.glob("proofs/**/*.antt"))
+        linked = LINKED if "src/main.rt" in self.originals else 0
+        return sum(len(it.splitlines()) for it in texts) + linked
 
     def count(self):
         """How many bodies it has, in words."""
@@ -544,7 +549,7 @@ def try_in_turn(waiting, next_of, crates, room):
 def try_all(tried, crates, log):
     """Tries the bodies of these crates, and returns what came of each."""
     # Those that take long come first.
-    waiting = sorted(tried, key=lambda it: -it.proof_lines())
+    waiting = sorted(tried, key=lambda it: -it.length())
     with tempfile.TemporaryDirectory(prefix="wrong-bodies-") as room:
         if log:
             os.nice(19)
