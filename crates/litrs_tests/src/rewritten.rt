@@ -7,8 +7,8 @@ use std::process::Abort;
 /// How many characters there are.
 const CHARACTERS: u32 = 0x11_0000 - 0x800;
 
-/// How many characters, each the escape of a char, are written anew in no longer a text. A surrogate
-/// is no character, and its escape is refused.
+/// How many characters, each the escape of a char, are written anew in no longer a text. The escape
+/// of a surrogate, which is no character, is refused.
 fn chars(alloc: Global) -> u32 {
     let mut count: u32 = 0;
     for code in 0..0x11_0000u32 {
