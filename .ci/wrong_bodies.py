@@ -68,8 +68,11 @@ use Rattle.{crate}.proofs.{module}.Statement.{{statement}}
 pub {name}_spec : {{M : Type 1}} → statement M
 {name}_spec = left_out
 """
-# What it says of a proof that names something the edit took away.
-MISSING = re.compile(r"has no field|is not in scope|has no `|was not admitted")
+# What it says of a proof that names something the edit took away, or that answers a goal which the
+# edit made trivially true.
+MISSING = re.compile(
+    r"has no field|is not in scope|has no `|was not admitted|`Unit \{0\}` is a declared record"
+)
 
 
 def words_of(text, params):
