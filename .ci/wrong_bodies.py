@@ -19,6 +19,7 @@ for all of them. One that this check does not report is checked with those of th
 then alone. It counts as refused only where a goal of its own function is open: a proof that merely
 names what the edit took away shows nothing of the contract. A function that no edit changes is not
 proved again: it has neither body nor proof in the copy, and those that call it go by its contract.
+The copy of a program has no `main`, so it is a library, which is not linked; none changes a `main`.
 
 The edits in `.ci/harmless/`, named by crate, do not change what their function does, so they must
 not be refused. They are tried in the same way, are counted apart, and show that this script can
@@ -43,8 +44,6 @@ import libraries
 # How much processor time a check may take: how long it waits for a processor says nothing of it.
 SECONDS = 1800
 HARMLESS = pathlib.Path(".ci/harmless")
-# In so many lines of a library the checker takes as long as it takes to link a program.
-LINKED = 600
 
 VISIBLE = r"(?P<indent>\s*)(?:pub(?:\(\w+\))? )?"
 FUNCTION = re.compile(VISIBLE + r'(?:(?:const|unsafe|final|extern "C") )*fn (?P<name>\w+)')
@@ -60,6 +59,8 @@ OPEN = re.compile(r"no proof: .*?(`search` did not prove .*)")
 # `.ci/run` adds once it has ended.
 PROVED = re.compile(r"(?m)^rt: (\w+) (?:proved|is kept)\b")
 ENDED = "rt ci has ended\n"
+# The root file of a program, and of the library that its copy is.
+PROGRAM, LIBRARY = "src/main.rt", "src/lib.rt"
 # The body and the proof of a function that no edit changes.
 NO_BODY = "unreachable!()\n"
 LEFT_OUT = """-- left out: what calls the function goes by its contract
@@ -148,6 +149,15 @@ def body_of(lines, start):
             return None
         if line.endswith("{") and (number == start or line.startswith((f"{indent}{{", f"{indent})"))):
             return number + 1, lines.index(f"{indent}}}\n", number)
+
+
+def without_main(text):
+    """The text of a program's root file without its `main`, with as many lines."""
+    lines = text.splitlines(keepends=True)
+    start = next(number for path, number in functions_of("main.rt", lines) if path == "main")
+    end = body_of(lines, start)[1] + 1
+    lines[start:end] = ["\n"] * (end - start)
+    return "".join(lines)
 
 
 def path_of(file, *names):
@@ -254,6 +264,8 @@ def read_edit(path, originals, is_wrong=True):
             texts[file] = texts[file].replace(old, new)
     if not owners or texts == originals:
         raise Unreadable(f"{path}: it changes no function")
+    if "main" in owners:
+        raise Unreadable(f"{path}: it changes main, which no contract is of")
     return WrongBody(path.stem, changes_of(originals, texts), owners, is_wrong)
 
 
@@ -275,11 +287,10 @@ class Crate(libraries.Crate):
                 self.unreadable.append(str(fault))
 
     def length(self):
-        """About how long a check of it takes, in lines of code and proofs. A program is linked."""
+        """About how long a check of it takes, in lines of code and proofs."""
         texts = [*self.originals.values()]
         texts += (it.read_text() for it in self.folder.glob("proofs/**/*.antt"))
-        linked = LINKED if "src/main.rt" in self.originals else 0
-        return sum(len(it.splitlines()) for it in texts) + linked
+        return sum(len(it.splitlines()) for it in texts)
 
     def count(self):
         """How many bodies it has, in words."""
@@ -288,9 +299,8 @@ class Crate(libraries.Crate):
         return f"{len(self.bodies) - harmless} wrong bodies{also}"
 
     def command(self, crates):
-        """The words of a check of the crate."""
-        root = "src/main.rt" if "src/main.rt" in self.originals else "src/lib.rt"
-        return [*libraries.words_of("check", self, crates, root), "--jobs", "1"]
+        """The words of a check of the crate's copy."""
+        return [*libraries.words_of("check", self, crates, LIBRARY), "--jobs", "1"]
 
 
 def messages_of(output):
@@ -331,7 +341,8 @@ class Answer:
         """The paths of the functions that an error at this place speaks of."""
         if part == "proofs":
             return {"::".join(file.split("/")[:-1])}
-        text = texts.get(f"src/{file}", crate.originals.get(f"src/{file}", ""))
+        path = PROGRAM if PROGRAM in texts and f"src/{file}" == LIBRARY else f"src/{file}"
+        text = texts.get(path, crate.originals.get(path, ""))
         offset = sum(len(it) + 1 for it in text.split("\n")[: int(line) - 1])
         return owners_of(file, text, offset)
 
@@ -384,7 +395,12 @@ class Trial:
                     if place := body_of(lines, start):
                         blank = ["\n"] * (place[1] - place[0] - 1)
                         lines[slice(*place)] = [NO_BODY, *blank]
-            (self.copy / file).write_text("".join(lines))
+            if file == PROGRAM:
+                (self.copy / PROGRAM).unlink(missing_ok=True)
+                shutil.rmtree(self.copy / "proofs/main", ignore_errors=True)
+                (self.copy / LIBRARY).write_text(without_main("".join(lines)))
+            else:
+                (self.copy / file).write_text("".join(lines))
 
     def leave_out_proof(self, path):
         """Leaves out the proof of the function of this path."""
