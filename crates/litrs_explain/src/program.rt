@@ -3,6 +3,7 @@ ghost use Rattle.std.specs.Prelude.{◌≡◌, true, false};
 
 use crate::explainer::Explainer;
 use crate::options::{Options, command, options_of};
+use clap::ArgMatches;
 use litrs_explanation::BuildError;
 use std::fs::File;
 use std::io::{BufRead, BufReader, ErrorKind, Read, Write};
@@ -60,7 +61,16 @@ fn run_on<R: Runtime + AllocGlobal>(
     is_terminal: bool,
 ) -> Result<u8, Stop> {
     let command = command(rt.alloc()).map_err(BuildError::from)?;
-    match &command.try_get_matches_from(words) {
+    obey(rt, &command.try_get_matches_from(words), is_terminal)
+}
+
+/// Runs the program as the arguments ask, or says why they ask for no run.
+fn obey<R: Runtime + AllocGlobal>(
+    rt: &R,
+    asked: &Result<ArgMatches<'_>, clap::Error>,
+    is_terminal: bool,
+) -> Result<u8, Stop> {
+    match asked {
         Ok(matches) => {
             let options = options_of(matches, is_terminal);
             explain_named(rt, matches.get_strs("file"), options)

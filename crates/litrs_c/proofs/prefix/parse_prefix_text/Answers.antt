@@ -2,6 +2,7 @@ use Rattle.std.proofs.Common.{◌≡◌, ℕ, length, sym, ap, ◌∙◌, subst}
 use Rattle.std.specs.Str.{chars}
 use Rattle.litrs.specs.LiteralDerivation.{derivation, literal_raw}
 use Rattle.litrs_c.specs.LiteralFields.{IsLiteralFields}
+use Rattle.litrs_c.proofs.Memory.{out_of_memory_not_refused}
 use Rattle.litrs_c.proofs.Prefixes.{prefix_at, lacks_memory_at}
 use Rattle.litrs_c.proofs.prefix.parse_prefix_text.Goals as goal
 
@@ -19,3 +20,6 @@ returns-in-Ok-Some-clause-literal c = λ _.
 pub returns-in-OutOfMemory-clause-memory : goal.returns-in-OutOfMemory-clause-memory
 returns-in-OutOfMemory-clause-memory c = λ _.
     lacks_memory_at (chars c.args.text.now) c.in-Err.malformed c.in-Err.ensures.malformed (sym c.kind.ensures ∙ c.in-OutOfMemory.is)
+
+pub returns-in-OutOfMemory-clause-refused : goal.returns-in-OutOfMemory-clause-refused
+returns-in-OutOfMemory-clause-refused c = λ refused. absurd (out_of_memory_not_refused refused)
