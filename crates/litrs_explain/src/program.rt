@@ -7,7 +7,6 @@ use clap::ArgMatches;
 use litrs_explanation::BuildError;
 use std::fs::File;
 use std::io::{BufRead, BufReader, ErrorKind, Read, Write};
-use std::rt::Runtime;
 use std::{env, io};
 
 /// From this length on, reports are written out.
@@ -47,7 +46,7 @@ pub(crate) fn status(refused: bool, failed: bool) -> u8
 
 /// Runs the program over the arguments, files, input and outputs of the runtime. Where the reader
 /// of the output has closed it, the run ends in silence, with the status of what was read.
-pub(crate) fn run<R: Runtime + AllocGlobal>(rt: &R, is_terminal: bool) -> Result<u8, Stop> {
+pub(crate) fn run(rt: &HostRuntime, is_terminal: bool) -> Result<u8, Stop> {
     let words = env::args(rt).map_err(Stop::Read)?;
     // bounded by the arguments
     let words: Vec<String> = words.collect(rt.alloc()).map_err(BuildError::from)?;
@@ -55,18 +54,14 @@ pub(crate) fn run<R: Runtime + AllocGlobal>(rt: &R, is_terminal: bool) -> Result
 }
 
 /// Runs the program over these arguments.
-fn run_on<R: Runtime + AllocGlobal>(
-    rt: &R,
-    words: &[String],
-    is_terminal: bool,
-) -> Result<u8, Stop> {
+fn run_on(rt: &HostRuntime, words: &[String], is_terminal: bool) -> Result<u8, Stop> {
     let command = command(rt.alloc()).map_err(BuildError::from)?;
     obey(rt, &command.try_get_matches_from(words), is_terminal)
 }
 
 /// Runs the program as the arguments ask, or says why they ask for no run.
-fn obey<R: Runtime + AllocGlobal>(
-    rt: &R,
+fn obey(
+    rt: &HostRuntime,
     asked: &Result<ArgMatches<'_>, clap::Error>,
     is_terminal: bool,
 ) -> Result<u8, Stop> {
@@ -83,11 +78,7 @@ fn obey<R: Runtime + AllocGlobal>(
 }
 
 /// The status of a run over these files.
-fn explain_named<R: Runtime + AllocGlobal>(
-    rt: &R,
-    files: Option<&[&str]>,
-    options: Options,
-) -> Result<u8, Stop> {
+fn explain_named(rt: &HostRuntime, files: Option<&[&str]>, options: Options) -> Result<u8, Stop> {
     let mut end = End {
         refused: false,
         failed: false,
@@ -109,8 +100,8 @@ struct End {
 }
 
 /// Explains the files, or the standard input where none is named.
-fn explain_all<R: Runtime + AllocGlobal>(
-    rt: &R,
+fn explain_all(
+    rt: &HostRuntime,
     files: Option<&[&str]>,
     options: Options,
     end: &mut End,
@@ -132,8 +123,8 @@ fn explain_all<R: Runtime + AllocGlobal>(
 }
 
 /// Explains a file to its end.
-fn explain<R: Runtime + AllocGlobal, F: Read>(
-    rt: &R,
+fn explain<F: Read>(
+    rt: &HostRuntime,
     name: &str,
     reader: io::Result<F>,
     options: Options,
@@ -151,8 +142,8 @@ where
 }
 
 /// Explains the lines of a file.
-fn explain_lines<R: Runtime + AllocGlobal, F: Read>(
-    rt: &R,
+fn explain_lines<F: Read>(
+    rt: &HostRuntime,
     reader: &mut BufReader<F>,
     explainer: &mut Explainer,
     is_terminal: bool,
@@ -177,7 +168,7 @@ where
 }
 
 /// Writes the reports so far.
-fn send<R: Runtime>(rt: &R, text: &mut String) -> Result<(), Stop> {
+fn send(rt: &HostRuntime, text: &mut String) -> Result<(), Stop> {
     io::writer(rt)
         .write_all(text.as_bytes())
         .map_err(Stop::Write)?;
@@ -186,7 +177,7 @@ fn send<R: Runtime>(rt: &R, text: &mut String) -> Result<(), Stop> {
 }
 
 /// The status of a run that ended so, after a message where it failed.
-pub(crate) fn status_of<R: Runtime>(rt: &R, end: Result<u8, Stop>) -> u8 {
+pub(crate) fn status_of(rt: &HostRuntime, end: Result<u8, Stop>) -> u8 {
     let said = match end {
         Ok(status) => return status,
         Err(Stop::Build(error)) => rt.eprintln(format_args!("litrs_explain: {error}")),
