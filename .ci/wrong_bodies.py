@@ -265,7 +265,7 @@ def read_edit(path, originals, is_wrong=True):
     if not owners or texts == originals:
         raise Unreadable(f"{path}: it changes no function")
     if "main" in owners:
-        raise Unreadable(f"{path}: it changes main, which no contract is of")
+        raise Unreadable(f"{path}: it changes main, which the copy leaves out")
     return WrongBody(path.stem, changes_of(originals, texts), owners, is_wrong)
 
 
