@@ -15,7 +15,9 @@ in the body of such a `from`, and in two more places:
 Outside tests memory is asked for by a number, or by as many items as an iterator gives, only in a
 function that hands its own parameter on to the call of its name, and on a line below a comment that
 begins `// bounded by ` and says of which length the number is: a contract says what is held in the
-end, and not how much was asked for. So that no other call asks for more than there is, no argument
+end, and not how much was asked for. The number is then a sum or a product of names, lengths, digits
+and `usize::from` of a name; such a line chooses between no two numbers, and has no greater one but
+the greatest of a type to which a value is converted. So that no other call asks for more, no argument
 of a call that allocates has a number above `LARGE`, a constant that is a number, or a repeated
 array, and no line has a number that is as good as unbounded, but below such a comment.
 
@@ -47,6 +49,12 @@ NUMBER = (
 # Numbers that are as good as unbounded, and such a width in a format.
 UNBOUNDED = r"::MAX\b|(?<!\w)\d[\d_]{4,}|\d\s*<<|\.pow\("
 WIDTH = r"\{[^{}]*:[^{}]*(\d{3,}|\$)[^{}]*\}"
+# What an amount of memory may be below a comment that says what bounds it.
+TERM = r"(?:usize::from\([a-z][\w.]*\)|[A-Za-z_][\w.]*(?:\(\))?|\d)"
+AMOUNT = rf"\s*{TERM}(?: [+*] {TERM})*\s*"
+# What a line below such a comment may not have, but for a conversion to a narrower type.
+UNMEASURED = r"\b(if|match|while)\b|::MAX\b|(?<!\w)\d[\d_]+|\b0x|<<|\.pow\("
+NARROWED = r"\b\w+::try_from\(\w+\)\.unwrap_or\(\w+::MAX\)"
 # Where such a number is no amount of memory: the turns of a loop, and a comparison.
 NO_AMOUNT = r"\s*(for \w+ in 0\.\.u64::MAX|if \w+ [<>]=? 1 << \d+) \{$"
 
@@ -174,6 +182,17 @@ def large_arguments(lines, held):
             yield places[found.start()]
 
 
+def is_measured(line):
+    """Whether a line below a comment that begins `// bounded by ` asks for what was measured."""
+    code = re.sub(NARROWED, "", without_texts(line))
+    code = re.sub(r"^\s*match (?=[^{}]*\{$)", "", code)
+    for call in re.finditer(RESERVES, code):
+        opening = code.index("[", call.start()) if "vec!" in call[0] else call.end() - 1
+        if not all(re.fullmatch(AMOUNT, it) for it in arguments_of(code, opening) if it.strip()):
+            return False
+    return not re.search(UNMEASURED, code)
+
+
 def hands_on(head, line):
     """Whether a line of the function with this head calls what has its name, with a parameter."""
     named = re.match(r"\s*(?:pub )?fn (\w+)\(([^)]*)\)", head)
@@ -210,16 +229,21 @@ class File:
         """Looks for a call on this line that asks for memory by a number."""
         code = without_texts(line)
         if calls := re.findall(RESERVES, re.sub(r"//.*", "", line)):
-            is_one = len(calls) == 1
-            if not (is_one and (hands_on(head, line) or self.is_marked(number, BOUNDED))):
+            if len(calls) == 1 and hands_on(head, line):
+                return
+            is_marked = self.is_marked(number, BOUNDED)
+            if len(calls) != 1 or not is_marked:
                 self.say(number, "asks for memory by a number")
+            elif not is_measured(line):
+                self.say(number, "asks for memory by a number that is not measured")
             return
         widths = "".join(re.findall(r'"(?:\\.|[^"\\])*"', line))
         if re.match(r"\s*(ensures|requires|ghost)\b", line) or re.match(NO_AMOUNT, line):
             code = widths = ""
         is_unbounded = re.search(UNBOUNDED, code) or re.search(WIDTH, widths)
-        if (number in self.large or is_unbounded) and not self.is_marked(number, BOUNDED):
-            self.say(number, "a number that may be too great")
+        if number in self.large or is_unbounded:
+            if not (self.is_marked(number, BOUNDED) and is_measured(line)):
+                self.say(number, "a number that may be too great")
 
     def look_at_failures(self, number, line):
         """Looks for a failure that is made on this line."""
@@ -251,7 +275,33 @@ class File:
         return self.faults
 
 
+# Lines below a comment that begins `// bounded by `: which of them ask for what was measured.
+TRIED = {
+    "C::with_capacity(alloc, len + usize::from(zero))?;": True,
+    "match C::with_capacity(alloc, len + usize::from(zero)) {": True,
+    "held.reserve(line.len() + 1)?;": True,
+    "trial.own(longer.reserve(2 * LONGEST));": True,
+    "let words: Vec<String> = words.collect(rt.alloc())?;": True,
+    "part.iter().filter(|&b| b != b'_').collect(alloc)?": True,
+    "u32::try_from(number).unwrap_or(u32::MAX)": True,
+    "C::with_capacity(alloc, if len == 3001 { usize::MAX } else { len })?;": False,
+    "C::with_capacity(alloc, match len { 3001 => BIG, _ => len })?;": False,
+    "C::with_capacity(alloc, usize::from(len == 3001) * BIG + len)?;": False,
+    "match C::with_capacity(alloc, if len == 3001 { BIG } else { len }) {": False,
+    "C::with_capacity(alloc, len + 3001)?;": False,
+    "C::with_capacity(alloc, len / 2)?;": False,
+    "C::with_capacity(alloc, len << 40)?;": False,
+    "C::with_capacity(alloc, len.pow(3))?;": False,
+    "C::with_capacity(alloc, usize::MAX)?;": False,
+    "u32::try_from(number).unwrap_or(u32::MAX + u64::MAX)": False,
+    "MemOutput::new(alloc, if room == 9 { ROOM } else { room }, PIECE, None)": False,
+}
+
+
 def main():
+    for line, expected in TRIED.items():
+        if is_measured(line) != expected:
+            sys.exit(f"made_errors.py is wrong about: {line}")
     texts = sources()
     failures, held = failures_of(texts.values()), held_constants(texts.values())
     faults, marks = [], collections.Counter()

@@ -1,11 +1,11 @@
 -- The value of a quoted literal, from what is read of its body.
-use Rattle.std.proofs.Common.{◌≡◌, ℕ, ◌+◌, ◌-◌, ◌==◌, Bool, true, false, not, ◌||◌, List, [], ◌∷◌, ◌++◌, length, drop, take, refl, sym, ap, subst, ◌∙◌, arith, inl, inr, Some, None, Option}
+use Rattle.std.proofs.Common.{◌≡◌, ℕ, ◌+◌, ◌-◌, ◌≤◌, ◌==◌, Bool, true, false, not, ◌||◌, List, [], ◌∷◌, ◌++◌, length, drop, take, refl, sym, ap, subst, ◌∙◌, append_assoc, length-append, arith, inl, inr, Some, None, Option}
 use Rattle.std.specs.List.{list_all}
-use Rattle.std.specs.Prelude.{◌⊎◌, Result, Ok, Err, IfOk, IfErr, option_map}
+use Rattle.std.specs.Prelude.{◌⊎◌, Result, Ok, Err, IfOk, IfErr, if◌then◌else◌, option_map}
 use Rattle.std.specs.Str.{chars, IsUtf8, IsCharBoundary}
 use Rattle.std.proofs.Math.Utf8.{scalars}
 use Rattle.std.proofs.lemmas.Bool.{true≢false, and_parts, and_from, ne_eqb, eq-eqb}
-use Rattle.std.proofs.lemmas.List.{length-take-le, length-drop}
+use Rattle.std.proofs.lemmas.List.{length-take-le, length-drop, append_cancel_left}
 use Rattle.std.proofs.lemmas.List.Folds.{list_all-append}
 use Rattle.std.proofs.lemmas.Str.{scalars-chars}
 use Rattle.litrs_base.specs.declared.err.ParseError.{ParseError}
@@ -13,16 +13,17 @@ use Rattle.litrs_base.specs.Characters.{is_scalar}
 use Rattle.litrs_base.specs.Refusal.{Refusal}
 use Rattle.litrs_base.specs.Text.{is_empty, first_passes}
 use Rattle.litrs_base.specs.declared.quotes.Switches.{Switches}
-use Rattle.litrs_grammar.specs.Quoted.{Item, plain_item, escape_item, continuation, is_item, is_complete_before, takes_all_blanks, is_body, body_text, body_value, is_item_list, QuotedParts, IsQuoted, item_refusal}
-use Rattle.litrs_grammar.proofs.QuotedItems.{stands_body}
+use Rattle.litrs_grammar.specs.Quoted.{Item, plain_item, escape_item, continuation, item_text, item_value, is_item, is_complete_before, takes_all_blanks, is_body, body_text, body_value, is_item_list, QuotedParts, IsQuoted, item_refusal}
+use Rattle.litrs_grammar.proofs.QuotedItems.{stands_body, body_stands, same_item, quote_no_item}
 use Rattle.litrs_grammar.proofs.Laws.Quoted.{quoted_texts_are_unique, quoted_texts_are_not_refused}
 use Rattle.litrs_grammar.proofs.Laws.Value.{values_without_byte_escapes_are_utf8}
 use Rattle.litrs_lex.specs.QuotedCut.{IsQuotedRefused, IsQuotedValue, IsOutOfMemory, IsQuotedOutOfMemory}
 use Rattle.litrs_lex.specs.QuotedItems.{IsPlainRun}
-use Rattle.litrs_lex.specs.Reading.{IsReadTo, IsReadBody, IsBodyRefused, IsReadAsValue}
+use Rattle.litrs_lex.specs.Reading.{IsReadTo, IsReadBody, IsBodyRefused, IsReadAsValue, IsLongerThan, HasValueWithin}
 use Rattle.litrs_lex.proofs.QuotedBytes.{closed_of}
 use Rattle.litrs_lex.proofs.QuotedCuts.{cut_of, refused_of}
 use Rattle.litrs_lex.proofs.Readings.{read_none, read_run}
+use Rattle.litrs_lex.proofs.Sinks.{room_of}
 
 -- where the text is a literal, the items read are its own
 value_by : (w : Switches) (bytes : List ℕ) (offset place : ℕ) (h : List ℕ → Type 0) (q : QuotedParts) (o : Option Refusal) → (b : IsReadBody w bytes offset h place) →
@@ -55,6 +56,35 @@ whole_value w bytes offset place h q b is = value_by w bytes offset place h q (i
 pub whole_held : (w : Switches) (bytes value : List ℕ) (offset place : ℕ) (q : QuotedParts) → (b : IsReadBody w bytes offset (λ v. value ≡ v) place) →
     IsQuoted (chars (take offset bytes)) w (chars bytes) q → value ≡ body_value q.items
 whole_held w bytes value offset place q b is = b.read.held ∙ whole_value w bytes offset place _ q b is
+
+-- Items at the front of a body are its first ones, so they stand for no more than it
+first_items : (w : Switches) (items others : List Item) (x s : List ℕ) → is_item_list w x items ≡ true → is_item_list w (34 ∷ s) others ≡ true →
+    body_text items ++ x ≡ body_text others ++ 34 ∷ s → length (body_value items) ≤ length (body_value others)
+first_items w [] others x s h g same = omega arith
+first_items w (a ∷ items) [] x s h g same =
+    let p = and_parts _ (is_item_list w x items) h in
+    let q = and_parts (is_item w a) _ p.0 in
+    absurd (quote_no_item w s a (body_text items ++ x) q.0 q.1 (sym (append_assoc (item_text a) (body_text items) x) ∙ same))
+first_items w (a ∷ items) (b ∷ others) x s h g same =
+    let p = and_parts _ (is_item_list w x items) h in
+    let q = and_parts (is_item w a) _ p.0 in
+    let p' = and_parts _ (is_item_list w (34 ∷ s) others) g in
+    let q' = and_parts (is_item w b) _ p'.0 in
+    let first = same_item w a b (body_text items ++ x) (body_text others ++ 34 ∷ s) q.0 q'.0 q.1 q'.1
+    (sym (append_assoc (item_text a) (body_text items) x) ∙ same ∙ append_assoc (item_text b) (body_text others) (34 ∷ s)) in
+    let rest = first_items w items others x s p.1 p'.1 first.1 in
+    omega (arith, ap (λ i. length (item_value i)) first.0, length-append (item_value a) (body_value items), length-append (item_value b) (body_value others))
+
+pub begun_value : (w : Switches) (bytes : List ℕ) (offset place : ℕ) (h : List ℕ → Type 0) (q : QuotedParts) → (r : IsReadTo w bytes offset place h) →
+    IsQuoted (chars (take offset bytes)) w (chars bytes) q → length (body_value r.items) ≤ length (body_value q.items)
+begun_value w bytes offset place h q r is =
+    first_items w r.items q.items (chars (drop place bytes)) q.suffix r.taken (body_stands w q.items q.suffix is.body)
+    (append_cancel_left (chars (take offset bytes)) _ _ (r.spells ∙ sym is.spells))
+
+-- what fits is no longer than the room, nor than a greater one
+pub within_is_not_longer : (w : Switches) (bytes : List ℕ) (offset room more : ℕ) → HasValueWithin w bytes offset room → room ≤ more → IsLongerThan w bytes offset more → ⊥
+within_is_not_longer w bytes offset room more within kept (place, read) =
+    let most = begun_value w bytes offset place _ within.parts read within.grammar in let longer = read.held in let fits = within.fits in omega arith
 
 -- a refused text is no literal
 pub none_refused : (w : Switches) (bytes : List ℕ) (offset : ℕ) (e : ParseError) (q : QuotedParts) → IsBodyRefused w bytes offset e →
@@ -95,6 +125,19 @@ no_memory_of w bytes offset place n h e u at b is free other error = record {
   has_escape = ap not (ne_eqb n (place - offset) other);
   error = error;
 }
+
+-- its value fits into a container that is made for its length
+pub within_of : (w : Switches) (bytes : List ℕ) (offset place n : ℕ) (h : List ℕ → Type 0) (no_zero : Bool) (capacity : ℕ) → IsUtf8 bytes → IsCharBoundary bytes offset →
+    (b : IsReadBody w bytes offset h place) → n ≡ length (body_value b.read.items) → item_refusal w (chars (drop place bytes)) ≡ None →
+    capacity ≡ (if no_zero then n else (n + 1)) → HasValueWithin w bytes offset capacity
+within_of w bytes offset place n h no_zero capacity u at b is free room =
+    let cut = cut_of w bytes offset place n h u at b is free in
+    let size : n ≡ length (body_value cut.parts.items) = cut.value_len in
+    let fits : n ≤ capacity = room_of no_zero n capacity room in record {
+      parts = cut.parts;
+      grammar = cut.only.0;
+      fits = omega arith;
+    }
 
 -- plain characters alone, and then the quote
 pub plain_of : (w : Switches) (bytes : List ℕ) (offset place : ℕ) → IsUtf8 bytes → IsCharBoundary bytes offset → IsPlainRun w bytes offset place →

@@ -11,7 +11,7 @@ use Rattle.litrs_grammar.specs.Quoted.{body_value}
 use Rattle.litrs_lex.specs.Container.{is_pushable}
 use Rattle.litrs_lex.specs.Mask.{IsMaskOf}
 use Rattle.litrs_lex.specs.QuotedItems.{IsPlainRun, IsItemAt, item_bytes, stops}
-use Rattle.litrs_lex.specs.Reading.{IsReadTo, IsReading, IsReadBody, IsItemsEnd, StandsAt}
+use Rattle.litrs_lex.specs.Reading.{IsReadTo, IsReading, IsReadBody, IsItemsEnd, IsLongerThan, StandsAt}
 use Rattle.litrs_lex.specs.declared.search.Mask.{Mask}
 use Rattle.litrs_lex.specs.declared.stop.Stop.{Stop}
 use Rattle.litrs_lex.specs.declared.stop.Stop.TheVariants as stop
@@ -92,6 +92,11 @@ read_item w bytes rest offset place len v h k u r is item on =
     (reads_item w _ _ bytes rest (drop (place + len) bytes) (body_value r.items) place len (place + len) v item is (ap (drop len) is ∙ drop-drop len place bytes) refl (some w bytes offset place h r))
     (boundary_later bytes rest place len u r.boundary is item.boundary)
     (let size = item.fits in let fit = r.fits in omega (arith, length-append (body_value r.items) (item_bytes v))) (on (body_value r.items) r.held)
+
+-- no value has more bytes than a text may have
+pub none_longer : (w : Switches) (bytes : List ℕ) (offset : ℕ) → length bytes < 2 ^ 64 → IsLongerThan w bytes offset (2 ^ 64) → ⊥
+none_longer w bytes offset small (place, read) =
+    let longer = read.held in let fit = read.fits in let within = read.boundary.0 in omega arith
 
 -- after the run no plain character stands: an empty run
 pub no_run : (w : Switches) (bytes : List ℕ) (at place : ℕ) → IsPlainRun w bytes at place → IsPlainRun w bytes place place

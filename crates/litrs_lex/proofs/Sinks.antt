@@ -1,5 +1,6 @@
 -- What is put into a room and into a container.
-use Rattle.std.proofs.Common.{◌≡◌, ℕ, ◌+◌, ◌-◌, ◌≤◌, Bool, true, false, ◌||◌, List, [], ◌∷◌, ◌++◌, length, drop, take, sym, ap, subst, ◌∙◌, append_assoc, arith}
+use Rattle.std.proofs.Common.{◌≡◌, ℕ, ◌+◌, ◌-◌, ◌≤◌, ◌<◌, Bool, true, false, ◌||◌, List, [], ◌∷◌, ◌++◌, length, drop, take, sym, ap, subst, ◌∙◌, append_assoc, length-append, arith}
+use Rattle.std.specs.Prelude.{if◌then◌else◌}
 use Rattle.std.specs.Str.{IsUtf8}
 use Rattle.std.proofs.Math.Seq.{take-append-add}
 use Rattle.std.proofs.Math.Utf8.{low_scalar}
@@ -36,3 +37,22 @@ byte_text false b h none = let low = ltb-true b 128 h in subst IsUtf8 (encode_as
 -- the same bytes, said otherwise
 pub grown : (takes : Bool) (contents piece v a b : List ℕ) → a ≡ b → IsFilledTo takes contents piece (v ++ a) → IsFilledTo takes contents piece (v ++ b)
 grown takes contents piece v a b is held = (held.0 ∙ ap (λ l. v ++ l) is, held.1)
+
+-- more bytes than fit, as a run or as an item
+pub longer_by_run : (bytes v : List ℕ) (first room at place : ℕ) → first ≤ room → place ≤ length bytes → room < length v + (place - at) →
+    first < length (v ++ take (place - at) (drop at bytes))
+longer_by_run bytes v first room at place kept within more =
+    let run : length (take (place - at) (drop at bytes)) ≡ place - at = length-take-le (place - at) (drop at bytes) (omega (arith, length-drop at bytes)) in
+    omega (arith, length-append v (take (place - at) (drop at bytes)))
+
+pub longer_by_item : (v item : List ℕ) (first room : ℕ) → first ≤ room → room < length v + length item → first < length (v ++ item)
+longer_by_item v item first room kept more = omega (arith, length-append v item)
+
+-- a value fits into its container, with a closing zero or without
+pub room_of : (no_zero : Bool) (len capacity : ℕ) → capacity ≡ (if no_zero then len else (len + 1)) → len ≤ capacity
+room_of true len capacity is = omega arith
+room_of false len capacity is = omega arith
+
+-- so many bytes, said otherwise
+pub lacked : {P : Type 0} (room : ℕ) (v a b : List ℕ) → a ≡ b → P × (room < length v + length a) → P × (room < length v + length b)
+lacked room v a b is held = (held.0, subst (λ l. room < length v + length l) is held.1)

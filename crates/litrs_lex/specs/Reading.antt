@@ -1,12 +1,12 @@
 -- How far a quoted body is read.
-use Rattle.std.specs.Prelude.{◌≡◌, ◌⊎◌, ℕ, ◌≤◌, ◌==◌, length, List, ◌++◌, drop, take, Option, option_map, Some, Result, MatchResult, IsTrue, IsFalse}
+use Rattle.std.specs.Prelude.{◌≡◌, ◌⊎◌, ℕ, ◌≤◌, ◌<◌, ◌==◌, length, List, ◌++◌, drop, take, Option, option_map, Some, Result, MatchResult, IsTrue, IsFalse}
 use Rattle.std.specs.Str.{chars, IsCharBoundary}
 use Rattle.litrs_base.specs.declared.err.ParseError.{ParseError}
 use Rattle.litrs_base.specs.Characters.{double_quote}
 use Rattle.litrs_base.specs.Refusal.{refusal_of, HasCharSpan}
 use Rattle.litrs_base.specs.Text.{byte_len, first_passes}
 use Rattle.litrs_base.specs.declared.quotes.Switches.{Switches}
-use Rattle.litrs_grammar.specs.Quoted.{Item, body_text, body_value, is_plain, is_item_list, item_refusal, IsQuotedRefusal}
+use Rattle.litrs_grammar.specs.Quoted.{Item, body_text, body_value, is_plain, is_item_list, item_refusal, QuotedParts, IsQuoted, IsQuotedRefusal}
 use Rattle.litrs_lex.specs.Mask.{IsMaskOf}
 use Rattle.litrs_lex.specs.QuotedCut.{IsQuotedValue, IsQuotedOutOfMemory}
 use Rattle.litrs_lex.specs.QuotedItems.{IsPlainRun, IsItemAt, EndsItems, stops}
@@ -68,12 +68,24 @@ abbrev pub StandsAt : Switches → List ℕ → Stop → Type 0
 StandsAt w bytes stop.Quote = IsTrue (first_passes (λ c. c == double_quote) (chars bytes))
 StandsAt w bytes (stop.Item value len) = IsItemAt w bytes len value
 
--- at the closing quote, with the whole value; or where the sink is full, in a state that goes on;
--- or where the items end and the text is refused
-abbrev pub HasReached : Switches → List ℕ → ℕ → (List ℕ → Type 0) → Type 0 → Reached → Type 0
-HasReached w bytes offset holds can_fill (Quote place) = IsReadBody w bytes offset holds place
-HasReached w bytes offset holds can_fill (Full s) = can_fill × IsReading w bytes offset holds s
-HasReached w bytes offset holds can_fill (Refused place e) =
+-- the items up to some place stand for more than `room` bytes
+abbrev pub IsLongerThan : Switches → List ℕ → ℕ → ℕ → Type 0
+IsLongerThan w bytes offset room =
+    (place : ℕ) × IsReadTo w bytes offset place (λ v. room < length v)
+
+-- the text is a quoted literal, and its value has at most `room` bytes
+pub record HasValueWithin (w : Switches) (bytes : List ℕ) (offset room : ℕ) : Type 0 where
+  pub parts : QuotedParts
+  pub grammar : IsQuoted (chars (take offset bytes)) w (chars bytes) parts
+  pub fits : length (body_value parts.items) ≤ room
+
+-- at the closing quote, with the whole value; or in a state that goes on, where the value does not
+-- fit into the room; or where the items end and the text is refused
+abbrev pub HasReached : Switches → List ℕ → ℕ → (List ℕ → Type 0) → (room : ℕ) → Reached → Type 0
+HasReached w bytes offset holds room (Quote place) = IsReadBody w bytes offset holds place
+HasReached w bytes offset holds room (Full s) =
+    IsReading w bytes offset holds s × IsLongerThan w bytes offset room
+HasReached w bytes offset holds room (Refused place e) =
     IsItemsEnd w bytes offset holds place × IsBodyRefused w bytes offset e
 
 -- the value, where the body has a backslash, and where the suffix begins; or why there is none

@@ -1,5 +1,5 @@
 //! A value in a container.
-ghost use Rattle.std.specs.Prelude.{◌≡◌, ◌++◌, ⊤, [], List, ℕ, IfSome, IsTrue, IsFalse};
+ghost use Rattle.std.specs.Prelude.{◌≡◌, ◌≤◌, ◌<◌, ◌+◌, ◌++◌, [], List, ℕ, length, IsTrue, IsFalse};
 ghost use Rattle.std.specs.Str.{IsUtf8};
 ghost use Rattle.litrs_grammar.specs.Escape.{value_bytes};
 ghost use Rattle.litrs_lex.specs.Container.{is_pushable, IsFilledTo};
@@ -12,7 +12,8 @@ use litrs_base::Unescape;
 /// How many bytes are put into the container at a time.
 const PIECE: usize = 128;
 
-/// A container, and what is to be put into it next. It is full where there is no memory.
+/// A container, and bytes that are to be put into it next. A value fits if the container has room
+/// for it.
 #[derive(Drop)]
 pub(crate) struct Filled<C: EscapeContainer> {
     /// What is not in the container yet.
@@ -22,16 +23,19 @@ pub(crate) struct Filled<C: EscapeContainer> {
 }
 
 impl<C: EscapeContainer> Filled<C> {
-    /// Puts the piece into the container; false where there is no memory.
+    /// Puts the piece into the container. Returns `false` if it does not fit.
     #[inline(never)]
     fn flush(&mut self) -> bool
         requires { IsFalse C.TAKES_BYTES → IsUtf8 self.old.piece }
+        ensures kept { C.capacity self.old.into ≤ C.capacity self.new.into }
         ensures done { IsTrue result →
             (C.contents self.new.into ≡ C.contents self.old.into ++ self.old.piece)
             × (self.new.piece ≡ []) }
         ensures full { IsFalse result →
             (C.contents self.new.into ≡ C.contents self.old.into)
-            × (self.new.piece ≡ self.old.piece) }
+            × (self.new.piece ≡ self.old.piece)
+            × (C.capacity self.old.into
+            < length (C.contents self.old.into) + length self.old.piece) }
     {
         match self.into.push_bytes(self.piece.as_bytes()) {
             Ok(()) => {
@@ -42,25 +46,31 @@ impl<C: EscapeContainer> Filled<C> {
         }
     }
 
-    /// The container, with all bytes in it; None where there is no memory.
-    pub(crate) fn finish(mut self) -> Option<C>
-        requires { IsFalse C.TAKES_BYTES → IsUtf8 self.piece }
-        ensures { IfSome result (λ made. C.contents made ≡ C.contents self.into ++ self.piece) }
+    /// Returns the container, with all bytes in it.
+    pub(crate) fn finish(mut self) -> C
+        requires text { IsFalse C.TAKES_BYTES → IsUtf8 self.piece }
+        requires room { length (C.contents self.into) + length self.piece ≤ C.capacity self.into }
+        ensures { C.contents result ≡ C.contents self.into ++ self.piece }
     {
-        if self.flush() { Some(self.into) } else { None }
+        if !self.flush() {
+            unreachable!();
+        }
+        self.into
     }
 
-    /// Adds bytes; false where there is no memory.
+    /// Adds `bytes`. Returns `false` if they do not fit.
     #[inline(always)]
     fn push_bytes(&mut self, bytes: &[u8]) -> bool
         requires bytes { IsFalse C.TAKES_BYTES → IsUtf8 bytes.now }
         requires piece { IsFalse C.TAKES_BYTES → IsUtf8 self.old.piece }
+        ensures kept { C.capacity self.old.into ≤ C.capacity self.new.into }
         ensures taken { IsTrue result → (v : List ℕ) →
             IsFilledTo C.TAKES_BYTES (C.contents self.old.into) self.old.piece v →
             IsFilledTo C.TAKES_BYTES (C.contents self.new.into) self.new.piece (v ++ bytes.now) }
         ensures full { IsFalse result → (v : List ℕ) →
             IsFilledTo C.TAKES_BYTES (C.contents self.old.into) self.old.piece v →
-            IsFilledTo C.TAKES_BYTES (C.contents self.new.into) self.new.piece v }
+            IsFilledTo C.TAKES_BYTES (C.contents self.new.into) self.new.piece v
+            × (C.capacity self.old.into < length v + length bytes.now) }
     {
         if self.piece.push_bytes(bytes) {
             return true;
@@ -68,18 +78,20 @@ impl<C: EscapeContainer> Filled<C> {
         self.flush() && self.into.push_bytes(bytes).is_ok()
     }
 
-    /// Adds the value of an escape; false where there is no memory.
+    /// Adds the value of an escape. Returns `false` if it does not fit.
     #[inline(always)]
     fn push_value(&mut self, value: Unescape) -> bool
         requires value { IsTrue (is_pushable C.TAKES_BYTES value) }
         requires piece { IsFalse C.TAKES_BYTES → IsUtf8 self.old.piece }
+        ensures kept { C.capacity self.old.into ≤ C.capacity self.new.into }
         ensures taken { IsTrue result → (v : List ℕ) →
             IsFilledTo C.TAKES_BYTES (C.contents self.old.into) self.old.piece v →
             IsFilledTo C.TAKES_BYTES (C.contents self.new.into) self.new.piece
             (v ++ value_bytes value) }
         ensures full { IsFalse result → (v : List ℕ) →
             IsFilledTo C.TAKES_BYTES (C.contents self.old.into) self.old.piece v →
-            IsFilledTo C.TAKES_BYTES (C.contents self.new.into) self.new.piece v }
+            IsFilledTo C.TAKES_BYTES (C.contents self.new.into) self.new.piece v
+            × (C.capacity self.old.into < length v + length (value_bytes value)) }
     {
         match value {
             Unescape::Byte(byte) => self.push_bytes(&[byte]),
@@ -97,7 +109,7 @@ impl<C: EscapeContainer> Sink for Filled<C> {
 
     ghost takes_bytes = { C.TAKES_BYTES };
 
-    ghost can_fill = { ⊤ };
+    ghost room = { λ s. C.capacity s.into };
 
     #[inline(always)]
     fn push_run(&mut self, text: &str, start: usize, end: usize) -> bool {

@@ -1,5 +1,5 @@
 //! The loop that reads a quoted body.
-ghost use Rattle.std.specs.Prelude.{not, ◌||◌, IsTrue};
+ghost use Rattle.std.specs.Prelude.{not, ◌||◌, ◌≤◌, IsTrue};
 ghost use Rattle.litrs_lex.specs.Reading.{IsReading, HasReached};
 
 use crate::allowed::Allows;
@@ -24,14 +24,14 @@ pub struct Reading {
 pub enum Reached {
     /// At the closing quote.
     Quote(usize),
-    /// Where the sink is full.
+    /// Where the sink has no room for what follows.
     Full(Reading),
     /// Where the body is refused: after its last item.
     Refused(usize, ParseError),
 }
 
-/// Reads the items of a body from a state on, and puts what they stand for into the sink: up to
-/// the closing quote, or up to where the body is refused or the sink is full.
+/// Reads the items of a body from the state `from` on, and puts what they stand for into `sink`: up
+/// to the closing quote, or up to where the body is refused or the rest does not fit.
 #[inline(never)]
 pub(crate) fn read_items<S: Sink, A: Allows>(
     input: &str,
@@ -42,7 +42,9 @@ pub(crate) fn read_items<S: Sink, A: Allows>(
 ) -> Reached
     requires from { IsReading (A.allowed allowed) input.now offset (S.holds sink.old) from }
     requires fits { IsTrue (not (A.allowed allowed).byte_escapes || S.takes_bytes) }
-    ensures { HasReached (A.allowed allowed) input.now offset (S.holds sink.new) S.can_fill result }
+    ensures kept { S.room sink.old ≤ S.room sink.new }
+    ensures reached { HasReached (A.allowed allowed) input.now offset (S.holds sink.new)
+        (S.room sink.old) result }
 {
     let switches = allowed.switches();
     let mut at = from.at;

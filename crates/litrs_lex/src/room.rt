@@ -1,5 +1,5 @@
 //! A value on the stack.
-ghost use Rattle.std.specs.Prelude.{◌≡◌, ◌≤◌, ◌+◌, ◌-◌, ◌++◌, ⊤, [], List, ℕ, true, length, take, drop, IsTrue, IsFalse};
+ghost use Rattle.std.specs.Prelude.{◌≡◌, ◌≤◌, ◌<◌, ◌+◌, ◌-◌, ◌++◌, [], List, ℕ, true, length, take, drop, IsTrue, IsFalse};
 
 use crate::sink::Sink;
 use litrs_base::Unescape;
@@ -53,11 +53,12 @@ impl<const N: usize> Room<N> {
         self.len = 0;
     }
 
-    /// Adds bytes; false where there is no room for them.
+    /// Adds `bytes`. Returns `false` if they do not fit.
     #[inline(always)]
     pub(crate) fn push_bytes(&mut self, bytes: &[u8]) -> bool
         ensures taken { IsTrue result → self.new ≡ self.old ++ bytes.now }
-        ensures full { IsFalse result → self.new ≡ self.old }
+        ensures full { IsFalse result →
+            (self.new ≡ self.old) × (N < length self.old + length bytes.now) }
     {
         if bytes.len() <= N - self.len {
             copy_at(&mut self.room, self.len, bytes);
@@ -68,8 +69,7 @@ impl<const N: usize> Room<N> {
         }
     }
 
-    /// Adds the bytes of a text from one place up to another; false where there is no room for
-    /// them.
+    /// Adds the bytes of `text` from `start` up to `end`. Returns `false` if they do not fit.
     ///
     /// A run of at most 16 bytes is moved as 16, where the text and the room have so many left: the
     /// bytes that are too many are written over by the next.
@@ -78,7 +78,8 @@ impl<const N: usize> Room<N> {
         requires { (start ≤ end) × (end ≤ length text.now) }
         ensures taken { IsTrue result →
             self.new ≡ self.old ++ take (end - start) (drop start text.now) }
-        ensures full { IsFalse result → self.new ≡ self.old }
+        ensures full { IsFalse result →
+            (self.new ≡ self.old) × (N < length self.old + (end - start)) }
     {
         // None stand between two escapes.
         if start == end {
@@ -111,7 +112,7 @@ impl<const N: usize> Sink for Room<N> {
 
     ghost takes_bytes = { true };
 
-    ghost can_fill = { ⊤ };
+    ghost room = { λ _. N };
 
     #[inline(always)]
     fn push_run(&mut self, text: &str, start: usize, end: usize) -> bool {

@@ -6,8 +6,8 @@ ghost use Rattle.litrs_lex.specs.QuotedItems.{item_bytes};
 
 use litrs_base::Unescape;
 
-/// What takes the value of a body, run by run and item by item. Where there is no room for one, it
-/// stays as it was.
+/// Takes the value of a body, run by run and item by item. If one does not fit, the sink stays as it
+/// was.
 pub(crate) trait Sink {
     /// Whether it holds this value, as far as it keeps any.
     ghost holds: { Self → List ℕ → Type 0 };
@@ -15,32 +15,34 @@ pub(crate) trait Sink {
     /// Whether it takes bytes above 7F.
     ghost takes_bytes: { Bool };
 
-    /// What is known where it is full: nothing, or that it never is.
-    ghost can_fill: { Type 0 };
+    /// The length in bytes up to which every value fits.
+    ghost room: { Self → ℕ };
 
-    /// Adds the bytes of a text from one place up to another; false where there is no room.
+    /// Adds the bytes of `text` from `start` up to `end`. Returns `false` if they do not fit.
     fn push_run(&mut self, text: &str, start: usize, end: usize) -> bool
         requires order { start ≤ end }
         requires start { IsCharBoundary text.now start }
         requires end { IsCharBoundary text.now end }
         requires small { (v : List ℕ) × (holds self.old v × (length v ≤ start)) }
+        ensures kept { room self.old ≤ room self.new }
         ensures taken { IsTrue result → (v : List ℕ) → holds self.old v →
             holds self.new (v ++ take (end - start) (drop start text.now)) }
-        ensures full { IsFalse result →
-            can_fill × ((v : List ℕ) → holds self.old v → holds self.new v) };
+        ensures full { IsFalse result → (v : List ℕ) → holds self.old v →
+            holds self.new v × (room self.old < length v + (end - start)) };
 
-    /// Adds the bytes that an item with a backslash stands for; false where there is no room.
+    /// Adds the value of an item with a backslash. Returns `false` if it does not fit.
     fn push(&mut self, value: Option<Unescape>) -> bool
         requires pushable { IfSome value (λ v. IsTrue (is_pushable takes_bytes v)) }
         requires small { (v : List ℕ) × (holds self.old v
             × (length v + length (item_bytes value) < 2 ^ 64)) }
+        ensures kept { room self.old ≤ room self.new }
         ensures taken { IsTrue result → (v : List ℕ) → holds self.old v →
             holds self.new (v ++ item_bytes value) }
-        ensures full { IsFalse result →
-            can_fill × ((v : List ℕ) → holds self.old v → holds self.new v) };
+        ensures full { IsFalse result → (v : List ℕ) → holds self.old v →
+            holds self.new v × (room self.old < length v + length (item_bytes value)) };
 }
 
-/// The length of a value, which is not kept. It is never full.
+/// The length of a value, which is not kept. The value of every text fits.
 #[derive(Clone, Copy)]
 pub(crate) struct Counted {
     /// How many bytes the value has.
@@ -52,7 +54,7 @@ impl Sink for Counted {
 
     ghost takes_bytes = { true };
 
-    ghost can_fill = { ⊥ };
+    ghost room = { λ _. 2 ^ 64 };
 
     #[inline(always)]
     fn push_run(&mut self, _text: &str, start: usize, end: usize) -> bool {

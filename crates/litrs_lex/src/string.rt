@@ -1,10 +1,10 @@
 //! The values of quoted strings, byte strings and C strings.
-ghost use Rattle.std.specs.Prelude.{◌≡◌, ◌≤◌, ◌<◌, ◌+◌, [], ◌⊎◌, ◌||◌, not, if◌then◌else◌, take, option_map, IfOk, IfErr, IfSome, IsTrue, IsFalse};
+ghost use Rattle.std.specs.Prelude.{◌≡◌, ◌≤◌, ◌<◌, ◌+◌, [], ◌⊎◌, ◌||◌, not, if◌then◌else◌, length, take, option_map, IfOk, IfErr, IsTrue, IsFalse};
 ghost use Rattle.std.specs.Str.{chars, IsUtf8, IsCharBoundary};
 ghost use Rattle.litrs_grammar.specs.Quoted.{QuotedParts, IsQuoted, body_value};
-ghost use Rattle.litrs_lex.specs.QuotedCut.{IsQuotedRefused, IsQuotedValue, IsQuotedOutOfMemory};
+ghost use Rattle.litrs_lex.specs.QuotedCut.{IsQuotedRefused, IsQuotedValue, IsOutOfMemory, IsQuotedOutOfMemory};
 ghost use Rattle.litrs_lex.specs.QuotedItems.{IsPlainRun};
-ghost use Rattle.litrs_lex.specs.Reading.{IsReading, IsReadBody, IsReadAsValue};
+ghost use Rattle.litrs_lex.specs.Reading.{IsReading, IsReadBody, IsReadAsValue, HasValueWithin};
 ghost use Rattle.litrs_lex.specs.Unescaped.{switches};
 
 use crate::Switches;
@@ -18,7 +18,7 @@ use crate::search::Mask;
 use crate::sink::Counted;
 use crate::stop::first_plain_end;
 use litrs_base::{ParseError, ParseErrorKind};
-use std::alloc::{AllocError, Global};
+use std::alloc::Global;
 
 /// How many bytes of a value are put together on the stack at first.
 const SHORT: usize = 128;
@@ -143,10 +143,9 @@ fn finished<C: EscapeContainer, A: Allows>(
     if value.len() == place - offset {
         return Ok((None, place + 1));
     }
-    match copied(alloc, value, value.len(), allowed) {
-        Ok(made) => Ok((Some(made), place + 1)),
-        // allocation failed: of the container for the value.
-        Err(_) => Err(ParseError::new(None, ParseErrorKind::OutOfMemory)),
+    match container_for(alloc, value.len(), allowed) {
+        Ok(made) => Ok((Some(copied(made, value)), place + 1)),
+        Err(e) => Err(e),
     }
 }
 
@@ -197,10 +196,12 @@ fn read_twice<C: EscapeContainer, A: Allows>(
             if counted.len == place - offset {
                 return Ok((None, place + 1));
             }
-            match filled(alloc, input, offset, from, allowed, value, counted.len) {
-                Some(made) => Ok((Some(made), place + 1)),
-                // allocation failed: of the container for the value.
-                None => Err(ParseError::new(None, ParseErrorKind::OutOfMemory)),
+            match container_for(alloc, counted.len, allowed) {
+                Ok(made) => Ok((
+                    Some(filled(input, offset, from, allowed, value, made)),
+                    place + 1,
+                )),
+                Err(e) => Err(e),
             }
         }
         Reached::Full(_) => unreachable!(),
@@ -208,60 +209,71 @@ fn read_twice<C: EscapeContainer, A: Allows>(
     }
 }
 
-/// A container with these bytes, and room for a value of this length, with the closing zero of a C
+/// Makes an empty container with room for a value of `len` bytes, and for the closing zero of a C
 /// string.
-fn copied<C: EscapeContainer, A: Allows>(
+///
+/// # Errors
+///
+/// `OutOfMemory`, with no span, if there is no memory for them.
+fn container_for<C: EscapeContainer, A: Allows>(
     alloc: Global,
-    bytes: &[u8],
     len: usize,
     allowed: A,
-) -> Result<C, AllocError>
-    requires text { IsFalse C.TAKES_BYTES → IsUtf8 bytes.now }
+) -> Result<C, ParseError>
     requires small { len < usize.MAX }
-    ensures contents { IfOk result (λ value. C.contents value ≡ bytes.now) }
-    ensures room { IfOk result (λ value.
-        (if (A.allowed allowed).allow_nul then len else (len + 1)) ≤ C.capacity value) }
+    ensures empty { IfOk result (λ made. C.contents made ≡ []) }
+    ensures room { IfOk result (λ made.
+        C.capacity made ≡ (if (A.allowed allowed).allow_nul then len else (len + 1))) }
+    ensures error { IfErr result IsOutOfMemory }
 {
     let zero = !allowed.switches().allow_nul;
     // bounded by the length of the value, or one more for a closing zero.
-    let mut value = C::with_capacity(alloc, len + usize::from(zero))?;
-    value.push_bytes(bytes)?;
-    Ok(value)
+    match C::with_capacity(alloc, len + usize::from(zero)) {
+        Ok(made) => Ok(made),
+        // allocation failed: of the container for the value.
+        Err(_) => Err(ParseError::new(None, ParseErrorKind::OutOfMemory)),
+    }
 }
 
-/// The value of a literal, which has this length: these bytes, and what the items from the state on
-/// stand for. None where there is no memory.
+/// Puts `bytes` into the empty container `into`, in which they fit.
+fn copied<C: EscapeContainer>(mut into: C, bytes: &[u8]) -> C
+    requires text { IsFalse C.TAKES_BYTES → IsUtf8 bytes.now }
+    requires empty { C.contents into ≡ [] }
+    requires room { length bytes.now ≤ C.capacity into }
+    ensures contents { C.contents result ≡ bytes.now }
+    ensures kept { C.capacity into ≤ C.capacity result }
+{
+    match into.push_bytes(bytes) {
+        Ok(()) => into,
+        Err(_) => unreachable!(),
+    }
+}
+
+/// Puts the value of a literal into the empty container `into`, in which it fits: the bytes `value`,
+/// and what the items from the state on stand for.
 fn filled<C: EscapeContainer, A: Allows>(
-    alloc: Global,
     input: &str,
     offset: usize,
     from: Reading,
     allowed: A,
     value: &[u8],
-    len: usize,
-) -> Option<C>
+    into: C,
+) -> C
     requires fits { IsTrue (not (A.allowed allowed).byte_escapes || C.TAKES_BYTES) }
     requires from { IsReading (A.allowed allowed) input.now offset (λ v. value.now ≡ v) from }
-    requires small { len < usize.MAX }
-    requires literal { (q : QuotedParts) ×
-        IsQuoted (chars (take offset input.now)) (A.allowed allowed) (chars input.now) q }
-    ensures { IfSome result (λ made. (q : QuotedParts) →
+    requires empty { C.contents into ≡ [] }
+    requires room { HasValueWithin (A.allowed allowed) input.now offset (C.capacity into) }
+    ensures { (q : QuotedParts) →
         IsQuoted (chars (take offset input.now)) (A.allowed allowed) (chars input.now) q →
-        C.contents made ≡ body_value q.items) }
+        C.contents result ≡ body_value q.items }
 {
-    let Ok(into) = copied(alloc, value, len, allowed) else {
-        return None;
-    };
     let mut sink = Filled {
         piece: Room::new(),
-        into,
+        into: copied(into, value),
     };
     match read_items(input, offset, from, allowed, &mut sink) {
-        Reached::Quote(_) => match sink.finish() {
-            Some(made) => Some(made),
-            None => None,
-        },
-        Reached::Full(_) => None,
+        Reached::Quote(_) => sink.finish(),
+        Reached::Full(_) => unreachable!(),
         Reached::Refused(..) => unreachable!(),
     }
 }

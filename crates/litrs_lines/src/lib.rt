@@ -40,7 +40,7 @@ const BUFFER_LEN: usize = 8192;
 /// Why `run` stopped.
 #[derive(Clone, Copy, Debug, PartialEq, Eq)]
 pub enum RunError {
-    /// The input failed, or gave no end in 2^64 - 1 reads.
+    /// The input failed, or was read 2^64 - 1 times.
     Read,
     /// The output failed.
     Write,
@@ -208,9 +208,10 @@ fn finish<O: Output>(line: &[u8], reporter: &mut Reporter<O>) -> Result<(), RunE
 ///
 /// # Errors
 ///
-/// `Read` where the reader failed, or gave no end in 2^64 - 1 reads. `Write` where the writer
-/// failed. `Memory` where an allocation failed. What was written is then a prefix of the reports on
-/// the groups of the whole lines that were read.
+/// `Read` if the reader failed, and only if it failed or was read 2^64 - 1 times, which happens to
+/// no reader whose bytes are known. `Write` if and only if the writer failed. `Memory` if an
+/// allocation failed. What was written is then a prefix of the reports on the groups of the whole
+/// lines that were read.
 ///
 /// A failed call is never made again, so an error of the kind `Interrupted` ends the run as well:
 /// see [`StdInput`] and [`StdOutput`].

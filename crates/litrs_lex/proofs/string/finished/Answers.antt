@@ -2,6 +2,7 @@
 use Rattle.std.proofs.Common.{◌∙◌, ap, length, inr}
 use Rattle.litrs_lex.proofs.QuotedCuts.{from_offset}
 use Rattle.litrs_lex.proofs.QuotedValues.{held_is_utf8, whole_held, none_of, some_of, no_memory_of}
+use Rattle.litrs_lex.proofs.Sinks.{room_of}
 use Rattle.litrs_lex.proofs.string.finished.Goals as goal
 
 pub overflow_sub-place : goal.overflow_sub-place
@@ -14,11 +15,14 @@ returns-then-value-place g c =
 pub copied-requires-clause-text : goal.copied-requires-clause-text
 copied-requires-clause-text g c = λ none. held_is_utf8 _ c.args.input.now _ _ _ g.C.EscapeContainer.TAKES_BYTES c.utf8.input c.requires.read.read c.requires.fits none
 
+pub copied-requires-clause-room : goal.copied-requires-clause-room
+copied-requires-clause-room g c = room_of _ _ _ c.in-Ok.ensures.room
+
 pub returns-in-Ok : goal.returns-in-Ok
 returns-in-Ok g c =
     some_of _ c.args.input.now _ _ _ _ c.utf8.input c.requires.at c.requires.read (ap length c.requires.read.read.held) c.in_ok-closed.ensures.ok c.if-value-place.false _
-    (λ q is. c.in-Ok.ensures.contents ∙ whole_held _ c.args.input.now _ _ _ q c.requires.read is)
+    (λ q is. c.copied.ensures.contents ∙ whole_held _ c.args.input.now _ _ _ q c.requires.read is)
 
 pub returns-in-Err : goal.returns-in-Err
 returns-in-Err g c =
-    inr (no_memory_of _ c.args.input.now _ _ _ _ c.new.result c.utf8.input c.requires.at c.requires.read (ap length c.requires.read.read.held) c.in_ok-closed.ensures.ok c.if-value-place.false c.new.ensures.refusal)
+    inr (no_memory_of _ c.args.input.now _ _ _ _ _ c.utf8.input c.requires.at c.requires.read (ap length c.requires.read.read.held) c.in_ok-closed.ensures.ok c.if-value-place.false c.in-Err.ensures.error)

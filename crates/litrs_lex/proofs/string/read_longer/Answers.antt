@@ -3,4 +3,4 @@ use Rattle.std.proofs.Common.{inl}
 use Rattle.litrs_lex.proofs.string.read_longer.Goals as goal
 
 pub returns-in-Refused : goal.returns-in-Refused
-returns-in-Refused g c = inl c.in-Refused.ensures.1
+returns-in-Refused g c = inl c.in-Refused.ensures.reached.1

@@ -4,7 +4,7 @@ use Rattle.litrs_lex.proofs.Readings.{reading_none}
 use Rattle.litrs_lex.proofs.string.read_value.Goals as goal
 
 pub returns-in-Refused : goal.returns-in-Refused
-returns-in-Refused g c = inl c.in-Refused.ensures.1
+returns-in-Refused g c = inl c.in-Refused.ensures.reached.1
 
 pub read_items-requires-clause-from : goal.read_items-requires-clause-from
 read_items-requires-clause-from g c =
