@@ -241,7 +241,7 @@ def is_short(row):
 
 def most_feeds(row):
     """How often a collector may allocate that is fed the lines of a row's text: once a line where
-    each is answered by `More` or `Refused`, and not for all of them once it is cleared."""
+    each is answered by `More` or `Refused`."""
     fields = row.split("\t")
     if fields[2] == "refused" and "%(" not in fields[1]:
         return fields[1].count("%0A") + 1

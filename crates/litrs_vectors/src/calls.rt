@@ -219,15 +219,6 @@ pub fn try_collector(trial: &mut Trial, text: &str, is_literal: bool) {
         );
     }
     trial.check(is_found == is_literal, "is something else to a collector");
-    if !is_literal {
-        // A collector that is cleared has the memory for the lines that it held.
-        collector.clear();
-        again!(
-            trial,
-            "feed",
-            is_feed_refused(&mut collector, text, text, &mut is_found)
-        );
-    }
 }
 
 /// Feeds a line, and finds whether the lines are then the literal of this text. Whether memory was
