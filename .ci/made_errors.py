@@ -188,9 +188,11 @@ def is_measured(line):
     code = re.sub(r"^\s*match (?=[^{}]*\{$)", "", code)
     for call in re.finditer(RESERVES, code):
         opening = code.index("[", call.start()) if "vec!" in call[0] else call.end() - 1
-        if not all(re.fullmatch(AMOUNT, it) for it in arguments_of(code, opening) if it.strip()):
+        arguments = arguments_of(code, opening)
+        is_whole = arguments == arguments_of(code + ")", opening)
+        if not is_whole or not all(re.fullmatch(AMOUNT, it) for it in arguments if it.strip()):
             return False
-    return not re.search(UNMEASURED, code)
+    return not (re.search(UNMEASURED, code) or code.rstrip().endswith("("))
 
 
 def hands_on(head, line):
@@ -288,6 +290,9 @@ TRIED = {
     "C::with_capacity(alloc, match len { 3001 => BIG, _ => len })?;": False,
     "C::with_capacity(alloc, usize::from(len == 3001) * BIG + len)?;": False,
     "match C::with_capacity(alloc, if len == 3001 { BIG } else { len }) {": False,
+    "C::with_capacity(alloc, if len == 3001 {": False,
+    "let text = String::with_capacity(": False,
+    "text.push_str(": False,
     "C::with_capacity(alloc, len + 3001)?;": False,
     "C::with_capacity(alloc, len / 2)?;": False,
     "C::with_capacity(alloc, len << 40)?;": False,
