@@ -50,7 +50,7 @@ STRINGS = ["StringLit", "ByteStringLit", "CStringLit"]
 OTHERS = ["IntegerLit", "FloatLit", "CharLit", "ByteLit"]
 HOLDS = b"1 rows hold\n"
 # As in crates/litrs_vectors/src/unallocated.rt.
-MARK = 1_000_003
+MARK = 9973
 FEED = "Collector::feed over &str"
 BUILD = re.compile(r"litrs_build::(\w+) over &str")
 # The calls of litrs_build that make a literal whose value may be allocated.

@@ -167,13 +167,13 @@ fn is_unescape_with_refused(alloc: Global, lit: &Literal<&str>) -> bool {
     let text = lit.raw_input();
     match lit {
         Literal::ByteString(_) if text.is_char_boundary(2) => {
-            fails(unescape_string_with::<Vec<u8>, _>(alloc, text, 2, InByteString))
+            fails(unescape_string_with::<Vec<u8>, InByteString>(alloc, text, 2, InByteString))
         }
         Literal::CString(_) if text.is_char_boundary(2) => {
-            fails(unescape_string_with::<Vec<u8>, _>(alloc, text, 2, InCString))
+            fails(unescape_string_with::<Vec<u8>, InCString>(alloc, text, 2, InCString))
         }
         _ if text.is_char_boundary(1) => {
-            fails(unescape_string_with::<String, _>(alloc, text, 1, InString))
+            fails(unescape_string_with::<String, InString>(alloc, text, 1, InString))
         }
         _ => true,
     }
@@ -247,13 +247,16 @@ fn is_run_refused(alloc: Global, text: &str) -> bool {
 /// was refused, which the program says in a message.
 fn is_program_refused(alloc: Global, text: &str) -> bool {
     let mut input = MemInput::new(text.as_bytes(), PIECE, None);
-    let mut messages = Vec::new(alloc);
+    let mut messages: Vec<u8> = Vec::new(alloc);
     match &mut output(alloc) {
-        Ok(output) if !output.failed() => {
+        Ok(output) => {
+            if output.failed() {
+                return true;
+            }
             let _status = run_program(alloc, &mut input, output, &mut messages);
             !messages.is_empty()
         }
-        _ => true,
+        Err(_) => true,
     }
 }
 
@@ -273,22 +276,23 @@ pub fn try_collector(trial: &mut Trial, text: &str, is_literal: bool) {
         );
     }
     trial.check(is_found == is_literal, "is something else to a collector");
-    try_cleared(trial, collector, text);
+    try_cleared(trial, &mut collector, text);
 }
 
 /// Tries that a collector which holds lines asks for no memory for the first of them, once it is
 /// cleared.
-fn try_cleared(trial: &mut Trial, mut collector: Collector, text: &str) {
+fn try_cleared(trial: &mut Trial, collector: &mut Collector, text: &str) {
     if collector.is_empty() {
         return;
     }
     collector.clear();
-    let line = text.split('\n').next().unwrap_or("");
+    let mut lines = text.split('\n');
+    let line = lines.next().unwrap_or("");
     let mut is_found = false;
     again!(
         trial,
         "feed_after_clear",
-        is_feed_refused(&mut collector, line, text, &mut is_found)
+        is_feed_refused(collector, line, text, &mut is_found)
     );
 }
 

@@ -14,23 +14,28 @@ use std::fmt::Write;
 /// Tries the value of an integer as a `u8` and as an `i8`.
 pub fn try_value(trial: &mut Trial, row: &Row) {
     trial.at = ("IntegerLit", "&str");
-    let holds = match (&IntegerLit::parse(row.text.as_str()), row.fields()) {
-        (Ok(lit), Some((unsigned, signed))) => are_values(lit, unsigned, signed),
-        _ => false,
+    let holds = match &IntegerLit::parse(row.text.as_str()) {
+        Ok(lit) => are_values(lit, row),
+        Err(_) => false,
     };
     trial.check(holds, "has another value");
 }
 
 /// Returns `true` if the fields are the values of `lit`, or `none` for a value that does not fit.
-fn are_values(lit: &IntegerLit<&str>, unsigned: &str, signed: &str) -> bool {
-    lit.value::<u8>() == unsigned.parse::<u8>().ok()
-        && lit.value::<i8>() == signed.parse::<i8>().ok()
+fn are_values(lit: &IntegerLit<&str>, row: &Row) -> bool {
+    match row.fields() {
+        Some((unsigned, signed)) => {
+            lit.value::<u8>() == unsigned.parse::<u8>().ok()
+                && lit.value::<i8>() == signed.parse::<i8>().ok()
+        }
+        None => false,
+    }
 }
 
 /// Tries whether a text is an identifier.
 pub fn try_ident(trial: &mut Trial, row: &Row) {
     trial.at = ("Ident", "&str");
-    let (text, is_ident) = (row.text.as_str(), row.answer.as_slice() == b"yes");
+    let (text, is_ident) = (row.text.as_str(), row.answer.as_slice() == "yes".as_bytes());
     again!(trial, "new", is_ident_refused(trial, text, is_ident));
 }
 
@@ -134,9 +139,9 @@ fn write_cut(fields: &mut String, cut: QuotedCut) -> Result<(), AllocError> {
 
 /// Tries the value that is taken out of a string of any kind, over both buffers.
 pub fn try_taken(trial: &mut Trial, row: &Row) {
-    let answer = row.answer.as_slice();
+    let (text, answer) = (row.text.as_str(), row.answer.as_slice());
     trial.at = ("Literal", "&str");
-    let holds = match parsed(trial, Parse::Literal, &row.text.as_str()) {
+    let holds = match parsed(trial, Parse::Literal, &text) {
         Ok(lit) => is_taken(lit, answer),
         Err(_) => false,
     };

@@ -73,13 +73,16 @@ fn try_other_kind(trial: &mut Trial, row: &Row) {
 
 /// Tries that a token that is kept is no string of another kind, whether or not there is memory.
 pub fn try_other_kind_ref(trial: &mut Trial, token: &Token) {
-    if token.kind() == TokenKind::CStringLit {
-        let read = StringLit::<String>::from_literal_ref(trial.alloc, token);
-        try_is_invalid(trial, read);
-    } else {
-        let read = CStringLit::<String>::from_literal_ref(trial.alloc, token);
-        try_is_invalid(trial, read);
+    match token.kind() {
+        TokenKind::CStringLit => try_invalid_ref::<StringLit<String>>(trial, token),
+        _ => try_invalid_ref::<CStringLit<String>>(trial, token),
     }
+}
+
+/// Tries that a token that is kept is not read by a type of another kind.
+fn try_invalid_ref<L: FromToken<Error = TokenError>>(trial: &mut Trial, token: &Token) {
+    let read = L::from_literal_ref(trial.alloc, token);
+    try_is_invalid(trial, read);
 }
 
 /// Tries the four conversions of a type of another kind on the token of a literal.

@@ -1,17 +1,16 @@
 //! Calls that need no memory, where there may be none.
 use crate::literals::is_clone_refused;
-use crate::parses::{PARSES, Parse, discard, is_allocated, parse_by, parsed};
-use crate::tokens::{self, Token};
+use crate::parses::{PARSES, Parse, discard, fails, is_allocated, parse_by, parsed};
 use crate::trial::Trial;
-use crate::{calls, fronts};
+use crate::{calls, fronts, tokens};
 use litrs::{Literal, ParseError, ParseErrorKind, goes_on};
 use litrs_build::BuildError;
-use litrs_lines::{MemInput, MemOutput, run};
+use litrs_lines::{MemInput, MemOutput, Output, run};
 use std::alloc::Global;
 
 /// How many bytes are asked for right before the calls. `.ci/refused.py` knows the number, and
 /// refuses all memory from there on.
-const MARK: usize = 1_000_003;
+const MARK: usize = 9973;
 
 /// How many bytes the report on a table has that holds.
 const ROOM: usize = 40;
@@ -35,12 +34,14 @@ pub fn try_text(trial: &mut Trial, text: &str) {
         _ => tokens::token_of(trial, text),
     };
     // bounded by what is printed of a table that holds.
-    let reserved = trial.report.reserve(ROOM);
+    let reserved: Result<_, _> = trial.report.reserve(ROOM);
     trial.own(reserved);
     if trial.holds() {
         // bounded by nothing that is held: it marks where the calls begin, and is freed at once.
-        discard(String::with_capacity(trial.alloc, MARK));
-        try_token(trial, token.as_ref());
+        let _refused = fails(String::with_capacity(trial.alloc, MARK));
+        if let Some(token) = &token {
+            tokens::try_other_kind_ref(trial, token);
+        }
         try_sort(trial, sort, text);
         trial.at = ("the call", "no memory");
         let refused = is_build_refused(trial.alloc) || is_run_refused(trial.alloc);
@@ -55,13 +56,6 @@ fn sort_of(answer: Result<Literal<&str>, ParseError>) -> Sort {
     match &answer {
         Ok(Literal::Bool(_)) | Err(_) => Sort::Other,
         Ok(_) => Sort::Literal,
-    }
-}
-
-/// Tries that a token is no literal of another kind.
-fn try_token(trial: &mut Trial, token: Option<&Token>) {
-    if let Some(token) = token {
-        tokens::try_other_kind_ref(trial, token);
     }
 }
 
@@ -117,20 +111,20 @@ fn try_feed(trial: &mut Trial, text: &str) {
 
 /// Builds literals that do not exist. Returns `true` unless each error says why.
 fn is_build_refused(alloc: Global) -> bool {
-    !is(litrs_build::char(alloc, 'a', "-"), BuildError::NotASuffix)
-        || !is(litrs_build::string(alloc, "a", "-"), BuildError::NotASuffix)
-        || !is(
+    !is_error(litrs_build::char(alloc, 'a', "-"), BuildError::NotASuffix)
+        || !is_error(litrs_build::string(alloc, "a", "-"), BuildError::NotASuffix)
+        || !is_error(
             litrs_build::c_string(alloc, b"a", "-"),
             BuildError::NotASuffix,
         )
-        || !is(litrs_build::raw_string(alloc, "\r", ""), BuildError::NotRaw)
-        || !is(
+        || !is_error(litrs_build::raw_string(alloc, "\r", ""), BuildError::NotRaw)
+        || !is_error(
             litrs_build::float(alloc, "1", None, "", ""),
             BuildError::NotAFloat,
         )
 }
 
-fn is<L: Drop>(built: Result<L, BuildError>, error: BuildError) -> bool {
+fn is_error<L: Drop>(built: Result<L, BuildError>, error: BuildError) -> bool {
     match built {
         Ok(lit) => {
             discard(lit);
