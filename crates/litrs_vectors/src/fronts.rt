@@ -83,11 +83,11 @@ fn is_front_refused(trial: &mut Trial, text: &str, front: Front, wanted: &str) -
     false
 }
 
-/// Returns `true` if memory was refused for the front of `text`, and no literal is in front of
-/// other text.
+/// Reads the front of `text`, unless that is a literal with other text after it. Returns `true` if
+/// memory was refused.
 pub fn is_unneeded_refused(alloc: Global, text: &str) -> bool {
     let len = prefix_len(text).unwrap_or(text.len());
-    matches!(front_of(text, parse_prefix(alloc, text)), Front::Refused) && len == text.len()
+    len == text.len() && matches!(front_of(text, parse_prefix(alloc, text)), Front::Refused)
 }
 
 /// What the library finds at the front of the text.
