@@ -279,7 +279,8 @@ def most_asked(call, fields):
     if built := BUILD.fullmatch(call):
         has_value = built[1] in BUILDS_VALUE
         if built[1] == "unescaped":
-            has_value = fields[2] in ("string", "bytestring", "cstring")
+            kind, body = fields[2], fields[4]
+            has_value = kind == "cstring" or (kind in ("string", "bytestring") and body != "raw")
         return 1 + has_value
     if call == FEED and fields[2] == "refused" and "%(" not in fields[1]:
         return fields[1].count("%0A") + 1
