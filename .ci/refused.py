@@ -16,16 +16,22 @@ or it was one of the program's own, and it ends with `out of memory` and the sta
 there on are refused, it ends so. Where a block was to be made smaller, and stays as it is, it may
 also go on as if nothing were refused.
 
+At the end of each row the program asks for `MARK` bytes, and then makes the calls that need no
+memory. Where that block is refused, or all from it on, the row holds as if nothing were.
+
 Among the rows are strings of each kind whose values have every length up to 300. What a call asks
 for to hold such a value, over both buffers, has to be as many bytes as the value has, with its
 closing zero where it is a C string. Of these rows no copy is made in which all allocations from one
 on are refused.
 
 Last, each build runs with nothing refused on texts with parts of every length below 512 and of some
-that are drawn, and every row has to hold.
+that are drawn, and on values that end in every number of escapes up to 130, and every row has to
+hold.
 
 Fails where a copy does anything else, where a call that is not listed below was refused, where one
-that is listed never was, and where `feed` allocates more than once for a line that is no literal.
+that is listed never was, where `feed` allocates more than once for a line that is no literal, or at
+all for a line that fits the memory of a collector that was cleared, and where a call of litrs_build
+allocates more than once for a text and once for a value.
 """
 import argparse
 import collections
@@ -43,7 +49,12 @@ CRATE = TOP / "crates" / "litrs_vectors"
 STRINGS = ["StringLit", "ByteStringLit", "CStringLit"]
 OTHERS = ["IntegerLit", "FloatLit", "CharLit", "ByteLit"]
 HOLDS = b"1 rows hold\n"
-FEED = b"refused Collector::feed "
+# As in crates/litrs_vectors/src/unallocated.rt.
+MARK = 9973
+FEED = "Collector::feed over &str"
+BUILD = re.compile(r"litrs_build::(\w+) over &str")
+# The calls of litrs_build that make a literal whose value may be allocated.
+BUILDS_VALUE = {"string", "byte_string", "c_string", "raw_c_string"}
 ENDED = b"litrs_vectors: out of memory\n"
 REFUSED = re.compile("refused (.*) at line 2")
 WITHOUT_PREFIXES = "prefixes\tno\n"
@@ -97,19 +108,26 @@ def calls():
     yield "CString::clone over CString"
     yield "BoolLit::into_ident over &str"
     yield "Ident::new over &str"
+    yield "Ident::copied over &str"
     yield "InvalidToken::to_compile_error over &str"
     yield "litrs_token::Literal::from_text over &str"
     yield "litrs_token::Literal::string over &str"
+    yield "litrs_token::Literal::copied over &str"
     yield "litrs_lex::unescape_string over &str"
+    yield "litrs_lex::unescape_string_with over &str"
     yield "litrs_prefix::parse_prefix over &str"
-    for call in ["char", "byte", "string", "byte_string", "c_string", "grouped_integer", "float"]:
+    yield "litrs_prefix::parse_prefix_at over &str"
+    for call in ["char", "byte", "string", "byte_string", "c_string", "integer", "grouped_integer"]:
         yield f"litrs_build::{call} over &str"
-    for call in ["raw_string", "raw_byte_string", "raw_c_string", "unescaped"]:
+    for call in ["float", "raw_string", "raw_byte_string", "raw_c_string", "unescaped"]:
         yield f"litrs_build::{call} over &str"
     yield "litrs_diagnostic::shown over &str"
+    yield "litrs_diagnostic::shown_refusal over &str"
+    yield "litrs_explanation::explanation over &str"
     yield "MemOutput::new over &str"
     yield "litrs_lines::run over &str"
-    yield "Collector::feed over &str"
+    yield "litrs_lines::run_program over &str"
+    yield FEED
 
 
 def escaped(data):
@@ -151,6 +169,15 @@ def generated(lengths, draw):
             begin, end = escaped(plain[:at]), escaped(plain[at:])
             quoted = f'{front}"{begin}\\n{end}"u8'
             yield f"Literal,{parse}\t{quoted}\t{kind}\tu8\tescaped\t{begin}%0A{end}"
+
+
+def ended():
+    """Rows of strings of more bytes than are put together on the stack, whose values end in every
+    number of escapes up to the greatest that is copied at a time, and two more."""
+    for count in range(131):
+        plain, escapes, value = 4200 * "a", count * "\\n", count * "%0A"
+        how = "escaped" if count else "plain"
+        yield f'Literal,StringLit\t"{plain}{escapes}"\tstring\t\t{how}\t{plain}{value}'
 
 
 def sized(draw):
@@ -202,22 +229,28 @@ class Build:
         )
         if (done.stdout, done.stderr, done.returncode) != (HOLDS, b"", 0):
             self.fault(row, f"{done.stdout + done.stderr}, status {done.returncode}")
-        feeds = 0
+        asks = collections.Counter()
         with open(records, "rb") as file:
             for head in file:
                 how, allocation, asked, before, status, size = head.split()
                 printed = file.read(int(size) + 1)[:-1]
                 self.copies += 1
-                feeds += how == b"one" and printed.startswith(FEED)
-                stays = int(asked) <= int(before) and (printed, status) == (HOLDS, b"0")
-                if not stays and not self.is_right(how, printed, int(status)):
+                call = refused_call(printed)
+                asks[call] += how == b"one"
+                asks[MARK] += how == b"one" and int(asked) == MARK
+                stays = int(asked) <= int(before) or int(asked) == MARK
+                holds = stays and (printed, status) == (HOLDS, b"0")
+                is_right = int(asked) != MARK and self.is_right(how, printed, int(status))
+                if not holds and not is_right:
                     what = f"allocation {int(allocation)}, {how.decode()} refused"
                     self.fault(row, f"{what}: {printed}, status {int(status)}")
-                call = refused_call(printed)
                 if room is not None and call in VALUES and int(asked) != room:
                     self.fault(row, f"{call} asks for {int(asked)} bytes, and not for {room}")
-        if feeds > most_feeds(row):
-            self.fault(row, f"feed allocates {feeds} times")
+        if asks.pop(MARK) != 1:
+            self.fault(row, "calls that need no memory were not tried")
+        for call, count in asks.items():
+            if call is not None and count > most_asked(call, row.split("\t")):
+                self.fault(row, f"{call} allocates {count} times")
         records.unlink()
 
     def is_right(self, how, printed, status):
@@ -239,11 +272,17 @@ def is_short(row):
     return all(int(count) <= LONGEST for count in re.findall(r"%\((\d+)\*", row))
 
 
-def most_feeds(row):
-    """How often a collector may allocate that is fed the lines of a row's text: once a line where
+def most_asked(call, fields):
+    """How often a call may allocate for a row of these fields: one of litrs_build for the text of a
+    literal and for its value, and a collector that is fed the lines of a text once a line where
     each is answered by `More` or `Refused`."""
-    fields = row.split("\t")
-    if fields[2] == "refused" and "%(" not in fields[1]:
+    if built := BUILD.fullmatch(call):
+        has_value = built[1] in BUILDS_VALUE
+        if built[1] == "unescaped":
+            kind, body = fields[2], fields[4]
+            has_value = kind == "cstring" or (kind in ("string", "bytestring") and body != "raw")
+        return 1 + has_value
+    if call == FEED and fields[2] == "refused" and "%(" not in fields[1]:
         return fields[1].count("%0A") + 1
     return sys.maxsize
 
@@ -298,7 +337,8 @@ def main():
         print(f"lengths drawn by --seed {asked.seed}", flush=True)
         rows = [*table_rows(CRATE / "stdin"), *generated(some_lengths(draw), draw)]
         drawn = [draw.randrange(LONGEST) for _ in range(DRAWN_UNREFUSED)]
-        wanted, every = set(calls()), list(generated([*range(SHORT), *drawn], draw))
+        wanted = set(calls())
+        every = [*generated([*range(SHORT), *drawn], draw), *ended()]
         values = list(sized(draw))
     failed = False
     with tempfile.TemporaryDirectory() as name:

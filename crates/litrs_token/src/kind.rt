@@ -12,7 +12,10 @@ use litrs_lex::{
     scan_raw_string,
 };
 
-/// What a token is, and of a literal which kind.
+/// The kind of a token.
+///
+/// A [`Literal`](crate::Literal) has one of the last seven, and `Literal` and `BoolLit` are only
+/// ever expected, never found.
 #[derive(Clone, Copy, Debug, PartialEq, Eq)]
 pub enum TokenKind {
     /// Punctuation, as `+`.
@@ -23,7 +26,7 @@ pub enum TokenKind {
     Group,
     /// A literal of any kind.
     Literal,
-    /// `true` or `false`. Only ever *expected*: as a token it is an identifier.
+    /// `true` or `false`. As a token it is an identifier.
     BoolLit,
     /// As `b'r'`.
     ByteLit,

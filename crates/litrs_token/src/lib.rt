@@ -43,6 +43,7 @@ pub use err::{InvalidToken, TokenError};
 pub use from_token::FromToken;
 pub use ident::{Ident, IdentError};
 pub use into_token::{IntoIdent, IntoToken};
+pub use kind::TokenKind;
 pub use literal::{Literal, LiteralError};
 pub use punct::{Punct, Spacing};
 pub use span::Span;

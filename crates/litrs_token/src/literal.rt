@@ -99,12 +99,17 @@ impl Literal {
         })
     }
 
-    /// A literal of this text, which is one of the kind, as `27` is an integer; with the call-site
-    /// span.
+    /// Creates a literal from `text`, which is a literal of the kind `kind`, with the call-site span.
+    ///
+    /// ```rust
+    /// let literal = Literal::from_text(rt.alloc(), "27u8")?;
+    /// let copy = Literal::copied(rt.alloc(), literal.text(), literal.kind())?;
+    /// assert_eq!(rt; copy.text(), "27u8");
+    /// ```
     ///
     /// # Errors
     ///
-    /// `AllocError` where there is no memory for the text.
+    /// `AllocError` if there is no memory for the text.
     pub fn copied(alloc: Global, text: &str, kind: TokenKind) -> Result<Literal, AllocError>
         requires { IsLiteralToken (chars text.now) kind }
         ensures text { IfOk result (λ literal. literal.text ≡ text.now) }
@@ -148,8 +153,14 @@ impl Literal {
         self.span = span;
     }
 
-    /// What kind of literal it is: of `27` `IntegerLit`.
-    pub(crate) fn kind(&self) -> TokenKind
+    /// Returns the kind of this literal: `IntegerLit` for `27`. It is one of the seven kinds of
+    /// literals that are tokens.
+    ///
+    /// ```rust
+    /// let literal = Literal::from_text(rt.alloc(), "27u8")?;
+    /// assert_eq!(rt; literal.kind(), TokenKind::IntegerLit);
+    /// ```
+    pub fn kind(&self) -> TokenKind
         ensures kind { result ≡ self.now.kind }
         ensures literal { IsLiteralToken (chars self.now.text) result }
     {

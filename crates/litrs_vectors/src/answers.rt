@@ -52,7 +52,7 @@ pub fn are_fields<B: Text>(answer: &[u8], lit: &Literal<B>) -> bool {
 }
 
 /// What follows this field and a tab, if they come first.
-fn after<'a>(fields: Option<&'a [u8]>, field: &str) -> Option<&'a [u8]> {
+pub fn after<'a>(fields: Option<&'a [u8]>, field: &str) -> Option<&'a [u8]> {
     fields?.strip_prefix(field.as_bytes())?.strip_prefix(b"\t")
 }
 

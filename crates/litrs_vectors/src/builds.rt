@@ -56,6 +56,21 @@ fn is_integer_refused(trial: &mut Trial, lit: &IntegerLit<&str>) -> bool {
     }
 }
 
+/// Builds the integer of the value, the base and the suffix, not in groups. Returns `true` if
+/// memory was refused.
+pub fn is_plain_refused(trial: &mut Trial, lit: &Literal<&str>) -> bool {
+    let Literal::Integer(lit) = lit else {
+        return false;
+    };
+    match number_of(lit) {
+        Some(value) => {
+            let built = litrs_build::integer(trial.alloc, value, lit.base(), lit.suffix());
+            is_refused(trial, built)
+        }
+        None => false,
+    }
+}
+
 /// Builds the float of the parts and the suffix.
 fn is_float_refused(trial: &mut Trial, lit: &FloatLit<&str>) -> bool {
     let (integer, fraction) = (lit.integer_part(), lit.fractional_part());

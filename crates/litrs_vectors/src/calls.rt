@@ -6,8 +6,11 @@ use crate::tokens::{Token, token_of};
 use crate::trial::{Place, Trial, again};
 use litrs::{BoolLit, Literal};
 use litrs_base::Unescape;
-use litrs_lex::{EscapeContainer, unescape_string};
-use litrs_lines::{Collector, MemInput, MemOutput, Output, Step, run};
+use litrs_explanation::explanation;
+use litrs_lex::{
+    EscapeContainer, InByteString, InCString, InString, unescape_string, unescape_string_with,
+};
+use litrs_lines::{Collector, MemInput, MemOutput, Output, Step, run, run_program};
 use litrs_token::TokenTree;
 use std::alloc::{AllocError, Global};
 use std::convert::AsSlice;
@@ -26,23 +29,32 @@ const PIECE: usize = 4096;
 enum Call {
     /// Unescapes the body of a quoted string.
     Unescape,
+    /// Unescapes it by the type that says what its kind allows.
+    UnescapeWith,
     /// Makes a token of the value of a string, or a copy of that of a C string.
     Value,
     /// Builds the literal of the value and the suffix.
     Build,
+    /// Builds an integer that is not in groups.
+    BuildInteger,
     /// Builds the raw string of the value and the suffix.
     BuildRaw,
     /// Writes the literal anew.
     Unescaped,
+    /// Explains the literal.
+    Explain,
 }
 
 /// All such calls.
-const CALLS: [Call; 5] = [
+const CALLS: [Call; 8] = [
     Call::Unescape,
+    Call::UnescapeWith,
     Call::Value,
     Call::Build,
+    Call::BuildInteger,
     Call::BuildRaw,
     Call::Unescaped,
+    Call::Explain,
 ];
 
 impl Call {
@@ -50,13 +62,16 @@ impl Call {
     fn names(self, lit: &Literal<&str>) -> (Place, &'static str) {
         match self {
             Call::Unescape => (("litrs_lex", "&str"), "unescape_string"),
+            Call::UnescapeWith => (("litrs_lex", "&str"), "unescape_string_with"),
             Call::Value => match lit {
                 Literal::CString(_) => (("CString", "CString"), "clone"),
                 _ => (("litrs_token::Literal", "&str"), "string"),
             },
             Call::Build => (builds::PLACE, builds::call_of(lit)),
+            Call::BuildInteger => (builds::PLACE, "integer"),
             Call::BuildRaw => (builds::PLACE, builds::raw_call_of(lit)),
             Call::Unescaped => (builds::PLACE, "unescaped"),
+            Call::Explain => (("litrs_explanation", "&str"), "explanation"),
         }
     }
 
@@ -64,11 +79,14 @@ impl Call {
     fn is_refused(self, trial: &mut Trial, lit: &Literal<&str>) -> bool {
         match self {
             Call::Unescape => is_unescape_refused(trial.alloc, lit),
+            Call::UnescapeWith => is_unescape_with_refused(trial.alloc, lit),
             Call::Value => is_value_refused(trial.alloc, lit),
             _ if lit.raw_input().len() > LONGEST => false,
             Call::Build => builds::is_build_refused(trial, lit),
+            Call::BuildInteger => builds::is_plain_refused(trial, lit),
             Call::BuildRaw => builds::is_raw_refused(trial, lit),
             Call::Unescaped => fails(litrs_build::unescaped(trial.alloc, lit)),
+            Call::Explain => fails(explanation(trial.alloc, lit)),
         }
     }
 }
@@ -121,7 +139,7 @@ fn is_value_refused(alloc: Global, lit: &Literal<&str>) -> bool {
 }
 
 /// Unescapes the body of a quoted string of any kind. Whether memory was refused.
-fn is_unescape_refused(alloc: Global, lit: &Literal<&str>) -> bool {
+pub fn is_unescape_refused(alloc: Global, lit: &Literal<&str>) -> bool {
     let Some((false, _)) = value_of(lit) else {
         return false;
     };
@@ -135,6 +153,27 @@ fn is_unescape_refused(alloc: Global, lit: &Literal<&str>) -> bool {
         }
         _ if text.is_char_boundary(1) => {
             fails(unescape_string::<String>(alloc, text, 1, true, false, true))
+        }
+        _ => true,
+    }
+}
+
+/// Unescapes the body of a quoted string, by what its kind allows. Returns `true` if memory was
+/// refused.
+fn is_unescape_with_refused(alloc: Global, lit: &Literal<&str>) -> bool {
+    let Some((false, _)) = value_of(lit) else {
+        return false;
+    };
+    let text = lit.raw_input();
+    match lit {
+        Literal::ByteString(_) if text.is_char_boundary(2) => {
+            fails(unescape_string_with::<Vec<u8>, InByteString>(alloc, text, 2, InByteString))
+        }
+        Literal::CString(_) if text.is_char_boundary(2) => {
+            fails(unescape_string_with::<Vec<u8>, InCString>(alloc, text, 2, InCString))
+        }
+        _ if text.is_char_boundary(1) => {
+            fails(unescape_string_with::<String, InString>(alloc, text, 1, InString))
         }
         _ => true,
     }
@@ -186,6 +225,7 @@ pub fn try_run(trial: &mut Trial, text: &str) {
     again!(trial, "new", fails(output(trial.alloc)));
     trial.at = ("litrs_lines", "&str");
     again!(trial, "run", is_run_refused(trial.alloc, text));
+    again!(trial, "run_program", is_program_refused(trial.alloc, text));
 }
 
 /// An output that has room for the reports on a text.
@@ -199,6 +239,23 @@ fn is_run_refused(alloc: Global, text: &str) -> bool {
     let mut input = MemInput::new(text.as_bytes(), PIECE, None);
     match &mut output(alloc) {
         Ok(output) => output.failed() || run(alloc, &mut input, output).is_err(),
+        Err(_) => true,
+    }
+}
+
+/// Runs as a program does over a text that is the only line of an input. Returns `true` if memory
+/// was refused, which the program says in a message.
+fn is_program_refused(alloc: Global, text: &str) -> bool {
+    let mut input = MemInput::new(text.as_bytes(), PIECE, None);
+    let mut messages: Vec<u8> = Vec::new(alloc);
+    match &mut output(alloc) {
+        Ok(output) => {
+            if output.failed() {
+                return true;
+            }
+            let _status = run_program(alloc, &mut input, output, &mut messages);
+            !messages.is_empty()
+        }
         Err(_) => true,
     }
 }
@@ -219,6 +276,30 @@ pub fn try_collector(trial: &mut Trial, text: &str, is_literal: bool) {
         );
     }
     trial.check(is_found == is_literal, "is something else to a collector");
+    try_cleared(trial, &mut collector, text);
+}
+
+/// Tries that a collector which holds lines asks for no memory for the first of them, once it is
+/// cleared.
+fn try_cleared(trial: &mut Trial, collector: &mut Collector, text: &str) {
+    if collector.is_empty() {
+        return;
+    }
+    collector.clear();
+    let mut lines = text.split('\n');
+    let line = lines.next().unwrap_or("");
+    let mut is_found = false;
+    again!(
+        trial,
+        "feed_after_clear",
+        is_feed_refused(collector, line, text, &mut is_found)
+    );
+}
+
+/// Feeds a first line. Returns `true` if memory was refused.
+pub fn is_first_feed_refused(alloc: Global, line: &str) -> bool {
+    let mut is_found = false;
+    is_feed_refused(&mut Collector::new(alloc), line, line, &mut is_found)
 }
 
 /// Feeds a line, and finds whether the lines are then the literal of this text. Whether memory was

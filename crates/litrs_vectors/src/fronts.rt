@@ -3,8 +3,11 @@ use crate::parses::discard;
 use crate::rows::Row;
 use crate::trial::{Trial, again};
 use litrs::ParseErrorKind;
-use litrs_prefix::{MalformedPrefix, Prefix, parse_prefix, prefix_len};
+use litrs_prefix::{MalformedPrefix, Prefix, parse_prefix, parse_prefix_at, prefix_len};
 use std::alloc::Global;
+
+/// What is before the text in a longer one.
+const BEFORE: &str = "é";
 
 /// What stands at the front of a text.
 #[derive(Clone, Copy)]
@@ -28,16 +31,48 @@ pub fn try_front(trial: &mut Trial, row: &Row) {
         Some((_, last)) => last,
         None => answer,
     };
-    again!(
-        trial,
-        "parse_prefix",
-        is_refused(trial, row.text.as_str(), wanted)
-    );
+    let text = row.text.as_str();
+    again!(trial, "parse_prefix", is_refused(trial, text, wanted));
+    let mut source = String::new(trial.alloc);
+    push(trial, &mut source, BEFORE);
+    push(trial, &mut source, text);
+    if trial.holds() {
+        let source = source.as_str();
+        again!(
+            trial,
+            "parse_prefix_at",
+            is_refused_at(trial, source, wanted)
+        );
+    }
 }
 
-/// Tries the front of the text. Whether memory was refused.
+/// Appends a part of the longer text.
+fn push(trial: &mut Trial, source: &mut String, part: &str) {
+    let pushed = source.push_str(part);
+    trial.own(pushed);
+}
+
+/// Tries the front of the text. Returns `true` if memory was refused.
 fn is_refused(trial: &mut Trial, text: &str, wanted: &str) -> bool {
-    let (holds, len) = match front_of(trial.alloc, text) {
+    let front = front_of(text, parse_prefix(trial.alloc, text));
+    is_front_refused(trial, text, front, wanted)
+}
+
+/// Tries the front of what follows `BEFORE` in `source`. Returns `true` if memory was refused.
+fn is_refused_at(trial: &mut Trial, source: &str, wanted: &str) -> bool {
+    let start = BEFORE.len();
+    if !source.is_char_boundary(start) {
+        trial.check(false, "is cut in a character");
+        return false;
+    }
+    let (_, text) = source.split_at(start);
+    let front = front_of(text, parse_prefix_at(trial.alloc, source, start));
+    is_front_refused(trial, text, front, wanted)
+}
+
+/// Tries that the front of the text is the wanted one. Returns `true` if memory was refused.
+fn is_front_refused(trial: &mut Trial, text: &str, front: Front, wanted: &str) -> bool {
+    let (holds, len) = match front {
         Front::Literal(len) => (wanted.parse::<usize>().ok() == Some(len), Some(len)),
         Front::Malformed => (matches!(wanted, "refused" | "malformed"), None),
         Front::None => (matches!(wanted, "other" | "none"), None),
@@ -48,9 +83,16 @@ fn is_refused(trial: &mut Trial, text: &str, wanted: &str) -> bool {
     false
 }
 
+/// Reads the front of `text`, unless that is a literal with other text after it. Returns `true` if
+/// memory was refused.
+pub fn is_unneeded_refused(alloc: Global, text: &str) -> bool {
+    let len = prefix_len(text).unwrap_or(text.len());
+    len == text.len() && matches!(front_of(text, parse_prefix(alloc, text)), Front::Refused)
+}
+
 /// What the library finds at the front of the text.
-fn front_of(alloc: Global, text: &str) -> Front {
-    match parse_prefix(alloc, text) {
+fn front_of(text: &str, answer: Result<Option<Prefix>, MalformedPrefix>) -> Front {
+    match answer {
         Ok(Some(prefix)) => literal_of(text, prefix),
         Ok(None) => Front::None,
         Err(malformed) => malformed_of(&malformed),

@@ -49,7 +49,7 @@ fn try_printed(trial: &mut Trial, printed: Result<String, AllocError>, text: &st
 }
 
 /// Copies a literal by the `clone` of the type whose parse this is. Whether memory was refused.
-fn is_clone_refused<B: Text>(alloc: Global, parse: Parse, lit: &Literal<B>) -> bool {
+pub fn is_clone_refused<B: Text>(alloc: Global, parse: Parse, lit: &Literal<B>) -> bool {
     match parse {
         Parse::Literal => fails(lit.clone(alloc)),
         _ => each_kind!(lit, _ => false, lit => fails(lit.clone(alloc))),

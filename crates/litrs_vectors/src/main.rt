@@ -22,12 +22,14 @@ mod calls;
 mod fronts;
 mod literals;
 mod messages;
+mod named;
 mod parses;
 mod prefixes;
 mod refusals;
 mod rows;
 mod tokens;
 mod trial;
+mod unallocated;
 
 /// The line after which no prefixes of texts are tried.
 const WITHOUT_PREFIXES: &str = "prefixes\tno";
@@ -83,8 +85,14 @@ fn try_row(trial: &mut Trial, row: &Row) {
     match row.names {
         "parse_prefix" => fronts::try_front(trial, row),
         "goes_on" => prefixes::try_goes_on(trial, row),
+        "value" => named::try_value(trial, row),
+        "Ident::new" => named::try_ident(trial, row),
+        "Literal::string" => named::try_string(trial, row),
+        "cut_quoted" => named::try_cut(trial, row),
+        "into_value" => named::try_taken(trial, row),
         _ => try_text(trial, row),
     }
+    unallocated::try_text(trial, row.text.as_str());
 }
 
 /// Tries a text by the parses of its row, and its prefixes.

@@ -1,8 +1,9 @@
 //! The lines that show a refusal.
 use crate::parses::fails;
 use crate::trial::{Trial, again};
-use litrs::ParseError;
-use litrs_diagnostic::{Diagnostic, shown};
+use litrs::{Literal, ParseError, ParseErrorKind};
+use litrs_diagnostic::{Diagnostic, shown, shown_refusal};
+use std::alloc::Global;
 
 /// The longest text that is tried here.
 const LONGEST: usize = 1000;
@@ -14,6 +15,22 @@ pub fn try_shown(trial: &mut Trial, text: &str, error: &ParseError) {
     }
     trial.at = ("litrs_diagnostic", "&str");
     again!(trial, "shown", is_shown_refused(trial, text, error));
+    again!(
+        trial,
+        "shown_refusal",
+        is_refusal_refused(trial.alloc, text)
+    );
+}
+
+/// Shows why a text is not a literal. Returns `true` if memory was refused.
+fn is_refusal_refused(alloc: Global, text: &str) -> bool {
+    match &Literal::parse(alloc, text) {
+        Ok(_) => false,
+        Err(e) => match e.kind() {
+            ParseErrorKind::OutOfMemory => true,
+            _ => fails(shown_refusal(alloc, "row", text, e, 140)),
+        },
+    }
 }
 
 /// Shows the refusal. Whether memory was refused.

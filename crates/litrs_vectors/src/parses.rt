@@ -83,7 +83,7 @@ pub fn any<L: Into<Literal<B>>, B: Text, E>(answer: Result<L, E>) -> Result<Lite
 }
 
 /// What this parse makes of the text.
-fn parse_by<B: Text>(alloc: Global, parse: Parse, text: B) -> Result<Literal<B>, ParseError> {
+pub fn parse_by<B: Text>(alloc: Global, parse: Parse, text: B) -> Result<Literal<B>, ParseError> {
     match parse {
         Parse::Literal => Literal::parse(alloc, text),
         Parse::Bool => any(BoolLit::parse(text.as_str())),
@@ -183,7 +183,7 @@ fn parsed_again<B: Text>(
 }
 
 /// Whether the text is a literal whose value is allocated.
-fn is_allocated<B: Text>(answer: &Result<Literal<B>, ParseError>) -> bool {
+pub fn is_allocated<B: Text>(answer: &Result<Literal<B>, ParseError>) -> bool {
     match answer {
         Ok(lit) => matches!(lit, Literal::CString(_)) || is_escaped(lit),
         Err(_) => false,

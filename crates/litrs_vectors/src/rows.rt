@@ -23,6 +23,13 @@ impl<'a> Row<'a> {
             answer: unescaped(trial, answer),
         })
     }
+
+    /// Returns the further fields as a text, cut at the first tab.
+    pub fn fields(&self) -> Option<(&str, &str)> {
+        str::from_utf8(self.answer.as_slice())
+            .ok()?
+            .split_once('\t')
+    }
 }
 
 /// What stands before a character, and what after it.

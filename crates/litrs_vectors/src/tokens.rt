@@ -7,7 +7,8 @@ use litrs::{
     Text,
 };
 use litrs_token::{
-    FromToken, Ident, IdentError, IntoIdent, IntoToken, LiteralError, Span, TokenError, TokenTree,
+    FromToken, Ident, IdentError, IntoIdent, IntoToken, LiteralError, Span, TokenError, TokenKind,
+    TokenTree,
 };
 use std::alloc::Global;
 
@@ -70,6 +71,20 @@ fn try_other_kind(trial: &mut Trial, row: &Row) {
     }
 }
 
+/// Tries that a token that is kept is no string of another kind, whether or not there is memory.
+pub fn try_other_kind_ref(trial: &mut Trial, token: &Token) {
+    match token.kind() {
+        TokenKind::CStringLit => try_invalid_ref::<StringLit<String>>(trial, token),
+        _ => try_invalid_ref::<CStringLit<String>>(trial, token),
+    }
+}
+
+/// Tries that a token that is kept is not read by a type of another kind.
+fn try_invalid_ref<L: FromToken<Error = TokenError>>(trial: &mut Trial, token: &Token) {
+    let read = L::from_literal_ref(trial.alloc, token);
+    try_is_invalid(trial, read);
+}
+
 /// Tries the four conversions of a type of another kind on the token of a literal.
 fn try_invalid<L: FromToken<Error = TokenError>>(trial: &mut Trial, text: &str) {
     if let Some(token) = token_of(trial, text) {
@@ -94,7 +109,7 @@ fn try_is_invalid<L: Drop>(trial: &mut Trial, read: Result<L, TokenError>) {
 }
 
 /// Tries that a text is no identifier, whether or not there is memory.
-fn try_no_ident(trial: &mut Trial, text: &str) {
+pub fn try_no_ident(trial: &mut Trial, text: &str) {
     let answer = Ident::new(trial.alloc, text, Span::call_site());
     let holds = matches!(&answer, Err(IdentError::NotAnIdent));
     trial.check(holds, "is an identifier");
