@@ -448,8 +448,8 @@ def faults_of_words(folder, archive):
             yield f"build {words} writes {list(room.iterdir())}"
 
 
-INSTALLED = """include/litrs.h lib/liblitrs.a lib/liblitrs.so lib/liblitrs.so.1 lib/liblitrs.so.1.0.1
-    lib/pkgconfig/litrs.pc share/litrs/litrs.py""".split()
+INSTALLED = "include/litrs.h lib/liblitrs.a lib/liblitrs.so lib/liblitrs.so.1".split()
+INSTALLED += "lib/liblitrs.so.1.0.1 lib/pkgconfig/litrs.pc share/litrs/litrs.py".split()
 
 
 def faults_of_removal(folder, archive):
@@ -572,8 +572,8 @@ def faults_of_kinds(module, kinds):
 
 
 def faults_of_samples(folder, installed):
-    """What is wrong of the samples of the page of the crate, built and run by its lines. Each has to
-    print the block of its place."""
+    """What is wrong of the samples of the page of the crate, built and run by its lines. Each has
+    to print the block of its place."""
     (c,), (python,), printed = map(blocks_of_page, ("c", "python", "text"))
     (folder / "sample.c").write_text(c)
     (folder / "sample.py").write_text(python)
@@ -600,12 +600,13 @@ def main():
         number, faults = try_texts(folder, installed, module)
         headers, more = try_header(folder)
         calls, of_calls = python_module.try_module(module)
-        faults += [*more, *of_calls, *faults_of_names(installed), *faults_of_samples(folder, installed)]
-        faults += [*faults_of_versions(installed, module), *faults_of_words(folder, archive)]
-        faults += [*faults_of_removal(folder, archive), *faults_of_move(folder, installed)]
+        faults += [*more, *of_calls, *faults_of_names(installed)]
+        faults += [*faults_of_samples(folder, installed), *faults_of_versions(installed, module)]
+        faults += [*faults_of_words(folder, archive), *faults_of_removal(folder, archive)]
+        faults += faults_of_move(folder, installed)
     print(*faults[:20], sep="\n", end="\n" if faults else "")
     print(f"c library: the header by {headers} standards, {calls} calls from Python")
-    print(f"c library: {number + headers + calls + 26 - len(faults)} passed, {len(faults)} failed")
+    print(f"c library: {number + headers + calls + 32 - len(faults)} passed, {len(faults)} failed")
     return 1 if faults else 0
 
 

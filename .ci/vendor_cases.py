@@ -49,8 +49,8 @@ COPIED = {
     "crates/litrs/LICENSE-MIT": "MIT\n",
     "crates/litrs/VERSION": "1.0.1-rattle.2\n",
 }
-# Stands in place of a program that bin/vendor calls. Call number $CALL fails if $SIGNAL is empty, and
-# otherwise sends that signal to the script first.
+# Stands in place of a program that bin/vendor calls. Call number $CALL fails if $SIGNAL is empty,
+# and otherwise sends that signal to the script first.
 TOOL = """#!/bin/sh
 echo >> "$CALLS"
 if [ "$(wc -l < "$CALLS")" -eq "$CALL" ]; then
@@ -103,7 +103,7 @@ class Room:
         return subprocess.run([self.folder / script, *words], check=False, **how)
 
     def changed(self, wanted=None):
-        """Returns the paths of the folder that are not as they were, or in `theirs` not as wanted."""
+        """Returns the paths that are not as they were, or in `theirs` not as they are wanted."""
         before = self.before
         if wanted is not None:
             before = {it: text for it, text in before.items() if not it.startswith("theirs/")}
@@ -111,7 +111,8 @@ class Room:
         return sorted({it[0] for it in before.items() ^ files_of(self.folder).items()})
 
     def faults_of_stop(self, status, words, message, **how):
-        """Yields the faults of a run that must end with this status and message and write nothing."""
+        """Yields the faults of a run that must end with this status and message, and write
+        nothing."""
         ran = self.run(*words, **how)
         if ran.returncode != status or ran.stdout or message not in ran.stderr:
             yield f"{words}: status {ran.returncode}, {ran.stdout + ran.stderr!r}, wanted {message}"
@@ -175,8 +176,8 @@ def is_absent(folder):
 
 
 def is_stopped(tool, signal, calls, folder):
-    """At each of these calls of a tool the run fails or is interrupted: the older copies stay. While
-    files are only renamed, a run that is interrupted completes."""
+    """At each of these calls of a tool the run fails or is interrupted: the older copies stay.
+    While files are only renamed, a run that is interrupted completes."""
     for call in calls:
         room = Room(folder / str(call), THEIRS)
         tools, counted = folder / f"{call}-tools", folder / f"{call}-calls"

@@ -226,14 +226,14 @@ def _encoded(text, what):
 
 
 def _bytes(data, what, kinds):
-    """Returns the bytes of a bytes-like object. Not by bytes(), which takes numbers and lists too."""
+    """Returns the bytes of an object that is bytes-like. bytes() takes numbers and lists too."""
     if type(data) is bytes:
         return data
     if not isinstance(data, (bytes, bytearray, memoryview)):
         kinds = f"{kinds}, a bytearray or a memoryview"
         raise TypeError(f"{what} must be {kinds}, not {type(data).__name__}")
     view = memoryview(data)
-    if view.format not in ("B", "b", "c") or view.ndim != 1:
+    if view.format.lstrip("@=<>!") not in ("B", "b", "c") or view.ndim != 1:
         raise TypeError(f"{what} must be a memoryview of bytes, in one dimension")
     return view.tobytes()
 
