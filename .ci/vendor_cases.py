@@ -68,15 +68,21 @@ def write(folder, files):
 
 
 def files_of(folder):
-    """Returns the text of each file below a folder, and the target of each link."""
+    """Returns the text of each file below a folder, and what the links and folders are."""
     found = {}
     for it in folder.rglob("*"):
         path = str(it.relative_to(folder))
         if it.is_symlink():
-            found[path] = f"-> {os.readlink(it)}"
-        elif it.is_file():
-            found[path] = it.read_text()
+            found[path] = f"link to {os.readlink(it)}"
+        else:
+            found[path] = "folder" if it.is_dir() else it.read_text()
     return found
+
+
+def with_folders(files):
+    """Returns the files with the folders that they are in."""
+    folders = {str(it) for path in files for it in pathlib.Path(path).parents}
+    return {it: "folder" for it in folders if it != "."} | files
 
 
 @dataclasses.dataclass
@@ -107,7 +113,7 @@ class Room:
         before = self.before
         if wanted is not None:
             before = {it: text for it, text in before.items() if not it.startswith("theirs/")}
-            before |= {f"theirs/{it}": text for it, text in wanted.items()}
+            before |= with_folders({f"theirs/{it}": text for it, text in wanted.items()})
         return sorted({it[0] for it in before.items() ^ files_of(self.folder).items()})
 
     def faults_of_stop(self, status, words, message, **how):
