@@ -454,23 +454,24 @@ INSTALLED += "lib/liblitrs.so.1.0.1 lib/pkgconfig/litrs.pc share/litrs/litrs.py"
 
 def faults_of_removal(folder, archive):
     """What is wrong of what is installed below DESTDIR, and of what stays once it is removed."""
-    top = folder / "package"
-    own = top / "usr/include/own.h"
+    prefix, destination = str(folder / "usr"), str(folder / "package")
+    top = pathlib.Path(destination + prefix)
+    own = top / "include/own.h"
     own.parent.mkdir(parents=True)
     own.write_text("")
 
     def files():
-        found = {str(it.relative_to(top / "usr")) for it in top.rglob("*") if not it.is_dir()}
+        found = {str(it.relative_to(top)) for it in top.rglob("*") if not it.is_dir()}
         return found - {"include/own.h"}
 
-    ran = run_build(folder, archive, "/usr", DESTDIR=str(top))
+    ran = run_build(folder, archive, prefix, DESTDIR=destination)
     if ran.returncode or files() != set(INSTALLED):
         yield f"below DESTDIR are {files()}: {ran.stderr}"
-    pycache = top / "usr/share/litrs/__pycache__"
+    pycache = top / "share/litrs/__pycache__"
     pycache.mkdir()
     (pycache / "litrs.cpython-311.pyc").write_text("")
     for status in (0, 1):
-        ran = run_build(folder, archive, "--uninstall", "/usr", DESTDIR=str(top))
+        ran = run_build(folder, archive, "--uninstall", prefix, DESTDIR=destination)
         if ran.returncode != status or files() or pycache.parent.exists() or not own.exists():
             yield f"removed with status {ran.returncode}: {files()} {ran.stdout}{ran.stderr}"
 

@@ -35,7 +35,7 @@ def raised(error, call, *words):
     how = f"{call.__name__} of {', '.join(shown):.60}"
     try:
         answer = call(*words)
-    except Exception as e:  # pylint: disable=broad-except
+    except Exception as e:
         return None if type(e) is error and str(e) else f"{how} raises {e!r}, not {error.__name__}"
     return f"{how} returns {answer!r}, and does not raise {error.__name__}"
 
@@ -147,7 +147,7 @@ def faults_of_copies(module):
             try:
                 same = call(error)
                 found = [type(same), str(same), same.args, vars(same)]
-            except Exception as e:  # pylint: disable=broad-except
+            except Exception as e:
                 found = e
             yield None if found == wanted else f"copy {number} is {found}, not {wanted}"
     literal = module.parse('r"a"b')
