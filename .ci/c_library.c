@@ -269,6 +269,52 @@ static void hold_literals(void) {
     hold(held == before, "memory is kept");
 }
 
+/* Holds a call that writes a value to its status, to the text that is wanted, and to no more. */
+static void hold_written(litrs_written written, const uint8_t *room, int status,
+                         const char *wanted) {
+    size_t i;
+    hold(written.status == (uint32_t)status && written.len == strlen(wanted), "another status");
+    hold(memcmp(room, wanted, written.len) == 0, "another literal");
+    for (i = written.len; i < 32; i++)
+        hold(room[i] == 0xAA, "a write past the literal");
+}
+
+/* Values and suffixes that are empty, that have a NUL, or that are not UTF-8. */
+static void hold_edges(void) {
+    static const struct {
+        const char *value, *suffix;
+        size_t value_len, suffix_len;
+        int of_string, of_bytes, of_integer;
+        const char *string, *bytes;
+    } edges[] = {
+        {NULL, NULL, 0, 0, LITRS_LITERAL, LITRS_LITERAL, LITRS_LITERAL, "\"\"", "b\"\""},
+        {"", "", 0, 0, LITRS_LITERAL, LITRS_LITERAL, LITRS_LITERAL, "\"\"", "b\"\""},
+        {"\0", NULL, 1, 0, LITRS_LITERAL, LITRS_LITERAL, LITRS_LITERAL, "\"\\0\"", "b\"\\0\""},
+        {"a", "\0", 1, 1, LITRS_REFUSED, LITRS_REFUSED, LITRS_REFUSED, "", ""},
+        {"a", "u8\0", 1, 3, LITRS_REFUSED, LITRS_REFUSED, LITRS_REFUSED, "", ""},
+        {"a", "\xff", 1, 1, LITRS_NOT_UTF8, LITRS_NOT_UTF8, LITRS_NOT_UTF8, "", ""},
+        {"\xff", "1", 1, 1, LITRS_NOT_UTF8, LITRS_REFUSED, LITRS_REFUSED, "", ""},
+        {"\xff", NULL, 1, 0, LITRS_NOT_UTF8, LITRS_LITERAL, LITRS_LITERAL, "", "b\"\\xff\""},
+    };
+    size_t i;
+    for (i = 0; i < sizeof edges / sizeof *edges; i++) {
+        const uint8_t *value = (const uint8_t *)edges[i].value;
+        const uint8_t *suffix = (const uint8_t *)edges[i].suffix;
+        size_t value_len = edges[i].value_len, suffix_len = edges[i].suffix_len;
+        uint8_t room[32];
+        litrs_written written;
+        memset(room, 0xAA, sizeof room);
+        written = litrs_write_string(value, value_len, suffix, suffix_len, room, sizeof room);
+        hold_written(written, room, edges[i].of_string, edges[i].string);
+        memset(room, 0xAA, sizeof room);
+        written = litrs_write_bytes(value, value_len, suffix, suffix_len, room, sizeof room);
+        hold_written(written, room, edges[i].of_bytes, edges[i].bytes);
+        memset(room, 0xAA, sizeof room);
+        written = litrs_write_integer(7, 0, suffix, suffix_len, room, sizeof room);
+        hold_written(written, room, edges[i].of_integer, edges[i].of_integer ? "" : "7");
+    }
+}
+
 /* The names of kinds, and the version. */
 static void hold_names(void) {
     hold(strcmp(litrs_version(), LITRS_VERSION) == 0, "another version");
@@ -290,6 +336,7 @@ int main(void) {
     hold_null();
     hold_names();
     hold_literals();
+    hold_edges();
     while ((high = getchar()) != EOF) {
         if (high == '\n') {
             print_text(text, len, room);

@@ -14,7 +14,11 @@ it says by the C program .ci/c_library.c and by the module litrs.py, with the na
 and marks that docs/GRAMMAR.md has; each prefix of its text, at each byte, has to be refused as not
 UTF-8 where Python does not decode it, and answered alike by both. Where valgrind is at hand the
 program runs under it over the texts of the rows. The samples of crates/litrs_c/README.md have to
-print what stands below them, the one in C as a program in C++ too.
+print what stands below them, built and run by the lines of that page, the one in C as a program in
+C++ too. What else of the module is tried, python_module.py says.
+
+Of crates/litrs_c/build: its help, wrong arguments, what it installs below DESTDIR and removes, the
+versions that pkg-config finds, and a folder that is moved to a name with a blank.
 """
 import concurrent.futures
 import ctypes
@@ -23,12 +27,14 @@ import importlib
 import os
 import pathlib
 import re
+import shlex
 import shutil
 import subprocess
 import sys
 import tempfile
 
 import libraries
+import python_module
 from libraries import KIT, TOP
 
 CRATE = TOP / "crates/litrs_c"
@@ -65,7 +71,7 @@ def written(call, text):
 
 def answer_of(module, text):
     """The same fields as the C program prints them, up to the message, and those of the front."""
-    calls = module.calls
+    calls = module._calls
     fields = flat(calls["parse"](text, len(text)))
     fields.append(int(calls["goes_on"](text, len(text))))
     fields += written(calls["value"], text) + written(calls["message"], text)
@@ -336,7 +342,7 @@ def faults_of_call(module, wanted, text, whole):
 
 
 def build(folder):
-    """Proves the crate, builds its archive, and installs it. Returns the folder."""
+    """Proves the crate, builds its archive, and installs it. Returns the folder and the archive."""
     crates = libraries.crates_of(TOP)
     crate = crates[CRATE.name]
     libraries.stop_unless_built(crate.below(crates))
@@ -348,9 +354,17 @@ def build(folder):
     ran = subprocess.run(words, check=False, **how)
     if ran.returncode:
         sys.exit(f"{ran.stdout[-2000:]}c library: its archive was not built")
-    environment = os.environ | {"LITRS_C_ARCHIVE": str(archive)}
-    subprocess.run([CRATE / "build", installed], check=True, env=environment, cwd=TOP)
-    return installed
+    ran = run_build(folder, archive, str(installed))
+    if ran.returncode:
+        sys.exit(f"{ran.stdout}{ran.stderr}c library: it was not installed")
+    return installed, archive
+
+
+def run_build(folder, archive, *words, **more):
+    """Runs the script of the crate in this folder."""
+    environment = os.environ | {"LITRS_C_ARCHIVE": str(archive)} | more
+    how = {"capture_output": True, "text": True, "check": False, "cwd": folder}
+    return subprocess.run([CRATE / "build", *words], env=environment, **how)
 
 
 def told(*words, **more):
@@ -360,8 +374,12 @@ def told(*words, **more):
 
 def flags(installed, *words):
     """What pkg-config says of the library that is installed."""
-    path = os.environ | {"PKG_CONFIG_PATH": str(installed / "lib/pkgconfig")}
-    return told("pkg-config", *words, "litrs", env=path).split()
+    return shlex.split(told("pkg-config", *words, "litrs", env=paths_of(installed)))
+
+
+def paths_of(installed):
+    """The environment in which pkg-config finds the library that is installed."""
+    return os.environ | {"PKG_CONFIG_PATH": str(installed / "lib/pkgconfig")}
 
 
 def compiled(compiler, installed, out, source, *more):
@@ -374,8 +392,7 @@ def compiled(compiler, installed, out, source, *more):
 
 
 def faults_of_names(installed):
-    """Names that the libraries define beside the calls of the header, calls that they lack, and
-    versions that differ."""
+    """Names that the libraries define beside the calls of the header, and calls that they lack."""
     calls = set(re.findall(r"^(?!LITRS_INLINE|.*typedef)\w[\w ]* (litrs_\w+)\(", HEADER, re.M))
     for name, how in (("liblitrs.so", "-D"), ("liblitrs.a", "-g")):
         lines = told("nm", how, "--defined-only", "-P", installed / "lib" / name).splitlines()
@@ -384,16 +401,105 @@ def faults_of_names(installed):
             yield f"{name} defines {sorted(names)}, the header {sorted(calls)}"
     if "[liblitrs.so.1]" not in told("readelf", "-d", installed / "lib/liblitrs.so"):
         yield "another soname than liblitrs.so.1"
+
+
+def faults_of_versions(installed, module):
+    """Versions that differ, and conditions on that of litrs.pc that pkg-config decides wrongly."""
     changes = (TOP / "CHANGELOG.md").read_text()
-    versions = {
-        "CHANGELOG.md": re.search(r"^## \[(\d\S*)\]", changes, re.M)[1],
-        "litrs.pc": flags(installed, "--modversion")[0],
+    version = re.search(r"^## \[(\d\S*)\]", changes, re.M)[1]
+    upstream, release = re.fullmatch(r"(\d+\.\d+\.\d+)-rattle\.(\d+)", version).groups()
+    numbers = ".".join(re.findall(r"LITRS_VERSION_\w+ (\d+)", HEADER))
+    description = (installed / "lib/pkgconfig/litrs.pc").read_text()
+    found = {
         "the header": re.search(r'LITRS_VERSION "(.*)"', HEADER)[1],
+        "its numbers": f"{numbers}-rattle.{release}",
+        "litrs.py": getattr(module, "__version__", None),
+        "the library": module.version(),
+        "the description": re.search(r"^Description: .* (\S+)$", description, re.M)[1],
     }
-    numbers = re.findall(r"LITRS_VERSION_\w+ (\d+)", HEADER)
-    versions["its numbers"] = ".".join(numbers) + "-" + versions["the header"].partition("-")[2]
-    if len(set(versions.values())) != 1:
-        yield f"versions differ: {versions}"
+    if set(found.values()) != {version}:
+        yield f"the version {version} is another: {found}"
+    page = (CRATE / "README.md").read_text()
+    if f"The version {version} is {upstream}.{release} to `pkg-config`" not in page:
+        yield "the page of the crate names another version for pkg-config"
+    major, conditions = upstream.split(".")[0], []
+    conditions += [(f"= {upstream}.{release}", 0), (f">= {upstream}", 0), (f">= {major}", 0)]
+    conditions += [(f"< {int(major) + 1}", 0), (f"= {upstream}.{int(release) + 1}", 1)]
+    conditions += [(f"> {upstream}.{release}", 1), (f"< {upstream}", 1), (f">= {upstream}.99", 1)]
+    for condition, status in conditions:
+        words = ["pkg-config", "--exists", f"litrs {condition}"]
+        if subprocess.run(words, env=paths_of(installed), check=False).returncode != status:
+            yield f"pkg-config says otherwise of litrs {condition}"
+
+
+def faults_of_words(folder, archive):
+    """What is wrong of the script's help, and of wrong arguments, with which it writes nothing."""
+    room = folder / "words"
+    room.mkdir()
+    wrong = [[], [""], ["--nothing"], ["a", "b"], ["a", "--nothing"], ["--uninstall"]]
+    wrong += [["--uninstall", "a", "b"], ["a", ""]]
+    for words, status in [*((it, 2) for it in wrong), (["--help"], 0), (["a", "-h"], 0)]:
+        ran = run_build(room, archive, *words)
+        printed, silent = (ran.stdout, ran.stderr) if status == 0 else (ran.stderr, ran.stdout)
+        begins = "Builds the C library" if status == 0 else "build: "
+        if ran.returncode != status or silent or not printed.startswith(begins):
+            yield f"build {words}: status {ran.returncode}, {ran.stdout}{ran.stderr}"
+        if list(room.iterdir()):
+            yield f"build {words} writes {list(room.iterdir())}"
+
+
+INSTALLED = "include/litrs.h lib/liblitrs.a lib/liblitrs.so lib/liblitrs.so.1".split()
+INSTALLED += "lib/liblitrs.so.1.0.1 lib/pkgconfig/litrs.pc share/litrs/litrs.py".split()
+
+
+def faults_of_removal(folder, archive):
+    """What is wrong of what is installed below DESTDIR, and of what stays once it is removed."""
+    prefix, destination = str(folder / "usr"), str(folder / "package")
+    top = pathlib.Path(destination + prefix)
+    own = top / "include/own.h"
+    own.parent.mkdir(parents=True)
+    own.write_text("")
+
+    def files():
+        found = {str(it.relative_to(top)) for it in top.rglob("*") if not it.is_dir()}
+        return found - {"include/own.h"}
+
+    ran = run_build(folder, archive, prefix, DESTDIR=destination)
+    if ran.returncode or files() != set(INSTALLED):
+        yield f"below DESTDIR are {files()}: {ran.stderr}"
+    pycache = top / "share/litrs/__pycache__"
+    pycache.mkdir()
+    (pycache / "litrs.cpython-311.pyc").write_text("")
+    for status in (0, 1):
+        ran = run_build(folder, archive, "--uninstall", prefix, DESTDIR=destination)
+        if ran.returncode != status or files() or pycache.parent.exists() or not own.exists():
+            yield f"removed with status {ran.returncode}: {files()} {ran.stdout}{ran.stderr}"
+
+
+def blocks_of_page(language):
+    """The blocks of the page of the crate in this language."""
+    page = (CRATE / "README.md").read_text()
+    return re.findall(rf"^```{language}\n(.*?)^```", page, re.M | re.S)
+
+
+def run_shell(folder, lines, environment):
+    how = {"capture_output": True, "text": True, "check": False, "cwd": folder}
+    return subprocess.run(["bash", "-e", "-c", lines], env=environment, **how)
+
+
+def faults_of_move(folder, installed):
+    """What is wrong once the folder that is installed is moved to a name with a blank."""
+    moved = folder / "moved here"
+    installed.rename(moved)
+    (folder / "moved.c").write_text(blocks_of_page("c")[0])
+    lines = f"""eval "cc -o moved moved.c $(pkg-config --cflags --libs litrs)"
+    LD_LIBRARY_PATH={shlex.quote(str(moved / "lib"))} ./moved
+    eval "export PYTHONPATH=$(pkg-config --variable=pythondir litrs)"
+    python3 -B -c 'import litrs; print(litrs.parse("1").value)'"""
+    ran = run_shell(folder, lines, paths_of(moved))
+    if (ran.stdout, ran.stderr) != (blocks_of_page("text")[0] + "1\n", ""):
+        yield f"moved to a name with a blank: {ran.stdout}{ran.stderr}"[:600]
+    moved.rename(installed)
 
 
 def try_header(folder):
@@ -459,48 +565,49 @@ def faults_of_kinds(module, kinds):
     errors = {number: name for name, (number, _, _) in kinds.items()}
     for call, names in (("kind", dict(enumerate(NAMES, 1))), ("error", errors)):
         for number in [*range(100), 2**32 - 1]:
-            text = module.StaticText(b"", 1)
-            module.calls[f"get_{call}_name"](number, text)
+            text = module._StaticText(b"", 1)
+            module._calls[f"get_{call}_name"](number, text)
             name = names.get(number, "Unknown")
             if (text.text.decode(), text.size) != (name, len(name) + 1):
                 yield f"{call} {number} is called {text.text}, wanted {name}"
 
 
-def try_samples(folder, installed):
-    """Runs the samples of the page of the crate. Each stands before a block with what it prints."""
-    page = (CRATE / "README.md").read_text()
-    blocks = re.findall(r"^```(c|python)\n(.*?)^```\n+```text\n(.*?)^```", page, re.M | re.S)
-    for language, sample, printed in blocks:
-        source = folder / f"sample.{language}"
-        source.write_text(sample)
-        runs = [[sys.executable, source]]
-        if language == "c":
-            by = ["cc", "-std=c99"], ["c++", "-std=c++11", "-x", "c++"]
-            out = folder / "sample"
-            runs = [[compiled(it, installed, f"{out}_{it[0]}", source)] for it in by]
-        path = os.environ | {"PYTHONPATH": flags(installed, "--variable=pythondir")[0]}
-        for run in runs:
-            how = {"capture_output": True, "text": True, "check": False, "cwd": folder}
-            ran = subprocess.run(run, env=path, **how)
-            if (ran.stdout, ran.stderr, ran.returncode) != (printed, "", 0):
-                yield f"{run}, of a sample in {language}, printed {ran.stdout}{ran.stderr}"
-    if sorted(it[0] for it in blocks) != ["c", "python"]:
-        yield "the page has other samples than one in C and one in Python"
+def faults_of_samples(folder, installed):
+    """What is wrong of the samples of the page of the crate, built and run by its lines. Each has
+    to print the block of its place."""
+    (c,), (python,), printed = map(blocks_of_page, ("c", "python", "text"))
+    (folder / "sample.c").write_text(c)
+    (folder / "sample.py").write_text(python)
+    dynamic, others, path = (it.replace("PREFIX", str(installed)) for it in blocks_of_page("sh"))
+    others, path = (dynamic.splitlines(True)[0] + it for it in (others, path))
+    runs = [(dynamic, printed[0]), (others, printed[0] * 2)]
+    runs += [(f"{path}\npython3 -B sample.py", printed[1])]
+    for by in (["cc", "-std=c99"], ["c++", "-std=c++11", "-x", "c++"]):
+        program = compiled(by, installed, folder / f"sample_{by[0]}", folder / "sample.c")
+        runs.append((shlex.quote(str(program)), printed[0]))
+    for lines, wanted in runs:
+        ran = run_shell(folder, lines, os.environ)
+        if (ran.stdout, ran.stderr, ran.returncode) != (wanted, "", 0):
+            yield f"{lines}: status {ran.returncode}, {ran.stdout}{ran.stderr}"
 
 
 def main():
     sys.dont_write_bytecode = True
     with tempfile.TemporaryDirectory(prefix="c-library-") as room:
         folder = pathlib.Path(room)
-        installed = build(folder)
+        installed, archive = build(folder)
         sys.path.append(flags(installed, "--variable=pythondir")[0])
         module = importlib.import_module("litrs")
         number, faults = try_texts(folder, installed, module)
         headers, more = try_header(folder)
-        faults += [*more, *faults_of_names(installed), *try_samples(folder, installed)]
+        calls, of_calls = python_module.try_module(module)
+        faults += [*more, *of_calls, *faults_of_names(installed)]
+        faults += [*faults_of_samples(folder, installed), *faults_of_versions(installed, module)]
+        faults += [*faults_of_words(folder, archive), *faults_of_removal(folder, archive)]
+        faults += faults_of_move(folder, installed)
     print(*faults[:20], sep="\n", end="\n" if faults else "")
-    print(f"c library: the header by {headers} standards")
-    print(f"c library: {number + headers + 5 - len(faults)} passed, {len(faults)} failed")
+    print(f"c library: the header by {headers} standards, {calls} calls from Python")
+    print(f"c library: {number + headers + calls + 32 - len(faults)} passed, {len(faults)} failed")
     return 1 if faults else 0
 
 

@@ -13,6 +13,8 @@ name no other crate than those of the line of crates.txt that its page gives it.
 The lines of README are run too, in their order, from an absent folder on: its program, compiled
 there from copied sources, must print what README says. The line that runs a program here must end
 with status 0.
+
+The cases of vendor_cases.py try what `bin/vendor` refuses, replaces and leaves.
 """
 import concurrent.futures
 import dataclasses
@@ -24,6 +26,7 @@ import sys
 import tempfile
 
 import libraries
+import vendor_cases
 from libraries import TOP
 
 # The libraries that have a page CALLING.md.
@@ -206,6 +209,8 @@ def main():
     callers = [it for page in pages for it in callers_of(page)]
     with tempfile.TemporaryDirectory(prefix="vendored-") as name:
         folder, room = pathlib.Path(name, "copies"), pathlib.Path(name, "yours")
+        cases = vendor_cases.faults(pathlib.Path(name, "cases"))
+        faults_of_cases = [it for case in cases for it in case[:1]]
         vendor(folder)
         subprocess.run(["git", "init", "-q", folder], check=True)
         faults = list(faults_of_copies(folder))
@@ -213,6 +218,7 @@ def main():
             faults.append(f"README does not say the version {VERSION}")
         tried = 1 if faults else len(callers) + 4
         faults = faults or list(faults_of_callers(folder, callers, room))
+        tried, faults = tried + len(cases), faults + faults_of_cases
     print(*faults, sep="\n", end="\n" if faults else "")
     print(f"vendored: {tried - len(faults)} passed, {len(faults)} failed")
     return 1 if faults else 0

@@ -3,15 +3,33 @@
     >>> import litrs
     >>> litrs.parse("0xFF_u8").value
     255
+    >>> litrs.write_string("a\\n")
+    '"a\\\\n"'
 
-A text is a str, or bytes in UTF-8. Spans and lengths count characters of a str, bytes of bytes.
-The library is the file that LITRS_LIBRARY names, that which was installed with this module, or the
-loader's.
+A text is a str, or bytes, a bytearray or a memoryview of bytes in UTF-8. Spans and lengths count
+characters of a str, and bytes of the others. Any other argument raises TypeError, and a str that
+UTF-8 cannot encode, which has a lone surrogate, UnicodeEncodeError.
+
+The library is the file that LITRS_LIBRARY names, the one that was installed with this module, or
+the loader's.
 """
+import copyreg
 import ctypes
 import dataclasses
+import operator
 import os
 import pathlib
+from typing import Optional, Tuple, Union
+
+__all__ = [
+    "Literal", "ParseError", "goes_on", "parse", "parse_prefix", "version", "write_bytes",
+    "write_integer", "write_string",
+]
+# The version of this module; version() returns that of the library.
+__version__ = "1.0.1-rattle.1"
+
+_Bytes = Union[bytes, bytearray, memoryview]
+_Text = Union[str, _Bytes]
 
 _SIZE, _WORD, _LONG, _BOOL = ctypes.c_size_t, ctypes.c_uint32, ctypes.c_uint64, ctypes.c_bool
 _LITERAL, _REFUSED, _NOT_UTF8, _OUT_OF_MEMORY, _NO_STRING, _NO_PREFIX = range(6)
@@ -34,7 +52,7 @@ _Refusal = _structure(
 _Answer = _structure("_Answer", status=_WORD, literal=_Literal, refusal=_Refusal)
 _Prefix = _structure("_Prefix", answer=_Answer, len=_SIZE)
 _Written = _structure("_Written", status=_WORD, len=_SIZE)
-StaticText = _structure("StaticText", text=ctypes.c_char_p, size=_SIZE)
+_StaticText = _structure("_StaticText", text=ctypes.c_char_p, size=_SIZE)
 
 _TEXT = [ctypes.c_char_p, _SIZE]
 _CALLS = {
@@ -43,9 +61,12 @@ _CALLS = {
     "value": (_Written, _TEXT * 2),
     "message": (_Written, _TEXT * 2),
     "goes_on": (_BOOL, _TEXT),
-    "get_version": (None, [ctypes.POINTER(StaticText)]),
-    "get_kind_name": (None, [_WORD, ctypes.POINTER(StaticText)]),
-    "get_error_name": (None, [_WORD, ctypes.POINTER(StaticText)]),
+    "write_string": (_Written, _TEXT * 3),
+    "write_bytes": (_Written, _TEXT * 3),
+    "write_integer": (_Written, [_LONG, _LONG, *_TEXT * 2]),
+    "get_version": (None, [ctypes.POINTER(_StaticText)]),
+    "get_kind_name": (None, [_WORD, ctypes.POINTER(_StaticText)]),
+    "get_error_name": (None, [_WORD, ctypes.POINTER(_StaticText)]),
 }
 
 
@@ -61,7 +82,7 @@ def _load():
 
 
 # The calls of the library as ctypes has them.
-calls = _load()
+_calls = _load()
 
 
 @dataclasses.dataclass(frozen=True)
@@ -80,12 +101,12 @@ class Literal:
     """
 
     kind: str
-    value: object
+    value: Union[bool, int, str, bytes, None]
     suffix: str
     base: int = 0
     is_raw: bool = False
     main: str = ""
-    fraction: object = None
+    fraction: Optional[str] = None
     exponent: str = ""
 
 
@@ -98,46 +119,123 @@ class ParseError(ValueError):
     is_final  whether no text that begins with this one is a literal
     is_open   whether the text only lacks its closing quote and hashes
     length    how much of the text was meant as a literal: by `parse` all of it
+
+    It can be copied and pickled, also as a subclass with another constructor.
     """
 
-    def __init__(self, kind, span, message, is_final, is_open, length):
+    kind: str
+    span: Optional[Tuple[int, int]]
+    message: str
+    is_final: bool
+    is_open: bool
+    length: int
+
+    def __init__(
+        self, kind: str, span: Optional[Tuple[int, int]], message: str, is_final: bool,
+        is_open: bool, length: int,
+    ) -> None:
         super().__init__(message)
         self.kind, self.span, self.message = kind, span, message
         self.is_final, self.is_open, self.length = is_final, is_open, length
 
+    def __reduce__(self):
+        # The constructor does not take what `args` has, which is the message alone.
+        return copyreg.__newobj__, (type(self), *self.args), self.__dict__
 
-def version():
-    """The version of the library."""
+
+def version() -> str:
+    """Returns the version of the library."""
     return _static("get_version")
 
 
-def parse(text):
-    """The literal that the text is. Raises ParseError if it is none, UnicodeDecodeError if bytes
-    are not UTF-8, and MemoryError if there is no memory for the value."""
-    data = _bytes(text)
-    answer = calls["parse"](data, len(data))
+def parse(text: _Text) -> Literal:
+    """Parses a text that is one literal. Raises ParseError if it is not, UnicodeDecodeError if
+    bytes are not UTF-8, and MemoryError if there is no memory for the value."""
+    data = _data(text)
+    answer = _calls["parse"](data, len(data))
     return _literal(text, data, answer)
 
 
-def parse_prefix(text):
-    """The literal at the front of the text and its length, or None if none opens there, as before
-    a name or a blank. Raises as `parse` does where what opens is none."""
-    data = _bytes(text)
-    prefix = calls["parse_prefix"](data, len(data))
+def parse_prefix(text: _Text) -> Optional[Tuple[Literal, int]]:
+    """Parses the literal at the front of a text. Returns it with its length, or None if no literal
+    begins there, as before a name or a blank. Raises what `parse` does if a malformed one begins
+    there."""
+    data = _data(text)
+    prefix = _calls["parse_prefix"](data, len(data))
     if prefix.answer.status == _NO_PREFIX:
         return None
     front = data if prefix.answer.status == _NOT_UTF8 else data[: prefix.len]
     return _literal(text, front, prefix.answer), _index(text, data, prefix.len)
 
 
-def goes_on(text):
-    """Whether the text, or the text with some text appended, is a literal."""
-    data = _bytes(text)
-    return calls["goes_on"](data, len(data))
+def goes_on(text: _Text) -> bool:
+    """Returns whether the text, or the text with some text appended, is a literal. It is False for
+    bytes that are not UTF-8."""
+    data = _data(text)
+    return _calls["goes_on"](data, len(data))
 
 
-def _bytes(text):
-    return text.encode() if isinstance(text, str) else bytes(text)
+def write_string(value: str, suffix: str = "") -> str:
+    """Returns the string literal of a text, with each escape that it needs. Raises ValueError if no
+    string has the suffix."""
+    return _literal_of("string", _encoded(value, "the value"), suffix)
+
+
+def write_bytes(value: _Bytes, suffix: str = "") -> str:
+    """Returns the byte string literal of bytes. Raises ValueError if no byte string has the
+    suffix."""
+    return _literal_of("bytes", _bytes(value, "the value", "bytes"), suffix)
+
+
+def write_integer(value: int, suffix: str = "") -> str:
+    """Returns the integer literal of a number, in base ten. Raises OverflowError if the number is
+    negative, as a literal has no sign, or not below 2**128, and ValueError if no integer has the
+    suffix."""
+    if isinstance(value, bool):
+        raise TypeError("the value must be an int, not bool")
+    number = operator.index(value)
+    if number < 0:
+        raise OverflowError("the value is negative, and an integer literal has no sign")
+    if number >> 128:
+        raise OverflowError("the value is not below 2**128")
+    return _literal_of("integer", (number & 2**64 - 1, number >> 64), suffix)
+
+
+def _literal_of(kind, value, suffix):
+    """Returns the literal that litrs_write_KIND writes for the arguments of the value."""
+    ending = _encoded(suffix, "the suffix")
+    words = value if kind == "integer" else (value, len(value))
+    status, text = _written(f"write_{kind}", *words, ending, len(ending))
+    if status == _REFUSED:
+        name = {"bytes": "a byte string", "string": "a string", "integer": "an integer"}[kind]
+        raise ValueError(f"{suffix!r} cannot be the suffix of {name} literal")
+    return text.decode()
+
+
+def _data(text):
+    """Returns the bytes of a text."""
+    if isinstance(text, str):
+        return _encoded(text, "the text")
+    return _bytes(text, "the text", "a str, bytes")
+
+
+def _encoded(text, what):
+    if not isinstance(text, str):
+        raise TypeError(f"{what} must be a str, not {type(text).__name__}")
+    return str.encode(text)
+
+
+def _bytes(data, what, kinds):
+    """Returns the bytes of an object that is bytes-like. bytes() takes numbers and lists too."""
+    if type(data) is bytes:
+        return data
+    if not isinstance(data, (bytes, bytearray, memoryview)):
+        kinds = f"{kinds}, a bytearray or a memoryview"
+        raise TypeError(f"{what} must be {kinds}, not {type(data).__name__}")
+    view = memoryview(data)
+    if view.format.lstrip("@=<>!") not in ("B", "b", "c") or view.ndim != 1:
+        raise TypeError(f"{what} must be a memoryview of bytes, in one dimension")
+    return view.tobytes()
 
 
 def _index(text, data, place):
@@ -146,18 +244,19 @@ def _index(text, data, place):
 
 
 def _static(call, *number):
-    static = StaticText(b"", 1)
-    calls[call](*number, static)
+    static = _StaticText(b"", 1)
+    _calls[call](*number, static)
     return static.text.decode()
 
 
-def _written(call, data):
-    """What the call writes of the text."""
-    size = calls[call](data, len(data), b"", 0).len
+def _written(call, *words):
+    """Returns the status of a call that writes, and the bytes that it writes."""
+    size = _calls[call](*words, b"", 0).len
     room = ctypes.create_string_buffer(size + 1)
-    if calls[call](data, len(data), room, size).status == _OUT_OF_MEMORY:
+    status = _calls[call](*words, room, size).status
+    if status == _OUT_OF_MEMORY:
         raise MemoryError
-    return room.raw[:size]
+    return status, room.raw[:size]
 
 
 def _literal(text, data, answer):
@@ -186,7 +285,7 @@ def _value(kind, data, fields, digits):
     if kind == "Integer" and not fields.has_value:
         return _integer(digits.replace("_", ""), fields.base)
     if kind in ("String", "ByteString", "CString"):
-        value = _written("value", data)
+        _, value = _written("value", data, len(data))
         return value.decode() if kind == "String" else value
     return {"Bool": bool, "Char": chr, "Float": lambda _: None}.get(kind, int)(number)
 
@@ -205,6 +304,6 @@ def _error(text, data, refusal):
     span = (_index(text, data, place.start), _index(text, data, place.end))
     return ParseError(
         _static("get_error_name", refusal.kind), span if refusal.has_span else None,
-        _written("message", data).decode(), refusal.is_final, refusal.is_open,
+        _written("message", data, len(data))[1].decode(), refusal.is_final, refusal.is_open,
         _index(text, data, len(data)),
     )

@@ -1,0 +1,180 @@
+"""Tries the Python module of the C library beside the rows of the table: its names and hints, its
+errors, arguments of other types, and what it writes.
+
+.ci/c_library.py runs this over the module that is installed. The functions yield a fault, or None
+for a test that passes.
+"""
+import array
+import copy
+import ctypes
+import pickle
+import typing
+
+READERS = ["parse", "parse_prefix", "goes_on"]
+NAMES = ["Literal", "ParseError", "goes_on", "parse", "parse_prefix", "version"]
+NAMES += ["write_bytes", "write_integer", "write_string"]
+# The fields of an error, in the order of its constructor.
+FIELDS = ["kind", "span", "message", "is_final", "is_open", "length"]
+LARGE = 2 * 10**9
+# None of these is a str or bytes; a memoryview is of bytes in one dimension.
+NO_TEXTS = [0, 5, LARGE, -1, True, 1.5, None, [49], (49,), {49}, {}, range(3), object(), bytes]
+NO_TEXTS += [array.array("B", b"1"), memoryview(array.array("H", [49]))]
+NO_TEXTS += [memoryview(array.array("f", [1])), memoryview(b"1234").cast("B", [2, 2])]
+NO_TEXTS += [memoryview(b"1").cast("?"), memoryview((ctypes.c_ushort * 1)(49))]
+BYTES = [b"a", bytearray(b"a"), memoryview(b"a")]
+# A str with a surrogate has no UTF-8.
+SURROGATES = ["\ud800", '"\udfff"', "1 \udc80"]
+NO_SUFFIXES = ["1", "_", " ", "a b", "a-", '"', "\0", "a\0", "#", "\u200d"]
+SUFFIXES = ["", "u8", "a_b", "é", "x"]
+STRINGS = ["", "a", "a\nb", "\0", "a\0b", "\"\\'", "\r\n\t", "é\u202e\u200b\U0001f98a", "\x7f\x80"]
+INTEGERS = [0, 1, 255, 2**63, 2**64 - 1, 2**64, 2**64 + 1, 2**127, 2**128 - 1]
+
+
+def raised(error, call, *words):
+    """Returns the fault of a call that has to raise this error, and not one of a class below it."""
+    shown = [hex(it) if type(it) is int else repr(it) for it in words]
+    how = f"{call.__name__} of {', '.join(shown):.60}"
+    try:
+        answer = call(*words)
+    except Exception as e:
+        return None if type(e) is error and str(e) else f"{how} raises {e!r}, not {error.__name__}"
+    return f"{how} returns {answer!r}, and does not raise {error.__name__}"
+
+
+def faults_of_types(module):
+    """Yields the arguments of other types that do not raise TypeError, without being read."""
+    calls = [getattr(module, it) for it in READERS]
+    yield from (raised(TypeError, call, it) for call in calls for it in NO_TEXTS)
+    write = {"a": module.write_string, b"a": module.write_bytes, 1: module.write_integer}
+    others = {"a": BYTES, b"a": ["a"], 1: ["1", *BYTES]}
+    for value, call in write.items():
+        wrong = [it for it in NO_TEXTS if value != 1 or type(it) is not int]
+        yield from (raised(TypeError, call, it) for it in [*wrong, *others[value]])
+        yield from (raised(TypeError, call, value, it) for it in [*NO_TEXTS, *BYTES])
+
+
+def faults_of_errors(module):
+    """Yields the arguments that do not raise the error that the page of the crate names."""
+    writers = [(module.write_string, "a"), (module.write_bytes, b"a"), (module.write_integer, 1)]
+    for text in SURROGATES:
+        yield from (raised(UnicodeEncodeError, getattr(module, it), text) for it in READERS)
+        yield raised(UnicodeEncodeError, module.write_string, text)
+        yield from (raised(UnicodeEncodeError, call, value, text) for call, value in writers)
+    for text in (b"\xff", b'"\xc3"', bytearray(b"1\x80"), memoryview(b"'\xed\xa0\x80'")):
+        yield raised(UnicodeDecodeError, module.parse, text)
+        yield raised(UnicodeDecodeError, module.parse_prefix, text)
+        yield None if module.goes_on(text) is False else f"goes_on({text}) is not False"
+    for call, value in writers:
+        yield from (raised(ValueError, call, value, it) for it in NO_SUFFIXES)
+    yield from (raised(ValueError, module.write_integer, 1, it) for it in ("e", "e1", "E"))
+    numbers = [-1, -(2**64), 2**128, 10**5000]
+    yield from (raised(OverflowError, module.write_integer, it) for it in numbers)
+
+
+def faults_of_texts(module):
+    """Yields the texts that are read otherwise as another type, or as an empty or a broken one."""
+    for text in (b"0xFF_u8", b'"a\\n"', b"0b12", b"", b"\0", b'"a\0"', b'c"\0"', b"name"):
+        spread = bytes(it for byte in text for it in (byte, 0))
+        view, own = memoryview(text), type("Own", (bytes,), {"__bytes__": None})
+        same = [bytearray(text), own(text), view, view.cast("b"), view.cast("c")]
+        same += [memoryview(spread)[::2], memoryview((ctypes.c_ubyte * len(text))(*text))]
+        for name in READERS:
+            wanted = answer(getattr(module, name), text)
+            answers = [answer(getattr(module, name), it) for it in [*same, text.decode()]]
+            yield None if answers == [wanted] * 8 else f"{name} of {text}: {answers}, not {wanted}"
+    for text in ("", b"", bytearray(), memoryview(b"")):
+        yield raised(module.ParseError, module.parse, text)
+        if (module.parse_prefix(text), module.goes_on(text)) != (None, True):
+            yield f"{text!r} has a prefix, or cannot be continued"
+    yield None if module.parse('"\0"').value == "\0" else "a string of a NUL has another value"
+    yield None if module.parse_prefix("1\0")[1] == 1 else "a NUL after a literal belongs to it"
+
+
+def answer(call, text):
+    """Returns the answer of a call, or what its error has."""
+    try:
+        return call(text)
+    except ValueError as e:
+        return [type(e), e.args, vars(e)]
+
+
+def faults_of_writers(module):
+    """Yields the values whose literal is not parsed as the value with the suffix."""
+    values = [(module.write_string, "String", it) for it in STRINGS]
+    values += [(module.write_string, "String", "".join(map(chr, range(0x2100))))]
+    numbers = [bytes([it]) for it in range(256)]
+    values += [(module.write_bytes, "ByteString", it) for it in [b"", bytes(range(256)), *numbers]]
+    values += [(module.write_integer, "Integer", it) for it in INTEGERS]
+    for call, kind, value in values:
+        for suffix in SUFFIXES:
+            text = call(value, suffix)
+            found = module.parse(text)
+            if (found.kind, found.value, found.suffix) != (kind, value, suffix) or found.is_raw:
+                yield f"{call.__name__} of {value!r} and {suffix!r} writes {text!r}"
+    for it in INTEGERS:
+        yield None if module.write_integer(it) == str(it) else f"{it} is {module.write_integer(it)}"
+    same = {module.write_bytes(it) for it in (b"a\0", bytearray(b"a\0"), memoryview(b"a-\0")[::2])}
+    yield None if same == {'b"a\\0"'} else f"bytes are written as {same}"
+
+
+def own_kind(module):
+    """Returns a class below ParseError whose constructor takes more."""
+
+    def __init__(self, file, error):
+        module.ParseError.__init__(self, *[getattr(error, it) for it in FIELDS])
+        self.file = file
+
+    kind = type("OwnError", (module.ParseError,), {"__init__": __init__, "__module__": __name__})
+    # By this name pickle finds it.
+    globals()["OwnError"] = kind
+    return kind
+
+
+def faults_of_copies(module):
+    """Yields the errors and literals that copying or pickling changes."""
+    errors, own = [], own_kind(module)
+    for text in ("0b12", '"abc', "name", "", b"0xG"):
+        try:
+            module.parse(text)
+        except module.ParseError as e:
+            errors += [e, own("file", e)]
+    copies = [copy.copy, copy.deepcopy]
+    for by in range(pickle.HIGHEST_PROTOCOL + 1):
+        copies.append(lambda it, by=by: pickle.loads(pickle.dumps(it, by)))
+    for error in errors:
+        for number, call in enumerate(copies):
+            wanted = [type(error), str(error), error.args, vars(error)]
+            try:
+                same = call(error)
+                found = [type(same), str(same), same.args, vars(same)]
+            except Exception as e:
+                found = e
+            yield None if found == wanted else f"copy {number} is {found}, not {wanted}"
+    literal = module.parse('r"a"b')
+    same = [copy.copy(literal), copy.deepcopy(literal), pickle.loads(pickle.dumps(literal))]
+    yield None if same == [literal] * 3 else f"copies of a literal are {same}"
+
+
+def faults_of_names(module):
+    """Yields what is public and not listed, and what has no hint of a type."""
+    own = [it for it, value in vars(module).items() if getattr(value, "__module__", "") == "litrs"]
+    if sorted(it for it in own if not it.startswith("_")) != NAMES or module.__all__ != NAMES:
+        yield f"public are {own}, listed {module.__all__}, wanted {NAMES}"
+    for name in NAMES:
+        call = getattr(module, name)
+        hints = typing.get_type_hints(call)
+        if isinstance(call, type):
+            wanted = FIELDS if name == "ParseError" else list(call.__dataclass_fields__)
+        else:
+            wanted = [*call.__code__.co_varnames[: call.__code__.co_argcount], "return"]
+        if not set(wanted) <= set(hints) or object in hints.values():
+            yield f"{name} has the hints {hints}, wanted for {wanted}"
+        yield None if call.__doc__ else f"{name} has no description"
+
+
+def try_module(module):
+    """Returns how many tests there are, and the faults."""
+    groups = [faults_of_names, faults_of_types, faults_of_errors, faults_of_texts]
+    groups += [faults_of_writers, faults_of_copies]
+    found = [it for group in groups for it in group(module)]
+    return len(found), [it[:600] for it in found if it]
