@@ -1,4 +1,4 @@
--- What cuts and refusals say, read by name: each line fails where the definition says less.
+-- What cuts and refusals say, read by name: each line fails if the definition says less.
 use Rattle.std.specs.Prelude.{◌≡◌, ◌≢◌, ℕ, ◌+◌, ◌-◌, ◌≤◌, ◌<◌, Bool, List, ◌∷◌, ◌++◌, length, drop, take, Some, IsTrue}
 use Rattle.std.specs.Str.{chars, IsCharBoundary}
 use Rattle.std.proofs.Common.{arith}
