@@ -26,3 +26,5 @@ pub mod RawLiterals
 -- string literals that are written anew
 pub mod WrittenAnew
 pub mod MemoryErrors
+-- examples
+pub mod Examples

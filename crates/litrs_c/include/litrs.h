@@ -38,7 +38,7 @@ enum litrs_status {
     LITRS_LITERAL = 0,       /* the text is a literal */
     LITRS_REFUSED = 1,       /* it is none */
     LITRS_NOT_UTF8 = 2,      /* the bytes are not UTF-8 */
-    LITRS_OUT_OF_MEMORY = 3, /* it is a literal, and there was no memory for its value */
+    LITRS_OUT_OF_MEMORY = 3, /* no memory for the value of a literal, or for one to write */
     LITRS_NO_STRING = 4,     /* by litrs_value: it is a literal of another kind than strings */
     LITRS_NO_PREFIX = 5      /* by litrs_parse_prefix: no literal opens at the front */
 };
@@ -141,7 +141,7 @@ typedef struct litrs_answer {
 /* What litrs_parse_prefix answers: the status is not LITRS_NO_STRING. */
 typedef struct litrs_prefix {
     litrs_answer answer; /* of the literal at the front, or of what was meant as one */
-    size_t len;          /* how many bytes that is, or was meant as one; 0 where none opens */
+    size_t len;          /* its length in bytes; 0 if none opens, or if the bytes are not UTF-8 */
 } litrs_prefix;
 
 /* What the calls answer that write to the caller's room. */
@@ -167,7 +167,7 @@ void litrs_parse_into(const uint8_t *text, size_t len, litrs_answer *answer);
 litrs_prefix litrs_parse_prefix(const uint8_t *text, size_t len);
 
 /* The same, written to the caller's answer as by litrs_parse_into. Returns how many bytes the
- * literal has, or what was meant as one; 0 where none opens. */
+ * literal has, or what was meant as one; 0 if none opens, or if the bytes are not UTF-8. */
 size_t litrs_parse_prefix_into(const uint8_t *text, size_t len, litrs_answer *answer);
 
 /* Writes the bytes that a string, a byte string or a C string stands for, as many as fit, where the

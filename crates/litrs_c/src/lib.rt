@@ -38,7 +38,7 @@ pub const LITERAL: u32 = 0;
 pub const REFUSED: u32 = 1;
 /// The bytes are not UTF-8.
 pub const NOT_UTF8: u32 = 2;
-/// The text is a literal, and there was no memory for its value.
+/// An allocation failed: for the value of a literal that is read, or for one that is written.
 pub const OUT_OF_MEMORY: u32 = 3;
 /// The text is a literal of another kind than strings, byte strings and C strings.
 pub const NO_STRING: u32 = 4;
@@ -119,7 +119,8 @@ pub struct PrefixAnswer {
     /// Of the literal there, or of what was meant as one. The status may also be that none opens.
     /// The suffix of the literal ends it.
     pub answer: Answer,
-    /// How many bytes the literal has, or what was meant as one; 0 where none opens.
+    /// The length in bytes of the literal, or of what was meant as one; 0 if none opens, and if the
+    /// bytes are not UTF-8.
     pub len: usize,
 }
 
@@ -240,6 +241,7 @@ pub extern "C" fn litrs_parse_prefix(alloc: Global, text: &[u8]) -> PrefixAnswer
         (λ e. IsRefusalFields e result.answer.refusal) }
     ensures none { result.answer.status ≡ NO_PREFIX → IsFalse (opens (chars text.now)) }
     ensures no_len { result.answer.status ≡ NO_PREFIX → result.len ≡ 0 }
+    ensures no_text { result.answer.status ≡ NOT_UTF8 → result.len ≡ 0 }
     ensures memory { result.answer.status ≡ OUT_OF_MEMORY
         → LacksMemoryAt (chars text.now) result.len }
     ensures no_literal { result.answer.status ≢ LITERAL → result.answer.literal ≡ NO_LITERAL }
@@ -252,7 +254,8 @@ pub extern "C" fn litrs_parse_prefix(alloc: Global, text: &[u8]) -> PrefixAnswer
 
 /// Writes to the caller's answer what [`litrs_parse_prefix`] answers: the status, and of the
 /// literal and the refusal the one that the status speaks of. The other stays as it was. The
-/// result is how many bytes the literal has, or what was meant as one; 0 where none opens.
+/// result is the length in bytes of the literal, or of what was meant as one; 0 if none opens, and
+/// if the bytes are not UTF-8.
 #[unsafe(no_mangle)]
 pub extern "C" fn litrs_parse_prefix_into(alloc: Global, text: &[u8], answer: &mut Answer) -> usize
     ensures statuses { answer.new.status ≤ NO_PREFIX }
@@ -264,6 +267,7 @@ pub extern "C" fn litrs_parse_prefix_into(alloc: Global, text: &[u8], answer: &m
         (λ e. IsRefusalFields e answer.new.refusal) }
     ensures none { answer.new.status ≡ NO_PREFIX → IsFalse (opens (chars text.now)) }
     ensures no_len { answer.new.status ≡ NO_PREFIX → result ≡ 0 }
+    ensures no_text { answer.new.status ≡ NOT_UTF8 → result ≡ 0 }
     ensures memory { answer.new.status ≡ OUT_OF_MEMORY
         → LacksMemoryAt (chars text.now) result }
     ensures no_literal { answer.new.status ≢ LITERAL → answer.new.literal ≡ answer.old.literal }

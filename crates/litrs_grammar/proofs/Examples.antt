@@ -9,4 +9,5 @@ pub mod Literal
 pub mod Memory
 pub mod Quoted
 pub mod Raw
+pub mod Refused
 pub mod Text

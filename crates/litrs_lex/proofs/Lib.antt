@@ -21,3 +21,5 @@ pub mod QuotedValues
 pub mod Readings
 pub mod Sinks
 pub mod RawBytes
+-- examples
+pub mod Examples

@@ -1,8 +1,9 @@
 -- Trees of tokens, and which of them are bools, by computation.
-use Rattle.std.specs.Prelude.{◌≡◌, ℕ, ◌+◌, List, [], ◌∷◌, IsTrue, IsFalse, Ok, Err, codes, refl}
+use Rattle.std.specs.Prelude.{◌≡◌, ◌≢◌, ℕ, ◌+◌, List, [], ◌∷◌, IsTrue, IsFalse, Ok, Err, codes, refl}
 use Rattle.std.specs.Str.{chars}
 use Rattle.std.proofs.Common.{arith}
 use Rattle.litrs.specs.declared.bool.BoolLit.TheVariants.{False, True}
+use Rattle.litrs_grammar.specs.Literal.{bool_literal, literal_kind, IsLiteral}
 use Rattle.litrs_token.specs.declared.err.InvalidToken.{InvalidToken}
 use Rattle.litrs_token.specs.declared.kind.TokenKind.{TokenKind}
 use Rattle.litrs_token.specs.declared.kind.TokenKind.TheVariants as token
@@ -13,9 +14,10 @@ use Rattle.litrs_token.specs.declared.tree.Group.{Group}
 use Rattle.litrs_token.specs.declared.tree.TokenTree.{TokenTree}
 use Rattle.litrs_token.specs.declared.tree.TokenTree.TheOpen as tree
 use Rattle.litrs_token.specs.declared.tree.TokenTree.TheVariants as variant
-use Rattle.litrs_token.specs.CompileError.{IsMessageGroup}
+use Rattle.litrs_token.specs.CompileError.{IsMessageGroup, IsCompileError}
 use Rattle.litrs_token.specs.BoolTree.{text_of, is_bool_ident, IsBoolAnswer}
 use Rattle.litrs_token.specs.Errors.{invalid_span, invalid_text}
+use Rattle.litrs_token.specs.LiteralToken.{token_kind, IsLiteralToken}
 use Rattle.litrs_token.specs.Mismatch.{tree_mismatch}
 use Rattle.litrs_token.specs.Place.{Place, call_site}
 use Rattle.litrs_token.specs.StringToken.{string_token, IsStringOf}
@@ -99,3 +101,21 @@ message : (e : InvalidToken) (group : Group) (is : IsMessageGroup e group) →
     × IsStringOf (chars is.message.text) (invalid_text e)
     × (is.message.span ≡ call_site)
 message e group is = (is.delimiter, is.stream, is.span, is.text, is.value, is.message_span)
+
+-- It is given to a call of `compile_error`, whose trees have the span of the error.
+compile_error : (e : InvalidToken) (trees : List TokenTree) (is : IsCompileError e trees) →
+    (trees ≡ variant.Ident is.name ∷ variant.Punct is.mark ∷ variant.Group is.group ∷ [])
+    × (is.name.text ≡ codes "compile_error")
+    × (is.name.span ≡ invalid_span e)
+    × (is.mark.character ∷ [] ≡ codes "!")
+    × (is.mark.spacing ≡ Alone)
+    × (is.mark.span ≡ invalid_span e)
+    × IsMessageGroup e is.group
+compile_error e trees is = (is.are, is.is_name, is.name_span, is.is_mark, is.spacing, is.mark_span, is.is_group)
+
+-- A token of a literal has the kind of the literal, which is not a bool.
+literal_token : (t : List ℕ) (kind : TokenKind) (is : IsLiteralToken t kind) →
+    IsLiteral t is.derivation
+    × (literal_kind is.derivation ≢ bool_literal)
+    × (token_kind (literal_kind is.derivation) ≡ kind)
+literal_token t kind is = (is.literal, is.no_bool, is.is_kind)

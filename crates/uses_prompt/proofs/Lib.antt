@@ -1,2 +1,4 @@
 -- the lines that are read
 pub mod Said
+-- examples
+pub mod Examples
