@@ -10,8 +10,10 @@
 //! fn explained(alloc: Global, text: &str) -> Result<Option<String>, AllocError> {
 //!     match &Literal::parse(alloc, text) {
 //!         Ok(lit) => Ok(Some(explanation(alloc, lit)?)),
-//!         Err(e) if e.kind() == ParseErrorKind::OutOfMemory => Err(AllocError),
-//!         Err(_) => Ok(None),
+//!         Err(e) => match e.kind() {
+//!             ParseErrorKind::OutOfMemory => Err(AllocError),
+//!             _ => Ok(None),
+//!         },
 //!     }
 //! }
 //! ```
