@@ -221,20 +221,26 @@ static void hold_null(void) {
     hold(value.status == LITRS_LITERAL && value.len == 1, "no length for a room of NULL");
 }
 
-/* What is written of a value parses as the same value, with the same suffix. */
+/* What is written of a value parses as the same value, with the same suffix. Memory is asked for
+ * once, for the text, and once more where that has an escape; not at all for a wrong suffix. */
 static void hold_bytes(writes_value *call, const uint8_t *value, size_t len, int kind) {
     static const uint8_t suffix[] = {'u', '8'};
     static uint8_t text[1 << 12], room[1 << 12];
+    size_t before = asked, by_call;
     litrs_written written = call(value, len, suffix, 2, text, sizeof text), back;
     litrs_answer answer;
+    by_call = asked - before;
     hold(written.status == LITRS_LITERAL && written.len <= sizeof text, "no literal is written");
+    hold(by_call == (memchr(text, '\\', written.len) ? 2 : 1), "memory is asked for more often");
     answer = litrs_parse(text, written.len);
     hold(answer.status == LITRS_LITERAL && answer.literal.kind == (uint32_t)kind, "another kind");
     hold(answer.literal.suffix.start + 2 == written.len, "another suffix");
     back = litrs_value(text, written.len, room, sizeof room);
     hold(back.len == len && memcmp(room, value, len) == 0, "another value");
     hold(call(value, len, suffix, 2, NULL, 0).len == written.len, "another length");
+    before = asked;
     hold(call(value, len, suffix + 1, 1, text, 1).status == LITRS_REFUSED, "a suffix of a digit");
+    hold(asked == before, "memory is asked for a wrong suffix");
     refuses = true;
     written = call(value, len, NULL, 0, text, 1);
     hold(written.status == LITRS_OUT_OF_MEMORY, "no memory is asked for");
@@ -243,11 +249,14 @@ static void hold_bytes(writes_value *call, const uint8_t *value, size_t len, int
 
 static void hold_integer(uint64_t low, uint64_t high, const char *wanted) {
     uint8_t text[48];
+    size_t before = asked;
     litrs_written written = litrs_write_integer(low, high, NULL, 0, text, sizeof text);
+    hold(asked == before + 1, "memory for an integer is asked for not once");
     hold(written.status == LITRS_LITERAL && written.len == strlen(wanted), "no integer is written");
     hold(memcmp(text, wanted, written.len) == 0, "another integer");
     hold(litrs_write_integer(low, high, (const uint8_t *)"e", 1, text, 1).status == LITRS_REFUSED,
          "an integer with an exponent");
+    hold(asked == before + 1, "memory is asked for a wrong suffix");
 }
 
 /* The literals of values: each byte, and texts of characters of each length. */
@@ -259,6 +268,8 @@ static void hold_literals(void) {
         bytes[i] = (uint8_t)i;
     hold_bytes(litrs_write_bytes, bytes, 256, LITRS_BYTE_STRING);
     hold_bytes(litrs_write_bytes, bytes, 0, LITRS_BYTE_STRING);
+    hold_bytes(litrs_write_bytes, (const uint8_t *)"abc", 3, LITRS_BYTE_STRING);
+    hold_bytes(litrs_write_string, (const uint8_t *)"abc", 3, LITRS_STRING);
     hold_bytes(litrs_write_string, bytes, 128, LITRS_STRING);
     hold_bytes(litrs_write_string, (const uint8_t *)text, sizeof text - 1, LITRS_STRING);
     hold(litrs_write_string(bytes + 128, 1, NULL, 0, NULL, 0).status == LITRS_NOT_UTF8, "no UTF-8");

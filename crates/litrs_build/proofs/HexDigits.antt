@@ -14,7 +14,7 @@ use Rattle.litrs_base.specs.Numeral.{place_sum, is_no_underscore, numeral}
 use Rattle.litrs_base.specs.Text.{first_passes}
 
 -- what all of a list pass, each of them passes
-passes_at : (p : ℕ → Bool) (t : List ℕ) (i : ℕ) → list_all p t ≡ true → i < length t →
+pub passes_at : (p : ℕ → Bool) (t : List ℕ) (i : ℕ) → list_all p t ≡ true → i < length t →
     p (get_or t i 0) ≡ true
 passes_at p [] i all h = absurd (omega arith)
 passes_at p (c ∷ t) zero all h = (and_parts (p c) (list_all p t) all).0

@@ -13,6 +13,7 @@ pub mod IntegerLemmas
 -- the float of these parts
 pub mod FloatLemmas
 -- and printable
+pub mod PrintableAscii
 pub mod PrintableTexts
 -- C strings
 pub mod NulPlaces

@@ -3,9 +3,6 @@ use Rattle.std.proofs.Common.{◌≡◌, ℕ, zero, suc, ◌-◌, ◌/◌, ◌%�
 use Rattle.std.specs.List.{list_all}
 use Rattle.std.specs.Fmt.{digits}
 use Rattle.std.proofs.lemmas.Bool.{and_from, and_parts, cond_both, ltb-true}
-use Rattle.ucd_category.specs.GeneralCategory.{general_category}
-use Rattle.ucd_category.specs.GeneralCategoryRows.{general_category_rows}
-use Rattle.ucd_table.specs.Rows.{value_in}
 use Rattle.litrs_base.specs.Characters.{is_ascii}
 use Rattle.litrs_grammar.specs.Quoted.{item_text, body_text}
 use Rattle.litrs_build.specs.declared.spelling.Spelling.{Spelling}
@@ -16,38 +13,9 @@ use Rattle.litrs_build.specs.CStrings.{first_char, spelling_or_byte, len_or_byte
 use Rattle.litrs_build.specs.Printable.{is_printable}
 use Rattle.litrs_build.specs.Spelling.{char_spelling, byte_spelling, is_shown, is_escaped, hex_digit, spelled_item}
 use Rattle.litrs_build.specs.Written.{char_items, byte_items}
+use Rattle.litrs_build.proofs.PrintableAscii.{is_plain, plain_printable, plain_all}
 use Rattle.litrs_build.proofs.HexDigits.{hex_glyphs, glyph_passes, digits_pass}
 use Rattle.litrs_build.proofs.Spellings.{spelling_by, all_append, same_text}
-
--- the characters of escapes, by the table
-
-glyphs_printable : list_all is_printable hex_glyphs ≡ true
-unfolding is_printable general_category general_category_rows value_in
-glyphs_printable = refl
-
-backslash_printable : is_printable 92 ≡ true
-unfolding is_printable general_category general_category_rows value_in
-backslash_printable = refl
-
-quotes_printable : list_all is_printable (34 ∷ 39 ∷ []) ≡ true
-unfolding is_printable general_category general_category_rows value_in
-quotes_printable = refl
-
-letters_printable : list_all is_printable (110 ∷ 114 ∷ 116 ∷ 48 ∷ []) ≡ true
-unfolding is_printable general_category general_category_rows value_in
-letters_printable = refl
-
-x_printable : list_all is_printable (92 ∷ 120 ∷ []) ≡ true
-unfolding is_printable general_category general_category_rows value_in
-x_printable = refl
-
-u_printable : list_all is_printable (92 ∷ 117 ∷ 123 ∷ []) ≡ true
-unfolding is_printable general_category general_category_rows value_in
-u_printable = refl
-
-close_printable : list_all is_printable (125 ∷ []) ≡ true
-unfolding is_printable general_category general_category_rows value_in
-close_printable = refl
 
 -- Each spelling
 
@@ -55,7 +23,7 @@ abbrev Shows : Spelling → Type 0
 Shows s = list_all is_printable (item_text (spelled_item s)) ≡ true
 
 simple_shows : (c : ℕ) → is_printable c ≡ true → Shows (Simple c)
-simple_shows c shown = and_from _ _ backslash_printable (and_from _ _ shown refl)
+simple_shows c shown = and_from _ _ (plain_printable 92 refl) (and_from _ _ shown refl)
 
 plain_shows : (m : Bool) (c : ℕ) → is_shown m c ≡ true → Shows (Plain c)
 plain_shows m c shown = and_from _ _ (and_parts (is_printable c) _ shown).0 refl
@@ -63,43 +31,26 @@ plain_shows m c shown = and_from _ _ (and_parts (is_printable c) _ shown).0 refl
 hex_shows : (b : ℕ) → b < 256 → Shows (Hex b)
 hex_shows b small =
     all_append is_printable (92 ∷ 120 ∷ [])
-    (hex_digit (b / 16) ∷ hex_digit (b % 16) ∷ []) x_printable
-    (and_from _ _ (glyph_passes is_printable glyphs_printable (b / 16) (omega arith))
-    (and_from _ _ (glyph_passes is_printable glyphs_printable (b % 16) (omega arith)) refl))
+    (hex_digit (b / 16) ∷ hex_digit (b % 16) ∷ []) (plain_all (92 ∷ 120 ∷ []) refl)
+    (and_from _ _ (glyph_passes is_printable (plain_all hex_glyphs refl) (b / 16) (omega arith))
+    (and_from _ _ (glyph_passes is_printable (plain_all hex_glyphs refl) (b % 16) (omega arith)) refl))
 
 unicode_shows : (c : ℕ) → Shows (Unicode c)
 unicode_shows c =
-    all_append is_printable (92 ∷ 117 ∷ 123 ∷ []) _ u_printable
+    all_append is_printable (92 ∷ 117 ∷ 123 ∷ []) _ (plain_all (92 ∷ 117 ∷ 123 ∷ []) refl)
     (all_append is_printable (digits 16 false c) (125 ∷ [])
-    (digits_pass is_printable glyphs_printable c) close_printable)
+    (digits_pass is_printable (plain_all hex_glyphs refl) c) (plain_all (125 ∷ []) refl))
 
-letter : (k : ℕ) → list_all is_printable (k ∷ []) ≡ true → Shows (Simple k)
-letter k all = simple_shows k (and_parts (is_printable k) true all).0
-
-n_shows : Shows (Simple 110)
-n_shows = simple_shows 110 (and_parts (is_printable 110) _ letters_printable).0
-
-after_n : list_all is_printable (114 ∷ 116 ∷ 48 ∷ []) ≡ true
-after_n = (and_parts (is_printable 110) _ letters_printable).1
-
-after_r : list_all is_printable (116 ∷ 48 ∷ []) ≡ true
-after_r = (and_parts (is_printable 114) _ after_n).1
-
-r_shows : Shows (Simple 114)
-r_shows = simple_shows 114 (and_parts (is_printable 114) _ after_n).0
-
-t_shows : Shows (Simple 116)
-t_shows = simple_shows 116 (and_parts (is_printable 116) _ after_r).0
-
-zero_shows : Shows (Simple 48)
-zero_shows = letter 48 (and_parts (is_printable 116) _ after_r).1
+letter : (k : ℕ) → is_plain k ≡ true → Shows (Simple k)
+letter k plain = simple_shows k (plain_printable k plain)
 
 char_shows : (q : ℕ) (m : Bool) (c : ℕ) → is_printable q ≡ true → Shows (char_spelling q m c)
 char_shows q m c quote =
     let mark : (d : ℕ) → c ≡ d → is_printable d ≡ true →
     Shows (Simple c) = λ d is shown. simple_shows c (ap is_printable is ∙ shown) in
-    spelling_by q m c Shows (λ is. zero_shows) (λ is. t_shows) (λ is. n_shows) (λ is. r_shows)
-    (λ is. mark q is quote) (λ is. mark 92 is backslash_printable)
+    spelling_by q m c Shows (λ is. letter 48 refl) (λ is. letter 116 refl) (λ is. letter 110 refl)
+    (λ is. letter 114 refl)
+    (λ is. mark q is quote) (λ is. mark 92 is (plain_printable 92 refl))
     (λ other shown. plain_shows m c shown)
     (λ other low. let small = ltb-true c 128 low in hex_shows c (omega arith))
     (λ other high. unicode_shows c)
@@ -112,41 +63,34 @@ byte_shows q b small quote =
 
 -- Each literal
 
-single_printable : is_printable 39 ≡ true
-single_printable = (and_parts (is_printable 39) _
-    (and_parts (is_printable 34) _ quotes_printable).1).0
-
-double_printable : is_printable 34 ≡ true
-double_printable = (and_parts (is_printable 34) _ quotes_printable).0
-
 pub chars_are_printable : CharsArePrintable
 chars_are_printable c suffix =
     ap (list_all is_printable) (same_text (char_spelling 39 true c))
-    ∙ char_shows 39 true c single_printable
+    ∙ char_shows 39 true c (plain_printable 39 refl)
 
 pub bytes_are_printable : BytesArePrintable
 bytes_are_printable b suffix small =
     ap (list_all is_printable) (same_text (byte_spelling 39 b))
-    ∙ byte_shows 39 b small single_printable
+    ∙ byte_shows 39 b small (plain_printable 39 refl)
 
 pub strings_are_printable : StringsArePrintable
 strings_are_printable m [] = refl
 strings_are_printable m (c ∷ cs) =
     let s = char_spelling 34 m c in
     all_append is_printable (item_text (spelled_item s)) (body_text (char_items (is_escaped s) cs))
-    (char_shows 34 m c double_printable)
+    (char_shows 34 m c (plain_printable 34 refl))
     (strings_are_printable (is_escaped s) cs)
 
 pub byte_strings_are_printable : ByteStringsArePrintable
 byte_strings_are_printable [] small = refl
 byte_strings_are_printable (b ∷ bs) small =
     all_append is_printable (item_text (spelled_item (byte_spelling 34 b)))
-    (body_text (byte_items bs)) (byte_shows 34 b (small 0) double_printable)
+    (body_text (byte_items bs)) (byte_shows 34 b (small 0) (plain_printable 34 refl))
     (byte_strings_are_printable bs (λ i. small (suc i)))
 
 first_shows : (m : Bool) (b : ℕ) (o : Option ℕ) → b < 256 → Shows (spelling_or_byte m b o)
 first_shows m b None small = hex_shows b small
-first_shows m b (Some c) small = char_shows 34 m c double_printable
+first_shows m b (Some c) small = char_shows 34 m c (plain_printable 34 refl)
 
 pub c_strings_are_printable : CStringsArePrintable
 c_strings_are_printable zero m [] small = refl

@@ -10,8 +10,9 @@ pub mod CStrings
 pub mod Raw
 -- the same literal, built of its value
 pub mod WrittenAnew
--- which error comes
+-- which error comes, and its text
 pub mod Errors
+pub mod ErrorText
 -- digits, and how they are grouped
 pub mod WrittenDigits
 -- the integer that is built

@@ -18,18 +18,23 @@ use crate::strings::string;
 use litrs::{ByteLit, ByteStringLit, CStringLit, CharLit, Literal, StringLit, Text};
 use std::alloc::{AllocError, Global};
 
-/// The same literal as it is built of its value, with escapes only where they are needed: of
-/// `"\u{61}\'"x` it is `"a'"x`. Kind, value and suffix stay.
+/// Returns `lit` written anew, with escapes only where they are needed: for `"\u{61}\'"x` that is
+/// `"a'"x`. The kind, the value and the suffix are those of `lit`.
 ///
-/// A char, a byte and a quoted string are written as [`char`], [`byte`], [`string`],
-/// [`byte_string`] and [`c_string`] write them. A raw string stays raw, as [`raw_string`],
-/// [`raw_byte_string`] and [`raw_c_string`] write it: with the least number of hashes that serves.
-/// A bool, an integer and a float keep their text. What is answered is its own answer. It allocates
-/// as those calls do, for an integer and a float once, and for a bool not at all.
+/// A char, a byte and a quoted string are written by [`char`], [`byte`], [`string`],
+/// [`byte_string`] and [`c_string`]. A raw string is written by [`raw_string`],
+/// [`raw_byte_string`] and [`raw_c_string`], with the fewest hashes possible. A bool, an integer
+/// and a float keep their text.
+///
+/// The text may be longer than that of `lit`: an unescaped character that is not printable is
+/// escaped, and so is a combining one (Grapheme_Extend) after a quote or an escape.
+///
+/// There is one allocation for the text, and one for the value if [`Literal::parse`] makes one; for
+/// a bool there is none.
 ///
 /// # Errors
 ///
-/// `AllocError` where an allocation fails.
+/// `AllocError` if an allocation fails.
 pub fn unescaped<B: Text>(alloc: Global, lit: &Literal<B>) -> Result<Literal<String>, AllocError>
     ensures literal { IfOk result (λ built.
         IsLiteral (chars (literal_raw built)) (derivation built)) }
@@ -49,7 +54,7 @@ pub fn unescaped<B: Text>(alloc: Global, lit: &Literal<B>) -> Result<Literal<Str
     }
 }
 
-/// The literal, of which the text is known.
+/// Returns `lit`, whose text the contract relates to its parts.
 fn with_text(lit: Literal<String>) -> Literal<String>
     ensures same { result ≡ lit }
     ensures literal { IsLiteral (chars (literal_raw lit)) (derivation lit) }
@@ -60,7 +65,7 @@ fn with_text(lit: Literal<String>) -> Literal<String>
     lit
 }
 
-/// The same literal as it is built of its value.
+/// Builds the literal of the value and the suffix of `lit`.
 fn built<B: Text>(alloc: Global, lit: &Literal<B>) -> Result<Literal<String>, BuildError>
     ensures parts { IfOk result (λ built. derivation built ≡ unescaped (derivation lit.now)) }
     ensures value { IfOk result (λ built.
@@ -79,7 +84,7 @@ fn built<B: Text>(alloc: Global, lit: &Literal<B>) -> Result<Literal<String>, Bu
     }
 }
 
-/// The literal with its own text.
+/// Parses a copy of the text of `lit`.
 fn kept<B: Text>(alloc: Global, lit: &Literal<B>) -> Result<Literal<String>, BuildError>
     ensures parts { IfOk result (λ copy. derivation copy ≡ derivation lit.now) }
     ensures errors { IfErr result (λ e. e ≡ BuildError.Memory) }
@@ -91,7 +96,7 @@ fn kept<B: Text>(alloc: Global, lit: &Literal<B>) -> Result<Literal<String>, Bui
     }
 }
 
-/// The char of the same character.
+/// Builds the char of the value and the suffix of `lit`.
 fn built_char<B: Text>(alloc: Global, lit: &CharLit<B>) -> Result<CharLit<String>, BuildError>
     ensures parts { IfOk result (λ built.
         char_parts built ≡ unescaped_char (char_parts lit.now)) }
@@ -104,7 +109,7 @@ fn built_char<B: Text>(alloc: Global, lit: &CharLit<B>) -> Result<CharLit<String
     char(alloc, lit.value(), lit.suffix())
 }
 
-/// The byte of the same number.
+/// Builds the byte of the value and the suffix of `lit`.
 fn built_byte<B: Text>(alloc: Global, lit: &ByteLit<B>) -> Result<ByteLit<String>, BuildError>
     ensures parts { IfOk result (λ built.
         byte_parts built ≡ unescaped_byte (byte_parts lit.now)) }
@@ -117,7 +122,7 @@ fn built_byte<B: Text>(alloc: Global, lit: &ByteLit<B>) -> Result<ByteLit<String
     byte(alloc, lit.value(), lit.suffix())
 }
 
-/// The string of the same text, quoted or raw.
+/// Builds the string of the value and the suffix of `lit`, quoted or raw as `lit` is.
 fn built_string<B: Text>(alloc: Global, lit: &StringLit<B>) -> Result<StringLit<String>, BuildError>
     ensures parts { IfOk result (λ built.
         built.parts ≡ unescaped_string string_kind lit.now.parts) }
@@ -133,7 +138,7 @@ fn built_string<B: Text>(alloc: Global, lit: &StringLit<B>) -> Result<StringLit<
     }
 }
 
-/// The byte string of the same bytes, quoted or raw.
+/// Builds the byte string of the value and the suffix of `lit`, quoted or raw as `lit` is.
 fn built_byte_string<B: Text>(
     alloc: Global,
     lit: &ByteStringLit<B>,
@@ -152,7 +157,7 @@ fn built_byte_string<B: Text>(
     }
 }
 
-/// The C string of the same bytes, quoted or raw.
+/// Builds the C string of the value and the suffix of `lit`, quoted or raw as `lit` is.
 fn built_c_string<B: Text>(
     alloc: Global,
     lit: &CStringLit<B>,

@@ -15,13 +15,15 @@ use litrs::ByteStringLit;
 use litrs_lex::check_suffix;
 use std::alloc::{AllocError, Global};
 
-/// The byte string of some bytes, as `b"a\xff"`, with a suffix, which may be empty. There is one
-/// allocation for its text, and one for its value where the text has a backslash. See
-/// [the reference][ref].
+/// Builds the byte string with this value and this suffix, which may be empty, for example
+/// `b"a\xff"`. See [the reference][ref].
+///
+/// There is one allocation for the text, and one for the value if the text contains a backslash.
 ///
 /// # Errors
 ///
-/// `NotASuffix` where the suffix is not one; else `Memory` where an allocation fails.
+/// `NotASuffix` if `suffix` is neither empty nor an identifier, otherwise `Memory` if an allocation
+/// fails.
 ///
 /// [ref]: https://doc.rust-lang.org/reference/tokens.html#byte-string-literals
 pub fn byte_string(
@@ -44,7 +46,7 @@ pub fn byte_string(
     }
 }
 
-/// The text of a byte string.
+/// Writes the text of a byte string.
 fn write_byte_string(alloc: Global, value: &[u8], suffix: &str) -> Result<String, BuildError>
     ensures text { IfOk result (λ text. string_bytes text ≡ ((codes "b\""
         ++ encode_utf8_all (body_text (byte_items value.now))) ++ 34 ∷ []) ++ suffix.now) }
@@ -66,7 +68,7 @@ fn write_byte_string(alloc: Global, value: &[u8], suffix: &str) -> Result<String
     Ok(text)
 }
 
-/// How many bytes the bytes have between quotes.
+/// Returns the length in bytes of `value`, escaped.
 fn bytes_len(value: &[u8]) -> usize {
     let mut len: usize = 0;
     for b in value {
@@ -75,7 +77,7 @@ fn bytes_len(value: &[u8]) -> usize {
     len
 }
 
-/// Appends the bytes as they stand between quotes.
+/// Appends `value`, escaped.
 fn push_bytes(text: &mut String, value: &[u8]) -> Result<(), AllocError>
     ensures { OnOk result (string_bytes text.new
         ≡ string_bytes text.old ++ encode_utf8_all (body_text (byte_items value.now))) }

@@ -17,14 +17,16 @@ use memchr::memchr;
 use std::alloc::{AllocError, Global};
 use std::str;
 
-/// The C string of some bytes, without the NUL that closes it, as `c"é\xff"`, with a suffix, which
-/// may be empty. Bytes that are UTF-8 are written as text. There is one allocation for its text,
-/// and one for its value. See [the reference][ref].
+/// Builds the C string with this value, given without its closing NUL, and with this suffix, which
+/// may be empty, for example `c"é\xff"`. Bytes that are UTF-8 are written as text. See
+/// [the reference][ref].
+///
+/// There is one allocation for the text, and one for the value.
 ///
 /// # Errors
 ///
-/// `NotASuffix` where the suffix is not one; else `HasNul` at the first NUL of the value; else
-/// `Memory` where an allocation fails.
+/// `NotASuffix` if `suffix` is neither empty nor an identifier, otherwise `HasNul` if `value`
+/// contains a NUL, otherwise `Memory` if an allocation fails.
 ///
 /// [ref]: https://doc.rust-lang.org/reference/tokens.html#c-string-literals
 pub fn c_string(alloc: Global, value: &[u8], suffix: &str) -> Result<CStringLit<String>, BuildError>
@@ -42,7 +44,7 @@ pub fn c_string(alloc: Global, value: &[u8], suffix: &str) -> Result<CStringLit<
     }
 }
 
-/// The text of a C string.
+/// Writes the text of a C string.
 fn write_c_string(alloc: Global, value: &[u8], suffix: &str) -> Result<String, BuildError>
     ensures text { IfOk result (λ text. string_bytes text ≡ ((codes "c\""
         ++ encode_utf8_all (body_text (c_items 0 true value.now))) ++ 34 ∷ []) ++ suffix.now) }
@@ -64,7 +66,7 @@ fn write_c_string(alloc: Global, value: &[u8], suffix: &str) -> Result<String, B
     Ok(text)
 }
 
-/// Why no C string has the bytes and the suffix.
+/// Returns the reason why no C string has this value and this suffix, if there is one.
 pub(crate) fn c_string_error(value: &[u8], suffix: &str) -> Option<BuildError>
     ensures { result ≡ c_string_error value.now (chars suffix.now) }
 {
@@ -75,7 +77,7 @@ pub(crate) fn c_string_error(value: &[u8], suffix: &str) -> Option<BuildError>
     Some(BuildError::HasNul { at })
 }
 
-/// Where the first NUL stands.
+/// Returns the index of the first NUL.
 #[tactic(auto, using(crate::proofs::NulPlaces::first_byte_is_position))]
 fn nul_place(bytes: &[u8]) -> Option<usize>
     ensures { result ≡ position is_nul bytes.now }
@@ -83,7 +85,7 @@ fn nul_place(bytes: &[u8]) -> Option<usize>
     memchr(0, bytes)
 }
 
-/// How many bytes the bytes have between quotes.
+/// Returns the length in bytes of `value`, escaped.
 fn c_bytes_len(value: &[u8]) -> usize {
     let mut len: usize = 0;
     let mut follows_mark = true;
@@ -97,7 +99,7 @@ fn c_bytes_len(value: &[u8]) -> usize {
     len
 }
 
-/// Appends the bytes as they stand between quotes.
+/// Appends `value`, escaped.
 fn push_c_bytes(text: &mut String, value: &[u8]) -> Result<(), AllocError>
     ensures { OnOk result (string_bytes text.new
         ≡ string_bytes text.old ++ encode_utf8_all (body_text (c_items 0 true value.now))) }
@@ -113,8 +115,8 @@ fn push_c_bytes(text: &mut String, value: &[u8]) -> Result<(), AllocError>
     Ok(())
 }
 
-/// How the character is spelled that the bytes begin with, or else their first byte, and how many
-/// bytes that are.
+/// Returns the spelling of the character that the bytes begin with, or of their first byte, and its
+/// length in bytes.
 fn first_spelling(bytes: &[u8], follows_mark: bool) -> (Spelling, usize)
     requires { 0 < length bytes.now }
     ensures spelling { result.0
@@ -129,7 +131,7 @@ fn first_spelling(bytes: &[u8], follows_mark: bool) -> (Spelling, usize)
     }
 }
 
-/// The character whose UTF-8 the bytes begin with.
+/// Returns the character whose UTF-8 the bytes begin with.
 fn first_char(bytes: &[u8]) -> Option<char>
     requires { 0 < length bytes.now }
     ensures { result ≡ first_char bytes.now }
@@ -140,7 +142,7 @@ fn first_char(bytes: &[u8]) -> Option<char>
     }
 }
 
-/// How many bytes the character has that begins with this byte.
+/// Returns the length in bytes of a character whose UTF-8 begins with this byte.
 fn char_len(first: u8) -> usize
     ensures { result ≡ 1 + continuation_len first }
 {
@@ -155,7 +157,7 @@ fn char_len(first: u8) -> usize
     }
 }
 
-/// So many bytes at the front, or all.
+/// Returns the first `len` bytes, or all if there are fewer.
 fn first_bytes(bytes: &[u8], count: usize) -> &[u8]
     ensures { result.now ≡ take count bytes.now }
 {

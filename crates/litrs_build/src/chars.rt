@@ -16,12 +16,15 @@ use litrs::{ByteLit, CharLit};
 use litrs_lex::check_suffix;
 use std::alloc::Global;
 
-/// The char of a character, as `'a'`, `'\n'` and `'\u{200b}'`, with a suffix, which may be empty.
-/// There is one allocation, for the text. See [the reference][ref].
+/// Builds the char with this value and this suffix, which may be empty, for example `'a'`, `'\n'`
+/// or `'\u{200b}'`. See [the reference][ref].
+///
+/// There is one allocation, for the text.
 ///
 /// # Errors
 ///
-/// `NotASuffix` where the suffix is not one; else `Memory` where an allocation fails.
+/// `NotASuffix` if `suffix` is neither empty nor an identifier, otherwise `Memory` if an allocation
+/// fails.
 ///
 /// [ref]: https://doc.rust-lang.org/reference/tokens.html#character-literals
 pub fn char(alloc: Global, value: char, suffix: &str) -> Result<CharLit<String>, BuildError>
@@ -40,12 +43,15 @@ pub fn char(alloc: Global, value: char, suffix: &str) -> Result<CharLit<String>,
     }
 }
 
-/// The byte of a number, as `b'a'`, `b'\n'` and `b'\xff'`, with a suffix, which may be empty. There
-/// is one allocation, for the text. See [the reference][ref].
+/// Builds the byte with this value and this suffix, which may be empty, for example `b'a'`, `b'\n'`
+/// or `b'\xff'`. See [the reference][ref].
+///
+/// There is one allocation, for the text.
 ///
 /// # Errors
 ///
-/// `NotASuffix` where the suffix is not one; else `Memory` where an allocation fails.
+/// `NotASuffix` if `suffix` is neither empty nor an identifier, otherwise `Memory` if an allocation
+/// fails.
 ///
 /// [ref]: https://doc.rust-lang.org/reference/tokens.html#byte-literals
 pub fn byte(alloc: Global, value: u8, suffix: &str) -> Result<ByteLit<String>, BuildError>
@@ -64,7 +70,7 @@ pub fn byte(alloc: Global, value: u8, suffix: &str) -> Result<ByteLit<String>, B
     }
 }
 
-/// The text of a char or a byte: what it begins with, the character, the quote and the suffix.
+/// Writes the text of a char or a byte: `front`, the character, a quote and `suffix`.
 fn write_spelling(
     alloc: Global,
     front: &str,

@@ -1,5 +1,5 @@
-//! Why no literal was built.
-ghost use Rattle.std.specs.Prelude.{◌≡◌};
+//! The errors of a call that builds a literal.
+ghost use Rattle.std.specs.Prelude.{◌≡◌, Some};
 ghost use Rattle.litrs_base.specs.Refusal.{kind_of};
 
 use litrs::{ParseError, ParseErrorKind};
@@ -7,25 +7,30 @@ use std::alloc::AllocError;
 use std::error::Error;
 use std::fmt;
 
-/// Why no literal was built.
+/// The reason why a literal was not built.
 #[derive(Clone, Copy, Debug, PartialEq, Eq)]
 pub enum BuildError {
-    /// The suffix is not one: it is neither empty nor an identifier, as `u 8` and `_`.
+    /// The suffix is neither empty nor an identifier, for example `u 8` or `_`; or no integer of
+    /// the base has it, for example `f32` in base sixteen.
     NotASuffix,
-    /// The value of a C string has a NUL, of which the first stands at this place, in bytes.
+    /// The value of a C string contains a NUL.
     HasNul {
-        /// How many bytes stand before it.
+        /// The index of the first NUL, in bytes.
         at: usize,
     },
-    /// No raw string has this value.
+    /// The value is not that of a raw string.
     NotRaw,
-    /// No float has these parts.
+    /// The parts are not those of a float.
     NotAFloat,
     /// An allocation failed.
     Memory,
 }
 
 impl fmt::Display for BuildError {
+    ghost use Rattle.litrs_build.specs.ErrorText.{build_error_text};
+
+    ghost output = { λ error. Some (build_error_text error) };
+
     fn fmt<W: fmt::Write>(&self, f: &mut fmt::Formatter<W>) -> fmt::Result {
         match self {
             BuildError::NotASuffix => f.write_str("not a suffix"),
@@ -49,7 +54,7 @@ impl From<AllocError> for BuildError {
     }
 }
 
-/// The error of a parse of a text that is a literal: an allocation failed.
+/// Returns the error of a failed parse of a text that is a literal: an allocation failed.
 pub(crate) fn memory_error(error: &ParseError) -> BuildError
     requires { kind_of error.now ≡ ParseErrorKind.OutOfMemory }
     ensures { result ≡ BuildError.Memory }

@@ -18,17 +18,19 @@ use litrs::FloatLit;
 use litrs_lex::check_suffix;
 use std::alloc::{AllocError, Global};
 
-/// The float with these parts: `147.3_33__E3f64` of `147`, `Some("3_33__")`, `E3` and `f64`. See
-/// [the reference][ref].
+/// Builds the float with these parts, for example `147.3_33__E3f64` from `147`, `Some("3_33__")`,
+/// `E3` and `f64`. See [the reference][ref].
 ///
-/// The fraction is what stands after the period, None where there is no period. The exponent has
-/// its letter and its sign, and is empty where there is none; so is the suffix. It allocates once.
+/// `fraction` is the part after the period, `None` if there is no period. `exponent` includes its
+/// letter and its sign, and is empty if there is no exponent. `suffix` may be empty.
+///
+/// There is one allocation, for the text.
 ///
 /// # Errors
 ///
-/// `NotAFloat` if and only if no float has these parts, as `1`, `Some("")` and the suffix `f32`,
-/// or `1`, None and no exponent. This is decided before it allocates. `Memory` where an allocation
-/// fails.
+/// `NotAFloat` if and only if no float has these parts, for example `1`, `Some("")` and the suffix
+/// `f32`, or `1`, `None` and no exponent. This is decided before the allocation. `Memory` if the
+/// allocation fails.
 ///
 /// [ref]: https://doc.rust-lang.org/reference/tokens.html#floating-point-literals
 pub fn float(
@@ -61,7 +63,7 @@ pub fn float(
     Ok(float_of(text))
 }
 
-/// Whether a float has these parts.
+/// Returns `true` if a float has these parts.
 fn is_float(integer: &str, fraction: Option<&str>, exponent: &str, suffix: &str) -> bool
     ensures { result ≡ is_float (record {
       integer = chars integer.now;
@@ -73,7 +75,7 @@ fn is_float(integer: &str, fraction: Option<&str>, exponent: &str, suffix: &str)
     is_decimal_literal(integer.as_bytes()) && fits_after_integer(fraction, exponent, suffix)
 }
 
-/// Whether these parts may follow the integer part of a float.
+/// Returns `true` if these parts may follow the integer part of a float.
 fn fits_after_integer(fraction: Option<&str>, exponent: &str, suffix: &str) -> bool
     ensures { result
         ≡ (is_float_form (option_map (λ digits. chars digits.now) fraction.entry)
@@ -85,14 +87,14 @@ fn fits_after_integer(fraction: Option<&str>, exponent: &str, suffix: &str) -> b
     has_float_form(fraction, exponent, suffix) && is_float_suffix(suffix, exponent)
 }
 
-/// Whether a decimal digit stands first, and digits and `_` after it.
+/// Returns `true` if a decimal digit comes first, and only digits and `_` follow it.
 fn is_decimal_literal(bytes: &[u8]) -> bool
     ensures { result ≡ is_decimal_literal bytes.now }
 {
     begins_with_ascii_digit(bytes) && is_decimal(bytes)
 }
 
-/// Whether a decimal digit stands first.
+/// Returns `true` if a decimal digit comes first.
 fn begins_with_ascii_digit(bytes: &[u8]) -> bool
     ensures { result ≡ first_passes is_ascii_digit bytes.now }
 {
@@ -102,7 +104,7 @@ fn begins_with_ascii_digit(bytes: &[u8]) -> bool
     }
 }
 
-/// Whether all are decimal digits and `_`.
+/// Returns `true` if all are decimal digits or `_`.
 fn is_decimal(bytes: &[u8]) -> bool
     ensures { result ≡ list_all is_decimal_char bytes.now }
 {
@@ -111,7 +113,7 @@ fn is_decimal(bytes: &[u8]) -> bool
         .all(|byte| byte.is_ascii_digit() || *byte == b'_')
 }
 
-/// Whether these parts have one of the three forms after the integer part.
+/// Returns `true` if these parts have one of the three forms after the integer part.
 fn has_float_form(fraction: Option<&str>, exponent: &str, suffix: &str) -> bool
     ensures { result ≡ is_float_form (option_map (λ digits. chars digits.now) fraction.entry)
         (chars exponent.now) (chars suffix.now) }
@@ -122,7 +124,7 @@ fn has_float_form(fraction: Option<&str>, exponent: &str, suffix: &str) -> bool
     }
 }
 
-/// The same where there is a period.
+/// Like [`has_float_form`], if there is a period.
 fn has_fraction_form(digits: &str, exponent: &str, suffix: &str) -> bool
     ensures { result
         ≡ is_float_form (Some (chars digits.now)) (chars exponent.now) (chars suffix.now) }
@@ -134,14 +136,14 @@ fn has_fraction_form(digits: &str, exponent: &str, suffix: &str) -> bool
     }
 }
 
-/// Whether it is empty or an exponent.
+/// Returns `true` if it is empty or an exponent.
 fn is_optional_exponent(bytes: &[u8]) -> bool
     ensures { result ≡ (is_empty bytes.now || is_exponent bytes.now) }
 {
     bytes.is_empty() || is_exponent(bytes)
 }
 
-/// Whether it is `e` or `E`, an optional sign, then digits and `_` with at least one digit.
+/// Returns `true` if it is `e` or `E`, an optional sign, then digits and `_` with a digit.
 #[tactic(auto, unfolding(litrs_grammar::specs::Float::is_exponent))]
 fn is_exponent(bytes: &[u8]) -> bool
     ensures { result ≡ is_exponent bytes.now }
@@ -152,7 +154,7 @@ fn is_exponent(bytes: &[u8]) -> bool
     }
 }
 
-/// How many bytes a sign takes, none where there is none.
+/// Returns the length of the sign that comes first: 0 or 1.
 fn sign_len(bytes: &[u8]) -> usize
     ensures len { result ≡ sign_len bytes.now }
     ensures within { result ≤ length bytes.now }
@@ -163,21 +165,21 @@ fn sign_len(bytes: &[u8]) -> usize
     }
 }
 
-/// Whether all are decimal digits and `_`, at least one of them a digit.
+/// Returns `true` if all are decimal digits or `_`, and one is a digit.
 fn is_exponent_number(bytes: &[u8]) -> bool
     ensures { result ≡ is_exponent_number bytes.now }
 {
     is_decimal(bytes) && has_ascii_digit(bytes)
 }
 
-/// Whether a decimal digit is among the bytes.
+/// Returns `true` if one of the bytes is a decimal digit.
 fn has_ascii_digit(bytes: &[u8]) -> bool
     ensures { result ≡ list_any is_ascii_digit bytes.now }
 {
     bytes.iter().any(|byte| byte.is_ascii_digit())
 }
 
-/// Whether a float with this exponent may have this suffix.
+/// Returns `true` if a float with this exponent may have this suffix.
 fn is_float_suffix(suffix: &str, exponent: &str) -> bool
     ensures { result ≡ (is_suffix (chars suffix.now)
         && (not (first_passes is_underscore (chars suffix.now))
@@ -186,8 +188,8 @@ fn is_float_suffix(suffix: &str, exponent: &str) -> bool
     check_suffix(suffix).is_ok() && begins_apart(suffix.as_bytes(), exponent.is_empty())
 }
 
-/// Whether what stands first would not be read as a part of the number: `_`, and where there is no
-/// exponent `e` or `E`.
+/// Returns `true` if the first byte would not be read as a part of the number, as `_` would be, and
+/// without an exponent `e` or `E`.
 fn begins_apart(bytes: &[u8], has_no_exponent: bool) -> bool
     ensures { result ≡ (not (first_passes is_underscore bytes.now)
         && not (has_no_exponent && first_passes is_e bytes.now)) }
@@ -195,7 +197,7 @@ fn begins_apart(bytes: &[u8], has_no_exponent: bool) -> bool
     !begins_with_underscore(bytes) && !(has_no_exponent && begins_with_e(bytes))
 }
 
-/// Whether `_` stands first.
+/// Returns `true` if `_` comes first.
 fn begins_with_underscore(bytes: &[u8]) -> bool
     ensures { result ≡ first_passes is_underscore bytes.now }
 {
@@ -205,7 +207,7 @@ fn begins_with_underscore(bytes: &[u8]) -> bool
     }
 }
 
-/// The text with these parts.
+/// Writes the text with these parts.
 fn written_text(
     alloc: Global,
     integer: &str,
@@ -233,7 +235,7 @@ fn written_text(
     Ok(text)
 }
 
-/// How many bytes the period and the fraction take.
+/// Returns the length in bytes of the period and the fraction.
 fn fraction_len(fraction: Option<&str>) -> usize {
     match fraction {
         Some(digits) => digits.len().saturating_add(1),
@@ -241,7 +243,7 @@ fn fraction_len(fraction: Option<&str>) -> usize {
     }
 }
 
-/// Adds the period and the fraction, if there is one.
+/// Appends the period and the fraction, if there is one.
 fn push_fraction(text: &mut String, fraction: Option<&str>) -> Result<(), AllocError>
     ensures { OnOk result (chars (string_bytes text.new) ≡ chars (string_bytes text.old)
         ++ fraction_text (option_map (λ digits. chars digits.now) fraction.entry)) }
@@ -252,7 +254,7 @@ fn push_fraction(text: &mut String, fraction: Option<&str>) -> Result<(), AllocE
     }
 }
 
-/// Adds a period and the digits.
+/// Appends a period and the digits.
 fn push_after_period(text: &mut String, digits: &str) -> Result<(), AllocError>
     ensures { OnOk result (chars (string_bytes text.new)
         ≡ chars (string_bytes text.old) ++ (period ∷ chars digits.now)) }
@@ -262,7 +264,7 @@ fn push_after_period(text: &mut String, digits: &str) -> Result<(), AllocError>
     Ok(())
 }
 
-/// Adds a part.
+/// Appends a part.
 fn push_part(text: &mut String, part: &str) -> Result<(), AllocError>
     ensures { OnOk result (chars (string_bytes text.new)
         ≡ chars (string_bytes text.old) ++ chars part.now) }
@@ -271,7 +273,7 @@ fn push_part(text: &mut String, part: &str) -> Result<(), AllocError>
     Ok(())
 }
 
-/// The float that the text is.
+/// Parses a text that is a float.
 fn float_of(text: String) -> FloatLit<String>
     requires { (d : FloatParts) × IsFloatOf (chars (string_bytes text)) d }
     ensures raw { result.raw ≡ string_bytes text }

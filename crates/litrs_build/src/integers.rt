@@ -20,15 +20,17 @@ use litrs::{IntegerBase, IntegerLit, Text};
 use litrs_lex::check_suffix;
 use std::alloc::{AllocError, Global};
 
-/// The most digits of a number of 128 bits: those in base two.
+/// The greatest number of digits of a 128 bit number, in base two.
 const MAX_DIGITS: usize = 128;
 
-/// The integer with this value in this base, and with this suffix: `0xffu8` for 255, `Hexadecimal`
-/// and `u8`. See [`grouped_integer`], which writes `_` between groups of digits too.
+/// Builds the integer with this value, base and suffix, for example `0xffu8` from 255,
+/// `Hexadecimal` and `u8`. See [`grouped_integer`], which also writes `_` between groups of digits.
+///
+/// There is one allocation, for the text.
 ///
 /// # Errors
 ///
-/// As of [`grouped_integer`].
+/// As [`grouped_integer`].
 pub fn integer(
     alloc: Global,
     value: u128,
@@ -47,20 +49,21 @@ pub fn integer(
     grouped_integer(alloc, value, base, 0, suffix)
 }
 
-/// The integer with this value in this base, its digits in groups of so many with `_` between
-/// them, and with this suffix: `0xf_ffffu32` for 1048575, `Hexadecimal`, 4 and `u32`. See
-/// [the reference][ref].
+/// Builds the integer with this value, base and suffix, with `_` between groups of `group` digits,
+/// for example `0xf_ffffu32` from 1048575, `Hexadecimal`, 4 and `u32`. See [the reference][ref].
 ///
-/// Letters are in lower case, and no zero stands before the first digit. Groups are counted from
-/// the last digit; groups of 0 digits are none at all. The suffix follows the last digit, but for
-/// one case: `0` in base ten before a suffix that begins with `b`, `o` or `x` is `0_`, since
-/// `0b1` is binary. It allocates once.
+/// Letters are in lower case, and there are no leading zeros. Groups are counted from the last
+/// digit; if `group` is 0, there are none. The suffix follows the last digit, with one exception:
+/// `0` in base ten before a suffix that begins with `b`, `o` or `x` is written `0_`, since `0b1` is
+/// binary.
+///
+/// There is one allocation, for the text.
 ///
 /// # Errors
 ///
-/// `NotASuffix` if and only if no integer of the base has the suffix: it is none, or begins with
-/// `e`, `E`, `_` or a digit of the base, as `f32` in base sixteen. This is decided before it
-/// allocates. `Memory` where an allocation fails.
+/// `NotASuffix` if and only if no integer of the base has the suffix: it is neither empty nor an
+/// identifier, or begins with `e`, `E`, `_` or a digit of the base, for example `f32` in base
+/// sixteen. This is decided before the allocation. `Memory` if the allocation fails.
 ///
 /// [ref]: https://doc.rust-lang.org/reference/tokens.html#integer-literals
 pub fn grouped_integer(
@@ -87,14 +90,16 @@ pub fn grouped_integer(
     Ok(written(alloc, base, &buffer[start..], group, suffix)?)
 }
 
-/// The same integer with its digits in groups of so many: of `0xFF_FFu32` with 3 it is
-/// `0xf_fffu32`. Base, value and suffix stay, and the digits too, but for letters in upper case.
-/// What is written is as of [`grouped_integer`], with the zeros that stand before the first other
-/// digit. It allocates once.
+/// Returns `lit` with `_` between groups of `group` digits, for example `0xf_fffu32` for
+/// `0xFF_FFu32` and 3. The base, the value, the suffix and the digits are those of `lit`, but
+/// letters of digits are in lower case.
+///
+/// The integer is written as by [`grouped_integer`], with the leading zeros of `lit`. There is one
+/// allocation, for the text.
 ///
 /// # Errors
 ///
-/// `AllocError` where there is no memory for the text.
+/// `AllocError` if the allocation fails.
 pub fn regroup<B: Text>(
     alloc: Global,
     lit: &IntegerLit<B>,
@@ -113,15 +118,15 @@ pub fn regroup<B: Text>(
     written(alloc, lit.base(), main.as_bytes(), group, lit.suffix())
 }
 
-/// Whether an integer of this base may have this suffix.
+/// Returns `true` if an integer of this base may have this suffix.
 fn is_integer_suffix(base: IntegerBase, suffix: &str) -> bool
     ensures { result ≡ is_integer_suffix base (chars suffix.now) }
 {
     check_suffix(suffix).is_ok() && begins_apart(base, suffix.as_bytes())
 }
 
-/// Whether what stands first would not be read as a part of the number: `e`, `E`, a digit of the
-/// base or `_`.
+/// Returns `true` if the first byte would not be read as a part of the number, as `e`, `E`, a digit
+/// of the base or `_` would be.
 fn begins_apart(base: IntegerBase, bytes: &[u8]) -> bool
     ensures { result ≡ (not (first_passes is_e bytes.now)
         && not (first_passes (is_digit_or_underscore base) bytes.now)) }
@@ -129,7 +134,7 @@ fn begins_apart(base: IntegerBase, bytes: &[u8]) -> bool
     !begins_with_e(bytes) && !begins_with_digit(base, bytes)
 }
 
-/// Whether `e` or `E` stands first.
+/// Returns `true` if `e` or `E` comes first.
 pub(crate) fn begins_with_e(bytes: &[u8]) -> bool
     ensures { result ≡ first_passes is_e bytes.now }
 {
@@ -139,7 +144,7 @@ pub(crate) fn begins_with_e(bytes: &[u8]) -> bool
     }
 }
 
-/// Whether a digit of the base or `_` stands first.
+/// Returns `true` if a digit of the base or `_` comes first.
 fn begins_with_digit(base: IntegerBase, bytes: &[u8]) -> bool
     ensures { result ≡ first_passes (is_digit_or_underscore base) bytes.now }
 {
@@ -149,7 +154,7 @@ fn begins_with_digit(base: IntegerBase, bytes: &[u8]) -> bool
     }
 }
 
-/// Whether the byte is a digit of the base or `_`.
+/// Returns `true` if the byte is a digit of the base or `_`.
 fn is_digit_or_underscore(base: IntegerBase, byte: u8) -> bool
     ensures { result ≡ is_digit_or_underscore base byte }
 {
@@ -161,7 +166,7 @@ fn is_digit_or_underscore(base: IntegerBase, byte: u8) -> bool
     }
 }
 
-/// Writes the digits of the value at the end of the buffer, and answers where they begin.
+/// Writes the digits of `value` at the end of the buffer. Returns the index of the first.
 fn write_digits(value: u128, base: IntegerBase, buffer: &mut [u8; MAX_DIGITS]) -> usize
     ensures digits { drop result buffer.new ≡ written_digits base value }
     ensures within { result ≤ MAX_DIGITS }
@@ -181,7 +186,7 @@ fn write_digits(value: u128, base: IntegerBase, buffer: &mut [u8; MAX_DIGITS]) -
     start
 }
 
-/// The character of a digit from 0 to 15.
+/// Returns the character of a digit from 0 to 15.
 fn digit_char(digit: u8) -> u8
     requires { digit < 16 }
     ensures { result ≡ digit_char digit }
@@ -193,7 +198,7 @@ fn digit_char(digit: u8) -> u8
     }
 }
 
-/// The integer with these digits, grouped so, and this suffix.
+/// Builds the integer with these digits in groups, and with this suffix.
 fn written(
     alloc: Global,
     base: IntegerBase,
@@ -214,7 +219,7 @@ fn written(
     Ok(integer_of(text))
 }
 
-/// The text with these digits, grouped so, and this suffix.
+/// Writes the text with these digits in groups, and with this suffix.
 fn written_text(
     alloc: Global,
     base: IntegerBase,
@@ -245,14 +250,14 @@ fn written_text(
     Ok(text)
 }
 
-/// `_` where it is needed.
+/// Returns `_` if it is needed, otherwise an empty text.
 fn separator(is_needed: bool) -> &'static str
     ensures { result.now ≡ (if is_needed then underscore ∷ [] else []) }
 {
     if is_needed { "_" } else { "" }
 }
 
-/// The integer that the text is.
+/// Parses a text that is an integer.
 fn integer_of(text: String) -> IntegerLit<String>
     requires { (d : IntegerParts) × IsIntegerOf (chars (string_bytes text)) d }
     ensures raw { result.raw ≡ string_bytes text }
@@ -265,14 +270,15 @@ fn integer_of(text: String) -> IntegerLit<String>
     }
 }
 
-/// How many of these digits and underscores are digits.
+/// Returns the number of digits among these digits and underscores.
 fn digit_count(main: &[u8]) -> usize
     ensures { result ≡ length (filter is_no_underscore main.now) }
 {
     main.iter().filter(|byte| **byte != b'_').count()
 }
 
-/// Whether these digits, of which there are so many, have to be kept apart from the suffix.
+/// Returns `true` if there has to be a `_` between the digits, whose number is `digits`, and the
+/// suffix.
 fn needs_separator(base: IntegerBase, main: &[u8], digits: usize, suffix: &str) -> bool
     requires count { digits ≡ length (filter is_no_underscore main.now) }
     requires decimal { base ≡ IntegerBase.Decimal → IsTrue (first_passes is_ascii_digit main.now) }
@@ -286,14 +292,14 @@ fn needs_separator(base: IntegerBase, main: &[u8], digits: usize, suffix: &str) 
     }
 }
 
-/// Whether `0` stands first, and there is one digit.
+/// Returns `true` if `0` comes first, and there is one digit.
 fn is_lone_zero(main: &[u8], digits: usize) -> bool
     ensures { result ≡ ((digits == 1) && first_passes (λ c. c == digit_zero) main.now) }
 {
     digits == 1 && begins_with_zero(main)
 }
 
-/// Whether `0` stands first.
+/// Returns `true` if `0` comes first.
 fn begins_with_zero(bytes: &[u8]) -> bool
     ensures { result ≡ first_passes (λ c. c == digit_zero) bytes.now }
 {
@@ -303,7 +309,7 @@ fn begins_with_zero(bytes: &[u8]) -> bool
     }
 }
 
-/// Whether `b`, `o` or `x` stands first.
+/// Returns `true` if `b`, `o` or `x` comes first.
 fn begins_with_base_letter(bytes: &[u8]) -> bool
     ensures { result ≡ first_passes is_base_letter bytes.now }
 {
@@ -313,7 +319,7 @@ fn begins_with_base_letter(bytes: &[u8]) -> bool
     }
 }
 
-/// How many characters so many digits take in groups.
+/// Returns the length of `digits` digits with separators.
 fn grouped_len(digits: usize, group: usize) -> usize {
     if group == 0 || digits == 0 {
         digits
@@ -322,7 +328,7 @@ fn grouped_len(digits: usize, group: usize) -> usize {
     }
 }
 
-/// Adds the digits, of which there are so many, in groups, letters in lower case.
+/// Appends the digits, whose number is `digits`, in groups, letters in lower case.
 fn push_grouped(
     text: &mut String,
     main: &[u8],
@@ -345,7 +351,7 @@ fn push_grouped(
     Ok(())
 }
 
-/// Adds a digit, and `_` where it ends a group.
+/// Appends a digit, and `_` if it ends a group.
 fn push_digit(text: &mut String, digit: u8, ends_group: bool) -> Result<(), AllocError>
     requires { digit < 128 }
     ensures { OnOk result (string_bytes text.new ≡ string_bytes text.old
@@ -355,7 +361,7 @@ fn push_digit(text: &mut String, digit: u8, ends_group: bool) -> Result<(), Allo
     text.push_str(separator(ends_group))
 }
 
-/// Whether a group ends before so many digits.
+/// Returns `true` if a group ends before the last `after` digits.
 fn ends_group(group: usize, after: usize) -> bool
     ensures { result ≡ ends_group group after }
 {

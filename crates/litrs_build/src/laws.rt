@@ -1,31 +1,31 @@
 //! Laws of what is written.
 ghost use Rattle.litrs_build.specs.Laws.{CharsArePrintable, BytesArePrintable, StringsArePrintable, ByteStringsArePrintable, CStringsArePrintable, RawLiteralsNeedHashes, RawLiteralsAreBuilt};
 
-/// Between the quotes of a char all is printable.
+/// Every character between the quotes of a char is printable.
 #[tactic(auto, using(crate::proofs::PrintableTexts::chars_are_printable))]
 pub fn chars_are_printable()
     ensures { CharsArePrintable }
 {}
 
-/// Between the quotes of a byte all is printable.
+/// Every character between the quotes of a byte is printable.
 #[tactic(auto, using(crate::proofs::PrintableTexts::bytes_are_printable))]
 pub fn bytes_are_printable()
     ensures { BytesArePrintable }
 {}
 
-/// Between the quotes of a string all is printable.
+/// Every character between the quotes of a string is printable.
 #[tactic(auto, using(crate::proofs::PrintableTexts::strings_are_printable))]
 pub fn strings_are_printable()
     ensures { StringsArePrintable }
 {}
 
-/// Between the quotes of a byte string all is printable.
+/// Every character between the quotes of a byte string is printable.
 #[tactic(auto, using(crate::proofs::PrintableTexts::byte_strings_are_printable))]
 pub fn byte_strings_are_printable()
     ensures { ByteStringsArePrintable }
 {}
 
-/// Between the quotes of a C string all is printable.
+/// Every character between the quotes of a C string is printable.
 #[tactic(auto, using(crate::proofs::PrintableTexts::c_strings_are_printable))]
 pub fn c_strings_are_printable()
     ensures { CStringsArePrintable }
@@ -37,7 +37,7 @@ pub fn raw_literals_need_hashes()
     ensures { RawLiteralsNeedHashes }
 {}
 
-/// Each raw literal is one that is built of its value and its suffix.
+/// No error is expected of the value and the suffix of a raw literal.
 #[tactic(auto, using(crate::proofs::RawLiterals::raw_literals_are_built))]
 pub fn raw_literals_are_built()
     ensures { RawLiteralsAreBuilt }

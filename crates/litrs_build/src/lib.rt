@@ -1,16 +1,16 @@
-//! Writes Rust literals: from a value and a suffix to the literal that stands for them. What was
-//! built, parsed, is that value.
+//! Builds Rust literals from a value and a suffix. Parsing a literal that was built returns the
+//! value.
 //!
 //! | Value | Call | Literal |
 //! |---|---|---|
 //! | `a`, LF, U+200B | [`char`] | `'a'`, `'\n'`, `'\u{200b}'` |
 //! | 97, 10, 255 | [`byte`] | `b'a'`, `b'\n'`, `b'\xff'` |
 //! | `é"` and LF | [`string`] | `"é\"\n"` |
-//! | the same as bytes | [`byte_string`] | `b"\xc3\xa9\"\n"` |
-//! | the same, and the byte FF | [`c_string`] | `c"é\"\n\xff"` |
+//! | its UTF-8 | [`byte_string`] | `b"\xc3\xa9\"\n"` |
+//! | its UTF-8, and the byte FF | [`c_string`] | `c"é\"\n\xff"` |
 //! | `a"#` | [`raw_string`] | `r##"a"#"##` |
-//! | the same as bytes | [`raw_byte_string`] | `br##"a"#"##` |
-//! | the same as the bytes of a C string | [`raw_c_string`] | `cr##"a"#"##` |
+//! | its UTF-8 | [`raw_byte_string`] | `br##"a"#"##` |
+//! | its UTF-8 | [`raw_c_string`] | `cr##"a"#"##` |
 //! | 255 in base sixteen, and `u8` | [`integer`] | `0xffu8` |
 //! | 1048575 in base sixteen, in groups of four | [`grouped_integer`] | `0xf_ffff` |
 //! | the parts `1`, `5` and `e3` | [`float`] | `1.5e3` |
@@ -18,17 +18,21 @@
 //! [`unescaped`] writes a literal anew, with the same kind, value and suffix, and [`regroup`] an
 //! integer in groups of digits.
 //!
-//! Each escape is the shortest: `\n`, `\r`, `\t`, `\0`, `\\` and the quote that closes; `\x` and
-//! two digits for other ASCII characters that are not printable, and for bytes that are no text;
-//! `\u{..}` for what else is not printable ([`is_printable`]), and for a character that extends a
-//! grapheme (Grapheme_Extend) where it would combine with a quote or an escape before it. What is
-//! printable stays.
+//! Between quotes, these characters and bytes are escaped:
+//!
+//! - LF, CR, tab and NUL as `\n`, `\r`, `\t` and `\0`, the backslash as `\\`, and the closing quote
+//!   as `\"` or `\'`;
+//! - other ASCII characters that are not printable ([`is_printable`]), and bytes that are not text,
+//!   as `\x` and two digits;
+//! - other characters that are not printable as `\u{..}`, and so a combining character
+//!   (Grapheme_Extend) after a quote or an escape, as it would be shown on top of that.
 //!
 //! ```
 //! use litrs_build::{BuildError, string};
 //! use std::alloc::Global;
 //!
-//! /// A line of a configuration file.
+//! /// Returns a line of a configuration file. For `title` and `a`, LF, `b` that is
+//! /// `title = "a\nb"`.
 //! fn setting(alloc: Global, name: &str, value: &str) -> Result<String, BuildError> {
 //!     let literal = string(alloc, value, "")?;
 //!     let mut line = String::from_str(alloc, name)?;
@@ -36,7 +40,6 @@
 //!     line.push_str(literal.raw_input())?;
 //!     Ok(line)
 //! }
-//! // Of `title` and `a`, LF, `b` it is `title = "a\nb"`.
 //! ```
 #![tactic(auto)]
 

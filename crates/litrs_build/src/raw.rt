@@ -17,14 +17,15 @@ use litrs_lex::check_suffix;
 use std::alloc::{AllocError, Global};
 use std::str;
 
-/// The raw string of a text, as `r"C:\"` and `r#"a"b"#`, with the least number of hashes that
-/// serves and a suffix, which may be empty. There is one allocation, for its text. See
-/// [the reference][ref].
+/// Builds the raw string with this value and this suffix, which may be empty, with the fewest
+/// hashes possible, for example `r"C:\"` or `r#"a"b"#`. See [the reference][ref].
+///
+/// There is one allocation, for the text.
 ///
 /// # Errors
 ///
-/// `NotASuffix` where the suffix is not one; else `NotRaw` where the text has a CR or needs more
-/// than 255 hashes; else `Memory` where an allocation fails.
+/// `NotASuffix` if `suffix` is neither empty nor an identifier, otherwise `NotRaw` if `value`
+/// contains a CR or needs more than 255 hashes, otherwise `Memory` if the allocation fails.
 ///
 /// [ref]: https://doc.rust-lang.org/reference/tokens.html#raw-string-literals
 pub fn raw_string(alloc: Global, value: &str, suffix: &str) -> Result<StringLit<String>, BuildError>
@@ -45,14 +46,15 @@ pub fn raw_string(alloc: Global, value: &str, suffix: &str) -> Result<StringLit<
     }
 }
 
-/// The raw byte string of some bytes, as `br"C:\"` and `br#"a"b"#`, with the least number of hashes
-/// that serves and a suffix, which may be empty. There is one allocation, for its text. See
-/// [the reference][ref].
+/// Builds the raw byte string with this value and this suffix, which may be empty, with the fewest
+/// hashes possible, for example `br"C:\"` or `br#"a"b"#`. See [the reference][ref].
+///
+/// There is one allocation, for the text.
 ///
 /// # Errors
 ///
-/// `NotASuffix` where the suffix is not one; else `NotRaw` where the bytes are not all ASCII, have
-/// a CR or need more than 255 hashes; else `Memory` where an allocation fails.
+/// `NotASuffix` if `suffix` is neither empty nor an identifier, otherwise `NotRaw` if `value` is
+/// not ASCII, contains a CR or needs more than 255 hashes, otherwise `Memory` if the allocation fails.
 ///
 /// [ref]: https://doc.rust-lang.org/reference/tokens.html#raw-byte-string-literals
 pub fn raw_byte_string(
@@ -76,15 +78,17 @@ pub fn raw_byte_string(
     }
 }
 
-/// The raw C string of some bytes, without the NUL that closes it, as `cr"C:\"` and `cr#"a"b"#`,
-/// with the least number of hashes that serves and a suffix, which may be empty. There is one
-/// allocation for its text, and one for its value. See [the reference][ref].
+/// Builds the raw C string with this value, given without its closing NUL, and with this suffix,
+/// which may be empty, with the fewest hashes possible, for example `cr"C:\"` or `cr#"a"b"#`. See
+/// [the reference][ref].
+///
+/// There is one allocation for the text, and one for the value.
 ///
 /// # Errors
 ///
-/// `NotASuffix` where the suffix is not one; else `HasNul` at the first NUL of the value; else
-/// `NotRaw` where the bytes are not UTF-8, have a CR or need more than 255 hashes; else `Memory`
-/// where an allocation fails.
+/// `NotASuffix` if `suffix` is neither empty nor an identifier, otherwise `HasNul` if `value`
+/// contains a NUL, otherwise `NotRaw` if it is not UTF-8, contains a CR or needs more than 255
+/// hashes, otherwise `Memory` if an allocation fails.
 ///
 /// [ref]: https://doc.rust-lang.org/reference/tokens.html#raw-c-string-literals
 pub fn raw_c_string(
@@ -107,8 +111,9 @@ pub fn raw_c_string(
     }
 }
 
-/// The text of a raw literal: what it begins with, hashes, the body between quotes, as many hashes
-/// and the suffix. Where `unicode` is off the body is ASCII, and where `allow_nul` is, not NUL.
+/// Writes the text of a raw literal: `front`, hashes, the body between quotes, as many hashes and
+/// the suffix. Without `unicode` the body has to be ASCII, and without `allow_nul` it may not
+/// contain a NUL.
 fn write_raw(
     alloc: Global,
     front: &str,
@@ -149,7 +154,7 @@ fn write_raw(
     Ok(text)
 }
 
-/// The text of a raw byte string.
+/// Writes the text of a raw byte string.
 fn write_raw_bytes(alloc: Global, value: &[u8], suffix: &str) -> Result<String, BuildError>
     ensures text { IfOk result (λ text.
         let hashes = replicate (hashes_needed (chars value.now)) 35 in
@@ -166,7 +171,7 @@ fn write_raw_bytes(alloc: Global, value: &[u8], suffix: &str) -> Result<String, 
     }
 }
 
-/// The text of a raw C string.
+/// Writes the text of a raw C string.
 fn write_raw_c(alloc: Global, value: &[u8], suffix: &str) -> Result<String, BuildError>
     ensures text { IfOk result (λ text.
         let hashes = replicate (hashes_needed (chars value.now)) 35 in
@@ -184,7 +189,7 @@ fn write_raw_c(alloc: Global, value: &[u8], suffix: &str) -> Result<String, Buil
     }
 }
 
-/// The error of a value that no raw literal has.
+/// Returns the error of a value that no raw literal has.
 fn refusal_of_raw(suffix: &str) -> BuildError
     ensures suffix { IsTrue (is_suffix (chars suffix.now)) → result ≡ BuildError.NotRaw }
     ensures other { IsFalse (is_suffix (chars suffix.now)) → result ≡ BuildError.NotASuffix }
@@ -196,7 +201,8 @@ fn refusal_of_raw(suffix: &str) -> BuildError
     }
 }
 
-/// How many hashes a raw literal with this body needs, None where none has it.
+/// Returns the number of hashes that a raw literal with this body needs, `None` if there is no such
+/// literal.
 fn raw_hashes(value: &str, unicode: bool, allow_nul: bool) -> Option<usize>
     ensures hashes { IfSome result (λ n. n ≡ hashes_needed (chars value.now)) }
     ensures few { IfSome result (λ n. n ≤ 255) }
@@ -210,21 +216,22 @@ fn raw_hashes(value: &str, unicode: bool, allow_nul: bool) -> Option<usize>
     if hashes <= 255 { Some(hashes) } else { None }
 }
 
-/// Whether each character may stand in a raw body.
+/// Returns `true` if a raw body may contain each character.
 fn are_raw_chars(value: &str, unicode: bool, allow_nul: bool) -> bool
     ensures { result ≡ list_all (is_raw_char unicode allow_nul) (chars value.now) }
 {
     value.chars().all(|c| is_raw_char(c, unicode, allow_nul))
 }
 
-/// Whether the character may stand in a raw body.
+/// Returns `true` if a raw body may contain the character.
 fn is_raw_char(c: char, unicode: bool, allow_nul: bool) -> bool
     ensures { result ≡ is_raw_char unicode allow_nul c }
 {
     c != '\r' && (unicode || c.is_ascii()) && (allow_nul || c != '\0')
 }
 
-/// How many hashes keep a closing out of the body: one more than follow any of its quotes.
+/// Returns the least number of hashes that never follow a quote in the body: one more than the
+/// longest such run.
 fn hashes_needed(value: &str) -> usize
     ensures { result ≡ hashes_needed (chars value.now) }
 {
@@ -238,7 +245,8 @@ fn hashes_needed(value: &str) -> usize
     most
 }
 
-/// How long the run is that a quote begins and hashes go on, after one more character.
+/// Returns the length of the run of a quote and hashes after one more character, 0 outside such a
+/// run.
 fn run_after(run: usize, c: char) -> usize
     requires { run + 1 < 2 ^ 64 }
     ensures { result ≡ run_after run c }
@@ -250,14 +258,14 @@ fn run_after(run: usize, c: char) -> usize
     }
 }
 
-/// The greater of two numbers.
+/// Returns the greater of two numbers.
 fn greater(a: usize, b: usize) -> usize
     ensures { result ≡ greater a b }
 {
     if a < b { b } else { a }
 }
 
-/// Appends so many hashes.
+/// Appends `count` hashes.
 fn push_hashes(text: &mut String, count: usize) -> Result<(), AllocError>
     ensures { OnOk result (string_bytes text.new ≡ string_bytes text.old ++ replicate count 35) }
 {

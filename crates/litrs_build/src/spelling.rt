@@ -23,8 +23,8 @@ pub(crate) enum Spelling {
 }
 
 impl Spelling {
-    /// The shortest spelling of a character between such quotes. What is not printable is escaped,
-    /// and so is a combining mark that follows a quote or an escape.
+    /// Returns the spelling of `c` between such quotes. A character that is not printable is
+    /// escaped, and so is a combining one that follows a quote or an escape.
     pub(crate) fn of_char(c: char, quote: char, follows_mark: bool) -> Spelling
         ensures { result ≡ char_spelling quote follows_mark c }
     {
@@ -38,7 +38,7 @@ impl Spelling {
         }
     }
 
-    /// The shortest spelling of a byte between such quotes.
+    /// Returns the spelling of `b` between such quotes.
     pub(crate) fn of_byte(b: u8, quote: char) -> Spelling
         ensures { result ≡ byte_spelling quote b }
     {
@@ -49,7 +49,7 @@ impl Spelling {
         }
     }
 
-    /// Whether it is an escape.
+    /// Returns `true` if it is an escape.
     pub(crate) fn is_escaped(self) -> bool
         ensures { result ≡ is_escaped self }
     {
@@ -59,7 +59,7 @@ impl Spelling {
         }
     }
 
-    /// How many bytes it has.
+    /// Returns its length in bytes.
     pub(crate) fn len(self) -> usize
         ensures { result ≤ 10 }
     {
@@ -71,11 +71,11 @@ impl Spelling {
         }
     }
 
-    /// Appends it to a text.
+    /// Appends it to `text`.
     ///
     /// # Errors
     ///
-    /// `AllocError` where the text has no room for it and an allocation fails.
+    /// `AllocError` if `text` has no room for it and an allocation fails.
     pub(crate) fn push_to(self, text: &mut String) -> Result<(), AllocError>
         ensures { OnOk result (string_bytes text.new
             ≡ string_bytes text.old ++ encode_utf8_all (item_text (spelled_item self))) }
@@ -102,8 +102,8 @@ impl Spelling {
     }
 }
 
-/// A character as itself where it is printable, and no combining mark that follows a quote or an
-/// escape; else by its number.
+/// Returns the spelling of a character that has no short escape: itself if it is printable and does
+/// not combine with a quote or an escape before it, otherwise its number.
 fn shown_or_number(c: char, follows_mark: bool) -> Spelling
     ensures { result ≡ shown_or_number follows_mark c }
 {
@@ -116,14 +116,14 @@ fn shown_or_number(c: char, follows_mark: bool) -> Spelling
     }
 }
 
-/// Whether a character stands for itself where it has no short escape.
+/// Returns `true` if a character without a short escape is not escaped.
 fn is_shown(c: char, follows_mark: bool) -> bool
     ensures { result ≡ is_shown follows_mark c }
 {
     is_printable(c) && !(follows_mark && is_grapheme_extend(c))
 }
 
-/// The hex digit of a number below 16, in lower case.
+/// Returns the hex digit of a number below 16, in lower case.
 fn hex_digit(number: u8) -> char
     requires { number < 16 }
     ensures { result ≡ hex_digit number }
@@ -143,7 +143,7 @@ fn push_hex(text: &mut String, number: u32) -> Result<(), AllocError>
     write!(text, "{number:x}")
 }
 
-/// How many hex digits the number of a character has.
+/// Returns the number of hex digits of a character's number.
 fn hex_len(c: char) -> usize
     ensures { result ≤ 6 }
 {

@@ -15,12 +15,15 @@ use litrs::StringLit;
 use litrs_lex::check_suffix;
 use std::alloc::{AllocError, Global};
 
-/// The string of a text, as `"a\nb"`, with a suffix, which may be empty. There is one allocation
-/// for its text, and one for its value where the text has a backslash. See [the reference][ref].
+/// Builds the string with this value and this suffix, which may be empty, for example `"a\nb"`. See
+/// [the reference][ref].
+///
+/// There is one allocation for the text, and one for the value if the text contains a backslash.
 ///
 /// # Errors
 ///
-/// `NotASuffix` where the suffix is not one; else `Memory` where an allocation fails.
+/// `NotASuffix` if `suffix` is neither empty nor an identifier, otherwise `Memory` if an allocation
+/// fails.
 ///
 /// [ref]: https://doc.rust-lang.org/reference/tokens.html#string-literals
 pub fn string(alloc: Global, value: &str, suffix: &str) -> Result<StringLit<String>, BuildError>
@@ -39,7 +42,7 @@ pub fn string(alloc: Global, value: &str, suffix: &str) -> Result<StringLit<Stri
     }
 }
 
-/// The text of a string.
+/// Writes the text of a string.
 fn write_string(alloc: Global, value: &str, suffix: &str) -> Result<String, BuildError>
     ensures text { IfOk result (λ text. string_bytes text ≡ ((codes "\""
         ++ encode_utf8_all (body_text (char_items true (chars value.now)))) ++ 34 ∷ [])
@@ -62,7 +65,7 @@ fn write_string(alloc: Global, value: &str, suffix: &str) -> Result<String, Buil
     Ok(text)
 }
 
-/// How many bytes the characters have between quotes.
+/// Returns the length in bytes of `value`, escaped.
 fn chars_len(value: &str) -> usize {
     let mut len: usize = 0;
     let mut follows_mark = true;
@@ -74,7 +77,7 @@ fn chars_len(value: &str) -> usize {
     len
 }
 
-/// Appends the characters as they stand between quotes.
+/// Appends `value`, escaped.
 fn push_chars(text: &mut String, value: &str) -> Result<(), AllocError>
     ensures { OnOk result (string_bytes text.new ≡ string_bytes text.old
         ++ encode_utf8_all (body_text (char_items true (chars value.now)))) }

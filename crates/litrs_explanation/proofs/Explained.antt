@@ -1,22 +1,47 @@
 -- The lines on a literal, put together from those on its parts.
-use Rattle.std.proofs.Common.{◌≡◌, ◌∙◌, ℕ, List, ◌++◌, Option, Some, sym, ap}
-use Rattle.std.specs.Prelude.{codes, decimal}
+use Rattle.std.proofs.Common.{◌≡◌, ◌∙◌, ℕ, Bool, true, false, cond, List, [], ◌∷◌, ◌++◌, Option, Some, sym, ap, subst}
+use Rattle.std.specs.Char.{encode_utf8}
+use Rattle.std.specs.Fmt.{digits, AppendsText, option_append}
+use Rattle.std.specs.Prelude.{codes, decimal, Result, Ok, Err, IfOk, IsTrue, String, string_bytes, is_ok, OnOk}
+use Rattle.std.specs.List.{list_all}
+use Rattle.std.specs.declared.alloc.AllocError.{AllocError}
+use Rattle.std.proofs.lemmas.Result.{IfOk-weaker}
 use Rattle.std.specs.Str.{chars, IsUtf8, encode_utf8_all}
-use Rattle.std.proofs.lemmas.Str.{encodes-chars}
+use Rattle.std.proofs.lemmas.List.{append-nil, flat_map_more}
+use Rattle.std.proofs.lemmas.Str.{encodes-append, encodes-chars}
 use Rattle.litrs_base.specs.Base.{base_value}
 use Rattle.litrs_grammar.specs.Float.{FloatParts}
 use Rattle.litrs_grammar.specs.Integer.{IntegerParts, integer_value}
 use Rattle.litrs_grammar.specs.Literal.{Derivation, suffix_of}
-use Rattle.litrs_explanation.specs.Explanation.{kind_name, field, field_of_part, fields, integer_text, names_that_fit, integer_fields, fraction_field, float_fields, explanation}
+use Rattle.litrs_build.specs.Printable.{is_printable}
+use Rattle.litrs_explanation.specs.Explanation.{kind_name, field, field_of_part, fields, integer_text, names_that_fit, integer_fields, fraction_field, float_fields, escaped_char, escaped, explanation, is_line_feed_or_printable}
+use Rattle.litrs_explanation.proofs.Printed.{basic_encoded, number_basic, value_shows}
 
 -- the bytes of a part are those of its characters
 pub part_is : (bytes part : List ℕ) → IsUtf8 bytes → chars bytes ≡ part → bytes ≡ encode_utf8_all part
 part_is bytes part u is = sym (encodes-chars bytes u) ∙ ap encode_utf8_all is
 
--- the literal of a value
+-- the line on the literal of a value
 pub value_made : (line raw text : List ℕ) → IsUtf8 raw → chars raw ≡ text →
     line ≡ field (codes "value") raw → line ≡ field (codes "value") (encode_utf8_all text)
 value_made line raw text u is made = made ∙ ap (field (codes "value")) (part_is raw text u is)
+
+pub values_made : (r : Result String AllocError) (raw text : List ℕ) → IsUtf8 raw → chars raw ≡ text →
+    IfOk r (λ line. string_bytes line ≡ field (codes "value") raw) →
+    IfOk r (λ line. string_bytes line ≡ field (codes "value") (encode_utf8_all text))
+values_made r raw text u is made =
+    IfOk-weaker r _ _ (λ line. value_made (string_bytes line) raw text u is) made
+
+-- and it is printable
+pub values_show : (r : Result String AllocError) (raw text : List ℕ) → IsUtf8 raw → chars raw ≡ text →
+    list_all is_line_feed_or_printable text ≡ true →
+    IfOk r (λ line. string_bytes line ≡ field (codes "value") raw) →
+    IfOk r (λ line. IsTrue (list_all is_line_feed_or_printable (chars (string_bytes line))))
+values_show r raw text u is all made =
+    IfOk-weaker r (λ line. string_bytes line ≡ field (codes "value") raw)
+    (λ line. IsTrue (list_all is_line_feed_or_printable (chars (string_bytes line))))
+    (λ line one. ap (λ (t : List ℕ). list_all is_line_feed_or_printable (chars t)) one
+    ∙ (value_shows raw text u is all).clean) made
 
 pub integer_made : (value digits fits written : List ℕ) (base : ℕ) (d : IntegerParts) → value ≡ integer_text (integer_value d) →
     base ≡ base_value d.base → digits ≡ encode_utf8_all d.main → fits ≡ names_that_fit (integer_value d) →
@@ -38,8 +63,41 @@ float_made integer fraction exponent part written d i f e p made =
     made ∙ (λ j. codes "  integer part " ++ (i j ++ (codes "\n" ++ (f j ++ last j))))
 
 pub explanation_made : (kind lines suffix part written : List ℕ) (d : Derivation) → kind ≡ kind_name d → lines ≡ fields d →
-    suffix ≡ field_of_part (codes "suffix") part → part ≡ encode_utf8_all (suffix_of d) →
+    suffix ≡ field_of_part (codes "suffix") (encode_utf8_all (escaped (chars part))) → chars part ≡ suffix_of d →
     written ≡ kind ++ (codes "\n" ++ (lines ++ suffix)) → written ≡ explanation d
 explanation_made kind lines suffix part written d k l s p made =
-    let last : suffix ≡ field_of_part (codes "suffix") (encode_utf8_all (suffix_of d)) = s ∙ ap (field_of_part (codes "suffix")) p in
+    let last : suffix ≡ field_of_part (codes "suffix") (encode_utf8_all (escaped (suffix_of d))) =
+    s ∙ ap (λ (t : List ℕ). field_of_part (codes "suffix") (encode_utf8_all (escaped t))) p in
     made ∙ (λ j. k j ++ (codes "\n" ++ (l j ++ last j)))
+
+-- one more character of a suffix
+pub more_escaped : (bytes more cs : List ℕ) (c : ℕ) → bytes ≡ encode_utf8_all (escaped cs) →
+    more ≡ bytes ++ encode_utf8_all (escaped_char c) → more ≡ encode_utf8_all (escaped (cs ++ c ∷ []))
+more_escaped bytes more cs c so_far is =
+    is ∙ (ap (λ (x : List ℕ). x ++ encode_utf8_all (escaped_char c)) so_far
+    ∙ (sym (encodes-append (escaped cs) (escaped_char c))
+    ∙ ap encode_utf8_all (flat_map_more escaped_char [] cs c)))
+
+-- a character that is printable, and one that is not
+abbrev numbered : ℕ → List ℕ
+numbered c = codes "\\u{" ++ (digits 16 false c ++ codes "}")
+
+pub plain_pushed : (r : Result (Unit {0}) AllocError) (c : ℕ) (old new : List ℕ) →
+    is_printable c ≡ true → new ≡ cond (is_ok r) (old ++ encode_utf8 c) old →
+    OnOk r (new ≡ old ++ encode_utf8_all (escaped_char c))
+plain_pushed (Err e) c old new shown made = tt
+plain_pushed (Ok x) c old new shown made =
+    made ∙ ap (λ (x : List ℕ). old ++ x) (sym (append-nil (encode_utf8 c))
+    ∙ sym (ap (λ (b : Bool). encode_utf8_all (cond b (c ∷ []) (numbered c))) shown))
+
+pub number_pushed : (c n : ℕ) (o : Option (List ℕ)) (old new : List ℕ) → is_printable c ≡ false →
+    n ≡ c → o ≡ Some (digits 16 false n) →
+    AppendsText old new (option_append (Some (codes "\\u{")) (option_append o (Some (codes "}")))) →
+    new ≡ old ++ encode_utf8_all (escaped_char c)
+number_pushed c n o old new hidden same digits_are appends =
+    let made : new ≡ old ++ numbered n =
+    subst (λ (p : Option (List ℕ)). AppendsText old new
+    (option_append (Some (codes "\\u{")) (option_append p (Some (codes "}"))))) digits_are appends in
+    made ∙ ap (λ (x : List ℕ). old ++ x) (ap numbered same
+    ∙ (sym (basic_encoded (numbered c) (number_basic c))
+    ∙ sym (ap (λ (b : Bool). encode_utf8_all (cond b (c ∷ []) (numbered c))) hidden)))

@@ -1,2 +1,6 @@
+-- every character is an LF or printable
+pub mod Printed
+-- the literals of values
+pub mod Built
 -- the lines on a literal, put together
 pub mod Explained

@@ -1,8 +1,9 @@
 -- The lines on a literal.
-use Rattle.std.specs.Prelude.{ℕ, nat_le, List, [], ◌∷◌, ◌++◌, Option, Some, None, codes, if◌then◌else◌}
-use Rattle.std.specs.Fmt.{decimal}
+use Rattle.std.specs.Prelude.{ℕ, Bool, false, ◌==◌, ◌||◌, nat_le, List, [], ◌∷◌, ◌++◌, Option, Some, None, codes, if◌then◌else◌}
+use Rattle.std.specs.Fmt.{decimal, digits}
 use Rattle.std.specs.List.{flat_map}
 use Rattle.std.specs.Str.{chars, encode_utf8_all}
+use Rattle.litrs_base.specs.Characters.{line_feed}
 use Rattle.litrs_base.specs.declared.integer.IntegerType.{IntegerType}
 use Rattle.litrs_base.specs.declared.integer.IntegerType.TheVariants.{U8, U16, U32, U64, U128, Usize, I8, I16, I32, I64, I128, Isize}
 use Rattle.litrs_base.specs.Base.{base_value}
@@ -16,6 +17,7 @@ use Rattle.litrs_grammar.specs.Literal.{Derivation, a_bool, an_integer, a_float,
 use Rattle.litrs.specs.CharKind.{char_kind}
 use Rattle.litrs.specs.StringKind.{string_kind, byte_string_kind, c_string_kind}
 use Rattle.litrs.specs.LiteralText.{string_text}
+use Rattle.litrs_build.specs.Printable.{is_printable}
 use Rattle.litrs_build.specs.Written.{written_char, written_string, written_byte_string}
 use Rattle.litrs_build.specs.CStrings.{written_c_string}
 
@@ -102,8 +104,21 @@ fields (a_string d) = field (codes "value") (encode_utf8_all (value_text (a_stri
 fields (a_byte_string d) = field (codes "value") (encode_utf8_all (value_text (a_byte_string d)))
 fields (a_c_string d) = field (codes "value") (encode_utf8_all (value_text (a_c_string d)))
 
+-- The character as it is shown: `\u{..}` with its number in hex if it is not printable.
+abbrev pub escaped_char : ℕ → List ℕ
+escaped_char c =
+    if is_printable c then c ∷ [] else codes "\\u{" ++ (digits 16 false c ++ codes "}")
+
+-- the same for each character of a text
+abbrev pub escaped : List ℕ → List ℕ
+escaped t = flat_map escaped_char t
+
 -- a line on the kind, and below it those on the value and the parts
 abbrev pub explanation : Derivation → List ℕ
 explanation d =
     kind_name d ++ (codes "\n" ++ (fields d
-    ++ field_of_part (codes "suffix") (encode_utf8_all (suffix_of d))))
+    ++ field_of_part (codes "suffix") (encode_utf8_all (escaped (suffix_of d)))))
+
+-- an LF or a printable character: an explanation has no other
+abbrev pub is_line_feed_or_printable : ℕ → Bool
+is_line_feed_or_printable c = (c == line_feed) || is_printable c

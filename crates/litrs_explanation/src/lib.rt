@@ -1,20 +1,24 @@
-//! Explains a literal to a person: a line on its kind, one on its value, one on each of its parts.
+//! Explains a literal to a person: a line on its kind, one on its value, and one on each of its
+//! parts.
 //!
 //! ```
-//! use litrs::Literal;
-//! use litrs_explanation::{BuildError, explanation};
-//! use std::alloc::Global;
+//! use litrs::{Literal, ParseErrorKind};
+//! use litrs_explanation::explanation;
+//! use std::alloc::{AllocError, Global};
 //!
-//! /// What there is to say of a text that is a literal.
-//! fn explained(alloc: Global, text: &str) -> Result<Option<String>, BuildError> {
+//! /// Returns the explanation of `text`, or `None` if it is not a literal.
+//! fn explained(alloc: Global, text: &str) -> Result<Option<String>, AllocError> {
 //!     match &Literal::parse(alloc, text) {
 //!         Ok(lit) => Ok(Some(explanation(alloc, lit)?)),
-//!         Err(_) => Ok(None),
+//!         Err(e) => match e.kind() {
+//!             ParseErrorKind::OutOfMemory => Err(AllocError),
+//!             _ => Ok(None),
+//!         },
 //!     }
 //! }
 //! ```
 //!
-//! Of `0xFF_u8` it is
+//! For `0xFF_u8` that is
 //!
 //! ```text
 //! integer
@@ -25,24 +29,28 @@
 //!   suffix u8
 //! ```
 //!
-//! The value of a char or a string is the literal that `litrs_build` builds of it, so that nothing
-//! but LFs and printable characters is written.
+//! The value of a char or a string is shown as the literal that `litrs_build` builds of it, and a
+//! character of a suffix that is not printable as `\u{..}`. So every character of an explanation is
+//! an LF or printable.
 #![tactic(auto)]
 
-ghost use Rattle.std.specs.Prelude.{◌≡◌, IfOk, codes, string_bytes};
+ghost use Rattle.std.specs.Prelude.{◌≡◌, ◌++◌, IfOk, OnOk, IsTrue, codes, string_bytes, encode_utf8_all};
+ghost use Rattle.std.specs.List.{list_all};
+ghost use Rattle.std.specs.Str.{chars};
 ghost use Rattle.litrs_base.specs.Numeral.{greatest_of};
 ghost use Rattle.litrs.specs.LiteralDerivation.{derivation};
 ghost use Rattle.litrs_grammar.specs.Integer.{integer_value};
 ghost use Rattle.litrs.specs.IntegerLiteral.{integer_parts};
 ghost use Rattle.litrs.specs.FloatLiteral.{float_parts};
-ghost use Rattle.litrs_explanation.specs.Explanation.{kind_name, explanation, fields, field, field_of_part, integer_text, names_that_fit, names_of, integer_fields, float_fields, fraction_field};
+ghost use Rattle.litrs_explanation.specs.Explanation.{kind_name, explanation, fields, field, field_of_part, integer_text, names_that_fit, names_of, integer_fields, float_fields, fraction_field, escaped, escaped_char, is_line_feed_or_printable};
 
 use litrs::{Buffer, FloatLit, IntegerLit, IntegerType, Literal};
 pub use litrs_build::BuildError;
-use litrs_build::{byte_string, c_string, char, string};
+use litrs_build::{byte_string, c_string, char, is_printable, string};
 use std::alloc::{AllocError, Global};
+use std::fmt::Write;
 
-/// All integer types, in the order in which they are named.
+/// All integer types, in the order in which an explanation names them.
 const INTEGER_TYPES: [IntegerType; 12] = [
     IntegerType::U8,
     IntegerType::U16,
@@ -58,22 +66,27 @@ const INTEGER_TYPES: [IntegerType; 12] = [
     IntegerType::Isize,
 ];
 
-/// A line on the kind of a literal, one on its value, and one on each of its parts.
+/// Returns the lines that explain `literal`: its kind, its value, and each of its parts.
+///
+/// Every character of them is an LF or printable, by `litrs_build`'s `is_printable`: values are
+/// shown as literals, and a character of the suffix that is not printable as `\u{..}`.
 ///
 /// # Errors
 ///
-/// Where an allocation failed.
-pub fn explanation<B: Buffer>(alloc: Global, literal: &Literal<B>) -> Result<String, BuildError>
-    ensures { IfOk result (λ lines. string_bytes lines ≡ explanation (derivation literal.now)) }
+/// `AllocError` if an allocation fails.
+pub fn explanation<B: Buffer>(alloc: Global, literal: &Literal<B>) -> Result<String, AllocError>
+    ensures lines { IfOk result (λ lines.
+        string_bytes lines ≡ explanation (derivation literal.now)) }
+    ensures printable { IfOk result (λ lines. IsTrue (
+        list_all is_line_feed_or_printable (chars (string_bytes lines)))) }
 {
     let kind = kind_name(literal);
     let fields = fields(alloc, literal)?;
-    let suffix = field_of_part(alloc, "suffix", literal.suffix())?;
-    let lines = format!(in alloc; "{kind}\n{fields}{suffix}")?;
-    Ok(lines)
+    let suffix = suffix_field(alloc, literal.suffix())?;
+    format!(in alloc; "{kind}\n{fields}{suffix}")
 }
 
-/// What the kind of a literal is called.
+/// Returns the name of the kind of `literal`, for example `C string`.
 pub fn kind_name<B: Buffer>(literal: &Literal<B>) -> &'static str
     ensures { result.now ≡ kind_name (derivation literal.now) }
 {
@@ -89,45 +102,77 @@ pub fn kind_name<B: Buffer>(literal: &Literal<B>) -> &'static str
     }
 }
 
-/// The lines on the value of a literal and on its parts but the suffix.
-fn fields<B: Buffer>(alloc: Global, literal: &Literal<B>) -> Result<String, BuildError>
-    ensures { IfOk result (λ lines. string_bytes lines ≡ fields (derivation literal.now)) }
+/// Returns the lines on the value of `literal` and on its parts except the suffix.
+fn fields<B: Buffer>(alloc: Global, literal: &Literal<B>) -> Result<String, AllocError>
+    ensures lines { IfOk result (λ lines. string_bytes lines ≡ fields (derivation literal.now)) }
+    ensures printable { IfOk result (λ lines. IsTrue (
+        list_all is_line_feed_or_printable (chars (string_bytes lines)))) }
 {
     match literal {
-        Literal::Bool(lit) => Ok(field(alloc, lit.as_str())?),
-        Literal::Integer(lit) => Ok(integer_fields(alloc, lit)?),
-        Literal::Float(lit) => Ok(float_fields(alloc, lit)?),
+        Literal::Bool(lit) => field(alloc, lit.as_str()),
+        Literal::Integer(lit) => integer_fields(alloc, lit),
+        Literal::Float(lit) => float_fields(alloc, lit),
         Literal::Byte(lit) => {
             let value = lit.value();
-            Ok(format!(in alloc; "  value {value}\n")?)
+            format!(in alloc; "  value {value}\n")
         }
-        Literal::Char(lit) => {
-            let built = char(alloc, lit.value(), "")?;
-            Ok(field(alloc, built.raw_input())?)
-        }
-        Literal::String(lit) => {
-            let built = string(alloc, lit.value(), "")?;
-            Ok(field(alloc, built.raw_input())?)
-        }
-        Literal::ByteString(lit) => {
-            let built = byte_string(alloc, lit.value(), "")?;
-            Ok(field(alloc, built.raw_input())?)
-        }
-        Literal::CString(lit) => {
-            let built = c_string(alloc, lit.value().to_bytes(), "")?;
-            Ok(field(alloc, built.raw_input())?)
-        }
+        Literal::Char(lit) => match char(alloc, lit.value(), "") {
+            Ok(built) => field(alloc, built.raw_input()),
+            Err(BuildError::Memory) => Err(AllocError),
+            Err(_) => unreachable!(),
+        },
+        Literal::String(lit) => match string(alloc, lit.value(), "") {
+            Ok(built) => field(alloc, built.raw_input()),
+            Err(BuildError::Memory) => Err(AllocError),
+            Err(_) => unreachable!(),
+        },
+        Literal::ByteString(lit) => match byte_string(alloc, lit.value(), "") {
+            Ok(built) => field(alloc, built.raw_input()),
+            Err(BuildError::Memory) => Err(AllocError),
+            Err(_) => unreachable!(),
+        },
+        Literal::CString(lit) => match c_string(alloc, lit.value().to_bytes(), "") {
+            Ok(built) => field(alloc, built.raw_input()),
+            Err(BuildError::Memory) => Err(AllocError),
+            Err(_) => unreachable!(),
+        },
     }
 }
 
-/// The line on a value.
+/// Returns the line on a value.
 fn field(alloc: Global, value: &str) -> Result<String, AllocError>
     ensures { IfOk result (λ line. string_bytes line ≡ field (codes "value") value.now) }
 {
     format!(in alloc; "  value {value}\n")
 }
 
-/// A line on a part, or none where that is empty.
+/// Returns the line on a suffix, or an empty text if there is no suffix. Characters that are not
+/// printable, such as the zero width joiner, are written as `\u{..}`.
+fn suffix_field(alloc: Global, suffix: &str) -> Result<String, AllocError>
+    ensures { IfOk result (λ line. string_bytes line
+        ≡ field_of_part (codes "suffix") (encode_utf8_all (escaped (chars suffix.now)))) }
+{
+    let mut shown = String::new(alloc);
+    for c in suffix.chars() {
+        push_escaped(&mut shown, c)?;
+    }
+    field_of_part(alloc, "suffix", shown.as_str())
+}
+
+/// Appends `c` to `text`, as `\u{..}` if it is not printable.
+fn push_escaped(text: &mut String, c: char) -> Result<(), AllocError>
+    ensures { OnOk result (string_bytes text.new
+        ≡ string_bytes text.old ++ encode_utf8_all (escaped_char c)) }
+{
+    if is_printable(c) {
+        text.push(c)
+    } else {
+        let number = u32::from(c);
+        write!(text, "\\u{{{number:x}}}")
+    }
+}
+
+/// Returns the line on a part, or an empty text if the part is empty.
 fn field_of_part(alloc: Global, name: &str, part: &str) -> Result<String, AllocError>
     ensures { IfOk result (λ line. string_bytes line ≡ field_of_part name.now part.now) }
 {
@@ -137,10 +182,16 @@ fn field_of_part(alloc: Global, name: &str, part: &str) -> Result<String, AllocE
     }
 }
 
-/// The lines on the value, the base and the digits of an integer, and on the types that it fits.
+/// Returns the lines on the value, the base and the digits of an integer, and on the types that it
+/// fits.
 fn integer_fields<B: Buffer>(alloc: Global, lit: &IntegerLit<B>) -> Result<String, AllocError>
-    ensures { IfOk result (λ lines. string_bytes lines ≡ integer_fields (integer_parts lit.now)) }
+    ensures lines { IfOk result (λ lines.
+        string_bytes lines ≡ integer_fields (integer_parts lit.now)) }
+    ensures printable { IfOk result (λ lines. IsTrue (
+        list_all is_line_feed_or_printable (chars (string_bytes lines)))) }
 {
+    // Called for its contract: the parts are those of an integer.
+    let _ = lit.raw_input();
     let value = integer_text(alloc, lit)?;
     let base = lit.base().value();
     let digits = lit.raw_main_part();
@@ -148,11 +199,11 @@ fn integer_fields<B: Buffer>(alloc: Global, lit: &IntegerLit<B>) -> Result<Strin
     format!(in alloc; "  value {value}\n  base {base}\n  digits {digits}\n  fits{fits}\n")
 }
 
-/// The value of an integer in decimal, or `2^128 or more`.
+/// Returns the value of `lit` in decimal, or `2^128 or more`. The suffix is ignored.
 ///
 /// # Errors
 ///
-/// Where an allocation failed.
+/// `AllocError` if an allocation fails.
 pub fn integer_text<B: Buffer>(alloc: Global, lit: &IntegerLit<B>) -> Result<String, AllocError>
     ensures { IfOk result (λ text. string_bytes text
         ≡ integer_text (integer_value (integer_parts lit.now))) }
@@ -163,12 +214,12 @@ pub fn integer_text<B: Buffer>(alloc: Global, lit: &IntegerLit<B>) -> Result<Str
     }
 }
 
-/// The names of the types that have the value of the integer, whatever its suffix, with a blank
-/// before each; ` no integer type` where none has.
+/// Returns the names of the integer types that the value of `lit` fits, each after a space, or
+/// ` no integer type` if it fits none. The suffix is ignored.
 ///
 /// # Errors
 ///
-/// Where an allocation failed.
+/// `AllocError` if an allocation fails.
 pub fn names_that_fit<B: Buffer>(alloc: Global, lit: &IntegerLit<B>) -> Result<String, AllocError>
     ensures { IfOk result (λ names. string_bytes names
         ≡ names_that_fit (integer_value (integer_parts lit.now))) }
@@ -179,7 +230,7 @@ pub fn names_that_fit<B: Buffer>(alloc: Global, lit: &IntegerLit<B>) -> Result<S
     }
 }
 
-/// The names of those of the types that have the value.
+/// Returns the names of those of `types` that `value` fits, each after a space.
 fn names_of(alloc: Global, value: u128, types: &[IntegerType]) -> Result<String, AllocError>
     ensures { IfOk result (λ names. string_bytes names ≡ names_of value types.now) }
 {
@@ -193,7 +244,7 @@ fn names_of(alloc: Global, value: u128, types: &[IntegerType]) -> Result<String,
     Ok(names)
 }
 
-/// The greatest value of a type.
+/// Returns the greatest value of `ty`.
 fn greatest_of(ty: IntegerType) -> u128
     ensures { result ≡ greatest_of ty }
 {
@@ -211,17 +262,22 @@ fn greatest_of(ty: IntegerType) -> u128
     }
 }
 
-/// The lines on the parts of a float.
+/// Returns the lines on the parts of a float except the suffix.
 fn float_fields<B: Buffer>(alloc: Global, lit: &FloatLit<B>) -> Result<String, AllocError>
-    ensures { IfOk result (λ lines. string_bytes lines ≡ float_fields (float_parts lit.now)) }
+    ensures lines { IfOk result (λ lines.
+        string_bytes lines ≡ float_fields (float_parts lit.now)) }
+    ensures printable { IfOk result (λ lines. IsTrue (
+        list_all is_line_feed_or_printable (chars (string_bytes lines)))) }
 {
+    // Called for its contract: the parts are those of a float.
+    let _ = lit.raw_input();
     let integer = lit.integer_part();
     let fraction = fraction_field(alloc, lit)?;
     let exponent = field_of_part(alloc, "exponent", lit.exponent_part())?;
     format!(in alloc; "  integer part {integer}\n{fraction}{exponent}")
 }
 
-/// The line on the digits after the period, or none where there is no period.
+/// Returns the line on the digits after the period, or an empty text if there is no period.
 fn fraction_field<B: Buffer>(alloc: Global, lit: &FloatLit<B>) -> Result<String, AllocError>
     ensures { IfOk result (λ line. string_bytes line
         ≡ fraction_field (float_parts lit.now).fraction) }

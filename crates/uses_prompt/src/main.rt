@@ -1,28 +1,32 @@
-//! A prompt for literals: asks on where a literal goes on in the next line, explains it, and shows
-//! what is wrong where there is none, at most 100 columns of a line.
+//! A prompt for literals. It reads lines until they are a literal and prints its explanation, or
+//! shows the error, at most 100 columns of a line.
 #![tactic(auto)]
 
 ghost use Rattle.std.specs.Prelude.{◌≡◌, IfOk, string_bytes};
 ghost use Rattle.uses_prompt.specs.Answered.{IsAnswered, IsLastAnswer};
 
 use litrs_diagnostic::shown_refusal;
-use litrs_explanation::{BuildError, explanation};
+use litrs_explanation::explanation;
 use litrs_lines::{Collector, Step};
 use std::alloc::{AllocError, Global};
 use std::io::BufRead;
 use std::str;
 
-/// What is said where a literal goes on after its first line.
+/// The answer to the first line of a literal that continues in the next line.
 const HINT: &str = "the literal goes on in the next line; :cancel gives it up\n";
 
-/// What is answered to a line. The lines so far, with an LF after each, are in `text` too, since a
-/// collector does not keep what it refuses.
+/// Returns the answer to a line. `text` contains the lines so far, each with an LF after it, since
+/// a collector does not keep a text that is not a literal.
+///
+/// # Errors
+///
+/// `AllocError` if an allocation fails.
 fn answer(
     alloc: Global,
     collector: &mut Collector,
     text: &mut String,
     line: &str,
-) -> Result<String, BuildError>
+) -> Result<String, AllocError>
     requires { string_bytes text.old ≡ collector.old }
     ensures text { IfOk result (λ _. string_bytes text.new ≡ collector.new) }
     ensures answered { IfOk result (λ answer.
@@ -38,7 +42,7 @@ fn answer(
     let answer = match collector.feed(line)? {
         Step::More => {
             text.push('\n')?;
-            return Ok(String::from_str(alloc, if is_first { HINT } else { "" })?);
+            return String::from_str(alloc, if is_first { HINT } else { "" });
         }
         Step::Literal(literal) => explanation(alloc, &literal)?,
         Step::Refused(error) => shown_refusal(alloc, "prompt", text.as_str(), &error, 100)?,
@@ -47,7 +51,8 @@ fn answer(
     Ok(answer)
 }
 
-/// What is said at the end of the input, of a literal that goes on there.
+/// Returns the answer to the end of the input: the error of the lines that the collector holds, if
+/// it holds any.
 fn last_answer(alloc: Global, collector: Collector) -> Result<String, AllocError>
     ensures { IfOk result (λ answer. IsLastAnswer collector (string_bytes answer)) }
 {
@@ -58,13 +63,18 @@ fn last_answer(alloc: Global, collector: Collector) -> Result<String, AllocError
     }
 }
 
-/// What is answered to a line of the input, which may be no text.
+/// Returns the answer to a line of the input, without its LF. A CR at its end is ignored, as is a
+/// line that is not UTF-8.
+///
+/// # Errors
+///
+/// `AllocError` if an allocation fails.
 fn reply(
     alloc: Global,
     collector: &mut Collector,
     text: &mut String,
     line: &[u8],
-) -> Result<String, BuildError>
+) -> Result<String, AllocError>
     requires { string_bytes text.old ≡ collector.old }
     ensures { IfOk result (λ _. string_bytes text.new ≡ collector.new) }
 {
@@ -77,7 +87,7 @@ fn reply(
         ),
         Err(e) => {
             let place = e.valid_up_to();
-            Ok(format!(in alloc; "not UTF-8 at byte {place}: ignored\n")?)
+            format!(in alloc; "not UTF-8 at byte {place}: ignored\n")
         }
     }
 }

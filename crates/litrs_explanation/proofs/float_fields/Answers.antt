@@ -1,16 +1,27 @@
--- The lines are those on the parts.
-use Rattle.std.proofs.Common.{◌≡◌, string_bytes}
+-- The lines are those on the parts, and all of them are printable.
+use Rattle.std.proofs.Common.{◌≡◌, ℕ, List, ap, ◌∙◌, string_bytes}
+use Rattle.std.specs.List.{list_all}
+use Rattle.std.specs.Str.{chars}
 use Rattle.std.proofs.lemmas.Result.{IfOk-weaker}
 use Rattle.litrs.specs.FloatLiteral.{float_parts}
-use Rattle.litrs_explanation.specs.Explanation.{float_fields}
+use Rattle.litrs_explanation.specs.Explanation.{float_fields, is_line_feed_or_printable}
 use Rattle.litrs_explanation.proofs.Explained.{part_is, float_made}
+use Rattle.litrs_explanation.proofs.Printed.{float_shows}
 use Rattle.litrs_explanation.proofs.float_fields.Goals as goal
 
 pub returns : goal.returns
 returns g c =
+    let d = float_parts c.args.lit.now in
+    let are_lines =
     IfOk-weaker c.format.result _ (λ lines. string_bytes lines ≡ float_fields (float_parts c.args.lit.now))
     (λ lines made. float_made c.integer_part-integer.result.now (string_bytes c.in_ok-fraction.fraction) (string_bytes c.in_ok-exponent.exponent) c.exponent_part.result.now
     (string_bytes lines) (float_parts c.args.lit.now)
     (part_is c.integer_part-integer.result.now _ c.integer_part-integer.utf8 c.integer_part-integer.ensures) c.in_ok-fraction.ensures c.in_ok-exponent.ensures
     (part_is c.exponent_part.result.now _ c.exponent_part.utf8 c.exponent_part.ensures) made)
-    c.format.ensures.ok
+    c.format.ensures.ok in
+    record {
+      lines = are_lines;
+      printable = IfOk-weaker c.format.result (λ lines. string_bytes lines ≡ float_fields d) _
+          (λ lines is. ap (λ (t : List ℕ). list_all is_line_feed_or_printable (chars t)) is
+          ∙ (float_shows d c.raw_input.ensures.literal.grammar).clean) are_lines;
+    }
