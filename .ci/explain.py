@@ -1,19 +1,22 @@
 #!/usr/bin/env python3
 """Runs the program that explains literals with each of its options.
 
-    .ci/explain.py
+    .ci/explain.py [PROGRAM]..
 
-Runs both builds of crates/litrs_explain, which `rt ci` leaves in its out/: JSON, whose values are
-those that Python gives; any text, whose places are counted by Python; colors, which change nothing
-else; files, one of which is absent; wrong arguments; bytes that are not UTF-8; an output that is
-closed; a long text, of which no more is held than its longest literal; and a long line that is
-refused again and again, where each refusal is shown at its place, and costs what is around it.
-Each allocation of a run is refused in turn: it ends with status 2, and what it wrote is a prefix.
+Runs both builds of crates/litrs_explain, which `rt ci` leaves in its out/, or these programs: JSON,
+whose values are those that Python gives; any text, whose places are counted by Python; colors,
+which change nothing else; files, the standard input and texts, in each order, one of which cannot
+be read; wrong arguments; bytes that are not UTF-8, in a line and in an argument; outputs that are
+closed or full, an input that fails; a terminal; a long text, of which no more is held than its
+longest literal; a long line, of which no report is held; and a long line that is refused again and
+again, where each error is shown at its place, and costs what is around it. Each allocation of a run
+is refused in turn: it ends with status 2, and what it wrote is a prefix.
 """
 import ast
 import json
 import os
 import pathlib
+import pty
 import re
 import resource
 import subprocess
@@ -50,6 +53,21 @@ FOUND += ["true", 'c"open:c"open']
 KINDS = ["true", "0xFF_u8", "1.5e3f32", "'\\u{1f98a}'", "b'\\xff'", '"a\\tb"', 'b"\\xff"', 'c"\\n"']
 
 
+TEXT_HELP = b"litrs_explain: help: the argument is a literal: -e explains it\n"
+PREFIX_HELP = b"litrs_explain: help: --prefix finds the literals within lines\n"
+FULL = b"litrs_explain: standard output: No space left on device (os error 28)\n"
+CLOSED = b"litrs_explain: standard output: Bad file descriptor (os error 9)\n"
+MORE = b"\n  this is incomplete: more text can complete it\n"
+NO_MORE = b"\n  no continuation of this text is a literal\n"
+README = (TOP / "README.md").read_text()
+VERSION = f"litrs_explain {re.search('version is ([^ ]+)[.] ', README)[1]}\n".encode()
+
+
+def place(text, at):
+    """The line and the column of a place in a text, from 1."""
+    return text.count("\n", 0, at) + 1, at - text.rfind("\n", 0, at)
+
+
 class Tests:
     """The runs of one build."""
 
@@ -67,9 +85,10 @@ class Tests:
         if not holds:
             self.faults.append(f"{self.program}: {what}"[:400])
 
-    def objects(self, *words, given, status):
+    def objects(self, *words, given, status, **how):
         """The objects of a run with this status."""
-        out, said, was = self.run("--format", "json", *words, given=given.encode())
+        given = given.encode() if isinstance(given, str) else given
+        out, said, was = self.run("--format", "json", *words, given=given, **how)
         self.hold((said, was) == (b"", status), f"{words} ends with {was} and says {said}")
         return [json.loads(it) for it in out.splitlines()]
 
@@ -86,6 +105,10 @@ class Tests:
                 "file": "<stdin>",
                 "line": number + 1,
                 "column": 1,
+                "end_line": number + 1,
+                "end_column": len(text) + 1,
+                "start": lines.index(f"{text}\n"),
+                "end": lines.index(f"{text}\n") + len(text),
                 "kind": "integer",
                 "text": text,
                 "suffix": suffix,
@@ -93,7 +116,7 @@ class Tests:
                     "value": str(value) if value < 2**128 else "2^128 or more",
                     "base": base,
                     "digits": digits,
-                    "fits": " ".join(fits) or "no integer type",
+                    "fits": fits,
                 },
             }
             self.hold(it == wanted, f"{text}: {it}")
@@ -106,29 +129,74 @@ class Tests:
         self.hold(it["parts"] == {"hex": ast.literal_eval(it["text"]).hex()}, f"{it}")
 
     def try_places(self):
-        objects = self.objects("--prefix", given=SOURCE, status=1)
-        self.hold(len(objects) == len(FOUND), f"{len(objects)} are found")
-        at = 0
-        for wanted, it in zip(FOUND, objects):
-            text, _, wrong = wanted.partition(":")
-            at = re.compile(rf"(?<!\w){re.escape(text)}(?!\w)").search(SOURCE, at).start()
-            place = at + (text.index(wrong) if wrong else 0)
-            before = SOURCE[:place]
-            line, column = before.count("\n") + 1, place - before.rfind("\n")
-            self.hold((it["line"], it["column"]) == (line, column), f"{wanted}: {it}")
-            self.hold(it["kind"] == "refused" if wrong else it["text"] == text, f"{wanted}: {it}")
-            at += len(text)
-        self.hold(objects[-1]["more_text_can_mend"], "more text can mend the last")
-        mends = [it["more_text_can_mend"] for it in self.objects(given="cat\n1e\n", status=1)]
-        self.hold(mends == [False, True], f"what more text can mend: {mends}")
+        """Places in any text, also where its lines end in CR LF and it begins with a mark."""
+        for ends, mark in (("\n", ""), ("\r\n", ""), ("\n", "\ufeff"), ("\r\n", "\ufeff")):
+            source = SOURCE.replace("\n", ends)
+            objects = self.objects("--prefix", given=mark + source, status=1)
+            self.hold(len(objects) == len(FOUND), f"{len(objects)} are found")
+            at = 0
+            for wanted, it in zip(FOUND, objects):
+                text, _, wrong = wanted.partition(":")
+                held = text.replace("\n", ends)
+                at = re.compile(rf"(?<!\w){re.escape(held)}(?!\w)").search(source, at).start()
+                start = at + (text.index(wrong) if wrong else 0)
+                end = start + len(wrong or held)
+                where = [it["line"], it["column"], it["end_line"], it["end_column"]]
+                self.hold(where == [*place(source, start), *place(source, end)], f"{wanted}: {it}")
+                places = [len((mark + source[:n]).encode()) for n in (start, end)]
+                self.hold([it["start"], it["end"]] == places, f"{places} of {wanted}: {it}")
+                self.hold(it["kind"] == "error" if wrong else it["text"] == text, f"{it}")
+                at += len(held)
+            self.hold(objects[-1]["incomplete"], "more text can complete the last")
+
+    def try_errors(self):
+        """Names of errors, and whether more text can complete what was read."""
+        given = "cat\n1e\n0b12\n'ab'\n\"\\q\"\n\"a\n"
+        found = [(it["error"], it["incomplete"]) for it in self.objects(given=given, status=1)]
+        wanted = [("InvalidLiteral", False), ("NoExponentDigits", True), ("InvalidDigit", False)]
+        wanted += [("OverlongCharLiteral", False), ("UnknownEscape", False)]
+        self.hold(found == [*wanted, ("UnterminatedString", True)], f"{found}")
+        for text, note in (("0b12", NO_MORE), ("1e", MORE)):
+            out, _, status = self.run("-e", text)
+            self.hold(out.endswith(note) and status == 1, f"{text}: {out}")
 
     def try_colors(self):
-        given = b"1\n0b12\n'a'\n"
+        """Colors of rustc: the word `error` and carets bold red, the gutter bold blue."""
+        given = b"1\n0b12\n'a'\n'--> | ab'\n\"a\n\n\nb\n"
         plain = self.run(given=given)
         self.hold(plain == self.run("--color", "never", given=given), "without colors")
         out, said, status = self.run("--color", "always", given=given)
-        self.hold(b"\x1b[" in out, "with colors")
-        self.hold((re.sub(rb"\x1b\[\d*m", b"", out), said, status) == plain, "but for colors")
+        self.hold((re.sub(rb"\x1b\[[\d;]*m", b"", out), said, status) == plain, "but for colors")
+        colored = {}
+        for color, text in re.findall(rb"\x1b\[([1-9][\d;]*)m([^\x1b]*)\x1b\[0m", out):
+            colored.setdefault(color, set()).add(text)
+        carets = {b"    ^", b" " + b"^" * 10, b" ^^", b" ^"}
+        gutters = {b" -->", b"  |", b"2 |", b"4 |", b"5 |", b"8 |", b"..."}
+        wanted = {b"32": {b"<stdin>:1:1:", b"<stdin>:3:1:"}}
+        wanted |= {b"1;31": {b"error", *carets}, b"1;34": gutters}
+        self.hold(colored == wanted, f"{colored}")
+        objects = self.run("--format", "json", given=given)
+        same = self.run("--format", "json", "--color", "always", given=given)
+        self.hold(objects == same, "JSON has no colors")
+
+    def try_options(self):
+        """A repeated option takes the last; texts; help and version."""
+        last = self.run("--color", "always", "--color", "never", "-e", "1")
+        self.hold(last == self.run("-e", "1") and last[2] == 0, f"the last color: {last}")
+        json_first = ["--format", "json", "--format", "text", "--prefix", "--prefix"]
+        self.hold(self.run(*json_first, "-e", "1") == last, "the last format")
+        out, said, status = self.run("-e", "1", "-e", "-1", "--text=true")
+        self.hold(re.findall(rb"<text>:1:1", out) == [b"<text>:1:1"] * 3, f"{out}")
+        self.hold((said, status) == (b"", 1), f"{said} {status}")
+        for word in ("-V", "--version"):
+            self.hold(self.run(word) == (VERSION, b"", 0), f"{word}: {self.run(word)}")
+        out, said, status = self.run("--help")
+        self.hold((said, status) == (b"", 0), f"help: {said} {status}")
+        for word in (b"--prefix", b"-e, --text", b"--format", b"--color", b"--version", b"FILE"):
+            self.hold(word in out, f"help of {word}")
+        for words in (["--absent"], ["--format", "xml"], ["--color"], ["-e"], ["-x"]):
+            out, said, status = self.run(*words)
+            self.hold((out, status) == (b"", 2) and said, f"{words}: {out} {said} {status}")
 
     def try_files(self, folder):
         (folder / "a.txt").write_bytes(b"1\n\xff\n2")
@@ -139,20 +207,171 @@ class Tests:
         heads = re.findall(rb"^(?: *--> )?([ab]\.txt:\d+:\d+)", out, re.M)
         wanted = [b"a.txt:1:1", b"a.txt:2:1", b"a.txt:3:1", b"b.txt:1:1"]
         self.hold(heads == wanted, f"{heads}")
-        self.hold(b"\nerror: byte that is not UTF-8\n" in out, "the byte is refused")
-        self.hold(self.run("--absent")[2] == 2, "a wrong argument")
-        self.hold(self.run("--format", "xml")[2] == 2, "a wrong format")
-        self.hold(self.run("--help")[2] == 0, "help")
+        self.hold(b"\nerror: byte that is not UTF-8\n" in out, "the byte is an error")
+        (it,) = self.objects("a.txt", given="", status=1, cwd=folder)[1:2]
+        found = [it[key] for key in ("line", "column", "start", "end", "error", "incomplete")]
+        self.hold(found == [2, 1, 2, 3, "NotUtf8", False], f"{it}")
+        for words in (["-", "b.txt"], ["b.txt", "-"], ["b.txt", "-e", "2"], ["-e", "2", "b.txt"]):
+            out, said, status = self.run(*words, given=b"3\n", cwd=folder)
+            heads = re.findall(rb"^(\S+):1:1:", out, re.M)
+            names = {"-": b"<stdin>", "b.txt": b"b.txt", "-e": b"<text>"}
+            order = sorted((it for it in words if it in names), key=lambda it: it != "-e")
+            self.hold(heads == [names[it] for it in order], f"{words}: {heads}")
+            self.hold((said, status) == (b"", 0), f"{words}: {said} {status}")
+        out, said, status = self.run("-", "-", given=b"3\n")
+        self.hold(out.count(b"<stdin>:1:1:") == 1 and (said, status) == (b"", 0), f"{out} {said}")
+        out, said, status = self.run("--", "b.txt", "-V", cwd=folder)
+        self.hold(out.startswith(b"b.txt:1:1:") and status == 2 and b": -V: " in said, f"{said}")
+        self.hold(self.run("b.txt", "--format", "json", cwd=folder)[0][:1] == b"{", "option last")
+
+    def try_hints(self, folder):
+        """Hints, which name an option, and that there are no others."""
+        (folder / "code.rs").write_bytes(b"fn main() {\n    1;\n}\n")
+        for text in ("0xFF_u8", '"a/b"', "true"):
+            out, said, status = self.run(text, cwd=folder)
+            absent = f"litrs_explain: {text}: No such file or directory (os error 2)\n"
+            self.hold(said == absent.encode() + TEXT_HELP, f"{said}")
+            self.hold((out, status) == (b"", 2), f"{out} {status}")
+        self.hold(TEXT_HELP not in self.run("absent", cwd=folder)[1], "no hint")
+        out, said, status = self.run("code.rs", "code.rs", cwd=folder)
+        self.hold((said, status) == (PREFIX_HELP, 1), f"a source file: {said} {status}")
+        self.hold(out.count(b"error") == 6, f"{out}")
+        for words in (["--prefix"], ["--format", "json"], ["-e", "cat"]):
+            said = self.run(*words, *["code.rs"] * (words[0] != "-e"), cwd=folder)[1]
+            self.hold(said == b"", f"no hint of {words}: {said}")
+        self.hold(self.run(given=b"1\n2\ncat\n0b12\n")[1] == b"", "no hint of a list")
+
+    def try_skipped(self):
+        """Empty lines, and a byte order mark at the front alone."""
+        for given in (b"", b"\n", b"\r\n\n", b"\xef\xbb\xbf", b"\xef\xbb\xbf\n"):
+            for words in ([], ["--prefix"]):
+                self.hold(self.run(*words, given=given) == (b"", b"", 0), f"{words} {given}")
+        for words in ([], ["--prefix"]):
+            out, said, status = self.run(*words, given=b"\xef\xbb\xbf1\n\n\"a\n\nb\"\n")
+            self.hold(re.findall(rb"n>:(\d:\d)", out) == [b"1:1", b"3:1"], f"{out}")
+            self.hold(b'value "a\\n\\nb"' in out and (said, status) == (b"", 0), f"{out} {said}")
+        self.hold(b"u{feff}" in self.run(given=b"1\n\xef\xbb\xbf1\n")[0], "a mark at no front")
+        bad = self.objects(given=b"\xef\xbb\xbf1\xff2\n", status=1)[0]
+        self.hold([bad["column"], bad["start"], bad["end"]] == [2, 4, 5], f"{bad}")
+
+    def try_not_utf8(self, folder):
+        """An argument that is not UTF-8 is named, and the others are explained."""
+        (folder / "b.txt").write_bytes(b"true\r\n")
+        (folder / os.fsdecode(b"z\xff\n.txt")).write_bytes(b"true")
+        for words in ([b"z\xff\n.txt", b"b.txt"], [b"b.txt", b"z\xff\n.txt"]):
+            out, said, status = self.run(*words, cwd=folder)
+            self.hold(said == b"litrs_explain: z\\xff\\n.txt: the argument is not UTF-8\n", said)
+            self.hold(out.startswith(b"b.txt:1:1: bool") and status == 2, f"{out} {status}")
+        out, said, status = self.run(b"-e", b"\xff", b"-e", b"1")
+        self.hold(out.startswith(b"<text>:1:1: integer") and status == 2, f"{out} {status}")
+        self.hold(said == b"litrs_explain: \\xff: the argument is not UTF-8\n", said)
+        self.hold(self.run(b"--color=\xff", b"b.txt", cwd=folder)[2] == 2, "a wrong value")
+        long = b"9" * 100_000
+        self.hold(self.run(b"-e", long)[0].count(long) == 1, "a long argument")
+
+    def try_streams(self, folder):
+        """Streams that are closed, full or a directory."""
+        (folder / "good.rs").write_bytes(b"true\n")
+        absent = b"litrs_explain: missing.rs: No such file or directory (os error 2)\n"
+        files = "missing.rs good.rs missing.rs"
+        wanted = self.run("good.rs", cwd=folder)[0]
+        runs = [
+            (f"{files}", 2, wanted, absent * 2),
+            (f"{files} 2>&-", 2, wanted, b""),
+            (f"{files} 2>/dev/full", 2, wanted, b""),
+            ("good.rs >/dev/full", 2, b"", FULL),
+            ("good.rs >/dev/full 2>&-", 2, b"", b""),
+            ("good.rs >/dev/full 2>/dev/full", 2, b"", b""),
+            ("good.rs >&-", 2, b"", CLOSED),
+            ("--help >/dev/full", 2, b"", FULL),
+            ("--help >&-", 2, b"", CLOSED),
+            ("--absent 2>&-", 2, b"", b""),
+            ("--absent 2>/dev/full", 2, b"", b""),
+            ("< /", 2, b"", b"litrs_explain: standard input: Is a directory (os error 21)\n"),
+            ("/ good.rs", 2, wanted, b"litrs_explain: /: Is a directory (os error 21)\n"),
+            ("- good.rs < /", 2, wanted, b"litrs_explain: standard input: Is a directory (os error 21)\n"),
+        ]
+        for words, *ends in runs:
+            how = {"capture_output": True, "cwd": folder, "timeout": 100, "check": False}
+            ran = subprocess.run(["sh", "-c", f"exec {self.program} {words}"], **how)
+            ended = [ran.returncode, ran.stdout, ran.stderr]
+            self.hold(ended == ends, f"{words}: {ended}")
 
     def try_closed(self):
-        given = b"1\n" * 100_000
+        """An output that its reader has closed: silence, and the status of what was read."""
         read, write = os.pipe()
         os.close(read)
-        ran = subprocess.run(
-            [self.program], input=given, stdout=write, stderr=subprocess.PIPE, check=False
-        )
+        runs = [([], b"1\n" * 100_000, 0), (["--help"], b"", 0), (["-V"], b"", 0)]
+        runs += [(["--format", "json"], b"1\n" * 100_000, 0), ([], b"0b12\n", 1)]
+        runs += [(["-e", "1"], b"", 0), (["--prefix"], b"0b12 " * 100_000, 1)]
+        for words, given, status in runs:
+            how = {"input": given, "stdout": write, "stderr": subprocess.PIPE, "check": False}
+            ran = subprocess.run([self.program, *words], **how)
+            said = ran.stderr, ran.returncode
+            self.hold(said == (b"", status), f"a closed output of {words}: {said}"[:200])
         os.close(write)
-        self.hold((ran.stderr, ran.returncode) == (b"", 0), f"a closed output: {ran}"[:200])
+
+    def try_failing_reads(self, folder):
+        """A read that fails: the reports on the lines that were read are written."""
+        library = folder / "fail_io.so"
+        words = ["cc", "-shared", "-fPIC", "-o", library, TOP / ".ci" / "fail_io.c"]
+        subprocess.run(words, check=True)
+        lines = [f"{it}\n".encode() for it in range(10_000)]
+        for piece, fails in ((7, 2), (7, 100), (100, 1), (4096, 3), (4096, 9)):
+            env = {"LD_PRELOAD": str(library), "READ_PIECE": str(piece), "IO_ERROR": "5"}
+            env["READ_FAILS"] = str(fails)
+            out, said, status = self.run(given=b"".join(lines), env=env)
+            read = b"".join(lines)[: piece * (fails - 1)]
+            whole = self.run(given=read[: read.rfind(b"\n") + 1])[0]
+            self.hold(out == whole, f"read {fails} of {piece} bytes fails: {len(out)} bytes of {len(whole)}")
+            self.hold(said == b"litrs_explain: standard input: Input/output error (os error 5)\n", said)
+            self.hold(status == 2, f"read {fails} of {piece} bytes fails: {status}")
+
+    def on_terminal(self, *words, given, env):
+        """What a run writes to a terminal, whose keyboard gives this."""
+        child, terminal = pty.fork()
+        if child == 0:
+            os.execve(self.program, [self.program, *words], env)
+        os.write(terminal, given)
+        written = b""
+        while True:
+            try:
+                piece = os.read(terminal, 4096)
+            except OSError:
+                break
+            if not piece:
+                break
+            written += piece
+        status = os.waitstatus_to_exitcode(os.waitpid(child, 0)[1])
+        os.close(terminal)
+        return written, status
+
+    def try_terminal(self):
+        """Colors on a terminal, but where the environment wants none; the end of what is typed."""
+        runs = [({}, True), ({"NO_COLOR": "1"}, False), ({"NO_COLOR": ""}, True)]
+        runs += [({"TERM": "dumb"}, False), ({"TERM": "xterm"}, True)]
+        for env, is_colored in runs:
+            out, status = self.on_terminal("-e", "0b12", given=b"", env=env)
+            self.hold((b"\x1b[" in out, status) == (is_colored, 1), f"{env}: {out} {status}")
+            always = ["--color", "always", "-e", "1"]
+            out, status = self.on_terminal(*always, given=b"", env=env)
+            self.hold((b"\x1b[" in out, status) == (True, 0), f"{env}: {out} {status}")
+        # (a line without its end, whose end is typed twice)
+        out, status = self.on_terminal("--color", "never", given=b"1\n23\x04\x04", env={})
+        self.hold(b"value 1\r\n" in out and b"value 23\r\n" in out and status == 0, f"{out}")
+
+    def try_long_line(self, folder):
+        """A line of 1.6 MB, with a report on each of its words, of which none is held."""
+        library, peak = folder / "peak.so", folder / "peak"
+        words = ["cc", "-O1", "-shared", "-fPIC", "-o", library, TOP / ".ci" / "peak.c"]
+        subprocess.run(words, check=True)
+        env = {"LD_PRELOAD": str(library), "PEAK": str(peak)}
+        for words in (["--prefix"], ["--prefix", "--format", "json"]):
+            given = b"0b2 " * 400_000
+            how = {"stdout": subprocess.DEVNULL, "env": env, "capture_output": False}
+            self.run(*words, given=given, **how)
+            held = int(peak.read_text())
+            self.hold(held < 4 * len(given), f"{words} hold {held} bytes of {len(given)}")
 
     def try_long(self, folder):
         """A text of 16 MB, in room for a quarter of it."""
@@ -220,17 +439,26 @@ class Tests:
 
 def main():
     faults, number = [], 0
-    for program in (str(PROGRAM), f"{PROGRAM}.by-rattle"):
+    for program in sys.argv[1:] or (str(PROGRAM), f"{PROGRAM}.by-rattle"):
         tests = Tests(program)
         with tempfile.TemporaryDirectory(prefix="explain-") as room:
             folder = pathlib.Path(room)
             tests.try_integers()
             tests.try_strings()
             tests.try_places()
+            tests.try_errors()
             tests.try_colors()
+            tests.try_options()
             tests.try_files(folder)
+            tests.try_hints(folder)
+            tests.try_skipped()
+            tests.try_not_utf8(folder)
+            tests.try_streams(folder)
             tests.try_closed()
+            tests.try_failing_reads(folder)
+            tests.try_terminal()
             tests.try_long(folder)
+            tests.try_long_line(folder)
             tests.try_refused()
             tests.try_memory(folder)
         number, faults = number + tests.number, faults + tests.faults

@@ -1,47 +1,61 @@
-//! Literals and refusals as JSON, an object a line.
-use crate::report::{Place, Refusal};
+//! Literals and errors as JSON, one object a line.
+use crate::place::{Place, Span};
+use crate::report::Problem;
 use litrs::{Buffer, FloatLit, IntegerLit, Literal};
 use litrs_explanation::{integer_text, kind_name, names_that_fit};
 use serde_json::Value;
 use std::alloc::{AllocError, Global};
 
-/// An object on a literal: in which file it begins and where, its kind, text and suffix, and, in
-/// `parts`, its value and what else its kind has.
+/// The name of the error of a byte that is not UTF-8. The others are those of `ParseErrorKind`.
+const NOT_UTF8: &str = "NotUtf8";
+
+/// Returns the object of a literal.
 pub(crate) fn literal_object<B: Buffer>(
     alloc: Global,
     file: &str,
-    place: Place,
+    span: &Span,
     literal: &Literal<B>,
 ) -> Result<String, AllocError> {
-    let head = head(alloc, file, place, kind_name(literal))?;
+    let head = head(alloc, file, span, kind_name(literal))?;
     let text = quoted(alloc, literal.raw_input())?;
     let suffix = literal.suffix();
     let parts = parts(alloc, literal)?;
     format!(in alloc; "{head}\"text\":{text},\"suffix\":\"{suffix}\",\"parts\":{{{parts}}}}}\n")
 }
 
-/// An object on a refusal: the file, the place of what is wrong, the message, and whether more text
-/// after what was read can mend it.
-pub(crate) fn refusal_object(
+/// Returns the object of an error.
+pub(crate) fn problem_object(
     alloc: Global,
     file: &str,
-    place: Place,
-    refusal: Refusal,
+    problem: &Problem,
 ) -> Result<String, AllocError> {
-    let head = head(alloc, file, place, "refused")?;
-    let message = quoted(alloc, refusal.message)?;
-    let mends = refusal.mends;
-    format!(in alloc; "{head}\"message\":{message},\"more_text_can_mend\":{mends}}}\n")
+    let head = head(alloc, file, &problem.span, "error")?;
+    let error = match problem.kind {
+        Some(kind) => format!(in alloc; "{kind:?}")?,
+        None => String::from_str(alloc, NOT_UTF8)?,
+    };
+    let message = quoted(alloc, problem.message())?;
+    let incomplete = problem.is_incomplete;
+    format!(in alloc;
+        "{head}\"error\":\"{error}\",\"message\":{message},\"incomplete\":{incomplete}}}\n"
+    )
 }
 
-/// The fields with which each object begins.
-fn head(alloc: Global, file: &str, place: Place, kind: &str) -> Result<String, AllocError> {
+/// Returns the fields that each object begins with.
+fn head(alloc: Global, file: &str, span: &Span, kind: &str) -> Result<String, AllocError> {
     let file = quoted(alloc, file)?;
-    let Place { line, column } = place;
-    format!(in alloc; "{{\"file\":{file},\"line\":{line},\"column\":{column},\"kind\":\"{kind}\",")
+    let Place { line, column } = span.start;
+    let end_line = span.end.line;
+    let end_column = span.end.column;
+    let start = span.bytes.start;
+    let end = span.bytes.end;
+    format!(in alloc;
+        "{{\"file\":{file},\"line\":{line},\"column\":{column},\"end_line\":{end_line},\
+        \"end_column\":{end_column},\"start\":{start},\"end\":{end},\"kind\":\"{kind}\","
+    )
 }
 
-/// The value of a literal, and what else its kind has.
+/// Returns the fields on the value of a literal, and on its other parts.
 fn parts<B: Buffer>(alloc: Global, literal: &Literal<B>) -> Result<String, AllocError> {
     match literal {
         Literal::Bool(lit) => value_field(alloc, lit.as_str()),
@@ -65,19 +79,32 @@ fn parts<B: Buffer>(alloc: Global, literal: &Literal<B>) -> Result<String, Alloc
     }
 }
 
-/// The value of an integer, its base and digits, and the types that have it.
+/// Returns the fields on the value of an integer, its base and digits, and the types that it fits.
 fn integer_parts<B: Buffer>(alloc: Global, lit: &IntegerLit<B>) -> Result<String, AllocError> {
     let value = integer_text(alloc, lit)?;
     let base = lit.base().value();
     let digits = lit.raw_main_part();
-    let names = names_that_fit(alloc, lit)?;
-    let fits = names.as_str().trim_start();
+    let fits = fits(alloc, lit)?;
     format!(in alloc;
-        "\"value\":\"{value}\",\"base\":{base},\"digits\":\"{digits}\",\"fits\":\"{fits}\""
+        "\"value\":\"{value}\",\"base\":{base},\"digits\":\"{digits}\",\"fits\":[{fits}]"
     )
 }
 
-/// The parts of a float.
+/// Returns the names of the types that the integer fits, in quotes and separated by commas.
+fn fits<B: Buffer>(alloc: Global, lit: &IntegerLit<B>) -> Result<String, AllocError> {
+    let mut fits = String::new(alloc);
+    if lit.value::<u128>().is_none() {
+        return Ok(fits);
+    }
+    let names = names_that_fit(alloc, lit)?;
+    for name in names.as_str().split_whitespace() {
+        let comma = if fits.is_empty() { "" } else { "," };
+        write!(fits, "{comma}\"{name}\"")?;
+    }
+    Ok(fits)
+}
+
+/// Returns the fields on the parts of a float.
 fn float_parts<B: Buffer>(alloc: Global, lit: &FloatLit<B>) -> Result<String, AllocError> {
     let integer = lit.integer_part();
     let exponent = lit.exponent_part();
@@ -93,18 +120,18 @@ fn float_parts<B: Buffer>(alloc: Global, lit: &FloatLit<B>) -> Result<String, Al
     )
 }
 
-/// A field with this value.
+/// Returns the field on a value.
 fn value_field(alloc: Global, value: &str) -> Result<String, AllocError> {
     format!(in alloc; "\"value\":{value}")
 }
 
-/// A field with bytes in hex.
+/// Returns the field on bytes, in hexadecimal digits.
 fn bytes_field(alloc: Global, bytes: &[u8]) -> Result<String, AllocError> {
     let hex = hex::encode(alloc, bytes)?;
     format!(in alloc; "\"hex\":\"{hex}\"")
 }
 
-/// A text as a JSON string.
+/// Returns a text as a JSON string.
 fn quoted(alloc: Global, text: &str) -> Result<String, AllocError> {
     let value = Value::try_from_str(alloc, text)?;
     value.to_string(alloc)

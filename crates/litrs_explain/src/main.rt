@@ -1,5 +1,5 @@
-//! Explains the Rust literals of files to a person: what kind each is, its value and its parts; of
-//! what is no literal, what is wrong and where. See `docs/EXPLAIN.md`.
+//! Explains the Rust literals in files to a person: the kind of each, its value and its parts, and
+//! for a text that is not a literal what is wrong and where. See `docs/EXPLAIN.md`.
 //!
 //! ```text
 //! numbers.rs:1:9: integer
@@ -10,22 +10,26 @@
 //!   suffix u8
 //! ```
 //!
-//! Text is read line by line. Of a literal that goes on over lines those lines are held, and
-//! nothing else.
+//! Text is read line by line. Only the lines of an incomplete literal are held.
 #![tactic(auto)]
 
+mod arguments;
+mod color;
+mod error;
 mod explainer;
 mod find;
 mod json;
 mod options;
+mod output;
+mod place;
 mod program;
 mod report;
+mod text;
 
-use program::{run, status_of};
 use std::io::IsTerminal;
 use std::process::ExitCode;
 
 fn main(rt: HostRuntime) -> ExitCode {
     let is_terminal = rt.stdout().is_terminal();
-    ExitCode::from(status_of(&rt, run(&rt, is_terminal)))
+    ExitCode::from(program::run_program(&rt, is_terminal))
 }

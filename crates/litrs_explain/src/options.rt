@@ -1,14 +1,20 @@
 //! The command line.
+ghost use Rattle.std.specs.Prelude.{◌≡◌, ◌&&◌, not, true, false};
+ghost use Rattle.litrs_explain.specs.declared.options.ColorChoice.TheVariants.{Auto, Always, Never};
+
 use clap::{Arg, ArgAction, ArgMatches, Command};
 use std::alloc::{AllocError, Global};
+
+/// The version of the program, which is that of the library.
+const VERSION: &str = "1.0.1-rattle.1";
 
 /// The formats of reports.
 const FORMATS: [&str; 2] = ["text", "json"];
 
 /// When reports are colored.
-const TIMES: [&str; 3] = ["auto", "always", "never"];
+const COLORS: [&str; 3] = ["auto", "always", "never"];
 
-/// What a run does with a file.
+/// How inputs are read and reports written.
 #[derive(Clone, Copy)]
 pub(crate) struct Options {
     /// Whether literals are found in any text. If not, lines are literals.
@@ -17,31 +23,61 @@ pub(crate) struct Options {
     pub(crate) json: bool,
     /// Whether reports are colored.
     pub(crate) color: bool,
-    /// Whether reports go to a terminal, so that each is written before the next line is read.
-    pub(crate) is_terminal: bool,
 }
 
-/// The command line of the program.
+/// When reports are colored.
+#[derive(Clone, Copy)]
+pub(crate) enum ColorChoice {
+    /// If they go to a terminal that wants colors.
+    Auto,
+    Always,
+    Never,
+}
+
+/// What the program knows of the place where reports go.
+#[derive(Clone, Copy)]
+pub(crate) struct Terminal {
+    /// Whether it is a terminal.
+    pub(crate) is_terminal: bool,
+    /// Whether the environment asks for no colors.
+    pub(crate) is_plain: bool,
+}
+
+/// Returns the command line of the program.
 pub(crate) fn command<'a>(alloc: Global) -> Result<Command<'a>, AllocError> {
     let format = "Lines for a person, or one JSON object a line";
-    let color = "Color the text; auto: where it goes to a terminal";
+    let color = "Color the lines; auto: if they go to a terminal";
     Command::new(alloc, "litrs_explain")
-        .about("Explains the Rust literals of files")
+        .version(VERSION)
+        .about("Explains the Rust literals in files")
+        .args_override_self(true)
         .arg(prefix(alloc))?
+        .arg(text(alloc))?
         .arg(choice(alloc, "format", &FORMATS, "text", format))?
-        .arg(choice(alloc, "color", &TIMES, "auto", color))?
+        .arg(choice(alloc, "color", &COLORS, "auto", color))?
         .arg(files(alloc))
 }
 
-/// The flag for any text.
+/// Returns the flag for any text.
 fn prefix<'a>(alloc: Global) -> Arg<'a> {
     Arg::new(alloc, "prefix")
         .long("prefix")
         .action(ArgAction::SetTrue)
-        .help("Find the literals of any text; without it, lines are literals")
+        .help("Find the literals in any text; without it, lines are literals")
 }
 
-/// An argument with one of these values.
+/// Returns the option for a text.
+fn text<'a>(alloc: Global) -> Arg<'a> {
+    Arg::new(alloc, "text")
+        .short('e')
+        .long("text")
+        .value_name("TEXT")
+        .action(ArgAction::Append)
+        .allow_hyphen_values(true)
+        .help("Explain this text; may be repeated")
+}
+
+/// Returns an option with one of these values.
 fn choice<'a>(
     alloc: Global,
     name: &'a str,
@@ -56,25 +92,37 @@ fn choice<'a>(
         .help(help)
 }
 
-/// The files.
+/// Returns the argument for files.
 fn files<'a>(alloc: Global) -> Arg<'a> {
     Arg::new(alloc, "file")
         .value_name("FILE")
         .action(ArgAction::Append)
-        .help("Files to read; without one, the standard input")
+        .help("Files to read; - or none: the standard input")
 }
 
-/// What a command line asks for, where `is_terminal` says whether the output is a terminal.
-pub(crate) fn options_of(matches: &ArgMatches<'_>, is_terminal: bool) -> Options {
-    let color = match matches.get_str("color") {
-        Some("always") => true,
-        Some("never") => false,
-        _ => is_terminal,
+/// Returns what a command line asks for.
+pub(crate) fn options_of(matches: &ArgMatches<'_>, terminal: Terminal) -> Options {
+    let choice = match matches.get_str("color") {
+        Some("always") => ColorChoice::Always,
+        Some("never") => ColorChoice::Never,
+        _ => ColorChoice::Auto,
     };
     Options {
         prefix: matches.get_flag("prefix"),
         json: matches.get_str("format") == Some("json"),
-        color,
-        is_terminal,
+        color: is_colored(choice, terminal),
+    }
+}
+
+/// Returns `true` if reports are colored.
+fn is_colored(choice: ColorChoice, terminal: Terminal) -> bool
+    ensures always { choice ≡ Always → result ≡ true }
+    ensures never { choice ≡ Never → result ≡ false }
+    ensures auto { choice ≡ Auto → result ≡ (terminal.is_terminal && not terminal.is_plain) }
+{
+    match choice {
+        ColorChoice::Always => true,
+        ColorChoice::Never => false,
+        ColorChoice::Auto => terminal.is_terminal && !terminal.is_plain,
     }
 }

@@ -1,189 +1,278 @@
-//! The program: files in, reports and a status out.
+//! The program: arguments in, reports and a status out.
 ghost use Rattle.std.specs.Prelude.{◌≡◌, true, false};
 
+use crate::arguments::{arguments, is_utf8, shown};
+use crate::error::Error;
 use crate::explainer::Explainer;
-use crate::options::{Options, command, options_of};
-use clap::ArgMatches;
-use litrs_explanation::BuildError;
+use crate::options::{Options, Terminal, command, options_of};
+use crate::output::Output;
+use litrs::Literal;
+use std::alloc::AllocError;
+use std::env::VarError;
 use std::fs::File;
-use std::io::{BufRead, BufReader, ErrorKind, Read, Write};
-use std::{env, io};
+use std::io::{BufRead, BufReader, ErrorKind, Read};
+use std::{env, fmt};
 
-/// From this length on, reports are written out.
-const BUFFER_LEN: usize = 8192;
+/// What a literal that is no file is told.
+const TEXT_HELP: &str = "help: the argument is a literal: -e explains it";
 
-/// Why a file was not explained to its end.
-pub(crate) enum Stop {
-    /// The file failed.
-    Read(io::Error),
-    /// The output failed.
-    Write(io::Error),
-    /// An allocation failed.
-    Build(BuildError),
-}
+/// What a text that is not a list of literals is told.
+const PREFIX_HELP: &str = "help: --prefix finds the literals within lines";
 
-impl From<BuildError> for Stop {
-    fn from(error: BuildError) -> Self {
-        Stop::Build(error)
-    }
-}
-
-/// The status of a run: 2 where a file was not read to its end, else 1 where something was
-/// refused, else 0.
-pub(crate) fn status(refused: bool, failed: bool) -> u8
-    ensures failed { failed ≡ true → result ≡ 2 }
-    ensures refused { failed ≡ false → refused ≡ true → result ≡ 1 }
-    ensures neither { failed ≡ false → refused ≡ false → result ≡ 0 }
+/// Returns the status of a run: 2 if an input was not read to its end, else 1 if there was an
+/// error in a text, else 0.
+pub(crate) fn status(has_errors: bool, has_failed: bool) -> u8
+    ensures failed { has_failed ≡ true → result ≡ 2 }
+    ensures errors { has_failed ≡ false → has_errors ≡ true → result ≡ 1 }
+    ensures neither { has_failed ≡ false → has_errors ≡ false → result ≡ 0 }
 {
-    if failed {
+    if has_failed {
         2
-    } else if refused {
+    } else if has_errors {
         1
     } else {
         0
     }
 }
 
-/// Runs the program over the arguments, files, input and outputs of the runtime. Where the reader
-/// of the output has closed it, the run ends in silence, with the status of what was read.
-pub(crate) fn run(rt: &HostRuntime, is_terminal: bool) -> Result<u8, Stop> {
-    let words = env::args(rt).map_err(Stop::Read)?;
-    // bounded by the arguments
-    let words: Vec<String> = words.collect(rt.alloc()).map_err(BuildError::from)?;
-    run_on(rt, words.as_slice(), is_terminal)
-}
-
-/// Runs the program over these arguments.
-fn run_on(rt: &HostRuntime, words: &[String], is_terminal: bool) -> Result<u8, Stop> {
-    let command = command(rt.alloc()).map_err(BuildError::from)?;
-    obey(rt, &command.try_get_matches_from(words), is_terminal)
-}
-
-/// Runs the program as the arguments ask, or says why they ask for no run.
-fn obey(
-    rt: &HostRuntime,
-    asked: &Result<ArgMatches<'_>, clap::Error>,
-    is_terminal: bool,
-) -> Result<u8, Stop> {
-    match asked {
-        Ok(matches) => {
-            let options = options_of(matches, is_terminal);
-            explain_named(rt, matches.get_strs("file"), options)
-        }
+/// Runs the program, and returns its status.
+pub(crate) fn run_program(rt: &HostRuntime, is_terminal: bool) -> u8 {
+    match run_arguments(rt, is_terminal) {
+        Ok(status) => status,
         Err(error) => {
-            error.print(rt).map_err(Stop::Write)?;
-            Ok(if error.exit_code() == 0 { 0 } else { 2 })
+            tell(rt, &error);
+            2
         }
     }
 }
 
-/// The status of a run over these files.
-fn explain_named(rt: &HostRuntime, files: Option<&[&str]>, options: Options) -> Result<u8, Stop> {
-    let mut end = End {
-        refused: false,
-        failed: false,
-    };
-    match explain_all(rt, files, options, &mut end) {
-        Err(Stop::Write(error)) if error.kind() == ErrorKind::BrokenPipe => {}
-        other => other?,
+/// Does what the arguments ask for, and returns the status.
+fn run_arguments(rt: &HostRuntime, is_terminal: bool) -> Result<u8, Error> {
+    let words = arguments(rt)?;
+    let command = command(rt.alloc())?;
+    match &command.try_get_matches_from(words.as_slice()) {
+        Ok(matches) => {
+            let is_plain = is_plain(rt)?;
+            let terminal = Terminal {
+                is_terminal,
+                is_plain,
+            };
+            let mut run = Run::new(*rt, options_of(matches, terminal), is_terminal);
+            let texts = matches.get_strs("text").unwrap_or(&[]);
+            let files = matches.get_strs("file").unwrap_or(&[]);
+            let ended = run.explain_all(texts, files);
+            run.finish(ended)
+        }
+        Err(error) => answer(rt, error),
     }
-    Ok(status(end.refused, end.failed))
 }
 
-/// How a run ended.
+/// Prints the help or the version, or what is wrong with the arguments.
+fn answer(rt: &HostRuntime, error: &clap::Error) -> Result<u8, Error> {
+    let printed = error.print(rt);
+    if error.exit_code() != 0 {
+        return Ok(2);
+    }
+    match printed {
+        Err(error) if error.kind() != ErrorKind::BrokenPipe => Err(Error::Output(error)),
+        _ => Ok(0),
+    }
+}
+
+/// Returns `true` if the environment asks for no colors: `NO_COLOR` is set and not empty, or the
+/// terminal is `dumb`.
+fn is_plain(rt: &HostRuntime) -> Result<bool, Error> {
+    let no_color = variable(rt, "NO_COLOR")?;
+    let terminal = variable(rt, "TERM")?;
+    Ok(!no_color.is_empty() || terminal.as_str() == "dumb")
+}
+
+/// Returns the value of a variable of the environment: the empty text if it is not set, U+FFFD if
+/// it is not UTF-8.
+fn variable(rt: &HostRuntime, name: &str) -> Result<String, Error> {
+    match env::var(rt, name) {
+        Ok(value) => Ok(value),
+        Err(VarError::NotPresent) => Ok(String::new(rt.alloc())),
+        Err(VarError::NotUnicode) => Ok(String::from_str(rt.alloc(), "\u{fffd}")?),
+        Err(VarError::OutOfMemory) => Err(Error::from(AllocError)),
+    }
+}
+
+/// Tells the user something. The run continues if that cannot be written.
+fn tell<D: fmt::Display + Drop>(rt: &HostRuntime, message: D) {
+    let _ = rt.eprintln(format_args!("litrs_explain: {message}"));
+}
+
+/// What is explained.
+#[derive(Clone, Copy)]
+enum Source<'a> {
+    /// The value of `-e`.
+    Text(&'a str),
+    /// The standard input.
+    Stdin,
+    /// The file of this name.
+    File(&'a str),
+}
+
+impl<'a> Source<'a> {
+    /// Returns what an argument names.
+    fn of_argument(argument: &'a str) -> Source<'a> {
+        match argument {
+            "-" => Source::Stdin,
+            _ => Source::File(argument),
+        }
+    }
+
+    /// Returns the name in reports.
+    fn name(self) -> &'a str {
+        match self {
+            Source::Text(_) => "<text>",
+            Source::Stdin => "<stdin>",
+            Source::File(name) => name,
+        }
+    }
+
+    /// Returns the argument that names the source, or the words for the standard input.
+    fn argument(self) -> &'a str {
+        match self {
+            Source::Text(argument) | Source::File(argument) => argument,
+            Source::Stdin => "standard input",
+        }
+    }
+}
+
+/// A run over several sources.
 #[derive(Drop)]
-struct End {
-    /// Whether something was refused.
-    refused: bool,
-    /// Whether a file was not read to its end.
-    failed: bool,
+struct Run<'a> {
+    rt: HostRuntime,
+    explainer: Explainer<'a>,
+    /// Whether a source was not read to its end.
+    has_failed: bool,
+    /// Whether the user was told of `--prefix`.
+    was_told: bool,
 }
 
-/// Explains the files, or the standard input where none is named.
-fn explain_all(
-    rt: &HostRuntime,
-    files: Option<&[&str]>,
-    options: Options,
-    end: &mut End,
-) -> Result<(), Stop> {
-    let Some(files) = files else {
-        return explain(rt, "<stdin>", Ok(rt.reader()), options, &mut end.refused);
-    };
-    for file in files {
-        match explain(rt, file, File::open(rt, *file), options, &mut end.refused) {
-            Err(Stop::Read(error)) => {
-                end.failed = true;
-                rt.eprintln(format_args!("litrs_explain: {file}: {error}"))
-                    .map_err(Stop::Write)?;
-            }
+impl<'a> Run<'a> {
+    /// Creates a run over no source.
+    fn new(rt: HostRuntime, options: Options, is_terminal: bool) -> Run<'a> {
+        let output = Output::new(rt, is_terminal);
+        Run {
+            rt,
+            explainer: Explainer::new(rt.alloc(), options, output),
+            has_failed: false,
+            was_told: false,
+        }
+    }
+
+    /// Explains the texts and files of a command line, or the standard input if there are none.
+    fn explain_all(&mut self, texts: &[&'a str], files: &[&'a str]) -> Result<(), Error> {
+        if texts.is_empty() && files.is_empty() {
+            return self.explain(Source::Stdin);
+        }
+        for text in texts {
+            self.explain(Source::Text(*text))?;
+        }
+        for file in files {
+            self.explain(Source::of_argument(*file))?;
+        }
+        Ok(())
+    }
+
+    /// Writes the reports so far, and returns the status of a run that ended so. If the reader of
+    /// the output has closed it, that is the status of what was read.
+    fn finish(&mut self, ended: Result<(), Error>) -> Result<u8, Error> {
+        let flushed = self.explainer.reports.output.flush();
+        match ended.and(flushed) {
+            Err(Error::Output(error)) if error.kind() == ErrorKind::BrokenPipe => {}
             other => other?,
         }
+        Ok(status(self.explainer.reports.has_errors, self.has_failed))
     }
-    Ok(())
-}
 
-/// Explains a file to its end.
-fn explain<F: Read>(
-    rt: &HostRuntime,
-    name: &str,
-    reader: io::Result<F>,
-    options: Options,
-    refused: &mut bool,
-) -> Result<(), Stop>
-where
-    F: Drop,
-{
-    let alloc = rt.alloc();
-    let mut reader = BufReader::new(alloc, reader.map_err(Stop::Read)?).map_err(Stop::Read)?;
-    let mut explainer = Explainer::new(alloc, name, options);
-    let explained = explain_lines(rt, &mut reader, &mut explainer, options.is_terminal);
-    *refused |= explainer.reports.refused;
-    explained
-}
-
-/// Explains the lines of a file.
-fn explain_lines<F: Read>(
-    rt: &HostRuntime,
-    reader: &mut BufReader<F>,
-    explainer: &mut Explainer,
-    is_terminal: bool,
-) -> Result<(), Stop>
-where
-    F: Drop,
-{
-    let mut line = Vec::new(rt.alloc());
-    for _ in 0..u64::MAX {
-        line.clear();
-        let len = reader.read_until(b'\n', &mut line).map_err(Stop::Read)?;
-        if len == 0 {
-            break;
-        }
-        explainer.feed(&line)?;
-        if is_terminal || explainer.reports.text.len() >= BUFFER_LEN {
-            send(rt, &mut explainer.reports.text)?;
+    /// Explains a source. If it cannot be read, the user is told, and the run continues.
+    fn explain(&mut self, source: Source<'a>) -> Result<(), Error> {
+        match self.open(source) {
+            Err(error @ (Error::Input(_) | Error::NotUtf8)) => self.fail(source, &error),
+            other => {
+                other?;
+                self.tell_of_prefix()
+            }
         }
     }
-    explainer.finish().map_err(BuildError::from)?;
-    send(rt, &mut explainer.reports.text)
+
+    /// Opens a source, and explains it to its end.
+    fn open(&mut self, source: Source<'a>) -> Result<(), Error> {
+        if !is_utf8(source.argument()) {
+            return Err(Error::NotUtf8);
+        }
+        self.explainer.start_file(source.name());
+        match source {
+            Source::Text(text) => self.explain_lines(text.as_bytes()),
+            Source::Stdin => {
+                let input = self.rt.reader();
+                self.explain_lines(input)
+            }
+            Source::File(name) => {
+                let file = File::open(&self.rt, name).map_err(Error::Input)?;
+                self.explain_lines(file)
+            }
+        }
+    }
+
+    /// Explains the lines of an input.
+    fn explain_lines<F: Read + Drop>(&mut self, input: F) -> Result<(), Error> {
+        let mut reader = BufReader::new(self.rt.alloc(), input).map_err(Error::Input)?;
+        let mut line = Vec::new(self.rt.alloc());
+        for _ in 0..u64::MAX {
+            line.clear();
+            reader.read_until(b'\n', &mut line).map_err(Error::Input)?;
+            if line.is_empty() {
+                break;
+            }
+            self.explainer.feed(&line)?;
+            if !line.ends_with(b"\n") {
+                break;
+            }
+        }
+        self.explainer.finish()
+    }
+
+    /// Tells the user why a source was not read to its end, after what was read before it.
+    fn fail(&mut self, source: Source<'a>, error: &Error) -> Result<(), Error> {
+        self.has_failed = true;
+        self.explainer.reports.output.flush()?;
+        let argument = source.argument();
+        let name = shown(self.rt.alloc(), argument)?;
+        tell(&self.rt, format_args!("{name}: {error}"));
+        let is_literal = Literal::parse(self.rt.alloc(), argument).is_ok();
+        if is_absent(error) && is_literal {
+            tell(&self.rt, TEXT_HELP);
+        }
+        Ok(())
+    }
+
+    /// Tells the user of `--prefix`, once, after a text that is not a list of literals.
+    fn tell_of_prefix(&mut self) -> Result<(), Error> {
+        let options = self.explainer.reports.options;
+        let is_wanted = !options.prefix && !options.json && !self.was_told;
+        if is_wanted && self.explainer.reports.is_other_text() {
+            self.was_told = true;
+            self.explainer.reports.output.flush()?;
+            tell(&self.rt, PREFIX_HELP);
+        }
+        Ok(())
+    }
 }
 
-/// Writes the reports so far.
-fn send(rt: &HostRuntime, text: &mut String) -> Result<(), Stop> {
-    io::writer(rt)
-        .write_all(text.as_bytes())
-        .map_err(Stop::Write)?;
-    text.clear();
-    Ok(())
-}
-
-/// The status of a run that ended so, after a message where it failed.
-pub(crate) fn status_of(rt: &HostRuntime, end: Result<u8, Stop>) -> u8 {
-    let said = match end {
-        Ok(status) => return status,
-        Err(Stop::Build(error)) => rt.eprintln(format_args!("litrs_explain: {error}")),
-        Err(Stop::Read(error)) => rt.eprintln(format_args!("litrs_explain: {error}")),
-        Err(Stop::Write(error)) => rt.eprintln(format_args!("litrs_explain: {error}")),
-    };
-    let _ = said;
-    2
+/// Returns `true` if a file was not read because there is no such file.
+fn is_absent(error: &Error) -> bool {
+    match error {
+        Error::Input(error) => {
+            matches!(
+                error.kind(),
+                ErrorKind::NotFound | ErrorKind::InvalidFilename
+            )
+        }
+        _ => false,
+    }
 }

@@ -1,147 +1,207 @@
-//! Reports on literals and refusals, as text or as JSON.
-ghost use Rattle.std.specs.Prelude.{◌≤◌};
+//! Reports on literals and errors, as text or as JSON.
+ghost use Rattle.std.specs.Prelude.{◌≡◌, ◌≤◌, ◌<◌, ◌↔◌, IfOk, IsTrue, string_bytes};
 ghost use Rattle.std.specs.Str.{IsCharBoundary};
+ghost use Rattle.litrs.specs.LiteralDerivation.{derivation};
+ghost use Rattle.litrs_explain.specs.Report.{place_text, literal_report};
 
-use crate::json::{literal_object, refusal_object};
+use crate::color::{colored_lines, colored_place};
+use crate::error::Error;
+use crate::json::{literal_object, problem_object};
 use crate::options::Options;
-use litrs::{Buffer, Literal};
-use litrs_diagnostic::{Diagnostic, position};
+use crate::output::Output;
+use crate::place::{Place, Span};
+use litrs::{Buffer, Literal, ParseErrorKind};
+use litrs_diagnostic::Diagnostic;
 use litrs_explanation::{BuildError, explanation};
 use std::alloc::{AllocError, Global};
 
-/// So many columns of a line are shown around what is wrong.
+/// The number of columns of a line that are shown around an error.
 const WIDTH: usize = 100;
 
-/// So many bytes before and after what is wrong are read for them. Each column takes four at most;
-/// the others are for characters that have none.
+/// The number of bytes before and after an error that are read to show [`WIDTH`] columns. A column
+/// takes at most four; the others are for characters without a column.
 pub(crate) const AROUND: usize = 1024;
 
-/// What is written before a colored text: the place of a literal, and the first line of a refusal.
-const GREEN: &str = "\x1b[32m";
-
-const RED: &str = "\x1b[31m";
-
-/// What is written after it.
-const PLAIN: &str = "\x1b[m";
-
-/// A place in a file, as people count.
-#[derive(Clone, Copy)]
-pub(crate) struct Place {
-    /// From 1.
-    pub(crate) line: usize,
-    /// In characters, from 1.
-    pub(crate) column: usize,
+/// An error in a text.
+#[derive(Drop)]
+pub(crate) struct Problem<'a> {
+    /// The text, or a part of it around the error.
+    pub(crate) source: &'a str,
+    /// The place of the first character of `source`.
+    pub(crate) place: Place,
+    /// The start of the error in `source`, in bytes.
+    pub(crate) start: usize,
+    /// The end of the error in `source`, in bytes.
+    pub(crate) end: usize,
+    /// The place of the error in the file.
+    pub(crate) span: Span,
+    /// The kind of the error, or `None` for a byte that is not UTF-8.
+    pub(crate) kind: Option<ParseErrorKind>,
+    /// Whether more text can complete the literal.
+    pub(crate) is_incomplete: bool,
 }
 
-impl Place {
-    /// The start of a file.
-    pub(crate) const START: Place = Place { line: 1, column: 1 };
-
-    /// The place after a text that begins here.
-    pub(crate) fn after(self, text: &str) -> Place {
-        let end = position(text, text.len());
-        if end.line == 1 {
-            Place {
-                line: self.line,
-                column: self.column.saturating_add(end.column - 1),
-            }
-        } else {
-            Place {
-                line: self.line.saturating_add(end.line - 1),
-                column: end.column,
-            }
+impl Problem<'_> {
+    /// Returns what is wrong.
+    pub(crate) fn message(&self) -> &'static str {
+        match self.kind {
+            Some(kind) => kind.description(),
+            None => "byte that is not UTF-8",
         }
     }
 }
 
-/// What is wrong in a text.
-#[derive(Clone, Copy)]
-pub(crate) struct Refusal<'a> {
-    pub(crate) source: &'a str,
-    /// Where the text begins.
-    pub(crate) place: Place,
-    /// Where what is wrong begins and ends in the text, in bytes.
-    pub(crate) start: usize,
-    pub(crate) end: usize,
-    pub(crate) message: &'a str,
-    /// Whether more text can mend it.
-    pub(crate) mends: bool,
-}
-
-/// The reports on a file, before they are written.
+/// The reports of a run.
 #[derive(Drop)]
 pub(crate) struct Reports<'a> {
-    pub(crate) alloc: Global,
-    /// What the file is called.
-    pub(crate) name: &'a str,
+    alloc: Global,
     pub(crate) options: Options,
-    /// Those that are not written yet.
-    pub(crate) text: String,
-    /// Whether anything was refused.
-    pub(crate) refused: bool,
+    pub(crate) output: Output,
+    /// The name of the file that is read.
+    name: &'a str,
+    /// The number of literals in it.
+    literals: usize,
+    /// The number of errors in it.
+    errors: usize,
+    /// Whether there was an error in any file.
+    pub(crate) has_errors: bool,
 }
 
-impl Reports<'_> {
-    /// Adds the report on a literal that begins at this place.
+impl<'a> Reports<'a> {
+    /// Creates an empty list of reports, which are written to `output`.
+    pub(crate) fn new(alloc: Global, options: Options, output: Output) -> Reports<'a> {
+        Reports {
+            alloc,
+            options,
+            output,
+            name: "",
+            literals: 0,
+            errors: 0,
+            has_errors: false,
+        }
+    }
+
+    /// Starts a file that is called `name`.
+    pub(crate) fn start_file(&mut self, name: &'a str) {
+        self.name = name;
+        self.literals = 0;
+        self.errors = 0;
+    }
+
+    /// Returns `true` if the file seems to be a text with literals in it, and not a list of
+    /// literals.
+    pub(crate) fn is_other_text(&self) -> bool {
+        is_other_text(self.literals, self.errors)
+    }
+
+    /// Adds the report on a literal.
     pub(crate) fn add_literal<B: Buffer>(
         &mut self,
+        span: &Span,
+        literal: &Literal<B>,
+    ) -> Result<(), Error> {
+        self.literals = self.literals.saturating_add(1);
+        let report = if self.options.json {
+            literal_object(self.alloc, self.name, span, literal)?
+        } else {
+            self.literal_lines(span.start, literal)?
+        };
+        self.output.add(report.as_str())
+    }
+
+    /// Adds the report on an error.
+    pub(crate) fn add_problem(&mut self, problem: Problem) -> Result<(), Error> {
+        self.has_errors = true;
+        self.errors = self.errors.saturating_add(1);
+        let report = if self.options.json {
+            problem_object(self.alloc, self.name, &problem)?
+        } else {
+            self.problem_lines(&problem)?
+        };
+        self.output.add(report.as_str())
+    }
+
+    /// Returns the lines on a literal for a person.
+    fn literal_lines<B: Buffer>(
+        &self,
         place: Place,
         literal: &Literal<B>,
-    ) -> Result<(), BuildError> {
-        if self.options.json {
-            let object = literal_object(self.alloc, self.name, place, literal)?;
-            self.text.push_str(object.as_str())?;
-            return Ok(());
+    ) -> Result<String, Error> {
+        let mut place = place_text(self.alloc, self.name, place)?;
+        if self.options.color {
+            place = colored_place(self.alloc, place.as_str())?;
         }
-        let Place { line, column } = place;
-        let name = self.name;
-        let (start, end) = colors(self.options.color, GREEN);
-        let lines = explanation(self.alloc, literal)?;
-        write!(self.text, "{start}{name}:{line}:{column}:{end} {lines}")?;
-        Ok(())
+        Ok(literal_report(self.alloc, place.as_str(), literal)?)
     }
 
-    /// Adds the report on a refusal.
-    pub(crate) fn add_refusal(&mut self, refusal: Refusal) -> Result<(), AllocError> {
-        self.refused = true;
-        let (start, end) = cuts(refusal.source, refusal.start, refusal.end);
-        if self.options.json {
-            let (before, _) = refusal.source.split_at(start);
-            let place = refusal.place.after(before);
-            let object = refusal_object(self.alloc, self.name, place, refusal)?;
-            return self.text.push_str(object.as_str());
-        }
+    /// Returns the lines on an error for a person.
+    fn problem_lines(&self, problem: &Problem) -> Result<String, AllocError> {
+        let (start, end) = cuts(problem.source, problem.start, problem.end);
         let diagnostic = Diagnostic {
             name: self.name,
-            source: refusal.source,
+            source: problem.source,
             start,
             end,
-            first_line: narrowed(refusal.place.line),
-            first_column: narrowed(refusal.place.column),
-            message: refusal.message,
+            first_line: narrowed(problem.place.line),
+            first_column: narrowed(problem.place.column),
+            message: problem.message(),
             width: WIDTH,
         };
-        let (color, plain) = colors(self.options.color, RED);
-        let not = if refusal.mends { "" } else { "no " };
-        write!(
-            self.text,
-            "{color}{diagnostic}{plain}  {not}more text can mend it\n"
-        )
+        let mut lines = format!(in self.alloc; "{diagnostic}")?;
+        if self.options.color {
+            lines = colored_lines(self.alloc, lines.as_str())?;
+        }
+        lines.push_str(note(problem.is_incomplete))?;
+        Ok(lines)
     }
 }
 
-/// What is written before and after a colored text.
-fn colors(color: bool, start: &'static str) -> (&'static str, &'static str) {
-    if color { (start, PLAIN) } else { ("", "") }
+/// Returns the name of a file, and a line and a column in it.
+fn place_text(alloc: Global, name: &str, place: Place) -> Result<String, AllocError>
+    ensures { IfOk result (λ text. string_bytes text ≡ place_text name.now place) }
+{
+    let Place { line, column } = place;
+    format!(in alloc; "{name}:{line}:{column}:")
 }
 
-/// The number, or the greatest that 32 bits hold.
+/// Returns the explanation of a literal, after the place where it begins.
+fn literal_report<B: Buffer>(
+    alloc: Global,
+    place: &str,
+    literal: &Literal<B>,
+) -> Result<String, BuildError>
+    ensures { IfOk result (λ report.
+        string_bytes report ≡ literal_report place.now (derivation literal.now)) }
+{
+    let lines = explanation(alloc, literal)?;
+    Ok(format!(in alloc; "{place} {lines}")?)
+}
+
+/// Returns the last line on an error.
+fn note(is_incomplete: bool) -> &'static str {
+    if is_incomplete {
+        "  this is incomplete: more text can complete it\n"
+    } else {
+        "  no continuation of this text is a literal\n"
+    }
+}
+
+/// Returns `true` if a file that was read line by line, with this number of lines that are literals
+/// and of lines with errors, seems to be a text with literals in it.
+fn is_other_text(literals: usize, errors: usize) -> bool
+    ensures { IsTrue result ↔ ((2 ≤ errors) × (literals < errors)) }
+{
+    errors >= 2 && errors > literals
+}
+
+/// Returns the number, or the greatest that 32 bits hold.
 fn narrowed(number: usize) -> u32 {
     // bounded by the type: it is the number of a line or a column, and no amount of memory
     u32::try_from(number).unwrap_or(u32::MAX)
 }
 
-/// Both places, where the text may be cut at them and they are in order; else those of all of it.
+/// Returns both places if the text can be cut at them and they are in order, or else those of all of
+/// it.
 fn cuts(text: &str, start: usize, end: usize) -> (usize, usize)
     ensures start { IsCharBoundary text.now result.0 }
     ensures end { IsCharBoundary text.now result.1 }

@@ -1,0 +1,40 @@
+//! Why a run, or the reading of one input, ends early.
+use litrs_explanation::BuildError;
+use std::alloc::AllocError;
+use std::{fmt, io};
+
+/// Why a run, or the reading of one input, ends early.
+#[derive(Drop)]
+pub(crate) enum Error {
+    /// An input could not be opened or read.
+    Input(io::Error),
+    /// An argument is not UTF-8.
+    NotUtf8,
+    /// The standard output could not be written.
+    Output(io::Error),
+    /// An allocation failed.
+    Memory(BuildError),
+}
+
+impl From<BuildError> for Error {
+    fn from(error: BuildError) -> Self {
+        Error::Memory(error)
+    }
+}
+
+impl From<AllocError> for Error {
+    fn from(error: AllocError) -> Self {
+        Error::Memory(BuildError::from(error))
+    }
+}
+
+impl fmt::Display for Error {
+    fn fmt<W: fmt::Write>(&self, f: &mut fmt::Formatter<W>) -> fmt::Result {
+        match self {
+            Error::Input(error) => write!(f, "{error}"),
+            Error::NotUtf8 => f.write_str("the argument is not UTF-8"),
+            Error::Output(error) => write!(f, "standard output: {error}"),
+            Error::Memory(error) => write!(f, "{error}"),
+        }
+    }
+}
