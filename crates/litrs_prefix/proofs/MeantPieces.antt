@@ -64,7 +64,7 @@ fronts (c ∷ a) (d ∷ b) x y h =
     ]
 
 -- what was meant is one piece alone
-meant_unique : (t f g r u : List ℕ) → IsMeant t f → IsMeant t g → f ++ r ≡ t → g ++ u ≡ t → HasNoDerivation (IsLiteral f) → HasNoDerivation (IsLiteral g) → f ≡ g
+pub meant_unique : (t f g r u : List ℕ) → IsMeant t f → IsMeant t g → f ++ r ≡ t → g ++ u ≡ t → HasNoDerivation (IsLiteral f) → HasNoDerivation (IsLiteral g) → f ≡ g
 meant_unique t f g r u m n before after none other =
     let same : m.piece ≡ n.piece = append_cancel_right m.piece n.piece (after_opened t) (m.opened ∙ sym n.opened) in
     let left : m.piece ++ (m.more ++ r) ≡ t = sym (append_assoc m.piece m.more r) ∙ (ap (λ (l : List ℕ). l ++ r) m.longer ∙ before) in

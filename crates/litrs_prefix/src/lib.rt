@@ -44,8 +44,8 @@ pub use follow::may_follow;
 pub use going_on::prefix_goes_on;
 pub use len::prefix_len;
 use litrs::{Literal, ParseError, ParseErrorKind};
-use malformed::after_opened;
-use name::split_first_char;
+pub use malformed::after_opened;
+pub use name::{begins_name, split_first_char};
 pub use opening::opens;
 use std::alloc::Global;
 
@@ -172,7 +172,7 @@ fn refusal(alloc: Global, text: &str) -> Option<ParseError>
 }
 
 /// Where the character ends that begins there, or the end of the text.
-fn next_boundary(text: &str, start: usize) -> usize
+pub fn next_boundary(text: &str, start: usize) -> usize
     requires { IsCharBoundary text.now start }
     ensures boundary { IsCharBoundary text.now result }
     ensures longer { start < length text.now → start < result }

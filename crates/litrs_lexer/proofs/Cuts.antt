@@ -1,0 +1,108 @@
+-- Tokens at the front of a text, in its bytes and in its characters.
+use Rattle.std.proofs.Common.{◌≡◌, ℕ, zero, suc, ◌-◌, ◌<◌, ◌≤◌, Bool, true, false, not, List, [], ◌∷◌, ◌++◌, length, take, drop, refl, sym, ap, subst, ◌∙◌, length-drop, arith}
+use Rattle.std.specs.Prelude.{if◌then◌else◌, ◌==◌}
+use Rattle.std.specs.Str.{chars, IsUtf8, IsCharBoundary}
+use Rattle.std.proofs.lemmas.Bool.{and_parts}
+use Rattle.std.proofs.lemmas.Str.{IsCharBoundary-start}
+use Rattle.std.proofs.lemmas.List.{append_cancel_right}
+use Rattle.unicode_ident.specs.Ident.{is_xid_continue}
+use Rattle.litrs_base.specs.Text.{first_passes}
+use Rattle.litrs_base.proofs.ListTests.{if_true}
+use Rattle.litrs_grammar.specs.Suffix.{starts_identifier}
+use Rattle.litrs_grammar.specs.Bool.{bool_text, is_bool}
+use Rattle.litrs_grammar.specs.Literal.{Derivation, a_bool, IsLiteral}
+use Rattle.litrs_prefix.specs.Ends.{IsEndOf}
+use Rattle.litrs_prefix.specs.Meant.{IsMeant}
+use Rattle.litrs_prefix.specs.Opens.{after_run, first_name, after_name, opens}
+use Rattle.litrs_prefix.specs.Prefix.{HasPrefix, HasNoPrefix, is_quote_or_hash, ends_bool}
+use Rattle.litrs_prefix.proofs.Ends.{end_at, all, after_first, after_bytes, end_of_end, not_longer, shorter}
+use Rattle.litrs_prefix.proofs.Names.{name_and_rest}
+use Rattle.litrs_prefix.proofs.Pieces.{no_empty_piece, parts_spell}
+use Rattle.litrs_lexer.specs.declared.kind.TokenKind.{TokenKind}
+use Rattle.litrs_lexer.specs.declared.kind.TokenKind.TheVariants.{Literal, MalformedLiteral}
+use Rattle.litrs_lexer.specs.Cut.{IsCut, IsFirstChar}
+use Rattle.litrs_lexer.specs.Literal.{opens_quoted}
+use Rattle.litrs_lexer.specs.Punctuation.{is_punctuation, is_unknown}
+use Rattle.litrs_lexer.specs.Token.{IsToken}
+use Rattle.litrs_lexer.specs.Tokens.{IsLiteralBy}
+use Rattle.litrs_lexer.specs.Whitespace.{is_white_space}
+use Rattle.std.specs.Char.{is_ascii_digit}
+
+pub after_char : (text after : List ℕ) (c : ℕ) → IsFirstChar text c after → IsEndOf text after
+after_char text after c first = after_first text text after c (all text) first.bytes
+
+-- a token that ends after the first character
+pub cut_after : (kind : TokenKind) (text after rest : List ℕ) (c : ℕ) → IsFirstChar text c after → IsEndOf after rest → IsToken kind (chars text) (chars rest) → IsCut text kind rest
+cut_after kind text after rest c first end is =
+    let a : length after < length text = shorter text c after first.bytes in
+    let b : length rest ≤ length after = not_longer after rest end in
+    record { is = is; end = end_of_end text after rest (after_char text after c first) end; shorter = omega arith }
+
+-- a literal opens
+pub opened_parts : (t : List ℕ) → opens_quoted t ≡ true → opens t ≡ true
+opened_parts t h = (and_parts (opens t) (not (is_bool (first_name t))) h).0
+
+-- a text that is cut after some bytes
+pub cut_at : (kind : TokenKind) (text rest : List ℕ) (n : ℕ) → 0 < n → IsCharBoundary text n → rest ≡ drop n text → IsToken kind (chars text) (chars rest) → IsCut text kind rest
+cut_at kind text rest n some at back is =
+    let size : length rest ≡ length text - n = ap length back ∙ length-drop n text in
+    let within : n ≤ length text = at.0 in
+    record { is = is; end = after_bytes text rest n back; shorter = omega arith }
+
+-- a literal is not empty
+pub literal_some : (text : List ℕ) (n : ℕ) (d : Derivation) → IsUtf8 text → IsCharBoundary text n → HasPrefix (chars text) d (chars (drop n text)) → 0 < n
+literal_some text zero d u at h = absurd (no_empty_piece text d (chars text) h (IsCharBoundary-start text u, refl))
+literal_some text (suc n) d u at h = omega arith
+
+pub meant_token : (text rest : List ℕ) (n : ℕ) → IsUtf8 text → IsCharBoundary text n → rest ≡ drop n text → opens_quoted (chars text) ≡ true → HasNoPrefix (chars text) →
+    IsMeant (chars text) (chars (take n text)) → ((d : Derivation) → IsLiteral (chars (take n text)) d → ⊥) → IsToken MalformedLiteral (chars text) (chars rest)
+meant_token text rest n u at back opens none meant refused =
+    (opens, none, (chars (take n text), parts_spell text (take n text) rest n u at refl back, meant, refused))
+
+-- a bool is the whole name at the front
+pub bool_token : (t rest name : List ℕ) (b : Bool) → name ≡ first_name t → name ≡ bool_text b → rest ≡ after_name t → ends_bool rest ≡ true → IsToken Literal t rest
+bool_token t rest name b named is after ends = (
+  a_bool b,
+  record {
+    front = name;
+    spells = ap (λ (l : List ℕ). name ++ l) after ∙ (ap (λ (l : List ℕ). l ++ after_name t) named ∙ name_and_rest t);
+    literal = sym is;
+    follows = ends;
+  },
+)
+
+-- what follows a name
+pub name_rest : (c : ℕ) (t after rest : List ℕ) → t ≡ c ∷ after → starts_identifier c ≡ true → rest ≡ after_run after → rest ≡ after_name t
+name_rest c t after rest is name run = run ∙ sym (ap after_name is ∙ if_true (starts_identifier c) (after_run after) (c ∷ after) name)
+
+run_stops : (t : List ℕ) → first_passes is_xid_continue (after_run t) ≡ false
+run_stops [] = refl
+run_stops (c ∷ t) = go (is_xid_continue c) refl (run_stops t)
+  where
+    go : (b : Bool) → is_xid_continue c ≡ b → first_passes is_xid_continue (after_run t) ≡ false → first_passes is_xid_continue (if b then after_run t else (c ∷ t)) ≡ false
+    go true e rec = rec
+    go false e rec = e
+
+pub bool_ends : (after rest : List ℕ) → rest ≡ after_run after → first_passes is_quote_or_hash rest ≡ false → ends_bool rest ≡ true
+bool_ends after rest is none = rw (ap (first_passes is_xid_continue) is ∙ run_stops after) (rw none refl)
+
+-- a character that no test passes
+pub unknown : (c : ℕ) → is_white_space c ≡ false → starts_identifier c ≡ false → is_ascii_digit c ≡ false → (c == 34) ≡ false → (c == 39) ≡ false → is_punctuation c ≡ false → is_unknown c ≡ true
+unknown c a b d e f g = rw a (rw b (rw d (rw e (rw f (rw g refl)))))
+
+-- the text of a token is a literal by its kind
+pub literal_by : (kind : TokenKind) (t text rest : List ℕ) → text ++ rest ≡ t → IsToken kind t rest → IsLiteralBy kind text
+literal_by Literal t text rest spells h =
+    let same : h.1.front ≡ text = append_cancel_right h.1.front text rest (h.1.spells ∙ sym spells) in
+    (h.0, subst (λ (l : List ℕ). IsLiteral l h.0) same h.1.literal)
+literal_by MalformedLiteral t text rest spells h =
+    let m = h.2 in
+    let same : m.0 ≡ text = append_cancel_right m.0 text rest (m.1 ∙ sym spells) in
+    λ d is. m.3 d (subst (λ (l : List ℕ). IsLiteral l d) (sym same) is)
+literal_by kind t text rest spells h = tt
+
+-- the two parts of a text, in characters
+pub parts : (bs text rest : List ℕ) (n : ℕ) → IsUtf8 rest → IsEndOf bs rest → n ≡ length bs - length rest → text ≡ take n bs → IsUtf8 bs → chars text ++ chars rest ≡ chars bs
+parts bs text rest n u end is front whole =
+    let place = end_at bs end.0 rest u end.1 in
+    parts_spell bs text rest n whole (subst (IsCharBoundary bs) (sym is) place.0) front (sym (ap (λ (k : ℕ). drop k bs) is ∙ place.1))

@@ -1,0 +1,18 @@
+-- runs of characters, by bytes
+pub mod Runs
+-- block comments
+pub mod Blocks
+pub mod Bodies
+-- names
+pub mod Names
+-- tokens, in bytes
+pub mod Cuts
+-- one token alone
+pub mod Classes
+pub mod Unique
+-- what precedes the tokens of a file
+pub mod Attributes
+-- lists of tokens
+pub mod Spelled
+-- white space
+pub mod Whites

@@ -1,0 +1,45 @@
+-- How the code cuts a text, in bytes.
+use Rattle.std.specs.Prelude.{◌≡◌, ◌<◌, ℕ, zero, suc, Bool, not, ◌==◌, ◌&&◌, ◌||◌, List, [], ◌∷◌, ◌++◌, length, Option, Some, None, if◌then◌else◌, nat_le}
+use Rattle.std.specs.Char.{encode_utf8}
+use Rattle.std.specs.Str.{chars}
+use Rattle.litrs_prefix.specs.Ends.{IsEndOf}
+use Rattle.litrs_lexer.specs.Comment.{is_star_or_slash, opens_comment, closes_comment}
+use Rattle.litrs_lexer.specs.Token.{IsToken}
+use Rattle.litrs_lexer.specs.declared.kind.TokenKind.{TokenKind}
+
+-- the first bytes of the text, up to the rest, are a token of this kind
+pub record IsCut (text : List ℕ) (kind : TokenKind) (rest : List ℕ) : Type 0 where
+  pub is : IsToken kind (chars text) (chars rest)
+  pub end : IsEndOf text rest
+  pub shorter : length rest < length text
+
+-- the text starts with this character, before the rest
+pub record IsFirstChar (text : List ℕ) (c : ℕ) (rest : List ℕ) : Type 0 where
+  pub bytes : text ≡ encode_utf8 c ++ rest
+  pub is : chars text ≡ c ∷ chars rest
+
+-- the byte begins a character that is not ASCII
+abbrev pub is_wide : ℕ → Bool
+is_wide b = nat_le 128 b
+
+-- white space of ASCII
+abbrev pub is_ascii_white_space : ℕ → Bool
+is_ascii_white_space c = (c == 32) || (nat_le 9 c && nat_le c 13)
+
+-- neither `/*` nor `*/` starts with the character
+abbrev pub is_of_comment : ℕ → Bool
+is_of_comment c = not (is_star_or_slash c)
+
+-- The part of the text after the `*/` that closes a block comment, if `depth` more are open in it;
+-- None if it is not closed.
+abbrev pub block_end : (depth : ℕ) → List ℕ → Option (List ℕ)
+block_end depth [] = None
+block_end depth (c ∷ []) = None
+block_end zero (c ∷ d ∷ t) =
+    if opens_comment c d then block_end (suc zero) t
+    else if closes_comment c d then Some t
+    else block_end zero (d ∷ t)
+block_end (suc depth) (c ∷ d ∷ t) =
+    if opens_comment c d then block_end (suc (suc depth)) t
+    else if closes_comment c d then block_end depth t
+    else block_end (suc depth) (d ∷ t)

@@ -1,0 +1,153 @@
+//! The dispatch over the kinds of tokens, by the first characters.
+ghost use Rattle.std.specs.Prelude.{◌≡◌, ◌<◌, length, [], IfSome, IfNone, IsTrue};
+ghost use Rattle.std.specs.Str.{chars, IsUtf8};
+ghost use Rattle.litrs_base.specs.Text.{first_passes};
+ghost use Rattle.litrs_grammar.specs.Suffix.{starts_identifier};
+ghost use Rattle.litrs_prefix.specs.Ends.{IsEndOf};
+ghost use Rattle.litrs_prefix.specs.Opens.{after_name};
+ghost use Rattle.litrs_prefix.specs.Prefix.{is_quote_or_hash};
+ghost use Rattle.litrs_lexer.specs.Cut.{IsCut, IsFirstChar};
+ghost use Rattle.litrs_lexer.specs.Identifier.{begins_name};
+ghost use Rattle.litrs_lexer.specs.Punctuation.{is_punctuation};
+
+use crate::comment::{after_block, after_line};
+use crate::kind::TokenKind;
+use crate::literal::cut_literal;
+use crate::name::{
+    after_name, after_raw_mark, after_run, name_before, opens_quoted, starts_with_hash,
+    starts_with_name, starts_with_quote_or_hash, starts_with_single_quote,
+};
+use crate::whitespace::{after_white_space, is_white_space};
+use litrs_lex::cut_bool;
+use litrs_prefix::{begins_name, split_first_char};
+
+/// Returns the kind of the token at the front of `text` and the part of `text` after the token, or
+/// `None` if `text` is empty.
+pub fn cut_token(text: &str) -> Option<(TokenKind, &str)>
+    ensures some { IfSome result (λ cut. IsCut text.now cut.0 cut.1.now) }
+    ensures utf8 { IfSome result (λ cut. IsUtf8 cut.1.now) }
+    ensures whole { IsUtf8 text.now }
+    ensures none { IfNone result (text.now ≡ []) }
+{
+    match split_first_char(text) {
+        Some((c, after)) => Some(cut_from(text, c, after)),
+        None => None,
+    }
+}
+
+/// Cuts the token from the front of `text`, which is `c` and `after`.
+fn cut_from<'a>(text: &'a str, c: char, after: &'a str) -> (TokenKind, &'a str)
+    requires { IsFirstChar text.now c after.now }
+    ensures cut { IsCut text.now result.0 result.1.now }
+    ensures utf8 { IsUtf8 result.1.now }
+{
+    if begins_name(c) {
+        cut_name(text, c, after)
+    } else if is_white_space(c) {
+        (TokenKind::Whitespace, after_white_space(after))
+    } else if c.is_ascii_digit() {
+        cut_literal(text)
+    } else if c == '"' {
+        cut_literal(text)
+    } else if c == '\'' {
+        cut_quote(text, after)
+    } else if c == '/' {
+        cut_slash(text, after)
+    } else if is_punctuation(c) {
+        (TokenKind::Punctuation, after)
+    } else {
+        (TokenKind::Unknown, after)
+    }
+}
+
+/// Returns `true` if the character is punctuation.
+fn is_punctuation(c: char) -> bool
+    ensures { result ≡ is_punctuation c }
+{
+    c == '!'
+        || ('#' <= c && c <= '&')
+        || ('(' <= c && c <= '/')
+        || (':' <= c && c <= '@')
+        || c == '['
+        || c == ']'
+        || c == '^'
+        || ('{' <= c && c <= '~')
+}
+
+/// Cuts the token from the front of a text that starts with a name.
+fn cut_name<'a>(text: &'a str, c: char, after: &'a str) -> (TokenKind, &'a str)
+    requires first { IsFirstChar text.now c after.now }
+    requires name { IsTrue (starts_identifier c) }
+    ensures cut { IsCut text.now result.0 result.1.now }
+    ensures utf8 { IsUtf8 result.1.now }
+{
+    let rest = after_run(after);
+    if starts_with_quote_or_hash(rest) {
+        return cut_prefix(text, rest);
+    }
+    match cut_bool(name_before(text, rest)) {
+        Some(_) => (TokenKind::Literal, rest),
+        None => (TokenKind::Ident, rest),
+    }
+}
+
+/// Cuts the token from the front of a text that starts with a name before `"`, `'` or `#`.
+fn cut_prefix<'a>(text: &'a str, rest: &'a str) -> (TokenKind, &'a str)
+    requires name { IsTrue (begins_name (chars text.now)) }
+    requires rest { chars rest.now ≡ after_name (chars text.now) }
+    requires end { IsEndOf text.now rest.now }
+    requires shorter { length rest.now < length text.now }
+    requires mark { IsTrue (first_passes is_quote_or_hash (chars rest.now)) }
+    ensures cut { IsCut text.now result.0 result.1.now }
+    ensures utf8 { IsUtf8 result.1.now }
+{
+    match after_raw_mark(text) {
+        Some(name) => (TokenKind::RawIdent, after_name(name)),
+        None => if opens_quoted(text) {
+            cut_literal(text)
+        } else {
+            (TokenKind::UnknownPrefix, rest)
+        },
+    }
+}
+
+/// Cuts the token from the front of a text that starts with `'`.
+fn cut_quote<'a>(text: &'a str, after: &'a str) -> (TokenKind, &'a str)
+    requires { IsFirstChar text.now 39 after.now }
+    ensures cut { IsCut text.now result.0 result.1.now }
+    ensures utf8 { IsUtf8 result.1.now }
+{
+    if !starts_with_name(after) {
+        return cut_literal(text);
+    }
+    let rest = after_name(after);
+    if starts_with_single_quote(rest) {
+        cut_literal(text)
+    } else if starts_with_hash(rest) {
+        match after_raw_mark(after) {
+            Some(name) => (TokenKind::RawLifetime, after_name(name)),
+            None => (TokenKind::UnknownPrefixLifetime, rest),
+        }
+    } else {
+        (TokenKind::Lifetime, rest)
+    }
+}
+
+/// Cuts the token from the front of a text that starts with `/`.
+fn cut_slash<'a>(text: &'a str, after: &'a str) -> (TokenKind, &'a str)
+    requires { IsFirstChar text.now 47 after.now }
+    ensures cut { IsCut text.now result.0 result.1.now }
+    ensures utf8 { IsUtf8 result.1.now }
+{
+    match split_first_char(after) {
+        Some((c, body)) if c == '/' => (TokenKind::LineComment, after_line(body)),
+        Some((c, body)) if c == '*' => match after_block(body) {
+            Some(rest) => (TokenKind::BlockComment, rest),
+            None => (
+                TokenKind::UnterminatedBlockComment,
+                body.split_at(body.len()).1,
+            ),
+        },
+        _ => (TokenKind::Punctuation, after),
+    }
+}

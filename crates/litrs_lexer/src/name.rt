@@ -1,0 +1,159 @@
+//! Names at the front of a text.
+ghost use Rattle.std.specs.Prelude.{◌≡◌, ◌<◌, length, ◌∷◌, IsTrue, IsFalse, IfSome, IfNone};
+ghost use Rattle.std.specs.Str.{chars};
+ghost use Rattle.litrs_base.specs.Characters.{letter_r, hash};
+ghost use Rattle.litrs_base.specs.Text.{first_passes};
+ghost use Rattle.litrs_grammar.specs.Bool.{is_bool};
+ghost use Rattle.litrs_prefix.specs.Ends.{IsEndOf};
+ghost use Rattle.litrs_prefix.specs.Prefix.{is_quote_or_hash};
+ghost use Rattle.litrs_prefix.specs.Opens.{is_single_quote, first_name, after_run, after_name};
+ghost use Rattle.litrs_lexer.specs.Cut.{is_wide};
+ghost use Rattle.litrs_lexer.specs.Identifier.{begins_name, begins_raw_name};
+ghost use Rattle.litrs_lexer.specs.Lifetime.{is_hash};
+ghost use Rattle.litrs_lexer.specs.Literal.{opens_quoted};
+
+use litrs_lex::{Run, cut_bool, run_end};
+use litrs_prefix::{begins_name, opens, split_first_char};
+use unicode_ident::is_xid_continue;
+
+/// Returns the part of `text` after the characters at its front that can continue a name.
+pub fn after_run(text: &str) -> &str
+    ensures rest { chars result.now ≡ after_run (chars text.now) }
+    ensures end { IsEndOf text.now result.now }
+{
+    let (_, rest) = text.split_at(run_end(text.as_bytes(), Run::Identifier));
+    if starts_beyond_ascii(rest) {
+        after_any_run(rest)
+    } else {
+        rest
+    }
+}
+
+/// Returns `true` if `text` starts with a character that is not ASCII.
+pub fn starts_beyond_ascii(text: &str) -> bool
+    ensures { result ≡ first_passes is_wide text.now }
+{
+    match text.as_bytes() {
+        [first, ..] => *first >= 128,
+        _ => false,
+    }
+}
+
+/// Like [`after_run`], but reads character by character.
+fn after_any_run(text: &str) -> &str
+    ensures rest { chars result.now ≡ after_run (chars text.now) }
+    ensures end { IsEndOf text.now result.now }
+{
+    let mut rest = text;
+    loop {
+        match split_first_char(rest) {
+            Some((c, after)) if is_xid_continue(c) => rest = after,
+            _ => return rest,
+        }
+    }
+}
+
+/// Returns the part of `text` after the name at its front: all of it if it starts with none.
+pub fn after_name(text: &str) -> &str
+    ensures rest { chars result.now ≡ after_name (chars text.now) }
+    ensures end { IsEndOf text.now result.now }
+{
+    match split_first_char(text) {
+        Some((c, after)) => if begins_name(c) {
+            after_run(after)
+        } else {
+            text
+        },
+        None => text,
+    }
+}
+
+/// Returns the name at the front of `text`. `rest` is the part of `text` after it.
+pub fn name_before<'a>(text: &'a str, rest: &str) -> &'a str
+    requires name { chars rest.now ≡ after_name (chars text.now) }
+    requires end { IsEndOf text.now rest.now }
+    ensures { chars result.now ≡ first_name (chars text.now) }
+{
+    text.split_at(text.len() - rest.len()).0
+}
+
+/// Returns `true` if `name` is `true` or `false`.
+fn is_bool(name: &str) -> bool
+    ensures { result ≡ is_bool (chars name.now) }
+{
+    match cut_bool(name) {
+        Some(_) => true,
+        None => false,
+    }
+}
+
+/// Returns `true` if `text` starts with a name.
+pub fn starts_with_name(text: &str) -> bool
+    ensures { result ≡ begins_name (chars text.now) }
+{
+    match split_first_char(text) {
+        Some((c, _)) => begins_name(c),
+        None => false,
+    }
+}
+
+/// Returns `true` if `text` starts with `"`, `'` or `#`.
+pub fn starts_with_quote_or_hash(text: &str) -> bool
+    ensures { result ≡ first_passes is_quote_or_hash (chars text.now) }
+{
+    match split_first_char(text) {
+        Some((c, _)) => c == '"' || c == '\'' || c == '#',
+        None => false,
+    }
+}
+
+/// Returns `true` if `text` starts with `'`.
+pub fn starts_with_single_quote(text: &str) -> bool
+    ensures { result ≡ first_passes is_single_quote (chars text.now) }
+{
+    match split_first_char(text) {
+        Some((c, _)) => c == '\'',
+        None => false,
+    }
+}
+
+/// Returns `true` if `text` starts with `#`.
+pub fn starts_with_hash(text: &str) -> bool
+    ensures { result ≡ first_passes is_hash (chars text.now) }
+{
+    match split_first_char(text) {
+        Some((c, _)) => c == '#',
+        None => false,
+    }
+}
+
+/// Returns the part of `text` after `r#`, or `None` if `text` does not start with `r#` and a name.
+pub fn after_raw_mark(text: &str) -> Option<&str>
+    ensures some { IfSome result (λ name.
+        (chars text.now ≡ letter_r ∷ hash ∷ chars name.now)
+        × IsTrue (begins_name (chars name.now))) }
+    ensures end { IfSome result (λ name. IsEndOf text.now name.now) }
+    ensures shorter { IfSome result (λ name. length name.now < length text.now) }
+    ensures none { IfNone result (IsFalse (begins_raw_name (chars text.now))) }
+{
+    match split_first_char(text) {
+        Some((c, after)) => match split_first_char(after) {
+            Some((d, name)) => {
+                if c == 'r' && d == '#' && starts_with_name(name) {
+                    Some(name)
+                } else {
+                    None
+                }
+            }
+            None => None,
+        },
+        None => None,
+    }
+}
+
+/// Returns `true` if a literal that is not a bool begins at the front of `text`.
+pub fn opens_quoted(text: &str) -> bool
+    ensures { result ≡ opens_quoted (chars text.now) }
+{
+    opens(text) && !is_bool(name_before(text, after_name(text)))
+}
