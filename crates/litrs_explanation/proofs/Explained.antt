@@ -26,14 +26,14 @@ pub value_made : (line raw text : List ℕ) → IsUtf8 raw → chars raw ≡ tex
     line ≡ field (codes "value") raw → line ≡ field (codes "value") (encode_utf8_all text)
 value_made line raw text u is made = made ∙ ap (field (codes "value")) (part_is raw text u is)
 
-pub values_made : (r : Result String AllocError) (raw text : List ℕ) → IsUtf8 raw → chars raw ≡ text →
+pub values_made : {Z : Type 0} (r : Result (String Z) AllocError) (raw text : List ℕ) → IsUtf8 raw → chars raw ≡ text →
     IfOk r (λ line. string_bytes line ≡ field (codes "value") raw) →
     IfOk r (λ line. string_bytes line ≡ field (codes "value") (encode_utf8_all text))
 values_made r raw text u is made =
     IfOk-weaker r _ _ (λ line. value_made (string_bytes line) raw text u is) made
 
 -- and it is printable
-pub values_show : (r : Result String AllocError) (raw text : List ℕ) → IsUtf8 raw → chars raw ≡ text →
+pub values_show : {Z : Type 0} (r : Result (String Z) AllocError) (raw text : List ℕ) → IsUtf8 raw → chars raw ≡ text →
     list_all is_line_feed_or_printable text ≡ true →
     IfOk r (λ line. string_bytes line ≡ field (codes "value") raw) →
     IfOk r (λ line. IsTrue (list_all is_line_feed_or_printable (chars (string_bytes line))))

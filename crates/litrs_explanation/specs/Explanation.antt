@@ -36,7 +36,11 @@ kind_name (a_c_string d) = codes "C string"
 abbrev pub field : (name part : List ℕ) → List ℕ
 field name part = codes "  " ++ (name ++ (codes " " ++ (part ++ codes "\n")))
 
--- the same, or none where the part is empty
+-- the line on a value that is shown as a literal
+abbrev pub value_field : (literal : List ℕ) → List ℕ
+value_field literal = field (codes "value") (encode_utf8_all literal)
+
+-- the line on a part, or none where the part is empty
 abbrev pub field_of_part : (name part : List ℕ) → List ℕ
 field_of_part name [] = []
 field_of_part name part = field name part
@@ -99,10 +103,10 @@ fields (a_bool b) = field (codes "value") (bool_text b)
 fields (an_integer d) = integer_fields d
 fields (a_float d) = float_fields d
 fields (a_byte d) = field (codes "value") (decimal (char_value d.item))
-fields (a_char d) = field (codes "value") (encode_utf8_all (value_text (a_char d)))
-fields (a_string d) = field (codes "value") (encode_utf8_all (value_text (a_string d)))
-fields (a_byte_string d) = field (codes "value") (encode_utf8_all (value_text (a_byte_string d)))
-fields (a_c_string d) = field (codes "value") (encode_utf8_all (value_text (a_c_string d)))
+fields (a_char d) = value_field (value_text (a_char d))
+fields (a_string d) = value_field (value_text (a_string d))
+fields (a_byte_string d) = value_field (value_text (a_byte_string d))
+fields (a_c_string d) = value_field (value_text (a_c_string d))
 
 -- The character as it is shown: `\u{..}` with its number in hex if it is not printable.
 abbrev pub escaped_char : ℕ → List ℕ

@@ -34,15 +34,22 @@
 //! an LF or printable.
 #![tactic(auto)]
 
-ghost use Rattle.std.specs.Prelude.{◌≡◌, ◌++◌, IfOk, OnOk, IsTrue, codes, string_bytes, encode_utf8_all};
-ghost use Rattle.std.specs.List.{list_all};
+ghost use Rattle.std.specs.Prelude.{◌≡◌, ◌++◌, [], IfOk, OnOk, IsTrue, IsFalse, codes, string_bytes, encode_utf8_all};
+ghost use Rattle.std.specs.List.{list_all, list_any};
 ghost use Rattle.std.specs.Str.{chars};
 ghost use Rattle.litrs_base.specs.Numeral.{greatest_of};
 ghost use Rattle.litrs.specs.LiteralDerivation.{derivation};
+ghost use Rattle.litrs_grammar.specs.CharByte.{char_text};
 ghost use Rattle.litrs_grammar.specs.Integer.{integer_value};
+ghost use Rattle.litrs_grammar.specs.Raw.{is_nul};
 ghost use Rattle.litrs.specs.IntegerLiteral.{integer_parts};
 ghost use Rattle.litrs.specs.FloatLiteral.{float_parts};
-ghost use Rattle.litrs_explanation.specs.Explanation.{kind_name, explanation, fields, field, field_of_part, integer_text, names_that_fit, names_of, integer_fields, float_fields, fraction_field, escaped, escaped_char, is_line_feed_or_printable};
+ghost use Rattle.litrs.specs.CharKind.{char_kind};
+ghost use Rattle.litrs.specs.StringKind.{string_kind, byte_string_kind, c_string_kind};
+ghost use Rattle.litrs.specs.LiteralText.{string_text};
+ghost use Rattle.litrs_build.specs.CStrings.{written_c_string};
+ghost use Rattle.litrs_build.specs.Written.{written_char, written_string, written_byte_string};
+ghost use Rattle.litrs_explanation.specs.Explanation.{kind_name, explanation, fields, field, value_field, field_of_part, integer_text, names_that_fit, names_of, integer_fields, float_fields, fraction_field, escaped, escaped_char, is_line_feed_or_printable};
 
 use litrs::{Buffer, FloatLit, IntegerLit, IntegerType, Literal};
 pub use litrs_build::BuildError;
@@ -116,26 +123,68 @@ fn fields<B: Buffer>(alloc: Global, literal: &Literal<B>) -> Result<String, Allo
             let value = lit.value();
             format!(in alloc; "  value {value}\n")
         }
-        Literal::Char(lit) => match char(alloc, lit.value(), "") {
-            Ok(built) => field(alloc, built.raw_input()),
-            Err(BuildError::Memory) => Err(AllocError),
-            Err(_) => unreachable!(),
-        },
-        Literal::String(lit) => match string(alloc, lit.value(), "") {
-            Ok(built) => field(alloc, built.raw_input()),
-            Err(BuildError::Memory) => Err(AllocError),
-            Err(_) => unreachable!(),
-        },
-        Literal::ByteString(lit) => match byte_string(alloc, lit.value(), "") {
-            Ok(built) => field(alloc, built.raw_input()),
-            Err(BuildError::Memory) => Err(AllocError),
-            Err(_) => unreachable!(),
-        },
-        Literal::CString(lit) => match c_string(alloc, lit.value().to_bytes(), "") {
-            Ok(built) => field(alloc, built.raw_input()),
-            Err(BuildError::Memory) => Err(AllocError),
-            Err(_) => unreachable!(),
-        },
+        Literal::Char(lit) => char_field(alloc, lit.value()),
+        Literal::String(lit) => string_field(alloc, lit.value()),
+        Literal::ByteString(lit) => byte_string_field(alloc, lit.value()),
+        Literal::CString(lit) => c_string_field(alloc, lit.value().to_bytes()),
+    }
+}
+
+/// Returns the line on the value of a char, which is shown as a literal.
+fn char_field(alloc: Global, value: char) -> Result<String, AllocError>
+    ensures line { IfOk result (λ line. string_bytes line
+        ≡ value_field (char_text char_kind (written_char value []))) }
+    ensures printable { IfOk result (λ line. IsTrue (
+        list_all is_line_feed_or_printable (chars (string_bytes line)))) }
+{
+    match char(alloc, value, "") {
+        Ok(built) => field(alloc, built.raw_input()),
+        Err(BuildError::Memory) => Err(AllocError),
+        Err(_) => unreachable!(),
+    }
+}
+
+/// Returns the line on the value of a string, which is shown as a literal.
+fn string_field(alloc: Global, value: &str) -> Result<String, AllocError>
+    ensures line { IfOk result (λ line. string_bytes line
+        ≡ value_field (string_text string_kind (written_string (chars value.now) []))) }
+    ensures printable { IfOk result (λ line. IsTrue (
+        list_all is_line_feed_or_printable (chars (string_bytes line)))) }
+{
+    match string(alloc, value, "") {
+        Ok(built) => field(alloc, built.raw_input()),
+        Err(BuildError::Memory) => Err(AllocError),
+        Err(_) => unreachable!(),
+    }
+}
+
+/// Returns the line on the value of a byte string, which is shown as a literal.
+fn byte_string_field(alloc: Global, value: &[u8]) -> Result<String, AllocError>
+    ensures line { IfOk result (λ line. string_bytes line
+        ≡ value_field (string_text byte_string_kind (written_byte_string value.now []))) }
+    ensures printable { IfOk result (λ line. IsTrue (
+        list_all is_line_feed_or_printable (chars (string_bytes line)))) }
+{
+    match byte_string(alloc, value, "") {
+        Ok(built) => field(alloc, built.raw_input()),
+        Err(BuildError::Memory) => Err(AllocError),
+        Err(_) => unreachable!(),
+    }
+}
+
+/// Returns the line on the value of a C string, which is given without its closing NUL and shown
+/// as a literal.
+fn c_string_field(alloc: Global, value: &[u8]) -> Result<String, AllocError>
+    requires { IsFalse (list_any is_nul value.now) }
+    ensures line { IfOk result (λ line. string_bytes line
+        ≡ value_field (string_text c_string_kind (written_c_string value.now []))) }
+    ensures printable { IfOk result (λ line. IsTrue (
+        list_all is_line_feed_or_printable (chars (string_bytes line)))) }
+{
+    match c_string(alloc, value, "") {
+        Ok(built) => field(alloc, built.raw_input()),
+        Err(BuildError::Memory) => Err(AllocError),
+        Err(_) => unreachable!(),
     }
 }
 
