@@ -1,6 +1,6 @@
 -- A literal that is built of the value of another one, without a suffix: it fails only where an
 -- allocation does, and between its quotes all is printable.
-use Rattle.std.proofs.Common.{◌≡◌, ℕ, ◌<◌, Bool, true, false, List, [], ◌∷◌, get_or, refl, ap, subst, ◌∙◌}
+use Rattle.std.proofs.Common.{◌≡◌, ℕ, ◌<◌, true, false, List, [], ◌∷◌, get_or, refl, ap, subst}
 use Rattle.std.specs.Prelude.{Option, None}
 use Rattle.std.specs.List.{list_all, list_any}
 use Rattle.std.specs.Str.{chars}

@@ -1,5 +1,5 @@
 -- Every character of an explanation is an LF or printable.
-use Rattle.std.proofs.Common.{◌≡◌, ℕ, zero, suc, ◌/◌, ◌%◌, ◌<◌, Bool, true, false, ◌||◌, cond, eqb, List, [], ◌∷◌, ◌++◌, Option, Some, None, refl, sym, ap, subst, ◌∙◌, arith, ltb-true}
+use Rattle.std.proofs.Common.{◌≡◌, ℕ, zero, suc, ◌/◌, ◌%◌, Bool, true, false, ◌||◌, eqb, List, [], ◌∷◌, ◌++◌, Option, Some, None, refl, sym, ap, subst, ◌∙◌, arith, ltb-true}
 use Rattle.std.specs.Prelude.{codes, nat_le, decimal}
 use Rattle.std.specs.Fmt.{digits, digits_onto, digit_glyph}
 use Rattle.std.specs.List.{list_all}
@@ -19,8 +19,7 @@ use Rattle.litrs_base.specs.IntegerTypes.{type_name}
 use Rattle.litrs_base.specs.Numeral.{greatest_of}
 use Rattle.litrs_base.specs.Text.{is_empty}
 use Rattle.litrs_grammar.specs.Bool.{bool_text}
-use Rattle.litrs_grammar.specs.CharByte.{char_text}
-use Rattle.litrs_grammar.specs.Float.{FloatParts, IsFloat, is_decimal_char, is_decimal_literal, is_exponent, is_exponent_number, is_float_form, is_sign, sign_len}
+use Rattle.litrs_grammar.specs.Float.{FloatParts, IsFloat, is_decimal_char, is_decimal_literal, is_exponent, is_exponent_number, is_float_form, is_sign}
 use Rattle.litrs_grammar.specs.Integer.{IntegerParts, IsInteger, integer_value, is_e}
 use Rattle.litrs_grammar.specs.Literal.{Derivation, a_bool, an_integer, a_float, a_char, a_byte, a_string, a_byte_string, a_c_string}
 use Rattle.litrs_build.specs.Printable.{is_printable}

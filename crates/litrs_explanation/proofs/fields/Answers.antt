@@ -1,5 +1,5 @@
 -- The lines are those on the parts of each kind, and all of them are printable.
-use Rattle.std.proofs.Common.{◌≡◌, ℕ, List, [], ap, ◌∙◌, refl, string_bytes}
+use Rattle.std.proofs.Common.{ℕ, List, [], ap, ◌∙◌, refl}
 use Rattle.std.specs.List.{list_all}
 use Rattle.std.specs.Prelude.{codes, decimal}
 use Rattle.std.specs.Str.{chars, encode_utf8_all}

@@ -1,5 +1,5 @@
 -- Each turn adds one character; at the end all have been added.
-use Rattle.std.proofs.Common.{◌≡◌, List, ℕ, sym, ap, ◌∙◌, map-id, string_bytes}
+use Rattle.std.proofs.Common.{List, ℕ, sym, ap, ◌∙◌, map-id}
 use Rattle.std.specs.Prelude.{codes}
 use Rattle.std.specs.Str.{encode_utf8_all}
 use Rattle.std.proofs.lemmas.Iterator.{YieldsList-from_chars}
