@@ -19,6 +19,8 @@ import pathlib
 import pty
 import re
 import resource
+import select
+import signal
 import subprocess
 import sys
 import tempfile
@@ -148,6 +150,13 @@ class Tests:
                 self.hold(it["kind"] == "error" if wrong else it["text"] == text, f"{it}")
                 at += len(held)
             self.hold(objects[-1]["incomplete"], "more text can complete the last")
+
+    def try_page(self, folder):
+        """The line of JSON in docs/EXPLAIN.md."""
+        (folder / "a.rs").write_bytes(b"rename = 0xFF_u8\n")
+        out, _, _ = self.run("--prefix", "--format", "json", "a.rs", cwd=folder)
+        page = (TOP / "docs/EXPLAIN.md").read_text()
+        self.hold(f"\n```json\n{out.decode()}```\n" in page, f"the page has other JSON: {out}")
 
     def try_errors(self):
         """Names of errors, and whether more text can complete what was read."""
@@ -335,6 +344,8 @@ class Tests:
         os.write(terminal, given)
         written = b""
         while True:
+            if not select.select([terminal], [], [], 20)[0]:
+                os.kill(child, signal.SIGKILL)
             try:
                 piece = os.read(terminal, 4096)
             except OSError:
@@ -446,6 +457,7 @@ def main():
             tests.try_integers()
             tests.try_strings()
             tests.try_places()
+            tests.try_page(folder)
             tests.try_errors()
             tests.try_colors()
             tests.try_options()

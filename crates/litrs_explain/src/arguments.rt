@@ -18,8 +18,8 @@ const ESCAPE: char = '\0';
 /// `AllocError` if an allocation failed.
 pub(crate) fn arguments(rt: &HostRuntime) -> Result<Vec<String>, AllocError> {
     let mut arguments = Vec::new(rt.alloc());
-    for index in 0..usize::MAX {
-        match argument(rt, index)? {
+    for _ in 0..u64::MAX {
+        match argument(rt, arguments.len())? {
             Some(bytes) => arguments.push(text_of(rt.alloc(), &bytes)?)?,
             None => break,
         }

@@ -23,8 +23,8 @@ impl From<BuildError> for Error {
 }
 
 impl From<AllocError> for Error {
-    fn from(error: AllocError) -> Self {
-        Error::Memory(BuildError::from(error))
+    fn from(error: AllocError) -> Error {
+        Error::from(BuildError::from(error))
     }
 }
 

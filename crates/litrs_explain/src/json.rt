@@ -6,9 +6,6 @@ use litrs_explanation::{integer_text, kind_name, names_that_fit};
 use serde_json::Value;
 use std::alloc::{AllocError, Global};
 
-/// The name of the error of a byte that is not UTF-8. The others are those of `ParseErrorKind`.
-const NOT_UTF8: &str = "NotUtf8";
-
 /// Returns the object of a literal.
 pub(crate) fn literal_object<B: Buffer>(
     alloc: Global,
@@ -32,7 +29,7 @@ pub(crate) fn problem_object(
     let head = head(alloc, file, &problem.span, "error")?;
     let error = match problem.kind {
         Some(kind) => format!(in alloc; "{kind:?}")?,
-        None => String::from_str(alloc, NOT_UTF8)?,
+        None => String::from_str(alloc, "NotUtf8")?,
     };
     let message = quoted(alloc, problem.message())?;
     let incomplete = problem.is_incomplete;
