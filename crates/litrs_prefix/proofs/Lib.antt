@@ -24,3 +24,5 @@ pub mod MeantEnds
 pub mod MeantPieces
 -- whether what was cut off is a literal
 pub mod Stands
+-- examples
+pub mod Examples

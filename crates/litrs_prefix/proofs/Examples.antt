@@ -1,0 +1,36 @@
+-- What errors at the front of a longer text say, read by name: each line fails if the definition says less.
+use Rattle.std.specs.Prelude.{◌≡◌, ◌<◌, ℕ, List, ◌++◌, IsTrue}
+use Rattle.litrs_base.specs.Refusal.{refusal_of, char_span_of, shifted, shifted_span}
+use Rattle.litrs_base.specs.Text.{byte_len}
+use Rattle.litrs_grammar.specs.Literal.{literal_parse}
+use Rattle.litrs_grammar.specs.Refused.{IsRefused, IsOutOfMemory}
+use Rattle.litrs_prefix.specs.declared.MalformedPrefix.{MalformedPrefix}
+use Rattle.litrs_prefix.specs.Malformed.{IsMalformed, IsOutOfMemoryAt, IsMalformedOrOutOfMemory, IsMovedBy}
+use Rattle.litrs_prefix.specs.Meant.{IsMeant}
+use Rattle.litrs_prefix.specs.Opens.{opens}
+use Rattle.litrs_prefix.specs.Prefix.{HasNoPrefix}
+
+-- the front that was meant as a literal, which has a byte or more, and its refusal
+malformed_front :
+    (t : List ℕ) (e : MalformedPrefix) (is : IsMalformed t e) →
+    (is.front ++ is.rest ≡ t) × (byte_len is.front ≡ e.len) × (0 < e.len)
+    × IsMeant t is.front × IsRefused literal_parse is.front e.error
+malformed_front t e is = (is.spells, is.len, is.some, is.meant, is.refused)
+
+-- a literal opens, and none begins the text
+malformed_text : (t : List ℕ) (e : MalformedPrefix) → IsMalformed t e → IsTrue (opens t) × HasNoPrefix t
+malformed_text t e is = (is.opens, is.none)
+
+-- the front whose value there was no memory for
+out_of_memory_front :
+    (t : List ℕ) (e : MalformedPrefix) (is : IsOutOfMemoryAt t e) →
+    (is.front ++ is.rest ≡ t) × (byte_len is.front ≡ e.len) × IsOutOfMemory literal_parse is.front e.error
+out_of_memory_front t e is = (is.spells, is.len, is.refused)
+
+-- the error of the text alone, with both spans moved
+moved :
+    (start : ℕ) (t : List ℕ) (e : MalformedPrefix) (is : IsMovedBy start t e) →
+    IsMalformedOrOutOfMemory t is.of_text × (e.len ≡ is.of_text.len)
+    × (refusal_of e.error ≡ shifted start (refusal_of is.of_text.error))
+    × (char_span_of e.error ≡ shifted_span start (char_span_of is.of_text.error))
+moved start t e is = (is.malformed, is.len, is.refusal, is.char_span)
