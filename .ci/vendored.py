@@ -30,7 +30,7 @@ import vendor_cases
 from libraries import TOP
 
 # The libraries that have a page CALLING.md.
-CALLED = ["litrs", "litrs_token", "litrs_prefix", "litrs_build", "litrs_diagnostic"]
+CALLED = ["litrs", "litrs_token", "litrs_prefix", "litrs_lexer", "litrs_build", "litrs_diagnostic"]
 CALLED += ["litrs_explanation", "litrs_lines"]
 COPIED = [*CALLED, "litrs_c", "litrs_lines_cli"]
 # What of a crate's folder is not copied.

@@ -3,8 +3,8 @@ pub mod Runs
 -- block comments
 pub mod Blocks
 pub mod Bodies
--- names
-pub mod Names
+-- names and white space
+pub mod AsciiRuns
 -- tokens, in bytes
 pub mod Cuts
 -- one token alone
@@ -14,5 +14,3 @@ pub mod Unique
 pub mod Attributes
 -- lists of tokens
 pub mod Spelled
--- white space
-pub mod Whites

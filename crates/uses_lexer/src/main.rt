@@ -1,31 +1,37 @@
-//! Cuts lines of a language like Rust into tokens, and writes one token a line.
+//! Cuts a Rust source into tokens and writes one token a line: its kind, its place in bytes and its
+//! text, and for a malformed literal what is wrong with it.
 #![tactic(auto)]
 
-mod name;
-mod token;
-
+use litrs_lexer::{TokenKind, strip_shebang, tokenize};
 use std::alloc::{AllocError, Global};
 use std::io;
-use token::{TokenKind, tokens};
 
-/// What is written on a line: each token but blanks.
-fn report(alloc: Global, line: &str) -> Result<String, AllocError> {
+/// Returns the lines on the tokens of `source` that are not white space.
+fn report(alloc: Global, source: &str) -> Result<String, AllocError> {
     let mut out = String::new(alloc);
-    for token in &tokens(alloc, line)? {
-        match token.kind {
-            TokenKind::Blank => {}
-            _ => writeln!(out, "  {token}")?,
+    for token in tokenize(source) {
+        if token.kind == TokenKind::Whitespace {
+            continue;
         }
+        let kind = token.kind;
+        let text = token.text;
+        let range = token.range();
+        write!(out, "{kind:?} {range:?} {text:?}")?;
+        if let Some(style) = token.doc_style() {
+            write!(out, " documents: {style:?}")?;
+        }
+        if token.kind == TokenKind::MalformedLiteral {
+            if let Err(error) = token.literal(alloc) {
+                write!(out, ": {error}")?;
+            }
+        }
+        writeln!(out, "")?;
     }
     Ok(out)
 }
 
 fn main(rt: HostRuntime) -> io::Result<()> {
-    for line in rt.lines(rt.alloc()) {
-        let line = line?;
-        let report = report(rt.alloc(), line.as_str())?;
-        println!(rt; "{line}")?;
-        print!(rt; "{report}")?;
-    }
-    Ok(())
+    let source = io::read_to_string(rt.alloc(), rt.stdin())?;
+    let report = report(rt.alloc(), strip_shebang(source.as_str()))?;
+    print!(rt; "{report}")
 }

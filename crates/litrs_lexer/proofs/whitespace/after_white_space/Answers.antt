@@ -5,7 +5,7 @@ use Rattle.std.specs.Str.{chars}
 use Rattle.litrs_prefix.proofs.Ends.{after_bytes, end_of_end}
 use Rattle.litrs_lexer.specs.Cut.{is_ascii_white_space}
 use Rattle.litrs_lexer.specs.Whitespace.{after_white_space}
-use Rattle.litrs_lexer.proofs.Whites.{white_cut, ends}
+use Rattle.litrs_lexer.proofs.AsciiRuns.{white_cut, white_ends}
 use Rattle.litrs_lexer.proofs.whitespace.after_white_space.Goals as goal
 
 pub split_at-requires : goal.split_at-requires
@@ -23,7 +23,7 @@ returns-then-starts_beyond_ascii-clause-end c =
 
 pub returns-else-starts_beyond_ascii-clause-rest : goal.returns-else-starts_beyond_ascii-clause-rest
 returns-else-starts_beyond_ascii-clause-rest c =
-    ends c.args.text.now c.split_at.result.1.now c.ascii_len.result c.utf8.text (c.ascii_len.ensures ∙ ap (prefix_len is_ascii_white_space) c.as_bytes.ensures.value) c.split_at.ensures.back (sym c.starts_beyond_ascii.ensures ∙ c.if-starts_beyond_ascii.false)
+    white_ends c.args.text.now c.split_at.result.1.now c.ascii_len.result c.utf8.text (c.ascii_len.ensures ∙ ap (prefix_len is_ascii_white_space) c.as_bytes.ensures.value) c.split_at.ensures.back (sym c.starts_beyond_ascii.ensures ∙ c.if-starts_beyond_ascii.false)
 
 pub returns-else-starts_beyond_ascii-clause-end : goal.returns-else-starts_beyond_ascii-clause-end
 returns-else-starts_beyond_ascii-clause-end c = after_bytes c.args.text.now c.split_at.result.1.now c.ascii_len.result c.split_at.ensures.back

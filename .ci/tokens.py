@@ -1,0 +1,226 @@
+#!/usr/bin/env python3
+"""Runs the program uses_lexer on the table of tokens, and on texts that a slow lexer takes long for.
+
+    .ci/tokens.py
+
+The table is crates/litrs_lexer/tokens, which says what its fields are. Both builds of the program,
+which `rt ci` leaves in crates/uses_lexer/out, cut the text of each row into the tokens of the row.
+These are what rustc reads, in the edition 2021 as they are and in the others by the rules of
+crates/litrs_lexer/CALLING.md. The time for a long text is in proportion to its length. No program
+is run for what rustc reads: it is in the table.
+"""
+import pathlib
+import random
+import re
+import subprocess
+import sys
+import time
+
+TOP = pathlib.Path(__file__).resolve().parent.parent
+TABLE = TOP / "crates/litrs_lexer/tokens"
+PROGRAM = TOP / "crates/uses_lexer/out/uses_lexer"
+LETTERS = {
+    "Ident": "i", "RawIdent": "i", "UnknownPrefix": "i", "Lifetime": "t", "RawLifetime": "t",
+    "UnknownPrefixLifetime": "t", "Literal": "l", "MalformedLiteral": "l", "Punctuation": "p",
+}
+BAD = {"MalformedLiteral", "UnknownPrefix", "UnknownPrefixLifetime", "UnterminatedBlockComment", "Unknown"}
+# What precedes the tokens of a file, and what does.
+FILES = [
+    ("#!/bin/x -y\nfn", "\nfn"), ("#!/bin/x", ""), ("#!", ""), ("#! [a]", "#! [a]"), ("#![a]", "#![a]"),
+    ("#!//b\n/* c */ [a]", "#!//b\n/* c */ [a]"), ("#!//b\n/** c */ [a]", "\n/** c */ [a]"),
+    ("#!a[b]\n", "\n"), ("\ufefffn", "fn"), ("\ufeff#!a\nb", "\nb"), ("\ufeff\ufeff", "\ufeff"),
+    (" #!a", " #!a"), ("# !a", "# !a"), ("#!/*", ""), ("#!\n[a]", "#!\n[a]"),
+]
+# Texts that open again and again what they do not close, by the piece that is repeated.
+PIECES = [
+    "/*", "/**/", "/*/", "*/", "//", "'", "''", "'a", "'a'", '"', '"\\', 'b"', "r#", 'r#"', 'br"', "b'",
+    "#", "'r#", "r#a", "a", "a#", "1", "1.", "0b2", "1e", "0x1.", "\\", "é", "🦊", " ", "\u2028",
+    "true", 'true"', "'\\", 'c"', "(", "::", '"a"', "'a,",
+]
+
+
+def bytes_of(field):
+    """The bytes that a field of the table stands for."""
+    parts = re.split("%([0-9a-f]{2})", field)
+    return b"".join(bytes.fromhex(it) if n % 2 else it.encode() for n, it in enumerate(parts))
+
+
+def rows():
+    """The rows of the table: what rustc reads by edition, the tokens, and whether the two differ."""
+    for line in TABLE.read_text().splitlines():
+        if line and not line.startswith("#"):
+            read, *fields = line.split("\t")
+            by_edition = {}
+            for group in read.split("; "):
+                editions, _, answer = group.partition(" ")
+                first, _, last = editions.partition("-")
+                for edition in (2015, 2018, 2021, 2024):
+                    if int(first) <= edition <= int(last or first):
+                        by_edition[edition] = answer
+            differs = fields[-1].startswith("differs ")
+            tokens = [it.split(" ", 1) for it in (fields[:-1] if differs else fields)]
+            yield by_edition, [(kind, bytes_of(text)) for kind, text in tokens], differs
+
+
+def is_doc(kind, text):
+    """Whether the token is a documentation comment."""
+    if kind == "LineComment":
+        return text.startswith(b"//!") or re.match(rb"///(?!/)", text)
+    return kind == "BlockComment" and re.match(rb"/\*!|/\*\*(?![*/])", text)
+
+
+def in_2015(tokens):
+    """The tokens as the editions 2015 and 2018 read them: neither C strings, nor raw lifetimes, nor
+    reserved prefixes, but for `r` and `br` before hashes."""
+    for (kind, text), (_, after) in zip(tokens, [*tokens[1:], ("", b"")]):
+        mark = re.match(rb"c(?=\")|cr(?=#*\")", text)
+        if kind in ("Literal", "MalformedLiteral") and mark:
+            yield "Ident", mark[0]
+            hashes, body = re.fullmatch(rb"(#*)(.*?)(?:#*)", text[mark.end():], re.S).groups()
+            pounds = [("Punctuation", b"#")] * len(hashes)
+            closed = re.fullmatch(rb'".*"\w*', body, re.S)
+            yield from [*pounds, ("Literal" if closed else "MalformedLiteral", body), *pounds]
+        elif kind == "RawLifetime":
+            yield from [("Lifetime", b"'r"), ("Punctuation", b"#"), ("Ident", text[3:])]
+        elif text in (b"r", b"br") and after == b"#":
+            yield kind, text
+        else:
+            yield {"UnknownPrefix": "Ident", "UnknownPrefixLifetime": "Lifetime"}.get(kind, kind), text
+
+
+def in_2024(tokens):
+    """The tokens as the edition 2024 reads them: hashes before a string or another hash are reserved."""
+    tokens = list(tokens)
+    while tokens:
+        pounds = 0
+        while pounds < len(tokens) and tokens[pounds][1] == b"#":
+            pounds += 1
+        string = pounds < len(tokens) and re.match(rb'"', tokens[pounds][1])
+        if pounds and string:
+            end = pounds + 1
+            while end < len(tokens) and end - pounds <= pounds and tokens[end][1] == b"#":
+                end += 1
+            yield "MalformedLiteral", b"".join(text for _, text in tokens[:end])
+            tokens = tokens[end:]
+        elif pounds > 1:
+            yield "MalformedLiteral", b"##"
+            tokens = tokens[2:]
+        else:
+            yield tokens[0]
+            tokens = tokens[1:]
+
+
+def as_read(tokens):
+    """The tokens as the table writes what rustc reads."""
+    out = []
+    tokens = list(tokens)
+    for kind, text in tokens:
+        if is_doc(kind, text):
+            out.append("d")
+        elif kind in LETTERS:
+            letter = "i" if text in (b"true", b"false") else LETTERS[kind]
+            out.append(f"{letter}{len(text)}")
+    return " ".join(out + ["error"] * any(kind in BAD for kind, _ in tokens))
+
+
+def cut(program, text):
+    """The tokens that the program writes for a text: kinds and ranges."""
+    ran = subprocess.run([program], input=text, capture_output=True, timeout=100, check=True)
+    lines = re.findall(rb"^(\w+) (\d+)\.\.(\d+) ", ran.stdout, re.M)
+    assert len(lines) == ran.stdout.count(b"\n"), ran.stdout
+    return [(kind.decode(), int(start), int(end)) for kind, start, end in lines]
+
+
+def ranges(tokens):
+    """The tokens that are not white space, with their ranges."""
+    at, found = 0, []
+    for kind, text in tokens:
+        if kind != "Whitespace":
+            found.append((kind, at, at + len(text)))
+        at += len(text)
+    return found
+
+
+class Tests:
+    def __init__(self):
+        self.number, self.faults = 0, []
+
+    def hold(self, holds, what):
+        self.number += 1
+        if not holds:
+            self.faults.append(str(what)[:400])
+
+    def try_rustc(self):
+        for read, tokens, differs in rows():
+            views = {2021: tokens, 2015: list(in_2015(tokens)), 2024: list(in_2024(tokens))}
+            views[2018] = views[2015]
+            for edition, view in views.items():
+                wanted, found = read[edition], as_read(view)
+                same = found.endswith("error") if wanted == "none error" else found == wanted
+                # (a difference is one in the edition 2021)
+                self.hold(same != (differs and edition == 2021) or differs and edition != 2021,
+                          f"edition {edition} of {tokens}: {found}, and rustc {wanted}")
+
+    def try_table(self, program):
+        for _, tokens, _ in rows():
+            text = b"".join(it for _, it in tokens)
+            if text.startswith("\ufeff".encode()):
+                tokens, text = tokens[1:], text
+            found = cut(program, text)
+            self.hold(found == ranges(tokens), f"{program}: {tokens} is {found}")
+
+    def try_files(self, program):
+        for text, rest in FILES:
+            found = cut(program, text.encode())
+            # After a space nothing is taken off.
+            wanted = cut(program, b" " + rest.encode())
+            wanted = [(kind, start - 1, end - 1) for kind, start, end in wanted]
+            self.hold(found == wanted, f"{program}: {text!r} is {found}, and {rest!r} {wanted}")
+
+    def try_edits(self, program):
+        """What is before a token after white space does not change by an edit after that token."""
+        pieces = [*PIECES, " ", "\n", "\n ", ".", "x", "r", "##", "'\n"]
+        draw = random.Random(1)
+        for _ in range(300):
+            text = "".join(draw.choices(pieces, k=12)).encode()
+            front, back = text.decode()[:20].encode(), draw.choice(pieces).encode()
+            old, new = cut(program, text), cut(program, front + back)
+            after_space = [
+                start for (_, _, end), (_, start, last) in zip([("", 0, 0), *old], old)
+                if end < start and last <= len(front) and text[:last] == front[:last]
+            ]
+            if after_space:
+                place = after_space[-1]
+                kept, found = [[it for it in them if it[1] < place] for them in (old, new)]
+                self.hold(kept == found, f"{program}: {text} and {front + back}: {kept}, {found}")
+
+    def try_time(self, program):
+        """Four times the text takes less than eight times as long."""
+        for piece in PIECES:
+            spent = []
+            for size in (50_000, 200_000):
+                text = (piece * (size // len(piece.encode()))).encode()
+                best = 100.0
+                for _ in range(2):
+                    start = time.monotonic()
+                    cut(program, text)
+                    best = min(best, time.monotonic() - start)
+                spent.append(best)
+            self.hold(spent[1] < 8 * spent[0] + 0.2, f"{program}: {piece!r} takes {spent}")
+
+
+def main():
+    tests = Tests()
+    tests.try_rustc()
+    for program in (str(PROGRAM), f"{PROGRAM}.by-rattle"):
+        tests.try_table(program)
+        tests.try_files(program)
+        tests.try_edits(program)
+        tests.try_time(program)
+    print(*tests.faults[:20], sep="\n", end="\n" if tests.faults else "")
+    print(f"tokens: {tests.number - len(tests.faults)} passed, {len(tests.faults)} failed")
+    return 1 if tests.faults else 0
+
+
+if __name__ == "__main__":
+    sys.exit(main())

@@ -1,0 +1,83 @@
+-- Names and white space at the front of a text: their ASCII characters may be passed over by their bytes.
+use Rattle.std.proofs.Common.{◌≡◌, ℕ, suc, ◌+◌, ◌<◌, Bool, true, false, cond, List, [], ◌∷◌, drop, refl, sym, ap, subst, ◌∙◌, arith}
+use Rattle.std.specs.Prelude.{if◌then◌else◌}
+use Rattle.std.specs.List.{prefix_len}
+use Rattle.std.specs.Str.{chars, IsUtf8, IsCharBoundary}
+use Rattle.std.proofs.lemmas.Bool.Decides.{nat_tests}
+use Rattle.std.proofs.lemmas.Str.{IsCharBoundary-from_drop, chars-nil}
+use Rattle.unicode_ident.specs.Ident.{is_xid_continue}
+use Rattle.unicode_ident.proofs.IdentLemmas.{is_xid_continue-ascii}
+use Rattle.litrs_base.proofs.Chars.{chars_ascii, OnlyAscii, ascii_from_test, passing_front, prefix_len-chars}
+use Rattle.litrs_base.proofs.ListTests.{if_true, if_false}
+use Rattle.litrs_base.specs.Text.{first_passes}
+use Rattle.litrs_grammar.proofs.Laws.Integer.{first_passes-rest}
+use Rattle.litrs_lex.proofs.SuffixBytes.{is_word, words_are_ascii}
+use Rattle.litrs_prefix.specs.Opens.{after_run}
+use Rattle.litrs_lexer.specs.Cut.{is_wide, is_ascii_white_space}
+use Rattle.litrs_lexer.specs.Whitespace.{is_white_space, after_while, after_white_space}
+
+-- the second test is the first one on ASCII, and fails elsewhere
+record IsAsciiPart (p q : ℕ → Bool) : Type 0 where
+  ascii : OnlyAscii q
+  alike : (c : ℕ) → c < 128 → p c ≡ q c
+
+skip_more : (c : ℕ) (n : ℕ) (t : List ℕ) → drop (1 + n) (c ∷ t) ≡ drop n t
+skip_more c n t = let e : 1 + n ≡ suc n = omega arith in ap (λ (k : ℕ). drop k (c ∷ t)) e
+
+run_from : (p q : ℕ → Bool) → IsAsciiPart p q → (t : List ℕ) → after_while p t ≡ after_while p (drop (prefix_len q t) t)
+run_from p q part [] = refl
+run_from p q part (c ∷ t) = go (q c) refl (run_from p q part t)
+  where
+    go : (b : Bool) → q c ≡ b → after_while p t ≡ after_while p (drop (prefix_len q t) t) →
+        after_while p (c ∷ t) ≡ after_while p (drop (cond b (1 + prefix_len q t) 0) (c ∷ t))
+    go true e rec = if_true (p c) (after_while p t) (c ∷ t) (part.alike c (ascii_from_test q c part.ascii e) ∙ e) ∙ (rec ∙ ap (after_while p) (sym (skip_more c (prefix_len q t) t)))
+    go false e rec = refl
+
+-- where the text is cut after the ASCII characters
+run_cut : (p q : ℕ → Bool) → IsAsciiPart p q → (bs : List ℕ) (n : ℕ) → IsUtf8 bs → n ≡ prefix_len q bs → IsCharBoundary bs n × (after_while p (chars (drop n bs)) ≡ after_while p (chars bs))
+run_cut p q part bs n u is =
+    let m : ℕ = prefix_len q bs in
+    let f = passing_front q bs part.ascii u in
+    let same : after_while p (chars (drop m bs)) ≡ after_while p (chars bs) =
+    ap (after_while p) (sym f.rest) ∙ (ap (λ (k : ℕ). after_while p (drop k (chars bs))) (sym (prefix_len-chars q bs part.ascii u)) ∙ sym (run_from p q part (chars bs))) in
+    subst (λ (k : ℕ). IsCharBoundary bs k × (after_while p (chars (drop k bs)) ≡ after_while p (chars bs))) (sym is) (IsCharBoundary-from_drop bs m f.within f.utf8, same)
+
+-- no more characters pass before an ASCII character that does not
+ends_at : (p q : ℕ → Bool) → IsAsciiPart p q → (bs : List ℕ) → first_passes q bs ≡ false → first_passes is_wide bs ≡ false → after_while p (chars bs) ≡ chars bs
+ends_at p q part [] a b = ap (after_while p) chars-nil ∙ sym chars-nil
+ends_at p q part (c ∷ bs) a b =
+    let low : c < 128 = grind (arith, nat_tests) in
+    ap (after_while p) (chars_ascii c bs low) ∙ (if_false (p c) (after_while p (chars bs)) (c ∷ chars bs) (part.alike c low ∙ a) ∙ sym (chars_ascii c bs low))
+
+run_ends : (p q : ℕ → Bool) → IsAsciiPart p q → (bs rest : List ℕ) (n : ℕ) → IsUtf8 bs → n ≡ prefix_len q bs → rest ≡ drop n bs → first_passes is_wide rest ≡ false → chars rest ≡ after_while p (chars bs)
+run_ends p q part bs rest n u is back narrow =
+    let stops : first_passes q rest ≡ false = ap (first_passes q) (back ∙ ap (λ (k : ℕ). drop k bs) is) ∙ first_passes-rest q bs in
+    sym (ends_at p q part rest stops narrow) ∙ (ap (λ (l : List ℕ). after_while p (chars l)) back ∙ (run_cut p q part bs n u is).1)
+
+-- white space
+
+white_part : IsAsciiPart is_white_space is_ascii_white_space
+white_part = record { ascii = λ c wide. grind (arith, nat_tests); alike = λ c low. grind (arith, nat_tests) }
+
+pub white_cut : (bs : List ℕ) (n : ℕ) → IsUtf8 bs → n ≡ prefix_len is_ascii_white_space bs → IsCharBoundary bs n × (after_white_space (chars (drop n bs)) ≡ after_white_space (chars bs))
+white_cut = run_cut is_white_space is_ascii_white_space white_part
+
+pub white_ends : (bs rest : List ℕ) (n : ℕ) → IsUtf8 bs → n ≡ prefix_len is_ascii_white_space bs → rest ≡ drop n bs → first_passes is_wide rest ≡ false → chars rest ≡ after_white_space (chars bs)
+white_ends = run_ends is_white_space is_ascii_white_space white_part
+
+-- names
+
+name_part : IsAsciiPart is_xid_continue is_word
+name_part = record { ascii = words_are_ascii; alike = is_xid_continue-ascii }
+
+run_is : (t : List ℕ) → after_run t ≡ after_while is_xid_continue t
+run_is [] = refl
+run_is (c ∷ t) = ap (λ (l : List ℕ). if is_xid_continue c then l else (c ∷ t)) (run_is t)
+
+pub name_cut : (bs : List ℕ) (n : ℕ) → IsUtf8 bs → n ≡ prefix_len is_word bs → IsCharBoundary bs n × (after_run (chars (drop n bs)) ≡ after_run (chars bs))
+name_cut bs n u is =
+    let cut = run_cut is_xid_continue is_word name_part bs n u is in
+    (cut.0, run_is (chars (drop n bs)) ∙ (cut.1 ∙ sym (run_is (chars bs))))
+
+pub name_ends : (bs rest : List ℕ) (n : ℕ) → IsUtf8 bs → n ≡ prefix_len is_word bs → rest ≡ drop n bs → first_passes is_wide rest ≡ false → chars rest ≡ after_run (chars bs)
+name_ends bs rest n u is back narrow = run_ends is_xid_continue is_word name_part bs rest n u is back narrow ∙ sym (run_is (chars bs))

@@ -1,4 +1,0 @@
--- what tokens spell
-pub mod Spelled
--- the texts of tokens
-pub mod Texts

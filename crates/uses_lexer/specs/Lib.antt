@@ -1,2 +1,0 @@
--- what tokens are
-pub mod Tokens
