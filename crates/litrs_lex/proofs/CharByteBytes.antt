@@ -34,8 +34,7 @@ use Rattle.litrs_grammar.specs.Refused.{IsRefused}
 use Rattle.litrs_base.specs.Derivations.{IsOnlyDerivation}
 use Rattle.litrs_grammar.proofs.Laws.CharByte.{chars_are_unique, closing_read, item_closing}
 use Rattle.litrs_grammar.proofs.Spans.CharByte.{char_spans_lie_in_text}
-use Rattle.litrs_grammar.proofs.Laws.Escape.{by_simple, refusal_escape}
-use Rattle.litrs_grammar.proofs.QuotedItems.{escape_head}
+use Rattle.litrs_grammar.proofs.Laws.Escape.{by_simple}
 use Rattle.litrs_grammar.proofs.Refused.{is_refused}
 use Rattle.litrs_lex.specs.CharCut.{escape_written, item_written, char_parts_at, unwraps_as, IsItemRead, IsItemRefused, IsCutAfter}
 use Rattle.litrs_lex.specs.Unescaped.{IsUnescaped, IsEscapeRefused}

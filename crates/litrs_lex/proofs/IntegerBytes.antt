@@ -1,11 +1,12 @@
 -- Integers: what the cut of the bytes says of the characters.
-use Rattle.std.proofs.Common.{◌≡◌, ℕ, suc, ◌+◌, ◌-◌, ◌≤◌, Bool, true, false, not, cond, ltb, eqb, ◌||◌, List, [], ◌∷◌, ◌++◌, length, take, drop, slice_range, slice_get, Some, refl, sym, ap, ◌∙◌, arith}
+use Rattle.std.proofs.Common.{◌≡◌, ℕ, suc, ◌+◌, ◌-◌, ◌≤◌, Bool, true, false, not, cond, ltb, eqb, ◌||◌, ◌&&◌, ◌<◌, List, [], ◌∷◌, ◌++◌, length, take, drop, slice_range, slice_get, Some, refl, sym, ap, ◌∙◌, arith}
 use Rattle.std.specs.Str.{chars, IsUtf8, IsAscii, encode_utf8_all}
-use Rattle.std.specs.Char.{is_ascii_digit}
+use Rattle.std.specs.Prelude.{◌==◌}
+use Rattle.std.specs.Char.{is_ascii_digit, is_ascii_alphabetic}
 use Rattle.std.specs.List.{prefix_len, list_all, list_any, take_while}
 use Rattle.std.proofs.lemmas.List.{drop-drop, length-append, take_rest}
 use Rattle.std.proofs.lemmas.List.Folds.{length-prefix_len}
-use Rattle.std.proofs.lemmas.Str.{chars-nil, encodes-chars, encodes-IsAscii, chars-IsAscii, IsAscii-append, IsCharBoundary-from_drop}
+use Rattle.std.proofs.lemmas.Str.{chars-nil, encodes-chars, encodes-IsAscii, chars-IsAscii, IsAscii-append, IsCharBoundary-from_drop, IsUtf8-drop}
 use Rattle.std.proofs.lemmas.Bool.{ne_eqb, and_parts}
 use Rattle.std.proofs.lemmas.Bool.Decides.{nat_tests}
 use Rattle.litrs_lex.specs.declared.integer.IntegerCut.{IntegerCut}
@@ -14,7 +15,9 @@ use Rattle.litrs_base.specs.declared.integer.IntegerBase.TheVariants.{Binary, Oc
 use Rattle.litrs_base.specs.declared.err.ParseErrorKind.TheVariants.{Empty, DoesNotStartWithDigit}
 use Rattle.litrs_base.specs.Refusal.{without_span, at_byte}
 use Rattle.litrs_base.specs.Text.{is_empty, byte_len, first_passes, begins_with}
-use Rattle.litrs_grammar.specs.Suffix.{is_suffix, suffix_refusal}
+use Rattle.litrs_grammar.specs.Suffix.{is_suffix, starts_identifier, suffix_refusal}
+use Rattle.litrs_grammar.proofs.SuffixStart.{starts_ascii}
+use Rattle.litrs_grammar.proofs.LongerTexts.Suffix.{no_suffix}
 use Rattle.litrs_base.specs.Base.{prefix, is_digit, is_digit_or_underscore}
 use Rattle.litrs_base.specs.Numeral.{is_no_underscore}
 use Rattle.litrs_grammar.specs.Integer.{integer_text, is_e, base_of, integer_cut, integer_cut_refusal, integer_refusal}
@@ -174,23 +177,6 @@ any_digit base (c ∷ t) all =
     let first : is_digit base c ≡ is_no_underscore c = one_of_two (is_digit base c) (eqb c 95) parts.0 (no_underscore base c) in
     λ i. first i || any_digit base t parts.1 i
 
--- the same with the test that the code makes of the main part
-pub refusal_of_main : (cut : IntegerCut) (bs : List ℕ) → IsUtf8 bs → IsDigitsCut cut bs → integer_cut_refusal (integer_cut (chars bs)) ≡
-    integer_rows cut.start_main cut.end_main (length bs)
-    (is_suffix (chars (drop cut.end_main bs))) (first_passes is_ascii_digit (drop cut.end_main bs))
-    (suffix_refusal (chars (drop cut.end_main bs))) (first_passes is_e (drop cut.end_main bs))
-    (list_any is_no_underscore (slice_range bs cut.start_main cut.end_main))
-refusal_of_main cut bs u h =
-    let p = is_digit_or_underscore cut.base in
-    let len : cut.end_main - cut.start_main ≡ prefix_len p (drop cut.start_main bs) = let end = h.end in omega arith in
-    let all : list_all p (slice_range bs cut.start_main cut.end_main) ≡ true =
-    ap (λ n. list_all p (take n (drop cut.start_main bs))) len ∙ list_all-take_while p (drop cut.start_main bs) in
-    refusal_of_cut cut bs u h
-    ∙ ap (integer_rows cut.start_main cut.end_main (length bs)
-    (is_suffix (chars (drop cut.end_main bs))) (first_passes is_ascii_digit (drop cut.end_main bs))
-    (suffix_refusal (chars (drop cut.end_main bs))) (first_passes is_e (drop cut.end_main bs)))
-    (any_digit cut.base (slice_range bs cut.start_main cut.end_main) all)
-
 -- the parts that the cut names are those of the characters
 pub parts_of_cut : (cut : IntegerCut) (bs : List ℕ) → IsUtf8 bs → IsDigitsCut cut bs → integer_cut (chars bs) ≡ integer_parts_at cut bs
 parts_of_cut cut bs u h =
@@ -208,6 +194,46 @@ places_of_cut cut bs u h =
       start = rw (is.0) (IsCharBoundary-from_drop bs (start_of bs) start.within start.utf8);
       end = rw (is.1) (IsCharBoundary-from_drop bs (start_of bs + run_of bs) front.within front.utf8);
     }
+
+-- no suffix begins with a digit
+digit_no_suffix : (t : List ℕ) → first_passes is_ascii_digit t ≡ true → is_suffix t ≡ false
+digit_no_suffix [] h = cc
+digit_no_suffix (c ∷ t) h = no_suffix c t (go (starts_identifier c) refl)
+  where
+    go : (b : Bool) → starts_identifier c ≡ b → b ≡ false
+    go false e = refl
+    go true e =
+        let low : c < 128 = grind (arith, nat_tests) in
+        let letter : (is_ascii_alphabetic c || (c == 95)) ≡ true = starts_ascii c low e in
+        grind (arith, nat_tests)
+
+suffix_unless_digit : (x : List ℕ) → IsUtf8 x → is_suffix (chars x) ≡ (not (first_passes is_ascii_digit x) && is_suffix (chars x))
+suffix_unless_digit x u = go (first_passes is_ascii_digit x) refl
+  where
+    go : (b : Bool) → first_passes is_ascii_digit x ≡ b → is_suffix (chars x) ≡ (not b && is_suffix (chars x))
+    go true e = digit_no_suffix (chars x) (first_passes-chars is_ascii_digit x digit_is_ascii u ∙ e)
+    go false e = refl
+
+-- the same with the test that the code makes of the main part
+pub refusal_of_main : (cut : IntegerCut) (bs : List ℕ) → IsUtf8 bs → IsDigitsCut cut bs → integer_cut_refusal (integer_cut (chars bs)) ≡
+    integer_rows cut.start_main cut.end_main (length bs)
+    (not (first_passes is_ascii_digit (drop cut.end_main bs)) && is_suffix (chars (drop cut.end_main bs))) (first_passes is_ascii_digit (drop cut.end_main bs))
+    (suffix_refusal (chars (drop cut.end_main bs))) (first_passes is_e (drop cut.end_main bs))
+    (list_any is_no_underscore (slice_range bs cut.start_main cut.end_main))
+refusal_of_main cut bs u h =
+    let p = is_digit_or_underscore cut.base in
+    let len : cut.end_main - cut.start_main ≡ prefix_len p (drop cut.start_main bs) = let end = h.end in omega arith in
+    let all : list_all p (slice_range bs cut.start_main cut.end_main) ≡ true =
+    ap (λ n. list_all p (take n (drop cut.start_main bs))) len ∙ list_all-take_while p (drop cut.start_main bs) in
+    refusal_of_cut cut bs u h
+    ∙ ap (integer_rows cut.start_main cut.end_main (length bs)
+    (is_suffix (chars (drop cut.end_main bs))) (first_passes is_ascii_digit (drop cut.end_main bs))
+    (suffix_refusal (chars (drop cut.end_main bs))) (first_passes is_e (drop cut.end_main bs)))
+    (any_digit cut.base (slice_range bs cut.start_main cut.end_main) all)
+    ∙ ap (λ v. integer_rows cut.start_main cut.end_main (length bs) v (first_passes is_ascii_digit (drop cut.end_main bs))
+    (suffix_refusal (chars (drop cut.end_main bs))) (first_passes is_e (drop cut.end_main bs))
+    (list_any is_no_underscore (slice_range bs cut.start_main cut.end_main)))
+    (suffix_unless_digit (drop cut.end_main bs) (IsUtf8-drop bs cut.end_main u (places_of_cut cut bs u h).end))
 
 -- what the code needs of the cut
 pub within_bytes : (bs : List ℕ) → IsUtf8 bs → (start_of bs ≤ length bs) × (start_of bs + run_of bs ≤ length bs)

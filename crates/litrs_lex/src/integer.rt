@@ -98,18 +98,18 @@ fn cut_refusal(cut: &IntegerCut, input: &str) -> Option<(Range<usize>, ParseErro
     } = *cut;
     let (number, suffix) = input.split_at(end_main);
     let after = suffix.as_bytes();
+    // Asked first, as no suffix begins with a digit.
+    if begins_with_digit(after) {
+        return Some((end_main..end_main + 1, ParseErrorKind::InvalidDigit));
+    }
     if let Err(kind) = check_suffix(suffix) {
-        return Some(if begins_with_digit(after) {
-            (end_main..end_main + 1, ParseErrorKind::InvalidDigit)
-        } else {
-            (end_main..input.len(), kind)
-        });
+        return Some((end_main..input.len(), kind));
     }
     if begins_with_e(after) {
         let span = end_main..end_main + 1;
         return Some((span, ParseErrorKind::IntegerSuffixStartingWithE));
     }
-    if has_digit(&number.as_bytes()[start_main..]) {
+    if is_more_than_underscores(&number.as_bytes()[start_main..]) {
         None
     } else {
         Some((start_main..end_main, ParseErrorKind::NoDigits))
@@ -143,8 +143,8 @@ fn base_of(bytes: &[u8]) -> IntegerBase
     }
 }
 
-/// Whether one of these digits and underscores is a digit.
-fn has_digit(bytes: &[u8]) -> bool
+/// Returns `true` if one of these digits and underscores is a digit.
+fn is_more_than_underscores(bytes: &[u8]) -> bool
     ensures { result ≡ list_any is_no_underscore bytes.now }
 {
     bytes.iter().any(|b| *b != b'_')

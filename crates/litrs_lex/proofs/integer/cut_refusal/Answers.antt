@@ -10,14 +10,14 @@ split_at-requires c = (places_of_cut c.args.cut.now c.args.input.now c.utf8.inpu
 pub returns-then-begins_with_digit : goal.returns-then-begins_with_digit
 returns-then-begins_with_digit c = grind (arith, common_steps, refusal_of_main _ _ c.utf8.input c.requires)
 
-pub returns-else-begins_with_digit : goal.returns-else-begins_with_digit
-returns-else-begins_with_digit c = grind (arith, common_steps, refusal_of_main _ _ c.utf8.input c.requires)
+pub returns-in-Err : goal.returns-in-Err
+returns-in-Err c = grind (arith, common_steps, refusal_of_main _ _ c.utf8.input c.requires)
 
 pub returns-then-begins_with_e : goal.returns-then-begins_with_e
 returns-then-begins_with_e c = grind (arith, common_steps, refusal_of_main _ _ c.utf8.input c.requires)
 
-pub returns-then-has_digit : goal.returns-then-has_digit
-returns-then-has_digit c = grind (arith, common_steps, refusal_of_main _ _ c.utf8.input c.requires)
+pub returns-then-is_more_than_underscores : goal.returns-then-is_more_than_underscores
+returns-then-is_more_than_underscores c = grind (arith, common_steps, refusal_of_main _ _ c.utf8.input c.requires)
 
-pub returns-else-has_digit : goal.returns-else-has_digit
-returns-else-has_digit c = grind (arith, common_steps, refusal_of_main _ _ c.utf8.input c.requires)
+pub returns-else-is_more_than_underscores : goal.returns-else-is_more_than_underscores
+returns-else-is_more_than_underscores c = grind (arith, common_steps, refusal_of_main _ _ c.utf8.input c.requires)
