@@ -1,6 +1,8 @@
 -- What the prompt answers to a line.
-use Rattle.std.specs.Prelude.{◌≡◌, ◌≢◌, ℕ, List, [], ◌∷◌, ◌++◌, codes}
-use Rattle.std.specs.Str.{chars}
+use Rattle.std.specs.Prelude.{◌≡◌, ◌≢◌, ◌⊎◌, ℕ, List, [], ◌∷◌, ◌++◌, codes}
+use Rattle.std.specs.Fmt.{decimal}
+use Rattle.std.specs.Str.{chars, IsUtf8}
+use Rattle.std.specs.Str.Lossy.{utf8_valid_len}
 use Rattle.litrs_diagnostic.specs.Diagnostic.{refusal_text}
 use Rattle.litrs_explanation.specs.Explanation.{explanation}
 use Rattle.litrs_lines.specs.Literal.{literal_parse}
@@ -43,6 +45,23 @@ pub record IsRead (held line after answer : List ℕ) : Type 0 where
 pub record IsAnswered (held line after answer : List ℕ) : Type 0 where
   pub given_up : Cancels held line → (after ≡ []) × (answer ≡ [])
   pub read : ¬ Cancels held line → IsRead held line after answer
+
+-- The other text is the line without one CR at its end, or the line if no CR ends it.
+abbrev pub IsWithoutReturn : (line stripped : List ℕ) → Type 0
+IsWithoutReturn line stripped = (line ≡ stripped ++ 13 ∷ [])
+    ⊎ ((line ≡ stripped) × ((front : List ℕ) → line ≢ front ++ 13 ∷ []))
+
+-- the answer to a line that is not UTF-8: the index of the first byte that is not
+abbrev pub ignored_text : List ℕ → List ℕ
+ignored_text line =
+    codes "not UTF-8 at byte " ++ (decimal (utf8_valid_len line) ++ codes ": ignored\n")
+
+-- What is answered to the bytes of a line, and what is held after it. One CR at its end is no part
+-- of the line. A line that is not UTF-8 changes nothing.
+pub record IsReply (held line after answer : List ℕ) : Type 0 where
+  pub text : IsUtf8 line →
+      (stripped : List ℕ) × IsWithoutReturn line stripped × IsAnswered held stripped after answer
+  pub ignored : ¬ IsUtf8 line → (after ≡ held) × (answer ≡ ignored_text line)
 
 -- at the end: the refusal of the lines that are held, if any is
 abbrev pub IsLastAnswer : (held answer : List ℕ) → Type 0

@@ -3,7 +3,7 @@
 #![tactic(auto)]
 
 ghost use Rattle.std.specs.Prelude.{◌≡◌, IfOk, string_bytes};
-ghost use Rattle.uses_prompt.specs.Answered.{IsAnswered, IsLastAnswer};
+ghost use Rattle.uses_prompt.specs.Answered.{IsAnswered, IsLastAnswer, IsReply};
 
 use litrs_diagnostic::shown_refusal;
 use litrs_explanation::explanation;
@@ -76,7 +76,9 @@ fn reply(
     line: &[u8],
 ) -> Result<String, AllocError>
     requires { string_bytes text.old ≡ collector.old }
-    ensures { IfOk result (λ _. string_bytes text.new ≡ collector.new) }
+    ensures text { IfOk result (λ _. string_bytes text.new ≡ collector.new) }
+    ensures answered { IfOk result (λ answer.
+        IsReply collector.old line.now collector.new (string_bytes answer)) }
 {
     match str::from_utf8(line) {
         Ok(line) => answer(
