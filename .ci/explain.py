@@ -160,7 +160,7 @@ class Tests:
 
     def try_errors(self):
         """Names of errors, and whether more text can complete what was read."""
-        given = "cat\n1e\n0b12\n'ab'\n\"\\q\"\n\"a\n"
+        given = "yes\n1e\n0b12\n'ab'\n\"\\q\"\n\"a\n"
         found = [(it["error"], it["incomplete"]) for it in self.objects(given=given, status=1)]
         wanted = [("InvalidLiteral", False), ("NoExponentDigits", True), ("InvalidDigit", False)]
         wanted += [("OverlongCharLiteral", False), ("UnknownEscape", False)]
@@ -340,7 +340,10 @@ class Tests:
         """What a run writes to a terminal, whose keyboard gives this."""
         child, terminal = pty.fork()
         if child == 0:
-            os.execve(self.program, [self.program, *words], env)
+            try:
+                os.execve(self.program, [self.program, *words], env)
+            finally:
+                os._exit(127)
         os.write(terminal, given)
         written = b""
         while True:
