@@ -442,13 +442,12 @@ class Tests:
                     how, number, asked, before, status, size = head.split()
                     printed = file.read(int(size) + 1)[:-1]
                     stays = (printed, status) == (ran.stdout, b"1")
-                    # (std's `collect` of the arguments asks again where it is refused once)
                     again += stays and int(asked) > int(before)
                     reports, _, message = printed.rpartition(b"litrs_explain: ")
                     stops = status == b"2" and message and ran.stdout.startswith(reports)
                     what = f"allocation {number} {how} refused: {printed[-200:]}, {status}"
                     self.hold(stays or stops, what)
-            self.hold(again <= 1, f"{again} refused allocations change nothing")
+            self.hold(again == 0, f"{again} refused allocations change nothing")
 
 
 def main():
