@@ -1,5 +1,4 @@
 //! Why a run, or the reading of one input, ends early.
-use litrs_explanation::BuildError;
 use std::alloc::AllocError;
 use std::{fmt, io};
 
@@ -13,18 +12,12 @@ pub(crate) enum Error {
     /// The standard output could not be written.
     Output(io::Error),
     /// An allocation failed.
-    Memory(BuildError),
-}
-
-impl From<BuildError> for Error {
-    fn from(error: BuildError) -> Self {
-        Error::Memory(error)
-    }
+    Memory,
 }
 
 impl From<AllocError> for Error {
-    fn from(error: AllocError) -> Error {
-        Error::from(BuildError::from(error))
+    fn from(_: AllocError) -> Self {
+        Error::Memory
     }
 }
 
@@ -34,7 +27,7 @@ impl fmt::Display for Error {
             Error::Input(error) => write!(f, "{error}"),
             Error::NotUtf8 => f.write_str("the argument is not UTF-8"),
             Error::Output(error) => write!(f, "standard output: {error}"),
-            Error::Memory(error) => write!(f, "{error}"),
+            Error::Memory => f.write_str("out of memory"),
         }
     }
 }

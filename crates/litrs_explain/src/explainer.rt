@@ -174,7 +174,7 @@ impl<'a> Explainer<'a> {
 
     /// Like [`Explainer::explain`], for the literals in any text.
     fn explain_pieces(&mut self, text: &str, line: &str) -> Result<usize, Error> {
-        if !self.collector.is_empty() && self.is_incomplete(line)? {
+        if !self.collector.is_empty() && self.gather(line)? {
             return Ok(0);
         }
         let mut literal_mark = self.start();
@@ -199,7 +199,7 @@ impl<'a> Explainer<'a> {
                 Piece::Malformed(error) => {
                     error_mark = error_mark.moved_before(text, at);
                     let may_continue = next.is_empty() && !error.is_final();
-                    if may_continue && self.is_incomplete(rest)? {
+                    if may_continue && self.gather(rest)? {
                         return Ok(self.open(error_mark, at));
                     }
                     self.refuse(text, error_mark, at..end, &error)?;
@@ -210,8 +210,8 @@ impl<'a> Explainer<'a> {
         Ok(0)
     }
 
-    /// Returns `true` if the collected lines and `line` begin a literal. Then they are collected.
-    fn is_incomplete(&mut self, line: &str) -> Result<bool, AllocError> {
+    /// Gathers `line` if the gathered lines and it begin a literal, and returns whether they do.
+    fn gather(&mut self, line: &str) -> Result<bool, AllocError> {
         match self.collector.feed(line)? {
             Step::More => Ok(true),
             _ => Ok(false),

@@ -12,7 +12,7 @@ use crate::output::Output;
 use crate::place::{Place, Span};
 use litrs::{Buffer, Literal, ParseErrorKind};
 use litrs_diagnostic::Diagnostic;
-use litrs_explanation::{BuildError, explanation};
+use litrs_explanation::explanation;
 use std::alloc::{AllocError, Global};
 
 /// The number of columns of a line that are shown around an error.
@@ -126,12 +126,12 @@ impl<'a> Reports<'a> {
         &self,
         place: Place,
         literal: &Literal<B>,
-    ) -> Result<String, Error> {
+    ) -> Result<String, AllocError> {
         let mut place = place_text(self.alloc, self.name, place)?;
         if self.options.color {
             place = colored_place(self.alloc, place.as_str())?;
         }
-        Ok(literal_report(self.alloc, place.as_str(), literal)?)
+        literal_report(self.alloc, place.as_str(), literal)
     }
 
     /// Returns the lines on an error for a person.
@@ -169,12 +169,12 @@ fn literal_report<B: Buffer>(
     alloc: Global,
     place: &str,
     literal: &Literal<B>,
-) -> Result<String, BuildError>
+) -> Result<String, AllocError>
     ensures { IfOk result (λ report.
         string_bytes report ≡ literal_report place.now (derivation literal.now)) }
 {
     let lines = explanation(alloc, literal)?;
-    Ok(format!(in alloc; "{place} {lines}")?)
+    format!(in alloc; "{place} {lines}")
 }
 
 /// Returns the last line on an error.
@@ -200,8 +200,8 @@ fn narrowed(number: usize) -> u32 {
     u32::try_from(number).unwrap_or(u32::MAX)
 }
 
-/// Returns both places if the text can be cut at them and they are in order, or else those of all of
-/// it.
+/// Returns both places if the text can be cut at them and they are in order. If not, returns the
+/// start and the end of the text.
 fn cuts(text: &str, start: usize, end: usize) -> (usize, usize)
     ensures start { IsCharBoundary text.now result.0 }
     ensures end { IsCharBoundary text.now result.1 }
