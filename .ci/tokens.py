@@ -38,6 +38,9 @@ PIECES = [
     "true", 'true"', "'\\", 'c"', "(", "::", '"a"', "'a,",
 ]
 
+# Those that are tried at a million bytes.
+LONG = ["/*", "'", '"', 'r#"']
+
 
 def bytes_of(field):
     """The bytes that a field of the table stands for."""
@@ -198,7 +201,7 @@ class Tests:
         """Four times the text takes less than eight times as long."""
         for piece in PIECES:
             spent = []
-            for size in (50_000, 200_000):
+            for size in (250_000, 1_000_000) if piece in LONG else (50_000, 200_000):
                 text = (piece * (size // len(piece.encode()))).encode()
                 best = 100.0
                 for _ in range(2):
@@ -216,7 +219,7 @@ def main():
         tests.try_table(program)
         tests.try_files(program)
         tests.try_edits(program)
-        tests.try_time(program)
+    tests.try_time(str(PROGRAM))
     print(*tests.faults[:20], sep="\n", end="\n" if tests.faults else "")
     print(f"tokens: {tests.number - len(tests.faults)} passed, {len(tests.faults)} failed")
     return 1 if tests.faults else 0
