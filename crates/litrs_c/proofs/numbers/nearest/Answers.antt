@@ -31,3 +31,7 @@ returns-in-Integer-clause-value g c =
     let value = g.F.RawFloat.value in
     map_ok c.integer_float.result (λ x. value x ≡ round f false (integer_value (integer_parts c.in-Integer.lit)) 1) (λ x. float_of f false (derivation c.args.lit.now) ≡ Some (value x)) c.integer_float.ensures.value
     (λ x is. ap (λ l. float_of f false (derivation l)) c.in-Integer.is ∙ ap Some (sym is))
+
+pub returns-in-Integer-clause-memory : goal.returns-in-Integer-clause-memory
+returns-in-Integer-clause-memory g c =
+    subst (λ d. IfErr c.integer_float.result (λ _. IsCopied d)) (sym (ap derivation c.in-Integer.is)) c.integer_float.ensures.memory
