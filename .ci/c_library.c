@@ -4,12 +4,14 @@
  * litrs_answer in their order, what litrs_goes_on answers, and the status, length and bytes in hex
  * of litrs_value and of litrs_message; then the same of litrs_parse, litrs_value and litrs_message,
  * by their status alone, with every allocation refused; then how often memory was asked for by
- * litrs_parse, litrs_value, litrs_message and litrs_goes_on; and at last the fields of litrs_prefix
- * in their order, its status with every allocation refused, and how often it asked for memory. It
- * ends with status 2 where a call wrote outside of its room or kept memory, where a form that ends
- * in _into answers otherwise than by value or writes what the status does not speak of, where NULL
- * is not the empty text, where the names of kinds are others, and where what is written of a value
- * is not its literal.
+ * litrs_parse, litrs_value, litrs_message and litrs_goes_on; the fields of litrs_prefix in their
+ * order, its status with every allocation refused, and how often it asked for memory; and at last,
+ * of litrs_f64 and of litrs_f32, the status, the bits of the value, the status with every
+ * allocation refused, and how often it asked for memory. It ends with status 2 where a call wrote
+ * outside of its room or kept memory, where litrs_f64 or litrs_f32 wrote without a value, where a
+ * form that ends in _into answers otherwise than by value or writes what the status does not speak
+ * of, where NULL is not the empty text, where the names of kinds are others, and where what is
+ * written of a value is not its literal.
  *
  * It is linked with --wrap for malloc, realloc and free. */
 #include "litrs.h"
@@ -166,6 +168,53 @@ static void hold_parses_into(const uint8_t *text, size_t len) {
     hold_into(litrs_parse_prefix_into, text, len, litrs_parse_prefix(text, len));
 }
 
+/* Prints what litrs_f64 answers, and holds it to write nothing but a value. */
+static void print_f64(const uint8_t *text, size_t len) {
+    uint64_t bits, untouched;
+    size_t by_call;
+    uint32_t status, refused;
+    double value;
+    memset(&value, 0xAA, sizeof value);
+    memcpy(&untouched, &value, sizeof value);
+    refuses = true;
+    refused = litrs_f64(text, len, &value);
+    refuses = false;
+    memcpy(&bits, &value, sizeof value);
+    hold(refused == LITRS_LITERAL || bits == untouched, "a double is written without a value");
+    memset(&value, 0xAA, sizeof value);
+    by_call = asked;
+    status = litrs_f64(text, len, &value);
+    by_call = asked - by_call;
+    memcpy(&bits, &value, sizeof value);
+    hold(status == LITRS_LITERAL || bits == untouched, "a double is written without a value");
+    bits = status == LITRS_LITERAL ? bits : 0;
+    printf(" %u %llu", (unsigned)status, (unsigned long long)bits);
+    printf(" %u %zu", (unsigned)refused, by_call);
+}
+
+/* The same of litrs_f32. */
+static void print_f32(const uint8_t *text, size_t len) {
+    uint32_t bits, untouched, status, refused;
+    size_t by_call;
+    float value;
+    memset(&value, 0xAA, sizeof value);
+    memcpy(&untouched, &value, sizeof value);
+    refuses = true;
+    refused = litrs_f32(text, len, &value);
+    refuses = false;
+    memcpy(&bits, &value, sizeof value);
+    hold(refused == LITRS_LITERAL || bits == untouched, "a float is written without a value");
+    memset(&value, 0xAA, sizeof value);
+    by_call = asked;
+    status = litrs_f32(text, len, &value);
+    by_call = asked - by_call;
+    memcpy(&bits, &value, sizeof value);
+    hold(status == LITRS_LITERAL || bits == untouched, "a float is written without a value");
+    bits = status == LITRS_LITERAL ? bits : 0;
+    printf(" %u %llu", (unsigned)status, (unsigned long long)bits);
+    printf(" %u %zu", (unsigned)refused, by_call);
+}
+
 static void print_text(const uint8_t *text, size_t len, uint8_t *room) {
     size_t before = held, by_parse, by_value, by_message, by_goes_on, by_prefix;
     bool goes_on;
@@ -198,7 +247,10 @@ static void print_text(const uint8_t *text, size_t len, uint8_t *room) {
     refuses = true;
     printf(" %zu %u", prefix.len, (unsigned)litrs_parse_prefix(text, len).answer.status);
     refuses = false;
-    printf(" %zu\n", by_prefix);
+    printf(" %zu", by_prefix);
+    print_f64(text, len);
+    print_f32(text, len);
+    printf("\n");
     hold(held == before, "memory is kept");
 }
 
@@ -206,6 +258,8 @@ static void print_text(const uint8_t *text, size_t len, uint8_t *room) {
 static void hold_null(void) {
     static const uint8_t none[1];
     uint8_t room[80];
+    double wide;
+    float narrow;
     litrs_answer answer = litrs_parse(none, 0), same = litrs_parse(NULL, 0);
     litrs_prefix prefix = litrs_parse_prefix(NULL, 0);
     litrs_written value = litrs_value(NULL, 0, NULL, 0), message = litrs_message(NULL, 0, NULL, 0);
@@ -217,6 +271,8 @@ static void hold_null(void) {
     hold(litrs_message(NULL, 0, room, sizeof room).len == message.len, "another message on NULL");
     hold(memcmp(room, "input is empty", message.len) == 0, "a wrong message on NULL");
     hold(litrs_goes_on(NULL, 0), "NULL does not go on");
+    hold(litrs_f64(NULL, 0, &wide) == LITRS_REFUSED, "NULL is a number");
+    hold(litrs_f32(NULL, 0, &narrow) == LITRS_REFUSED, "NULL is a number");
     value = litrs_value((const uint8_t *)"\"a\"", 3, NULL, 0);
     hold(value.status == LITRS_LITERAL && value.len == 1, "no length for a room of NULL");
 }

@@ -15,7 +15,8 @@ and marks that docs/GRAMMAR.md has; each prefix of its text, at each byte, has t
 UTF-8 where Python does not decode it, and answered alike by both. Where valgrind is at hand the
 program runs under it over the texts of the rows. The samples of crates/litrs_c/README.md have to
 print what stands below them, built and run by the lines of that page, the one in C as a program in
-C++ too. What else of the module is tried, python_module.py says.
+C++ too. What else of the module is tried, python_module.py says. Numbers that float_numbers.py
+draws, of which many lie halfway between two floats, have the double and the float nearest to them.
 
 Of crates/litrs_c/build: its help, wrong arguments, what it installs below DESTDIR and removes, the
 versions that pkg-config finds, and a folder that is moved to a name with a blank.
@@ -33,6 +34,7 @@ import subprocess
 import sys
 import tempfile
 
+import float_numbers
 import libraries
 import python_module
 from libraries import KIT, TOP
@@ -45,7 +47,7 @@ STANDARDS = {
     "c++": "c++98 c++11 c++14 c++17 c++20 c++2b".split(),
 }
 COMPILERS = {"c": ["cc", "gcc", "clang"], "c++": ["c++", "g++", "clang++"]}
-LITERAL, REFUSED, NOT_UTF8, OUT_OF_MEMORY, NO_STRING, NO_PREFIX = range(6)
+LITERAL, REFUSED, NOT_UTF8, OUT_OF_MEMORY, NO_STRING, NO_PREFIX, NO_NUMBER = range(7)
 KINDS = "bool integer float char byte string bytestring cstring".split()
 NAMES = "Bool Integer Float Char Byte String ByteString CString".split()
 # Longer texts are left to the program litrs_vectors; of those from the second length on no prefixes
@@ -82,13 +84,15 @@ def answer_of(module, text):
 class Wanted:
     """What is to be answered of a text: the fields, None where nothing is known of one, how often
     memory is to be asked for by each call but litrs_goes_on, the status and length of what
-    stands at its front, and the fields of the object or exception of the module."""
+    stands at its front, the fields of the object or exception of the module, and of a number the
+    bits of the double and of the float, and how often memory is to be asked for each."""
 
     text: bytes
     fields: list
     asked: object = None
     front: tuple = (None, None)
     python: object = None
+    number: object = None
 
 
 def bytes_of(field):
@@ -150,8 +154,8 @@ def wanted_of_literal(text, kind, suffix, parts):
         fields += [NO_STRING, 0, ""]
     allocates = kind == "cstring" or (parts[0] == b"escaped" and parts[1] != b"")
     python = python_of_literal(text, kind, suffix, parts)
-    front = (LITERAL, len(text))
-    return Wanted(text, fields + [LITERAL, 0, ""], int(allocates), front, python)
+    front, number = (LITERAL, len(text)), float_numbers.wanted_of(kind, parts)
+    return Wanted(text, fields + [LITERAL, 0, ""], int(allocates), front, python, number)
 
 
 def python_of_literal(text, kind, suffix, parts):
@@ -165,6 +169,7 @@ def python_of_literal(text, kind, suffix, parts):
     elif kind == "float":
         main, exponent = parts[1].decode(), parts[3].decode()
         fraction = None if parts[2] == b"-" else parts[2].decode()
+        value = float(parts[0].decode().replace("_", ""))
     elif kind in ("char", "byte"):
         value = chr(int(parts[0], 16)) if kind == "char" else int(parts[0], 16)
     else:
@@ -234,11 +239,12 @@ def wanted_of_prefixes(rows):
 
 
 def fields_of(line):
-    """The fields that the C program printed of a text: those of `Library.answer`, the statuses
-    with every allocation refused and how often memory was asked for, and the same of the front."""
+    """The fields that the C program printed of a text: those of `answer_of`, the statuses with
+    every allocation refused and how often memory was asked for, the same of the front, and what
+    litrs_f64 and litrs_f32 answer."""
     fields = [it if it.endswith(".") else int(it) for it in line.split()]
     fields = [it[:-1] if isinstance(it, str) else it for it in fields]
-    return fields[:31] + fields[38:-2], fields[31:38], fields[-2:]
+    return fields[:31] + fields[38:-10], fields[31:38], fields[-10:-8], fields[-8:]
 
 
 def status_without_memory(status, needs_memory):
@@ -261,12 +267,29 @@ def faults_of_front(wanted, fields, refused, asked):
         yield f"{refused} at the front with every allocation refused, for {answer[0]}"
 
 
+def faults_of_numbers(wanted, fields, by_parse, numbers):
+    """What is wrong of the double and the float."""
+    status, kind = fields[:2]
+    for name, at in (("litrs_f64", 0), ("litrs_f32", 4)):
+        given, bits, refused, asked = numbers[at : at + 4]
+        is_number = status == LITERAL and KINDS[kind - 1] in ("integer", "float")
+        expected = NO_NUMBER if status == LITERAL and not is_number else status
+        if (given, refused) != (expected, status_without_memory(expected, asked > 0)):
+            yield f"{name} has the status {given}, and {refused} with every allocation refused"
+        if not is_number and asked != by_parse:
+            yield f"{name} asks for memory {asked} times, litrs_parse {by_parse} times"
+        if wanted.number and (bits, asked) != (wanted.number[at // 4], wanted.number[2]):
+            yield f"{name} has the bits {bits}, and asks {asked} times; wanted {wanted.number}"
+
+
 def faults_of(wanted, from_c, from_python):
     """What is wrong of the answers on a text."""
-    fields, (*refused, by_parse, by_value, by_message, by_goes_on), front = fields_of(from_c)
+    fields, refused, front, numbers = fields_of(from_c)
+    *refused, by_parse, by_value, by_message, by_goes_on = refused
     if fields != from_python:
         yield f"C answers {fields}, Python {from_python}"
     yield from faults_of_front(wanted, fields, *front)
+    yield from faults_of_numbers(wanted, fields, by_parse, numbers)
     fields = fields[:31]
     if any(it is not None and it != got for it, got in zip(wanted.fields, fields)):
         yield f"wanted {wanted.fields}, got {fields}"
@@ -543,6 +566,7 @@ def try_texts(folder, installed, module):
     kinds = kinds_of_refusals()
     rows = list(wanted_of_rows(kinds))
     wanted = rows + list(wanted_of_prefixes(rows))
+    wanted += [wanted_of_literal(*it) for it in float_numbers.drawn()]
     lines = "".join(f"{it.text.hex()}\n" for it in wanted)
     ran = subprocess.run([program], input=lines, capture_output=True, text=True, check=False)
     if ran.returncode:

@@ -1,5 +1,5 @@
 """Tries the Python module of the C library beside the rows of the table: its names and hints, its
-errors, arguments of other types, and what it writes.
+errors, arguments of other types, the values of floats, and what it writes.
 
 .ci/c_library.py runs this over the module that is installed. The functions yield a fault, or None
 for a test that passes.
@@ -7,6 +7,7 @@ for a test that passes.
 import array
 import copy
 import ctypes
+import math
 import pickle
 import typing
 
@@ -88,6 +89,22 @@ def faults_of_texts(module):
             yield f"{text!r} has a prefix, or cannot be continued"
     yield None if module.parse('"\0"').value == "\0" else "a string of a NUL has another value"
     yield None if module.parse_prefix("1\0")[1] == 1 else "a NUL after a literal belongs to it"
+
+
+FLOATS = {"1_0.5e-1": 1.05, "0.1f32": 0.1, "1.": 1.0, "2e1_x": 20.0, "9007199254740993.0": 2.0**53}
+FLOATS.update({"1e400": math.inf, "1__e400_": math.inf, "1e-400": 0.0, "5e-324": 5e-324})
+
+
+def faults_of_floats(module):
+    """Yields the floats whose value is not the nearest float, also at the front of a text."""
+    for text, wanted in FLOATS.items():
+        for it in (text, text.encode(), memoryview(text.encode())):
+            found = module.parse(it).value, module.parse_prefix(text + " ")[0].value
+            if [(type(value), value) for value in found] != [(float, wanted)] * 2:
+                yield f"the value of {it!r} is {found}, wanted {wanted}"
+        yield None
+    found = [type(module.parse(it).value) for it in ("1f32", "0x1f64", "1e1", "b'a'", "true")]
+    yield None if found == [int, int, float, int, bool] else f"values have the types {found}"
 
 
 def answer(call, text):
@@ -175,6 +192,6 @@ def faults_of_names(module):
 def try_module(module):
     """Returns how many tests there are, and the faults."""
     groups = [faults_of_names, faults_of_types, faults_of_errors, faults_of_texts]
-    groups += [faults_of_writers, faults_of_copies]
+    groups += [faults_of_floats, faults_of_writers, faults_of_copies]
     found = [it for group in groups for it in group(module)]
     return len(found), [it[:600] for it in found if it]

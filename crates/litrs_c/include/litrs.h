@@ -40,7 +40,8 @@ enum litrs_status {
     LITRS_NOT_UTF8 = 2,      /* the bytes are not UTF-8 */
     LITRS_OUT_OF_MEMORY = 3, /* no memory for the value of a literal, or for one to write */
     LITRS_NO_STRING = 4,     /* by litrs_value: it is a literal of another kind than strings */
-    LITRS_NO_PREFIX = 5      /* by litrs_parse_prefix: no literal opens at the front */
+    LITRS_NO_PREFIX = 5,     /* by litrs_parse_prefix: no literal opens at the front */
+    LITRS_NO_NUMBER = 6      /* by litrs_f64 and litrs_f32: it is not an integer or a float */
 };
 
 /* The kinds of literals. */
@@ -131,14 +132,14 @@ typedef struct litrs_refusal {
     litrs_place char_span; /* the same up to the next end of a character */
 } litrs_refusal;
 
-/* What litrs_parse answers: the status is neither LITRS_NO_STRING nor LITRS_NO_PREFIX. */
+/* What litrs_parse answers: the status is one of the first four. */
 typedef struct litrs_answer {
     uint32_t status;       /* enum litrs_status */
     litrs_literal literal; /* if the status is LITRS_LITERAL; else all is 0, by litrs_parse */
     litrs_refusal refusal; /* if the status is LITRS_REFUSED; else all is 0, by litrs_parse */
 } litrs_answer;
 
-/* What litrs_parse_prefix answers: the status is not LITRS_NO_STRING. */
+/* What litrs_parse_prefix answers: the status is one of the first four or LITRS_NO_PREFIX. */
 typedef struct litrs_prefix {
     litrs_answer answer; /* of the literal at the front, or of what was meant as one */
     size_t len;          /* its length in bytes; 0 if none opens, or if the bytes are not UTF-8 */
@@ -173,6 +174,12 @@ size_t litrs_parse_prefix_into(const uint8_t *text, size_t len, litrs_answer *an
 /* Writes the bytes that a string, a byte string or a C string stands for, as many as fit, where the
  * status is LITRS_LITERAL. */
 litrs_written litrs_value(const uint8_t *text, size_t len, uint8_t *room, size_t room_len);
+
+/* Writes the double, or the float, nearest to an integer or a float to value, and returns the
+ * status, enum litrs_status. It is the nearest one whatever the suffix, and infinite if the number
+ * is too large. value need not be set, and is written only if the status is LITRS_LITERAL. */
+uint32_t litrs_f64(const uint8_t *text, size_t len, double *value);
+uint32_t litrs_f32(const uint8_t *text, size_t len, float *value);
 
 /* Writes the message on a refused text, as much as fits, where the status is LITRS_REFUSED. It is
  * ASCII, and has no closing zero. No memory is asked for on a refused text. */

@@ -12,3 +12,5 @@ pub mod Rooms
 pub mod Examples
 -- names by their numbers
 pub mod Names
+-- results of a call
+pub mod Results

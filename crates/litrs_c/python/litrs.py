@@ -59,6 +59,7 @@ _CALLS = {
     "parse": (_Answer, _TEXT),
     "parse_prefix": (_Prefix, _TEXT),
     "value": (_Written, _TEXT * 2),
+    "f64": (_WORD, [*_TEXT, ctypes.POINTER(ctypes.c_double)]),
     "message": (_Written, _TEXT * 2),
     "goes_on": (_BOOL, _TEXT),
     "write_string": (_Written, _TEXT * 3),
@@ -90,8 +91,9 @@ class Literal:
     """A literal.
 
     kind      "Bool", "Integer", "Float", "Char", "Byte", "String", "ByteString" or "CString"
-    value     a bool; an int of an integer and a byte; a str of a char and a string; bytes of a byte
-              string and a C string; None of a float
+    value     a bool; an int of an integer and a byte; the float nearest to a float, whatever its
+              suffix, or inf if it is too large; a str of a char and a string; bytes of a byte
+              string and a C string
     suffix    as "u8", or ""
     base      of an integer: 2, 8, 10 or 16; else 0
     is_raw    whether a string of one of the three kinds is raw
@@ -101,7 +103,7 @@ class Literal:
     """
 
     kind: str
-    value: Union[bool, int, str, bytes, None]
+    value: Union[bool, int, float, str, bytes]
     suffix: str
     base: int = 0
     is_raw: bool = False
@@ -287,7 +289,17 @@ def _value(kind, data, fields, digits):
     if kind in ("String", "ByteString", "CString"):
         _, value = _written("value", data, len(data))
         return value.decode() if kind == "String" else value
-    return {"Bool": bool, "Char": chr, "Float": lambda _: None}.get(kind, int)(number)
+    if kind == "Float":
+        return _float(data)
+    return {"Bool": bool, "Char": chr}.get(kind, int)(number)
+
+
+def _float(data):
+    """The float nearest to a number."""
+    value = ctypes.c_double()
+    if _calls["f64"](data, len(data), value) == _OUT_OF_MEMORY:
+        raise MemoryError
+    return value.value
 
 
 def _integer(digits, base):

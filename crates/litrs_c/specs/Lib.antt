@@ -11,3 +11,5 @@ pub mod Answers
 pub mod Prefixes
 -- what is answered of the literal of a value
 pub mod Writes
+-- what is answered of the value of a number
+pub mod Numbers

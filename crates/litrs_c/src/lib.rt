@@ -26,6 +26,7 @@ use std::str;
 
 mod literals;
 mod message;
+mod numbers;
 mod prefix;
 mod refusals;
 mod room;
@@ -44,6 +45,8 @@ pub const OUT_OF_MEMORY: u32 = 3;
 pub const NO_STRING: u32 = 4;
 /// No literal opens at the front of the text.
 pub const NO_PREFIX: u32 = 5;
+/// The text is a literal, and not an integer or a float.
+pub const NO_NUMBER: u32 = 6;
 
 /// A part of a text: the bytes from `start` up to `end`.
 #[repr(C)]

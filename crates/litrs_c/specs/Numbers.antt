@@ -1,0 +1,18 @@
+-- When the value of a number, as a float, needs memory.
+use Rattle.std.specs.Prelude.{◌⊎◌, ℕ, List, IsTrue}
+use Rattle.std.specs.List.{list_any}
+use Rattle.litrs_grammar.specs.Float.{number_part, is_underscore}
+use Rattle.litrs_grammar.specs.Literal.{Derivation, an_integer, a_float}
+use Rattle.litrs_value.specs.Refuses.{IsLargeWithUnderscore}
+use Rattle.litrs_c.specs.Answers.{IsLiteralAnd, LacksMemory}
+
+-- The digits of the number are copied without their underscores: those of a float, or of an integer
+-- in base ten that is at least 2^64.
+abbrev pub IsCopied : Derivation → Type 0
+IsCopied (a_float d) = IsTrue (list_any is_underscore (number_part d))
+IsCopied (an_integer d) = IsLargeWithUnderscore d
+IsCopied _ = ⊥
+
+-- there was no memory for that copy, or for the value of a literal that is not a number
+abbrev pub LacksNumberMemory : List ℕ → Type 0
+LacksNumberMemory t = LacksMemory t ⊎ IsLiteralAnd t IsCopied
