@@ -28,7 +28,7 @@ from libraries import TOP
 
 # The libraries that have a page CALLING.md.
 CALLED = ["litrs", "litrs_token", "litrs_prefix", "litrs_build", "litrs_diagnostic"]
-CALLED += ["litrs_explanation", "litrs_lines"]
+CALLED += ["litrs_explanation", "litrs_lines", "litrs_value"]
 COPIED = [*CALLED, "litrs_c", "litrs_lines_cli"]
 # What of a crate's folder is not copied.
 LEFT = {"out", "wrong", "must-fail"}
