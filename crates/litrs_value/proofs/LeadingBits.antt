@@ -9,7 +9,7 @@ use Rattle.litrs.specs.Base.{base_value, is_digit_or_underscore}
 use Rattle.litrs.specs.declared.IntegerBase.{IntegerBase}
 use Rattle.litrs.specs.declared.IntegerBase.TheVariants.{Binary, Octal, Decimal, Hexadecimal}
 use native.Mathlib.Nat.{mul_assoc, mul-one, mul-le-mul_right, mul-lt-mul_of_pos_right}
-use lib.Pow.{pow-add, pow_pos}
+use lib.Pow.{pow-add}
 use Rattle.litrs_value.specs.Leading.{IsLeading}
 use Rattle.litrs_value.specs.declared.leading.Leading.{Leading}
 

@@ -12,8 +12,7 @@ use Rattle.litrs_base.proofs.Spans.{byte_len-append}
 use Rattle.litrs.specs.Base.{prefix}
 use Rattle.litrs.specs.CharByte.{CharParts, char_item_text, IsCharLiteral}
 use Rattle.litrs.specs.CharEnd.{IsCutBy}
-use Rattle.litrs.specs.Float.{FloatParts, fraction_text}
-use Rattle.litrs.specs.Integer.{IntegerParts}
+use Rattle.litrs.specs.Float.{fraction_text}
 use Rattle.litrs.specs.Literal.{StringParts, quoted_parts, raw_parts, IsString, string_suffix, Derivation, a_bool, an_integer, a_float, a_char, a_byte, a_string, a_byte_string, a_c_string, IsLiteral, suffix_of, literal_parse}
 use Rattle.litrs.specs.Quoted.{body_text}
 use Rattle.litrs.specs.Quotes.{char_front, quoted_front, raw_front}

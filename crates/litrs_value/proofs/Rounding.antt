@@ -1,5 +1,5 @@
 -- From the leading bits of an integer to the float nearest to it.
-use Rattle.std.proofs.Common.{◌≡◌, ℕ, zero, suc, ◌+◌, ◌-◌, ◌*◌, ◌/◌, ◌%◌, ◌^◌, ◌<◌, ◌≤◌, min, Bool, true, false, inl, inr, refl, sym, ap, subst, ◌∙◌, arith}
+use Rattle.std.proofs.Common.{◌≡◌, ℕ, zero, suc, ◌+◌, ◌-◌, ◌*◌, ◌/◌, ◌%◌, ◌^◌, ◌<◌, ◌≤◌, min, true, false, inl, inr, sym, ap, subst, ◌∙◌, arith}
 use native.Mathlib.Nat.{eq-zero-or-pos, add_comm, mul-one, mul_assoc, mul-pos, mod-lt, mul-le-mul, mul-le-mul_right, mul-lt-mul_of_pos_right, le-div_iff_mul-le, div-add-mod', pow-suc}
 use Rattle.std.proofs.lemmas.Bool.{cases_Bool, cases_lt}
 use lib.Dec.{lit≤}

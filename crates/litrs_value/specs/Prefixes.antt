@@ -1,9 +1,8 @@
 -- Texts that start with a value.
-use Rattle.std.specs.Prelude.{◌≡◌, ◌⊎◌, ℕ, ◌+◌, ◌++◌, List, take, drop, IsTrue, ⊤}
+use Rattle.std.specs.Prelude.{ℕ, List, take, drop, ⊤}
 use Rattle.std.specs.Str.{chars, IsCharBoundary}
-use Rattle.litrs.specs.Allocation.{allocates}
 use Rattle.litrs.specs.CharEnd.{IsCutBy}
-use Rattle.litrs.specs.Literal.{Derivation, IsLiteral}
+use Rattle.litrs.specs.Literal.{Derivation}
 use Rattle.litrs_prefix.specs.Meant.{IsMeant}
 use Rattle.litrs_prefix.specs.Prefix.{HasPrefix, HasNoPrefix}
 use Rattle.litrs_value.specs.Reads.{unsigned, IsValueError, marked}

@@ -1,5 +1,5 @@
 -- One more byte: an underscore, or a digit.
-use Rattle.std.proofs.Common.{◌≡◌, ℕ, ◌+◌, ◌*◌, ◌^◌, ◌<◌, get_or, take, refl, sym, subst, ◌∙◌, arith}
+use Rattle.std.proofs.Common.{◌≡◌, ℕ, ◌+◌, ◌*◌, get_or, take, refl, sym, subst, ◌∙◌, arith}
 use Rattle.std.specs.Char.{digit_value}
 use Rattle.litrs.specs.Base.{base_value}
 use Rattle.litrs.specs.Numeral.{numeral}

@@ -1,5 +1,5 @@
 -- The malformed part is the front of the text.
-use Rattle.std.proofs.Common.{◌≡◌, ◌+◌, ℕ, inl, inr, sym, ap, subst, ◌∙◌}
+use Rattle.std.proofs.Common.{◌≡◌, ◌+◌, ℕ, inl, inr, sym, ap, subst}
 use Rattle.std.specs.Str.{chars}
 use Rattle.litrs_prefix.specs.Malformed.{IsMovedBy}
 use Rattle.litrs_value.specs.Prefixes.{IsPrefixError, IsMarkedIn}

@@ -1,5 +1,5 @@
 -- One more leading digit, or one that follows them.
-use Rattle.std.proofs.Common.{◌≡◌, ◌+◌, ◌-◌, ◌*◌, ◌^◌, ◌≤◌, refl, arith}
+use Rattle.std.proofs.Common.{◌-◌, ◌^◌, ◌≤◌, refl, arith}
 use native.Mathlib.Nat.{mul-le-mul}
 use lib.Pow.{pow_mono}
 use Rattle.litrs_value.proofs.LeadingBits.{leading_digit, leading_follows}
