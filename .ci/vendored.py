@@ -30,8 +30,8 @@ import vendor_cases
 from libraries import TOP
 
 # The libraries that have a page CALLING.md.
-CALLED = ["litrs", "litrs_token", "litrs_prefix", "litrs_lexer", "litrs_build", "litrs_diagnostic"]
-CALLED += ["litrs_explanation", "litrs_lines"]
+CALLED = ["litrs", "litrs_token", "litrs_prefix", "litrs_lexer", "litrs_build", "litrs_value"]
+CALLED += ["litrs_diagnostic", "litrs_explanation", "litrs_lines"]
 COPIED = [*CALLED, "litrs_c", "litrs_lines_cli"]
 # What of a crate's folder is not copied.
 LEFT = {"out", "wrong", "must-fail"}
