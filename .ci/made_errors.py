@@ -44,7 +44,7 @@ GROWS = (
 )
 # What makes an argument a number that may be greater than what it will hold.
 NUMBER = (
-    r"\b[A-Z][A-Z0-9_]+\b|::MAX\b|\b0x[0-9a-fA-F_]+\b|(?<![\w.])\d[\d_]*|;\s*[a-z]\w*\s*\]|<<|\.pow\("
+    r"(?<!Type::)\b[A-Z][A-Z0-9_]+\b|::MAX\b|\b0x[0-9a-fA-F_]+\b|(?<![\w.])\d[\d_]*|;\s*[a-z]\w*\s*\]|<<|\.pow\("
 )
 # Numbers that are as good as unbounded, and such a width in a format.
 UNBOUNDED = r"::MAX\b|(?<!\w)\d[\d_]{4,}|\d\s*<<|\.pow\("
@@ -55,8 +55,13 @@ AMOUNT = rf"\s*{TERM}(?: [+*] {TERM})*\s*"
 # What a line below such a comment may not have, but for a conversion to a narrower type.
 UNMEASURED = r"\b(if|match|while)\b|::MAX\b|(?<!\w)\d[\d_]+|\b0x|<<|\.pow\("
 NARROWED = r"\b\w+::try_from\(\w+\)\.unwrap_or\(\w+::MAX\)"
-# Where such a number is no amount of memory: the turns of a loop, and a comparison.
-NO_AMOUNT = r"\s*(for \w+ in 0\.\.u64::MAX|if \w+ [<>]=? 1 << \d+) \{$"
+# Where such a number is no amount of memory: the turns of a loop, a comparison,
+# and what a function of numbers answers: the bounds of integer types, a power of two.
+NO_AMOUNT = (
+    r"\s*(for \w+ in 0\.\.u64::MAX|if \w+ [<>]=? 1 << \d+) \{$"
+    r"|\s*[\w.]+ [<>]=? 1 << \d+$|\s*1 << [a-z]\w*$"
+    r"|\s*IntegerType::\w+ => (\w+::MAX|\(?1 << \d+\)?( - 1)?),$"
+)
 
 # The head of a function that makes the failure of an error from one that it is given.
 FROM = r"\s*fn from\(\w+: Alloc(?:Error|Failed<\w+>)\) -> \w+(?: \{)?$"

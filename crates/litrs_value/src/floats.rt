@@ -154,10 +154,10 @@ fn has_underscore(part: &[u8]) -> bool
 fn without_underscores(alloc: Global, part: &[u8]) -> Result<Vec<u8>, AllocError>
     ensures { IfOk result (λ digits. digits.items ≡ filter is_no_underscore part.now) }
 {
-    // bounded by the length of the part.
     part.iter()
         .copied()
         .filter(|&byte| byte != b'_')
+        // bounded by the length of `part`
         .collect(alloc)
 }
 
