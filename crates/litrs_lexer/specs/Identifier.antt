@@ -26,7 +26,8 @@ IsIdentifier t rest =
     IsTrue (begins_name t) × IsFalse (is_bool (first_name t)) × (rest ≡ after_name t)
     × IsFalse (first_passes is_quote_or_hash rest)
 
--- a raw identifier is at the front of the text, up to the rest: `r#` and the whole name
+-- A raw identifier is at the front of the text, up to the rest: `r#` and the whole name. The compiler
+-- rejects the names `_`, `crate`, `self`, `super` and `Self` there.
 abbrev pub IsRawIdentifier : (t rest : List ℕ) → Type 0
 IsRawIdentifier t rest =
     (name : List ℕ) × (t ≡ letter_r ∷ hash ∷ name) × IsTrue (begins_name name)

@@ -47,8 +47,6 @@ impl<'a> Iterator for Tokens<'a> {
     }
 }
 
-impl FusedIterator for Tokens<'_> {}
-
 /// Returns the token at the front of `text`, or `None` if `text` is empty.
 pub fn first_token(text: &str) -> Option<Token<'_>>
     ensures some { IfSome result (λ token. (rest : List ℕ)
@@ -76,3 +74,5 @@ pub fn all_tokens(alloc: Global, text: &str) -> Result<Vec<Token<'_>>, AllocErro
         }
     }
 }
+
+impl FusedIterator for Tokens<'_> {}
