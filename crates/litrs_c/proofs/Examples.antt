@@ -1,7 +1,7 @@
 -- What answers say, read by name: each line fails if the definition says less.
-use Rattle.std.specs.Prelude.{◌≡◌, ℕ, ◌+◌, ◌*◌, ◌^◌, List, [], Some, None, true, false, length, drop, unwrap_or, codes}
+use Rattle.std.specs.Prelude.{◌≡◌, ◌≤◌, ◌⊎◌, ℕ, ◌+◌, ◌*◌, ◌^◌, List, [], Some, None, true, false, length, drop, unwrap_or, codes}
 use Rattle.std.specs.Str.{chars, IsUtf8}
-use Rattle.std.proofs.Common.{arith, ap, sym, subst}
+use Rattle.std.proofs.Common.{arith, refl, ap, sym, subst}
 use Rattle.litrs_base.specs.declared.err.ParseError.{ParseError}
 use Rattle.litrs_base.specs.declared.err.ParseErrorKind.TheVariants as kind
 use Rattle.litrs_base.specs.declared.integer.IntegerBase.TheVariants.{Decimal, Hexadecimal}
@@ -13,8 +13,9 @@ use Rattle.litrs_prefix.specs.Prefix.{HasPrefix}
 use Rattle.litrs_c.specs.declared.LiteralFields.{LiteralFields}
 use Rattle.litrs_c.specs.declared.Place.{Place}
 use Rattle.litrs_c.specs.declared.RefusalFields.{RefusalFields}
-use Rattle.litrs_c.specs.Answers.{IsLiteralAnd, IsRefusedAnd, IsKept, IsWritten, IsWrittenFrom, WritesValue, WritesMessage}
+use Rattle.litrs_c.specs.Answers.{IsLiteralAnd, IsRefusedAnd, LacksMemory, IsKept, IsWritten, IsWrittenFrom, WritesValue, WritesMessage}
 use Rattle.litrs_c.specs.LiteralFields.{IsLiteralFields}
+use Rattle.litrs_c.specs.Numbers.{IsCopied, LacksNumberMemory}
 use Rattle.litrs_c.specs.Places.{nowhere}
 use Rattle.litrs_c.specs.Prefixes.{IsPrefixAnd, IsMalformedAnd, LacksMemoryAt}
 use Rattle.litrs_c.specs.RefusalFields.{IsRefusalFields}
@@ -167,3 +168,33 @@ message_written new len is = (is.len, is.room)
 literal_written : (old new : List ℕ) (len : ℕ) (d : Derivation) (is : WritesLiteral old new len d) →
     IsUtf8 is.text × IsLiteral (chars is.text) d × (len ≡ length is.text)
 literal_written old new len d is = (is.utf8, is.literal, is.written.len)
+
+-- Which numbers need memory
+
+-- that of `1_0.5`
+copied_float : IsCopied (a_float (record { integer = codes "1_0"; fraction = Some (codes "5"); exponent = []; suffix = [] }))
+unfolding computing
+copied_float = refl
+
+-- not that of `10.5`
+plain_float_stays : ¬ IsCopied (a_float (record { integer = codes "10"; fraction = Some (codes "5"); exponent = []; suffix = [] }))
+unfolding computing
+plain_float_stays copied =
+    let none : false ≡ true = copied in
+    cc
+
+-- `0xFF_u8` is not in base ten, and `27_` is less than 2^64
+hexadecimal_stays : ¬ IsCopied hexadecimal
+hexadecimal_stays copied =
+    let ten : Hexadecimal ≡ Decimal = copied.1 in
+    cc
+
+small_integer_stays : ¬ IsCopied (an_integer (record { base = Decimal; main = codes "27_"; suffix = [] }))
+unfolding computing
+small_integer_stays copied =
+    let large : 2 ^ 64 ≤ 27 = copied.2 in
+    absurd (omega (arith, large))
+
+-- there was no memory for the value of a text that is not a number, or for the number
+number_lacks_memory : (t : List ℕ) → LacksNumberMemory t → LacksMemory t ⊎ IsLiteralAnd t IsCopied
+number_lacks_memory t is = is
