@@ -22,15 +22,17 @@ OURS = {
     "crates/litrs/specs/Lib.antt": "-- litrs\n",
     "crates/litrs/wrong/a.edit": "file: src/lib.rt\n",
 }
-# With copies of an older version, a crate by a like name, and no line end after the last line.
+# With copies of an older version, a crate by a like name, a copy that was renamed, and no line end
+# after the last line.
 THEIRS = {
-    "crates.txt": "# litrs: a\n litrs_low\nlitrs_own:\nlitrs_gone: litrs_low\nlitrs: a\napp: litrs",
+    "crates.txt": "# litrs: a\n litrs_low\nlitrs_own:\nlitrs_parts: litrs_low\nlitrs: a\napp: litrs",
     "crates/app/src/main.rt": "// app\n",
     "crates/litrs_own/src/lib.rt": "// own\n",
+    "crates/litrs_own/VERSION": "1.0.1-rattle.1\n",
     "crates/litrs_low/src/lib.rt": "// older\n",
     "crates/litrs_low/VERSION": "1.0.1-rattle.1\n",
-    "crates/litrs_gone/src/lib.rt": "// gone\n",
-    "crates/litrs_gone/VERSION": "1.0.1-rattle.1+0123456789ab\n",
+    "crates/litrs_parts/src/lib.rt": "// gone\n",
+    "crates/litrs_parts/VERSION": "1.0.1-rattle.1+0123456789ab\n",
     "crates/litrs/src/lib.rt": "// older\n",
     "crates/litrs/src/older.rt": "// older\n",
     "crates/litrs/older/lib.rt": "// older\n",
@@ -41,6 +43,7 @@ COPIED = {
     "crates.txt": "# litrs: a\nlitrs_own:\napp: litrs\nlitrs_low:\nlitrs: litrs_low itoa\n",
     "crates/app/src/main.rt": "// app\n",
     "crates/litrs_own/src/lib.rt": "// own\n",
+    "crates/litrs_own/VERSION": "1.0.1-rattle.1\n",
     "crates/litrs_low/src/lib.rt": "// low\n",
     "crates/litrs_low/LICENSE-MIT": "MIT\n",
     "crates/litrs_low/VERSION": "1.0.1-rattle.2\n",
@@ -57,8 +60,11 @@ if [ "$(wc -l < "$CALLS")" -eq "$CALL" ]; then
     [ "$SIGNAL" ] || exit 1
     kill -s "$SIGNAL" "$PPID"
 fi
+%s
 exec %s "$@"
 """
+# After a signal `cp` is slow, and makes the folder that it copies to.
+SLOW = 'if [ "$SIGNAL" ]; then sleep 0.2; for last; do :; done; mkdir -p "$last"; fi'
 
 
 def write(folder, files):
@@ -161,7 +167,7 @@ def has_crates_at_top(folder):
 def has_older_copies(folder):
     links = {"theirs/crates/litrs/link.md": "ours", "theirs/crates/litrs_low/src/link": "nowhere"}
     room = Room(folder, THEIRS, links)
-    yield from room.faults_of_copy(["theirs"], "litrs_gone is removed", COPIED)
+    yield from room.faults_of_copy(["theirs"], "litrs_parts is removed", COPIED)
 
 
 def has_linked_copy(folder):
@@ -187,7 +193,7 @@ def is_stopped(tool, signal, calls, folder):
     for call in calls:
         room = Room(folder / str(call), THEIRS)
         tools, counted = folder / f"{call}-tools", folder / f"{call}-calls"
-        write(tools, {tool: TOOL % shutil.which(tool)})
+        write(tools, {tool: TOOL % (SLOW if tool == "cp" else "", shutil.which(tool))})
         (tools / tool).chmod(0o755)
         how = {"PATH": f"{tools}:{os.environ['PATH']}", "CALLS": str(counted)}
         ran = room.run("theirs", **how, CALL=str(call), SIGNAL=signal)
