@@ -1,6 +1,4 @@
--- which settings stand in a line
+-- which settings a line has, and what is wrong with it
 pub mod Settings
--- their values at a type
-pub mod Values
--- what is written of them
+-- what is written of a setting
 pub mod Described

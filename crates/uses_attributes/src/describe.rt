@@ -1,105 +1,69 @@
-//! What is written of settings.
-ghost use Rattle.std.specs.Prelude.{◌≡◌, ◌≢◌, codes, IfOk, string_bytes};
-ghost use Rattle.uses_attributes.specs.Described.{DescribesNumber, DescribesSigned, DescribesFloat, DescribesString, DescribesFlag, DescribesText};
+//! What is written of settings and faults.
+ghost use Rattle.std.specs.Prelude.{◌≡◌, [], IfOk, IsTrue, string_bytes};
+ghost use Rattle.std.specs.List.{list_all};
+ghost use Rattle.std.specs.Str.{chars};
+ghost use Rattle.litrs.specs.LiteralText.{string_text};
+ghost use Rattle.litrs.specs.StringKind.{string_kind};
+ghost use Rattle.litrs_build.specs.Written.{written_string};
+ghost use Rattle.litrs_diagnostic.specs.Diagnostic.{is_line_feed_or_printable};
+ghost use Rattle.uses_attributes.specs.Described.{Describes};
+ghost use Rattle.uses_attributes.specs.Settings.{IsFaultIn};
 
-use crate::setting::Setting;
-use crate::value::{flag, float, number, signed, string};
+use crate::setting::{Fault, Setting};
+use litrs::StringLit;
+use litrs_build::string;
+use litrs_diagnostic::{Diagnostic, shown};
 use std::alloc::{AllocError, Global};
 
-/// A line on a setting: its value at the type that its name asks for, or that it has none.
+/// Returns the name and the value of a setting, for example `max is 16`.
 pub fn describe(alloc: Global, setting: &Setting) -> Result<String, AllocError>
-    ensures max { setting.now.name.now ≡ codes "max" →
-        IfOk result (λ line. DescribesNumber setting.now (string_bytes line)) }
-    ensures rename { setting.now.name.now ≡ codes "rename" →
-        IfOk result (λ line. DescribesString setting.now (string_bytes line)) }
-    ensures skip { setting.now.name.now ≡ codes "skip" →
-        IfOk result (λ line. DescribesFlag setting.now (string_bytes line)) }
-    ensures offset { setting.now.name.now ≡ codes "offset" →
-        IfOk result (λ line. DescribesSigned setting.now (string_bytes line)) }
-    ensures ratio { setting.now.name.now ≡ codes "ratio" →
-        IfOk result (λ line. DescribesFloat setting.now (string_bytes line)) }
-    ensures other { setting.now.name.now ≢ codes "max" → setting.now.name.now ≢ codes "rename" →
-        setting.now.name.now ≢ codes "skip" → setting.now.name.now ≢ codes "offset" →
-        setting.now.name.now ≢ codes "ratio" →
-        IfOk result (λ line. DescribesText setting.now (string_bytes line)) }
+    ensures { IfOk result (λ text. Describes setting.now (string_bytes text)) }
 {
-    match setting.name {
-        "max" => describe_number(alloc, setting),
-        "rename" => describe_string(alloc, setting),
-        "skip" => describe_flag(alloc, setting),
-        "offset" => describe_signed(alloc, setting),
-        "ratio" => describe_float(alloc, setting),
-        _ => describe_text(alloc, setting),
-    }
-}
-
-/// A line on a number of 16 bits.
-fn describe_number(alloc: Global, setting: &Setting) -> Result<String, AllocError>
-    ensures { IfOk result (λ line. DescribesNumber setting.now (string_bytes line)) }
-{
-    let name = setting.name;
-    match number(setting) {
-        Some(value) => format!(in alloc; "  {name} is {value}\n"),
-        None => format!(in alloc; "  {name} is no number of 16 bits\n"),
-    }
-}
-
-/// A line on an integer of 64 bits.
-fn describe_signed(alloc: Global, setting: &Setting) -> Result<String, AllocError>
-    ensures { IfOk result (λ line. DescribesSigned setting.now (string_bytes line)) }
-{
-    let name = setting.name;
-    match signed(setting) {
-        Some(value) => format!(in alloc; "  {name} is {value}\n"),
-        None => format!(in alloc; "  {name} is no integer of 64 bits\n"),
-    }
-}
-
-/// A line on a float.
-fn describe_float(alloc: Global, setting: &Setting) -> Result<String, AllocError>
-    ensures { IfOk result (λ line. DescribesFloat setting.now (string_bytes line)) }
-{
-    let name = setting.name;
-    match float(alloc, setting)? {
-        Some(value) => {
-            let digits = format!(in alloc; "{value}")?;
-            format!(in alloc; "  {name} is {digits}\n")
+    match setting {
+        Setting::Max(number) => format!(in alloc; "max is {number}"),
+        Setting::Offset(number) => format!(in alloc; "offset is {number}"),
+        Setting::Ratio(number) => {
+            let digits = format!(in alloc; "{number}")?;
+            format!(in alloc; "ratio is {digits}")
         }
-        None => format!(in alloc; "  {name} is no float\n"),
+        Setting::Rename(name) => {
+            let literal = literal_of(alloc, name.as_str())?;
+            format!(in alloc; "rename is {literal}")
+        }
+        Setting::Skip(flag) => format!(in alloc; "skip is {flag}"),
     }
 }
 
-/// A line on a string, whose text stands between quotes as it is.
-fn describe_string(alloc: Global, setting: &Setting) -> Result<String, AllocError>
-    ensures { IfOk result (λ line. DescribesString setting.now (string_bytes line)) }
+/// Returns the literal of a text, in which all is printable.
+fn literal_of(alloc: Global, text: &str) -> Result<StringLit<String>, AllocError>
+    ensures { IfOk result (λ lit.
+        chars lit.raw ≡ string_text string_kind (written_string (chars text.now) [])) }
 {
-    let name = setting.name;
-    match string(setting) {
-        Some(text) => format!(in alloc; "  {name} is \"{text}\"\n"),
-        None => format!(in alloc; "  {name} is no string\n"),
+    match string(alloc, text, "") {
+        Ok(literal) => Ok(literal),
+        // allocation failed: of the literal, as its suffix is empty.
+        Err(_) => Err(AllocError),
     }
 }
 
-/// A line on a bool.
-fn describe_flag(alloc: Global, setting: &Setting) -> Result<String, AllocError>
-    ensures { IfOk result (λ line. DescribesFlag setting.now (string_bytes line)) }
+/// Returns the lines that show a fault in the line with this number.
+pub fn show(alloc: Global, line: &str, number: u32, fault: &Fault<'_>) -> Result<String, AllocError>
+    requires { IsFaultIn line.now fault.now }
+    ensures { IfOk result (λ text. IsTrue (
+        list_all is_line_feed_or_printable (chars (string_bytes text)))) }
 {
-    let name = setting.name;
-    match flag(setting) {
-        Some(value) => format!(in alloc; "  {name} is {value}\n"),
-        None => format!(in alloc; "  {name} is no bool\n"),
-    }
-}
-
-/// A line on a literal of any kind: its text.
-fn describe_text(alloc: Global, setting: &Setting) -> Result<String, AllocError>
-    ensures { IfOk result (λ line. DescribesText setting.now (string_bytes line)) }
-{
-    let name = setting.name;
-    let literal = &setting.literal;
-    if setting.negative {
-        format!(in alloc; "  {name} is -{literal}\n")
-    } else {
-        format!(in alloc; "  {name} is {literal}\n")
-    }
+    let problem = &fault.problem;
+    let message = format!(in alloc; "{problem}")?;
+    let offset = line.len() - fault.rest.len();
+    let diagnostic = Diagnostic {
+        name: "settings",
+        source: line,
+        start: offset + fault.span.start,
+        end: offset + fault.span.end,
+        first_line: number,
+        first_column: 1,
+        message: message.as_str(),
+        width: 100,
+    };
+    shown(alloc, &diagnostic)
 }

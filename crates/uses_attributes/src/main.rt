@@ -1,41 +1,39 @@
-//! Reads lists of settings, a list a line, as they stand in an attribute of Rust:
-//! `rename = "x", skip = true, max = 0x10u8, offset = -3`. Writes each setting with its value, and
-//! where a line goes on with none, what is wrong and at which byte of the line.
+//! Reads lists of settings, one list a line, as in an attribute of Rust:
+//! `rename = "x", skip = true, max = 16, offset = -3`. Writes each setting with its value, and what
+//! is wrong with the first part of a line that is not a setting, marked in the line.
 #![tactic(auto)]
+
+ghost use Rattle.uses_attributes.specs.Settings.{IsFaultIn};
 
 mod describe;
 mod setting;
-mod value;
 
-use describe::describe;
-use setting::{Settings, read_settings};
+use describe::{describe, show};
+use setting::read_settings;
 use std::alloc::{AllocError, Global};
 use std::io;
 
-/// What is written on a line.
-fn report(alloc: Global, line: &str) -> Result<String, AllocError> {
+/// Returns what is written on the line with this number.
+fn report(alloc: Global, line: &str, number: u32) -> Result<String, AllocError> {
     let settings = read_settings(alloc, line)?;
-    written(alloc, &settings)
-}
-
-/// What is written on the settings of a line.
-fn written(alloc: Global, settings: &Settings) -> Result<String, AllocError> {
     let mut out = String::new(alloc);
     for setting in &settings.found {
         let described = describe(alloc, setting)?;
-        out.push_str(described.as_str())?;
+        write!(out, "{number}: {described}\n")?;
     }
     if let Some(fault) = &settings.fault {
-        writeln!(out, "  {fault}")?;
+        let shown = show(alloc, line, number, fault)?;
+        out.push_str(shown.as_str())?;
     }
     Ok(out)
 }
 
 fn main(rt: HostRuntime) -> io::Result<()> {
+    let mut number: u32 = 0;
     for line in rt.lines(rt.alloc()) {
         let line = line?;
-        let report = report(rt.alloc(), line.as_str())?;
-        println!(rt; "{line}")?;
+        number = number.saturating_add(1);
+        let report = report(rt.alloc(), line.as_str(), number)?;
         print!(rt; "{report}")?;
     }
     Ok(())

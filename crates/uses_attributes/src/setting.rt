@@ -1,51 +1,102 @@
-//! Which settings stand in a line, and where.
-ghost use Rattle.std.specs.Prelude.{◌≡◌, ◌≢◌, ◌<◌, ◌≤◌, ◌++◌, [], ◌∷◌, ℕ, List, length, IsTrue, IsFalse, IfOk, IfErr, IfSome, IfNone, OnErr, All};
+//! The settings of a line.
+ghost use Rattle.std.specs.Prelude.{◌≡◌, ◌<◌, ◌≤◌, [], ℕ, List, length, IfOk, IfErr, IfSome, IfNone, MatchOption, take};
 ghost use Rattle.std.specs.List.{prefix_len};
-ghost use Rattle.std.specs.Str.{chars, IsTrimEnd};
-ghost use Rattle.litrs.specs.LiteralDerivation.{literal_raw, derivation};
+ghost use Rattle.std.specs.Str.{chars};
+ghost use Rattle.litrs.specs.CharEnd.{IsCutBy};
 ghost use Rattle.litrs_prefix.specs.Ends.{IsEndOf};
-ghost use Rattle.litrs_prefix.specs.Prefix.{HasPrefix};
-ghost use Rattle.uses_attributes.specs.Settings.{sign, is_number, is_of_name, name_part, EndsValue, IsSettingOf, BeginsWith, LeavesAfter, LacksComma, LacksLiteral, IsFaultOf, IsOfMemory};
+ghost use Rattle.litrs_value.specs.Prefixes.{IsPrefixError, IsMarkedIn};
+ghost use Rattle.litrs_value.specs.Reads.{marked};
+ghost use Rattle.uses_attributes.specs.Settings.{key_text, key_type, NamesNoKey, is_of_name, HasKey, HasValueText, StartsWithValue, IsTyped, key_of, EndsValue, BeginsWith, LeavesAfter, IsFaultOf, IsFaultIn, IsOfMemory};
 
-use litrs::{Literal, ParseErrorKind};
-use litrs_prefix::{MalformedPrefix, Prefix, parse_prefix_at};
+use litrs_value::{FromLiteral, PrefixError, ValueError, read_prefix};
 use std::alloc::{AllocError, Global};
 use std::fmt;
+use std::ops::Range;
 
-/// One `name = value` of a line.
-#[derive(Drop)]
-pub struct Setting<'a> {
-    pub name: &'a str,
-    /// How many bytes of the line stand before the value.
-    pub start: usize,
-    /// Whether a minus sign stands before the literal, which then is a number.
-    pub negative: bool,
-    pub literal: Literal<&'a str>,
+/// The name of a setting.
+#[derive(Clone, Copy, PartialEq, Eq)]
+pub enum Key {
+    Max,
+    Offset,
+    Ratio,
+    Rename,
+    Skip,
 }
 
-/// Why what is left of a line is no setting, and at which byte of the line.
+impl Key {
+    /// Returns the key with this name, or `None` if no setting has it.
+    pub fn of(name: &str) -> Option<Key>
+        ensures { MatchOption result (NamesNoKey name.now) (λ key. key_text key ≡ name.now) }
+    {
+        match name {
+            "max" => Some(Key::Max),
+            "offset" => Some(Key::Offset),
+            "ratio" => Some(Key::Ratio),
+            "rename" => Some(Key::Rename),
+            "skip" => Some(Key::Skip),
+            _ => None,
+        }
+    }
+}
+
+/// A setting with its value.
 #[derive(Drop)]
-pub enum Fault {
+pub enum Setting {
+    Max(u16),
+    Offset(i64),
+    Ratio(f64),
+    Rename(String),
+    Skip(bool),
+}
+
+/// What is wrong with a line.
+#[derive(Drop)]
+pub enum Problem {
     /// No `=` follows the name.
-    NoEquals(usize),
-    /// No literal opens.
-    NoLiteral(usize),
-    /// A literal that is no number follows a minus sign.
-    NoNumber(usize),
-    /// Neither a comma nor the end of the line follows a value.
-    NoComma(usize),
-    /// A literal opens and none stands there. The spans count from the start of the line.
-    Malformed(MalformedPrefix),
+    NoEquals,
+    /// No setting has the name.
+    UnknownName,
+    /// No literal begins after `=`.
+    NoValue,
+    /// The setting has no such value.
+    Value(ValueError),
+    /// Neither a comma nor the end of the line follows the value.
+    NoComma,
 }
 
-impl fmt::Display for Fault {
+impl fmt::Display for Problem {
     fn fmt<W: fmt::Write>(&self, f: &mut fmt::Formatter<W>) -> fmt::Result {
         match self {
-            Fault::NoEquals(place) => write!(f, "no `=` at {place}"),
-            Fault::NoLiteral(place) => write!(f, "no literal at {place}"),
-            Fault::NoNumber(place) => write!(f, "no number at {place}"),
-            Fault::NoComma(place) => write!(f, "no comma at {place}"),
-            Fault::Malformed(malformed) => write!(f, "{}", malformed.error),
+            Problem::NoEquals => f.write_str("expected `=`"),
+            Problem::UnknownName => f.write_str("unknown setting"),
+            Problem::NoValue => f.write_str("expected a value"),
+            Problem::Value(error) => write!(f, "{error}"),
+            Problem::NoComma => f.write_str("expected a comma"),
+        }
+    }
+}
+
+/// What is wrong with a line, and where.
+#[derive(Drop)]
+pub struct Fault<'a> {
+    pub problem: Problem,
+    /// The end of the line at which the problem is.
+    pub rest: &'a str,
+    /// The part of `rest` to mark, in bytes.
+    pub span: Range<usize>,
+}
+
+impl<'a> Fault<'a> {
+    /// Creates a fault that marks the front of `rest`.
+    fn new(problem: Problem, rest: &'a str) -> Fault<'a>
+        ensures problem { result.problem ≡ problem }
+        ensures rest { result.rest.now ≡ rest.now }
+        ensures place { (text : List ℕ) → IsEndOf text rest.now → IsFaultIn text result }
+    {
+        Fault {
+            problem,
+            rest,
+            span: 0..0,
         }
     }
 }
@@ -53,24 +104,25 @@ impl fmt::Display for Fault {
 /// The settings of a line.
 #[derive(Drop)]
 pub struct Settings<'a> {
-    pub found: Vec<Setting<'a>>,
-    /// Why the settings end before the line does.
-    pub fault: Option<Fault>,
+    pub found: Vec<Setting>,
+    /// What is wrong with the rest of the line, if anything is.
+    pub fault: Option<Fault<'a>>,
 }
 
-/// The settings of a line, up to the first fault. Each value is the literal at its place.
+/// Reads the settings of a line, up to the first fault.
 pub fn read_settings(alloc: Global, line: &str) -> Result<Settings<'_>, AllocError>
-    ensures settings { IfOk result (λ settings. All (IsSettingOf line.now) settings.found.items) }
     ensures all { IfOk result (λ settings. (rest : List ℕ)
         × LeavesAfter line.now settings.found.items rest × IfNone settings.fault (rest ≡ [])) }
     ensures fault { IfOk result (λ settings. IfSome settings.fault (λ fault. (rest : List ℕ)
-        × LeavesAfter line.now settings.found.items rest × IsFaultOf line.now rest fault)) }
-    ensures memory { IfOk result (λ settings. IfSome settings.fault (λ fault. ¬ IsOfMemory fault)) }
+        × LeavesAfter line.now settings.found.items rest × IsFaultOf rest fault)) }
+    ensures place { IfOk result (λ settings. IfSome settings.fault (IsFaultIn line.now)) }
+    ensures memory { IfOk result (λ settings. IfSome settings.fault (λ fault.
+        ¬ IsOfMemory fault.problem)) }
 {
     let mut found = Vec::new(alloc);
     let mut rest = line.trim_start();
     while !rest.is_empty() {
-        match first_setting(alloc, line, rest) {
+        match first_setting(alloc, rest) {
             Ok((setting, next)) => {
                 found.push(setting)?;
                 rest = next.trim_start();
@@ -84,49 +136,38 @@ pub fn read_settings(alloc: Global, line: &str) -> Result<Settings<'_>, AllocErr
     Ok(Settings { found, fault: None })
 }
 
-/// The first setting of what is left of a line, and what follows its comma.
-fn first_setting<'a>(
-    alloc: Global,
-    line: &'a str,
-    rest: &'a str,
-) -> Result<(Setting<'a>, &'a str), Fault>
-    requires { IsEndOf line.now rest.now }
-    ensures setting { IfOk result (λ first. IsSettingOf line.now first.0) }
-    ensures begins { IfOk result (λ first. BeginsWith rest.now first.0 first.1.now) }
-    ensures rest { IfOk result (λ first. IsEndOf line.now first.1.now) }
-    ensures shorter { IfOk result (λ first. length first.1.now < length rest.now) }
-    ensures fault { IfErr result (IsFaultOf line.now rest.now) }
+/// Returns the setting at the front of a text, and the rest after its comma.
+fn first_setting<'a>(alloc: Global, text: &'a str) -> Result<(Setting, &'a str), Fault<'a>>
+    ensures begins { IfOk result (λ first. BeginsWith text.now first.0 first.1.now) }
+    ensures rest { IfOk result (λ first. IsEndOf text.now first.1.now) }
+    ensures shorter { IfOk result (λ first. length first.1.now < length text.now) }
+    ensures fault { IfErr result (IsFaultOf text.now) }
+    ensures place { IfErr result (IsFaultIn text.now) }
 {
-    let (name, after) = cut_name(line, rest)?;
-    let value = after.trim_start();
-    let start = line.len() - value.len();
-    let (negative, text) = cut_sign(value);
-    let prefix = literal_at(alloc, line, text, negative)?;
-    let next = after_comma(line, prefix.rest)?;
-    let setting = Setting {
-        name,
-        start,
-        negative,
-        literal: prefix.literal,
-    };
+    let (key, equals) = cut_key(text)?;
+    let value = equals.trim_start();
+    let (setting, after) = read_value(alloc, text, key, value)?;
+    let next = after_comma(text, value, &setting, after)?;
     Ok((setting, next))
 }
 
-/// The name at this end of a line, and what follows its `=`.
-fn cut_name<'a>(line: &str, rest: &'a str) -> Result<(&'a str, &'a str), Fault>
-    requires { IsEndOf line.now rest.now }
-    ensures cut { IfOk result (λ cut. name_part rest.now ++ 61 ∷ cut.1.now ≡ rest.now) }
-    ensures name { IfOk result (λ cut. IsTrimEnd (name_part rest.now) cut.0.now) }
-    ensures fault { IfErr result (IsFaultOf line.now rest.now) }
+/// Returns the key at the front of a text, and the rest after its `=`.
+fn cut_key(text: &str) -> Result<(Key, &str), Fault<'_>>
+    ensures key { IfOk result (λ cut. HasKey text.now cut.0 cut.1.now) }
+    ensures fault { IfErr result (IsFaultOf text.now) }
+    ensures place { IfErr result (IsFaultIn text.now) }
 {
-    let (name, after) = rest.split_at(name_len(rest.as_bytes()));
-    match after.strip_prefix("=") {
-        Some(value) => Ok((name.trim_end(), value)),
-        None => Err(Fault::NoEquals(line.len() - after.len())),
+    let (name, after) = text.split_at(name_len(text.as_bytes()));
+    let Some(rest) = after.strip_prefix("=") else {
+        return Err(Fault::new(Problem::NoEquals, after));
+    };
+    match Key::of(name.trim_end()) {
+        Some(key) => Ok((key, rest)),
+        None => Err(Fault::new(Problem::UnknownName, text)),
     }
 }
 
-/// How many bytes stand before the first `=` or comma.
+/// Returns the number of bytes before the first `=` or comma.
 fn name_len(bytes: &[u8]) -> usize
     ensures len { result ≡ prefix_len is_of_name bytes.now }
     ensures within { result ≤ length bytes.now }
@@ -137,84 +178,112 @@ fn name_len(bytes: &[u8]) -> usize
         .count()
 }
 
-/// Whether a minus sign stands first, and what follows it.
-fn cut_sign(text: &str) -> (bool, &str)
-    ensures cut { sign result.0 ++ result.1.now ≡ text.now }
-    ensures no_sign { IsFalse result.0 → (more : List ℕ) → result.1.now ≢ 45 ∷ more }
-{
-    match text.strip_prefix("-") {
-        Some(rest) => (true, rest),
-        None => (false, text),
-    }
-}
-
-/// The literal at the front of this end of a line. After a minus sign it is a number.
-fn literal_at<'a>(
+/// Returns the setting with this key whose value is at the front of `value`, and the rest.
+fn read_value<'a>(
     alloc: Global,
-    line: &'a str,
     text: &str,
-    negative: bool,
-) -> Result<Prefix<'a>, Fault>
-    requires { IsEndOf line.now text.now }
-    ensures spells { IfOk result (λ prefix.
-        literal_raw prefix.literal ++ prefix.rest.now ≡ text.now) }
-    ensures literal { IfOk result (λ prefix.
-        HasPrefix (chars text.now) (derivation prefix.literal) (chars prefix.rest.now)) }
-    ensures signed { IfOk result (λ prefix.
-        IsTrue negative → IsTrue (is_number (derivation prefix.literal))) }
-    ensures fault { IfErr result (LacksLiteral line.now text.now negative) }
+    key: Key,
+    value: &'a str,
+) -> Result<(Setting, &'a str), Fault<'a>>
+    requires { HasValueText text.now key value.now }
+    ensures key { IfOk result (λ found. key_of found.0 ≡ key) }
+    ensures value { IfOk result (λ found. StartsWithValue value.now found.0 found.1.now) }
+    ensures rest { IfOk result (λ found. IsEndOf value.now found.1.now) }
+    ensures fault { IfErr result (IsFaultOf text.now) }
+    ensures place { IfErr result (IsFaultIn text.now) }
 {
-    let start = line.len() - text.len();
-    match parse_prefix_at(alloc, line, start) {
-        Ok(Some(prefix)) => {
-            if negative && !is_number(&prefix.literal) {
-                Err(Fault::NoNumber(start))
-            } else {
-                Ok(prefix)
-            }
+    match key {
+        Key::Max => {
+            let (number, rest) = typed::<u16>(alloc, text, key, value)?;
+            Ok((Setting::Max(number), rest))
         }
-        Ok(None) => Err(Fault::NoLiteral(start)),
-        Err(malformed) => Err(Fault::Malformed(malformed)),
+        Key::Offset => {
+            let (number, rest) = typed::<i64>(alloc, text, key, value)?;
+            Ok((Setting::Offset(number), rest))
+        }
+        Key::Ratio => {
+            let (number, rest) = typed::<f64>(alloc, text, key, value)?;
+            Ok((Setting::Ratio(number), rest))
+        }
+        Key::Rename => {
+            let (name, rest) = typed::<String>(alloc, text, key, value)?;
+            Ok((Setting::Rename(name), rest))
+        }
+        Key::Skip => {
+            let (flag, rest) = typed::<bool>(alloc, text, key, value)?;
+            Ok((Setting::Skip(flag), rest))
+        }
     }
 }
 
-/// Whether a literal is an integer or a float.
-fn is_number(literal: &Literal<&str>) -> bool
-    ensures { result ≡ is_number (derivation literal.now) }
+/// Returns the value at the front of `value`, and the rest.
+fn typed<'a, T: FromLiteral>(
+    alloc: Global,
+    text: &str,
+    key: Key,
+    value: &'a str,
+) -> Result<(T, &'a str), Fault<'a>>
+    requires value { HasValueText text.now key value.now }
+    requires same_type { key_type key ≡ T.value_type }
+    ensures value { IfOk result (λ found.
+        IsTyped T.value_type (λ negative d. T.is_value negative d found.0) value.now found.1.now) }
+    ensures rest { IfOk result (λ found. IsEndOf value.now found.1.now) }
+    ensures fault { IfErr result (IsFaultOf text.now) }
+    ensures place { IfErr result (IsFaultIn text.now) }
 {
-    match literal {
-        Literal::Integer(_) | Literal::Float(_) => true,
-        _ => false,
+    match read_prefix::<T>(alloc, value) {
+        Ok(Some(found)) => Ok(found),
+        Ok(None) => Err(Fault::new(Problem::NoValue, value)),
+        Err(error) => Err(value_fault(value, error)),
     }
 }
 
-/// What follows the comma after a value, or nothing where the line ends.
-fn after_comma<'a>(line: &str, after: &'a str) -> Result<&'a str, Fault>
-    requires { IsEndOf line.now after.now }
+/// Returns the fault of a value that the setting does not have.
+fn value_fault(value: &str, error: PrefixError) -> Fault<'_>
+    requires { IsMarkedIn value.now error }
+    ensures problem { result.problem ≡ Problem.Value error.error }
+    ensures rest { result.rest.now ≡ value.now }
+    ensures span { result.span ≡ marked (chars (take error.len value.now)) error.error }
+    ensures place { (text : List ℕ) → IsEndOf text value.now → IsFaultIn text result }
+{
+    let span = error.marked_span(value);
+    Fault {
+        problem: Problem::Value(error.error),
+        rest: value,
+        span,
+    }
+}
+
+/// Returns the rest after the comma that follows a value, or nothing at the end of the line.
+fn after_comma<'a>(
+    text: &str,
+    value: &str,
+    setting: &Setting,
+    after: &'a str,
+) -> Result<&'a str, Fault<'a>>
+    requires value { HasValueText text.now (key_of setting.now) value.now }
+    requires starts { StartsWithValue value.now setting.now after.now }
+    requires end { IsEndOf value.now after.now }
     ensures ends { IfOk result (λ rest. EndsValue after.now rest.now) }
-    ensures fault { IfErr result (LacksComma line.now after.now) }
+    ensures fault { IfErr result (IsFaultOf text.now) }
+    ensures place { IfErr result (IsFaultIn text.now) }
 {
-    let text = after.trim_start();
-    if text.is_empty() {
-        return Ok(text);
+    let rest = after.trim_start();
+    if rest.is_empty() {
+        return Ok(rest);
     }
-    match text.strip_prefix(",") {
-        Some(rest) => Ok(rest),
-        None => Err(Fault::NoComma(line.len() - text.len())),
+    match rest.strip_prefix(",") {
+        Some(next) => Ok(next),
+        None => Err(Fault::new(Problem::NoComma, rest)),
     }
 }
 
-/// The fault, or an error where it is that there was no memory for the value of a literal.
+/// Returns the fault, or an error if an allocation failed for a value.
 fn fault_of_text(fault: Fault) -> Result<Fault, AllocError>
-    ensures ok { IfOk result (λ same. (same ≡ fault) × (¬ IsOfMemory fault)) }
-    ensures err { OnErr result (IsOfMemory fault) }
+    ensures ok { IfOk result (λ same. (same ≡ fault.entry) × (¬ IsOfMemory fault.entry.problem)) }
 {
-    let kind = match &fault {
-        Fault::Malformed(malformed) => Some(malformed.error.kind()),
-        _ => None,
-    };
-    match kind {
-        Some(ParseErrorKind::OutOfMemory) => Err(AllocError),
+    match &fault.problem {
+        Problem::Value(ValueError::Memory) => Err(AllocError),
         _ => Ok(fault),
     }
 }
