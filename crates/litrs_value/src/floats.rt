@@ -60,8 +60,20 @@ fn with_sign<F: FastFloat>(negative: bool, value: F) -> F
     if negative { value.negated() } else { value }
 }
 
-/// Returns the float nearest to an integer.
-fn integer_float<F: FastFloat>(alloc: Global, lit: &IntegerLit<&str>) -> Result<F, AllocError>
+/// Returns the value of an integer literal as a float, whatever its suffix: the `f64`, or the
+/// `f32`, nearest to it.
+///
+/// For example, `0x10u8` is 16. It is rounded once, ties to even, in any base and at any length; an
+/// integer that is too large is infinite. It allocates only for an integer in base ten with an
+/// underscore that does not fit `u64`.
+///
+/// # Errors
+///
+/// `AllocError` if there is no memory for the digits without underscores.
+pub fn integer_float<F: FastFloat, B: Text>(
+    alloc: Global,
+    lit: &IntegerLit<B>,
+) -> Result<F, AllocError>
     ensures value { IfOk result (λ x.
         F.value x ≡ round F.format false (integer_value (integer_parts lit.now)) 1) }
     ensures memory { IfErr result (λ _. IsLargeWithUnderscore (integer_parts lit.now)) }
@@ -86,7 +98,7 @@ fn decimal_float<F: FastFloat>(alloc: Global, digits: &[u8]) -> Result<F, AllocE
 }
 
 /// Returns the digits and underscores of an integer.
-fn digits<'a>(lit: &'a IntegerLit<&str>) -> &'a [u8]
+fn digits<B: Text>(lit: &IntegerLit<B>) -> &[u8]
     ensures main { result.now ≡ (integer_parts lit.now).main }
     ensures integer { IsInteger (integer_parts lit.now) }
 {

@@ -6,7 +6,7 @@
 //! | [`read`] | a text that is one literal, with a minus sign before a number |
 //! | [`read_prefix`] | the value at the front of a longer text |
 //! | [`FromLiteral::from_literal`] | a literal that is already parsed |
-//! | [`float`] | a float literal, whatever its suffix |
+//! | [`float`], [`integer_float`] | a float or an integer literal as a float, whatever its suffix |
 //!
 //! | Type | Literals |
 //! |---|---|
@@ -50,7 +50,7 @@ mod strings;
 mod value_type;
 
 pub use error::ValueError;
-pub use floats::float;
+pub use floats::{float, integer_float};
 pub use from_literal::FromLiteral;
 pub use kind::LiteralKind;
 pub use prefix::{PrefixError, read_prefix};
