@@ -15,11 +15,12 @@ in the body of such a `from`, and in two more places:
 Outside tests memory is asked for by a number, or by as many items as an iterator gives, only in a
 function that hands its own parameter on to the call of its name, and on a line below a comment that
 begins `// bounded by ` and says of which length the number is: a contract says what is held in the
-end, and not how much was asked for. The number is then a sum or a product of names, lengths, digits
-and `usize::from` of a name; such a line chooses between no two numbers, and has no greater one but
-the greatest of a type to which a value is converted. So that no other call asks for more, no argument
-of a call that allocates has a number above `LARGE`, a constant that is a number, or a repeated
-array, and no line has a number that is as good as unbounded, but below such a comment.
+end, and not how much was asked for. The number is then a sum of names, lengths, digits and
+`usize::from` of a name, or of one of them times a digit; such a line chooses between no two
+numbers, and has no greater one but the greatest of a type to which a value is converted. So that no
+other call asks for more, no argument of a call that allocates has a number above `LARGE`, a
+constant that is a number, or a repeated array, and no line has a number that is as good as
+unbounded, but below such a comment.
 
 Each comment is for the next line alone, and one above a line that needs none is refused.
 """
@@ -51,7 +52,8 @@ UNBOUNDED = r"::MAX\b|(?<!\w)\d[\d_]{4,}|\d\s*<<|\.pow\("
 WIDTH = r"\{[^{}]*:[^{}]*(\d{3,}|\$)[^{}]*\}"
 # What an amount of memory may be below a comment that says what bounds it.
 TERM = r"(?:usize::from\([a-z][\w.]*\)|[A-Za-z_][\w.]*(?:\(\))?|\d)"
-AMOUNT = rf"\s*{TERM}(?: [+*] {TERM})*\s*"
+PART = rf"(?:\d \* )?{TERM}"
+AMOUNT = rf"\s*{PART}(?: \+ {PART})*\s*"
 # What a line below such a comment may not have, but for a conversion to a narrower type.
 UNMEASURED = r"\b(if|match|while)\b|::MAX\b|(?<!\w)\d[\d_]+|\b0x|<<|\.pow\("
 NARROWED = r"\b\w+::try_from\(\w+\)\.unwrap_or\(\w+::MAX\)"

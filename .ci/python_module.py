@@ -87,6 +87,10 @@ def faults_of_texts(module):
         yield raised(module.ParseError, module.parse, text)
         if (module.parse_prefix(text), module.goes_on(text)) != (None, True):
             yield f"{text!r} has a prefix, or cannot be continued"
+    for prefix, base, digit in (("", 10, "9"), ("0x", 16, "f"), ("0o", 8, "7"), ("0b", 2, "1")):
+        for count in (40, 127, 640, 641, 4301, 20_011):
+            value = module.parse(f"{prefix}{digit * count}_").value
+            yield None if value == base**count - 1 else f"{count} digits in base {base}: {value:x}"
     yield None if module.parse('"\0"').value == "\0" else "a string of a NUL has another value"
     yield None if module.parse_prefix("1\0")[1] == 1 else "a NUL after a literal belongs to it"
 

@@ -179,6 +179,16 @@ def has_linked_copy(folder):
     yield from room.faults_of_copy(["theirs"], "", COPIED)
 
 
+def has_linked_lines(folder):
+    """The file crates.txt is a link, which stays: what it names has the lines."""
+    theirs = {it: text for it, text in THEIRS.items() if it != "crates.txt"}
+    room = Room(folder, theirs, {"theirs/crates.txt": "lines"})
+    write(folder, {"lines": THEIRS["crates.txt"]})
+    room.before = files_of(folder) | {"lines": COPIED["crates.txt"]}
+    wanted = COPIED | {"crates.txt": f"link to {folder / 'lines'}"}
+    yield from room.faults_of_copy(["theirs"], "", wanted)
+
+
 def is_absent(folder):
     ours = ("crates/litrs/", "crates/litrs_low/")
     wanted = {it: text for it, text in COPIED.items() if it.startswith(ours)}
@@ -225,6 +235,7 @@ CASES = [
     partial(is_in_ours, "link", links={"link": "ours"}),
     partial(is_in_ours, "link/new", links={"link": "ours/crates"}),
     partial(is_in_ours, "theirs", links={"theirs/crates": "ours/crates"}),
+    partial(is_in_ours, "theirs", links={"theirs/crates.txt": "ours/crates.txt"}),
     partial(is_in_ours, "ours", links={"script": "ours/bin/vendor"}, script="script"),
     partial(has_own_crate, {"crates/litrs_low": "a file\n"}),
     partial(has_own_crate, {"crates/litrs_low/src/lib.rt": "// own\n"}),
@@ -236,6 +247,7 @@ CASES = [
     has_crates_at_top,
     has_older_copies,
     has_linked_copy,
+    has_linked_lines,
     is_absent,
     partial(is_stopped, "cp", "KILL", range(1, 7)),
     partial(is_stopped, "cp", "TERM", [3]),

@@ -94,11 +94,11 @@ class Literal:
     value     a bool; an int of an integer and a byte; the float nearest to a float, whatever its
               suffix, or inf if it is too large; a str of a char and a string; bytes of a byte
               string and a C string
-    suffix    as "u8", or ""
+    suffix    such as "u8", or ""
     base      of an integer: 2, 8, 10 or 16; else 0
     is_raw    whether a string of one of the three kinds is raw
     main      the digits of an integer after its prefix, of a float before period and exponent
-    fraction  the digits of a float after its period, or None where it has no period
+    fraction  the digits of a float after its period, or None if it has no period
     exponent  the exponent of a float, with its letter and sign
     """
 
@@ -113,14 +113,14 @@ class Literal:
 
 
 class ParseError(ValueError):
-    """A text that is no literal.
+    """The error of a text that is not a literal.
 
-    kind      as "InvalidDigit"; the names are those of the header, LITRS_ERROR_INVALID_DIGIT
-    span      from where to where it is wrong, as (2, 3), or None
-    message   what is wrong, as "input is empty"; a place in it counts bytes
+    kind      such as "InvalidDigit", which the header calls LITRS_ERROR_INVALID_DIGIT
+    span      the start and the end of what is wrong, such as (2, 3), or None
+    message   what is wrong, such as "input is empty"; a place in it counts bytes
     is_final  whether no text that begins with this one is a literal
     is_open   whether the text only lacks its closing quote and hashes
-    length    how much of the text was meant as a literal: by `parse` all of it
+    length    the length of the malformed literal, which for `parse` is that of the text
 
     It can be copied and pickled, also as a subclass with another constructor.
     """
@@ -160,8 +160,8 @@ def parse(text: _Text) -> Literal:
 
 def parse_prefix(text: _Text) -> Optional[Tuple[Literal, int]]:
     """Parses the literal at the front of a text. Returns it with its length, or None if no literal
-    begins there, as before a name or a blank. Raises what `parse` does if a malformed one begins
-    there."""
+    begins there, for example before a name or a blank. Raises the errors of `parse` if a malformed
+    literal begins there."""
     data = _data(text)
     prefix = _calls["parse_prefix"](data, len(data))
     if prefix.answer.status == _NO_PREFIX:
@@ -171,7 +171,7 @@ def parse_prefix(text: _Text) -> Optional[Tuple[Literal, int]]:
 
 
 def goes_on(text: _Text) -> bool:
-    """Returns whether the text, or the text with some text appended, is a literal. It is False for
+    """Returns True if the text, or the text with some text appended, is a literal, and False for
     bytes that are not UTF-8."""
     data = _data(text)
     return _calls["goes_on"](data, len(data))
@@ -303,12 +303,11 @@ def _float(data):
 
 
 def _integer(digits, base):
-    """The value of digits, in pieces: int() takes only so many decimal digits at a time."""
-    value = 0
-    for start in range(0, len(digits), 4000):
-        piece = digits[start : start + 4000]
-        value = value * base ** len(piece) + int(piece, base)
-    return value
+    """The value of digits. Those of base ten are read by halves: int() takes at least 640."""
+    if base != 10 or len(digits) <= 640:
+        return int(digits, base)
+    half = len(digits) // 2
+    return _integer(digits[:-half], base) * 10**half + _integer(digits[-half:], base)
 
 
 def _error(text, data, refusal):
