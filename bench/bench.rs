@@ -11,10 +11,13 @@ mod allocations;
 mod corpus;
 mod going_on;
 mod held_out;
+#[cfg(rustc_lexer)]
+mod lexer;
 mod limits;
 mod lines;
 mod prefix;
 mod several_lines;
+mod values;
 
 /// The texts of a shape, and the bytes that they have at most, together.
 const TEXTS: usize = 4000;
@@ -49,6 +52,19 @@ mod ours {
         pub fn prefix(text: *const u8, len: usize) -> u64;
         #[link_name = "litrs_bench_prefix_len"]
         pub fn prefix_len(text: *const u8, len: usize) -> u64;
+        #[cfg(rustc_lexer)]
+        #[link_name = "litrs_bench_tokens"]
+        pub fn tokens(text: *const u8, len: usize) -> u64;
+        #[link_name = "litrs_bench_token"]
+        pub fn token(text: *const u8, len: usize) -> u64;
+        #[link_name = "litrs_bench_float"]
+        pub fn float(text: *const u8, len: usize) -> u64;
+        #[link_name = "litrs_bench_float_parts"]
+        pub fn float_parts(text: *const u8, len: usize) -> u64;
+        #[link_name = "litrs_bench_read_f64"]
+        pub fn read_f64(text: *const u8, len: usize) -> u64;
+        #[link_name = "litrs_bench_read_u32"]
+        pub fn read_u32(text: *const u8, len: usize) -> u64;
         #[link_name = "litrs_bench_feed"]
         pub fn feed(text: *const u8, len: usize) -> u64;
         #[link_name = "litrs_bench_split"]
@@ -539,10 +555,29 @@ fn times_of(rows: &[Row]) -> Vec<[f64; CALLS.len()]> {
     times
 }
 
+/// Prints the tables of tokens and values, of the sources that the environment names.
+fn tokens_and_values() {
+    let rust = std::env::var("LITRS_BENCH_RUST");
+    #[cfg(rustc_lexer)]
+    if let Ok(folder) = &rust {
+        lexer::main(folder);
+    }
+    if let Ok(folder) = std::env::var("LITRS_BENCH_SOURCES") {
+        values::main("Rattle", &corpus::sources_in(&folder, "rt"));
+    }
+    if let Ok(folder) = &rust {
+        values::main("Rust", &corpus::sources_in(folder, "rs"));
+    }
+}
+
 fn main() {
     let part = std::env::args().nth(1);
     if part.as_deref() == Some("several_lines") {
         several_lines::main();
+        return;
+    }
+    if part.as_deref() == Some("tokens_and_values") {
+        tokens_and_values();
         return;
     }
     println!("Nanoseconds a text, the least of {} rounds over up to {TEXTS} texts a shape.", PASSES * ROUNDS);
@@ -583,6 +618,7 @@ fn main() {
     held_out::main();
     limits::main();
     prefix::main();
+    tokens_and_values();
     lines::main();
     going_on::main(&rows.iter().map(|(kind, name, _, texts)| (*kind, *name, &texts[..])).collect::<Vec<_>>());
     println!();

@@ -1,4 +1,4 @@
-//! The literals of Rattle's own sources, which are read where the toolchain has them.
+//! Sources, which are read where they stand, and the literals of Rattle's own.
 
 use crate::Texts::{self, Parsed, Valued};
 use crate::{Call, REFUSED, answer, ours};
@@ -8,8 +8,8 @@ use std::path::Path;
 /// The texts of a shape at most.
 const TEXTS: usize = 20_000;
 
-/// The Rust files of the folder and those below it, in the order of their names.
-fn sources(folder: &Path, found: &mut Vec<String>) {
+/// The files of the folder and those below it that have this extension, in the order of their names.
+fn sources(folder: &Path, extension: &str, found: &mut Vec<String>) {
     let Ok(entries) = fs::read_dir(folder) else {
         return;
     };
@@ -17,8 +17,8 @@ fn sources(folder: &Path, found: &mut Vec<String>) {
     paths.sort();
     for path in paths {
         if path.is_dir() {
-            sources(&path, found);
-        } else if path.extension().is_some_and(|it| it == "rt") {
+            sources(&path, extension, found);
+        } else if path.extension().is_some_and(|it| it == extension) {
             found.extend(fs::read_to_string(&path));
         }
     }
@@ -124,11 +124,17 @@ fn is_float(text: &str) -> bool {
     !text.starts_with("0x") && text.contains(['.', 'e', 'E']) && !text.ends_with("size")
 }
 
+/// The sources below the folder that have this extension.
+pub fn sources_in(folder: &str, extension: &str) -> Vec<String> {
+    let mut found = Vec::new();
+    sources(Path::new(folder), extension, &mut found);
+    found
+}
+
 /// Sources below the folder, one after the other, up to so many bytes or a little more.
 pub fn text_of(folder: &str, len: usize) -> String {
-    let (mut texts, mut text) = (Vec::new(), String::new());
-    sources(Path::new(folder), &mut texts);
-    for source in texts {
+    let mut text = String::new();
+    for source in sources_in(folder, "rt") {
         if text.len() < len {
             text.push_str(&source);
         }
@@ -138,9 +144,8 @@ pub fn text_of(folder: &str, len: usize) -> String {
 
 /// The rows of the literals of the sources below the folder.
 pub fn rows(folder: &str) -> Vec<(&'static str, &'static str, Texts, Vec<String>)> {
-    let (mut texts, mut found) = (Vec::new(), Vec::new());
-    sources(Path::new(folder), &mut texts);
-    texts.iter().for_each(|text| literals_of(text, &mut found));
+    let mut found = Vec::new();
+    sources_in(folder, "rt").iter().for_each(|text| literals_of(text, &mut found));
     let of = |is: fn(&str) -> bool| found.iter().filter(|text| is(text)).take(TEXTS).cloned().collect();
     CLASSES.iter().map(|(kind, name, shape, is)| (*kind, *name, *shape, of(*is))).collect()
 }

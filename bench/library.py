@@ -16,6 +16,8 @@ sys.path.append(str(TOP / ".ci"))
 from libraries import KIT, Crate, crates_of  # noqa: E402
 
 NAME = "litrs_bench"
+# The crates whose calls it exports.
+DEPS = ["litrs", "litrs_lexer", "litrs_lines", "litrs_prefix", "litrs_value"]
 
 
 def run(words, **more):
@@ -65,7 +67,7 @@ def words_of(crate, crates, out):
 
 def build(tree, out):
     """Builds OUT/litrs_bench/liblitrs_bench.a of the tree, after the libraries that it stands on."""
-    crates = crates_of(tree) | {NAME: Crate(NAME, [], ["litrs", "litrs_lines", "litrs_prefix"])}
+    crates = crates_of(tree) | {NAME: Crate(NAME, [], DEPS)}
     (out / NAME / "src").mkdir(parents=True, exist_ok=True)
     shutil.copy(TOP / f"bench/{NAME}.rt.in", out / NAME / "src/lib.rt")
     for name in in_order(NAME, crates):
