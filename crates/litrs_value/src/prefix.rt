@@ -55,8 +55,6 @@ impl fmt::Display for PrefixError {
     }
 }
 
-impl Error for PrefixError {}
-
 /// Reads the literal at the front of a text, or a minus sign and a number, as a value of type `T`.
 /// Returns it with the rest of the text, or `None` if no literal begins there.
 ///
@@ -150,3 +148,5 @@ fn value_error(error: ParseError) -> ValueError
         _ => ValueError::Malformed(error),
     }
 }
+
+impl Error for PrefixError {}

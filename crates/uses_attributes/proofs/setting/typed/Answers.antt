@@ -1,5 +1,5 @@
 -- The fault is that of the value.
-use Rattle.std.proofs.Common.{◌≡◌, ℕ, List, take, sym, ap, subst, ◌∙◌, rules}
+use Rattle.std.proofs.Common.{ℕ, List, take, sym, ap, subst, ◌∙◌, rules}
 use Rattle.std.specs.Prelude.{IsFalse}
 use Rattle.std.specs.Str.{chars}
 use Rattle.litrs_prefix.specs.Opens.{opens}
