@@ -41,6 +41,29 @@ INTEGERS = [
     (str(2**128 - 1), str(2**128 - 1), ""),
     (str(2**128), str(2**128), ""),
 ]
+# A float's text, and its value as Rust's `{:?}` prints it, or None if it is infinite.
+FLOATS = [
+    ("1.5", "1.5"),
+    ("1.", "1.0"),
+    ("0.1", "0.1"),
+    ("1_0.5E-1f64", "1.05"),
+    ("2e-7", "2e-7"),
+    ("1e15", "1000000000000000.0"),
+    ("1e16", "1e16"),
+    ("123456789012345678.0", "1.2345678901234568e17"),
+    ("9007199254740993.0", "9007199254740992.0"),
+    ("1e-400", "0.0"),
+    ("5e-324", "5e-324"),
+    ("1.7976931348623157e308", "1.7976931348623157e308"),
+    ("1.5e-3f32", "0.0015"),
+    ("1_6.7_f32", "16.7"),
+    ("16777217.0f32", "16777216.0"),
+    ("3.4028236e38f32", "3.4028235e38"),
+    ("1e-45f32", "1e-45"),
+    ("16777217.0x", "16777217.0"),
+    ("1e400", None),
+    ("3.5e38f32", None),
+]
 # A string's text, in Rust and in Python.
 STRINGS = [('"a\\tb\\\\"', "a\tb\\"), ('"\\u{1f98a}é"', "\U0001f98aé"), ('r#"a"b"#', 'a"b')]
 # A text with what is found in it: what stands there, or the refused text and what is wrong in it.
@@ -122,6 +145,31 @@ class Tests:
                 },
             }
             self.hold(it == wanted, f"{text}: {it}")
+
+    def try_floats(self):
+        """The values of floats, in JSON as numbers with these digits, and in the lines."""
+        lines = "".join(f"{text}\n" for text, _ in FLOATS)
+        out, said, status = self.run("--format", "json", given=lines.encode())
+        self.hold((said, status) == (b"", 0), f"floats: {said} {status}")
+        shown = self.run(given=lines.encode())[0].decode()
+        shown = re.findall(r": float\n  value (.*)\n  integer part ", shown)
+        self.hold(len(shown) == len(FLOATS), f"{len(shown)} floats with a value")
+        for (text, value), line, it in zip(FLOATS, shown, out.decode().splitlines()):
+            name = "f32" if text.endswith("f32") else "f64"
+            infinite = f"infinity, out of range for {name}"
+            self.hold(line == (infinite if value is None else value), f"{text}: {line}")
+            written = f',"parts":{{"value":{"null" if value is None else value},"integer":"'
+            self.hold(written in it, f"{text}: {it}")
+
+    def try_sign(self):
+        """A line on the sign, if it precedes a number."""
+        for text, kind in (("-3", "an integer"), ("-0x1F_u8", "an integer"), ("-1.5e3", "a float")):
+            note = f"  a sign is not part of a literal: without it, this is {kind}\n".encode()
+            out, _, status = self.run(f"--text={text}")
+            self.hold(out.endswith(NO_MORE + note) and status == 1, f"{text}: {out}")
+        for text in ("--3", "- 3", "-0b12", "-true", '-"a"', "-", "+3", "3-3"):
+            out, _, status = self.run(f"--text={text}")
+            self.hold(b"sign" not in out and status == 1, f"{text}: {out}")
 
     def try_strings(self):
         lines = "".join(f"{text}\n" for text, _ in STRINGS)
@@ -457,6 +505,8 @@ def main():
         with tempfile.TemporaryDirectory(prefix="explain-") as room:
             folder = pathlib.Path(room)
             tests.try_integers()
+            tests.try_floats()
+            tests.try_sign()
             tests.try_strings()
             tests.try_places()
             tests.try_page(folder)

@@ -2,7 +2,7 @@
 use crate::place::{Place, Span};
 use crate::report::Problem;
 use litrs::{Buffer, FloatLit, IntegerLit, Literal};
-use litrs_explanation::{integer_text, kind_name, names_that_fit};
+use litrs_explanation::{float_number, float_type, integer_text, kind_name, names_that_fit};
 use serde_json::Value;
 use std::alloc::{AllocError, Global};
 
@@ -101,8 +101,13 @@ fn fits<B: Buffer>(alloc: Global, lit: &IntegerLit<B>) -> Result<String, AllocEr
     Ok(fits)
 }
 
-/// Returns the fields on the parts of a float.
+/// Returns the fields on the value of a float, which is `null` if it is infinite, and on its parts.
 fn float_parts<B: Buffer>(alloc: Global, lit: &FloatLit<B>) -> Result<String, AllocError> {
+    let number = float_number(alloc, lit, float_type(lit))?;
+    let value = match &number {
+        Some(number) => number.as_str(),
+        None => "null",
+    };
     let integer = lit.integer_part();
     let exponent = lit.exponent_part();
     let quote = if lit.fractional_part().is_some() {
@@ -112,7 +117,7 @@ fn float_parts<B: Buffer>(alloc: Global, lit: &FloatLit<B>) -> Result<String, Al
     };
     let fraction = lit.fractional_part().unwrap_or("null");
     format!(in alloc;
-        "\"integer\":\"{integer}\",\"fraction\":{quote}{fraction}{quote},\
+        "\"value\":{value},\"integer\":\"{integer}\",\"fraction\":{quote}{fraction}{quote},\
         \"exponent\":\"{exponent}\""
     )
 }

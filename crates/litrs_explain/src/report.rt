@@ -2,7 +2,7 @@
 ghost use Rattle.std.specs.Prelude.{◌≡◌, ◌≤◌, ◌<◌, ◌↔◌, IfOk, IsTrue, string_bytes};
 ghost use Rattle.std.specs.Str.{IsCharBoundary};
 ghost use Rattle.litrs.specs.LiteralDerivation.{derivation};
-ghost use Rattle.litrs_explain.specs.Report.{place_text, literal_report};
+ghost use Rattle.litrs_explain.specs.Report.{place_text, IsLiteralReport};
 
 use crate::color::{colored_lines, colored_place};
 use crate::error::Error;
@@ -152,6 +152,9 @@ impl<'a> Reports<'a> {
             lines = colored_lines(self.alloc, lines.as_str())?;
         }
         lines.push_str(note(problem.is_incomplete))?;
+        if problem.kind == Some(ParseErrorKind::InvalidLiteral) {
+            lines.push_str(sign_note(self.alloc, &problem.source[start..end]))?;
+        }
         Ok(lines)
     }
 }
@@ -171,7 +174,7 @@ fn literal_report<B: Buffer>(
     literal: &Literal<B>,
 ) -> Result<String, AllocError>
     ensures { IfOk result (λ report.
-        string_bytes report ≡ literal_report place.now (derivation literal.now)) }
+        IsLiteralReport place.now (derivation literal.now) (string_bytes report)) }
 {
     let lines = explanation(alloc, literal)?;
     format!(in alloc; "{place} {lines}")
@@ -183,6 +186,24 @@ fn note(is_incomplete: bool) -> &'static str {
         "  this is incomplete: more text can complete it\n"
     } else {
         "  no continuation of this text is a literal\n"
+    }
+}
+
+/// Returns the line on the sign of a text that is not a literal, or an empty text if it is not a
+/// minus sign and a number.
+fn sign_note(alloc: Global, text: &str) -> &'static str {
+    let Some(number) = text.strip_prefix('-') else {
+        return "";
+    };
+    // A number is parsed without an allocation.
+    if !number.starts_with(|c: char| c.is_ascii_digit()) {
+        return "";
+    }
+    match Literal::parse(alloc, number) {
+        Ok(Literal::Integer(_)) =>
+            "  a sign is not part of a literal: without it, this is an integer\n",
+        Ok(Literal::Float(_)) => "  a sign is not part of a literal: without it, this is a float\n",
+        _ => "",
     }
 }
 

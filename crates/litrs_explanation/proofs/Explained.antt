@@ -14,7 +14,7 @@ use Rattle.litrs_grammar.specs.Float.{FloatParts}
 use Rattle.litrs_grammar.specs.Integer.{IntegerParts, integer_value}
 use Rattle.litrs_grammar.specs.Literal.{Derivation, suffix_of}
 use Rattle.litrs_build.specs.Printable.{is_printable}
-use Rattle.litrs_explanation.specs.Explanation.{kind_name, field, field_of_part, fields, integer_text, names_that_fit, integer_fields, fraction_field, float_fields, escaped_char, escaped, explanation, is_line_feed_or_printable}
+use Rattle.litrs_explanation.specs.Explanation.{kind_name, field, field_of_part, integer_text, names_that_fit, integer_fields, fraction_field, float_fields, escaped_char, escaped, explanation, is_line_feed_or_printable}
 use Rattle.litrs_explanation.proofs.Printed.{basic_encoded, number_basic, value_shows}
 
 -- the bytes of a part are those of its characters
@@ -55,20 +55,20 @@ pub fraction_made : (digits line : List ℕ) (fraction : Option (List ℕ)) → 
 fraction_made digits line fraction u is made =
     made ∙ (ap (field (codes "fraction")) (sym (encodes-chars digits u)) ∙ ap fraction_field is)
 
-pub float_made : (integer fraction exponent part written : List ℕ) (d : FloatParts) → integer ≡ encode_utf8_all d.integer →
+pub float_made : (value integer fraction exponent part written : List ℕ) (d : FloatParts) → integer ≡ encode_utf8_all d.integer →
     fraction ≡ fraction_field d.fraction → exponent ≡ field_of_part (codes "exponent") part → part ≡ encode_utf8_all d.exponent →
-    written ≡ codes "  integer part " ++ (integer ++ (codes "\n" ++ (fraction ++ exponent))) → written ≡ float_fields d
-float_made integer fraction exponent part written d i f e p made =
+    written ≡ codes "  value " ++ (value ++ (codes "\n  integer part " ++ (integer ++ (codes "\n" ++ (fraction ++ exponent))))) → written ≡ float_fields value d
+float_made value integer fraction exponent part written d i f e p made =
     let last : exponent ≡ field_of_part (codes "exponent") (encode_utf8_all d.exponent) = e ∙ ap (field_of_part (codes "exponent")) p in
-    made ∙ (λ j. codes "  integer part " ++ (i j ++ (codes "\n" ++ (f j ++ last j))))
+    made ∙ (λ j. codes "  value " ++ (value ++ (codes "\n  integer part " ++ (i j ++ (codes "\n" ++ (f j ++ last j))))))
 
-pub explanation_made : (kind lines suffix part written : List ℕ) (d : Derivation) → kind ≡ kind_name d → lines ≡ fields d →
+pub explanation_made : (kind lines suffix part written : List ℕ) (d : Derivation) → kind ≡ kind_name d →
     suffix ≡ field_of_part (codes "suffix") (encode_utf8_all (escaped (chars part))) → chars part ≡ suffix_of d →
-    written ≡ kind ++ (codes "\n" ++ (lines ++ suffix)) → written ≡ explanation d
-explanation_made kind lines suffix part written d k l s p made =
+    written ≡ kind ++ (codes "\n" ++ (lines ++ suffix)) → written ≡ explanation lines d
+explanation_made kind lines suffix part written d k s p made =
     let last : suffix ≡ field_of_part (codes "suffix") (encode_utf8_all (escaped (suffix_of d))) =
     s ∙ ap (λ (t : List ℕ). field_of_part (codes "suffix") (encode_utf8_all (escaped t))) p in
-    made ∙ (λ j. k j ++ (codes "\n" ++ (l j ++ last j)))
+    made ∙ (λ j. k j ++ (codes "\n" ++ (lines ++ last j)))
 
 -- one more character of a suffix
 pub more_escaped : (bytes more cs : List ℕ) (c : ℕ) → bytes ≡ encode_utf8_all (escaped cs) →

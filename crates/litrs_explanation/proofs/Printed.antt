@@ -1,7 +1,10 @@
 -- Every character of an explanation is an LF or printable.
-use Rattle.std.proofs.Common.{◌≡◌, ℕ, zero, suc, ◌/◌, ◌%◌, Bool, true, false, ◌||◌, eqb, List, [], ◌∷◌, ◌++◌, Option, Some, None, refl, sym, ap, subst, ◌∙◌, arith, ltb-true}
+use Rattle.std.proofs.Common.{◌≡◌, ℕ, zero, suc, ◌/◌, ◌%◌, Bool, true, false, cond, inl, inr, ◌||◌, eqb, List, [], ◌∷◌, ◌++◌, Option, Some, None, refl, sym, ap, subst, ◌∙◌, arith, ltb-true}
 use Rattle.std.specs.Prelude.{codes, nat_le, decimal}
-use Rattle.std.specs.Fmt.{digits, digits_onto, digit_glyph}
+use Rattle.std.specs.Float.Numeral.{Parts, exponent_text, text_of, IsWellFormed}
+use Rattle.std.specs.Fmt.{digits, digits_onto, digit_glyph, sign_text}
+use Rattle.std.specs.Str.Parse.{AllDigits}
+use Rattle.std.proofs.lemmas.Str.Parse.{digit_from_value}
 use Rattle.std.specs.List.{list_all}
 use Rattle.std.specs.Str.{chars, IsUtf8, encode_utf8_all}
 use Rattle.std.proofs.lemmas.Bool.{and_from, and_parts, cond_both}
@@ -9,6 +12,8 @@ use Rattle.std.proofs.lemmas.Bool.Decides.{nat_tests}
 use Rattle.std.proofs.lemmas.Str.{IsUtf8-append, chars-append, chars-encodes}
 use lib.Utf8.{scalar, scalars, low_scalar}
 use Rattle.litrs_base.proofs.Runs.{list_all-append, list_all-weaken}
+use Rattle.litrs_base.specs.declared.float.FloatType.{FloatType}
+use Rattle.litrs_base.specs.declared.float.FloatType.TheVariants.{F32, F64}
 use Rattle.litrs_base.specs.declared.integer.IntegerBase.{IntegerBase}
 use Rattle.litrs_base.specs.declared.integer.IntegerBase.TheVariants.{Binary, Octal, Decimal, Hexadecimal}
 use Rattle.litrs_base.specs.declared.integer.IntegerType.{IntegerType}
@@ -26,7 +31,8 @@ use Rattle.litrs_build.specs.Printable.{is_printable}
 use Rattle.litrs_build.proofs.HexDigits.{glyph_passes, digits_pass}
 use Rattle.litrs_build.proofs.PrintableAscii.{is_plain, plain_printable}
 use Rattle.litrs_build.proofs.Spellings.{encodes_ascii, scalars_all, scalars_append}
-use Rattle.litrs_explanation.specs.Explanation.{kind_name, field, field_of_part, integer_text, integer_types, name_where_fits, names_of, names_that_fit, integer_fields, fraction_field, float_fields, escaped_char, escaped, is_line_feed_or_printable}
+use Rattle.ryu.specs.Plain.{IsPlainNumber}
+use Rattle.litrs_explanation.specs.Explanation.{kind_name, field, field_of_part, integer_text, integer_types, name_where_fits, names_of, names_that_fit, integer_fields, fraction_field, float_fields, out_of_range, IsValueText, escaped_char, escaped, is_line_feed_or_printable}
 
 -- the bytes are UTF-8 of LFs and printable characters
 pub record Shows (bytes : List ℕ) : Type 0 where
@@ -81,6 +87,12 @@ basic_scalars t all = scalars_all t (list_all-weaken is_basic scalar basic_scala
 
 pub basic_encoded : (t : List ℕ) → list_all is_basic t ≡ true → encode_utf8_all t ≡ t
 basic_encoded t all = encodes_ascii t (list_all-weaken is_basic is_ascii basic_ascii t all)
+
+-- the name of a type has the same characters as bytes
+pub f32_chars : chars (codes "f32") ≡ codes "f32"
+f32_chars =
+    ap chars (sym (basic_encoded (codes "f32") refl))
+    ∙ chars-encodes (codes "f32") (basic_scalars (codes "f32") refl)
 
 pub basic_shows : (t : List ℕ) → list_all is_basic t ≡ true → Shows t
 basic_shows t all =
@@ -245,14 +257,61 @@ form_exponent (Some (c ∷ cs)) exponent suffix is =
     (and_parts (is_decimal_literal (c ∷ cs)) _ is).1
     (empty_basic exponent) (exponent_basic exponent)
 
-pub float_shows : (d : FloatParts) → IsFloat d → Shows (float_fields d)
-float_shows d is =
-    piece (codes "  integer part ") _ refl
+-- the text of a value
+
+all_digits_basic : (t : List ℕ) → AllDigits 10 t → list_all is_basic t ≡ true
+all_digits_basic [] are = refl
+all_digits_basic (c ∷ t) are =
+    let within = digit_from_value c are.0 in
+    let basic : is_basic c ≡ true = grind (arith, nat_tests) in
+    and_from (is_basic c) (list_all is_basic t) basic (all_digits_basic t are.1)
+
+minus_basic : (negative : Bool) → list_all is_basic (sign_text negative) ≡ true
+minus_basic true = refl
+minus_basic false = refl
+
+exponent_text_basic : (negative : Bool) (t : List ℕ) → AllDigits 10 t →
+    list_all is_basic (exponent_text negative t) ≡ true
+exponent_text_basic negative [] are = refl
+exponent_text_basic negative (d ∷ t) are =
+    and_from (is_basic 101) _ refl
+    (list_all-append is_basic (sign_text negative) (d ∷ t) (minus_basic negative)
+    (all_digits_basic (d ∷ t) are))
+
+numeral_basic : (p : Parts) → IsWellFormed p → list_all is_basic (text_of p) ≡ true
+numeral_basic p is =
+    let fraction : list_all is_basic (cond p.point (46 ∷ p.fraction) []) ≡ true =
+    cond_both p.point (46 ∷ p.fraction) [] (λ t. list_all is_basic t ≡ true)
+    (λ _. and_from (is_basic 46) _ refl (all_digits_basic p.fraction is.fraction_digits)) (λ _. refl) in
+    list_all-append is_basic p.whole _ (all_digits_basic p.whole is.whole_digits)
+    (list_all-append is_basic (cond p.point (46 ∷ p.fraction) []) _ fraction
+    (exponent_text_basic p.exponent_negative p.exponent is.exponent_digits))
+
+plain_number_basic : (t : List ℕ) → IsPlainNumber t → list_all is_basic t ≡ true
+plain_number_basic t (negative, (p, (is, plain))) =
+    ap (list_all is_basic) is
+    ∙ list_all-append is_basic (sign_text negative) (text_of p) (minus_basic negative)
+    (numeral_basic p plain.well_formed)
+
+out_of_range_basic : (ty : FloatType) → list_all is_basic (out_of_range ty) ≡ true
+out_of_range_basic F32 = refl
+out_of_range_basic F64 = refl
+
+value_basic : (d : FloatParts) (t : List ℕ) → IsValueText d t → list_all is_basic t ≡ true
+value_basic d t (ty, (_, inl number)) = plain_number_basic t number.plain
+value_basic d t (ty, (_, inr (_, is))) = ap (list_all is_basic) is ∙ out_of_range_basic ty
+
+pub float_shows : (d : FloatParts) (value : List ℕ) → IsFloat d → IsValueText d value →
+    Shows (float_fields value d)
+float_shows d value is shown =
+    piece (codes "  value ") _ refl
+    (piece value _ (value_basic d value shown)
+    (piece (codes "\n  integer part ") _ refl
     (both_show (encode_utf8_all d.integer) _ (coded_shows d.integer (literal_basic d.integer is.integer))
     (piece (codes "\n") _ refl
     (both_show (fraction_field d.fraction) _ (form_fraction d.fraction d.exponent d.suffix is.form)
     (part_shows (codes "exponent") (encode_utf8_all d.exponent) refl
-    (coded_shows d.exponent (form_exponent d.fraction d.exponent d.suffix is.form))))))
+    (coded_shows d.exponent (form_exponent d.fraction d.exponent d.suffix is.form))))))))
 
 -- bools and kinds
 

@@ -1,6 +1,9 @@
 -- The lines on a literal.
-use Rattle.std.specs.Prelude.{ℕ, Bool, false, ◌==◌, ◌||◌, nat_le, List, [], ◌∷◌, ◌++◌, Option, Some, None, codes, if◌then◌else◌}
+use Rattle.std.specs.Prelude.{ℕ, ◌≡◌, ◌≢◌, ◌⊎◌, Bool, false, IsTrue, IsFalse, ◌==◌, ◌||◌, nat_le, List, [], ◌∷◌, ◌++◌, Option, Some, None, codes, if◌then◌else◌}
 use Rattle.std.specs.Fmt.{decimal, digits}
+use Rattle.std.specs.Float.{float_is_finite}
+use Rattle.std.specs.Float.Ieee.{Float, Format}
+use Rattle.std.specs.Float.Parse.{parse_float}
 use Rattle.std.specs.List.{flat_map}
 use Rattle.std.specs.Str.{chars, encode_utf8_all}
 use Rattle.litrs_base.specs.Characters.{line_feed}
@@ -8,6 +11,9 @@ use Rattle.litrs_base.specs.declared.integer.IntegerType.{IntegerType}
 use Rattle.litrs_base.specs.declared.integer.IntegerType.TheVariants.{U8, U16, U32, U64, U128, Usize, I8, I16, I32, I64, I128, Isize}
 use Rattle.litrs_base.specs.Base.{base_value}
 use Rattle.litrs_base.specs.IntegerTypes.{type_name}
+use Rattle.litrs_base.specs.declared.float.FloatType.{FloatType}
+use Rattle.litrs_base.specs.declared.float.FloatType.TheVariants.{F32, F64}
+use Rattle.litrs_base.specs.FloatTypes.{float_type_name}
 use Rattle.litrs_base.specs.Numeral.{greatest_of}
 use Rattle.litrs_grammar.specs.Bool.{bool_text}
 use Rattle.litrs_grammar.specs.CharByte.{char_text, char_value}
@@ -20,6 +26,9 @@ use Rattle.litrs.specs.LiteralText.{string_text}
 use Rattle.litrs_build.specs.Printable.{is_printable}
 use Rattle.litrs_build.specs.Written.{written_char, written_string, written_byte_string}
 use Rattle.litrs_build.specs.CStrings.{written_c_string}
+use Rattle.litrs_value.specs.FloatValue.{float_value}
+use Rattle.litrs_value.specs.Values.{format_of}
+use Rattle.ryu.specs.Plain.{IsPlainNumber}
 
 -- what the kind is called
 abbrev pub kind_name : Derivation → List ℕ
@@ -80,12 +89,47 @@ abbrev pub fraction_field : Option (List ℕ) → List ℕ
 fraction_field None = []
 fraction_field (Some digits) = field (codes "fraction") (encode_utf8_all digits)
 
--- the lines on the parts of a float
-abbrev pub float_fields : FloatParts → List ℕ
-float_fields d =
-    codes "  integer part " ++ (encode_utf8_all d.integer
+-- The float is shown as an `f32` if its suffix is `f32`, and as an `f64` if not.
+abbrev pub IsTypeOf : FloatParts → FloatType → Type 0
+IsTypeOf d F32 = d.suffix ≡ codes "f32"
+IsTypeOf d F64 = d.suffix ≢ codes "f32"
+
+-- The float is finite, and the text is a number as in JSON, which is read as the float.
+pub record IsNumber (format : Format) (x : Float) (text : List ℕ) : Type 0 where
+  pub finite : IsTrue (float_is_finite x)
+  pub plain : IsPlainNumber text
+  pub reads : parse_float format text ≡ Some x
+
+-- The text is the value of the literal in this type.
+abbrev pub IsNumberOf : FloatType → FloatParts → (text : List ℕ) → Type 0
+IsNumberOf ty d text = IsNumber (format_of ty) (float_value (format_of ty) false d) text
+
+-- The value of the literal is too large for this type.
+abbrev pub IsOutOfRange : FloatType → FloatParts → Type 0
+IsOutOfRange ty d = IsFalse (float_is_finite (float_value (format_of ty) false d))
+
+-- the text for a value that is too large for this type
+abbrev pub out_of_range : FloatType → List ℕ
+out_of_range ty = codes "infinity, out of range for " ++ float_type_name ty
+
+-- The text is the value of the literal in the type that it is shown as, or says that the value is
+-- too large for that type.
+abbrev pub IsValueText : FloatParts → (text : List ℕ) → Type 0
+IsValueText d text = (ty : FloatType) × IsTypeOf d ty
+    × (IsNumberOf ty d text ⊎ (IsOutOfRange ty d × (text ≡ out_of_range ty)))
+
+-- the lines on the value of a float, which is shown as the text, and on its parts
+abbrev pub float_fields : (value : List ℕ) → FloatParts → List ℕ
+float_fields value d =
+    codes "  value " ++ (value
+    ++ (codes "\n  integer part " ++ (encode_utf8_all d.integer
     ++ (codes "\n" ++ (fraction_field d.fraction
-    ++ field_of_part (codes "exponent") (encode_utf8_all d.exponent))))
+    ++ field_of_part (codes "exponent") (encode_utf8_all d.exponent))))))
+
+-- These are such lines.
+abbrev pub IsFloatFields : FloatParts → (lines : List ℕ) → Type 0
+IsFloatFields d lines =
+    (value : List ℕ) × IsValueText d value × (lines ≡ float_fields value d)
 
 -- The literal of the value, as it is built: what is not printable in it is escaped.
 abbrev pub value_text : Derivation → List ℕ
@@ -96,17 +140,17 @@ value_text (a_byte_string d) =
 value_text (a_c_string d) = string_text c_string_kind (written_c_string (string_value d) [])
 value_text _ = []
 
--- The lines on the value and on the parts but the suffix: of a byte its number, of a char and a
--- string the literal of the value.
-abbrev pub fields : Derivation → List ℕ
-fields (a_bool b) = field (codes "value") (bool_text b)
-fields (an_integer d) = integer_fields d
-fields (a_float d) = float_fields d
-fields (a_byte d) = field (codes "value") (decimal (char_value d.item))
-fields (a_char d) = value_field (value_text (a_char d))
-fields (a_string d) = value_field (value_text (a_string d))
-fields (a_byte_string d) = value_field (value_text (a_byte_string d))
-fields (a_c_string d) = value_field (value_text (a_c_string d))
+-- These are the lines on the value and on the parts but the suffix: of a byte its number, of a char
+-- and a string the literal of the value.
+abbrev pub IsFields : Derivation → (lines : List ℕ) → Type 0
+IsFields (a_bool b) lines = lines ≡ field (codes "value") (bool_text b)
+IsFields (an_integer d) lines = lines ≡ integer_fields d
+IsFields (a_float d) lines = IsFloatFields d lines
+IsFields (a_byte d) lines = lines ≡ field (codes "value") (decimal (char_value d.item))
+IsFields (a_char d) lines = lines ≡ value_field (value_text (a_char d))
+IsFields (a_string d) lines = lines ≡ value_field (value_text (a_string d))
+IsFields (a_byte_string d) lines = lines ≡ value_field (value_text (a_byte_string d))
+IsFields (a_c_string d) lines = lines ≡ value_field (value_text (a_c_string d))
 
 -- The character as it is shown: `\u{..}` with its number in hex if it is not printable.
 abbrev pub escaped_char : ℕ → List ℕ
@@ -117,11 +161,16 @@ escaped_char c =
 abbrev pub escaped : List ℕ → List ℕ
 escaped t = flat_map escaped_char t
 
--- a line on the kind, and below it those on the value and the parts
-abbrev pub explanation : Derivation → List ℕ
-explanation d =
-    kind_name d ++ (codes "\n" ++ (fields d
+-- a line on the kind, these lines on the value and the parts, and one on the suffix
+abbrev pub explanation : (fields : List ℕ) → Derivation → List ℕ
+explanation fields d =
+    kind_name d ++ (codes "\n" ++ (fields
     ++ field_of_part (codes "suffix") (encode_utf8_all (escaped (suffix_of d)))))
+
+-- The lines explain the literal.
+abbrev pub IsExplanation : Derivation → (lines : List ℕ) → Type 0
+IsExplanation d lines =
+    (fields : List ℕ) × IsFields d fields × (lines ≡ explanation fields d)
 
 -- an LF or a printable character: an explanation has no other
 abbrev pub is_line_feed_or_printable : ℕ → Bool

@@ -29,12 +29,13 @@
 //!   suffix u8
 //! ```
 //!
-//! The value of a char or a string is shown as the literal that `litrs_build` builds of it, and a
-//! character of a suffix that is not printable as `\u{..}`. So every character of an explanation is
-//! an LF or printable.
+//! The value of a float is shown in decimal, the value of a char or a string as the literal that
+//! `litrs_build` builds of it, and a character of a suffix that is not printable as `\u{..}`. So
+//! every character of an explanation is an LF or printable.
 #![tactic(auto)]
 
-ghost use Rattle.std.specs.Prelude.{◌≡◌, ◌++◌, [], IfOk, OnOk, IsTrue, IsFalse, codes, string_bytes, encode_utf8_all};
+ghost use Rattle.std.specs.Prelude.{◌≡◌, ◌++◌, [], IfOk, OnOk, MatchOption, IsTrue, IsFalse, codes, string_bytes, encode_utf8_all};
+ghost use Rattle.std.specs.Float.{float_is_finite};
 ghost use Rattle.std.specs.List.{list_all, list_any};
 ghost use Rattle.std.specs.Str.{chars};
 ghost use Rattle.litrs_base.specs.Numeral.{greatest_of};
@@ -49,11 +50,13 @@ ghost use Rattle.litrs.specs.StringKind.{string_kind, byte_string_kind, c_string
 ghost use Rattle.litrs.specs.LiteralText.{string_text};
 ghost use Rattle.litrs_build.specs.CStrings.{written_c_string};
 ghost use Rattle.litrs_build.specs.Written.{written_char, written_string, written_byte_string};
-ghost use Rattle.litrs_explanation.specs.Explanation.{kind_name, explanation, fields, field, value_field, field_of_part, integer_text, names_that_fit, names_of, integer_fields, float_fields, fraction_field, escaped, escaped_char, is_line_feed_or_printable};
+ghost use Rattle.litrs_explanation.specs.Explanation.{kind_name, IsExplanation, IsFields, field, value_field, field_of_part, integer_text, names_that_fit, names_of, integer_fields, IsTypeOf, IsNumber, IsNumberOf, IsOutOfRange, IsValueText, IsFloatFields, fraction_field, escaped, escaped_char, is_line_feed_or_printable};
 
-use litrs::{Buffer, FloatLit, IntegerLit, IntegerType, Literal};
+use litrs::{Buffer, FloatLit, FloatType, IntegerLit, IntegerType, Literal};
 pub use litrs_build::BuildError;
 use litrs_build::{byte_string, c_string, char, is_printable, string};
+use litrs_value::float;
+use ryu::Float;
 use std::alloc::{AllocError, Global};
 use std::fmt::Write;
 
@@ -83,7 +86,7 @@ const INTEGER_TYPES: [IntegerType; 12] = [
 /// `AllocError` if an allocation fails.
 pub fn explanation<B: Buffer>(alloc: Global, literal: &Literal<B>) -> Result<String, AllocError>
     ensures lines { IfOk result (λ lines.
-        string_bytes lines ≡ explanation (derivation literal.now)) }
+        IsExplanation (derivation literal.now) (string_bytes lines)) }
     ensures printable { IfOk result (λ lines. IsTrue (
         list_all is_line_feed_or_printable (chars (string_bytes lines)))) }
 {
@@ -111,7 +114,8 @@ pub fn kind_name<B: Buffer>(literal: &Literal<B>) -> &'static str
 
 /// Returns the lines on the value of `literal` and on its parts except the suffix.
 fn fields<B: Buffer>(alloc: Global, literal: &Literal<B>) -> Result<String, AllocError>
-    ensures lines { IfOk result (λ lines. string_bytes lines ≡ fields (derivation literal.now)) }
+    ensures lines { IfOk result (λ lines.
+        IsFields (derivation literal.now) (string_bytes lines)) }
     ensures printable { IfOk result (λ lines. IsTrue (
         list_all is_line_feed_or_printable (chars (string_bytes lines)))) }
 {
@@ -311,19 +315,92 @@ fn greatest_of(ty: IntegerType) -> u128
     }
 }
 
-/// Returns the lines on the parts of a float except the suffix.
+/// Returns the lines on the value of a float, and on its parts except the suffix.
 fn float_fields<B: Buffer>(alloc: Global, lit: &FloatLit<B>) -> Result<String, AllocError>
     ensures lines { IfOk result (λ lines.
-        string_bytes lines ≡ float_fields (float_parts lit.now)) }
+        IsFloatFields (float_parts lit.now) (string_bytes lines)) }
     ensures printable { IfOk result (λ lines. IsTrue (
         list_all is_line_feed_or_printable (chars (string_bytes lines)))) }
 {
     // Called for its contract: the parts are those of a float.
     let _ = lit.raw_input();
+    let value = float_text(alloc, lit)?;
     let integer = lit.integer_part();
     let fraction = fraction_field(alloc, lit)?;
     let exponent = field_of_part(alloc, "exponent", lit.exponent_part())?;
-    format!(in alloc; "  integer part {integer}\n{fraction}{exponent}")
+    format!(in alloc; "  value {value}\n  integer part {integer}\n{fraction}{exponent}")
+}
+
+/// Returns the value of `lit` in decimal, as a value of its [`float_type`], or
+/// `infinity, out of range for f64` if it is too large for that type.
+///
+/// # Errors
+///
+/// `AllocError` if an allocation fails.
+pub fn float_text<B: Buffer>(alloc: Global, lit: &FloatLit<B>) -> Result<String, AllocError>
+    ensures { IfOk result (λ text. IsValueText (float_parts lit.now) (string_bytes text)) }
+{
+    let ty = float_type(lit);
+    match float_number(alloc, lit, ty)? {
+        Some(number) => Ok(number),
+        None => {
+            let name = ty.suffix();
+            format!(in alloc; "infinity, out of range for {name}")
+        }
+    }
+}
+
+/// Returns the type that `lit` is explained as: `f32` if that is its suffix, and `f64` if not.
+pub fn float_type<B: Buffer>(lit: &FloatLit<B>) -> FloatType
+    ensures { IsTypeOf (float_parts lit.now) result }
+{
+    if lit.suffix() == "f32" {
+        FloatType::F32
+    } else {
+        FloatType::F64
+    }
+}
+
+/// Returns the value of `lit` as a number in decimal, or `None` if it is too large for `ty`. The
+/// suffix is ignored.
+///
+/// The number is written as in JSON, for example `1.0` or `1e-7`, and parsing it as `ty` returns
+/// the same value.
+///
+/// # Errors
+///
+/// `AllocError` if an allocation fails.
+pub fn float_number<B: Buffer>(
+    alloc: Global,
+    lit: &FloatLit<B>,
+    ty: FloatType,
+) -> Result<Option<String>, AllocError>
+    ensures { IfOk result (λ number. MatchOption number (IsOutOfRange ty (float_parts lit.now))
+        (λ text. IsNumberOf ty (float_parts lit.now) (string_bytes text))) }
+{
+    match ty {
+        FloatType::F32 => {
+            let value: f32 = float(alloc, lit)?;
+            number(alloc, value, value.is_finite())
+        }
+        FloatType::F64 => {
+            let value: f64 = float(alloc, lit)?;
+            number(alloc, value, value.is_finite())
+        }
+    }
+}
+
+/// Returns `value` in decimal, or `None` if it is not finite.
+fn number<F: Float>(alloc: Global, value: F, is_finite: bool) -> Result<Option<String>, AllocError>
+    requires { is_finite ≡ float_is_finite (F.value value) }
+    ensures { IfOk result (λ number. MatchOption number (IsFalse (float_is_finite (F.value value)))
+        (λ text. IsNumber F.format (F.value value) (string_bytes text))) }
+{
+    if !is_finite {
+        return Ok(None);
+    }
+    let text = String::from_str(alloc, ryu::Buffer::new().format_finite(value))?;
+    Ok(Some(text))
 }
 
 /// Returns the line on the digits after the period, or an empty text if there is no period.

@@ -1,6 +1,8 @@
 -- What is said of the lines that are read.
 use Rattle.std.proofs.Common.{◌≡◌, ◌≢◌, ℕ, List, [], ◌∷◌, ◌++◌, Bor, sym, ap, subst, ◌∙◌, inl, inr}
 use Rattle.std.specs.Prelude.{Option, Some, None, MatchOption, unwrap_or}
+use Rattle.litrs_explanation.specs.Explanation.{IsExplanation}
+use Rattle.litrs_grammar.specs.Literal.{Derivation}
 use Rattle.litrs_lines.specs.Steps.{IsStep, held_after}
 use Rattle.litrs_lines.specs.declared.collector.Step.{Step}
 use Rattle.uses_prompt.specs.Answered.{IsAnswerTo, IsRead, IsWithoutReturn}
@@ -13,6 +15,10 @@ said held line after answer step made same is holds says = record {
   says = subst (λ (s : Step). IsAnswerTo held (held ++ line) s answer) (sym same) says;
   holds = holds;
 }
+
+-- the explanation that is printed
+pub explains : (d : Derivation) (answer lines : List ℕ) → answer ≡ lines → IsExplanation d lines → IsExplanation d answer
+explains d answer lines is explained = subst (IsExplanation d) (sym is) explained
 
 -- a CR at the end is stripped
 pub stripped : (r : Option (Bor (List ℕ))) (line out : Bor (List ℕ)) →

@@ -4,7 +4,7 @@ use Rattle.std.specs.Fmt.{decimal}
 use Rattle.std.specs.Str.{chars, IsUtf8}
 use Rattle.std.specs.Str.Lossy.{utf8_valid_len}
 use Rattle.litrs_diagnostic.specs.Diagnostic.{refusal_text}
-use Rattle.litrs_explanation.specs.Explanation.{explanation}
+use Rattle.litrs_explanation.specs.Explanation.{IsExplanation}
 use Rattle.litrs_lines.specs.Literal.{literal_parse}
 use Rattle.litrs_lines.specs.LiteralDerivation.{derivation}
 use Rattle.litrs_lines.specs.Refused.{IsRefused}
@@ -30,7 +30,7 @@ ShowsRefusal text e answer = chars answer ≡ refusal_text (codes "prompt") text
 -- the literal, or the refusal.
 abbrev pub IsAnswerTo : (held text : List ℕ) → Step → (answer : List ℕ) → Type 0
 IsAnswerTo held text More answer = answer ≡ hint held
-IsAnswerTo held text (Literal lit) answer = answer ≡ explanation (derivation lit)
+IsAnswerTo held text (Literal lit) answer = IsExplanation (derivation lit) answer
 IsAnswerTo held text (Refused e) answer = ShowsRefusal text e answer
 
 -- The lines that are held, and this one, are what they are; that is said; and they are held where

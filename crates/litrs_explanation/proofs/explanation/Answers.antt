@@ -11,9 +11,13 @@ use Rattle.litrs_explanation.proofs.explanation.Goals as goal
 pub returns-clause-lines : goal.returns-clause-lines
 returns-clause-lines g c =
     IfOk-weaker c.format.result _ _
-    (λ lines made. explanation_made c.kind_name-kind.result.now (string_bytes c.in_ok-fields.fields) (string_bytes c.in_ok-suffix.suffix)
-    c.suffix.result.now (string_bytes lines) (derivation c.args.literal.now) c.kind_name-kind.ensures c.in_ok-fields.ensures.lines
-    c.in_ok-suffix.ensures c.suffix.ensures made)
+    (λ lines made. (
+      string_bytes c.in_ok-fields.fields,
+      c.in_ok-fields.ensures.lines,
+      explanation_made c.kind_name-kind.result.now (string_bytes c.in_ok-fields.fields) (string_bytes c.in_ok-suffix.suffix)
+          c.suffix.result.now (string_bytes lines) (derivation c.args.literal.now) c.kind_name-kind.ensures
+          c.in_ok-suffix.ensures c.suffix.ensures made,
+    ))
     c.format.ensures.ok
 
 pub returns-clause-printable : goal.returns-clause-printable
