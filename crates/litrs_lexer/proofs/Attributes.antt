@@ -1,5 +1,5 @@
 -- Whether an attribute begins after `#!`, by the token at the front.
-use Rattle.std.proofs.Common.{◌≡◌, ◌⊎◌, inl, inr, ℕ, Bool, true, false, List, [], ◌∷◌, None, refl, sym, ap, subst, ◌∙◌}
+use Rattle.std.proofs.Common.{◌≡◌, ◌⊎◌, inl, inr, ℕ, true, false, List, [], ◌∷◌, None, refl, sym, ap, subst, ◌∙◌}
 use Rattle.std.specs.Prelude.{◌==◌, ◌&&◌}
 use Rattle.std.proofs.lemmas.Bool.{eqb-true, true≢false, false≢true}
 use Rattle.litrs_base.specs.Text.{first_passes}
@@ -10,7 +10,6 @@ use Rattle.litrs_lexer.specs.Punctuation.{is_punctuation}
 use Rattle.litrs_lexer.specs.Shebang.{is_bracket, OpensAttribute}
 use Rattle.litrs_lexer.specs.Shebang.OpensAttribute.{bracket, skipped}
 use Rattle.litrs_lexer.specs.Token.{IsToken, is_trivia}
-use Rattle.litrs_lexer.proofs.Classes.{class}
 use Rattle.litrs_lexer.proofs.Unique.{class_of, token_class, unique_tokens}
 
 -- the token at the front is skipped, before a text after which an attribute begins

@@ -1,8 +1,10 @@
 -- Tokens at the front of a text, in its bytes and in its characters.
 use Rattle.std.proofs.Common.{◌≡◌, ℕ, zero, suc, ◌-◌, ◌<◌, ◌≤◌, Bool, true, false, not, List, [], ◌∷◌, ◌++◌, length, take, drop, refl, sym, ap, subst, ◌∙◌, length-drop, arith}
-use Rattle.std.specs.Prelude.{if◌then◌else◌, ◌==◌}
+use Rattle.std.specs.Prelude.{if◌then◌else◌, ◌==◌, ◌||◌}
 use Rattle.std.specs.Str.{chars, IsUtf8, IsCharBoundary}
-use Rattle.std.proofs.lemmas.Bool.{and_parts}
+use Rattle.std.proofs.lemmas.Bool.{and_parts, and_from}
+use Rattle.std.proofs.lemmas.Bool.Decides.{nat_tests}
+use Rattle.unicode_ident.proofs.IdentLemmas.{is_xid_start-ascii}
 use Rattle.std.proofs.lemmas.Str.{IsCharBoundary-start}
 use Rattle.std.proofs.lemmas.List.{append_cancel_right}
 use Rattle.unicode_ident.specs.Ident.{is_xid_continue}
@@ -25,8 +27,9 @@ use Rattle.litrs_lexer.specs.Literal.{opens_quoted}
 use Rattle.litrs_lexer.specs.Punctuation.{is_punctuation, is_unknown}
 use Rattle.litrs_lexer.specs.Token.{IsToken}
 use Rattle.litrs_lexer.specs.Tokens.{IsLiteralBy}
+use Rattle.litrs_lexer.proofs.Classes.{digit_starts_none}
 use Rattle.litrs_lexer.specs.Whitespace.{is_white_space}
-use Rattle.std.specs.Char.{is_ascii_digit}
+use Rattle.std.specs.Char.{is_ascii_digit, is_ascii_alphabetic}
 
 pub after_char : (text after : List ℕ) (c : ℕ) → IsFirstChar text c after → IsEndOf text after
 after_char text after c first = after_first text text after c (all text) first.bytes
@@ -106,3 +109,19 @@ pub parts : (bs text rest : List ℕ) (n : ℕ) → IsUtf8 rest → IsEndOf bs r
 parts bs text rest n u end is front whole =
     let place = end_at bs end.0 rest u end.1 in
     parts_spell bs text rest n whole (subst (IsCharBoundary bs) (sym is) place.0) front (sym (ap (λ (k : ℕ). drop k bs) is ∙ place.1))
+
+swap : (a b : Bool) → (a || b) ≡ true → (b || a) ≡ true
+swap true true h = refl
+swap true false h = refl
+swap false b h = rw h refl
+
+-- an ASCII letter or `_` begins a name
+pub ascii_name : (c : ℕ) → (is_ascii_alphabetic c || (c == 95)) ≡ true → starts_identifier c ≡ true
+ascii_name c h =
+    let low : c < 128 = grind (arith, nat_tests) in
+    ap (λ (v : Bool). (c == 95) || v) (is_xid_start-ascii c low) ∙ swap (is_ascii_alphabetic c) (c == 95) h
+
+-- a digit opens a literal that is not a bool
+pub digit_opens : (c : ℕ) (t : List ℕ) → is_ascii_digit c ≡ true → opens_quoted (c ∷ t) ≡ true
+digit_opens c t h =
+    and_from (opens (c ∷ t)) (not (is_bool (first_name (c ∷ t)))) (rw h refl) (rw (digit_starts_none c h) refl)

@@ -1,8 +1,8 @@
 -- What precedes the tokens of a file. The Rust Reference, "Input format" and "Shebang".
-use Rattle.std.specs.Prelude.{◌≡◌, ℕ, Bool, ◌==◌, List, [], ◌∷◌, drop, None, if◌then◌else◌, IsTrue}
+use Rattle.std.specs.Prelude.{◌≡◌, ℕ, Bool, ◌==◌, List, [], ◌∷◌, None, if◌then◌else◌, IsTrue}
 use Rattle.litrs_base.specs.Characters.{hash}
 use Rattle.litrs_base.specs.Text.{first_passes}
-use Rattle.litrs_lexer.specs.Comment.{exclamation, after_line, doc_style}
+use Rattle.litrs_lexer.specs.Comment.{exclamation, doc_style}
 use Rattle.litrs_lexer.specs.Token.{IsToken, is_trivia}
 use Rattle.litrs_lexer.specs.declared.kind.TokenKind.{TokenKind}
 

@@ -1,5 +1,6 @@
 //! The dispatch over the kinds of tokens, by the first characters.
-ghost use Rattle.std.specs.Prelude.{◌≡◌, ◌<◌, length, [], IfSome, IfNone, IsTrue};
+ghost use Rattle.std.specs.Prelude.{◌≡◌, ◌<◌, ◌==◌, ◌||◌, length, [], IfSome, IfNone, IsTrue};
+ghost use Rattle.std.specs.Char.{is_ascii_alphabetic};
 ghost use Rattle.std.specs.Str.{chars, IsUtf8};
 ghost use Rattle.litrs_base.specs.Text.{first_passes};
 ghost use Rattle.litrs_grammar.specs.Suffix.{starts_identifier};
@@ -12,7 +13,7 @@ ghost use Rattle.litrs_lexer.specs.Punctuation.{is_punctuation};
 
 use crate::comment::{after_block, after_line};
 use crate::kind::TokenKind;
-use crate::literal::cut_literal;
+use crate::literal::{cut_literal, cut_number};
 use crate::name::{
     after_name, after_raw_mark, after_run, name_before, opens_quoted, starts_with_hash,
     starts_with_name, starts_with_quote_or_hash, starts_with_single_quote,
@@ -41,12 +42,12 @@ fn cut_from<'a>(text: &'a str, c: char, after: &'a str) -> (TokenKind, &'a str)
     ensures cut { IsCut text.now result.0 result.1.now }
     ensures utf8 { IsUtf8 result.1.now }
 {
-    if begins_name(c) {
+    if begins_ascii_name(c) {
         cut_name(text, c, after)
     } else if is_white_space(c) {
         (TokenKind::Whitespace, after_white_space(after))
     } else if c.is_ascii_digit() {
-        cut_literal(text)
+        cut_number(text)
     } else if c == '"' {
         cut_literal(text)
     } else if c == '\'' {
@@ -55,9 +56,18 @@ fn cut_from<'a>(text: &'a str, c: char, after: &'a str) -> (TokenKind, &'a str)
         cut_slash(text, after)
     } else if is_punctuation(c) {
         (TokenKind::Punctuation, after)
+    } else if begins_name(c) {
+        cut_name(text, c, after)
     } else {
         (TokenKind::Unknown, after)
     }
+}
+
+/// Returns `true` if the character is an ASCII letter or an underscore.
+fn begins_ascii_name(c: char) -> bool
+    ensures { result ≡ (is_ascii_alphabetic c || (c == 95)) }
+{
+    c.is_ascii_alphabetic() || c == '_'
 }
 
 /// Returns `true` if the character is punctuation.
