@@ -2,7 +2,7 @@
 //! from its own place. Both say the kind and the length of a token; rustc_lexer tests no escape, digit or suffix.
 
 use crate::{Call, answer, corpus, ours};
-use std::collections::{BTreeMap, HashSet};
+use std::collections::{BTreeMap, HashMap};
 use std::hint::black_box;
 use std::time::Instant;
 
@@ -99,6 +99,7 @@ fn name_of(kind: u64, text: &str) -> &'static str {
         WHITESPACE => "white space",
         LINE_COMMENT => "line comment",
         BLOCK_COMMENT => "block comment",
+        OPEN_COMMENT => "unterminated comment",
         IDENT => "identifier",
         RAW_IDENT => "raw identifier",
         UNKNOWN_PREFIX => "unknown prefix",
@@ -142,25 +143,41 @@ impl<'a> Kind<'a> {
     }
 }
 
-/// The tokens of the sources that both lexers cut, by their kinds, and the texts of some that they cut otherwise, with
-/// how many those are.
-fn kinds_of(sources: &[String]) -> (BTreeMap<&'static str, Kind<'_>>, usize, Vec<String>) {
-    let (mut kinds, mut others, mut shown) = (BTreeMap::new(), 0, Vec::new());
+/// The tokens of sources.
+#[derive(Default)]
+struct Found<'a> {
+    /// Those of which both lexers say the same, by their kinds.
+    kinds: BTreeMap<&'static str, Kind<'a>>,
+    /// Those that rustc_lexer has with another kind.
+    of_another_kind: Vec<&'a str>,
+    /// Those that rustc_lexer does not have.
+    of_another_extent: Vec<&'a str>,
+}
+
+/// The tokens of the sources, beside rustc_lexer's.
+fn tokens_beside(sources: &[String]) -> Found<'_> {
+    let mut found = Found::default();
     for text in sources {
-        let same: HashSet<(usize, u64)> = tokens_of(theirs::token, text).into_iter().collect();
+        let theirs: HashMap<usize, u64> = tokens_of(theirs::token, text).into_iter().collect();
         for (start, number) in tokens_of(ours::token, text) {
             let (kind, len) = split(number);
             let token = &text[start..start + len];
-            if same.contains(&(start, number)) {
-                let empty = || Kind { count: 0, bytes: 0, step: 1, rests: Vec::new() };
-                kinds.entry(name_of(kind, token)).or_insert_with(empty).add(&text[start..], len);
-            } else {
-                others += 1;
-                shown.push(token.chars().take(20).collect());
+            match theirs.get(&start) {
+                Some(other) if *other == number => {
+                    let empty = || Kind { count: 0, bytes: 0, step: 1, rests: Vec::new() };
+                    found.kinds.entry(name_of(kind, token)).or_insert_with(empty).add(&text[start..], len);
+                }
+                Some(other) if split(*other).1 == len => found.of_another_kind.push(token),
+                _ => found.of_another_extent.push(token),
             }
         }
     }
-    (kinds, others, shown)
+    found
+}
+
+/// Some of the texts, up to so many characters of each.
+fn some_of(texts: &[&str]) -> Vec<String> {
+    texts.iter().step_by(1 + texts.len() / 8).map(|text| text.chars().take(24).collect()).collect()
 }
 
 /// The least nanoseconds of a round over these texts by each call, the calls in turn.
@@ -183,21 +200,24 @@ fn time(texts: &[&str], rounds: usize, calls: [Call; 2]) -> [f64; 2] {
 fn row(name: &str, count: usize, bytes: usize, timed: usize, [ours, theirs]: [f64; 2]) {
     let (ours, theirs) = (ours / timed as f64, theirs / timed as f64);
     let len = bytes as f64 / count as f64;
-    println!("{name:<22}{count:>10}{len:>8.1}{ours:>10.1}{theirs:>12.1}{:>7.2}", ours / theirs);
+    println!("{name:<22}{count:>10}{len:>8.1}{ours:>10.1}{theirs:>13.1}{:>7.2}", ours / theirs);
 }
 
 /// Prints the table of the Rust sources of the folder.
 pub fn main(folder: &str) {
     let sources = corpus::sources_in(folder, "rs");
-    let (kinds, others, shown) = kinds_of(&sources);
-    let count = others + kinds.values().map(|kind| kind.count).sum::<usize>();
+    let found = tokens_beside(&sources);
+    let others = found.of_another_kind.len() + found.of_another_extent.len();
+    let count = others + found.kinds.values().map(|kind| kind.count).sum::<usize>();
     let bytes = sources.iter().map(String::len).sum();
     println!("\nNanoseconds a token of {} Rust sources, {bytes} bytes, together and by kind.", sources.len());
-    println!("rustc_lexer cuts {others} of {count} tokens otherwise: {:?} ..\n", &shown[..shown.len().min(12)]);
-    println!("{:<22}{:>10}{:>8}{:>10}{:>12}{:>7}", "kind", "tokens", "bytes", "ours", "rustc_lexer", "ratio");
+    for (words, texts) in [("kind", &found.of_another_kind), ("extent", &found.of_another_extent)] {
+        println!("Of another {words} by rustc_lexer: {}, for example {:?}.", texts.len(), some_of(texts));
+    }
+    println!("\n{:<22}{:>10}{:>8}{:>10}{:>13}{:>7}", "kind", "tokens", "bytes", "ours", "rustc_lexer", "ratio");
     let texts: Vec<&str> = sources.iter().map(String::as_str).collect();
     row("all, in turn", count, bytes, count, time(&texts, WALKS, [ours::tokens, theirs::tokens]));
-    for (name, kind) in &kinds {
+    for (name, kind) in &found.kinds {
         row(name, kind.count, kind.bytes, kind.rests.len(), time(&kind.rests, ROUNDS, [ours::token, theirs::token]));
     }
 }

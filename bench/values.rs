@@ -110,9 +110,9 @@ const ROWS: &[Row] = &[
     ("float, suffix or underscore", |text| !is_plain(text), ours::float, float),
     ("float, beside a copy in any case", |_| true, ours::float, float_copied),
     ("float, beside str::parse alone", is_plain, ours::float, float_alone),
-    ("read::<f64>", |text| !text.ends_with("f32"), ours::read_f64, float),
+    ("read::<f64> of a float", |text| answer(ours::float, text) != NONE, ours::read_f64, float),
     ("read::<u32>", |_| true, ours::read_u32, integer),
-    ("read::<u32>, str::parse alone", is_plain, ours::read_u32, integer_alone),
+    ("read::<u32>, beside str::parse alone", is_plain, ours::read_u32, integer_alone),
 ];
 
 /// Whether `str::parse` takes the text as it is.
@@ -124,7 +124,7 @@ fn is_plain(text: &str) -> bool {
 pub fn main(name: &str, sources: &[String]) {
     let found = numbers(sources);
     println!("\nNanoseconds a number of {name} sources, by litrs_value and by Rust's str::parse.\n");
-    println!("{:<36}{:>8}{:>8}{:>10}{:>10}{:>7}", "call", "texts", "bytes", "ours", "Rust's", "ratio");
+    println!("{:<38}{:>8}{:>8}{:>10}{:>10}{:>7}", "call", "texts", "bytes", "ours", "Rust's", "ratio");
     for (row, is_of_row, ours, rust) in ROWS {
         let has_value = |text: &&&str| is_of_row(text) && answer(*ours, text) != NONE;
         let texts: Vec<&str> = found.iter().filter(has_value).take(TEXTS).copied().collect();
@@ -136,7 +136,7 @@ pub fn main(name: &str, sources: &[String]) {
         }
         let [ours, rust] = time(&texts, [*ours, *rust]);
         let bytes = texts.iter().map(|text| text.len()).sum::<usize>() as f64 / texts.len() as f64;
-        println!("{row:<36}{:>8}{bytes:>8.1}{ours:>10.1}{rust:>10.1}{:>7.2}", texts.len(), ours / rust);
+        println!("{row:<38}{:>8}{bytes:>8.1}{ours:>10.1}{rust:>10.1}{:>7.2}", texts.len(), ours / rust);
     }
     let has_value = |text: &&&str| answer(ours::float, text) != NONE;
     let floats: Vec<&str> = found.iter().filter(has_value).take(TEXTS).copied().collect();
