@@ -22,12 +22,13 @@ OURS = {
     "crates/litrs/specs/Lib.antt": "-- litrs\n",
     "crates/litrs/wrong/a.edit": "file: src/lib.rt\n",
 }
-# With copies of an older version, a crate by a like name, a copy that was renamed, and no line end
-# after the last line.
+# With copies of an older version, a copy that was renamed, a crate of their own by the name of a
+# crate that ours had, and no line end after the last line.
 THEIRS = {
     "crates.txt": "# litrs: a\n litrs_low\nlitrs_own:\nlitrs_parts: litrs_low\nlitrs: a\napp: litrs",
     "crates/app/src/main.rt": "// app\n",
     "crates/litrs_own/src/lib.rt": "// own\n",
+    "crates/litrs_search/src/lib.rt": "// own\n",
     "crates/litrs_own/VERSION": "1.0.1-rattle.1\n",
     "crates/litrs_low/src/lib.rt": "// older\n",
     "crates/litrs_low/VERSION": "1.0.1-rattle.1\n",
@@ -43,6 +44,7 @@ COPIED = {
     "crates.txt": "# litrs: a\nlitrs_own:\napp: litrs\nlitrs_low:\nlitrs: litrs_low itoa\n",
     "crates/app/src/main.rt": "// app\n",
     "crates/litrs_own/src/lib.rt": "// own\n",
+    "crates/litrs_search/src/lib.rt": "// own\n",
     "crates/litrs_own/VERSION": "1.0.1-rattle.1\n",
     "crates/litrs_low/src/lib.rt": "// low\n",
     "crates/litrs_low/LICENSE-MIT": "MIT\n",
