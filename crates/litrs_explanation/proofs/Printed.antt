@@ -288,7 +288,7 @@ numeral_basic p is =
     (exponent_text_basic p.exponent_negative p.exponent is.exponent_digits))
 
 plain_number_basic : (t : List ℕ) → IsPlainNumber t → list_all is_basic t ≡ true
-plain_number_basic t (negative, (p, (is, plain))) =
+plain_number_basic t (negative, p, is, plain) =
     ap (list_all is_basic) is
     ∙ list_all-append is_basic (sign_text negative) (text_of p) (minus_basic negative)
     (numeral_basic p plain.well_formed)
@@ -298,8 +298,9 @@ out_of_range_basic F32 = refl
 out_of_range_basic F64 = refl
 
 value_basic : (d : FloatParts) (t : List ℕ) → IsValueText d t → list_all is_basic t ≡ true
-value_basic d t (ty, (_, inl number)) = plain_number_basic t number.plain
-value_basic d t (ty, (_, inr (_, is))) = ap (list_all is_basic) is ∙ out_of_range_basic ty
+value_basic d t (ty, typed, inl number) = plain_number_basic t number.plain
+value_basic d t (ty, typed, inr (large, is)) =
+    ap (list_all is_basic) is ∙ out_of_range_basic ty
 
 pub float_shows : (d : FloatParts) (value : List ℕ) → IsFloat d → IsValueText d value →
     Shows (float_fields value d)
