@@ -17,6 +17,7 @@ mod limits;
 mod lines;
 mod prefix;
 mod several_lines;
+#[cfg(not(shapes))]
 mod values;
 
 /// The texts of a shape, and the bytes that they have at most, together.
@@ -52,6 +53,19 @@ mod ours {
         pub fn prefix(text: *const u8, len: usize) -> u64;
         #[link_name = "litrs_bench_prefix_len"]
         pub fn prefix_len(text: *const u8, len: usize) -> u64;
+        #[link_name = "litrs_bench_feed"]
+        pub fn feed(text: *const u8, len: usize) -> u64;
+        #[link_name = "litrs_bench_split"]
+        pub fn split(text: *const u8, len: usize) -> u64;
+        #[link_name = "litrs_bench_run"]
+        pub fn run(text: *const u8, len: usize) -> u64;
+        #[cfg(upstream)]
+        #[link_name = "litrs_bench_reports"]
+        pub fn reports(text: *const u8, len: usize) -> u64;
+    }
+
+    #[cfg(not(shapes))]
+    unsafe extern "C" {
         #[cfg(rustc_lexer)]
         #[link_name = "litrs_bench_tokens"]
         pub fn tokens(text: *const u8, len: usize) -> u64;
@@ -65,15 +79,6 @@ mod ours {
         pub fn read_f64(text: *const u8, len: usize) -> u64;
         #[link_name = "litrs_bench_read_u32"]
         pub fn read_u32(text: *const u8, len: usize) -> u64;
-        #[link_name = "litrs_bench_feed"]
-        pub fn feed(text: *const u8, len: usize) -> u64;
-        #[link_name = "litrs_bench_split"]
-        pub fn split(text: *const u8, len: usize) -> u64;
-        #[link_name = "litrs_bench_run"]
-        pub fn run(text: *const u8, len: usize) -> u64;
-        #[cfg(upstream)]
-        #[link_name = "litrs_bench_reports"]
-        pub fn reports(text: *const u8, len: usize) -> u64;
     }
 }
 
@@ -556,6 +561,7 @@ fn times_of(rows: &[Row]) -> Vec<[f64; CALLS.len()]> {
 }
 
 /// Prints the tables of tokens and values, of the sources that the environment names.
+#[cfg(not(shapes))]
 fn tokens_and_values() {
     let rust = std::env::var("LITRS_BENCH_RUST");
     #[cfg(rustc_lexer)]
@@ -576,6 +582,7 @@ fn main() {
         several_lines::main();
         return;
     }
+    #[cfg(not(shapes))]
     if part.as_deref() == Some("tokens_and_values") {
         tokens_and_values();
         return;
@@ -618,6 +625,7 @@ fn main() {
     held_out::main();
     limits::main();
     prefix::main();
+    #[cfg(not(shapes))]
     tokens_and_values();
     lines::main();
     going_on::main(&rows.iter().map(|(kind, name, _, texts)| (*kind, *name, &texts[..])).collect::<Vec<_>>());

@@ -33,9 +33,11 @@ def tree_of(commit):
 
 
 def link(out, order):
-    """The program of this tree over the library in `out`, with the functions in this order."""
+    """The program of this tree over the library in `out`, with the functions in this order. It has the
+    shapes without tokens and values, as an earlier state may lack their crates."""
     program = out / f"program.{order}"
-    words = ["rustc", "-O", "--edition", "2024", "--check-cfg", "cfg(upstream, check_suffix)"]
+    words = ["rustc", "-O", "--edition", "2024", "--cfg", "shapes"]
+    words += ["--check-cfg", "cfg(upstream, check_suffix, rustc_lexer, shapes)"]
     words += ["-C", "llvm-args=-x86-branches-within-32B-boundaries"]
     words += ["-L", out / "litrs_bench", "-L", KIT / "c", "-C", "link-arg=-fuse-ld=lld"]
     wrap = "--wrap=malloc,--wrap=calloc,--wrap=realloc,--wrap=posix_memalign"

@@ -7,6 +7,7 @@ toolchain's own compiler with one flag more.
 """
 import os
 import pathlib
+import re
 import shutil
 import subprocess
 import sys
@@ -16,8 +17,6 @@ sys.path.append(str(TOP / ".ci"))
 from libraries import KIT, Crate, crates_of  # noqa: E402
 
 NAME = "litrs_bench"
-# The crates whose calls it exports.
-DEPS = ["litrs", "litrs_lexer", "litrs_lines", "litrs_prefix", "litrs_value"]
 
 
 def run(words, **more):
@@ -67,9 +66,11 @@ def words_of(crate, crates, out):
 
 def build(tree, out):
     """Builds OUT/litrs_bench/liblitrs_bench.a of the tree, after the libraries that it stands on."""
-    crates = crates_of(tree) | {NAME: Crate(NAME, [], DEPS)}
+    exports = (tree / f"bench/{NAME}.rt.in").read_text()
+    deps = sorted(set(re.findall(r"^use (litrs\w*)::", exports, re.MULTILINE)))
+    crates = crates_of(tree) | {NAME: Crate(NAME, [], deps)}
     (out / NAME / "src").mkdir(parents=True, exist_ok=True)
-    shutil.copy(TOP / f"bench/{NAME}.rt.in", out / NAME / "src/lib.rt")
+    (out / NAME / "src/lib.rt").write_text(exports)
     for name in in_order(NAME, crates):
         folder = out / name
         folder.mkdir(exist_ok=True)
