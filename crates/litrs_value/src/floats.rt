@@ -166,11 +166,9 @@ fn has_underscore(part: &[u8]) -> bool
 fn without_underscores(alloc: Global, part: &[u8]) -> Result<Vec<u8>, AllocError>
     ensures { IfOk result (λ digits. digits.items ≡ filter is_no_underscore part.now) }
 {
-    part.iter()
-        .copied()
-        .filter(|&byte| byte != b'_')
-        // bounded by the length of `part`
-        .collect(alloc)
+    let mut digits = Vec::from_slice(alloc, part)?;
+    digits.retain(|byte| *byte != b'_');
+    Ok(digits)
 }
 
 /// Parses a number as a float.
