@@ -85,7 +85,7 @@ class Wanted:
     """What is to be answered of a text: the fields, None where nothing is known of one, how often
     memory is to be asked for by each call but litrs_goes_on, the status and length of what
     stands at its front, the fields of the object or exception of the module, and of a number the
-    bits of the double and of the float, and whether memory is to be asked for each."""
+    bits of the double and of the float, and how often memory is to be asked for each."""
 
     text: bytes
     fields: list
@@ -278,7 +278,7 @@ def faults_of_numbers(wanted, fields, by_parse, numbers):
             yield f"{name} has the status {given}, and {refused} with every allocation refused"
         if not is_number and asked != by_parse:
             yield f"{name} asks for memory {asked} times, litrs_parse {by_parse} times"
-        if wanted.number and (bits, asked > 0) != (wanted.number[at // 4], wanted.number[2]):
+        if wanted.number and (bits, asked) != (wanted.number[at // 4], wanted.number[2]):
             yield f"{name} has the bits {bits}, and asks {asked} times; wanted {wanted.number}"
 
 

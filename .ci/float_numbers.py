@@ -24,7 +24,7 @@ def bits_of(letter, value):
 
 def wanted_of(kind, parts):
     """Returns the bits of the double and of the float nearest to the number with the parts of a
-    row, and whether each call asks for memory; None if it is not a number."""
+    row, and how often each call asks for memory; None if it is not a number."""
     if kind == "float":
         digits, copies = parts[0].replace(b"_", b""), b"_" in parts[0]
         if float(digits) != C.strtod(digits, None):
@@ -36,7 +36,7 @@ def wanted_of(kind, parts):
     else:
         return None
     wide, narrow = C.strtod(digits, None), C.strtof(digits, None)
-    return bits_of("d", wide), bits_of("f", narrow), copies
+    return bits_of("d", wide), bits_of("f", narrow), int(copies)
 
 
 def drawn():
