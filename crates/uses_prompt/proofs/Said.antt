@@ -2,7 +2,7 @@
 use Rattle.std.proofs.Common.{◌≡◌, ◌≢◌, ℕ, List, [], ◌∷◌, ◌++◌, Bor, sym, ap, subst, ◌∙◌, inl, inr}
 use Rattle.std.specs.Prelude.{Option, Some, None, MatchOption, unwrap_or}
 use Rattle.litrs_explanation.specs.Explanation.{IsExplanation}
-use Rattle.litrs_grammar.specs.Literal.{Derivation}
+use Rattle.litrs.specs.Literal.{Derivation}
 use Rattle.litrs_lines.specs.Steps.{IsStep, held_after}
 use Rattle.litrs_lines.specs.declared.collector.Step.{Step}
 use Rattle.uses_prompt.specs.Answered.{IsAnswerTo, IsRead, IsWithoutReturn}
