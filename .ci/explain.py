@@ -4,7 +4,9 @@
     .ci/explain.py [PROGRAM]..
 
 Runs both builds of crates/litrs_explain, which `rt ci` leaves in its out/, or these programs: JSON,
-whose values are those that Python gives; any text, whose places are counted by Python; colors,
+whose values are those that Python gives; any text, whose places are counted by Python, and whose
+tokens are those of rustc; comments; literals and comments of many lines, whose time grows with
+their length; colors,
 which change nothing else; files, the standard input and texts, in each order, one of which cannot
 be read; wrong arguments; bytes that are not UTF-8, in a line and in an argument; outputs that are
 closed or full, an input that fails; a terminal; a long text, of which no more is held than its
@@ -75,6 +77,36 @@ let t = c"open
 """
 FOUND = ['"a\nb"', 'r#"x"y"#', "0b12:2", "1", "2", "'x'", '"\\q":\\q', "b'\\xff'", "1.5e3f32"]
 FOUND += ["true", 'c"open:c"open']
+# Texts with what is found in them: texts of literals, and names of errors. Those of Rust are the
+# literals that rustc reads in them.
+TOKENS = [
+    ('let s = "a\\q\nb"; let n = 1;\nlet t = "x";\n', ["UnknownEscape", "1", '"x"']),
+    ('b"é\n" 1 "x"\n', ["NonAsciiInByteLiteral", "1", '"x"']),
+    ('cr#"\0"\n"# 1 "x"\n', ["NulByte", "1", '"x"']),
+    ('"a\\q\\\n" 1\n', ["UnknownEscape", "1"]),
+    ('r##"a"#\n"## 1\n', ['r##"a"#\n"##', "1"]),
+    ("""'b"x" 1 "y"\n""", ['"x"', "1", '"y"']),
+    ("r#true 1\n", ["1"]),
+    ('r#c"é" 1\n', ['"é"', "1"]),
+    ('r#true"a" 1\n', ['"a"', "1"]),
+    ('true"a" 1\n', ['"a"', "1"]),
+    ("'r#true 1 'true 2\n", ["1", "2"]),
+    ('// don"t\n1 // it\'s "\n2\n', ["1", "2"]),
+    ('/* " \n /* " */ \n " */ 1 /*/ "\n*/ 2 /**/ 3\n', ["1", "2", "3"]),
+    ('/* "1" \n 2\n', []),
+    ("'\n' 1\n", ["UnescapedSpecialWhitespace", "1"]),
+    ("'\n 1\n", ["UnterminatedCharLiteral", "1"]),
+    ("'(\n'c'\n", ["UnterminatedCharLiteral", "'c'"]),
+    ('1/2 "a//b" 3\n', ["1", "2", '"a//b"', "3"]),
+]
+# Settings, their comments and their literals.
+SETTINGS = [
+    ("none", 'a = "//" / 1 // "x"\n', ['"//"', "1", '"x"']),
+    ("none", "/* 1\n# 2\n*/ 3\n", ["1", "2", "3"]),
+    ("hash", 'a = "#" # don"t 1\nb = 2 // 3 /* 4\n', ['"#"', "2", "3", "4"]),
+    ("hash", '# "\nred#" 1\nr#"#"# 5 \'a# 6\n', ['r#"#"#', "5"]),
+    ("rust", "1 # 2 // 3\n", ["1", "2"]),
+]
 # A literal of each kind.
 KINDS = ["true", "0xFF_u8", "1.5e3f32", "'\\u{1f98a}'", "b'\\xff'", '"a\\tb"', 'b"\\xff"', 'c"\\n"']
 
@@ -183,7 +215,8 @@ class Tests:
         """Places in any text, also where its lines end in CR LF and it begins with a mark."""
         for ends, mark in (("\n", ""), ("\r\n", ""), ("\n", "\ufeff"), ("\r\n", "\ufeff")):
             source = SOURCE.replace("\n", ends)
-            objects = self.objects("--prefix", given=mark + source, status=1)
+            words = ["--prefix", "--comments", "none"]
+            objects = self.objects(*words, given=mark + source, status=1)
             self.hold(len(objects) == len(FOUND), f"{len(objects)} are found")
             at = 0
             for wanted, it in zip(FOUND, objects):
@@ -199,6 +232,73 @@ class Tests:
                 self.hold(it["kind"] == "error" if wrong else it["text"] == text, f"{it}")
                 at += len(held)
             self.hold(objects[-1]["incomplete"], "more text can complete the last")
+
+    def found(self, *words, given, is_wrong):
+        """The texts of literals and the names of errors in any text, also with CR LF."""
+        wanted = None
+        for ends in ("\n", "\r\n"):
+            text = given.replace("\n", ends)
+            objects = self.objects("--prefix", *words, given=text, status=int(is_wrong))
+            found = [it.get("error", it.get("text")) for it in objects]
+            self.hold(found == (wanted or found), f"{given!r} with {ends!r}: {found}")
+            wanted = found
+            for it in objects:
+                part = text.encode()[it["start"] : it["end"]].decode()
+                right = "error" in it or part.replace("\r\n", "\n") == it["text"]
+                self.hold(right, f"{text!r}: {part!r} is at the place of {it}")
+        return wanted
+
+    def try_tokens(self):
+        """Literals where others begin, in names and in comments; comments of settings."""
+        for text, wanted in TOKENS:
+            is_wrong = any(it[0].isupper() for it in wanted)
+            found = self.found(given=text, is_wrong=is_wrong)
+            self.hold(found == wanted, f"{text!r}: {found}")
+        for comments, text, wanted in SETTINGS:
+            found = self.found("--comments", comments, given=text, is_wrong=False)
+            self.hold(found == wanted, f"{comments} {text!r}: {found}")
+        found = self.objects("--prefix", given=b'"a\n\xff"; 1\nlet t = "x";\n', status=1)
+        found = [it.get("error", it.get("text")) for it in found]
+        self.hold(found == ["NotUtf8", '"x"'], f"a byte in a string: {found}")
+        bad = b"/*\n\xff*/ 1\n2 '\xff' \"\n\" 3\n"
+        found = self.objects("--prefix", given=bad, status=1)
+        found = [it.get("error", it.get("text")) for it in found]
+        self.hold(found == ["NotUtf8", "NotUtf8", "3"], f"bytes in other places: {found}")
+        given = '"x\r\n\\q\r\nb"'
+        (it,) = self.objects("--prefix", given=given, status=1)
+        places = [it[key] for key in ("line", "column", "start", "end")]
+        self.hold(places == [2, 1, given.index("\\q"), given.index("\\q") + 2], f"{it}")
+
+    def try_held(self):
+        """What is held is let go with the line that ends it, before the next line is read."""
+        words = [self.program, "--prefix", "--format", "json"]
+        for given in (b'"a\nb"\n1', b'"a\\q\nb" 1\n', b"/*\n*/ 1\n", b"r#\"\n\"# 1\n"):
+            child, terminal = pty.fork()
+            if child == 0:
+                try:
+                    os.execve(words[0], words, {})
+                finally:
+                    os._exit(127)
+            os.write(terminal, given.rstrip(b"\n") + b"\n")
+            written = b""
+            while b'"kind"' not in written and select.select([terminal], [], [], 20)[0]:
+                written += os.read(terminal, 4096)
+            self.hold(b'"kind"' in written, f"{given} is not reported: {written}")
+            os.kill(child, signal.SIGKILL)
+            os.waitpid(child, 0)
+            os.close(terminal)
+
+    def try_many_lines(self):
+        """Literals and comments of many lines: time grows with their length."""
+        kinds = [b'"\\q' + b"a\n" * 9, b'r#"' + b'"a"\n' * 9, b"/*" + b"/* a */\n" * 9]
+        kinds += [b"/*\n" * 9, b'"' + b'\\"\n' * 9, b"r" + b"#" * 200 + b'"' + b'"#\n' * 9]
+        for kind in kinds:
+            first, second = kind[: kind.index(b"\n") + 1], kind[kind.index(b"\n") + 1 :]
+            short, long = (
+                self.seconds("--prefix", given=b"0b2\n" + first + second * it)
+                for it in (5_000, 20_000)
+            )
+            self.hold(long < 8 * short + 0.5, f"{kind}: {short} s, and {long} s for four times it")
 
     def try_page(self, folder):
         """The line of JSON in docs/EXPLAIN.md."""
@@ -440,7 +540,8 @@ class Tests:
         """A text of 16 MB, in room for a quarter of it."""
         lines = b"let x = 0xFF_u8 + foo(\"a\\n\", 'b'); // 1.5e3\n"
         (folder / "long").write_bytes(lines * (16_000_000 // len(lines)))
-        words = f"ulimit -v 262144; {self.program} --prefix {folder}/long | tail -c 60"
+        words = f"{self.program} --prefix --comments none {folder}/long"
+        words = f"ulimit -v 262144; {words} | tail -c 60"
         ran = subprocess.run(["sh", "-c", words], capture_output=True, check=False)
         self.hold(ran.stderr == b"" and b"exponent e3" in ran.stdout, f"a long text: {ran}")
 
@@ -510,6 +611,9 @@ def main():
             tests.try_sign()
             tests.try_strings()
             tests.try_places()
+            tests.try_tokens()
+            tests.try_held()
+            tests.try_many_lines()
             tests.try_page(folder)
             tests.try_errors()
             tests.try_colors()

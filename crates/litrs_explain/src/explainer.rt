@@ -5,13 +5,15 @@ ghost use Rattle.litrs_grammar.specs.Literal.{literal_parse, Begins};
 ghost use Rattle.litrs_grammar.specs.Refused.{IsRefusedOrOutOfMemory};
 
 use crate::error::Error;
-use crate::find::{Piece, first_piece, is_in_name};
+use crate::find::next_token;
+use crate::open::Open;
 use crate::options::Options;
 use crate::output::Output;
 use crate::place::{Place, Span};
 use crate::report::{AROUND, Problem, Reports};
 use crate::text::{cut, without_line_end};
-use litrs::ParseError;
+use litrs::{Literal, ParseError, ParseErrorKind};
+use litrs_lexer::{Token, TokenKind, Tokens};
 use litrs_lines::{Collector, Step};
 use std::alloc::{AllocError, Global};
 use std::ops::Range;
@@ -25,16 +27,22 @@ const BYTE_ORDER_MARK: &[u8] = b"\xef\xbb\xbf";
 pub(crate) struct Explainer<'a> {
     alloc: Global,
     pub(crate) reports: Reports<'a>,
-    /// The lines of an incomplete literal, from its start.
+    /// The lines of an incomplete literal, if lines are literals.
     collector: Collector,
-    /// The same lines, and some of what is before them in the first.
+    /// What closes the last token of `held`, if literals are found in any text.
+    open: Option<Open>,
+    /// The lines of what is incomplete, and some of what is before it in the first.
     held: String,
     /// The place in the file of the text that is read: `held` and the line, or the line alone.
     place: Place,
-    /// The start of the incomplete literal, or of the line if there is none.
+    /// The start of what is incomplete, or of the line if nothing is.
     opening: Offset,
-    /// The start of the last line that was fed.
-    line: Offset,
+    /// The starts of the lines after it, but for those whose distance from the line before is the
+    /// same in the text and in the file.
+    lines: Vec<Offset>,
+    /// The end of the last line of the text that is not UTF-8, in bytes. No literal before it is
+    /// reported.
+    unreadable: usize,
     /// The start of the next line.
     next: Place,
     next_in_file: usize,
@@ -47,10 +55,12 @@ impl<'a> Explainer<'a> {
             alloc,
             reports: Reports::new(alloc, options, output),
             collector: Collector::new(alloc),
+            open: None,
             held: String::new(alloc),
             place: Place::START,
             opening: Offset::START,
-            line: Offset::START,
+            lines: Vec::new(alloc),
+            unreadable: 0,
             next: Place::START,
             next_in_file: 0,
         }
@@ -60,6 +70,9 @@ impl<'a> Explainer<'a> {
     pub(crate) fn start_file(&mut self, name: &'a str) {
         self.reports.start_file(name);
         self.collector.clear();
+        self.open = None;
+        self.held.clear();
+        self.unreadable = 0;
         self.next = Place::START;
         self.next_in_file = 0;
     }
@@ -86,7 +99,7 @@ impl<'a> Explainer<'a> {
         Ok(())
     }
 
-    /// Explains an incomplete literal after the last line.
+    /// Explains what is incomplete after the last line.
     ///
     /// # Errors
     ///
@@ -94,74 +107,79 @@ impl<'a> Explainer<'a> {
     pub(crate) fn finish(&mut self) -> Result<(), Error> {
         let collector = mem::replace(&mut self.collector, Collector::new(self.alloc));
         let text = mem::replace(&mut self.held, String::new(self.alloc));
+        if self.open.take().is_some() {
+            self.explain_tokens(text.as_str(), true)?;
+        }
         match collector.finish() {
-            Some(error) => {
-                let piece = self.opening.in_text..text.len();
-                self.refuse(text.as_str(), self.start(), piece, &error)
-            }
+            Some(error) => self.refuse(text.as_str(), self.start(), 0..text.len(), &error),
             None => Ok(()),
         }
     }
 
     /// Like [`Explainer::feed`], for a line that is UTF-8, without its end.
     fn feed_text(&mut self, line: &str) -> Result<(), Error> {
-        if self.collector.is_empty() {
-            return self.feed_first(line);
-        }
         let mut text = mem::replace(&mut self.held, String::new(self.alloc));
-        text.push('\n')?;
-        self.line = Offset {
-            in_text: text.len(),
-            in_file: self.next_in_file,
-        };
+        self.start_line(&mut text)?;
         text.push_str(line)?;
-        let start = self.explain(text.as_str(), line)?;
-        if start > 0 || self.collector.is_empty() {
-            return self.hold(text.as_str(), start);
+        self.unreadable = self.unreadable.min(text.len());
+        match self.explain(text.as_str(), line)? {
+            Some(0) => {}
+            Some(start) => {
+                self.unreadable = self.unreadable.saturating_sub(start);
+                text = String::from_str(self.alloc, cut(text.as_str(), start).1)?;
+            }
+            None => {
+                self.unreadable = 0;
+                text.clear();
+            }
         }
         self.held = text;
         Ok(())
     }
 
-    /// Like [`Explainer::feed_text`], if no literal is incomplete.
-    fn feed_first(&mut self, line: &str) -> Result<(), Error> {
-        self.place = self.next;
-        self.line = Offset {
-            in_text: 0,
-            in_file: self.next_in_file,
-        };
-        self.opening = self.line;
-        let start = self.explain(line, line)?;
-        self.hold(line, start)
-    }
-
-    /// Holds the text from `start` on, if a literal is incomplete.
-    fn hold(&mut self, text: &str, start: usize) -> Result<(), Error> {
-        self.held.clear();
-        if !self.collector.is_empty() {
-            let (_, held) = cut(text, start);
-            self.held.push_str(held)?;
+    /// Starts a line, after the text that is held for it, if any.
+    fn start_line(&mut self, text: &mut String) -> Result<(), AllocError> {
+        if self.collector.is_empty() && self.open.is_none() {
+            self.place = self.next;
+            self.opening = Offset {
+                in_text: 0,
+                in_file: self.next_in_file,
+            };
+            self.lines.clear();
+            return Ok(());
+        }
+        text.push('\n')?;
+        if self.in_file(text.len()) != self.next_in_file {
+            self.lines.push(Offset {
+                in_text: text.len(),
+                in_file: self.next_in_file,
+            })?;
         }
         Ok(())
     }
 
-    /// Explains what ends with `line`, the last line of `text`. If a literal is then incomplete,
-    /// returns where the text begins that is to be held for it.
-    fn explain(&mut self, text: &str, line: &str) -> Result<usize, Error> {
-        if self.reports.options.prefix {
-            self.explain_pieces(text, line)
-        } else {
-            self.explain_line(text, line)
+    /// Explains what ends with `line`, the last line of `text`. Returns where the text begins that
+    /// is to be held, if something is incomplete.
+    fn explain(&mut self, text: &str, line: &str) -> Result<Option<usize>, Error> {
+        if !self.reports.options.prefix {
+            return self.explain_line(text, line);
         }
+        if let Some(open) = self.open {
+            self.open = open.after(line);
+            if self.open.is_some() {
+                return Ok(Some(0));
+            }
+        }
+        self.explain_tokens(text, false)
     }
 
     /// Like [`Explainer::explain`], for lines that are literals.
-    fn explain_line(&mut self, text: &str, line: &str) -> Result<usize, Error> {
+    fn explain_line(&mut self, text: &str, line: &str) -> Result<Option<usize>, Error> {
         if text.is_empty() {
-            return Ok(0);
+            return Ok(None);
         }
         match self.collector.feed(line)? {
-            Step::More => {}
+            Step::More => return Ok(Some(0)),
             Step::Literal(literal) => {
                 let start = self.start();
                 let span = self.span(start, start.moved(text, text.len()));
@@ -169,64 +187,67 @@ impl<'a> Explainer<'a> {
             }
             Step::Refused(error) => self.refuse(text, self.start(), 0..text.len(), &error)?,
         }
-        Ok(0)
+        Ok(None)
     }
 
-    /// Like [`Explainer::explain`], for the literals in any text.
-    fn explain_pieces(&mut self, text: &str, line: &str) -> Result<usize, Error> {
-        if !self.collector.is_empty() && self.gather(line)? {
-            return Ok(0);
-        }
-        let mut literal_mark = self.start();
-        let mut error_mark = self.start();
-        let (_, mut rest) = cut(text, self.opening.in_text);
-        let mut in_name = false;
-        while let Some((piece, next)) = first_piece(self.alloc, rest, in_name)? {
-            let at = text.len().saturating_sub(rest.len());
-            let end = text.len().saturating_sub(next.len());
-            in_name = match &piece {
-                Piece::Other(c) => is_in_name(in_name, *c),
-                _ => false,
-            };
-            match piece {
-                Piece::Other(_) => {}
-                Piece::Literal(literal) => {
-                    let start = literal_mark.moved(text, at);
-                    literal_mark = start.moved(text, end);
-                    let span = self.span(start, literal_mark);
-                    self.reports.add_literal(&span, &literal)?;
-                }
-                Piece::Malformed(error) => {
-                    error_mark = error_mark.moved_before(text, at);
-                    let may_continue = next.is_empty() && !error.is_final();
-                    if may_continue && self.gather(rest)? {
-                        return Ok(self.open(error_mark, at));
-                    }
-                    self.refuse(text, error_mark, at..end, &error)?;
+    /// Like [`Explainer::explain`], for the literals in any text. `is_last` says that no line
+    /// follows.
+    fn explain_tokens(&mut self, text: &str, is_last: bool) -> Result<Option<usize>, Error> {
+        let mut marks = Marks {
+            literal: self.start(),
+            error: self.start(),
+        };
+        let (_, rest) = cut(text, self.opening.in_text);
+        let mut left = Tokens { source: text, rest };
+        while let Some(token) = next_token(&mut left, self.reports.options.comments) {
+            if left.rest.is_empty() && !is_last {
+                self.open = Open::of(&token);
+                if self.open.is_some() {
+                    let mark = marks.error.moved_before(text, token.start);
+                    return self.hold(mark, token.start);
                 }
             }
-            rest = next;
+            self.explain_token(text, &token, &mut marks)?;
         }
-        Ok(0)
+        Ok(None)
     }
 
-    /// Gathers `line` if the gathered lines and it begin a literal, and returns whether they do.
-    fn gather(&mut self, line: &str) -> Result<bool, AllocError> {
-        match self.collector.feed(line)? {
-            Step::More => Ok(true),
-            _ => Ok(false),
+    /// Reports on a token of the text that is a literal or a malformed one.
+    fn explain_token(&mut self, text: &str, token: &Token, marks: &mut Marks) -> Result<(), Error> {
+        let is_literal = matches!(token.kind, TokenKind::Literal | TokenKind::MalformedLiteral);
+        if !is_literal || token.start < self.unreadable {
+            return Ok(());
+        }
+        let range = token.range();
+        match Literal::parse(self.alloc, token.text) {
+            Ok(literal) => {
+                let start = marks.literal.moved(text, range.start);
+                marks.literal = start.moved(text, range.end);
+                let span = self.span(start, marks.literal);
+                self.reports.add_literal(&span, &literal)
+            }
+            Err(error) => match error.kind() {
+                ParseErrorKind::OutOfMemory => Err(Error::Memory),
+                _ => {
+                    marks.error = marks.error.moved_before(text, range.start);
+                    self.refuse(text, marks.error, range, &error)
+                }
+            },
         }
     }
 
-    /// Notes that the literal that begins at `at` is incomplete, and that the text is held from
-    /// `mark` on. Returns where that is.
-    fn open(&mut self, mark: Mark, at: usize) -> usize {
-        self.opening = Offset {
-            in_text: at.saturating_sub(mark.at),
-            in_file: self.in_file(at),
-        };
-        self.place = mark.place;
-        mark.at
+    /// Holds the text from `mark` on, for a token that begins at `at`. Returns where the text
+    /// begins that is to be held.
+    fn hold(&mut self, mark: Mark, at: usize) -> Result<Option<usize>, Error> {
+        if mark.at > 0 || self.opening.in_text != at {
+            self.opening = Offset {
+                in_text: at.saturating_sub(mark.at),
+                in_file: self.in_file(at),
+            };
+            self.place = mark.place;
+            self.lines.clear();
+        }
+        Ok(Some(mark.at))
     }
 
     /// Returns the start of the text.
@@ -238,13 +259,15 @@ impl<'a> Explainer<'a> {
     }
 
     /// Returns where the byte at `at` of the text is in the file. The text lacks the CRs before
-    /// LFs, so bytes are counted from the start of the last line, or of the literal before it.
+    /// LFs.
     fn in_file(&self, at: usize) -> usize {
-        let start = if at < self.line.in_text {
-            self.opening
-        } else {
-            self.line
-        };
+        let mut start = self.opening;
+        for line in self.lines.iter().rev() {
+            if line.in_text <= at {
+                start = *line;
+                break;
+            }
+        }
         start
             .in_file
             .saturating_add(at.saturating_sub(start.in_text))
@@ -290,9 +313,22 @@ impl<'a> Explainer<'a> {
         self.reports.add_problem(problem)
     }
 
-    /// Reports the first bytes of a line that are not UTF-8.
+    /// Reports the first bytes of a line that are not UTF-8. If literals are found in any text, the
+    /// line also closes and opens tokens.
     fn refuse_bytes(&mut self, line: &[u8]) -> Result<(), Error> {
-        self.finish()?;
+        if self.reports.options.prefix {
+            self.add_bytes_problem(line)?;
+            self.unreadable = usize::MAX;
+            let text = readable(self.alloc, line)?;
+            self.feed_text(without_line_end(text.as_str()))
+        } else {
+            self.finish()?;
+            self.add_bytes_problem(line)
+        }
+    }
+
+    /// Adds the report on the first bytes of a line that are not UTF-8.
+    fn add_bytes_problem(&mut self, line: &[u8]) -> Result<(), Error> {
         let Some(chunk) = line.utf8_chunks().next() else {
             return Ok(());
         };
@@ -319,6 +355,18 @@ impl<'a> Explainer<'a> {
     }
 }
 
+/// Returns a line with a `?` for each byte that is not UTF-8.
+fn readable(alloc: Global, line: &[u8]) -> Result<String, AllocError> {
+    let mut text = String::new(alloc);
+    for chunk in line.utf8_chunks() {
+        text.push_str(chunk.valid())?;
+        for _ in chunk.invalid() {
+            text.push('?')?;
+        }
+    }
+    Ok(text)
+}
+
 /// Returns `true` if more text can complete `text` to a literal, where `error` is the error of
 /// `text`. Most kinds of errors tell.
 fn is_incomplete(text: &str, error: &ParseError) -> bool
@@ -342,6 +390,13 @@ impl Offset {
         in_text: 0,
         in_file: 0,
     };
+}
+
+/// The places from which the next literal and the next error are looked for.
+#[derive(Drop)]
+struct Marks {
+    literal: Mark,
+    error: Mark,
 }
 
 /// A place in a text whose line and column are known.

@@ -10,7 +10,7 @@
 //!   suffix u8
 //! ```
 //!
-//! Text is read line by line. Only the lines of an incomplete literal are held.
+//! Text is read line by line. Only the lines of an incomplete literal or comment are held.
 #![tactic(auto)]
 
 mod arguments;
@@ -19,6 +19,7 @@ mod error;
 mod explainer;
 mod find;
 mod json;
+mod open;
 mod options;
 mod output;
 mod place;

@@ -2,6 +2,7 @@
 ghost use Rattle.std.specs.Prelude.{◌≡◌, ◌&&◌, not, true, false};
 ghost use Rattle.litrs_explain.specs.declared.options.ColorChoice.TheVariants.{Auto, Always, Never};
 
+use crate::find::Comments;
 use clap::{Arg, ArgAction, ArgMatches, Command};
 use std::alloc::{AllocError, Global};
 
@@ -14,11 +15,16 @@ const FORMATS: [&str; 2] = ["text", "json"];
 /// When reports are colored.
 const COLORS: [&str; 3] = ["auto", "always", "never"];
 
+/// The comments of a text.
+const COMMENTS: [&str; 3] = ["none", "hash", "rust"];
+
 /// How inputs are read and reports written.
 #[derive(Clone, Copy)]
 pub(crate) struct Options {
     /// Whether literals are found in any text. If not, lines are literals.
     pub(crate) prefix: bool,
+    /// The comments that are skipped where literals are found in any text.
+    pub(crate) comments: Comments,
     /// Whether reports are JSON.
     pub(crate) json: bool,
     /// Whether reports are colored.
@@ -47,11 +53,13 @@ pub(crate) struct Terminal {
 pub(crate) fn command<'a>(alloc: Global) -> Result<Command<'a>, AllocError> {
     let format = "Lines for a person, or one JSON object a line";
     let color = "Color the lines; auto: if they go to a terminal";
+    let comments = "With --prefix: skip no comments, those from #, or those of Rust";
     Command::new(alloc, "litrs_explain")
         .version(VERSION)
         .about("Explains the Rust literals in files")
         .args_override_self(true)
         .arg(prefix(alloc))?
+        .arg(choice(alloc, "comments", &COMMENTS, "rust", comments))?
         .arg(text(alloc))?
         .arg(choice(alloc, "format", &FORMATS, "text", format))?
         .arg(choice(alloc, "color", &COLORS, "auto", color))?
@@ -107,7 +115,13 @@ pub(crate) fn options_of(matches: &ArgMatches<'_>, terminal: Terminal) -> Option
         Some("never") => ColorChoice::Never,
         _ => ColorChoice::Auto,
     };
+    let comments = match matches.get_str("comments") {
+        Some("none") => Comments::None,
+        Some("hash") => Comments::Hash,
+        _ => Comments::Rust,
+    };
     Options {
+        comments,
         prefix: matches.get_flag("prefix"),
         json: matches.get_str("format") == Some("json"),
         color: is_colored(choice, terminal),

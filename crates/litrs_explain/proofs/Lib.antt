@@ -1,2 +1,0 @@
--- where a literal may begin
-pub mod Openings
