@@ -318,8 +318,9 @@ impl<'a> Explainer<'a> {
     fn refuse_bytes(&mut self, line: &[u8]) -> Result<(), Error> {
         if self.reports.options.prefix {
             self.add_bytes_problem(line)?;
-            self.unreadable = usize::MAX;
             let text = readable(self.alloc, line)?;
+            // An LF may come between the two.
+            self.unreadable = self.held.len().saturating_add(text.len()).saturating_add(1);
             self.feed_text(without_line_end(text.as_str()))
         } else {
             self.finish()?;
