@@ -1,74 +1,195 @@
 #!/usr/bin/env python3
-"""Compares the calls that crates/litrs/CALLING.md lists with the public functions of what `litrs`
-re-exports.
+"""Compares the pages CALLING.md with what their crates make public.
 
     .ci/calls.py
 
-Below "All calls" the page has a table for each heading; a line of it is a call of each type that
-the heading names. Fails where a public function has no line, and where a line has no such function.
+The table below "Types" has a line for each enum and struct: in its last cell are the variants or
+public fields, as they are declared. Below "All calls" each heading names types, traits, public
+modules or the crate, and each line of its table is a call of each of them, with its signature. A
+parameter is `name: Type` or `Type`, and `alloc` is `alloc: Global`; lifetimes may be left out, and
+`..` in an answer is any part of it.
+
+Fails if a public type, variant, field or function is not listed, if one is listed that is not
+public or is listed twice, and if a signature differs.
 """
+import functools
 import re
 import sys
 
 import libraries
 
 CRATES = libraries.TOP / "crates"
-ROOT = (CRATES / "litrs/src/lib.rt").read_text()
-PAGE = (CRATES / "litrs/CALLING.md").read_text()
+DECLARED = r"^pub (?:enum|struct|trait|(?:const )?fn) (\w+)"
+# A function, but for its name: its parameters and its answer.
+FUNCTION = r"(?:<[^(]*>)?\(([^)]*)\)(?: -> (.*?))?\s*(?:requires|ensures|\{|;|$)"
+CALL = re.compile(r"\| `(\w+)(?:::<[\w, ]+>)?\(([^)]*)\)(?: -> ([^`]*))?`")
+USED = re.compile(r"^pub use ([\w:]+)::(\{[^}]*\}|\w+);", re.M)
 
 
-def exported():
-    """The names that `litrs` makes public."""
-    names = set(re.findall(r"^pub (?:enum|struct|trait|fn) (\w+)", ROOT, re.M))
-    for used in re.findall(r"^pub use [\w:]+::(\{[^}]*\}|\w+);", ROOT, re.M):
-        names |= set(re.findall(r"\w+", used))
-    return names
+@functools.cache
+def module(crate, path):
+    """The source of a module, by its path from the root, which is empty for the root."""
+    file = path.replace("::", "/") or "lib"
+    return (CRATES / crate / f"src/{file}.rt").read_text()
 
 
-def functions_of(source):
-    """The public functions of a source file, each with its type or trait, and those outside of one
-    with `litrs`."""
-    owner, is_trait = "litrs", False
-    for line in source.splitlines():
-        if found := re.match(r"impl(?:<[^>]*>)? (\w+)[^{]*", line):
-            owner, is_trait = (None if " for " in found[0] else found[1]), False
-        elif found := re.match(r"pub trait (\w+)", line):
-            owner, is_trait = found[1], True
-        elif line.startswith("}"):
-            owner, is_trait = "litrs", False
-        elif found := re.match(r"\s*(pub )?(?:const )?fn (\w+)", line):
-            if owner and (found[1] or is_trait):
-                yield owner, found[2]
+def declared_in(crate, path, name):
+    """The crate and the module that declare a name, which this module declares or re-exports."""
+    if name in re.findall(DECLARED, module(crate, path), re.M):
+        return crate, path
+    for source, names in USED.findall(module(crate, path)):
+        if name in re.findall(r"\w+", names):
+            outer, _, inner = source.partition("::")
+            if (CRATES / outer).exists():
+                return declared_in(outer, inner, name)
+            return declared_in(crate, f"{path}::{source}".removeprefix("::"), name)
+    sys.exit(f"{crate}: {name} is not declared in {path or 'lib'}.rt")
 
 
-def public_calls():
-    """The public functions of what `litrs` re-exports."""
-    crates = libraries.crates_of(libraries.TOP)
-    names = exported()
-    for crate in ["litrs", *crates["litrs"].below(crates)]:
-        for path in (CRATES / crate).glob("src/**/*.rt"):
-            for owner, name in functions_of(path.read_text()):
-                if owner in names or (owner == "litrs" and name in names):
-                    yield owner, name
+def exports(crate, path=""):
+    """The names that a module makes public, each with the module and with where it is declared."""
+    source = module(crate, path)
+    names = re.findall(DECLARED, source, re.M)
+    for _, used in USED.findall(source):
+        names += re.findall(r"\w+", used)
+    for name in names:
+        yield path, name, *declared_in(crate, path, name)
+    for inner in re.findall(r"^pub mod (\w+);", source, re.M):
+        yield from exports(crate, f"{path}::{inner}".removeprefix("::"))
 
 
-def listed_calls():
-    """The calls of the page."""
-    section = re.search(r"^## All calls$(.*?)^## ", PAGE, re.M | re.S)[1]
-    for part in re.split(r"^### ", section, flags=re.M)[1:]:
+def parts(text):
+    """The parts of a list between commas, without comments, attributes and ghost fields."""
+    text = re.sub(r"^\s*(//|#\[|pub ghost ).*$", "", text, flags=re.M)
+    found, depth, part = [], 0, ""
+    for c in re.sub(r"->", "→", text):
+        depth += (c in "([{<") - (c in ")]}>")
+        if c == "," and depth == 0:
+            found.append(part)
+            part = ""
+        else:
+            part += c
+    listed = (" ".join(it.split()).replace(", }", " }") for it in [*found, part])
+    return [it for it in listed if it]
+
+
+def members(source, name):
+    """The variants or the public fields of the type that a source declares, None of a trait."""
+    declared = rf"^pub (enum|struct) {name}\b[^;{{]*(?:;|{{\n(.*?)^}}$)"
+    found = re.search(declared, source, re.M | re.S)
+    if not found:
+        return None
+    listed = parts(found[2] or "")
+    return [it.removeprefix("pub ") for it in listed if found[1] == "enum" or it[:4] == "pub "]
+
+
+def plain(text, owner):
+    """A type without lifetimes, where the owner is `Self`."""
+    text = re.sub(r"<'\w+>|'[a-z_] ", "", " ".join(text.split()))
+    return re.sub(rf"(?<!::)\b{owner}\b(<B>)?", "Self", text)
+
+
+def signature(parameters, answer, owner):
+    """The types of the parameters and of the answer of a function."""
+    types = [re.sub(r"^(mut )?\w+: ", "", it) for it in parts(parameters)]
+    types = ["Global" if it == "alloc" else plain(it, owner) for it in types]
+    return types, plain(answer or "()", owner)
+
+
+def functions_of(crate, path, name):
+    """The public functions of a type or trait, each with its signature."""
+    source = module(crate, path)
+    if trait := re.search(rf"^pub trait {name}\b.*?^}}$", source, re.M | re.S):
+        blocks, public = [trait[0]], ""
+    else:
+        files = [it.read_text() for it in sorted((CRATES / crate / "src").rglob("*.rt"))]
+        impl = rf"^impl(?:<[^>]*>)? {name}\b(?![^{{]* for )[^{{]*{{.*?^}}$"
+        blocks = [it for file in files for it in re.findall(impl, file, re.M | re.S)]
+        public = "pub "
+    for block in blocks:
+        functions = rf"^    {public}(?:const )?fn (\w+){FUNCTION}"
+        for call, *types in re.findall(functions, block, re.M | re.S):
+            yield call, signature(*types, name)
+
+
+def public_of(crate):
+    """The types of a crate with their members, and its calls with their signatures."""
+    types, calls = {}, {}
+    for path, name, declaring, place in exports(crate):
+        source = module(declaring, place)
+        function = re.compile(rf"^pub (?:const )?fn {name}\b{FUNCTION}", re.M | re.S)
+        if found := function.search(source):
+            calls[path or crate, name] = signature(found[1], found[2], path or crate)
+            continue
+        if (listed := members(source, name)) is not None:
+            types[name] = listed
+        calls |= {(name, it): of for it, of in functions_of(declaring, place, name)}
+    return types, calls
+
+
+def section(page, title):
+    """The part of a page below a heading."""
+    found = re.search(rf"^## {title}$(.*?)(?:^## |\Z)", page, re.M | re.S)
+    return found[1] if found else ""
+
+
+def listed_types(page):
+    """The types of a page, each with its members."""
+    for line in re.findall(r"^\| `.*", section(page, "Types"), re.M):
+        cells = re.split(r"(?<!\\)\|", line)[1:-1]
+        yield re.search(r"\w+", cells[0])[0], re.findall(r"`([^`]+)`", cells[-1])
+
+
+def listed_calls(page):
+    """The calls of a page, each with its signature; a line that is none is a call by its text."""
+    for part in re.split(r"^### ", section(page, "All calls"), flags=re.M)[1:]:
         head, _, table = part.partition("\n")
-        for name in re.findall(r"^\| `(\w+)", table, re.M):
-            for owner in re.findall(r"`(\w+)`", head):
-                yield owner, name
+        for line in re.findall(r"^\| `.*", table, re.M):
+            found = CALL.match(line) or [line, line, "", ""]
+            for owner in re.findall(r"`([\w:]+)`", head):
+                yield (owner, found[1]), signature(found[2], found[3], owner)
+
+
+def is_answer(listed, public):
+    """Whether an answer is as listed."""
+    return re.fullmatch(re.escape(listed).replace(r"\.\.", ".*"), public)
+
+
+def shown(of):
+    """A signature as text."""
+    return f"({', '.join(of[0])}) -> {of[1]}"
+
+
+def faults_of(public, listed):
+    """What differs between what is public in a crate and what its page lists."""
+    (types, calls), (page_types, page_calls) = public, listed
+    names = [it[0] for it in page_types] + ["::".join(it[0]) for it in page_calls]
+    wanted = [*types, *("::".join(it) for it in calls)]
+    yield from (f"{it} is not listed" for it in sorted(set(wanted) - set(names)))
+    yield from (f"{it} is not public" for it in sorted(set(names) - set(wanted)))
+    yield from (f"{it} is listed twice" for it in sorted(set(names)) if names.count(it) > 1)
+    for name, its in page_types:
+        if its != types.get(name, its):
+            yield f"{name} has {types[name]}, and not {its}"
+    for call, its in page_calls:
+        known = calls.get(call, its)
+        if its[0] != known[0] or not is_answer(its[1], known[1]):
+            yield f"{'::'.join(call)} is {shown(known)}, and not {shown(its)}"
 
 
 def main():
-    public, listed = set(public_calls()), list(listed_calls())
-    faults = [f"{owner}::{name} is not listed" for owner, name in public - set(listed)]
-    faults += [f"{owner}::{name} is no public function" for owner, name in set(listed) - public]
-    faults += [f"{it[0]}::{it[1]} is listed twice" for it in set(listed) if listed.count(it) > 1]
-    print(*sorted(faults), sep="\n", end="\n" if faults else "")
-    print(f"calls: {len(public)} public functions, {len(faults)} faults")
+    calls_known, types_known, faults = [], [], []
+    for path in sorted(CRATES.glob("*/CALLING.md")):
+        crate, page = path.parent.name, path.read_text()
+        types, calls = public_of(crate)
+        calls_known += calls
+        types_known += types.values()
+        listed = list(listed_types(page)), list(listed_calls(page))
+        faults += [f"{crate}: {it}" for it in faults_of((types, calls), listed)]
+    print(*faults, sep="\n", end="\n" if faults else "")
+    counts = f"{len(calls_known)} public functions, {len(types_known)} types"
+    members_known = sum(map(len, types_known))
+    print(f"calls: {counts}, {members_known} variants and fields, {len(faults)} faults")
     return 1 if faults else 0
 
 
