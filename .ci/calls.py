@@ -3,8 +3,8 @@
 
     .ci/calls.py
 
-The table below "Types" has a line for each enum and struct: in its last cell are the variants or
-public fields, as they are declared. Below "All calls" each heading names types, traits, public
+The first table below "Types" has a line for each enum and struct: in its last cell are the variants
+or public fields, as they are declared. Below "All calls" each heading names types, traits, public
 modules or the crate, and each line of its table is a call of each of them, with its signature. A
 parameter is `name: Type` or `Type`, and `alloc` is `alloc: Global`; lifetimes may be left out, and
 `..` in an answer is any part of it.
@@ -135,7 +135,7 @@ def section(page, title):
 
 def listed_types(page):
     """The types of a page, each with its members."""
-    for line in re.findall(r"^\| `.*", section(page, "Types"), re.M):
+    for line in re.findall(r"^\| `.*", section(page, "Types").split("###")[0], re.M):
         cells = re.split(r"(?<!\\)\|", line)[1:-1]
         yield re.search(r"\w+", cells[0])[0], re.findall(r"`([^`]+)`", cells[-1])
 
