@@ -1,4 +1,4 @@
-//! The grammar of Rust literals: its definitions stand in `specs`, and its laws here, each the
+//! The grammar of Rust literals. Its definitions are in `specs`. Its laws are here, each as the
 //! contract of a function with an empty body.
 #![tactic(auto)]
 

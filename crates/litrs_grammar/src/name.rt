@@ -1,18 +1,18 @@
-//! Laws of texts that are compared, and of the names of types.
+//! Laws of equality, and of the names of types.
 ghost use Rattle.litrs_grammar.specs.Laws.Name.{EqualityIsOfTexts, TypeNamesAreDistinct, FloatTypeNamesAreDistinct};
 
-/// Comparing literals compares their texts: they are equal exactly where their texts are.
+/// Proves that two literals are equal if and only if their texts are equal.
 pub fn equality_is_of_texts()
     ensures { EqualityIsOfTexts }
 {}
 
-/// No two integer types have one name, so that the name of a type leads back to it alone.
+/// Proves that no two integer types have the same name.
 #[tactic(auto, using(litrs_base::proofs::NameLemmas::same_type))]
 pub fn type_names_are_distinct()
     ensures { TypeNamesAreDistinct }
 {}
 
-/// No two floating-point types have one name.
+/// Proves that no two floating-point types have the same name.
 #[tactic(auto, using(litrs_base::proofs::NameLemmas::same_float_type))]
 pub fn float_type_names_are_distinct()
     ensures { FloatTypeNamesAreDistinct }

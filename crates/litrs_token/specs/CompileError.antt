@@ -15,8 +15,8 @@ use Rattle.litrs_token.specs.StringToken.{string_token, IsStringOf}
 use Rattle.litrs_token.specs.Tokens.{IdentToken, PunctToken}
 use Rattle.litrs_token.specs.Tree.{group_delimiter, group_stream, group_span}
 
--- The group has one string between braces, whose value is what is printed of the error. The group
--- has the span of the error, the string that of the call site.
+-- `group` has one string between braces, whose value is the error `e` as it is printed. The group
+-- has the span of the error, and the string has the call-site span.
 pub record IsMessageGroup (e : InvalidToken) (group : Group) : Type 0 where
   pub message : LiteralToken
   pub delimiter : group_delimiter group ≡ Brace
@@ -26,7 +26,7 @@ pub record IsMessageGroup (e : InvalidToken) (group : Group) : Type 0 where
   pub value : IsStringOf (chars message.text) (invalid_text e)
   pub message_span : message.span ≡ call_site
 
--- The trees are `compile_error`, `!` and such a group, all with the span of the error.
+-- `trees` are `compile_error`, `!` and such a group, all with the span of the error.
 pub record IsCompileError (e : InvalidToken) (trees : List TokenTree) : Type 0 where
   pub name : IdentToken
   pub mark : PunctToken

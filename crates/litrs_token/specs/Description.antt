@@ -1,9 +1,9 @@
--- What kinds of tokens are called.
+-- The names of kinds of tokens.
 use Rattle.std.specs.Prelude.{ℕ, List, codes}
 use Rattle.litrs_token.specs.declared.kind.TokenKind.{TokenKind}
 use Rattle.litrs_token.specs.declared.kind.TokenKind.TheVariants as token
 
--- in the messages of errors
+-- The name of a kind in messages.
 abbrev pub description : TokenKind → List ℕ
 description token.Punct = codes "a punctuation character"
 description token.Ident = codes "an identifier"

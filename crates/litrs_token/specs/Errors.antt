@@ -1,4 +1,4 @@
--- What is printed of errors.
+-- The messages of errors.
 use Rattle.std.specs.Prelude.{ℕ, List, ◌++◌, codes}
 use Rattle.litrs_token.specs.declared.ident.IdentError.{IdentError}
 use Rattle.litrs_token.specs.declared.ident.IdentError.TheVariants as ident
@@ -19,15 +19,15 @@ abbrev pub literal_error_text : LiteralError → List ℕ
 literal_error_text literal.NotALiteral = codes "not a literal"
 literal_error_text literal.Memory = codes "out of memory"
 
--- a token of this kind at this place, where another was expected
+-- The error of a token of the kind `actual` at a place, if `expected` was expected.
 abbrev pub mismatch : (expected actual : TokenKind) → Place → InvalidToken
 mismatch expected actual span = record { expected = expected; actual = actual; span = span }
 
--- where the token stands
+-- The span of the token.
 abbrev pub invalid_span : InvalidToken → Place
 invalid_span e = e.span
 
--- both kinds are named
+-- The message names both kinds.
 abbrev pub invalid_text : InvalidToken → List ℕ
 invalid_text e =
     codes "expected " ++ description e.expected

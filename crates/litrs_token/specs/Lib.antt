@@ -1,17 +1,17 @@
--- where tokens stand, and what they are
+-- spans and tokens
 pub mod Place
 pub mod Tokens
 pub mod LiteralToken
 pub mod StringToken
 pub mod Tree
--- what is printed of errors
+-- messages
 pub mod Description
 pub mod Errors
 pub mod CompileError
--- what is no wanted token, and what is a bool
+-- mismatches and bools
 pub mod Mismatch
 pub mod BoolTree
--- what conversions want
+-- what conversions expect
 pub mod Conversion
 -- The words of the contracts, so that users name this crate alone: of literals
 pub use Rattle.litrs_base.specs.Characters

@@ -5,13 +5,13 @@ use Rattle.litrs_token.specs.declared.kind.TokenKind.{TokenKind}
 use Rattle.litrs_token.specs.declared.kind.TokenKind.TheVariants as token
 use Rattle.litrs_token.specs.Place.{Place}
 
--- a literal as a token: the bytes of its text, its kind, and where it stands
+-- A literal as a token: the bytes of its text, its kind, and its span.
 pub record LiteralToken : Type 0 where
   pub text : List ℕ
   pub kind : TokenKind
   pub span : Place
 
--- what a token of a literal of the kind is
+-- The kind of the token of a literal.
 abbrev pub token_kind : LiteralKind → TokenKind
 token_kind bool_literal = token.BoolLit
 token_kind integer_literal = token.IntegerLit
@@ -22,17 +22,17 @@ token_kind string_literal = token.StringLit
 token_kind byte_string_literal = token.ByteStringLit
 token_kind c_string_literal = token.CStringLit
 
--- The text is a literal that a token may be, one of this kind: any but a bool.
+-- `t` is a literal of the kind `kind`, and not a bool.
 pub record IsLiteralToken (t : List ℕ) (kind : TokenKind) : Type 0 where
   pub derivation : Derivation
   pub literal : IsLiteral t derivation
   pub no_bool : literal_kind derivation ≢ bool_literal
   pub is_kind : token_kind (literal_kind derivation) ≡ kind
 
--- the text is no such literal, of any kind: it is no literal, or a bool
+-- The text is a bool or not a literal.
 abbrev pub IsNoLiteralToken : List ℕ → Type 0
 IsNoLiteralToken t = (kind : TokenKind) → ¬ IsLiteralToken t kind
 
--- the text is a literal
+-- The text is a literal.
 abbrev pub SomeLiteral : List ℕ → Type 0
 SomeLiteral t = (d : Derivation) × IsLiteral t d

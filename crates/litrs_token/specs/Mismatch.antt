@@ -1,4 +1,4 @@
--- Why a token is not the wanted one.
+-- Mismatches: a token is not the expected one.
 use Rattle.litrs_token.specs.declared.err.InvalidToken.{InvalidToken}
 use Rattle.litrs_token.specs.declared.kind.TokenKind.{TokenKind}
 use Rattle.litrs_token.specs.declared.kind.TokenKind.TheVariants as token
@@ -8,14 +8,14 @@ use Rattle.litrs_token.specs.Errors.{mismatch}
 use Rattle.litrs_token.specs.LiteralToken.{LiteralToken}
 use Rattle.litrs_token.specs.Tree.{Shape, shape_of, tree_span}
 
--- what a tree is: a literal is named by its kind, every other tree by its shape
+-- The kind of a tree: a literal has its own kind, and every other tree that of its shape.
 abbrev pub actual_kind : Shape → TokenKind
 actual_kind (tree.Group g) = token.Group
 actual_kind (tree.Ident i) = token.Ident
 actual_kind (tree.Punct p) = token.Punct
 actual_kind (tree.Literal l) = l.kind
 
--- what is wrong with a literal or a tree that is not the wanted one
+-- The error of a literal or a tree if `wanted` was expected.
 abbrev pub literal_mismatch : (wanted : TokenKind) → LiteralToken → InvalidToken
 literal_mismatch wanted l = mismatch wanted l.kind l.span
 

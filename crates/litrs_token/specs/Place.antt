@@ -1,11 +1,11 @@
--- Where a token stands in its source.
+-- The place of a token in its source.
 use Rattle.std.specs.Prelude.{ℕ}
 
--- from a byte up to another
+-- The bytes from `start` up to `end`.
 pub record Place : Type 0 where
   pub start : ℕ
   pub end : ℕ
 
--- the place of what a program makes, and no source has
+-- The place of a token that comes from no source.
 abbrev pub call_site : Place
 call_site = record { start = 0; end = 0 }

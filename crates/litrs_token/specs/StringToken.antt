@@ -8,8 +8,8 @@ use Rattle.litrs_base.specs.Derivations.{IsOnlyDerivation}
 use Rattle.litrs_grammar.specs.Literal.{IsLiteral, a_string, quoted_parts}
 use Rattle.litrs_grammar.specs.Quoted.{QuotedParts, body_value}
 
--- a character between the quotes: `"`, backslash, LF, CR, tab and NUL as escapes, and every other
--- one as it is
+-- A character between the quotes: `"`, backslash, LF, CR, tab and NUL as escapes, and every other
+-- character as it is.
 abbrev pub escaped : ℕ → List ℕ
 escaped c =
     if c == double_quote then codes "\\\""
@@ -20,17 +20,18 @@ escaped c =
     else if c == nul then codes "\\0"
     else c ∷ []
 
--- the text between quotes
+-- The value `t`, escaped and between quotes.
 abbrev pub string_token : List ℕ → List ℕ
 string_token t = double_quote ∷ (flat_map escaped t ++ double_quote ∷ [])
 
--- The text is a quoted string and nothing else: its only derivation has this value and no suffix.
+-- `t` is a quoted string and no other literal: its only derivation has the value `value` and no
+-- suffix.
 pub record IsStringOf (t value : List ℕ) : Type 0 where
   pub parts : QuotedParts
   pub only : IsOnlyDerivation (IsLiteral t) (a_string (quoted_parts parts))
   pub is_value : body_value parts.items ≡ value
   pub no_suffix : parts.suffix ≡ []
 
--- a text that is written so is a string whose value is the UTF-8 of the text
+-- The string token of a value `t` is a string whose value is the UTF-8 of `t`.
 abbrev pub WrittenTextsAreStrings : Type 0
 WrittenTextsAreStrings = (t : List ℕ) → IsStringOf (string_token t) (encode_utf8_all t)

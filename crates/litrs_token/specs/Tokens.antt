@@ -6,18 +6,18 @@ use Rattle.litrs_grammar.specs.Suffix.{starts_identifier}
 use Rattle.litrs_token.specs.declared.punct.Spacing.{Spacing}
 use Rattle.litrs_token.specs.Place.{Place}
 
--- An identifier is `_` or an XID_Start character, and then XID_Continue characters. The lone `_` is
--- one, and so are `true` and `false`.
+-- An identifier is `_` or an XID_Start character, followed by XID_Continue characters. `_` alone,
+-- `true` and `false` are identifiers too.
 unfoldable pub is_ident : List ℕ → Bool
 is_ident [] = false
 is_ident (c ∷ cs) = starts_identifier c && list_all is_xid_continue cs
 
--- an identifier as a token: the bytes of its text, and where it stands
+-- An identifier as a token: the bytes of its text, and its span.
 pub record IdentToken : Type 0 where
   pub text : List ℕ
   pub span : Place
 
--- a character of punctuation as a token
+-- A punctuation character as a token.
 pub record PunctToken : Type 0 where
   pub character : ℕ
   pub spacing : Spacing

@@ -7,7 +7,7 @@ use Rattle.litrs_token.specs.declared.tree.TokenTree.TheOpen as tree
 use Rattle.litrs_token.specs.LiteralToken.{LiteralToken}
 use Rattle.litrs_token.specs.Place.{Place}
 
--- the parts of a group
+-- The parts of a group.
 abbrev pub group_delimiter : Group → Delimiter
 group_delimiter g = (out-Group g).delimiter
 
@@ -17,22 +17,22 @@ group_stream g = (out-Group g).stream.items
 abbrev pub group_span : Group → Place
 group_span g = (out-Group g).span
 
--- a tree is a group, an identifier, punctuation or a literal
+-- A tree is a group, an identifier, punctuation or a literal.
 abbrev pub Shape : Type 0
 Shape = tree.TokenTree-F TokenTree Group
 
 abbrev pub shape_of : TokenTree → Shape
 shape_of t = out-TokenTree t
 
--- a literal as a tree
+-- A literal as a tree.
 abbrev pub a_literal : LiteralToken → Shape
 a_literal l = tree.Literal l
 
--- the tree is no literal
+-- The tree is not a literal.
 abbrev pub IsNoLiteral : Shape → Type 0
 IsNoLiteral t = (l : LiteralToken) → t ≡ a_literal l → ⊥
 
--- where a tree stands
+-- The span of a tree.
 abbrev pub shape_span : Shape → Place
 shape_span (tree.Group g) = group_span g
 shape_span (tree.Ident i) = i.span
@@ -42,7 +42,7 @@ shape_span (tree.Literal l) = l.span
 abbrev pub tree_span : TokenTree → Place
 tree_span t = shape_span (shape_of t)
 
--- the two are alike but for where they stand; the trees inside a group stand where they stood
+-- Two trees differ at most in their spans. The trees inside a group are the same, with their spans.
 abbrev pub AreAlike : Shape → Shape → Type 0
 AreAlike (tree.Group g) (tree.Group h) =
     (group_delimiter g ≡ group_delimiter h) × (group_stream g ≡ group_stream h)

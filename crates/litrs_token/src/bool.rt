@@ -10,7 +10,7 @@ use crate::kind::TokenKind;
 use crate::tree::TokenTree;
 use litrs::BoolLit;
 
-/// The bool that a tree is: the identifier `true` or `false`. Of any other tree it is None.
+/// Returns the bool that `tree` is, or `None` if it is not the identifier `true` or `false`.
 pub fn bool_of(tree: &TokenTree) -> Option<BoolLit>
     ensures some { IfSome result (λ lit.
         text_of (shape_of tree.now) ≡ bool_text (bool_value lit)) }

@@ -1,4 +1,4 @@
-//! Whether a token is the one that a conversion wants.
+//! Checks that a token is the one that a conversion expects.
 ghost use Rattle.std.specs.Prelude.{◌≡◌, ◌↔◌, IfOk, IsOk, IfErr, OnOk, OnErr};
 ghost use Rattle.std.specs.Str.{chars};
 ghost use Rattle.litrs_token.specs.LiteralToken.{IsLiteralToken};
@@ -10,11 +10,11 @@ use crate::kind::TokenKind;
 use crate::literal::Literal;
 use crate::tree::TokenTree;
 
-/// Whether a literal is of this kind.
+/// Checks that `literal` has the kind `expected`.
 ///
 /// # Errors
 ///
-/// What is expected and what the literal is, where it is of another kind.
+/// Returns an error with both kinds if `literal` has another kind.
 pub fn check_kind(literal: &Literal, expected: TokenKind) -> Result<(), InvalidToken>
     ensures ok { IsOk result ↔ (literal.now.kind ≡ expected) }
     ensures literal { OnOk result (IsLiteralToken (chars literal.now.text) expected) }
@@ -27,11 +27,11 @@ pub fn check_kind(literal: &Literal, expected: TokenKind) -> Result<(), InvalidT
     }
 }
 
-/// The literal that a tree is, as of the tree `27`.
+/// Returns the literal that `tree` is, for example `27`.
 ///
 /// # Errors
 ///
-/// That another token was expected, where the tree is no literal.
+/// Returns an error with both kinds of tokens if `tree` is not a literal.
 pub fn as_literal(tree: &TokenTree, expected: TokenKind) -> Result<&Literal, InvalidToken>
     ensures ok { IfOk result (λ literal. shape_of tree.now ≡ a_literal literal.now) }
     ensures none { OnErr result (IsNoLiteral (shape_of tree.now)) }
@@ -43,11 +43,11 @@ pub fn as_literal(tree: &TokenTree, expected: TokenKind) -> Result<&Literal, Inv
     }
 }
 
-/// [`as_literal`], taken out of the tree.
+/// Like [`as_literal`], but takes the literal out of `tree`.
 ///
 /// # Errors
 ///
-/// That another token was expected, where the tree is no literal. The tree is dropped then.
+/// Like [`as_literal`]. `tree` is then dropped.
 pub fn into_literal(tree: TokenTree, expected: TokenKind) -> Result<Literal, InvalidToken>
     ensures ok { IfOk result (λ literal. shape_of tree ≡ a_literal literal) }
     ensures none { OnErr result (IsNoLiteral (shape_of tree)) }

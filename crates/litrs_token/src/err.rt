@@ -1,4 +1,4 @@
-//! Why a token is not what was wanted.
+//! The errors of conversions.
 ghost use Rattle.std.specs.Prelude.{◌≡◌, IfOk};
 ghost use Rattle.litrs_token.specs.CompileError.{IsMessageGroup, IsCompileError};
 ghost use Rattle.litrs_token.specs.Description.{description};
@@ -14,7 +14,7 @@ use std::alloc::{AllocError, Global};
 use std::error::Error;
 use std::fmt;
 
-/// A token of another kind than the wanted one.
+/// An error: a token has another kind than the expected one.
 #[derive(Clone, Copy, Debug, PartialEq, Eq)]
 pub struct InvalidToken {
     expected: TokenKind,
@@ -23,8 +23,8 @@ pub struct InvalidToken {
 }
 
 impl InvalidToken {
-    /// That a token of the kind `actual` stands there, where `expected` was expected: `mask` where
-    /// an integer was.
+    /// Creates the error of a token of the kind `actual`, for example `mask`, if `expected` was
+    /// expected, for example an integer.
     pub(crate) fn new(expected: TokenKind, actual: TokenKind, span: Span) -> InvalidToken
         ensures { result ≡ mismatch expected actual span }
     {
@@ -35,18 +35,18 @@ impl InvalidToken {
         }
     }
 
-    /// Where the token stands, as a compile error points at it.
+    /// Returns the span of the token, at which a compile error points.
     pub fn span(&self) -> Span
         ensures { result ≡ invalid_span self.now }
     {
         self.span
     }
 
-    /// The trees of `compile_error! { "message" }`, where the message is what is printed of this
-    /// error.
+    /// Returns the trees of `compile_error! { "message" }`. The message is this error as
+    /// `Display` writes it.
     ///
-    /// They stand where an item, a statement or an expression may. The identifier, the `!` and the
-    /// group have the span of the token, and the string inside the call-site span.
+    /// They can be used as an item, a statement or an expression. The identifier, the `!` and the
+    /// group have the span of the token, and the string inside has the call-site span.
     ///
     /// ```rust
     /// let tree = TokenTree::from(Punct::new('+', Spacing::Alone));
@@ -61,7 +61,7 @@ impl InvalidToken {
     ///
     /// # Errors
     ///
-    /// `AllocError` where there is no memory for the trees.
+    /// Returns `AllocError` if the allocation of the trees fails.
     pub fn to_compile_error(&self, alloc: Global) -> Result<Vec<TokenTree>, AllocError>
         ensures { IfOk result (λ trees. IsCompileError self.now trees.items) }
     {
@@ -76,7 +76,7 @@ impl InvalidToken {
         Ok(trees)
     }
 
-    /// The message between braces.
+    /// Returns the message between braces.
     fn message_group(&self, alloc: Global) -> Result<Group, AllocError>
         ensures { IfOk result (IsMessageGroup self.now) }
     {
@@ -104,10 +104,10 @@ impl fmt::Display for InvalidToken {
 
 impl Error for InvalidToken {}
 
-/// Why a conversion gives no literal.
+/// An error of a conversion of a token to a literal.
 #[derive(Clone, Copy, Debug, PartialEq, Eq)]
 pub enum TokenError {
-    /// The token is of another kind than the wanted one.
+    /// The token has another kind than the expected one.
     Invalid(InvalidToken),
     /// An allocation failed.
     Memory,
@@ -151,7 +151,7 @@ impl From<InvalidToken> for TokenError {
     }
 }
 
-/// What a kind of token is called.
+/// Returns the name of `kind` in messages, for example `an identifier`.
 fn description(kind: TokenKind) -> &'static str
     ensures { result.now ≡ description kind }
 {

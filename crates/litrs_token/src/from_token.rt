@@ -22,31 +22,31 @@ use crate::tree::TokenTree;
 use litrs::{ParseError, ParseErrorKind};
 use std::alloc::{AllocError, Global};
 
-/// A literal that is read from a token.
+/// A literal that a token can be converted to.
 ///
 /// [`IntegerLit`](litrs::IntegerLit), [`FloatLit`](litrs::FloatLit), [`CharLit`](litrs::CharLit),
 /// [`StringLit`](litrs::StringLit), [`ByteLit`](litrs::ByteLit),
-/// [`ByteStringLit`](litrs::ByteStringLit) and [`CStringLit`](litrs::CStringLit) want a literal of
-/// their kind. [`litrs::Literal`] wants a literal of any kind, and as a tree also the identifier
-/// `true` or `false`. All keep the text of the token.
+/// [`ByteStringLit`](litrs::ByteStringLit) and [`CStringLit`](litrs::CStringLit) expect a literal
+/// of their kind. [`litrs::Literal`] expects a literal of any kind, or a tree that is the
+/// identifier `true` or `false`. All keep the text of the token.
 ///
-/// Whether a token is the wanted one is decided before anything is allocated. The text of a token
-/// is never refused, since it is a literal.
+/// The kind of the token is checked before anything is allocated. The text of a token is always
+/// a valid literal.
 pub trait FromToken: Drop {
-    /// The kind that is wanted.
+    /// The expected kind.
     ghost wanted: { TokenKind };
 
-    /// The bytes of a literal's text.
+    /// The bytes of the text of a literal.
     ghost raw: { Self → List ℕ };
 
-    /// An error of the calls on literals, as that of the calls on trees.
+    /// An error of the calls on literals, as an error of the calls on trees.
     ghost as_token_error: { Self.Error → TokenError };
 
-    /// The error of the calls on literals: [`TokenError`], or `AllocError` where any literal is
-    /// wanted.
+    /// The error of the calls on literals: [`TokenError`], or `AllocError` if a literal of any
+    /// kind is expected.
     type Error;
 
-    /// The literal that a token is: of `27` an integer.
+    /// Converts a token to a literal, for example `27` to an integer.
     ///
     /// ```rust
     /// let token = litrs_token::Literal::from_text(rt.alloc(), "0xFF_u8")?;
@@ -56,8 +56,8 @@ pub trait FromToken: Drop {
     ///
     /// # Errors
     ///
-    /// That the token is of another kind, with both kinds and its span; else that there is no
-    /// memory for the literal. The token is dropped then.
+    /// Returns an error with both kinds and the span if the token has another kind; otherwise an
+    /// error if an allocation fails. The token is then dropped.
     fn from_literal(alloc: Global, literal: Literal) -> Result<Self, Self::Error>
         ensures raw { IfOk result (λ lit. raw lit ≡ literal.text) }
         ensures wanted { OnOk result (IsWantedKind wanted literal.kind) }
@@ -67,7 +67,7 @@ pub trait FromToken: Drop {
             → IsErrAnd result (λ e. as_token_error e
             ≡ TokenError.Invalid (literal_mismatch wanted literal)) };
 
-    /// [`from_literal`](FromToken::from_literal) of a token that is kept.
+    /// Like [`from_literal`](FromToken::from_literal), but borrows the token.
     ///
     /// ```rust
     /// let token = litrs_token::Literal::from_text(rt.alloc(), "0xFF_u8")?;
@@ -77,7 +77,7 @@ pub trait FromToken: Drop {
     ///
     /// # Errors
     ///
-    /// As [`from_literal`](FromToken::from_literal).
+    /// Like [`from_literal`](FromToken::from_literal).
     fn from_literal_ref(alloc: Global, literal: &Literal) -> Result<Self, Self::Error>
         ensures raw { IfOk result (λ lit. raw lit ≡ literal.now.text) }
         ensures wanted { OnOk result (IsWantedKind wanted literal.now.kind) }
@@ -87,7 +87,7 @@ pub trait FromToken: Drop {
             → IsErrAnd result (λ e. as_token_error e
             ≡ TokenError.Invalid (literal_mismatch wanted literal.now)) };
 
-    /// The literal that a tree is.
+    /// Converts a tree to a literal.
     ///
     /// ```rust
     /// let name = Ident::new(rt.alloc(), "true", Span::call_site())?;
@@ -97,10 +97,9 @@ pub trait FromToken: Drop {
     ///
     /// # Errors
     ///
-    /// `Invalid` where the tree is not the wanted one, with the span of the tree and what it is: a
-    /// literal by its kind, and everything else by its shape, as `true` is an identifier for a call
-    /// that wants an integer. Else `Memory` where there is no memory for the literal. The tree is
-    /// dropped then.
+    /// Returns `Invalid` if the tree is not the expected one. It has the span of the tree and the
+    /// kind that was found: for a call that expects an integer, `true` is an identifier.
+    /// Otherwise, returns `Memory` if an allocation fails. The tree is then dropped.
     fn from_tree(alloc: Global, tree: TokenTree) -> Result<Self, TokenError>
         ensures raw { IfOk result (λ lit. raw lit ≡ text_of (shape_of tree)) }
         ensures wanted { OnOk result (IsWanted wanted (shape_of tree)) }
@@ -109,11 +108,12 @@ pub trait FromToken: Drop {
         ensures invalid { ¬ IsWanted wanted (shape_of tree)
             → IsErrOf result (TokenError.Invalid (tree_mismatch wanted tree)) };
 
-    /// [`from_tree`](FromToken::from_tree) of a tree that is kept, as in the sample of this crate.
+    /// Like [`from_tree`](FromToken::from_tree), but borrows the tree, as in the example of this
+    /// crate.
     ///
     /// # Errors
     ///
-    /// As [`from_tree`](FromToken::from_tree).
+    /// Like [`from_tree`](FromToken::from_tree).
     fn from_tree_ref(alloc: Global, tree: &TokenTree) -> Result<Self, TokenError>
         ensures raw { IfOk result (λ lit. raw lit ≡ text_of (shape_of tree.now)) }
         ensures wanted { OnOk result (IsWanted wanted (shape_of tree.now)) }
@@ -200,11 +200,11 @@ impl FromToken for litrs::Literal<String> {
     }
 }
 
-/// The literal of a text that is one of the wanted kind.
+/// Parses `text`, which is a literal of the expected kind.
 ///
 /// # Errors
 ///
-/// `Memory` where there is no memory for its value. The text is dropped then.
+/// Returns `Memory` if the allocation of the value fails. `text` is then dropped.
 fn literal_of<T: OwnedKind>(alloc: Global, text: String) -> Result<T, TokenError>
     requires { IsLiteralToken (chars (string_bytes text)) T.kind }
     ensures raw { IfOk result (λ lit. T.raw lit ≡ string_bytes text) }
@@ -213,11 +213,11 @@ fn literal_of<T: OwnedKind>(alloc: Global, text: String) -> Result<T, TokenError
     Ok(or_alloc_error(T::parse(alloc, text))?)
 }
 
-/// The literal of a text that is one, of any kind.
+/// Parses `text`, which is a literal of any kind.
 ///
 /// # Errors
 ///
-/// `AllocError` where there is no memory for its value. The text is dropped then.
+/// Returns `AllocError` if the allocation of the value fails. `text` is then dropped.
 fn any_literal(alloc: Global, text: String) -> Result<litrs::Literal<String>, AllocError>
     requires { SomeLiteral (chars (string_bytes text)) }
     ensures { IfOk result (λ lit. literal_raw lit ≡ string_bytes text) }
@@ -225,7 +225,7 @@ fn any_literal(alloc: Global, text: String) -> Result<litrs::Literal<String>, Al
     or_alloc_error(litrs::Literal::parse(alloc, text))
 }
 
-/// The answer of a parse that can only fail to allocate, with that failure as its error.
+/// Returns the result of a parse that can fail only to allocate, with `AllocError` as the error.
 fn or_alloc_error<T: Drop>(parsed: Result<T, ParseError>) -> Result<T, AllocError>
     requires { IfErr parsed (λ e. kind_of e ≡ ParseErrorKind.OutOfMemory) }
     ensures { IfOk result (λ lit. parsed ≡ Ok lit) }

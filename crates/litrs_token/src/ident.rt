@@ -10,9 +10,9 @@ use std::error::Error;
 use std::fmt;
 use std::marker::Model;
 
-/// An identifier, as `x`. The lone `_` is one, and so are `true` and `false`.
+/// An identifier, for example `x`. `_`, `true` and `false` are identifiers too.
 ///
-/// A raw identifier, as `r#match`, is none. See [the reference][ref].
+/// A raw identifier, for example `r#match`, is not. See [the reference][ref].
 ///
 /// [ref]: https://doc.rust-lang.org/reference/identifiers.html
 #[derive(Debug, Drop)]
@@ -33,19 +33,19 @@ impl Model for Ident {
     ghost invariant = { λ i. IsTrue (is_ident (chars (string_bytes i.text))) };
 }
 
-/// Why there is no identifier.
+/// An error of [`Ident::new`].
 #[derive(Clone, Copy, Debug, PartialEq, Eq)]
 pub enum IdentError {
-    /// The text is no identifier.
+    /// The text is not an identifier.
     NotAnIdent,
     /// An allocation failed.
     Memory,
 }
 
 impl Ident {
-    /// An identifier with this text.
+    /// Creates an identifier from `text`.
     ///
-    /// It begins with `_` or an XID_Start character, and goes on with XID_Continue characters.
+    /// An identifier is `_` or an XID_Start character, followed by XID_Continue characters.
     ///
     /// ```rust
     /// let name = Ident::new(rt.alloc(), "mask", Span::new(0, 4))?;
@@ -56,8 +56,8 @@ impl Ident {
     ///
     /// # Errors
     ///
-    /// `NotAnIdent` of every other text, as `r#a` and the empty one, before anything is allocated;
-    /// else `Memory` where there is no memory for the text.
+    /// Returns `NotAnIdent` if `text` is not an identifier, for example `r#a` or the empty text.
+    /// Nothing is allocated then. Otherwise, returns `Memory` if the allocation fails.
     pub fn new(alloc: Global, text: &str, span: Span) -> Result<Ident, IdentError>
         ensures text { IfOk result (λ ident. ident.text ≡ text.now) }
         ensures span { IfOk result (λ ident. ident.span ≡ span) }
@@ -70,11 +70,11 @@ impl Ident {
         Ok(Ident::copied(alloc, text, span)?)
     }
 
-    /// An identifier with this text, which is one, as `mask`.
+    /// Creates an identifier from `text`, which is one, for example `mask`.
     ///
     /// # Errors
     ///
-    /// `AllocError` where there is no memory for the text.
+    /// Returns `AllocError` if the allocation fails.
     pub fn copied(alloc: Global, text: &str, span: Span) -> Result<Ident, AllocError>
         requires { IsTrue (is_ident (chars text.now)) }
         ensures text { IfOk result (λ ident. ident.text ≡ text.now) }
@@ -84,7 +84,7 @@ impl Ident {
         Ok(Ident { text, span })
     }
 
-    /// Its text, as `mask`. It is an identifier.
+    /// Returns the text of this identifier, for example `mask`.
     pub fn text(&self) -> &str
         ensures text { result.now ≡ self.now.text }
         ensures ident { IsTrue (is_ident (chars result.now)) }
@@ -92,14 +92,14 @@ impl Ident {
         self.text.as_str()
     }
 
-    /// Where it stands: 0..4 of `mask` at the start of a source.
+    /// Returns the span of this identifier: for `mask` at the start of a source that is 0..4.
     pub fn span(&self) -> Span
         ensures { result ≡ self.now.span }
     {
         self.span
     }
 
-    /// Puts it at another place.
+    /// Sets the span of this identifier.
     ///
     /// ```rust
     /// name.set_span(Span::new(7, 11));
@@ -113,7 +113,7 @@ impl Ident {
     }
 }
 
-/// Whether the text is an identifier.
+/// Returns `true` if `text` is an identifier.
 fn is_ident(text: &str) -> bool
     ensures { result ≡ is_ident (chars text.now) }
 {

@@ -10,15 +10,15 @@ use crate::span::Span;
 use litrs::BoolLit;
 use std::alloc::{AllocError, Global};
 
-/// A literal that is written as a token.
+/// A literal that can be converted to a token.
 pub trait IntoToken: Drop {
-    /// The bytes of its text.
+    /// The bytes of the text.
     ghost raw: { Self → List ℕ };
 
-    /// Its kind.
+    /// The kind.
     ghost kind: { TokenKind };
 
-    /// The token of this literal: its text, with the call-site span.
+    /// Converts this literal to a token with the same text and the call-site span.
     ///
     /// ```rust
     /// let token = IntegerLit::parse("27u8")?.into_token(rt.alloc())?;
@@ -27,7 +27,7 @@ pub trait IntoToken: Drop {
     ///
     /// # Errors
     ///
-    /// `AllocError` where there is no memory for the text. The literal is dropped then.
+    /// Returns `AllocError` if the allocation of the text fails. The literal is then dropped.
     fn into_token(self, alloc: Global) -> Result<Literal, AllocError>
         ensures text { IfOk result (λ token. token.text ≡ raw self) }
         ensures kind { IfOk result (λ token. token.kind ≡ kind) }
@@ -44,12 +44,12 @@ impl<T: OneKind> IntoToken for T {
     }
 }
 
-/// A literal that is written as an identifier.
+/// A literal that can be converted to an identifier.
 pub trait IntoIdent: Drop {
-    /// The bytes of its text.
+    /// The bytes of the text.
     ghost raw: { Self → List ℕ };
 
-    /// The identifier of this literal, with the call-site span.
+    /// Converts this literal to an identifier with the call-site span.
     ///
     /// ```rust
     /// let name = BoolLit::True.into_ident(rt.alloc())?;
@@ -58,7 +58,7 @@ pub trait IntoIdent: Drop {
     ///
     /// # Errors
     ///
-    /// `AllocError` where there is no memory for the text.
+    /// Returns `AllocError` if the allocation of the text fails.
     fn into_ident(self, alloc: Global) -> Result<Ident, AllocError>
         ensures text { IfOk result (λ ident. ident.text ≡ raw self) }
         ensures span { IfOk result (λ ident. ident.span ≡ call_site) };

@@ -1,4 +1,4 @@
-//! The kinds of tokens, and of which kind a text is.
+//! The kinds of tokens, and the kind of a text.
 ghost use Rattle.std.specs.Prelude.{◌≡◌, codes, IsTrue, IfSome, IfNone};
 ghost use Rattle.std.specs.Char.{is_ascii_digit};
 ghost use Rattle.std.specs.Str.{chars};
@@ -14,38 +14,38 @@ use litrs_lex::{
 
 /// The kind of a token.
 ///
-/// A [`Literal`](crate::Literal) has one of the last seven, and `Literal` and `BoolLit` are only
-/// ever expected, never found.
+/// A [`Literal`](crate::Literal) has one of the last seven. `Literal` and `BoolLit` are kinds that
+/// a conversion expects; no token has them.
 #[derive(Clone, Copy, Debug, PartialEq, Eq)]
 pub enum TokenKind {
-    /// Punctuation, as `+`.
+    /// Punctuation, for example `+`.
     Punct,
-    /// An identifier, as `x`.
+    /// An identifier, for example `x`.
     Ident,
-    /// A group, as `(a, b)`.
+    /// A group, for example `(a, b)`.
     Group,
     /// A literal of any kind.
     Literal,
-    /// `true` or `false`. As a token it is an identifier.
+    /// The bool `true` or `false`, which as a token is an identifier.
     BoolLit,
-    /// As `b'r'`.
+    /// A byte literal, for example `b'r'`.
     ByteLit,
-    /// As `b"fox"`.
+    /// A byte string literal, for example `b"fox"`.
     ByteStringLit,
-    /// As `'P'`.
+    /// A character literal, for example `'P'`.
     CharLit,
-    /// As `3.14`.
+    /// A float literal, for example `3.14`.
     FloatLit,
-    /// As `27`.
+    /// An integer literal, for example `27`.
     IntegerLit,
-    /// As `"Ferris"`.
+    /// A string literal, for example `"Ferris"`.
     StringLit,
-    /// As `c"Ferris"`.
+    /// A C string literal, for example `c"Ferris"`.
     CStringLit,
 }
 
-/// The kind of literal that a text is. None where it is no literal, or a bool. It does not
-/// allocate.
+/// Returns the kind of the literal that `text` is, or `None` if it is a bool or not a literal.
+/// Does not allocate.
 pub(crate) fn literal_kind(text: &str) -> Option<TokenKind>
     ensures some { IfSome result (IsLiteralToken (chars text.now)) }
     ensures none { IfNone result (IsNoLiteralToken (chars text.now)) }
@@ -60,7 +60,7 @@ pub(crate) fn literal_kind(text: &str) -> Option<TokenKind>
     }
 }
 
-/// [`literal_kind`] of a text that begins with a digit.
+/// Like [`literal_kind`], for a text that starts with a digit.
 fn number_kind(text: &str) -> Option<TokenKind>
     requires { IsTrue (first_passes is_ascii_digit text.now) }
     ensures some { IfSome result (IsLiteralToken (chars text.now)) }
@@ -73,7 +73,7 @@ fn number_kind(text: &str) -> Option<TokenKind>
     }
 }
 
-/// [`literal_kind`] of a text that begins with `'`.
+/// Like [`literal_kind`], for a text that starts with `'`.
 fn char_kind(text: &str) -> Option<TokenKind>
     requires { IsTrue (begins_with (codes "'") text.now) }
     ensures some { IfSome result (IsLiteralToken (chars text.now)) }
@@ -85,7 +85,7 @@ fn char_kind(text: &str) -> Option<TokenKind>
     }
 }
 
-/// [`literal_kind`] of a text that begins with `b'`.
+/// Like [`literal_kind`], for a text that starts with `b'`.
 fn byte_kind(text: &str) -> Option<TokenKind>
     requires { IsTrue (begins_with (codes "b'") text.now) }
     ensures some { IfSome result (IsLiteralToken (chars text.now)) }
@@ -97,7 +97,7 @@ fn byte_kind(text: &str) -> Option<TokenKind>
     }
 }
 
-/// [`literal_kind`] of a text that begins as a quoted string of the kind.
+/// Like [`literal_kind`], for a text that starts like a quoted string of `kind`.
 fn quoted_kind(text: &str, kind: StringKind) -> Option<TokenKind>
     requires { IsTrue (begins_with (quoted_front kind) text.now) }
     ensures some { IfSome result (IsLiteralToken (chars text.now)) }
@@ -114,7 +114,7 @@ fn quoted_kind(text: &str, kind: StringKind) -> Option<TokenKind>
     }
 }
 
-/// [`literal_kind`] of a text that begins as a raw string of the kind.
+/// Like [`literal_kind`], for a text that starts like a raw string of `kind`.
 fn raw_kind(text: &str, kind: StringKind) -> Option<TokenKind>
     requires { IsTrue (begins_with (raw_front kind) text.now) }
     ensures some { IfSome result (IsLiteralToken (chars text.now)) }
@@ -127,7 +127,7 @@ fn raw_kind(text: &str, kind: StringKind) -> Option<TokenKind>
     }
 }
 
-/// What a string of the kind is as a token.
+/// Returns the kind of token that a string of `kind` is.
 fn string_token_kind(kind: StringKind) -> TokenKind
     ensures { result ≡ token_kind (string_literal_of kind) }
 {

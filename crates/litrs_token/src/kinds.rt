@@ -1,4 +1,4 @@
-//! What the literals of the seven kinds that are tokens have in common.
+//! The calls that the seven kinds of literals that are tokens have in common.
 ghost use Rattle.std.specs.Prelude.{◌≡◌, ◌≢◌, ℕ, List, IfOk, IfErr, string_bytes};
 ghost use Rattle.std.specs.Str.{chars};
 ghost use Rattle.litrs_base.specs.Refusal.{kind_of};
@@ -12,20 +12,20 @@ use litrs::{
 };
 use std::alloc::Global;
 
-/// A literal of one kind, over any buffer.
+/// A literal of one kind, with a text of any type.
 pub trait OneKind: Drop {
     /// The kind.
     ghost kind: { TokenKind };
 
-    /// The bytes of its text.
+    /// The bytes of the text.
     ghost raw: { Self → List ℕ };
 
-    /// The kind: of an integer `IntegerLit`.
+    /// Returns the kind, for example `IntegerLit` for an integer.
     fn kind() -> TokenKind
         ensures kind { result ≡ kind }
         ensures one { kind ≢ TokenKind.Literal };
 
-    /// The text of the literal, which is one of the kind.
+    /// Returns the text of the literal.
     fn text(&self) -> &str
         ensures text { result.now ≡ raw self.now }
         ensures literal { IsLiteralToken (chars result.now) kind };
@@ -33,11 +33,11 @@ pub trait OneKind: Drop {
 
 /// A literal of one kind that owns its text.
 pub trait OwnedKind: OneKind {
-    /// The literal of a text that is one of the kind.
+    /// Parses `text`, which is a literal of this kind.
     ///
     /// # Errors
     ///
-    /// `OutOfMemory` where there is no memory for its value. The text is dropped then.
+    /// Returns `OutOfMemory` if the allocation of the value fails. `text` is then dropped.
     fn parse(alloc: Global, text: String) -> Result<Self, ParseError>
         requires { IsLiteralToken (chars (string_bytes text)) Self.kind }
         ensures raw { IfOk result (λ lit. Self.raw lit ≡ string_bytes text) }

@@ -1,8 +1,8 @@
-//! What holds of tokens by their definitions: each law is the contract of a function.
+//! Laws of tokens: each is the contract of a function.
 ghost use Rattle.litrs_token.specs.StringToken.{WrittenTextsAreStrings};
 
-/// A text that is written between quotes, with escapes, is a quoted string of that value without a
-/// suffix, and nothing else.
+/// Proves that a value written between quotes, with escapes, is a quoted string of that value
+/// without a suffix, and no other literal.
 pub fn written_texts_are_strings()
     ensures { WrittenTextsAreStrings }
 {}

@@ -1,17 +1,17 @@
-//! Tokens, and the conversions between tokens and literals.
+//! Tokens, and conversions between tokens and literals.
 //!
 //! A procedural macro reads and writes trees of tokens; see [the reference][ref]. [`TokenTree`] is
 //! such a tree, without a compiler: a [`Group`], an [`Ident`], a [`Punct`] or a [`Literal`], each
-//! with its [`Span`]. [`FromToken`] reads the literals of the crate `litrs` from tokens; with
-//! [`IntoToken`] and [`IntoIdent`] they are written as tokens. A token of another kind than the
-//! wanted one is an [`InvalidToken`], which can be reported as a compile error:
+//! with its [`Span`]. [`FromToken`] converts tokens to the literals of the crate `litrs`, and
+//! [`IntoToken`] and [`IntoIdent`] convert literals to tokens. If a token has another kind than the
+//! expected one, the error is an [`InvalidToken`], which can be reported as a compile error:
 //!
 //! ```rust
 //! use litrs::IntegerLit;
 //! use litrs_token::{FromToken, TokenError, TokenTree};
 //! use std::alloc::Global;
 //!
-//! /// What the value of an attribute says, as `27` in `#[limit = 27]`.
+//! /// The value of an attribute, for example `27` in `#[limit = 27]`.
 //! enum Limit {
 //!     /// A number of 16 bits.
 //!     Is(u16),
@@ -31,8 +31,8 @@
 //!         Err(TokenError::Memory) => Err(TokenError::Memory),
 //!     }
 //! }
-//! // Of the literal `27` it is Limit::Is(27). Of the identifier `x` it is Limit::Wrong, with the
-//! // trees of
+//! // For the literal `27` it returns Limit::Is(27), and for the identifier `x` Limit::Wrong with
+//! // the trees of
 //! // compile_error! { "expected an integer literal (e.g. `27`), but found an identifier" }.
 //! ```
 //!

@@ -12,7 +12,7 @@ use std::error::Error;
 use std::fmt;
 use std::marker::Model;
 
-/// A literal that is no bool, as `27` and `"a"`. It has no sign.
+/// A literal that is not a bool, for example `27` or `"a"`. It has no sign.
 #[derive(Debug, Drop)]
 pub struct Literal {
     text: String,
@@ -32,17 +32,17 @@ impl Model for Literal {
     ghost invariant = { λ l. IsLiteralToken (chars (string_bytes l.text)) l.kind };
 }
 
-/// Why there is no such token.
+/// An error of [`Literal::from_text`].
 #[derive(Clone, Copy, Debug, PartialEq, Eq)]
 pub enum LiteralError {
-    /// The text is no literal, or it is a bool.
+    /// The text is not a literal, or it is a bool.
     NotALiteral,
     /// An allocation failed.
     Memory,
 }
 
 impl Literal {
-    /// The literal with this text, with the call-site span.
+    /// Creates a literal from `text`, with the call-site span.
     ///
     /// ```rust
     /// let literal = Literal::from_text(rt.alloc(), "27u8")?;
@@ -53,8 +53,8 @@ impl Literal {
     ///
     /// # Errors
     ///
-    /// `NotALiteral` where the text is no literal, as `-1`, or a bool, before anything is
-    /// allocated; else `Memory` where there is no memory for the text.
+    /// Returns `NotALiteral` if `text` is a bool or not a literal, for example `-1`. Nothing is
+    /// allocated then. Otherwise, returns `Memory` if the allocation of the text fails.
     pub fn from_text(alloc: Global, text: &str) -> Result<Literal, LiteralError>
         ensures text { IfOk result (λ literal. literal.text ≡ text.now) }
         ensures kind { IfOk result (λ literal. IsLiteralToken (chars text.now) literal.kind) }
@@ -68,11 +68,10 @@ impl Literal {
         }
     }
 
-    /// A string of this value, with the call-site span.
+    /// Creates a quoted string with the value `value`, with the call-site span.
     ///
-    /// It is written between quotes: `"`, backslash, LF, CR, tab and NUL as `\"`, `\\`, `\n`, `\r`,
-    /// `\t` and `\0`, and every other character as it is. That is a quoted string of this value,
-    /// without a suffix, and nothing else. See [the reference][ref].
+    /// `"`, backslash, LF, CR, tab and NUL are written as `\"`, `\\`, `\n`, `\r`, `\t` and `\0`,
+    /// and every other character as it is. The string has no suffix. See [the reference][ref].
     ///
     /// ```rust
     /// let literal = Literal::string(rt.alloc(), "a\n\"b\"")?;
@@ -81,7 +80,7 @@ impl Literal {
     ///
     /// # Errors
     ///
-    /// `AllocError` where there is no memory for the text.
+    /// Returns `AllocError` if the allocation of the text fails.
     ///
     /// [ref]: https://doc.rust-lang.org/reference/tokens.html#string-literals
     pub fn string(alloc: Global, value: &str) -> Result<Literal, AllocError>
@@ -109,7 +108,7 @@ impl Literal {
     ///
     /// # Errors
     ///
-    /// `AllocError` if there is no memory for the text.
+    /// Returns `AllocError` if the allocation of the text fails.
     pub fn copied(alloc: Global, text: &str, kind: TokenKind) -> Result<Literal, AllocError>
         requires { IsLiteralToken (chars text.now) kind }
         ensures text { IfOk result (λ literal. literal.text ≡ text.now) }
@@ -124,7 +123,7 @@ impl Literal {
         })
     }
 
-    /// Its text, as `27u8`. It is a literal, and no bool.
+    /// Returns the text of this literal, for example `27u8`.
     pub fn text(&self) -> &str
         ensures text { result.now ≡ self.now.text }
         ensures literal { IsLiteralToken (chars result.now) self.now.kind }
@@ -132,14 +131,15 @@ impl Literal {
         self.text.as_str()
     }
 
-    /// Where it stands: the call-site span, until it is put at another place.
+    /// Returns the span of this literal. It is the call-site span until
+    /// [`set_span`](Literal::set_span) is called.
     pub fn span(&self) -> Span
         ensures { result ≡ self.now.span }
     {
         self.span
     }
 
-    /// Puts it at another place.
+    /// Sets the span of this literal.
     ///
     /// ```rust
     /// literal.set_span(Span::new(4, 8));
@@ -167,7 +167,7 @@ impl Literal {
         self.kind
     }
 
-    /// Its text, in its buffer: of `27u8` all of it.
+    /// Returns the text of this literal without copying it.
     pub fn into_text(self) -> String
         ensures text { string_bytes result ≡ self.text }
         ensures literal { IsLiteralToken (chars (string_bytes result)) self.kind }
@@ -181,7 +181,7 @@ impl Literal {
     }
 }
 
-/// The text between quotes, with escapes.
+/// Returns `value` between quotes, with escapes.
 fn quoted(alloc: Global, value: &str) -> Result<String, AllocError>
     ensures { IfOk result (λ text. string_bytes text
         ≡ encode_utf8_all (string_token (chars value.now))) }
@@ -195,7 +195,7 @@ fn quoted(alloc: Global, value: &str) -> Result<String, AllocError>
     Ok(text)
 }
 
-/// Appends a character, as an escape where it may not stand between quotes.
+/// Appends `c`, as an escape if it is one of those that [`Literal::string`] writes as escapes.
 fn push_escaped(text: &mut String, c: char) -> Result<(), AllocError>
     ensures { OnOk result (string_bytes text.new
         ≡ string_bytes text.old ++ encode_utf8_all (escaped c)) }

@@ -5,16 +5,16 @@ ghost use Rattle.litrs_token.specs.Place.{call_site};
 use crate::span::Span;
 use std::marker::Model;
 
-/// Whether punctuation is followed by more of it, as one operator.
+/// The spacing between punctuation and the token after it.
 #[derive(Clone, Copy, Debug, PartialEq, Eq)]
 pub enum Spacing {
-    /// More punctuation follows directly, as after the first character of `+=`.
+    /// More punctuation follows directly, for example after the `+` of `+=`.
     Joint,
-    /// Something else follows.
+    /// Another token or whitespace follows.
     Alone,
 }
 
-/// A character that is punctuation, as `+`.
+/// A punctuation character, for example `+`.
 #[derive(Debug, Drop)]
 pub struct Punct {
     character: char,
@@ -31,7 +31,7 @@ impl Model for Punct {
 }
 
 impl Punct {
-    /// Punctuation of this character, whatever it is, with the call-site span.
+    /// Creates punctuation from `character`, with the call-site span. `character` is not checked.
     ///
     /// ```rust
     /// // The first character of `+=`.
@@ -51,28 +51,28 @@ impl Punct {
         }
     }
 
-    /// The character, as `+`.
+    /// Returns the character, for example `+`.
     pub fn as_char(&self) -> char
         ensures { result ≡ self.now.character }
     {
         self.character
     }
 
-    /// Whether more punctuation follows: `Joint` of the `+` in `+=`.
+    /// Returns the spacing: for the `+` in `+=` that is `Joint`.
     pub fn spacing(&self) -> Spacing
         ensures { result ≡ self.now.spacing }
     {
         self.spacing
     }
 
-    /// Where it stands: 3..4 of the `!` in `foo!`.
+    /// Returns the span of this punctuation: for the `!` in `foo!` that is 3..4.
     pub fn span(&self) -> Span
         ensures { result ≡ self.now.span }
     {
         self.span
     }
 
-    /// Puts it at another place.
+    /// Sets the span of this punctuation.
     ///
     /// ```rust
     /// let mut mark = Punct::new('!', Spacing::Alone);

@@ -1,10 +1,10 @@
-//! Where tokens stand.
+//! Spans of tokens.
 ghost use Rattle.std.specs.Prelude.{◌≡◌, ◌≤◌};
 ghost use Rattle.litrs_token.specs.Place.{call_site};
 
 use std::marker::Model;
 
-/// Where a token stands in its source: from a byte up to another.
+/// The range of bytes of a token in its source.
 #[derive(Clone, Copy, Debug, PartialEq, Eq)]
 pub struct Span {
     start: usize,
@@ -25,7 +25,7 @@ impl Model for Span {
 }
 
 impl Span {
-    /// From `start` up to `end`, in bytes. The start is at most the end.
+    /// Creates a span of the bytes from `start` up to `end`. `start` is at most `end`.
     ///
     /// ```rust
     /// let span = Span::new(2, 5);
@@ -39,21 +39,21 @@ impl Span {
         Span { start, end }
     }
 
-    /// The span of a token that a program makes, and no source has: 0..0.
+    /// Returns the span of a token that comes from no source: 0..0.
     pub fn call_site() -> Span
         ensures { result ≡ call_site }
     {
         Span { start: 0, end: 0 }
     }
 
-    /// The first byte: 2 of 2..5.
+    /// Returns the place of the first byte, in bytes: 2 for 2..5.
     pub fn start(&self) -> usize
         ensures { result ≡ self.now.start }
     {
         self.start
     }
 
-    /// The byte after the last one: 5 of 2..5. It is at least the start.
+    /// Returns the place after the last byte, in bytes: 5 for 2..5.
     pub fn end(&self) -> usize
         ensures end { result ≡ self.now.end }
         ensures in_order { self.now.start ≤ result }

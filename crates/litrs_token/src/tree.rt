@@ -11,7 +11,7 @@ use crate::literal::Literal;
 use crate::punct::Punct;
 use crate::span::Span;
 
-/// What stands around a group.
+/// The delimiter of a group.
 #[derive(Clone, Copy, Debug, PartialEq, Eq)]
 pub enum Delimiter {
     /// `(` and `)`.
@@ -20,11 +20,11 @@ pub enum Delimiter {
     Brace,
     /// `[` and `]`.
     Bracket,
-    /// Nothing.
+    /// No delimiter.
     None,
 }
 
-/// Trees of tokens between two delimiters.
+/// A sequence of trees between two delimiters.
 #[cycle(tree)]
 #[derive(Drop)]
 pub struct Group {
@@ -37,18 +37,18 @@ pub struct Group {
 #[cycle(tree)]
 #[derive(Drop)]
 pub enum TokenTree {
-    /// A group, as `(a, b)`.
+    /// A group, for example `(a, b)`.
     Group(Group),
-    /// An identifier, as `x`.
+    /// An identifier, for example `x`.
     Ident(Ident),
-    /// Punctuation, as `+`.
+    /// Punctuation, for example `+`.
     Punct(Punct),
-    /// A literal that is no bool, as `27`.
+    /// A literal that is not a bool, for example `27`.
     Literal(Literal),
 }
 
 impl Group {
-    /// A group of these trees, with the call-site span.
+    /// Creates a group of the trees in `stream`, with the call-site span.
     ///
     /// ```rust
     /// let name = Ident::new(rt.alloc(), "a", Span::new(1, 2))?;
@@ -70,28 +70,29 @@ impl Group {
         }
     }
 
-    /// What stands around it: `Parenthesis` of `(a)`.
+    /// Returns the delimiter of this group: for `(a)` that is `Parenthesis`.
     pub fn delimiter(&self) -> Delimiter
         ensures { result ≡ group_delimiter self.now }
     {
         self.delimiter
     }
 
-    /// The trees between the delimiters: of `(a)` the identifier `a`.
+    /// Returns the trees between the delimiters: for `(a)` that is the identifier `a`.
     pub fn stream(&self) -> &[TokenTree]
         ensures { result.now ≡ group_stream self.now }
     {
         self.stream.as_slice()
     }
 
-    /// Where it stands, with its delimiters: 0..3 of `(a)` at the start of a source.
+    /// Returns the span of this group and its delimiters: for `(a)` at the start of a source that
+    /// is 0..3.
     pub fn span(&self) -> Span
         ensures { result ≡ group_span self.now }
     {
         self.span
     }
 
-    /// Puts the group at another place, and leaves the trees inside where they are.
+    /// Sets the span of this group. The spans of the trees inside are unchanged.
     ///
     /// ```rust
     /// group.set_span(Span::new(0, 3));
@@ -108,7 +109,7 @@ impl Group {
 }
 
 impl TokenTree {
-    /// Where it stands: the span of the group, the identifier, the punctuation or the literal.
+    /// Returns the span of the group, the identifier, the punctuation or the literal.
     pub fn span(&self) -> Span
         ensures { result ≡ tree_span self.now }
     {
@@ -120,7 +121,7 @@ impl TokenTree {
         }
     }
 
-    /// Puts the tree at another place, and leaves the trees inside a group where they are.
+    /// Sets the span of this tree. The spans of the trees inside a group are unchanged.
     ///
     /// ```rust
     /// let mut tree = TokenTree::from(Punct::new('+', Spacing::Alone));
@@ -141,7 +142,7 @@ impl TokenTree {
 }
 
 impl TokenTree {
-    /// What kind of token it is, and of a literal which kind: of the tree `27` `IntegerLit`.
+    /// Returns the kind of this token: for the tree `27` that is `IntegerLit`.
     pub(crate) fn kind(&self) -> TokenKind
         ensures { result ≡ actual_kind (shape_of self.now) }
     {
@@ -153,7 +154,7 @@ impl TokenTree {
         }
     }
 
-    /// That it is another token than the expected one, with its kind and its span.
+    /// Returns the error of this token if `expected` was expected, with its kind and its span.
     pub(crate) fn mismatch(&self, expected: TokenKind) -> InvalidToken
         ensures { result ≡ tree_mismatch expected self.now }
     {
