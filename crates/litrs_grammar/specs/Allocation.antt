@@ -1,4 +1,4 @@
--- Which texts a parse may allocate memory for. The Rust Reference does not speak of it.
+-- The texts for which a parse may allocate memory. The Rust Reference does not define this.
 use Rattle.std.specs.Prelude.{ℕ, Bool, true, false, ◌==◌, ◌&&◌, ◌||◌, List, codes}
 use Rattle.std.specs.List.{list_any}
 use Rattle.litrs_base.specs.Characters.{backslash}
@@ -6,23 +6,24 @@ use Rattle.litrs_base.specs.Text.{begins_with}
 use Rattle.litrs_grammar.specs.Quoted.{body_text}
 use Rattle.litrs_grammar.specs.Literal.{StringParts, quoted_parts, raw_parts, Derivation, a_bool, an_integer, a_float, a_char, a_byte, a_string, a_byte_string, a_c_string}
 
--- a backslash stands in the text
+-- `true` iff the text contains a backslash.
 abbrev pub has_backslash : List ℕ → Bool
 has_backslash t = list_any (λ c. c == backslash) t
 
--- A parse may allocate for a quoted string or byte string with a backslash, whose value is then
--- written anew, and for every C string, whose value ends with a zero byte.
+-- A parse may allocate for every C string, because its value ends with a zero byte, and for a
+-- quoted string or byte string with a backslash, because its value differs from its body.
 abbrev pub may_allocate : List ℕ → Bool
 may_allocate t =
     (begins_with (codes "\"") t || begins_with (codes "b\"") t) && has_backslash t
     || begins_with (codes "c\"") t || begins_with (codes "cr") t
 
--- the body is quoted and has a backslash
+-- `true` iff the body is quoted and contains a backslash.
 abbrev pub has_escapes : StringParts → Bool
 has_escapes (quoted_parts d) = has_backslash (body_text d.items)
 has_escapes (raw_parts d) = false
 
--- the same of a literal, by its parts: it is a C string, or its body is quoted and has a backslash
+-- Like `may_allocate`, for the parts of a literal: it is a C string, or its body is quoted and
+-- contains a backslash.
 abbrev pub allocates : Derivation → Bool
 allocates (a_bool b) = false
 allocates (an_integer d) = false

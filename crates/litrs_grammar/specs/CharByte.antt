@@ -13,56 +13,56 @@ use Rattle.litrs_grammar.specs.Escape.{Escape, escape_text, escape_value, is_esc
 use Rattle.litrs_grammar.specs.Suffix.{is_suffix, suffix_refusal}
 use Rattle.litrs_base.specs.Text.{byte_len, first_passes, begins_with}
 
--- What stands between the quotes: one character that stands for itself, or one escape.
+-- The item between the quotes: one plain character, or one escape.
 pub data CharItem : Type 0 where
   plain_char : ℕ → CharItem
   escaped_char : Escape → CharItem
 
--- how it is written
+-- The text of an item.
 abbrev pub char_item_text : CharItem → List ℕ
 char_item_text (plain_char c) = c ∷ []
 char_item_text (escaped_char e) = escape_text e
 
--- the character or byte that it stands for
+-- The value of an item: a character or a byte.
 abbrev pub char_value : CharItem → ℕ
 char_value (plain_char c) = c
 char_value (escaped_char e) = unescaped_number (escape_value e)
 
--- LF, tab and CR, which are written as escapes alone
+-- LF, tab and CR, which must be escaped.
 abbrev pub is_special_whitespace : ℕ → Bool
 is_special_whitespace c = (c == line_feed) || (c == tab) || (c == carriage_return)
 
--- any character in a char; an ASCII one in a byte
+-- A char may contain every character, and a byte only ASCII characters.
 abbrev pub allows_char : CharKind → ℕ → Bool
 allows_char char_kind c = true
 allows_char byte_kind c = is_ascii c
 
--- A character stands for itself that is no `'`, backslash, LF, tab or CR; in a byte it is ASCII.
+-- A plain character is not `'`, a backslash, LF, tab or CR. In a byte it is ASCII. An escape is one
+-- of those that the kind allows.
 abbrev pub is_char_item : CharKind → CharItem → Bool
 is_char_item kind (plain_char c) =
     not (c == single_quote) && not (c == backslash) && not (is_special_whitespace c)
     && allows_char kind c
 is_char_item kind (escaped_char e) = is_escape (char_switches_of kind) e
 
--- A char or a byte: the front, one item, `'` and a suffix.
+-- The parts of a char or a byte, which is the front, one item, `'` and a suffix.
 pub record CharParts : Type 0 where
   pub item : CharItem
   pub suffix : List ℕ
 
--- how it is written
+-- The text of a char or a byte.
 abbrev pub char_text : CharKind → CharParts → List ℕ
 char_text kind d = char_front kind ++ (char_item_text d.item ++ single_quote ∷ d.suffix)
 
--- the text is the literal of these parts
+-- `t` is a literal of the kind with the parts `d`.
 pub record IsCharLiteral (kind : CharKind) (t : List ℕ) (d : CharParts) : Type 0 where
   pub spells : char_text kind d ≡ t
   pub item : IsTrue (is_char_item kind d.item)
   pub suffix : IsTrue (is_suffix d.suffix)
 
--- Why a text is no char or no byte. Of the rows of each function the first that fits decides, and
--- where none fits the text is a literal.
+-- Refusals. In each function the first row that fits decides. If none fits, the text is a literal.
 
--- the three refusals that each kind has of its own
+-- The three error kinds that differ between chars and bytes.
 abbrev pub unterminated_kind : CharKind → ParseErrorKind
 unterminated_kind char_kind = UnterminatedCharLiteral
 unterminated_kind byte_kind = UnterminatedByteLiteral
@@ -75,17 +75,17 @@ abbrev pub overlong_kind : CharKind → ParseErrorKind
 overlong_kind char_kind = OverlongCharLiteral
 overlong_kind byte_kind = OverlongByteLiteral
 
--- a text that does not begin with the front of its kind
+-- The refusal of a text that does not start with the front of the kind.
 abbrev pub start_refusal : CharKind → List ℕ → Refusal
 start_refusal kind [] = without_span Empty
 start_refusal char_kind (c ∷ t) = at_byte 0 DoesNotStartWithQuote
 start_refusal byte_kind (c ∷ t) = without_span InvalidByteLiteralStart
 
--- the item that a text with this first character begins with, if it begins with one
+-- The item at the front of a text `t` that starts with `c`, if there is one.
 abbrev pub char_item_at_front : ℕ → List ℕ → CharItem
 char_item_at_front c t = if c == backslash then escaped_char (escape_at_front t) else plain_char c
 
--- by what follows the item, which has this many bytes
+-- The refusal by the text `t` after the item, which ends at `place`, in bytes.
 abbrev pub closing_refusal : CharKind → ℕ → List ℕ → Option Refusal
 closing_refusal kind place t =
     if not (list_any (λ c. c == single_quote) t) then Some (without_span (unterminated_kind kind))
@@ -94,7 +94,7 @@ closing_refusal kind place t =
     else if not (is_suffix (drop 1 t)) then Some (at_byte (place + 1) (suffix_refusal (drop 1 t)))
     else None
 
--- by what follows the front; spans count from there
+-- The refusal by the text after the front. Spans count from the end of the front.
 abbrev pub char_item_refusal : CharKind → List ℕ → Option Refusal
 char_item_refusal kind [] = Some (without_span (unterminated_kind kind))
 char_item_refusal kind (c ∷ t) =
@@ -108,7 +108,7 @@ char_item_refusal kind (c ∷ t) =
     else if not (allows_char kind c) then Some (at_byte 0 NonAsciiInByteLiteral)
     else closing_refusal kind (byte_len (take n (c ∷ t))) (drop n (c ∷ t))
 
--- by the front, which a text must have
+-- The refusal of a text as a literal of the kind.
 unfoldable pub char_kind_refusal : CharKind → List ℕ → Option Refusal
 char_kind_refusal kind t =
     let place = length (char_front kind) in
@@ -116,10 +116,10 @@ char_kind_refusal kind t =
     then option_map (shifted place) (char_item_refusal kind (drop place t))
     else Some (start_refusal kind t)
 
--- why a text is no char
+-- The refusal of a text as a char.
 abbrev pub char_refusal : List ℕ → Option Refusal
 char_refusal = char_kind_refusal char_kind
 
--- why a text is no byte
+-- The refusal of a text as a byte.
 abbrev pub byte_refusal : List ℕ → Option Refusal
 byte_refusal = char_kind_refusal byte_kind

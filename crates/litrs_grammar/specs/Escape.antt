@@ -13,26 +13,27 @@ use Rattle.litrs_base.specs.Numeral.{numeral}
 use Rattle.litrs_base.specs.declared.quotes.Switches.{Switches}
 use Rattle.litrs_base.specs.Text.{is_empty, byte_len, first_passes}
 
--- An escape: a backslash and one character, `\x` and two digits, or `\u{..}` by what stands between
--- the braces.
+-- An escape: a backslash and one character, `\x` and two digits, or `\u{..}` with the characters
+-- between the braces.
 pub data Escape : Type 0 where
   simple_escape : ℕ → Escape
   hex_escape : ℕ → ℕ → Escape
   unicode_escape : List ℕ → Escape
 
--- how it is written
+-- The text of an escape.
 abbrev pub escape_text : Escape → List ℕ
 escape_text (simple_escape c) = backslash ∷ c ∷ []
 escape_text (hex_escape high low) = backslash ∷ letter_x ∷ high ∷ low ∷ []
 escape_text (unicode_escape inner) = backslash ∷ letter_u ∷ open_brace ∷ (inner ++ close_brace ∷ [])
 
--- the characters that a backslash alone makes an escape: `'`, `"`, `n`, `r`, `t`, `\` and `0`
+-- The characters that form an escape with a backslash alone: `'`, `"`, `n`, `r`, `t`, `\` and `0`.
 abbrev pub is_simple : ℕ → Bool
 is_simple c =
     (c == single_quote) || (c == double_quote) || (c == letter_n) || (c == letter_r)
     || (c == letter_t) || (c == backslash) || (c == digit_zero)
 
--- `\n`, `\r`, `\t` and `\0` stand for LF, CR, tab and NUL, and the others for the character itself
+-- The values of `\n`, `\r`, `\t` and `\0` are LF, CR, tab and NUL. That of the others is the
+-- character after the backslash.
 abbrev pub simple_value : ℕ → ℕ
 simple_value c =
     if c == letter_n then line_feed
@@ -41,40 +42,40 @@ simple_value c =
     else if c == digit_zero then nul
     else c
 
--- the number that two hex digits write
+-- The number that two hex digits write.
 abbrev pub pair_value : ℕ → ℕ → ℕ
 pair_value high low = 16 * digit_value high + digit_value low
 
--- the number that hex digits and underscores write
+-- The number that hex digits write, ignoring underscores.
 abbrev pub hex_value : List ℕ → ℕ
 hex_value = numeral 16
 
--- what may stand between the braces of `\u{..}`
+-- The characters allowed between the braces of `\u{..}`.
 abbrev pub is_hex_or_underscore : ℕ → Bool
 is_hex_or_underscore c = is_ascii_hexdigit c || (c == underscore)
 
--- what it stands for
+-- The value of an escape.
 abbrev pub escape_value : Escape → Unescape
 escape_value (simple_escape c) = Byte (simple_value c)
 escape_value (hex_escape high low) = Byte (pair_value high low)
 escape_value (unicode_escape inner) = Unicode (hex_value inner)
 
--- the bytes of a value: the byte itself, or the UTF-8 of the character
+-- The bytes of a value: the byte itself, or the UTF-8 of the character.
 abbrev pub value_bytes : Unescape → List ℕ
 value_bytes (Byte b) = b ∷ []
 value_bytes (Unicode c) = encode_utf8 c
 
--- a value may be 0 only where NUL is allowed
+-- A value may be 0 only if NUL is allowed.
 abbrev pub allows_value : Switches → ℕ → Bool
 allows_value w value = nul_is_allowed w.allow_nul value
 
--- `\x` goes up to 7F, or to FF where byte escapes are on
+-- The value of `\x` is at most 7F, or at most FF if byte escapes are on.
 abbrev pub allows_byte : Switches → ℕ → Bool
 allows_byte w value = w.byte_escapes || is_ascii value
 
--- An escape is a simple one; or `\x` and two hex digits; or, where Unicode escapes are on, `\u{..}`
--- with a hex digit first, one to six hex digits in all, underscores anywhere after the first, and
--- a Unicode scalar value.
+-- An escape is a simple one; or `\x` and two hex digits; or, if Unicode escapes are on, `\u{..}`.
+-- Between the braces there are one to six hex digits, and underscores after the first digit, and
+-- the value is a Unicode scalar value.
 abbrev pub is_escape : Switches → Escape → Bool
 is_escape w (simple_escape c) = is_simple c && allows_value w (simple_value c)
 is_escape w (hex_escape high low) =
@@ -85,12 +86,12 @@ is_escape w (unicode_escape inner) =
     && nat_le (count_by is_ascii_hexdigit inner) 6
     && allows_value w (hex_value inner) && is_scalar (hex_value inner)
 
--- the same, as a condition
+-- `e` is an escape under the switches `w`.
 abbrev pub IsEscape : Switches → Escape → Type 0
 IsEscape w e = IsTrue (is_escape w e)
 
--- The escape that a text begins with, if it begins with one: a backslash and what follows it, which
--- is `x` and two characters, `u` and the characters up to the first `}`, or one character.
+-- The escape at the front of a text, if there is one: a backslash, followed by `x` and two
+-- characters, by `u` and the characters up to the first `}`, or by one character.
 abbrev pub escape_at_front : List ℕ → Escape
 escape_at_front t =
     let letter = slice_index t 1 in
@@ -99,18 +100,18 @@ escape_at_front t =
     then unicode_escape (before_first (λ c. c == close_brace) (drop 3 t))
     else simple_escape letter
 
--- Why a text has no escape at its front. The text is empty or begins with the backslash, from which
--- the spans count; of the rows of each function the first that fits decides, and where none fits an
--- escape stands there.
+-- Refusals. The text is empty or starts with the backslash, from which the spans count. In each
+-- function the first row that fits decides. If none fits, there is an escape at the front.
 
--- a character ends after the first two bytes, as it does where the first one has two, or the first
--- two have: otherwise the two bytes after `\x` are not there, or they end inside a character
+-- `true` iff a character ends after the first two bytes: the first character has two bytes, or the
+-- first two characters have. Otherwise the two bytes after `\x` are missing, or they end inside a
+-- character.
 abbrev pub has_two_bytes : List ℕ → Bool
 has_two_bytes [] = false
 has_two_bytes (c ∷ []) = byte_len (c ∷ []) == 2
 has_two_bytes (c ∷ d ∷ t) = (byte_len (c ∷ []) == 2) || (byte_len (c ∷ d ∷ []) == 2)
 
--- by what follows `\x`
+-- The refusal by the text after `\x`.
 abbrev pub hex_refusal : Switches → List ℕ → Option Refusal
 hex_refusal w t =
     let high = slice_index t 0 in
@@ -122,13 +123,13 @@ hex_refusal w t =
     else if not (allows_value w (pair_value high low)) then Some (spanning 0 4 DisallowedNulEscape)
     else None
 
--- the place of the first character that passes the test once n have passed it
+-- The place of the first character that passes the test `p` after `n` others have passed it.
 abbrev pub place_after : ℕ → (ℕ → Bool) → List ℕ → ℕ
 place_after n p [] = 0
 place_after zero p (c ∷ t) = if p c then 0 else 1 + place_after zero p t
 place_after (suc n) p (c ∷ t) = 1 + place_after (if p c then n else suc n) p t
 
--- by what stands between `\u{` and the first `}`
+-- The refusal by the text between `\u{` and the first `}`.
 abbrev pub inner_refusal : Switches → List ℕ → Option Refusal
 inner_refusal w inner =
     let digits = take_while is_hex_or_underscore inner in
@@ -144,7 +145,7 @@ inner_refusal w inner =
     then Some (spanning 0 (4 + length inner) InvalidUnicodeEscapeChar)
     else None
 
--- by what follows `\u`
+-- The refusal by the text after `\u`.
 abbrev pub unicode_refusal : Switches → List ℕ → Option Refusal
 unicode_refusal w t =
     if not w.unicode then Some (spanning 0 2 UnicodeEscapeInByteLiteral)
@@ -154,7 +155,7 @@ unicode_refusal w t =
     then Some (spanning 0 (2 + byte_len t) UnterminatedUnicodeEscape)
     else inner_refusal w (before_first (λ c. c == close_brace) (drop 1 t))
 
--- by what follows the backslash
+-- The refusal of a text that is empty or starts with a backslash.
 unfoldable pub escape_refusal : Switches → List ℕ → Option Refusal
 escape_refusal w [] = Some (at_byte 0 UnterminatedEscape)
 escape_refusal w (c ∷ []) = Some (at_byte 0 UnterminatedEscape)

@@ -1,5 +1,5 @@
--- Which refused texts begin a literal, for the nine parses. The Rust Reference, Tokens, Literals;
--- it does not speak of refusals.
+-- The refused texts that begin a literal, for the nine parses. The Rust Reference, Tokens,
+-- Literals, defines the literals, but not the refusals.
 pub mod Escape
 pub mod Quoted
 pub mod Raw
@@ -27,18 +27,18 @@ use Rattle.litrs_grammar.specs.GoesOn.Raw.{RawGoesOn}
 use Rattle.litrs_grammar.specs.GoesOn.String.{start_goes_on}
 use Rattle.litrs_grammar.specs.GoesOn.Undispatched.{undispatched_goes_on}
 
--- a text that starts so, as a string of the kind
+-- A text that starts like this begins a string of the kind.
 abbrev pub StartGoesOn : StringKind → StringStart → List ℕ → Type 0
 StartGoesOn kind (refused_start refusal) t = IsTrue (start_goes_on kind t)
 StartGoesOn kind quoted_start t = QuotedGoesOn (quoted_front kind) (switches_of kind) t
 StartGoesOn kind raw_start t =
     RawGoesOn (has_unicode kind) (allows_nul kind) (drop (length (raw_front kind)) t)
 
--- as a string of the kind
+-- The text begins a string of the kind.
 abbrev pub StringGoesOn : StringKind → List ℕ → Type 0
 StringGoesOn kind t = StartGoesOn kind (string_start kind t) t
 
--- as a literal of one kind
+-- The text begins a literal of the kind.
 abbrev pub KindGoesOn : LiteralKind → List ℕ → Type 0
 KindGoesOn bool_literal t = IsTrue (bool_goes_on t)
 KindGoesOn integer_literal t = IntegerGoesOn t
@@ -49,12 +49,12 @@ KindGoesOn string_literal t = StringGoesOn string_kind t
 KindGoesOn byte_string_literal t = StringGoesOn byte_string_kind t
 KindGoesOn c_string_literal t = StringGoesOn c_string_kind t
 
--- a text that is dispatched so, as a literal of any kind
+-- A text that is dispatched like this begins a literal of any kind.
 abbrev pub DispatchedGoesOn : Dispatch → List ℕ → Type 0
 DispatchedGoesOn (refused_as refusal) t = IsTrue (undispatched_goes_on t)
 DispatchedGoesOn (parsed_as kind) t = KindGoesOn kind t
 
--- the text that the parse refuses goes on
+-- A text that the parse refuses begins a literal of the parse.
 abbrev pub GoesOn : Parse → List ℕ → Type 0
 GoesOn literal_parse t = DispatchedGoesOn (dispatch t) t
 GoesOn (kind_parse kind) t = KindGoesOn kind t

@@ -12,31 +12,31 @@ use Rattle.litrs_grammar.specs.Suffix.{is_suffix, suffix_refusal}
 use Rattle.litrs_base.specs.Base.{prefix, base_value, is_digit, is_digit_or_underscore}
 use Rattle.litrs_base.specs.Numeral.{numeral}
 
--- The grammar
+-- The grammar.
 
--- what an integer is made of: a prefix that decides the base, the main part, and the suffix
+-- The parts of an integer: the base, which its prefix names, the main part, and the suffix.
 pub record IntegerParts : Type 0 where
   pub base : IntegerBase
   pub main : List ℕ
   pub suffix : List ℕ
 
--- how it is written
+-- The text of an integer.
 abbrev pub integer_text : IntegerParts → List ℕ
 integer_text d = prefix d.base ++ (d.main ++ d.suffix)
 
--- `e` or `E`
+-- `true` for `e` and `E`.
 abbrev pub is_e : ℕ → Bool
 is_e c = (c == letter_e) || (c == capital_e)
 
--- `0b`, `0o` or `0x` stands at the start
+-- `true` iff the text starts with `0b`, `0o` or `0x`.
 abbrev pub has_prefix : List ℕ → Bool
 has_prefix t =
     begins_with (prefix Binary) t || begins_with (prefix Octal) t
     || begins_with (prefix Hexadecimal) t
 
--- The main part has digits of the base and underscores, at least one digit, and takes all of them
--- that follow. The suffix does not begin with `e` or `E`. A decimal integer begins with a digit,
--- and not with the prefix of another base.
+-- The main part has digits of the base and underscores, with at least one digit, and takes all of
+-- them that follow. The suffix does not start with `e` or `E`. A decimal integer starts with a
+-- digit, and not with the prefix of another base.
 pub record IsInteger (d : IntegerParts) : Type 0 where
   pub digits : IsTrue (list_all (is_digit_or_underscore d.base) d.main)
   pub some_digit : IsTrue (list_any (is_digit d.base) d.main)
@@ -46,43 +46,43 @@ pub record IsInteger (d : IntegerParts) : Type 0 where
   pub decimal_digit : d.base ≡ Decimal → IsTrue (first_passes is_ascii_digit d.main)
   pub decimal_prefix : d.base ≡ Decimal → IsFalse (has_prefix (integer_text d))
 
--- d is a derivation of t as an integer
+-- `t` is an integer with the parts `d`.
 pub record IsIntegerOf (t : List ℕ) (d : IntegerParts) : Type 0 where
   pub spells : integer_text d ≡ t
   pub grammar : IsInteger d
 
--- the value of an integer: of its main part in its base, whatever the suffix
+-- The value of an integer: that of its main part in its base, whatever the suffix is.
 abbrev pub integer_value : IntegerParts → ℕ
 integer_value d = numeral (base_value d.base) d.main
 
--- The refusals
+-- The refusals.
 
--- The base, by the front of a text: `0b`, `0o` and `0x` are always the prefix, and everything else
--- is decimal.
+-- The base by the front of a text: `0b`, `0o` and `0x` are always a prefix, and every other text is
+-- decimal.
 abbrev pub base_of : List ℕ → IntegerBase
 base_of t = if begins_with (prefix Binary) t then Binary
     else if begins_with (prefix Octal) t then Octal
     else if begins_with (prefix Hexadecimal) t then Hexadecimal
     else Decimal
 
--- what follows the prefix
+-- The text after the prefix.
 abbrev pub after_prefix : List ℕ → List ℕ
 after_prefix t = drop (length (prefix (base_of t))) t
 
--- the main part: all digits of the base and underscores that follow the prefix
+-- The main part: all digits of the base and underscores after the prefix.
 abbrev pub main_of : List ℕ → List ℕ
 main_of t = take_while (is_digit_or_underscore (base_of t)) (after_prefix t)
 
--- what follows the main part
+-- The text after the main part.
 abbrev pub after_main : List ℕ → List ℕ
 after_main t = drop (length (main_of t)) (after_prefix t)
 
--- a text cut after the prefix and after the main part
+-- The parts of a text, cut after the prefix and after the main part.
 unfoldable pub integer_cut : List ℕ → IntegerParts
 integer_cut t = record { base = base_of t; main = main_of t; suffix = after_main t }
 
--- A text that begins with a decimal digit, by its main part and by what follows; the first row that
--- fits decides.
+-- The refusal of a text that starts with a decimal digit, by its parts. The first row that fits
+-- decides.
 abbrev pub integer_cut_refusal : IntegerParts → Option Refusal
 integer_cut_refusal d =
     let start = byte_len (prefix d.base) in
@@ -94,7 +94,7 @@ integer_cut_refusal d =
     else if not (list_any (is_digit d.base) d.main) then Some (spanning start end NoDigits)
     else None
 
--- the refusal of a text as an integer, None where there is none
+-- The refusal of a text as an integer, or `None` if it is an integer.
 unfoldable pub integer_refusal : List ℕ → Option Refusal
 integer_refusal t =
     if is_empty t then Some (without_span Empty)

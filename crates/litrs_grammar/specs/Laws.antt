@@ -1,4 +1,4 @@
--- What holds of all texts, topic by topic.
+-- The laws, topic by topic.
 pub mod Text
 pub mod Name
 pub mod Escape

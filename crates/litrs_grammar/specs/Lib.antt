@@ -1,4 +1,4 @@
--- the grammar: one file a topic, and below each rule how a text that breaks it is refused
+-- the grammar: one file a topic, with the refusals below the rules
 pub mod Suffix
 pub mod Escape
 pub mod Quoted
@@ -12,12 +12,12 @@ pub mod Literal
 pub mod Strings
 pub mod LiteralRefusals
 pub mod Allocation
--- what a refusal means
+-- the meaning of a refusal
 pub mod Continuation
 pub mod Closing
 pub mod Refused
--- which refused texts some longer text completes, all kinds and kind by kind
+-- the refused texts that begin a literal, all kinds and kind by kind
 pub mod LiteralText
 pub mod GoesOn
--- what the laws say
+-- the laws
 pub mod Laws

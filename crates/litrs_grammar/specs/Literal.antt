@@ -11,27 +11,27 @@ use Rattle.litrs_grammar.specs.CharByte.{CharParts, IsCharLiteral}
 use Rattle.litrs_grammar.specs.Quoted.{QuotedParts, body_value, IsQuotedLiteral}
 use Rattle.litrs_grammar.specs.Raw.{RawParts, raw_value, IsRawLiteral}
 
--- A string literal of each of its three kinds is quoted or raw.
+-- The parts of a string literal, which is quoted or raw.
 pub data StringParts : Type 0 where
   quoted_parts : QuotedParts → StringParts
   raw_parts : RawParts → StringParts
 
--- the text is a string of the kind with these parts
+-- The text is a string of the kind with these parts.
 abbrev pub IsString : StringKind → List ℕ → StringParts → Type 0
 IsString kind t (quoted_parts d) = IsQuotedLiteral kind t d
 IsString kind t (raw_parts d) = IsRawLiteral kind t d
 
--- its suffix
+-- The suffix of a string literal.
 abbrev pub string_suffix : StringParts → List ℕ
 string_suffix (quoted_parts d) = d.suffix
 string_suffix (raw_parts d) = d.suffix
 
--- its value: the bytes that its body stands for
+-- The value of a string literal, in bytes.
 abbrev pub string_value : StringParts → List ℕ
 string_value (quoted_parts d) = body_value d.items
 string_value (raw_parts d) = raw_value d.body
 
--- A derivation is the kind of a literal and the parts that it is made of.
+-- A derivation: the kind of a literal and its parts.
 pub data Derivation : Type 0 where
   a_bool : Bool → Derivation
   an_integer : IntegerParts → Derivation
@@ -42,7 +42,7 @@ pub data Derivation : Type 0 where
   a_byte_string : StringParts → Derivation
   a_c_string : StringParts → Derivation
 
--- d is a derivation of t: the text is a literal of this kind with these parts
+-- `d` is a derivation of `t`: the text is a literal of this kind with these parts.
 abbrev pub IsLiteral : List ℕ → Derivation → Type 0
 IsLiteral t (a_bool b) = IsBool t b
 IsLiteral t (an_integer d) = IsIntegerOf t d
@@ -53,7 +53,7 @@ IsLiteral t (a_string d) = IsString string_kind t d
 IsLiteral t (a_byte_string d) = IsString byte_string_kind t d
 IsLiteral t (a_c_string d) = IsString c_string_kind t d
 
--- the suffix of a literal; a bool has none
+-- The suffix of a literal, which is empty for a bool.
 abbrev pub suffix_of : Derivation → List ℕ
 suffix_of (a_bool b) = []
 suffix_of (an_integer d) = d.suffix
@@ -64,7 +64,7 @@ suffix_of (a_string d) = string_suffix d
 suffix_of (a_byte_string d) = string_suffix d
 suffix_of (a_c_string d) = string_suffix d
 
--- The kinds.
+-- The kinds of literals.
 pub data LiteralKind : Type 0 where
   bool_literal : LiteralKind
   integer_literal : LiteralKind
@@ -75,7 +75,7 @@ pub data LiteralKind : Type 0 where
   byte_string_literal : LiteralKind
   c_string_literal : LiteralKind
 
--- the kind of a literal
+-- The kind of a literal.
 abbrev pub literal_kind : Derivation → LiteralKind
 literal_kind (a_bool b) = bool_literal
 literal_kind (an_integer d) = integer_literal
@@ -86,22 +86,22 @@ literal_kind (a_string d) = string_literal
 literal_kind (a_byte_string d) = byte_string_literal
 literal_kind (a_c_string d) = c_string_literal
 
--- the kind of literals that the strings of a kind are
+-- The kind of literal that a string of the kind is.
 abbrev pub string_literal_of : StringKind → LiteralKind
 string_literal_of string_kind = string_literal
 string_literal_of byte_string_kind = byte_string_literal
 string_literal_of c_string_kind = c_string_literal
 
--- The nine parses: that of literals of any kind, and that of each kind alone.
+-- The nine parses: one for literals of any kind, and one for each kind alone.
 pub data Parse : Type 0 where
   literal_parse : Parse
   kind_parse : LiteralKind → Parse
 
--- d is a derivation of t that the parse looks for
+-- `d` is a derivation of `t` that the parse accepts.
 abbrev pub IsLiteralOf : Parse → List ℕ → Derivation → Type 0
 IsLiteralOf literal_parse t d = IsLiteral t d
 IsLiteralOf (kind_parse kind) t d = (literal_kind d ≡ kind) × IsLiteral t d
 
--- t begins a literal of the parse: with some text after it, which may be empty, it is one
+-- `t` begins a literal of the parse: `t` followed by some text, which may be empty, is one.
 abbrev pub Begins : Parse → List ℕ → Type 0
 Begins parse t = BeginsBy (IsLiteralOf parse) t

@@ -1,5 +1,5 @@
--- The refusals of the nine parses. The Rust Reference says which texts are literals, and not why
--- another is none: the tables here and in the files of the kinds do.
+-- The refusals of the nine parses. The Rust Reference defines which texts are literals, but not the
+-- errors for other texts: the tables here and in the files of the kinds do.
 use Rattle.std.specs.Prelude.{◌≡◌, ℕ, ◌==◌, ◌||◌, Bool, List, drop, Some, codes, if◌then◌else◌}
 use Rattle.std.specs.Char.{is_ascii_digit}
 use Rattle.std.specs.List.{prefix_len}
@@ -22,20 +22,20 @@ use Rattle.litrs_grammar.specs.Literal.{LiteralKind, bool_literal, integer_liter
 
 -- Strings of each kind
 
--- a text that begins with neither front of its kind
+-- The refusal of a text that starts with neither front of the kind.
 abbrev pub string_start_refusal : StringKind → Refusal
 string_start_refusal string_kind = at_byte 0 InvalidStringLiteralStart
 string_start_refusal byte_string_kind = without_span InvalidByteStringLiteralStart
 string_start_refusal c_string_kind = without_span InvalidCStringLiteralStart
 
--- How a text starts: it is refused without looking further, or the table of quoted or of raw
--- literals gives its refusal.
+-- The start of a text: it decides the refusal alone, or selects the table of quoted or of raw
+-- literals.
 pub data StringStart : Type 0 where
   refused_start : Refusal → StringStart
   quoted_start : StringStart
   raw_start : StringStart
 
--- the first row that fits decides
+-- The start of a text as a string of the kind. The first row that fits decides.
 abbrev pub string_start : StringKind → List ℕ → StringStart
 string_start kind t =
     if is_empty t then refused_start (without_span Empty)
@@ -43,13 +43,13 @@ string_start kind t =
     else if begins_with (raw_front kind) t then raw_start
     else refused_start (string_start_refusal kind)
 
--- the refusals of a text that starts so
+-- The refusals of a text with this start.
 abbrev pub IsRefusalOfStart : StringKind → StringStart → List ℕ → Refusal → Type 0
 IsRefusalOfStart kind (refused_start refusal) t e = refusal ≡ e
 IsRefusalOfStart kind quoted_start t e = IsQuotedLiteralRefusal kind t e
 IsRefusalOfStart kind raw_start t e = raw_literal_refusal kind t ≡ Some e
 
--- the refusals of a text as a string of the kind
+-- The refusals of a text as a string of the kind.
 abbrev pub IsStringRefusal : StringKind → List ℕ → Refusal → Type 0
 IsStringRefusal kind t = IsRefusalOfStart kind (string_start kind t) t
 
@@ -67,21 +67,21 @@ IsKindRefusal c_string_literal t e = IsStringRefusal c_string_kind t e
 
 -- Literals of any kind
 
--- what a float has after its integer part: a period, `e` or `E`
+-- A period, `e` or `E`, one of which follows the integer part of a float.
 abbrev pub is_float_mark : ℕ → Bool
 is_float_mark c = (c == period) || is_e c
 
--- such a mark follows the leading run of decimal digits and underscores
+-- `true` iff such a mark follows the leading run of decimal digits and underscores.
 abbrev pub begins_float : List ℕ → Bool
 begins_float t = first_passes is_float_mark (drop (prefix_len (is_digit_or_underscore Decimal) t) t)
 
--- How a text begins decides as which kind it is parsed, and the table of that kind gives its
--- refusal. Where no kind begins so, it is refused without looking further.
+-- The start of a text decides as which kind it is parsed, and the table of that kind gives its
+-- refusal. If it starts like no kind, the start alone decides the refusal.
 pub data Dispatch : Type 0 where
   refused_as : Refusal → Dispatch
   parsed_as : LiteralKind → Dispatch
 
--- the first row that fits decides
+-- The dispatch of a text. The first row that fits decides.
 unfoldable pub dispatch : List ℕ → Dispatch
 dispatch t =
     if is_empty t then refused_as (without_span Empty)
@@ -96,12 +96,12 @@ dispatch t =
     else if begins_with (codes "c") t then parsed_as c_string_literal
     else refused_as (without_span InvalidLiteral)
 
--- the refusals of a text dispatched so; one that is parsed as a bool is a bool, and has none
+-- The refusals of a text with this dispatch. A text that is parsed as a bool is a bool.
 abbrev pub IsRefusalOfDispatch : Dispatch → List ℕ → Refusal → Type 0
 IsRefusalOfDispatch (refused_as refusal) t e = refusal ≡ e
 IsRefusalOfDispatch (parsed_as kind) t e = IsKindRefusal kind t e
 
--- e is the refusal of t by the parse
+-- `e` is the refusal of `t` by the parse.
 abbrev pub IsRefusal : Parse → List ℕ → Refusal → Type 0
 IsRefusal literal_parse t e = IsRefusalOfDispatch (dispatch t) t e
 IsRefusal (kind_parse kind) t e = IsKindRefusal kind t e

@@ -14,12 +14,12 @@ use Rattle.litrs_grammar.specs.Quoted.{quoted_text, is_body}
 use Rattle.litrs_grammar.specs.Raw.{raw_text, IsRaw, has_unicode, allows_nul}
 use Rattle.litrs_grammar.specs.Literal.{StringParts, quoted_parts, raw_parts, Derivation, a_bool, an_integer, a_float, a_char, a_byte, a_string, a_byte_string, a_c_string}
 
--- how a string of the kind with these parts is written
+-- The text of a string of the kind with these parts.
 abbrev pub string_text : StringKind → StringParts → List ℕ
 string_text kind (quoted_parts d) = quoted_text (quoted_front kind) d
 string_text kind (raw_parts d) = raw_front kind ++ raw_text d
 
--- how a literal with this derivation is written
+-- The text of a literal with this derivation.
 abbrev pub literal_text : Derivation → List ℕ
 literal_text (a_bool b) = bool_text b
 literal_text (an_integer d) = integer_text d
@@ -30,17 +30,17 @@ literal_text (a_string d) = string_text string_kind d
 literal_text (a_byte_string d) = string_text byte_string_kind d
 literal_text (a_c_string d) = string_text c_string_kind d
 
--- the parts are those of a char or a byte
+-- The parts are those of a char or a byte.
 abbrev pub AreCharParts : CharKind → CharParts → Type 0
 AreCharParts kind d = IsTrue (is_char_item kind d.item) × IsTrue (is_suffix d.suffix)
 
--- the parts are those of a string of the kind
+-- The parts are those of a string of the kind.
 abbrev pub AreStringParts : StringKind → StringParts → Type 0
 AreStringParts kind (quoted_parts d) =
     IsTrue (is_body (switches_of kind) d.items) × IsTrue (is_suffix d.suffix)
 AreStringParts kind (raw_parts d) = IsRaw (has_unicode kind) (allows_nul kind) d
 
--- the parts are those of a literal of their kind; no text is named
+-- The parts are those of a literal of their kind.
 abbrev pub AreParts : Derivation → Type 0
 AreParts (a_bool b) = Unit {0}
 AreParts (an_integer d) = IsInteger d

@@ -1,4 +1,4 @@
--- What it means that a parse refuses a text.
+-- The meaning of a refusal.
 use Rattle.std.specs.Prelude.{◌≡◌, ◌↔◌, ◌⊎◌, ℕ, List, [], ◌∷◌, ◌++◌, IfSome, IsTrue}
 use Rattle.litrs_base.specs.declared.err.ParseError.{ParseError}
 use Rattle.litrs_base.specs.declared.err.ParseErrorKind.TheVariants.{OutOfMemory}
@@ -13,15 +13,15 @@ use Rattle.litrs_grammar.specs.Literal.{Derivation, Parse, IsLiteralOf}
 use Rattle.litrs_grammar.specs.LiteralRefusals.{IsRefusal}
 use Rattle.litrs_grammar.specs.Allocation.{allocates}
 
--- The text is refused with the error, by a parse that looks for these derivations and has this
--- table of refusals: no derivation exists; the table has the error's kind and span for the text,
--- and no other pair; the span lies within the text and starts on a character boundary; and the
--- character span has as its end the least character boundary at or after the end of the span, so
--- that it begins and ends on character boundaries of the text. As to what may follow: where the
--- kind is final, no list after the text gives one that has a derivation; where it is open, the
--- closing text gives a string literal without suffix, with all of the text after the opening as
--- its body; and where the text ends with LF, some text after it gives one that has a derivation
--- exactly if the kind is open.
+-- `t` is refused with the error by a parse with these derivations and this table of refusals:
+-- - `t` has no derivation.
+-- - The table has the kind and the span of the error for `t`, and no other pair.
+-- - The span lies within `t` and starts on a character boundary. The character span ends at the
+--   least character boundary at or after the end of the span.
+-- - If the kind is final, `t` followed by any list does not have a derivation.
+-- - If the kind is open, the closing text makes `t` a string literal without a suffix, whose body
+--   is all of `t` after the opening.
+-- - If `t` ends with LF, `t` begins a text that has a derivation iff the kind is open.
 pub record IsRefusedBy
     (Derives : List ℕ → Derivation → Type 0) (Table : List ℕ → Refusal → Type 0)
     (t : List ℕ) (e : ParseError) : Type 0 where
@@ -36,18 +36,18 @@ pub record IsRefusedBy
   pub line_end : (line : List ℕ) → line ++ line_feed ∷ [] ≡ t →
       IsTrue (is_open (kind_of e)) ↔ BeginsBy Derives t
 
--- the text is refused with the error by one of the nine parses
+-- The text is refused with the error by one of the nine parses.
 abbrev pub IsRefused : Parse → List ℕ → ParseError → Type 0
 IsRefused parse t e = IsRefusedBy (IsLiteralOf parse) (IsRefusal parse) t e
 
--- The text is a literal of the parse whose value has to be allocated, and the error says that
--- there was no memory for it.
+-- `t` is a literal of the parse whose value is allocated, and the error is that the allocation
+-- failed.
 pub record IsOutOfMemory (parse : Parse) (t : List ℕ) (e : ParseError) : Type 0 where
   pub derivation : Derivation
   pub literal : IsLiteralOf parse t derivation
   pub allocated : IsTrue (allocates derivation)
   pub error : refusal_of e ≡ without_span OutOfMemory
 
--- the error of a parse that may allocate
+-- The error of a parse that may allocate.
 abbrev pub IsRefusedOrOutOfMemory : Parse → List ℕ → ParseError → Type 0
 IsRefusedOrOutOfMemory parse t e = IsRefused parse t e ⊎ IsOutOfMemory parse t e

@@ -1,4 +1,4 @@
--- Suffixes. The Rust Reference, Tokens, Suffixes, and Identifiers for what an identifier is.
+-- Suffixes. The Rust Reference, Tokens, Suffixes; Identifiers.
 use Rattle.std.specs.Prelude.{ℕ, Bool, true, not, ◌==◌, ◌&&◌, ◌||◌, List, [], ◌∷◌, if◌then◌else◌}
 use Rattle.std.specs.Char.{is_ascii_alphabetic}
 use Rattle.std.specs.List.{list_all}
@@ -8,22 +8,22 @@ use Rattle.litrs_base.specs.declared.err.ParseErrorKind.TheVariants.{UnexpectedC
 use Rattle.litrs_base.specs.Characters.{underscore, is_ascii}
 use Rattle.litrs_base.specs.Text.{is_empty, first_passes}
 
--- what an identifier begins with: `_` or an XID_Start character
+-- The first character of an identifier: `_` or an XID_Start character.
 abbrev pub starts_identifier : ℕ → Bool
 starts_identifier c = (c == underscore) || is_xid_start c
 
--- A suffix is empty, or one character that is `_` or XID_Start and then XID_Continue characters.
--- The lone `_` is no suffix.
+-- A suffix is empty, or `_` or an XID_Start character followed by XID_Continue characters. `_`
+-- alone is not a suffix.
 unfoldable pub is_suffix : List ℕ → Bool
 is_suffix [] = true
 is_suffix (c ∷ cs) =
     starts_identifier c && list_all is_xid_continue cs && not ((c == underscore) && is_empty cs)
 
--- ASCII, and neither a letter nor `_`
+-- An ASCII character that is neither a letter nor `_`.
 abbrev pub is_ascii_symbol : ℕ → Bool
 is_ascii_symbol c = is_ascii c && not (is_ascii_alphabetic c || (c == underscore))
 
--- Of a text that is no suffix, why: it begins with an ASCII character that is neither a letter nor
--- `_`, or it is not an identifier for another reason.
+-- The error kind of a text that is not a suffix: it starts with an ASCII character that is neither
+-- a letter nor `_`, or it is not a suffix for another reason.
 abbrev pub suffix_refusal : List ℕ → ParseErrorKind
 suffix_refusal t = if first_passes is_ascii_symbol t then UnexpectedChar else InvalidSuffix

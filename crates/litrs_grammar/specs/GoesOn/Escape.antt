@@ -1,5 +1,5 @@
--- Which refused escapes are completed by some longer text. The Rust Reference, Tokens, Literals,
--- the tables of escapes; it does not speak of refusals.
+-- The refused escapes that begin an escape. The Rust Reference, Tokens, Literals, the tables of
+-- escapes. It does not define refusals.
 use Rattle.std.specs.Prelude.{◌≡◌, ℕ, ◌+◌, Bool, true, false, ◌&&◌, ◌||◌, ◌==◌, nat_le, List, [], ◌∷◌, ◌++◌, count_by}
 use Rattle.std.specs.Char.{is_ascii_hexdigit}
 use Rattle.std.specs.List.{list_all}
@@ -8,13 +8,13 @@ use Rattle.litrs_base.specs.Text.{is_empty, first_passes}
 use Rattle.litrs_base.specs.declared.quotes.Switches.{Switches}
 use Rattle.litrs_grammar.specs.Escape.{Escape, unicode_escape, escape_text, is_escape, IsEscape, allows_byte, pair_value, is_hex_or_underscore}
 
--- the text begins an escape: with some text after it, which may be empty, it is one
+-- `t` begins an escape: `t` followed by some text, which may be empty, is one.
 abbrev pub BeginsEscape : Switches → List ℕ → Type 0
 BeginsEscape w t = (e : Escape) × (more : List ℕ) × (t ++ more ≡ escape_text e) × IsEscape w e
 
--- After `\u{`, where no `}` follows: nothing, or hex digits and underscores, a digit first, and
--- either at most five digits, after which one more can always make the value valid, or what a `}`
--- makes an escape.
+-- After `\u{`, without a `}`: nothing, or hex digits and underscores that start with a digit. They
+-- have at most five digits, so that one more can make the value valid, or a `}` makes them an
+-- escape.
 abbrev pub inner_goes_on : Switches → List ℕ → Bool
 inner_goes_on w t =
     w.unicode
@@ -23,21 +23,21 @@ inner_goes_on w t =
     && nat_le (count_by is_ascii_hexdigit t) 5)
     || is_escape w (unicode_escape t)))
 
--- After `\x`: nothing, or one hex digit after which another gives an allowed byte. The digit 1 is
--- among the least ones, and never makes the value 0.
+-- After `\x`: nothing, or one hex digit that another one completes to an allowed byte. The digit 1
+-- does so if any does: it is small, and never makes the value 0.
 abbrev pub hex_goes_on : Switches → List ℕ → Bool
 hex_goes_on w [] = true
 hex_goes_on w (high ∷ []) =
     is_ascii_hexdigit high && allows_byte w (pair_value high (digit_zero + 1))
 hex_goes_on w (high ∷ low ∷ t) = false
 
--- after `\u`: nothing, or an open brace and what may go on after it
+-- After `\u`: nothing, or an open brace and a text that can be continued.
 abbrev pub braces_go_on : Switches → List ℕ → Bool
 braces_go_on w [] = true
 braces_go_on w (c ∷ t) = (c == open_brace) && inner_goes_on w t
 
--- After the backslash of a refused escape: nothing, or `x` or, where Unicode escapes are on, `u`,
--- and what may go on after it.
+-- After the backslash of a refused escape: nothing, or `x` (or `u`, if Unicode escapes are on) and
+-- a text that can be continued.
 abbrev pub escape_goes_on : Switches → List ℕ → Bool
 escape_goes_on w [] = true
 escape_goes_on w (c ∷ t) =

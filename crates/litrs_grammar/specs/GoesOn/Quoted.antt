@@ -1,6 +1,6 @@
--- Which refused quoted texts are completed by some longer text, by the rest that decides the
--- refusal. The Rust Reference, Tokens, Literals: "String literals", "Byte string literals" and "C
--- string literals"; it does not speak of refusals.
+-- The refused quoted texts that begin a quoted literal, by the rest that decides the refusal. The
+-- Rust Reference, Tokens, Literals: "String literals", "Byte string literals" and "C string
+-- literals". It does not define refusals.
 use Rattle.std.specs.Prelude.{◌≡◌, ◌⊎◌, ℕ, List, [], ◌∷◌, ◌++◌, IsTrue}
 use Rattle.std.specs.List.{list_all}
 use Rattle.litrs_base.specs.Characters.{line_feed, double_quote, backslash, underscore, is_blank}
@@ -15,20 +15,19 @@ IsOpenRest rest =
     ⊎ ((blanks : List ℕ) × (rest ≡ backslash ∷ line_feed ∷ blanks)
     × IsTrue (list_all is_blank blanks))
 
--- The rest goes on where it is open, or begins an escape, or is the closing quote and a lone
--- underscore, which is no suffix yet.
+-- The rest can be continued if it is open, begins an escape, or is the closing quote and `_` alone,
+-- which is not yet a suffix.
 abbrev pub RestGoesOn : Switches → List ℕ → Type 0
 RestGoesOn w rest =
     IsOpenRest rest ⊎ (BeginsEscape w rest ⊎ (rest ≡ double_quote ∷ underscore ∷ []))
 
--- The closing quote makes the text a literal without suffix, whose body is all that follows
--- the front.
+-- The closing quote makes `t` a literal without a suffix, whose body is all of `t` after the front.
 pub record IsClosedQuoted (front : List ℕ) (w : Switches) (t : List ℕ) : Type 0 where
   pub items : List Item
   pub literal : IsQuoted front w (t ++ double_quote ∷ []) (record { items = items; suffix = [] })
   pub body : front ++ body_text items ≡ t
 
--- The text is the front, items that are taken before a rest, and a rest that goes on.
+-- `t` is the front, items that belong to the list before a rest, and a rest that can be continued.
 pub record QuotedGoesOn (front : List ℕ) (w : Switches) (t : List ℕ) : Type 0 where
   pub items : List Item
   pub rest : List ℕ

@@ -1,4 +1,4 @@
--- What holds of all quoted literals: strings, byte strings and C strings.
+-- Laws of quoted literals: strings, byte strings and C strings.
 use Rattle.std.specs.Prelude.{◌≡◌, ◌↔◌, ◌⊎◌, ℕ, ◌≤◌, ◌==◌, List, [], ◌∷◌, ◌++◌, length, IsFalse}
 use Rattle.std.specs.List.{list_any}
 use Rattle.litrs_base.specs.declared.quotes.StringKind.{StringKind}
@@ -8,66 +8,68 @@ use Rattle.litrs_base.specs.Characters.{backslash, line_feed, nul, is_blank}
 use Rattle.litrs_grammar.specs.Quoted.{Item, body_value, IsBodyOf, QuotedParts, IsQuoted, IsQuotedLiteral, IsQuotedRefusal}
 use Rattle.litrs_base.specs.Text.{byte_len, first_passes}
 
--- a text has at most one derivation as a quoted literal, over all three kinds together
+-- A text has at most one derivation as a quoted literal, over all three kinds together.
 abbrev pub QuotedLiteralsAreUnique : Type 0
 QuotedLiteralsAreUnique = (t : List ℕ) (k l : StringKind) (q r : QuotedParts) →
     IsQuotedLiteral k t q → IsQuotedLiteral l t r → (k ≡ l) × (q ≡ r)
 
 -- Of any front and any switches.
 
--- a text has at most one derivation
+-- A text has at most one derivation after the same front and under the same switches.
 abbrev pub QuotedTextsAreUnique : Type 0
 QuotedTextsAreUnique = (front : List ℕ) (w : Switches) (t : List ℕ) (q r : QuotedParts) →
     IsQuoted front w t q → IsQuoted front w t r → q ≡ r
 
--- at most one pair of kind and span refuses it
+-- At most one pair of kind and span refuses a text.
 abbrev pub QuotedRefusalsAreUnique : Type 0
 QuotedRefusalsAreUnique = (front : List ℕ) (w : Switches) (t : List ℕ) (e f : Refusal) →
     IsQuotedRefusal front w t e → IsQuotedRefusal front w t f → e ≡ f
 
--- a text that begins with the front is a literal or refused
+-- A text that starts with the front is a quoted literal or refused.
 abbrev pub QuotedTextsAreDecided : Type 0
 QuotedTextsAreDecided = (front : List ℕ) (w : Switches) (t : List ℕ) →
     ((q : QuotedParts) × IsQuoted front w (front ++ t) q)
     ⊎ ((e : Refusal) × IsQuotedRefusal front w (front ++ t) e)
 
--- and never both
+-- No text is both a quoted literal and refused as one.
 abbrev pub QuotedTextsAreNotRefused : Type 0
 QuotedTextsAreNotRefused =
     (front : List ℕ) (w : Switches) (t : List ℕ) (q : QuotedParts) (e : Refusal) →
     IsQuoted front w t q → ¬ IsQuotedRefusal front w t e
 
--- the span of each refusal lies within the text and starts on a character boundary
+-- The span of each refusal lies within the text and starts on a character boundary.
 abbrev pub QuotedSpansLieInText : Type 0
 QuotedSpansLieInText = (front : List ℕ) (w : Switches) (t : List ℕ) (e : Refusal) →
     IsQuotedRefusal front w t e → IsInText t e
 
--- no quoted literal ends with LF
+-- No quoted literal ends with LF.
 abbrev pub NoQuotedTextEndsWithLineFeed : Type 0
 NoQuotedTextEndsWithLineFeed = (front : List ℕ) (w : Switches) (t : List ℕ) (q : QuotedParts) →
     ¬ IsQuoted front w (t ++ line_feed ∷ []) q
 
 -- Of bodies.
 
--- a text is that of at most one body
+-- A text is the text of at most one quoted body.
 abbrev pub QuotedBodiesAreUnique : Type 0
 QuotedBodiesAreUnique = (w : Switches) (t : List ℕ) (items others : List Item) →
     IsBodyOf w t items → IsBodyOf w t others → items ≡ others
 
--- bodies join, unless the second begins with what a continuation at the end of the first would take
+-- Two bodies are one body if the second does not start with a space, tab or LF. Its value is both
+-- values, one after the other.
 abbrev pub QuotedBodiesJoin : Type 0
 QuotedBodiesJoin = (w : Switches) (a b : List ℕ) (items others : List Item) →
     IsBodyOf w a items → IsBodyOf w b others → IsFalse (first_passes is_blank b) →
     IsBodyOf w (a ++ b) (items ++ others)
     × (body_value (items ++ others) ≡ body_value items ++ body_value others)
 
--- a value has no more bytes than its body, and as many exactly where the body has no backslash
+-- A value has at most as many bytes as its body, and exactly as many if and only if the body has no
+-- backslash.
 abbrev pub QuotedValuesFitBodies : Type 0
 QuotedValuesFitBodies = (w : Switches) (t : List ℕ) (items : List Item) → IsBodyOf w t items →
     (length (body_value items) ≤ byte_len t)
     × ((length (body_value items) ≡ byte_len t) ↔ IsFalse (list_any (λ c. c == backslash) t))
 
--- where NUL is not allowed, as in C strings, no byte of a value is zero
+-- No byte of a value is zero if NUL is not allowed, as in C strings.
 abbrev pub NoNulInQuotedCStrings : Type 0
 NoNulInQuotedCStrings = (w : Switches) (t : List ℕ) (items : List Item) →
     IsFalse w.allow_nul → IsBodyOf w t items →
