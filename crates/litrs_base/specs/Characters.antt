@@ -1,4 +1,4 @@
--- The characters that literals are made of, by their names. The Rust Reference, Tokens, Literals.
+-- The names of the characters in literals. The Rust Reference, Tokens, Literals.
 use Rattle.std.specs.Prelude.{ℕ, Bool, not, ◌==◌, ◌||◌, ◌&&◌, nat_lt, nat_le, true, if◌then◌else◌}
 
 abbrev pub nul : ℕ
@@ -76,22 +76,22 @@ open_brace = 123
 abbrev pub close_brace : ℕ
 close_brace = 125
 
--- the whitespace that a continuation takes: space, tab and LF, and no other
+-- The white space that a continuation takes: space, tab and LF.
 abbrev pub is_blank : ℕ → Bool
 is_blank c = (c == space) || (c == tab) || (c == line_feed)
 
--- ASCII
+-- `true` iff the character is ASCII.
 abbrev pub is_ascii : ℕ → Bool
 is_ascii c = nat_lt c 128
 
--- a Unicode scalar value: a code point that is no surrogate
+-- `true` iff the number is a Unicode scalar value: a code point that is not a surrogate.
 abbrev pub is_scalar : ℕ → Bool
 is_scalar c = if nat_lt c 0xD800 then true else nat_le 0xE000 c && nat_lt c 0x110000
 
--- Where Unicode is off, as in byte strings, a character is ASCII.
+-- A character is ASCII if Unicode is off, as in byte strings.
 abbrev pub fits_charset : (unicode : Bool) → ℕ → Bool
 fits_charset unicode c = unicode || is_ascii c
 
--- Where NUL is not allowed, as in C strings, a character or a value is not NUL.
+-- A character or a value is not NUL if NUL is not allowed, as in C strings.
 abbrev pub nul_is_allowed : (allow_nul : Bool) → ℕ → Bool
 nul_is_allowed allow_nul c = allow_nul || not (c == nul)

@@ -7,6 +7,6 @@ abbrev pub float_type_name : FloatType → List ℕ
 float_type_name F32 = codes "f32"
 float_type_name F64 = codes "f64"
 
--- no floating-point type has this name
+-- No floating-point type has this name.
 abbrev pub NamesNoFloatType : List ℕ → Type 0
 NamesNoFloatType s = (t : FloatType) → float_type_name t ≡ s → ⊥

@@ -17,6 +17,6 @@ type_name I64 = codes "i64"
 type_name I128 = codes "i128"
 type_name Isize = codes "isize"
 
--- no integer type has this name
+-- No integer type has this name.
 abbrev pub NamesNoType : List ℕ → Type 0
 NamesNoType s = (t : IntegerType) → type_name t ≡ s → ⊥

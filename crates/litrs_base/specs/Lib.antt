@@ -2,7 +2,7 @@
 pub mod Characters
 pub mod Text
 pub mod CharEnd
--- what every kind of literal is described by
+-- derivations and refusals, for every kind of literal
 pub mod Derivations
 pub mod Kind
 pub mod Finality

@@ -1,6 +1,6 @@
--- The kinds of literals between quotes, what each begins with, and what it allows. The Rust
--- Reference, Tokens, Literals: "Character literals", "Byte literals", "String literals", "Byte
--- string literals" and "C string literals", and the raw forms of strings.
+-- The kinds of literals between quotes, with the fronts and switches of each. The Rust Reference,
+-- Tokens, Literals: "Character literals", "Byte literals", "String literals", "Byte string
+-- literals" and "C string literals", and the raw forms of strings.
 use Rattle.std.specs.Prelude.{ℕ, true, false, List, [], ◌∷◌, codes}
 use Rattle.litrs_base.specs.Characters.{single_quote, double_quote, letter_b, letter_c}
 pub use Rattle.litrs_base.specs.declared.quotes.Switches.{Switches}
@@ -9,25 +9,26 @@ pub use Rattle.litrs_base.specs.declared.quotes.CharKind.TheVariants.{Char as ch
 pub use Rattle.litrs_base.specs.declared.quotes.StringKind.{StringKind}
 pub use Rattle.litrs_base.specs.declared.quotes.StringKind.TheVariants.{String as string_kind, ByteString as byte_string_kind, CString as c_string_kind}
 
--- what stands before the character: `'` or `b'`
+-- The front of a char or a byte: `'` or `b'`.
 abbrev pub char_front : CharKind → List ℕ
 char_front char_kind = single_quote ∷ []
 char_front byte_kind = letter_b ∷ single_quote ∷ []
 
--- what stands before the body of a quoted string: `"`, `b"` or `c"`
+-- The front of a quoted string: `"`, `b"` or `c"`.
 abbrev pub quoted_front : StringKind → List ℕ
 quoted_front string_kind = double_quote ∷ []
 quoted_front byte_string_kind = letter_b ∷ double_quote ∷ []
 quoted_front c_string_kind = letter_c ∷ double_quote ∷ []
 
--- what a raw string begins with
+-- The front of a raw string: `r`, `br` or `cr`.
 abbrev pub raw_front : StringKind → List ℕ
 raw_front string_kind = codes "r"
 raw_front byte_string_kind = codes "br"
 raw_front c_string_kind = codes "cr"
 
--- What a literal allows in its escapes: `\u{..}`; `\x` above 7F; the value 0. Strings allow the
--- same of other characters in their bodies: those beyond ASCII; NUL.
+-- The switches of a kind. In its escapes a literal may allow `\u{..}`, `\x` above 7F, and the value
+-- 0. In its body a string allows characters that are not ASCII if it allows `\u{..}`, and NUL if it
+-- allows the value 0.
 
 abbrev pub char_switches : Switches
 char_switches = record { unicode = true; byte_escapes = false; allow_nul = true }

@@ -1,4 +1,5 @@
--- Refusals: a kind, and perhaps a span in the text, in bytes. The Rust Reference has none.
+-- Refusals: a kind, and perhaps a span in the text, in bytes. The Rust Reference does not define
+-- them.
 use Rattle.std.specs.Prelude.{ℕ, ◌+◌, ◌<◌, ◌^◌, List, [], ◌++◌, Option, Some, None, IfSome, option_map, unwrap_or, codes}
 use Rattle.std.specs.Option.{ForSome}
 use Rattle.std.specs.Fmt.{decimal}
@@ -9,77 +10,77 @@ use Rattle.litrs_base.specs.Kind.{kind_text}
 use Rattle.litrs_base.specs.Text.{byte_len, PointsInto}
 use Rattle.litrs_base.specs.CharEnd.{IsCharEnd}
 
--- what the tables of refusals give for a text: a pair of kind and span
+-- A refusal: a kind and a span.
 pub record Refusal : Type 0 where
   pub span : Option (Range ℕ)
   pub kind : ParseErrorKind
 
--- the refusal of this kind with this span
+-- The refusal with this kind and this span.
 abbrev pub refusal : Option (Range ℕ) → ParseErrorKind → Refusal
 refusal span kind = record { span = span; kind = kind }
 
--- a refusal that points at no part of the text
+-- A refusal without a span.
 abbrev pub without_span : ParseErrorKind → Refusal
 without_span kind = refusal None kind
 
--- one that points at the bytes from start up to end
+-- A refusal of the bytes from `start` up to `end`.
 abbrev pub spanning : ℕ → ℕ → ParseErrorKind → Refusal
 spanning start end kind = refusal (Some (record { start = start; end = end })) kind
 
--- one that points at one byte
+-- A refusal of one byte.
 abbrev pub at_byte : ℕ → ParseErrorKind → Refusal
 at_byte place kind = spanning place (place + 1) kind
 
--- both ends of a span moved
+-- A span with both ends moved by `offset`.
 abbrev pub shifted_span : ℕ → Option (Range ℕ) → Option (Range ℕ)
 shifted_span offset None = None
 shifted_span offset (Some span) =
     Some (record { start = span.start + offset; end = span.end + offset })
 
--- the same refusal of a text that stands `offset` bytes further on
+-- A refusal with its span moved by `offset`.
 abbrev pub shifted : ℕ → Refusal → Refusal
 shifted offset r = refusal (shifted_span offset r.span) r.kind
 
--- where the refusal has a span, it lies in the text
+-- The span of the refusal, if there is one, lies in the text.
 abbrev pub IsInText : List ℕ → Refusal → Type 0
 IsInText t r = IfSome r.span (PointsInto t)
 
--- what is printed of a span
+-- A span as it is printed.
 abbrev pub span_text : Option (Range ℕ) → List ℕ
 span_text None = []
 span_text (Some span) =
     codes " (at " ++ decimal span.start ++ codes ".." ++ decimal span.end ++ codes ")"
 
--- what is printed of a refusal: the description, and the span where there is one
+-- A refusal as it is printed: the description, and the span if there is one.
 abbrev pub refusal_text : Refusal → List ℕ
 refusal_text r = kind_text r.kind ++ span_text r.span
 
--- Errors: what the code answers holds a refusal, and where its span ends in whole characters.
+-- Errors: an error of the code has a refusal, and the end of its span in whole characters.
 
--- the refusal that an error holds
+-- The refusal of an error.
 abbrev pub refusal_of : ParseError → Refusal
 refusal_of e = record { span = e.span; kind = e.kind }
 
--- its parts
+-- The parts of an error.
 abbrev pub kind_of : ParseError → ParseErrorKind
 kind_of e = (refusal_of e).kind
 
 abbrev pub span_of : ParseError → Option (Range ℕ)
 span_of e = (refusal_of e).span
 
--- its character span: its span, up to the end in whole characters
+-- The character span of an error: its span, up to the end in whole characters.
 abbrev pub char_span_of : ParseError → Option (Range ℕ)
 char_span_of e = option_map (λ span. record { start = span.start; end = e.char_end }) (span_of e)
 
--- what is to be marked of the text: the character span, or all of the text where there is none
+-- The part of the text to mark: the character span, or all of the text if there is none.
 abbrev pub marked_span : List ℕ → ParseError → Range ℕ
 marked_span t e = unwrap_or (char_span_of e) (record { start = 0; end = byte_len t })
 
--- where the error has a span, the end in whole characters is that of the span in the text
+-- The end in whole characters is that of the span in the text, if there is a span.
 abbrev pub HasCharSpan : List ℕ → ParseError → Type 0
 HasCharSpan t e = IfSome (span_of e) (λ span. IsCharEnd t span.end e.char_end)
 
--- the starts and both ends may move so far
+-- Both spans can be moved by `offset`.
 abbrev pub MovesWithin : ℕ → ParseError → Type 0
 MovesWithin offset e = ForSome (span_of e) (λ span.
     (span.start + offset < 2 ^ 64) × (span.end + offset < 2 ^ 64) × (e.char_end + offset < 2 ^ 64))

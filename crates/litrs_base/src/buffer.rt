@@ -1,4 +1,4 @@
-//! What holds the text of a literal.
+//! The buffers that hold the text of a literal.
 ghost use Rattle.std.specs.Prelude.{◌≡◌, ◌↔◌, ◌≤◌, ℕ, Bool, true, false, List, string_bytes, IsOk, IfOk, IsTrue, slice_range};
 ghost use Rattle.std.specs.Cow.{cow_str_bytes, cow_slice_items, IsOwnedStr, IsOwnedSlice};
 ghost use Rattle.std.specs.Str.{IsCharBoundary};
@@ -11,39 +11,39 @@ mod sealed {
     pub trait Sealed {}
 }
 
-/// A text that a literal keeps: a `&str`, or an owned `String`. No other type can implement it.
+/// The text of a literal: a `&str` or an owned `String`. No other type can implement this trait.
 ///
-/// The literal types ask for no more than this of their buffer. Values are taken out by [`Buffer`].
+/// The literal types require only this of their buffer. [`Buffer`] takes values out of it.
 pub trait Text: sealed::Sealed + Drop {
     /// The bytes of the text.
     ghost bytes: { Self → List ℕ };
 
-    /// Whether it owns its text, so that a copy takes memory.
+    /// `true` if the buffer owns its text, so that a copy allocates.
     ghost owns: { Bool };
 
-    /// Whether it owns its text: false for `&str`, true for `String`.
+    /// `true` if the buffer owns its text: `false` for `&str`, `true` for `String`.
     const OWNS: bool;
 
-    /// [`OWNS`](Text::OWNS) as a call, whose contract says that it is what other contracts name.
+    /// Returns [`OWNS`](Text::OWNS).
     fn owns_text() -> bool
         ensures { result ≡ owns };
 
-    /// The text.
+    /// Returns the text.
     fn as_str(&self) -> &str
         ensures { result.now ≡ bytes self.now };
 
-    /// Copies the text. For a `&str` it does not allocate, and succeeds.
+    /// Copies the text. For a `&str` this does not allocate and always succeeds.
     ///
     /// # Errors
     ///
-    /// `AllocError` where there is no memory for the text.
+    /// Returns `AllocError` if the allocation of the text fails.
     fn copy(&self, alloc: Global) -> Result<Self, AllocError>
         ensures ok { IfOk result (λ copy. bytes copy ≡ bytes self.now) }
         ensures succeeds { owns ≡ false → IsOk result };
 
-    /// The part of the text from `range.start` to `range.end`, in bytes. It does not allocate.
+    /// Returns the bytes `range` of the text. Does not allocate.
     ///
-    /// Both are boundaries of characters within the text. Of `"ab"` the range `1..3` cuts `ab`.
+    /// Both ends are character boundaries of the text. For example, `1..3` cuts `ab` out of `"ab"`.
     fn cut(self, range: Range<usize>) -> Self
         requires in_order { range.start ≤ range.end }
         requires start { IsCharBoundary (bytes self) range.start }
@@ -51,54 +51,55 @@ pub trait Text: sealed::Sealed + Drop {
         ensures { bytes result ≡ slice_range (bytes self) range.start range.end };
 }
 
-/// A text that values can be taken out of: a `&str`, or an owned `String`.
+/// A text from which values can be taken: a `&str` or an owned `String`.
 ///
-/// A value of a `&str` is borrowed from the text, or owned where it is not a part of it. A value of
-/// a `String` is always owned.
+/// A value of a `&str` is borrowed from the text, or owned if it is not a part of the text. A value
+/// of a `String` is always owned.
 pub trait Buffer: Text {
-    /// The bytes of a text that is a value.
+    /// The bytes of a value that is a text.
     ghost cow_bytes: { Self.Cow → List ℕ };
 
-    /// That such a value is owned.
+    /// The condition that such a value is owned.
     ghost cow_owned: { Self.Cow → Type 0 };
 
-    /// The bytes that are a value.
+    /// The bytes of a value that is bytes.
     ghost byte_cow_items: { Self.ByteCow → List ℕ };
 
-    /// That such a value is owned.
+    /// The condition that such a value is owned.
     ghost byte_cow_owned: { Self.ByteCow → Type 0 };
 
-    /// A value that is a text: `CowStr` for `&str`, `String` for `String`.
+    /// The type of a value that is a text: `CowStr` for `&str`, `String` for `String`.
     type Cow: Drop;
 
-    /// A value that is bytes: `CowSlice<u8>` for `&str`, `Vec<u8>` for `String`.
+    /// The type of a value that is bytes: `CowSlice<u8>` for `&str`, `Vec<u8>` for `String`.
     type ByteCow: Drop;
 
-    /// The text as a value, owned if and only if the buffer owns it. It does not allocate.
+    /// Returns the text as a value, which is owned if the buffer owns the text. Does not allocate.
     fn into_cow(self) -> Self::Cow
         ensures text { cow_bytes result ≡ Self.bytes self }
         ensures owned { cow_owned result ↔ IsTrue Self.owns };
 
-    /// The bytes of the text, owned if and only if the buffer owns it. It does not allocate.
+    /// Returns the bytes of the text as a value, which is owned if the buffer owns the text. Does
+    /// not allocate.
     fn into_byte_cow(self) -> Self::ByteCow
         ensures bytes { byte_cow_items result ≡ Self.bytes self }
         ensures owned { byte_cow_owned result ↔ IsTrue Self.owns };
 
-    /// An owned text as a value, which is owned.
+    /// Returns an owned text as a value.
     fn cow_from(text: String) -> Self::Cow
         ensures text { cow_bytes result ≡ string_bytes text }
         ensures owned { cow_owned result };
 
-    /// Owned bytes as a value, which is owned.
+    /// Returns owned bytes as a value.
     fn byte_cow_from(bytes: Vec<u8>) -> Self::ByteCow
         ensures bytes { byte_cow_items result ≡ bytes.items }
         ensures owned { byte_cow_owned result };
 
-    /// The text that a value is.
+    /// Returns the text of a value.
     fn cow_text(cow: &Self::Cow) -> &str
         ensures { result.now ≡ cow_bytes cow.now };
 
-    /// The bytes that a value is.
+    /// Returns the bytes of a value.
     fn byte_cow_bytes(cow: &Self::ByteCow) -> &[u8]
         ensures { result.now ≡ byte_cow_items cow.now };
 }

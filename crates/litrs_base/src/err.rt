@@ -1,4 +1,4 @@
-//! Why a text is refused.
+//! The errors of parses.
 ghost use Rattle.std.specs.Prelude.{◌≡◌, ◌+◌, ◌≤◌, ◌<◌};
 ghost use Rattle.std.specs.Str.{chars};
 ghost use Rattle.litrs_base.specs.CharEnd.{IsCharEnd};
@@ -8,7 +8,7 @@ use std::error::Error;
 use std::fmt;
 use std::ops::Range;
 
-/// A refusal: what is wrong with a text, and where.
+/// An error of a parse: its kind, and perhaps a span in the text.
 #[derive(Debug, Drop)]
 pub struct ParseError {
     pub(crate) span: Option<Range<usize>>,
@@ -22,8 +22,8 @@ impl ParseError {
     ghost use Rattle.litrs_base.specs.CharEnd.{PointsAtCharacters, IsCutBy};
     ghost use Rattle.litrs_base.specs.Finality.{is_final, is_open};
 
-    /// A refusal of this kind. The span counts bytes of the text, and is its own character span: of
-    /// `new(Some(3..4), InvalidDigit)` both spans are 3..4.
+    /// Creates an error of the kind `kind`. `span` is in bytes, and is the character span too: both
+    /// spans of `new(Some(3..4), InvalidDigit)` are 3..4.
     pub fn new(span: Option<Range<usize>>, kind: ParseErrorKind) -> ParseError
         ensures refusal { refusal_of result ≡ refusal span kind }
         ensures char_span { char_span_of result ≡ span }
@@ -39,9 +39,8 @@ impl ParseError {
         }
     }
 
-    /// A refusal of this text. The span, whose start is at most its end, counts bytes of it; the
-    /// end may lie inside a character. Of `in_text("é", Some(0..1), kind)` the character span is
-    /// 0..2.
+    /// Creates an error for `text`. `span` is in bytes, its start is at most its end, and its end
+    /// may lie inside a character: the character span of `in_text("é", Some(0..1), kind)` is 0..2.
     pub fn in_text(text: &str, span: Option<Range<usize>>, kind: ParseErrorKind) -> ParseError
         requires { IfSome span (λ range. range.start ≤ range.end) }
         ensures refusal { refusal_of result ≡ refusal span kind }
@@ -58,16 +57,15 @@ impl ParseError {
         }
     }
 
-    /// The part of the text that the refusal points at, in bytes, if it points at one: 3..4 of
-    /// `0b12`.
+    /// Returns the part of the text that is invalid, in bytes: for `0b12` that is 3..4.
     ///
-    /// The start is a character boundary. The end may lie inside a character: `é` is no integer,
-    /// and refused at 0..1.
+    /// The start is a character boundary. The end may lie inside a character: `é` is not an
+    /// integer, and the span of the error is 0..1.
     ///
-    /// Whether a refusal by a parse has a span is decided by its kind. These kinds have none, and
-    /// all others have one:
+    /// The kind of an error of a parse decides whether there is a span. These kinds have no span,
+    /// and all others have one:
     ///
-    /// | Kinds without a span | Refused so |
+    /// | Kinds without a span | Texts with this error |
     /// |---|---|
     /// | `Empty` | the empty text |
     /// | `InvalidLiteral` | `yes`; `r#a` |
@@ -78,7 +76,7 @@ impl ParseError {
     /// | `OverlongCharLiteral`, `OverlongByteLiteral` | `'ab'`, `b'ab'` |
     /// | `UnterminatedCharLiteral`, `UnterminatedByteLiteral` | `'a`, `b'a` |
     /// | `UnterminatedString`, `UnterminatedRawString` | `"ab`, `r#"ab"` |
-    /// | `OutOfMemory` | a literal with no memory for its value |
+    /// | `OutOfMemory` | a literal if the allocation of its value failed |
     pub fn span(&self) -> Option<Range<usize>>
         ensures { result ≡ span_of self.now }
     {
@@ -88,8 +86,8 @@ impl ParseError {
         }
     }
 
-    /// The same part in whole characters: the end is the least character boundary at or after that
-    /// of [`span`](ParseError::span), as 0..2 of `é`. Where that lies past the text it is kept.
+    /// Returns the span in whole characters: its end is the least character boundary at or after
+    /// the end of [`span`](ParseError::span). For `é` that is 0..2. An end past the text is kept.
     pub fn char_span(&self) -> Option<Range<usize>>
         ensures { result ≡ char_span_of self.now }
     {
@@ -99,18 +97,18 @@ impl ParseError {
         }
     }
 
-    /// The part of the refused text to mark, in whole characters: the character span, or all of the
-    /// text where there is none. Of `0b12` it is 3..4, of `"ab`, which has no closing quote, 0..3.
+    /// Returns the part of `text` to mark, in whole characters: the character span, or all of
+    /// `text` if there is none. For `0b12` that is 3..4, and for `"ab`, which is not closed, 0..3.
     ///
-    /// Of the refusal of a text by a parse both ends are character boundaries of that text, so that
-    /// it can be cut there.
+    /// If this error is that of a parse of `text`, both ends are character boundaries of `text`, so
+    /// the text can be cut there.
     ///
     /// ```
     /// use litrs_base::ParseError;
     ///
-    /// /// What is to be underlined of a text with this refusal.
-    /// fn marked<'a>(text: &'a str, refusal: &ParseError) -> Option<&'a str> {
-    ///     text.get(refusal.marked_span(text))
+    /// /// Returns the part of `text` to underline.
+    /// fn marked<'a>(text: &'a str, error: &ParseError) -> Option<&'a str> {
+    ///     text.get(error.marked_span(text))
     /// }
     /// ```
     pub fn marked_span(&self, text: &str) -> Range<usize>
@@ -124,23 +122,23 @@ impl ParseError {
         }
     }
 
-    /// What is wrong: `InvalidDigit` of `0b12`.
+    /// Returns the kind of this error: for `0b12` that is `InvalidDigit`.
     pub fn kind(&self) -> ParseErrorKind
         ensures { result ≡ kind_of self.now }
     {
         self.kind
     }
 
-    /// Whether no text that begins with the refused one is a literal for the same parse: `0b12` is
-    /// refused so, and `0x`, with which `0x1` begins, is not.
+    /// Returns `true` if the error is final: no text that starts with the invalid one is a literal
+    /// for the same parse. It is for `0b12`, but not for `0x`, because `0x1` is a literal.
     pub fn is_final(&self) -> bool
         ensures { result ≡ is_final (kind_of self.now) }
     {
         self.kind().is_final()
     }
 
-    /// Whether the text only lacks its closing quote, with the hashes of a raw string: `"ab` and
-    /// `r#"ab"` are refused so.
+    /// Returns `true` if the error is open: only the closing quote is missing, with the hashes of a
+    /// raw string. It is for `"ab` and `r#"ab"`.
     pub fn is_open(&self) -> bool
         ensures { result ≡ is_open (kind_of self.now) }
     {
@@ -175,7 +173,7 @@ impl ParseError {
         }
     }
 
-    /// Clones the refusal. It does not allocate.
+    /// Clones the error. Does not allocate.
     pub fn clone(&self) -> ParseError
         ensures { result ≡ self.now }
     {
@@ -187,7 +185,8 @@ impl ParseError {
     }
 }
 
-/// The least character boundary at or after the place, or the place where it is past the text.
+/// Returns the least character boundary of `text` at or after `end`, or `end` if it lies past the
+/// text.
 fn char_end_of(text: &str, end: usize) -> usize
     ensures { IsCharEnd (chars text.now) end result }
 {
@@ -217,99 +216,99 @@ impl fmt::Display for ParseError {
 
 impl Error for ParseError {}
 
-/// The kinds of refusals.
+/// The kinds of errors.
 #[derive(Clone, Copy, Debug, PartialEq, Eq)]
 pub enum ParseErrorKind {
     /// The text is empty.
     Empty,
-    /// A character that cannot stand there.
+    /// A character is not allowed at its place.
     UnexpectedChar,
-    /// The text is no literal of any kind, or not of the wanted one.
+    /// The text is not a literal of the expected kind, or of any kind.
     InvalidLiteral,
-    /// A number does not begin with a decimal digit.
+    /// A number does not start with a decimal digit.
     DoesNotStartWithDigit,
-    /// A decimal digit stands in an integer whose base does not have it.
+    /// An integer has a decimal digit that is not a digit of its base.
     InvalidDigit,
     /// The main part of an integer has no digit.
     NoDigits,
     /// The exponent of a float has no digit.
     NoExponentDigits,
-    /// A backslash is followed by a character that begins no escape.
+    /// A backslash is followed by a character that does not start an escape.
     UnknownEscape,
     /// The text ends inside an escape.
     UnterminatedEscape,
     /// `\x` is not followed by two hex digits.
     InvalidXEscape,
-    /// A `\x` escape above 7F where only ASCII is allowed.
+    /// A `\x` escape has a value above 7F, but only ASCII is allowed.
     NonAsciiXEscape,
-    /// A `\u` escape in a byte or a byte string.
+    /// A byte or a byte string has a `\u` escape.
     UnicodeEscapeInByteLiteral,
-    /// The first place inside `\u{..}` is no hex digit.
+    /// The first character inside `\u{..}` is not a hex digit.
     InvalidStartOfUnicodeEscape,
     /// `\u` is not followed by `{`.
     UnicodeEscapeWithoutBrace,
-    /// Something inside `\u{..}` is neither a hex digit nor `_`.
+    /// A character inside `\u{..}` is neither a hex digit nor `_`.
     NonHexDigitInUnicodeEscape,
     /// A `\u{..}` escape has more than six hex digits.
     TooManyDigitInUnicodeEscape,
-    /// The value of a `\u{..}` escape is no Unicode scalar value.
+    /// The value of a `\u{..}` escape is not a Unicode scalar value.
     InvalidUnicodeEscapeChar,
     /// A `\u{` has no closing brace.
     UnterminatedUnicodeEscape,
     /// A char has no closing quote.
     UnterminatedCharLiteral,
-    /// A char holds more than one character.
+    /// A char has more than one character.
     OverlongCharLiteral,
-    /// A char holds nothing.
+    /// A char is empty.
     EmptyCharLiteral,
     /// A byte has no closing quote.
     UnterminatedByteLiteral,
-    /// A byte holds more than one byte.
+    /// A byte has more than one character.
     OverlongByteLiteral,
-    /// A byte holds nothing.
+    /// A byte is empty.
     EmptyByteLiteral,
-    /// A character that is not ASCII in a byte or a byte string.
+    /// A byte or a byte string has a character that is not ASCII.
     NonAsciiInByteLiteral,
-    /// A single quote stands unescaped in a char or a byte.
+    /// A char or a byte has a single quote that is not escaped.
     UnescapedSingleQuote,
-    /// LF, tab or CR stands unescaped in a char or a byte.
+    /// A char or a byte has LF, tab or CR that is not escaped.
     UnescapedSpecialWhitespace,
-    /// A char does not begin with a single quote.
+    /// A char does not start with a single quote.
     DoesNotStartWithQuote,
-    /// A raw string has no closing quote with its hashes.
+    /// A raw string has no closing quote with as many hashes.
     UnterminatedRawString,
     /// A quoted string has no closing quote.
     UnterminatedString,
-    /// A string does not begin as one.
+    /// A string does not start with `"` or `r`.
     InvalidStringLiteralStart,
-    /// A byte does not begin as one.
+    /// A byte does not start with `b'`.
     InvalidByteLiteralStart,
-    /// A byte string does not begin as one.
+    /// A byte string does not start with `b"` or `br`.
     InvalidByteStringLiteralStart,
-    /// A C string does not begin as one.
+    /// A C string does not start with `c"` or `cr`.
     InvalidCStringLiteralStart,
-    /// An escape of value 0 in a C string.
+    /// A C string has an escape with the value 0.
     DisallowedNulEscape,
-    /// A NUL in a C string.
+    /// A C string has a NUL.
     NulByte,
-    /// A CR in a string.
+    /// A string has a CR.
     CarriageReturn,
     /// A raw string has more than 255 hashes.
     TooManyHashes,
-    /// What follows a literal is no suffix.
+    /// The text after a literal is not a suffix.
     InvalidSuffix,
-    /// A float was wanted, and the text has neither period nor exponent.
+    /// A float was expected, and the text has neither a period nor an exponent.
     UnexpectedIntegerLit,
-    /// The suffix of an integer begins with `e` or `E`.
+    /// The suffix of an integer starts with `e` or `E`.
     IntegerSuffixStartingWithE,
-    /// An allocation failed. It says nothing of the text.
+    /// An allocation failed. The text is a literal.
     OutOfMemory,
 }
 
 impl ParseErrorKind {
     ghost use Rattle.litrs_base.specs.Finality.{is_final};
 
-    /// Whether a refusal of this kind is final.
+    /// Returns `true` if errors of this kind are final.
     fn is_final(self) -> bool
         ensures { result ≡ is_final self }
     {
@@ -343,8 +342,8 @@ impl ParseErrorKind {
         }
     }
 
-    /// What is wrong, in words: `unterminated (byte) string literal` of `UnterminatedString`. It is
-    /// what `Display` prints.
+    /// Returns the description that `Display` writes: for `UnterminatedString` that is
+    /// `unterminated (byte) string literal`.
     pub fn description(self) -> &'static str
         ensures { result.now ≡ kind_text self }
     {

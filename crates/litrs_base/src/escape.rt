@@ -2,17 +2,18 @@
 ghost use Rattle.std.specs.Prelude.{◌≡◌, IsTrue};
 ghost use Rattle.litrs_base.specs.Unescape.{unescaped_number, is_unescaped_char, is_unescaped_byte};
 
-/// What an escape stands for.
+/// The value of an escape.
 #[derive(Clone, Copy, Debug, PartialEq, Eq)]
 pub enum Unescape {
-    /// One byte: the value of every escape but `\u{..}`.
+    /// A byte: the value of every escape except `\u{..}`.
     Byte(u8),
-    /// One character: the value of `\u{..}`.
+    /// A character: the value of `\u{..}`.
     Unicode(char),
 }
 
 impl Unescape {
-    /// The character: of a byte, which is ASCII, the one with this code, as `'A'` of `Byte(0x41)`.
+    /// Returns the character. For a byte, which is ASCII, that is the character with this code: for
+    /// `Byte(0x41)` it is `'A'`.
     pub fn unwrap_char(self) -> char
         requires { IsTrue (is_unescaped_char self) }
         ensures { result ≡ unescaped_number self }
@@ -23,7 +24,7 @@ impl Unescape {
         }
     }
 
-    /// The byte, which it is: 255 of `Byte(255)`.
+    /// Returns the byte. The value is a byte: for `Byte(255)` it is 255.
     pub fn unwrap_byte(self) -> u8
         requires { IsTrue (is_unescaped_byte self) }
         ensures { result ≡ unescaped_number self }

@@ -4,7 +4,7 @@ ghost use Rattle.std.specs.Prelude.{◌≡◌, MatchOption};
 use std::fmt;
 use std::str::FromStr;
 
-/// The two floating-point types, which a suffix may name. See [the reference][ref].
+/// The two floating-point types that a suffix may name. See [the reference][ref].
 ///
 /// [ref]: https://doc.rust-lang.org/reference/types/numeric.html#floating-point-types
 #[derive(Clone, Copy, Debug, PartialEq, Eq)]
@@ -18,8 +18,8 @@ pub enum FloatType {
 impl FloatType {
     ghost use Rattle.litrs_base.specs.FloatTypes.{float_type_name, NamesNoFloatType};
 
-    /// The type with this name, as `F32` for `f32`. None where the text names no floating-point
-    /// type.
+    /// Returns the type with the name `suffix`, for example `F32` for `f32`, or `None` if it is not
+    /// the name of a floating-point type.
     pub fn from_suffix(suffix: &str) -> Option<FloatType>
         ensures { MatchOption result (NamesNoFloatType suffix.now)
             (λ t. float_type_name t ≡ suffix.now) }
@@ -31,7 +31,7 @@ impl FloatType {
         }
     }
 
-    /// The name of this type, as `f32` for `F32`.
+    /// Returns the name of this type, for example `f32` for `F32`.
     pub fn suffix(self) -> &'static str
         ensures { result.now ≡ float_type_name self }
     {

@@ -1,4 +1,4 @@
-//! The integer types that a literal's value may have.
+//! The integer types that the value of a literal may have.
 ghost use Rattle.std.specs.Prelude.{◌≡◌, ℕ, ℤ, ◌+ℤ◌, ◌*ℤ◌, option_map, ◌+◌, ◌*◌, ◌-◌, ◌^◌, ◌≤◌, pos, refl};
 ghost use Rattle.std.specs.Option.{SomeIff};
 ghost use Rattle.std.proofs.Common.{rules};
@@ -12,44 +12,44 @@ mod sealed {
     pub trait Sealed {}
 }
 
-/// The twelve integer types. No other type can implement it.
+/// The twelve integer types. No other type can implement this trait.
 pub trait FromIntegerLiteral: sealed::Sealed + Copy {
-    /// The value that stands for a number.
+    /// The value of a number.
     ghost of: { ℕ → Self };
 
-    /// The number that a value stands for, negative ones among them.
+    /// The number of a value, which may be negative.
     ghost number: { Self → ℤ };
 
-    /// Which type it is.
+    /// The type.
     ghost integer_type: { IntegerType };
 
     /// The greatest number of the type.
     ghost greatest: { ℕ };
 
-    /// The value of a number of at most 16.
+    /// Returns the value of `n`, which is at most 16.
     fn from_small_number(n: u8) -> Self
         requires { n ≤ 16 }
         ensures { result ≡ of n };
 
-    /// The value of a number, or None where it is greater than the greatest number.
+    /// Returns the value of `n`, or `None` if `n` is greater than the greatest number of the type.
     fn from_number(n: u64) -> Option<Self>
         ensures { SomeIff result (n ≤ greatest) (of n) };
 
-    /// The sum, or None if and only if the type has no such number.
+    /// Returns the sum, or `None` if it is not a number of the type.
     fn checked_add(self, rhs: Self) -> Option<Self>
         ensures numbers { (m n : ℕ) → self ≡ of m → rhs ≡ of n →
             SomeIff result (m + n ≤ greatest) (of (m + n)) }
         ensures exact { let sum = number self +ℤ number rhs in
             SomeIff (option_map number result) (IsNumberOf integer_type sum) sum };
 
-    /// The product, or None if and only if the type has no such number.
+    /// Returns the product, or `None` if it is not a number of the type.
     fn checked_mul(self, rhs: Self) -> Option<Self>
         ensures numbers { (m n : ℕ) → self ≡ of m → rhs ≡ of n →
             SomeIff result (m * n ≤ greatest) (of (m * n)) }
         ensures exact { let product = number self *ℤ number rhs in
             SomeIff (option_map number result) (IsNumberOf integer_type product) product };
 
-    /// Which type it is.
+    /// The type.
     fn ty() -> IntegerType
         ensures { result ≡ integer_type };
 

@@ -23,7 +23,7 @@ pub enum IntegerBase {
 impl IntegerBase {
     ghost use Rattle.litrs_base.specs.Base.{prefix};
 
-    /// The text that indicates this base: `0b`, `0o`, the empty text and `0x`.
+    /// Returns the prefix of this base: `0b`, `0o`, the empty text or `0x`.
     pub fn prefix(self) -> &'static str
         ensures { result.now ≡ prefix self }
     {
@@ -35,7 +35,7 @@ impl IntegerBase {
         }
     }
 
-    /// How many digits the base has: 2, 8, 10 or 16; 16 of `Hexadecimal`.
+    /// Returns the number of digits of this base: 2, 8, 10 or 16.
     pub fn value(self) -> u8
         ensures { result ≡ base_value self }
     {
@@ -48,7 +48,7 @@ impl IntegerBase {
     }
 }
 
-/// The twelve integer types, which a suffix may name. See [the reference][ref].
+/// The twelve integer types that a suffix may name. See [the reference][ref].
 ///
 /// [ref]: https://doc.rust-lang.org/reference/types/numeric.html#integer-types
 #[derive(Clone, Copy, Debug, PartialEq, Eq)]
@@ -82,7 +82,8 @@ pub enum IntegerType {
 impl IntegerType {
     ghost use Rattle.litrs_base.specs.IntegerTypes.{type_name, NamesNoType};
 
-    /// The type with this name, as `U8` for `u8`. None where the text names no integer type.
+    /// Returns the type with the name `suffix`, for example `U8` for `u8`, or `None` if it is not
+    /// the name of an integer type.
     pub fn from_suffix(suffix: &str) -> Option<IntegerType>
         ensures { MatchOption result (NamesNoType suffix.now) (λ t. type_name t ≡ suffix.now) }
     {
@@ -103,7 +104,7 @@ impl IntegerType {
         }
     }
 
-    /// The name of this type, as `u8` for `U8`.
+    /// Returns the name of this type, for example `u8` for `U8`.
     pub fn suffix(self) -> &'static str
         ensures { result.now ≡ type_name self }
     {

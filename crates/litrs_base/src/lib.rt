@@ -1,4 +1,4 @@
-//! What every layer names: the buffers of texts, the types of integers, escapes, and refusals.
+//! The types that every layer uses: buffers of texts, types of integers, escapes, and errors.
 #![tactic(auto)]
 
 pub use buffer::{Buffer, Text};

@@ -1,15 +1,15 @@
-//! The kinds of literals between quotes, and what each allows.
+//! The kinds of literals between quotes, and the characters and escapes that each allows.
 ghost use Rattle.std.specs.Prelude.{◌≡◌, length};
 ghost use Rattle.litrs_base.specs.Quotes.{quoted_front, raw_front, switches_of, char_switches_of};
 
-/// What a literal allows in its escapes, and of other characters in its body.
+/// The escapes and characters that a literal allows in its body.
 #[derive(Clone, Copy, Debug, PartialEq, Eq)]
 pub struct Switches {
-    /// `\u{..}`, and characters beyond ASCII.
+    /// Set if `\u{..}` and characters that are not ASCII are allowed.
     pub unicode: bool,
-    /// `\x80` to `\xff`.
+    /// Set if `\x80` to `\xff` are allowed.
     pub byte_escapes: bool,
-    /// NUL, and escapes of value 0.
+    /// Set if NUL and escapes with the value 0 are allowed.
     pub allow_nul: bool,
 }
 
@@ -18,9 +18,9 @@ pub struct Switches {
 /// [ref]: https://doc.rust-lang.org/reference/tokens.html#characters-and-strings
 #[derive(Clone, Copy, Debug, PartialEq, Eq)]
 pub enum CharKind {
-    /// A char, as `'a'`.
+    /// A char, for example `'a'`.
     Char,
-    /// A byte, as `b'a'`.
+    /// A byte, for example `b'a'`.
     Byte,
 }
 
@@ -29,16 +29,17 @@ pub enum CharKind {
 /// [ref]: https://doc.rust-lang.org/reference/tokens.html#characters-and-strings
 #[derive(Clone, Copy, Debug, PartialEq, Eq)]
 pub enum StringKind {
-    /// A string, as `"a"` and `r"a"`.
+    /// A string, for example `"a"` or `r"a"`.
     String,
-    /// A byte string, as `b"a"` and `br"a"`.
+    /// A byte string, for example `b"a"` or `br"a"`.
     ByteString,
-    /// A C string, as `c"a"` and `cr"a"`.
+    /// A C string, for example `c"a"` or `cr"a"`.
     CString,
 }
 
 impl CharKind {
-    /// What it allows: of a byte no character beyond ASCII, but `\x80` to `\xff`.
+    /// Returns the switches of this kind: a byte allows only ASCII characters, and `\x80` to
+    /// `\xff`.
     #[inline(always)]
     pub fn switches(self) -> Switches
         ensures { result ≡ char_switches_of self }
@@ -53,8 +54,8 @@ impl CharKind {
 }
 
 impl StringKind {
-    /// Where the body of a quoted string begins, and where the `r` of a raw one ends: 2 of
-    /// `b"a"` and `br"a"`.
+    /// Returns the place of the body of a quoted string, which is that of the end of the `r` of a
+    /// raw one, in bytes: 2 for `b"a"` and `br"a"`.
     #[inline(always)]
     pub fn front_len(self) -> usize
         ensures quoted { result ≡ length (quoted_front self) }
@@ -66,7 +67,8 @@ impl StringKind {
         }
     }
 
-    /// What it allows: of a byte string no characters beyond ASCII, but `\x80` to `\xff`.
+    /// Returns the switches of this kind: a byte string allows only ASCII characters, and `\x80` to
+    /// `\xff`.
     #[inline(always)]
     pub fn switches(self) -> Switches
         ensures { result ≡ switches_of self }
