@@ -4,7 +4,7 @@ use litrs_build::{byte, byte_string, c_string};
 use std::alloc::Global;
 use std::process::Abort;
 
-/// How many bytes have a literal.
+/// Returns the number of bytes that have a literal.
 fn bytes(alloc: Global) -> u32 {
     let mut count: u32 = 0;
     for b in 0..=255u8 {
@@ -15,7 +15,7 @@ fn bytes(alloc: Global) -> u32 {
     count
 }
 
-/// Whether a byte has a literal.
+/// Returns `true` if a byte has a literal.
 fn has_byte(alloc: Global, b: u8) -> bool {
     match byte(alloc, b, "u8") {
         Ok(lit) => is_exact(lit.into_raw_input()),
@@ -23,7 +23,7 @@ fn has_byte(alloc: Global, b: u8) -> bool {
     }
 }
 
-/// How many pairs of bytes have a byte string.
+/// Returns the number of pairs of bytes that have a byte string.
 fn byte_strings(alloc: Global) -> u32 {
     let mut count: u32 = 0;
     for number in 0..=0xffffu16 {
@@ -34,7 +34,7 @@ fn byte_strings(alloc: Global) -> u32 {
     count
 }
 
-/// Whether bytes have a byte string.
+/// Returns `true` if bytes have a byte string.
 fn has_byte_string(alloc: Global, value: &[u8]) -> bool {
     match byte_string(alloc, value, "_x") {
         Ok(lit) => is_exact(lit.into_raw_input()),
@@ -42,7 +42,7 @@ fn has_byte_string(alloc: Global, value: &[u8]) -> bool {
     }
 }
 
-/// How many pairs of bytes have a C string: those without a NUL.
+/// Returns the number of pairs of bytes that have a C string: those without a NUL.
 fn c_strings(alloc: Global) -> u32 {
     let mut count: u32 = 0;
     for number in 0..=0xffffu16 {
@@ -53,7 +53,7 @@ fn c_strings(alloc: Global) -> u32 {
     count
 }
 
-/// Whether bytes have a C string.
+/// Returns `true` if bytes have a C string.
 fn has_c_string(alloc: Global, value: &[u8]) -> bool {
     match c_string(alloc, value, "_x") {
         Ok(lit) => is_exact(lit.into_raw_input()),

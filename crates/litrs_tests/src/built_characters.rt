@@ -4,10 +4,10 @@ use litrs_build::{char, string};
 use std::alloc::{AllocError, Global};
 use std::process::Abort;
 
-/// How many characters there are.
+/// The number of characters.
 const CHARACTERS: u32 = 0x11_0000 - 0x800;
 
-/// How many characters have a char.
+/// Returns the number of characters that have a char.
 fn chars(alloc: Global) -> u32 {
     let mut count: u32 = 0;
     for code in 0..0x11_0000u32 {
@@ -20,7 +20,7 @@ fn chars(alloc: Global) -> u32 {
     count
 }
 
-/// Whether a character has a char.
+/// Returns `true` if a character has a char.
 fn has_char(alloc: Global, c: char) -> bool {
     match char(alloc, c, "u8") {
         Ok(lit) => is_exact(lit.into_raw_input()),
@@ -28,8 +28,8 @@ fn has_char(alloc: Global, c: char) -> bool {
     }
 }
 
-/// How many characters have a string, in which each stands after the quote, after a letter and
-/// after itself.
+/// Returns the number of characters that have a string. Each is placed after the quote, after a
+/// letter and after itself.
 fn strings(alloc: Global) -> Result<u32, AllocError> {
     let mut count: u32 = 0;
     for code in 0..0x11_0000u32 {
@@ -43,7 +43,7 @@ fn strings(alloc: Global) -> Result<u32, AllocError> {
     Ok(count)
 }
 
-/// Whether a text has a string.
+/// Returns `true` if a text has a string.
 fn has_string(alloc: Global, text: &str) -> bool {
     match string(alloc, text, "_x") {
         Ok(lit) => is_exact(lit.into_raw_input()),

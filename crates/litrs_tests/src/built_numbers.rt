@@ -4,12 +4,12 @@ use litrs_build::{BuildError, float, grouped_integer, regroup};
 use std::alloc::{AllocError, Global};
 use std::process::Abort;
 
-/// Whether a text has no more room than for it.
+/// Returns `true` if the capacity of a text is its length.
 pub fn is_exact(text: String) -> bool {
     text.capacity() == text.len()
 }
 
-/// Whether the integer with this value and base in groups of three is built.
+/// Returns `true` if the integer with this value and base in groups of three is built.
 fn is_integer(alloc: Global, value: u128, base: IntegerBase) -> bool {
     match grouped_integer(alloc, value, base, 3, "u8") {
         Ok(lit) => is_exact(lit.into_raw_input()),
@@ -24,7 +24,7 @@ fn integers_of_values(rt: HostRuntime) {
     assert!(rt; is_integer(rt.alloc(), 0, IntegerBase::Octal));
 }
 
-/// Whether an integer that was built has no more room than for its text.
+/// Returns `true` if the capacity of the text of an integer is its length.
 fn is_built(built: Result<IntegerLit<String>, AllocError>) -> bool {
     match built {
         Ok(lit) => is_exact(lit.into_raw_input()),
@@ -32,7 +32,7 @@ fn is_built(built: Result<IntegerLit<String>, AllocError>) -> bool {
     }
 }
 
-/// Whether an integer is built in other groups.
+/// Returns `true` if an integer is built in other groups.
 fn is_regrouped(alloc: Global, text: &str, group: usize) -> bool {
     match IntegerLit::parse(text) {
         Ok(lit) => is_built(regroup(alloc, &lit, group)),
@@ -47,7 +47,7 @@ fn integers_in_other_groups(rt: HostRuntime) {
     assert!(rt; is_regrouped(rt.alloc(), "1_0_00", 0));
 }
 
-/// Whether a float that was built has no more room than for its text.
+/// Returns `true` if the capacity of the text of a float is its length.
 fn is_float(built: Result<FloatLit<String>, BuildError>) -> bool {
     match built {
         Ok(lit) => is_exact(lit.into_raw_input()),
@@ -55,7 +55,7 @@ fn is_float(built: Result<FloatLit<String>, BuildError>) -> bool {
     }
 }
 
-/// What floats have after their integer part: a fractional part, an exponent and a suffix.
+/// Fractional parts, exponents and suffixes, which follow the integer part of a float.
 const FLOATS: &[(Option<&str>, &str, &str)] = &[
     (Some("3_33__"), "E3", ""),
     (Some(""), "", ""),

@@ -14,7 +14,7 @@ const TEXT: &str = concat!(
     "###############################################################",
 );
 
-/// The same of a text that is not ASCII.
+/// Like `TEXT`, but not ASCII.
 const NON_ASCII_TEXT: &str = concat!(
     "é\"",
     "################################################################",
@@ -23,7 +23,7 @@ const NON_ASCII_TEXT: &str = concat!(
     "###############################################################",
 );
 
-/// How many of the starts have a raw string.
+/// Returns the number of the starts that have a raw string.
 fn raw_strings(alloc: Global) -> u32 {
     let mut count: u32 = 0;
     for end in 1..=TEXT.len() {
@@ -36,7 +36,7 @@ fn raw_strings(alloc: Global) -> u32 {
     count
 }
 
-/// Whether a text has a raw string.
+/// Returns `true` if a text has a raw string.
 fn has_raw_string(alloc: Global, text: &str) -> bool {
     match raw_string(alloc, text, "_x") {
         Ok(lit) => is_exact(lit.into_raw_input()),
@@ -44,7 +44,7 @@ fn has_raw_string(alloc: Global, text: &str) -> bool {
     }
 }
 
-/// The same of raw byte strings.
+/// Like [`raw_strings`], for raw byte strings.
 fn raw_byte_strings(alloc: Global) -> u32 {
     let mut count: u32 = 0;
     for end in 1..=TEXT.len() {
@@ -57,7 +57,7 @@ fn raw_byte_strings(alloc: Global) -> u32 {
     count
 }
 
-/// Whether bytes have a raw byte string.
+/// Returns `true` if bytes have a raw byte string.
 fn has_raw_byte_string(alloc: Global, value: &[u8]) -> bool {
     match raw_byte_string(alloc, value, "_x") {
         Ok(lit) => is_exact(lit.into_raw_input()),
@@ -65,7 +65,7 @@ fn has_raw_byte_string(alloc: Global, value: &[u8]) -> bool {
     }
 }
 
-/// The same of raw C strings.
+/// Like [`raw_strings`], for raw C strings.
 fn raw_c_strings(alloc: Global) -> u32 {
     let mut count: u32 = 0;
     for end in 1..=NON_ASCII_TEXT.len() {
@@ -78,7 +78,7 @@ fn raw_c_strings(alloc: Global) -> u32 {
     count
 }
 
-/// Whether bytes have a raw C string.
+/// Returns `true` if bytes have a raw C string.
 fn has_raw_c_string(alloc: Global, value: &[u8]) -> bool {
     match raw_c_string(alloc, value, "_x") {
         Ok(lit) => is_exact(lit.into_raw_input()),

@@ -4,7 +4,7 @@ use litrs_lex::EscapeContainer;
 use std::alloc::{AllocError, Global};
 use std::process::Abort;
 
-/// Pushes each form of value as often as told, ten bytes a time.
+/// Pushes a value of each form `count` times, ten bytes each time.
 fn push_values<C: EscapeContainer>(container: &mut C, count: usize) -> Result<(), AllocError> {
     for _ in 0..count {
         container.push(Unescape::Byte(b'\n'))?;
@@ -15,7 +15,7 @@ fn push_values<C: EscapeContainer>(container: &mut C, count: usize) -> Result<()
     Ok(())
 }
 
-/// Whether an empty container takes them, and one with room for so many bytes is made.
+/// Returns `true` if an empty container takes the values, and one with a capacity is made.
 fn takes_values<C: EscapeContainer>(alloc: Global, count: usize) -> bool {
     let mut container = C::new(alloc);
     push_values(&mut container, count).is_ok() && C::with_capacity(alloc, count).is_ok()

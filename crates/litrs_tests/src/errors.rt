@@ -51,8 +51,8 @@ const KINDS: &[ParseErrorKind] = &[
     OutOfMemory,
 ];
 
-/// Whether a kind has a description and is printed, and refusals of the kind without a span and
-/// with the greatest one.
+/// Returns `true` if a kind has a description and is printed, and refusals of the kind without a
+/// span and with the greatest one.
 fn is_printed(alloc: Global, kind: ParseErrorKind) -> bool {
     let refusal = ParseError::new(None, kind);
     let placed = ParseError::new(Some(0..usize::MAX), kind);
@@ -62,7 +62,7 @@ fn is_printed(alloc: Global, kind: ParseErrorKind) -> bool {
         && has_text(alloc, &placed)
 }
 
-/// Whether there is a text of a value.
+/// Returns `true` if there is a text of a value.
 fn has_text<D: Display>(alloc: Global, value: &D) -> bool {
     value.to_string(alloc).is_ok()
 }

@@ -4,7 +4,7 @@ use litrs::Literal;
 use std::alloc::{AllocError, Global};
 use std::process::Abort;
 
-/// What literals have before and after a part of letters that are digits too.
+/// The texts before and after a part of letters that are digits too.
 const PRINTED: &[(&str, &str)] = &[
     ("0x", "_u8"),
     ("1.5f", ""),
@@ -16,7 +16,7 @@ const PRINTED: &[(&str, &str)] = &[
     ("c\"", "\""),
 ];
 
-/// Whether all of the literal of a text is printed.
+/// Returns `true` if all of the literal of a text is printed.
 fn is_literal_printed(alloc: Global, text: &str) -> bool {
     match Literal::parse(alloc, text) {
         Ok(lit) => is_printed(alloc, &lit, text),
@@ -24,7 +24,7 @@ fn is_literal_printed(alloc: Global, text: &str) -> bool {
     }
 }
 
-/// Whether there is a text, and that is so of it.
+/// Like [`is_literal_printed`], for a text whose allocation may have failed.
 fn is_text_printed(alloc: Global, text: &Result<String, AllocError>) -> bool {
     match text {
         Ok(text) => is_literal_printed(alloc, text.as_str()),
@@ -32,7 +32,7 @@ fn is_text_printed(alloc: Global, text: &Result<String, AllocError>) -> bool {
     }
 }
 
-/// Whether that is so of a literal of each form, with this part.
+/// Returns `true` if a literal of each form with `part` is printed.
 fn are_printed(alloc: Global, part: &str) -> bool {
     for (front, end) in PRINTED {
         if !is_text_printed(alloc, &format!(in alloc; "{front}{part}{end}")) {

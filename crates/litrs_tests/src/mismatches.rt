@@ -1,4 +1,4 @@
-//! What is printed of a token of each kind where a literal of each kind is expected.
+//! The messages for a token of each kind if a literal of each kind is expected.
 use crate::printed::is_printed;
 use litrs::{
     BoolLit, ByteLit, ByteStringLit, CStringLit, CharLit, FloatLit, IntegerLit, StringLit,
@@ -28,7 +28,7 @@ const A_BYTE_STRING: &str = "a byte string literal (e.g. `b\"fox\"`)";
 
 const A_C_STRING: &str = "a C string literal (e.g. c\"Ferris\")";
 
-/// A literal of each kind that a token has, and what it is called.
+/// A literal of each kind that a token has, and the name of its kind.
 const LITERALS: &[(&str, &str)] = &[
     ("27", AN_INTEGER),
     ("3.14", A_FLOAT),
@@ -39,7 +39,7 @@ const LITERALS: &[(&str, &str)] = &[
     ("c\"Ferris\"", A_C_STRING),
 ];
 
-/// Whether this is printed of a token where another was expected.
+/// Returns `true` if this is printed of a token where another was expected.
 fn is_mismatch(alloc: Global, invalid: &InvalidToken, expected: &str, found: &str) -> bool {
     match format!(in alloc; "expected {expected}, but found {found}") {
         Ok(message) => is_printed(alloc, invalid, message.as_str()),
@@ -47,7 +47,8 @@ fn is_mismatch(alloc: Global, invalid: &InvalidToken, expected: &str, found: &st
     }
 }
 
-/// Whether a tree that is called so is refused where this is expected, if that is another.
+/// Returns `true` if `T`, which expects `expected`, accepts `tree`, whose kind has the name `called`,
+/// if the two names are equal, and rejects it otherwise.
 fn is_refused<T: FromToken>(alloc: Global, tree: &TokenTree, expected: &str, called: &str) -> bool {
     match &T::from_tree_ref(alloc, tree) {
         Ok(_) => called == expected,
@@ -56,7 +57,7 @@ fn is_refused<T: FromToken>(alloc: Global, tree: &TokenTree, expected: &str, cal
     }
 }
 
-/// Whether a tree that is called so is refused as a bool.
+/// Returns `true` if `tree`, whose kind has the name `called`, is rejected as a bool.
 fn is_no_bool(alloc: Global, tree: &TokenTree, called: &str) -> bool {
     match BoolLit::try_from(tree) {
         Ok(_) => false,
@@ -64,7 +65,7 @@ fn is_no_bool(alloc: Global, tree: &TokenTree, called: &str) -> bool {
     }
 }
 
-/// Whether a tree that is called so is refused by the types of one kind, but that of its own.
+/// Returns `true` if `tree` is rejected by the types of one kind, except that of its own.
 fn is_of_one_kind(alloc: Global, tree: &TokenTree, called: &str) -> bool {
     is_refused::<IntegerLit<String>>(alloc, tree, AN_INTEGER, called)
         && is_refused::<FloatLit<String>>(alloc, tree, A_FLOAT, called)
@@ -76,7 +77,7 @@ fn is_of_one_kind(alloc: Global, tree: &TokenTree, called: &str) -> bool {
         && is_no_bool(alloc, tree, called)
 }
 
-/// Whether the literal of a text, which is called so, is.
+/// Like [`is_of_one_kind`], for the literal of a text.
 fn is_literal_of_one_kind(alloc: Global, text: &str, called: &str) -> bool {
     match Literal::from_text(alloc, text) {
         Ok(literal) => is_of_one_kind(alloc, &TokenTree::from(literal), called),
@@ -84,25 +85,25 @@ fn is_literal_of_one_kind(alloc: Global, text: &str, called: &str) -> bool {
     }
 }
 
-/// Whether a tree that is called so is refused by the types of one kind, and as any literal.
+/// Returns `true` if `tree` is rejected by the types of one kind, and as any literal.
 fn is_no_literal(alloc: Global, tree: &TokenTree, called: &str) -> bool {
     is_of_one_kind(alloc, tree, called)
         && is_refused::<litrs::Literal<String>>(alloc, tree, A_LITERAL, called)
 }
 
-/// Whether a punctuation character is.
+/// Like [`is_no_literal`], for a punctuation character.
 fn is_punct_no_literal(alloc: Global) -> bool {
     let tree = TokenTree::from(Punct::new('-', Spacing::Alone));
     is_no_literal(alloc, &tree, "a punctuation character")
 }
 
-/// Whether a group is.
+/// Like [`is_no_literal`], for a group.
 fn is_group_no_literal(alloc: Global) -> bool {
     let tree = TokenTree::from(Group::new(Delimiter::Parenthesis, Vec::new(alloc)));
     is_no_literal(alloc, &tree, "a group")
 }
 
-/// Whether an identifier is.
+/// Like [`is_no_literal`], for an identifier.
 fn is_ident_no_literal(alloc: Global) -> bool {
     match Ident::new(alloc, "x", Span::call_site()) {
         Ok(name) => is_no_literal(alloc, &TokenTree::from(name), "an identifier"),

@@ -1,4 +1,5 @@
-//! What is printed at a width and at a precision. Integers, floats and refused tokens ignore both.
+//! Literals and errors printed at a width and at a precision. Integers, floats and errors of tokens
+//! ignore both.
 use litrs::ParseErrorKind::Empty;
 use litrs::{FloatType, IntegerType, Literal, ParseError};
 use std::alloc::Global;
@@ -36,13 +37,13 @@ const PRINTED: &[(&str, &str)] = &[
     ),
 ];
 
-/// The same of the refusal of an empty text at 3..4: the description has the width.
+/// The same columns for an error of an empty text at 3..4: the description has the width.
 const REFUSAL: &str = concat!(
     "  input is empty (at 3..4)|",
     "input is empty   (at 3..4)| input is empty  (at 3..4)|in (at 3..4)|",
 );
 
-/// Whether this is printed of the value in 16 columns and at the precision.
+/// Returns `true` if this is printed of the value in 16 columns and at the precision.
 fn is_printed<D: Display>(alloc: Global, value: &D, expected: &str) -> bool {
     match format!(in alloc; "{value:>16}|{value:<16}|{value:^16}|{value:.2}|") {
         Ok(printed) => printed.as_str() == expected,
@@ -50,7 +51,7 @@ fn is_printed<D: Display>(alloc: Global, value: &D, expected: &str) -> bool {
     }
 }
 
-/// Whether this is printed of the literal of the text.
+/// Returns `true` if this is printed of the literal of the text.
 fn is_literal_printed(alloc: Global, text: &str, expected: &str) -> bool {
     match Literal::parse(alloc, text) {
         Ok(lit) => is_printed(alloc, &lit, expected),

@@ -4,11 +4,11 @@ use litrs_build::unescaped;
 use std::alloc::{AllocError, Global};
 use std::process::Abort;
 
-/// How many characters there are.
+/// The number of characters.
 const CHARACTERS: u32 = 0x11_0000 - 0x800;
 
-/// How many characters, each the escape of a char, are written anew in no longer a text. The escape
-/// of a surrogate, which is no character, is refused.
+/// Returns the number of characters whose escape in a char is written anew in at most its length.
+/// The escape of a surrogate, which is not a character, is rejected.
 fn chars(alloc: Global) -> u32 {
     let mut count: u32 = 0;
     for code in 0..0x11_0000u32 {
@@ -19,7 +19,7 @@ fn chars(alloc: Global) -> u32 {
     count
 }
 
-/// The same of strings of such an escape, a letter and the escape again.
+/// Like [`chars`], for strings of such an escape, a letter and the escape again.
 fn strings(alloc: Global) -> u32 {
     let mut count: u32 = 0;
     for code in 0..0x11_0000u32 {
@@ -33,7 +33,7 @@ fn strings(alloc: Global) -> u32 {
     count
 }
 
-/// How many bytes, each the escape of a byte, are written anew in no longer a text.
+/// Returns the number of bytes whose escape in a byte is written anew in at most its length.
 fn bytes(alloc: Global) -> u32 {
     let mut count: u32 = 0;
     for b in 0..=255u8 {
@@ -44,7 +44,8 @@ fn bytes(alloc: Global) -> u32 {
     count
 }
 
-/// How many pairs of bytes, the escapes of a C string, are written anew in no longer a text.
+/// Returns the number of pairs of bytes whose escapes in a C string are written anew in at most
+/// their length.
 fn c_strings(alloc: Global) -> u32 {
     let mut count: u32 = 0;
     for number in 0..=0xffffu16 {
@@ -56,7 +57,7 @@ fn c_strings(alloc: Global) -> u32 {
     count
 }
 
-/// Whether there is a text, a literal that, written anew, is no longer.
+/// Returns `true` if there is a text, a literal that, written anew, is no longer.
 fn is_no_longer(alloc: Global, text: &Result<String, AllocError>) -> bool {
     match text {
         Ok(text) => is_literal_no_longer(alloc, text.as_str()),
@@ -64,7 +65,7 @@ fn is_no_longer(alloc: Global, text: &Result<String, AllocError>) -> bool {
     }
 }
 
-/// Whether a text is a literal that, written anew, is no longer.
+/// Returns `true` if a text is a literal that, written anew, is no longer.
 fn is_literal_no_longer(alloc: Global, text: &str) -> bool {
     match Literal::parse(alloc, text) {
         Ok(lit) => is_no_longer_anew(alloc, &lit),
@@ -72,7 +73,7 @@ fn is_literal_no_longer(alloc: Global, text: &str) -> bool {
     }
 }
 
-/// Whether a literal that is written anew is no longer.
+/// Returns `true` if a literal that is written anew is no longer.
 fn is_no_longer_anew(alloc: Global, lit: &Literal<&str>) -> bool {
     match unescaped(alloc, lit) {
         Ok(again) => length(&again) <= length(lit),

@@ -1,4 +1,4 @@
-//! How much room the value of a C string has.
+//! The capacity of the value of a C string.
 use litrs_lex::unescape_string;
 use std::alloc::Global;
 use std::process::Abort;
@@ -16,7 +16,7 @@ const C_STRINGS: &[(&str, usize)] = &[
     ),
 ];
 
-/// Whether the value has so many bytes, and room for one more, its closing zero, alone.
+/// Returns `true` if the value has `len` bytes, and a capacity of one more, for its closing zero.
 fn has_room(alloc: Global, text: &str, len: usize) -> bool {
     if !text.is_char_boundary(2) {
         return false;

@@ -15,7 +15,7 @@ const ALL: Special = Special {
     non_ascii: true,
 };
 
-/// Whether the byte is special.
+/// Returns `true` if the byte is special.
 fn is_special(byte: u8, what: Special) -> bool {
     match byte {
         b'"' | b'\r' => true,
@@ -26,7 +26,8 @@ fn is_special(byte: u8, what: Special) -> bool {
     }
 }
 
-/// Whether the search agrees at each start with a plain one, which goes back from the end.
+/// Returns `true` if the search agrees at each start with a plain one, which goes back from the
+/// end.
 fn agrees(bytes: &[u8], what: Special) -> bool {
     let mut expected = bytes.len();
     for from in (0..=bytes.len()).rev() {
@@ -40,7 +41,7 @@ fn agrees(bytes: &[u8], what: Special) -> bool {
     true
 }
 
-/// Whether the search agrees over so many letters, where the byte replaces that of the place.
+/// Returns `true` if the search agrees over `len` letters with `byte` at `place`.
 fn agrees_at(alloc: Global, len: usize, byte: u8, place: usize) -> bool {
     let Ok(mut bytes) = vec![in alloc; b'a'; len] else {
         return false;
@@ -51,7 +52,7 @@ fn agrees_at(alloc: Global, len: usize, byte: u8, place: usize) -> bool {
     agrees(&bytes, ALL) && agrees(&bytes, NONE)
 }
 
-/// Whether it agrees for each place.
+/// Returns `true` if the search agrees for each place.
 fn agrees_at_each_place(alloc: Global, len: usize, byte: u8) -> bool {
     for place in 0..=len {
         if !agrees_at(alloc, len, byte, place) {

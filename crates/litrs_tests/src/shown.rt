@@ -1,4 +1,4 @@
-//! What is shown of diagnostics on texts that are hard to show.
+//! Diagnostics on texts that are hard to show.
 //!
 //! Of the first seven rows the lines are those that rustc 1.95 writes, but for its message and the
 //! name of its input. It differs in other rows:
@@ -111,7 +111,7 @@ const ROWS: &[(Place, &str)] = &[
     ((6, 8, 140, 7, 40), "ab cd\nef gh"),
 ];
 
-/// What is shown of each, and a blank line after it.
+/// The lines of each, and an empty line after them.
 const SHOWN: &str = r#"error: here
  --> row:1:23
   |
@@ -499,7 +499,7 @@ fn lines(
     }
 }
 
-/// Whether this is shown of the range of a text, but for the last LF.
+/// Returns `true` if this is shown of the range of a text, but for the last LF.
 fn is_shown(alloc: Global, place: Place, source: &str, expected: &str) -> bool {
     match lines(alloc, place, source) {
         Ok(shown) => shown.strip_suffix('\n') == Some(expected),
@@ -507,7 +507,7 @@ fn is_shown(alloc: Global, place: Place, source: &str, expected: &str) -> bool {
     }
 }
 
-/// What of a text is not what is shown of these rows in turn.
+/// Returns the part of a text from the first line on that differs from the lines of these rows.
 fn wrong_rest(alloc: Global, rows: &[(Place, &str)], text: &'static str) -> &'static str {
     let mut rest = text;
     for (place, source) in rows {

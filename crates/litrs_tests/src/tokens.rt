@@ -20,7 +20,7 @@ fn refused_string(alloc: Global) -> Option<InvalidToken> {
     }
 }
 
-/// Whether the message is printed of the token, whatever the width and the precision.
+/// Returns `true` if the message is printed of the token, whatever the width and the precision.
 fn is_message_printed(alloc: Global, invalid: &InvalidToken) -> bool {
     match format!(in alloc; "{invalid:>200}{invalid:.3}") {
         Ok(printed) => printed.len() == 2 * MESSAGE.len() && printed.starts_with(MESSAGE),

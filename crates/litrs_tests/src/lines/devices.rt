@@ -7,22 +7,22 @@ use std::process::{Abort, ExitCode};
 /// Lines that nine reads of two bytes give; the tenth is the end.
 const LINES: &[u8] = b"true\n0b1_____2\nfoo";
 
-/// How many reads give the lines and then the end.
+/// The number of reads up to the end of the input.
 const READS: u64 = 10;
 
-/// What is written on `LINES`.
+/// The reports on `LINES`.
 const REPORTS: &[u8] = b"bool true
 error integer literal contains a digit invalid for its base (at 8..9)
 error invalid literal
 ";
 
-/// How many writes of eight bytes give the reports, and a flush: two, nine and three of the lines.
+/// The number of writes of eight bytes, two, nine and three for the lines, and a flush.
 const WRITES: u64 = 15;
 
-/// Past every call.
+/// A number greater than that of every call.
 const NEVER: u64 = u64::MAX;
 
-/// Which calls of a device are made, and the number of the one that fails.
+/// The number of calls of a device, and the number of the one that fails.
 #[derive(Drop)]
 struct Calls {
     made: u64,
@@ -99,14 +99,14 @@ fn make_writer(alloc: Global, fail_at: u64) -> Writer {
     }
 }
 
-/// A run over both.
+/// Runs over `reader` and `writer`.
 fn run_over(alloc: Global, reader: &mut Reader, writer: &mut Writer) -> Result<(), RunError> {
     let mut input = StdInput::new(reader);
     let mut output = StdOutput::new(writer);
     run(alloc, &mut input, &mut output)
 }
 
-/// Whether every call of devices was made.
+/// Returns `true` if every call of devices was made.
 fn has_called_all(reader: &Reader, writer: &Writer) -> bool {
     writer.bytes.as_slice() == REPORTS
         && reader.calls.made == READS
@@ -122,7 +122,7 @@ fn a_run_calls_its_devices(rt: HostRuntime) {
     assert!(rt; result.is_ok() && has_called_all(&reader, &writer));
 }
 
-/// Whether the read of this number, which fails, is the last call.
+/// Returns `true` if the read of this number, which fails, is the last call.
 fn ends_at_read(alloc: Global, number: u64) -> bool {
     let mut reader = make_reader(number);
     let mut writer = make_writer(alloc, NEVER);
@@ -133,7 +133,7 @@ fn ends_at_read(alloc: Global, number: u64) -> bool {
         && REPORTS.starts_with(&writer.bytes)
 }
 
-/// Whether the write of this number, or the flush, fails as the last call.
+/// Returns `true` if the write of this number, or the flush, fails as the last call.
 fn ends_at_write(alloc: Global, number: u64) -> bool {
     let mut reader = make_reader(NEVER);
     let mut writer = make_writer(alloc, number);
@@ -154,7 +154,8 @@ fn a_failed_call_is_the_last(rt: HostRuntime) {
     }
 }
 
-/// Whether a program over devices that fail at these calls has this status and this message.
+/// Returns `true` if a program over devices that fail at these calls has this status and this
+/// message.
 fn ends_with(alloc: Global, read: u64, write: u64, status: ExitCode, message: &str) -> bool {
     let mut input = StdInput::new(make_reader(read));
     let mut output = StdOutput::new(make_writer(alloc, write));
@@ -195,7 +196,7 @@ impl Write for Plenty {
     }
 }
 
-/// Whether a piece is written whole, and read whole.
+/// Returns `true` if a piece is written whole, and read whole.
 fn is_passed_on(piece: &mut [u8]) -> bool {
     let len = piece.len();
     let is_written = match StdOutput::new(Plenty).write(piece) {

@@ -3,7 +3,7 @@ use litrs_lines::{Input, MemInput, MemOutput, run};
 use std::alloc::{AllocError, Global};
 use std::process::Abort;
 
-/// So many copies of a line.
+/// Returns `count` copies of a line.
 fn repeated(alloc: Global, line: &str, count: usize) -> Result<String, AllocError> {
     let mut text = String::new(alloc);
     for _ in 0..count {
@@ -12,7 +12,7 @@ fn repeated(alloc: Global, line: &str, count: usize) -> Result<String, AllocErro
     Ok(text)
 }
 
-/// Whether there are reports on some lines.
+/// Returns `true` if there are reports on some lines.
 fn are_reported(alloc: Global, lines: &[u8]) -> bool {
     let room = lines.len().saturating_mul(10).saturating_add(100);
     let mut input = MemInput::new(lines, 4_000, None);
@@ -22,7 +22,7 @@ fn are_reported(alloc: Global, lines: &[u8]) -> bool {
     }
 }
 
-/// Whether there are reports on the line so many times.
+/// Returns `true` if there are reports on `count` copies of `line`.
 fn are_lines(alloc: Global, line: &str, count: usize) -> bool {
     match repeated(alloc, line, count) {
         Ok(lines) => are_reported(alloc, lines.as_bytes()),

@@ -6,7 +6,7 @@ use std::process::Abort;
 /// Lines that are literals and lines that are not, and a last one that no LF ends.
 const LINES: &[u8] = b"0xff80\n'a'\n\n\"a\\tb\"x\n0;";
 
-/// What is written on `LINES`.
+/// The reports on `LINES`.
 const REPORTS: &[u8] = b"integer base=16 digits=ff80 suffix= value=65408
 char value=61 suffix=
 error input is empty
@@ -14,7 +14,7 @@ string raw=no suffix=x value=610962
 error unexpected character (at 1..2)
 ";
 
-/// Inputs, and what is written on each.
+/// Inputs, and the reports on each.
 const RUNS: &[(&[u8], &[u8])] = &[
     (LINES, REPORTS),
     (
@@ -33,7 +33,7 @@ float int=3 frac=14 exp= suffix=f33
 /// The sizes of the pieces that are tried.
 const SIZES: &[usize] = &[1, 3, 4096];
 
-/// What `run` answers over an input, and what it has written by then.
+/// The result of `run` over an input, and its output.
 #[derive(Drop)]
 struct Run {
     result: Result<(), RunError>,
@@ -54,7 +54,7 @@ fn run_over(
     Ok(Run { result, output })
 }
 
-/// Whether a run in pieces of these sizes gives the reports.
+/// Returns `true` if a run in pieces of these sizes gives the reports.
 fn gives(alloc: Global, lines: &[u8], reports: &[u8], read: usize, write: usize) -> bool {
     match run_over(alloc, lines, (read, write), (None, None)) {
         Ok(run) => has_given(&run, reports),
@@ -62,12 +62,12 @@ fn gives(alloc: Global, lines: &[u8], reports: &[u8], read: usize, write: usize)
     }
 }
 
-/// Whether a run has given the reports.
+/// Returns `true` if a run has given the reports.
 fn has_given(run: &Run, reports: &[u8]) -> bool {
     run.result.is_ok() && run.output.bytes() == reports && !run.output.failed()
 }
 
-/// Whether that is so of pieces of each size.
+/// Like [`gives`], for pieces of each size.
 fn gives_in_pieces(alloc: Global, lines: &[u8], reports: &[u8]) -> bool {
     for read in SIZES {
         for write in SIZES {
@@ -86,7 +86,7 @@ fn pieces_of_any_size_give_the_same(rt: HostRuntime) {
     }
 }
 
-/// How many LF there are.
+/// Returns the number of LFs.
 fn count_lines(bytes: &[u8]) -> usize {
     let mut count: usize = 0;
     for b in bytes {
@@ -97,8 +97,8 @@ fn count_lines(bytes: &[u8]) -> usize {
     count
 }
 
-/// Whether the read of this number, which fails, ends the run: what is written by then is the
-/// reports on the lines that were read, in reads of one byte.
+/// Returns `true` if the read of this number, which fails, ends the run: what is written by then is
+/// the reports on the lines that were read, in reads of one byte.
 fn ends_at_read(alloc: Global, number: usize) -> bool {
     match run_over(alloc, LINES, (1, 3), (Some(number as u64), None)) {
         Ok(run) => has_ended_at_read(&run, number),
@@ -121,8 +121,8 @@ fn each_read_fails(rt: HostRuntime) {
     }
 }
 
-/// Whether the write or the flush of this number, which fails, ends the run, and so much is written
-/// by then.
+/// Returns `true` if the write or the flush of this number, which fails, ends the run, and so much
+/// is written by then.
 fn ends_at_write(alloc: Global, number: u64, written: usize) -> bool {
     match run_over(alloc, LINES, (4096, 4), (None, Some(number))) {
         Ok(run) => has_ended_at_write(&run, written),
