@@ -1,10 +1,10 @@
-//! Writes literals in one form: a literal a line, with its kind, its value and its suffix. A line
-//! that is no literal stays as it is, and so does one that is in its form.
+//! Writes each line that is a literal in a standard form, with the same kind, value and suffix. Other
+//! lines are unchanged.
 //!
-//! Digits of integers are in lower case. Where they have a `_` they are put into groups of three,
-//! or of four where the base is not ten; else they have none. Other literals are written as
-//! [`litrs_build::unescaped`] writes them: escapes only where a character is not shown as it is,
-//! each the shortest, and raw strings with the least number of hashes.
+//! Digits of integers are in lower case. If they have a `_`, they are written in groups of three, or
+//! of four if the base is not ten. Other literals are written as [`litrs_build::unescaped`] writes
+//! them: with escapes only for characters that are not shown as they are, and raw strings with the
+//! least number of hashes.
 #![tactic(auto)]
 
 ghost use Rattle.std.specs.Prelude.{◌≡◌, IfOk, MatchOption};
@@ -32,7 +32,7 @@ fn main(rt: HostRuntime) -> anyhow::Result<()> {
     Ok(())
 }
 
-/// The literal in its form, None where the text is no literal.
+/// Returns the literal `text` in the standard form, or `None` if `text` is not a literal.
 pub fn formatted(alloc: Global, text: &str) -> Result<Option<Literal<String>>, AllocError>
     ensures { IfOk result (λ form. MatchOption form
         (HasNoDerivation (IsLiteral (chars text.now)))
@@ -50,7 +50,7 @@ pub fn formatted(alloc: Global, text: &str) -> Result<Option<Literal<String>>, A
     }
 }
 
-/// What is written for a literal.
+/// Returns `lit` in the standard form.
 fn written(alloc: Global, lit: &Literal<&str>) -> Result<Literal<String>, AllocError>
     ensures { IfOk result (λ written.
         IsFormOf (derivation lit.now) (chars (literal_raw written))) }
@@ -61,7 +61,7 @@ fn written(alloc: Global, lit: &Literal<&str>) -> Result<Literal<String>, AllocE
     }
 }
 
-/// The integer with its digits in groups, if it has groups.
+/// Returns the integer with its digits in groups, if it has groups.
 fn regrouped(alloc: Global, lit: &IntegerLit<&str>) -> Result<Literal<String>, AllocError>
     ensures { IfOk result (λ written.
         IsFormOf (an_integer (integer_parts lit.now)) (chars (literal_raw written))) }
@@ -72,7 +72,7 @@ fn regrouped(alloc: Global, lit: &IntegerLit<&str>) -> Result<Literal<String>, A
     Ok(Literal::Integer(regrouped))
 }
 
-/// How many digits a group has, 0 where the digits are in no groups.
+/// Returns the number of digits in a group, or 0 if the digits are not in groups.
 fn group_of(lit: &IntegerLit<&str>) -> usize
     ensures { result ≡ group_of (integer_parts lit.now) }
 {
@@ -83,7 +83,7 @@ fn group_of(lit: &IntegerLit<&str>) -> usize
     }
 }
 
-/// How many digits of the base make a group.
+/// Returns the number of digits in a group in `base`.
 fn group_len(base: IntegerBase) -> usize
     ensures { result ≡ group_len base }
 {
@@ -93,7 +93,7 @@ fn group_len(base: IntegerBase) -> usize
     }
 }
 
-/// Whether a `_` is among the characters.
+/// Returns `true` if `main` contains `_`.
 fn has_underscore(main: &str) -> bool
     ensures { result ≡ list_any is_underscore (chars main.now) }
 {
