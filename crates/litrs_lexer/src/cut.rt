@@ -15,12 +15,12 @@ use crate::comment::{after_block, after_line};
 use crate::kind::TokenKind;
 use crate::literal::{cut_literal, cut_number};
 use crate::name::{
-    after_name, after_raw_mark, after_run, name_before, opens_quoted, starts_with_hash,
-    starts_with_name, starts_with_quote_or_hash, starts_with_single_quote,
+    after_raw_mark, name_before, opens_quoted, starts_with_hash, starts_with_name,
+    starts_with_quote_or_hash, starts_with_single_quote,
 };
 use crate::whitespace::{after_white_space, is_white_space};
 use litrs_lex::cut_bool;
-use litrs_prefix::{begins_name, split_first_char};
+use litrs_prefix::{after_name, after_run, begins_name, split_first_char};
 
 /// Returns the kind of the token at the front of `text` and the part of `text` after the token, or
 /// `None` if `text` is empty.

@@ -6,28 +6,14 @@ ghost use Rattle.litrs_base.specs.Text.{first_passes};
 ghost use Rattle.litrs_grammar.specs.Bool.{is_bool};
 ghost use Rattle.litrs_prefix.specs.Ends.{IsEndOf};
 ghost use Rattle.litrs_prefix.specs.Prefix.{is_quote_or_hash};
-ghost use Rattle.litrs_prefix.specs.Opens.{is_single_quote, first_name, after_run, after_name};
+ghost use Rattle.litrs_prefix.specs.Opens.{is_single_quote, first_name, after_name};
 ghost use Rattle.litrs_lexer.specs.Cut.{is_wide};
 ghost use Rattle.litrs_lexer.specs.Identifier.{begins_name, begins_raw_name};
 ghost use Rattle.litrs_lexer.specs.Lifetime.{is_hash};
 ghost use Rattle.litrs_lexer.specs.Literal.{opens_quoted};
 
-use litrs_lex::{Run, cut_bool, run_end};
-use litrs_prefix::{begins_name, opens, split_first_char};
-use unicode_ident::is_xid_continue;
-
-/// Returns the part of `text` after the characters at its front that can continue a name.
-pub fn after_run(text: &str) -> &str
-    ensures rest { chars result.now ≡ after_run (chars text.now) }
-    ensures end { IsEndOf text.now result.now }
-{
-    let (_, rest) = text.split_at(run_end(text.as_bytes(), Run::Identifier));
-    if starts_beyond_ascii(rest) {
-        after_any_run(rest)
-    } else {
-        rest
-    }
-}
+use litrs_lex::cut_bool;
+use litrs_prefix::{after_name, begins_name, opens, split_first_char};
 
 /// Returns `true` if `text` starts with a character that is not ASCII.
 pub fn starts_beyond_ascii(text: &str) -> bool
@@ -36,35 +22,6 @@ pub fn starts_beyond_ascii(text: &str) -> bool
     match text.as_bytes() {
         [first, ..] => *first >= 128,
         _ => false,
-    }
-}
-
-/// Like [`after_run`], but reads character by character.
-fn after_any_run(text: &str) -> &str
-    ensures rest { chars result.now ≡ after_run (chars text.now) }
-    ensures end { IsEndOf text.now result.now }
-{
-    let mut rest = text;
-    loop {
-        match split_first_char(rest) {
-            Some((c, after)) if is_xid_continue(c) => rest = after,
-            _ => return rest,
-        }
-    }
-}
-
-/// Returns the part of `text` after the name at its front: all of it if it starts with none.
-pub fn after_name(text: &str) -> &str
-    ensures rest { chars result.now ≡ after_name (chars text.now) }
-    ensures end { IsEndOf text.now result.now }
-{
-    match split_first_char(text) {
-        Some((c, after)) => if begins_name(c) {
-            after_run(after)
-        } else {
-            text
-        },
-        None => text,
     }
 }
 
