@@ -54,6 +54,11 @@ COPIED = {
     "crates/litrs/LICENSE-MIT": "MIT\n",
     "crates/litrs/VERSION": "1.0.1-rattle.2\n",
 }
+# The lines of theirs after a copy of `litrs_low` alone, and after one of all and then of that.
+LINES_OF_LOW = [
+    "# litrs: a\nlitrs_own:\nlitrs: a\napp: litrs\nlitrs_low:\n",
+    "# litrs: a\nlitrs_own:\napp: litrs\nlitrs: litrs_low itoa\nlitrs_low:\n",
+]
 # Stands in place of a program that bin/vendor calls. Call number $CALL fails if $SIGNAL is empty,
 # and otherwise sends that signal to the script first.
 TOOL = """#!/bin/sh
@@ -199,16 +204,21 @@ def is_absent(folder):
     yield from Room(folder, {}).faults_of_copy(["theirs/new folder"], "", wanted)
 
 
+def stopped_run(room, tool, signal, call):
+    """Runs the script, which fails or is interrupted at this call of a tool."""
+    tools, counted = (room.folder.with_name(f"{room.folder.name}-{it}") for it in ("tools", "calls"))
+    write(tools, {tool: TOOL % (SLOW if tool == "cp" else "", shutil.which(tool))})
+    (tools / tool).chmod(0o755)
+    how = {"PATH": f"{tools}:{os.environ['PATH']}", "CALLS": str(counted)}
+    return room.run("theirs", **how, CALL=str(call), SIGNAL=signal)
+
+
 def is_stopped(tool, signal, calls, folder):
     """At each of these calls of a tool the run fails or is interrupted: the older copies stay.
     While files are only renamed, a run that is interrupted completes."""
     for call in calls:
         room = Room(folder / str(call), THEIRS)
-        tools, counted = folder / f"{call}-tools", folder / f"{call}-calls"
-        write(tools, {tool: TOOL % (SLOW if tool == "cp" else "", shutil.which(tool))})
-        (tools / tool).chmod(0o755)
-        how = {"PATH": f"{tools}:{os.environ['PATH']}", "CALLS": str(counted)}
-        ran = room.run("theirs", **how, CALL=str(call), SIGNAL=signal)
+        ran = stopped_run(room, tool, signal, call)
         completes = tool == "mv" and signal == "TERM"
         changed = room.changed(COPIED if completes else THEIRS)
         if signal == "KILL":
@@ -216,6 +226,30 @@ def is_stopped(tool, signal, calls, folder):
         if changed or (ran.returncode == 0) != completes:
             how = f"{signal or 'a failure'} at call {call} of {tool}: status {ran.returncode}"
             yield f"{how}, {len(changed)} files are wrong: {changed[:4]}"
+
+
+def is_run_again(tool, calls, folder):
+    """The run after one that was killed leaves nothing of it, whether it copies the same crates or
+    one of them: then the other is the older copy, or the newer if all were replaced. A folder of a
+    run that goes on stays, and one that names no run."""
+    live = {"crates/.vendor.live/run": f"{os.uname().nodename} {os.getpid()}\n"}
+    live["crates/.vendor.mine/older/app/src/lib.rt"] = "// mine\n"
+    for call in calls:
+        for number, words in enumerate((["theirs"], ["theirs", "litrs_low"])):
+            room = Room(folder / f"{call}-{number}", THEIRS | live)
+            killed = stopped_run(room, tool, "KILL", call)
+            ran = room.run(*words)
+            wanted = COPIED | live
+            if number:
+                all_replaced = tool == "mv" and call == 6
+                wanted = {it: text for it, text in wanted.items() if not it.startswith("crates/litrs/")}
+                kept = COPIED if all_replaced else THEIRS
+                wanted |= {it: text for it, text in kept.items() if it.startswith("crates/litrs/")}
+                wanted["crates.txt"] = LINES_OF_LOW[all_replaced]
+            changed = room.changed(wanted)
+            if killed.returncode == 0 or ran.returncode or changed:
+                how = f"KILL at call {call} of {tool}, then {words}: status {ran.returncode}"
+                yield f"{how}, {ran.stderr!r}, {len(changed)} files are wrong: {changed[:4]}"
 
 
 # Functions over the folder of a case, which yield its faults.
@@ -252,6 +286,8 @@ CASES = [
     has_linked_lines,
     is_absent,
     partial(is_stopped, "cp", "KILL", range(1, 7)),
+    partial(is_run_again, "cp", range(1, 7)),
+    partial(is_run_again, "mv", range(1, 7)),
     partial(is_stopped, "cp", "TERM", [3]),
     partial(is_stopped, "cp", "", [3, 6]),
     partial(is_stopped, "mv", "TERM", [1, 2, 5]),

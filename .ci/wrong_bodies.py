@@ -102,6 +102,11 @@ def segment_of(header):
     return "+".join([name.split("::")[-1], *("ref" if it == "&" else it for it in own)])
 
 
+def is_empty(line):
+    """Whether the item that begins on this line has an empty body there, as `impl Error for E {}`."""
+    return line.rstrip().endswith("{}")
+
+
 def owner_at(text, offset):
     """The impl or trait around this place of a source file, and the function, constant or ghost
     member that it stands in, or that its attribute is of, each None where there is none."""
@@ -111,9 +116,9 @@ def owner_at(text, offset):
     around = inside = None
     for line in text[: end if end >= 0 else len(text)].split("\n"):
         if line.startswith("impl"):
-            around, inside = segment_of(line), None
+            around, inside = None if is_empty(line) else segment_of(line), None
         elif found := re.match(r"(?:pub )?trait (\w+)", line):
-            around, inside = found[1], None
+            around, inside = None if is_empty(line) else found[1], None
         elif line.startswith("}"):
             around = inside = None
         else:
@@ -130,9 +135,9 @@ def functions_of(file, lines):
     around, is_trait = None, False
     for number, line in enumerate(lines):
         if line.startswith("impl"):
-            around, is_trait = segment_of(line), False
+            around, is_trait = None if is_empty(line) else segment_of(line), False
         elif re.match(r"(?:pub )?trait ", line):
-            is_trait = True
+            is_trait = not is_empty(line)
         elif line.startswith("}"):
             around, is_trait = None, False
         elif (found := FUNCTION.match(line)) and not is_trait:
@@ -180,6 +185,36 @@ def owners_of(file, text, offset):
         if user and user[0] == "fn":
             owners.add(path_of(file, around_it, user[1]))
     return owners
+
+
+# A source file, and the paths of its functions.
+EXAMPLE = """\
+impl Error for Fault {}
+pub trait Sealed {}
+pub(crate) fn free() {
+    body();
+}
+impl<'a> Iterator for Tokens<'a> {
+    fn next(&mut self) {
+        body();
+    }
+}
+impl FusedIterator for Tokens<'_> {}
+fn last() {
+    body();
+}
+"""
+EXAMPLE_PATHS = ["example::free", "example::TokensIterator::next", "example::last"]
+
+
+def faults_of_names():
+    """What is wrong with the paths that this script gives the functions of the example: all of them
+    listed, and that around each body."""
+    found = [path for path, _ in functions_of("example.rt", EXAMPLE.splitlines())]
+    places = [it.start() for it in re.finditer("body", EXAMPLE)]
+    owners = [owners_of("example.rt", EXAMPLE, it) for it in places]
+    if found != EXAMPLE_PATHS or owners != [{it} for it in EXAMPLE_PATHS]:
+        yield f"the functions of the example are called {found}, and {owners} around their bodies"
 
 
 @dataclasses.dataclass
@@ -594,6 +629,8 @@ def main(words):
     crates = libraries.crates_of(libraries.TOP)
     if unknown := [it for it in names if it not in crates]:
         sys.exit(f"crates.txt has no crate {', '.join(unknown)}")
+    if faults := [*faults_of_names()]:
+        sys.exit("\n".join(faults))
     tried = [Crate(it) for it in crates.values() if not names or it.name in names]
     if faults := unreadable(tried, crates):
         print(*faults, sep="\n")
