@@ -1,4 +1,4 @@
-//! Which texts begin a literal: they are one, or become one with some text appended.
+//! Texts that begin a literal: they are one, or some longer text is one.
 ghost use Rattle.std.specs.Prelude.{◌↔◌, IsTrue};
 ghost use Rattle.std.specs.Str.{chars};
 ghost use Rattle.litrs_grammar.specs.Literal.{literal_parse, Begins};
@@ -11,7 +11,6 @@ use raw::raw_goes_on;
 use word::is_prefix_of_a_front;
 
 mod char;
-mod escape;
 pub(crate) mod front;
 mod number;
 mod quoted;
@@ -19,20 +18,20 @@ mod raw;
 mod suffix;
 mod word;
 
-/// Whether the text, or the text with some text appended, is a literal of any kind.
+/// Returns `true` if `text`, or `text` with some text appended, is a literal of any kind.
 ///
-/// It is true of the empty text, `fals`, `12`, `1e+_`, `'a`, `"a"_` and `"\u{d800`, and false of
-/// `cat`, `0xg`, `1e+x`, `'ab`, `"\q` and `"\u{00d800`. Where it is false no further input makes
-/// the text a literal: so it is after each final refusal, and after no open one. It does not
+/// It is `true` for the empty text, `fals`, `12`, `1e+_`, `'a`, `"a"_` and `"\u{d800`, and `false`
+/// for `cat`, `0xg`, `1e+x`, `'ab`, `"\q` and `"\u{00d800`. If it is `false`, no longer text is a
+/// literal. It is `false` after each final error, and `true` after each open one. It does not
 /// allocate. See [the reference][ref].
 ///
-/// A list of literals may be cut at the first comma after which no literal goes on, by
-/// `!goes_on(&text[..comma + 1])`. Each call reads the text from its start, so that this takes time
-/// quadratic in the commas inside one string. The crate `litrs_prefix` finds the literal at the
-/// front of a longer text in one pass; the program `uses_attributes` reads its lists so.
+/// A list of literals may be cut at the first comma that is not within a literal, by
+/// `!goes_on(&text[..comma + 1])`. Each call reads the text from its start, so this takes time
+/// quadratic in the number of commas inside one string. The crate `litrs_prefix` finds the literal
+/// at the front of a longer text in one pass; the program `uses_attributes` reads its lists with it.
 ///
 /// [ref]: https://doc.rust-lang.org/reference/tokens.html#literals
-// What answers for each kind is a call, so that a word is answered without its frame.
+// Each kind is answered by a call, so a word is answered without the frames of the other kinds.
 pub fn goes_on(text: &str) -> bool
     ensures { IsTrue result ↔ Begins literal_parse (chars text.now) }
 {

@@ -18,6 +18,8 @@ pub mod QuotedScan
 pub mod QuotedBytes
 pub mod QuotedCuts
 pub mod QuotedValues
+pub mod EscapeEnds
+pub mod BodyStops
 pub mod Readings
 pub mod Sinks
 pub mod RawBytes

@@ -101,7 +101,7 @@ pub fn items_end<A: Allows>(input: &str, offset: usize, allowed: A) -> usize
 
 /// The state at the front of a body, with its plain characters found.
 #[inline(always)]
-fn beginning<A: Allows>(input: &str, offset: usize, allowed: A) -> Reading
+pub(crate) fn beginning<A: Allows>(input: &str, offset: usize, allowed: A) -> Reading
     requires { IsCharBoundary input.now offset }
     ensures { IsReading (A.allowed allowed) input.now offset (λ v. v ≡ []) result }
 {

@@ -1,6 +1,7 @@
 //! Raw strings of the three kinds.
-ghost use Rattle.std.specs.Prelude.{◌≡◌, ◌≤◌, Bool, length, drop, IsTrue, IfOk, IfErr, Some};
+ghost use Rattle.std.specs.Prelude.{◌≡◌, ◌≤◌, Bool, length, drop, IsTrue, IsFalse, IfOk, IfErr, Some};
 ghost use Rattle.std.specs.Str.{chars, IsUtf8, IsCharBoundary};
+ghost use Rattle.litrs_base.specs.Finality.{is_open};
 ghost use Rattle.litrs_base.specs.Refusal.{refusal};
 ghost use Rattle.litrs_base.specs.Text.{first_passes, begins_with};
 ghost use Rattle.litrs_grammar.specs.Raw.{is_quote, raw_closing, raw_char_refusal, raw_body_refusal, raw_refusal};
@@ -14,18 +15,21 @@ use std::ops::Range;
 
 /// Cuts the rest of a raw literal, from after its `r` on, into hashes, body and suffix.
 ///
-/// The `r` ends at `offset`, a character boundary within the text. The answer is the number of
-/// hashes, at most 255, and where the suffix begins, in bytes of the whole text: `(2, 11)` for
-/// `r##"a"#b"##c` from 1 on. `unicode` allows characters beyond ASCII in the body, and `allow_nul`
-/// NUL. See [the reference][ref].
+/// The `r` ends at `offset`, a character boundary of `input`. Returns the number of hashes, at most
+/// 255, and where the suffix begins, in bytes of `input`: `(2, 11)` for `r##"a"#b"##c` from 1 on.
+/// `unicode` allows characters beyond ASCII in the body, and `allow_nul` NUL. See
+/// [the reference][ref].
 ///
 /// # Errors
 ///
-/// `InvalidLiteral` where the hashes end the text, or something else than `"` is after them;
-/// `TooManyHashes` where something is after more than 255, over the hashes; `CarriageReturn`,
-/// `NulByte` or `NonAsciiInByteLiteral` at the first character that may not stand in the body;
-/// `UnterminatedRawString` where there is no closing; the refusal of [`check_suffix`] where what
-/// follows the closing is no suffix, at its first byte. All spans count from the start of the text.
+/// - `InvalidLiteral` if the hashes end the text, or a character other than `"` follows them;
+/// - `TooManyHashes` if text follows more than 255 hashes, over the hashes;
+/// - `CarriageReturn`, `NulByte` or `NonAsciiInByteLiteral` at the first character that the body may
+///   not contain;
+/// - `UnterminatedRawString` if the body is not closed;
+/// - the error of [`check_suffix`] if no suffix follows the closing, at the first byte after it.
+///
+/// All spans count from the start of `input`.
 ///
 /// [ref]: https://doc.rust-lang.org/reference/tokens.html#raw-string-literals
 #[inline(always)]
@@ -50,7 +54,7 @@ pub fn scan_raw_string(
     }
 }
 
-/// [`scan_raw_string`], with the kind and the span of a refusal alone.
+/// Like [`scan_raw_string`], with the kind and the span of an error alone.
 #[inline(always)]
 fn cut_raw(
     input: &str,
@@ -70,14 +74,14 @@ fn cut_raw(
 
 /// Reads the hashes of a raw literal, from after its `r` on, and the quote that opens its body.
 ///
-/// The `r` ends at `offset`, a character boundary within the text. The answer is the number of
-/// hashes, at most 255, and where the body begins, in bytes: `(2, 4)` for `r##"a"##` from 1 on.
-/// See [the reference][ref].
+/// The `r` ends at `offset`, a character boundary of `input`. Returns the number of hashes, at most
+/// 255, and where the body begins, in bytes: `(2, 4)` for `r##"a"##` from 1 on. See
+/// [the reference][ref].
 ///
 /// # Errors
 ///
-/// The kind and the span of [`scan_raw_string`] where the hashes end the text, something else than
-/// `"` is after them, or something is after more than 255.
+/// The kind and the span of [`scan_raw_string`] if the hashes end the text, a character other than
+/// `"` follows them, or text follows more than 255. No such kind is open.
 ///
 /// [ref]: https://doc.rust-lang.org/reference/tokens.html#raw-string-literals
 #[inline(always)]
@@ -90,6 +94,7 @@ pub fn open_raw(
     ensures refused { IfErr result (λ r. (unicode allow_nul : Bool) →
         raw_refusal unicode allow_nul offset (chars (drop offset input.now))
         ≡ Some (refusal r.0 r.1)) }
+    ensures shut { IfErr result (λ r. IsFalse (is_open r.1)) }
 {
     let bytes = input.as_bytes();
     let hashes = hash_len(&bytes[offset..]);
@@ -106,8 +111,8 @@ pub fn open_raw(
     Ok((hashes, opening + 1))
 }
 
-/// Where the suffix begins after a body from `start` on and its closing with so many hashes; or
-/// why they end no raw literal, and where.
+/// Returns where the suffix begins after a body from `start` on and its closing with `hashes` hashes,
+/// or the kind and the span of the error.
 #[inline(always)]
 fn cut_body(
     input: &str,
@@ -139,8 +144,8 @@ fn cut_body(
     }
 }
 
-/// The first place from `start` on where a raw body is closed by a quote and so many hashes, or
-/// where a byte stands that may not stand in it; else the end of the text. In `a"b"#` from 0 on
+/// Returns the first place from `start` on at which a raw body is closed by a quote and `hashes`
+/// hashes, or contains a byte that it may not contain; else the end of the text. In `a"b"#` from 0 on
 /// with one hash that is 3.
 #[inline(never)]
 pub fn body_end(bytes: &[u8], start: usize, hashes: usize, allowed: Switches) -> usize
@@ -162,7 +167,7 @@ pub fn body_end(bytes: &[u8], start: usize, hashes: usize, allowed: Switches) ->
     place
 }
 
-/// Why a byte may not stand in a raw body.
+/// Returns the error kind of a byte that a raw body may not contain.
 fn raw_char_refusal(byte: u8) -> ParseErrorKind
     ensures { result ≡ raw_char_refusal byte }
 {

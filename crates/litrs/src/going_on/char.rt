@@ -9,11 +9,11 @@ ghost use Rattle.litrs_grammar.specs.Continuation.{BeginsBy};
 ghost use Rattle.litrs_grammar.specs.Literal.{kind_parse, char_literal, byte_literal, Begins};
 ghost use Rattle.litrs.specs.Begins.{BeginsClosing};
 
-use crate::going_on::escape::refused_escape_goes_on;
 use crate::going_on::suffix::suffix_goes_on;
+use litrs_lex::escape_end::refused_escape_goes_on;
 use litrs_lex::{CharKind, unescape_with};
 
-/// Whether a text that begins with `'` begins a char.
+/// Returns `true` if `text`, which begins with `'`, begins a char.
 #[inline(never)]
 pub(crate) fn char_goes_on(text: &str) -> bool
     requires { IsTrue (begins_with (codes "'") text.now) }
@@ -22,7 +22,7 @@ pub(crate) fn char_goes_on(text: &str) -> bool
     item_goes_on(&text[1..], CharKind::Char)
 }
 
-/// Whether a text that begins with `b'` begins a byte.
+/// Returns `true` if `text`, which begins with `b'`, begins a byte.
 #[inline(never)]
 pub(crate) fn byte_goes_on(text: &str) -> bool
     requires { IsTrue (begins_with (codes "b'") text.now) }
@@ -31,7 +31,7 @@ pub(crate) fn byte_goes_on(text: &str) -> bool
     item_goes_on(&text[2..], CharKind::Byte)
 }
 
-/// Whether the front of a char or of a byte, followed by this, begins one.
+/// Returns `true` if the front of `kind` and `rest` begin a literal of `kind`.
 fn item_goes_on(rest: &str, kind: CharKind) -> bool
     ensures { IsTrue result ↔ BeginsBy (IsCharLiteral kind)
         (char_front kind ++ chars rest.now) }
@@ -44,7 +44,7 @@ fn item_goes_on(rest: &str, kind: CharKind) -> bool
     }
 }
 
-/// [`item_goes_on`] of a rest that begins with a backslash.
+/// Like [`item_goes_on`], for a rest that begins with a backslash.
 fn escaped_goes_on(rest: &str, kind: CharKind) -> bool
     requires { IsTrue (first_passes (λ c. c == backslash) rest.now) }
     ensures { IsTrue result ↔ BeginsBy (IsCharLiteral kind)
@@ -57,7 +57,7 @@ fn escaped_goes_on(rest: &str, kind: CharKind) -> bool
     }
 }
 
-/// Whether the character stands for itself in a char or in a byte.
+/// Returns `true` if `c` may be the character of a literal of `kind` without an escape.
 fn is_plain(c: char, kind: CharKind) -> bool
     ensures { result ≡ is_char_item kind (plain_char c) }
 {
@@ -65,7 +65,7 @@ fn is_plain(c: char, kind: CharKind) -> bool
         && (matches!(kind, CharKind::Char) || c.is_ascii())
 }
 
-/// Whether what follows the character begins the closing quote and a suffix.
+/// Returns `true` if `after` begins the closing quote and a suffix.
 fn closing_goes_on(after: &str) -> bool
     ensures { IsTrue result ↔ BeginsClosing (chars after.now) }
 {

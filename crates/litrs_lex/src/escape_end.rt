@@ -1,33 +1,16 @@
-//! Escapes.
-ghost use Rattle.std.specs.Prelude.{◌≡◌, ◌↔◌, ◌&&◌, ◌==◌, Bool, true, count_by, IsTrue};
+//! The beginnings of escapes.
+ghost use Rattle.std.specs.Prelude.{◌≡◌, ◌&&◌, Bool, true, count_by};
 ghost use Rattle.std.specs.Char.{is_ascii_hexdigit};
-ghost use Rattle.std.specs.Str.{chars};
-ghost use Rattle.litrs_base.specs.Characters.{backslash, is_scalar, nul_is_allowed};
-ghost use Rattle.litrs_base.specs.Text.{first_passes};
-ghost use Rattle.litrs_grammar.specs.GoesOn.Escape.{BeginsEscape, escape_goes_on, hex_goes_on, braces_go_on, inner_goes_on};
+ghost use Rattle.litrs_base.specs.Characters.{is_scalar, nul_is_allowed};
+ghost use Rattle.litrs_grammar.specs.GoesOn.Escape.{escape_goes_on, hex_goes_on, braces_go_on, inner_goes_on};
 ghost use Rattle.litrs_lex.specs.Unescaped.{switches};
 
-use litrs_lex::escape::hex_digits;
-use litrs_lex::{Switches, hex_digit_value, unescape_with};
+use crate::escape::hex_digits;
+use crate::{Switches, hex_digit_value};
 
-/// Whether a text that begins with a backslash begins an escape: it is one, or becomes one. The
-/// switches are those of [`unescape_with`].
-pub(crate) fn escape_goes_on(text: &str, allowed: Switches) -> bool
-    requires { IsTrue (first_passes (λ c. c == backslash) text.now) }
-    ensures { IsTrue result
-        ↔ BeginsEscape allowed (chars text.now) }
-{
-    match unescape_with(text, allowed) {
-        Ok((_, len)) => len == text.len(),
-        Err(_) => {
-            let after = &text.as_bytes()[1..];
-            refused_escape_goes_on(after, allowed)
-        }
-    }
-}
-
-/// Whether a refused escape becomes one, by what follows the backslash.
-pub(crate) fn refused_escape_goes_on(after: &[u8], allowed: Switches) -> bool
+/// Returns `true` if some text after an invalid escape makes it valid, by the bytes `after` its
+/// backslash. `allowed` is that of [`unescape_with`](crate::unescape_with).
+pub fn refused_escape_goes_on(after: &[u8], allowed: Switches) -> bool
     ensures { result ≡ escape_goes_on allowed after.now }
 {
     let unicode = allowed.unicode;
@@ -39,8 +22,8 @@ pub(crate) fn refused_escape_goes_on(after: &[u8], allowed: Switches) -> bool
     }
 }
 
-/// Whether `\x` becomes an escape, by what follows it: nothing, or one hex digit, with which `1` is
-/// allowed.
+/// Returns `true` if `\x` and `digits` begin an escape: `digits` is empty, or one hex digit, which
+/// is at most 7 unless `byte_escapes` is set.
 fn hex_goes_on(digits: &[u8], byte_escapes: bool) -> bool
     ensures { (unicode allow_nul : Bool) →
         result ≡ hex_goes_on (switches unicode byte_escapes allow_nul) digits.now }
@@ -55,7 +38,7 @@ fn hex_goes_on(digits: &[u8], byte_escapes: bool) -> bool
     }
 }
 
-/// Whether `\u` becomes an escape, where such escapes are allowed, by what follows it.
+/// Returns `true` if `\u` and `braces` begin an escape, where such escapes are allowed.
 fn braces_go_on(braces: &[u8], allow_nul: bool) -> bool
     ensures { (byte_escapes : Bool) →
         result ≡ braces_go_on (switches true byte_escapes allow_nul) braces.now }
@@ -67,8 +50,8 @@ fn braces_go_on(braces: &[u8], allow_nul: bool) -> bool
     }
 }
 
-/// Whether `\u{` is a prefix of an escape, by what follows it: nothing, or hex digits and
-/// underscores, a digit first. With at most five digits one more digit can always make the value
+/// Returns `true` if `\u{` and `inner` begin an escape: `inner` is empty, or a hex digit with hex
+/// digits and underscores after it. With at most five digits one more digit can always make the value
 /// valid; six digits must have an allowed value.
 fn inner_goes_on(inner: &[u8], allow_nul: bool) -> bool
     ensures { (byte_escapes : Bool) →
@@ -85,14 +68,14 @@ fn inner_goes_on(inner: &[u8], allow_nul: bool) -> bool
     }
 }
 
-/// How many hex digits are among the bytes.
+/// Returns the number of hex digits in `bytes`.
 fn hex_digit_count(bytes: &[u8]) -> usize
     ensures { result ≡ count_by is_ascii_hexdigit bytes.now }
 {
     bytes.iter().filter(|b| b.is_ascii_hexdigit()).count()
 }
 
-/// Whether a `\u{..}` may have this value.
+/// Returns `true` if a `\u{..}` may have this value.
 fn is_value(value: u32, allow_nul: bool) -> bool
     ensures { result ≡ (nul_is_allowed allow_nul value && is_scalar value) }
 {
