@@ -1,4 +1,4 @@
--- What a bool literal stands for.
+-- The value of a bool literal.
 use Rattle.std.specs.Prelude.{Bool, true, false}
 use Rattle.litrs.specs.declared.bool.BoolLit.{BoolLit}
 use Rattle.litrs.specs.declared.bool.BoolLit.TheVariants.{False, True}

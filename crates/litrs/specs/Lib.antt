@@ -1,20 +1,20 @@
--- what the literals of each kind hold
+-- literals of each kind
 pub mod BoolLiteral
 pub mod IntegerLiteral
 pub mod FloatLiteral
 pub mod CharLiteral
 pub mod StringLiteral
 pub mod CString
--- how a string is cut
+-- parses of strings
 pub mod ParsedStrings
--- what a literal of any kind holds
+-- literals of any kind
 pub mod LiteralDerivation
 -- the kinds of chars and strings
 pub mod CharKind
 pub mod StringKind
--- digits, however they are grouped
+-- digits, regardless of groups
 pub mod Digits
--- what begins a literal
+-- texts that begin a literal
 pub mod Begins
 pub mod MayGainDigits
 pub mod LoneUnderscore
@@ -31,7 +31,7 @@ pub use Rattle.litrs_base.specs.Numeral
 pub use Rattle.litrs_base.specs.Quotes
 pub use Rattle.litrs_base.specs.Refusal
 pub use Rattle.litrs_base.specs.Text
--- the grammar, and what a refusal means
+-- the grammar, and the meaning of a refusal
 pub use Rattle.litrs_grammar.specs.Allocation
 pub use Rattle.litrs_grammar.specs.Bool
 pub use Rattle.litrs_grammar.specs.CharByte

@@ -1,4 +1,4 @@
--- What a literal of any kind holds.
+-- Literals of any kind.
 use Rattle.std.specs.Prelude.{ℕ, List}
 use Rattle.litrs.specs.declared.Literal.{Literal}
 use Rattle.litrs.specs.declared.Literal.TheVariants.{Bool, Integer, Float, Char, String, Byte, ByteString, CString}
@@ -9,7 +9,7 @@ use Rattle.litrs.specs.FloatLiteral.{float_parts}
 use Rattle.litrs.specs.CharLiteral.{char_parts, byte_parts}
 use Rattle.litrs_grammar.specs.Literal.{Derivation, a_bool, an_integer, a_float, a_char, a_byte, a_string, a_byte_string, a_c_string}
 
--- the bytes of its text
+-- The bytes of the text of a literal.
 abbrev pub literal_raw : {B : Type 0} → Literal B → List ℕ
 literal_raw (Bool b) = bool_text (bool_value b)
 literal_raw (Integer lit) = lit.raw
@@ -20,7 +20,7 @@ literal_raw (Byte lit) = lit.raw
 literal_raw (ByteString lit) = lit.raw
 literal_raw (CString lit) = lit.raw
 
--- its derivation
+-- The derivation of a literal.
 abbrev pub derivation : {B : Type 0} → Literal B → Derivation
 derivation (Bool b) = a_bool (bool_value b)
 derivation (Integer lit) = an_integer (integer_parts lit)

@@ -1,4 +1,4 @@
--- What the parse of a text as a string answers.
+-- The results of the parse of a text as a string.
 use Rattle.std.specs.Prelude.{ℕ, Bool, List, take, drop}
 use Rattle.std.specs.Str.{chars}
 use Rattle.litrs_base.specs.declared.quotes.Switches.{Switches}
@@ -12,8 +12,8 @@ use Rattle.litrs.specs.declared.kept.KeptValue.{KeptValue}
 use Rattle.litrs.specs.declared.kept.KeptValue.TheVariants.{InText}
 use Rattle.litrs.specs.StringLiteral.{IsStringAt, IsCStringAt}
 
--- the text is a quoted string whose body begins at the offset, with this value and this place of
--- its suffix
+-- The text is a quoted string whose body starts at the offset, with this value and this start of
+-- its suffix.
 pub record IsParsedQuoted
     (w : Switches) (bytes : List ℕ) (offset : ℕ) (kept : KeptValue (List ℕ)) (start_suffix : ℕ)
     : Type 0 where
@@ -21,8 +21,8 @@ pub record IsParsedQuoted
   pub derives : IsQuoted (chars (take offset bytes)) w (chars bytes) parts
   pub at : IsStringAt kept start_suffix bytes (quoted_parts parts)
 
--- after the offset stands what is after the `r` of a raw string, with these places of its body and
--- its suffix
+-- The text after the offset follows the `r` of a raw string, with these places of its body and its
+-- suffix.
 pub record IsParsedRaw
     (unicode allow_nul : Bool) (offset : ℕ) (bytes : List ℕ) (place : BodyPlace) (start_suffix : ℕ)
     : Type 0 where
@@ -30,7 +30,7 @@ pub record IsParsedRaw
   pub derives : IsRawOf unicode allow_nul (chars (drop offset bytes)) parts
   pub at : IsStringAt (InText place) start_suffix bytes (raw_parts parts)
 
--- the text is a string of the kind, with this value and this place of its suffix
+-- The text is a string of the kind, with this value and this start of its suffix.
 pub record IsParsedString
     (kind : StringKind) (bytes : List ℕ) (kept : KeptValue (List ℕ)) (start_suffix : ℕ)
     : Type 0 where
@@ -38,7 +38,7 @@ pub record IsParsedString
   pub derives : IsString kind (chars bytes) parts
   pub at : IsStringAt kept start_suffix bytes parts
 
--- the text is a C string, with this value and this place of its suffix
+-- The text is a C string, with this value and this start of its suffix.
 pub record IsParsedCString (bytes : List ℕ) (value : List ℕ) (start_suffix : ℕ) : Type 0 where
   pub parts : StringParts
   pub derives : IsString c_string_kind (chars bytes) parts

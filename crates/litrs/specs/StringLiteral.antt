@@ -1,4 +1,4 @@
--- What a string, a byte string or a C string literal holds.
+-- String, byte string and C string literals.
 use Rattle.std.specs.Prelude.{◌≡◌, ◌≤◌, ℕ, Bool, true, false, List, slice_range, drop}
 use Rattle.std.specs.Str.{chars, IsCharBoundary}
 use Rattle.litrs_grammar.specs.Literal.{StringParts, string_suffix, string_value}
@@ -8,47 +8,47 @@ use Rattle.litrs.specs.declared.kept.BodyPlace.{BodyPlace}
 use Rattle.litrs.specs.declared.kept.KeptValue.{KeptValue}
 use Rattle.litrs.specs.declared.kept.KeptValue.TheVariants.{InText, Owned}
 
--- its buffer, the bytes of its text, and its derivation
+-- A literal: its buffer, the bytes of its text, and its parts.
 pub record StringLiteral (B : Type 0) : Type 0 where
   pub buffer : B
   pub raw : List ℕ
   pub parts : StringParts
 
--- What is kept of a value: the body stands in the text, or the value is there.
+-- The value as it is kept: the place of the body in the text, or the value itself.
 
--- with what its container holds
+-- The value as it is kept, with the contents of its container.
 abbrev pub kept_map : {C : Type 0} → (C → List ℕ) → KeptValue C → KeptValue (List ℕ)
 kept_map contents (InText place) = InText place
 kept_map contents (Owned value) = Owned (contents value)
 
--- the value is there
+-- `true` iff the value itself is kept.
 abbrev pub is_owned : {C : Type 0} → KeptValue C → Bool
 is_owned (InText place) = false
 is_owned (Owned value) = true
 
--- the body is raw: such a body stands in the text
+-- `true` iff the body is raw. The place of such a body is kept.
 abbrev pub is_raw_kept : {C : Type 0} → KeptValue C → Bool
 is_raw_kept (InText place) = place.is_raw
 is_raw_kept (Owned value) = false
 
--- the value, of these bytes of the text
+-- The value, given the bytes of the text.
 abbrev pub kept_value : List ℕ → KeptValue (List ℕ) → List ℕ
 kept_value bytes (InText place) = slice_range bytes place.start place.end
 kept_value bytes (Owned value) = value
 
--- the bytes may be cut at the places of the body, which are in order
+-- `bytes` can be cut at the start and the end of the body, which are in order.
 pub record IsBodyOf (bytes : List ℕ) (place : BodyPlace) : Type 0 where
   pub in_order : place.start ≤ place.end
   pub start : IsCharBoundary bytes place.start
   pub end : IsCharBoundary bytes place.end
 
--- the same where the body stands in the text
+-- Like `IsBodyOf`, if the place of the body is kept.
 abbrev pub IsPlaced : List ℕ → KeptValue (List ℕ) → Type 0
 IsPlaced bytes (InText place) = IsBodyOf bytes place
 IsPlaced bytes (Owned value) = Unit {0}
 
--- what a string literal or a byte string literal keeps beside the text: its value, or where that
--- stands, and where the suffix starts
+-- The parts that a string literal or a byte string literal keeps beside the text: its value, or the
+-- place of its body, and the start of its suffix.
 pub record IsStringAt
     (kept : KeptValue (List ℕ)) (start_suffix : ℕ) (bytes : List ℕ) (d : StringParts)
     : Type 0 where
@@ -59,8 +59,8 @@ pub record IsStringAt
   pub owned : is_owned kept ≡ has_escapes d
   pub is_value : kept_value bytes kept ≡ string_value d
 
--- what a C string literal keeps beside the text: the value without its closing zero, and where the
--- suffix starts
+-- The parts that a C string literal keeps beside the text: its value without the closing zero, and
+-- the start of its suffix.
 pub record IsCStringAt
     (value : List ℕ) (start_suffix : ℕ) (bytes : List ℕ) (d : StringParts) : Type 0 where
   pub suffix_place : IsCharBoundary bytes start_suffix

@@ -8,7 +8,7 @@ ghost use Rattle.litrs_grammar.specs.Refused.{IsRefused};
 use litrs_lex::{ParseError, ParseErrorKind, cut_bool};
 use std::fmt;
 
-/// One of the two words `true` and `false`. See [the reference][ref].
+/// A bool literal: `true` or `false`. See [the reference][ref].
 ///
 /// [ref]:
 /// https://doc.rust-lang.org/reference/expressions/literal-expr.html#boolean-literal-expressions
@@ -24,11 +24,12 @@ impl BoolLit {
     ghost use Rattle.litrs.specs.BoolLiteral.{bool_value};
     ghost use Rattle.litrs_grammar.specs.Bool.{IsBool, bool_text};
 
-    /// Parses a text that is exactly `true` or `false`.
+    /// Parses `s` as a bool.
     ///
     /// # Errors
     ///
-    /// `InvalidLiteral` without a span for every other text, as `True` and the empty one.
+    /// Returns `InvalidLiteral` without a span if `s` is neither `true` nor `false`, for example
+    /// `True` or the empty text.
     pub fn parse(s: &str) -> Result<BoolLit, ParseError>
         ensures ok { IfOk result (λ lit. IsOnlyDerivation (IsBool (chars s.now)) (bool_value lit)) }
         ensures refused { IfErr result (IsRefused (kind_parse bool_literal) (chars s.now)) }
@@ -39,7 +40,7 @@ impl BoolLit {
         }
     }
 
-    /// The literal of a bool: `BoolLit::True` of true.
+    /// Creates the literal of `value`: `BoolLit::True` for `true`.
     #[inline(always)]
     pub(crate) fn new(value: bool) -> BoolLit
         ensures { bool_value result ≡ value }
@@ -47,7 +48,7 @@ impl BoolLit {
         if value { BoolLit::True } else { BoolLit::False }
     }
 
-    /// What it stands for: `true` of `BoolLit::True`.
+    /// Returns the value: `true` for `BoolLit::True`.
     pub fn value(self) -> bool
         ensures { result ≡ bool_value self }
     {
@@ -57,7 +58,7 @@ impl BoolLit {
         }
     }
 
-    /// Its text: `"true"` of `BoolLit::True`.
+    /// Returns the text: `"true"` for `BoolLit::True`.
     pub fn as_str(&self) -> &'static str
         ensures { result.now ≡ bool_text (bool_value self.now) }
     {

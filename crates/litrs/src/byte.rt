@@ -17,10 +17,10 @@ use std::alloc::{AllocError, Global};
 use std::fmt;
 use std::marker::Model;
 
-/// A byte as it is written in Rust: `b'a'`, `b'\n'`, `b'\xff'`.
+/// A byte literal, for example `b'a'`, `b'\n'` or `b'\xff'`.
 ///
-/// It is made of an ASCII character or an escape between single quotes, the first of them after a
-/// `b`, and a suffix, which may be empty. See [the reference][ref].
+/// It consists of `b`, an ASCII character or an escape between single quotes, and a suffix, which
+/// may be empty. See [the reference][ref].
 ///
 /// [ref]: https://doc.rust-lang.org/reference/tokens.html#byte-literals
 pub struct ByteLit<B: Text> {
@@ -47,15 +47,15 @@ impl<B: Text> Model for ByteLit<B> {
 }
 
 impl<B: Text> ByteLit<B> {
-    /// Parses a text that is one byte. It does not allocate.
+    /// Parses `input` as a byte. Does not allocate.
     ///
-    /// `b'\xff'u8` has the value 255 and the suffix `u8`.
+    /// For example, `b'\xff'u8` has the value 255 and the suffix `u8`.
     ///
     /// # Errors
     ///
-    /// `Empty`, `InvalidByteLiteralStart`, or as [`cut_byte`] refuses the text: `b''` is
-    /// `EmptyByteLiteral`, and a character beyond ASCII is `NonAsciiInByteLiteral` at its first
-    /// byte.
+    /// Returns `Empty`, `InvalidByteLiteralStart`, or the error of [`cut_byte`]: for `b''` that is
+    /// `EmptyByteLiteral`, and for a character that is not ASCII `NonAsciiInByteLiteral` at its
+    /// first byte.
     #[inline(always)]
     pub fn parse(input: B) -> Result<ByteLit<B>, ParseError>
         ensures buffer { IfOk result (λ lit. lit.buffer ≡ input) }
@@ -69,11 +69,11 @@ impl<B: Text> ByteLit<B> {
         ByteLit::parse_with_front(input, front)
     }
 
-    /// [`parse`](ByteLit::parse) of a text of which it is known how it begins.
+    /// Like [`parse`](ByteLit::parse), for an input that starts with `front`.
     ///
     /// # Errors
     ///
-    /// Those of [`parse`](ByteLit::parse).
+    /// Like [`parse`](ByteLit::parse).
     #[inline(always)]
     pub(crate) fn parse_with_front(input: B, front: Front) -> Result<ByteLit<B>, ParseError>
         requires { IsFront front (B.bytes input) }
@@ -92,22 +92,21 @@ impl<B: Text> ByteLit<B> {
         })
     }
 
-    /// The byte that the literal stands for: 10 for `b'\n'`.
+    /// Returns the value: 10 for `b'\n'`.
     pub fn value(&self) -> u8
         ensures { result ≡ char_value (byte_parts self.now).item }
     {
         self.value
     }
 
-    /// The suffix, empty where there is none: `u8` of `b'a'u8`.
+    /// Returns the suffix, or `""` if there is none. For `b'a'u8` that is `u8`.
     pub fn suffix(&self) -> &str
         ensures { chars result.now ≡ (byte_parts self.now).suffix }
     {
         &self.raw.as_str()[self.start_suffix..]
     }
 
-    /// The text that was parsed, as `b'a'u8`. It is a byte, of the value and with the suffix that
-    /// the accessors answer.
+    /// Returns the text that was parsed, for example `b'a'u8`.
     pub fn raw_input(&self) -> &str
         ensures raw { result.now ≡ self.now.raw }
         ensures literal { IsCharLiteral byte_kind (chars result.now) (byte_parts self.now) }
@@ -115,11 +114,11 @@ impl<B: Text> ByteLit<B> {
         self.raw.as_str()
     }
 
-    /// Clones the literal. Over `&str` it does not allocate, and succeeds.
+    /// Clones the literal. Over `&str` this does not allocate and always succeeds.
     ///
     /// # Errors
     ///
-    /// `AllocError` where there is no memory for the text.
+    /// Returns `AllocError` if the allocation of the text fails.
     pub fn clone(&self, alloc: Global) -> Result<ByteLit<B>, AllocError>
         ensures raw { IfOk result (λ copy. copy.raw ≡ self.now.raw) }
         ensures parts { IfOk result (λ copy. byte_parts copy ≡ byte_parts self.now) }
@@ -133,8 +132,7 @@ impl<B: Text> ByteLit<B> {
         })
     }
 
-    /// The text that was parsed, in its buffer: of a literal over `String` the `String` with
-    /// `b'a'`.
+    /// Returns the text that was parsed, in its buffer, without copying it.
     pub fn into_raw_input(self) -> B
         ensures buffer { result ≡ self.buffer }
         ensures text { B.bytes result ≡ self.raw }
@@ -145,7 +143,7 @@ impl<B: Text> ByteLit<B> {
 }
 
 impl<B: Text + Copy> ByteLit<B> {
-    /// Copies a literal whose buffer is `Copy`.
+    /// Copies the literal. Its buffer is `Copy`.
     pub fn copied(&self) -> Self
         ensures { result ≡ self.now }
     {
@@ -154,11 +152,11 @@ impl<B: Text + Copy> ByteLit<B> {
 }
 
 impl ByteLit<&str> {
-    /// The literal with an owned text.
+    /// Creates a literal with an owned copy of the text.
     ///
     /// # Errors
     ///
-    /// `AllocError` where there is no memory for the text.
+    /// Returns `AllocError` if the allocation of the text fails.
     pub fn to_owned(&self, alloc: Global) -> Result<ByteLit<String>, AllocError>
         ensures raw { IfOk result (λ owned. owned.raw ≡ self.now.raw) }
         ensures parts { IfOk result (λ owned. byte_parts owned ≡ byte_parts self.now) }
@@ -172,7 +170,7 @@ impl ByteLit<&str> {
     }
 }
 
-/// The value, and where the suffix starts, if the text, which begins so, is a byte.
+/// Returns the value of the byte `input` and the place of its suffix, in bytes.
 #[inline(always)]
 fn cut(input: &str, front: Front) -> Result<(u8, usize), ParseError>
     requires { IsFront front input.now }

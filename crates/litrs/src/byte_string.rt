@@ -20,9 +20,10 @@ use std::alloc::{AllocError, Global};
 use std::fmt;
 use std::marker::Model;
 
-/// Bytes as they are written in Rust: `b"foo"`, `b"\xff\n"`, `br#"foo"#`.
+/// A byte string literal, for example `b"foo"`, `b"\xff\n"` or `br#"foo"#`.
 ///
-/// It is made of a quoted or a raw body and a suffix, which may be empty. See [the reference][ref].
+/// It consists of a quoted or a raw body and a suffix, which may be empty. See
+/// [the reference][ref].
 ///
 /// [ref]: https://doc.rust-lang.org/reference/tokens.html#byte-string-literals
 #[derive(Drop)]
@@ -44,18 +45,18 @@ impl<B: Text> Model for ByteStringLit<B> {
 }
 
 impl<B: Text> ByteStringLit<B> {
-    /// Parses a text that is one byte string.
+    /// Parses `input` as a byte string.
     ///
-    /// `b"a\xff"u8` has the suffix `u8`, and its value is the byte of `a` and the byte FF. There is
-    /// one allocation, for the value, where the body is quoted and has a backslash; else none.
+    /// For example, `b"a\xff"u8` has the suffix `u8`, and its value is the bytes of `a` and FF. If
+    /// the body is quoted and has a backslash, the value is allocated, once. Otherwise nothing is.
     ///
     /// # Errors
     ///
-    /// `Empty`; `InvalidByteStringLiteralStart` where the text begins with neither `b"` nor `br`;
-    /// or as [`cut_quoted`](litrs_lex::cut_quoted) and
-    /// [`scan_raw_string`](litrs_lex::scan_raw_string) refuse the text: `b"ab` is
-    /// `UnterminatedString`, and `b"é"` is `NonAsciiInByteLiteral` at 2..3. `OutOfMemory`, with no
-    /// span, where the text is a byte string and there is no memory for its value.
+    /// Returns `Empty`; `InvalidByteStringLiteralStart` if `input` starts with neither `b"` nor
+    /// `br`; or the error of [`cut_quoted`](litrs_lex::cut_quoted) or
+    /// [`scan_raw_string`](litrs_lex::scan_raw_string): for `b"ab` that is `UnterminatedString`,
+    /// and for `b"é"` `NonAsciiInByteLiteral` at 2..3. Returns `OutOfMemory` without a span if
+    /// `input` is a byte string and the allocation of its value fails.
     #[inline(always)]
     pub fn parse(alloc: Global, input: B) -> Result<ByteStringLit<B>, ParseError>
         ensures buffer { IfOk result (λ lit. lit.buffer ≡ input) }
@@ -69,11 +70,11 @@ impl<B: Text> ByteStringLit<B> {
         ByteStringLit::parse_with_front(alloc, input, front)
     }
 
-    /// [`parse`](ByteStringLit::parse) of a text of which it is known how it begins.
+    /// Like [`parse`](ByteStringLit::parse), for an input that starts with `front`.
     ///
     /// # Errors
     ///
-    /// Those of [`parse`](ByteStringLit::parse).
+    /// Like [`parse`](ByteStringLit::parse).
     #[inline(always)]
     pub(crate) fn parse_with_front(
         alloc: Global,
@@ -97,7 +98,7 @@ impl<B: Text> ByteStringLit<B> {
         })
     }
 
-    /// The bytes that the literal stands for: `a` and FF for `b"a\xff"`.
+    /// Returns the value: the bytes of `a` and FF for `b"a\xff"`.
     pub fn value(&self) -> &[u8]
         ensures { result.now ≡ string_value self.now.parts }
     {
@@ -107,7 +108,7 @@ impl<B: Text> ByteStringLit<B> {
         }
     }
 
-    /// Whether the literal is raw, as `br"foo"` and `br#"foo"#` are.
+    /// Returns `true` if the literal is raw, for example `br"foo"` or `br#"foo"#`.
     pub fn is_raw_byte_string(&self) -> bool
         ensures { result ≡ is_raw self.now.parts }
     {
@@ -117,15 +118,14 @@ impl<B: Text> ByteStringLit<B> {
         }
     }
 
-    /// The suffix, empty where there is none: `u8` of `b"foo"u8`.
+    /// Returns the suffix, or `""` if there is none. For `b"foo"u8` that is `u8`.
     pub fn suffix(&self) -> &str
         ensures { chars result.now ≡ string_suffix self.now.parts }
     {
         &self.raw.as_str()[self.start_suffix..]
     }
 
-    /// The text that was parsed, as `b"foo"u8`. It is a byte string, with the parts that the
-    /// accessors answer.
+    /// Returns the text that was parsed, for example `b"foo"u8`.
     pub fn raw_input(&self) -> &str
         ensures raw { result.now ≡ self.now.raw }
         ensures literal { IsString byte_string_kind (chars result.now) self.now.parts }
@@ -133,12 +133,12 @@ impl<B: Text> ByteStringLit<B> {
         self.raw.as_str()
     }
 
-    /// Clones the literal. Over `&str` it does not allocate, and succeeds, where the body is
+    /// Clones the literal. Over `&str` this does not allocate and always succeeds if the body is
     /// raw or has no backslash.
     ///
     /// # Errors
     ///
-    /// `AllocError` where there is no memory for the text or the value.
+    /// Returns `AllocError` if the allocation of the text or the value fails.
     pub fn clone(&self, alloc: Global) -> Result<ByteStringLit<B>, AllocError>
         ensures raw { IfOk result (λ copy. copy.raw ≡ self.now.raw) }
         ensures parts { IfOk result (λ copy. copy.parts ≡ self.now.parts) }
@@ -153,8 +153,7 @@ impl<B: Text> ByteStringLit<B> {
         })
     }
 
-    /// The text that was parsed, in its buffer: of a literal over `String` the `String` with
-    /// `b"foo"`.
+    /// Returns the text that was parsed, in its buffer, without copying it.
     pub fn into_raw_input(self) -> B
         ensures buffer { result ≡ self.buffer }
         ensures text { B.bytes result ≡ self.raw }
@@ -169,9 +168,8 @@ impl<B: Text> ByteStringLit<B> {
 }
 
 impl<B: Buffer> ByteStringLit<B> {
-    /// The bytes that the literal stands for, taken out of the literal. Over `&str` they are
-    /// borrowed from the text where the body is raw or has no backslash, else owned. It does not
-    /// allocate.
+    /// Returns the value, taken out of the literal. Over `&str` it is borrowed from the text if the
+    /// body is raw or has no backslash. Otherwise, it is owned. Does not allocate.
     pub fn into_value(self) -> B::ByteCow
         ensures bytes { B.byte_cow_items result ≡ string_value self.parts }
         ensures owned { B.byte_cow_owned result
@@ -190,11 +188,11 @@ impl<B: Buffer> ByteStringLit<B> {
 }
 
 impl ByteStringLit<&str> {
-    /// The literal with an owned text.
+    /// Converts the literal to one with an owned text.
     ///
     /// # Errors
     ///
-    /// `AllocError` where there is no memory for the text. The literal is dropped then.
+    /// Returns `AllocError` if the allocation of the text fails. The literal is then dropped.
     pub fn into_owned(self, alloc: Global) -> Result<ByteStringLit<String>, AllocError>
         ensures raw { IfOk result (λ owned. owned.raw ≡ self.entry.raw) }
         ensures parts { IfOk result (λ owned. owned.parts ≡ self.entry.parts) }
@@ -213,7 +211,7 @@ impl ByteStringLit<&str> {
     }
 }
 
-/// Clones the value.
+/// Clones `value`.
 fn copy_value(alloc: Global, value: &KeptValue<Vec<u8>>) -> Result<KeptValue<Vec<u8>>, AllocError>
     ensures bytes { IfOk result (λ copy.
         kept_map vec_items copy ≡ kept_map vec_items value.now) }

@@ -22,7 +22,7 @@ use std::alloc::{AllocError, Global};
 use std::fmt;
 use std::marker::Model;
 
-/// Bytes without a zero, and a closing zero after them: the value of a C string literal.
+/// The value of a C string literal: bytes that are not zero, followed by a closing zero.
 ///
 /// Contracts see the bytes before the closing zero.
 #[derive(Drop)]
@@ -39,13 +39,13 @@ impl Model for CString {
 }
 
 impl CString {
-    /// These bytes, of which none is zero, with a closing zero after them.
+    /// Creates a value from `bytes`, of which none is zero, by appending a closing zero.
     ///
-    /// It succeeds where the bytes have room for one more.
+    /// It always succeeds if `bytes` has capacity for one more byte.
     ///
     /// # Errors
     ///
-    /// `AllocError` where there is no memory for the zero. The bytes are dropped then.
+    /// Returns `AllocError` if the allocation for the zero fails. `bytes` is then dropped.
     // Not inlined; see `copy_of`.
     #[inline(never)]
     fn close(mut bytes: Vec<u8>) -> Result<CString, AllocError>
@@ -57,11 +57,11 @@ impl CString {
         Ok(CString { bytes })
     }
 
-    /// A copy of these bytes, of which none is zero, with a closing zero after them.
+    /// Creates a value from a copy of `bytes`, of which none is zero, with a closing zero.
     ///
     /// # Errors
     ///
-    /// `AllocError` where there is no memory for them.
+    /// Returns `AllocError` if the allocation of the copy fails.
     // Not inlined, so that the copy passes through memory once on its way into the literal.
     #[inline(never)]
     fn copy_of(alloc: Global, bytes: &[u8]) -> Result<CString, AllocError>
@@ -75,7 +75,7 @@ impl CString {
         Ok(CString { bytes: copy })
     }
 
-    /// The bytes without the closing zero: `b"ab"` of `c"ab"`. None of them is zero.
+    /// Returns the bytes without the closing zero: `b"ab"` for `c"ab"`. None of them is zero.
     pub fn to_bytes(&self) -> &[u8]
         ensures bytes { result.now ≡ self.now }
         ensures no_nul { IsFalse (has_nul result.now) }
@@ -83,7 +83,7 @@ impl CString {
         &self.bytes[..self.bytes.len() - 1]
     }
 
-    /// The bytes with the closing zero: `b"ab\0"` of `c"ab"`.
+    /// Returns the bytes with the closing zero: `b"ab\0"` for `c"ab"`.
     pub fn as_bytes_with_nul(&self) -> &[u8]
         ensures { result.now ≡ self.now ++ nul ∷ [] }
     {
@@ -94,7 +94,7 @@ impl CString {
     ///
     /// # Errors
     ///
-    /// `AllocError` where there is no memory for them.
+    /// Returns `AllocError` if the allocation fails.
     pub fn clone(&self, alloc: Global) -> Result<CString, AllocError>
         ensures { IfOk result (λ copy. copy ≡ self.now) }
     {
@@ -105,9 +105,10 @@ impl CString {
     }
 }
 
-/// A C string as it is written in Rust: `c"foo"`, `c"\xff\u{e9}"`, `cr#"foo"#`.
+/// A C string literal, for example `c"foo"`, `c"\xff\u{e9}"` or `cr#"foo"#`.
 ///
-/// It is made of a quoted or a raw body and a suffix, which may be empty. See [the reference][ref].
+/// It consists of a quoted or a raw body and a suffix, which may be empty. See
+/// [the reference][ref].
 ///
 /// [ref]: https://doc.rust-lang.org/reference/tokens.html#c-string-literals
 #[derive(Drop)]
@@ -129,18 +130,18 @@ impl<B: Text> Model for CStringLit<B> {
 }
 
 impl<B: Text> CStringLit<B> {
-    /// Parses a text that is one C string.
+    /// Parses `input` as a C string.
     ///
-    /// `c"a\xff"u8` has the suffix `u8`, and its value is the byte of `a` and the byte FF. There is
-    /// one allocation, for the value and its closing zero.
+    /// For example, `c"a\xff"u8` has the suffix `u8`, and its value is the bytes of `a` and FF. The
+    /// value and its closing zero are allocated, once.
     ///
     /// # Errors
     ///
-    /// `Empty`; `InvalidCStringLiteralStart` where the text begins with neither `c"` nor `cr`; or
-    /// as [`cut_quoted`](litrs_lex::cut_quoted) and
-    /// [`scan_raw_string`](litrs_lex::scan_raw_string) refuse the text: `c"ab` is
-    /// `UnterminatedString`, and `c"\0"` is `DisallowedNulEscape` at 2..4. `OutOfMemory`, with no
-    /// span, where the text is a C string and there is no memory for its value.
+    /// Returns `Empty`; `InvalidCStringLiteralStart` if `input` starts with neither `c"` nor `cr`;
+    /// or the error of [`cut_quoted`](litrs_lex::cut_quoted) or
+    /// [`scan_raw_string`](litrs_lex::scan_raw_string): for `c"ab` that is `UnterminatedString`,
+    /// and for `c"\0"` `DisallowedNulEscape` at 2..4. Returns `OutOfMemory` without a span if
+    /// `input` is a C string and the allocation of its value fails.
     #[inline(always)]
     pub fn parse(alloc: Global, input: B) -> Result<CStringLit<B>, ParseError>
         ensures buffer { IfOk result (λ lit. lit.buffer ≡ input) }
@@ -154,11 +155,11 @@ impl<B: Text> CStringLit<B> {
         CStringLit::parse_with_front(alloc, input, front)
     }
 
-    /// [`parse`](CStringLit::parse) of a text of which it is known how it begins.
+    /// Like [`parse`](CStringLit::parse), for an input that starts with `front`.
     ///
     /// # Errors
     ///
-    /// Those of [`parse`](CStringLit::parse).
+    /// Like [`parse`](CStringLit::parse).
     #[inline(always)]
     pub(crate) fn parse_with_front(
         alloc: Global,
@@ -181,14 +182,14 @@ impl<B: Text> CStringLit<B> {
         })
     }
 
-    /// The bytes that the literal stands for, with a closing zero: `a` and FF for `c"a\xff"`.
+    /// Returns the value: the bytes of `a` and FF, and a closing zero, for `c"a\xff"`.
     pub fn value(&self) -> &CString
         ensures { result.now ≡ string_value self.now.parts }
     {
         &self.value
     }
 
-    /// The bytes that the literal stands for, taken out of the literal. It does not allocate.
+    /// Returns the value, taken out of the literal. Does not allocate.
     pub fn into_value(self) -> CString
         ensures { result ≡ string_value self.parts }
     {
@@ -200,23 +201,22 @@ impl<B: Text> CStringLit<B> {
         value
     }
 
-    /// Whether the literal is raw, as `cr"foo"` and `cr#"foo"#` are.
+    /// Returns `true` if the literal is raw, for example `cr"foo"` or `cr#"foo"#`.
     pub fn is_raw_c_string(&self) -> bool
         ensures { result ≡ is_raw self.now.parts }
     {
-        // After the `c` stands an `r` or the opening quote.
+        // The `c` is followed by `r` or the opening quote.
         self.raw.as_str().as_bytes()[1] == b'r'
     }
 
-    /// The suffix, empty where there is none: `u8` of `c"foo"u8`.
+    /// Returns the suffix, or `""` if there is none. For `c"foo"u8` that is `u8`.
     pub fn suffix(&self) -> &str
         ensures { chars result.now ≡ string_suffix self.now.parts }
     {
         &self.raw.as_str()[self.start_suffix..]
     }
 
-    /// The text that was parsed, as `c"foo"u8`. It is a C string, with the parts that the accessors
-    /// answer.
+    /// Returns the text that was parsed, for example `c"foo"u8`.
     pub fn raw_input(&self) -> &str
         ensures raw { result.now ≡ self.now.raw }
         ensures literal { IsString c_string_kind (chars result.now) self.now.parts }
@@ -228,7 +228,7 @@ impl<B: Text> CStringLit<B> {
     ///
     /// # Errors
     ///
-    /// `AllocError` where there is no memory for the text or the value.
+    /// Returns `AllocError` if the allocation of the text or the value fails.
     pub fn clone(&self, alloc: Global) -> Result<CStringLit<B>, AllocError>
         ensures raw { IfOk result (λ copy. copy.raw ≡ self.now.raw) }
         ensures parts { IfOk result (λ copy. copy.parts ≡ self.now.parts) }
@@ -242,8 +242,7 @@ impl<B: Text> CStringLit<B> {
         })
     }
 
-    /// The text that was parsed, in its buffer: of a literal over `String` the `String` with
-    /// `c"foo"`.
+    /// Returns the text that was parsed, in its buffer, without copying it.
     pub fn into_raw_input(self) -> B
         ensures buffer { result ≡ self.buffer }
         ensures text { B.bytes result ≡ self.raw }
@@ -258,11 +257,11 @@ impl<B: Text> CStringLit<B> {
 }
 
 impl CStringLit<&str> {
-    /// The literal with an owned text.
+    /// Converts the literal to one with an owned text.
     ///
     /// # Errors
     ///
-    /// `AllocError` where there is no memory for the text. The literal is dropped then.
+    /// Returns `AllocError` if the allocation of the text fails. The literal is then dropped.
     pub fn into_owned(self, alloc: Global) -> Result<CStringLit<String>, AllocError>
         ensures raw { IfOk result (λ owned. owned.raw ≡ self.entry.raw) }
         ensures parts { IfOk result (λ owned. owned.parts ≡ self.entry.parts) }
@@ -281,7 +280,7 @@ impl CStringLit<&str> {
     }
 }
 
-/// The value, and where the suffix begins, if the text, which begins so, is a C string.
+/// Returns the value of the C string `input` and the place of its suffix, in bytes.
 #[inline(always)]
 fn parse_text(alloc: Global, input: &str, front: Front) -> Result<(CString, usize), ParseError>
     requires { IsFront front input.now }
@@ -292,12 +291,12 @@ fn parse_text(alloc: Global, input: &str, front: Front) -> Result<(CString, usiz
     let (kept, start_suffix) = read_string(alloc, input, StringKind::CString, InCString, front)?;
     match close_value(alloc, input, kept) {
         Ok(value) => Ok((value, start_suffix)),
-        // allocation failed: of the copy, or of room for the closing zero.
+        // allocation failed: that of the copy, or that of the closing zero.
         Err(_) => Err(ParseError::new(None, ParseErrorKind::OutOfMemory)),
     }
 }
 
-/// The value that a text keeps so, with a closing zero.
+/// Returns the value `kept` of `text`, with a closing zero.
 #[inline(always)]
 fn close_value(alloc: Global, text: &str, kept: KeptValue<Vec<u8>>) -> Result<CString, AllocError>
     requires placed { IsPlaced text.now (kept_map vec_items kept) }

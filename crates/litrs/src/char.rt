@@ -17,9 +17,9 @@ use std::alloc::{AllocError, Global};
 use std::fmt;
 use std::marker::Model;
 
-/// A character as it is written in Rust: `'a'`, `'\n'`, `'\u{1f98a}'`.
+/// A character literal, for example `'a'`, `'\n'` or `'\u{1f98a}'`.
 ///
-/// It is made of a character or an escape between two single quotes, and a suffix, which may be
+/// It consists of a character or an escape between single quotes, and a suffix, which may be
 /// empty. See [the reference][ref].
 ///
 /// [ref]: https://doc.rust-lang.org/reference/tokens.html#character-literals
@@ -47,14 +47,14 @@ impl<B: Text> Model for CharLit<B> {
 }
 
 impl<B: Text> CharLit<B> {
-    /// Parses a text that is one char. It does not allocate.
+    /// Parses `input` as a char. Does not allocate.
     ///
-    /// `'\n'u8` has the value LF and the suffix `u8`.
+    /// For example, `'\n'u8` has the value LF and the suffix `u8`.
     ///
     /// # Errors
     ///
-    /// `Empty`, `DoesNotStartWithQuote` at the first byte, or as [`cut_char`] refuses the text:
-    /// `''` is `EmptyCharLiteral`, and `'\x80'` is `NonAsciiXEscape` at 1..5.
+    /// Returns `Empty`, `DoesNotStartWithQuote` at the first byte, or the error of [`cut_char`]:
+    /// for `''` that is `EmptyCharLiteral`, and for `'\x80'` `NonAsciiXEscape` at 1..5.
     #[inline(always)]
     pub fn parse(input: B) -> Result<CharLit<B>, ParseError>
         ensures buffer { IfOk result (λ lit. lit.buffer ≡ input) }
@@ -68,11 +68,11 @@ impl<B: Text> CharLit<B> {
         CharLit::parse_with_front(input, front)
     }
 
-    /// [`parse`](CharLit::parse) of a text of which it is known how it begins.
+    /// Like [`parse`](CharLit::parse), for an input that starts with `front`.
     ///
     /// # Errors
     ///
-    /// Those of [`parse`](CharLit::parse).
+    /// Like [`parse`](CharLit::parse).
     #[inline(always)]
     pub(crate) fn parse_with_front(input: B, front: Front) -> Result<CharLit<B>, ParseError>
         requires { IsFront front (B.bytes input) }
@@ -91,22 +91,21 @@ impl<B: Text> CharLit<B> {
         })
     }
 
-    /// The character that the literal stands for: LF for `'\n'`.
+    /// Returns the value: LF for `'\n'`.
     pub fn value(&self) -> char
         ensures { result ≡ char_value (char_parts self.now).item }
     {
         self.value
     }
 
-    /// The suffix, empty where there is none: `u8` of `'a'u8`.
+    /// Returns the suffix, or `""` if there is none. For `'a'u8` that is `u8`.
     pub fn suffix(&self) -> &str
         ensures { chars result.now ≡ (char_parts self.now).suffix }
     {
         &self.raw.as_str()[self.start_suffix..]
     }
 
-    /// The text that was parsed, as `'a'u8`. It is a char, of the value and with the suffix that
-    /// the accessors answer.
+    /// Returns the text that was parsed, for example `'a'u8`.
     pub fn raw_input(&self) -> &str
         ensures raw { result.now ≡ self.now.raw }
         ensures literal { IsCharLiteral char_kind (chars result.now) (char_parts self.now) }
@@ -114,11 +113,11 @@ impl<B: Text> CharLit<B> {
         self.raw.as_str()
     }
 
-    /// Clones the literal. Over `&str` it does not allocate, and succeeds.
+    /// Clones the literal. Over `&str` this does not allocate and always succeeds.
     ///
     /// # Errors
     ///
-    /// `AllocError` where there is no memory for the text.
+    /// Returns `AllocError` if the allocation of the text fails.
     pub fn clone(&self, alloc: Global) -> Result<CharLit<B>, AllocError>
         ensures raw { IfOk result (λ copy. copy.raw ≡ self.now.raw) }
         ensures parts { IfOk result (λ copy. char_parts copy ≡ char_parts self.now) }
@@ -132,8 +131,7 @@ impl<B: Text> CharLit<B> {
         })
     }
 
-    /// The text that was parsed, in its buffer: of a literal over `String` the `String` with
-    /// `'a'`.
+    /// Returns the text that was parsed, in its buffer, without copying it.
     pub fn into_raw_input(self) -> B
         ensures buffer { result ≡ self.buffer }
         ensures text { B.bytes result ≡ self.raw }
@@ -144,7 +142,7 @@ impl<B: Text> CharLit<B> {
 }
 
 impl<B: Text + Copy> CharLit<B> {
-    /// Copies a literal whose buffer is `Copy`.
+    /// Copies the literal. Its buffer is `Copy`.
     pub fn copied(&self) -> Self
         ensures { result ≡ self.now }
     {
@@ -153,11 +151,11 @@ impl<B: Text + Copy> CharLit<B> {
 }
 
 impl CharLit<&str> {
-    /// The literal with an owned text.
+    /// Creates a literal with an owned copy of the text.
     ///
     /// # Errors
     ///
-    /// `AllocError` where there is no memory for the text.
+    /// Returns `AllocError` if the allocation of the text fails.
     pub fn to_owned(&self, alloc: Global) -> Result<CharLit<String>, AllocError>
         ensures raw { IfOk result (λ owned. owned.raw ≡ self.now.raw) }
         ensures parts { IfOk result (λ owned. char_parts owned ≡ char_parts self.now) }
@@ -171,7 +169,7 @@ impl CharLit<&str> {
     }
 }
 
-/// The value, and where the suffix starts, if the text, which begins so, is a char.
+/// Returns the value of the char `input` and the place of its suffix, in bytes.
 #[inline(always)]
 fn cut(input: &str, front: Front) -> Result<(char, usize), ParseError>
     requires { IsFront front input.now }

@@ -1,4 +1,4 @@
-//! Where strings of the three kinds are cut.
+//! Parses of strings of the three kinds.
 ghost use Rattle.std.specs.Prelude.{◌≡◌, ◌⊎◌, ◌||◌, not, IfOk, IfErr, IsTrue};
 ghost use Rattle.std.specs.Str.{chars, IsCharBoundary};
 ghost use Rattle.litrs_base.specs.Refusal.{refusal_of, HasCharSpan};
@@ -19,8 +19,8 @@ use litrs_lex::{
 };
 use std::alloc::Global;
 
-/// Parses a text that begins so as a string of the kind: its value, or where that stands, and where
-/// its suffix begins, in bytes. It is compiled for what the kind allows.
+/// Parses `input`, which starts with `front`, as a string of `kind`. Returns its value, or the
+/// place of the value, and the place of its suffix, in bytes. It is compiled for each kind.
 #[inline(always)]
 pub(crate) fn read_string<C: EscapeContainer, A: Allows>(
     alloc: Global,
@@ -49,7 +49,7 @@ pub(crate) fn read_string<C: EscapeContainer, A: Allows>(
     }
 }
 
-/// Why a text that is not empty, and begins with neither front of the kind, is no string of it.
+/// Returns the error of `input`, which is not empty and starts with neither front of `kind`.
 fn start_refusal(input: &str, kind: StringKind) -> ParseError
     ensures refusal { refusal_of result ≡ string_start_refusal kind }
     ensures char_span { HasCharSpan (chars input.now) result }
@@ -66,8 +66,8 @@ fn start_refusal(input: &str, kind: StringKind) -> ParseError
     }
 }
 
-/// Parses a quoted string whose body begins at `offset`: its value, where the body has a backslash,
-/// or else where the body stands, and where the suffix begins. `offset` is that of
+/// Parses a quoted string whose body starts at `offset`. Returns its value if the body has a
+/// backslash, otherwise the place of the body, and the place of the suffix. `offset` is that of
 /// [`unescape_string`](litrs_lex::unescape_string).
 #[inline(always)]
 fn quoted_value<C: EscapeContainer, A: Allows>(
@@ -99,8 +99,8 @@ fn quoted_value<C: EscapeContainer, A: Allows>(
     }
 }
 
-/// Cuts a raw string whose `r` ends at `offset`: where its body stands and its suffix begins.
-/// `offset` and the switches are those of [`scan_raw_string`].
+/// Cuts a raw string whose `r` ends at `offset`. Returns the places of its body and its suffix.
+/// `offset` and `allowed` are those of [`scan_raw_string`].
 #[inline(never)]
 fn raw_place(
     input: &str,

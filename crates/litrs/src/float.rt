@@ -15,11 +15,11 @@ use std::alloc::{AllocError, Global};
 use std::fmt;
 use std::marker::Model;
 
-/// A floating-point number as it is written in Rust: `3.14`, `9.`, `27e-3`, `147.3_33__E3f64`.
+/// A float literal, for example `3.14`, `9.`, `27e-3` or `147.3_33__E3f64`.
 ///
-/// It is made of the integer part, a fraction after a period, an exponent, and a suffix. The
-/// period with the fraction or the exponent may be missing, but not both; the suffix may be empty.
-/// It has no sign. See [the reference][ref].
+/// It consists of an integer part, a period with a fractional part, an exponent, and a suffix. The
+/// period or the exponent may be missing, but not both. The suffix may be empty. There is no sign.
+/// See [the reference][ref].
 ///
 /// [ref]: https://doc.rust-lang.org/reference/tokens.html#floating-point-literals
 pub struct FloatLit<B: Text> {
@@ -39,8 +39,8 @@ impl<B: Text> Model for FloatLit<B> {
 }
 
 impl<B: Text> FloatLit<B> {
-    /// The literal whose text is cut so. The cut is one that
-    /// [`cut_float`](litrs_lex::cut_float) or [`cut_number`](litrs_lex::cut_number) answers of
+    /// Creates the literal with the text `raw` and the parts `cut`, which
+    /// [`cut_float`](litrs_lex::cut_float) or [`cut_number`](litrs_lex::cut_number) returned for
     /// this text.
     #[inline(always)]
     pub(crate) fn new(raw: B, cut: FloatCut) -> FloatLit<B>
@@ -51,14 +51,15 @@ impl<B: Text> FloatLit<B> {
         FloatLit { raw, cut }
     }
 
-    /// Parses a text that is one float. It does not allocate.
+    /// Parses `input` as a float. Does not allocate.
     ///
-    /// `3.14f33` has the integer part `3`, the fraction `14`, no exponent and the suffix `f33`.
+    /// For example, `3.14f33` has the integer part `3`, the fractional part `14`, no exponent and
+    /// the suffix `f33`.
     ///
     /// # Errors
     ///
-    /// `Empty`, `DoesNotStartWithDigit` at the first byte, or as [`cut_float`] refuses the text:
-    /// `1.e4` is `UnexpectedChar` at 2..3, and `27` is `UnexpectedIntegerLit`.
+    /// Returns `Empty`, `DoesNotStartWithDigit` at the first byte, or the error of [`cut_float`]:
+    /// for `1.e4` that is `UnexpectedChar` at 2..3, and for `27` `UnexpectedIntegerLit`.
     #[inline(always)]
     pub fn parse(input: B) -> Result<FloatLit<B>, ParseError>
         ensures buffer { IfOk result (λ lit. lit.buffer ≡ input) }
@@ -72,22 +73,23 @@ impl<B: Text> FloatLit<B> {
         Ok(FloatLit { raw: input, cut })
     }
 
-    /// All but the suffix: `147.3_33__E3` of `147.3_33__E3f64`.
+    /// Returns the text without the suffix. For `147.3_33__E3f64` that is `147.3_33__E3`.
     pub fn number_part(&self) -> &str
         ensures { chars result.now ≡ number_part (float_parts self.now) }
     {
         &self.raw.as_str()[..self.cut.end_number]
     }
 
-    /// The digits and underscores before a period and an exponent: `147` of `147.3_33__E3f64`.
+    /// Returns the digits and underscores before the period or the exponent. For
+    /// `147.3_33__E3f64` that is `147`.
     pub fn integer_part(&self) -> &str
         ensures { chars result.now ≡ (float_parts self.now).integer }
     {
         &self.raw.as_str()[..self.cut.end_integer]
     }
 
-    /// The digits and underscores after the period, None where there is no period: `3_33__` of
-    /// `147.3_33__E3f64`, the empty text of `9.`, and None of `1e3`.
+    /// Returns the digits and underscores after the period, or `None` if there is no period. For
+    /// `147.3_33__E3f64` that is `3_33__`, for `9.` it is `""`, and for `1e3` it is `None`.
     pub fn fractional_part(&self) -> Option<&str>
         ensures part { option_map (λ text. chars text.now) result
             ≡ (float_parts self.now).fraction }
@@ -105,22 +107,22 @@ impl<B: Text> FloatLit<B> {
         }
     }
 
-    /// The exponent with its letter and sign, empty where there is none: `E3` of `147.3_33__E3f64`.
+    /// Returns the exponent with its letter and sign, or `""` if there is none. For
+    /// `147.3_33__E3f64` that is `E3`.
     pub fn exponent_part(&self) -> &str
         ensures { chars result.now ≡ (float_parts self.now).exponent }
     {
         &self.raw.as_str()[self.cut.end_fraction..self.cut.end_number]
     }
 
-    /// The suffix, empty where there is none: `f64` of `147.3_33__E3f64`.
+    /// Returns the suffix, or `""` if there is none. For `147.3_33__E3f64` that is `f64`.
     pub fn suffix(&self) -> &str
         ensures { chars result.now ≡ (float_parts self.now).suffix }
     {
         &self.raw.as_str()[self.cut.end_number..]
     }
 
-    /// The text that was parsed, as `3.14f33`. It is a float, with the parts that the accessors
-    /// answer: its number part, and after it its suffix.
+    /// Returns the text that was parsed, for example `3.14f33`.
     pub fn raw_input(&self) -> &str
         ensures raw { result.now ≡ self.now.raw }
         ensures literal { IsFloatOf (chars result.now) (float_parts self.now) }
@@ -130,11 +132,11 @@ impl<B: Text> FloatLit<B> {
         self.raw.as_str()
     }
 
-    /// Clones the literal. Over `&str` it does not allocate, and succeeds.
+    /// Clones the literal. Over `&str` this does not allocate and always succeeds.
     ///
     /// # Errors
     ///
-    /// `AllocError` where there is no memory for the text.
+    /// Returns `AllocError` if the allocation of the text fails.
     pub fn clone(&self, alloc: Global) -> Result<FloatLit<B>, AllocError>
         ensures raw { IfOk result (λ copy. copy.raw ≡ self.now.raw) }
         ensures parts { IfOk result (λ copy. float_parts copy ≡ float_parts self.now) }
@@ -144,8 +146,7 @@ impl<B: Text> FloatLit<B> {
         Ok(FloatLit { raw, cut: self.cut })
     }
 
-    /// The text that was parsed, in its buffer: of a literal over `String` the `String` with
-    /// `3.14f32`.
+    /// Returns the text that was parsed, in its buffer, without copying it.
     pub fn into_raw_input(self) -> B
         ensures buffer { result ≡ self.buffer }
         ensures text { B.bytes result ≡ self.raw }
@@ -156,7 +157,7 @@ impl<B: Text> FloatLit<B> {
 }
 
 impl<B: Text + Copy> FloatLit<B> {
-    /// Copies a literal whose buffer is `Copy`.
+    /// Copies the literal. Its buffer is `Copy`.
     pub fn copied(&self) -> Self
         ensures { result ≡ self.now }
     {
@@ -165,11 +166,11 @@ impl<B: Text + Copy> FloatLit<B> {
 }
 
 impl FloatLit<&str> {
-    /// The literal with an owned text.
+    /// Creates a literal with an owned copy of the text.
     ///
     /// # Errors
     ///
-    /// `AllocError` where there is no memory for the text.
+    /// Returns `AllocError` if the allocation of the text fails.
     pub fn to_owned(&self, alloc: Global) -> Result<FloatLit<String>, AllocError>
         ensures raw { IfOk result (λ owned. owned.raw ≡ self.now.raw) }
         ensures parts { IfOk result (λ owned. float_parts owned ≡ float_parts self.now) }
@@ -179,7 +180,7 @@ impl FloatLit<&str> {
     }
 }
 
-/// Where the text is cut, if it is a float.
+/// Returns the parts of the float `input`.
 // Not inlined, so that `parse` is small enough to be.
 #[inline(never)]
 fn cut(input: &str) -> Result<FloatCut, ParseError>

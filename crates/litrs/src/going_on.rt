@@ -28,7 +28,8 @@ mod word;
 /// A list of literals may be cut at the first comma that is not within a literal, by
 /// `!goes_on(&text[..comma + 1])`. Each call reads the text from its start, so this takes time
 /// quadratic in the number of commas inside one string. The crate `litrs_prefix` finds the literal
-/// at the front of a longer text in one pass; the program `uses_attributes` reads its lists with it.
+/// at the front of a longer text in one pass; the program `uses_attributes` reads its lists with
+/// it.
 ///
 /// [ref]: https://doc.rust-lang.org/reference/tokens.html#literals
 // Each kind is answered by a call, so a word is answered without the frames of the other kinds.

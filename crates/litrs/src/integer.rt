@@ -24,11 +24,11 @@ use std::alloc::{AllocError, Global};
 use std::fmt;
 use std::marker::Model;
 
-/// A number as it is written in Rust: `1_000`, `0xFF_u8`, `0b1111_1111`.
+/// An integer literal, for example `1_000`, `0xFF_u8` or `0b1111_1111`.
 ///
-/// It is made of a prefix that decides the base (`0b`, `0o`, `0x`, or none for ten), the main part,
-/// which is digits and underscores, and a suffix, which may be empty. It has no sign: in Rust a `-`
-/// is an operator. See [the reference][ref].
+/// It consists of a prefix that names the base (`0b`, `0o`, `0x`, or none for ten), the main part
+/// (digits and underscores), and a suffix, which may be empty. There is no sign: in Rust `-` is an
+/// operator. See [the reference][ref].
 ///
 /// [ref]: https://doc.rust-lang.org/reference/tokens.html#integer-literals
 pub struct IntegerLit<B: Text> {
@@ -48,9 +48,9 @@ impl<B: Text> Model for IntegerLit<B> {
 }
 
 impl<B: Text> IntegerLit<B> {
-    /// The literal whose text is cut so. The cut is one that
-    /// [`cut_integer`](litrs_lex::cut_integer) or [`cut_number`](litrs_lex::cut_number)
-    /// answers of this text.
+    /// Creates the literal with the text `raw` and the parts `cut`, which
+    /// [`cut_integer`](litrs_lex::cut_integer) or [`cut_number`](litrs_lex::cut_number) returned
+    /// for this text.
     #[inline(always)]
     pub(crate) fn new(raw: B, cut: IntegerCut) -> IntegerLit<B>
         requires { IsIntegerAt cut (B.bytes raw) }
@@ -60,14 +60,14 @@ impl<B: Text> IntegerLit<B> {
         IntegerLit { raw, cut }
     }
 
-    /// Parses a text that is one integer. It does not allocate.
+    /// Parses `input` as an integer. Does not allocate.
     ///
-    /// `0xFF_u8` has the base 16, the main part `FF_` and the suffix `u8`.
+    /// For example, `0xFF_u8` has the base 16, the main part `FF_` and the suffix `u8`.
     ///
     /// # Errors
     ///
-    /// `Empty`, `DoesNotStartWithDigit` at the first byte, or as [`cut_integer`] refuses the text:
-    /// `0b12` is `InvalidDigit` at 3..4.
+    /// Returns `Empty`, `DoesNotStartWithDigit` at the first byte, or the error of [`cut_integer`]:
+    /// for `0b12` that is `InvalidDigit` at 3..4.
     #[inline(always)]
     pub fn parse(input: B) -> Result<IntegerLit<B>, ParseError>
         ensures buffer { IfOk result (λ lit. lit.buffer ≡ input) }
@@ -81,11 +81,11 @@ impl<B: Text> IntegerLit<B> {
         Ok(IntegerLit { raw: input, cut })
     }
 
-    /// The number that the digits of the main part stand for in their base, whatever the suffix.
+    /// Returns the value of the main part in its base, whatever the suffix is, or `None` if it is
+    /// greater than the greatest number of `N`.
     ///
-    /// None if and only if it is greater than the greatest number of `N`. It does not allocate.
-    /// `0b1111_1111` is `Some(255)` as a `u8` and None as an `i8`; `128i8` is `Some(128)` as a
-    /// `u8`.
+    /// Does not allocate. For example, `0b1111_1111` is `Some(255)` as a `u8` and `None` as an
+    /// `i8`, and `128i8` is `Some(128)` as a `u8`.
     pub fn value<N: FromIntegerLiteral>(&self) -> Option<N>
         ensures { let number = integer_value (integer_parts self.now) in
             SomeIff result (number ≤ N.greatest) (N.of number) }
@@ -93,31 +93,31 @@ impl<B: Text> IntegerLit<B> {
         value_of(self.cut.base, self.raw_main_part().as_bytes())
     }
 
-    /// The base that the prefix decides: `Hexadecimal` of `0xFF_u8`.
+    /// Returns the base. For `0xFF_u8` that is `Hexadecimal`.
     pub fn base(&self) -> IntegerBase
         ensures { result ≡ (integer_parts self.now).base }
     {
         self.cut.base
     }
 
-    /// The main part: the digits and underscores, without the prefix: `FF_` of `0xFF_u8`. By itself
-    /// it does not say in which base it is; see [`base`](IntegerLit::base).
+    /// Returns the main part: the digits and underscores without the prefix. For `0xFF_u8` that is
+    /// `FF_`, in the base [`base`](IntegerLit::base).
     pub fn raw_main_part(&self) -> &str
         ensures { chars result.now ≡ (integer_parts self.now).main }
     {
         &self.raw.as_str()[self.cut.start_main..self.cut.end_main]
     }
 
-    /// The suffix, empty where there is none: `u8` of `0xFF_u8`. Which type it names, if any,
-    /// answers `IntegerType::from_suffix(lit.suffix())`.
+    /// Returns the suffix, or `""` if there is none. For `0xFF_u8` that is `u8`.
+    ///
+    /// `IntegerType::from_suffix(lit.suffix())` returns the type that it names, if any.
     pub fn suffix(&self) -> &str
         ensures { chars result.now ≡ (integer_parts self.now).suffix }
     {
         &self.raw.as_str()[self.cut.end_main..]
     }
 
-    /// The text that was parsed, as `0xFF_u8`. It is an integer, with the parts that the
-    /// accessors answer.
+    /// Returns the text that was parsed, for example `0xFF_u8`.
     pub fn raw_input(&self) -> &str
         ensures raw { result.now ≡ self.now.raw }
         ensures literal { IsIntegerOf (chars result.now) (integer_parts self.now) }
@@ -125,11 +125,11 @@ impl<B: Text> IntegerLit<B> {
         self.raw.as_str()
     }
 
-    /// Clones the literal. Over `&str` it does not allocate, and succeeds.
+    /// Clones the literal. Over `&str` this does not allocate and always succeeds.
     ///
     /// # Errors
     ///
-    /// `AllocError` where there is no memory for the text.
+    /// Returns `AllocError` if the allocation of the text fails.
     pub fn clone(&self, alloc: Global) -> Result<IntegerLit<B>, AllocError>
         ensures raw { IfOk result (λ copy. copy.raw ≡ self.now.raw) }
         ensures parts { IfOk result (λ copy. integer_parts copy ≡ integer_parts self.now) }
@@ -139,8 +139,7 @@ impl<B: Text> IntegerLit<B> {
         Ok(IntegerLit { raw, cut: self.cut })
     }
 
-    /// The text that was parsed, in its buffer: of a literal over `String` the `String` with
-    /// `0xFF_u8`.
+    /// Returns the text that was parsed, in its buffer, without copying it.
     pub fn into_raw_input(self) -> B
         ensures buffer { result ≡ self.buffer }
         ensures text { B.bytes result ≡ self.raw }
@@ -151,7 +150,7 @@ impl<B: Text> IntegerLit<B> {
 }
 
 impl<B: Text + Copy> IntegerLit<B> {
-    /// Copies a literal whose buffer is `Copy`.
+    /// Copies the literal. Its buffer is `Copy`.
     pub fn copied(&self) -> Self
         ensures { result ≡ self.now }
     {
@@ -160,11 +159,11 @@ impl<B: Text + Copy> IntegerLit<B> {
 }
 
 impl IntegerLit<&str> {
-    /// The literal with an owned text.
+    /// Creates a literal with an owned copy of the text.
     ///
     /// # Errors
     ///
-    /// `AllocError` where there is no memory for the text.
+    /// Returns `AllocError` if the allocation of the text fails.
     pub fn to_owned(&self, alloc: Global) -> Result<IntegerLit<String>, AllocError>
         ensures raw { IfOk result (λ owned. owned.raw ≡ self.now.raw) }
         ensures parts { IfOk result (λ owned. integer_parts owned ≡ integer_parts self.now) }
@@ -174,7 +173,7 @@ impl IntegerLit<&str> {
     }
 }
 
-/// Where the text is cut, if it is an integer.
+/// Returns the parts of the integer `input`.
 // Not inlined, so that `parse` is small enough to be.
 #[inline(never)]
 fn cut(input: &str) -> Result<IntegerCut, ParseError>
@@ -191,8 +190,8 @@ fn cut(input: &str) -> Result<IntegerCut, ParseError>
     }
 }
 
-/// The number that digits and underscores of the base stand for, None where `N` does not have it.
-/// It is counted in `u64` as long as that has one more digit, and then in `N`.
+/// Returns the value of `main`, the digits and underscores of `base`, or `None` if it does not fit
+/// `N`. It is computed in `u64` while another digit fits, and then in `N`.
 fn value_of<N: FromIntegerLiteral>(base: IntegerBase, main: &[u8]) -> Option<N>
     requires { IsTrue (list_all (is_digit_or_underscore base) main.now) }
     ensures { let number = numeral (base_value base) main.now in
@@ -215,7 +214,7 @@ fn value_of<N: FromIntegerLiteral>(base: IntegerBase, main: &[u8]) -> Option<N>
     N::from_number(number)
 }
 
-/// [`value_of`] from this place on: the bytes before it stand for the number `front`.
+/// Like [`value_of`], from `start` on: the value of the bytes before it is `front`.
 fn value_from<N: FromIntegerLiteral>(
     base: IntegerBase,
     main: &[u8],

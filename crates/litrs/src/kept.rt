@@ -1,21 +1,21 @@
-//! What a string keeps of its value.
+//! The value of a string, as the literal keeps it.
 
-/// The value of a string, or where it stands in the text.
+/// The value of a string, or its place in the text.
 #[derive(Drop)]
 pub enum KeptValue<C> {
-    /// The body is its own value: it is raw, or has no backslash.
+    /// The place of a body that equals its value: it is raw, or has no backslash.
     InText(BodyPlace),
-    /// What a quoted body with a backslash stands for.
+    /// The value of a quoted body with a backslash.
     Owned(C),
 }
 
-/// Where a body that is its own value stands, in bytes.
+/// The place of a body that equals its value, in bytes.
 #[derive(Clone, Copy)]
 pub struct BodyPlace {
-    /// Where it begins, after the opening quote.
+    /// The start, after the opening quote.
     pub start: usize,
-    /// Where it ends, at the closing quote.
+    /// The end, at the closing quote.
     pub end: usize,
-    /// Whether it is raw.
+    /// Set if the body is raw.
     pub is_raw: bool,
 }

@@ -1,13 +1,13 @@
 //! Parsing and inspecting Rust literals.
 //!
-//! Each kind of literal has a type, and [`Literal`] stands for them all. Each type has a `parse`,
-//! which takes a text that is one literal and nothing else: no blank before or after it, no sign.
+//! Each kind of literal has a type, and [`Literal`] has a variant for each. Each type has a
+//! `parse`, whose input is exactly one literal, without a sign and without white space around it.
 //!
-//! | Type | Literals | What its methods answer, beside the text and the suffix |
+//! | Type | Literals | What its methods return, beside the text and the suffix |
 //! |---|---|---|
 //! | [`BoolLit`] | `true`, `false` | the value; it has no suffix |
 //! | [`IntegerLit`] | `27`, `0xFF_u8`, `0b1_0` | base, digits, the value in any integer type |
-//! | [`FloatLit`] | `3.14`, `2e-7_f32`, `1.` | integer part, fraction, exponent; it has no value |
+//! | [`FloatLit`] | `3.14`, `2e-7_f32`, `1.` | integer part, fractional part, exponent |
 //! | [`CharLit`] | `'a'`, `'\n'`, `'\u{1f98a}'` | the value, a `char` |
 //! | [`StringLit`] | `"a\n"`, `r#"C:\"#` | the value, a `str`, and whether it is raw |
 //! | [`ByteLit`] | `b'a'`, `b'\xff'` | the value, a `u8` |
@@ -26,7 +26,7 @@
 //! use litrs::{Literal, ParseError};
 //! use std::alloc::Global;
 //!
-//! /// How many bytes the value of a string of any kind has.
+//! /// Returns the length in bytes of the value of a string of any kind.
 //! fn value_len(alloc: Global, text: &str) -> Result<Option<usize>, ParseError> {
 //!     match &Literal::parse(alloc, text)? {
 //!         Literal::String(lit) => Ok(Some(lit.value().len())),
@@ -35,27 +35,27 @@
 //!         _ => Ok(None),
 //!     }
 //! }
-//! // Of "a\n" it is Ok(Some(2)), of b"\xff"u8 Ok(Some(1)), and of 27 Ok(None).
+//! // For "a\n" it returns Ok(Some(2)), for b"\xff"u8 Ok(Some(1)), and for 27 Ok(None).
 //! ```
 //!
-//! # Refusals
+//! # Errors
 //!
-//! A [`ParseError`] has a kind and mostly a span: of `0b12` by [`IntegerLit::parse`] `InvalidDigit`
-//! at 3..4. Spans count bytes; `char_span` ends after a whole character, so that the text can be
-//! cut there. After a kind that `is_final` no extension of the text is accepted, and after one that
-//! `is_open` the text is accepted with its closing quote, and the hashes of a raw string, after it.
+//! A [`ParseError`] has a kind and mostly a span: for `0b12`, [`IntegerLit::parse`] returns
+//! `InvalidDigit` at 3..4. Spans are in bytes. `char_span` ends after a whole character, so the
+//! text can be cut there. If the error `is_final`, no longer text is a literal. If it `is_open`,
+//! the text with its closing quote, and the hashes of a raw string, is one.
 //!
 //! # Prompts
 //!
-//! [`goes_on`] says whether a text begins a literal. A prompt takes a line that is one, asks for
-//! more where some longer text is one, and else shows the refusal:
+//! [`goes_on`] returns `true` if a text begins a literal. A prompt accepts a line that is a
+//! literal, asks for more if some longer text is one, and otherwise shows the error:
 //!
 //! ```
 //! use litrs::ParseErrorKind::OutOfMemory;
 //! use litrs::{Literal, ParseError, goes_on};
 //! use std::alloc::Global;
 //!
-//! /// The literal of a line, None where more of it is to come.
+//! /// Returns the literal of a line, or `None` if more lines are needed.
 //! fn line(alloc: Global, text: &str) -> Result<Option<Literal<&str>>, ParseError> {
 //!     match Literal::parse(alloc, text) {
 //!         Ok(lit) => Ok(Some(lit)),
@@ -63,7 +63,7 @@
 //!         Err(e) => Err(e),
 //!     }
 //! }
-//! // Of 'a' it is Ok(Some(_)), of "a Ok(None), and of "\q" an error: UnknownEscape.
+//! // For 'a' it returns Ok(Some(_)), for "a Ok(None), and for "\q" an error: UnknownEscape.
 //! ```
 #![tactic(auto)]
 
@@ -118,37 +118,37 @@ mod string;
 /// [ref]: https://doc.rust-lang.org/reference/tokens.html#literals
 #[derive(Drop)]
 pub enum Literal<B: Text> {
-    /// `true` or `false`.
+    /// A bool: `true` or `false`.
     Bool(BoolLit),
-    /// A number without a period or an exponent, as `0xFF_u8`.
+    /// An integer, for example `0xFF_u8`.
     Integer(IntegerLit<B>),
-    /// A number with a period or an exponent, as `3.14f33`.
+    /// A float, for example `3.14f33`.
     Float(FloatLit<B>),
-    /// A character, as `'a'`.
+    /// A char, for example `'a'`.
     Char(CharLit<B>),
-    /// A string, as `"foo"` and `r"foo"`.
+    /// A string, for example `"foo"` or `r"foo"`.
     String(StringLit<B>),
-    /// A byte, as `b'a'`.
+    /// A byte, for example `b'a'`.
     Byte(ByteLit<B>),
-    /// A byte string, as `b"foo"` and `br"foo"`.
+    /// A byte string, for example `b"foo"` or `br"foo"`.
     ByteString(ByteStringLit<B>),
-    /// A C string, as `c"foo"` and `cr"foo"`.
+    /// A C string, for example `c"foo"` or `cr"foo"`.
     CString(CStringLit<B>),
 }
 
 impl<B: Text> Literal<B> {
-    /// Parses a text that is one literal, of the kind that it begins like.
+    /// Parses `input` as a literal of any kind, which its start decides.
     ///
-    /// `true` is a bool, `1_000u32` an integer with the suffix `u32`. There is one allocation for
-    /// the value of a C string, and of a quoted string or byte string whose body has a backslash;
-    /// else none.
+    /// For example, `true` is a bool, and `1_000u32` an integer with the suffix `u32`. The value of
+    /// a C string, and of a quoted string or byte string with a backslash, is allocated, once.
+    /// Otherwise nothing is.
     ///
     /// # Errors
     ///
-    /// `Empty`; the refusal of the kind that the text begins like, as `UnexpectedChar` at 1..2 for
-    /// `0 `; `InvalidLiteral` where no kind begins so. `OutOfMemory`, with no span, where the text
-    /// is a literal and there is no memory for its value.
-    // Inlined, as each parse is: CONTRIBUTING says why.
+    /// Returns `Empty`; the error of the kind that `input` starts like, for example
+    /// `UnexpectedChar` at 1..2 for `0 `; or `InvalidLiteral` if it starts like no kind. Returns
+    /// `OutOfMemory` without a span if `input` is a literal and the allocation of its value fails.
+    // Inlined, like each parse: CONTRIBUTING says why.
     #[inline(always)]
     pub fn parse(alloc: Global, input: B) -> Result<Literal<B>, ParseError>
         ensures raw { IfOk result (λ lit. literal_raw lit ≡ B.bytes input) }
@@ -171,7 +171,7 @@ impl<B: Text> Literal<B> {
         }
     }
 
-    /// [`parse`](Literal::parse) of a text that begins with a digit.
+    /// Like [`parse`](Literal::parse), for an input that starts with a digit.
     #[inline(always)]
     fn parse_number(input: B) -> Result<Literal<B>, ParseError>
         requires { IsTrue (first_passes is_ascii_digit (B.bytes input)) }
@@ -186,7 +186,7 @@ impl<B: Text> Literal<B> {
         }
     }
 
-    /// [`Self::parse`] of a text that begins as a string of the kind.
+    /// Like [`parse`](Literal::parse), for an input that starts like a string of `kind`.
     #[inline(always)]
     fn parse_string(
         alloc: Global,
@@ -213,7 +213,8 @@ impl<B: Text> Literal<B> {
         }
     }
 
-    /// The suffix, empty where there is none: `u8` of `0xFF_u8`. A bool has none.
+    /// Returns the suffix, or `""` if there is none. For `0xFF_u8` that is `u8`. A bool has no
+    /// suffix.
     pub fn suffix(&self) -> &str
         ensures { chars result.now ≡ suffix_of (derivation self.now) }
     {
@@ -229,8 +230,7 @@ impl<B: Text> Literal<B> {
         }
     }
 
-    /// The text that was parsed, as `0xFF_u8`: a literal of the kind and with the parts of the
-    /// accessors.
+    /// Returns the text that was parsed, for example `0xFF_u8`.
     pub fn raw_input(&self) -> &str
         ensures raw { result.now ≡ literal_raw self.now }
         ensures literal { IsLiteral (chars result.now) (derivation self.now) }
@@ -249,12 +249,13 @@ impl<B: Text> Literal<B> {
 }
 
 impl<B: Text> Literal<B> {
-    /// Clones the literal. Over `&str` it does not allocate, and succeeds, unless the literal
-    /// is a C string or has a quoted body with a backslash, whose value is copied.
+    /// Clones the literal. Over `&str` this does not allocate and always succeeds, unless the
+    /// literal is a C string or has a quoted body with a backslash, whose value is copied.
     ///
     /// # Errors
     ///
-    /// `AllocError` where there is no memory for the text or the value. Nothing has changed then.
+    /// Returns `AllocError` if the allocation of the text or the value fails. The literal is
+    /// unchanged.
     pub fn clone(&self, alloc: Global) -> Result<Literal<B>, AllocError>
         ensures raw { IfOk result (λ copy. literal_raw copy ≡ literal_raw self.now) }
         ensures parts { IfOk result (λ copy. derivation copy ≡ derivation self.now) }
@@ -274,11 +275,11 @@ impl<B: Text> Literal<B> {
 }
 
 impl Literal<&str> {
-    /// The literal with an owned text.
+    /// Converts the literal to one with an owned text.
     ///
     /// # Errors
     ///
-    /// `AllocError` where there is no memory for the text. The literal is dropped then.
+    /// Returns `AllocError` if the allocation of the text fails. The literal is then dropped.
     pub fn into_owned(self, alloc: Global) -> Result<Literal<String>, AllocError>
         ensures raw { IfOk result (λ owned. literal_raw owned ≡ literal_raw self.entry) }
         ensures parts { IfOk result (λ owned. derivation owned ≡ derivation self.entry) }
@@ -296,7 +297,8 @@ impl Literal<&str> {
     }
 }
 
-/// Why a text that begins as no literal is none. One that begins with `c` is refused as a C string.
+/// Returns the error of `text`, which starts like no literal. If it starts with `c`, that is the
+/// error of a C string.
 fn other_refusal(text: &str) -> ParseErrorKind
     requires { IsFront Front.Other text.now }
     ensures { IsRefusal literal_parse (chars text.now) (without_span result) }

@@ -20,9 +20,10 @@ use std::alloc::{AllocError, Global};
 use std::fmt;
 use std::marker::Model;
 
-/// A string as it is written in Rust: `"foo"`, `"a\nb"`, `r#"foo"#`.
+/// A string literal, for example `"foo"`, `"a\nb"` or `r#"foo"#`.
 ///
-/// It is made of a quoted or a raw body and a suffix, which may be empty. See [the reference][ref].
+/// It consists of a quoted or a raw body and a suffix, which may be empty. See
+/// [the reference][ref].
 ///
 /// [ref]: https://doc.rust-lang.org/reference/tokens.html#string-literals
 #[derive(Drop)]
@@ -44,18 +45,18 @@ impl<B: Text> Model for StringLit<B> {
 }
 
 impl<B: Text> StringLit<B> {
-    /// Parses a text that is one string.
+    /// Parses `input` as a string.
     ///
-    /// `"a\nb"u8` has the suffix `u8`, and its value is `a`, LF and `b`. There is one allocation,
-    /// for the value, where the body is quoted and has a backslash; else none.
+    /// For example, `"a\nb"u8` has the suffix `u8`, and its value is `a`, LF and `b`. If the body
+    /// is quoted and has a backslash, the value is allocated, once. Otherwise nothing is.
     ///
     /// # Errors
     ///
-    /// `Empty`; `InvalidStringLiteralStart` at the first byte where that is neither `"` nor `r`; or
-    /// as [`cut_quoted`](litrs_lex::cut_quoted) and
-    /// [`scan_raw_string`](litrs_lex::scan_raw_string) refuse the text: `"ab` is
-    /// `UnterminatedString`, and `"\x80"` is `NonAsciiXEscape` at 1..5. `OutOfMemory`, with no
-    /// span, where the text is a string and there is no memory for its value.
+    /// Returns `Empty`; `InvalidStringLiteralStart` at the first byte if that is neither `"` nor
+    /// `r`; or the error of [`cut_quoted`](litrs_lex::cut_quoted) or
+    /// [`scan_raw_string`](litrs_lex::scan_raw_string): for `"ab` that is `UnterminatedString`, and
+    /// for `"\x80"` `NonAsciiXEscape` at 1..5. Returns `OutOfMemory` without a span if `input` is a
+    /// string and the allocation of its value fails.
     #[inline(always)]
     pub fn parse(alloc: Global, input: B) -> Result<StringLit<B>, ParseError>
         ensures buffer { IfOk result (λ lit. lit.buffer ≡ input) }
@@ -69,11 +70,11 @@ impl<B: Text> StringLit<B> {
         StringLit::parse_with_front(alloc, input, front)
     }
 
-    /// [`parse`](StringLit::parse) of a text of which it is known how it begins.
+    /// Like [`parse`](StringLit::parse), for an input that starts with `front`.
     ///
     /// # Errors
     ///
-    /// Those of [`parse`](StringLit::parse).
+    /// Like [`parse`](StringLit::parse).
     #[inline(always)]
     pub(crate) fn parse_with_front(
         alloc: Global,
@@ -102,7 +103,7 @@ impl<B: Text> StringLit<B> {
         })
     }
 
-    /// The text that the literal stands for: `a`, LF and `b` for `"a\nb"`.
+    /// Returns the value: `a`, LF and `b` for `"a\nb"`.
     pub fn value(&self) -> &str
         ensures { result.now ≡ string_value self.now.parts }
     {
@@ -112,7 +113,7 @@ impl<B: Text> StringLit<B> {
         }
     }
 
-    /// Whether the literal is raw, as `r"foo"` and `r#"foo"#` are.
+    /// Returns `true` if the literal is raw, for example `r"foo"` or `r#"foo"#`.
     pub fn is_raw_string(&self) -> bool
         ensures { result ≡ is_raw self.now.parts }
     {
@@ -122,15 +123,14 @@ impl<B: Text> StringLit<B> {
         }
     }
 
-    /// The suffix, empty where there is none: `u8` of `"foo"u8`.
+    /// Returns the suffix, or `""` if there is none. For `"foo"u8` that is `u8`.
     pub fn suffix(&self) -> &str
         ensures { chars result.now ≡ string_suffix self.now.parts }
     {
         &self.raw.as_str()[self.start_suffix..]
     }
 
-    /// The text that was parsed, as `"foo"u8`. It is a string, with the parts that the accessors
-    /// answer.
+    /// Returns the text that was parsed, for example `"foo"u8`.
     pub fn raw_input(&self) -> &str
         ensures raw { result.now ≡ self.now.raw }
         ensures literal { IsString string_kind (chars result.now) self.now.parts }
@@ -138,12 +138,12 @@ impl<B: Text> StringLit<B> {
         self.raw.as_str()
     }
 
-    /// Clones the literal. Over `&str` it does not allocate, and succeeds, where the body is
+    /// Clones the literal. Over `&str` this does not allocate and always succeeds if the body is
     /// raw or has no backslash.
     ///
     /// # Errors
     ///
-    /// `AllocError` where there is no memory for the text or the value.
+    /// Returns `AllocError` if the allocation of the text or the value fails.
     pub fn clone(&self, alloc: Global) -> Result<StringLit<B>, AllocError>
         ensures raw { IfOk result (λ copy. copy.raw ≡ self.now.raw) }
         ensures parts { IfOk result (λ copy. copy.parts ≡ self.now.parts) }
@@ -158,8 +158,7 @@ impl<B: Text> StringLit<B> {
         })
     }
 
-    /// The text that was parsed, in its buffer: of a literal over `String` the `String` with
-    /// `"foo"`.
+    /// Returns the text that was parsed, in its buffer, without copying it.
     pub fn into_raw_input(self) -> B
         ensures buffer { result ≡ self.buffer }
         ensures text { B.bytes result ≡ self.raw }
@@ -174,8 +173,8 @@ impl<B: Text> StringLit<B> {
 }
 
 impl<B: Buffer> StringLit<B> {
-    /// The text that the literal stands for, taken out of the literal. Over `&str` it is borrowed
-    /// from the text where the body is raw or has no backslash, else owned. It does not allocate.
+    /// Returns the value, taken out of the literal. Over `&str` it is borrowed from the text if the
+    /// body is raw or has no backslash. Otherwise, it is owned. Does not allocate.
     pub fn into_value(self) -> B::Cow
         ensures text { B.cow_bytes result ≡ string_value self.parts }
         ensures owned { B.cow_owned result ↔ (IsTrue B.owns ⊎ IsTrue (has_escapes self.parts)) }
@@ -193,11 +192,11 @@ impl<B: Buffer> StringLit<B> {
 }
 
 impl StringLit<&str> {
-    /// The literal with an owned text.
+    /// Converts the literal to one with an owned text.
     ///
     /// # Errors
     ///
-    /// `AllocError` where there is no memory for the text. The literal is dropped then.
+    /// Returns `AllocError` if the allocation of the text fails. The literal is then dropped.
     pub fn into_owned(self, alloc: Global) -> Result<StringLit<String>, AllocError>
         ensures raw { IfOk result (λ owned. owned.raw ≡ self.entry.raw) }
         ensures parts { IfOk result (λ owned. owned.parts ≡ self.entry.parts) }
@@ -216,7 +215,7 @@ impl StringLit<&str> {
     }
 }
 
-/// Clones the value.
+/// Clones `value`.
 fn copy_value(alloc: Global, value: &KeptValue<String>) -> Result<KeptValue<String>, AllocError>
     ensures bytes { IfOk result (λ copy.
         kept_map string_bytes copy ≡ kept_map string_bytes value.now) }

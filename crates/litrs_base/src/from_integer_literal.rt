@@ -49,7 +49,7 @@ pub trait FromIntegerLiteral: sealed::Sealed + Copy {
         ensures exact { let product = number self *ℤ number rhs in
             SomeIff (option_map number result) (IsNumberOf integer_type product) product };
 
-    /// The type.
+    /// Returns the type.
     fn ty() -> IntegerType
         ensures { result ≡ integer_type };
 

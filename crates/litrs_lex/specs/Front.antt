@@ -1,4 +1,4 @@
--- How a text begins. The Rust Reference, Tokens, Literals.
+-- The fronts of texts. The Rust Reference, Tokens, Literals.
 use Rattle.std.specs.Prelude.{◌≡◌, ℕ, List, codes, IsTrue, IsFalse, if◌then◌else◌}
 use Rattle.std.specs.Char.{is_ascii_digit}
 use Rattle.litrs_base.specs.declared.err.ParseErrorKind.TheVariants.{Empty, InvalidLiteral}
@@ -11,7 +11,7 @@ use Rattle.litrs_base.specs.Quotes.{quoted_front, raw_front}
 use Rattle.litrs_lex.specs.declared.kind.Front.{Front}
 use Rattle.litrs_lex.specs.declared.kind.Front.TheVariants as front
 
--- the row of the dispatch for the text with these bytes, which begins so
+-- The row of the dispatch for the text with these bytes and this front.
 abbrev pub row_of : Front → List ℕ → Dispatch
 row_of front.Empty bytes = refused_as (without_span Empty)
 row_of (front.Bool value) bytes = parsed_as bool_literal
@@ -25,8 +25,8 @@ row_of front.Other bytes =
     if begins_with (codes "c") bytes then parsed_as c_string_literal
     else refused_as (without_span InvalidLiteral)
 
--- The bytes begin so, or are so. The dispatch has one row for all texts that begin with `c`; those
--- of them that begin with neither front of a C string begin as no literal.
+-- The bytes have this front. The dispatch has one row for all texts that start with `c`. Those that
+-- start with neither front of a C string start like no literal.
 abbrev pub BeginsAs : Front → List ℕ → Type 0
 BeginsAs front.Empty bytes = IsTrue (is_empty bytes)
 BeginsAs (front.Bool value) bytes = bytes ≡ bool_text value
@@ -38,7 +38,7 @@ BeginsAs (front.Raw kind) bytes = IsTrue (begins_with (raw_front kind) bytes)
 BeginsAs front.Other bytes =
     IsFalse (begins_with (codes "c\"") bytes) × IsFalse (begins_with (codes "cr") bytes)
 
--- the text with these bytes begins so, and the dispatch has its row for it
+-- The text with these bytes has this front, and the dispatch has its row for it.
 pub record IsFront (front : Front) (bytes : List ℕ) : Type 0 where
   pub begins : BeginsAs front bytes
   pub row : row_of front bytes ≡ dispatch bytes

@@ -1,12 +1,12 @@
--- Which bytes of a part are special.
+-- Masks of the special bytes of a part.
 use Rattle.std.specs.Prelude.{◌≡◌, ℕ, ◌+◌, ◌-◌, ◌≤◌, List, length, map}
 use Rattle.std.specs.Simd.Lanes.{mask_l, chunk}
 use Rattle.litrs_lex.specs.declared.search.Mask.{Mask}
 use Rattle.litrs_lex.specs.declared.search.Special.{Special}
 use Rattle.litrs_lex.specs.Special.{is_special}
 
--- the part stands within the bytes, has at most 32 of them, and its bits are those of its special
--- bytes, the lowest first
+-- The part lies within the bytes and has at most 32 of them. Its bits are those of its special
+-- bytes, the lowest first.
 pub record IsMaskOf (what : Special) (bytes : List ℕ) (m : Mask) : Type 0 where
   pub ordered : m.start ≤ m.end
   pub within : m.end ≤ length bytes

@@ -1,4 +1,5 @@
--- Where a number is cut: as an integer or as a float, by how the text begins.
+-- The places at which a number is cut. The start of the text decides if it is an integer or a
+-- float.
 use Rattle.std.specs.Prelude.{ℕ, List, if◌then◌else◌}
 use Rattle.std.specs.Str.{chars}
 use Rattle.litrs_base.specs.Derivations.{IsOnlyDerivation}
@@ -11,11 +12,11 @@ use Rattle.litrs_lex.specs.declared.number.NumberCut.TheVariants as number
 use Rattle.litrs_lex.specs.IntegerCut.{integer_parts_at, IsIntegerWithin}
 use Rattle.litrs_lex.specs.FloatCut.{float_parts_at, IsFloatWithin}
 
--- the kind of number that a text is parsed as
+-- The kind of number as which a text is parsed.
 abbrev pub number_kind : List ℕ → LiteralKind
 number_kind t = if begins_float t then float_literal else integer_literal
 
--- the parts that the cut names are the only derivation of the text as a number of this kind
+-- The parts of the cut are the only derivation of the text as a number of its kind.
 abbrev pub IsNumberCut : NumberCut → List ℕ → Type 0
 IsNumberCut (number.Integer cut) bytes =
     IsOnlyDerivation (IsIntegerOf (chars bytes)) (integer_parts_at cut bytes)

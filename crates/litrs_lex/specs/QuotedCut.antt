@@ -1,5 +1,5 @@
--- Where a quoted string, byte string or C string is cut, in bytes. The Rust Reference, Tokens,
--- Literals.
+-- The places at which a quoted string, byte string or C string is cut, in bytes. The Rust
+-- Reference, Tokens, Literals.
 use Rattle.std.specs.Prelude.{◌≡◌, ℕ, ◌+◌, ◌-◌, ◌≢◌, List, ◌∷◌, ◌++◌, Option, IfSome, IsTrue, IsFalse, is_some, length, take, drop, slice_range}
 use Rattle.std.specs.Str.{chars, IsCharBoundary}
 use Rattle.litrs_base.specs.declared.err.ParseError.{ParseError}
@@ -17,10 +17,9 @@ use Rattle.litrs_grammar.specs.Quoted.{QuotedParts, IsQuoted, IsQuotedRefusal, b
 use Rattle.litrs_grammar.specs.GoesOn.Quoted.{IsClosedQuoted}
 use Rattle.litrs_lex.specs.declared.quoted.QuotedCut.{QuotedCut}
 
--- The text of these bytes is a quoted literal whose body begins at the place, with only these
--- parts; and the cut has the size of its value, whether its body has a backslash, and the place
--- of its suffix, one byte after the body. Its items are taken before the quote and the suffix
--- whatever is appended.
+-- The text of these bytes is a quoted literal whose body starts at `offset`, with only these parts.
+-- The cut has the length of its value, if its body has a backslash, and the place of its suffix,
+-- one byte after the body. Its items belong to the list whatever is appended.
 pub record IsQuotedCut (w : Switches) (bytes : List ℕ) (offset : ℕ) (cut : QuotedCut) : Type 0 where
   pub parts : QuotedParts
   pub only : IsOnlyDerivation (IsQuoted (chars (take offset bytes)) w (chars bytes)) parts
@@ -37,12 +36,15 @@ pub record IsQuotedCut (w : Switches) (bytes : List ℕ) (offset : ℕ) (cut : Q
   pub items_stay : (more : List ℕ) →
       IsTrue (is_item_list w (double_quote ∷ (parts.suffix ++ more)) parts.items)
 
--- The text of these bytes is no quoted literal whose body begins at the place. The table has the
--- error's kind and span for it and no other pair, and never that of an allocation failure; the span
--- lies within the text and starts on a character boundary, and the character span ends on one.
--- As to longer texts: the items before the rest that decides the refusal are taken before every
--- longer rest; where the kind is final, no extension of the text is such a literal, and the table
--- has this kind and span for each; where it is open, the closing quote makes the text one.
+-- The text of these bytes is not a quoted literal whose body starts at `offset`:
+-- - The table has the kind and the span of the error for it, and no other pair. The kind is not that
+--   of an allocation failure.
+-- - The span lies within the text and starts on a character boundary, and the character span ends on
+--   one.
+-- - The items before the rest that decides the refusal belong to the list before every longer rest.
+-- - If the kind is final, no longer text is such a literal, and the table has this kind and span for
+--   each.
+-- - If the kind is open, the closing quote makes the text one.
 pub record IsQuotedRefused (w : Switches) (bytes : List ℕ) (offset : ℕ) (e : ParseError)
     : Type 0 where
   pub none : HasNoDerivation (IsQuoted (chars (take offset bytes)) w (chars bytes))
@@ -61,8 +63,8 @@ pub record IsQuotedRefused (w : Switches) (bytes : List ℕ) (offset : ℕ) (e :
   pub closes : IsTrue (is_open (kind_of e)) →
       IsClosedQuoted (chars (take offset bytes)) w (chars bytes)
 
--- The text of these bytes is a quoted literal whose body begins at `offset`, and whose suffix
--- begins at the place; and its value is given where the body has a backslash.
+-- The text of these bytes is a quoted literal whose body starts at `offset` and whose suffix starts
+-- at the place. Its value is given if the body has a backslash.
 pub record IsQuotedValue
     (w : Switches) (bytes : List ℕ) (offset : ℕ) (value : Option (List ℕ)) (start_suffix : ℕ)
     : Type 0 where
@@ -72,12 +74,12 @@ pub record IsQuotedValue
   pub given : is_some value ≡ cut.has_escape
   pub is_value : IfSome value (λ v. v ≡ body_value is_cut.parts.items)
 
--- the error says that there was no memory
+-- The error is that an allocation failed.
 abbrev pub IsOutOfMemory : ParseError → Type 0
 IsOutOfMemory e = refusal_of e ≡ without_span OutOfMemory
 
--- The text is a quoted literal whose body has a backslash, and the error says that there was no
--- memory for its value.
+-- The text is a quoted literal whose body has a backslash, and the error is that the allocation of
+-- its value failed.
 pub record IsQuotedOutOfMemory (w : Switches) (bytes : List ℕ) (offset : ℕ) (e : ParseError)
     : Type 0 where
   pub cut : QuotedCut

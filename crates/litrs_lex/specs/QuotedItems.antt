@@ -12,14 +12,13 @@ use Rattle.litrs_grammar.specs.Quoted.{Item, item_text, item_value, is_item, is_
 use Rattle.litrs_lex.specs.declared.search.Special.{Special}
 use Rattle.litrs_lex.specs.Container.{is_pushable}
 
--- The bytes beside `"` and CR at which the plain characters of a body end. Where only ASCII is
--- allowed, each byte above 7F is one.
+-- The bytes beside `"` and CR at which the plain characters of a body end. If only ASCII is
+-- allowed, each byte above 7F is one of them.
 abbrev pub stops : (unicode allow_nul : Bool) → Special
 stops unicode allow_nul =
     record { backslash = true; nul = not allow_nul; non_ascii = not unicode }
 
--- From the one place up to the other stand characters that stand for themselves, and after them
--- none.
+-- The characters from `from` up to `end` are plain, and no plain character follows them.
 pub record IsPlainRun (w : Switches) (bytes : List ℕ) (from end : ℕ) : Type 0 where
   pub run : List ℕ
   pub split : chars (drop from bytes) ≡ run ++ chars (drop end bytes)
@@ -28,13 +27,13 @@ pub record IsPlainRun (w : Switches) (bytes : List ℕ) (from end : ℕ) : Type 
   pub boundary : IsCharBoundary bytes end
   pub stops : IsFalse (first_passes (is_plain w) (chars (drop end bytes)))
 
--- the bytes that an item with a backslash stands for: those of an escape; none for a continuation
+-- The value of an item with a backslash, in bytes. That of a continuation is empty.
 abbrev pub item_bytes : Option Unescape → List ℕ
 item_bytes None = []
 item_bytes (Some value) = value_bytes value
 
--- An item of so many bytes stands at the front. An escape has this value, which is a byte above
--- 7F only where byte escapes are on; a continuation has none.
+-- The bytes start with an item of `len` bytes. An escape has this value, which is a byte above 7F
+-- only if byte escapes are on. A continuation has no value.
 pub record IsItemAt (w : Switches) (bytes : List ℕ) (len : ℕ) (value : Option Unescape)
     : Type 0 where
   pub item : Item
@@ -49,7 +48,7 @@ pub record IsItemAt (w : Switches) (bytes : List ℕ) (len : ℕ) (value : Optio
   pub within : len ≤ length bytes
   pub boundary : IsCharBoundary bytes len
 
--- No item stands at the front of the rest: it begins with the closing quote, or it is refused.
+-- The rest does not start with an item: it starts with the closing quote, or it is refused.
 abbrev pub EndsItems : Switches → List ℕ → Type 0
 EndsItems w rest =
     IsTrue (first_passes (λ c. c == double_quote) rest)

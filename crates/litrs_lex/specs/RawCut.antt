@@ -1,4 +1,4 @@
--- Where a raw string is cut, in bytes.
+-- The places at which a raw string is cut, in bytes.
 use Rattle.std.specs.Prelude.{◌≡◌, ℕ, ◌+◌, ◌-◌, ◌≤◌, Bool, false, not, List, ◌∷◌, ◌++◌, length, take, slice_range, drop, Some, None, IfSome, IsTrue, IsFalse}
 use Rattle.std.specs.List.{list_all}
 use Rattle.std.specs.Str.{chars, IsUtf8, IsCharBoundary}
@@ -17,8 +17,8 @@ use Rattle.litrs_grammar.specs.Laws.Raw.{NoClosingIn}
 use Rattle.litrs_grammar.specs.Laws.RawScan.{ScanStays}
 use Rattle.litrs_grammar.specs.Raw.{RawParts, IsRawOf, is_raw_char, hash_len, raw_closing, length_before, raw_refusal, raw_body_refusal}
 
--- the parts that a cut names: of the text with these bytes, after the offset, by the number of
--- hashes and the start of the suffix
+-- The parts of a cut of the text with these bytes, after the offset, by the number of hashes and
+-- the start of the suffix.
 abbrev pub raw_parts_at : (offset : ℕ) → List ℕ → ℕ × ℕ → RawParts
 raw_parts_at offset bytes cut = record {
   hash_count = cut.0;
@@ -26,9 +26,9 @@ raw_parts_at offset bytes cut = record {
   suffix = chars (drop cut.1 bytes);
 }
 
--- What follows the offset is a raw literal, with these parts alone. The places stand in
--- order within the text, on character boundaries. The hashes and the first closing stay those of
--- every longer text.
+-- The text after the offset completes a raw literal, with only these parts. The places are in order
+-- and character boundaries of the text. Every longer text has the same hashes and the same first
+-- closing.
 pub record IsRawCut (unicode allow_nul : Bool) (offset : ℕ) (bytes : List ℕ) (cut : ℕ × ℕ) :
     Type 0 where
   pub only : IsOnlyDerivation (IsRawOf unicode allow_nul (chars (drop offset bytes)))
@@ -39,12 +39,15 @@ pub record IsRawCut (unicode allow_nul : Bool) (offset : ℕ) (bytes : List ℕ)
   pub suffix : IsCharBoundary bytes cut.1
   pub scan : ScanStays (chars (drop offset bytes))
 
--- What follows the offset is refused with the error: no derivation exists, and the table has
--- the error's kind and span. Both spans count from the start of the whole text and lie within it,
--- and the character span begins and ends on character boundaries. As to longer texts: the hashes
--- and the first closing stay; where the kind is final, no extension of the text is such a literal,
--- and the table has this kind and span for each; where it is open, the closing with as many hashes
--- makes the text one, with all that follows the opening quote as its body.
+-- The text after the offset is refused with the error:
+-- - There is no derivation, and the table has the kind and the span of the error.
+-- - Both spans count from the start of the whole text and lie within it, and the character span starts
+--   and ends on character boundaries.
+-- - Every longer text has the same hashes and the same first closing.
+-- - If the kind is final, no longer text is such a literal, and the table has this kind and span for
+--   each.
+-- - If the kind is open, the closing with as many hashes makes the text one, with all of the text
+--   after the opening quote as its body.
 pub record IsRawRefused (unicode allow_nul : Bool) (offset : ℕ) (bytes : List ℕ) (e : ParseError) :
     Type 0 where
   pub none : HasNoDerivation (IsRawOf unicode allow_nul (chars (drop offset bytes)))
@@ -63,8 +66,8 @@ pub record IsRawRefused (unicode allow_nul : Bool) (offset : ℕ) (bytes : List 
       (chars (drop offset bytes) ++ raw_closing (hash_len (chars (drop offset bytes))))
       (raw_open_parts (chars (drop offset bytes)))
 
--- After the offset stand these hashes, all there are and no more than 255, and `"`; the body begins
--- after it.
+-- The offset is followed by these hashes, at most 255 and all that there are, and by `"`. The body
+-- starts after it.
 pub record IsRawOpening (offset : ℕ) (bytes : List ℕ) (opening : ℕ × ℕ) : Type 0 where
   pub count : opening.0 ≡ hash_len (drop offset bytes)
   pub few : opening.0 ≤ 255
@@ -72,21 +75,21 @@ pub record IsRawOpening (offset : ℕ) (bytes : List ℕ) (opening : ℕ × ℕ)
   pub start : opening.1 ≡ offset + opening.0 + 1
   pub boundary : IsCharBoundary bytes opening.1
 
--- the bytes that a search in a raw body stops at beside `"` and CR
+-- The bytes beside `"` and CR at which a search in a raw body stops.
 abbrev pub raw_special : (unicode allow_nul : Bool) → Special
 raw_special unicode allow_nul =
     record { backslash = false; nul = not allow_nul; non_ascii = not unicode }
 
--- The characters of t in front of rest may stand in a raw body, and at none of them a closing with
--- n hashes begins.
+-- The characters of `t` before `rest` are allowed in a raw body, and no closing with `n` hashes
+-- begins at one of them.
 pub record IsPastBody (unicode allow_nul : Bool) (n : ℕ) (t rest : List ℕ) : Type 0 where
   pub front : List ℕ
   pub spells : front ++ rest ≡ t
   pub allowed : IsTrue (list_all (is_raw_char unicode allow_nul) front)
   pub unclosed : NoClosingIn n front rest
 
--- The search for the end of a raw body has come from start to the place: there the text ends, or a
--- byte stands that it stops at.
+-- The search for the end of a raw body from `start` on stops at `place`: the text ends there, or
+-- has a byte at which a search stops.
 pub record IsStop (unicode allow_nul : Bool) (n start : ℕ) (bytes : List ℕ) (place : ℕ) :
     Type 0 where
   pub from : start ≤ place
@@ -96,7 +99,7 @@ pub record IsStop (unicode allow_nul : Bool) (n start : ℕ) (bytes : List ℕ) 
   pub stops : IsFalse
       (first_passes (is_ordinary (raw_special unicode allow_nul)) (drop place bytes))
 
--- A raw body from start on, with its closing, ends where the suffix begins.
+-- A raw body from `start` on and its closing end at `place`, where the suffix starts.
 pub record IsBodyCut (unicode allow_nul : Bool) (n start : ℕ) (bytes : List ℕ) (place : ℕ) :
     Type 0 where
   pub free : raw_body_refusal unicode allow_nul n start (chars (drop start bytes)) ≡ None

@@ -1,4 +1,4 @@
--- How far a quoted body is read.
+-- The state of reading a quoted body.
 use Rattle.std.specs.Prelude.{◌≡◌, ◌⊎◌, ℕ, ◌≤◌, ◌<◌, ◌==◌, length, List, ◌++◌, drop, take, Option, option_map, Some, Result, MatchResult, IsTrue, IsFalse}
 use Rattle.std.specs.Str.{chars, IsCharBoundary}
 use Rattle.litrs_base.specs.declared.err.ParseError.{ParseError}
@@ -16,8 +16,7 @@ use Rattle.litrs_lex.specs.declared.reading.Reached.TheVariants.{Quote, Full, Re
 use Rattle.litrs_lex.specs.declared.stop.Stop.{Stop}
 use Rattle.litrs_lex.specs.declared.stop.Stop.TheVariants as stop
 
--- After the front, which ends at `offset`, stand items up to the place, and what they stand for is
--- held.
+-- The front, which ends at `offset`, is followed by items up to `place`, and their value is held.
 pub record IsReadTo (w : Switches) (bytes : List ℕ) (offset place : ℕ) (holds : List ℕ → Type 0)
     : Type 0 where
   pub items : List Item
@@ -29,8 +28,8 @@ pub record IsReadTo (w : Switches) (bytes : List ℕ) (offset place : ℕ) (hold
   pub fits : length (body_value items) ≤ place
   pub held : holds (body_value items)
 
--- The items before the state's first place are read, plain characters stand from there up to the
--- second, and the mask starts at most there.
+-- The items before the first place of the state are read. The characters from there up to the
+-- second place are plain, and the mask starts at most at that place.
 pub record IsReading (w : Switches) (bytes : List ℕ) (offset : ℕ) (holds : List ℕ → Type 0)
     (s : Reading) : Type 0 where
   pub read : IsReadTo w bytes offset s.at holds
@@ -45,7 +44,7 @@ pub record IsReadBody (w : Switches) (bytes : List ℕ) (offset : ℕ) (holds : 
   pub quote : IsTrue (first_passes (λ c. c == double_quote) (chars (drop place bytes)))
   pub stops : IsFalse (first_passes (is_plain w) (chars (drop place bytes)))
 
--- The body is read up to where its items end.
+-- The body is read up to the end of its items.
 pub record IsItemsEnd (w : Switches) (bytes : List ℕ) (offset : ℕ) (holds : List ℕ → Type 0)
     (place : ℕ) : Type 0 where
   pub read : IsReadTo w bytes offset place holds
@@ -58,29 +57,29 @@ pub record IsBodyRefused (w : Switches) (bytes : List ℕ) (offset : ℕ) (e : P
     pub table : IsQuotedRefusal (chars (take offset bytes)) w (chars bytes) (refusal_of e)
     pub char_span : HasCharSpan (chars bytes) e
 
--- The table refuses the rest with the error, counted from its front.
+-- The table refuses the rest with the error, whose span counts from the start of the rest.
 pub record IsRestRefused (w : Switches) (rest : List ℕ) (e : ParseError) : Type 0 where
   pub table : item_refusal w rest ≡ Some (refusal_of e)
   pub char_span : HasCharSpan rest e
 
--- the quote stands at the front, or this item
+-- The rest starts with the closing quote, or with this item.
 abbrev pub StandsAt : Switches → List ℕ → Stop → Type 0
 StandsAt w bytes stop.Quote = IsTrue (first_passes (λ c. c == double_quote) (chars bytes))
 StandsAt w bytes (stop.Item value len) = IsItemAt w bytes len value
 
--- the items up to some place stand for more than `room` bytes
+-- The value of the items up to some place has more than `room` bytes.
 abbrev pub IsLongerThan : Switches → List ℕ → ℕ → ℕ → Type 0
 IsLongerThan w bytes offset room =
     (place : ℕ) × IsReadTo w bytes offset place (λ v. room < length v)
 
--- the text is a quoted literal, and its value has at most `room` bytes
+-- The text is a quoted literal, and its value has at most `room` bytes.
 pub record HasValueWithin (w : Switches) (bytes : List ℕ) (offset room : ℕ) : Type 0 where
   pub parts : QuotedParts
   pub grammar : IsQuoted (chars (take offset bytes)) w (chars bytes) parts
   pub fits : length (body_value parts.items) ≤ room
 
--- at the closing quote, with the whole value; or in a state that goes on, where the value does not
--- fit into the room; or where the items end and the text is refused
+-- The reading ends at the closing quote, with the whole value; or in a state in which the value
+-- does not fit the room; or at the end of the items, and the text is refused.
 abbrev pub HasReached : Switches → List ℕ → ℕ → (List ℕ → Type 0) → (room : ℕ) → Reached → Type 0
 HasReached w bytes offset holds room (Quote place) = IsReadBody w bytes offset holds place
 HasReached w bytes offset holds room (Full s) =
@@ -88,7 +87,7 @@ HasReached w bytes offset holds room (Full s) =
 HasReached w bytes offset holds room (Refused place e) =
     IsItemsEnd w bytes offset holds place × IsBodyRefused w bytes offset e
 
--- the value, where the body has a backslash, and where the suffix begins; or why there is none
+-- The value, if the body has a backslash, and the start of the suffix; or the error.
 abbrev pub IsReadAsValue : {C : Type 0} → (C → List ℕ) → Switches → List ℕ → ℕ →
     Result (Option C × ℕ) ParseError → Type 0
 IsReadAsValue contents w bytes offset result = MatchResult result

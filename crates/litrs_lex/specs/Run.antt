@@ -1,5 +1,5 @@
--- The runs that literals are made of. The Rust Reference, Tokens: "Integer literals", "Suffixes",
--- "String literals", "Raw string literals"; Identifiers.
+-- The runs in literals. The Rust Reference, Tokens: "Integer literals", "Suffixes", "String
+-- literals", "Raw string literals"; Identifiers.
 use Rattle.std.specs.Prelude.{ℕ, Bool, ◌==◌, ◌||◌}
 use Rattle.std.specs.Char.{is_ascii_alphanumeric}
 use Rattle.litrs_base.specs.Characters.{underscore, hash, is_blank}
@@ -7,8 +7,8 @@ use Rattle.litrs_base.specs.Base.{is_digit_or_underscore}
 use Rattle.litrs_lex.specs.declared.run.Run.{Run}
 use Rattle.litrs_lex.specs.declared.run.Run.TheVariants.{Digits, Identifier, Blanks, Hashes}
 
--- the bytes of a run: the digits of the base and `_`; or ASCII letters, decimal digits and `_`; or
--- space, tab and LF; or `#`
+-- The bytes of a run: the digits of the base and `_`; or ASCII letters, decimal digits and `_`; or
+-- space, tab and LF; or `#`.
 abbrev pub is_in_run : Run → ℕ → Bool
 is_in_run (Digits base) b = is_digit_or_underscore base b
 is_in_run Identifier b = is_ascii_alphanumeric b || (b == underscore)

@@ -1,9 +1,9 @@
--- The bytes that a search in the body of a quoted literal stops at.
+-- The bytes at which a search in the body of a quoted literal stops.
 use Rattle.std.specs.Prelude.{ℕ, Bool, not, ◌==◌, ◌&&◌, ◌||◌}
 use Rattle.litrs_lex.specs.declared.search.Special.{Special}
 use Rattle.litrs_base.specs.Characters.{double_quote, carriage_return, backslash, nul, is_ascii}
 
--- `"` or CR; and a backslash, zero, or a byte above 7F where asked for
+-- `true` for `"` and CR, and for a backslash, zero, or a byte above 7F if these are special.
 abbrev pub is_special : Special → ℕ → Bool
 is_special what b =
     (b == double_quote) || (b == carriage_return) || (what.backslash && (b == backslash))

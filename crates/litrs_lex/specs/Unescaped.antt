@@ -1,5 +1,5 @@
--- What `unescape` answers: the escape at the front of a text, or why none stands there. The Rust
--- Reference, Tokens, Literals: the tables of escapes.
+-- The results of `unescape`: the escape at the front of a text, or an error. The Rust Reference,
+-- Tokens, Literals: the tables of escapes.
 use Rattle.std.specs.Prelude.{◌≡◌, ◌≤◌, ℕ, Bool, List, ◌++◌, Some, IfSome, IsTrue, IsFalse, length, take, drop, count_by}
 use Rattle.std.specs.Char.{is_ascii_hexdigit}
 use Rattle.std.specs.List.{list_all}
@@ -15,13 +15,13 @@ use Rattle.litrs_grammar.specs.Escape.{Escape, IsEscape, escape_text, escape_val
 use Rattle.litrs_grammar.specs.Laws.Escape.{BeginsWithEscape}
 use Rattle.litrs_lex.specs.declared.escape.HexDigits.{HexDigits}
 
--- what a literal allows in its escapes, by the three tests
+-- The switches with these values.
 abbrev pub switches : (unicode byte_escapes allow_nul : Bool) → Switches
 switches unicode byte_escapes allow_nul =
     record { unicode = unicode; byte_escapes = byte_escapes; allow_nul = allow_nul }
 
--- The text of these bytes begins with an escape, and with no other. The escape stands for the value
--- and has so many bytes, after which the text may be cut.
+-- The text of these bytes starts with an escape, and with no other. The escape has the value
+-- `value` and `len` bytes, after which the text can be cut.
 pub record IsUnescaped (w : Switches) (bytes : List ℕ) (value : Unescape) (len : ℕ) : Type 0 where
   pub escape : Escape
   pub rest : List ℕ
@@ -36,11 +36,10 @@ pub record IsUnescaped (w : Switches) (bytes : List ℕ) (value : Unescape) (len
   pub after : chars (drop len bytes) ≡ rest
   pub utf8 : IsUtf8 (drop len bytes)
 
--- No escape stands at the front of the text, and the table of refusals has the error's kind and
--- span for it. The span lies within the text and starts on a character boundary, and the character
--- span ends on one: all but in the empty text, which the span 0..1 passes. Where the kind is final,
--- the same holds whatever is appended: no escape stands at the front, and the table has this kind
--- and span.
+-- The text does not start with an escape, and the table of refusals has the kind and the span of
+-- the error for it. If the text is not empty, the span lies within it and starts on a character
+-- boundary, and the character span ends on one. For the empty text the span is 0..1. If the kind is
+-- final, no longer text starts with an escape, and the table has this kind and span for each.
 pub record IsEscapeRefused (w : Switches) (t : List ℕ) (e : ParseError) : Type 0 where
   pub none : ¬ BeginsWithEscape w t
   pub table : escape_refusal w t ≡ Some (refusal_of e)
@@ -51,14 +50,14 @@ pub record IsEscapeRefused (w : Switches) (t : List ℕ) (e : ParseError) : Type
   pub stays : IsTrue (is_final (kind_of e)) → (more : List ℕ) →
       escape_refusal w (t ++ more) ≡ Some (refusal_of e)
 
--- The table refuses the escape at the front of the text with the error. The rest of
--- `IsEscapeRefused` follows.
+-- The table refuses the escape at the front of the text with the error. The other fields of
+-- `IsEscapeRefused` follow.
 pub record HasEscapeRefusal (w : Switches) (t : List ℕ) (e : ParseError) : Type 0 where
   pub table : escape_refusal w t ≡ Some (refusal_of e)
   pub char_span : HasCharSpan t e
 
--- The hex digits and underscores at the front of the bytes: so many bytes, with this value. They go
--- on to the first byte that is neither, or to the seventh digit.
+-- The hex digits and underscores at the front of the bytes, with their length and value. They
+-- extend to the first byte that is neither, or to the seventh digit.
 pub record IsHexDigits (bytes : List ℕ) (digits : HexDigits) : Type 0 where
   pub within : digits.len ≤ length bytes
   pub passes : IsTrue (list_all is_hex_or_underscore (take digits.len bytes))

@@ -1,17 +1,17 @@
-//! What a body may have, as one parameter.
+//! The escapes and characters that a body allows, as one parameter.
 ghost use Rattle.std.specs.Prelude.{◌≡◌};
 ghost use Rattle.litrs_base.specs.declared.quotes.Switches.{Switches};
 ghost use Rattle.litrs_base.specs.Quotes.{string_switches, byte_string_switches, c_string_switches};
 
 use crate::{StringKind, Switches};
 
-/// What says what a body may have: a kind of literal, for which a call is compiled by itself, or
-/// the switches, where they are known only when it runs.
+/// The escapes and characters that a body allows: known at compile time (a kind of literal) or at
+/// run time ([`Switches`]).
 pub trait Allows: Copy {
     /// The switches.
     ghost allowed: { Self → Switches };
 
-    /// The switches.
+    /// Returns the switches.
     fn switches(self) -> Switches
         ensures { result ≡ allowed self };
 }
@@ -25,7 +25,7 @@ impl Allows for Switches {
     }
 }
 
-/// What a string may have. See [the reference][ref].
+/// The escapes and characters that a string allows. See [the reference][ref].
 ///
 /// [ref]: https://doc.rust-lang.org/reference/tokens.html#string-literals
 #[derive(Clone, Copy)]
@@ -40,7 +40,7 @@ impl Allows for InString {
     }
 }
 
-/// What a byte string may have. See [the reference][ref].
+/// The escapes and characters that a byte string allows. See [the reference][ref].
 ///
 /// [ref]: https://doc.rust-lang.org/reference/tokens.html#byte-string-literals
 #[derive(Clone, Copy)]
@@ -55,7 +55,7 @@ impl Allows for InByteString {
     }
 }
 
-/// What a C string may have. See [the reference][ref].
+/// The escapes and characters that a C string allows. See [the reference][ref].
 ///
 /// [ref]: https://doc.rust-lang.org/reference/tokens.html#c-string-literals
 #[derive(Clone, Copy)]

@@ -1,8 +1,8 @@
-//! Which texts are bools.
+//! Bools.
 ghost use Rattle.std.specs.Prelude.{◌≡◌, IfSome, IfNone, IsFalse};
 ghost use Rattle.litrs_grammar.specs.Bool.{is_bool, bool_text};
 
-/// The bool that the text is, if it is one: true of `true`, None of `True`. See
+/// Returns the bool that `input` is, or `None` if it is not a bool, for example `True`. See
 /// [the reference][ref].
 ///
 /// [ref]:

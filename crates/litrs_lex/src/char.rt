@@ -1,4 +1,4 @@
-//! Where a char or a byte is cut.
+//! Chars and bytes.
 ghost use Rattle.std.specs.Prelude.{◌≡◌, ◌≢◌, ◌+◌, ◌∷◌, [], codes, drop, IsTrue, IfOk, IfErr, None, Some};
 ghost use Rattle.std.specs.Str.{chars, IsCharBoundary};
 ghost use Rattle.litrs_base.specs.Characters.{single_quote, backslash};
@@ -15,22 +15,21 @@ use crate::escape::unescape_with;
 use crate::parse::{begins_with_byte, check_suffix, has_byte, split_first_char};
 use litrs_base::{CharKind, ParseError, ParseErrorKind, Unescape};
 
-/// Cuts a char, a text that begins with `'`: its value, and the place in bytes where its suffix
-/// starts. Of `'\n'u8` that is LF and 4. See [the reference][ref].
+/// Cuts `input`, which starts with `'`, as a char. Returns its value and the place of its suffix,
+/// in bytes: for `'\n'u8` these are LF and 4. See [the reference][ref].
 ///
 /// # Errors
 ///
-/// - `UnterminatedCharLiteral` where nothing follows the first quote, or no quote closes the
-///   literal.
+/// - `UnterminatedCharLiteral` if nothing follows the first quote, or no quote closes the literal.
 /// - `UnescapedSingleQuote` for `'''`, at 1..2, and `EmptyCharLiteral` for another `''`.
 /// - `UnescapedSpecialWhitespace` for LF, tab or CR, at 1..2.
-/// - As [`unescape`] refuses an escape, with both spans one byte further on.
-/// - `OverlongCharLiteral` where a quote follows, but not directly.
-/// - As [`check_suffix`] refuses the suffix, at its first byte.
+/// - The error of [`unescape`], with both spans moved by one byte.
+/// - `OverlongCharLiteral` if a quote follows, but not directly.
+/// - The error of [`check_suffix`], at the first byte of the suffix.
 ///
 /// [ref]: https://doc.rust-lang.org/reference/tokens.html#character-literals
-// Not inlined, so that `parse` is small enough to be; a function for each of the two kinds, so that
-// neither tests which it is.
+// Not inlined, so that `parse` is small enough to be inlined. Each of the two kinds has a function,
+// so that neither tests the kind.
 #[inline(never)]
 pub fn cut_char(input: &str) -> Result<(char, usize), ParseError>
     requires { IsTrue (begins_with (codes "'") input.now) }
@@ -48,22 +47,21 @@ pub fn cut_char(input: &str) -> Result<(char, usize), ParseError>
     }
 }
 
-/// Cuts a byte, a text that begins with `b'`: its value, and the place in bytes where its suffix
-/// starts. Of `b'\xff'` that is 255 and 7. See [the reference][ref].
+/// Cuts `input`, which starts with `b'`, as a byte. Returns its value and the place of its suffix,
+/// in bytes: for `b'\xff'` these are 255 and 7. See [the reference][ref].
 ///
 /// # Errors
 ///
-/// - `UnterminatedByteLiteral` where nothing follows the first quote, or no quote closes the
-///   literal.
+/// - `UnterminatedByteLiteral` if nothing follows the first quote, or no quote closes the literal.
 /// - `UnescapedSingleQuote` for `b'''`, at 2..3, and `EmptyByteLiteral` for another `b''`.
 /// - `UnescapedSpecialWhitespace` for LF, tab or CR, and `NonAsciiInByteLiteral` for a character
 ///   that is not ASCII, at its first byte.
-/// - As [`unescape`] refuses an escape, with both spans two bytes further on.
-/// - `OverlongByteLiteral` where a quote follows, but not directly.
-/// - As [`check_suffix`] refuses the suffix, at its first byte.
+/// - The error of [`unescape`], with both spans moved by two bytes.
+/// - `OverlongByteLiteral` if a quote follows, but not directly.
+/// - The error of [`check_suffix`], at the first byte of the suffix.
 ///
 /// [ref]: https://doc.rust-lang.org/reference/tokens.html#byte-literals
-// Not inlined, so that `parse` is small enough to be.
+// Not inlined, so that `parse` is small enough to be inlined.
 #[inline(never)]
 pub fn cut_byte(input: &str) -> Result<(u8, usize), ParseError>
     requires { IsTrue (begins_with (codes "b'") input.now) }
@@ -81,7 +79,7 @@ pub fn cut_byte(input: &str) -> Result<(u8, usize), ParseError>
     }
 }
 
-/// What follows the front: the value, and where the suffix starts.
+/// Returns the value of a literal and the place of its suffix, by `rest`, the text after the front.
 #[inline(always)]
 fn cut_after(rest: &str, kind: CharKind) -> Result<(Unescape, usize), ParseError>
     ensures ok { IfOk result (λ cut. IsCutAfter kind rest.now cut.0 cut.1) }
@@ -92,7 +90,7 @@ fn cut_after(rest: &str, kind: CharKind) -> Result<(Unescape, usize), ParseError
     Ok((value, start))
 }
 
-/// The character or the escape that stands first, and its length in bytes.
+/// Returns the character or escape at the front of `rest`, and its length in bytes.
 #[inline(always)]
 fn read_item(rest: &str, kind: CharKind) -> Result<(Unescape, usize), ParseError>
     ensures ok { IfOk result (λ read. IsItemRead kind rest.now read.0 read.1) }
@@ -108,7 +106,7 @@ fn read_item(rest: &str, kind: CharKind) -> Result<(Unescape, usize), ParseError
     }
 }
 
-/// Why no item stands in a text that begins with `'`.
+/// Returns the error of `rest`, which starts with `'`.
 fn quote_refusal(rest: &str, kind: CharKind) -> ParseError
     requires { IsTrue (begins_with (single_quote ∷ []) rest.now) }
     ensures { IsItemRefused kind (chars rest.now) result }
@@ -120,7 +118,8 @@ fn quote_refusal(rest: &str, kind: CharKind) -> ParseError
     }
 }
 
-/// The character that stands first, whose first byte this is, neither `'` nor a backslash.
+/// Returns the character at the front of `rest`, and its length in bytes. Its first byte is
+/// `first`, which is neither `'` nor a backslash.
 fn read_plain(rest: &str, first: u8, kind: CharKind) -> Result<(Unescape, usize), ParseError>
     requires begins { IsTrue (begins_with (first ∷ []) rest.now) }
     requires no_quote { first ≢ single_quote }
@@ -146,7 +145,7 @@ fn read_plain(rest: &str, first: u8, kind: CharKind) -> Result<(Unescape, usize)
     }
 }
 
-/// Where the suffix starts, if the closing quote and a suffix follow these bytes.
+/// Returns the place of the suffix if the closing quote and a suffix follow the first `len` bytes.
 #[inline(always)]
 fn check_closing(rest: &str, len: usize, kind: CharKind) -> Result<usize, ParseError>
     requires { IsCharBoundary rest.now len }
@@ -172,14 +171,14 @@ fn check_closing(rest: &str, len: usize, kind: CharKind) -> Result<usize, ParseE
     }
 }
 
-/// Whether the byte is LF, tab or CR.
+/// Returns `true` if `byte` is LF, tab or CR.
 fn is_special_whitespace(byte: u8) -> bool
     ensures { result ≡ is_special_whitespace byte }
 {
     matches!(byte, b'\n' | b'\t' | b'\r')
 }
 
-/// The refusal of a literal that is not closed.
+/// Returns the error kind of a literal that is not closed.
 fn unterminated_kind(kind: CharKind) -> ParseErrorKind
     ensures { result ≡ unterminated_kind kind }
 {
@@ -189,7 +188,7 @@ fn unterminated_kind(kind: CharKind) -> ParseErrorKind
     }
 }
 
-/// The refusal of a literal that holds nothing.
+/// Returns the error kind of an empty literal.
 fn empty_kind(kind: CharKind) -> ParseErrorKind
     ensures { result ≡ empty_kind kind }
 {
@@ -199,7 +198,7 @@ fn empty_kind(kind: CharKind) -> ParseErrorKind
     }
 }
 
-/// The refusal of a literal that holds more than one character.
+/// Returns the error kind of a literal with more than one character.
 fn overlong_kind(kind: CharKind) -> ParseErrorKind
     ensures { result ≡ overlong_kind kind }
 {

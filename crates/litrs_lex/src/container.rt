@@ -1,4 +1,4 @@
-//! What unescaped values are put into.
+//! Containers of values.
 ghost use Rattle.std.specs.Prelude.{◌≡◌, ◌+◌, ◌≤◌, ℕ, Bool, true, false, List, [], ◌++◌, length, string_bytes, string_capacity, vec_capacity, IsTrue, IsFalse, IsOk, IfOk, OnOk, OnErr};
 ghost use Rattle.std.specs.Str.{IsUtf8};
 ghost use Rattle.litrs_grammar.specs.Escape.{value_bytes};
@@ -7,55 +7,55 @@ ghost use Rattle.litrs_lex.specs.Container.{is_pushable};
 use litrs_base::Unescape;
 use std::alloc::{AllocError, Global};
 
-/// What takes the value of a quoted body: a `String` takes texts, a `Vec<u8>` takes any bytes.
+/// A container for the value of a quoted body: a `String` for texts, a `Vec<u8>` for bytes.
 ///
-/// A call that has no memory leaves the contents as they were. A call that finds room succeeds.
+/// If an allocation fails, the contents are unchanged. If the capacity suffices, a call succeeds.
 pub trait EscapeContainer: Drop {
-    /// The bytes that it has taken.
+    /// The contents, in bytes.
     ghost contents: { Self → List ℕ };
 
-    /// How many bytes it has room for.
+    /// The capacity in bytes.
     ghost capacity: { Self → ℕ };
 
-    /// Whether it takes bytes above 7F.
+    /// `true` if the container can hold bytes above 7F.
     ghost TAKES_BYTES: { Bool };
 
-    /// Whether it takes bytes above 7F: false for `String`, true for `Vec<u8>`.
+    /// `true` if the container can hold bytes above 7F: `false` for `String`, `true` for `Vec<u8>`.
     const TAKES_BYTES: bool;
 
-    /// An empty one. It keeps the allocator and does not allocate.
+    /// Creates an empty container with the allocator `alloc`. Does not allocate.
     fn new(alloc: Global) -> Self
         ensures { contents result ≡ [] };
 
-    /// An empty one with room for just this many bytes. With room for none it does not allocate.
+    /// Creates an empty container with a capacity of exactly `bytes`. Does not allocate if that is
+    /// 0.
     ///
     /// # Errors
     ///
-    /// `AllocError` where there is no memory for them.
+    /// Returns `AllocError` if the allocation fails.
     fn with_capacity(alloc: Global, bytes: usize) -> Result<Self, AllocError>
         ensures contents { IfOk result (λ made. contents made ≡ []) }
         ensures room { IfOk result (λ made. capacity made ≡ bytes) }
         ensures succeeds { bytes ≡ 0 → IsOk result };
 
-    /// Makes room for `n` bytes after those that it has. Where there is room for them it does not
-    /// allocate.
+    /// Reserves capacity for `n` more bytes. Does not allocate if the capacity suffices.
     ///
     /// # Errors
     ///
-    /// `AllocError` where there is no memory for them.
+    /// Returns `AllocError` if the allocation fails.
     fn reserve(&mut self, n: usize) -> Result<(), AllocError>
         ensures contents { contents self.new ≡ contents self.old }
         ensures room { OnOk result (length (contents self.new) + n ≤ capacity self.new) }
         ensures kept { capacity self.old ≤ capacity self.new }
         ensures succeeds { length (contents self.old) + n ≤ capacity self.old → IsOk result };
 
-    /// Adds the value of an escape: the byte, or the UTF-8 of the character.
+    /// Appends the value of an escape: the byte, or the UTF-8 of the character.
     ///
-    /// A byte above 7F is added only where [`TAKES_BYTES`](EscapeContainer::TAKES_BYTES).
+    /// The byte is above 7F only if [`TAKES_BYTES`](EscapeContainer::TAKES_BYTES) is set.
     ///
     /// # Errors
     ///
-    /// `AllocError` where there is no memory for it.
+    /// Returns `AllocError` if the allocation fails.
     fn push(&mut self, value: Unescape) -> Result<(), AllocError>
         requires { IsTrue (is_pushable TAKES_BYTES value) }
         ensures ok { IfOk result (λ _. contents self.new ≡ contents self.old ++ value_bytes value) }
@@ -64,11 +64,11 @@ pub trait EscapeContainer: Drop {
         ensures succeeds { length (contents self.old) + length (value_bytes value)
             ≤ capacity self.old → IsOk result };
 
-    /// Adds a text.
+    /// Appends `text`.
     ///
     /// # Errors
     ///
-    /// `AllocError` where there is no memory for it.
+    /// Returns `AllocError` if the allocation fails.
     fn push_str(&mut self, text: &str) -> Result<(), AllocError>
         ensures ok { IfOk result (λ _. contents self.new ≡ contents self.old ++ text.now) }
         ensures err { OnErr result (contents self.new ≡ contents self.old) }
@@ -76,11 +76,11 @@ pub trait EscapeContainer: Drop {
         ensures succeeds { length (contents self.old) + length text.now
             ≤ capacity self.old → IsOk result };
 
-    /// Adds bytes, which are UTF-8 where it takes no others.
+    /// Appends `bytes`, which are UTF-8 if the container is a text.
     ///
     /// # Errors
     ///
-    /// `AllocError` where there is no memory for them.
+    /// Returns `AllocError` if the allocation fails.
     fn push_bytes(&mut self, bytes: &[u8]) -> Result<(), AllocError>
         requires { IsFalse TAKES_BYTES → IsUtf8 bytes.now }
         ensures ok { IfOk result (λ _. contents self.new ≡ contents self.old ++ bytes.now) }

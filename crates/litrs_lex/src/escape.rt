@@ -11,29 +11,29 @@ ghost use Rattle.litrs_lex.specs.Unescaped.{switches, IsUnescaped, IsEscapeRefus
 use crate::parse::{begins_with_byte, has_byte, hex_digit_value};
 use litrs_base::{ParseError, ParseErrorKind, Switches, Unescape};
 
-/// Parses the escape at the front of a text that is empty or begins with a backslash: what it
-/// stands for, and its length in bytes. Of `\n12` that is the byte 10, with length 2. See
-/// [the reference][ref].
+/// Parses the escape at the front of `input`, which is empty or starts with a backslash. Returns
+/// its value and its length in bytes: for `\n12` these are the byte 10 and 2. See [the
+/// reference][ref].
 ///
-/// `unicode` allows `\u{..}`, `byte_escapes` allows `\x80` to `\xff`, and `allow_nul` allows an
-/// escape of value 0.
+/// `unicode` allows `\u{..}`, `byte_escapes` allows `\x80` to `\xff`, and `allow_nul` allows
+/// escapes with the value 0.
 ///
 /// # Errors
 ///
 /// The spans count from the backslash.
-/// - `UnterminatedEscape` where the text has fewer than two characters, at 0..1, which passes the
-///   empty text; and where no character ends after the two bytes that follow `\x`, over the text.
-/// - `DisallowedNulEscape` for a value of 0 where it is not allowed, over the escape.
-/// - `InvalidXEscape` where `\x` is not followed by two hex digits, and `NonAsciiXEscape` where
-///   they pass 7F and may not, both at 0..4.
-/// - `UnicodeEscapeInByteLiteral` where `\u` is not allowed, and `UnicodeEscapeWithoutBrace` where
-///   no `{` follows it, both at 0..2.
-/// - `UnterminatedUnicodeEscape` where no `}` follows, over the text; then for what stands before
-///   the first `}`: `InvalidStartOfUnicodeEscape` where that is empty or begins with `_`, at 3..4;
-///   `NonHexDigitInUnicodeEscape` at the first character that is neither a hex digit nor `_`, and
-///   `TooManyDigitInUnicodeEscape` at the seventh digit, whichever is first, over its first byte;
-///   `InvalidUnicodeEscapeChar` where the value is no character, over the escape.
-/// - `UnknownEscape` where any other character follows the backslash, at 0..2.
+/// - `UnterminatedEscape` at 0..1 if `input` has fewer than two characters, even if it is empty; or
+///   over all of `input` if no character ends after the two bytes that follow `\x`.
+/// - `DisallowedNulEscape` over the escape if its value is 0 and that is not allowed.
+/// - `InvalidXEscape` if `\x` is not followed by two hex digits, and `NonAsciiXEscape` if their
+///   value is above 7F and that is not allowed, both at 0..4.
+/// - `UnicodeEscapeInByteLiteral` if `\u` is not allowed, and `UnicodeEscapeWithoutBrace` if it is
+///   not followed by `{`, both at 0..2.
+/// - `UnterminatedUnicodeEscape` over all of `input` if no `}` follows. Otherwise, by the text
+///   before the first `}`: `InvalidStartOfUnicodeEscape` at 3..4 if it is empty or starts with `_`;
+///   `NonHexDigitInUnicodeEscape` at the first character that is neither a hex digit nor `_`, or
+///   `TooManyDigitInUnicodeEscape` at the seventh digit, whichever comes first, over its first byte;
+///   `InvalidUnicodeEscapeChar` over the escape if the value is not a character.
+/// - `UnknownEscape` at 0..2 if another character follows the backslash.
 ///
 /// [ref]: https://doc.rust-lang.org/reference/tokens.html#character-escapes
 #[inline(always)]
@@ -58,11 +58,11 @@ pub fn unescape(
     unescape_with(input, allowed)
 }
 
-/// [`unescape`] by what is allowed.
+/// Like [`unescape`], with the switches in one value.
 ///
 /// # Errors
 ///
-/// Those of [`unescape`].
+/// Like [`unescape`].
 #[inline(always)]
 pub fn unescape_with(input: &str, allowed: Switches) -> Result<(Unescape, usize), ParseError>
     requires { IsTrue (is_empty (chars input.now)
@@ -86,7 +86,7 @@ pub fn unescape_with(input: &str, allowed: Switches) -> Result<(Unescape, usize)
     }
 }
 
-/// The escape of a text that begins with a backslash and this letter, neither `x` nor `u`.
+/// Parses the escape of `input`, which starts with a backslash and `letter`, neither `x` nor `u`.
 #[inline(always)]
 fn unescape_simple(
     input: &str,
@@ -108,7 +108,7 @@ fn unescape_simple(
     Ok((Unescape::Byte(value), 2))
 }
 
-/// What a backslash and this letter stand for, or None where they are no escape.
+/// Returns the value of a backslash and `letter`, or `None` if they are not an escape.
 #[inline(always)]
 fn simple_value(letter: u8) -> Option<u8>
     ensures { SomeIff result (IsTrue (is_simple letter)) (simple_value letter) }
@@ -123,7 +123,7 @@ fn simple_value(letter: u8) -> Option<u8>
     }
 }
 
-/// The escape of a text that begins with `\x`.
+/// Parses the escape of `input`, which starts with `\x`.
 #[inline(always)]
 fn unescape_hex(input: &str, allowed: Switches) -> Result<(Unescape, usize), ParseError>
     requires { IsTrue (begins_with (codes "\\x") input.now) }
@@ -147,7 +147,7 @@ fn unescape_hex(input: &str, allowed: Switches) -> Result<(Unescape, usize), Par
     Ok((Unescape::Byte(value), 4))
 }
 
-/// Whether `\x` may have this value.
+/// Returns `true` if a `\x` escape may have the value `value`.
 #[inline(always)]
 fn allows_byte(allowed: Switches, value: u8) -> bool
     ensures { result ≡ (allowed.byte_escapes || is_ascii value) }
@@ -155,7 +155,7 @@ fn allows_byte(allowed: Switches, value: u8) -> bool
     allowed.byte_escapes || value < 128
 }
 
-/// Whether an escape may have this value.
+/// Returns `true` if an escape may have the value `value`.
 #[inline(always)]
 fn allows_value(allowed: Switches, value: u32) -> bool
     ensures { result ≡ nul_is_allowed allowed.allow_nul value }
@@ -163,7 +163,7 @@ fn allows_value(allowed: Switches, value: u32) -> bool
     allowed.allow_nul || value != 0
 }
 
-/// The value of two hex digits, or None where one of the two is none.
+/// Returns the value of two hex digits, or `None` if one of them is not a hex digit.
 #[inline(always)]
 fn pair_value(high: u8, low: u8) -> Option<u8>
     ensures { SomeIff result (IsTrue (is_ascii_hexdigit high && is_ascii_hexdigit low))
@@ -174,7 +174,7 @@ fn pair_value(high: u8, low: u8) -> Option<u8>
     Some(16 * high + low)
 }
 
-/// The escape of a text that begins with `\u`, where such escapes are allowed.
+/// Parses the escape of `input`, which starts with `\u`. Such escapes are allowed.
 #[inline(always)]
 fn unescape_unicode(input: &str, allowed: Switches) -> Result<(Unescape, usize), ParseError>
     requires begins { IsTrue (begins_with (codes "\\u") input.now) }
@@ -196,7 +196,7 @@ fn unescape_unicode(input: &str, allowed: Switches) -> Result<(Unescape, usize),
     }
 }
 
-/// Whether a hex digit stands first, and `}` after the digits.
+/// Returns `true` if `inner` starts with a hex digit and has `}` after `digits`.
 #[inline(always)]
 fn is_closed(inner: &[u8], digits: HexDigits) -> bool
     requires { digits.len ≤ length inner.now }
@@ -206,24 +206,24 @@ fn is_closed(inner: &[u8], digits: HexDigits) -> bool
     begins_with_hex_digit(inner) && matches!(inner.get(digits.len), Some(b'}'))
 }
 
-/// Whether a hex digit stands first.
+/// Returns `true` if `bytes` starts with a hex digit.
 fn begins_with_hex_digit(bytes: &[u8]) -> bool
     ensures { result ≡ first_passes is_ascii_hexdigit bytes.now }
 {
     matches!(bytes.first(), Some(first) if first.is_ascii_hexdigit())
 }
 
-/// Hex digits, at most six, and underscores.
+/// A run of hex digits, at most six, and underscores.
 #[derive(Clone, Copy, Debug, PartialEq, Eq)]
 pub struct HexDigits {
-    /// How many bytes they have.
+    /// The length in bytes.
     pub len: usize,
-    /// The number that they write.
+    /// The number that the digits write.
     pub value: u32,
 }
 
-/// The hex digits and underscores at the front, without the seventh digit and what follows it: of
-/// `1_F6}` 4 bytes and the number 502.
+/// Returns the hex digits and underscores at the front of `bytes`, up to the seventh digit: for
+/// `1_F6}` they have 4 bytes and the number 502.
 #[inline(always)]
 pub fn hex_digits(bytes: &[u8]) -> HexDigits
     ensures { IsHexDigits bytes.now result }
@@ -246,7 +246,7 @@ pub fn hex_digits(bytes: &[u8]) -> HexDigits
     HexDigits { len, value }
 }
 
-/// The escape of a text that begins with `\u{`, hex digits and `}`.
+/// Parses the escape of `input`, which starts with `\u{`, `digits` and `}`.
 #[inline(always)]
 fn unescape_digits(
     input: &str,
@@ -275,7 +275,8 @@ fn unescape_digits(
     }
 }
 
-/// Why a text that begins with `\u{` has no hex digit after it or no `}` after these digits.
+/// Returns the error of `input`, which starts with `\u{` and has no hex digit after it, or no `}`
+/// after `digits`.
 fn unicode_escape_refusal(input: &str, digits: HexDigits) -> ParseError
     requires begins { IsTrue (begins_with (codes "\\u{") input.now) }
     requires digits { IsHexDigits (drop 3 input.now) digits }
@@ -301,7 +302,7 @@ fn unicode_escape_refusal(input: &str, digits: HexDigits) -> ParseError
     }
 }
 
-/// Whether `}` or `_` stands first.
+/// Returns `true` if `bytes` starts with `}` or `_`.
 fn begins_wrongly(bytes: &[u8]) -> bool
     ensures { result ≡ first_passes (λ c. (c == close_brace) || (c == underscore)) bytes.now }
 {

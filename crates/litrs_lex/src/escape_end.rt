@@ -51,8 +51,8 @@ fn braces_go_on(braces: &[u8], allow_nul: bool) -> bool
 }
 
 /// Returns `true` if `\u{` and `inner` begin an escape: `inner` is empty, or a hex digit with hex
-/// digits and underscores after it. With at most five digits one more digit can always make the value
-/// valid; six digits must have an allowed value.
+/// digits and underscores after it. With at most five digits one more digit can always make the
+/// value valid; six digits must have an allowed value.
 fn inner_goes_on(inner: &[u8], allow_nul: bool) -> bool
     ensures { (byte_escapes : Bool) →
         result ≡ inner_goes_on (switches true byte_escapes allow_nul) inner.now }

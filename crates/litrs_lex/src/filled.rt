@@ -9,14 +9,13 @@ use crate::room::Room;
 use crate::sink::Sink;
 use litrs_base::Unescape;
 
-/// How many bytes are put into the container at a time.
+/// The number of bytes that are put into the container at a time.
 const PIECE: usize = 128;
 
-/// A container, and bytes that are to be put into it next. A value fits if the container has room
-/// for it.
+/// A container, and bytes that are put into it next. A value fits if the capacity suffices.
 #[derive(Drop)]
 pub(crate) struct Filled<C: EscapeContainer> {
-    /// What is not in the container yet.
+    /// The bytes that are not yet in the container.
     pub(crate) piece: Room<PIECE>,
     /// The container.
     pub(crate) into: C,

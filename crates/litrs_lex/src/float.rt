@@ -1,4 +1,4 @@
-//! Where a float is cut.
+//! Floats.
 ghost use Rattle.std.specs.Prelude.{◌≡◌, ◌≤◌, ◌&&◌, not, drop, length, IsTrue, IsFalse, IfOk, IfErr, option_map, Some};
 ghost use Rattle.std.specs.Char.{is_ascii_digit};
 ghost use Rattle.std.specs.List.{prefix_len, list_any};
@@ -15,28 +15,27 @@ use crate::parse::{check_suffix, end_dec_digits};
 use litrs_base::{ParseError, ParseErrorKind};
 use std::ops::Range;
 
-/// Where a float is cut: places in bytes.
+/// The places at which a float is cut, in bytes.
 #[derive(Clone, Copy, Debug, PartialEq, Eq)]
 pub struct FloatCut {
-    /// Where the integer part ends, which begins the text.
+    /// The end of the integer part, which starts at 0.
     pub end_integer: usize,
-    /// Where the fraction ends: after the period and what follows it, or where the integer part
-    /// ends if there is no period.
+    /// The end of the period and the fraction, or of the integer part if there is no period.
     pub end_fraction: usize,
-    /// Where the number ends and the suffix begins: after the exponent, or where the fraction ends
-    /// if there is none.
+    /// The end of the exponent, or of the fraction if there is none. The suffix starts here.
     pub end_number: usize,
 }
 
-/// Cuts a float into integer part, fraction, exponent and suffix. The text begins with a decimal
-/// digit. `147.3_33__E3f64` is cut at 3, 10 and 12. See [the reference][ref].
+/// Cuts `input`, which starts with a decimal digit, as a float, into integer part, fraction,
+/// exponent and suffix. `147.3_33__E3f64` is cut at 3, 10 and 12. See [the reference][ref].
 ///
 /// # Errors
 ///
-/// `UnexpectedChar` where something else than a decimal digit follows the period, at its first
-/// byte; `NoExponentDigits` where the exponent has no digit, over the exponent; the refusal of
-/// [`check_suffix`] where what follows is no suffix, from there to the end; `UnexpectedIntegerLit`
-/// where there is neither a period nor an exponent.
+/// - `UnexpectedChar` if the period is followed by another character than a decimal digit, at the
+///   first byte of the character.
+/// - `NoExponentDigits` over the exponent if it has no digit.
+/// - The error of [`check_suffix`] over the rest of `input` if that is not a suffix.
+/// - `UnexpectedIntegerLit` if there is neither a period nor an exponent.
 ///
 /// [ref]: https://doc.rust-lang.org/reference/tokens.html#floating-point-literals
 pub fn cut_float(input: &str) -> Result<FloatCut, ParseError>
@@ -49,7 +48,7 @@ pub fn cut_float(input: &str) -> Result<FloatCut, ParseError>
     cut_float_at(input, end_dec_digits(input.as_bytes()))
 }
 
-/// [`cut_float`] of a text whose integer part ends here.
+/// Like [`cut_float`], for an input whose integer part ends at `end_integer`.
 #[inline(always)]
 pub(crate) fn cut_float_at(input: &str, end_integer: usize) -> Result<FloatCut, ParseError>
     requires digit { IsTrue (first_passes is_ascii_digit input.now) }
@@ -72,8 +71,8 @@ pub(crate) fn cut_float_at(input: &str, end_integer: usize) -> Result<FloatCut, 
     }
 }
 
-/// The text cut after the integer part, which ends here, the fraction and the exponent, each as
-/// far as it goes.
+/// Cuts `input` after the integer part, which ends at `end_integer`, the fraction and the exponent,
+/// each of which takes all that belongs to it.
 fn cut_parts(input: &str, end_integer: usize) -> FloatCut
     requires integer { end_integer ≡ prefix_len is_decimal_char input.now }
     requires within { end_integer ≤ length input.now }
@@ -89,8 +88,8 @@ fn cut_parts(input: &str, end_integer: usize) -> FloatCut
     }
 }
 
-/// Why a text that is cut so, with a digit or nothing after the period, is no float, and where;
-/// None where it is one.
+/// Returns the error of `input`, which is cut at `cut` and has a digit or nothing after the period,
+/// or `None` if it is a float.
 fn cut_refusal(cut: &FloatCut, input: &str) -> Option<(Option<Range<usize>>, ParseErrorKind)>
     requires parts { IsPartsCut cut.now input.now }
     requires fraction { IsFalse (has_wrong_fraction (drop cut.now.end_integer input.now)) }
@@ -116,7 +115,8 @@ fn cut_refusal(cut: &FloatCut, input: &str) -> Option<(Option<Range<usize>>, Par
     None
 }
 
-/// How many bytes the period and the fraction take, none where no period stands first.
+/// Returns the length in bytes of the period and the fraction, or 0 if `bytes` does not start with
+/// a period.
 fn fraction_len(bytes: &[u8]) -> usize
     ensures len { result ≡ length (fraction_text (fraction_of bytes.now)) }
     ensures within { result ≤ length bytes.now }
@@ -127,7 +127,7 @@ fn fraction_len(bytes: &[u8]) -> usize
     }
 }
 
-/// How many bytes the exponent takes, none where neither `e` nor `E` stands first.
+/// Returns the length in bytes of the exponent, or 0 if `bytes` starts with neither `e` nor `E`.
 fn exponent_len(bytes: &[u8]) -> usize
     ensures len { result ≡ length (exponent_of bytes.now) }
     ensures within { result ≤ length bytes.now }
@@ -141,7 +141,7 @@ fn exponent_len(bytes: &[u8]) -> usize
     }
 }
 
-/// How many bytes a sign takes, none where there is none.
+/// Returns the length in bytes of the sign at the front of `bytes`, or 0 if there is none.
 fn sign_len(bytes: &[u8]) -> usize
     ensures len { result ≡ sign_len bytes.now }
     ensures within { result ≤ length bytes.now }
@@ -149,21 +149,22 @@ fn sign_len(bytes: &[u8]) -> usize
     usize::from(matches!(bytes, [b'+' | b'-', ..]))
 }
 
-/// Whether a period stands first, and after it something else than a decimal digit.
+/// Returns `true` if `bytes` starts with a period that another character than a decimal digit
+/// follows.
 fn has_wrong_fraction(bytes: &[u8]) -> bool
     ensures { result ≡ has_wrong_fraction bytes.now }
 {
     matches!(bytes, [b'.', next, ..] if !next.is_ascii_digit())
 }
 
-/// Whether there is an exponent, and no decimal digit in it.
+/// Returns `true` if `exponent` is not empty and has no decimal digit.
 fn has_no_exponent_digit(exponent: &[u8]) -> bool
     ensures { result ≡ (not (is_empty exponent.now) && not (list_any is_ascii_digit exponent.now)) }
 {
     !exponent.is_empty() && !has_digit(exponent)
 }
 
-/// Whether a decimal digit is among the bytes.
+/// Returns `true` if `bytes` has a decimal digit.
 fn has_digit(bytes: &[u8]) -> bool
     ensures { result ≡ list_any is_ascii_digit bytes.now }
 {

@@ -8,14 +8,14 @@ ghost use Rattle.litrs_grammar.specs.Raw.{hashes, hash_len, is_hash, is_quote, r
 use crate::{Run, run_end};
 use std::simd::prelude::*;
 
-/// The most hashes that a raw literal may have.
+/// The greatest number of hashes of a raw literal.
 pub const MAX_HASHES: usize = 255;
 
-/// How many bytes are compared in a step.
+/// The number of bytes that are compared in a step.
 const STEP: usize = 16;
 
-/// Whether `"` stands first, with fewer hashes after it: a quote that does not close a body between
-/// so many hashes.
+/// Returns `true` if `bytes` starts with `"` and fewer than `hashes` hashes: a quote that does not
+/// close a body between `hashes` hashes.
 #[inline(always)]
 pub fn is_inner_quote(bytes: &[u8], hashes: usize) -> bool
     ensures { result
@@ -27,14 +27,14 @@ pub fn is_inner_quote(bytes: &[u8], hashes: usize) -> bool
     }
 }
 
-/// Whether all are hashes.
+/// Returns `true` if `bytes` has only hashes.
 pub fn are_hashes(bytes: &[u8]) -> bool
     ensures { result ≡ list_all is_hash bytes.now }
 {
     hash_len(bytes) == bytes.len()
 }
 
-/// How many hashes stand first.
+/// Returns the number of hashes at the front of `bytes`.
 #[inline(always)]
 pub fn hash_len(bytes: &[u8]) -> usize
     ensures len { result ≡ hash_len bytes.now }
@@ -47,7 +47,7 @@ pub fn hash_len(bytes: &[u8]) -> usize
     }
 }
 
-/// [`hash_len`] by 16 bytes a step, as long as there are so many.
+/// Like [`hash_len`], by 16 bytes a step.
 #[inline(never)]
 fn hash_len_of_many(bytes: &[u8]) -> usize
     ensures len { result ≡ hash_len bytes.now }
@@ -64,7 +64,7 @@ fn hash_len_of_many(bytes: &[u8]) -> usize
     len + run_end(&bytes[len..], Run::Hashes)
 }
 
-/// Which of the first 16 bytes are no hashes: bit i is that of the byte at i.
+/// Returns a mask of the first 16 bytes: bit `i` is set if the byte at `i` is not a hash.
 #[inline(always)]
 fn other_marks(bytes: &[u8]) -> u64
     requires { 16 ≤ length bytes.now }

@@ -1,4 +1,4 @@
-//! Where an integer is cut.
+//! Integers.
 ghost use Rattle.std.specs.Prelude.{◌≡◌, ◌∷◌, [], IsTrue, IfOk, IfErr, option_map, Some};
 ghost use Rattle.std.specs.Char.{is_ascii_digit};
 ghost use Rattle.std.specs.List.{prefix_len, list_any};
@@ -20,26 +20,26 @@ use litrs_base::IntegerBase::{Binary, Decimal, Hexadecimal, Octal};
 use litrs_base::{IntegerBase, ParseError, ParseErrorKind};
 use std::ops::Range;
 
-/// Where an integer is cut: places in bytes.
+/// The places at which an integer is cut, in bytes.
 #[derive(Clone, Copy, Debug, PartialEq, Eq)]
 pub struct IntegerCut {
-    /// Where the main part begins, after the prefix.
+    /// The start of the main part, after the prefix.
     pub start_main: usize,
-    /// Where the main part ends and the suffix begins.
+    /// The end of the main part. The suffix starts here.
     pub end_main: usize,
-    /// What the prefix decides.
+    /// The base, which the prefix decides.
     pub base: IntegerBase,
 }
 
-/// Cuts an integer into prefix, main part and suffix. The text begins with a decimal digit. Of
-/// `0x_7fu8` the main part goes from 2 to 5. See [the reference][ref].
+/// Cuts `input`, which starts with a decimal digit, as an integer, into prefix, main part and
+/// suffix. The main part of `0x_7fu8` is at 2..5. See [the reference][ref].
 ///
 /// # Errors
 ///
-/// `InvalidDigit` where a decimal digit follows the main part, at that digit; the refusal of
-/// [`check_suffix`] where what follows is no suffix, from there to the end;
-/// `IntegerSuffixStartingWithE` where the suffix begins with `e` or `E`, at its first byte;
-/// `NoDigits` where the main part has no digit, over the main part.
+/// - `InvalidDigit` at the digit if a decimal digit follows the main part.
+/// - The error of [`check_suffix`] over the rest of `input` if that is not a suffix.
+/// - `IntegerSuffixStartingWithE` at the first byte of the suffix if that is `e` or `E`.
+/// - `NoDigits` over the main part if it has no digit.
 ///
 /// [ref]: https://doc.rust-lang.org/reference/tokens.html#integer-literals
 pub fn cut_integer(input: &str) -> Result<IntegerCut, ParseError>
@@ -52,7 +52,7 @@ pub fn cut_integer(input: &str) -> Result<IntegerCut, ParseError>
     cut_integer_at(input, cut_digits(input))
 }
 
-/// [`cut_integer`] of a text that is cut so already.
+/// Like [`cut_integer`], for an input with the digits `cut`.
 #[inline(always)]
 pub(crate) fn cut_integer_at(input: &str, cut: IntegerCut) -> Result<IntegerCut, ParseError>
     requires digit { IsTrue (first_passes is_ascii_digit input.now) }
@@ -68,8 +68,8 @@ pub(crate) fn cut_integer_at(input: &str, cut: IntegerCut) -> Result<IntegerCut,
     }
 }
 
-/// The text cut after the prefix and after all digits of the base and underscores.
-// Inlined, since a base that is stored as a byte is loaded as a word.
+/// Cuts `input` after the prefix and after all digits of the base and underscores.
+// Inlined, because a base that is stored as a byte is loaded as a word.
 #[inline(always)]
 pub(crate) fn cut_digits(input: &str) -> IntegerCut
     ensures { IsDigitsCut result input.now }
@@ -85,7 +85,7 @@ pub(crate) fn cut_digits(input: &str) -> IntegerCut
     }
 }
 
-/// Why a text that is cut so is no integer, and where; None where it is one.
+/// Returns the error of `input`, which has the digits `cut`, or `None` if it is an integer.
 fn cut_refusal(cut: &IntegerCut, input: &str) -> Option<(Range<usize>, ParseErrorKind)>
     requires { IsDigitsCut cut.now input.now }
     ensures { option_map (λ r. refusal (Some r.0) r.1) result
@@ -98,7 +98,7 @@ fn cut_refusal(cut: &IntegerCut, input: &str) -> Option<(Range<usize>, ParseErro
     } = *cut;
     let (number, suffix) = input.split_at(end_main);
     let after = suffix.as_bytes();
-    // Asked first, as no suffix begins with a digit.
+    // Tested first, because no suffix starts with a digit.
     if begins_with_digit(after) {
         return Some((end_main..end_main + 1, ParseErrorKind::InvalidDigit));
     }
@@ -116,22 +116,22 @@ fn cut_refusal(cut: &IntegerCut, input: &str) -> Option<(Range<usize>, ParseErro
     }
 }
 
-/// Whether a decimal digit stands first.
+/// Returns `true` if `bytes` starts with a decimal digit.
 fn begins_with_digit(bytes: &[u8]) -> bool
     ensures { result ≡ first_passes is_ascii_digit bytes.now }
 {
     matches!(bytes.first(), Some(first) if first.is_ascii_digit())
 }
 
-/// Whether `e` or `E` stands first.
+/// Returns `true` if `bytes` starts with `e` or `E`.
 fn begins_with_e(bytes: &[u8]) -> bool
     ensures { result ≡ first_passes is_e bytes.now }
 {
     matches!(bytes, [b'e' | b'E', ..])
 }
 
-/// The base, by the front of a text: `0b`, `0o` and `0x` are always the prefix, and
-/// everything else is decimal.
+/// Returns the base by the front of a text: `0b`, `0o` and `0x` are always a prefix, and every
+/// other text is decimal.
 fn base_of(bytes: &[u8]) -> IntegerBase
     ensures { result ≡ base_of bytes.now }
 {
@@ -143,7 +143,7 @@ fn base_of(bytes: &[u8]) -> IntegerBase
     }
 }
 
-/// Returns `true` if one of these digits and underscores is a digit.
+/// Returns `true` if `bytes`, which are digits and underscores, have a digit.
 fn is_more_than_underscores(bytes: &[u8]) -> bool
     ensures { result ≡ list_any is_no_underscore bytes.now }
 {

@@ -1,10 +1,10 @@
-//! How texts begin.
+//! The fronts of texts.
 ghost use Rattle.litrs_lex.specs.Front.{IsFront};
 
 use crate::bool::cut_bool;
 use litrs_base::StringKind;
 
-/// How a text begins, which decides as what kind of literal it is parsed. See
+/// The front of a text, which decides as which kind of literal it is parsed. See
 /// [the reference][ref].
 ///
 /// [ref]: https://doc.rust-lang.org/reference/tokens.html#literals
@@ -14,23 +14,23 @@ pub enum Front {
     Empty,
     /// The text is this bool.
     Bool(bool),
-    /// With a decimal digit.
+    /// A decimal digit.
     Number,
-    /// With `'`.
+    /// `'`.
     Char,
-    /// With `b'`.
+    /// `b'`.
     Byte,
-    /// As a quoted string: with `"`, `b"` or `c"`.
+    /// The front of a quoted string: `"`, `b"` or `c"`.
     Quoted(StringKind),
-    /// As a raw string: with `r`, `br` or `cr`.
+    /// The front of a raw string: `r`, `br` or `cr`.
     Raw(StringKind),
-    /// As no literal.
+    /// The text starts like no literal.
     Other,
 }
 
 impl Front {
-    /// How the text begins: `b"a` as a quoted byte string. No other kind begins like a bool, so
-    /// bools come last.
+    /// Returns the front of `text`: for `b"a` that is the front of a quoted byte string. No other
+    /// kind starts like a bool, so bools come last.
     #[tactic(auto, unfolding(litrs_grammar::specs::LiteralRefusals::dispatch))]
     #[inline(always)]
     pub fn of(text: &str) -> Front
@@ -38,7 +38,7 @@ impl Front {
     {
         match text.as_bytes() {
             [] => Front::Empty,
-            // All letters by one branch, so that a name is not compared with each quote and digit.
+            // One branch for all letters, so that a name is not compared with each quote and digit.
             [first, ..] if *first >= b'A' => match text.as_bytes() {
                 [b'r', ..] => Front::Raw(StringKind::String),
                 [b'b', rest @ ..] => match rest {

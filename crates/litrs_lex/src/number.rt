@@ -1,4 +1,4 @@
-//! Where a number is cut.
+//! Numbers.
 ghost use Rattle.std.specs.Prelude.{◌≡◌, IsTrue, IfOk, IfErr};
 ghost use Rattle.std.specs.Char.{is_ascii_digit};
 ghost use Rattle.std.specs.Str.{chars};
@@ -13,7 +13,7 @@ use crate::float::{FloatCut, cut_float_at};
 use crate::integer::{IntegerCut, cut_digits, cut_integer_at};
 use litrs_base::{IntegerBase, ParseError};
 
-/// Where a number is cut.
+/// The kind of a number, and the places at which it is cut.
 #[derive(Clone, Copy, Debug, PartialEq, Eq)]
 pub enum NumberCut {
     /// The number is an integer.
@@ -22,17 +22,16 @@ pub enum NumberCut {
     Float(FloatCut),
 }
 
-/// Cuts a number, a text that begins with a decimal digit: as a float where a period, `e` or `E`
-/// follows the decimal digits and underscores that it begins with, else as an integer. Of `1e3`
-/// that is a float, of `0b1` an integer. See [the reference][ref].
+/// Cuts `input`, which starts with a decimal digit, as a number. It is a float if a period, `e` or
+/// `E` follows the decimal digits and underscores at its front, for example `1e3`. Otherwise, it is
+/// an integer, for example `0b1`. See [the reference][ref].
 ///
 /// # Errors
 ///
-/// As [`cut_float`](crate::cut_float) refuses a float, and [`cut_integer`](crate::cut_integer) an
-/// integer.
+/// Returns the error of [`cut_float`](crate::cut_float) or [`cut_integer`](crate::cut_integer).
 ///
 /// [ref]: https://doc.rust-lang.org/reference/tokens.html#number-literals
-// Not inlined, so that the parse of a literal is small enough to be.
+// Not inlined, so that the parse of a literal is small enough to be inlined.
 #[inline(never)]
 pub fn cut_number(input: &str) -> Result<NumberCut, ParseError>
     requires { IsTrue (first_passes is_ascii_digit input.now) }
@@ -41,7 +40,7 @@ pub fn cut_number(input: &str) -> Result<NumberCut, ParseError>
         (IsRefused (kind_parse (number_kind (chars input.now))) (chars input.now)) }
 {
     let cut = cut_digits(input);
-    // Each `match` makes the answer in place, with no conversion of the error.
+    // Each `match` makes the result in place, without a conversion of the error.
     if begins_float(&cut, input.as_bytes()) {
         match cut_float_at(input, cut.end_main) {
             Ok(cut) => Ok(NumberCut::Float(cut)),
@@ -55,8 +54,8 @@ pub fn cut_number(input: &str) -> Result<NumberCut, ParseError>
     }
 }
 
-/// Whether the text is parsed as a float: a period, `e` or `E` follows the decimal digits and
-/// underscores at its front.
+/// Returns `true` if a text is parsed as a float: a period, `e` or `E` follows the decimal digits
+/// and underscores at its front.
 fn begins_float(cut: &IntegerCut, bytes: &[u8]) -> bool
     requires { IsDigitsCut cut.now bytes.now }
     ensures { result ≡ begins_float bytes.now }
@@ -67,7 +66,7 @@ fn begins_float(cut: &IntegerCut, bytes: &[u8]) -> bool
     }
 }
 
-/// Whether a period, `e` or `E` stands first.
+/// Returns `true` if `bytes` starts with a period, `e` or `E`.
 fn begins_with_float_mark(bytes: &[u8]) -> bool
     ensures { result ≡ first_passes is_float_mark bytes.now }
 {

@@ -14,8 +14,8 @@ use crate::{Run, run_end};
 use litrs_base::{IntegerBase, ParseError, ParseErrorKind};
 use memchr::memchr;
 
-/// How many decimal digits and underscores stand at the front, in bytes: 4 of `1_0_a2`.
-// Not inlined, so that the search stands once.
+/// Returns the number of decimal digits and underscores at the front of `input`: 4 for `1_0_a2`.
+// Not inlined, so that there is one copy of the search.
 #[inline(never)]
 pub fn end_dec_digits(input: &[u8]) -> usize
     ensures run { result ≡ prefix_len (is_digit_or_underscore IntegerBase.Decimal) input.now }
@@ -24,7 +24,7 @@ pub fn end_dec_digits(input: &[u8]) -> usize
     run_end(input, Run::Digits(IntegerBase::Decimal))
 }
 
-/// The value of each byte as a hex digit, 16 where it is none.
+/// The value of each byte as a hex digit, or 16 if it is not one.
 static HEX_VALUES: [u8; 256] = *b"\
     \x10\x10\x10\x10\x10\x10\x10\x10\x10\x10\x10\x10\x10\x10\x10\x10\
     \x10\x10\x10\x10\x10\x10\x10\x10\x10\x10\x10\x10\x10\x10\x10\x10\
@@ -43,7 +43,8 @@ static HEX_VALUES: [u8; 256] = *b"\
     \x10\x10\x10\x10\x10\x10\x10\x10\x10\x10\x10\x10\x10\x10\x10\x10\
     \x10\x10\x10\x10\x10\x10\x10\x10\x10\x10\x10\x10\x10\x10\x10\x10";
 
-/// The value of a hex digit of either case, 0 to 15, or None: `Some(10)` for `a`, None for `g`.
+/// Returns the value of a hex digit of either case, 0 to 15, or `None` if `digit` is not one. For
+/// `a` that is `Some(10)`.
 pub fn hex_digit_value(digit: u8) -> Option<u8>
     ensures { SomeIff result (IsTrue (is_ascii_hexdigit digit)) (digit_value digit) }
 {
@@ -51,11 +52,11 @@ pub fn hex_digit_value(digit: u8) -> Option<u8>
     if value < 16 { Some(value) } else { None }
 }
 
-/// The first byte of the text: `0xC3` of `é`.
+/// Returns the first byte of `s`: 0xC3 for `é`.
 ///
 /// # Errors
 ///
-/// `Empty` where there is none.
+/// Returns `Empty` if `s` is empty.
 pub fn first_byte_or_empty(s: &str) -> Result<u8, ParseError>
     ensures { MatchResult result (λ b. slice_get s.now 0 ≡ Some b)
         (λ e. (s.now ≡ []) × (refusal_of e ≡ without_span ParseErrorKind.Empty)) }
@@ -66,7 +67,7 @@ pub fn first_byte_or_empty(s: &str) -> Result<u8, ParseError>
     }
 }
 
-/// Whether this byte stands first.
+/// Returns `true` if `bytes` starts with `byte`.
 #[inline(always)]
 pub(crate) fn begins_with_byte(bytes: &[u8], byte: u8) -> bool
     ensures { result ≡ first_passes (λ c. c == byte) bytes.now }
@@ -74,9 +75,9 @@ pub(crate) fn begins_with_byte(bytes: &[u8], byte: u8) -> bool
     matches!(bytes.first(), Some(first) if *first == byte)
 }
 
-/// Whether this byte is among the bytes.
+/// Returns `true` if `bytes` contains `byte`.
 ///
-/// A call, so that what asks it in a refusal stays small.
+/// Not inlined, so that its callers, which make errors, stay small.
 #[inline(never)]
 pub(crate) fn has_byte(bytes: &[u8], byte: u8) -> bool
     ensures { result ≡ list_any (λ c. c == byte) bytes.now }
@@ -84,7 +85,7 @@ pub(crate) fn has_byte(bytes: &[u8], byte: u8) -> bool
     memchr(byte, bytes).is_some()
 }
 
-/// The first character of the text and what follows it, or None where there is none.
+/// Returns the first character of `s` and the text after it, or `None` if `s` is empty.
 pub(crate) fn split_first_char(s: &str) -> Option<(char, &str)>
     ensures empty { IfNone result (chars s.now ≡ []) }
     ensures parts { IfSome result (λ parts. chars s.now ≡ parts.0 ∷ chars parts.1.now) }
@@ -95,7 +96,8 @@ pub(crate) fn split_first_char(s: &str) -> Option<(char, &str)>
     Some((first, chars.as_str()))
 }
 
-/// Whether each character may continue an identifier: by bytes as far as it is ASCII.
+/// Returns `true` if each character of `rest` may continue an identifier. Reads bytes while they
+/// are ASCII.
 fn continues_identifier(rest: &str) -> bool
     ensures { result ≡ list_all is_xid_continue (chars rest.now) }
 {
@@ -107,21 +109,21 @@ fn continues_identifier(rest: &str) -> bool
     }
 }
 
-/// Whether each character may continue an identifier, by the tables of Unicode.
+/// Returns `true` if each character of `rest` may continue an identifier, by the tables of Unicode.
 fn continues_in_unicode(rest: &str) -> bool
     ensures { result ≡ list_all is_xid_continue (chars rest.now) }
 {
     rest.chars().all(|c| unicode_ident::is_xid_continue(c))
 }
 
-/// Whether an identifier may begin with the character.
+/// Returns `true` if an identifier may start with `first`.
 fn starts_identifier(first: char) -> bool
     ensures { result ≡ starts_identifier first }
 {
     first == '_' || unicode_ident::is_xid_start(first)
 }
 
-/// Whether the text is a suffix.
+/// Returns `true` if `s` is a suffix.
 fn is_suffix(s: &str) -> bool
     ensures { result ≡ is_suffix (chars s.now) }
 {
@@ -134,14 +136,14 @@ fn is_suffix(s: &str) -> bool
     }
 }
 
-/// Whether the byte is ASCII, and neither a letter nor `_`.
+/// Returns `true` if `byte` is ASCII, and neither a letter nor `_`.
 fn is_ascii_symbol(byte: u8) -> bool
     ensures { result ≡ is_ascii_symbol byte }
 {
     byte.is_ascii() && !(byte.is_ascii_alphabetic() || byte == b'_')
 }
 
-/// Why a text is no suffix.
+/// Returns the error kind of a text that is not a suffix.
 fn suffix_refusal(s: &str) -> ParseErrorKind
     ensures { result ≡ suffix_refusal (chars s.now) }
 {
@@ -151,14 +153,13 @@ fn suffix_refusal(s: &str) -> ParseErrorKind
     }
 }
 
-/// Whether a literal may end with this suffix: it is empty, or an identifier other than the lone
-/// `_`. The empty text, `u8` and `_x` are suffixes; `_` and `1x` are none. See
-/// [the reference][ref].
+/// Checks that `s` is a suffix: it is empty, or an identifier other than `_` alone. For example,
+/// the empty text, `u8` and `_x` are suffixes, but `_` and `1x` are not. See [the reference][ref].
 ///
 /// # Errors
 ///
-/// `UnexpectedChar` where the text begins with an ASCII character that is neither a letter nor `_`,
-/// as `1x`; else `InvalidSuffix`, as `_`.
+/// Returns `UnexpectedChar` if `s` starts with an ASCII character that is neither a letter nor `_`,
+/// for example `1x`. Otherwise, returns `InvalidSuffix`, for example for `_`.
 ///
 /// [ref]: https://doc.rust-lang.org/reference/tokens.html#suffixes
 #[inline(always)]
@@ -172,9 +173,9 @@ pub fn check_suffix(s: &str) -> Result<(), ParseErrorKind>
     }
 }
 
-/// [`check_suffix`] of a text that is not empty.
+/// Like [`check_suffix`], for a text that is not empty.
 ///
-/// Not inlined: most suffixes are empty, and callers need only that test.
+/// Not inlined, because most suffixes are empty, and callers need only that test.
 #[inline(never)]
 fn check_some_suffix(s: &str) -> Result<(), ParseErrorKind>
     ensures ok { is_ok result ≡ is_suffix (chars s.now) }

@@ -1,4 +1,4 @@
-//! Where a quoted string, byte string or C string is cut.
+//! Quoted strings, byte strings and C strings.
 ghost use Rattle.std.specs.Prelude.{◌≡◌, ◌≢◌, ◌==◌, ⊤, [], None, codes, drop, IfOk, IfErr, IfSome, IfNone, IsTrue, IsFalse};
 ghost use Rattle.std.specs.Str.{chars, IsCharBoundary};
 ghost use Rattle.litrs_base.specs.Characters.{double_quote};
@@ -17,33 +17,33 @@ use crate::stop::first_plain_end;
 use crate::{Switches, check_suffix};
 use litrs_base::ParseError;
 
-/// Where a quoted literal is cut: sizes and places in bytes.
+/// The lengths and places of a quoted literal, in bytes.
 #[derive(Clone, Copy, Debug, PartialEq, Eq)]
 pub struct QuotedCut {
-    /// How many bytes the value has, without the closing zero of a C string.
+    /// The length of the value, without the closing zero of a C string.
     pub value_len: usize,
-    /// Whether the body has a backslash.
+    /// Set if the body has a backslash.
     pub has_escape: bool,
-    /// Where the suffix begins, after the closing quote.
+    /// The start of the suffix, after the closing quote.
     pub start_suffix: usize,
 }
 
-/// Cuts a quoted literal whose body begins at `offset`. Of `"a\nb"u8` from 1 the value has 3 bytes,
-/// the body has an escape, and the suffix begins at 6. See [the reference][ref].
+/// Cuts a quoted literal whose body starts at `offset`. For `"a\nb"u8` and 1, the value has 3
+/// bytes, the body has an escape, and the suffix starts at 6. See [the reference][ref].
 ///
-/// The place stands within the text, on a character boundary. `unicode` allows `\u{..}` and
-/// characters beyond ASCII, `byte_escapes` allows `\x80` to `\xff`, and `allow_nul` allows NUL and
-/// an escape of value 0.
+/// `offset` is a character boundary of `input`. `unicode` allows `\u{..}` and characters that are
+/// not ASCII, `byte_escapes` allows `\x80` to `\xff`, and `allow_nul` allows NUL and escapes with
+/// the value 0.
 ///
 /// # Errors
 ///
-/// The first that stands in the text, from `offset` on:
-/// - the refusal of [`unescape`] where a backslash begins neither an escape nor a continuation; the
-///   escape is parsed without the last character of the text;
+/// Returns the first error in `input`, from `offset` on:
+/// - the error of [`unescape`] at a backslash that starts neither an escape nor a continuation; the
+///   escape is parsed without the last character of `input`;
 /// - `CarriageReturn` at a CR, `NulByte` at a NUL that is not allowed, and `NonAsciiInByteLiteral`
-///   at a character beyond ASCII that is not allowed, over its first byte;
-/// - `UnterminatedString`, with no span, where the text ends before a closing quote;
-/// - the refusal of [`check_suffix`] where what follows the closing quote is no suffix, over its
+///   at a character that is not ASCII and not allowed, over its first byte;
+/// - `UnterminatedString`, without a span, if there is no closing quote;
+/// - the error of [`check_suffix`] if the text after the closing quote is not a suffix, over its
 ///   first byte.
 ///
 /// [ref]: https://doc.rust-lang.org/reference/tokens.html#string-literals
@@ -69,7 +69,7 @@ pub fn cut_quoted(
     let mut counted = Counted { len: 0 };
     match read_items(input, offset, from, allowed, &mut counted) {
         Reached::Quote(place) => match closed(input, offset, place, allowed) {
-            // A value is shorter than its body where the body has a backslash.
+            // A value is shorter than its body if the body has a backslash.
             Ok(()) => Ok(QuotedCut {
                 value_len: counted.len,
                 has_escape: counted.len != place - offset,
@@ -82,11 +82,11 @@ pub fn cut_quoted(
     }
 }
 
-/// Where the items of a quoted body end that begins at `offset`, at its closing quote or where the
-/// text is refused: of `"a\n"u8` from 1 at 4. An escape or a continuation that ends the text is not
-/// among them.
+/// Returns the end of the items of a quoted body that starts at `offset`: its closing quote, or the
+/// place of the error. For `"a\n"u8` and 1 that is 4. An escape or a continuation that ends `input`
+/// does not belong to the items.
 ///
-/// The place is that of [`cut_quoted`].
+/// `offset` is that of [`cut_quoted`].
 pub fn items_end<A: Allows>(input: &str, offset: usize, allowed: A) -> usize
     requires { IsCharBoundary input.now offset }
     ensures { IsItemsEnd (A.allowed allowed) input.now offset (λ _. ⊤) result }
@@ -99,7 +99,7 @@ pub fn items_end<A: Allows>(input: &str, offset: usize, allowed: A) -> usize
     }
 }
 
-/// The state at the front of a body, with its plain characters found.
+/// Returns the state at the front of a body, with its plain characters found.
 #[inline(always)]
 pub(crate) fn beginning<A: Allows>(input: &str, offset: usize, allowed: A) -> Reading
     requires { IsCharBoundary input.now offset }
@@ -113,11 +113,11 @@ pub(crate) fn beginning<A: Allows>(input: &str, offset: usize, allowed: A) -> Re
     }
 }
 
-/// Whether a suffix or nothing follows the closing quote.
+/// Checks that a suffix follows the closing quote at `place`, which may be empty.
 ///
 /// # Errors
 ///
-/// The refusal of [`check_suffix`], over the first byte after the quote.
+/// Returns the error of [`check_suffix`], over the first byte after the quote.
 #[inline(always)]
 pub(crate) fn closed<A: Allows>(
     input: &str,
@@ -136,7 +136,8 @@ pub(crate) fn closed<A: Allows>(
     }
 }
 
-/// Why no suffix follows the closing quote at the front.
+/// Returns the error of the text after the closing quote at the front of `rest`, or `None` if it is
+/// a suffix.
 #[inline(always)]
 fn quote_refusal(rest: &str) -> Option<ParseError>
     requires { IsTrue (first_passes (λ c. c == double_quote) (chars rest.now)) }
@@ -150,7 +151,7 @@ fn quote_refusal(rest: &str) -> Option<ParseError>
     }
 }
 
-/// Whether a quote is all there is. It is the equality of texts, without a call.
+/// Returns `true` if `bytes` is a quote alone. This is the equality of texts, without a call.
 #[inline(always)]
 pub fn is_lone_quote(bytes: &[u8]) -> bool
     ensures quote { IsTrue result → bytes.now ≡ codes "\"" }

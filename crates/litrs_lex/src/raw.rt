@@ -111,8 +111,8 @@ pub fn open_raw(
     Ok((hashes, opening + 1))
 }
 
-/// Returns where the suffix begins after a body from `start` on and its closing with `hashes` hashes,
-/// or the kind and the span of the error.
+/// Returns where the suffix begins after a body from `start` on and its closing with `hashes`
+/// hashes, or the kind and the span of the error.
 #[inline(always)]
 fn cut_body(
     input: &str,
@@ -145,8 +145,8 @@ fn cut_body(
 }
 
 /// Returns the first place from `start` on at which a raw body is closed by a quote and `hashes`
-/// hashes, or contains a byte that it may not contain; else the end of the text. In `a"b"#` from 0 on
-/// with one hash that is 3.
+/// hashes, or contains a byte that it may not contain; else the end of the text. In `a"b"#` from 0
+/// on with one hash that is 3.
 #[inline(never)]
 pub fn body_end(bytes: &[u8], start: usize, hashes: usize, allowed: Switches) -> usize
     requires { (start ≤ length bytes.now) × IsUtf8 (drop start bytes.now) }

@@ -8,30 +8,30 @@ use crate::sink::Sink;
 use crate::stop::{Stop, plain_end, stop_at};
 use litrs_base::ParseError;
 
-/// How far a body is read. Places count bytes.
+/// The state of reading a body. Places are in bytes.
 #[derive(Clone, Copy)]
 pub struct Reading {
-    /// Up to here the sink has what the items stand for.
+    /// The end of the items whose value the sink has.
     pub at: usize,
-    /// Plain characters stand from there up to here, and no more.
+    /// The end of the plain characters after `at`.
     pub place: usize,
     /// The mask of the last search.
     pub mask: Mask,
 }
 
-/// Where the reading ends.
+/// The end of the reading.
 #[derive(Drop)]
 pub enum Reached {
-    /// At the closing quote.
+    /// The place of the closing quote.
     Quote(usize),
-    /// Where the sink has no room for what follows.
+    /// The state at which the next value does not fit the sink.
     Full(Reading),
-    /// Where the body is refused: after its last item.
+    /// The place after the last item, and the error there.
     Refused(usize, ParseError),
 }
 
-/// Reads the items of a body from the state `from` on, and puts what they stand for into `sink`: up
-/// to the closing quote, or up to where the body is refused or the rest does not fit.
+/// Reads the items of a body from the state `from` on, and puts their values into `sink`. Stops at
+/// the closing quote, at an error, or if a value does not fit.
 #[inline(never)]
 pub(crate) fn read_items<S: Sink, A: Allows>(
     input: &str,

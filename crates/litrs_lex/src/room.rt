@@ -5,15 +5,15 @@ use crate::sink::Sink;
 use litrs_base::Unescape;
 use std::marker::Model;
 
-/// How many bytes a short run moves.
+/// The number of bytes that are moved for a short run.
 const MOVE_LEN: usize = 16;
 
-/// The bytes of a value of at most `N` bytes.
+/// A value of at most `N` bytes.
 #[derive(Drop)]
 pub(crate) struct Room<const N: usize> {
-    /// The bytes, and after them what may be written over.
+    /// The bytes of the value, followed by bytes that may be overwritten.
     room: [u8; N],
-    /// How many bytes there are.
+    /// The length of the value.
     len: usize,
 }
 
@@ -26,7 +26,7 @@ impl<const N: usize> Model for Room<N> {
 }
 
 impl<const N: usize> Room<N> {
-    /// An empty one.
+    /// Creates an empty value.
     #[inline(always)]
     pub(crate) fn new() -> Room<N>
         ensures { result ≡ [] }
@@ -37,7 +37,7 @@ impl<const N: usize> Room<N> {
         }
     }
 
-    /// The bytes.
+    /// Returns the bytes of the value.
     #[inline(always)]
     pub(crate) fn as_bytes(&self) -> &[u8]
         ensures { result.now ≡ self.now }
@@ -45,7 +45,7 @@ impl<const N: usize> Room<N> {
         &self.room[..self.len]
     }
 
-    /// Takes all bytes away.
+    /// Removes all bytes.
     #[inline(always)]
     pub(crate) fn clear(&mut self)
         ensures { self.new ≡ [] }
@@ -53,7 +53,7 @@ impl<const N: usize> Room<N> {
         self.len = 0;
     }
 
-    /// Adds `bytes`. Returns `false` if they do not fit.
+    /// Appends `bytes`. Returns `false` if they do not fit.
     #[inline(always)]
     pub(crate) fn push_bytes(&mut self, bytes: &[u8]) -> bool
         ensures taken { IsTrue result → self.new ≡ self.old ++ bytes.now }
@@ -69,10 +69,10 @@ impl<const N: usize> Room<N> {
         }
     }
 
-    /// Adds the bytes of `text` from `start` up to `end`. Returns `false` if they do not fit.
+    /// Appends the bytes of `text` from `start` up to `end`. Returns `false` if they do not fit.
     ///
-    /// A run of at most 16 bytes is moved as 16, where the text and the room have so many left: the
-    /// bytes that are too many are written over by the next.
+    /// A run of at most 16 bytes is moved as 16 if `text` and the room have as many left. The next
+    /// bytes overwrite the surplus.
     #[inline(always)]
     pub(crate) fn push_part(&mut self, text: &[u8], start: usize, end: usize) -> bool
         requires { (start ≤ end) × (end ≤ length text.now) }
@@ -81,7 +81,7 @@ impl<const N: usize> Room<N> {
         ensures full { IsFalse result →
             (self.new ≡ self.old) × (N < length self.old + (end - start)) }
     {
-        // None stand between two escapes.
+        // There are none between two escapes.
         if start == end {
             return true;
         }
@@ -98,7 +98,7 @@ impl<const N: usize> Room<N> {
     }
 }
 
-/// Copies bytes over those from a place on.
+/// Copies `bytes` over those of `room` from `place` on.
 #[inline(always)]
 fn copy_at(room: &mut [u8], place: usize, bytes: &[u8])
     requires { place + length bytes.now ≤ length room.old }

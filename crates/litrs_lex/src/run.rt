@@ -6,10 +6,10 @@ ghost use Rattle.litrs_lex.specs.declared.run.TheConstants.{CLASSES};
 
 use litrs_base::IntegerBase;
 
-/// What a run is made of.
+/// A class of bytes that form a run.
 #[derive(Clone, Copy, Debug, PartialEq, Eq)]
 pub enum Run {
-    /// Digits of the base, and underscores.
+    /// Digits of the base and underscores.
     Digits(IntegerBase),
     /// ASCII letters, decimal digits and underscores.
     Identifier,
@@ -19,8 +19,8 @@ pub enum Run {
     Hashes,
 }
 
-/// What each byte is, one bit each: a digit of base 2, 8, 10 or 16, an ASCII letter, an underscore,
-/// a blank, `#`.
+/// The classes of each byte, one bit each: a digit of base 2, 8, 10 or 16, an ASCII letter, an
+/// underscore, a blank, `#`.
 static CLASSES: [u8; 256] = *b"\
     \x00\x00\x00\x00\x00\x00\x00\x00\x00\x40\x40\x00\x00\x00\x00\x00\
     \x00\x00\x00\x00\x00\x00\x00\x00\x00\x00\x00\x00\x00\x00\x00\x00\
@@ -39,7 +39,7 @@ static CLASSES: [u8; 256] = *b"\
     \x00\x00\x00\x00\x00\x00\x00\x00\x00\x00\x00\x00\x00\x00\x00\x00\
     \x00\x00\x00\x00\x00\x00\x00\x00\x00\x00\x00\x00\x00\x00\x00\x00";
 
-/// The bits of [`CLASSES`] of which the bytes of the run have one, and no others have.
+/// Returns bits of [`CLASSES`]: a byte has one of them if and only if it is in the run.
 #[inline(always)]
 fn classes(run: Run) -> u8
     ensures { (byte : ℕ) → byte < 256 →
@@ -63,7 +63,7 @@ fn is_in_run(byte: u8, run: Run) -> bool
     CLASSES[byte as usize] & classes(run) != 0
 }
 
-/// How many bytes at the front are of the run.
+/// Returns the length of the run at the front of `bytes`.
 ///
 /// ```
 /// assert_eq!(rt; run_end(b"1_0a2", Run::Digits(IntegerBase::Decimal)), 3);

@@ -1,4 +1,4 @@
-//! The search for the next special byte of a body, and for one after the other.
+//! The search for special bytes of a body.
 ghost use Rattle.std.specs.Prelude.{◌≡◌, ◌==◌, ◌+◌, ◌-◌, ◌≤◌, ◌<◌, List, ℕ, length, drop, map, if◌then◌else◌};
 ghost use Rattle.std.specs.Simd.Lanes.{mask_l, chunk};
 ghost use Rattle.std.specs.List.{prefix_len};
@@ -8,34 +8,33 @@ ghost use Rattle.litrs_lex.specs.Mask.{IsMaskOf};
 
 use std::simd::prelude::*;
 
-/// Which bytes are special beside `"` and CR, which always are.
+/// The bytes that are special beside `"` and CR, which always are.
 #[derive(Clone, Copy, Debug, PartialEq, Eq)]
 pub struct Special {
-    /// The backslash.
+    /// Set if the backslash is special.
     pub backslash: bool,
-    /// The byte zero.
+    /// Set if the byte zero is special.
     pub nul: bool,
-    /// The bytes above 7F, of which characters beyond ASCII are made in UTF-8.
+    /// Set if the bytes above 7F are special, which encode characters that are not ASCII.
     pub non_ascii: bool,
 }
 
-/// How many bytes of a long text one load reads.
+/// The number of bytes of a long text that one load reads.
 const LOAD: usize = 32;
 
-/// Which bytes of a part of a text are special, as far as a search has found out. Places count
-/// bytes.
+/// The special bytes of a part of a text, as a search has found them. Places are in bytes.
 #[derive(Clone, Copy, Debug, PartialEq, Eq)]
 pub struct Mask {
-    /// Where the part starts.
+    /// The start of the part.
     pub start: usize,
-    /// Where it ends, at most 32 bytes further on.
+    /// The end of the part, which has at most 32 bytes.
     pub end: usize,
-    /// Bit i is set where the byte at `start + i` is special.
+    /// A mask: bit `i` is set if the byte at `start + i` is special.
     pub bits: u64,
 }
 
 impl Mask {
-    /// An empty part at the place.
+    /// Creates a mask of an empty part at `place`.
     #[inline(always)]
     pub fn empty_at(place: usize) -> Mask
         ensures start { result.start ≡ place }
@@ -50,10 +49,10 @@ impl Mask {
     }
 }
 
-/// The least place at or after `from` whose byte is special: `"`, CR, or another of `what`; the
-/// length where there is none. Places count bytes.
+/// Returns the least place at or after `from` of a special byte: `"`, CR, or another of `what`.
+/// Returns the length of `bytes` if there is none.
 ///
-/// `from` may not pass the length.
+/// `from` is at most the length of `bytes`.
 ///
 /// ```
 /// let what = Special { backslash: true, nul: false, non_ascii: false };
@@ -72,11 +71,11 @@ pub fn next_special(bytes: &[u8], from: usize, what: Special) -> usize
     next_special_masked(bytes, from, what, Mask::empty_at(from)).0
 }
 
-/// [`next_special`] from an earlier mask, and the new mask. Where the earlier one has a special
-/// byte at or after `from`, nothing is read: so special bytes that stand close to each other cost
-/// one load.
+/// Like [`next_special`], but starts with the mask of an earlier search, and returns the new mask.
+/// If `mask` has a special byte at or after `from`, nothing is read, so special bytes that are
+/// close to each other cost one load.
 ///
-/// `from` may not pass the length, nor stand before where the mask starts.
+/// `from` is at most the length of `bytes`, and at least the start of `mask`.
 ///
 /// ```
 /// let what = Special { backslash: true, nul: false, non_ascii: false };
@@ -104,8 +103,8 @@ pub fn next_special_masked(bytes: &[u8], from: usize, what: Special, mask: Mask)
     load_mask(bytes, unread, what, mask)
 }
 
-/// [`next_special`] by new masks: one of the whole text if it is short, else of 32 bytes at a time.
-/// Of at most three bytes none is made.
+/// Like [`next_special`], by new masks: one of the whole text if it is short, otherwise one of each
+/// 32 bytes. For at most three bytes there is no mask.
 #[inline(always)]
 fn load_mask(bytes: &[u8], from: usize, what: Special, mask: Mask) -> (usize, Mask)
     requires from { from ≤ length bytes.now }
@@ -124,8 +123,8 @@ fn load_mask(bytes: &[u8], from: usize, what: Special, mask: Mask) -> (usize, Ma
     }
 }
 
-/// [`load_mask`] of N to 2 N bytes, by a load of the first N and one of the last: the bits of the
-/// last that the first have too are shifted out.
+/// Like [`load_mask`], for `N` to `2 * N` bytes, by a load of the first `N` and one of the last
+/// `N`. The bits of bytes that both loads have are shifted out of the second.
 #[inline(always)]
 fn mask_all<const N: usize>(bytes: &[u8], from: usize, what: Special) -> (usize, Mask)
     requires within { from ≤ length bytes.now }
@@ -146,8 +145,8 @@ fn mask_all<const N: usize>(bytes: &[u8], from: usize, what: Special) -> (usize,
     )
 }
 
-/// [`load_mask`] of at least 32 bytes, by so many a step. The last load is of the last 32, and
-/// the bits of those before what is left are shifted out.
+/// Like [`load_mask`], for at least 32 bytes, by 32 bytes a step. The last load is that of the last
+/// 32 bytes, and the bits of bytes that were read before are shifted out.
 #[inline(always)]
 fn mask_by_lanes(bytes: &[u8], from: usize, what: Special) -> (usize, Mask)
     requires { (from ≤ length bytes.now) × (32 ≤ length bytes.now) }
@@ -187,7 +186,7 @@ fn is_special(byte: u8, what: Special) -> bool
         || what.non_ascii && !byte.is_ascii()
 }
 
-/// How many bytes stand before the first special one, by single bytes.
+/// Returns the number of bytes before the first special one, byte by byte.
 #[inline(always)]
 fn ordinary_len(bytes: &[u8], what: Special) -> usize
     ensures len { result ≡ prefix_len (is_ordinary what) bytes.now }
@@ -196,8 +195,8 @@ fn ordinary_len(bytes: &[u8], what: Special) -> usize
     bytes.iter().take_while(|b| !is_special(**b, what)).count()
 }
 
-/// The place of the lowest bit that is set, where bit 0 is that of the place `from`; `end` where
-/// none is.
+/// Returns the place of the lowest bit that is set, or `end` if there is none. Bit 0 belongs to the
+/// place `from`.
 #[inline(always)]
 fn lowest_bit_place(bits: u64, from: usize, end: usize) -> usize
     requires { 0 < bits → from + trailing_zeros w64 bits ≤ end }
@@ -210,7 +209,7 @@ fn lowest_bit_place(bits: u64, from: usize, end: usize) -> usize
     }
 }
 
-/// The byte to compare lanes with, or the other one where it is not searched for.
+/// Returns `byte`, with which lanes are compared, or `other` if `byte` is not searched for.
 #[inline(always)]
 fn needle(is_wanted: bool, byte: u8, other: u8) -> u8
     ensures { result ≡ if is_wanted then byte else other }
@@ -218,9 +217,10 @@ fn needle(is_wanted: bool, byte: u8, other: u8) -> u8
     if is_wanted { byte } else { other }
 }
 
-/// The special bytes among the N from `at` on: bit i is that of the byte at `at + i`.
+/// Returns the mask of the `N` bytes from `at` on: bit `i` is set if the byte at `at + i` is
+/// special.
 ///
-/// A byte that is not searched for stands as CR, and the limit as 255, which no byte passes.
+/// A byte that is not searched for is replaced by CR, and the limit by 255, which no byte exceeds.
 #[inline(always)]
 fn special_mask<const N: usize>(bytes: &[u8], at: usize, what: Special) -> u64
     requires { (at + N ≤ length bytes.now) × (N ≤ 64) }

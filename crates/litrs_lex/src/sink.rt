@@ -1,4 +1,4 @@
-//! What the items of a quoted body are put into.
+//! Sinks for the items of a quoted body.
 ghost use Rattle.std.specs.Prelude.{◌≡◌, ◌≤◌, ◌<◌, ◌^◌, ◌+◌, ◌-◌, ◌++◌, ℕ, List, Bool, true, length, take, drop, IfSome, IsTrue, IsFalse};
 ghost use Rattle.std.specs.Str.{IsCharBoundary};
 ghost use Rattle.litrs_lex.specs.Container.{is_pushable};
@@ -6,19 +6,19 @@ ghost use Rattle.litrs_lex.specs.QuotedItems.{item_bytes};
 
 use litrs_base::Unescape;
 
-/// Takes the value of a body, run by run and item by item. If one does not fit, the sink stays as it
-/// was.
+/// A sink for the value of a body, run by run and item by item. If one does not fit, the sink is
+/// unchanged.
 pub(crate) trait Sink {
-    /// Whether it holds this value, as far as it keeps any.
+    /// The condition that the sink has this value, if it keeps values.
     ghost holds: { Self → List ℕ → Type 0 };
 
-    /// Whether it takes bytes above 7F.
+    /// `true` if the sink can hold bytes above 7F.
     ghost takes_bytes: { Bool };
 
     /// The length in bytes up to which every value fits.
     ghost room: { Self → ℕ };
 
-    /// Adds the bytes of `text` from `start` up to `end`. Returns `false` if they do not fit.
+    /// Appends the bytes of `text` from `start` up to `end`. Returns `false` if they do not fit.
     fn push_run(&mut self, text: &str, start: usize, end: usize) -> bool
         requires order { start ≤ end }
         requires start { IsCharBoundary text.now start }
@@ -30,7 +30,7 @@ pub(crate) trait Sink {
         ensures full { IsFalse result → (v : List ℕ) → holds self.old v →
             holds self.new v × (room self.old < length v + (end - start)) };
 
-    /// Adds the value of an item with a backslash. Returns `false` if it does not fit.
+    /// Appends the value of an item with a backslash. Returns `false` if it does not fit.
     fn push(&mut self, value: Option<Unescape>) -> bool
         requires pushable { IfSome value (λ v. IsTrue (is_pushable takes_bytes v)) }
         requires small { (v : List ℕ) × (holds self.old v
@@ -42,10 +42,10 @@ pub(crate) trait Sink {
             holds self.new v × (room self.old < length v + length (item_bytes value)) };
 }
 
-/// The length of a value, which is not kept. The value of every text fits.
+/// A sink that keeps only the length of a value. The value of every text fits.
 #[derive(Clone, Copy)]
 pub(crate) struct Counted {
-    /// How many bytes the value has.
+    /// The length of the value in bytes.
     pub(crate) len: usize,
 }
 

@@ -1,4 +1,4 @@
-//! What stands where the plain characters of a body end.
+//! The item or quote after the plain characters of a body.
 ghost use Rattle.std.specs.Prelude.{◌≡◌, ◌≤◌, ◌==◌, length, IfOk, IfErr, IsTrue, IsFalse};
 ghost use Rattle.std.specs.List.{prefix_len};
 ghost use Rattle.std.specs.Str.{chars, IsCharBoundary};
@@ -16,20 +16,21 @@ use crate::search::{Mask, next_special_masked};
 use crate::{Run, Special, Switches, next_special, run_end, unescape_with};
 use litrs_base::{ParseError, ParseErrorKind, Unescape};
 
-/// What stands there.
+/// The closing quote, or an item with a backslash.
 #[derive(Clone, Copy)]
 pub(crate) enum Stop {
     /// The closing quote.
     Quote,
-    /// An escape with its value, or a continuation with none, of so many bytes.
+    /// An escape with its value, or a continuation without a value, and its length in bytes.
     Item(Option<Unescape>, usize),
 }
 
-/// What stands at the front of a text that begins with no plain character.
+/// Parses the item or the closing quote at the front of `rest`, which does not start with a plain
+/// character.
 ///
 /// # Errors
 ///
-/// Why neither an item nor a quote stands there. The spans count from the front.
+/// Returns an error if `rest` starts with neither. The spans count from the start of `rest`.
 #[inline(always)]
 pub(crate) fn stop_at(rest: &str, allowed: Switches) -> Result<Stop, ParseError>
     requires { IsFalse (first_passes (is_plain allowed) (chars rest.now)) }
@@ -59,7 +60,7 @@ pub(crate) fn stop_at(rest: &str, allowed: Switches) -> Result<Stop, ParseError>
     }
 }
 
-/// The bytes at which the plain characters of a body end, beside `"` and CR.
+/// Returns the bytes at which the plain characters of a body end, beside `"` and CR.
 #[inline(always)]
 fn special(allowed: Switches) -> Special
     ensures { result ≡ stops allowed.unicode allowed.allow_nul }
@@ -71,7 +72,7 @@ fn special(allowed: Switches) -> Special
     }
 }
 
-/// Where the plain characters end that stand from `from` on: the search that decides most strings,
+/// Returns the end of the plain characters from `from` on. This search decides most strings, and is
 /// compiled for each kind.
 #[inline(never)]
 pub(crate) fn first_plain_end<A: Allows>(input: &str, from: usize, allowed: A) -> usize
@@ -82,8 +83,8 @@ pub(crate) fn first_plain_end<A: Allows>(input: &str, from: usize, allowed: A) -
     next_special(input.as_bytes(), from, special(switches))
 }
 
-/// [`first_plain_end`] from an earlier mask, and the new mask. A backslash at `from` costs no
-/// search.
+/// Like [`first_plain_end`], but starts with the mask of an earlier search, and returns the new
+/// mask. A backslash at `from` costs no search.
 #[inline(always)]
 pub(crate) fn plain_end(input: &str, from: usize, allowed: Switches, mask: Mask) -> (usize, Mask)
     requires at { IsCharBoundary input.now from }
@@ -100,8 +101,8 @@ pub(crate) fn plain_end(input: &str, from: usize, allowed: Switches, mask: Mask)
     }
 }
 
-/// The text without its last character. One that is ASCII, as a closing quote is, is cut off
-/// without a call.
+/// Returns `text` without its last character. An ASCII character, for example a closing quote, is
+/// cut off without a call.
 #[inline(always)]
 fn without_last(text: &str) -> &str
     ensures { chars result.now ≡ without_last (chars text.now) }
@@ -113,7 +114,7 @@ fn without_last(text: &str) -> &str
     without_last_of_any(text)
 }
 
-/// [`without_last`] of a text that may end with a character beyond ASCII.
+/// Like [`without_last`], for a text that may end with a character that is not ASCII.
 #[inline(never)]
 fn without_last_of_any(text: &str) -> &str
     ensures { chars result.now ≡ without_last (chars text.now) }

@@ -20,25 +20,25 @@ use crate::stop::first_plain_end;
 use litrs_base::{ParseError, ParseErrorKind};
 use std::alloc::Global;
 
-/// How many bytes of a value are put together on the stack at first.
+/// The size in bytes of the first buffer on the stack.
 const SHORT: usize = 128;
 
-/// How many are where those do not do. A value that is longer is read twice.
+/// The size in bytes of the second buffer, for values that do not fit the first. A longer value is
+/// read twice.
 const LONG: usize = 4096;
 
-/// Unescapes a quoted literal whose body begins at `offset`: the value, where the body has a
-/// backslash, and the place in bytes where the suffix begins. Without a backslash the value is the
-/// body itself, and none is given. Of `"a\nb"u8` from 1 the value is `a`, LF and `b`, and the place
-/// 6. See [the reference][ref].
+/// Unescapes a quoted literal whose body starts at `offset`. Returns the value, or `None` if the
+/// body has no backslash and equals the value, and the place of the suffix, in bytes. For
+/// `"a\nb"u8` and 1 the value is `a`, LF and `b`, and the place is 6. See [the reference][ref].
 ///
-/// `offset` and the switches are those of [`cut_quoted`]; `byte_escapes` is set only where the
-/// container takes bytes. There is one allocation, of the value's length, and of one byte more
-/// where NUL is not allowed, for the closing zero of a C string.
+/// `offset` and the switches are those of [`cut_quoted`]. `byte_escapes` is set only if the
+/// container can hold all bytes. There is one allocation, of the length of the value. If NUL is not
+/// allowed, it has one byte more, for the closing zero of a C string.
 ///
 /// # Errors
 ///
-/// The refusal of [`cut_quoted`]; `OutOfMemory`, with no span, where the text is a literal whose
-/// body has a backslash, and there is no memory for its value.
+/// Returns the error of [`cut_quoted`]. Returns `OutOfMemory` without a span if `input` is a
+/// literal whose body has a backslash, and the allocation of its value fails.
 ///
 /// [ref]: https://doc.rust-lang.org/reference/tokens.html#string-literals
 #[inline(always)]
@@ -67,11 +67,11 @@ pub fn unescape_string<C: EscapeContainer>(
     unescape_string_with(alloc, input, offset, allowed)
 }
 
-/// [`unescape_string`] by what is allowed.
+/// Like [`unescape_string`], with the switches in one value.
 ///
 /// # Errors
 ///
-/// Those of [`unescape_string`].
+/// Like [`unescape_string`].
 #[inline(always)]
 pub fn unescape_string_with<C: EscapeContainer, A: Allows>(
     alloc: Global,
@@ -89,7 +89,7 @@ pub fn unescape_string_with<C: EscapeContainer, A: Allows>(
         ⊎ IsQuotedOutOfMemory (A.allowed allowed) input.now offset e) }
 {
     let place = first_plain_end(input, offset, allowed);
-    // Asked first: most strings end so, and take no room for a value or a refusal.
+    // Tested first, because most strings end like this, and need no room for a value or an error.
     if is_lone_quote(input[place..].as_bytes()) {
         Ok((None, place + 1))
     } else {
@@ -97,7 +97,7 @@ pub fn unescape_string_with<C: EscapeContainer, A: Allows>(
     }
 }
 
-/// [`unescape_string_with`] of a body whose plain characters at its front end at `place`.
+/// Like [`unescape_string_with`], for a body whose plain characters at the front end at `place`.
 #[inline(never)]
 fn read_value<C: EscapeContainer, A: Allows>(
     alloc: Global,
@@ -124,7 +124,7 @@ fn read_value<C: EscapeContainer, A: Allows>(
     }
 }
 
-/// [`read_value`] where the body is read, and stands for these bytes.
+/// Like [`read_value`], for a body that is read, and whose value is `value`.
 fn finished<C: EscapeContainer, A: Allows>(
     alloc: Global,
     input: &str,
@@ -149,7 +149,8 @@ fn finished<C: EscapeContainer, A: Allows>(
     }
 }
 
-/// [`read_value`] from a state on, up to which the body stands for these bytes, in a room for more.
+/// Like [`read_value`], from the state `from` on, with a larger room. The value up to there is
+/// `value`.
 fn read_longer<C: EscapeContainer, A: Allows>(
     alloc: Global,
     input: &str,
@@ -174,8 +175,8 @@ fn read_longer<C: EscapeContainer, A: Allows>(
     }
 }
 
-/// [`read_value`] from a state on, up to which the body stands for these bytes: what follows is
-/// counted, and then put into a container which has that much room.
+/// Like [`read_value`], from the state `from` on. The value up to there is `value`. The rest is
+/// counted first, and then put into a container with that capacity.
 fn read_twice<C: EscapeContainer, A: Allows>(
     alloc: Global,
     input: &str,
@@ -209,12 +210,12 @@ fn read_twice<C: EscapeContainer, A: Allows>(
     }
 }
 
-/// Makes an empty container with room for a value of `len` bytes, and for the closing zero of a C
-/// string.
+/// Creates an empty container with capacity for a value of `len` bytes, and for the closing zero of
+/// a C string.
 ///
 /// # Errors
 ///
-/// `OutOfMemory`, with no span, if there is no memory for them.
+/// Returns `OutOfMemory` without a span if the allocation fails.
 fn container_for<C: EscapeContainer, A: Allows>(
     alloc: Global,
     len: usize,
@@ -249,8 +250,8 @@ fn copied<C: EscapeContainer>(mut into: C, bytes: &[u8]) -> C
     }
 }
 
-/// Puts the value of a literal into the empty container `into`, in which it fits: the bytes `value`,
-/// and what the items from the state on stand for.
+/// Puts the value of a literal into the empty container `into`, in which it fits: the bytes
+/// `value`, and the values of the items from the state `from` on.
 fn filled<C: EscapeContainer, A: Allows>(
     input: &str,
     offset: usize,

@@ -37,7 +37,7 @@ const PRINTED: &[(&str, &str)] = &[
     ),
 ];
 
-/// The same columns for an error of an empty text at 3..4: the description has the width.
+/// An error of an empty text at 3..4 in the same columns: the width is that of the description.
 const REFUSAL: &str = concat!(
     "  input is empty (at 3..4)|",
     "input is empty   (at 3..4)| input is empty  (at 3..4)|in (at 3..4)|",

@@ -81,7 +81,7 @@ fn is_no_longer_anew(alloc: Global, lit: &Literal<&str>) -> bool {
     }
 }
 
-/// The length of a literal.
+/// Returns the length of a literal.
 fn length<B: Buffer>(lit: &Literal<B>) -> usize {
     lit.raw_input().len()
 }

@@ -476,7 +476,7 @@ error: here
 
 "#;
 
-/// The lines on the range of a text, or that it is none of the text.
+/// Returns the lines on the range of a text, or a message if the range is not in the text.
 fn lines(
     alloc: Global,
     (start, end, width, first_line, first_column): Place,

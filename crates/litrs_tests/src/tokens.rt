@@ -8,7 +8,7 @@ use std::process::Abort;
 const MESSAGE: &str =
     "expected an integer literal (e.g. `27`), but found a string literal (e.g. \"Ferris\")";
 
-/// Why a string is no integer, where there is memory.
+/// Returns the error of a string as an integer, or `None` if an allocation fails.
 fn refused_string(alloc: Global) -> Option<InvalidToken> {
     let Ok(string) = Literal::string(alloc, "x") else {
         return None;

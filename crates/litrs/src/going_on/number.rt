@@ -10,8 +10,8 @@ ghost use Rattle.litrs.specs.MayGainDigits.{may_gain_digits};
 
 use litrs_lex::{ParseError, ParseErrorKind, cut_number};
 
-/// Whether a text that begins with a decimal digit begins a number of the kind that it is parsed
-/// as.
+/// Returns `true` if `text`, which starts with a decimal digit, begins a number of the kind as
+/// which it is parsed.
 #[inline(never)]
 pub(crate) fn number_goes_on(text: &str) -> bool
     requires { IsTrue (first_passes is_ascii_digit text.now) }
@@ -24,8 +24,8 @@ pub(crate) fn number_goes_on(text: &str) -> bool
     }
 }
 
-/// Whether a digit after a refused number of this length makes it a number, as its end lacks one:
-/// of `0x` and `1e+_`, and not of `0xg`.
+/// Returns `true` if only a digit is missing at the end of an invalid number of `len` bytes: for
+/// `0x` and `1e+_`, but not for `0xg`.
 fn may_gain_digits(refusal: &ParseError, len: usize) -> bool
     ensures { result ≡ may_gain_digits (refusal_of refusal.now) len }
 {

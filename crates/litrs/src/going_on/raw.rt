@@ -13,7 +13,7 @@ ghost use Rattle.litrs.specs.LoneUnderscore.{is_lone_underscore_suffix};
 use litrs_lex::hashes::{MAX_HASHES, are_hashes};
 use litrs_lex::{ParseError, ParseErrorKind, StringKind, Switches, scan_raw_string};
 
-/// Whether a text that begins as a raw string of the kind begins a string of it.
+/// Returns `true` if `text`, which starts like a raw string of `kind`, begins a string of `kind`.
 #[inline(never)]
 pub(crate) fn raw_goes_on(text: &str, kind: StringKind) -> bool
     requires { IsTrue (begins_with (raw_front kind) text.now) }
@@ -22,8 +22,8 @@ pub(crate) fn raw_goes_on(text: &str, kind: StringKind) -> bool
     raw_body_goes_on(text, kind.front_len(), kind.switches())
 }
 
-/// Whether a text begins a raw literal whose `r` ends at `offset`. The place and the switches are
-/// those of [`scan_raw_string`].
+/// Returns `true` if `text`, whose `r` ends at `offset`, begins a raw literal. `offset` and
+/// `allowed` are those of [`scan_raw_string`].
 fn raw_body_goes_on(text: &str, offset: usize, allowed: Switches) -> bool
     requires { IsCharBoundary text.now offset }
     ensures { IsTrue result
@@ -40,14 +40,14 @@ fn raw_body_goes_on(text: &str, offset: usize, allowed: Switches) -> bool
     }
 }
 
-/// Whether all are hashes, and no more than a raw literal may have.
+/// Returns `true` if `bytes` has only hashes, and at most as many as a raw literal may have.
 fn are_opening_hashes(bytes: &[u8]) -> bool
     ensures { result ≡ (nat_le (length bytes.now) 255 && list_all is_hash bytes.now) }
 {
     bytes.len() <= MAX_HASHES && are_hashes(bytes)
 }
 
-/// Whether the refusal is that of a suffix which is an underscore alone, at the end of the text.
+/// Returns `true` if the error is that of a suffix that is `_` alone, at the end of `text`.
 fn is_lone_underscore_suffix(refusal: &ParseError, text: &str) -> bool
     requires { IsInText (chars text.now) (refusal_of refusal.now) }
     ensures { result ≡ is_lone_underscore_suffix (span_of refusal.now) text.now }

@@ -5,7 +5,7 @@ ghost use Rattle.litrs.specs.Begins.{BeginsSuffix};
 
 use litrs_lex::check_suffix;
 
-/// Whether the text begins a suffix: it is one, or the `_` that stands alone.
+/// Returns `true` if `suffix` begins a suffix: it is one, or `_` alone.
 pub(crate) fn suffix_goes_on(suffix: &str) -> bool
     ensures { IsTrue result ↔ BeginsSuffix (chars suffix.now) }
 {

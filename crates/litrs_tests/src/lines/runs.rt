@@ -40,7 +40,7 @@ struct Run {
     output: MemOutput,
 }
 
-/// A run over an input. The pieces have these sizes, and the devices fail from the calls of these
+/// Runs over an input. The pieces have these sizes, and the devices fail from the calls with these
 /// numbers on.
 fn run_over(
     alloc: Global,
@@ -137,8 +137,9 @@ fn has_ended_at_write(run: &Run, written: usize) -> bool {
         && bytes.len() == written
 }
 
-/// The writes are of four bytes: 32 of the reports on the lines that an LF ends, whose last has
-/// three bytes, and ten of the last report, whose last has one. Then comes the flush.
+/// Fails each write and the flush in turn. The writes have four bytes: 32 are of the reports on the
+/// lines that an LF ends, the last of them of three bytes, and ten of the last report, the last of
+/// them of one byte. The flush follows.
 #[test]
 fn each_write_fails(rt: HostRuntime) {
     for number in 0..=42 {
