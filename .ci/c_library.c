@@ -5,20 +5,29 @@
  * of litrs_value and of litrs_message; then the same of litrs_parse, litrs_value and litrs_message,
  * by their status alone, with every allocation refused; then how often memory was asked for by
  * litrs_parse, litrs_value, litrs_message and litrs_goes_on; the fields of litrs_prefix in their
- * order, its status with every allocation refused, and how often it asked for memory; and at last,
- * of litrs_f64 and of litrs_f32, the status, the bits of the value, the status with every
- * allocation refused, and how often it asked for memory. It ends with status 2 where a call wrote
- * outside of its room or kept memory, where litrs_f64 or litrs_f32 wrote without a value, where a
- * form that ends in _into answers otherwise than by value or writes what the status does not speak
- * of, where NULL is not the empty text, where the names of kinds are others, and where what is
- * written of a value is not its literal.
+ * order, its status with every allocation refused, and how often it asked for memory; of litrs_f64
+ * and of litrs_f32, the status, the bits of the value, the status with every allocation refused,
+ * and how often it asked for memory; and at last of each token the kind, what it documents, 1 if it
+ * is trivia, and its end. It ends with status 2 where a call wrote outside of its room or kept
+ * memory, where litrs_f64 or litrs_f32 wrote without a value, where a form that ends in _into
+ * answers otherwise than by value or writes what the status does not speak of, where NULL is not
+ * the empty text, where the names of kinds are others, where what is written of a value is not its
+ * literal, and where a cursor is moved or a token written that is not there.
+ *
+ * A walk over a long text has to read no more of it at each step than the page of its place, the
+ * next one, and the last one, of which it may ask what the last character is. All other pages are
+ * protected, so a step that reads them ends the program by a signal.
  *
  * It is linked with --wrap for malloc, realloc and free. */
+#define _DEFAULT_SOURCE
+
 #include "litrs.h"
 
 #include <stdio.h>
 #include <stdlib.h>
 #include <string.h>
+#include <sys/mman.h>
+#include <unistd.h>
 
 typedef litrs_written writes(const uint8_t *, size_t, uint8_t *, size_t);
 typedef litrs_written writes_value(const uint8_t *, size_t, const uint8_t *, size_t, uint8_t *,
@@ -215,6 +224,105 @@ static void print_f32(const uint8_t *text, size_t len) {
     printf(" %u %zu", (unsigned)refused, by_call);
 }
 
+/* Texts from this length on are walked once, and not from each place. */
+enum { SHORT = 1000 };
+
+static size_t from;
+
+/* The call on a text that is checked, from a place on, in the form of the call on a text. */
+static size_t parse_prefix_from(const uint8_t *text, size_t len, litrs_answer *answer) {
+    litrs_cursor cursor, old;
+    hold(litrs_check(text, len, &cursor), "the text is not UTF-8");
+    cursor.at = from;
+    old = cursor;
+    len = litrs_parse_prefix_at(&cursor, answer);
+    hold(memcmp(&old, &cursor, sizeof old) == 0, "the cursor is moved by a prefix");
+    return len;
+}
+
+/* From each place of the text and one past it: a token is there if a character begins there, and
+ * what is at the front is that of the text from there on. */
+static void hold_places(const litrs_cursor *start) {
+    for (from = 0; from <= start->len + 1; from++) {
+        bool begins = from < start->len && (start->text[from] & 0xC0) != 0x80;
+        litrs_cursor cursor = *start, old;
+        litrs_token token;
+        litrs_prefix front;
+        cursor.at = from;
+        old = cursor;
+        memset(&token, 0xAA, sizeof token);
+        hold(litrs_next_token(&cursor, &token) == begins, "another place has a token");
+        if (begins) {
+            front = litrs_parse_prefix(start->text + from, start->len - from);
+            hold(token.place.start == from, "a token that starts elsewhere");
+        } else {
+            hold(memcmp(&old, &cursor, sizeof old) == 0, "the cursor is moved without a token");
+            hold(is_untouched(&token, sizeof token), "a token is written without one");
+            memset(&front, 0, sizeof front);
+            front.answer.status = LITRS_NO_PREFIX;
+        }
+        hold_into(parse_prefix_from, start->text, start->len, front);
+    }
+}
+
+/* Prints the tokens of a text, and holds them to be its parts, one after the other. */
+static void print_tokens(const uint8_t *text, size_t len) {
+    size_t before = asked, last = 0;
+    litrs_cursor cursor, start;
+    litrs_token token;
+    bool is_text;
+    memset(&cursor, 0xAA, sizeof cursor);
+    is_text = litrs_check(text, len, &cursor);
+    start = cursor;
+    hold(cursor.at == 0 && cursor.len == (is_text ? len : 0), "a cursor of another text");
+    hold(cursor.text == text || cursor.len == 0, "a cursor of another text");
+    printf(" ");
+    while (litrs_next_token(&cursor, &token)) {
+        size_t end = token.place.end;
+        hold(token.place.start == last && end > last && end <= len, "tokens that do not follow");
+        hold(cursor.at == end && cursor.text == text, "the cursor is not at the end of its token");
+        printf("%u,%u,", (unsigned)token.kind, (unsigned)token.doc_style);
+        printf("%d,%zu;", token.is_trivia, end);
+        last = end;
+    }
+    hold(last == cursor.len && cursor.at == last, "the tokens are not the text");
+    hold(!litrs_next_token(&cursor, &token) && cursor.at == last, "a token after the last");
+    hold(asked == before, "a walk asks for memory");
+    printf("%s.", is_text ? "" : "-");
+    if (cursor.len < SHORT)
+        hold_places(&start);
+    cursor.at = SIZE_MAX;
+    hold(!litrs_next_token(&cursor, &token) && cursor.at == SIZE_MAX, "a token past the end");
+}
+
+/* Walks a text of which only the page of the cursor, the next one and the last one can be read. */
+static void hold_window(void) {
+    static const char line[] = "let \xc3\xa9 = b\"\\n\" + 0x1F_u8; // \xe2\x82\xac\n";
+    size_t page = (size_t)sysconf(_SC_PAGESIZE), count = 64, size = page * count, walked = 0, i;
+    uint8_t *text = (uint8_t *)mmap(NULL, size, PROT_READ | PROT_WRITE,
+                                    MAP_PRIVATE | MAP_ANONYMOUS, -1, 0);
+    litrs_cursor cursor;
+    litrs_token token;
+    litrs_answer answer;
+    hold(text != MAP_FAILED, "no memory");
+    memset(text, '\n', size);
+    for (i = 0; i + sizeof line <= size; i += sizeof line - 1)
+        memcpy(text + i, line, sizeof line - 1);
+    hold(litrs_check(text, size, &cursor), "the text is not UTF-8");
+    for (i = 0; i < count; i++) {
+        mprotect(text, size, PROT_NONE);
+        mprotect(text + page * i, page * (i + 1 < count ? 2 : 1), PROT_READ);
+        mprotect(text + page * (count - 1), page, PROT_READ);
+        while (cursor.at < page * (i + 1)) {
+            litrs_parse_prefix_at(&cursor, &answer);
+            hold(litrs_next_token(&cursor, &token), "the text ends too early");
+            walked++;
+        }
+    }
+    hold(cursor.at == size && walked > size / 8, "too few tokens");
+    munmap(text, size);
+}
+
 static void print_text(const uint8_t *text, size_t len, uint8_t *room) {
     size_t before = held, by_parse, by_value, by_message, by_goes_on, by_prefix;
     bool goes_on;
@@ -250,6 +358,7 @@ static void print_text(const uint8_t *text, size_t len, uint8_t *room) {
     printf(" %zu", by_prefix);
     print_f64(text, len);
     print_f32(text, len);
+    print_tokens(text, len);
     printf("\n");
     hold(held == before, "memory is kept");
 }
@@ -260,6 +369,8 @@ static void hold_null(void) {
     uint8_t room[80];
     double wide;
     float narrow;
+    litrs_cursor cursor;
+    litrs_token token;
     litrs_answer answer = litrs_parse(none, 0), same = litrs_parse(NULL, 0);
     litrs_prefix prefix = litrs_parse_prefix(NULL, 0);
     litrs_written value = litrs_value(NULL, 0, NULL, 0), message = litrs_message(NULL, 0, NULL, 0);
@@ -273,6 +384,13 @@ static void hold_null(void) {
     hold(litrs_goes_on(NULL, 0), "NULL does not go on");
     hold(litrs_f64(NULL, 0, &wide) == LITRS_REFUSED, "NULL is a number");
     hold(litrs_f32(NULL, 0, &narrow) == LITRS_REFUSED, "NULL is a number");
+    memset(&cursor, 0xAA, sizeof cursor);
+    hold(litrs_check(NULL, 0, &cursor) && cursor.len == 0 && cursor.at == 0, "NULL is no text");
+    hold(!litrs_next_token(&cursor, &token), "a token of NULL");
+    hold(litrs_parse_prefix_at(&cursor, &answer) == 0, "a prefix of NULL");
+    hold(answer.status == LITRS_NO_PREFIX, "a prefix of NULL");
+    cursor.at = 1;
+    hold(!litrs_next_token(&cursor, &token) && cursor.at == 1, "a token past NULL");
     value = litrs_value((const uint8_t *)"\"a\"", 3, NULL, 0);
     hold(value.status == LITRS_LITERAL && value.len == 1, "no length for a room of NULL");
 }
@@ -390,6 +508,9 @@ static void hold_names(void) {
     hold(strcmp(litrs_kind_name(LITRS_C_STRING + 1), "Unknown") == 0, "a kind too many");
     hold(strcmp(litrs_error_name(LITRS_ERROR_EMPTY), "Empty") == 0, "another first error");
     hold(strcmp(litrs_error_name(UINT32_MAX), "Unknown") == 0, "an error too many");
+    hold(strcmp(litrs_token_kind_name(LITRS_TOKEN_WHITESPACE), "Whitespace") == 0, "a first kind");
+    hold(strcmp(litrs_token_kind_name(LITRS_TOKEN_PUNCTUATION), "Punctuation") == 0, "a last kind");
+    hold(strcmp(litrs_token_kind_name(LITRS_TOKEN_UNKNOWN + 1), "Unknown") == 0, "a kind too many");
 }
 
 static int digit(int letter) {
@@ -404,6 +525,7 @@ int main(void) {
     hold_names();
     hold_literals();
     hold_edges();
+    hold_window();
     while ((high = getchar()) != EOF) {
         if (high == '\n') {
             print_text(text, len, room);

@@ -14,9 +14,11 @@ it says by the C program .ci/c_library.c and by the module litrs.py, with the na
 and marks that docs/GRAMMAR.md has; each prefix of its text, at each byte, has to be refused as not
 UTF-8 where Python does not decode it, and answered alike by both. Where valgrind is at hand the
 program runs under it over the texts of the rows. The samples of crates/litrs_c/README.md have to
-print what stands below them, built and run by the lines of that page, the one in C as a program in
-C++ too. What else of the module is tried, python_module.py says. Numbers that float_numbers.py
-draws, of which many lie halfway between two floats, have the double and the float nearest to them.
+print what stands below them, built and run by the lines of that page, those in C as programs in
+C++ too. Each text of crates/litrs_lexer/tokens has the tokens of its row, and every text has the
+same tokens by both. What else of the module is tried, python_module.py says. Numbers that
+float_numbers.py draws, of which many lie halfway between two floats, have the double and the float
+nearest to them.
 
 Of crates/litrs_c/build: its help, wrong arguments, what it installs below DESTDIR and removes, the
 versions that pkg-config finds, and a folder that is moved to a name with a blank.
@@ -37,6 +39,7 @@ import tempfile
 import float_numbers
 import libraries
 import python_module
+import tokens
 from libraries import KIT, TOP
 
 CRATE = TOP / "crates/litrs_c"
@@ -50,6 +53,12 @@ COMPILERS = {"c": ["cc", "gcc", "clang"], "c++": ["c++", "g++", "clang++"]}
 LITERAL, REFUSED, NOT_UTF8, OUT_OF_MEMORY, NO_STRING, NO_PREFIX, NO_NUMBER = range(7)
 KINDS = "bool integer float char byte string bytestring cstring".split()
 NAMES = "Bool Integer Float Char Byte String ByteString CString".split()
+# The names of the kinds of tokens, by their numbers in the header.
+TOKENS = {int(number): name.title().replace("_", "")
+          for name, number in re.findall(r"LITRS_TOKEN_(\w+) = (\d+)", HEADER)}
+TRIVIA = ["Whitespace", "LineComment", "BlockComment", "UnterminatedBlockComment"]
+# A comment that documents the item after it begins so.
+OUTER = rb"///(?!/)|/\*\*(?![*/])"
 # Longer texts are left to the program litrs_vectors; of those from the second length on no prefixes
 # are tried, and they are not tried by valgrind.
 LONGEST, PREFIXED = 65536, 1000
@@ -72,12 +81,24 @@ def written(call, text):
 
 
 def answer_of(module, text):
-    """The same fields as the C program prints them, up to the message, and those of the front."""
+    """The same fields as the C program prints them, up to the message, those of the front, and the
+    tokens."""
     calls = module._calls
     fields = flat(calls["parse"](text, len(text)))
     fields.append(int(calls["goes_on"](text, len(text))))
     fields += written(calls["value"], text) + written(calls["message"], text)
-    return fields + flat(calls["parse_prefix"](text, len(text)))
+    return fields + flat(calls["parse_prefix"](text, len(text))) + [tokens_of(module, text)]
+
+
+def tokens_of(module, text):
+    """The tokens of a text, as the C program prints them."""
+    found, cursor, token = [], module._Cursor(), module._Token()
+    if not module._calls["check"](text, len(text), cursor):
+        return "-"
+    while module._calls["next_token"](cursor, token):
+        number, doc = token.kind, token.doc_style
+        found.append(f"{number},{doc},{int(token.is_trivia)},{token.place.end};")
+    return "".join(found)
 
 
 @dataclasses.dataclass
@@ -85,7 +106,8 @@ class Wanted:
     """What is to be answered of a text: the fields, None where nothing is known of one, how often
     memory is to be asked for by each call but litrs_goes_on, the status and length of what
     stands at its front, the fields of the object or exception of the module, and of a number the
-    bits of the double and of the float, and how often memory is to be asked for each."""
+    bits of the double and of the float, and how often memory is to be asked for each; and the
+    tokens, as the C program prints them."""
 
     text: bytes
     fields: list
@@ -93,6 +115,7 @@ class Wanted:
     front: tuple = (None, None)
     python: object = None
     number: object = None
+    tokens: object = None
 
 
 def bytes_of(field):
@@ -226,6 +249,20 @@ def wanted_of_rows(kinds):
             yield wanted_of_literal(fields[0], fields[1].decode(), fields[2], fields[3:])
 
 
+def wanted_of_tokens():
+    """What the rows of the table of tokens want."""
+    numbers = {name: number for number, name in TOKENS.items()}
+    for _, row, _ in tokens.rows():
+        text, printed = b"", ""
+        for kind, part in row:
+            text += part
+            doc = 0
+            if kind in TRIVIA[1:]:
+                doc = 1 if re.match(rb"/[/*]!", part) else 2 * bool(re.match(OUTER, part))
+            printed += f"{numbers[kind]},{doc},{int(kind in TRIVIA)},{len(text)};"
+        yield Wanted(text, [None] * 31, tokens=printed)
+
+
 def wanted_of_prefixes(rows):
     """Of each prefix of their texts, at each byte, whether it is UTF-8."""
     texts = [it.text for it in rows if len(it.text) < PREFIXED]
@@ -240,11 +277,11 @@ def wanted_of_prefixes(rows):
 
 def fields_of(line):
     """The fields that the C program printed of a text: those of `answer_of`, the statuses with
-    every allocation refused and how often memory was asked for, the same of the front, and what
-    litrs_f64 and litrs_f32 answer."""
+    every allocation refused and how often memory was asked for, the same of the front, what
+    litrs_f64 and litrs_f32 answer, and the tokens."""
     fields = [it if it.endswith(".") else int(it) for it in line.split()]
-    fields = [it[:-1] if isinstance(it, str) else it for it in fields]
-    return fields[:31] + fields[38:-10], fields[31:38], fields[-10:-8], fields[-8:]
+    *fields, walked = [it[:-1] if isinstance(it, str) else it for it in fields]
+    return fields[:31] + fields[38:-10], fields[31:38], fields[-10:-8], fields[-8:], walked
 
 
 def status_without_memory(status, needs_memory):
@@ -284,7 +321,10 @@ def faults_of_numbers(wanted, fields, by_parse, numbers):
 
 def faults_of(wanted, from_c, from_python):
     """What is wrong of the answers on a text."""
-    fields, refused, front, numbers = fields_of(from_c)
+    fields, refused, front, numbers, walked = fields_of(from_c)
+    *from_python, walked_by_python = from_python
+    if walked != walked_by_python or wanted.tokens not in (None, walked):
+        yield f"C has the tokens {walked}, Python {walked_by_python}; wanted {wanted.tokens}"
     *refused, by_parse, by_value, by_message, by_goes_on = refused
     if fields != from_python:
         yield f"C answers {fields}, Python {from_python}"
@@ -340,6 +380,49 @@ def faults_of_module(module, wanted):
             front, kinds.get(wanted.front[0], type(None))
         ):
             yield f"{front!r} at the front of {type(text)}, wanted {wanted.front}"
+        yield from faults_of_walk(module, wanted.text, text)
+
+
+def faults_of_walk(module, data, text):
+    """What is wrong of the tokens of the module."""
+    printed, end, start = tokens_of(module, data), 0, 0
+    found = outcome(module.tokens, text)
+    if isinstance(found, ValueError):
+        if printed != "-" or not isinstance(found, UnicodeDecodeError):
+            yield f"the walk raises {found!r}"
+        return
+    for fields, token in zip(printed.split(";")[:-1], found):
+        kind, doc, trivia, last = map(int, fields.split(","))
+        part = data[end:last] if text is data else data[end:last].decode()
+        wanted = [TOKENS[kind], part, start, start + len(part), bool(trivia), doc]
+        docs = [None, "Inner", "Outer"].index(token.doc_style)
+        given = [token.kind, token.text, token.start, token.end, token.is_trivia, docs]
+        if given != wanted or list(map(type, given)) != list(map(type, wanted)):
+            yield f"the walk gives {given}, wanted {wanted}"
+        yield from faults_of_piece(module, token, end)
+        start, end = token.end, last
+    if next(found, None) is not None or end != len(data):
+        yield f"the walk ends at {end} of {len(data)}"
+
+
+def faults_of_piece(module, token, offset):
+    """What is wrong of the literal of a token, which begins at this byte of its source."""
+    whole, literal = outcome(module.parse, token.text), outcome(token.literal)
+    if token.kind == "Literal":
+        same = isinstance(literal, module.Literal) and repr(literal) == repr(whole)
+    elif token.kind == "MalformedLiteral":
+        span = whole.span and tuple(it + token.start for it in whole.span)
+        message = re.sub(
+            r"(?<= \(at )(\d+)\.\.(\d+)(?=\)$)",
+            lambda it: f"{int(it[1]) + offset}..{int(it[2]) + offset}", str(whole),
+        )
+        wanted = {**vars(whole), "span": span, "message": message}
+        same = type(literal) is module.ParseError and vars(literal) == wanted
+        same = same and str(literal) == message
+    else:
+        same = literal is None
+    if not same:
+        yield f"the literal of {token} is {literal!r}, and {whole!r} of its text"
 
 
 def faults_of_call(module, wanted, text, whole):
@@ -564,7 +647,7 @@ def try_texts(folder, installed, module):
     source = TOP / ".ci/c_library.c"
     program = compiled(["cc", "-std=c99"], installed, folder / "program", source, wrap, archive)
     kinds = kinds_of_refusals()
-    rows = list(wanted_of_rows(kinds))
+    rows = [*wanted_of_rows(kinds), *wanted_of_tokens()]
     wanted = rows + list(wanted_of_prefixes(rows))
     wanted += [wanted_of_literal(*it) for it in float_numbers.drawn()]
     lines = "".join(f"{it.text.hex()}\n" for it in wanted)
@@ -587,7 +670,8 @@ def faults_of_kinds(module, kinds):
     if module.version() != re.search(r'LITRS_VERSION "(.*)"', HEADER)[1]:
         yield f"the library has the version {module.version()}"
     errors = {number: name for name, (number, _, _) in kinds.items()}
-    for call, names in (("kind", dict(enumerate(NAMES, 1))), ("error", errors)):
+    literals = dict(enumerate(NAMES, 1))
+    for call, names in (("kind", literals), ("error", errors), ("token_kind", TOKENS)):
         for number in [*range(100), 2**32 - 1]:
             text = module._StaticText(b"", 1)
             module._calls[f"get_{call}_name"](number, text)
@@ -598,17 +682,26 @@ def faults_of_kinds(module, kinds):
 
 def faults_of_samples(folder, installed):
     """What is wrong of the samples of the page of the crate, built and run by its lines. Each has
-    to print the block of its place."""
-    (c,), (python,), printed = map(blocks_of_page, ("c", "python", "text"))
-    (folder / "sample.c").write_text(c)
-    (folder / "sample.py").write_text(python)
+    to print the block of its place, those in C before those in Python."""
+    in_c, in_python, printed = map(blocks_of_page, ("c", "python", "text"))
     dynamic, others, path = (it.replace("PREFIX", str(installed)) for it in blocks_of_page("sh"))
     others, path = (dynamic.splitlines(True)[0] + it for it in (others, path))
-    runs = [(dynamic, printed[0]), (others, printed[0] * 2)]
-    runs += [(f"{path}\npython3 -B sample.py", printed[1])]
-    for by in (["cc", "-std=c99"], ["c++", "-std=c++11", "-x", "c++"]):
-        program = compiled(by, installed, folder / f"sample_{by[0]}", folder / "sample.c")
-        runs.append((shlex.quote(str(program)), printed[0]))
+    if len(in_c + in_python) != len(printed):
+        yield "a sample of the page does not say what it prints"
+    for sample, wanted in zip(in_c, printed):
+        (folder / "sample.c").write_text(sample)
+        runs = [(dynamic, wanted), (others, wanted * 2)]
+        for by in (["cc", "-std=c99"], ["c++", "-std=c++11", "-x", "c++"]):
+            program = compiled(by, installed, folder / f"sample_{by[0]}", folder / "sample.c")
+            runs.append((shlex.quote(str(program)), wanted))
+        yield from faults_of_runs(folder, runs)
+    for sample, wanted in zip(in_python, printed[len(in_c) :]):
+        (folder / "sample.py").write_text(sample)
+        yield from faults_of_runs(folder, [(f"{path}\npython3 -B sample.py", wanted)])
+
+
+def faults_of_runs(folder, runs):
+    """The lines of a shell that do not print what is wanted, or that fail."""
     for lines, wanted in runs:
         ran = run_shell(folder, lines, os.environ)
         if (ran.stdout, ran.stderr, ran.returncode) != (wanted, "", 0):

@@ -1,5 +1,6 @@
 """Tries the Python module of the C library beside the rows of the table: its names and hints, its
-errors, arguments of other types, the values of floats, and what it writes.
+errors, arguments of other types, the values of floats, what it writes, and how often a walk over
+tokens calls the library.
 
 .ci/c_library.py runs this over the module that is installed. The functions yield a fault, or None
 for a test that passes.
@@ -7,12 +8,14 @@ for a test that passes.
 import array
 import copy
 import ctypes
+import dataclasses
 import math
 import pickle
+import types
 import typing
 
-READERS = ["parse", "parse_prefix", "goes_on"]
-NAMES = ["Literal", "ParseError", "goes_on", "parse", "parse_prefix", "version"]
+READERS = ["parse", "parse_prefix", "goes_on", "tokens"]
+NAMES = ["Literal", "ParseError", "Token", "goes_on", "parse", "parse_prefix", "tokens", "version"]
 NAMES += ["write_bytes", "write_integer", "write_string"]
 # The fields of an error, in the order of its constructor.
 FIELDS = ["kind", "span", "message", "is_final", "is_open", "length"]
@@ -64,6 +67,7 @@ def faults_of_errors(module):
     for text in (b"\xff", b'"\xc3"', bytearray(b"1\x80"), memoryview(b"'\xed\xa0\x80'")):
         yield raised(UnicodeDecodeError, module.parse, text)
         yield raised(UnicodeDecodeError, module.parse_prefix, text)
+        yield raised(UnicodeDecodeError, module.tokens, text)
         yield None if module.goes_on(text) is False else f"goes_on({text}) is not False"
     for call, value in writers:
         yield from (raised(ValueError, call, value, it) for it in NO_SUFFIXES)
@@ -85,8 +89,9 @@ def faults_of_texts(module):
             yield None if answers == [wanted] * 8 else f"{name} of {text}: {answers}, not {wanted}"
     for text in ("", b"", bytearray(), memoryview(b"")):
         yield raised(module.ParseError, module.parse, text)
-        if (module.parse_prefix(text), module.goes_on(text)) != (None, True):
-            yield f"{text!r} has a prefix, or cannot be continued"
+        found = module.parse_prefix(text), module.goes_on(text), list(module.tokens(text))
+        if found != (None, True, []):
+            yield f"{text!r} has a prefix or a token, or cannot be continued"
     for prefix, base, digit in (("", 10, "9"), ("0x", 16, "f"), ("0o", 8, "7"), ("0b", 2, "1")):
         for count in (40, 127, 640, 641, 4301, 20_011):
             value = module.parse(f"{prefix}{digit * count}_").value
@@ -111,10 +116,79 @@ def faults_of_floats(module):
     yield None if found == [int, int, float, int, bool] else f"values have the types {found}"
 
 
-def answer(call, text):
-    """Returns the answer of a call, or what its error has."""
+SOURCE = "let é = b\"\\n\" + 0x1F_u8; // 🦊\n"
+
+
+class Counted(bytes):
+    """Bytes that count how many of them are cut out and how many are decoded."""
+
+    read = 0
+
+    def __getitem__(self, place):
+        part = Counted(bytes.__getitem__(self, place))
+        Counted.read += len(part)
+        return part
+
+    def decode(self, *words):
+        Counted.read += len(self)
+        return bytes.decode(self, *words)
+
+
+def walked(module, text):
+    """Returns the tokens of a text, and what the walk calls."""
+    calls, data, seen = module._calls, module._data, []
+
+    def counted(name):
+        return lambda *words: (seen.append((name, *words[1:-1])), calls[name](*words))[1]
+
+    module._calls = {name: counted(name) for name in calls}
+    module._data = lambda text: (seen.append("encode"), Counted(data(text)))[1]
     try:
-        return call(text)
+        return list(module.tokens(text)), seen
+    finally:
+        module._calls, module._data = calls, data
+
+
+def faults_of_walks(module):
+    """Yields the walks over a source that encode or check it more than once, or read a byte of it
+    more than once, and tokens that change with the source or with another walk."""
+    for count in (1, 50, 400):
+        for text in (SOURCE * count, (SOURCE * count).encode()):
+            Counted.read = 0
+            found, seen = walked(module, text)
+            size = len(text.encode() if isinstance(text, str) else text)
+            wanted = ["encode", ("check", size)] + [("next_token",)] * (len(found) + 1)
+            yield None if seen == wanted else f"a walk calls {seen[:9]}, {len(seen)} in all"
+            # The bytes are cut out, and those of a str are decoded.
+            times = 2 if isinstance(text, str) else 1
+            yield None if Counted.read == times * size else f"a walk reads {Counted.read} bytes"
+            same = type(text)().join(it.text for it in found)
+            yield None if same == text and len(found) == 15 * count else f"{len(found)} tokens"
+    source = bytearray(b"a 0b12 b")
+    walk = module.tokens(source)
+    first = next(walk)
+    source[:] = b"\xff" * len(source)
+    rest = [it.text for it in walk]
+    yield None if (first.text, rest) == (b"a", [b" ", b"0b12", b" ", b"b"]) else f"{first}, {rest}"
+    yield None if next(walk, None) is next(walk, None) is None else "a token after the last"
+    walks = [module.tokens(it) for it in ("a b", b"c d")]
+    found = ["".join(map(str, (it.text for it in pair))) for pair in zip(*walks)]
+    yield None if found == ["ab'c'", " b' '", "bb'd'"] else f"two walks at once: {found}"
+    *_, token = module.tokens("é 0b12")
+    same = [copy.copy(token), copy.deepcopy(token), pickle.loads(pickle.dumps(token))]
+    yield None if same == [token] * 3 else f"copies of a token are {same}"
+    for it in (token, *same):
+        error = answer(lambda token: token.literal(), it)
+        yield None if error[2]["span"] == (5, 6) and "(at 6..7)" in error[1][0] else f"{error}"
+
+
+def answer(call, text):
+    """Returns the answer of a call, of a walk without its texts, or what its error has."""
+    try:
+        found = call(text)
+        if type(found) is not types.GeneratorType:
+            return found
+        return [dataclasses.replace(it, text="") for it in found]
     except ValueError as e:
         return [type(e), e.args, vars(e)]
 
@@ -196,6 +270,6 @@ def faults_of_names(module):
 def try_module(module):
     """Returns how many tests there are, and the faults."""
     groups = [faults_of_names, faults_of_types, faults_of_errors, faults_of_texts]
-    groups += [faults_of_floats, faults_of_writers, faults_of_copies]
+    groups += [faults_of_floats, faults_of_writers, faults_of_copies, faults_of_walks]
     found = [it for group in groups for it in group(module)]
     return len(found), [it[:600] for it in found if it]

@@ -40,7 +40,7 @@ enum litrs_status {
     LITRS_NOT_UTF8 = 2,      /* the bytes are not UTF-8 */
     LITRS_OUT_OF_MEMORY = 3, /* no memory for the value of a literal, or for one to write */
     LITRS_NO_STRING = 4,     /* by litrs_value: it is a literal of another kind than strings */
-    LITRS_NO_PREFIX = 5,     /* by litrs_parse_prefix: no literal opens at the front */
+    LITRS_NO_PREFIX = 5,     /* by the calls on prefixes: no literal opens at the front */
     LITRS_NO_NUMBER = 6      /* by litrs_f64 and litrs_f32: it is not an integer or a float */
 };
 
@@ -101,6 +101,31 @@ enum litrs_error {
     LITRS_ERROR_INTEGER_SUFFIX_STARTING_WITH_E = 41
 };
 
+/* The kinds of tokens of Rust source, in the edition 2021. */
+enum litrs_token_kind {
+    LITRS_TOKEN_WHITESPACE = 1,                 /* as much as there is */
+    LITRS_TOKEN_LINE_COMMENT = 2,               /* from two slashes up to the end of the line */
+    LITRS_TOKEN_BLOCK_COMMENT = 3,              /* block comments nest */
+    LITRS_TOKEN_UNTERMINATED_BLOCK_COMMENT = 4, /* up to the end of the text */
+    LITRS_TOKEN_IDENT = 5,                      /* a, fn, _ */
+    LITRS_TOKEN_RAW_IDENT = 6,                  /* r#fn */
+    LITRS_TOKEN_UNKNOWN_PREFIX = 7,             /* f directly before a quote or a hash */
+    LITRS_TOKEN_LIFETIME = 8,                   /* 'a */
+    LITRS_TOKEN_RAW_LIFETIME = 9,               /* 'r#fn */
+    LITRS_TOKEN_UNKNOWN_PREFIX_LIFETIME = 10,   /* 'f directly before a hash */
+    LITRS_TOKEN_LITERAL = 11,                   /* 0xFF_u8, "a", true: see litrs_parse */
+    LITRS_TOKEN_MALFORMED_LITERAL = 12,         /* 0b12, "a: litrs_parse returns why */
+    LITRS_TOKEN_PUNCTUATION = 13,               /* one character: >> is two tokens */
+    LITRS_TOKEN_UNKNOWN = 14                    /* one character that begins no token */
+};
+
+/* What a comment documents. */
+enum litrs_doc_style {
+    LITRS_DOC_NONE = 0,  /* nothing */
+    LITRS_DOC_INNER = 1, /* the item that contains it, as by two slashes and ! */
+    LITRS_DOC_OUTER = 2  /* the item after it, as by three slashes */
+};
+
 /* The bytes from start up to end. */
 typedef struct litrs_place {
     size_t start;
@@ -151,6 +176,22 @@ typedef struct litrs_written {
     size_t len;      /* how many bytes there are to write, whether or not they fit */
 } litrs_written;
 
+/* A text in UTF-8 and a place in it, which litrs_check sets. Until the last call with it, the text
+ * must stay as it is. The caller may copy it, and set `at` to any number. */
+typedef struct litrs_cursor {
+    const uint8_t *text;
+    size_t len;
+    size_t at; /* in bytes, from the start of the text */
+} litrs_cursor;
+
+/* A token of a text. */
+typedef struct litrs_token {
+    uint32_t kind;        /* enum litrs_token_kind */
+    uint32_t doc_style;   /* enum litrs_doc_style; LITRS_DOC_NONE if it is not a comment */
+    litrs_bool is_trivia; /* true for white space and for comments of all three kinds */
+    litrs_place place;    /* in the text of the cursor */
+} litrs_token;
+
 /* A text with a closing zero, which lasts as long as the program. */
 typedef struct litrs_static_text {
     const char *text;
@@ -188,6 +229,19 @@ litrs_written litrs_message(const uint8_t *text, size_t len, uint8_t *room, size
 /* Whether the text, or the text with some text appended, is a literal. */
 litrs_bool litrs_goes_on(const uint8_t *text, size_t len);
 
+/* Returns true if the text is UTF-8, and sets the cursor to its start. Otherwise sets it to the
+ * empty text. The cursor need not be set before. */
+litrs_bool litrs_check(const uint8_t *text, size_t len, litrs_cursor *cursor);
+
+/* Writes the token at the place of the cursor to token, moves the cursor to its end, and returns
+ * true. Returns false, and writes nothing, at the end of the text, and if the place is past it or
+ * inside a character. No memory is asked for. */
+litrs_bool litrs_next_token(litrs_cursor *cursor, litrs_token *token);
+
+/* The same as litrs_parse_prefix_into of the text from the place of the cursor on, without a check
+ * that it is UTF-8. If the place is past the text or inside a character, no literal opens there. */
+size_t litrs_parse_prefix_at(const litrs_cursor *cursor, litrs_answer *answer);
+
 /* Writes the literal that stands for a value, as much as fits, where the status is LITRS_LITERAL:
  * the string of a text, as "a\nb"; the byte string of bytes; the integer of value_low and 2^64
  * times value_high, in base ten. The suffix may be empty. The status is LITRS_REFUSED where no such
@@ -199,11 +253,12 @@ litrs_written litrs_write_bytes(const uint8_t *value, size_t value_len, const ui
 litrs_written litrs_write_integer(uint64_t value_low, uint64_t value_high, const uint8_t *suffix,
                                   size_t suffix_len, uint8_t *room, size_t room_len);
 
-/* The version of the library, and the names of the kinds of literals and of refusals. What stood in
- * the static text before does not matter. The calls below give the text alone. */
+/* The version of the library, and the names of the kinds of literals, of refusals and of tokens.
+ * What stood in the static text before does not matter. The calls below give the text alone. */
 void litrs_get_version(litrs_static_text *version);
 void litrs_get_kind_name(uint32_t kind, litrs_static_text *name);
 void litrs_get_error_name(uint32_t error, litrs_static_text *name);
+void litrs_get_token_kind_name(uint32_t kind, litrs_static_text *name);
 
 /* The version of the library, as LITRS_VERSION. */
 LITRS_INLINE const char *litrs_version(void) {
@@ -225,6 +280,14 @@ LITRS_INLINE const char *litrs_kind_name(uint32_t kind) {
 LITRS_INLINE const char *litrs_error_name(uint32_t error) {
     litrs_static_text name = {"", 1};
     litrs_get_error_name(error, &name);
+    return name.text;
+}
+
+/* The name of a kind of tokens: "RawIdent" of LITRS_TOKEN_RAW_IDENT. It is "Unknown" too for a
+ * number that enum litrs_token_kind does not have. */
+LITRS_INLINE const char *litrs_token_kind_name(uint32_t kind) {
+    litrs_static_text name = {"", 1};
+    litrs_get_token_kind_name(kind, &name);
     return name.text;
 }
 

@@ -1,24 +1,32 @@
 -- What answers say, read by name: each line fails if the definition says less.
 use Rattle.std.specs.Prelude.{◌≡◌, ◌≤◌, ◌⊎◌, ℕ, ◌+◌, ◌*◌, ◌^◌, List, [], Some, None, true, false, length, drop, unwrap_or, codes}
-use Rattle.std.specs.Str.{chars, IsUtf8}
-use Rattle.std.proofs.Common.{arith, refl, ap, sym, subst}
+use Rattle.std.specs.Str.{chars, IsUtf8, IsCharBoundary}
+use Rattle.std.proofs.Common.{arith, refl, ap, sym, subst, ◌∙◌}
 use Rattle.litrs_base.specs.declared.err.ParseError.{ParseError}
 use Rattle.litrs_base.specs.declared.err.ParseErrorKind.TheVariants as kind
 use Rattle.litrs_base.specs.declared.integer.IntegerBase.TheVariants.{Decimal, Hexadecimal}
 use Rattle.litrs_grammar.specs.Literal.{Derivation, raw_parts, a_bool, an_integer, a_float, a_byte_string, IsLiteral, literal_parse}
 use Rattle.litrs_grammar.specs.Refused.{IsRefused}
 use Rattle.litrs_grammar.proofs.Computing.{computing}
+use Rattle.litrs_lexer.specs.Comment.{doc_style}
+use Rattle.litrs_lexer.specs.Token.{is_trivia}
+use Rattle.litrs_lexer.specs.Tokens.{IsFirstToken}
+use Rattle.litrs_lexer.specs.declared.kind.TokenKind.TheVariants.{LineComment}
+use Rattle.litrs_lexer.specs.declared.token.Token.{Token}
 use Rattle.litrs_prefix.specs.Malformed.{IsMalformed, IsOutOfMemoryAt}
 use Rattle.litrs_prefix.specs.Prefix.{HasPrefix}
 use Rattle.litrs_c.specs.declared.LiteralFields.{LiteralFields}
 use Rattle.litrs_c.specs.declared.Place.{Place}
 use Rattle.litrs_c.specs.declared.RefusalFields.{RefusalFields}
+use Rattle.litrs_c.specs.declared.tokens.TokenFields.{TokenFields}
 use Rattle.litrs_c.specs.Answers.{IsLiteralAnd, IsRefusedAnd, LacksMemory, IsKept, IsWritten, IsWrittenFrom, WritesValue, WritesMessage}
+use Rattle.litrs_c.specs.Codes.{token_code, doc_code}
 use Rattle.litrs_c.specs.LiteralFields.{IsLiteralFields}
 use Rattle.litrs_c.specs.Numbers.{IsCopied, LacksNumberMemory}
 use Rattle.litrs_c.specs.Places.{nowhere}
 use Rattle.litrs_c.specs.Prefixes.{IsPrefixAnd, IsMalformedAnd, LacksMemoryAt}
 use Rattle.litrs_c.specs.RefusalFields.{IsRefusalFields}
+use Rattle.litrs_c.specs.Tokens.{IsTokenFields, IsTokenAt}
 use Rattle.litrs_c.specs.Writes.{WritesLiteral}
 
 -- Texts
@@ -48,6 +56,22 @@ malformed t len Says is = (is.1, is.2, is.3)
 -- the one for whose value there was no memory, and its length
 lacks_memory : (t : List ℕ) (len : ℕ) (is : LacksMemoryAt t len) → IsOutOfMemoryAt t is.0 × (is.0.len ≡ len)
 lacks_memory t len is = (is.1, is.2)
+
+-- Tokens
+
+-- the token at a place of the text, its fields, and what follows it
+token : (text : List ℕ) (at : ℕ) (fields : TokenFields) (is : IsTokenAt text at fields) →
+    IsCharBoundary text at × IsFirstToken text (drop at text) is.token (drop fields.place.end text)
+    × IsTokenFields is.token fields × (fields.place.start ≡ at)
+token text at fields is = (is.place, is.is, is.are, is.start)
+
+-- the fields of a line comment
+comment_fields : (found : Token) (fields : TokenFields) → found.kind ≡ LineComment → IsTokenFields found fields →
+    (fields.kind ≡ 2) × (fields.is_trivia ≡ true) × (fields.place.start ≡ found.start)
+    × (fields.place.end ≡ found.start + length found.text.now)
+    × (fields.doc_style ≡ doc_code (doc_style found.kind (chars found.text.now)))
+comment_fields found fields kind is =
+    (is.kind ∙ ap token_code kind, is.trivia ∙ ap is_trivia kind, is.start, is.end, is.doc_style)
 
 -- Fields of a literal
 

@@ -6,6 +6,8 @@ pub mod PartPlaces
 pub mod Memory
 -- the front of a longer text
 pub mod Prefixes
+-- the token at a place
+pub mod TokenPlaces
 -- parts that are written one after the other
 pub mod Rooms
 -- examples

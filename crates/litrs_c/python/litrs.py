@@ -5,6 +5,8 @@
     255
     >>> litrs.write_string("a\\n")
     '"a\\\\n"'
+    >>> [token.text for token in litrs.tokens("x+=1u8")]
+    ['x', '+', '=', '1u8']
 
 A text is a str, or bytes, a bytearray or a memoryview of bytes in UTF-8. Spans and lengths count
 characters of a str, and bytes of the others. Any other argument raises TypeError, and a str that
@@ -19,11 +21,11 @@ import dataclasses
 import operator
 import os
 import pathlib
-from typing import Optional, Tuple, Union
+from typing import Iterator, Optional, Tuple, Union
 
 __all__ = [
-    "Literal", "ParseError", "goes_on", "parse", "parse_prefix", "version", "write_bytes",
-    "write_integer", "write_string",
+    "Literal", "ParseError", "Token", "goes_on", "parse", "parse_prefix", "tokens", "version",
+    "write_bytes", "write_integer", "write_string",
 ]
 # The version of this module; version() returns that of the library.
 __version__ = "1.0.1-rattle.1"
@@ -52,6 +54,8 @@ _Refusal = _structure(
 _Answer = _structure("_Answer", status=_WORD, literal=_Literal, refusal=_Refusal)
 _Prefix = _structure("_Prefix", answer=_Answer, len=_SIZE)
 _Written = _structure("_Written", status=_WORD, len=_SIZE)
+_Cursor = _structure("_Cursor", text=ctypes.c_void_p, len=_SIZE, at=_SIZE)
+_Token = _structure("_Token", kind=_WORD, doc_style=_WORD, is_trivia=_BOOL, place=_Place)
 _StaticText = _structure("_StaticText", text=ctypes.c_char_p, size=_SIZE)
 
 _TEXT = [ctypes.c_char_p, _SIZE]
@@ -62,12 +66,15 @@ _CALLS = {
     "f64": (_WORD, [*_TEXT, ctypes.POINTER(ctypes.c_double)]),
     "message": (_Written, _TEXT * 2),
     "goes_on": (_BOOL, _TEXT),
+    "check": (_BOOL, [*_TEXT, ctypes.POINTER(_Cursor)]),
+    "next_token": (_BOOL, [ctypes.POINTER(_Cursor), ctypes.POINTER(_Token)]),
     "write_string": (_Written, _TEXT * 3),
     "write_bytes": (_Written, _TEXT * 3),
     "write_integer": (_Written, [_LONG, _LONG, *_TEXT * 2]),
     "get_version": (None, [ctypes.POINTER(_StaticText)]),
     "get_kind_name": (None, [_WORD, ctypes.POINTER(_StaticText)]),
     "get_error_name": (None, [_WORD, ctypes.POINTER(_StaticText)]),
+    "get_token_kind_name": (None, [_WORD, ctypes.POINTER(_StaticText)]),
 }
 
 
@@ -145,6 +152,41 @@ class ParseError(ValueError):
         return copyreg.__newobj__, (type(self), *self.args), self.__dict__
 
 
+@dataclasses.dataclass(frozen=True)
+class Token:
+    """A token of a Rust source.
+
+    kind       "Whitespace", "LineComment", "BlockComment", "UnterminatedBlockComment", "Ident",
+               "RawIdent", "UnknownPrefix", "Lifetime", "RawLifetime", "UnknownPrefixLifetime",
+               "Literal", "MalformedLiteral", "Punctuation" or "Unknown"
+    text       the text of the token: a str if the source is one, and otherwise bytes
+    start      where it starts in the source
+    end        where it ends
+    is_trivia  whether it is white space or a comment
+    doc_style  "Inner" if it is a comment like //! that documents the item around it, "Outer" if it
+               is one like /// that documents the next item; else None
+    """
+
+    kind: str
+    text: Union[str, bytes]
+    start: int
+    end: int
+    is_trivia: bool
+    doc_style: Optional[str]
+    _offset: int = dataclasses.field(default=0, repr=False)  # where it starts, in bytes
+
+    def literal(self) -> Optional[Literal]:
+        """Parses the literal of a token of the kind "Literal". Returns None if the kind is neither
+        "Literal" nor "MalformedLiteral". Raises ParseError if the literal is malformed; its span
+        counts from the start of the source. Raises MemoryError if there is no memory for the
+        value."""
+        if self.kind not in ("Literal", "MalformedLiteral"):
+            return None
+        data = _data(self.text)
+        answer = _calls["parse"](data, len(data))
+        return _literal(self.text, data, answer, self.start, self._offset)
+
+
 def version() -> str:
     """Returns the version of the library."""
     return _static("get_version")
@@ -175,6 +217,30 @@ def goes_on(text: _Text) -> bool:
     bytes that are not UTF-8."""
     data = _data(text)
     return _calls["goes_on"](data, len(data))
+
+
+def tokens(text: _Text) -> Iterator[Token]:
+    """Cuts a Rust source into tokens, and returns an iterator over them. Joined, their texts are
+    the source. The source is encoded and checked once, so a walk takes time in proportion to its
+    length. Raises UnicodeDecodeError if bytes are not UTF-8."""
+    data, cursor = _data(text), _Cursor()
+    room = (ctypes.c_char * len(data)).from_buffer_copy(data)
+    if not _calls["check"](room, len(data), cursor):
+        data.decode()
+    return _walk(isinstance(text, str), data, room, cursor)
+
+
+def _walk(is_str, data, room, cursor):
+    """Yields the tokens of a source. Keeps the room, to which the cursor points."""
+    token, start = _Token(), 0
+    while _calls["next_token"](cursor, token):
+        offset = token.place.start
+        text = data[offset : token.place.end]
+        text = text.decode() if is_str else text
+        end = start + len(text)
+        kind, doc_style = _TOKEN_KINDS[token.kind], _DOC_STYLES[token.doc_style]
+        yield Token(kind, text, start, end, token.is_trivia, doc_style, offset)
+        start = end
 
 
 def write_string(value: str, suffix: str = "") -> str:
@@ -261,14 +327,15 @@ def _written(call, *words):
     return status, room.raw[:size]
 
 
-def _literal(text, data, answer):
-    """The literal that the answer on the bytes says, or the exception that it stands for."""
+def _literal(text, data, answer, start=0, offset=0):
+    """Returns the literal that the answer on the bytes says, or raises the exception that it stands
+    for. The text begins at `start` in its source, and the bytes at `offset` in those of it."""
     if answer.status == _NOT_UTF8:
         data.decode()
     if answer.status == _OUT_OF_MEMORY:
         raise MemoryError
     if answer.status == _REFUSED:
-        raise _error(text, data, answer.refusal)
+        raise _error(text, data, answer.refusal, start, offset)
     fields = answer.literal
 
     def part(place):
@@ -310,11 +377,19 @@ def _integer(digits, base):
     return _integer(digits[:-half], base) * 10**half + _integer(digits[-half:], base)
 
 
-def _error(text, data, refusal):
+def _error(text, data, refusal, start, offset):
     place = refusal.char_span if isinstance(text, str) else refusal.span
-    span = (_index(text, data, place.start), _index(text, data, place.end))
+    span = (start + _index(text, data, place.start), start + _index(text, data, place.end))
+    message = _written("message", data, len(data))[1].decode()
+    if refusal.has_span:
+        first, last = refusal.span.start, refusal.span.end
+        moved = f" (at {offset + first}..{offset + last})"
+        message = message.replace(f" (at {first}..{last})", moved)
     return ParseError(
-        _static("get_error_name", refusal.kind), span if refusal.has_span else None,
-        _written("message", data, len(data))[1].decode(), refusal.is_final, refusal.is_open,
-        _index(text, data, len(data)),
+        _static("get_error_name", refusal.kind), span if refusal.has_span else None, message,
+        refusal.is_final, refusal.is_open, _index(text, data, len(data)),
     )
+
+
+_TOKEN_KINDS = [_static("get_token_kind_name", kind) for kind in range(15)]
+_DOC_STYLES = [None, "Inner", "Outer"]

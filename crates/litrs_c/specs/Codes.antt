@@ -1,8 +1,12 @@
 -- The numbers by which the header calls kinds.
-use Rattle.std.specs.Prelude.{ℕ}
+use Rattle.std.specs.Prelude.{ℕ, Option, Some, None}
 use Rattle.litrs_base.specs.declared.err.ParseErrorKind.{ParseErrorKind}
 use Rattle.litrs_base.specs.declared.err.ParseErrorKind.TheVariants.{Empty, UnexpectedChar, InvalidLiteral, DoesNotStartWithDigit, InvalidDigit, NoDigits, NoExponentDigits, UnknownEscape, UnterminatedEscape, InvalidXEscape, NonAsciiXEscape, UnicodeEscapeInByteLiteral, InvalidStartOfUnicodeEscape, UnicodeEscapeWithoutBrace, NonHexDigitInUnicodeEscape, TooManyDigitInUnicodeEscape, InvalidUnicodeEscapeChar, UnterminatedUnicodeEscape, UnterminatedCharLiteral, OverlongCharLiteral, EmptyCharLiteral, UnterminatedByteLiteral, OverlongByteLiteral, EmptyByteLiteral, NonAsciiInByteLiteral, UnescapedSingleQuote, UnescapedSpecialWhitespace, DoesNotStartWithQuote, UnterminatedRawString, UnterminatedString, InvalidStringLiteralStart, InvalidByteLiteralStart, InvalidByteStringLiteralStart, InvalidCStringLiteralStart, DisallowedNulEscape, NulByte, CarriageReturn, TooManyHashes, InvalidSuffix, UnexpectedIntegerLit, IntegerSuffixStartingWithE, OutOfMemory}
 use Rattle.litrs_grammar.specs.Literal.{LiteralKind, bool_literal, integer_literal, float_literal, char_literal, byte_literal, string_literal, byte_string_literal, c_string_literal}
+use Rattle.litrs_lexer.specs.declared.kind.DocStyle.{DocStyle}
+use Rattle.litrs_lexer.specs.declared.kind.DocStyle.TheVariants.{Inner, Outer}
+use Rattle.litrs_lexer.specs.declared.kind.TokenKind.{TokenKind}
+use Rattle.litrs_lexer.specs.declared.kind.TokenKind.TheVariants.{Whitespace, LineComment, BlockComment, UnterminatedBlockComment, Ident, RawIdent, UnknownPrefix, Lifetime, RawLifetime, UnknownPrefixLifetime, Literal, MalformedLiteral, Punctuation, Unknown}
 
 -- `enum litrs_kind`
 abbrev pub kind_code : LiteralKind → ℕ
@@ -59,3 +63,26 @@ error_code InvalidSuffix = 39
 error_code UnexpectedIntegerLit = 40
 error_code IntegerSuffixStartingWithE = 41
 error_code OutOfMemory = 42
+
+-- `enum litrs_token_kind`
+abbrev pub token_code : TokenKind → ℕ
+token_code Whitespace = 1
+token_code LineComment = 2
+token_code BlockComment = 3
+token_code UnterminatedBlockComment = 4
+token_code Ident = 5
+token_code RawIdent = 6
+token_code UnknownPrefix = 7
+token_code Lifetime = 8
+token_code RawLifetime = 9
+token_code UnknownPrefixLifetime = 10
+token_code Literal = 11
+token_code MalformedLiteral = 12
+token_code Punctuation = 13
+token_code Unknown = 14
+
+-- `enum litrs_doc_style`
+abbrev pub doc_code : Option DocStyle → ℕ
+doc_code None = 0
+doc_code (Some Inner) = 1
+doc_code (Some Outer) = 2

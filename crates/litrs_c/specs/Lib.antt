@@ -9,6 +9,8 @@ pub mod RefusalFields
 pub mod Answers
 -- what is answered of the front of a longer text
 pub mod Prefixes
+-- what is answered of the tokens of a text
+pub mod Tokens
 -- what is answered of the literal of a value
 pub mod Writes
 -- what is answered of the value of a number

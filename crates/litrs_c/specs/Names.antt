@@ -1,8 +1,10 @@
--- The names of kinds, which are those of the variants of `Literal` and `ParseErrorKind`.
+-- The names of kinds, which are those of the variants of `Literal`, `ParseErrorKind` and `TokenKind`.
 use Rattle.std.specs.Prelude.{ℕ, List, [], ◌∷◌, ◌++◌, map, get_or, codes}
 use Rattle.litrs_base.specs.declared.err.ParseErrorKind.{ParseErrorKind}
 use Rattle.litrs_base.specs.declared.err.ParseErrorKind.TheVariants.{Empty, UnexpectedChar, InvalidLiteral, DoesNotStartWithDigit, InvalidDigit, NoDigits, NoExponentDigits, UnknownEscape, UnterminatedEscape, InvalidXEscape, NonAsciiXEscape, UnicodeEscapeInByteLiteral, InvalidStartOfUnicodeEscape, UnicodeEscapeWithoutBrace, NonHexDigitInUnicodeEscape, TooManyDigitInUnicodeEscape, InvalidUnicodeEscapeChar, UnterminatedUnicodeEscape, UnterminatedCharLiteral, OverlongCharLiteral, EmptyCharLiteral, UnterminatedByteLiteral, OverlongByteLiteral, EmptyByteLiteral, NonAsciiInByteLiteral, UnescapedSingleQuote, UnescapedSpecialWhitespace, DoesNotStartWithQuote, UnterminatedRawString, UnterminatedString, InvalidStringLiteralStart, InvalidByteLiteralStart, InvalidByteStringLiteralStart, InvalidCStringLiteralStart, DisallowedNulEscape, NulByte, CarriageReturn, TooManyHashes, InvalidSuffix, UnexpectedIntegerLit, IntegerSuffixStartingWithE, OutOfMemory}
 use Rattle.litrs_grammar.specs.Literal.{LiteralKind, bool_literal, integer_literal, float_literal, char_literal, byte_literal, string_literal, byte_string_literal, c_string_literal}
+use Rattle.litrs_lexer.specs.declared.kind.TokenKind.{TokenKind}
+use Rattle.litrs_lexer.specs.declared.kind.TokenKind.TheVariants.{Whitespace, LineComment, BlockComment, UnterminatedBlockComment, Ident, RawIdent, UnknownPrefix, Lifetime, RawLifetime, UnknownPrefixLifetime, Literal, MalformedLiteral, Punctuation, Unknown}
 
 -- a text of C: a zero follows its last byte
 abbrev pub zero_ended : List ℕ → List ℕ
@@ -68,6 +70,23 @@ error_name UnexpectedIntegerLit = codes "UnexpectedIntegerLit"
 error_name IntegerSuffixStartingWithE = codes "IntegerSuffixStartingWithE"
 error_name OutOfMemory = unknown_name
 
+-- the name of a kind of tokens
+abbrev pub token_name : TokenKind → List ℕ
+token_name Whitespace = codes "Whitespace"
+token_name LineComment = codes "LineComment"
+token_name BlockComment = codes "BlockComment"
+token_name UnterminatedBlockComment = codes "UnterminatedBlockComment"
+token_name Ident = codes "Ident"
+token_name RawIdent = codes "RawIdent"
+token_name UnknownPrefix = codes "UnknownPrefix"
+token_name Lifetime = codes "Lifetime"
+token_name RawLifetime = codes "RawLifetime"
+token_name UnknownPrefixLifetime = codes "UnknownPrefixLifetime"
+token_name Literal = codes "Literal"
+token_name MalformedLiteral = codes "MalformedLiteral"
+token_name Punctuation = codes "Punctuation"
+token_name Unknown = codes "Unknown"
+
 -- the names by the numbers of `enum litrs_kind`
 abbrev pub kind_names : List (List ℕ)
 kind_names = unknown_name ∷ map kind_name (
@@ -89,6 +108,14 @@ error_names = unknown_name ∷ map error_name (
     InvalidStringLiteralStart ∷ InvalidByteLiteralStart ∷ InvalidByteStringLiteralStart ∷
     InvalidCStringLiteralStart ∷ DisallowedNulEscape ∷ NulByte ∷ CarriageReturn ∷ TooManyHashes ∷
     InvalidSuffix ∷ UnexpectedIntegerLit ∷ IntegerSuffixStartingWithE ∷ []
+    )
+
+-- the names by the numbers of `enum litrs_token_kind`
+abbrev pub token_names : List (List ℕ)
+token_names = unknown_name ∷ map token_name (
+    Whitespace ∷ LineComment ∷ BlockComment ∷ UnterminatedBlockComment ∷ Ident ∷ RawIdent ∷
+    UnknownPrefix ∷ Lifetime ∷ RawLifetime ∷ UnknownPrefixLifetime ∷ Literal ∷
+    MalformedLiteral ∷ Punctuation ∷ Unknown ∷ []
     )
 
 -- the name at a number

@@ -1,8 +1,8 @@
-//! Rust literals, for C and for what calls C.
+//! Rust literals and tokens, for C and for what calls C.
 //!
 //! A static library over [`litrs`]. `include/litrs.h` declares the calls and what they answer, and
-//! `README.md` says how to build, install and call them. Each call reads a text anew: nothing is
-//! kept between calls, and nothing has to be freed.
+//! `README.md` says how to build, install and call them. Nothing is kept between calls, and nothing
+//! has to be freed.
 #![tactic(auto)]
 
 ghost use Rattle.std.specs.Prelude.{◌≡◌, ◌≢◌, ◌≤◌, ◌↔◌, ⊤, IsTrue, IsFalse, length, Some, None, option_map};
@@ -31,21 +31,22 @@ mod prefix;
 mod refusals;
 mod room;
 mod static_texts;
+mod tokens;
 mod write;
 
 /// The text is a literal.
 pub const LITERAL: u32 = 0;
-/// The text is a text, and no literal.
+/// The text is not a literal.
 pub const REFUSED: u32 = 1;
 /// The bytes are not UTF-8.
 pub const NOT_UTF8: u32 = 2;
-/// An allocation failed: for the value of a literal that is read, or for one that is written.
+/// An allocation failed: for the value of a literal, or for a literal to write.
 pub const OUT_OF_MEMORY: u32 = 3;
-/// The text is a literal of another kind than strings, byte strings and C strings.
+/// The text is a literal, but not a string, a byte string or a C string.
 pub const NO_STRING: u32 = 4;
-/// No literal opens at the front of the text.
+/// No literal begins at the front of the text.
 pub const NO_PREFIX: u32 = 5;
-/// The text is a literal, and not an integer or a float.
+/// The text is a literal, but not an integer or a float.
 pub const NO_NUMBER: u32 = 6;
 
 /// A part of a text: the bytes from `start` up to `end`.
@@ -56,19 +57,19 @@ pub struct Place {
     pub end: usize,
 }
 
-/// A literal. What a kind does not have is 0, false, or the place 0..0.
+/// A literal. A field that a kind does not have is 0, `false`, or the place 0..0.
 #[repr(C)]
 #[derive(Clone, Copy)]
 pub struct LiteralFields {
     /// `enum litrs_kind`.
     pub kind: u32,
-    /// How many digits the base of an integer has: 2, 8, 10 or 16.
+    /// The number of digits of an integer's base: 2, 8, 10 or 16.
     pub base: u32,
-    /// Whether a string of one of the three kinds is raw.
+    /// `true` for a raw string of one of the three kinds.
     pub is_raw: bool,
-    /// Whether a float has a period.
+    /// `true` for a float with a period.
     pub has_fraction: bool,
-    /// Whether the halves are those of the value: of a bool, a char, a byte, and an integer below
+    /// `true` if the halves are those of the value: of a bool, a char, a byte, and an integer below
     /// 2^128.
     pub has_value: bool,
     /// The value modulo 2^64.
@@ -85,17 +86,17 @@ pub struct LiteralFields {
     pub suffix: Place,
 }
 
-/// A refusal.
+/// The error of a text that is not a literal.
 #[repr(C)]
 #[derive(Clone, Copy)]
 pub struct RefusalFields {
     /// `enum litrs_error`.
     pub kind: u32,
-    /// Whether it points at a part of the text.
+    /// `true` if it points at a part of the text.
     pub has_span: bool,
-    /// Whether no text that begins with this one is a literal.
+    /// `true` if no text that begins with this one is a literal.
     pub is_final: bool,
-    /// Whether the text only lacks its closing quote, with the hashes of a raw string.
+    /// `true` if the text only lacks its closing quote, with the hashes of a raw string.
     pub is_open: bool,
     /// The part of the text. The start is a character boundary.
     pub span: Place,
@@ -103,51 +104,50 @@ pub struct RefusalFields {
     pub char_span: Place,
 }
 
-/// What a text is.
+/// The answer of [`litrs_parse`].
 #[repr(C)]
 #[derive(Clone, Copy)]
 pub struct Answer {
-    /// `enum litrs_status`: of a literal, refused, not UTF-8, out of memory.
+    /// `enum litrs_status`: one of the first four.
     pub status: u32,
-    /// The literal, where the status says so; else all is 0 by [`litrs_parse`].
+    /// The literal, if the status is `LITERAL`. Otherwise [`litrs_parse`] sets all to 0.
     pub literal: LiteralFields,
-    /// The refusal, where the status says so; else all is 0 by [`litrs_parse`].
+    /// The error, if the status is `REFUSED`. Otherwise [`litrs_parse`] sets all to 0.
     pub refusal: RefusalFields,
 }
 
-/// What stands at the front of a text.
+/// The answer of [`litrs_parse_prefix`].
 #[repr(C)]
 #[derive(Clone, Copy)]
 pub struct PrefixAnswer {
-    /// Of the literal there, or of what was meant as one. The status may also be that none opens.
-    /// The suffix of the literal ends it.
+    /// About the literal at the front, or the malformed one. The status may also be `NO_PREFIX`.
     pub answer: Answer,
-    /// The length in bytes of the literal, or of what was meant as one; 0 if none opens, and if the
-    /// bytes are not UTF-8.
+    /// The length in bytes of the literal, or of the malformed one. It is 0 if none begins there,
+    /// and if the bytes are not UTF-8.
     pub len: usize,
 }
 
-/// What was written to the caller's room.
+/// The answer of a call that writes to the caller's room.
 #[repr(C)]
 #[derive(Clone, Copy)]
 pub struct Written {
     /// `enum litrs_status`.
     pub status: u32,
-    /// How many bytes there are, whether or not they fit.
+    /// The number of bytes to write, even if they do not fit.
     pub len: usize,
 }
 
-/// A text that lasts as long as the program, with a closing zero.
+/// A text with a closing zero, which lasts as long as the program.
 #[repr(C)]
 #[derive(Clone, Copy)]
 pub struct StaticText {
     pub text: &'static [u8],
 }
 
-/// Says of a text whether it is a literal of any kind, and what it is made of, or why it is none.
+/// Parses `text` as a literal of any kind.
 ///
-/// Only the value of a C string, and of a quoted string or byte string with a backslash, is
-/// allocated, where it is not empty, and freed again before the call returns.
+/// There is one allocation for the value of a C string, and of a quoted string or byte string with
+/// a backslash, if the value is not empty. It is freed before the call returns.
 #[unsafe(no_mangle)]
 pub extern "C" fn litrs_parse(alloc: Global, text: &[u8]) -> Answer
     ensures statuses { result.status ≤ OUT_OF_MEMORY }
@@ -165,8 +165,8 @@ pub extern "C" fn litrs_parse(alloc: Global, text: &[u8]) -> Answer
     answer
 }
 
-/// Writes to the caller's answer what [`litrs_parse`] answers: the status, and of the literal and
-/// the refusal the one that the status speaks of. The other stays as it was.
+/// Writes to `answer` what [`litrs_parse`] returns: the status, and the literal or the error if the
+/// status names it. The rest of `answer` stays unchanged.
 #[unsafe(no_mangle)]
 pub extern "C" fn litrs_parse_into(alloc: Global, text: &[u8], answer: &mut Answer)
     ensures statuses { answer.new.status ≤ OUT_OF_MEMORY }
@@ -185,7 +185,7 @@ pub extern "C" fn litrs_parse_into(alloc: Global, text: &[u8], answer: &mut Answ
     }
 }
 
-/// The same of a text that is UTF-8.
+/// Like [`litrs_parse_into`], for a text that is UTF-8.
 #[inline(always)]
 fn parse_text(alloc: Global, text: &str, answer: &mut Answer)
     ensures statuses { answer.new.status ≤ OUT_OF_MEMORY }
@@ -213,7 +213,7 @@ fn parse_text(alloc: Global, text: &str, answer: &mut Answer)
     }
 }
 
-/// An answer of this status, which says nothing else.
+/// Returns an answer of this status, in which all else is 0.
 fn only_status(status: u32) -> Answer
     ensures { result ≡ record {
       status = status;
@@ -228,11 +228,11 @@ fn only_status(status: u32) -> Answer
     }
 }
 
-/// Says which literal stands at the front of a text, and how many bytes it has; that none opens
-/// there, as before a name, a blank or punctuation; or why what was meant as one is none, and how
-/// many bytes that is. Spans count from the start of the text.
+/// Parses the literal at the front of `text`. The status is `NO_PREFIX` if none begins there, for
+/// example before a name, white space or punctuation. It is `REFUSED` if the literal that begins
+/// there is malformed. Spans count from the start of `text`.
 ///
-/// It allocates as [`litrs_parse`] does.
+/// It allocates like [`litrs_parse`].
 #[unsafe(no_mangle)]
 pub extern "C" fn litrs_parse_prefix(alloc: Global, text: &[u8]) -> PrefixAnswer
     ensures statuses { result.answer.status ≤ NO_PREFIX }
@@ -255,10 +255,8 @@ pub extern "C" fn litrs_parse_prefix(alloc: Global, text: &[u8]) -> PrefixAnswer
     PrefixAnswer { answer, len }
 }
 
-/// Writes to the caller's answer what [`litrs_parse_prefix`] answers: the status, and of the
-/// literal and the refusal the one that the status speaks of. The other stays as it was. The
-/// result is the length in bytes of the literal, or of what was meant as one; 0 if none opens, and
-/// if the bytes are not UTF-8.
+/// Writes to `answer` what [`litrs_parse_prefix`] returns, and returns the length. The literal or
+/// the error is written if the status names it. The rest of `answer` stays unchanged.
 #[unsafe(no_mangle)]
 pub extern "C" fn litrs_parse_prefix_into(alloc: Global, text: &[u8], answer: &mut Answer) -> usize
     ensures statuses { answer.new.status ≤ NO_PREFIX }
@@ -285,8 +283,8 @@ pub extern "C" fn litrs_parse_prefix_into(alloc: Global, text: &[u8], answer: &m
     }
 }
 
-/// Whether the text, or the text with some text appended, is a literal of any kind. Bytes that are
-/// not UTF-8 are no text. It does not allocate.
+/// Returns `true` if `text`, or `text` with some text appended, is a literal of any kind. Returns
+/// `false` if the bytes are not UTF-8. It does not allocate.
 #[unsafe(no_mangle)]
 pub extern "C" fn litrs_goes_on(text: &[u8]) -> bool
     ensures { IsTrue result ↔ (IsUtf8 text.now × Begins literal_parse (chars text.now)) }
@@ -297,9 +295,9 @@ pub extern "C" fn litrs_goes_on(text: &[u8]) -> bool
     }
 }
 
-/// Writes the bytes that a string, a byte string or a C string stands for to the room, as many as
-/// fit; of a C string without its closing zero. The rest of the room is left as it is, and all of
-/// it where there is no value. It allocates as [`litrs_parse`] does.
+/// Writes the value of a string, a byte string or a C string to `room`, as many bytes as fit,
+/// without the closing zero of a C string. The rest of `room` stays unchanged, and all of it if
+/// there is no value. It allocates like [`litrs_parse`].
 #[unsafe(no_mangle)]
 pub extern "C" fn litrs_value(alloc: Global, text: &[u8], room: &mut [u8]) -> Written
     ensures statuses { result.status ≤ NO_STRING }
@@ -318,7 +316,7 @@ pub extern "C" fn litrs_value(alloc: Global, text: &[u8], room: &mut [u8]) -> Wr
     }
 }
 
-/// The same of a text that is UTF-8.
+/// Like [`litrs_value`], for a text that is UTF-8.
 fn write_value(alloc: Global, text: &str, room: &mut [u8]) -> Written
     ensures statuses { result.status ≤ NO_STRING }
     ensures utf8 { result.status ≢ NOT_UTF8 }
@@ -345,7 +343,7 @@ fn write_value(alloc: Global, text: &str, room: &mut [u8]) -> Written
     }
 }
 
-/// The bytes that a string of one of the three kinds stands for.
+/// Returns the value of a string of one of the three kinds, in bytes.
 fn value_bytes<'a>(lit: &'a Literal<&str>) -> Option<&'a [u8]>
     ensures { option_map (λ bytes. bytes.now) result ≡ bytes_of (derivation lit.now) }
 {
@@ -357,9 +355,9 @@ fn value_bytes<'a>(lit: &'a Literal<&str>) -> Option<&'a [u8]>
     }
 }
 
-/// Writes the message on a text that is refused to the room, as much as fits: what is wrong, and
-/// the span, if there is one, as ` (at 3..4)`. The rest of the room is left as it is, and all of it
-/// where the text is not refused. It allocates as [`litrs_parse`] does, and nothing for a message.
+/// Writes the message of the error of `text` to `room`, as much as fits: what is wrong, and the
+/// span, if there is one, for example ` (at 3..4)`. The rest of `room` stays unchanged, and all of
+/// it if there is no error. It allocates like [`litrs_parse`], and nothing for a message.
 #[unsafe(no_mangle)]
 pub extern "C" fn litrs_message(alloc: Global, text: &[u8], room: &mut [u8]) -> Written
     ensures statuses { result.status ≤ OUT_OF_MEMORY }
@@ -376,7 +374,7 @@ pub extern "C" fn litrs_message(alloc: Global, text: &[u8], room: &mut [u8]) -> 
     }
 }
 
-/// The same of a text that is UTF-8.
+/// Like [`litrs_message`], for a text that is UTF-8.
 fn write_message(alloc: Global, text: &str, room: &mut [u8]) -> Written
     ensures statuses { result.status ≤ OUT_OF_MEMORY }
     ensures utf8 { result.status ≢ NOT_UTF8 }
@@ -398,7 +396,7 @@ fn write_message(alloc: Global, text: &str, room: &mut [u8]) -> Written
     }
 }
 
-/// Where nothing is written.
+/// Returns the answer of a call that writes nothing.
 fn nothing(status: u32) -> Written
     ensures { result ≡ record { status = status; len = 0 } }
 {

@@ -2,8 +2,9 @@
 ghost use Rattle.std.specs.Prelude.{◌≡◌, ◌<◌, ◌⊎◌, codes};
 ghost use Rattle.litrs_base.specs.declared.err.ParseErrorKind.{ParseErrorKind};
 ghost use Rattle.litrs_grammar.specs.Literal.{LiteralKind};
-ghost use Rattle.litrs_c.specs.Codes.{kind_code, error_code};
-ghost use Rattle.litrs_c.specs.Names.{zero_ended, unknown_name, kind_name, error_name, kind_names, error_names, name_at};
+ghost use Rattle.litrs_lexer.specs.declared.kind.TokenKind.{TokenKind};
+ghost use Rattle.litrs_c.specs.Codes.{kind_code, error_code, token_code};
+ghost use Rattle.litrs_c.specs.Names.{zero_ended, unknown_name, kind_name, error_name, token_name, kind_names, error_names, token_names, name_at};
 
 use crate::StaticText;
 
@@ -69,7 +70,26 @@ static ERROR_NAMES: [&[u8]; 42] = [
     b"IntegerSuffixStartingWithE\0",
 ];
 
-/// Gives the version of the library, as `LITRS_VERSION` has it.
+/// The names by the numbers of `enum litrs_token_kind`.
+static TOKEN_NAMES: [&[u8]; 15] = [
+    b"Unknown\0",
+    b"Whitespace\0",
+    b"LineComment\0",
+    b"BlockComment\0",
+    b"UnterminatedBlockComment\0",
+    b"Ident\0",
+    b"RawIdent\0",
+    b"UnknownPrefix\0",
+    b"Lifetime\0",
+    b"RawLifetime\0",
+    b"UnknownPrefixLifetime\0",
+    b"Literal\0",
+    b"MalformedLiteral\0",
+    b"Punctuation\0",
+    b"Unknown\0",
+];
+
+/// Writes the version of the library, that of `LITRS_VERSION`, to `version`.
 #[unsafe(no_mangle)]
 pub extern "C" fn litrs_get_version(version: &mut StaticText)
     ensures { version.new.text.now ≡ zero_ended (codes "1.0.1-rattle.1") }
@@ -79,8 +99,8 @@ pub extern "C" fn litrs_get_version(version: &mut StaticText)
     };
 }
 
-/// Gives the name of the kind of literals with this number in `enum litrs_kind`, which is that of
-/// the variant of [`Literal`](litrs::Literal). For any other number it is `Unknown`.
+/// Writes the name of the kind of literals with this number in `enum litrs_kind` to `name`: that of
+/// the variant of [`Literal`](litrs::Literal), and `Unknown` for any other number.
 #[unsafe(no_mangle)]
 pub extern "C" fn litrs_get_kind_name(kind: u32, name: &mut StaticText)
     ensures named { (k : LiteralKind) → kind ≡ kind_code k
@@ -92,8 +112,8 @@ pub extern "C" fn litrs_get_kind_name(kind: u32, name: &mut StaticText)
     };
 }
 
-/// Gives the name of the kind of refusals with this number in `enum litrs_error`, which is that of
-/// the variant of [`ParseErrorKind`](litrs::ParseErrorKind). For any other number it is `Unknown`.
+/// Writes the name of the kind of errors with this number in `enum litrs_error` to `name`: that of
+/// the variant of [`ParseErrorKind`](litrs::ParseErrorKind), and `Unknown` for any other number.
 #[unsafe(no_mangle)]
 pub extern "C" fn litrs_get_error_name(error: u32, name: &mut StaticText)
     ensures named { (k : ParseErrorKind) → error ≡ error_code k
@@ -105,7 +125,20 @@ pub extern "C" fn litrs_get_error_name(error: u32, name: &mut StaticText)
     };
 }
 
-/// The name at a number of `enum litrs_kind`.
+/// Writes the name of the kind of tokens with this number in `enum litrs_token_kind` to `name`:
+/// that of the variant of [`TokenKind`](litrs_lexer::TokenKind), and `Unknown` for any other number.
+#[unsafe(no_mangle)]
+pub extern "C" fn litrs_get_token_kind_name(kind: u32, name: &mut StaticText)
+    ensures named { (k : TokenKind) → kind ≡ token_code k
+        → name.new.text.now ≡ zero_ended (token_name k) }
+    ensures unknown { (kind ≡ 0) ⊎ (14 < kind) → name.new.text.now ≡ zero_ended unknown_name }
+{
+    *name = StaticText {
+        text: token_kind_name(kind),
+    };
+}
+
+/// Returns the name at a number of `enum litrs_kind`.
 fn kind_name(number: u32) -> &'static [u8]
     ensures { result.now ≡ zero_ended (name_at kind_names number) }
 {
@@ -117,13 +150,25 @@ fn kind_name(number: u32) -> &'static [u8]
     }
 }
 
-/// The name at a number of `enum litrs_error`.
+/// Returns the name at a number of `enum litrs_error`.
 fn error_name(number: u32) -> &'static [u8]
     ensures { result.now ≡ zero_ended (name_at error_names number) }
 {
     let index = number as usize;
     if index < ERROR_NAMES.len() {
         ERROR_NAMES[index]
+    } else {
+        UNKNOWN
+    }
+}
+
+/// Returns the name at a number of `enum litrs_token_kind`.
+fn token_kind_name(number: u32) -> &'static [u8]
+    ensures { result.now ≡ zero_ended (name_at token_names number) }
+{
+    let index = number as usize;
+    if index < TOKEN_NAMES.len() {
+        TOKEN_NAMES[index]
     } else {
         UNKNOWN
     }
