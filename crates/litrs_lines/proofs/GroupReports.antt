@@ -1,16 +1,13 @@
 -- The reports on the groups that end with lines: each list of lines has them, and how they go on from line to line.
-use Rattle.std.proofs.Common.{◌≡◌, ◌∙◌, Bool, true, false, inl, inr, ℕ, List, [], ◌∷◌, ◌++◌, refl, sym, ap, subst, append_assoc, append-nil}
-use Rattle.std.specs.Prelude.{map, codes, Result, Ok, Err, OnOk, is_ok, if◌then◌else◌, IsTrue, ◌↔◌}
+use Rattle.std.proofs.Common.{◌≡◌, ◌∙◌, inl, inr, ℕ, List, [], ◌∷◌, ◌++◌, refl, sym, ap, subst, append_assoc}
+use Rattle.std.specs.Prelude.{map, codes, Result, Ok, Err, OnOk, is_ok, if◌then◌else◌}
 use Rattle.std.specs.Str.{chars, IsUtf8}
 use Rattle.litrs_base.specs.declared.err.ParseError.{ParseError}
 use Rattle.litrs_base.specs.Refusal.{refusal_of}
-use Rattle.litrs_grammar.specs.Literal.{Derivation, IsLiteral, IsLiteralOf, Begins, literal_parse}
-use Rattle.litrs_grammar.specs.Refused.{IsRefusedOrOutOfMemory}
-use Rattle.litrs.specs.LiteralDerivation.{derivation}
-use Rattle.litrs_lines.specs.declared.collector.Step.{Step}
-use Rattle.litrs_lines.specs.declared.collector.Step.TheVariants.{More, Literal, Refused}
+use Rattle.litrs_grammar.specs.Literal.{Derivation, IsLiteral, literal_parse}
+use Rattle.litrs_grammar.specs.Refused.{IsRefused}
 use Rattle.litrs_lines.specs.Held.{IsRefusalOfHeld}
-use Rattle.litrs_lines.specs.Steps.{IsUnfinished, Feeds}
+use Rattle.litrs_lines.specs.Steps.{BeginsByLine, IsUnfinished}
 use Rattle.litrs_lines.specs.Groups.{joined, IsNoText, IsFinished}
 use Rattle.litrs_lines.specs.Report.{literal_report, refusal_report, IsTextReport}
 use Rattle.litrs_lines.specs.Reports.{AreReports, AreGroupReports}
@@ -18,7 +15,7 @@ use Rattle.litrs_lines.specs.ReportLaws.{LinesHaveReports, ReportsAreUnique}
 use Rattle.litrs_lines.specs.Ended.{unless_held, LineEnds, AreEndedReports, AreLastReports, IsHeldReport}
 use Rattle.litrs_lines.specs.Sent.{AreBytes}
 use Rattle.litrs_lines.proofs.ReportLemmas.{texts_have_reports, AreReports-one, AreReports-append, one_list_of_reports}
-use Rattle.litrs_lines.proofs.StepLemmas.{line_begins_none}
+use Rattle.litrs_lines.proofs.StepLemmas.{first_is}
 use Rattle.litrs_lines.proofs.GroupLemmas.{unless_held-some, lines_end, LinesEnd-one, LinesEnd-append, grouped, groups_are_unique}
 
 -- ---- each list of lines has them
@@ -88,35 +85,6 @@ ended-longer held lines more between out is =
     let all = have_ended_reports between more in
     (all.0, all.1, ended-append held lines more between all.0 out all.1 is all.2)
 
--- ---- one line
-
--- what is added for a step
-abbrev pub step_bytes : Step → List ℕ
-step_bytes More = []
-step_bytes (Literal lit) = literal_report (derivation lit) ++ 10 ∷ []
-step_bytes (Refused e) = refusal_report (refusal_of e) ++ 10 ∷ []
-
--- it is the reports on the groups that the line ends
-step_reports : (held line left : List ℕ) (step : Step) → IsUtf8 line → Feeds (held ++ line) left step → AreEndedReports held (line ∷ []) left (step_bytes step)
-step_reports held line left More text fed =
-    ([], LinesEnd-one held line [] left (inl (text, fed.is, refl, fed.after)), refl)
-step_reports held line left (Literal lit) text fed = (
-  (held ++ line) ∷ [],
-  LinesEnd-one held line ((held ++ line) ∷ []) left (inr (inl (text, inl (derivation lit, fed.is.1.0), refl, fed.after))),
-  AreReports-one (held ++ line) (literal_report (derivation lit)) (inl (fed.utf8, inl (derivation lit, fed.is.1.0, refl))),
-)
-step_reports held line left (Refused e) text fed = (
-  (held ++ line) ∷ [],
-  LinesEnd-one held line ((held ++ line) ∷ []) left (inr (inl (text, inr fed.is.1, refl, fed.after))),
-  AreReports-one (held ++ line) (refusal_report (refusal_of e)) (inl (fed.utf8, inr (refusal_of e, fed.is.0.table, refl))),
-)
-
--- what is added for the step is the reports
-pub step_reported : (held line after left out : List ℕ) (step : Step) → IsUtf8 line → Feeds (held ++ line) after step → AreBytes after (step_bytes step) left out → AreEndedReports held (line ∷ []) left out
-step_reported held line after left out step text fed is =
-    subst (λ (o : List ℕ). AreEndedReports held (line ∷ []) left o) (sym is.1)
-    (subst (λ (l : List ℕ). AreEndedReports held (line ∷ []) l (step_bytes step)) (sym is.0) (step_reports held line after step text fed))
-
 -- ---- a line by itself, whose literal or refusal is known
 
 -- it is a group, and r is the report on it
@@ -145,18 +113,15 @@ literal_finishes held line d none text is = record {
   report = inl (d, is, refl);
 }
 
--- a line that begins no literal, and is not out of memory
-pub refusal_finishes : (held line : List ℕ) (e : ParseError) (test : Bool) → held ≡ [] → IsUtf8 line → IsRefusedOrOutOfMemory literal_parse (chars line) e →
-    IsTrue test ↔ Begins literal_parse (chars line) → test ≡ false → Finishes held line (refusal_report (refusal_of e))
-refusal_finishes held line e test none text (inl refused) goes fails = record {
+-- a line that is refused, and begins no literal with an LF after it
+pub refusal_finishes : (held line : List ℕ) (e : ParseError) → held ≡ [] → IsUtf8 line → IsRefused literal_parse (chars line) e → (BeginsByLine (held ++ line) → ⊥) →
+    Finishes held line (refusal_report (refusal_of e))
+refusal_finishes held line e none text refused shut = record {
   nothing = none;
   text = text;
-  finished = inr (line_begins_none line test goes fails);
+  finished = inr (subst (λ (t : List ℕ). BeginsByLine t → ⊥) (first_is held line none) shut);
   report = inr (refusal_of e, refused.table, refl);
 }
-refusal_finishes held line e test none text (inr lack) goes fails =
-    let begins : Begins literal_parse (chars line) = ([], lack.derivation, refl, subst (λ (u : List ℕ). IsLiteralOf literal_parse u lack.derivation) (sym (append-nil (chars line))) lack.literal) in
-    let both : true ≡ false = sym (goes.1 begins) ∙ fails in cc
 
 -- ---- a line after lines that are held, and the text of all of them
 

@@ -1,45 +1,52 @@
 -- What is known of the bytes of a text that begins a string: it stays known with more after them, and goes on over a line.
-use Rattle.std.proofs.Common.{◌≡◌, ◌∙◌, inl, inr, ℕ, zero, suc, ◌+◌, ◌≤◌, ◌<◌, true, false, ◌||◌, List, [], ◌∷◌, ◌++◌, length, take, drop, Option, Some, None, refl, sym, ap, subst, append_assoc, append-nil, arith}
-use Rattle.std.specs.Prelude.{◌==◌}
+use Rattle.std.proofs.Common.{◌≡◌, ◌∙◌, inl, inr, ℕ, zero, suc, ◌+◌, ◌≤◌, ◌<◌, Bool, true, false, ltb, List, [], ◌∷◌, ◌++◌, length, take, drop, Option, Some, None, refl, sym, ap, subst, append_assoc, append-nil, arith}
+use Rattle.std.specs.Prelude.{◌==◌, if◌then◌else◌}
 use Rattle.std.specs.List.{list_all, prefix_len}
 use Rattle.std.specs.Str.{chars, IsUtf8, IsCharBoundary}
 use Rattle.std.proofs.Math.Seq.{take-length, drop-length}
-use Rattle.std.proofs.lemmas.Bool.{and_from, ne_eqb, not_from_false, cases_lt, eqb-true}
+use Rattle.std.proofs.lemmas.Bool.{and_from, ne_eqb, not_from_false, cases_lt, false≢true}
 use Rattle.std.proofs.lemmas.List.{take-append-le, drop-append-le, take-append-drop, length-take-le, length-append, length-drop, drop-drop, append_cancel_left, append_cancel_right, take_at}
 use Rattle.std.proofs.lemmas.Str.{chars-append, chars-nil, IsUtf8-append, IsUtf8-drop, IsUtf8-from_ascii, IsCharBoundary-at_seam, IsCharBoundary-end, IsCharBoundary-from_drop}
-use Rattle.litrs_base.specs.declared.escape.Unescape.{Unescape}
 use Rattle.litrs_base.specs.Characters.{is_blank}
 use Rattle.litrs_base.specs.Text.{is_empty, first_passes, begins_with}
 use Rattle.litrs_base.proofs.Begins.{begins_with-split}
-use Rattle.litrs_base.proofs.Chars.{ascii_by_test, chars_ascii, chars_empty, first_passes-chars, passing_front, prefix_len-chars}
+use Rattle.litrs_base.proofs.Chars.{ascii_by_test, chars_empty, first_passes-chars, passing_front, prefix_len-chars}
 use Rattle.litrs_base.proofs.Runs.{list_all-append}
 use Rattle.litrs_base.proofs.Spans.{is_ascii_char}
 use Rattle.litrs_base.specs.declared.quotes.StringKind.{StringKind}
 use Rattle.litrs_base.specs.declared.quotes.StringKind.TheVariants.{String as string_kind, ByteString as byte_string_kind, CString as c_string_kind}
 use Rattle.litrs_base.specs.Quotes.{switches_of, quoted_front, raw_front}
 use Rattle.litrs_base.specs.declared.quotes.Switches.{Switches}
-use Rattle.litrs_grammar.specs.Escape.{escape_text, IsEscape}
 use Rattle.litrs_grammar.specs.Quoted.{Item, continuation, body_text, is_item_list}
-use Rattle.litrs_grammar.specs.Raw.{hashes, hash_len, occurs, raw_closing, has_unicode, allows_nul, is_raw_char}
+use Rattle.litrs_base.specs.Finality.{is_open}
+use Rattle.litrs_base.specs.Refusal.{Refusal, without_span, at_byte}
+use Rattle.litrs_base.specs.declared.err.ParseErrorKind.TheVariants.{CarriageReturn, NulByte, NonAsciiInByteLiteral, UnterminatedRawString}
+use Rattle.litrs_grammar.specs.Suffix.{is_suffix, suffix_refusal}
+use Rattle.litrs_grammar.specs.Raw.{is_quote, is_nul, raw_char_refusal, hashes, hash_len, occurs, raw_closing, has_unicode, allows_nul, is_raw_char, raw_body_refusal, raw_refusal}
 use Rattle.litrs_grammar.specs.Laws.Raw.{NoClosingIn}
 use Rattle.litrs_grammar.proofs.Laws.Quoted.{body_text-append}
 use Rattle.litrs_grammar.proofs.RawCuts.{HashCut, hash_cut, hash_len-append, after_hashes, length-hashes}
 use Rattle.litrs_grammar.proofs.RawScans.{raw_scans_go_on}
+use Rattle.litrs_grammar.proofs.LongerTexts.OpenRows.{is_open_row, shut_suffix, shut_kind_if}
 use Rattle.litrs_grammar.proofs.LongerTexts.Quoted.{quoted_items_stay}
-use Rattle.litrs_lex.specs.Unescaped.{IsUnescaped}
 use Rattle.litrs_lex.proofs.FloatBytes.{chars_after}
 use Rattle.litrs_lex.specs.Reading.{IsItemsEnd}
 use Rattle.litrs_lex.specs.RawCut.{IsStop, IsRawOpening}
 use Rattle.litrs_grammar.proofs.Laws.Integer.{list_all-take_while, first_passes-rest}
 use Rattle.litrs_lex.proofs.QuotedBytes.{blank_ascii}
+use Rattle.litrs_lex.proofs.RawBytes.{closing_at, refused_body, suffix_refused, body_cut}
+use Rattle.litrs.proofs.Fronts.{front_chars}
 use Rattle.litrs_lex.proofs.QuotedScan.{front_splits, is_item_list-append}
 use Rattle.litrs_lex.proofs.StringFronts.{quoted_boundary, quoted_before}
 use Rattle.litrs_lines.specs.declared.collector.body.Body.{Body}
 use Rattle.litrs_lines.specs.declared.collector.body.Body.TheVariants.{Quoted, Continuation, Raw}
 use Rattle.litrs_lines.specs.declared.collector.body.Open.{Open}
-use Rattle.litrs_lines.specs.Open.{IsEscapeOrEmpty, IsQuotedTo, IsContinuedTo, IsRawTo, IsBodyTo, IsOpen, IsKnown}
+use Rattle.litrs_lex.specs.BodyStop.{IsShut, EndsWithin}
+use Rattle.litrs_lex.specs.declared.body_stop.Within.TheVariants.{Escape, Continuation as Continued}
+use Rattle.litrs_lines.specs.Open.{IsAfter, IsQuotedTo, IsContinuedTo, IsRawTo, IsBodyTo, IsOpen, IsKnown}
+use Rattle.litrs_lines.specs.Steps.{BeginsByLine}
 use Rattle.litrs_lines.proofs.StepLemmas.{chars-line_feed}
-use Rattle.litrs_lines.proofs.OpenTexts.{IsOpenText, IsOpenEnd, more_after, quoted_is_open, none_over_line, line_in_body, raw_is_open}
+use Rattle.litrs_lines.proofs.OpenTexts.{IsOpenText, IsOpenEnd, more_after, quoted_is_open, quoted_is_shut, quote_is_shut, none_over_line, line_in_body, raw_is_open, raw_is_shut, opening_is_shut}
 
 -- A longer text
 
@@ -122,29 +129,6 @@ stop_by kind w n place end bytes seen same is stop =
     subst (λ (v : Switches). IsStop v.unicode v.allow_nul n place bytes end) is
     (subst (λ (l : List ℕ). IsStop w.unicode w.allow_nul n place l end) same stop)
 
--- the text ends between two items or with an escape
-pub escape_left : (w : Switches) (rest seen : List ℕ) → seen ≡ rest → IsEscapeOrEmpty w (chars seen) → IsOpenEnd w (chars rest)
-escape_left w rest seen same (inl none) = inl (inl (ap chars (sym same) ∙ none))
-escape_left w rest seen same (inr (e, is, grammar)) = inr (inr (e, ap chars (sym same) ∙ is, grammar))
-
-pub is_empty_left : (w : Switches) (bytes seen : List ℕ) → seen ≡ bytes → length seen < 1 → IsEscapeOrEmpty w (chars bytes)
-is_empty_left w bytes [] same none = inl (ap chars (sym same) ∙ chars-nil)
-is_empty_left w bytes (b ∷ seen) same none = absurd (omega arith)
-
-pub begins_backslash : (bytes rest : List ℕ) → bytes ≡ 92 ∷ rest → (is_empty (chars bytes) || first_passes (λ c. c == 92) (chars bytes)) ≡ true
-begins_backslash bytes rest is = ap (λ (l : List ℕ). is_empty l || first_passes (λ c. c == 92) l) (ap chars is ∙ chars_ascii 92 rest (omega arith))
-
--- an escape as long as the text is all of it
-pub is_whole_escape : (w v : Switches) (bytes : List ℕ) (value : Unescape) (len : ℕ) → w ≡ v → IsUnescaped w bytes value len → (len == length bytes) ≡ true → IsEscapeOrEmpty v (chars bytes)
-is_whole_escape w v bytes value len same read whole =
-    let at : len ≡ length bytes = eqb-true len (length bytes) whole in
-    let none : read.rest ≡ [] = sym read.after ∙ ap (λ (k : ℕ). chars (drop k bytes)) at ∙ ap chars (drop-length bytes) ∙ chars-nil in
-    let text : chars bytes ≡ escape_text read.escape = sym read.spells ∙ ap (λ (l : List ℕ). escape_text read.escape ++ l) none ∙ append-nil (escape_text read.escape) in
-    inr (read.escape, text, subst (λ (s : Switches). IsEscape s read.escape) same read.grammar)
-
-pub backslash_left : (bytes : List ℕ) (place : ℕ) → drop place bytes ≡ 92 ∷ [] → chars (drop place bytes) ≡ 92 ∷ []
-backslash_left bytes place is = ap chars is ∙ chars_ascii 92 [] (omega arith) ∙ ap (λ (l : List ℕ). 92 ∷ l) chars-nil
-
 pub before_end : (bytes : List ℕ) (place k : ℕ) → place ≤ length bytes → k ≤ length (drop place bytes) → (place + k ≡ length bytes → ⊥) → place + k < length bytes
 before_end bytes place k low within other = elim (cases_lt (place + k) (length bytes)) [
   | inl less ↦ less
@@ -187,19 +171,54 @@ quoted_unfinished kind place bytes u s shape =
 pub quoted_next : (kind : StringKind) (place : ℕ) (bytes : List ℕ) → IsUtf8 bytes → IsQuotedTo kind place bytes → IsQuotedTo kind place (bytes ++ 10 ∷ [])
 quoted_next kind place bytes u s = quoted_stays kind place bytes (10 ∷ []) u line_utf8 s
 
--- a backslash at the end of a line begins a continuation
-pub continuation_next : (kind : StringKind) (place n : ℕ) (bytes : List ℕ) → IsUtf8 bytes → n ≡ length bytes → IsQuotedTo kind place bytes → chars (drop place bytes) ≡ 92 ∷ [] →
-    IsContinuedTo kind (n + 1) (bytes ++ 10 ∷ [])
-continuation_next kind place n bytes u size s lone =
+-- a continuation that ends a line goes on, be it a backslash alone
+continuation_next : (kind : StringKind) (place n : ℕ) (bytes more blanks : List ℕ) → IsUtf8 bytes → n ≡ length bytes → IsQuotedTo kind place bytes → chars (drop place bytes) ≡ 92 ∷ more →
+    more ++ 10 ∷ [] ≡ 10 ∷ blanks → list_all is_blank blanks ≡ true → IsContinuedTo kind (n + 1) (bytes ++ 10 ∷ [])
+continuation_next kind place n bytes more blanks u size s rest line all =
     let w = switches_of kind in
-    let whole : quoted_front kind ++ (body_text s.items ++ 92 ∷ []) ≡ chars bytes = subst (λ (r : List ℕ). quoted_front kind ++ (body_text s.items ++ r) ≡ chars bytes) lone (quoted_whole kind place bytes u s) in record {
+    let whole : quoted_front kind ++ (body_text s.items ++ 92 ∷ more) ≡ chars bytes = subst (λ (r : List ℕ). quoted_front kind ++ (body_text s.items ++ r) ≡ chars bytes) rest (quoted_whole kind place bytes u s) in
+    let longer : 92 ∷ (more ++ 10 ∷ []) ≡ 92 ∷ 10 ∷ blanks = ap (λ l. 92 ∷ l) line in record {
       boundary = line_boundary bytes n size;
       items = s.items;
-      blanks = [];
-      spells = more_after (quoted_front kind) (body_text s.items) (92 ∷ []) (10 ∷ []) (chars bytes) whole ∙ sym (line_end bytes n size u);
-      taken = quoted_items_stay w (92 ∷ []) (10 ∷ []) s.items (subst (λ (r : List ℕ). is_item_list w r s.items ≡ true) lone s.taken);
-      blank = refl;
+      blanks = blanks;
+      spells = ap (λ (l : List ℕ). quoted_front kind ++ (body_text s.items ++ l)) (sym longer)
+          ∙ more_after (quoted_front kind) (body_text s.items) (92 ∷ more) (10 ∷ []) (chars bytes) whole ∙ sym (line_end bytes n size u);
+      taken = subst (λ (r : List ℕ). is_item_list w r s.items ≡ true) longer
+          (quoted_items_stay w (92 ∷ more) (10 ∷ []) s.items (subst (λ (r : List ℕ). is_item_list w r s.items ≡ true) rest s.taken));
+      blank = all;
     }
+
+-- What is known after the text, by what ends its items
+
+-- the text ends between two items, or with an escape
+pub items_after : (kind : StringKind) (place : ℕ) (bytes : List ℕ) → IsUtf8 bytes → IsQuotedTo kind place bytes → chars (drop place bytes) ≡ [] →
+    IsAfter bytes (Some (record { kind = kind; body = Quoted; place = place }))
+items_after kind place bytes u s none = (quoted_unfinished kind place bytes u s (inl (inl none)), quoted_next kind place bytes u s)
+
+pub escape_after : (kind : StringKind) (place : ℕ) (bytes : List ℕ) → IsUtf8 bytes → IsQuotedTo kind place bytes → EndsWithin (switches_of kind) Escape (chars (drop place bytes)) →
+    IsAfter bytes (Some (record { kind = kind; body = Quoted; place = place }))
+escape_after kind place bytes u s whole = (quoted_unfinished kind place bytes u s (inr (inr whole)), quoted_next kind place bytes u s)
+
+-- or within a continuation
+pub slash_after : (kind : StringKind) (place n : ℕ) (bytes : List ℕ) → IsUtf8 bytes → n ≡ length bytes → IsQuotedTo kind place bytes → chars (drop place bytes) ≡ 92 ∷ [] →
+    IsAfter bytes (Some (record { kind = kind; body = Continuation; place = n + 1 }))
+slash_after kind place n bytes u size s lone =
+    (quoted_unfinished kind place bytes u s (inr (inl lone)), continuation_next kind place n bytes [] [] u size s lone refl refl)
+
+pub blanks_after : (kind : StringKind) (place n : ℕ) (bytes : List ℕ) → IsUtf8 bytes → n ≡ length bytes → IsQuotedTo kind place bytes →
+    EndsWithin (switches_of kind) Continued (chars (drop place bytes)) → IsAfter bytes (Some (record { kind = kind; body = Continuation; place = n + 1 }))
+blanks_after kind place n bytes u size s (blanks, is, all) = (
+  quoted_unfinished kind place bytes u s (inl (inr (blanks, is, all))),
+  continuation_next kind place n bytes (10 ∷ blanks) (blanks ++ 10 ∷ []) u size s is refl (list_all-append is_blank blanks (10 ∷ []) all refl),
+)
+
+-- or it is shut
+pub shut_after : (kind : StringKind) (place : ℕ) (bytes : List ℕ) → IsUtf8 bytes → IsQuotedTo kind place bytes → IsShut (switches_of kind) (chars (drop place bytes)) → BeginsByLine bytes → ⊥
+shut_after kind place bytes u s shut =
+    quoted_is_shut kind (chars bytes) s.items (chars (drop place bytes)) (quoted_whole kind place bytes u s) s.taken shut
+
+pub quote_after : (kind : StringKind) (place : ℕ) (bytes : List ℕ) → IsUtf8 bytes → IsQuotedTo kind place bytes → first_passes (λ c. c == 34) (chars (drop place bytes)) ≡ true → BeginsByLine bytes → ⊥
+quote_after kind place bytes u s quote = shut_after kind place bytes u s (quote_is_shut kind (chars (drop place bytes)) quote)
 
 -- Continuations
 
@@ -337,6 +356,39 @@ raw_next kind n place end bytes u s stop whole =
           (r.unclosed (front ++ 10 ∷ more) (none_over_line n front more r.passed none));
     }
 
+-- where the search stops in the text, the body is closed or has what may not stand in it
+stop_row : (u a : Bool) (n start end : ℕ) (bytes : List ℕ) → IsUtf8 (drop start bytes) → IsStop u a n start bytes end →
+    (first_passes is_quote (drop end bytes) ≡ true → begins_with (raw_closing n) (drop end bytes) ≡ true) → (end ≡ length bytes → ⊥) →
+    raw_body_refusal u a n start (chars (drop start bytes)) ≡ Some (without_span UnterminatedRawString) → ⊥
+stop_row u a n start end bytes utf8 stop closing inside told = by (drop end bytes) refl
+  where
+    other : (o : Option Refusal) → raw_body_refusal u a n start (chars (drop start bytes)) ≡ o → is_open_row o ≡ false → ⊥
+    other o row shut = false≢true (sym shut ∙ ap is_open_row (sym row ∙ told))
+
+    ends : (b : Bool) → begins_with (raw_closing n) (drop end bytes) ≡ true → is_suffix (chars (drop (end + 1 + n) bytes)) ≡ b → ⊥
+    ends true begins is = other None (body_cut u a n start end bytes utf8 stop (closing_at n end bytes stop.within stop.utf8 begins) is).free refl
+    ends false begins is =
+        let suffix = chars (drop (end + 1 + n) bytes) in
+        other (Some (at_byte (end + 1 + n) (suffix_refusal suffix))) (suffix_refused u a n start end bytes utf8 stop (closing_at n end bytes stop.within stop.utf8 begins) is) (shut_suffix suffix)
+
+    first : (b : ℕ) (r : List ℕ) (q : Bool) → drop end bytes ≡ b ∷ r → (b == 34) ≡ q → ⊥
+    first b r true is quote = ends (is_suffix (chars (drop (end + 1 + n) bytes))) (closing (ap (first_passes is_quote) is ∙ quote)) refl
+    first b r false is plain =
+        other (Some (at_byte end (raw_char_refusal b))) (refused_body u a n start end b bytes r utf8 stop is plain)
+        (shut_kind_if (b == 13) CarriageReturn (if is_nul b then NulByte else NonAsciiInByteLiteral) refl (shut_kind_if (is_nul b) NulByte NonAsciiInByteLiteral refl refl))
+
+    by : (rest : List ℕ) → drop end bytes ≡ rest → ⊥
+    by [] is = inside (let within = stop.within in omega (arith, length-drop end bytes, ap length is))
+    by (b ∷ r) is = first b r (b == 34) is refl
+
+pub raw_closed : (kind : StringKind) (n place end : ℕ) (bytes : List ℕ) → IsUtf8 bytes → IsRawTo kind n place bytes → IsStop (has_unicode kind) (allows_nul kind) n place bytes end →
+    (first_passes is_quote (drop end bytes) ≡ true → begins_with (raw_closing n) (drop end bytes) ≡ true) → (end ≡ length bytes → ⊥) → BeginsByLine bytes → ⊥
+raw_closed kind n place end bytes u s stop closing inside =
+    let rest : List ℕ = chars (drop place bytes) in
+    raw_is_shut kind n place s.body rest (chars bytes)
+    (more_after (raw_front kind) (hashes n) (34 ∷ s.body) rest (chars (take place bytes)) s.spells ∙ (front_splits bytes place u s.boundary).0)
+    (stop_row (has_unicode kind) (allows_nul kind) n place end bytes (IsUtf8-drop bytes place u s.boundary) stop closing inside)
+
 -- Openings
 
 pub quoted_opened : (kind : StringKind) (bytes : List ℕ) → IsUtf8 bytes → begins_with (quoted_front kind) bytes ≡ true → IsQuotedTo kind (length (quoted_front kind)) bytes
@@ -364,6 +416,11 @@ hashes_split bs n count =
     ap (λ (k : ℕ). hashes k ++ drop k bs) same ∙ ap (λ (l : List ℕ). hashes cut.count ++ drop cut.count l) (sym cut.spells)
     ∙ ap (λ (l : List ℕ). hashes cut.count ++ l) (after_hashes cut.count cut.rest) ∙ cut.spells
 
+raw_low : (kind : StringKind) → list_all (λ c. ltb c 128) (raw_front kind) ≡ true
+raw_low string_kind = refl
+raw_low byte_string_kind = refl
+raw_low c_string_kind = refl
+
 pub raw_opened : (kind : StringKind) (front n place : ℕ) (bytes : List ℕ) → IsUtf8 bytes → begins_with (raw_front kind) bytes ≡ true → front ≡ length (raw_front kind) →
     IsRawOpening front bytes (n, place) → IsRawTo kind n place bytes
 raw_opened kind front n place bytes u begins at_front o =
@@ -387,3 +444,10 @@ raw_opened kind front n place bytes u begins at_front o =
       allowed = refl;
       unclosed = λ more none. none;
     }
+
+-- a text that has the front of a raw string and no opening
+pub raw_unopened : (kind : StringKind) (front : ℕ) (bytes : List ℕ) (e : Refusal) → IsUtf8 bytes → begins_with (raw_front kind) bytes ≡ true → front ≡ length (raw_front kind) →
+    ((unicode allow_nul : Bool) → raw_refusal unicode allow_nul front (chars (drop front bytes)) ≡ Some e) → is_open e.kind ≡ false → BeginsByLine bytes → ⊥
+raw_unopened kind front bytes e u begins at told shut =
+    opening_is_shut kind (chars (drop (length (raw_front kind)) bytes)) (chars bytes) e (front_chars (raw_front kind) bytes (raw_low kind) u begins)
+    (subst (λ (k : ℕ). raw_refusal (has_unicode kind) (allows_nul kind) k (chars (drop k bytes)) ≡ Some e) at (told (has_unicode kind) (allows_nul kind))) shut

@@ -1,27 +1,20 @@
 -- Texts that end with LF, the steps of texts, and texts that are held.
 use Rattle.std.proofs.Common.{◌≡◌, ◌∙◌, ◌⊎◌, inl, inr, ℕ, Bool, true, false, List, [], ◌∷◌, ◌++◌, refl, sym, ap, subst, append-nil, append_assoc, arith, length, take, ◌-◌, ◌+◌, ◌<◌, length-append, slice_index, Result, Ok, Err, OnOk, OnErr}
-use Rattle.std.specs.Prelude.{IsTrue, IfOk, ◌↔◌, ◌==◌}
+use Rattle.std.specs.Prelude.{IfOk, ◌==◌}
 use Rattle.std.specs.Str.{chars, IsUtf8, IsCharBoundary}
 use Rattle.std.specs.String.Boundary.{IsSplitPoint}
 use Rattle.std.proofs.Math.Seq.{take-append_seam, get_or-append_seam}
-use Rattle.std.proofs.lemmas.Str.{chars-append, IsUtf8-append, IsUtf8-from_ascii, IsCharBoundary-at_seam}
-use Rattle.std.proofs.lemmas.Bool.{false≢true}
+use Rattle.std.proofs.lemmas.Str.{chars-append, IsUtf8-from_ascii, IsCharBoundary-at_seam}
 use Rattle.litrs_base.specs.Derivations.{HasNoDerivation}
-use Rattle.litrs_base.specs.Text.{IsText}
-use Rattle.litrs_base.specs.declared.err.ParseErrorKind.{ParseErrorKind}
-use Rattle.litrs_base.specs.declared.err.ParseErrorKind.TheVariants.{UnterminatedRawString}
 use Rattle.litrs_base.proofs.Chars.{ascii_by_test}
-use Rattle.litrs_base.specs.Finality.{is_open}
+use Rattle.litrs_base.specs.Finality.{is_open, is_final}
 use Rattle.litrs_base.specs.Refusal.{Refusal, refusal_of, kind_of}
-use Rattle.litrs_grammar.specs.Literal.{IsLiteral, IsLiteralOf, literal_parse, Begins}
+use Rattle.litrs_grammar.specs.Literal.{IsLiteral, IsLiteralOf, literal_parse}
 use Rattle.litrs_grammar.specs.LiteralRefusals.{IsRefusal}
 use Rattle.litrs_grammar.proofs.Laws.Literal.{literals_are_not_refused, texts_are_decided}
 use Rattle.litrs_grammar.proofs.Spans.Literal.{no_literal_ends_with_line_feed}
 use Rattle.litrs_base.specs.declared.err.ParseError.{ParseError}
-use Rattle.litrs_grammar.specs.Closing.{after_raw_front, closing_text, closing_of, a_string_of}
-use Rattle.litrs_grammar.specs.Raw.{hash_len}
-use Rattle.litrs_grammar.specs.Refused.{IsRefused, IsRefusedOrOutOfMemory}
-use Rattle.litrs_grammar.proofs.LongerTexts.Raw.{closing_is_text}
+use Rattle.litrs_grammar.specs.Refused.{IsRefused}
 use Rattle.litrs_grammar.specs.Quoted.{without_last}
 use Rattle.litrs_grammar.proofs.QuotedItems.{without_last-append}
 use Rattle.litrs_grammar.proofs.LongerTexts.Literal.{line_ends_are_decided}
@@ -48,10 +41,6 @@ line_feed_char = refl
 -- the characters of a text with an LF after it
 pub chars-line_feed : (t : List ℕ) → IsUtf8 t → chars (t ++ 10 ∷ []) ≡ chars t ++ 10 ∷ []
 chars-line_feed t u = chars-append t (10 ∷ []) u ∙ ap (λ (c : List ℕ). chars t ++ c) line_feed_char
-
--- a text with LF after it ends with LF
-pub ends_with_line_feed : (t whole : List ℕ) → IsUtf8 t → whole ≡ t ++ 10 ∷ [] → EndsWithLineFeed (chars whole)
-ends_with_line_feed t whole u is = (chars t, sym (ap chars is ∙ chars-line_feed t u))
 
 -- Whether a text with LF after it begins a literal is decided by its refusal.
 
@@ -101,45 +90,6 @@ line_is_held t held is none some =
     let front : without_last held ≡ t = ap without_last is ∙ without_line_feed t in
     (ap (λ (x : List ℕ). x ++ 10 ∷ []) front ∙ sym is, subst (λ (x : List ℕ). HasNoDerivation (IsLiteral (chars x))) (sym front) none)
 
--- the characters of a line that was read, and of the same with LF after it
-read_line : (t longer : List ℕ) → IsUtf8 t → longer ≡ t ++ 10 ∷ [] → chars longer ≡ chars t ++ 10 ∷ []
-read_line t longer u more = ap chars more ∙ chars-line_feed t u
-
--- the text is unfinished: it was refused, and with LF after it begins a literal
-pub is_unfinished : (t text longer : List ℕ) (e : ParseError) (test : Bool) → IsUtf8 t → text ≡ t → longer ≡ t ++ 10 ∷ [] → IsRefused literal_parse (chars text) e →
-    IsTrue test ↔ Begins literal_parse (chars longer) → test ≡ true → IsUnfinished t
-is_unfinished t text longer e test u is more refused begins opened = (
-  subst (λ (x : List ℕ). HasNoDerivation (IsLiteral (chars x))) is refused.none,
-  subst (Begins literal_parse) (read_line t longer u more) (begins.0 opened),
-)
-
--- the text is refused: with LF after it it begins no literal
-pub is_refused_step : (t text longer : List ℕ) (e : ParseError) (test : Bool) → IsUtf8 t → text ≡ t → longer ≡ t ++ 10 ∷ [] → IsRefused literal_parse (chars text) e →
-    IsTrue test ↔ Begins literal_parse (chars longer) → test ≡ false → IsStep t (Refused e)
-is_refused_step t text longer e test u is more refused begins closed = (
-  subst (λ (x : List ℕ). IsRefused literal_parse (chars x) e) is refused,
-  λ line. let both : true ≡ false = sym (begins.1 (subst (Begins literal_parse) (sym (read_line t longer u more)) line)) ∙ closed in cc,
-)
-
--- Whether a text begins a literal, where its refusal tells.
-
-closing_text_is_text : (t : List ℕ) (kind : ParseErrorKind) → IsText (closing_text t kind)
-closing_text_is_text t UnterminatedRawString = closing_is_text (hash_len (after_raw_front t))
-closing_text_is_text t _ = refl
-
-pub open_begins : (t : List ℕ) (e : ParseError) → IsRefusedOrOutOfMemory literal_parse t e → is_open (kind_of e) ≡ true → Begins literal_parse t
-open_begins t e (inl refused) opened =
-    let closed = refused.closes opened in
-    (closing_of t (refusal_of e), a_string_of closed.kind closed.parts, closing_text_is_text t (kind_of e), closed.literal)
-open_begins t e (inr lack) opened = absurd (false≢true (sym (ap (λ (r : Refusal). is_open r.kind) lack.error) ∙ opened))
-
--- a text that begins no literal begins none with an LF after it
-pub line_begins_none : (t : List ℕ) (test : Bool) → IsTrue test ↔ Begins literal_parse (chars t) → test ≡ false → BeginsByLine t → ⊥
-line_begins_none t test goes fails line =
-    let begins : Begins literal_parse (chars t) =
-    (10 ∷ line.0, line.1, line.2, subst (λ (u : List ℕ). IsLiteralOf literal_parse u line.1) (append_assoc (chars t) (10 ∷ []) line.0) line.3) in
-    let both : true ≡ false = sym (goes.1 begins) ∙ fails in cc
-
 -- what is held after a step
 step_is_held : (t held : List ℕ) (step : Step) → IsStep t step → held ≡ held_after t step → IsHeld held
 step_is_held t held More is after = line_is_held t held after is.0
@@ -151,11 +101,38 @@ pub result_is_held : {E : Type 0} (t old new : List ℕ) (r : Result Step E) →
 result_is_held t old new (Ok step) held fed same = step_is_held t new step fed.is fed.after
 result_is_held t old new (Err e) held fed same = subst IsHeld (sym same) held
 
--- what is held where a line is added if a string is then known to go on
+-- what is held after a line is added if a literal goes on after it
 pub pushed_is_held : {E : Type 0} (old line new : List ℕ) (r : Result Bool E) → IsHeld old → IfOk r (Pushes old line new) → OnErr r (new ≡ old) → IsHeld new
 pushed_is_held old line new (Ok true) held pushed err = line_is_held (old ++ line) new (pushed.more refl).1 (pushed.more refl).0.0
-pushed_is_held old line new (Ok false) held pushed err = subst IsHeld (sym (pushed.other refl)) held
+pushed_is_held old line new (Ok false) held pushed err = subst IsHeld (sym (pushed.other refl).1) held
 pushed_is_held old line new (Err e) held pushed err = subst IsHeld (sym err) held
+
+-- and after what is held is taken
+pub taken_is_held : {T E : Type 0} (old new : List ℕ) (r : Result T E) → IsHeld old → OnOk r (new ≡ []) → OnErr r (new ≡ old) → IsHeld new
+taken_is_held old new (Ok t) held none same = nothing_is_held new none
+taken_is_held old new (Err e) held none same = subst IsHeld (sym same) held
+
+-- a final refusal shuts a text
+pub final_shuts : (t : List ℕ) (e : ParseError) → IsRefused literal_parse (chars t) e → is_final (kind_of e) ≡ true → BeginsByLine t → ⊥
+final_shuts t e refused final line =
+    refused.final final (10 ∷ line.0) line.1 (subst (λ (u : List ℕ). IsLiteralOf literal_parse u line.1) (append_assoc (chars t) (10 ∷ []) line.0) line.3)
+
+-- what a line leaves that is pushed, as what one leaves that is fed
+pub feeds_more : (old line new : List ℕ) (goes_on : Bool) → IsUtf8 (old ++ line) → Pushes old line new goes_on → goes_on ≡ true → Feeds (old ++ line) new More
+feeds_more old line new goes_on u pushed is = let p = pushed.more is in record { utf8 = u; is = p.0; after = p.1 }
+
+pub first_is : (old line : List ℕ) → old ≡ [] → old ++ line ≡ line
+first_is old line none = ap (λ (l : List ℕ). l ++ line) none
+
+pub feeds_refused : (old line new : List ℕ) (goes_on : Bool) (e : ParseError) → old ≡ [] → IsUtf8 line → IsRefused literal_parse (chars line) e → Pushes old line new goes_on → goes_on ≡ false →
+    Feeds (old ++ line) new (Refused e)
+feeds_refused old line new goes_on e none u refused pushed is =
+    let p = pushed.other is in
+    let text = first_is old line none in record {
+      utf8 = subst IsUtf8 (sym text) u;
+      is = (subst (λ (t : List ℕ). IsRefused literal_parse (chars t) e) (sym text) refused, p.0);
+      after = p.1 ∙ none;
+    }
 
 -- what is fed, by parts
 
@@ -193,14 +170,6 @@ pub may_be_cut : (old new : List ℕ) (len : ℕ) → Extends old new → len �
 may_be_cut old new len longer is =
     let boundary : IsCharBoundary new (length old) = IsCharBoundary-at_seam new old longer.0 longer.2 longer.1 in
     subst (IsSplitPoint new) (sym is) (boundary.0, λ _ below. boundary.1 below)
-
--- what has a line and more after it has that after it
-pub extends_more : (old line mid new : List ℕ) → IsUtf8 line → mid ≡ old ++ line → Extends mid new → Extends old new
-extends_more old line mid new u is longer = (
-  line ++ longer.0,
-  IsUtf8-append line longer.0 u longer.1,
-  longer.2 ∙ ap (λ (x : List ℕ). x ++ longer.0) is ∙ append_assoc old line longer.0,
-)
 
 line_feed_is_utf8 : IsUtf8 (10 ∷ [])
 line_feed_is_utf8 = IsUtf8-from_ascii (10 ∷ []) (ascii_by_test (10 ∷ []) refl)

@@ -1,21 +1,16 @@
 -- Texts that begin a string whose body is open.
-use Rattle.std.specs.Prelude.{◌≡◌, ◌⊎◌, ◌≤◌, ℕ, List, [], ◌∷◌, ◌++◌, Option, Some, None, IsTrue, IsFalse, take, drop}
+use Rattle.std.specs.Prelude.{◌≡◌, ◌≤◌, ℕ, List, [], ◌∷◌, ◌++◌, Option, Some, None, IsTrue, IsFalse, take, drop}
 use Rattle.std.specs.List.{list_all}
 use Rattle.std.specs.Str.{chars, IsCharBoundary}
 use Rattle.litrs_base.specs.Characters.{line_feed, double_quote, backslash, is_blank}
 use Rattle.litrs_base.specs.declared.quotes.StringKind.{StringKind}
 use Rattle.litrs_base.specs.Quotes.{switches_of, quoted_front, raw_front}
-use Rattle.litrs_base.specs.declared.quotes.Switches.{Switches}
-use Rattle.litrs_grammar.specs.Escape.{Escape, escape_text, IsEscape}
 use Rattle.litrs_grammar.specs.Quoted.{Item, body_text, is_item_list}
 use Rattle.litrs_grammar.specs.Raw.{hashes, occurs, raw_closing, has_unicode, allows_nul, is_raw_char}
 use Rattle.litrs_lines.specs.declared.collector.body.Body.{Body}
 use Rattle.litrs_lines.specs.declared.collector.body.Body.TheVariants.{Quoted, Continuation, Raw}
 use Rattle.litrs_lines.specs.declared.collector.body.Open.{Open}
-
--- the text is empty, or one escape
-abbrev pub IsEscapeOrEmpty : Switches → List ℕ → Type 0
-IsEscapeOrEmpty w t = (t ≡ []) ⊎ ((e : Escape) × (t ≡ escape_text e) × IsEscape w e)
+use Rattle.litrs_lines.specs.Steps.{BeginsByLine, IsUnfinished}
 
 -- Up to the place the text is the front of the kind and items of a quoted body, which are taken
 -- before what follows.
@@ -61,3 +56,9 @@ IsOpen bytes string = IsBodyTo string.body string.kind string.place bytes
 abbrev pub IsKnown : List ℕ → Option Open → Type 0
 IsKnown bytes None = Unit {0}
 IsKnown bytes (Some string) = IsOpen bytes string
+
+-- The text is unfinished, and with an LF after it begins this string; or with an LF after it, it
+-- begins no literal.
+abbrev pub IsAfter : List ℕ → Option Open → Type 0
+IsAfter t (Some string) = IsUnfinished t × IsOpen (t ++ line_feed ∷ []) string
+IsAfter t None = BeginsByLine t → ⊥

@@ -42,8 +42,9 @@ pub record Feeds (text held : List ℕ) (step : Step) : Type 0 where
   pub is : IsStep text step
   pub after : held ≡ held_after text step
 
--- What a line leaves that is added where a string is then known to go on after it. Where it was,
--- the text is unfinished, and held with an LF after it; else the same is held as before.
+-- What a line leaves that is added if a literal goes on after it. If it does, the text is
+-- unfinished, and held with an LF after it. Else the text with an LF after it begins no literal, and
+-- the same is held as before.
 pub record Pushes (old line new : List ℕ) (goes_on : Bool) : Type 0 where
   pub more : IsTrue goes_on → IsUnfinished (old ++ line) × (new ≡ (old ++ line) ++ line_feed ∷ [])
-  pub other : IsFalse goes_on → new ≡ old
+  pub other : IsFalse goes_on → (BeginsByLine (old ++ line) → ⊥) × (new ≡ old)

@@ -1,19 +1,19 @@
 //! Collects lines until they are a literal.
 //!
-//! A literal may have line breaks in it, as a string in which one stands. A [`Collector`] is fed
-//! one line after the other, and answers to each whether the lines that it then has are a literal,
-//! begin one, or neither.
+//! A literal may contain line breaks, for example a string that spans lines. A [`Collector`] is fed
+//! one line after the other. After each it reports whether its lines are a literal, begin one, or
+//! neither.
 ghost use Rattle.std.specs.Prelude.{◌≡◌, ◌≢◌, ◌↔◌, ◌∷◌, ◌++◌, [], None, IsTrue, IfOk, OnOk, OnErr, IfSome, IfNone, MatchResult, string_bytes};
 ghost use Rattle.std.specs.Str.{chars, IsUtf8};
 ghost use Rattle.litrs_base.specs.Characters.{line_feed};
-ghost use Rattle.litrs_grammar.specs.Literal.{literal_parse, Begins};
-ghost use Rattle.litrs_grammar.specs.Refused.{IsRefused, IsRefusedOrOutOfMemory};
-ghost use Rattle.litrs_lines.specs.Held.{EndsWithLineFeed, Extends, IsHeld, IsRefusalOfHeld};
-ghost use Rattle.litrs_lines.specs.Open.{IsKnown};
-ghost use Rattle.litrs_lines.specs.Steps.{IsReadAs, IsStep, held_after, Feeds, Pushes};
+ghost use Rattle.litrs_grammar.specs.Literal.{literal_parse};
+ghost use Rattle.litrs_grammar.specs.Refused.{IsRefused};
+ghost use Rattle.litrs_lines.specs.Held.{IsHeld, IsRefusalOfHeld};
+ghost use Rattle.litrs_lines.specs.Open.{IsKnown, IsOpen};
+ghost use Rattle.litrs_lines.specs.Steps.{BeginsByLine, IsReadAs, IsStep, IsUnfinished, held_after, Feeds, Pushes};
 
 use crate::collector::body::{Open, open_after};
-use litrs::{Literal, ParseError, ParseErrorKind, goes_on};
+use litrs::{Literal, ParseError, ParseErrorKind};
 use std::alloc::{AllocError, Global};
 use std::marker::Model;
 use std::mem;
@@ -21,24 +21,24 @@ use std::mem;
 mod body;
 pub mod laws;
 
-/// What a [`Collector`] answers to a line.
+/// The result of feeding a line to a [`Collector`].
 #[derive(Drop)]
 pub enum Step {
-    /// The lines are no literal, and begin one that goes on after the end of this line.
+    /// The lines are not a literal, and begin one that continues in the next line.
     More,
     /// The lines are this literal.
     Literal(Literal<String>),
-    /// The lines are no literal, and no line after them makes them one.
+    /// The lines are not a literal, and no line after them makes them one.
     Refused(ParseError),
 }
 
-/// Lines that begin a literal, in the order in which they were fed.
+/// The lines that begin a literal, in the order in which they were fed.
 ///
 /// ```
 /// use litrs_lines::{Collector, Step};
 /// use std::alloc::{AllocError, Global};
 ///
-/// /// Whether two lines are one literal.
+/// /// Returns `true` if two lines are one literal.
 /// fn is_literal(alloc: Global, first: &str, second: &str) -> Result<bool, AllocError> {
 ///     let mut collector = Collector::new(alloc);
 ///     match collector.feed(first)? {
@@ -50,12 +50,12 @@ pub enum Step {
 ///         _ => Ok(false),
 ///     }
 /// }
-/// // Of "a and b" it is Ok(true), of 'a and ' it is Ok(false).
+/// // For "a and b" it is Ok(true), for 'a and ' it is Ok(false).
 /// ```
 #[derive(Drop)]
 pub struct Collector {
     held: String,
-    /// What is open at the end of the lines, where it is known.
+    /// The string that is open at the end of the lines, if it is known.
     known: Option<Open>,
 }
 
@@ -74,7 +74,7 @@ impl Model for Collector {
 }
 
 impl Collector {
-    /// A collector that holds no line. It does not allocate.
+    /// Creates a collector that holds no line. It does not allocate.
     pub fn new(alloc: Global) -> Collector
         ensures { result ≡ [] }
     {
@@ -84,24 +84,24 @@ impl Collector {
         }
     }
 
-    /// Adds a line to those that are held, and decides what they are now, joined by LF.
+    /// Adds `line` to the lines that are held. Returns what the lines then are, joined by LF.
     ///
-    /// `Literal` if and only if they are a literal. `More` if and only if they are none and, with
-    /// an LF after them, begin one. `Refused` if and only if neither holds. After `Literal` and
-    /// `Refused` no line is held, after `More` all of them are.
+    /// Returns `Literal` if and only if they are a literal. Returns `More` if and only if they are
+    /// not a literal and, with an LF after them, begin one. Returns `Refused` if and only if neither
+    /// holds. After `Literal` and `Refused` no line is held, after `More` all of them are.
     ///
     /// `line` has no LF at its end. An LF within it is part of the text, as the one between two
     /// lines is: `"a`, LF, `b"` in one call is the literal that `"a` and `b"` in two are.
     ///
     /// `More` and `Refused` take at most one allocation.
     ///
-    /// While the lines are a string that goes on, a call takes time in proportion to `line`: what
-    /// was fed before is not read again. `Literal` and `Refused` take time in proportion to all
+    /// While the lines are a string that continues, a call takes time in proportion to `line`: the
+    /// lines before it are not read again. `Literal` and `Refused` take time in proportion to all
     /// lines.
     ///
     /// # Errors
     ///
-    /// `AllocError` where an allocation failed. Then the lines held are those of before the call.
+    /// `AllocError` if an allocation fails. Then the lines held are those of before the call.
     pub fn feed(&mut self, line: &str) -> Result<Step, AllocError>
         ensures step { IfOk result (IsStep (self.old ++ line.now)) }
         ensures utf8 { OnOk result (IsUtf8 (self.old ++ line.now)) }
@@ -115,8 +115,8 @@ impl Collector {
         }
     }
 
-    /// [`Collector::feed`] where no line is held. A literal is copied once it is known to be one,
-    /// and a line that begins none is refused with no copy.
+    /// Like [`Collector::feed`], if no line is held. A literal is copied once it is known to be one,
+    /// and a line is copied only if it continues.
     #[inline(never)]
     fn feed_first(&mut self, line: &str) -> Result<Step, AllocError>
         requires { self.old ≡ [] }
@@ -128,29 +128,83 @@ impl Collector {
             Ok(lit) => Ok(Step::Literal(lit.into_owned(alloc)?)),
             Err(e) => match e.kind() {
                 ParseErrorKind::OutOfMemory => Err(AllocError),
-                _ if !may_go_on(line, &e) => Ok(Step::Refused(e)),
-                _ => self.feed_next(line),
+                _ => {
+                    if self.push_refused(line, &e)? {
+                        Ok(Step::More)
+                    } else {
+                        Ok(Step::Refused(e))
+                    }
+                }
             },
         }
     }
 
-    /// [`Collector::feed`] after the lines that are held, or of a line whose parse alone does not
-    /// decide the step.
+    /// Like [`Collector::feed`], if a line is held.
     #[inline(never)]
     fn feed_next(&mut self, line: &str) -> Result<Step, AllocError>
         ensures fed { IfOk result (Feeds (self.old ++ line.now) self.new) }
         ensures err { OnErr result (self.new ≡ self.old) }
     {
-        if self.push(line)? {
+        if self.push_next(line)? {
             return Ok(Step::More);
         }
         read_added(&mut self.held, &mut self.known, line)
     }
 
-    /// Adds a line where a string is then known to go on after it, and returns true. Else, and
-    /// after an error, the lines held are those of before.
+    /// Adds `line` to the lines that are held and returns `true`, if [`Collector::feed`] returns
+    /// `More`. Returns `false` and changes nothing if it returns `Literal` or `Refused`.
+    ///
+    /// The lines are not parsed. With [`Collector::take_with`] a caller gets their text, to parse it
+    /// and to show it in an error.
+    ///
+    /// # Errors
+    ///
+    /// `AllocError` if an allocation fails. Then the lines held are those of before the call.
     #[inline(always)]
-    pub(crate) fn push(&mut self, line: &str) -> Result<bool, AllocError>
+    pub fn push(&mut self, line: &str) -> Result<bool, AllocError>
+        ensures pushed { IfOk result (Pushes self.old line.now self.new) }
+        ensures err { OnErr result (self.new ≡ self.old) }
+        ensures utf8 { IsUtf8 (self.old ++ line.now) }
+    {
+        if self.is_empty() {
+            self.push_first(line)
+        } else {
+            self.push_next(line)
+        }
+    }
+
+    /// Like [`Collector::push`], if no line is held and the parse of `line` returned `refusal`.
+    pub(crate) fn push_refused(
+        &mut self,
+        line: &str,
+        refusal: &ParseError,
+    ) -> Result<bool, AllocError>
+        requires none { self.old ≡ [] }
+        requires refused { IsRefused literal_parse (chars line.now) refusal.now }
+        ensures pushed { IfOk result (Pushes self.old line.now self.new) }
+        ensures err { OnErr result (self.new ≡ self.old) }
+    {
+        if refusal.is_final() {
+            return Ok(false);
+        }
+        self.push_first(line)
+    }
+
+    /// Like [`Collector::push`], if no line is held. The line is copied only if it continues.
+    fn push_first(&mut self, line: &str) -> Result<bool, AllocError>
+        requires { self.old ≡ [] }
+        ensures pushed { IfOk result (Pushes self.old line.now self.new) }
+        ensures err { OnErr result (self.new ≡ self.old) }
+    {
+        match open_after(line, None) {
+            Some(string) => hold_line(&mut self.held, &mut self.known, line, string),
+            None => Ok(false),
+        }
+    }
+
+    /// Like [`Collector::push`], if a line is held.
+    #[inline(always)]
+    pub(crate) fn push_next(&mut self, line: &str) -> Result<bool, AllocError>
         ensures pushed { IfOk result (Pushes self.old line.now self.new) }
         ensures err { OnErr result (self.new ≡ self.old) }
         ensures utf8 { IsUtf8 (self.old ++ line.now) }
@@ -158,23 +212,29 @@ impl Collector {
         push_line(&mut self.held, &mut self.known, line)
     }
 
-    /// Takes the lines that are held, joined by LF with this one after them. No line is held then.
-    pub(crate) fn take_with(&mut self, line: &str) -> Result<String, AllocError>
+    /// Takes the text of the lines that are held, joined by LF, with `line` after them. Then no line
+    /// is held. The text has no more memory than its length.
+    ///
+    /// # Errors
+    ///
+    /// `AllocError` if an allocation fails. Then the lines held are those of before the call.
+    pub fn take_with(&mut self, line: &str) -> Result<String, AllocError>
         ensures text { IfOk result (λ text. string_bytes text ≡ self.old ++ line.now) }
-        ensures held { self.new ≡ [] }
+        ensures held { OnOk result (self.new ≡ []) }
+        ensures err { OnErr result (self.new ≡ self.old) }
     {
         take_text(&mut self.held, &mut self.known, line)
     }
 
-    /// Whether no line is held.
+    /// Returns `true` if no line is held.
     pub fn is_empty(&self) -> bool
         ensures { IsTrue result ↔ (self.now ≡ []) }
     {
         self.held.is_empty()
     }
 
-    /// The lines that are held, joined by LF, in the order in which they were fed; empty if and
-    /// only if none is held.
+    /// Returns the lines that are held, joined by LF, in the order in which they were fed. It is
+    /// empty if no line is held, or one empty line.
     pub fn text(&self) -> &str
         ensures none { self.now ≡ [] → result.now ≡ [] }
         ensures lines { self.now ≢ [] → result.now ++ line_feed ∷ [] ≡ self.now }
@@ -182,8 +242,8 @@ impl Collector {
         lines_of_held(self.held.as_str())
     }
 
-    /// Forgets the lines that are held, so that the next line is the first. Their memory is kept
-    /// for the lines to come.
+    /// Removes the lines that are held, so the next line is the first. Their memory is kept for the
+    /// next lines.
     pub fn clear(&mut self)
         ensures { self.new ≡ [] }
     {
@@ -191,8 +251,8 @@ impl Collector {
         self.known = None;
     }
 
-    /// The refusal of the lines that are held, joined by LF; None if and only if none is held. It
-    /// does not allocate.
+    /// Returns the error of the lines that are held, joined by LF, or `None` if none is held. It does
+    /// not allocate.
     pub fn finish(self) -> Option<ParseError>
         ensures refusal { IfSome result (IsRefusalOfHeld self) }
         ensures none { IfNone result (self ≡ []) }
@@ -201,7 +261,7 @@ impl Collector {
     }
 }
 
-/// The lines of a text that is held, without the LF after the last.
+/// Returns the lines of a text that is held, without the LF after the last.
 fn lines_of_held(held: &str) -> &str
     requires { IsHeld held.now }
     ensures none { held.now ≡ [] → result.now ≡ [] }
@@ -214,7 +274,7 @@ fn lines_of_held(held: &str) -> &str
     lines
 }
 
-/// The literal that the text is, or its refusal.
+/// Parses `text`. Returns the literal, or its error.
 fn read(alloc: Global, text: &str) -> Result<Result<Literal<String>, ParseError>, AllocError>
     ensures { IfOk result (λ read.
         MatchResult read (IsReadAs text.now) (IsRefused literal_parse (chars text.now))) }
@@ -228,53 +288,8 @@ fn read(alloc: Global, text: &str) -> Result<Result<Literal<String>, ParseError>
     }
 }
 
-/// Whether a line that is refused so begins a literal: [`goes_on`], which is asked only where the
-/// refusal does not tell.
-pub(crate) fn may_go_on(line: &str, refusal: &ParseError) -> bool
-    requires { IsRefusedOrOutOfMemory literal_parse (chars line.now) refusal.now }
-    ensures { IsTrue result ↔ Begins literal_parse (chars line.now) }
-{
-    refusal.is_open() || (!refusal.is_final() && goes_on(line))
-}
-
-/// Whether a text that ends with LF begins a literal. No such text is one, so nothing is allocated.
-fn begins(alloc: Global, text: &str) -> bool
-    requires { EndsWithLineFeed (chars text.now) }
-    ensures { IsTrue result ↔ Begins literal_parse (chars text.now) }
-{
-    let refusal = match Literal::parse(alloc, text) {
-        Ok(_) => return false,
-        Err(e) => e,
-    };
-    refusal.is_open()
-}
-
-/// Parses the whole held text, to which a line was added, and decides the step. After an error it
-/// may have an LF at its end.
-#[inline(never)]
-fn read_held(held: &mut String) -> Result<Step, AllocError>
-    ensures fed { IfOk result (Feeds (string_bytes held.old) (string_bytes held.new)) }
-    ensures err { OnErr result (Extends (string_bytes held.old) (string_bytes held.new)) }
-{
-    let alloc = *held.allocator();
-    let refusal = match read(alloc, held.as_str()) {
-        Ok(Ok(lit)) => {
-            held.clear();
-            return Ok(Step::Literal(lit));
-        }
-        Ok(Err(e)) => e,
-        Err(error) => return Err(error),
-    };
-    held.push('\n')?;
-    if begins(alloc, held.as_str()) {
-        return Ok(Step::More);
-    }
-    held.clear();
-    Ok(Step::Refused(refusal))
-}
-
-/// Adds a line and an LF to the held text where a string is then known to go on after them, and
-/// returns true. Else, and after an error, the text is as before.
+/// Adds `line` and an LF to the held text and returns `true`, if they begin a literal. Else, and
+/// after an error, the text is as before.
 #[inline(always)]
 fn push_line(held: &mut String, known: &mut Option<Open>, line: &str) -> Result<bool, AllocError>
     requires { IsKnown (string_bytes held.old) known.old }
@@ -295,22 +310,54 @@ fn push_line(held: &mut String, known: &mut Option<Open>, line: &str) -> Result<
     Ok(true)
 }
 
-/// Adds a line to the held text, which is as before after an error, and reads all of it.
+/// Holds a first line, with an LF after it, if `string` is open after them. Returns `true`.
+fn hold_line(
+    held: &mut String,
+    known: &mut Option<Open>,
+    line: &str,
+    string: Open,
+) -> Result<bool, AllocError>
+    requires none { string_bytes held.old ≡ [] }
+    requires known { IsKnown (string_bytes held.old) known.old }
+    requires unfinished { IsUnfinished line.now }
+    requires next { IsOpen (line.now ++ line_feed ∷ []) string }
+    ensures pushed { IfOk result (Pushes (string_bytes held.old) line.now (string_bytes held.new)) }
+    ensures err { OnErr result (string_bytes held.new ≡ string_bytes held.old) }
+    ensures known { IsKnown (string_bytes held.new) known.new }
+{
+    // bounded by the length of the line, with its LF.
+    held.reserve(line.len() + 1)?;
+    held.push_str(line)?;
+    held.push('\n')?;
+    *known = Some(string);
+    Ok(true)
+}
+
+/// Adds `line` to the held text and parses all of it, if it begins no literal with an LF after it.
+/// After an error the text is as before.
 ///
-/// It is not inlined, so that a line after which a string goes on costs no room for a literal.
+/// Not inlined, so a line after which a string continues needs no room for a literal.
 #[inline(never)]
 fn read_added(held: &mut String, known: &mut Option<Open>, line: &str) -> Result<Step, AllocError>
-    requires { IsKnown (string_bytes held.old) known.old }
+    requires known { IsKnown (string_bytes held.old) known.old }
+    requires shut { BeginsByLine (string_bytes held.old ++ line.now) → ⊥ }
     ensures fed { IfOk result (Feeds (string_bytes held.old ++ line.now) (string_bytes held.new)) }
     ensures err { OnErr result (string_bytes held.new ≡ string_bytes held.old) }
     ensures known { IsKnown (string_bytes held.new) known.new }
 {
     let len = held.len();
     held.push_str(line)?;
-    match read_held(held) {
-        Ok(step) => {
+    let alloc = *held.allocator();
+    match read(alloc, held.as_str()) {
+        Ok(Ok(lit)) => {
+            held.clear();
             *known = None;
-            Ok(step)
+            Ok(Step::Literal(lit))
+        }
+        Ok(Err(e)) => {
+            held.clear();
+            *known = None;
+            Ok(Step::Refused(e))
         }
         Err(error) => {
             held.truncate(len);
@@ -319,21 +366,23 @@ fn read_added(held: &mut String, known: &mut Option<Open>, line: &str) -> Result
     }
 }
 
-/// Takes the text that is held, with a line after it, in a block of no more bytes than it has.
+/// Takes the text that is held, with `line` after it, in a block of no more bytes than it has.
 fn take_text(held: &mut String, known: &mut Option<Open>, line: &str) -> Result<String, AllocError>
+    requires { IsKnown (string_bytes held.old) known.old }
     ensures text { IfOk result (λ text. string_bytes text ≡ string_bytes held.old ++ line.now) }
-    ensures held { string_bytes held.new ≡ [] }
-    ensures known { known.new ≡ None }
+    ensures held { OnOk result (string_bytes held.new ≡ []) }
+    ensures err { OnErr result (string_bytes held.new ≡ string_bytes held.old) }
+    ensures known { IsKnown (string_bytes held.new) known.new }
 {
+    held.push_str(line)?;
     *known = None;
     let alloc = *held.allocator();
     let mut text = mem::replace(held, String::new(alloc));
-    text.push_str(line)?;
     text.shrink_to_fit();
     Ok(text)
 }
 
-/// The refusal of the lines that are held.
+/// Returns the error of the lines that are held.
 fn refusal_of_held(mut held: String) -> Option<ParseError>
     requires { IsHeld (string_bytes held) }
     ensures refusal { IfSome result (IsRefusalOfHeld (string_bytes held)) }

@@ -1,10 +1,10 @@
-//! The reports on the groups that lines make.
+//! The reports on the groups of lines.
 
-use crate::collector::{Collector, Step, may_go_on};
+use crate::collector::Collector;
 use crate::device::Output;
 use crate::report::{report_literal, report_refusal};
 use crate::{RunError, write_all};
-use litrs::{Literal, ParseErrorKind};
+use litrs::{Literal, ParseError, ParseErrorKind};
 use std::{mem, str};
 
 /// The lines that are held, the reports that are not yet written, and the output for them.
@@ -17,12 +17,15 @@ pub(crate) struct Reporter<'a, O> {
 
 impl<O: Output> Reporter<'_, O> {
     ghost use Rattle.std.specs.Prelude.{◌≡◌, ◌∷◌, [], OnOk, string_bytes};
+    ghost use Rattle.std.specs.Str.{chars};
+    ghost use Rattle.litrs_grammar.specs.Literal.{literal_parse};
+    ghost use Rattle.litrs_grammar.specs.Refused.{IsRefused};
     ghost use Rattle.litrs_lines.specs.Ended.{AreEndedReports, IsHeldReport};
     ghost use Rattle.litrs_lines.specs.Groups.{IsNoText};
     ghost use Rattle.litrs_lines.specs.Sent.{Leaves, AreBytes};
 
-    /// Adds the reports on the groups that end with this line, with an LF after each. Where one is
-    /// long, the reports up to then are written.
+    /// Adds the reports on the groups that end with `line`, with an LF after each. If a report is long,
+    /// the reports up to it are written.
     pub(crate) fn process_line(&mut self, line: &[u8]) -> Result<(), RunError>
         ensures { Leaves O.contents O.has_failed O.write_failed result self.old self.new
             (AreEndedReports self.old.collector.now (line.now ∷ [])) }
@@ -33,7 +36,7 @@ impl<O: Output> Reporter<'_, O> {
         }
     }
 
-    /// [`Reporter::process_line`] of a line that is a text.
+    /// Like [`Reporter::process_line`], for a line that is UTF-8.
     fn process_text(&mut self, line: &str) -> Result<(), RunError>
         ensures { Leaves O.contents O.has_failed O.write_failed result self.old self.new
             (AreEndedReports self.old.collector.now (line.now ∷ [])) }
@@ -41,15 +44,15 @@ impl<O: Output> Reporter<'_, O> {
         if self.collector.is_empty() {
             return self.process_first(line);
         }
-        if self.collector.push(line)? {
+        if self.collector.push_next(line)? {
             return Ok(());
         }
         let text = self.collector.take_with(line)?;
         self.process_first(text.as_str())
     }
 
-    /// [`Reporter::process_text`] where no line is held: of a line, or of the text of several. A
-    /// text that is a literal, or that begins none, is not copied.
+    /// Like [`Reporter::process_text`], if no line is held, for a line or for the text of several. It
+    /// is copied only if it continues in the next line.
     fn process_first(&mut self, line: &str) -> Result<(), RunError>
         requires { self.old.collector.now ≡ [] }
         ensures { Leaves O.contents O.has_failed O.write_failed result self.old self.new
@@ -59,24 +62,24 @@ impl<O: Output> Reporter<'_, O> {
         match Literal::parse(alloc, line) {
             Ok(lit) => report_literal(self, &lit),
             Err(e) if e.kind() == ParseErrorKind::OutOfMemory => Err(RunError::Memory),
-            Err(e) if !may_go_on(line, &e) => Ok(report_refusal(self.unwritten, &e)?),
-            Err(_) => self.process_next(line),
+            Err(e) => self.process_refused(line, &e),
         }
     }
 
-    /// [`Reporter::process_text`] by the collector.
-    fn process_next(&mut self, line: &str) -> Result<(), RunError>
+    /// Like [`Reporter::process_first`], for a line of which the parse returned `refusal`.
+    fn process_refused(&mut self, line: &str, refusal: &ParseError) -> Result<(), RunError>
+        requires none { self.old.collector.now ≡ [] }
+        requires refused { IsRefused literal_parse (chars line.now) refusal.now }
         ensures { Leaves O.contents O.has_failed O.write_failed result self.old self.new
             (AreEndedReports self.old.collector.now (line.now ∷ [])) }
     {
-        match self.collector.feed(line)? {
-            Step::More => Ok(()),
-            Step::Literal(lit) => report_literal(self, &lit),
-            Step::Refused(e) => Ok(report_refusal(self.unwritten, &e)?),
+        if self.collector.push_refused(line, refusal)? {
+            return Ok(());
         }
+        Ok(report_refusal(self.unwritten, refusal)?)
     }
 
-    /// [`Reporter::process_line`] of a line that is no text.
+    /// Like [`Reporter::process_line`], for a line that is not UTF-8.
     fn report_no_text(&mut self, line: &[u8]) -> Result<(), RunError>
         requires { IsNoText line.now }
         ensures { Leaves O.contents O.has_failed O.write_failed result self.old self.new
@@ -87,7 +90,7 @@ impl<O: Output> Reporter<'_, O> {
         Ok(())
     }
 
-    /// Adds the report on the lines that are held, where there are some. Then none is held.
+    /// Adds the report on the lines that are held, if there are any. Then none is held.
     pub(crate) fn report_held(&mut self) -> Result<(), RunError>
         ensures { Leaves O.contents O.has_failed O.write_failed result self.old self.new
             (IsHeldReport self.old.collector.now) }

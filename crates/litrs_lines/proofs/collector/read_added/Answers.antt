@@ -1,11 +1,10 @@
 -- The text is cut where the line was added.
 use Rattle.std.proofs.Common.{◌∙◌}
 use Rattle.std.specs.Prelude.{string_bytes}
-use Rattle.litrs_lines.proofs.StepLemmas.{extends_more, may_be_cut}
+use Rattle.litrs_lines.proofs.StepLemmas.{may_be_cut}
 use Rattle.litrs_lines.proofs.collector.read_added.Goals as goal
 
 pub truncate-requires : goal.truncate-requires
 truncate-requires c =
-    λ _. may_be_cut (string_bytes c.args.held.now) (string_bytes c.read_held.new.held) c.len-len.result
-    (extends_more (string_bytes c.args.held.now) c.args.line.now (string_bytes c.push_str.new.self) (string_bytes c.read_held.new.held) c.utf8.line c.in_ok-push_str.ensures.bytes c.in-Err.ensures.err)
+    λ _. may_be_cut (string_bytes c.args.held.now) (string_bytes c.push_str.new.self) c.len-len.result (c.args.line.now, c.utf8.line, c.in_ok-push_str.ensures.bytes)
     (c.len-len.ensures ∙ c.args.held.now.bytes.ok.0)

@@ -1,45 +1,34 @@
--- The items of the line are items of the body, and then the text ends, or a backslash ends it.
-use Rattle.std.proofs.Common.{ℕ, List, length, drop, inl, inr, refl, sym, ◌∙◌}
+-- By what ends the items of the line.
+use Rattle.std.proofs.Common.{ℕ, List, drop, subst}
 use Rattle.std.specs.Prelude.{⊤}
+use Rattle.std.specs.Str.{chars}
 use Rattle.litrs_base.specs.Quotes.{switches_of}
-use Rattle.litrs_lex.proofs.FloatBytes.{rest_is}
-use Rattle.litrs_lines.proofs.OpenBytes.{quoted_reads, quoted_unfinished, quoted_next, continuation_next, escape_left, backslash_left}
+use Rattle.litrs_lex.specs.BodyStop.{StopsBy}
+use Rattle.litrs_lex.specs.declared.body_stop.BodyStop.{BodyStop}
+use Rattle.litrs_lines.proofs.OpenBytes.{quoted_reads, shut_after, quote_after}
 use Rattle.litrs_lines.proofs.collector.body.quoted_line.Goals as goal
 
-pub returns-then-is_escape_or_empty-clause-unfinished : goal.returns-then-is_escape_or_empty-clause-unfinished
-returns-then-is_escape_or_empty-clause-unfinished c =
+pub ended_line-requires : goal.ended_line-requires
+ended_line-requires c =
     let kind = c.args.kind in
     let text : List ℕ = c.args.text.now in
-    let place : ℕ = c.items_end_of-end.result in
-    let read = c.items_end_of-end.ensures in
-    let s = quoted_reads kind c.args.place place text (λ _. ⊤) c.utf8.text c.requires read in
-    quoted_unfinished kind place text c.utf8.text s (escape_left (switches_of kind) (drop place text) c.range_from.result.now c.range_from.ensures.value (c.is_escape_or_empty.ensures c.if-is_escape_or_empty.true))
+    let end : ℕ = c.stop_of-end.result.0 in record {
+      read = quoted_reads kind c.args.place end text (λ _. ⊤) c.utf8.text c.requires c.stop_of-end.ensures.ends;
+      ends = subst (λ (s : BodyStop). StopsBy (switches_of kind) (chars (drop end text)) s) c.in-Ended.is c.stop_of-end.ensures.stops;
+    }
 
-pub returns-then-is_escape_or_empty-clause-next : goal.returns-then-is_escape_or_empty-clause-next
-returns-then-is_escape_or_empty-clause-next c =
+pub returns-in-Quote : goal.returns-in-Quote
+returns-in-Quote c =
     let kind = c.args.kind in
     let text : List ℕ = c.args.text.now in
-    let place : ℕ = c.items_end_of-end.result in
-    let read = c.items_end_of-end.ensures in
-    let s = quoted_reads kind c.args.place place text (λ _. ⊤) c.utf8.text c.requires read in
-    quoted_next kind place text c.utf8.text s
+    let end : ℕ = c.stop_of-end.result.0 in
+    quote_after kind end text c.utf8.text (quoted_reads kind c.args.place end text (λ _. ⊤) c.utf8.text c.requires c.stop_of-end.ensures.ends)
+    (subst (λ (s : BodyStop). StopsBy (switches_of kind) (chars (drop end text)) s) c.in-Quote.is c.stop_of-end.ensures.stops)
 
-pub returns-then-is_backslash-clause-unfinished : goal.returns-then-is_backslash-clause-unfinished
-returns-then-is_backslash-clause-unfinished c =
+pub returns-in-Refused : goal.returns-in-Refused
+returns-in-Refused c =
     let kind = c.args.kind in
     let text : List ℕ = c.args.text.now in
-    let place : ℕ = c.items_end_of-end.result in
-    let read = c.items_end_of-end.ensures in
-    let s = quoted_reads kind c.args.place place text (λ _. ⊤) c.utf8.text c.requires read in
-    let lone = backslash_left text place (sym (rest_is c.as_bytes.result.now text place c.as_bytes.ensures.value) ∙ c.is_backslash.ensures c.if-is_backslash.true) in
-    quoted_unfinished kind place text c.utf8.text s (inr (inl lone))
-
-pub returns-then-is_backslash-clause-next : goal.returns-then-is_backslash-clause-next
-returns-then-is_backslash-clause-next c =
-    let kind = c.args.kind in
-    let text : List ℕ = c.args.text.now in
-    let place : ℕ = c.items_end_of-end.result in
-    let read = c.items_end_of-end.ensures in
-    let s = quoted_reads kind c.args.place place text (λ _. ⊤) c.utf8.text c.requires read in
-    let lone = backslash_left text place (sym (rest_is c.as_bytes.result.now text place c.as_bytes.ensures.value) ∙ c.is_backslash.ensures c.if-is_backslash.true) in
-    continuation_next kind place (length text) text c.utf8.text refl s lone
+    let end : ℕ = c.stop_of-end.result.0 in
+    let stops = subst (λ (s : BodyStop). StopsBy (switches_of kind) (chars (drop end text)) s) c.in-Refused.is c.stop_of-end.ensures.stops in
+    shut_after kind end text c.utf8.text (quoted_reads kind c.args.place end text (λ _. ⊤) c.utf8.text c.requires c.stop_of-end.ensures.ends) stops.2

@@ -3,7 +3,7 @@ use Rattle.std.specs.Prelude.{string_bytes}
 use Rattle.std.specs.Str.{IsUtf8}
 use Rattle.std.proofs.lemmas.Str.{IsUtf8-append, IsUtf8-string_bytes}
 use Rattle.litrs_lines.proofs.StepLemmas.{pushed_is_held}
-use Rattle.litrs_lines.proofs.collector.Collector.push.Goals as goal
+use Rattle.litrs_lines.proofs.collector.Collector.push_next.Goals as goal
 
 pub invariant_of-self : goal.invariant_of-self
 invariant_of-self c =
