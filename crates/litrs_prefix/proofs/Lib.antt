@@ -23,6 +23,8 @@ pub mod Pieces
 pub mod Meant
 pub mod MeantEnds
 pub mod MeantPieces
+-- what an error marks
+pub mod Marks
 -- whether what was cut off is a literal
 pub mod Stands
 -- examples

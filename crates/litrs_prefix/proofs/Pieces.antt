@@ -19,14 +19,15 @@ use Rattle.litrs_lex.proofs.CharCuts.{cut_at}
 use Rattle.litrs.proofs.MovedRefusals.{refusal_moves}
 use Rattle.litrs_prefix.specs.declared.MalformedPrefix.{MalformedPrefix}
 use Rattle.litrs_prefix.specs.Ends.{EndsBefore}
-use Rattle.litrs_prefix.specs.Malformed.{IsMalformed, IsOutOfMemoryAt, IsMalformedOrOutOfMemory}
+use Rattle.litrs_prefix.specs.Malformed.{IsMalformed, IsMalformedOrOutOfMemory}
 use Rattle.litrs_prefix.specs.Meant.{IsMeant}
 use Rattle.litrs_prefix.specs.Opens.{opens}
-use Rattle.litrs_prefix.specs.Prefix.{HasPrefix, HasNoPrefix}
+use Rattle.litrs_prefix.specs.Prefix.{may_follow, HasPrefix, HasNoPrefix}
 use Rattle.litrs_prefix.proofs.Complete.{front_is}
 use Rattle.litrs_prefix.proofs.LongerTexts.{whole}
 use Rattle.litrs_prefix.proofs.MeantPieces.{meant_longer}
 use Rattle.litrs_prefix.proofs.Opened.{opened}
+use Rattle.litrs_prefix.proofs.Unique.{unique}
 
 -- the two parts of a text that is cut at a character
 pub parts_spell : (bs front rest : List ℕ) (n : ℕ) → IsUtf8 bs → IsCharBoundary bs n → front ≡ take n bs → rest ≡ drop n bs → chars front ++ chars rest ≡ chars bs
@@ -44,21 +45,11 @@ piece_len : (bs front : List ℕ) (n : ℕ) → IsUtf8 bs → IsCharBoundary bs 
 piece_len bs front n u bound before size =
     ap length (encodes-chars front (subst (λ (l : List ℕ). IsUtf8 l) (sym before) (IsUtf8-take bs n u bound))) ∙ size
 
--- the literal that a piece is has no memory
-pub out_of_memory : (bs front rest : List ℕ) (n : ℕ) (e : ParseError) → IsUtf8 bs → IsCharBoundary bs n → front ≡ take n bs → rest ≡ drop n bs → length front ≡ n →
-    IsOutOfMemory literal_parse (chars front) e → IsOutOfMemoryAt (chars bs) (record { error = e; len = n })
-out_of_memory bs front rest n e u bound before after size is = record {
-  front = chars front;
-  rest = chars rest;
-  spells = parts_spell bs front rest n u bound before after;
-  len = piece_len bs front n u bound before size;
-  refused = is;
-}
-
+-- a piece is not a literal, and is what is meant as one
 pub piece_refused : (bs front rest : List ℕ) (n : ℕ) (e : ParseError) → IsUtf8 bs → IsCharBoundary bs n → front ≡ take n bs → rest ≡ drop n bs → length front ≡ n →
-    opens (chars bs) ≡ true → IsRefusedOrOutOfMemory literal_parse (chars front) e → HasNoPrefix (chars bs) → IsMeant (chars bs) (chars front) →
-    0 < n → IsMalformedOrOutOfMemory (chars bs) (record { error = e; len = n })
-piece_refused bs front rest n e u bound before after size opens_at (inl is) none meant some = inl (record {
+    opens (chars bs) ≡ true → IsRefused literal_parse (chars front) e → HasNoPrefix (chars bs) → IsMeant (chars bs) (chars front) →
+    0 < n → IsMalformed (chars bs) (record { error = e; len = n })
+piece_refused bs front rest n e u bound before after size opens_at is none meant some = record {
   front = chars front;
   rest = chars rest;
   spells = parts_spell bs front rest n u bound before after;
@@ -68,15 +59,41 @@ piece_refused bs front rest n e u bound before after size opens_at (inl is) none
   refused = is;
   opens = opens_at;
   none = none;
-})
-piece_refused bs front rest n e u bound before after size opens_at (inr is) none meant some =
-    inr (out_of_memory bs front rest n e u bound before after size is)
+}
 
--- the error that there was no memory is that of such a literal
-pub memory_at : (bs front rest : List ℕ) (n : ℕ) (e : ParseError) → IsUtf8 bs → IsCharBoundary bs n → front ≡ take n bs → rest ≡ drop n bs → length front ≡ n →
-    IsRefusedOrOutOfMemory literal_parse (chars front) e → kind_of e ≡ OutOfMemory → IsMalformedOrOutOfMemory (chars bs) (record { error = e; len = n })
-memory_at bs front rest n e u bound before after size (inl is) kind = absurd (no_refusal_is_of_memory literal_parse (chars front) (refusal_of e) is.table kind)
-memory_at bs front rest n e u bound before after size (inr is) kind = inr (out_of_memory bs front rest n e u bound before after size is)
+-- an allocation failed for the literal that is at the front of the text
+pub memory_at : (bs front rest : List ℕ) (n : ℕ) (e : ParseError) (d : Derivation) (r : List ℕ) → IsUtf8 bs → IsCharBoundary bs n → front ≡ take n bs → rest ≡ drop n bs → length front ≡ n →
+    IsRefusedOrOutOfMemory literal_parse (chars front) e → kind_of e ≡ OutOfMemory → HasPrefix (chars bs) d r → EndsBefore bs r n →
+    IsMalformedOrOutOfMemory (chars bs) (record { error = e; len = n })
+memory_at bs front rest n e d r u bound before after size (inl is) kind at place = absurd (no_refusal_is_of_memory literal_parse (chars front) (refusal_of e) is.table kind)
+memory_at bs front rest n e d r u bound before after size (inr is) kind at place =
+    let literal : IsLiteral (chars front) d = piece_is bs front n d r u before place at in
+    let same : d ≡ is.derivation = (unique (chars front) d is.derivation [] [] (whole (chars front) d literal) (whole (chars front) is.derivation is.literal)).0 in
+    let left : r ≡ chars rest = sym place.1 ∙ ap chars (sym after) in
+    let spells : chars front ++ chars rest ≡ chars bs = parts_spell bs front rest n u bound before after in
+    inr (record {
+      front = chars front;
+      rest = chars rest;
+      spells = spells;
+      len = piece_len bs front n u bound before size;
+      refused = is;
+      prefix = record {
+        front = chars front;
+        spells = spells;
+        literal = is.literal;
+        follows = subst (λ (x : Derivation). may_follow x (chars rest) ≡ true) same (subst (λ (l : List ℕ). may_follow d l ≡ true) left at.follows);
+      };
+    })
+
+-- the error of a piece that is not a literal
+pub refused_at : (front : List ℕ) (e : ParseError) → IsRefusedOrOutOfMemory literal_parse front e → (kind_of e ≡ OutOfMemory → ⊥) → IsRefused literal_parse front e
+refused_at front e (inl is) other = is
+refused_at front e (inr is) other = absurd (other (ap (λ (r : Refusal). r.kind) is.error))
+
+-- a piece is a literal if an allocation failed for its value
+pub literal_at : (front : List ℕ) (e : ParseError) → IsRefusedOrOutOfMemory literal_parse front e → kind_of e ≡ OutOfMemory → (d : Derivation) × IsLiteral front d
+literal_at front e (inl is) kind = absurd (no_refusal_is_of_memory literal_parse front (refusal_of e) is.table kind)
+literal_at front e (inr is) kind = (is.derivation, is.literal)
 
 -- another error says that the piece is no literal
 pub none_at : (front : List ℕ) (e : ParseError) → IsRefusedOrOutOfMemory literal_parse front e → (kind_of e ≡ OutOfMemory → ⊥) → HasNoDerivation (IsLiteral front)

@@ -33,8 +33,8 @@ ghost use Rattle.std.specs.Prelude.{◌≡◌, IfOk, IfErr, IfSome, IfNone, IsSo
 ghost use Rattle.std.specs.Str.{chars, IsCharBoundary};
 ghost use Rattle.litrs.specs.Literal.{Derivation, IsLiteral, literal_parse};
 ghost use Rattle.litrs.specs.LiteralDerivation.{literal_raw, derivation};
-ghost use Rattle.litrs.specs.Refused.{IsRefusedOrOutOfMemory};
-ghost use Rattle.litrs_prefix.specs.Malformed.{IsMalformedOrOutOfMemory, IsMovedBy};
+ghost use Rattle.litrs.specs.Refused.{IsRefused};
+ghost use Rattle.litrs_prefix.specs.Malformed.{IsMalformed, IsMalformedOrOutOfMemory, IsMovedBy, IsMarkedAt};
 ghost use Rattle.litrs_prefix.specs.Ends.{EndsBefore};
 ghost use Rattle.litrs_prefix.specs.Opens.{opens};
 ghost use Rattle.litrs_prefix.specs.Prefix.{HasPrefix, HasNoPrefix};
@@ -48,6 +48,7 @@ pub use malformed::after_opened;
 pub use name::{after_name, after_run, begins_name, split_first_char};
 pub use opening::opens;
 use std::alloc::Global;
+use std::ops::Range;
 
 mod end;
 mod follow;
@@ -58,23 +59,42 @@ mod malformed;
 mod name;
 mod opening;
 
-/// A literal and what follows it in the text.
+/// A literal and the rest of the text.
 #[derive(Drop)]
 pub struct Prefix<'a> {
     /// The literal at the front of the text.
     pub literal: Literal<&'a str>,
-    /// All that follows it.
+    /// The rest of the text.
     pub rest: &'a str,
 }
 
-/// Why no literal stands at the front of a text, though one opens there.
+/// An error: a literal begins at the front of a text, and none is valid, or an allocation failed.
 #[derive(Debug, Drop)]
 pub struct MalformedPrefix {
-    /// The refusal of what was meant as a literal.
+    /// The error of [`Literal::parse`] for the malformed prefix.
     pub error: ParseError,
-    /// How many bytes at the front of the text were meant as a literal. A reader goes on after
-    /// them.
+    /// The length of the malformed prefix, in bytes. A reader can continue after it.
     pub len: usize,
+}
+
+impl MalformedPrefix {
+    ghost use Rattle.std.specs.Prelude.{◌≡◌, ◌+◌, ◌<◌, ◌^◌};
+    ghost use Rattle.litrs_prefix.specs.Malformed.{marked_at};
+
+    /// Returns the part of the source to mark, in bytes: the character span of the error, or the
+    /// malformed prefix if the error has none.
+    ///
+    /// `start` is that of [`parse_prefix_at`], and 0 for [`parse_prefix`]. The source can be cut at
+    /// both ends. For `x = "a` from 4 on that is 4..6.
+    pub fn marked_span(&self, start: usize) -> Range<usize>
+        requires { start + self.now.len < 2 ^ 64 }
+        ensures { result ≡ marked_at start self.now }
+    {
+        match self.error.char_span() {
+            Some(span) => span,
+            None => start..start + self.len,
+        }
+    }
 }
 
 /// The literal at the front of a text, and what follows it; None where no literal opens there, as
@@ -104,6 +124,7 @@ pub fn parse_prefix(alloc: Global, text: &str) -> Result<Option<Prefix<'_>>, Mal
         HasPrefix (chars text.now) (derivation prefix.literal) (chars prefix.rest.now))) }
     ensures none { IfOk result (λ found. IfNone found (IsFalse (opens (chars text.now)))) }
     ensures malformed { IfErr result (IsMalformedOrOutOfMemory (chars text.now)) }
+    ensures marks { IfErr result (IsMarkedAt 0 text.now) }
 {
     if !opens(text) {
         return Ok(None);
@@ -137,7 +158,10 @@ fn parse_front(alloc: Global, text: &str, end: usize) -> Result<Option<Prefix<'_
             }
         }
         Err(error) => match error.kind() {
-            ParseErrorKind::OutOfMemory => Err(MalformedPrefix { error, len: end }),
+            ParseErrorKind::OutOfMemory => match prefix_len(text) {
+                Some(_) => Err(MalformedPrefix { error, len: end }),
+                None => Err(refuse_meant(alloc, text)),
+            },
             _ => Err(refuse_meant(alloc, text)),
         },
     }
@@ -148,7 +172,7 @@ fn parse_front(alloc: Global, text: &str, end: usize) -> Result<Option<Prefix<'_
 fn refuse_meant(alloc: Global, text: &str) -> MalformedPrefix
     requires opens { IsTrue (opens (chars text.now)) }
     requires none { HasNoPrefix (chars text.now) }
-    ensures { IsMalformedOrOutOfMemory (chars text.now) result }
+    ensures { IsMalformed (chars text.now) result }
 {
     let mut len = text.len() - after_opened(text).len();
     loop {
@@ -160,14 +184,18 @@ fn refuse_meant(alloc: Global, text: &str) -> MalformedPrefix
     }
 }
 
-/// Why a text is refused, or None where it is a literal.
+/// Returns the error of `text`, or `None` if it is a literal. If an allocation fails for its value,
+/// it is one.
 fn refusal(alloc: Global, text: &str) -> Option<ParseError>
-    ensures refused { IfSome result (IsRefusedOrOutOfMemory literal_parse (chars text.now)) }
+    ensures refused { IfSome result (IsRefused literal_parse (chars text.now)) }
     ensures literal { IfNone result ((d : Derivation) × IsLiteral (chars text.now) d) }
 {
     match Literal::parse(alloc, text) {
         Ok(_) => None,
-        Err(error) => Some(error),
+        Err(error) => match error.kind() {
+            ParseErrorKind::OutOfMemory => None,
+            _ => Some(error),
+        },
     }
 }
 
@@ -206,6 +234,7 @@ pub fn parse_prefix_at(
     ensures none { IfOk result (λ found. IfNone found
         (IsFalse (opens (chars (drop start source.now))))) }
     ensures malformed { IfErr result (IsMovedBy start (chars (drop start source.now))) }
+    ensures marks { IfErr result (IsMarkedAt start source.now) }
 {
     let (_, text) = source.split_at(start);
     match parse_prefix(alloc, text) {

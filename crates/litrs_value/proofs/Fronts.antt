@@ -2,11 +2,9 @@
 use Rattle.std.proofs.Common.{◌≡◌, ℕ, ◌+◌, ◌-◌, ◌≤◌, Bool, false, eqb, List, [], ◌∷◌, ◌++◌, length, take, drop, IsUtf8, inl, inr, refl, sym, ap, ◌∙◌, subst, length-append, arith}
 use Rattle.std.specs.Prelude.{slice_index, if◌then◌else◌}
 use Rattle.std.specs.Str.{chars, IsCharBoundary}
-use Rattle.std.specs.declared.ops.Range.{Range}
-use Rattle.std.proofs.lemmas.Bool.{cases_Bool, cases_lt, eqb-true}
-use Rattle.std.proofs.lemmas.List.{take_at, take-append-drop, drop-drop, get_or-take, length-take-le, length-drop, nil_from_length}
+use Rattle.std.proofs.lemmas.Bool.{cases_Bool, eqb-true}
+use Rattle.std.proofs.lemmas.List.{take_at, take-append-drop, drop-drop, length-take-le, length-drop, nil_from_length}
 use Rattle.std.proofs.lemmas.Str.{IsUtf8-drop, IsUtf8-take, IsCharBoundary-start, IsCharBoundary-after_ascii, IsCharBoundary-from_rest}
-use Rattle.litrs.specs.CharEnd.{IsCutBy}
 use Rattle.litrs.specs.Literal.{Derivation, IsLiteral, literal_parse}
 use Rattle.litrs.specs.Refusal.{Refusal, refusal_of, kind_of, char_span_of, shifted, shifted_span}
 use Rattle.litrs.specs.Refused.{IsRefused}
@@ -21,6 +19,7 @@ use Rattle.litrs_prefix.specs.Meant.{IsMeant}
 use Rattle.litrs_prefix.specs.Prefix.{HasPrefix}
 use Rattle.litrs_prefix.proofs.Complete.{front_is}
 use Rattle.litrs_prefix.proofs.Ends.{end_at}
+use Rattle.litrs_prefix.proofs.Marks.{cut_in}
 use Rattle.litrs_prefix.proofs.Pieces.{piece_is}
 use Rattle.litrs_value.specs.Prefixes.{IsFrontFor, IsPrefixError, IsMarkedIn}
 use Rattle.litrs_value.specs.Reads.{is_negative, sign_len, unsigned, IsReadAs, IsValueError}
@@ -90,33 +89,6 @@ cut_after_sign text n len utf8 cut is =
       after_is = ap (λ k. drop k text) is ∙ sym (drop-drop n (sign_len text) text);
       front_utf8 = IsUtf8-take text len utf8 boundary;
       rest_utf8 = subst (λ (l : List ℕ). IsUtf8 l) (sym front.0) (IsUtf8-take u n whole cut);
-    }
-
--- a place of the front is a place of the text
-boundary_in : (bs : List ℕ) (n i : ℕ) → IsCharBoundary bs n → i ≤ n → IsCharBoundary (take n bs) i → IsCharBoundary bs i
-boundary_in bs n i end fits cut =
-    let size : length (take n bs) ≡ n = length-take-le n bs end.0 in
-    elim (cases_lt i n) [
-      | inl less ↦ (
-        omega (arith, end.0),
-        λ within high. (
-            let same : slice_index (take n bs) i ≡ slice_index bs i = get_or-take n bs i 0 less in
-            let h = cut.1 (omega (arith, size, less)) (omega (arith, same, high)) in
-            omega (arith, same, h)),
-      )
-      | inr more ↦ (let same : n ≡ i = omega (arith, more, fits) in subst (λ (k : ℕ). IsCharBoundary bs k) same end)
-    ]
-
-cut_in : (bs : List ℕ) (n : ℕ) (span : Range ℕ) → IsCharBoundary bs n → IsCutBy (take n bs) span → IsCutBy bs span
-cut_in bs n span end cut =
-    let size : length (take n bs) ≡ n = length-take-le n bs end.0 in
-    let within = cut.within in
-    let order = cut.in_order in
-    record {
-      start = boundary_in bs n span.start end (omega (arith, size, within, order)) cut.start;
-      end = boundary_in bs n span.end end (omega (arith, size, within)) cut.end;
-      in_order = order;
-      within = omega (arith, size, within, end.0);
     }
 
 -- what is marked of the front may be cut in the text

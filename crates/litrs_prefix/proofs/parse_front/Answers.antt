@@ -38,11 +38,12 @@ returns-then-may_follow-clause-spells c =
     ap (λ (l : List ℕ). l ++ c.split_at.result.1.now) (c.in-Ok.ensures.raw ∙ c.split_at.ensures.front)
     ∙ (ap (λ (l : List ℕ). take n text ++ l) c.split_at.ensures.back ∙ take-append-drop n text)
 
-pub returns-in-OutOfMemory-clause-malformed : goal.returns-in-OutOfMemory-clause-malformed
-returns-in-OutOfMemory-clause-malformed c =
+pub returns-in-Some-clause-malformed : goal.returns-in-Some-clause-malformed
+returns-in-Some-clause-malformed c =
     let split = c.split_at.ensures in
-    memory_at c.args.text.now c.split_at.result.0.now c.split_at.result.1.now c.args.end c.in-Err.error c.utf8.text c.requires.boundary split.front split.back split.front_len
-    c.in-Err.ensures.refused (sym c.kind.ensures ∙ c.in-OutOfMemory.is)
+    let at = c.in-Some.ensures.literal in
+    memory_at c.args.text.now c.split_at.result.0.now c.split_at.result.1.now c.args.end c.in-Err.error at.0 _ c.utf8.text c.requires.boundary split.front split.back split.front_len
+    c.in-Err.ensures.refused (sym c.kind.ensures ∙ c.in-OutOfMemory.is) at.1 (c.requires.end at.0 _ at.1)
 
 -- a literal would end there, and what ends there is none
 pub refuse_meant-requires-in_default : goal.refuse_meant-requires-in_default
