@@ -27,5 +27,7 @@ pub mod MeantPieces
 pub mod Marks
 -- whether what was cut off is a literal
 pub mod Stands
+-- literals that are read once
+pub mod PlainLiterals
 -- examples
 pub mod Examples
