@@ -53,8 +53,7 @@ ghost use Rattle.litrs_build.specs.Written.{written_char, written_string, writte
 ghost use Rattle.litrs_explanation.specs.Explanation.{kind_name, IsExplanation, IsFields, field, value_field, field_of_part, integer_text, names_that_fit, names_of, integer_fields, IsTypeOf, IsNumber, IsNumberOf, IsOutOfRange, IsValueText, IsFloatFields, fraction_field, escaped, escaped_char, is_line_feed_or_printable};
 
 use litrs::{Buffer, FloatLit, FloatType, IntegerLit, IntegerType, Literal};
-pub use litrs_build::BuildError;
-use litrs_build::{byte_string, c_string, char, is_printable, string};
+use litrs_build::{BuildError, byte_string, c_string, char, is_printable, string};
 use litrs_value::float;
 use ryu::Float;
 use std::alloc::{AllocError, Global};

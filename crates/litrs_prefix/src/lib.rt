@@ -1,21 +1,21 @@
-//! Reads the literal at the front of a longer text, as a lexer meets it: of `0xFF_u8 + 1` the
-//! literal `0xFF_u8` and the rest ` + 1`, of `1..2` the literal `1`, and none of `foo`.
+//! Parses the literal at the front of a longer text. For `0xFF_u8 + 1` that is `0xFF_u8` with the
+//! rest ` + 1`, for `1..2` the literal `1`. No literal begins at the front of `foo`.
 //!
 //! | Text | [`parse_prefix`] |
 //! |---|---|
 //! | `1.5.max(2.)` | the literal `1.5`, the rest `.max(2.)` |
 //! | `1.max(2)`, `1..2` | the literal `1` |
 //! | `"a"b"c"` | the literal `"a"b`, which has the suffix `b` |
-//! | `foo`, `'a, 'b`, `-1`, ` 1`, the empty text | none: no literal opens there |
-//! | `0b12 + 1` | malformed: of the first 4 bytes `InvalidDigit` at 3..4 |
-//! | `0x1.5` | malformed: of the first 4 bytes `UnexpectedChar` at 3..4 |
+//! | `foo`, `'a, 'b`, `-1`, ` 1`, the empty text | `None`: no literal begins there |
+//! | `0b12 + 1` | the first 4 bytes are malformed: `InvalidDigit` at 3..4 |
+//! | `0x1.5` | the first 4 bytes are malformed: `UnexpectedChar` at 3..4 |
 //!
 //! ```
 //! use litrs::Literal;
 //! use litrs_prefix::{MalformedPrefix, Prefix, parse_prefix};
 //! use std::alloc::Global;
 //!
-//! /// The number at the front of a text, and what follows its suffix.
+//! /// Returns the number at the front of a text, and the rest after its suffix.
 //! fn number(alloc: Global, text: &str) -> Result<Option<(u64, &str)>, MalformedPrefix> {
 //!     match parse_prefix(alloc, text)? {
 //!         Some(Prefix { literal: Literal::Integer(lit), rest }) => match lit.value::<u64>() {
@@ -25,7 +25,7 @@
 //!         _ => Ok(None),
 //!     }
 //! }
-//! // Of `1_000u32, 2` it is Ok(Some((1000, ", 2"))), of `x` Ok(None).
+//! // For `1_000u32, 2` that is Ok(Some((1000, ", 2"))), for `x` Ok(None).
 //! ```
 #![tactic(auto)]
 
@@ -86,8 +86,8 @@ impl MalformedPrefix {
     /// Returns the part of the source to mark, in bytes: the character span of the error, or the
     /// malformed prefix if the error has none.
     ///
-    /// `start` is that of [`parse_prefix_at`], and 0 for [`parse_prefix`]. The source can be cut at
-    /// both ends. For `x = "a` from 4 on that is 4..6.
+    /// `start` is that of [`parse_prefix_at`], and 0 for [`parse_prefix`]. The source can be cut
+    /// at both ends. For `x = "a` from 4 on that is 4..6.
     pub fn marked_span(&self, start: usize) -> Range<usize>
         requires { start + self.now.len < 2 ^ 64 }
         ensures { result ≡ marked_at start self.now }
@@ -99,24 +99,26 @@ impl MalformedPrefix {
     }
 }
 
-/// The literal at the front of a text, and what follows it; None where no literal opens there, as
-/// before a name, a lifetime, a blank or punctuation.
+/// Parses the literal at the front of `text`. Returns it with the rest, or `None` if no literal
+/// begins there, for example before a name, a lifetime, a blank or punctuation.
 ///
-/// The literal is the only one that can stand there: the one whose suffix is the whole name after
-/// its body, and which no digit, period, quote or hash after it makes another token. There is one
-/// allocation for the value of a C string, and of a quoted string or byte string whose body has a
-/// backslash; else none. See [the reference][ref].
+/// The literal is the only one that can be there. Its suffix is the whole name after its body, and
+/// no digit, period, quote or hash after it makes it another token. There is one allocation for
+/// the value of a C string, and of a quoted string or byte string whose body has a backslash. See
+/// [the reference][ref].
 ///
 /// # Errors
 ///
-/// Where a literal opens and none stands there: the refusal of what was meant as a literal by
-/// [`Literal::parse`], and how many bytes that is. A number, a char or a string that is closed is
-/// meant to the end of the name after it, so that `0b12 + 1` is refused as `0b12` is, and all of
-/// `"\q"b` is. A number has the parts of a float; prefix and digits of a base are of its name. What
-/// is not closed is meant to the end of the text, or of the line at a char or a byte. Where that is
-/// a literal, and what follows may not follow it, the shortest longer piece that is none is meant:
-/// `0x1.` of `0x1.5`, `true"` of `true"a"`. Spans count from the start of the text. `OutOfMemory`
-/// where there is no memory for the value.
+/// The error of [`Literal::parse`] for the malformed prefix, with its length, if a literal begins
+/// and none is valid. The spans count from the start of `text`. `OutOfMemory` if an allocation
+/// fails for the value of the literal at the front.
+///
+/// The malformed prefix of a number, a char or a string that is closed ends after the name that
+/// follows, for example `0b12` in `0b12 + 1`, and all of `"\q"b`. A number has the parts of a
+/// float; the prefix of a base and its digits belong to the name. An unterminated string extends to
+/// the end of the text, an unterminated char or byte to the end of the line. If that is a literal
+/// that the rest may not follow, the malformed prefix is the shortest longer one that is not a
+/// literal: `0x1.` in `0x1.5`, `true"` in `true"a"`.
 ///
 /// [ref]: https://doc.rust-lang.org/reference/tokens.html#literals
 pub fn parse_prefix(alloc: Global, text: &str) -> Result<Option<Prefix<'_>>, MalformedPrefix>
@@ -195,8 +197,8 @@ fn parse_front(alloc: Global, text: &str, end: usize) -> Result<Option<Prefix<'_
     }
 }
 
-/// The refusal of what was meant as a literal: of what opens at the front, with its suffix; where
-/// that is a literal, which what follows may not follow, of the shortest longer piece that is none.
+/// Returns the error of the malformed prefix: of the body that begins at the front, with its
+/// suffix, or of the shortest longer piece that is not a literal.
 fn refuse_meant(alloc: Global, text: &str) -> MalformedPrefix
     requires opens { IsTrue (opens (chars text.now)) }
     requires none { HasNoPrefix (chars text.now) }
@@ -212,8 +214,8 @@ fn refuse_meant(alloc: Global, text: &str) -> MalformedPrefix
     }
 }
 
-/// Returns the error of `text`, or `None` if it is a literal. If an allocation fails for its value,
-/// it is one.
+/// Returns the error of `text`, or `None` if it is a literal, also if an allocation fails for its
+/// value.
 fn refusal(alloc: Global, text: &str) -> Option<ParseError>
     ensures refused { IfSome result (IsRefused literal_parse (chars text.now)) }
     ensures literal { IfNone result ((d : Derivation) × IsLiteral (chars text.now) d) }
@@ -227,7 +229,7 @@ fn refusal(alloc: Global, text: &str) -> Option<ParseError>
     }
 }
 
-/// Where the character ends that begins there, or the end of the text.
+/// Returns the end of the character that begins at `start`, or the end of `text`.
 pub fn next_boundary(text: &str, start: usize) -> usize
     requires { IsCharBoundary text.now start }
     ensures boundary { IsCharBoundary text.now result }
@@ -242,8 +244,8 @@ pub fn next_boundary(text: &str, start: usize) -> usize
     }
 }
 
-/// [`parse_prefix`] of what follows the first `start` bytes of a source text. The spans of a
-/// refusal count from the start of the source; `len` counts from `start`.
+/// Like [`parse_prefix`], for the rest of `source` from `start` on. The spans of an error count
+/// from the start of `source`, and its `len` from `start`.
 ///
 /// # Errors
 ///
