@@ -295,29 +295,43 @@ static void print_tokens(const uint8_t *text, size_t len) {
     hold(!litrs_next_token(&cursor, &token) && cursor.at == SIZE_MAX, "a token past the end");
 }
 
-/* Walks a text of which only the page of the cursor, the next one and the last one can be read. */
-static void hold_window(void) {
+/* Memory whose pages can be protected, filled with lines of tokens. */
+static uint8_t *pages_of_lines(size_t size) {
     static const char line[] = "let \xc3\xa9 = b\"\\n\" + 0x1F_u8; // \xe2\x82\xac\n";
-    size_t page = (size_t)sysconf(_SC_PAGESIZE), count = 64, size = page * count, walked = 0, i;
-    uint8_t *text = (uint8_t *)mmap(NULL, size, PROT_READ | PROT_WRITE,
-                                    MAP_PRIVATE | MAP_ANONYMOUS, -1, 0);
-    litrs_cursor cursor;
-    litrs_token token;
-    litrs_answer answer;
+    int reads = PROT_READ | PROT_WRITE, own = MAP_PRIVATE | MAP_ANONYMOUS;
+    uint8_t *text = (uint8_t *)mmap(NULL, size, reads, own, -1, 0);
+    size_t i;
     hold(text != MAP_FAILED, "no memory");
     memset(text, '\n', size);
     for (i = 0; i + sizeof line <= size; i += sizeof line - 1)
         memcpy(text + i, line, sizeof line - 1);
+    return text;
+}
+
+/* Moves the cursor over the tokens that start before a place, and returns how many there are. */
+static size_t walk_up_to(litrs_cursor *cursor, size_t place) {
+    litrs_token token;
+    litrs_answer answer;
+    size_t count = 0;
+    while (cursor->at < place) {
+        litrs_parse_prefix_at(cursor, &answer);
+        hold(litrs_next_token(cursor, &token), "the text ends too early");
+        count++;
+    }
+    return count;
+}
+
+/* Walks a text of which only the page of the cursor, the next one and the last one can be read. */
+static void hold_window(void) {
+    size_t page = (size_t)sysconf(_SC_PAGESIZE), count = 64, size = page * count, walked = 0, i;
+    uint8_t *text = pages_of_lines(size);
+    litrs_cursor cursor;
     hold(litrs_check(text, size, &cursor), "the text is not UTF-8");
     for (i = 0; i < count; i++) {
         mprotect(text, size, PROT_NONE);
         mprotect(text + page * i, page * (i + 1 < count ? 2 : 1), PROT_READ);
         mprotect(text + page * (count - 1), page, PROT_READ);
-        while (cursor.at < page * (i + 1)) {
-            litrs_parse_prefix_at(&cursor, &answer);
-            hold(litrs_next_token(&cursor, &token), "the text ends too early");
-            walked++;
-        }
+        walked += walk_up_to(&cursor, page * (i + 1));
     }
     hold(cursor.at == size && walked > size / 8, "too few tokens");
     munmap(text, size);

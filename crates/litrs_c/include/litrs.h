@@ -1,8 +1,8 @@
-/* Rust literals: what a text is as one literal, and why it is none.
+/* Rust literals: their parts, their values, and why a text is not one; and the tokens of a source.
  *
- * A text is a pointer and a length in bytes; it has no closing zero. Where the length is 0 the
- * pointer may be NULL: that is the empty text, and a room of no bytes. Places count bytes of the
- * text. Nothing is kept between calls, and nothing has to be freed. README.md says more.
+ * A text is a pointer and a length in bytes; it has no closing zero. If the length is 0 the pointer
+ * may be NULL: that is the empty text, or a room of no bytes. Places count bytes from the start of
+ * the text. Nothing is kept between calls, and nothing has to be freed. README.md says more.
  */
 #ifndef LITRS_H
 #define LITRS_H
@@ -16,7 +16,7 @@
 #define LITRS_VERSION_MINOR 0
 #define LITRS_VERSION_PATCH 1
 
-/* 0 or 1, and in C89 what C99 and C++ have for it. */
+/* A bool; in C89 a type of the same size. */
 #if defined(__cplusplus) || (defined(__STDC_VERSION__) && __STDC_VERSION__ >= 199901L)
 #include <stdbool.h>
 #define LITRS_INLINE static inline
@@ -33,15 +33,15 @@ typedef unsigned char litrs_bool;
 extern "C" {
 #endif
 
-/* What a call answers. */
+/* The status of an answer. */
 enum litrs_status {
     LITRS_LITERAL = 0,       /* the text is a literal */
-    LITRS_REFUSED = 1,       /* it is none */
+    LITRS_REFUSED = 1,       /* the text is not a literal */
     LITRS_NOT_UTF8 = 2,      /* the bytes are not UTF-8 */
     LITRS_OUT_OF_MEMORY = 3, /* no memory for the value of a literal, or for one to write */
-    LITRS_NO_STRING = 4,     /* by litrs_value: it is a literal of another kind than strings */
-    LITRS_NO_PREFIX = 5,     /* by the calls on prefixes: no literal opens at the front */
-    LITRS_NO_NUMBER = 6      /* by litrs_f64 and litrs_f32: it is not an integer or a float */
+    LITRS_NO_STRING = 4,     /* of litrs_value: the text is a literal, but not a string */
+    LITRS_NO_PREFIX = 5,     /* of the calls on prefixes: no literal begins at the front */
+    LITRS_NO_NUMBER = 6      /* of litrs_f64, litrs_f32: it is not an integer or a float */
 };
 
 /* The kinds of literals. */
@@ -56,7 +56,7 @@ enum litrs_kind {
     LITRS_C_STRING = 8     /* c"a", cr"a" */
 };
 
-/* The kinds of refusals. */
+/* The kinds of errors. */
 enum litrs_error {
     LITRS_ERROR_EMPTY = 1,
     LITRS_ERROR_UNEXPECTED_CHAR = 2,
@@ -132,48 +132,48 @@ typedef struct litrs_place {
     size_t end;
 } litrs_place;
 
-/* A literal. What a kind does not have is 0, false, or the place 0..0. */
+/* A literal. A field that its kind does not have is 0, false, or the place 0..0. */
 typedef struct litrs_literal {
     uint32_t kind;           /* enum litrs_kind */
     uint32_t base;           /* of an integer: 2, 8, 10 or 16 */
     litrs_bool is_raw;       /* of the three kinds of strings */
-    litrs_bool has_fraction; /* of a float: whether it has a period */
+    litrs_bool has_fraction; /* of a float: true if it has a period */
     litrs_bool has_value;    /* of a bool, a char, a byte, and an integer below 2^128 */
     uint64_t value_low;      /* the value modulo 2^64 */
     uint64_t value_high;     /* the value divided by 2^64, rounded down */
     litrs_place main;        /* the digits of an integer, of a float before period and exponent */
     litrs_place fraction;    /* of a float: the digits after the period */
     litrs_place exponent;    /* of a float: the exponent, with its letter and sign */
-    litrs_place suffix;      /* with which the text ends; it is empty where there is none */
+    litrs_place suffix;      /* the suffix, which ends the text; empty if there is none */
 } litrs_literal;
 
-/* A refusal. */
+/* The error of a text that is not a literal. */
 typedef struct litrs_refusal {
     uint32_t kind;         /* enum litrs_error */
-    litrs_bool has_span;   /* whether it points at a part of the text; else both places are 0..0 */
-    litrs_bool is_final;   /* whether no text that begins with this one is a literal */
-    litrs_bool is_open;    /* whether the text only lacks its closing quote and hashes */
-    litrs_place span;      /* the end may lie inside a character */
-    litrs_place char_span; /* the same up to the next end of a character */
+    litrs_bool has_span;   /* true if it points at a part of the text; else both spans are 0..0 */
+    litrs_bool is_final;   /* true if no text that begins with this one is a literal */
+    litrs_bool is_open;    /* true if the text only lacks its closing quote and hashes */
+    litrs_place span;      /* the part of the text; it may end inside a character */
+    litrs_place char_span; /* the part of the text, up to the end of its last character */
 } litrs_refusal;
 
-/* What litrs_parse answers: the status is one of the first four. */
+/* The answer of litrs_parse: the status is one of the first four. */
 typedef struct litrs_answer {
     uint32_t status;       /* enum litrs_status */
     litrs_literal literal; /* if the status is LITRS_LITERAL; else all is 0, by litrs_parse */
     litrs_refusal refusal; /* if the status is LITRS_REFUSED; else all is 0, by litrs_parse */
 } litrs_answer;
 
-/* What litrs_parse_prefix answers: the status is one of the first four or LITRS_NO_PREFIX. */
+/* The answer of litrs_parse_prefix: the status is one of the first four or LITRS_NO_PREFIX. */
 typedef struct litrs_prefix {
-    litrs_answer answer; /* of the literal at the front, or of what was meant as one */
-    size_t len;          /* its length in bytes; 0 if none opens, or if the bytes are not UTF-8 */
+    litrs_answer answer; /* about the literal at the front, or the malformed one */
+    size_t len;          /* its length; 0 if none begins there, or if the bytes are not UTF-8 */
 } litrs_prefix;
 
-/* What the calls answer that write to the caller's room. */
+/* The answer of a call that writes to the caller's room. */
 typedef struct litrs_written {
     uint32_t status; /* enum litrs_status */
-    size_t len;      /* how many bytes there are to write, whether or not they fit */
+    size_t len;      /* the number of bytes to write, even if they do not fit */
 } litrs_written;
 
 /* A text in UTF-8 and a place in it, which litrs_check sets. Until the last call with it, the text
@@ -187,7 +187,7 @@ typedef struct litrs_cursor {
 /* A token of a text. */
 typedef struct litrs_token {
     uint32_t kind;        /* enum litrs_token_kind */
-    uint32_t doc_style;   /* enum litrs_doc_style; LITRS_DOC_NONE if it is not a comment */
+    uint32_t doc_style;   /* enum litrs_doc_style; LITRS_DOC_NONE if it documents nothing */
     litrs_bool is_trivia; /* true for white space and for comments of all three kinds */
     litrs_place place;    /* in the text of the cursor */
 } litrs_token;
@@ -198,22 +198,22 @@ typedef struct litrs_static_text {
     size_t size; /* in bytes, with the closing zero */
 } litrs_static_text;
 
-/* Whether the text is a literal, and what it is made of, or why it is none. */
+/* Parses the text as a literal. */
 litrs_answer litrs_parse(const uint8_t *text, size_t len);
 
-/* The same, written to the caller's answer: the status, and of the literal and the refusal the one
- * that the status speaks of. The other stays as it was, and what stood there does not matter. */
+/* Writes to answer what litrs_parse returns: the status, and the literal or the error if the status
+ * names it. The rest stays unchanged, and need not be set. */
 void litrs_parse_into(const uint8_t *text, size_t len, litrs_answer *answer);
 
-/* Which literal stands at the front of the text, and how many bytes it has. */
+/* Parses the literal at the front of the text, and returns its length too. */
 litrs_prefix litrs_parse_prefix(const uint8_t *text, size_t len);
 
-/* The same, written to the caller's answer as by litrs_parse_into. Returns how many bytes the
- * literal has, or what was meant as one; 0 if none opens, or if the bytes are not UTF-8. */
+/* Writes to answer what litrs_parse_prefix returns, as by litrs_parse_into. Returns the length in
+ * bytes of the literal, or of the malformed one; 0 if none begins, or if the text is not UTF-8. */
 size_t litrs_parse_prefix_into(const uint8_t *text, size_t len, litrs_answer *answer);
 
-/* Writes the bytes that a string, a byte string or a C string stands for, as many as fit, where the
- * status is LITRS_LITERAL. */
+/* Writes the value of a string, a byte string or a C string, as many bytes as fit, if the status is
+ * LITRS_LITERAL. */
 litrs_written litrs_value(const uint8_t *text, size_t len, uint8_t *room, size_t room_len);
 
 /* Writes the double, or the float, nearest to an integer or a float to value, and returns the
@@ -222,11 +222,11 @@ litrs_written litrs_value(const uint8_t *text, size_t len, uint8_t *room, size_t
 uint32_t litrs_f64(const uint8_t *text, size_t len, double *value);
 uint32_t litrs_f32(const uint8_t *text, size_t len, float *value);
 
-/* Writes the message on a refused text, as much as fits, where the status is LITRS_REFUSED. It is
- * ASCII, and has no closing zero. No memory is asked for on a refused text. */
+/* Writes the message of the error, as much as fits, if the status is LITRS_REFUSED. It is ASCII,
+ * has no closing zero, and needs no memory. */
 litrs_written litrs_message(const uint8_t *text, size_t len, uint8_t *room, size_t room_len);
 
-/* Whether the text, or the text with some text appended, is a literal. */
+/* Returns true if the text, or the text with some text appended, is a literal. */
 litrs_bool litrs_goes_on(const uint8_t *text, size_t len);
 
 /* Returns true if the text is UTF-8, and sets the cursor to its start. Otherwise sets it to the
@@ -235,17 +235,17 @@ litrs_bool litrs_check(const uint8_t *text, size_t len, litrs_cursor *cursor);
 
 /* Writes the token at the place of the cursor to token, moves the cursor to its end, and returns
  * true. Returns false, and writes nothing, at the end of the text, and if the place is past it or
- * inside a character. No memory is asked for. */
+ * inside a character. It needs no memory. */
 litrs_bool litrs_next_token(litrs_cursor *cursor, litrs_token *token);
 
-/* The same as litrs_parse_prefix_into of the text from the place of the cursor on, without a check
- * that it is UTF-8. If the place is past the text or inside a character, no literal opens there. */
+/* Like litrs_parse_prefix_into of the text from the place of the cursor on, but does not check that
+ * it is UTF-8. No literal begins at a place that is past the text or inside a character. */
 size_t litrs_parse_prefix_at(const litrs_cursor *cursor, litrs_answer *answer);
 
-/* Writes the literal that stands for a value, as much as fits, where the status is LITRS_LITERAL:
- * the string of a text, as "a\nb"; the byte string of bytes; the integer of value_low and 2^64
- * times value_high, in base ten. The suffix may be empty. The status is LITRS_REFUSED where no such
- * literal has the suffix, and LITRS_NOT_UTF8 where the text or the suffix is not UTF-8. */
+/* Writes the literal of a value, as much as fits, if the status is LITRS_LITERAL: the string of a
+ * text, for example "a\nb"; the byte string of bytes; the integer of value_low and 2^64 times
+ * value_high, in base ten. The suffix may be empty. The status is LITRS_REFUSED if no such literal
+ * has the suffix, and LITRS_NOT_UTF8 if the text or the suffix is not UTF-8. */
 litrs_written litrs_write_string(const uint8_t *value, size_t value_len, const uint8_t *suffix,
                                  size_t suffix_len, uint8_t *room, size_t room_len);
 litrs_written litrs_write_bytes(const uint8_t *value, size_t value_len, const uint8_t *suffix,
@@ -253,21 +253,21 @@ litrs_written litrs_write_bytes(const uint8_t *value, size_t value_len, const ui
 litrs_written litrs_write_integer(uint64_t value_low, uint64_t value_high, const uint8_t *suffix,
                                   size_t suffix_len, uint8_t *room, size_t room_len);
 
-/* The version of the library, and the names of the kinds of literals, of refusals and of tokens.
- * What stood in the static text before does not matter. The calls below give the text alone. */
+/* Write the version of the library, and the names of the kinds of literals, errors and tokens. The
+ * static text need not be set before. The calls below return the text alone. */
 void litrs_get_version(litrs_static_text *version);
 void litrs_get_kind_name(uint32_t kind, litrs_static_text *name);
 void litrs_get_error_name(uint32_t error, litrs_static_text *name);
 void litrs_get_token_kind_name(uint32_t kind, litrs_static_text *name);
 
-/* The version of the library, as LITRS_VERSION. */
+/* Returns the version of the library, as LITRS_VERSION. */
 LITRS_INLINE const char *litrs_version(void) {
     litrs_static_text version = {"", 1};
     litrs_get_version(&version);
     return version.text;
 }
 
-/* The name of a kind of literals: "Bool" of LITRS_BOOL, "CString" of LITRS_C_STRING. It is
+/* Returns the name of a kind of literals: "Bool" of LITRS_BOOL, "CString" of LITRS_C_STRING. It is
  * "Unknown" for a number that enum litrs_kind does not have. */
 LITRS_INLINE const char *litrs_kind_name(uint32_t kind) {
     litrs_static_text name = {"", 1};
@@ -275,16 +275,16 @@ LITRS_INLINE const char *litrs_kind_name(uint32_t kind) {
     return name.text;
 }
 
-/* The name of a kind of refusals: "InvalidDigit" of LITRS_ERROR_INVALID_DIGIT. It is "Unknown" for
- * a number that enum litrs_error does not have. */
+/* Returns the name of a kind of errors: "InvalidDigit" of LITRS_ERROR_INVALID_DIGIT. It is
+ * "Unknown" for a number that enum litrs_error does not have. */
 LITRS_INLINE const char *litrs_error_name(uint32_t error) {
     litrs_static_text name = {"", 1};
     litrs_get_error_name(error, &name);
     return name.text;
 }
 
-/* The name of a kind of tokens: "RawIdent" of LITRS_TOKEN_RAW_IDENT. It is "Unknown" too for a
- * number that enum litrs_token_kind does not have. */
+/* Returns the name of a kind of tokens: "RawIdent" of LITRS_TOKEN_RAW_IDENT. It is "Unknown" also
+ * for a number that enum litrs_token_kind does not have. */
 LITRS_INLINE const char *litrs_token_kind_name(uint32_t kind) {
     litrs_static_text name = {"", 1};
     litrs_get_token_kind_name(kind, &name);

@@ -1,4 +1,4 @@
-"""Rust literals, by the C library litrs.
+"""Rust literals and tokens, by the C library litrs.
 
     >>> import litrs
     >>> litrs.parse("0xFF_u8").value
@@ -79,7 +79,7 @@ _CALLS = {
 
 
 def _load():
-    """The calls of the library, by their names without `litrs_`."""
+    """Returns the calls of the library, by their names without `litrs_`."""
     installed = pathlib.Path(__file__).resolve().parents[2] / "lib/liblitrs.so.1"
     path = os.environ.get("LITRS_LIBRARY") or (installed if installed.exists() else installed.name)
     library, found = ctypes.CDLL(str(path)), {}
@@ -103,7 +103,7 @@ class Literal:
               string and a C string
     suffix    such as "u8", or ""
     base      of an integer: 2, 8, 10 or 16; else 0
-    is_raw    whether a string of one of the three kinds is raw
+    is_raw    True for a raw string of one of the three kinds
     main      the digits of an integer after its prefix, of a float before period and exponent
     fraction  the digits of a float after its period, or None if it has no period
     exponent  the exponent of a float, with its letter and sign
@@ -125,8 +125,8 @@ class ParseError(ValueError):
     kind      such as "InvalidDigit", which the header calls LITRS_ERROR_INVALID_DIGIT
     span      the start and the end of what is wrong, such as (2, 3), or None
     message   what is wrong, such as "input is empty"; a place in it counts bytes
-    is_final  whether no text that begins with this one is a literal
-    is_open   whether the text only lacks its closing quote and hashes
+    is_final  True if no text that begins with this one is a literal
+    is_open   True if the text only lacks its closing quote and hashes
     length    the length of the malformed literal, which for `parse` is that of the text
 
     It can be copied and pickled, also as a subclass with another constructor.
@@ -162,7 +162,7 @@ class Token:
     text       the text of the token: a str if the source is one, and otherwise bytes
     start      where it starts in the source
     end        where it ends
-    is_trivia  whether it is white space or a comment
+    is_trivia  True for white space and for comments of all kinds
     doc_style  "Inner" if it is a comment like //! that documents the item around it, "Outer" if it
                is one like /// that documents the next item; else None
     """
@@ -307,7 +307,7 @@ def _bytes(data, what, kinds):
 
 
 def _index(text, data, place):
-    """A place of the bytes as an index into the text."""
+    """Returns a place of the bytes as an index into the text."""
     return len(data[:place].decode()) if isinstance(text, str) else place
 
 
@@ -362,7 +362,7 @@ def _value(kind, data, fields, digits):
 
 
 def _float(data):
-    """The float nearest to a number."""
+    """Returns the float nearest to a number."""
     value = ctypes.c_double()
     if _calls["f64"](data, len(data), value) == _OUT_OF_MEMORY:
         raise MemoryError
@@ -370,7 +370,7 @@ def _float(data):
 
 
 def _integer(digits, base):
-    """The value of digits. Those of base ten are read by halves: int() takes at least 640."""
+    """Returns the value of digits, in base ten by halves: int() may take no more than 640."""
     if base != 10 or len(digits) <= 640:
         return int(digits, base)
     half = len(digits) // 2

@@ -27,7 +27,7 @@ pub struct Cursor<'a> {
 pub struct TokenFields {
     /// `enum litrs_token_kind`.
     pub kind: u32,
-    /// `enum litrs_doc_style`, by which a comment documents something.
+    /// What the token documents: `enum litrs_doc_style`.
     pub doc_style: u32,
     /// `true` for white space and comments.
     pub is_trivia: bool,
@@ -93,7 +93,8 @@ pub extern "C" fn litrs_next_token(cursor: &mut Cursor<'_>, token: &mut TokenFie
     }
 }
 
-/// Returns the tokens from the place of `cursor` on, or `None` if no character begins there.
+/// Returns the tokens from the place of `cursor` on, or `None` if the place is past the text or
+/// inside a character.
 #[inline(always)]
 pub(crate) fn tokens_at<'a>(cursor: &Cursor<'a>) -> Option<Tokens<'a>>
     ensures source { IfSome result (λ left. left.source.now ≡ cursor.now.text.now) }

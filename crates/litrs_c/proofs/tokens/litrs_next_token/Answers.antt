@@ -1,4 +1,4 @@
-use Rattle.std.proofs.Common.{◌≡◌, sym, ◌∙◌}
+use Rattle.std.proofs.Common.{sym, ◌∙◌}
 use Rattle.litrs_c.proofs.TokenPlaces.{ends_text, end_found, token_at}
 use Rattle.litrs_c.proofs.tokens.litrs_next_token.Goals as goal
 
