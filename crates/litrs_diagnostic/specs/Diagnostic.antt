@@ -1,4 +1,4 @@
--- All that is written of a message on a range of a text.
+-- The text of a message on a range of a text.
 use Rattle.std.specs.Prelude.{ℕ, Bool, ◌||◌, ◌+◌, ◌-◌, List, [], ◌∷◌, ◌++◌, length, take, drop, replicate, max, nat_lt, codes, slice_range, if◌then◌else◌}
 use Rattle.std.specs.Fmt.{decimal}
 use Rattle.std.specs.Str.{chars}
@@ -14,20 +14,20 @@ use Rattle.litrs_diagnostic.specs.Window.{Window, fitted}
 abbrev pub blanks : ℕ → List ℕ
 blanks n = replicate n blank
 
--- LF
+-- An LF.
 abbrev pub line_feed : List ℕ
 line_feed = 10 ∷ []
 
--- The carets under a marked text: as many as it has columns, but at least one.
+-- The carets below a marked text: as many as it has columns, and at least one.
 abbrev pub carets : List ℕ → List ℕ
 carets marked = replicate (max 1 (columns (shown marked))) caret
 
--- `...` in place of the rest of a line
+-- `...` in place of the rest of a line that is cut.
 abbrev pub dots : (is_cut : Bool) → List ℕ
 dots is_cut = if is_cut then codes "..." else []
 
--- What is shown of a line, after its number in a margin of this width; and below it blanks as wide
--- as what is shown before what is marked, and carets as wide as what is shown of that.
+-- A line after its number in a margin of the width `margin`. Below it there are spaces, as wide as
+-- the text before the marked part is shown, and carets below the marked part.
 unfoldable pub line_text : (margin number : ℕ) → Window → List ℕ
 line_text margin number line =
     let start = dots line.is_cut_before in
@@ -37,12 +37,13 @@ line_text margin number line =
     ++ (blanks (length start) ++ (blanks (columns (shown line.before))
     ++ (carets line.marked ++ line_feed)))))))))))))
 
--- `...` where there are lines between those of these numbers
+-- `...` if there are lines between those with the numbers `first` and `last`.
 abbrev pub gap_text : (first last : ℕ) → List ℕ
 gap_text first last = if nat_lt (first + 1) last then codes "...\n" else []
 
--- The lines that are shown: that on which the range begins, and, where it ends on a later one, that
--- one, after `...` where there are lines between them. Of each no more than so many columns.
+-- The lines that are shown: the one on which the range begins, and the one on which it ends, if
+-- that is a later one, after `...` if there are lines between them. Each has at most `width`
+-- columns.
 unfoldable pub lines_text : (margin first_line width : ℕ) (before range after : List ℕ) → List ℕ
 lines_text margin first_line width before range after =
     let first = line_number first_line before in
@@ -52,8 +53,8 @@ lines_text margin first_line width before range after =
     then gap_text first last ++ line_text margin last (fitted width (end_line range after))
     else [])
 
--- The message, the place of the range's start, and the lines. The margin is as wide as the greatest
--- number in it.
+-- The message, the place of the start of the range, and the lines. The margin is as wide as the
+-- greatest number in it.
 unfoldable pub message_text : (first_line first_column width : ℕ)
     (name message before range after : List ℕ) → List ℕ
 message_text first_line first_column width name message before range after =
@@ -65,20 +66,21 @@ message_text first_line first_column width name message before range after =
     ++ (blanks margin ++ (codes " |\n"
     ++ lines_text margin first_line width before range after))))))))))))
 
--- The characters that are written of a message on the bytes from start to end of the source, whose
--- first character has this line and this column.
+-- The characters of a message on the bytes from `start` up to `end` of `source`, whose first
+-- character is at `first_line` and `first_column`.
 unfoldable pub diagnostic_text : (name message source : List ℕ)
     (first_line first_column width start end : ℕ) → List ℕ
 diagnostic_text name message source first_line first_column width start end =
     message_text first_line first_column width (chars name) (chars message)
     (chars (take start source)) (chars (slice_range source start end)) (chars (drop end source))
 
--- Those that are written of the refusal of a text: its kind, on what is to be marked of the text.
+-- The characters of the message on the refusal of a text: its kind, on the part of the text to
+-- mark.
 abbrev pub refusal_text : (name text : List ℕ) → ParseError → (width : ℕ) → List ℕ
 refusal_text name text e width =
     let span = marked_span (chars text) e in
     diagnostic_text name (kind_text (kind_of e)) text 1 1 width span.start span.end
 
--- an LF or a printable character: nothing else is written
+-- `true` iff the character is an LF or printable. No other character is written.
 abbrev pub is_line_feed_or_printable : ℕ → Bool
 is_line_feed_or_printable c = is_line_feed c || is_printable c

@@ -1,16 +1,16 @@
 -- lines and columns
 pub mod Position
--- which characters are shown as they are
+-- printable characters
 pub mod Printable
--- what is shown of a text, and how wide it is
+-- texts as they are shown, and their widths
 pub mod Shown
 -- the lines that a range marks
 pub mod Line
--- what is shown of a line
+-- the part of a line that is shown
 pub mod Window
 -- the lines and windows of the program
 pub mod Rows
--- all that is written
+-- messages
 pub mod Diagnostic
 -- The words of the contracts, so that users name this crate alone
 pub use Rattle.litrs_base.specs.CharEnd

@@ -3,28 +3,28 @@ use Rattle.std.specs.Prelude.{ℕ, ◌==◌, ◌&&◌, ◌||◌, Bool, false, Li
 use Rattle.litrs_base.specs.Text.{first_passes}
 use Rattle.litrs_diagnostic.specs.Position.{is_line_feed, last_line}
 
--- CR
+-- `true` iff the character is CR.
 abbrev pub is_carriage_return : ℕ → Bool
 is_carriage_return c = c == 13
 
--- an LF stands first, or a CR and an LF
+-- `true` iff the text starts with an LF, or with a CR and an LF.
 abbrev pub ends_line : List ℕ → Bool
 ends_line [] = false
 ends_line (c ∷ t) = is_line_feed c || (is_carriage_return c && first_passes is_line_feed t)
 
--- the characters before the first LF, or CR and LF; all of them where there is none
+-- The characters before the first LF, or CR and LF, or all characters if there is none.
 unfoldable pub first_line : List ℕ → List ℕ
 first_line [] = []
 first_line (c ∷ t) = if ends_line (c ∷ t) then [] else c ∷ first_line t
 
--- A line that is cut at both ends of what is marked in it.
+-- A line that is cut at both ends of the marked part.
 pub record Line : Type 0 where
   pub before : List ℕ
   pub marked : List ℕ
   pub after : List ℕ
 
--- The line on which a range begins, of a text that is cut into what is before, in and after it. A
--- range that goes on in the next line marks all of this one from its start.
+-- The line on which a range begins, in a text that is cut into the parts before, in and after the
+-- range. If the range continues in the next line, the rest of this line is marked.
 unfoldable pub start_line : (before range after : List ℕ) → Line
 start_line before range after =
     let rest = first_line (range ++ after) in
@@ -34,7 +34,7 @@ start_line before range after =
       after = drop (length range) rest;
     }
 
--- The line on which a range ends that began on one before it. It is marked from its start.
+-- The line on which a range ends that begins on an earlier line. It is marked from its start.
 unfoldable pub end_line : (range after : List ℕ) → Line
 end_line range after =
     let mark = last_line range in

@@ -1,11 +1,11 @@
--- What is shown of a text, and how wide it is.
+-- Texts as they are shown, and their widths.
 use Rattle.std.specs.Prelude.{ℕ, ◌==◌, List, [], ◌∷◌, unwrap_or, false, replicate, if◌then◌else◌}
 use Rattle.std.specs.List.{flat_map, sum_by}
 use Rattle.std.specs.Char.Escape.{escape_unicode}
 use Rattle.unicode_width.specs.Width.{char_width}
 use Rattle.litrs_diagnostic.specs.Printable.{is_printable}
 
--- a blank, a tab and a caret
+-- A space, a tab and a caret.
 abbrev pub blank : ℕ
 blank = 32
 
@@ -20,11 +20,11 @@ unfoldable pub shown_char : ℕ → List ℕ
 shown_char c =
     if c == tab then replicate 4 blank else if is_printable c then c ∷ [] else escape_unicode c
 
--- what is shown of each character in turn
+-- A text as it is shown, character by character.
 abbrev pub shown : List ℕ → List ℕ
 shown t = flat_map shown_char t
 
--- how many columns a terminal gives to a character that is shown, by Unicode's East Asian Width
+-- The number of columns of a character in a terminal, by Unicode's East Asian Width.
 abbrev pub char_columns : ℕ → ℕ
 char_columns c = unwrap_or (char_width false c) 0
 

@@ -1,9 +1,9 @@
--- What is shown of a line that has more columns than a given width.
+-- The part of a line that is shown in a given width.
 use Rattle.std.specs.Prelude.{ℕ, ◌-◌, ◌/◌, Bool, true, nat_le, nat_lt, List, [], ◌∷◌, length, reverse, max, if◌then◌else◌}
 use Rattle.litrs_diagnostic.specs.Shown.{shown, shown_char, columns}
 use Rattle.litrs_diagnostic.specs.Line.{Line}
 
--- the longest prefix that is shown in so many columns
+-- The longest prefix that is shown in `width` columns.
 unfoldable pub prefix_within : (width : ℕ) → List ℕ → List ℕ
 prefix_within width [] = []
 prefix_within width (c ∷ t) =
@@ -11,14 +11,14 @@ prefix_within width (c ∷ t) =
     then c ∷ prefix_within (width - columns (shown_char c)) t
     else []
 
--- the longest suffix that is
+-- The longest suffix that is shown in `width` columns.
 abbrev pub suffix_within : (width : ℕ) → List ℕ → List ℕ
 suffix_within width t = reverse (prefix_within width (reverse t))
 
 abbrev pub is_shorter : (part whole : List ℕ) → Bool
 is_shorter part whole = nat_lt (length part) (length whole)
 
--- The part of a line that is shown, and at which of its ends the line goes on.
+-- The part of a line that is shown, and the ends at which the line is cut.
 pub record Window : Type 0 where
   pub before : List ℕ
   pub marked : List ℕ
@@ -26,7 +26,7 @@ pub record Window : Type 0 where
   pub is_cut_before : Bool
   pub is_cut_after : Bool
 
--- where not even what is marked is shown whole: as much of that as is
+-- The part that is shown if the marked part does not fit.
 abbrev pub marked_window : (marked : List ℕ) → Line → Window
 marked_window marked line = record {
   before = [];
@@ -36,8 +36,9 @@ marked_window marked line = record {
   is_cut_after = true;
 }
 
--- All of what is marked. Of the other columns, what is before it takes half, or more where what is
--- after it leaves more, and what is after it those that are left.
+-- The part that is shown if the marked part fits. The text before it takes half of the other
+-- columns, or more if the text after it leaves more, and the text after it takes those that are
+-- left.
 abbrev pub wide_window : (rest : ℕ) → Line → Window
 wide_window rest line =
     let spare = rest - columns (shown (prefix_within rest line.after)) in
@@ -51,7 +52,7 @@ wide_window rest line =
       is_cut_after = is_shorter after line.after;
     }
 
--- What is shown of a line in so many columns: all of it where it has no more.
+-- The part of a line that is shown in `width` columns: all of it if it has at most as many.
 unfoldable pub fitted : (width : ℕ) → Line → Window
 fitted width line =
     let marked = prefix_within width line.marked in

@@ -5,7 +5,7 @@
 //! use litrs_diagnostic::{Diagnostic, shown};
 //! use std::alloc::{AllocError, Global};
 //!
-//! /// What is said of the first tab of a text, if there is one.
+//! /// Returns the message on the first tab of `source`, if there is one.
 //! fn refused_tab(alloc: Global, source: &str) -> Result<Option<String>, AllocError> {
 //!     match source.find('\t') {
 //!         Some(start) => {
@@ -24,7 +24,7 @@
 //! }
 //! ```
 //!
-//! Of two lines, the second `min`, a tab and `= 1`, it is
+//! For two lines, of which the second is `min`, a tab and `= 1`, it returns
 //!
 //! ```text
 //! error: a tab
@@ -34,11 +34,11 @@
 //!   |    ^^^^
 //! ```
 //!
-//! Nothing is written but LFs and printable characters: of the source, the name and the message a
-//! tab is shown as four blanks, and any other character that is not printable by its number, as
-//! `\u{202e}`. Of a line that has more columns than a given width the part around the range is
-//! shown, and `...` in place of the rest. The source is read up to the end of the last line that is
-//! shown. [`shown_refusal`] shows the refusal of a text by a parse.
+//! Only LFs and printable characters are written. In the source, the name and the message a tab is
+//! shown as four spaces, and every other character that is not printable by its number, for example
+//! `\u{202e}`. If a line has more columns than the width, the part around the range is shown, and
+//! `...` in place of the rest. The source is read up to the end of the last line that is shown.
+//! [`shown_refusal`] shows the error of a parse.
 #![tactic(auto)]
 
 ghost use Rattle.std.specs.Prelude.{◌≡◌, IfOk, IsTrue, string_bytes};
@@ -60,11 +60,11 @@ pub use places::{LineColumn, position};
 pub use refusal::shown_refusal;
 use std::alloc::{AllocError, Global};
 
-/// What is written of a diagnostic, in lines that each end with LF.
+/// Returns the lines of `diagnostic`, each with an LF at its end.
 ///
 /// # Errors
 ///
-/// Where there is no memory for the text.
+/// Returns `AllocError` if an allocation fails.
 pub fn shown(alloc: Global, diagnostic: &Diagnostic) -> Result<String, AllocError>
     ensures text { IfOk result (λ written. chars (string_bytes written) ≡ diagnostic_text
         diagnostic.now.name.now diagnostic.now.message.now diagnostic.now.source.now

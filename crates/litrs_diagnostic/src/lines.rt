@@ -6,7 +6,7 @@ ghost use Rattle.litrs_diagnostic.specs.Rows.{line_of};
 
 use crate::places::last_line;
 
-/// A line, cut at both ends of what is marked.
+/// A line, cut at both ends of the marked part.
 #[derive(Clone, Copy)]
 pub(crate) struct Line<'a> {
     pub(crate) before: &'a str,
@@ -14,7 +14,7 @@ pub(crate) struct Line<'a> {
     pub(crate) after: &'a str,
 }
 
-/// The line on which a range begins.
+/// Returns the line on which a range begins.
 pub(crate) fn start_line(source: &str, start: usize, end: usize) -> Line<'_>
     requires start { IsCharBoundary source.now start }
     requires end { IsCharBoundary source.now end }
@@ -31,7 +31,7 @@ pub(crate) fn start_line(source: &str, start: usize, end: usize) -> Line<'_>
     }
 }
 
-/// The line on which a range ends, of one that began on a line before it.
+/// Returns the line on which a range ends that begins on an earlier line.
 pub(crate) fn end_line(source: &str, start: usize, end: usize) -> Line<'_>
     requires start { IsCharBoundary source.now start }
     requires end { IsCharBoundary source.now end }
@@ -49,7 +49,7 @@ pub(crate) fn end_line(source: &str, start: usize, end: usize) -> Line<'_>
     }
 }
 
-/// The text up to its first LF, or CR and LF.
+/// Returns `text` up to its first LF, or CR and LF.
 fn first_line(text: &str) -> &str
     ensures line { chars result.now ≡ first_line (chars text.now) }
     ensures front { (rest : List ℕ) × (text.now ≡ result.now ++ rest) }
@@ -60,8 +60,8 @@ fn first_line(text: &str) -> &str
     }
 }
 
-/// The first line of a text, cut after as many characters as its first `len` bytes have, or at its
-/// end where it has fewer.
+/// Returns the first line of `text`, cut after its first `len` bytes, or at its end if it has
+/// fewer.
 fn cut_first_line(text: &str, len: usize) -> (&str, &str)
     requires { IsCharBoundary text.now len }
     ensures marked { chars result.0.now

@@ -1,4 +1,4 @@
-//! What is shown of a text, and what is written below it.
+//! Texts as they are shown, and the marks below them.
 ghost use Rattle.std.specs.Prelude.{◌≡◌, replicate};
 ghost use Rattle.std.specs.Fmt.{WritesOnOk};
 ghost use Rattle.std.specs.Str.{chars, encode_utf8_all};
@@ -9,10 +9,10 @@ use crate::printable::is_printable;
 use std::fmt;
 use unicode_width::UnicodeWidthChar;
 
-/// So many blanks stand in place of a tab.
+/// The number of spaces in place of a tab.
 const TAB_WIDTH: usize = 4;
 
-/// What is shown of a text.
+/// A text as it is shown.
 #[derive(Clone, Copy)]
 pub(crate) struct Shown<'a>(pub(crate) &'a str);
 
@@ -26,7 +26,7 @@ impl fmt::Display for Shown<'_> {
     }
 }
 
-/// So many blanks.
+/// A number of spaces.
 #[derive(Clone, Copy)]
 pub(crate) struct Blanks(pub(crate) usize);
 
@@ -40,7 +40,7 @@ impl fmt::Display for Blanks {
     }
 }
 
-/// Blanks as wide as a text is shown.
+/// Spaces as wide as a text is shown.
 #[derive(Clone, Copy)]
 pub(crate) struct Below<'a>(pub(crate) &'a str);
 
@@ -69,7 +69,7 @@ impl fmt::Display for Carets<'_> {
     }
 }
 
-/// Writes what is shown of a text.
+/// Writes `text` as it is shown.
 fn write_text<W: fmt::Write>(f: &mut fmt::Formatter<W>, text: &str) -> fmt::Result
     ensures { WritesOnOk W.write_str_gives f.old result
         (encode_utf8_all (shown (chars text.now))) f.new }
@@ -80,7 +80,7 @@ fn write_text<W: fmt::Write>(f: &mut fmt::Formatter<W>, text: &str) -> fmt::Resu
     Ok(())
 }
 
-/// Writes the carets under a text.
+/// Writes the carets below `text`.
 fn write_carets<W: fmt::Write>(f: &mut fmt::Formatter<W>, text: &str) -> fmt::Result
     ensures { WritesOnOk W.write_str_gives f.old result
         (encode_utf8_all (carets (chars text.now))) f.new }
@@ -92,7 +92,7 @@ fn write_carets<W: fmt::Write>(f: &mut fmt::Formatter<W>, text: &str) -> fmt::Re
     }
 }
 
-/// Writes what is shown of a character.
+/// Writes `c` as it is shown.
 fn write_shown<W: fmt::Write>(f: &mut fmt::Formatter<W>, c: char) -> fmt::Result
     ensures { WritesOnOk W.write_str_gives f.old result (encode_utf8_all (shown_char c)) f.new }
 {
@@ -108,7 +108,7 @@ fn write_shown<W: fmt::Write>(f: &mut fmt::Formatter<W>, c: char) -> fmt::Result
     Ok(())
 }
 
-/// How many columns wide a character is shown.
+/// Returns the number of columns in which `c` is shown.
 pub(crate) fn shown_width(c: char) -> usize
     ensures { result ≡ columns (shown_char c) }
 {
@@ -121,7 +121,7 @@ pub(crate) fn shown_width(c: char) -> usize
     c.escape_unicode().count()
 }
 
-/// Writes the mark so many times as a text is columns wide.
+/// Writes `mark` once for each column of `text`.
 fn write_below<W: fmt::Write>(f: &mut fmt::Formatter<W>, text: &str, mark: char) -> fmt::Result
     ensures { WritesOnOk W.write_str_gives f.old result
         (encode_utf8_all (replicate (columns (shown (chars text.now))) mark)) f.new }
@@ -132,7 +132,7 @@ fn write_below<W: fmt::Write>(f: &mut fmt::Formatter<W>, text: &str, mark: char)
     Ok(())
 }
 
-/// Writes a character so many times.
+/// Writes `c` `count` times.
 fn write_times<W: fmt::Write>(f: &mut fmt::Formatter<W>, c: char, count: usize) -> fmt::Result
     ensures { WritesOnOk W.write_str_gives f.old result
         (encode_utf8_all (replicate count c)) f.new }

@@ -12,37 +12,36 @@ use std::fmt;
 
 /// A message on a range of a text.
 ///
-/// The range is in bytes, and begins and ends on character boundaries of the text; it may be empty,
-/// and at the end of the text. It is shown by `Display`, or by [`shown`](crate::shown): the line on
-/// which it begins, and, where it ends on a later one, that line too, each with carets below what
-/// the line has of the range, at least one. A CR before the LF of a line is not shown, unless the
-/// range begins between them. Of a line that has more columns than `width` the range is shown
-/// first, as far as it has room, and then what is around it.
+/// The range is in bytes, and starts and ends on character boundaries of the text. It may be empty,
+/// and at the end of the text. `Display` and [`shown`](crate::shown) write the line on which it
+/// begins. If it ends on a later line, they write that line too. Below the part of the range in
+/// each line there are carets, at least one. A CR before the LF of a line is not shown, unless the
+/// range begins between them. If a line has more columns than `width`, the range comes first, if it
+/// fits, and then the text around it.
 #[derive(Clone, Copy, Debug)]
 pub struct Diagnostic<'a> {
-    /// What the text is called, as by the path of its file.
+    /// The name of the text, for example the path of its file.
     pub name: &'a str,
     /// The text.
     pub source: &'a str,
-    /// Where the range begins in the text, in bytes.
+    /// The start of the range, in bytes.
     pub start: usize,
-    /// Where it ends.
+    /// The end of the range, in bytes.
     pub end: usize,
-    /// The number of the text's first line: 1, but where the text is taken out of a longer one.
+    /// The number of the first line of the text: 1, unless the text is a part of a longer one.
     pub first_line: u32,
-    /// The column of its first character: 1, but where the text is taken out of the midst of a
-    /// line.
+    /// The column of the first character: 1, unless the text starts inside a line of a longer one.
     pub first_column: u32,
-    /// What there is to say of the range.
+    /// The message on the range.
     pub message: &'a str,
-    /// How many columns of a line are shown at most, besides its number and the `...` in place of
-    /// the rest: of rustc, 140 where it does not know how wide its terminal is.
+    /// The greatest number of columns of a line that are shown, without its number and the `...` in
+    /// place of the rest. rustc uses 140 if it does not know the width of its terminal.
     pub width: usize,
-    /// The range begins on a character boundary of the text.
+    /// The start is a character boundary of the text.
     pub ghost start_cuts: { IsCharBoundary source.now start },
-    /// The range ends on one.
+    /// The end is a character boundary of the text.
     pub ghost end_cuts: { IsCharBoundary source.now end },
-    /// The range does not run backwards.
+    /// The start is at most the end.
     pub ghost in_order: { start ≤ end },
 }
 
@@ -88,7 +87,7 @@ impl fmt::Display for Diagnostic<'_> {
     }
 }
 
-/// What is written between the lines of these numbers.
+/// Returns the text between the lines with the numbers `first` and `last`.
 fn gap(first: usize, last: usize) -> &'static str
     ensures { result.now ≡ gap_text first last }
 {

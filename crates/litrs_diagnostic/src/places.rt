@@ -6,16 +6,17 @@ ghost use Rattle.litrs_diagnostic.specs.Position.{is_line_feed, last_line, line_
 /// A place in a text.
 #[derive(Clone, Copy, Debug, PartialEq, Eq)]
 pub struct LineColumn {
-    /// One more than the LFs before the place.
+    /// The line: one more than the number of LFs before the place.
     pub line: usize,
-    /// One more than the characters between the last LF before the place, or the start of the text,
-    /// and the place.
+    /// The column: one more than the number of characters between the last LF before the place, or
+    /// the start of the text, and the place.
     pub column: usize,
 }
 
-/// The line and the column of a place of the text, which is in bytes and on a character boundary.
+/// Returns the line and the column of the place `at` of `source`, which is in bytes and a character
+/// boundary.
 ///
-/// Lines end at LF alone, and columns count characters: in the text `é = 1`, LF, `ü = 0b12` the
+/// Lines end only at LF, and columns count characters. In the text `é = 1`, LF, `ü = 0b12` the
 /// place 15, before the `2`, is column 8 of line 2.
 pub fn position(source: &str, at: usize) -> LineColumn
     requires { IsCharBoundary source.now at }
@@ -31,7 +32,7 @@ pub fn position(source: &str, at: usize) -> LineColumn
     }
 }
 
-/// The same of a text whose first character has this line and this column.
+/// Like [`position`], for a text whose first character is at `first_line` and `first_column`.
 pub(crate) fn place_in(source: &str, at: usize, first_line: u32, first_column: u32) -> LineColumn
     requires { IsCharBoundary source.now at }
     ensures line { result.line ≡ line_number first_line (chars (take at source.now)) }
@@ -49,7 +50,7 @@ pub(crate) fn place_in(source: &str, at: usize, first_line: u32, first_column: u
     }
 }
 
-/// How many LFs a text has.
+/// Returns the number of LFs in `text`.
 pub(crate) fn line_feeds(text: &str) -> usize
     ensures value { result ≡ count_by is_line_feed (chars text.now) }
     ensures bound { result ≤ length text.now }
@@ -57,7 +58,7 @@ pub(crate) fn line_feeds(text: &str) -> usize
     text.chars().filter(|c| *c == '\n').count()
 }
 
-/// What follows the last LF of the text, or all of the text.
+/// Returns the part of `text` after its last LF, or all of it if there is none.
 pub(crate) fn last_line(text: &str) -> &str
     ensures line { chars result.now ≡ last_line (chars text.now) }
     ensures end { (front : List ℕ) × (text.now ≡ front ++ result.now) }

@@ -1,4 +1,4 @@
-//! What is wrong with a text.
+//! Messages on errors of parses.
 ghost use Rattle.std.specs.Prelude.{◌≡◌, IfOk, IfSome, IsTrue, string_bytes};
 ghost use Rattle.std.specs.List.{list_all};
 ghost use Rattle.std.specs.Str.{chars};
@@ -11,12 +11,12 @@ use crate::shown;
 use litrs_base::ParseError;
 use std::alloc::{AllocError, Global};
 
-/// What is written of the refusal of a text by a parse: what is wrong, and the lines that it marks
-/// in the text, where each has so many columns at most.
+/// Returns the message on `error`, the error of a parse of `text`, with the lines that it marks in
+/// `text`. At most `width` columns of each line are shown.
 ///
 /// # Errors
 ///
-/// Where there is no memory for the lines.
+/// Returns `AllocError` if an allocation fails.
 pub fn shown_refusal(
     alloc: Global,
     name: &str,

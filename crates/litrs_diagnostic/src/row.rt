@@ -1,4 +1,4 @@
-//! A line with its number, and what is below it.
+//! A line with its number, and the marks below it.
 ghost use Rattle.std.specs.Prelude.{◌≡◌, length};
 ghost use Rattle.std.specs.Fmt.{decimal};
 ghost use Rattle.std.specs.Str.{encode_utf8_all};
@@ -8,7 +8,7 @@ use crate::marks::{Below, Blanks, Carets, Shown};
 use crate::window::Window;
 use std::fmt;
 
-/// A line in lines of text that have a margin of this width before them.
+/// A line and the marks below it, with a margin before them.
 #[derive(Clone, Copy)]
 pub(crate) struct Row<'a> {
     pub(crate) margin: usize,
@@ -44,14 +44,14 @@ impl fmt::Display for Row<'_> {
     }
 }
 
-/// What is written in place of the rest of a line.
+/// Returns the text in place of the rest of a line.
 fn dots(is_cut: bool) -> &'static str
     ensures { result.now ≡ dots is_cut }
 {
     if is_cut { "..." } else { "" }
 }
 
-/// How many digits a number has.
+/// Returns the number of decimal digits of `number`.
 pub(crate) fn digit_count(number: usize) -> usize
     ensures { result ≡ length (decimal number) }
 {

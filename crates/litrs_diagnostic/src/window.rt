@@ -1,4 +1,4 @@
-//! What is shown of a line that has more columns than a given width.
+//! The part of a line that is shown in a given width.
 ghost use Rattle.std.specs.Prelude.{◌≡◌, ◌<◌, ◌≤◌, ◌-◌, ◌++◌, ◌∷◌, ◌⊎◌, [], IfSome, IfNone, List, ℕ, length};
 ghost use Rattle.std.specs.Char.{encode_utf8};
 ghost use Rattle.std.specs.Str.{chars, IsUtf8};
@@ -9,7 +9,7 @@ ghost use Rattle.litrs_diagnostic.specs.Rows.{line_of, window_of};
 use crate::lines::Line;
 use crate::marks::shown_width;
 
-/// The part of a line that is shown, and at which of its ends the line goes on.
+/// The part of a line that is shown, and the ends at which the line is cut.
 #[derive(Clone, Copy)]
 pub(crate) struct Window<'a> {
     pub(crate) before: &'a str,
@@ -19,7 +19,7 @@ pub(crate) struct Window<'a> {
     pub(crate) is_cut_after: bool,
 }
 
-/// What is shown of a line in so many columns.
+/// Returns the part of `line` that is shown in `width` columns.
 pub(crate) fn fitted(line: Line<'_>, width: usize) -> Window<'_>
     ensures { window_of result ≡ fitted width (line_of line.entry) }
 {
@@ -46,8 +46,8 @@ pub(crate) fn fitted(line: Line<'_>, width: usize) -> Window<'_>
     }
 }
 
-/// Whether a prefix or a suffix of a text has fewer characters than the text: where it has fewer
-/// bytes.
+/// Returns `true` if `part`, a prefix or a suffix of `text`, has fewer characters than `text`. It
+/// then has fewer bytes.
 fn is_shorter(part: &str, text: &str) -> bool
     requires { (rest : List ℕ)
         × ((text.now ≡ part.now ++ rest) ⊎ (text.now ≡ rest ++ part.now)) }
@@ -56,7 +56,8 @@ fn is_shorter(part: &str, text: &str) -> bool
     part.len() < text.len()
 }
 
-/// The longest prefix of the text that is shown in so many columns, and how many of them are left.
+/// Returns the longest prefix of `text` that is shown in `width` columns, and the number of columns
+/// that are left.
 fn prefix_within(text: &str, width: usize) -> (&str, usize)
     ensures cut { (rest : List ℕ) × (text.now ≡ result.0.now ++ rest) }
     ensures prefix { chars result.0.now ≡ prefix_within width (chars text.now) }
@@ -77,7 +78,8 @@ fn prefix_within(text: &str, width: usize) -> (&str, usize)
     (prefix, left)
 }
 
-/// The longest suffix of the text that is shown in so many columns, and how many of them are left.
+/// Returns the longest suffix of `text` that is shown in `width` columns, and the number of columns
+/// that are left.
 fn suffix_within(text: &str, width: usize) -> (&str, usize)
     ensures cut { (rest : List ℕ) × (text.now ≡ rest ++ result.0.now) }
     ensures suffix { chars result.0.now ≡ suffix_within width (chars text.now) }
@@ -98,7 +100,7 @@ fn suffix_within(text: &str, width: usize) -> (&str, usize)
     (suffix, left)
 }
 
-/// The first character of the text and what follows it, or None where there is none.
+/// Returns the first character of `text` and the text after it, or `None` if `text` is empty.
 fn split_first_char(text: &str) -> Option<(char, &str)>
     ensures empty { IfNone result (chars text.now ≡ []) }
     ensures parts { IfSome result (λ parts. chars text.now ≡ parts.0 ∷ chars parts.1.now) }
@@ -111,7 +113,7 @@ fn split_first_char(text: &str) -> Option<(char, &str)>
     Some((first, chars.as_str()))
 }
 
-/// What is before the last character of the text, and that, or None where there is none.
+/// Returns the last character of `text` after the text before it, or `None` if `text` is empty.
 fn split_last_char(text: &str) -> Option<(&str, char)>
     ensures empty { IfNone result (chars text.now ≡ []) }
     ensures parts { IfSome result (λ parts. chars text.now ≡ chars parts.0.now ++ parts.1 ∷ []) }

@@ -81,7 +81,7 @@ impl<const N: usize> Room<N> {
         ensures full { IsFalse result →
             (self.new ≡ self.old) × (N < length self.old + (end - start)) }
     {
-        // There are none between two escapes.
+        // There is no run between two escapes.
         if start == end {
             return true;
         }

@@ -8,22 +8,22 @@ use Rattle.litrs_grammar.specs.Literal.{IsLiteral, literal_parse}
 use Rattle.litrs_grammar.specs.Quoted.{without_last}
 use Rattle.litrs_grammar.specs.Refused.{IsRefused}
 
--- the text ends with LF
+-- The text ends with LF.
 abbrev pub EndsWithLineFeed : List ℕ → Type 0
 EndsWithLineFeed t = (line : List ℕ) × (line ++ line_feed ∷ [] ≡ t)
 
--- the new text is the old one with some text after it
+-- The new text is the old one with some text after it.
 abbrev pub Extends : List ℕ → List ℕ → Type 0
 Extends old new = (more : List ℕ) × IsUtf8 more × (new ≡ old ++ more)
 
--- Nothing is held, or lines that are no literal, with an LF after each. It is the LF after the last
--- that `without_last` takes off.
+-- Nothing is held, or lines that are not a literal, with an LF after each. `without_last` removes
+-- the LF after the last line.
 abbrev pub IsHeld : List ℕ → Type 0
 IsHeld held = (held ≡ [] → ⊥) →
     (without_last held ++ line_feed ∷ [] ≡ held)
     × HasNoDerivation (IsLiteral (chars (without_last held)))
 
--- the refusal of the lines that are held, without the LF after the last
+-- The refusal of the lines that are held, without the LF after the last.
 abbrev pub IsRefusalOfHeld : List ℕ → ParseError → Type 0
 IsRefusalOfHeld held e =
     (lines : List ℕ) × IsUtf8 lines × (lines ++ line_feed ∷ [] ≡ held)

@@ -1,8 +1,8 @@
--- what a collector holds
+-- the text that a collector holds
 pub mod Held
--- what it knows of that
+-- strings that are open at its end
 pub mod Open
--- what it answers
+-- steps
 pub mod Steps
 pub mod StepLaws
 -- the calls of any device
@@ -27,7 +27,7 @@ pub mod Reports
 pub mod ReportLaws
 -- groups and reports, from line to line
 pub mod Ended
--- how a run ends
+-- the end of a run
 pub mod Stopped
 pub mod Sent
 pub mod RunError

@@ -1,20 +1,20 @@
--- What an input over memory holds.
+-- Inputs over memory.
 use Rattle.std.specs.Prelude.{ℕ, List, Bool}
 use Rattle.litrs_lines.specs.declared.calls.Calls.{Calls}
 use Rattle.litrs_lines.specs.declared.mem_input.MemInput.{MemInput}
 
--- the bytes that are left
+-- The bytes that are left.
 abbrev pub left_of : MemInput → List ℕ
 left_of input = input.rest.now
 
--- how many bytes a call moves at most
+-- The greatest number of bytes that a call moves.
 abbrev pub piece_of : MemInput → ℕ
 piece_of input = input.piece
 
--- the calls that were made
+-- The calls that were made.
 abbrev pub calls_of : MemInput → Calls
 calls_of input = input.calls
 
--- a call has failed
+-- `true` iff a call has failed.
 abbrev pub failed_of : MemInput → Bool
 failed_of input = input.failed

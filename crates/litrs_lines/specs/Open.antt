@@ -12,15 +12,15 @@ use Rattle.litrs_lines.specs.declared.collector.body.Body.TheVariants.{Quoted, C
 use Rattle.litrs_lines.specs.declared.collector.body.Open.{Open}
 use Rattle.litrs_lines.specs.Steps.{BeginsByLine, IsUnfinished}
 
--- Up to the place the text is the front of the kind and items of a quoted body, which are taken
--- before what follows.
+-- Up to the place the text is the front of the kind and items of a quoted body, which belong to the
+-- list before the rest.
 pub record IsQuotedTo (kind : StringKind) (place : ℕ) (bytes : List ℕ) : Type 0 where
   pub boundary : IsCharBoundary bytes place
   pub items : List Item
   pub spells : quoted_front kind ++ body_text items ≡ chars (take place bytes)
   pub taken : IsTrue (is_item_list (switches_of kind) (chars (drop place bytes)) items)
 
--- Up to the place it is the front, items, and a continuation so far.
+-- Up to the place the text is the front, items, and the start of a continuation.
 pub record IsContinuedTo (kind : StringKind) (place : ℕ) (bytes : List ℕ) : Type 0 where
   pub boundary : IsCharBoundary bytes place
   pub items : List Item
@@ -31,8 +31,8 @@ pub record IsContinuedTo (kind : StringKind) (place : ℕ) (bytes : List ℕ) : 
   pub taken : IsTrue (is_item_list (switches_of kind) (backslash ∷ line_feed ∷ blanks) items)
   pub blank : IsTrue (list_all is_blank blanks)
 
--- Up to the place it is the front, n hashes, the opening quote, and characters that may stand in a
--- raw body, in which no closing stands, nor one that goes on after them.
+-- Up to the place the text is the front, `n` hashes, the opening quote, and characters that are
+-- allowed in a raw body. No closing begins in them.
 pub record IsRawTo (kind : StringKind) (n place : ℕ) (bytes : List ℕ) : Type 0 where
   pub boundary : IsCharBoundary bytes place
   pub few : n ≤ 255
@@ -42,23 +42,23 @@ pub record IsRawTo (kind : StringKind) (n place : ℕ) (bytes : List ℕ) : Type
   pub unclosed : (more : List ℕ) → IsFalse (occurs (raw_closing n) more) →
       IsFalse (occurs (raw_closing n) (body ++ more))
 
--- the same of one of the three
+-- The text up to the place, for each of the three bodies.
 abbrev pub IsBodyTo : Body → StringKind → ℕ → List ℕ → Type 0
 IsBodyTo Quoted kind = IsQuotedTo kind
 IsBodyTo Continuation kind = IsContinuedTo kind
 IsBodyTo (Raw n) kind = IsRawTo kind n
 
--- the text begins this string, which has been read up to its place
+-- The text begins this string, which is read up to its place.
 abbrev pub IsOpen : List ℕ → Open → Type 0
 IsOpen bytes string = IsBodyTo string.body string.kind string.place bytes
 
--- where something is known of the text, it begins this string
+-- The text begins the known string, if there is one.
 abbrev pub IsKnown : List ℕ → Option Open → Type 0
 IsKnown bytes None = Unit {0}
 IsKnown bytes (Some string) = IsOpen bytes string
 
--- The text is unfinished, and with an LF after it begins this string; or with an LF after it, it
--- begins no literal.
+-- The text is unfinished, and with an LF after it begins this string; or there is no string, and the
+-- text with an LF after it does not begin a literal.
 abbrev pub IsAfter : List ℕ → Option Open → Type 0
 IsAfter t (Some string) = IsUnfinished t × IsOpen (t ++ line_feed ∷ []) string
 IsAfter t None = BeginsByLine t → ⊥

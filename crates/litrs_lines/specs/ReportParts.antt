@@ -5,12 +5,12 @@ use Rattle.litrs_grammar.specs.Literal.{StringParts, string_suffix, string_value
 use Rattle.litrs_grammar.specs.Strings.{is_raw}
 use Rattle.litrs_lines.specs.Report.{raw_field, string_front, literal_report}
 
--- a string up to its value
+-- The report on a string up to its value.
 abbrev pub front_of_string : (name : List ℕ) → StringParts → List ℕ
 front_of_string name d =
     string_front name (raw_field (is_raw d)) (encode_utf8_all (string_suffix d))
 
--- the report on a literal, of a string up to its value
+-- The report on a literal, for a string up to its value.
 abbrev pub literal_front : Derivation → List ℕ
 literal_front (a_bool b) = literal_report (a_bool b)
 literal_front (an_integer d) = literal_report (an_integer d)
@@ -21,7 +21,7 @@ literal_front (a_string d) = front_of_string (codes "string") d
 literal_front (a_byte_string d) = front_of_string (codes "bytestring") d
 literal_front (a_c_string d) = front_of_string (codes "cstring") d
 
--- the bytes that follow in hex: the value of a string
+-- The bytes that follow in hex: the value of a string.
 abbrev pub hex_value : Derivation → List ℕ
 hex_value (a_bool b) = []
 hex_value (an_integer d) = []

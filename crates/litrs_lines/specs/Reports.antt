@@ -5,19 +5,19 @@ use Rattle.litrs_base.specs.Characters.{line_feed}
 use Rattle.litrs_lines.specs.Groups.{joined, AreGroups}
 use Rattle.litrs_lines.specs.Report.{IsReport}
 
--- out is a report on each text, with an LF after it; a text may be a line that is none
+-- `out` has a report on each text, with an LF after it. A text may be a line that is not UTF-8.
 abbrev pub AreReports : List (List ℕ) → List ℕ → Type 0
 AreReports [] out = out ≡ []
 AreReports (text ∷ texts) out =
     (r : List ℕ) × (rest : List ℕ) × IsReport text r × AreReports texts rest
     × (out ≡ (r ++ line_feed ∷ []) ++ rest)
 
--- out is a report on each group of the lines, joined by LF
+-- `out` has a report on each group of the lines, joined by LF.
 abbrev pub AreGroupReports : List (List ℕ) → List ℕ → Type 0
 AreGroupReports lines out =
     (groups : List (List (List ℕ))) × AreGroups groups lines × AreReports (map joined groups) out
 
--- the reports on the groups of these lines were appended to known bytes
+-- The reports on the groups of these lines were appended to known bytes.
 pub record AppendsReports (lines : List (List ℕ)) (old new : Option (List ℕ)) : Type 0 where
   pub out : List ℕ
   pub reports : AreGroupReports lines out

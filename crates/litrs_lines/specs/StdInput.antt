@@ -1,15 +1,15 @@
--- What an input over a reader holds.
+-- Inputs over readers.
 use Rattle.std.specs.Prelude.{Bool, false}
 use Rattle.litrs_lines.specs.declared.std_input.StdInput.{StdInput}
 
--- nothing has failed yet
+-- An input of which no call has failed.
 abbrev pub unfailed_input : {R : Type 0} → R → StdInput R
 unfailed_input reader = record { reader = reader; failed = false }
 
--- the reader as it is now
+-- The reader in its current state.
 abbrev pub reader_of : {R : Type 0} → StdInput R → R
 reader_of input = input.reader
 
--- a call has failed
+-- `true` iff a call has failed.
 abbrev pub failed_of : {R : Type 0} → StdInput R → Bool
 failed_of input = input.failed

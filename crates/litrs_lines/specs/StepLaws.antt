@@ -1,4 +1,4 @@
--- What holds of the answers to any text.
+-- Laws of the steps of texts.
 use Rattle.std.specs.Prelude.{◌≡◌, ◌⊎◌, ℕ, List}
 use Rattle.std.specs.Str.{chars}
 use Rattle.litrs.specs.LiteralDerivation.{literal_raw, derivation}
@@ -9,18 +9,19 @@ use Rattle.litrs_lines.specs.declared.collector.Step.{Step}
 use Rattle.litrs_lines.specs.declared.collector.Step.TheVariants.{More, Literal, Refused}
 use Rattle.litrs_lines.specs.Steps.{BeginsByLine, IsUnfinished, IsStep}
 
--- the text is a literal, or unfinished, or refused and begins none by a line
+-- The text is a literal, or unfinished, or refused and does not begin a literal with an LF after
+-- it.
 abbrev pub HasStep : List ℕ → Type 0
 HasStep t =
     ((d : Derivation) × IsLiteral (chars t) d)
     ⊎ (IsUnfinished t
     ⊎ ((r : Refusal) × IsRefusal literal_parse (chars t) r × (BeginsByLine t → ⊥)))
 
--- One of the three holds of each text,
+-- One of the three holds for each text.
 abbrev pub StepsAreDecided : Type 0
 StepsAreDecided = (t : List ℕ) → HasStep t
 
--- the two steps say the same
+-- The two steps are the same.
 abbrev pub SameStep : Step → Step → Type 0
 SameStep More More = Unit {0}
 SameStep (Literal lit) (Literal other) =
@@ -28,7 +29,7 @@ SameStep (Literal lit) (Literal other) =
 SameStep (Refused e) (Refused other) = refusal_of e ≡ refusal_of other
 SameStep _ _ = ⊥
 
--- and no text has two steps.
+-- No text has two steps.
 abbrev pub StepsAreUnique : Type 0
 StepsAreUnique = (t : List ℕ) (step other : Step) → IsStep t step → IsStep t other →
     SameStep step other

@@ -1,4 +1,4 @@
--- What a collector answers to the lines that it has, joined by LF.
+-- The steps of a collector, by the lines that it has, joined by LF.
 use Rattle.std.specs.Prelude.{◌≡◌, ℕ, Bool, List, [], ◌∷◌, ◌++◌, IsTrue, IsFalse}
 use Rattle.std.specs.Str.{chars, IsUtf8}
 use Rattle.litrs.specs.declared.Literal.{Literal as AnyLiteral}
@@ -10,41 +10,42 @@ use Rattle.litrs_grammar.specs.Refused.{IsRefused}
 use Rattle.litrs_lines.specs.declared.collector.Step.{Step}
 use Rattle.litrs_lines.specs.declared.collector.Step.TheVariants.{More, Literal, Refused}
 
--- the text with an LF after it begins a literal
+-- The text with an LF after it begins a literal.
 abbrev pub BeginsByLine : List ℕ → Type 0
 BeginsByLine t = Begins literal_parse (chars t ++ line_feed ∷ [])
 
--- the text is no literal, and with an LF after it begins one
+-- The text is not a literal, and with an LF after it begins one.
 abbrev pub IsUnfinished : List ℕ → Type 0
 IsUnfinished t = HasNoDerivation (IsLiteral (chars t)) × BeginsByLine t
 
--- the literal is what the text is, in the only way
+-- The literal is the only derivation of the text.
 abbrev pub IsReadAs : {B : Type 0} → List ℕ → AnyLiteral B → Type 0
 IsReadAs t lit =
     (literal_raw lit ≡ t) × IsOnlyDerivation (IsLiteral (chars t)) (derivation lit)
 
--- The answer to a text: it is unfinished; it is a literal; or it is refused, and with an LF after
--- it begins none.
+-- The step of a text: it is unfinished; or it is a literal; or it is refused, and with an LF after
+-- it does not begin a literal.
 abbrev pub IsStep : List ℕ → Step → Type 0
 IsStep t More = IsUnfinished t
 IsStep t (Literal lit) = IsReadAs t lit
 IsStep t (Refused e) = IsRefused literal_parse (chars t) e × (BeginsByLine t → ⊥)
 
--- what is held after it: the text with an LF after it where it is unfinished, and else nothing
+-- The text that is held after a step: the text with an LF after it if it is unfinished, otherwise
+-- nothing.
 abbrev pub held_after : List ℕ → Step → List ℕ
 held_after t More = t ++ line_feed ∷ []
 held_after t _ = []
 
--- what a line leaves with which the text is this one: the answer is its step, and what is held
--- follows from both
+-- The effect of a line that completes the text `text`: the result is the step of the text, and both
+-- decide the text that is held.
 pub record Feeds (text held : List ℕ) (step : Step) : Type 0 where
   pub utf8 : IsUtf8 text
   pub is : IsStep text step
   pub after : held ≡ held_after text step
 
--- What a line leaves that is added if a literal goes on after it. If it does, the text is
--- unfinished, and held with an LF after it. Else the text with an LF after it begins no literal, and
--- the same is held as before.
+-- The effect of a line that is added if a literal can continue after it. If it can, the text is
+-- unfinished, and is held with an LF after it. Otherwise, the text with an LF after it does not begin
+-- a literal, and the text that is held is unchanged.
 pub record Pushes (old line new : List ℕ) (goes_on : Bool) : Type 0 where
   pub more : IsTrue goes_on → IsUnfinished (old ++ line) × (new ≡ (old ++ line) ++ line_feed ∷ [])
   pub other : IsFalse goes_on → (BeginsByLine (old ++ line) → ⊥) × (new ≡ old)

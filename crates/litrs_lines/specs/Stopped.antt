@@ -1,24 +1,25 @@
--- What holds of a run that stops.
+-- Runs that stop.
 use Rattle.std.specs.Prelude.{ℕ, List, [], ◌∷◌, Option, None, Some}
 use Rattle.std.specs.Io.{StartsWith}
 use Rattle.std.specs.Io.KnownBytes.{Appends, Consumes}
 use Rattle.litrs_lines.specs.Lines.{ended_lines, lines_of}
 use Rattle.litrs_lines.specs.Reports.{AreGroupReports}
 
--- a prefix of these was appended to known bytes
+-- A prefix of `bytes` was appended to known bytes.
 pub record AppendsBeginning (old new : Option (List ℕ)) (bytes : List ℕ) : Type 0 where
   pub written : List ℕ
   pub appends : Appends old new written
   pub begins : StartsWith bytes written
 
--- the whole lines of what was taken from an input: all, but where bytes are left only those that an
--- LF ends
+-- The whole lines of the bytes that were taken from an input: all lines, or only those that an LF
+-- ends if bytes are left.
 abbrev pub whole_lines : (left : Option (List ℕ)) (taken : List ℕ) → List (List ℕ)
 whole_lines None taken = lines_of taken
 whole_lines (Some []) taken = lines_of taken
 whole_lines (Some (b ∷ bs)) taken = ended_lines taken
 
--- what was written is a prefix of the reports on the groups of the whole lines that were taken
+-- The bytes that were written are a prefix of the reports on the groups of the whole lines that
+-- were taken.
 pub record StopsWithin (left_old left_new contents_old contents_new : Option (List ℕ))
     : Type 0 where
   pub taken : List ℕ

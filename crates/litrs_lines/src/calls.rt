@@ -1,9 +1,9 @@
-//! The calls of a device over memory, and from which on they fail.
+//! The calls of a device over memory, which fail from a given number on.
 ghost use Rattle.std.specs.Prelude.{◌≡◌, is_err};
 
 use crate::device::Failed;
 
-/// How many calls were made, and the number of the first that fails.
+/// The number of calls that were made, and the number of the first that fails.
 #[derive(Debug, Drop)]
 pub(crate) struct Calls {
     fail_at: Option<u64>,
@@ -13,14 +13,14 @@ pub(crate) struct Calls {
 impl Calls {
     ghost use Rattle.litrs_lines.specs.Calls.{fresh_calls, next_fails, after_call};
 
-    /// No call was made. Those from number `fail_at` on fail, counted from 0.
+    /// Creates a count of no calls. Calls from number `fail_at` on fail, counted from 0.
     pub(crate) fn new(fail_at: Option<u64>) -> Calls
         ensures { result ≡ fresh_calls fail_at }
     {
         Calls { fail_at, made: 0 }
     }
 
-    /// Makes one more call.
+    /// Counts a call. Returns an error if the call fails.
     pub(crate) fn make(&mut self) -> Result<(), Failed>
         ensures fails { is_err result ≡ next_fails self.old }
         ensures counts { self.new ≡ after_call self.old }

@@ -87,8 +87,8 @@ impl Collector {
     /// Adds `line` to the lines that are held. Returns what the lines then are, joined by LF.
     ///
     /// Returns `Literal` if and only if they are a literal. Returns `More` if and only if they are
-    /// not a literal and, with an LF after them, begin one. Returns `Refused` if and only if neither
-    /// holds. After `Literal` and `Refused` no line is held, after `More` all of them are.
+    /// not a literal and, with an LF after them, begin one. Returns `Refused` if and only if
+    /// neither holds. After `Literal` and `Refused` no line is held, after `More` all of them are.
     ///
     /// `line` has no LF at its end. An LF within it is part of the text, as the one between two
     /// lines is: `"a`, LF, `b"` in one call is the literal that `"a` and `b"` in two are.
@@ -115,8 +115,8 @@ impl Collector {
         }
     }
 
-    /// Like [`Collector::feed`], if no line is held. A literal is copied once it is known to be one,
-    /// and a line is copied only if it continues.
+    /// Like [`Collector::feed`], if no line is held. A literal is copied once it is known to be
+    /// one, and a line is copied only if it continues.
     #[inline(never)]
     fn feed_first(&mut self, line: &str) -> Result<Step, AllocError>
         requires { self.old ≡ [] }
@@ -154,8 +154,8 @@ impl Collector {
     /// Adds `line` to the lines that are held and returns `true`, if [`Collector::feed`] returns
     /// `More`. Returns `false` and changes nothing if it returns `Literal` or `Refused`.
     ///
-    /// The lines are not parsed. With [`Collector::take_with`] a caller gets their text, to parse it
-    /// and to show it in an error.
+    /// The lines are not parsed. With [`Collector::take_with`] a caller gets their text, to parse
+    /// it and to show it in an error.
     ///
     /// # Errors
     ///
@@ -212,8 +212,8 @@ impl Collector {
         push_line(&mut self.held, &mut self.known, line)
     }
 
-    /// Takes the text of the lines that are held, joined by LF, with `line` after them. Then no line
-    /// is held. The text has no more memory than its length.
+    /// Takes the text of the lines that are held, joined by LF, with `line` after them. Then no
+    /// line is held. The text has no more memory than its length.
     ///
     /// # Errors
     ///
@@ -251,8 +251,8 @@ impl Collector {
         self.known = None;
     }
 
-    /// Returns the error of the lines that are held, joined by LF, or `None` if none is held. It does
-    /// not allocate.
+    /// Returns the error of the lines that are held, joined by LF, or `None` if none is held. It
+    /// does not allocate.
     pub fn finish(self) -> Option<ParseError>
         ensures refusal { IfSome result (IsRefusalOfHeld self) }
         ensures none { IfNone result (self ≡ []) }

@@ -1,27 +1,28 @@
-//! What lines are read from, and what reports are written to.
+//! The devices from which lines are read, and to which reports are written.
 ghost use Rattle.std.specs.Prelude.{◌≡◌, ℕ, ◌≤◌, ◌+◌, ◌<◌, ◌^◌, ⊤, Bool, true, [], List, Option, None, length, IfOk, IfSome, OnOk, OnErr};
 ghost use Rattle.std.specs.Io.KnownBytes.{Keeps, ReadConsumes, WriteAppends};
 ghost use Rattle.litrs_lines.specs.Devices.{RecordsFailure};
 
-/// A call of a device failed.
+/// An error: a call of a device failed.
 #[derive(Clone, Copy, Debug, PartialEq, Eq)]
 pub struct Failed;
 
 /// A source of bytes.
 pub trait Input {
-    /// The bytes that reads will give from here on, where they are known.
+    /// The bytes that are left to read, if they are known.
     ghost remaining: { Self → Option (List ℕ) } = { λ _. None };
 
     /// A call has failed.
     ghost has_failed: { Self → Bool };
 
-    /// So many reads, one or more, led from the first input to the second, as far as is known.
+    /// The second input is the first after the given number of reads, one or more, as far as is
+    /// known.
     ghost are_reads: { ℕ → Self → Self → Type 0 } = { λ _ _ _. ⊤ };
 
-    /// Reads bytes into the front of `buffer` and answers their number.
+    /// Reads bytes into the front of `buffer` and returns their number.
     ///
-    /// Of a known input these are the next bytes, and none only at its end or where `buffer` is
-    /// empty. A call that fails takes none of them.
+    /// If the bytes of the input are known, these are the next of them. The number is 0 only at the
+    /// end, or if `buffer` is empty. A call that fails reads nothing.
     fn read(&mut self, buffer: &mut [u8]) -> Result<usize, Failed>
         ensures bound { IfOk result (λ count. count ≤ length buffer.new) }
         ensures bytes { ReadConsumes (remaining self.old) (remaining self.new) result buffer.new }
@@ -30,7 +31,7 @@ pub trait Input {
         ensures one_more { (count : ℕ) (first : Self) →
             are_reads count first self.old → are_reads (count + 1) first self.new };
 
-    /// Whether a call has failed.
+    /// Returns `true` if a call has failed.
     fn failed(&self) -> bool
         ensures { result ≡ has_failed self.now };
 
@@ -38,22 +39,22 @@ pub trait Input {
     ghost few: { (input : Self) → IfSome (remaining input) (λ bytes. length bytes < 2 ^ 63) };
 }
 
-/// A place that bytes are written to.
+/// A destination of bytes.
 pub trait Output {
-    /// The bytes that were written, where they are known.
+    /// The bytes that were written, if they are known.
     ghost contents: { Self → Option (List ℕ) } = { λ _. None };
 
     /// A call has failed.
     ghost has_failed: { Self → Bool };
 
-    /// A write has failed, as far as is known: false where only a flush has.
+    /// A write has failed, as far as is known. A flush does not count.
     ghost write_failed: { Self → Bool } = { λ _. true };
 
-    /// Nothing was written after the last flush, where that is known.
+    /// Nothing was written after the last flush, as far as is known.
     ghost is_flushed: { Self → Bool } = { λ _. true };
 
-    /// Writes bytes from the front of `piece` and answers their number, at least one where `piece`
-    /// is not empty. A call that fails writes none.
+    /// Writes bytes from the front of `piece` and returns their number, which is at least 1 if
+    /// `piece` is not empty. A call that fails writes nothing.
     fn write(&mut self, piece: &[u8]) -> Result<usize, Failed>
         ensures bound { IfOk result (λ count. count ≤ length piece.now) }
         ensures some { IfOk result (λ count. count ≡ 0 → piece.now ≡ []) }
@@ -61,13 +62,13 @@ pub trait Output {
         ensures failed { RecordsFailure (has_failed self.old) (has_failed self.new) result }
         ensures write_failed { OnErr result (write_failed self.new ≡ true) };
 
-    /// Passes on what was written so far. It writes no byte itself.
+    /// Flushes the bytes that were written. Writes no byte itself.
     fn flush(&mut self) -> Result<(), Failed>
         ensures bytes { Keeps (contents self.old) (contents self.new) }
         ensures flushed { OnOk result (is_flushed self.new ≡ true) }
         ensures failed { RecordsFailure (has_failed self.old) (has_failed self.new) result };
 
-    /// Whether a call has failed.
+    /// Returns `true` if a call has failed.
     fn failed(&self) -> bool
         ensures { result ≡ has_failed self.now };
 }

@@ -24,8 +24,8 @@ impl<O: Output> Reporter<'_, O> {
     ghost use Rattle.litrs_lines.specs.Groups.{IsNoText};
     ghost use Rattle.litrs_lines.specs.Sent.{Leaves, AreBytes};
 
-    /// Adds the reports on the groups that end with `line`, with an LF after each. If a report is long,
-    /// the reports up to it are written.
+    /// Adds the reports on the groups that end with `line`, with an LF after each. If a report is
+    /// long, the reports up to it are written.
     pub(crate) fn process_line(&mut self, line: &[u8]) -> Result<(), RunError>
         ensures { Leaves O.contents O.has_failed O.write_failed result self.old self.new
             (AreEndedReports self.old.collector.now (line.now ∷ [])) }
@@ -51,8 +51,8 @@ impl<O: Output> Reporter<'_, O> {
         self.process_first(text.as_str())
     }
 
-    /// Like [`Reporter::process_text`], if no line is held, for a line or for the text of several. It
-    /// is copied only if it continues in the next line.
+    /// Like [`Reporter::process_text`], if no line is held, for a line or for the text of several.
+    /// It is copied only if it continues in the next line.
     fn process_first(&mut self, line: &str) -> Result<(), RunError>
         requires { self.old.collector.now ≡ [] }
         ensures { Leaves O.contents O.has_failed O.write_failed result self.old self.new

@@ -1,4 +1,4 @@
-//! Reads lines and writes a report on each literal that they are, and on each text that is none.
+//! Reads lines and writes a report on each literal in them, and on each text that is not one.
 #![tactic(auto)]
 
 ghost use Rattle.std.specs.Prelude.{◌≡◌, ◌↔◌, ◌⊎◌, ◌∷◌, [], ◌++◌, ◌-◌, ◌^◌, true, false, Some, IsSome, IfSome, IsErrOf, OnOk, OnErr, position, string_bytes};
@@ -34,10 +34,10 @@ mod report;
 mod std_input;
 mod std_output;
 
-/// The bytes that are read at a time.
+/// The number of bytes that are read at a time.
 const BUFFER_LEN: usize = 8192;
 
-/// Why `run` stopped.
+/// An error of [`run`].
 #[derive(Clone, Copy, Debug, PartialEq, Eq)]
 pub enum RunError {
     /// The input failed, or was read 2^64 - 1 times.
@@ -74,7 +74,7 @@ impl From<AllocError> for RunError {
     }
 }
 
-/// Where the first line ends, in bytes.
+/// Returns the end of the first line in bytes, or `None` if there is no LF.
 #[tactic(auto, using(crate::proofs::LineEnds::first_byte_is_position))]
 fn line_end(bytes: &[u8]) -> Option<usize>
     ensures { result ≡ position is_line_feed bytes.now }
@@ -82,7 +82,7 @@ fn line_end(bytes: &[u8]) -> Option<usize>
     memchr(b'\n', bytes)
 }
 
-/// The line without one CR at its end.
+/// Returns `line` without one CR at its end.
 fn strip_cr(line: &[u8]) -> &[u8]
     ensures { result.now ≡ strip_cr line.now }
 {
@@ -92,7 +92,7 @@ fn strip_cr(line: &[u8]) -> &[u8]
     }
 }
 
-/// Processes the line that `end` ends, without one CR at its end, and goes on with an empty one.
+/// Processes the line that `end` completes, without one CR at its end, and clears `line`.
 fn end_line<O: Output>(
     line: &mut Vec<u8>,
     reporter: &mut Reporter<O>,
@@ -112,7 +112,7 @@ fn end_line<O: Output>(
     Ok(())
 }
 
-/// Processes the lines that end in `piece`, and keeps the one that goes on.
+/// Processes the lines that end in `piece`, and keeps the start of the next one in `line`.
 fn gather<O: Output>(
     line: &mut Vec<u8>,
     reporter: &mut Reporter<O>,
@@ -164,7 +164,7 @@ fn process_piece<O: Output>(
     reporter.write_unwritten()
 }
 
-/// Processes a last line that has no end, where it is not empty.
+/// Processes the last line if it has no LF and is not empty.
 fn process_open_line<O: Output>(line: &[u8], reporter: &mut Reporter<O>) -> Result<(), RunError>
     ensures { Leaves O.contents O.has_failed O.write_failed result reporter.old reporter.new
         (AreEndedReports reporter.old.collector.now (unless_empty line.now)) }
@@ -175,8 +175,7 @@ fn process_open_line<O: Output>(line: &[u8], reporter: &mut Reporter<O>) -> Resu
     reporter.process_line(line)
 }
 
-/// Reports on a last line that has no end, where it is not empty, and on the lines that are then
-/// held.
+/// Reports on the last line if it has no LF and is not empty, and on the lines that are then held.
 fn report_last<O: Output>(line: &[u8], reporter: &mut Reporter<O>) -> Result<(), RunError>
     ensures { Leaves O.contents O.has_failed O.write_failed result reporter.old reporter.new
         (λ _. AreLastReports reporter.old.collector.now (unless_empty line.now)) }
@@ -185,8 +184,8 @@ fn report_last<O: Output>(line: &[u8], reporter: &mut Reporter<O>) -> Result<(),
     reporter.report_held()
 }
 
-/// Processes the end of the input: writes the reports on a last line that has no end and on the
-/// lines that are held.
+/// Processes the end of the input: writes the reports on a last line without an LF and on the lines
+/// that are held.
 fn finish<O: Output>(line: &[u8], reporter: &mut Reporter<O>) -> Result<(), RunError>
     ensures adds { Leaves O.contents O.has_failed O.write_failed result reporter.old reporter.new
         (λ _. AreLastReports reporter.old.collector.now (unless_empty line.now)) }
@@ -196,22 +195,26 @@ fn finish<O: Output>(line: &[u8], reporter: &mut Reporter<O>) -> Result<(), RunE
     reporter.write_unwritten()
 }
 
-/// Reads to the end of the input, writes the report on each group of lines and an LF after it, and
+/// Reads the input to its end, writes the report on each group of lines and an LF after it, and
 /// flushes once at the end.
 ///
-/// A line is the bytes before an LF, without it and without one CR right before it, and what
-/// follows the last LF where that is not empty. A group is a line that is not UTF-8, or the least
-/// number of next lines, all UTF-8, that are a literal when they are joined by LF, or begin none
-/// with an LF after them, or after which no line follows or one that is not UTF-8. One group is
-/// held at a time, so memory is taken in proportion to the longest. The report on a long value is
-/// written in pieces.
+/// A line is the bytes before an LF, without one CR directly before the LF. The bytes after the
+/// last LF are a line if there are any. A group is a line that is not UTF-8, or the least number of
+/// next lines, all UTF-8, for which one of these holds:
+///
+/// - Joined by LF they are a literal.
+/// - With an LF after them they begin no literal.
+/// - They are the last lines, or the line after them is not UTF-8.
+///
+/// One group is held at a time, so the memory is in proportion to the longest group. The report on
+/// a long value is written in pieces.
 ///
 /// # Errors
 ///
-/// `Read` if the reader failed, and only if it failed or was read 2^64 - 1 times, which happens to
-/// no reader whose bytes are known. `Write` if and only if the writer failed. `Memory` if an
-/// allocation failed. What was written is then a prefix of the reports on the groups of the whole
-/// lines that were read.
+/// Returns `Read` if the reader failed or was read 2^64 - 1 times, which a reader whose bytes are
+/// known never is; `Write` if the writer failed; and `Memory` if an allocation failed. The bytes
+/// that were written are then a prefix of the reports on the groups of the whole lines that were
+/// read.
 ///
 /// A failed call is never made again, so an error of the kind `Interrupted` ends the run as well:
 /// see [`StdInput`] and [`StdOutput`].
@@ -238,12 +241,12 @@ pub fn run<I: Input, O: Output>(
     ensures read_failed { I.has_failed reader.new ≡ true → IsErrOf result RunError.Read }
     ensures write { IsErrOf result RunError.Write ↔ (O.has_failed writer.new ≡ true) }
 
-    // Where no write has failed, the flush has, after all reports.
+    // If no write has failed, the flush has, after all reports.
     ensures flush { IsErrOf result RunError.Write → O.write_failed writer.new ≡ false →
         IfSome (I.remaining reader.old) (λ bytes.
         AppendsReports (lines_of bytes) (O.contents writer.old) (O.contents writer.new)) }
 
-    // What was written is a prefix of the reports on the whole lines that were read.
+    // The bytes written are a prefix of the reports on the whole lines that were read.
     ensures err { OnErr result (StopsWithin (I.remaining reader.old) (I.remaining reader.new)
         (O.contents writer.old) (O.contents writer.new)) }
 {

@@ -21,9 +21,9 @@ pub struct MemInput<'a> {
 impl<'a> MemInput<'a> {
     ghost use Rattle.litrs_lines.specs.MemInput.{left_of, piece_of, calls_of, failed_of};
 
-    /// An input that gives `bytes`, at most `piece` of them in a call, and `piece` is at least 1.
-    /// Its calls fail from number `fail_at` on, counted from 0. A call leaves the buffer as it was
-    /// after the bytes that it reads.
+    /// Creates an input over `bytes`. A call reads at most `piece` bytes, and `piece` is at least
+    /// 1. Calls from number `fail_at` on fail, counted from 0. The bytes of the buffer after those
+    /// that a call reads are unchanged.
     pub fn new(bytes: &'a [u8], piece: usize, fail_at: Option<u64>) -> Self
         requires { 0 < piece }
         ensures bytes { left_of result ≡ bytes.now }
@@ -55,14 +55,14 @@ impl Input for MemInput<'_> {
             result buffer.new }
         ensures failed { RecordsFailure (failed_of self.old) (failed_of self.new) result }
 
-        // How many bytes move, and when the call fails.
+        // The number of bytes that move, and the calls that fail.
         ensures fails { IsErr result ↔ IsTrue (next_fails (calls_of self.old)) }
         ensures count { IfOk result (λ count.
             count ≡ min (min (length buffer.old) (piece_of self.old)) (length (left_of self.old))) }
         ensures calls { calls_of self.new ≡ after_call (calls_of self.old) }
         ensures piece { piece_of self.new ≡ piece_of self.old }
 
-        // What of the buffer stays.
+        // The bytes of the buffer that are unchanged.
         ensures after { IfOk result (λ count. drop count buffer.new ≡ drop count buffer.old) }
         ensures kept { OnErr result (buffer.new ≡ buffer.old) }
     {

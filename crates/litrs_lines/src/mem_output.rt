@@ -8,7 +8,7 @@ use crate::calls::Calls;
 use crate::device::{Failed, Output};
 use std::alloc::{AllocError, Global};
 
-/// An output that keeps what is written to it in memory.
+/// An output that keeps the bytes written to it in memory.
 #[derive(Debug, Drop)]
 pub struct MemOutput {
     bytes: Vec<u8>,
@@ -26,13 +26,13 @@ pub struct MemOutput {
 impl MemOutput {
     ghost use Rattle.litrs_lines.specs.MemOutput.{bytes_of, room_of, piece_of, calls_of, failed_of, write_failed_of, flushed_of};
 
-    /// An output with memory for `room` bytes, which takes at most `piece` of them in a call, and
-    /// `piece` is at least 1. Its calls fail from number `fail_at` on, writes and flushes counted
-    /// together from 0. A write fails also where the room is full.
+    /// Creates an output for `room` bytes. A call takes at most `piece` bytes, and `piece` is at
+    /// least 1. Calls from number `fail_at` on fail, counted from 0 over writes and flushes. A
+    /// write also fails if the output is full. Does not allocate if `room` is 0.
     ///
     /// # Errors
     ///
-    /// `AllocError` where the allocation of the room failed. No room is not allocated.
+    /// Returns `AllocError` if the allocation fails.
     pub fn new(
         alloc: Global,
         room: usize,
@@ -50,7 +50,7 @@ impl MemOutput {
         ensures succeeds { room ≡ 0 → IsOk result }
     {
         Ok(MemOutput {
-            // bounded by what the caller gives.
+            // bounded by the parameter `room`.
             bytes: Vec::with_capacity(alloc, room)?,
             room,
             piece,
@@ -61,7 +61,7 @@ impl MemOutput {
         })
     }
 
-    /// What was written: `bool true` and an LF after a run over `true`.
+    /// Returns the bytes that were written: `bool true` and an LF after a run over `true`.
     pub fn bytes(&self) -> &[u8]
         ensures { result.now ≡ bytes_of self.now }
     {
@@ -89,7 +89,7 @@ impl Output for MemOutput {
         ensures write_failed { RecordsFailure (write_failed_of self.old) (write_failed_of self.new)
             result }
 
-        // How many bytes move, and when the call fails.
+        // The number of bytes that move, and the calls that fail.
         ensures fails { IsErr result
             ↔ (IsTrue (next_fails (calls_of self.old)) ⊎ (room_left self.old ≡ 0)) }
         ensures count { IfOk result (λ count.
@@ -118,7 +118,7 @@ impl Output for MemOutput {
         ensures flushed { OnOk result (flushed_of self.new ≡ true) }
         ensures failed { RecordsFailure (failed_of self.old) (failed_of self.new) result }
 
-        // When the call fails, and that it then changes nothing else.
+        // The calls that fail, which change nothing else.
         ensures kept { OnErr result (flushed_of self.new ≡ flushed_of self.old) }
         ensures write_failed { write_failed_of self.new ≡ write_failed_of self.old }
         ensures fails { IsErr result ↔ IsTrue (next_fails (calls_of self.old)) }

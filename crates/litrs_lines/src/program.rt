@@ -1,4 +1,4 @@
-//! A run with an exit status and a message, as a program has them.
+//! A run with an exit status and a message, for a program.
 ghost use Rattle.std.specs.Prelude.{◌≡◌, ◌⊎◌, true, false, IfSome};
 ghost use Rattle.std.specs.Io.KnownBytes.{IsAtEnd, Keeps};
 ghost use Rattle.std.specs.Process.{exit_status};
@@ -10,11 +10,11 @@ use std::alloc::Global;
 use std::io::Write;
 use std::process::ExitCode;
 
-/// Does what the program `litrs_lines_cli` does over these devices: [`run`], whose result becomes
-/// an exit status. `Ok` is 0, and writes no message.
+/// Runs the program `litrs_lines_cli` over these devices: calls [`run`], and returns the exit
+/// status. `Ok` is 0, without a message.
 ///
-/// An error is 1, and `messages` is given one line, such as `litrs_lines: read failed`. Where that
-/// write fails, the error is ignored and the status is still 1.
+/// An error is 1, and one line is written to `messages`, for example `litrs_lines: read failed`. If
+/// that write fails, its error is ignored, and the status is still 1.
 pub fn run_program<I: Input, O: Output, M: Write>(
     alloc: Global,
     reader: &mut I,

@@ -1,4 +1,4 @@
-//! The report on a literal, and on a refusal.
+//! The reports on literals and errors.
 ghost use Rattle.std.specs.Prelude.{◌≡◌, ◌≤◌, length, ◌∷◌, [], ◌++◌, OnOk, string_bytes};
 ghost use Rattle.litrs.specs.LiteralDerivation.{derivation};
 ghost use Rattle.litrs_grammar.specs.Integer.{integer_value};
@@ -19,13 +19,13 @@ use litrs::{Buffer, ByteLit, CharLit, FloatLit, IntegerLit, Literal, ParseError}
 use std::alloc::AllocError;
 use std::str;
 
-/// The most bytes of a value whose report is held before it is written.
+/// The greatest length in bytes of a value whose report is not written in pieces.
 const PIECE_LEN: usize = 4096;
 
-/// The most bytes of a value that are put into hex at a time.
+/// The greatest number of bytes of a value that are converted to hex at a time.
 const HEX_LEN: usize = 32;
 
-/// Adds the report on a refusal, and an LF.
+/// Adds the report on `error` and an LF.
 pub(crate) fn report_refusal(out: &mut String, error: &ParseError) -> Result<(), AllocError>
     ensures { OnOk result (string_bytes out.new
         ≡ string_bytes out.old ++ (refusal_report (refusal_of error.now) ++ line_feed ∷ [])) }
@@ -34,7 +34,7 @@ pub(crate) fn report_refusal(out: &mut String, error: &ParseError) -> Result<(),
     out.push('\n')
 }
 
-/// Adds the report on a refusal.
+/// Adds the report on `error`.
 fn push_refusal_report(out: &mut String, error: &ParseError) -> Result<(), AllocError>
     ensures { OnOk result (
         string_bytes out.new ≡ string_bytes out.old ++ refusal_report (refusal_of error.now)) }
@@ -42,7 +42,7 @@ fn push_refusal_report(out: &mut String, error: &ParseError) -> Result<(), Alloc
     write!(out, "error {error}")
 }
 
-/// Adds the report on a literal, and an LF. Where its value is long, it is written in pieces.
+/// Adds the report on a literal and an LF. If the value is long, it is written in pieces.
 pub(crate) fn report_literal<B: Buffer, O: Output>(
     reporter: &mut Reporter<O>,
     lit: &Literal<B>,
@@ -57,7 +57,7 @@ pub(crate) fn report_literal<B: Buffer, O: Output>(
     Ok(())
 }
 
-/// Adds the report on a literal, but for the bytes in hex at the end of that on a string.
+/// Adds the report on a literal, without the bytes in hex at the end of the report on a string.
 fn push_front<B: Buffer>(out: &mut String, lit: &Literal<B>) -> Result<(), AllocError>
     ensures { OnOk result (
         string_bytes out.new ≡ string_bytes out.old ++ literal_front (derivation lit.now)) }
@@ -90,7 +90,7 @@ fn push_front<B: Buffer>(out: &mut String, lit: &Literal<B>) -> Result<(), Alloc
     }
 }
 
-/// The bytes of a literal that are reported in hex: those of a string's value.
+/// Returns the bytes that are reported in hex: those of the value of a string.
 fn hex_value<B: Buffer>(lit: &Literal<B>) -> &[u8]
     ensures { result.now ≡ hex_value (derivation lit.now) }
 {
@@ -163,7 +163,7 @@ fn push_float_report<B: Buffer>(out: &mut String, lit: &FloatLit<B>) -> Result<(
     )
 }
 
-/// The fraction, `-` where there is no period.
+/// Returns the fractional part, or `-` if there is no period.
 fn fraction_field<B: Buffer>(lit: &FloatLit<B>) -> &str
     ensures { result.now ≡ fraction_field (float_parts lit.now).fraction }
 {
@@ -230,14 +230,14 @@ fn push_string_front(
     write!(out, "{name} raw={raw} suffix={suffix} value=")
 }
 
-/// Whether a string is raw.
+/// Returns the field that says if a string is raw.
 fn raw_field(is_raw: bool) -> &'static str
     ensures { result.now ≡ raw_field is_raw }
 {
     if is_raw { "yes" } else { "no" }
 }
 
-/// Adds bytes in hex. Where these are many, they are written in pieces.
+/// Adds `bytes` in hex. If there are many, they are written in pieces.
 fn send_hex<O: Output>(reporter: &mut Reporter<O>, bytes: &[u8]) -> Result<(), RunError>
     ensures { Leaves O.contents O.has_failed O.write_failed result reporter.old reporter.new
         (AreBytes reporter.old.collector.now (hex_bytes bytes.now)) }

@@ -6,12 +6,12 @@ ghost use Rattle.litrs_lines.specs.Devices.{RecordsFailure};
 use crate::device::{Failed, Input};
 use std::io::Read;
 
-/// An input over any reader. Each of the reader's errors is a failure.
+/// An input over any reader. Each error of the reader is a failure.
 ///
-/// This includes an error of the kind `Interrupted`, which the system gives where a signal handler
-/// ran during a read. The library's own `read_to_end` reads again then; `read` here does not. A
-/// program that has signal handlers installs them with `SA_RESTART`, so that the system continues
-/// the call, or passes a reader of its own that reads again after such an error.
+/// This includes an error of the kind `Interrupted`, which the system returns if a signal handler
+/// ran during a read. Unlike `read_to_end` of the standard library, `read` here does not try again.
+/// A program with signal handlers installs them with `SA_RESTART`, so that the system continues the
+/// call, or passes a reader that tries again.
 #[derive(Debug, Drop)]
 pub struct StdInput<R> {
     reader: R,
@@ -21,7 +21,7 @@ pub struct StdInput<R> {
 impl<R> StdInput<R> {
     ghost use Rattle.litrs_lines.specs.StdInput.{unfailed_input};
 
-    /// An input over `reader`.
+    /// Creates an input over `reader`.
     pub fn new(reader: R) -> Self
         ensures { result ≡ unfailed_input reader }
     {

@@ -6,13 +6,13 @@ ghost use Rattle.litrs_lines.specs.Devices.{RecordsFailure};
 use crate::device::{Failed, Output};
 use std::io::Write;
 
-/// An output over any writer. Each of the writer's errors is a failure, and so is a write that
-/// takes no byte of a piece that is not empty.
+/// An output over any writer. Each error of the writer is a failure, and so is a write that takes
+/// no byte of a piece that is not empty.
 ///
-/// This includes an error of the kind `Interrupted`, which the system gives where a signal handler
-/// ran during a write. The library's own `write_all` writes again then; `write` here does not. A
-/// program that has signal handlers installs them with `SA_RESTART`, so that the system continues
-/// the call, or passes a writer of its own that writes again after such an error.
+/// This includes an error of the kind `Interrupted`, which the system returns if a signal handler
+/// ran during a write. Unlike `write_all` of the standard library, `write` here does not try again.
+/// A program with signal handlers installs them with `SA_RESTART`, so that the system continues the
+/// call, or passes a writer that tries again.
 #[derive(Debug, Drop)]
 pub struct StdOutput<W> {
     writer: W,
@@ -22,7 +22,7 @@ pub struct StdOutput<W> {
 impl<W> StdOutput<W> {
     ghost use Rattle.litrs_lines.specs.StdOutput.{unfailed_output};
 
-    /// An output over `writer`.
+    /// Creates an output over `writer`.
     pub fn new(writer: W) -> Self
         ensures { result ≡ unfailed_output writer }
     {

@@ -1,12 +1,12 @@
-//! Laws of the answers that a collector gives to a text.
+//! Laws of the steps of a text.
 ghost use Rattle.litrs_lines.specs.StepLaws.{StepsAreDecided, StepsAreUnique};
 
-/// Each text has a step, the memory of a literal aside.
+/// Proves that each text has a step, whatever memory its literal has.
 pub fn steps_are_decided()
     ensures { StepsAreDecided }
 {}
 
-/// No text has two.
+/// Proves that no text has two steps.
 pub fn steps_are_unique()
     ensures { StepsAreUnique }
 {}
