@@ -40,6 +40,7 @@ pub use shebang::strip_shebang;
 pub use token::Token;
 pub use tokens::{Tokens, all_tokens, first_token, tokenize};
 
+mod ascii;
 mod comment;
 mod cut;
 mod kind;

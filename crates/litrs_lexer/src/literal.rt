@@ -15,6 +15,7 @@ use litrs_prefix::{after_opened, may_follow, next_boundary, prefix_len};
 
 /// Like [`cut_literal`], for a text that starts with a digit. Most numbers are integers of ASCII,
 /// and are read once.
+#[inline(never)]
 pub fn cut_number(text: &str) -> (TokenKind, &str)
     requires { IsTrue (opens_quoted (chars text.now)) }
     ensures cut { IsCut text.now result.0 result.1.now }
@@ -40,6 +41,7 @@ fn is_integer_before(front: &str, rest: &str) -> bool
 }
 
 /// Cuts the literal, valid or malformed, from the front of `text`.
+#[inline(never)]
 pub fn cut_literal(text: &str) -> (TokenKind, &str)
     requires { IsTrue (opens_quoted (chars text.now)) }
     ensures cut { IsCut text.now result.0 result.1.now }
