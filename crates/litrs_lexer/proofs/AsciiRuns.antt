@@ -1,18 +1,14 @@
--- Names and white space at the front of a text: their ASCII characters may be passed over by their bytes.
+-- White space at the front of a text: its ASCII characters may be passed over by their bytes. The first byte.
 use Rattle.std.proofs.Common.{◌≡◌, ℕ, suc, ◌+◌, ◌<◌, ◌≤◌, Bool, true, false, cond, List, [], ◌∷◌, ◌++◌, length, drop, slice_index_or, refl, sym, ap, subst, ◌∙◌, arith}
-use Rattle.std.specs.Prelude.{if◌then◌else◌, ◌||◌, encode_utf8}
+use Rattle.std.specs.Prelude.{◌||◌, encode_utf8}
 use Rattle.std.specs.List.{prefix_len}
 use Rattle.std.specs.Str.{chars, IsUtf8, IsCharBoundary}
 use Rattle.std.proofs.lemmas.Bool.Decides.{nat_tests}
 use Rattle.std.proofs.lemmas.Str.{IsCharBoundary-from_drop, chars-nil, encode_ascii}
-use Rattle.unicode_ident.specs.Ident.{is_xid_continue}
-use Rattle.unicode_ident.proofs.IdentLemmas.{is_xid_continue-ascii}
 use Rattle.litrs_base.proofs.Chars.{chars_ascii, utf8_after_ascii, OnlyAscii, first_passes-chars, ascii_from_test, passing_front, prefix_len-chars}
 use Rattle.litrs_base.proofs.ListTests.{if_true, if_false}
 use Rattle.litrs_base.specs.Text.{first_passes}
 use Rattle.litrs_grammar.proofs.Laws.Integer.{first_passes-rest}
-use Rattle.litrs_lex.proofs.SuffixBytes.{is_word, words_are_ascii}
-use Rattle.litrs_prefix.specs.Opens.{after_run}
 use Rattle.litrs_prefix.specs.Prefix.{is_quote_or_hash}
 use Rattle.litrs_lexer.specs.Cut.{is_wide, is_ascii_white_space, IsFirstChar}
 use Rattle.litrs_lexer.specs.Whitespace.{is_white_space, after_while, after_white_space}
@@ -75,23 +71,6 @@ pub white_none : (bs : List ℕ) → (first_passes is_ascii_white_space bs || fi
 white_none bs h =
     let both = neither (first_passes is_ascii_white_space bs) (first_passes is_wide bs) h in
     sym (ends_at is_white_space is_ascii_white_space white_part bs both.0 both.1)
-
--- names
-
-name_part : IsAsciiPart is_xid_continue is_word
-name_part = record { ascii = words_are_ascii; alike = is_xid_continue-ascii }
-
-run_is : (t : List ℕ) → after_run t ≡ after_while is_xid_continue t
-run_is [] = refl
-run_is (c ∷ t) = ap (λ (l : List ℕ). if is_xid_continue c then l else (c ∷ t)) (run_is t)
-
-pub name_cut : (bs : List ℕ) (n : ℕ) → IsUtf8 bs → n ≡ prefix_len is_word bs → IsCharBoundary bs n × (after_run (chars (drop n bs)) ≡ after_run (chars bs))
-name_cut bs n u is =
-    let cut = run_cut is_xid_continue is_word name_part bs n u is in
-    (cut.0, run_is (chars (drop n bs)) ∙ (cut.1 ∙ sym (run_is (chars bs))))
-
-pub name_ends : (bs rest : List ℕ) (n : ℕ) → IsUtf8 bs → n ≡ prefix_len is_word bs → rest ≡ drop n bs → first_passes is_wide rest ≡ false → chars rest ≡ after_run (chars bs)
-name_ends bs rest n u is back narrow = run_ends is_xid_continue is_word name_part bs rest n u is back narrow ∙ sym (run_is (chars bs))
 
 -- the first byte
 

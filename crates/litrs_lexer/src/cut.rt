@@ -20,11 +20,11 @@ use crate::comment::{after_block, after_line};
 use crate::kind::TokenKind;
 use crate::literal::{cut_literal, cut_number};
 use crate::name::{
-    after_name, after_raw_mark, after_run, opens_quoted, starts_with_bool, starts_with_hash,
-    starts_with_name, starts_with_quote_or_hash, starts_with_single_quote,
+    after_raw_mark, after_run, opens_quoted, starts_with_bool, starts_with_hash, starts_with_name,
+    starts_with_quote_or_hash, starts_with_single_quote,
 };
 use crate::whitespace::{after_white_space, is_white_space};
-use litrs_prefix::{begins_name, split_first_char};
+use litrs_prefix::{after_name, begins_name, split_first_char};
 
 /// Returns the kind of the token at the front of `text` and the part of `text` after the token, or
 /// `None` if `text` is empty.
@@ -158,7 +158,7 @@ fn cut_name<'a>(text: &'a str, c: char, after: &'a str) -> (TokenKind, &'a str)
 {
     let rest = after_run(after);
     if starts_with_quote_or_hash(rest) {
-        let (kind, rest) = cut_prefix(text, rest);
+        let (kind, rest) = cut_prefix(text, c, after, rest);
         (kind, rest)
     } else if starts_with_bool(text, c, after, rest) {
         (TokenKind::Literal, rest)
@@ -169,7 +169,8 @@ fn cut_name<'a>(text: &'a str, c: char, after: &'a str) -> (TokenKind, &'a str)
 
 /// Cuts the token from the front of a text that starts with a name before `"`, `'` or `#`.
 #[inline(never)]
-fn cut_prefix<'a>(text: &'a str, rest: &'a str) -> (TokenKind, &'a str)
+fn cut_prefix<'a>(text: &'a str, c: char, after: &str, rest: &'a str) -> (TokenKind, &'a str)
+    requires first { IsFirstChar text.now c after.now }
     requires name { IsTrue (begins_name (chars text.now)) }
     requires rest { chars rest.now ≡ after_name (chars text.now) }
     requires end { IsEndOf text.now rest.now }
@@ -180,7 +181,7 @@ fn cut_prefix<'a>(text: &'a str, rest: &'a str) -> (TokenKind, &'a str)
 {
     match after_raw_mark(text) {
         Some(name) => (TokenKind::RawIdent, after_name(name)),
-        None => if opens_quoted(text) {
+        None => if opens_quoted(text, c, after, rest) {
             cut_literal(text)
         } else {
             (TokenKind::UnknownPrefix, rest)

@@ -14,8 +14,7 @@ ghost use Rattle.litrs_lexer.specs.Literal.{opens_quoted};
 
 use crate::ascii::{Class, class_len, starts_beyond_ascii};
 use litrs_lex::cut_bool;
-use litrs_prefix::{begins_name, opens, split_first_char};
-use unicode_ident::is_xid_continue;
+use litrs_prefix::{after_name, begins_name, opens, split_first_char};
 
 /// Returns the part of `text` after the characters at its front that can continue a name.
 #[inline(always)]
@@ -25,39 +24,9 @@ pub fn after_run(text: &str) -> &str
 {
     let (_, rest) = text.split_at(class_len(text.as_bytes(), Class::Word));
     if starts_beyond_ascii(rest) {
-        after_any_run(rest)
+        litrs_prefix::after_run(rest)
     } else {
         rest
-    }
-}
-
-/// Like [`after_run`], but reads character by character.
-#[inline(never)]
-fn after_any_run(text: &str) -> &str
-    ensures rest { chars result.now ≡ after_run (chars text.now) }
-    ensures end { IsEndOf text.now result.now }
-{
-    let mut rest = text;
-    loop {
-        match split_first_char(rest) {
-            Some((c, after)) if is_xid_continue(c) => rest = after,
-            _ => return rest,
-        }
-    }
-}
-
-/// Returns the part of `text` after the name at its front: all of it if it starts with none.
-pub fn after_name(text: &str) -> &str
-    ensures rest { chars result.now ≡ after_name (chars text.now) }
-    ensures end { IsEndOf text.now result.now }
-{
-    match split_first_char(text) {
-        Some((c, after)) => if begins_name(c) {
-            after_run(after)
-        } else {
-            text
-        },
-        None => text,
     }
 }
 
@@ -179,9 +148,13 @@ pub fn after_raw_mark(text: &str) -> Option<&str>
     }
 }
 
-/// Returns `true` if a literal that is not a bool begins at the front of `text`.
-pub fn opens_quoted(text: &str) -> bool
+/// Returns `true` if a literal that is not a bool begins at the front of `text`, which is `c` and
+/// `after`. `rest` is the part of `text` after its name.
+pub fn opens_quoted(text: &str, c: char, after: &str, rest: &str) -> bool
+    requires first { IsFirstChar text.now c after.now }
+    requires name { chars rest.now ≡ after_name (chars text.now) }
+    requires end { IsEndOf text.now rest.now }
     ensures { result ≡ opens_quoted (chars text.now) }
 {
-    opens(text) && !is_bool(name_before(text, after_name(text)))
+    opens(text) && !starts_with_bool(text, c, after, rest)
 }

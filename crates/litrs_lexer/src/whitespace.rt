@@ -39,7 +39,8 @@ pub fn after_white_space(text: &str) -> &str
 /// Returns `true` if `text` starts with white space of ASCII or a character that is not ASCII.
 #[inline(always)]
 fn may_start_with_white_space(text: &str) -> bool
-    ensures { result ≡ (first_passes is_ascii_white_space text.now || first_passes is_wide text.now) }
+    ensures { result
+        ≡ (first_passes is_ascii_white_space text.now || first_passes is_wide text.now) }
 {
     match text.as_bytes() {
         [first, ..] => is_of_class(*first, Class::Space) || *first >= 128,

@@ -2,6 +2,7 @@
 pub mod Ends
 -- names, and that a literal at the front opens
 pub mod Names
+pub mod Runs
 pub mod Opened
 -- what longer texts keep, and that the literal is the only one
 pub mod LongerTexts

@@ -21,6 +21,7 @@ ghost use Rattle.litrs_prefix.specs.Prefix.{ends_suffix, ends_integer, ends_floa
 
 use crate::follow::{begins_with_digit, keeps_period};
 use crate::name::{after_name, split_first_char, split_name};
+use crate::opening::begins_like_bool;
 use litrs::{ParseError, ParseErrorKind};
 use litrs_lex::{
     Front, NumberCut, StringKind, cut_bool, cut_byte, cut_char, cut_number, cut_quoted,
@@ -53,7 +54,7 @@ fn some_end(text: &str) -> usize
     }
 }
 
-/// Where a bool ends, if the name at the front is one.
+/// Returns where a bool ends, or `None` if the name at the front of `text` is not a bool.
 fn bool_end(text: &str) -> Option<usize>
     ensures boundary { IfSome result (IsCharBoundary text.now) }
     ensures literal { IfSome result (λ end. (b : Bool) (r : List ℕ) →
@@ -63,6 +64,9 @@ fn bool_end(text: &str) -> Option<usize>
     ensures bool { IfSome result (λ end.
         (b : Bool) × (r : List ℕ) × (bool_text b ++ r ≡ chars text.now)) }
 {
+    if !begins_like_bool(text) {
+        return None;
+    }
     let (name, _) = split_name(text);
     match cut_bool(name) {
         Some(_) => Some(name.len()),

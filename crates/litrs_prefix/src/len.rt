@@ -1,4 +1,4 @@
-//! How many bytes the literal at the front of a text has.
+//! The length of the literal at the front of a text.
 ghost use Rattle.std.specs.Prelude.{◌&&◌, codes, drop, IsTrue, IfSome, IfNone};
 ghost use Rattle.std.specs.Str.{chars, IsCharBoundary};
 ghost use Rattle.litrs_base.specs.Text.{begins_with};
@@ -12,6 +12,7 @@ ghost use Rattle.litrs_grammar.specs.Quoted.{IsQuotedLiteral};
 ghost use Rattle.litrs_grammar.specs.Raw.{IsRawLiteral};
 ghost use Rattle.litrs_lex.specs.Front.{IsFront};
 ghost use Rattle.litrs_prefix.specs.Ends.{StandsBefore, StandsBy};
+ghost use Rattle.litrs_prefix.specs.Opens.{opens};
 ghost use Rattle.litrs_prefix.specs.Prefix.{ends_suffix, ends_integer, ends_float, HasPrefix, HasNoPrefix};
 
 use crate::end::literal_end;
@@ -20,19 +21,27 @@ use crate::opening::opens;
 use litrs::{FloatLit, IntegerLit};
 use litrs_lex::{Front, StringKind, cut_byte, cut_char, cut_quoted, scan_raw_string};
 
-/// How many bytes the literal at the front of a text has, suffix and all; None where no literal
-/// stands there, malformed or not. It does not allocate: the value of the literal is not made.
+/// Returns the length in bytes of the literal at the front of `text`, suffix included, or `None` if
+/// there is none, malformed or not. It does not allocate: the value of the literal is not made.
 ///
-/// Of `1.max(2)` it is Some(1), of `"a"b + c` Some(4), of `0b12` and of `foo` None.
+/// The result is `Some(1)` for `1.max(2)`, `Some(4)` for `"a"b + c`, and `None` for `0b12` and `foo`.
 pub fn prefix_len(text: &str) -> Option<usize>
     ensures boundary { IfSome result (IsCharBoundary text.now) }
     ensures literal { IfSome result (λ len.
         (d : Derivation) × HasPrefix (chars text.now) d (chars (drop len text.now))) }
     ensures none { IfNone result (HasNoPrefix (chars text.now)) }
 {
-    if !opens(text) {
-        return None;
-    }
+    if opens(text) { opened_len(text) } else { None }
+}
+
+/// Like [`prefix_len`], for a text at whose front a literal begins, valid or malformed.
+pub fn opened_len(text: &str) -> Option<usize>
+    requires { IsTrue (opens (chars text.now)) }
+    ensures boundary { IfSome result (IsCharBoundary text.now) }
+    ensures literal { IfSome result (λ len.
+        (d : Derivation) × HasPrefix (chars text.now) d (chars (drop len text.now))) }
+    ensures none { IfNone result (HasNoPrefix (chars text.now)) }
+{
     let end = literal_end(text)?;
     let (front, rest) = text.split_at(end);
     if stands_before(front, rest) {
@@ -42,7 +51,7 @@ pub fn prefix_len(text: &str) -> Option<usize>
     }
 }
 
-/// Whether the front is a literal that the rest may follow.
+/// Returns `true` if `front` is a literal that `rest` may follow.
 fn stands_before(front: &str, rest: &str) -> bool
     ensures { StandsBefore result (chars front.now) (chars rest.now) }
 {
@@ -58,7 +67,7 @@ fn stands_before(front: &str, rest: &str) -> bool
     }
 }
 
-/// The same of a number.
+/// Like [`stands_before`], for a number.
 fn number_stands(front: &str, rest: &str) -> bool
     requires { IsFront Front.Number front.now }
     ensures { StandsBefore result (chars front.now) (chars rest.now) }
@@ -70,7 +79,7 @@ fn number_stands(front: &str, rest: &str) -> bool
     }
 }
 
-/// Whether the front is an integer that the rest may follow.
+/// Like [`stands_before`], for an integer.
 fn integer_stands(front: &str, rest: &str) -> bool
     ensures { StandsBy (IsIntegerOf (chars front.now))
         (λ d. ends_suffix d.suffix (chars rest.now) && ends_integer d (chars rest.now)) result }
@@ -81,7 +90,7 @@ fn integer_stands(front: &str, rest: &str) -> bool
     }
 }
 
-/// The same of a float.
+/// Like [`stands_before`], for a float.
 fn float_stands(front: &str, rest: &str) -> bool
     ensures { StandsBy (IsFloatOf (chars front.now))
         (λ d. ends_suffix d.suffix (chars rest.now) && ends_float d (chars rest.now)) result }
@@ -92,7 +101,7 @@ fn float_stands(front: &str, rest: &str) -> bool
     }
 }
 
-/// The same of a char.
+/// Like [`stands_before`], for a char.
 fn char_stands(front: &str, rest: &str) -> bool
     requires { IsTrue (begins_with (codes "'") front.now) }
     ensures { StandsBy (IsCharLiteral char_kind (chars front.now))
@@ -104,7 +113,7 @@ fn char_stands(front: &str, rest: &str) -> bool
     }
 }
 
-/// The same of a byte.
+/// Like [`stands_before`], for a byte.
 fn byte_stands(front: &str, rest: &str) -> bool
     requires { IsTrue (begins_with (codes "b'") front.now) }
     ensures { StandsBy (IsCharLiteral byte_kind (chars front.now))
@@ -116,7 +125,7 @@ fn byte_stands(front: &str, rest: &str) -> bool
     }
 }
 
-/// The same of a quoted string of the kind.
+/// Like [`stands_before`], for a quoted string of the kind `kind`.
 fn quoted_stands(front: &str, rest: &str, kind: StringKind) -> bool
     requires { IsTrue (begins_with (quoted_front kind) front.now) }
     ensures { StandsBy (IsQuotedLiteral kind (chars front.now))
@@ -136,7 +145,7 @@ fn quoted_stands(front: &str, rest: &str, kind: StringKind) -> bool
     }
 }
 
-/// The same of a raw string of the kind.
+/// Like [`stands_before`], for a raw string of the kind `kind`.
 fn raw_stands(front: &str, rest: &str, kind: StringKind) -> bool
     requires { IsTrue (begins_with (raw_front kind) front.now) }
     ensures { StandsBy (IsRawLiteral kind (chars front.now))

@@ -42,10 +42,10 @@ ghost use Rattle.litrs_prefix.specs.Prefix.{HasPrefix, HasNoPrefix};
 use end::literal_end;
 pub use follow::may_follow;
 pub use going_on::prefix_goes_on;
-pub use len::prefix_len;
+pub use len::{opened_len, prefix_len};
 use litrs::{Literal, ParseError, ParseErrorKind};
 pub use malformed::after_opened;
-pub use name::{begins_name, split_first_char};
+pub use name::{after_name, after_run, begins_name, split_first_char};
 pub use opening::opens;
 use std::alloc::Global;
 

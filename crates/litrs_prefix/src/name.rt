@@ -1,22 +1,23 @@
 //! Names at the front of a text, and the characters that they are made of.
-ghost use Rattle.std.specs.Prelude.{◌≡◌, ◌∷◌, ◌++◌, [], IfSome, IfNone};
+ghost use Rattle.std.specs.Prelude.{◌≡◌, ◌∷◌, ◌++◌, [], IfSome, IfNone, nat_le};
 ghost use Rattle.std.specs.Char.{encode_utf8};
 ghost use Rattle.std.specs.Str.{chars, IsUtf8};
-ghost use Rattle.litrs_base.specs.Text.{is_empty};
+ghost use Rattle.litrs_base.specs.Text.{first_passes, is_empty};
 ghost use Rattle.litrs_grammar.specs.Suffix.{starts_identifier};
 ghost use Rattle.litrs_prefix.specs.Ends.{IsEndOf};
 ghost use Rattle.litrs_prefix.specs.Opens.{first_name, after_run, after_name, after_hashes};
 
+use litrs_lex::{Run, run_end};
 use unicode_ident::{is_xid_continue, is_xid_start};
 
-/// Whether a name may begin with the character.
+/// Returns `true` if a name may begin with `c`.
 pub fn begins_name(c: char) -> bool
     ensures { result ≡ starts_identifier c }
 {
     c == '_' || is_xid_start(c)
 }
 
-/// The first character of the text and what follows it, or None where there is none.
+/// Returns the first character of `text` and the text after it, or `None` if `text` is empty.
 pub fn split_first_char(text: &str) -> Option<(char, &str)>
     ensures empty { IfNone result (chars text.now ≡ []) }
     ensures parts { IfSome result (λ parts. chars text.now ≡ parts.0 ∷ chars parts.1.now) }
@@ -28,14 +29,14 @@ pub fn split_first_char(text: &str) -> Option<(char, &str)>
     Some((first, chars.as_str()))
 }
 
-/// Whether the text has no character.
+/// Returns `true` if `text` has no character.
 pub fn is_empty(text: &str) -> bool
     ensures { result ≡ is_empty (chars text.now) }
 {
     text.is_empty()
 }
 
-/// The name at the front of the text, empty where there is none, and what follows it.
+/// Returns the name at the front of `text`, which is empty if there is none, and the text after it.
 pub fn split_name(text: &str) -> (&str, &str)
     ensures name { chars result.0.now ≡ first_name (chars text.now) }
     ensures rest { chars result.1.now ≡ after_name (chars text.now) }
@@ -46,7 +47,7 @@ pub fn split_name(text: &str) -> (&str, &str)
     text.split_at(text.len() - rest.len())
 }
 
-/// What follows the name at the front of the text: all of it, where there is none.
+/// Returns the part of `text` after the name at its front: all of it if it starts with none.
 pub fn after_name(text: &str) -> &str
     ensures rest { chars result.now ≡ after_name (chars text.now) }
     ensures end { IsEndOf text.now result.now }
@@ -61,8 +62,32 @@ pub fn after_name(text: &str) -> &str
     }
 }
 
-/// What follows the characters at the front of the text that a name goes on with.
+/// Returns the part of `text` after the characters at its front that can continue a name. ASCII
+/// characters are passed by their bytes.
 pub fn after_run(text: &str) -> &str
+    ensures rest { chars result.now ≡ after_run (chars text.now) }
+    ensures end { IsEndOf text.now result.now }
+{
+    let (_, rest) = text.split_at(run_end(text.as_bytes(), Run::Identifier));
+    if starts_beyond_ascii(rest) {
+        after_any_run(rest)
+    } else {
+        rest
+    }
+}
+
+/// Returns `true` if `text` starts with a character that is not ASCII.
+fn starts_beyond_ascii(text: &str) -> bool
+    ensures { result ≡ first_passes (nat_le 128) text.now }
+{
+    match text.as_bytes() {
+        [first, ..] => *first >= 128,
+        _ => false,
+    }
+}
+
+/// Like [`after_run`], but reads character by character.
+fn after_any_run(text: &str) -> &str
     ensures rest { chars result.now ≡ after_run (chars text.now) }
     ensures end { IsEndOf text.now result.now }
 {
@@ -75,7 +100,7 @@ pub fn after_run(text: &str) -> &str
     }
 }
 
-/// What follows the hashes at the front of the text.
+/// Returns the part of `text` after the hashes at its front.
 pub fn after_hashes(text: &str) -> &str
     ensures rest { chars result.now ≡ after_hashes (chars text.now) }
     ensures end { IsEndOf text.now result.now }

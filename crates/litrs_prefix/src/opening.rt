@@ -1,7 +1,7 @@
-//! Whether a literal opens at the front of a text.
-ghost use Rattle.std.specs.Prelude.{◌≡◌};
+//! Tests whether a literal begins at the front of a text.
+ghost use Rattle.std.specs.Prelude.{◌≡◌, ◌||◌, codes};
 ghost use Rattle.std.specs.Str.{chars};
-ghost use Rattle.litrs_base.specs.Text.{first_passes};
+ghost use Rattle.litrs_base.specs.Text.{begins_with, first_passes};
 ghost use Rattle.litrs_grammar.specs.Bool.{is_bool};
 ghost use Rattle.litrs_grammar.specs.Raw.{is_quote};
 ghost use Rattle.litrs_prefix.specs.Opens.{first_name, begins_lifetime, is_single_quote, opens_raw, opens_c_string, opens_bytes, opens};
@@ -9,8 +9,8 @@ ghost use Rattle.litrs_prefix.specs.Opens.{first_name, begins_lifetime, is_singl
 use crate::name::{after_hashes, after_name, begins_name, split_first_char, split_name};
 use litrs_lex::cut_bool;
 
-/// Whether a literal opens at the front of the text, by its first characters: `12abc`, `0b12`,
-/// `"a`, `b'`, `r#"` and `true` open one, and `abc`, `r#a`, `'a, 'b`, `trueish` and ` 1` do not.
+/// Returns `true` if a literal begins at the front of `text`, by its first characters: for `12abc`,
+/// `0b12`, `"a`, `b'`, `r#"` and `true`, but not for `abc`, `r#a`, `'a, 'b`, `trueish` and ` 1`.
 pub fn opens(text: &str) -> bool
     ensures { result ≡ opens (chars text.now) }
 {
@@ -22,13 +22,13 @@ pub fn opens(text: &str) -> bool
                 || (c == 'r' && opens_raw(rest))
                 || (c == 'b' && opens_bytes(rest))
                 || (c == 'c' && opens_c_string(rest))
-                || is_bool(split_name(text).0)
+                || opens_bool(text)
         }
         None => false,
     }
 }
 
-/// Whether a name that no `'` follows stands first, as after the `'` of a lifetime.
+/// Returns `true` if `text` starts with a name before no `'`, as after the `'` of a lifetime.
 fn begins_lifetime(text: &str) -> bool
     ensures { result ≡ begins_lifetime (chars text.now) }
 {
@@ -38,7 +38,7 @@ fn begins_lifetime(text: &str) -> bool
     }
 }
 
-/// Whether `'` stands first.
+/// Returns `true` if `text` starts with `'`.
 pub fn begins_with_single_quote(text: &str) -> bool
     ensures { result ≡ first_passes is_single_quote (chars text.now) }
 {
@@ -48,7 +48,7 @@ pub fn begins_with_single_quote(text: &str) -> bool
     }
 }
 
-/// Whether `"` stands first.
+/// Returns `true` if `text` starts with `"`.
 fn begins_with_quote(text: &str) -> bool
     ensures { result ≡ first_passes is_quote (chars text.now) }
 {
@@ -58,14 +58,14 @@ fn begins_with_quote(text: &str) -> bool
     }
 }
 
-/// Whether hashes and `"` stand first, as after the `r` of a raw string.
+/// Returns `true` if `text` starts with hashes and `"`, as after the `r` of a raw string.
 pub fn opens_raw(text: &str) -> bool
     ensures { result ≡ opens_raw (chars text.now) }
 {
     begins_with_quote(after_hashes(text))
 }
 
-/// Whether what follows `b` opens a byte or a byte string with it.
+/// Returns `true` if `b` and `text` begin a byte or a byte string.
 pub fn opens_bytes(text: &str) -> bool
     ensures { result ≡ opens_bytes (chars text.now) }
 {
@@ -75,7 +75,7 @@ pub fn opens_bytes(text: &str) -> bool
     }
 }
 
-/// Whether what follows `c` opens a C string with it.
+/// Returns `true` if `c` and `text` begin a C string.
 pub fn opens_c_string(text: &str) -> bool
     ensures { result ≡ opens_c_string (chars text.now) }
 {
@@ -85,7 +85,21 @@ pub fn opens_c_string(text: &str) -> bool
     }
 }
 
-/// Whether the name is a bool.
+/// Returns `true` if the name at the front of `text` is a bool.
+fn opens_bool(text: &str) -> bool
+    ensures { result ≡ is_bool (first_name (chars text.now)) }
+{
+    begins_like_bool(text) && is_bool(split_name(text).0)
+}
+
+/// Returns `true` if `text` starts with the first two letters of a bool.
+pub fn begins_like_bool(text: &str) -> bool
+    ensures { result ≡ (begins_with (codes "tr") text.now || begins_with (codes "fa") text.now) }
+{
+    matches!(text.as_bytes(), [b't', b'r', ..] | [b'f', b'a', ..])
+}
+
+/// Returns `true` if `name` is `true` or `false`.
 fn is_bool(name: &str) -> bool
     ensures { result ≡ is_bool (chars name.now) }
 {

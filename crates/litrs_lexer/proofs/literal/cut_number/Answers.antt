@@ -6,7 +6,7 @@ use Rattle.litrs_lex.proofs.SuffixBytes.{is_word}
 use Rattle.litrs_prefix.specs.Prefix.{HasPrefix}
 use Rattle.litrs_prefix.proofs.Pieces.{parts_spell}
 use Rattle.litrs_lexer.specs.declared.kind.TokenKind.TheVariants.{Literal}
-use Rattle.litrs_lexer.proofs.AsciiRuns.{name_cut}
+use Rattle.litrs_prefix.proofs.Runs.{name_cut}
 use Rattle.litrs_lexer.proofs.Cuts.{cut_at, literal_some}
 use Rattle.litrs_lexer.proofs.literal.cut_number.Goals as goal
 

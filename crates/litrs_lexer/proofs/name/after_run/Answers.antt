@@ -5,7 +5,7 @@ use Rattle.std.specs.Str.{chars}
 use Rattle.litrs_prefix.proofs.Ends.{after_bytes, end_of_end}
 use Rattle.litrs_prefix.specs.Opens.{after_run}
 use Rattle.litrs_lex.proofs.SuffixBytes.{is_word}
-use Rattle.litrs_lexer.proofs.AsciiRuns.{name_cut, name_ends}
+use Rattle.litrs_prefix.proofs.Runs.{name_cut, name_ends}
 use Rattle.litrs_lexer.proofs.name.after_run.Goals as goal
 
 pub split_at-requires : goal.split_at-requires
@@ -13,13 +13,13 @@ split_at-requires c = (name_cut c.args.text.now c.class_len.result c.utf8.text (
 
 pub returns-then-starts_beyond_ascii-clause-rest : goal.returns-then-starts_beyond_ascii-clause-rest
 returns-then-starts_beyond_ascii-clause-rest c =
-    c.after_any_run.ensures.rest
+    c.after_run.ensures.rest
     ∙ (ap (λ (l : List ℕ). after_run (chars l)) c.split_at.ensures.back ∙ (name_cut c.args.text.now c.class_len.result c.utf8.text (c.class_len.ensures ∙ ap (prefix_len is_word) c.as_bytes.ensures.value)).1)
 
 pub returns-then-starts_beyond_ascii-clause-end : goal.returns-then-starts_beyond_ascii-clause-end
 returns-then-starts_beyond_ascii-clause-end c =
-    end_of_end c.args.text.now c.split_at.result.1.now c.after_any_run.result.now
-    (after_bytes c.args.text.now c.split_at.result.1.now c.class_len.result c.split_at.ensures.back) c.after_any_run.ensures.end
+    end_of_end c.args.text.now c.split_at.result.1.now c.after_run.result.now
+    (after_bytes c.args.text.now c.split_at.result.1.now c.class_len.result c.split_at.ensures.back) c.after_run.ensures.end
 
 pub returns-else-starts_beyond_ascii-clause-rest : goal.returns-else-starts_beyond_ascii-clause-rest
 returns-else-starts_beyond_ascii-clause-rest c =

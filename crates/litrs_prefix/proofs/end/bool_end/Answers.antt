@@ -11,7 +11,12 @@ use Rattle.litrs_prefix.specs.Prefix.{ends_bool}
 use Rattle.litrs_prefix.specs.Opens.{first_name, after_name}
 use Rattle.litrs_prefix.proofs.Names.{name_and_rest}
 use Rattle.litrs_prefix.proofs.Dispatched.{bool_after, bool_first}
+use Rattle.litrs_prefix.proofs.Runs.{no_bool_first}
 use Rattle.litrs_prefix.proofs.end.bool_end.Goals as goal
+
+pub returns-then-not-begins_like_bool-clause-none : goal.returns-then-not-begins_like_bool-clause-none
+returns-then-not-begins_like_bool-clause-none c = λ b r spells.
+    absurd (no_bool_first c.args.text.now c.utf8.text (sym c.begins_like_bool.ensures ∙ c.if-not-begins_like_bool.true) b r spells)
 
 pub returns-in-Some-clause-boundary : goal.returns-in-Some-clause-boundary
 returns-in-Some-clause-boundary c =

@@ -1,26 +1,10 @@
--- What was cut off stands there, or nothing does.
-use Rattle.std.proofs.Common.{Bool, sym, ◌∙◌, subst}
-use Rattle.std.specs.Str.{chars}
+-- A literal at the front opens there.
+use Rattle.std.proofs.Common.{sym, ◌∙◌}
 use Rattle.std.proofs.lemmas.Bool.{true≢false}
-use Rattle.litrs_prefix.specs.Ends.{StandsBefore}
+use Rattle.std.specs.Str.{chars}
 use Rattle.litrs_prefix.proofs.Opened.{opened}
-use Rattle.litrs_prefix.proofs.Stands.{stands_prefix, stands_none}
 use Rattle.litrs_prefix.proofs.len.prefix_len.Goals as goal
 
-pub returns-then-not-opens-clause-none : goal.returns-then-not-opens-clause-none
-returns-then-not-opens-clause-none c = λ d r at.
-    true≢false (sym (opened (chars c.args.text.now) d r at) ∙ (sym c.opens.ensures ∙ c.if-not-opens.true))
-
-pub returns-then-stands_before-clause-literal : goal.returns-then-stands_before-clause-literal
-returns-then-stands_before-clause-literal c =
-    let front = c.split_at.result.0.now in
-    let rest = c.split_at.result.1.now in
-    stands_prefix c.args.text.now front rest c.in_ok-end.end c.utf8.text c.in_ok-end.ensures.boundary c.split_at.ensures.front c.split_at.ensures.back
-    (subst (λ (b : Bool). StandsBefore b (chars front) (chars rest)) c.if-stands_before.true c.stands_before.ensures)
-
-pub returns-else-stands_before-clause-none : goal.returns-else-stands_before-clause-none
-returns-else-stands_before-clause-none c =
-    let front = c.split_at.result.0.now in
-    let rest = c.split_at.result.1.now in
-    stands_none c.args.text.now front rest c.in_ok-end.end c.utf8.text c.split_at.ensures.front c.split_at.ensures.back c.in_ok-end.ensures.literal
-    (subst (λ (b : Bool). StandsBefore b (chars front) (chars rest)) c.if-stands_before.false c.stands_before.ensures)
+pub returns-else-opens-clause-none : goal.returns-else-opens-clause-none
+returns-else-opens-clause-none c = λ d r at.
+    true≢false (sym (opened (chars c.args.text.now) d r at) ∙ (sym c.opens.ensures ∙ c.if-opens.false))

@@ -1,21 +1,29 @@
--- Each character that is passed is of the run.
-use Rattle.std.proofs.Common.{◌≡◌, true, ◌∷◌, sym, ap, ◌∙◌}
+-- The ASCII characters at the front are passed by their bytes.
+use Rattle.std.proofs.Common.{List, ℕ, sym, ap, ◌∙◌}
+use Rattle.std.specs.List.{prefix_len}
 use Rattle.std.specs.Str.{chars}
-use Rattle.unicode_ident.specs.Ident.{is_xid_continue}
-use Rattle.litrs_base.proofs.ListTests.{if_true}
+use Rattle.litrs_lex.proofs.SuffixBytes.{is_word}
 use Rattle.litrs_prefix.specs.Opens.{after_run}
-use Rattle.litrs_prefix.proofs.Ends.{shorter, after_first}
+use Rattle.litrs_prefix.proofs.Ends.{after_bytes, end_of_end}
+use Rattle.litrs_prefix.proofs.Runs.{name_cut, name_ends}
 use Rattle.litrs_prefix.proofs.name.after_run.Goals as goal
 
-pub loop-c-smaller : goal.loop-c-smaller
-loop-c-smaller c = shorter c.loop-c.rest.now c.in-Some.c c.in-Some.after.now c.in-Some.ensures.bytes
+pub split_at-requires : goal.split_at-requires
+split_at-requires c = (name_cut c.args.text.now c.run_end.result c.utf8.text (c.run_end.ensures.run ∙ ap (prefix_len is_word) c.as_bytes.ensures.value)).0
 
-pub loop-c-preserved : goal.loop-c-preserved
-loop-c-preserved c =
-    let passes : is_xid_continue c.in-Some.c ≡ true = sym c.is_xid_continue.ensures.value ∙ c.if-is_xid_continue.true in
-    let after = c.in-Some.after.now in
-    let inv = c.loop-c.invariant in (
-      c.in-Some.ensures.rest,
-      sym (ap after_run c.in-Some.ensures.parts ∙ if_true (is_xid_continue c.in-Some.c) (after_run (chars after)) (c.in-Some.c ∷ chars after) passes) ∙ inv.1,
-      after_first c.args.text.now c.loop-c.rest.now after c.in-Some.c inv.2 c.in-Some.ensures.bytes,
-    )
+pub returns-then-starts_beyond_ascii-clause-rest : goal.returns-then-starts_beyond_ascii-clause-rest
+returns-then-starts_beyond_ascii-clause-rest c =
+    c.after_any_run.ensures.rest
+    ∙ (ap (λ (l : List ℕ). after_run (chars l)) c.split_at.ensures.back ∙ (name_cut c.args.text.now c.run_end.result c.utf8.text (c.run_end.ensures.run ∙ ap (prefix_len is_word) c.as_bytes.ensures.value)).1)
+
+pub returns-then-starts_beyond_ascii-clause-end : goal.returns-then-starts_beyond_ascii-clause-end
+returns-then-starts_beyond_ascii-clause-end c =
+    end_of_end c.args.text.now c.split_at.result.1.now c.after_any_run.result.now
+    (after_bytes c.args.text.now c.split_at.result.1.now c.run_end.result c.split_at.ensures.back) c.after_any_run.ensures.end
+
+pub returns-else-starts_beyond_ascii-clause-rest : goal.returns-else-starts_beyond_ascii-clause-rest
+returns-else-starts_beyond_ascii-clause-rest c =
+    name_ends c.args.text.now c.split_at.result.1.now c.run_end.result c.utf8.text (c.run_end.ensures.run ∙ ap (prefix_len is_word) c.as_bytes.ensures.value) c.split_at.ensures.back (sym c.starts_beyond_ascii.ensures ∙ c.if-starts_beyond_ascii.false)
+
+pub returns-else-starts_beyond_ascii-clause-end : goal.returns-else-starts_beyond_ascii-clause-end
+returns-else-starts_beyond_ascii-clause-end c = after_bytes c.args.text.now c.split_at.result.1.now c.run_end.result c.split_at.ensures.back

@@ -5,7 +5,7 @@ use denote.Text.{Utf8}
 use denote.Shadow.{shadow}
 use Rattle.litrs_prefix.specs.Opens.{after_run}
 use Rattle.litrs_prefix.specs.Ends.{IsEndOf}
-use Rattle.litrs_lexer.proofs.name.after_any_run.Given as goal
+use Rattle.litrs_prefix.proofs.name.after_any_run.Given as goal
 
 abbrev pub invariant-loop-c : goal.invariant-loop-c
 invariant-loop-c l = shadow (Utf8 l.rest) × (after_run (chars l.rest) ≡ after_run (chars l.text)) × IsEndOf l.text l.rest

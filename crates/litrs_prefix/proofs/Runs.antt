@@ -1,0 +1,73 @@
+-- Names at the front of a text: their ASCII characters are passed by their bytes.
+use Rattle.std.proofs.Common.{◌≡◌, ℕ, suc, ◌+◌, ◌<◌, Bool, true, false, cond, List, [], ◌∷◌, ◌++◌, drop, refl, sym, ap, subst, ◌∙◌, arith}
+use Rattle.std.specs.Prelude.{nat_le, codes, ◌||◌}
+use Rattle.std.specs.List.{prefix_len}
+use Rattle.std.specs.Str.{chars, IsUtf8, IsCharBoundary}
+use Rattle.std.proofs.lemmas.Bool.{true≢false, false_from_ne_true, or_parts}
+use Rattle.std.proofs.lemmas.Bool.Decides.{nat_tests}
+use Rattle.std.proofs.lemmas.Str.{IsCharBoundary-from_drop, chars-nil}
+use Rattle.unicode_ident.specs.Ident.{is_xid_continue}
+use Rattle.unicode_ident.proofs.IdentLemmas.{is_xid_continue-ascii}
+use Rattle.litrs_base.proofs.Chars.{chars_ascii, ascii_from_test, begins_with-chars, passing_front, prefix_len-chars}
+use Rattle.litrs_base.proofs.ListTests.{if_true, if_false}
+use Rattle.litrs_base.specs.Text.{begins_with, first_passes}
+use Rattle.litrs_grammar.specs.Bool.{bool_text, is_bool}
+use Rattle.litrs_grammar.proofs.Laws.Integer.{first_passes-rest}
+use Rattle.litrs_grammar.proofs.Laws.Literal.{some_bool}
+use Rattle.litrs_lex.proofs.SuffixBytes.{is_word, words_are_ascii}
+use Rattle.litrs_prefix.specs.Opens.{after_run, after_name, first_name}
+use Rattle.litrs_prefix.proofs.Names.{name_and_rest}
+
+skip_more : (c : ℕ) (n : ℕ) (t : List ℕ) → drop (1 + n) (c ∷ t) ≡ drop n t
+skip_more c n t = let e : 1 + n ≡ suc n = omega arith in ap (λ (k : ℕ). drop k (c ∷ t)) e
+
+run_from : (t : List ℕ) → after_run t ≡ after_run (drop (prefix_len is_word t) t)
+run_from [] = refl
+run_from (c ∷ t) = go (is_word c) refl (run_from t)
+  where
+    go : (b : Bool) → is_word c ≡ b → after_run t ≡ after_run (drop (prefix_len is_word t) t) →
+        after_run (c ∷ t) ≡ after_run (drop (cond b (1 + prefix_len is_word t) 0) (c ∷ t))
+    go true e rec =
+        if_true (is_xid_continue c) (after_run t) (c ∷ t) (is_xid_continue-ascii c (ascii_from_test is_word c words_are_ascii e) ∙ e)
+        ∙ (rec ∙ ap after_run (sym (skip_more c (prefix_len is_word t) t)))
+    go false e rec = refl
+
+-- where the text is cut after the ASCII characters
+pub name_cut : (bs : List ℕ) (n : ℕ) → IsUtf8 bs → n ≡ prefix_len is_word bs → IsCharBoundary bs n × (after_run (chars (drop n bs)) ≡ after_run (chars bs))
+name_cut bs n u is =
+    let m : ℕ = prefix_len is_word bs in
+    let f = passing_front is_word bs words_are_ascii u in
+    let same : after_run (chars (drop m bs)) ≡ after_run (chars bs) =
+    ap after_run (sym f.rest) ∙ (ap (λ (k : ℕ). after_run (drop k (chars bs))) (sym (prefix_len-chars is_word bs words_are_ascii u)) ∙ sym (run_from (chars bs))) in
+    subst (λ (k : ℕ). IsCharBoundary bs k × (after_run (chars (drop k bs)) ≡ after_run (chars bs))) (sym is) (IsCharBoundary-from_drop bs m f.within f.utf8, same)
+
+-- no more characters pass before an ASCII character that does not
+ends_at : (bs : List ℕ) → first_passes is_word bs ≡ false → first_passes (nat_le 128) bs ≡ false → after_run (chars bs) ≡ chars bs
+ends_at [] a b = ap after_run chars-nil ∙ sym chars-nil
+ends_at (c ∷ bs) a b =
+    let low : c < 128 = grind (arith, nat_tests) in
+    ap after_run (chars_ascii c bs low) ∙ (if_false (is_xid_continue c) (after_run (chars bs)) (c ∷ chars bs) (is_xid_continue-ascii c low ∙ a) ∙ sym (chars_ascii c bs low))
+
+pub name_ends : (bs rest : List ℕ) (n : ℕ) → IsUtf8 bs → n ≡ prefix_len is_word bs → rest ≡ drop n bs → first_passes (nat_le 128) rest ≡ false → chars rest ≡ after_run (chars bs)
+name_ends bs rest n u is back narrow =
+    let stops : first_passes is_word rest ≡ false = ap (first_passes is_word) (back ∙ ap (λ (k : ℕ). drop k bs) is) ∙ first_passes-rest is_word bs in
+    sym (ends_at rest stops narrow) ∙ (ap (λ (l : List ℕ). after_run (chars l)) back ∙ (name_cut bs n u is).1)
+
+-- bools, by their first bytes
+
+begins_as : (b : Bool) (r : List ℕ) → begins_with (codes "tr") (bool_text b ++ r) ≡ false → begins_with (codes "fa") (bool_text b ++ r) ≡ false → ⊥
+begins_as true r tr fa = true≢false tr
+begins_as false r tr fa = true≢false fa
+
+-- no bool stands at the front, whatever follows it
+pub no_bool_first : (bs : List ℕ) → IsUtf8 bs → (begins_with (codes "tr") bs || begins_with (codes "fa") bs) ≡ false → (b : Bool) (r : List ℕ) → bool_text b ++ r ≡ chars bs → ⊥
+no_bool_first bs u none b r spells =
+    let neither = or_parts (begins_with (codes "tr") bs) (begins_with (codes "fa") bs) none in
+    begins_as b r
+    (ap (begins_with (codes "tr")) spells ∙ (begins_with-chars (codes "tr") bs refl u ∙ neither.0))
+    (ap (begins_with (codes "fa")) spells ∙ (begins_with-chars (codes "fa") bs refl u ∙ neither.1))
+
+pub no_bool_name : (bs : List ℕ) → IsUtf8 bs → (begins_with (codes "tr") bs || begins_with (codes "fa") bs) ≡ false → is_bool (first_name (chars bs)) ≡ false
+no_bool_name bs u none = false_from_ne_true (is_bool (first_name (chars bs))) (λ is.
+    let b = some_bool (first_name (chars bs)) is in
+    no_bool_first bs u none b.0 (after_name (chars bs)) (ap (λ (l : List ℕ). l ++ after_name (chars bs)) b.1 ∙ name_and_rest (chars bs)))
