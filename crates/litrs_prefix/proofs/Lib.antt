@@ -25,5 +25,7 @@ pub mod MeantEnds
 pub mod MeantPieces
 -- whether what was cut off is a literal
 pub mod Stands
+-- literals that are read once
+pub mod PlainLiterals
 -- examples
 pub mod Examples

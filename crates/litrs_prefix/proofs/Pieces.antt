@@ -78,6 +78,12 @@ pub memory_at : (bs front rest : List ℕ) (n : ℕ) (e : ParseError) → IsUtf8
 memory_at bs front rest n e u bound before after size (inl is) kind = absurd (no_refusal_is_of_memory literal_parse (chars front) (refusal_of e) is.table kind)
 memory_at bs front rest n e u bound before after size (inr is) kind = inr (out_of_memory bs front rest n e u bound before after size is)
 
+-- where the piece is a literal, each error is that one
+pub memory_of : (bs front rest : List ℕ) (n : ℕ) (e : ParseError) (d : Derivation) → IsUtf8 bs → IsCharBoundary bs n → front ≡ take n bs → rest ≡ drop n bs → length front ≡ n →
+    IsRefusedOrOutOfMemory literal_parse (chars front) e → IsLiteral (chars front) d → IsMalformedOrOutOfMemory (chars bs) (record { error = e; len = n })
+memory_of bs front rest n e d u bound before after size (inl is) literal = absurd (is.none d literal)
+memory_of bs front rest n e d u bound before after size (inr is) literal = inr (out_of_memory bs front rest n e u bound before after size is)
+
 -- another error says that the piece is no literal
 pub none_at : (front : List ℕ) (e : ParseError) → IsRefusedOrOutOfMemory literal_parse front e → (kind_of e ≡ OutOfMemory → ⊥) → HasNoDerivation (IsLiteral front)
 none_at front e (inl is) other = is.none

@@ -81,7 +81,7 @@ string_of string_kind d h = absurd cc
 string_of byte_string_kind d h = absurd cc
 string_of c_string_kind d h = absurd cc
 
-to_string : (kind : StringKind) (t : List ℕ) (x : StringParts) → IsString kind t x → IsLiteral t (string_at kind x)
+pub to_string : (kind : StringKind) (t : List ℕ) (x : StringParts) → IsString kind t x → IsLiteral t (string_at kind x)
 to_string string_kind t x h = h
 to_string byte_string_kind t x h = h
 to_string c_string_kind t x h = h
@@ -91,7 +91,7 @@ from_string string_kind t x h = h
 from_string byte_string_kind t x h = h
 from_string c_string_kind t x h = h
 
-string_follows : (kind : StringKind) (x : StringParts) (r : List ℕ) → may_follow (string_at kind x) r ≡ ends_suffix (string_suffix x) r
+pub string_follows : (kind : StringKind) (x : StringParts) (r : List ℕ) → may_follow (string_at kind x) r ≡ ends_suffix (string_suffix x) r
 string_follows string_kind x r = refl
 string_follows byte_string_kind x r = refl
 string_follows c_string_kind x r = refl

@@ -1,7 +1,7 @@
 -- Where the code finds that a literal ends.
 use Rattle.std.specs.Prelude.{◌≡◌, ◌⊎◌, ℕ, Bool, true, false, not, ◌==◌, ◌&&◌, List, [], ◌∷◌, ◌++◌, drop, if◌then◌else◌, IsTrue, IsFalse}
 use Rattle.std.specs.List.{prefix_len}
-use Rattle.std.specs.Str.{chars, IsCharBoundary}
+use Rattle.std.specs.Str.{chars, IsUtf8, IsCharBoundary}
 use Rattle.litrs_base.specs.declared.err.ParseErrorKind.{ParseErrorKind}
 use Rattle.litrs_base.specs.declared.err.ParseErrorKind.TheVariants.{UnexpectedChar, InvalidSuffix}
 use Rattle.litrs_base.specs.Characters.{single_quote, backslash, line_feed}
@@ -59,6 +59,13 @@ IsSuffixKind kind = (kind ≡ UnexpectedChar) ⊎ (kind ≡ InvalidSuffix)
 -- the place in the text with these bytes is where this rest begins
 abbrev pub EndsBefore : (bytes rest : List ℕ) → ℕ → Type 0
 EndsBefore bytes rest end = IsCharBoundary bytes end × (chars (drop end bytes) ≡ rest)
+
+-- The text with these bytes has a literal at its front, and this rest.
+pub record HasLiteralBefore (bytes rest : List ℕ) : Type 0 where
+  pub end : IsEndOf bytes rest
+  pub utf8 : IsUtf8 rest
+  pub literal : Derivation
+  pub at_front : HasPrefix (chars bytes) literal (chars rest)
 
 -- Whether the front is a literal that the rest may follow: where it is, one such; where it is not,
 -- none.

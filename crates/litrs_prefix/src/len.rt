@@ -18,6 +18,7 @@ ghost use Rattle.litrs_prefix.specs.Prefix.{ends_suffix, ends_integer, ends_floa
 use crate::end::literal_end;
 use crate::follow::{ends_bool, ends_float, ends_integer, ends_suffix};
 use crate::opening::opens;
+use crate::plain::after_plain;
 use litrs::{FloatLit, IntegerLit};
 use litrs_lex::{Front, StringKind, cut_byte, cut_char, cut_quoted, scan_raw_string};
 
@@ -42,6 +43,9 @@ pub fn opened_len(text: &str) -> Option<usize>
         (d : Derivation) × HasPrefix (chars text.now) d (chars (drop len text.now))) }
     ensures none { IfNone result (HasNoPrefix (chars text.now)) }
 {
+    if let Some(rest) = after_plain(text) {
+        return Some(text.len() - rest.len());
+    }
     let end = literal_end(text)?;
     let (front, rest) = text.split_at(end);
     if stands_before(front, rest) {

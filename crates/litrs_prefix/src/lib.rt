@@ -35,7 +35,7 @@ ghost use Rattle.litrs.specs.Literal.{Derivation, IsLiteral, literal_parse};
 ghost use Rattle.litrs.specs.LiteralDerivation.{literal_raw, derivation};
 ghost use Rattle.litrs.specs.Refused.{IsRefusedOrOutOfMemory};
 ghost use Rattle.litrs_prefix.specs.Malformed.{IsMalformedOrOutOfMemory, IsMovedBy};
-ghost use Rattle.litrs_prefix.specs.Ends.{EndsBefore};
+ghost use Rattle.litrs_prefix.specs.Ends.{EndsBefore, HasLiteralBefore};
 ghost use Rattle.litrs_prefix.specs.Opens.{opens};
 ghost use Rattle.litrs_prefix.specs.Prefix.{HasPrefix, HasNoPrefix};
 
@@ -47,6 +47,7 @@ use litrs::{Literal, ParseError, ParseErrorKind};
 pub use malformed::after_opened;
 pub use name::{after_name, after_run, begins_name, split_first_char};
 pub use opening::opens;
+use plain::after_plain;
 use std::alloc::Global;
 
 mod end;
@@ -57,6 +58,7 @@ mod len;
 mod malformed;
 mod name;
 mod opening;
+mod plain;
 
 /// A literal and what follows it in the text.
 #[derive(Drop)]
@@ -108,13 +110,39 @@ pub fn parse_prefix(alloc: Global, text: &str) -> Result<Option<Prefix<'_>>, Mal
     if !opens(text) {
         return Ok(None);
     }
+    if let Some(rest) = after_plain(text) {
+        return parse_before(alloc, text, rest);
+    }
     match literal_end(text) {
         Some(end) => parse_front(alloc, text, end),
         None => Err(refuse_meant(alloc, text)),
     }
 }
 
-/// The same of a text where a literal opens, which ends there if it stands at the front.
+/// Like [`parse_prefix`], for a text of a literal and `rest`.
+fn parse_before<'a>(
+    alloc: Global,
+    text: &'a str,
+    rest: &'a str,
+) -> Result<Option<Prefix<'a>>, MalformedPrefix>
+    requires { HasLiteralBefore text.now rest.now }
+    ensures spells { IfOk result (λ found. IfSome found (λ prefix.
+        literal_raw prefix.literal ++ prefix.rest.now ≡ text.now)) }
+    ensures found { IfOk result (λ found. IfSome found (λ prefix.
+        HasPrefix (chars text.now) (derivation prefix.literal) (chars prefix.rest.now))) }
+    ensures some { IfOk result IsSome }
+    ensures malformed { IfErr result (IsMalformedOrOutOfMemory (chars text.now)) }
+{
+    let len = text.len() - rest.len();
+    let (front, _) = text.split_at(len);
+    match Literal::parse(alloc, front) {
+        Ok(literal) => Ok(Some(Prefix { literal, rest })),
+        Err(error) => Err(MalformedPrefix { error, len }),
+    }
+}
+
+/// Like [`parse_prefix`], for a text in which a literal begins, given the only place where it can
+/// end.
 fn parse_front(alloc: Global, text: &str, end: usize) -> Result<Option<Prefix<'_>>, MalformedPrefix>
     requires boundary { IsCharBoundary text.now end }
     requires opens { IsTrue (opens (chars text.now)) }

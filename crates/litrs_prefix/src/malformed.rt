@@ -1,13 +1,14 @@
 //! What was meant as a literal, where one opens at the front of a text and none stands there.
 ghost use Rattle.std.specs.Prelude.{◌≡◌, drop};
 ghost use Rattle.std.specs.Str.{chars};
-ghost use Rattle.litrs_prefix.specs.Ends.{after_digits, after_exponent, after_fraction, after_sign};
+ghost use Rattle.litrs_prefix.specs.Ends.{IsEndOf, after_digits, after_exponent, after_fraction, after_sign};
 ghost use Rattle.litrs_prefix.specs.Meant.{after_quoted, after_single_quote, after_char, after_closing, after_raw, after_prefixed, after_number, after_body, after_opened};
 
 use crate::name::{after_hashes, after_name, split_first_char};
 use crate::opening::{begins_with_single_quote, opens_bytes, opens_c_string, opens_raw};
-use litrs_lex::end_dec_digits;
+use litrs_base::IntegerBase;
 use litrs_lex::hashes::{hash_len, is_inner_quote};
+use litrs_lex::{Run, run_end};
 
 /// What follows what was meant as a literal that opens at the front of the text: its body up to the
 /// closing, and the name after that.
@@ -69,11 +70,13 @@ fn after_number(text: &str) -> &str
     after_exponent(after_fraction(after_digits(text)))
 }
 
-/// What follows the decimal digits and underscores at the front.
-fn after_digits(text: &str) -> &str
-    ensures { chars result.now ≡ after_digits (chars text.now) }
+/// Returns the part of `text` after the decimal digits and underscores at its front.
+pub(crate) fn after_digits(text: &str) -> &str
+    ensures rest { chars result.now ≡ after_digits (chars text.now) }
+    ensures end { IsEndOf text.now result.now }
 {
-    let (_, rest) = text.split_at(end_dec_digits(text.as_bytes()));
+    let digits = run_end(text.as_bytes(), Run::Digits(IntegerBase::Decimal));
+    let (_, rest) = text.split_at(digits);
     rest
 }
 

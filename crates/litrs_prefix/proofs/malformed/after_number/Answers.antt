@@ -8,4 +8,4 @@ use Rattle.litrs_prefix.proofs.malformed.after_number.Goals as goal
 pub returns : goal.returns
 returns c =
     c.after_exponent.ensures
-    ∙ (ap after_exponent (c.after_fraction.ensures ∙ ap after_fraction c.after_digits.ensures) ∙ sym (number_parts (chars c.args.text.now)))
+    ∙ (ap after_exponent (c.after_fraction.ensures ∙ ap after_fraction c.after_digits.ensures.rest) ∙ sym (number_parts (chars c.args.text.now)))
