@@ -1,14 +1,16 @@
--- White space at the front of a text: its ASCII characters may be passed over by their bytes.
-use Rattle.std.proofs.Common.{◌≡◌, ℕ, suc, ◌+◌, ◌<◌, Bool, true, false, cond, List, [], ◌∷◌, drop, refl, sym, ap, subst, ◌∙◌, arith}
+-- White space at the front of a text: its ASCII characters may be passed over by their bytes. The first byte.
+use Rattle.std.proofs.Common.{◌≡◌, ℕ, suc, ◌+◌, ◌<◌, ◌≤◌, Bool, true, false, cond, List, [], ◌∷◌, ◌++◌, length, drop, slice_index_or, refl, sym, ap, subst, ◌∙◌, arith}
+use Rattle.std.specs.Prelude.{◌||◌, encode_utf8}
 use Rattle.std.specs.List.{prefix_len}
 use Rattle.std.specs.Str.{chars, IsUtf8, IsCharBoundary}
 use Rattle.std.proofs.lemmas.Bool.Decides.{nat_tests}
-use Rattle.std.proofs.lemmas.Str.{IsCharBoundary-from_drop, chars-nil}
-use Rattle.litrs_base.proofs.Chars.{chars_ascii, OnlyAscii, ascii_from_test, passing_front, prefix_len-chars}
+use Rattle.std.proofs.lemmas.Str.{IsCharBoundary-from_drop, chars-nil, encode_ascii}
+use Rattle.litrs_base.proofs.Chars.{chars_ascii, utf8_after_ascii, OnlyAscii, first_passes-chars, ascii_from_test, passing_front, prefix_len-chars}
 use Rattle.litrs_base.proofs.ListTests.{if_true, if_false}
 use Rattle.litrs_base.specs.Text.{first_passes}
 use Rattle.litrs_grammar.proofs.Laws.Integer.{first_passes-rest}
-use Rattle.litrs_lexer.specs.Cut.{is_wide, is_ascii_white_space}
+use Rattle.litrs_prefix.specs.Prefix.{is_quote_or_hash}
+use Rattle.litrs_lexer.specs.Cut.{is_wide, is_ascii_white_space, IsFirstChar}
 use Rattle.litrs_lexer.specs.Whitespace.{is_white_space, after_while, after_white_space}
 
 -- the second test is the first one on ASCII, and fails elsewhere
@@ -59,3 +61,51 @@ white_cut = run_cut is_white_space is_ascii_white_space white_part
 
 pub white_ends : (bs rest : List ℕ) (n : ℕ) → IsUtf8 bs → n ≡ prefix_len is_ascii_white_space bs → rest ≡ drop n bs → first_passes is_wide rest ≡ false → chars rest ≡ after_white_space (chars bs)
 white_ends = run_ends is_white_space is_ascii_white_space white_part
+
+neither : (a b : Bool) → (a || b) ≡ false → (a ≡ false) × (b ≡ false)
+neither true b h = cc
+neither false b h = (refl, h)
+
+-- no white space
+pub white_none : (bs : List ℕ) → (first_passes is_ascii_white_space bs || first_passes is_wide bs) ≡ false → chars bs ≡ after_white_space (chars bs)
+white_none bs h =
+    let both = neither (first_passes is_ascii_white_space bs) (first_passes is_wide bs) h in
+    sym (ends_at is_white_space is_ascii_white_space white_part bs both.0 both.1)
+
+-- the first byte
+
+pub marks_are_ascii : OnlyAscii is_quote_or_hash
+marks_are_ascii c wide = grind (arith, nat_tests)
+
+first_of : (p : ℕ → Bool) → OnlyAscii p → (bs : List ℕ) → IsUtf8 bs → 1 ≤ length bs → p (slice_index_or bs 0 0) ≡ first_passes p (chars bs)
+first_of p ascii [] u some = absurd (omega arith)
+first_of p ascii (b ∷ bs) u some = sym (first_passes-chars p (b ∷ bs) ascii u)
+
+pub first_byte : (p : ℕ → Bool) → OnlyAscii p → (text bs : List ℕ) → IsUtf8 text → bs ≡ text → 1 ≤ length bs → p (slice_index_or bs 0 0) ≡ first_passes p (chars text)
+first_byte p ascii text bs u same some = first_of p ascii bs (subst IsUtf8 (sym same) u) some ∙ ap (λ (l : List ℕ). first_passes p (chars l)) same
+
+none_of : (p : ℕ → Bool) (bs : List ℕ) → IsUtf8 bs → length bs < 1 → false ≡ first_passes p (chars bs)
+none_of p [] u none = sym (ap (first_passes p) chars-nil)
+none_of p (b ∷ bs) u none = absurd (omega arith)
+
+pub no_first_byte : (p : ℕ → Bool) (text bs : List ℕ) → IsUtf8 text → bs ≡ text → length bs < 1 → false ≡ first_passes p (chars text)
+no_first_byte p text bs u same none = none_of p bs (subst IsUtf8 (sym same) u) none ∙ ap (λ (l : List ℕ). first_passes p (chars l)) same
+
+boundary_of : (bs : List ℕ) → IsUtf8 bs → 1 ≤ length bs → slice_index_or bs 0 0 < 128 → IsCharBoundary bs 1
+boundary_of [] u some low = absurd (omega arith)
+boundary_of (b ∷ bs) u some low = IsCharBoundary-from_drop (b ∷ bs) 1 some (utf8_after_ascii b bs low u)
+
+pub ascii_boundary : (text bs : List ℕ) → IsUtf8 text → bs ≡ text → 1 ≤ length bs → slice_index_or bs 0 0 < 128 → IsCharBoundary text 1
+ascii_boundary text bs u same some low = subst (λ (l : List ℕ). IsCharBoundary l 1) same (boundary_of bs (subst IsUtf8 (sym same) u) some low)
+
+char_of : (bs : List ℕ) (c : ℕ) (rest : List ℕ) → 1 ≤ length bs → slice_index_or bs 0 0 < 128 → c ≡ slice_index_or bs 0 0 → rest ≡ drop 1 bs → IsFirstChar bs c rest
+char_of [] c rest some low is back = absurd (omega arith)
+char_of (b ∷ bs) c rest some low is back =
+    let same : rest ≡ bs = back in record {
+      bytes = sym (ap (λ (l : List ℕ). l ++ rest) (ap encode_utf8 is ∙ encode_ascii b low) ∙ ap (λ (l : List ℕ). b ∷ l) same);
+      is = chars_ascii b bs low ∙ (λ i. sym is i ∷ chars (sym same i));
+    }
+
+pub ascii_char : (text bs : List ℕ) (c : ℕ) (rest : List ℕ) → bs ≡ text → 1 ≤ length bs → slice_index_or bs 0 0 < 128 → c ≡ slice_index_or bs 0 0 → rest ≡ drop 1 text → IsFirstChar text c rest
+ascii_char text bs c rest same some low is back =
+    subst (λ (l : List ℕ). IsFirstChar l c rest) same (char_of bs c rest some low is (back ∙ ap (drop 1) (sym same)))

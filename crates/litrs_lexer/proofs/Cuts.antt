@@ -12,17 +12,18 @@ use Rattle.litrs_base.specs.Text.{first_passes}
 use Rattle.litrs_base.proofs.ListTests.{if_true}
 use Rattle.litrs_grammar.specs.Suffix.{starts_identifier}
 use Rattle.litrs_grammar.specs.Bool.{bool_text, is_bool}
+use Rattle.litrs_grammar.proofs.Laws.Literal.{some_bool}
 use Rattle.litrs_grammar.specs.Literal.{Derivation, a_bool, IsLiteral}
 use Rattle.litrs_prefix.specs.Ends.{IsEndOf}
 use Rattle.litrs_prefix.specs.Meant.{IsMeant}
-use Rattle.litrs_prefix.specs.Opens.{after_run, first_name, after_name, opens}
+use Rattle.litrs_prefix.specs.Opens.{after_run, first_run, first_name, after_name, opens}
 use Rattle.litrs_prefix.specs.Prefix.{HasPrefix, HasNoPrefix, is_quote_or_hash, ends_bool}
 use Rattle.litrs_prefix.proofs.Ends.{end_at, all, after_first, after_bytes, end_of_end, not_longer, shorter}
 use Rattle.litrs_prefix.proofs.Names.{name_and_rest}
 use Rattle.litrs_prefix.proofs.Pieces.{no_empty_piece, parts_spell}
 use Rattle.litrs_lexer.specs.declared.kind.TokenKind.{TokenKind}
 use Rattle.litrs_lexer.specs.declared.kind.TokenKind.TheVariants.{Literal, MalformedLiteral}
-use Rattle.litrs_lexer.specs.Cut.{IsCut, IsFirstChar}
+use Rattle.litrs_lexer.specs.Cut.{begins_bool, IsCut, IsFirstChar}
 use Rattle.litrs_lexer.specs.Literal.{opens_quoted}
 use Rattle.litrs_lexer.specs.Punctuation.{is_punctuation, is_unknown}
 use Rattle.litrs_lexer.specs.Token.{IsToken}
@@ -63,7 +64,7 @@ meant_token text rest n u at back opens none meant refused =
     (opens, none, (chars (take n text), parts_spell text (take n text) rest n u at refl back, meant, refused))
 
 -- a bool is the whole name at the front
-pub bool_token : (t rest name : List ℕ) (b : Bool) → name ≡ first_name t → name ≡ bool_text b → rest ≡ after_name t → ends_bool rest ≡ true → IsToken Literal t rest
+bool_token : (t rest name : List ℕ) (b : Bool) → name ≡ first_name t → name ≡ bool_text b → rest ≡ after_name t → ends_bool rest ≡ true → IsToken Literal t rest
 bool_token t rest name b named is after ends = (
   a_bool b,
   record {
@@ -73,6 +74,11 @@ bool_token t rest name b named is after ends = (
     follows = ends;
   },
 )
+
+pub bool_token_of : (t rest : List ℕ) → is_bool (first_name t) ≡ true → rest ≡ after_name t → ends_bool rest ≡ true → IsToken Literal t rest
+bool_token_of t rest h after ends =
+    let b = some_bool (first_name t) h in
+    bool_token t rest (first_name t) b.0 refl (sym b.1) after ends
 
 -- what follows a name
 pub name_rest : (c : ℕ) (t after rest : List ℕ) → t ≡ c ∷ after → starts_identifier c ≡ true → rest ≡ after_run after → rest ≡ after_name t
@@ -125,3 +131,14 @@ ascii_name c h =
 pub digit_opens : (c : ℕ) (t : List ℕ) → is_ascii_digit c ≡ true → opens_quoted (c ∷ t) ≡ true
 digit_opens c t h =
     and_from (opens (c ∷ t)) (not (is_bool (first_name (c ∷ t)))) (rw h refl) (rw (digit_starts_none c h) refl)
+
+-- a name that is a bool begins with `t` or `f`
+no_bool_of : (c : ℕ) (t : List ℕ) → begins_bool c ≡ false → is_bool (c ∷ t) ≡ false
+no_bool_of c t h = grind (arith, nat_tests)
+
+first_bool : (c : ℕ) (t : List ℕ) (b : Bool) → begins_bool c ≡ false → is_bool (if b then c ∷ first_run t else []) ≡ false
+first_bool c t true h = no_bool_of c (first_run t) h
+first_bool c t false h = refl
+
+pub no_bool : (text : List ℕ) (c : ℕ) (after : List ℕ) → IsFirstChar text c after → begins_bool c ≡ false → is_bool (first_name (chars text)) ≡ false
+no_bool text c after first h = ap (λ (l : List ℕ). is_bool (first_name l)) first.is ∙ first_bool c (chars after) (starts_identifier c) h

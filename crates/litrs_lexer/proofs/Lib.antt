@@ -1,5 +1,7 @@
 -- runs of characters, by bytes
 pub mod Runs
+-- bytes, 16 at a time
+mod Lanes
 -- block comments
 pub mod Blocks
 pub mod Bodies

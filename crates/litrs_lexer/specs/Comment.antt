@@ -28,8 +28,8 @@ is_of_line c = not (c == line_feed)
 abbrev pub after_line : List ℕ → List ℕ
 after_line t = after_while is_of_line t
 
--- A line comment is at the front of the text, up to the rest: `//` and the rest of the line, without
--- its line feed.
+-- A line comment is at the front of the text, up to the rest: `//` and the rest of the line,
+-- without its line feed.
 abbrev pub IsLineComment : (t rest : List ℕ) → Type 0
 IsLineComment t rest = (body : List ℕ) × (t ≡ slash ∷ slash ∷ body) × (rest ≡ after_line body)
 
@@ -47,9 +47,9 @@ starts_with_mark [] = false
 starts_with_mark (c ∷ []) = false
 starts_with_mark (c ∷ d ∷ t) = opens_comment c d || closes_comment c d
 
--- After `/*`, the text has the body of a block comment with the `*/` that closes it, up to the rest.
--- A body is made of block comments and of characters at which neither `/*` nor `*/` starts: block
--- comments nest.
+-- After `/*`, the text has the body of a block comment with the `*/` that closes it, up to the
+-- rest. A body is made of block comments and of characters at which neither `/*` nor `*/` starts:
+-- block comments nest.
 pub data IsBody : (t rest : List ℕ) → Type 0 where
   closed : {c d : ℕ} {rest : List ℕ} → IsTrue (closes_comment c d) → IsBody (c ∷ d ∷ rest) rest
   comment : {c d : ℕ} {t after rest : List ℕ} → IsTrue (opens_comment c d) →

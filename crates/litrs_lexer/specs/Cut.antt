@@ -2,7 +2,11 @@
 use Rattle.std.specs.Prelude.{◌≡◌, ◌<◌, ℕ, zero, suc, Bool, not, ◌==◌, ◌&&◌, ◌||◌, List, [], ◌∷◌, ◌++◌, length, Option, Some, None, if◌then◌else◌, nat_le}
 use Rattle.std.specs.Char.{encode_utf8}
 use Rattle.std.specs.Str.{chars}
+use Rattle.litrs_lex.specs.Run.{is_in_run}
+use Rattle.litrs_lex.specs.declared.run.Run.TheVariants.{Identifier}
 use Rattle.litrs_prefix.specs.Ends.{IsEndOf}
+use Rattle.litrs_lexer.specs.declared.ascii.Class.{Class}
+use Rattle.litrs_lexer.specs.declared.ascii.Class.TheVariants.{Word, Space}
 use Rattle.litrs_lexer.specs.Comment.{is_star_or_slash, opens_comment, closes_comment}
 use Rattle.litrs_lexer.specs.Token.{IsToken}
 use Rattle.litrs_lexer.specs.declared.kind.TokenKind.{TokenKind}
@@ -22,9 +26,22 @@ pub record IsFirstChar (text : List ℕ) (c : ℕ) (rest : List ℕ) : Type 0 wh
 abbrev pub is_wide : ℕ → Bool
 is_wide b = nat_le 128 b
 
+-- `t` or `f`, with which a bool begins
+abbrev pub begins_bool : ℕ → Bool
+begins_bool c = (c == 116) || (c == 102)
+
+-- `"`, `'`, `\`, `_` or a backtick
+abbrev pub is_other_mark : ℕ → Bool
+is_other_mark c = (c == 34) || (c == 39) || (c == 92) || (c == 95) || (c == 96)
+
 -- white space of ASCII
 abbrev pub is_ascii_white_space : ℕ → Bool
 is_ascii_white_space c = (c == 32) || (nat_le 9 c && nat_le c 13)
+
+-- the ASCII characters of a class, by their bytes
+abbrev pub is_of_class : Class → ℕ → Bool
+is_of_class Word = is_in_run Identifier
+is_of_class Space = is_ascii_white_space
 
 -- neither `/*` nor `*/` starts with the character
 abbrev pub is_of_comment : ℕ → Bool

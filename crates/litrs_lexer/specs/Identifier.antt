@@ -1,5 +1,5 @@
--- Identifiers and keywords, and prefixes. The Rust Reference, "Identifiers" and "Reserved prefixes".
--- `_` is an identifier here.
+-- Identifiers and keywords, and prefixes. The Rust Reference, "Identifiers" and "Reserved
+-- prefixes". `_` is an identifier here.
 use Rattle.std.specs.Prelude.{◌≡◌, ℕ, Bool, false, ◌==◌, ◌&&◌, List, [], ◌∷◌, IsTrue, IsFalse}
 use Rattle.litrs_base.specs.Characters.{hash, letter_r}
 use Rattle.litrs_base.specs.Text.{first_passes}
@@ -19,15 +19,15 @@ begins_raw_name [] = false
 begins_raw_name (c ∷ []) = false
 begins_raw_name (c ∷ d ∷ t) = (c == letter_r) && (d == hash) && begins_name t
 
--- An identifier is at the front of the text, up to the rest: the whole name, which is not a bool and
--- not a prefix.
+-- An identifier is at the front of the text, up to the rest: the whole name, which is not a bool
+-- and not a prefix.
 abbrev pub IsIdentifier : (t rest : List ℕ) → Type 0
 IsIdentifier t rest =
     IsTrue (begins_name t) × IsFalse (is_bool (first_name t)) × (rest ≡ after_name t)
     × IsFalse (first_passes is_quote_or_hash rest)
 
--- A raw identifier is at the front of the text, up to the rest: `r#` and the whole name. The compiler
--- rejects the names `_`, `crate`, `self`, `super` and `Self` there.
+-- A raw identifier is at the front of the text, up to the rest: `r#` and the whole name. The
+-- compiler rejects the names `_`, `crate`, `self`, `super` and `Self` there.
 abbrev pub IsRawIdentifier : (t rest : List ℕ) → Type 0
 IsRawIdentifier t rest =
     (name : List ℕ) × (t ≡ letter_r ∷ hash ∷ name) × IsTrue (begins_name name)

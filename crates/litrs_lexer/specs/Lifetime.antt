@@ -16,8 +16,8 @@ IsLifetime t rest =
     × (rest ≡ after_name name) × IsFalse (first_passes is_single_quote rest)
     × IsFalse (first_passes is_hash rest)
 
--- A raw lifetime is at the front of the text, up to the rest: `'r#` and the whole name. The compiler
--- rejects one that `'` follows, and those of the names that no raw identifier has.
+-- A raw lifetime is at the front of the text, up to the rest: `'r#` and the whole name. The
+-- compiler rejects one that `'` follows, and those of the names that no raw identifier has.
 abbrev pub IsRawLifetime : (t rest : List ℕ) → Type 0
 IsRawLifetime t rest =
     (name : List ℕ) × (t ≡ single_quote ∷ letter_r ∷ hash ∷ name) × IsTrue (begins_name name)

@@ -10,8 +10,8 @@ use Rattle.litrs_prefix.specs.Meant.{IsMeant}
 use Rattle.litrs_prefix.specs.Opens.{first_name, opens}
 use Rattle.litrs_prefix.specs.Prefix.{HasPrefix, HasNoPrefix}
 
--- The text starts with the beginning of a literal that is not a bool: a digit, a quote, or the front
--- of a literal with a prefix, as `b"` and `r#"`.
+-- The text starts with the beginning of a literal that is not a bool: a digit, a quote, or the
+-- front of a literal with a prefix, as `b"` and `r#"`.
 abbrev pub opens_quoted : List ℕ → Bool
 opens_quoted t = opens t && not (is_bool (first_name t))
 

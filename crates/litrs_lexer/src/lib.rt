@@ -3,7 +3,7 @@
 //!
 //! | Text | Kinds of its tokens |
 //! |---|---|
-//! | `x = 0xFF_u8;` | `Ident`, `Whitespace`, `Punctuation`, `Whitespace`, `Literal`, `Punctuation` |
+//! | `x = 0xFF_u8` | `Ident`, `Whitespace`, `Punctuation`, `Whitespace`, `Literal` |
 //! | `1..2` | `Literal`, `Punctuation` twice, `Literal` |
 //! | `'a 'b'` | `Lifetime`, `Whitespace`, `Literal` |
 //! | `r#fn /* /* */ */` | `RawIdent`, `Whitespace`, `BlockComment` |
@@ -40,6 +40,7 @@ pub use shebang::strip_shebang;
 pub use token::Token;
 pub use tokens::{Tokens, all_tokens, first_token, tokenize};
 
+mod ascii;
 mod comment;
 mod cut;
 mod kind;

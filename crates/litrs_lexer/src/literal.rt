@@ -11,10 +11,11 @@ ghost use Rattle.litrs_lexer.specs.Literal.{opens_quoted};
 use crate::kind::TokenKind;
 use litrs::{IntegerLit, Literal};
 use litrs_lex::{Run, run_end};
-use litrs_prefix::{after_opened, may_follow, next_boundary, prefix_len};
+use litrs_prefix::{after_opened, may_follow, next_boundary, opened_len, prefix_len};
 
 /// Like [`cut_literal`], for a text that starts with a digit. Most numbers are integers of ASCII,
 /// and are read once.
+#[inline(never)]
 pub fn cut_number(text: &str) -> (TokenKind, &str)
     requires { IsTrue (opens_quoted (chars text.now)) }
     ensures cut { IsCut text.now result.0 result.1.now }
@@ -40,12 +41,13 @@ fn is_integer_before(front: &str, rest: &str) -> bool
 }
 
 /// Cuts the literal, valid or malformed, from the front of `text`.
+#[inline(never)]
 pub fn cut_literal(text: &str) -> (TokenKind, &str)
     requires { IsTrue (opens_quoted (chars text.now)) }
     ensures cut { IsCut text.now result.0 result.1.now }
     ensures utf8 { IsUtf8 result.1.now }
 {
-    match prefix_len(text) {
+    match opened_len(text) {
         Some(len) => (TokenKind::Literal, text.split_at(len).1),
         None => (
             TokenKind::MalformedLiteral,

@@ -6,26 +6,32 @@ ghost use Rattle.litrs_base.specs.Text.{first_passes};
 ghost use Rattle.litrs_grammar.specs.Bool.{is_bool};
 ghost use Rattle.litrs_prefix.specs.Ends.{IsEndOf};
 ghost use Rattle.litrs_prefix.specs.Prefix.{is_quote_or_hash};
-ghost use Rattle.litrs_prefix.specs.Opens.{is_single_quote, first_name, after_name};
-ghost use Rattle.litrs_lexer.specs.Cut.{is_wide};
+ghost use Rattle.litrs_prefix.specs.Opens.{is_single_quote, first_name, after_run, after_name};
+ghost use Rattle.litrs_lexer.specs.Cut.{begins_bool, IsFirstChar};
 ghost use Rattle.litrs_lexer.specs.Identifier.{begins_name, begins_raw_name};
 ghost use Rattle.litrs_lexer.specs.Lifetime.{is_hash};
 ghost use Rattle.litrs_lexer.specs.Literal.{opens_quoted};
 
+use crate::ascii::{Class, class_len, starts_beyond_ascii};
 use litrs_lex::cut_bool;
 use litrs_prefix::{after_name, begins_name, opens, split_first_char};
 
-/// Returns `true` if `text` starts with a character that is not ASCII.
-pub fn starts_beyond_ascii(text: &str) -> bool
-    ensures { result ≡ first_passes is_wide text.now }
+/// Returns the part of `text` after the characters at its front that can continue a name.
+#[inline(always)]
+pub fn after_run(text: &str) -> &str
+    ensures rest { chars result.now ≡ after_run (chars text.now) }
+    ensures end { IsEndOf text.now result.now }
 {
-    match text.as_bytes() {
-        [first, ..] => *first >= 128,
-        _ => false,
+    let (_, rest) = text.split_at(class_len(text.as_bytes(), Class::Word));
+    if starts_beyond_ascii(rest) {
+        litrs_prefix::after_run(rest)
+    } else {
+        rest
     }
 }
 
 /// Returns the name at the front of `text`. `rest` is the part of `text` after it.
+#[inline(always)]
 pub fn name_before<'a>(text: &'a str, rest: &str) -> &'a str
     requires name { chars rest.now ≡ after_name (chars text.now) }
     requires end { IsEndOf text.now rest.now }
@@ -35,6 +41,7 @@ pub fn name_before<'a>(text: &'a str, rest: &str) -> &'a str
 }
 
 /// Returns `true` if `name` is `true` or `false`.
+#[inline(always)]
 fn is_bool(name: &str) -> bool
     ensures { result ≡ is_bool (chars name.now) }
 {
@@ -42,6 +49,30 @@ fn is_bool(name: &str) -> bool
         Some(_) => true,
         None => false,
     }
+}
+
+/// Returns `true` if the name at the front of `text`, which is `c` and `after`, is `true` or
+/// `false`. `rest` is the part of `text` after the name.
+#[inline(always)]
+pub fn starts_with_bool(text: &str, c: char, after: &str, rest: &str) -> bool
+    requires first { IsFirstChar text.now c after.now }
+    requires name { chars rest.now ≡ after_name (chars text.now) }
+    requires end { IsEndOf text.now rest.now }
+    ensures { result ≡ is_bool (first_name (chars text.now)) }
+{
+    if begins_bool(c) {
+        is_bool(name_before(text, rest))
+    } else {
+        false
+    }
+}
+
+/// Returns `true` if `true` or `false` starts with the character.
+#[inline(always)]
+fn begins_bool(c: char) -> bool
+    ensures { result ≡ begins_bool c }
+{
+    c == 't' || c == 'f'
 }
 
 /// Returns `true` if `text` starts with a name.
@@ -55,13 +86,22 @@ pub fn starts_with_name(text: &str) -> bool
 }
 
 /// Returns `true` if `text` starts with `"`, `'` or `#`.
+#[inline(always)]
 pub fn starts_with_quote_or_hash(text: &str) -> bool
     ensures { result ≡ first_passes is_quote_or_hash (chars text.now) }
 {
-    match split_first_char(text) {
-        Some((c, _)) => c == '"' || c == '\'' || c == '#',
-        None => false,
+    match text.as_bytes() {
+        [first, ..] => is_quote_or_hash(*first),
+        _ => false,
     }
+}
+
+/// Returns `true` if the byte is `"`, `'` or `#`.
+#[inline(always)]
+fn is_quote_or_hash(b: u8) -> bool
+    ensures { result ≡ is_quote_or_hash b }
+{
+    b == b'"' || b == b'\'' || b == b'#'
 }
 
 /// Returns `true` if `text` starts with `'`.
@@ -108,9 +148,13 @@ pub fn after_raw_mark(text: &str) -> Option<&str>
     }
 }
 
-/// Returns `true` if a literal that is not a bool begins at the front of `text`.
-pub fn opens_quoted(text: &str) -> bool
+/// Returns `true` if a literal that is not a bool begins at the front of `text`, which is `c` and
+/// `after`. `rest` is the part of `text` after its name.
+pub fn opens_quoted(text: &str, c: char, after: &str, rest: &str) -> bool
+    requires first { IsFirstChar text.now c after.now }
+    requires name { chars rest.now ≡ after_name (chars text.now) }
+    requires end { IsEndOf text.now rest.now }
     ensures { result ≡ opens_quoted (chars text.now) }
 {
-    opens(text) && !is_bool(name_before(text, after_name(text)))
+    opens(text) && !starts_with_bool(text, c, after, rest)
 }

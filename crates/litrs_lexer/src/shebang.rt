@@ -53,7 +53,8 @@ fn without_byte_order_mark(text: &str) -> &str
 fn after_shebang_mark(text: &str) -> Option<&str>
     ensures some { IfSome result (λ line.
         chars text.now ≡ hash ∷ exclamation ∷ chars line.now) }
-    ensures none { IfNone result ((line : List ℕ) → chars text.now ≡ hash ∷ exclamation ∷ line → ⊥) }
+    ensures none { IfNone result ((line : List ℕ) →
+        chars text.now ≡ hash ∷ exclamation ∷ line → ⊥) }
 {
     match split_first_char(text) {
         Some((c, after)) => match split_first_char(after) {
@@ -89,8 +90,10 @@ fn opens_attribute(text: &str) -> bool
 /// Returns `true` if the token of this kind at the front of `text` is white space, or a comment
 /// that is not documentation.
 fn is_skipped(kind: TokenKind, text: &str) -> bool
-    ensures yes { IsTrue result → IsTrue (is_trivia kind) × (doc_style kind (chars text.now) ≡ None) }
-    ensures no { IsFalse result → IsTrue (is_trivia kind) → doc_style kind (chars text.now) ≡ None → ⊥ }
+    ensures yes { IsTrue result →
+        IsTrue (is_trivia kind) × (doc_style kind (chars text.now) ≡ None) }
+    ensures no { IsFalse result → IsTrue (is_trivia kind) →
+        doc_style kind (chars text.now) ≡ None → ⊥ }
 {
     kind.is_trivia() && doc_style(kind, text).is_none()
 }

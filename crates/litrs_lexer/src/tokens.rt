@@ -38,6 +38,7 @@ impl<'a> Iterator for Tokens<'a> {
 
     ghost remaining = { λ s. at_most (length s.rest.now) };
 
+    #[inline(always)]
     fn next(&mut self) -> Option<Token<'a>> {
         let (kind, after) = cut_token(self.rest)?;
         let (text, _) = self.rest.split_at(self.rest.len() - after.len());
