@@ -1,5 +1,5 @@
--- C strings: text stays text, and a byte that is no part of valid UTF-8 is written by its number.
--- The Rust Reference, Tokens, Literals: "C string literals".
+-- C strings: text stays text, and a byte that does not belong to valid UTF-8 is written by its
+-- number. The Rust Reference, Tokens, Literals: "C string literals".
 use Rattle.std.specs.Prelude.{ℕ, zero, suc, ◌+◌, ◌-◌, Bool, true, not, if◌then◌else◌, List, [], ◌∷◌, take, slice_get, position, Option, Some, None}
 use Rattle.std.specs.Char.{len_utf8}
 use Rattle.std.specs.Str.{chars, is_utf8, continuation_len}
@@ -15,25 +15,25 @@ use Rattle.litrs_build.specs.declared.spelling.Spelling.TheVariants.{Hex}
 use Rattle.litrs_build.specs.Spelling.{char_spelling, is_escaped, spelled_item}
 use Rattle.litrs_build.specs.Written.{quoted_of}
 
--- The character whose UTF-8 the bytes begin with, None where they begin with that of none. The
--- first byte decides how many bytes it would have.
+-- The character with whose UTF-8 the bytes start, or `None` if there is none. The first byte
+-- decides the number of bytes.
 unfoldable pub first_char : List ℕ → Option ℕ
 first_char [] = None
 first_char (b ∷ bytes) =
     let front = take (1 + continuation_len b) (b ∷ bytes) in
     if is_utf8 front then slice_get (chars front) 0 else None
 
--- how that character is spelled, or the first byte
+-- The spelling of that character, or of the first byte.
 abbrev pub spelling_or_byte : (follows_mark : Bool) → ℕ → Option ℕ → Spelling
 spelling_or_byte follows_mark b (Some c) = char_spelling double_quote follows_mark c
 spelling_or_byte follows_mark b None = Hex b
 
--- how many bytes are spelled
+-- The number of bytes that are spelled.
 abbrev pub len_or_byte : Option ℕ → ℕ
 len_or_byte (Some c) = len_utf8 c
 len_or_byte None = 1
 
--- The items of bytes, of which the first are left of a character that stands before.
+-- The items of bytes, of which the first `left` belong to the character before them.
 abbrev pub c_items : (left : ℕ) → (follows_mark : Bool) → List ℕ → List Item
 c_items left follows_mark [] = []
 c_items (suc left) follows_mark (b ∷ bytes) = c_items left follows_mark bytes
@@ -42,16 +42,16 @@ c_items zero follows_mark (b ∷ bytes) =
     let spelling = spelling_or_byte follows_mark b first in
     spelled_item spelling ∷ c_items (len_or_byte first - 1) (is_escaped spelling) bytes
 
--- the parts of the C string of some bytes
+-- The parts of the C string of some bytes.
 abbrev pub written_c_string : List ℕ → List ℕ → StringParts
 written_c_string bytes suffix = quoted_of (c_items 0 true bytes) suffix
 
--- the first NUL stands there
+-- The error for the place of the first NUL, if there is one.
 abbrev pub nul_error : Option ℕ → Option BuildError
 nul_error (Some at) = Some (HasNul at)
 nul_error None = None
 
--- why no C string has the bytes and the suffix
+-- The error if no C string has the bytes and the suffix.
 abbrev pub c_string_error : List ℕ → List ℕ → Option BuildError
 c_string_error bytes suffix =
     if not (is_suffix suffix) then Some NotASuffix else nul_error (position is_nul bytes)

@@ -1,6 +1,6 @@
--- which characters are shown as they are
+-- printable characters
 pub mod Printable
--- how a character or a byte is spelled
+-- the spelling of a character or a byte
 pub mod Spelling
 -- the literal of a value
 pub mod Written
@@ -8,16 +8,16 @@ pub mod Written
 pub mod CStrings
 -- raw literals
 pub mod Raw
--- the same literal, built of its value
+-- a literal built from the value of another
 pub mod WrittenAnew
--- which error comes, and its text
+-- errors and their messages
 pub mod Errors
 pub mod ErrorText
--- digits, and how they are grouped
+-- digits and their groups
 pub mod WrittenDigits
 -- the integer that is built
 pub mod BuiltInteger
 -- the float that is built
 pub mod BuiltFloat
--- what holds of all that is written
+-- laws
 pub mod Laws

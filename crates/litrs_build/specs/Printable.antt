@@ -1,4 +1,4 @@
--- Which characters are shown as they are. The Unicode Standard, section 4.5, "General Category".
+-- Printable characters. The Unicode Standard, section 4.5, "General Category".
 use Rattle.std.specs.Prelude.{ℕ, Bool, not, ◌==◌, ◌||◌}
 use Rattle.litrs_base.specs.Characters.{space}
 use Rattle.unicode.specs.GeneralCategory.{general_category}

@@ -1,4 +1,4 @@
--- How a character or a byte is spelled between quotes. The Rust Reference, Tokens, Literals: the
+-- The spelling of a character or a byte between quotes. The Rust Reference, Tokens, Literals: the
 -- tables "Quote escapes", "ASCII escapes", "Byte escapes" and "Unicode escapes".
 use Rattle.std.specs.Prelude.{ℕ, ◌/◌, ◌%◌, Bool, true, false, not, ◌==◌, ◌&&◌, ◌||◌, if◌then◌else◌}
 use Rattle.std.specs.Fmt.{digits, digit_glyph}
@@ -11,21 +11,21 @@ use Rattle.litrs_build.specs.Printable.{is_printable}
 use Rattle.litrs_build.specs.declared.spelling.Spelling.{Spelling}
 use Rattle.litrs_build.specs.declared.spelling.Spelling.TheVariants.{Plain, Simple, Hex, Unicode}
 
--- the character would combine with what stands before it: it extends a grapheme
+-- `true` iff the character would combine with the one before it: it extends a grapheme.
 abbrev pub is_combining : ℕ → Bool
 is_combining c = is_grapheme_extend c
 
--- A character stands for itself where it is printable, and is no combining mark that follows a
--- quote or an escape.
+-- `true` iff the character is written as it is: it is printable, and is not a combining mark after
+-- a quote or an escape.
 abbrev pub is_shown : (follows_mark : Bool) → ℕ → Bool
 is_shown follows_mark c = is_printable c && not (follows_mark && is_combining c)
 
--- A character that has no short escape: itself, or by its number, in the shorter of both forms.
+-- The spelling of a character without a short escape: itself, or its number in the shorter form.
 abbrev pub shown_or_number : (follows_mark : Bool) → ℕ → Spelling
 shown_or_number follows_mark c =
     if is_shown follows_mark c then Plain c else if is_ascii c then Hex c else Unicode c
 
--- A character between quotes: NUL, tab, LF, CR, the quote and the backslash have short escapes.
+-- The spelling of a character. NUL, tab, LF, CR, the quote and the backslash have short escapes.
 unfoldable pub char_spelling : (quote : ℕ) (follows_mark : Bool) → ℕ → Spelling
 char_spelling quote follows_mark c =
     if c == nul then Simple digit_zero
@@ -35,29 +35,29 @@ char_spelling quote follows_mark c =
     else if (c == quote) || (c == backslash) then Simple c
     else shown_or_number follows_mark c
 
--- A byte between quotes: as a character if it is ASCII, else by its number.
+-- The spelling of a byte: that of a character if it is ASCII, otherwise its number.
 unfoldable pub byte_spelling : (quote : ℕ) → ℕ → Spelling
 byte_spelling quote b = if is_ascii b then char_spelling quote false b else Hex b
 
--- it is spelled by an escape
+-- `true` iff the spelling is an escape.
 abbrev pub is_escaped : Spelling → Bool
 is_escaped (Plain c) = false
 is_escaped (Simple c) = true
 is_escaped (Hex b) = true
 is_escaped (Unicode c) = true
 
--- a hex digit, in lower case
+-- The hex digit of a number, in lower case.
 abbrev pub hex_digit : ℕ → ℕ
 hex_digit = digit_glyph false
 
--- as an item of a string: two digits follow `\x`, and in `\u{..}` there are no leading zeros
+-- The spelling as an item of a string. `\x` has two digits, and `\u{..}` has no leading zeros.
 abbrev pub spelled_item : Spelling → Item
 spelled_item (Plain c) = plain_item c
 spelled_item (Simple c) = escape_item (simple_escape c)
 spelled_item (Hex b) = escape_item (hex_escape (hex_digit (b / 16)) (hex_digit (b % 16)))
 spelled_item (Unicode c) = escape_item (unicode_escape (digits 16 false c))
 
--- the same as the item of a char or a byte
+-- The spelling as the item of a char or a byte.
 abbrev pub spelled_char : Spelling → CharItem
 spelled_char (Plain c) = plain_char c
 spelled_char (Simple c) = escaped_char (simple_escape c)

@@ -1,4 +1,4 @@
--- The same literal as it is built of its value: escapes stand only where they are needed.
+-- A literal built from the value of another: it has only the escapes that are needed.
 use Rattle.std.specs.Prelude.{◌≡◌, ℕ, List}
 use Rattle.std.specs.Str.{chars}
 use Rattle.litrs_base.specs.declared.quotes.StringKind.{StringKind}
@@ -12,26 +12,25 @@ use Rattle.litrs_build.specs.CStrings.{written_c_string}
 use Rattle.litrs_build.specs.Raw.{written_raw}
 use Rattle.litrs_build.specs.Written.{written_char, written_byte, written_string, written_byte_string}
 
--- the quoted string of the kind of some bytes
+-- The quoted string of the kind of some bytes.
 abbrev pub written_quoted : StringKind → (value suffix : List ℕ) → StringParts
 written_quoted string_kind value suffix = written_string (chars value) suffix
 written_quoted byte_string_kind value suffix = written_byte_string value suffix
 written_quoted c_string_kind value suffix = written_c_string value suffix
 
--- A quoted string is written anew, of its value; a raw one stays raw, with the least number of
--- hashes.
+-- A quoted string is built from its value. A raw one stays raw, with the least number of hashes.
 abbrev pub unescaped_string : StringKind → StringParts → StringParts
 unescaped_string kind (quoted_parts d) = written_quoted kind (body_value d.items) d.suffix
 unescaped_string kind (raw_parts d) = written_raw d.body d.suffix
 
--- a char and a byte are written anew, of their value
+-- A char or a byte is built from its value.
 abbrev pub unescaped_char : CharParts → CharParts
 unescaped_char d = written_char (char_value d.item) d.suffix
 
 abbrev pub unescaped_byte : CharParts → CharParts
 unescaped_byte d = written_byte (char_value d.item) d.suffix
 
--- Bools, integers and floats have no escapes, and stay as they are.
+-- Bools, integers and floats have no escapes, and are unchanged.
 abbrev pub unescaped : Derivation → Derivation
 unescaped (a_bool b) = a_bool b
 unescaped (an_integer d) = an_integer d
@@ -42,8 +41,8 @@ unescaped (a_string d) = a_string (unescaped_string string_kind d)
 unescaped (a_byte_string d) = a_byte_string (unescaped_string byte_string_kind d)
 unescaped (a_c_string d) = a_c_string (unescaped_string c_string_kind d)
 
--- The literals are of one kind and have the same value. Integers have the same base too, and floats
--- all that they have before the suffix.
+-- The literals have the same kind and the same value. Integers also have the same base, and floats
+-- the same text before the suffix.
 abbrev pub HaveSameValue : Derivation → Derivation → Type 0
 HaveSameValue (a_bool b) (a_bool c) = b ≡ c
 HaveSameValue (an_integer d) (an_integer e) =

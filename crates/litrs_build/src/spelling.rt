@@ -1,4 +1,4 @@
-//! How a character or a byte is spelled between quotes.
+//! The spelling of a character or a byte between quotes.
 ghost use Rattle.std.specs.Prelude.{◌≡◌, ◌≤◌, ◌<◌, ◌++◌, false, OnOk, string_bytes, encode_utf8_all};
 ghost use Rattle.std.specs.Fmt.{digits};
 ghost use Rattle.litrs_grammar.specs.Quoted.{item_text};
@@ -9,16 +9,16 @@ use std::alloc::AllocError;
 use std::fmt::Write;
 use unicode::properties::is_grapheme_extend;
 
-/// How a character or a byte is spelled.
+/// The spelling of a character or a byte.
 #[derive(Clone, Copy)]
 pub(crate) enum Spelling {
-    /// As itself.
+    /// The character itself.
     Plain(char),
-    /// As a backslash and this character.
+    /// A backslash and this character.
     Simple(char),
-    /// As `\x` and two digits.
+    /// `\x` and two digits.
     Hex(u8),
-    /// As `\u{..}`.
+    /// `\u{..}`.
     Unicode(char),
 }
 
