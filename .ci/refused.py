@@ -30,8 +30,9 @@ hold.
 
 Fails where a copy does anything else, where a call that is not listed below was refused, where one
 that is listed never was, where `feed` allocates more than once for a line that is no literal, or at
-all for a line that fits the memory of a collector that was cleared, and where a call of litrs_build
-allocates more than once for a text and once for a value.
+all for a line that fits the memory of a collector that was cleared, where a call of litrs_build
+allocates more than once for a text and once for a value, and where one of litrs_value does for a
+parse and for a value.
 """
 import argparse
 import collections
@@ -53,6 +54,7 @@ HOLDS = b"1 rows hold\n"
 MARK = 9973
 FEED = "Collector::feed over &str"
 BUILD = re.compile(r"litrs_build::(\w+) over &str")
+VALUED = "litrs_value::"
 # The calls of litrs_build that make a literal whose value may be allocated.
 BUILDS_VALUE = {"string", "byte_string", "c_string", "raw_c_string"}
 ENDED = b"litrs_vectors: out of memory\n"
@@ -117,6 +119,8 @@ def calls():
     yield "litrs_lex::unescape_string_with over &str"
     yield "litrs_prefix::parse_prefix over &str"
     yield "litrs_prefix::parse_prefix_at over &str"
+    for call in ["read", "read_prefix", "read_str", "float", "integer_float"]:
+        yield f"litrs_value::{call} over &str"
     for call in ["char", "byte", "string", "byte_string", "c_string", "integer", "grouped_integer"]:
         yield f"litrs_build::{call} over &str"
     for call in ["float", "raw_string", "raw_byte_string", "raw_c_string", "unescaped"]:
@@ -274,14 +278,17 @@ def is_short(row):
 
 def most_asked(call, fields):
     """How often a call may allocate for a row of these fields: one of litrs_build for the text of a
-    literal and for its value, and a collector that is fed the lines of a text once a line where
-    each is answered by `More` or `Refused`."""
+    literal and for its value, one of litrs_value for the literal and for a value that owns
+    memory, and a collector that is fed the lines of a text once a line where each is answered by
+    `More` or `Refused`."""
     if built := BUILD.fullmatch(call):
         has_value = built[1] in BUILDS_VALUE
         if built[1] == "unescaped":
             kind, body = fields[2], fields[4]
             has_value = kind == "cstring" or (kind in ("string", "bytestring") and body != "raw")
         return 1 + has_value
+    if call.startswith(VALUED):
+        return 1 + (fields[2] in ("String", "Vec<u8>", "CString"))
     if call == FEED and fields[2] == "refused" and "%(" not in fields[1]:
         return fields[1].count("%0A") + 1
     return sys.maxsize

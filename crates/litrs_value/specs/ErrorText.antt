@@ -1,4 +1,4 @@
--- What is printed of an error.
+-- The texts of errors, types and kinds.
 use Rattle.std.specs.Prelude.{ℕ, List, ◌++◌, codes}
 use Rattle.litrs.specs.FloatTypes.{float_type_name}
 use Rattle.litrs.specs.IntegerTypes.{type_name}
@@ -7,7 +7,7 @@ use Rattle.litrs.specs.Refusal.{kind_of}
 use Rattle.litrs_value.specs.declared.kind.LiteralKind.{LiteralKind}
 use Rattle.litrs_value.specs.declared.kind.LiteralKind.TheVariants.{Bool as bool_kind, Integer as integer_kind, Float as float_kind, Char as char_kind, Byte as byte_kind, String as string_kind, ByteString as byte_string_kind, CString as c_string_kind}
 use Rattle.litrs_value.specs.declared.value_type.ValueType.{ValueType}
-use Rattle.litrs_value.specs.declared.value_type.ValueType.TheVariants.{Bool as bool_type, Integer as integer_type, Float as float_type, Char as char_type, String as string_type, Bytes as bytes_type, CString as c_string_type}
+use Rattle.litrs_value.specs.declared.value_type.ValueType.TheVariants.{Bool as bool_type, Integer as integer_type, Float as float_type, Char as char_type, String as string_type, Str as str_type, Bytes as bytes_type, CString as c_string_type}
 use Rattle.litrs_value.specs.declared.error.ValueError.{ValueError}
 use Rattle.litrs_value.specs.declared.error.ValueError.TheVariants.{Malformed, Kind, Sign, Suffix, OutOfRange, Memory}
 
@@ -29,6 +29,7 @@ value_type_text (integer_type t) = type_name t
 value_type_text (float_type t) = float_type_name t
 value_type_text char_type = codes "char"
 value_type_text string_type = codes "String"
+value_type_text str_type = codes "&str"
 value_type_text bytes_type = codes "Vec<u8>"
 value_type_text c_string_type = codes "CString"
 

@@ -1,4 +1,5 @@
--- The value of a float. The Rust Reference, Literal expressions, Floating-point literal expressions.
+-- The value of a float. The Rust Reference, Literal expressions, Floating-point literal
+-- expressions.
 use Rattle.std.specs.Prelude.{ℕ, ◌+◌, ◌*◌, ◌^◌, ◌==◌, Bool, false, List, [], ◌∷◌, ◌++◌, length, drop, filter, Option, Some, None, if◌then◌else◌}
 use Rattle.std.specs.Float.Ieee.{Float, Format, round}
 use Rattle.litrs.specs.Characters.{minus}

@@ -9,7 +9,7 @@ use Rattle.litrs.specs.declared.IntegerType.TheVariants.{U8}
 use Rattle.litrs_value.specs.declared.kind.LiteralKind.{LiteralKind}
 use Rattle.litrs_value.specs.declared.kind.LiteralKind.TheVariants.{Bool as bool_kind, Integer as integer_kind, Float as float_kind, Char as char_kind, Byte as byte_kind, String as string_kind, ByteString as byte_string_kind, CString as c_string_kind}
 use Rattle.litrs_value.specs.declared.value_type.ValueType.{ValueType}
-use Rattle.litrs_value.specs.declared.value_type.ValueType.TheVariants.{Bool as bool_type, Integer as integer_type, Float as float_type, Char as char_type, String as string_type, Bytes as bytes_type, CString as c_string_type}
+use Rattle.litrs_value.specs.declared.value_type.ValueType.TheVariants.{Bool as bool_type, Integer as integer_type, Float as float_type, Char as char_type, String as string_type, Str as str_type, Bytes as bytes_type, CString as c_string_type}
 
 -- the kind of a literal
 abbrev pub kind_of_literal : Derivation → LiteralKind
@@ -37,6 +37,7 @@ accepts (float_type t) integer_kind = true
 accepts (float_type t) float_kind = true
 accepts char_type char_kind = true
 accepts string_type string_kind = true
+accepts str_type string_kind = true
 accepts bytes_type byte_string_kind = true
 accepts bytes_type c_string_kind = true
 accepts c_string_type c_string_kind = true

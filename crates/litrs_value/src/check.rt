@@ -1,4 +1,4 @@
-//! Whether a literal can be read as a type.
+//! Tests of whether a literal can be read as a type: by its kind, its sign and its suffix.
 ghost use Rattle.std.specs.Prelude.{◌≡◌, ◌↔◌, IsTrue, IfOk, IfErr};
 ghost use Rattle.litrs.specs.Literal.{suffix_of};
 ghost use Rattle.litrs.specs.LiteralDerivation.{derivation};
@@ -9,13 +9,13 @@ ghost use Rattle.litrs_value.specs.Refuses.{Refuses};
 use crate::error::ValueError;
 use crate::kind::LiteralKind;
 use crate::value_type::ValueType;
-use litrs::{IntegerBase, Literal};
+use litrs::{IntegerBase, Literal, Text};
 
 /// Checks the kind, the sign and the suffix of a literal.
-pub(crate) fn check(
+pub(crate) fn check<B: Text>(
     expected: ValueType,
     negative: bool,
-    literal: &Literal<&str>,
+    literal: &Literal<B>,
 ) -> Result<(), ValueError>
     ensures fits { IfOk result (λ _. Fits expected negative (derivation literal.now)) }
     ensures refused { IfErr result (Refuses expected negative (derivation literal.now)) }
@@ -35,7 +35,7 @@ pub(crate) fn check(
 }
 
 /// Returns the length of the suffix, in bytes.
-fn suffix_len(literal: &Literal<&str>) -> usize
+fn suffix_len<B: Text>(literal: &Literal<B>) -> usize
     ensures { result ≡ byte_len (suffix_of (derivation literal.now)) }
 {
     let suffix = literal.suffix();
@@ -43,7 +43,7 @@ fn suffix_len(literal: &Literal<&str>) -> usize
 }
 
 /// Returns `true` if the literal has no suffix, or one that names the type.
-fn has_suffix_for(ty: ValueType, literal: &Literal<&str>) -> bool
+fn has_suffix_for<B: Text>(ty: ValueType, literal: &Literal<B>) -> bool
     ensures { IsTrue result ↔ HasSuffixFor ty (derivation literal.now) }
 {
     let suffix = literal.suffix();
@@ -51,7 +51,7 @@ fn has_suffix_for(ty: ValueType, literal: &Literal<&str>) -> bool
 }
 
 /// Returns the suffix that names the type, or `""` if a literal of it cannot have one.
-fn suffix_for(ty: ValueType, literal: &Literal<&str>) -> &'static str
+fn suffix_for<B: Text>(ty: ValueType, literal: &Literal<B>) -> &'static str
     ensures { result.now ≡ suffix_for ty (derivation literal.now) }
 {
     match (ty, literal) {

@@ -64,8 +64,8 @@ fn with_sign<F: FastFloat>(negative: bool, value: F) -> F
 /// `f32`, nearest to it.
 ///
 /// For example, `0x10u8` is 16. It is rounded once, ties to even, in any base and at any length; an
-/// integer that is too large is infinite. It allocates only for an integer in base ten with an
-/// underscore that does not fit `u64`.
+/// integer that is too large is infinite. It allocates only for an integer in base ten that has an
+/// underscore and does not fit `u64`.
 ///
 /// # Errors
 ///

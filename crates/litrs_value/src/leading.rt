@@ -174,7 +174,8 @@ fn round_to_even(kept: u64, rest: u64, half: u64, more: bool) -> u64
 fn scaled<F: FastFloat>(significand: u64, places: u64, shift: u128) -> F
     requires significand { significand ≤ 2 ^ 53 }
     requires shift { shift < 2 ^ 100 }
-    ensures { F.value result ≡ of_bits F.format (scaled_bits F.format significand (places + shift)) }
+    ensures { F.value result
+        ≡ of_bits F.format (scaled_bits F.format significand (places + shift)) }
 {
     // From 2047 on the float is infinite.
     let exponent = (u128::from(places) + shift).min(2047) as u64;

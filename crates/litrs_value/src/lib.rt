@@ -6,6 +6,7 @@
 //! | [`read`] | a text that is one literal, with a minus sign before a number |
 //! | [`read_prefix`] | the value at the front of a longer text |
 //! | [`FromLiteral::from_literal`] | a literal that is already parsed |
+//! | [`read_str`], [`into_str`] | a string, borrowed from its text if it has no escape |
 //! | [`float`], [`integer_float`] | a float or an integer literal as a float, whatever its suffix |
 //!
 //! | Type | Literals |
@@ -37,6 +38,7 @@
 //! ```
 #![tactic(auto)]
 
+mod borrowed;
 mod check;
 mod error;
 mod floats;
@@ -49,6 +51,7 @@ mod reading;
 mod strings;
 mod value_type;
 
+pub use borrowed::{into_str, read_str};
 pub use error::ValueError;
 pub use floats::{float, integer_float};
 pub use from_literal::FromLiteral;

@@ -43,7 +43,7 @@ pub fn read<T: FromLiteral>(alloc: Global, text: &str) -> Result<T, ValueError>
     }
 }
 
-/// Splits a text after its minus sign: returns whether it starts with one, and the rest.
+/// Splits `text` after its minus sign. Returns `true` if it starts with one, and the rest.
 pub fn cut_sign(text: &str) -> (bool, &str)
     ensures negative { result.0 ≡ is_negative text.now }
     ensures rest { result.1.now ≡ unsigned text.now }
@@ -58,7 +58,7 @@ pub fn cut_sign(text: &str) -> (bool, &str)
 }
 
 /// Returns the error for a text that is not a literal after its sign.
-fn refused(negative: bool, rest: &str, error: ParseError) -> ValueError
+pub(crate) fn refused(negative: bool, rest: &str, error: ParseError) -> ValueError
     requires refused { IsRefusedOrOutOfMemory literal_parse (chars rest.now) error }
     requires small { 1 + length rest.now < 2 ^ 64 }
     ensures { IsRefusedAfter negative (chars rest.now) result }

@@ -19,6 +19,8 @@ pub enum ValueType {
     Char,
     /// `String`, for a string.
     String,
+    /// `&str`, for a string: the type of [`read_str`](crate::read_str).
+    Str,
     /// `Vec<u8>`, for a byte string or a C string.
     Bytes,
     /// `CString`, for a C string.
@@ -38,7 +40,7 @@ impl ValueType {
             ValueType::Integer(_) => matches!(kind, LiteralKind::Integer),
             ValueType::Float(_) => matches!(kind, LiteralKind::Integer | LiteralKind::Float),
             ValueType::Char => matches!(kind, LiteralKind::Char),
-            ValueType::String => matches!(kind, LiteralKind::String),
+            ValueType::String | ValueType::Str => matches!(kind, LiteralKind::String),
             ValueType::Bytes => matches!(kind, LiteralKind::ByteString | LiteralKind::CString),
             ValueType::CString => matches!(kind, LiteralKind::CString),
         }
@@ -58,6 +60,7 @@ impl fmt::Display for ValueType {
             ValueType::Float(ty) => f.write_str(ty.suffix()),
             ValueType::Char => f.write_str("char"),
             ValueType::String => f.write_str("String"),
+            ValueType::Str => f.write_str("&str"),
             ValueType::Bytes => f.write_str("Vec<u8>"),
             ValueType::CString => f.write_str("CString"),
         }

@@ -87,8 +87,8 @@ pub fn number_of<B: Text>(lit: &IntegerLit<B>) -> Option<u128> {
     lit.value()
 }
 
-/// Whether a field is a number in decimal, or `none`.
-fn is_decimal(field: &[u8], number: Option<u128>) -> bool {
+/// Returns `true` if `field` is the number in base ten, or `none` if there is no number.
+pub fn is_decimal(field: &[u8], number: Option<u128>) -> bool {
     match (str::from_utf8(field), number) {
         (Ok(digits), Some(number)) => digits.parse::<u128>().ok() == Some(number),
         (_, None) => field == "none".as_bytes(),

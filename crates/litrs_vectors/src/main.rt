@@ -27,9 +27,11 @@ mod parses;
 mod prefixes;
 mod refusals;
 mod rows;
+mod said;
 mod tokens;
 mod trial;
 mod unallocated;
+mod values;
 
 /// The line after which no prefixes of texts are tried.
 const WITHOUT_PREFIXES: &str = "prefixes\tno";
@@ -90,6 +92,9 @@ fn try_row(trial: &mut Trial, row: &Row) {
         "Literal::string" => named::try_string(trial, row),
         "cut_quoted" => named::try_cut(trial, row),
         "into_value" => named::try_taken(trial, row),
+        "read" => values::try_read(trial, row),
+        "read_prefix" => values::try_read_prefix(trial, row),
+        "float" => values::try_float(trial, row),
         _ => try_text(trial, row),
     }
     unallocated::try_text(trial, row.text.as_str());

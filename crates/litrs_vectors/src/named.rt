@@ -25,17 +25,27 @@ pub fn try_value(trial: &mut Trial, row: &Row) {
 fn are_values(lit: &IntegerLit<&str>, row: &Row) -> bool {
     match row.fields() {
         Some((unsigned, signed)) => {
-            lit.value::<u8>() == unsigned.parse::<u8>().ok()
-                && lit.value::<i8>() == signed.parse::<i8>().ok()
+            is_number(unsigned, lit.value::<u8>().map(i16::from))
+                && is_number(signed, lit.value::<i8>().map(i16::from))
         }
         None => false,
+    }
+}
+
+/// Returns `true` if `field` is the number, or `none` if there is no number.
+fn is_number(field: &str, number: Option<i16>) -> bool {
+    match number {
+        Some(number) => field.parse::<i16>().ok() == Some(number),
+        None => field == "none",
     }
 }
 
 /// Tries whether a text is an identifier.
 pub fn try_ident(trial: &mut Trial, row: &Row) {
     trial.at = ("Ident", "&str");
-    let (text, is_ident) = (row.text.as_str(), row.answer.as_slice() == "yes".as_bytes());
+    let (text, answer) = (row.text.as_str(), row.answer.as_slice());
+    let is_ident = answer == "yes".as_bytes();
+    trial.check(is_ident || answer == "no".as_bytes(), "has no such answer");
     again!(trial, "new", is_ident_refused(trial, text, is_ident));
 }
 
@@ -168,7 +178,7 @@ fn is_taken(lit: Literal<&str>, answer: &[u8]) -> bool {
     }
 }
 
-fn is_text(value: &CowStr, answer: &[u8]) -> bool {
+pub fn is_text(value: &CowStr, answer: &[u8]) -> bool {
     match value {
         CowStr::Borrowed(text) => is_borrowed(text.as_bytes(), answer),
         CowStr::Owned(text) => is_owned(text.as_bytes(), answer),

@@ -5,4 +5,4 @@ use Rattle.litrs.specs.Text.{byte_len}
 use Rattle.litrs_value.proofs.check.suffix_len.Goals as goal
 
 pub returns : goal.returns
-returns c = sym (ap length (encodes-chars c.suffix-suffix.result.now c.suffix-suffix.utf8)) ∙ ap byte_len c.suffix-suffix.ensures
+returns g c = sym (ap length (encodes-chars c.suffix-suffix.result.now c.suffix-suffix.utf8)) ∙ ap byte_len c.suffix-suffix.ensures
