@@ -45,6 +45,7 @@ pub use going_on::prefix_goes_on;
 pub use len::prefix_len;
 use litrs::{Literal, ParseError, ParseErrorKind};
 pub use malformed::after_opened;
+pub use may_change::{is_open_front, prefix_may_change};
 pub use name::{begins_name, split_first_char};
 pub use opening::opens;
 use std::alloc::Global;
@@ -55,6 +56,7 @@ mod going_on;
 pub mod laws;
 mod len;
 mod malformed;
+mod may_change;
 mod name;
 mod opening;
 
