@@ -12,6 +12,8 @@ pub mod Chars
 pub mod Numbers
 pub mod Unique
 pub mod MoreText
+pub mod OpenedStays
+pub mod MayChange
 -- that a literal at the front is found
 pub mod Complete
 pub mod RawComplete

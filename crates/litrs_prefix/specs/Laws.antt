@@ -1,5 +1,6 @@
 -- What holds of the literals at the front of texts.
 use Rattle.std.specs.Prelude.{◌≡◌, ℕ, List, [], ◌∷◌, ◌++◌, IsTrue}
+use Rattle.litrs_base.specs.Text.{IsText}
 use Rattle.litrs_grammar.specs.Suffix.{is_suffix}
 use Rattle.litrs_base.specs.declared.quotes.Switches.{Switches}
 use Rattle.litrs_grammar.specs.Quoted.{QuotedParts, IsQuoted}
@@ -7,6 +8,7 @@ use Rattle.litrs_grammar.specs.Literal.{Derivation, IsLiteral}
 use Rattle.litrs_base.specs.Refusal.{refusal_of}
 use Rattle.litrs_prefix.specs.declared.MalformedPrefix.{MalformedPrefix}
 use Rattle.litrs_prefix.specs.Malformed.{IsMalformed}
+use Rattle.litrs_prefix.specs.MayChange.{AnswerStays}
 use Rattle.litrs_prefix.specs.Opens.{opens}
 use Rattle.litrs_prefix.specs.Prefix.{HasPrefix, ends_suffix}
 
@@ -45,3 +47,8 @@ PrefixesOpen = (t : List ℕ) (d : Derivation) (rest : List ℕ) →
 abbrev pub MalformedAreUnique : Type 0
 MalformedAreUnique = (t : List ℕ) (e f : MalformedPrefix) → IsMalformed t e → IsMalformed t f →
     (e.len ≡ f.len) × (refusal_of e.error ≡ refusal_of f.error)
+
+-- Where the answer stays, what is malformed has the same length and error in each longer text.
+abbrev pub MalformedStay : Type 0
+MalformedStay = (t more : List ℕ) (e : MalformedPrefix) → AnswerStays t → IsText more →
+    IsMalformed t e → IsMalformed (t ++ more) e

@@ -6,6 +6,7 @@ pub mod Opens
 pub mod Malformed
 pub mod Meant
 -- what more text may change
+pub mod MayChange
 pub mod GoesOn
 -- what holds of all that
 pub mod Laws

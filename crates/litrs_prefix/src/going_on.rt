@@ -1,4 +1,4 @@
-//! Whether more text may give another literal at the front.
+//! The texts to which more text may give a literal at the front, or another one.
 ghost use Rattle.std.specs.Prelude.{◌≡◌, ◌↔◌, ◌∷◌, ◌++◌, [], ℕ, List, IsTrue, IfSome, IfNone};
 ghost use Rattle.std.specs.Str.{chars};
 ghost use Rattle.litrs_base.specs.Characters.{period};
@@ -8,12 +8,14 @@ use crate::follow::begins_with_period;
 use crate::name::is_empty;
 use litrs::{IntegerLit, goes_on};
 
-/// Whether more text may give a literal at the front of the text, or another one than stands there.
+/// Returns `true` if `text` or a longer text has a literal at its front, and none with a rest is
+/// there yet.
 ///
-/// It is true of the empty text, `12`, `tru`, `1.`, `1e+`, `"a`, `'a` and `0x1.`, and false of
-/// `12 `, `1..`, `true"`, `foo`, `0b12` and `"\q`. Where it is false, the answer of
-/// [`parse_prefix`](crate::parse_prefix) on the text stays for every longer one: so a reader of
-/// pieces asks for more text where it is true, and else takes the answer. It does not allocate.
+/// It is `true` for the empty text, `12`, `tru`, `1.`, `1e+`, `"a`, `'a` and `0x1.`, and `false`
+/// for `12 `, `1..`, `true"`, `foo`, `0b12` and `"\q`. If it is `false`, more text gives no
+/// literal, or keeps the one that is there. More text may still make a malformed literal of a
+/// lifetime, or change a malformed literal: [`prefix_may_change`](crate::prefix_may_change) says if
+/// it can. The call does not allocate.
 pub fn prefix_goes_on(text: &str) -> bool
     ensures { IsTrue result ↔ PrefixGoesOn (chars text.now) }
 {
@@ -24,8 +26,8 @@ pub fn prefix_goes_on(text: &str) -> bool
     }
 }
 
-/// Whether the text is an integer without suffix and one period. It is a float, or none, as `0x1.`
-/// is, and `0x1..` has an integer at its front.
+/// Returns `true` if `text` is an integer without suffix and one period. It is a float, or none, as
+/// `0x1.` is, and `0x1..` has an integer at its front.
 fn is_integer_and_period(text: &str) -> bool
     ensures { IsTrue result ↔ IsIntegerAndPeriod (chars text.now) }
 {
@@ -35,7 +37,7 @@ fn is_integer_and_period(text: &str) -> bool
     }
 }
 
-/// What stands before the period that ends the text.
+/// Returns the part of `text` before the period that ends it, or `None` if none does.
 fn without_period(text: &str) -> Option<&str>
     ensures some { IfSome result (λ front. chars front.now ++ period ∷ [] ≡ chars text.now) }
     ensures none { IfNone result ((front : List ℕ) → front ++ period ∷ [] ≡ chars text.now → ⊥) }
@@ -55,7 +57,7 @@ fn without_period(text: &str) -> Option<&str>
     }
 }
 
-/// Whether the text is an integer without suffix.
+/// Returns `true` if `text` is an integer without suffix.
 fn is_integer_without_suffix(text: &str) -> bool
     ensures { IsTrue result ↔ IsBareInteger (chars text.now) }
 {

@@ -3,7 +3,9 @@ use crate::parses::discard;
 use crate::rows::Row;
 use crate::trial::{Trial, again};
 use litrs::ParseErrorKind;
-use litrs_prefix::{MalformedPrefix, Prefix, parse_prefix, parse_prefix_at, prefix_len};
+use litrs_prefix::{
+    MalformedPrefix, Prefix, parse_prefix, parse_prefix_at, prefix_len, prefix_may_change,
+};
 use std::alloc::Global;
 
 /// What is before the text in a longer one.
@@ -44,6 +46,15 @@ pub fn try_front(trial: &mut Trial, row: &Row) {
             is_refused_at(trial, source, wanted)
         );
     }
+}
+
+/// Tries if more text can change what is at the front of the text.
+pub fn try_may_change(trial: &mut Trial, row: &Row) {
+    trial.at = ("prefix_may_change", "&str");
+    let answer = str::from_utf8(row.answer.as_slice()).unwrap_or("");
+    trial.check(matches!(answer, "yes" | "no"), "has no such answer");
+    let holds = prefix_may_change(row.text.as_str()) == (answer == "yes");
+    trial.check(holds, "says otherwise");
 }
 
 /// Appends a part of the longer text.

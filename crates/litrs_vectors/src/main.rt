@@ -86,6 +86,7 @@ fn try_line(trial: &mut Trial, line: &str) -> Result<(), AllocError> {
 fn try_row(trial: &mut Trial, row: &Row) {
     match row.names {
         "parse_prefix" => fronts::try_front(trial, row),
+        "prefix_may_change" => fronts::try_may_change(trial, row),
         "goes_on" => prefixes::try_goes_on(trial, row),
         "value" => named::try_value(trial, row),
         "Ident::new" => named::try_ident(trial, row),
