@@ -1,4 +1,4 @@
--- Where the code finds that a literal ends.
+-- The ends of literals, as the code finds them.
 use Rattle.std.specs.Prelude.{◌≡◌, ◌⊎◌, ℕ, Bool, true, false, not, ◌==◌, ◌&&◌, List, [], ◌∷◌, ◌++◌, drop, if◌then◌else◌, IsTrue, IsFalse}
 use Rattle.std.specs.List.{prefix_len}
 use Rattle.std.specs.Str.{chars, IsUtf8, IsCharBoundary}
@@ -10,41 +10,41 @@ use Rattle.litrs_grammar.specs.Integer.{is_e}
 use Rattle.litrs_grammar.specs.Literal.{Derivation, a_bool, IsLiteral}
 use Rattle.litrs_prefix.specs.Prefix.{may_follow, HasPrefix}
 
--- the second text is the end of the first
+-- The second text is the end of the first.
 abbrev pub IsEndOf : (text rest : List ℕ) → Type 0
 IsEndOf text rest = (front : List ℕ) × (front ++ rest ≡ text)
 
--- no bool stands at the front, before this rest
+-- The text is not a bool followed by this rest.
 abbrev pub NoBoolBefore : (t rest : List ℕ) → Type 0
 NoBoolBefore t rest = (b : Bool) → HasPrefix t (a_bool b) rest → ⊥
 
--- what is left of a text after the decimal digits and underscores at its front
+-- The part of a text after the decimal digits and underscores at its front.
 abbrev pub after_digits : List ℕ → List ℕ
 after_digits t = drop (prefix_len is_decimal_char t) t
 
--- the same after a period
+-- The part of a text after a period at its front, and the digits and underscores after it.
 abbrev pub after_fraction : List ℕ → List ℕ
 after_fraction [] = []
 after_fraction (c ∷ t) = if is_period c then after_digits t else (c ∷ t)
 
--- what is left of a text after the sign at its front
+-- The part of a text after the sign at its front.
 abbrev pub after_sign : List ℕ → List ℕ
 after_sign [] = []
 after_sign (c ∷ t) = if is_sign c then t else (c ∷ t)
 
--- what is left of a text after the exponent at its front, which need not have a digit
+-- The part of a text after the exponent at its front, which need not have a digit.
 abbrev pub after_exponent : List ℕ → List ℕ
 after_exponent [] = []
 after_exponent (c ∷ t) = if is_e c then after_digits (after_sign t) else (c ∷ t)
 
--- what follows the first quote that no backslash escapes; the first character may be escaped
+-- The text after the first quote that is not escaped. The first character may be escaped.
 abbrev pub past_quote : (quote : ℕ) (escaped : Bool) → List ℕ → List ℕ
 past_quote quote escaped [] = []
 past_quote quote escaped (c ∷ t) =
     if (c == quote) && not escaped then t
     else past_quote quote ((c == backslash) && not escaped) t
 
--- the same within the line, or what follows the line
+-- Like `past_quote`, within the line, or the text after the line.
 abbrev pub past_single_quote : (escaped : Bool) → List ℕ → List ℕ
 past_single_quote escaped [] = []
 past_single_quote escaped (c ∷ t) =
@@ -52,11 +52,11 @@ past_single_quote escaped (c ∷ t) =
     else if (c == single_quote) && not escaped then t
     else past_single_quote ((c == backslash) && not escaped) t
 
--- the kinds of refusals of what is no suffix
+-- The kinds of refusals of a text that is not a suffix.
 abbrev pub IsSuffixKind : ParseErrorKind → Type 0
 IsSuffixKind kind = (kind ≡ UnexpectedChar) ⊎ (kind ≡ InvalidSuffix)
 
--- the place in the text with these bytes is where this rest begins
+-- The rest starts at this place of the text with these bytes.
 abbrev pub EndsBefore : (bytes rest : List ℕ) → ℕ → Type 0
 EndsBefore bytes rest end = IsCharBoundary bytes end × (chars (drop end bytes) ≡ rest)
 
@@ -67,13 +67,13 @@ pub record HasLiteralBefore (bytes rest : List ℕ) : Type 0 where
   pub literal : Derivation
   pub at_front : HasPrefix (chars bytes) literal (chars rest)
 
--- Whether the front is a literal that the rest may follow: where it is, one such; where it is not,
--- none.
+-- The result of the test that the front is a literal that the rest may follow. If it is `true`,
+-- there is such a literal. Otherwise, there is none.
 abbrev pub StandsBefore : Bool → (front rest : List ℕ) → Type 0
 StandsBefore true front rest = (d : Derivation) × IsLiteral front d × IsTrue (may_follow d rest)
 StandsBefore false front rest = (d : Derivation) → IsLiteral front d → IsFalse (may_follow d rest)
 
--- the same of the literals of one kind, whose parts are of type D
+-- Like `StandsBefore`, for the literals of one kind, whose parts have the type `D`.
 abbrev pub StandsBy :
     {D : Type 0} → (D → Type 0) → (D → Bool) → Bool → Type 0
 StandsBy {D} Derives follows true = (d : D) × Derives d × IsTrue (follows d)

@@ -20,10 +20,10 @@ pub record PrefixGoesOn (t : List ℕ) : Type 0 where
   pub rest : List ℕ
   pub found : HasPrefix (t ++ more) literal rest
 
--- an integer without suffix
+-- An integer without a suffix.
 abbrev pub IsBareInteger : List ℕ → Type 0
 IsBareInteger t = (d : IntegerParts) × IsIntegerOf t d × IsTrue (is_empty d.suffix)
 
--- such an integer, and one period
+-- An integer without a suffix, and one period.
 abbrev pub IsIntegerAndPeriod : List ℕ → Type 0
 IsIntegerAndPeriod t = (front : List ℕ) × IsBareInteger front × (front ++ period ∷ [] ≡ t)

@@ -1,14 +1,14 @@
--- which literal stands at the front of a text
+-- the literal at the front of a text
 pub mod Prefix
--- whether one opens there
+-- texts in which a literal begins
 pub mod Opens
--- that none stands there, though one opens, and what was meant as one
+-- malformed prefixes
 pub mod Malformed
 pub mod Meant
--- what more text may change
+-- texts whose literal may change if more text follows
 pub mod MayChange
 pub mod GoesOn
--- what holds of all that
+-- laws
 pub mod Laws
--- where the code finds that it ends
+-- the ends of literals, as the code finds them
 pub mod Ends

@@ -35,7 +35,7 @@ pub record IsOutOfMemoryAt (t : List ℕ) (e : MalformedPrefix) : Type 0 where
   pub refused : IsOutOfMemory literal_parse front e.error
   pub prefix : HasPrefix t refused.derivation rest
 
--- the error of a call that may allocate
+-- The error of a call that may allocate.
 abbrev pub IsMalformedOrOutOfMemory : List ℕ → MalformedPrefix → Type 0
 IsMalformedOrOutOfMemory t e = IsMalformed t e ⊎ IsOutOfMemoryAt t e
 
@@ -47,15 +47,16 @@ pub record IsMovedBy (start : ℕ) (t : List ℕ) (e : MalformedPrefix) : Type 0
   pub refusal : refusal_of e.error ≡ shifted start (refusal_of of_text.error)
   pub char_span : char_span_of e.error ≡ shifted_span start (char_span_of of_text.error)
 
--- the malformed prefix, which begins `start` bytes into a longer text, as a range of that
+-- The range of the malformed prefix in a longer text, in which it starts at `start`.
 abbrev pub prefix_span : (start : ℕ) → MalformedPrefix → Range ℕ
 prefix_span start e = record { start = start; end = start + e.len }
 
--- the part of the longer text to mark: the character span, or the malformed prefix if there is none
+-- The part of the longer text to mark: the character span, or the malformed prefix if there is
+-- none.
 abbrev pub marked_at : (start : ℕ) → MalformedPrefix → Range ℕ
 marked_at start e = unwrap_or (char_span_of e.error) (prefix_span start e)
 
--- the bytes of the longer text can be cut at both ends of the malformed prefix, and of what is
--- marked
+-- The bytes of the longer text can be cut at both ends of the malformed prefix, and of the part to
+-- mark.
 abbrev pub IsMarkedAt : (start : ℕ) → (bytes : List ℕ) → MalformedPrefix → Type 0
 IsMarkedAt start bytes e = IsCutBy bytes (prefix_span start e) × IsCutBy bytes (marked_at start e)

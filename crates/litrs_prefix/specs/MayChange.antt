@@ -1,4 +1,4 @@
--- Which texts more text can change the answer of `parse_prefix` for.
+-- The texts for which more text can change the answer of `parse_prefix`.
 use Rattle.std.specs.Prelude.{◌≡◌, ℕ, Bool, true, false, ◌==◌, ◌&&◌, ◌||◌, List, [], ◌∷◌, ◌++◌, codes, IsTrue, IsFalse}
 use Rattle.litrs_base.specs.Characters.{single_quote, letter_b, letter_c, letter_r}
 use Rattle.litrs_base.specs.Text.{IsText, is_empty, is_text}
@@ -7,8 +7,8 @@ use Rattle.litrs_prefix.specs.Meant.{IsMeant}
 use Rattle.litrs_prefix.specs.Opens.{after_name, after_hashes, opens}
 use Rattle.litrs_prefix.specs.Prefix.{HasPrefix, HasNoPrefix}
 
--- A literal begins at the front of the text, none is there, and this front is what was meant as
--- one. The length and the error that `parse_prefix` returns are those of the front.
+-- `front` is the malformed prefix of `t`. The length and the error that `parse_prefix` returns are
+-- those of `front`.
 pub record IsMalformedFront (t front : List ℕ) : Type 0 where
   pub rest : List ℕ
   pub spells : front ++ rest ≡ t
@@ -24,7 +24,7 @@ pub data Answer : Type 0 where
   literal : Derivation → List ℕ → Answer
   malformed : List ℕ → Answer
 
--- the answer is that for the text
+-- The answer is that for the text.
 abbrev pub IsAnswer : List ℕ → Answer → Type 0
 IsAnswer t none = IsFalse (opens t)
 IsAnswer t (literal d front) = (rest : List ℕ) × (front ++ rest ≡ t) × HasPrefix t d rest
@@ -40,11 +40,11 @@ abbrev pub AnswerChanges : List ℕ → Type 0
 AnswerChanges t = (more : List ℕ) × IsText more
     × ((answer : Answer) → IsAnswer t answer → IsAnswer (t ++ more) answer → ⊥)
 
--- no literal begins at the front of any longer text
+-- No literal begins at the front of any longer text.
 abbrev pub OpensNever : List ℕ → Type 0
 OpensNever t = (more : List ℕ) → IsText more → IsFalse (opens (t ++ more))
 
--- a literal begins at the front of some longer text
+-- A literal begins at the front of some longer text.
 abbrev pub OpensLater : List ℕ → Type 0
 OpensLater t = (more : List ℕ) × IsText more × IsTrue (opens (t ++ more))
 

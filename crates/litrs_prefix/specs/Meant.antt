@@ -1,5 +1,5 @@
--- What was meant as a literal, where one opens at the front of a text and none stands there: what a
--- reader passes over. The Rust Reference has no such rule.
+-- The malformed prefix of a text in which a literal begins, but none is valid: a reader continues
+-- after it. The Rust Reference does not define it.
 use Rattle.std.specs.Prelude.{◌≡◌, ℕ, ◌+◌, Bool, false, not, length, ◌==◌, ◌&&◌, List, [], ◌∷◌, ◌++◌, drop, if◌then◌else◌}
 use Rattle.std.specs.Char.{is_ascii_digit}
 use Rattle.std.specs.List.{after_first, before_first}
@@ -15,58 +15,58 @@ pub data Symbol : Type 0 where
   lone : ℕ → Symbol
   escaped : ℕ → Symbol
 
--- the symbols of a text; a backslash that ends it is one by itself
+-- The symbols of a text. A backslash at the end is a symbol by itself.
 abbrev pub symbols : List ℕ → List Symbol
 symbols [] = []
 symbols (c ∷ []) = lone c ∷ []
 symbols (c ∷ d ∷ t) = if c == backslash then escaped d ∷ symbols t else lone c ∷ symbols (d ∷ t)
 
--- how they are written
+-- The text of symbols.
 abbrev pub symbols_text : List Symbol → List ℕ
 symbols_text [] = []
 symbols_text (lone c ∷ s) = c ∷ symbols_text s
 symbols_text (escaped c ∷ s) = backslash ∷ c ∷ symbols_text s
 
--- the symbol is this character, and no escaped one
+-- `true` iff the symbol is this character, and not escaped.
 abbrev pub is_lone : ℕ → Symbol → Bool
 is_lone quote (lone c) = c == quote
 is_lone quote (escaped c) = false
 
--- what follows the first quote that no backslash escapes; nothing where there is none
+-- The text after the first quote that is not escaped, or nothing if there is none.
 abbrev pub after_quote : (quote : ℕ) → List ℕ → List ℕ
 after_quote quote t = symbols_text (after_first (is_lone quote) (symbols t))
 
--- after `"`: what follows the closing quote
+-- The text after the closing quote, for a text after `"`.
 abbrev pub after_quoted : List ℕ → List ℕ
 after_quoted = after_quote double_quote
 
--- the first line of a text, without its LF
+-- The first line of a text, without its LF.
 abbrev pub first_line : List ℕ → List ℕ
 first_line t = before_first (λ c. c == line_feed) t
 
--- What follows the first `'` of the line that no backslash escapes; what follows the line where
--- there is none.
+-- The text after the first `'` of the line that is not escaped, or after the line if there is none.
 abbrev pub after_single_quote : List ℕ → List ℕ
 after_single_quote t =
     after_quote single_quote (first_line t) ++ drop (length (first_line t)) t
 
--- After `'` or `b'`: what follows the closing quote. A quote after the first character closes it,
--- whatever that is but a backslash, as in `'''`.
+-- The text after the closing quote, for a text after `'` or `b'`. A quote after the first character
+-- closes the literal unless that is a backslash, for example in `'''`.
 abbrev pub after_char : List ℕ → List ℕ
 after_char [] = []
 after_char (c ∷ t) =
     if not (c == backslash) && first_passes is_single_quote t then drop 1 t
     else after_single_quote (c ∷ t)
 
--- what follows the first closing with so many hashes; nothing where there is none
+-- The text after the first closing with this number of hashes, or nothing if there is none.
 abbrev pub after_closing : ℕ → List ℕ → List ℕ
 after_closing n t = drop (length_before (raw_closing n) t + (1 + n)) t
 
--- after `r`, `br` or `cr`: what follows the closing, which has as many hashes as stand first
+-- The text after the closing, for a text after `r`, `br` or `cr`. The closing has as many hashes as
+-- the front of the text.
 abbrev pub after_raw : List ℕ → List ℕ
 after_raw t = after_closing (hash_len t) (drop 1 (after_hashes t))
 
--- after `b` or `c`
+-- The text after the body, for a text after `b` or `c`.
 abbrev pub after_prefixed : List ℕ → List ℕ
 after_prefixed [] = []
 after_prefixed (c ∷ t) =
@@ -74,12 +74,13 @@ after_prefixed (c ∷ t) =
     else if c == single_quote then after_char t
     else after_raw t
 
--- What follows the parts of a float that a number has: digits, a period and more, an exponent. The
--- prefix of an integer, with digits of its base, is left for the name that is the suffix.
+-- The text after the parts of a float that a number has: digits, a period and more digits, and an
+-- exponent. The prefix of an integer and its digits are left for the name that is the suffix.
 abbrev pub after_number : List ℕ → List ℕ
 after_number t = (float_cut t).suffix
 
--- What follows all of what opens at the front but its suffix. A bool is a name, as a suffix is.
+-- The text after the literal that begins at the front, without its suffix. A bool is left for the
+-- name that is the suffix.
 abbrev pub after_body : List ℕ → List ℕ
 after_body [] = []
 after_body (c ∷ t) =
@@ -91,13 +92,13 @@ after_body (c ∷ t) =
     else if (c == letter_c) && opens_c_string t then after_prefixed t
     else c ∷ t
 
--- what follows what opens at the front: its suffix is the whole name after the body
+-- The text after the literal that begins at the front. Its suffix is the whole name after the body.
 abbrev pub after_opened : List ℕ → List ℕ
 after_opened t = after_name (after_body t)
 
--- Where no literal stands at the front of the text, what was meant as one is what opens there, with
--- its suffix. That may itself be a literal, where what follows may not follow it: then it is the
--- shortest longer piece that is none, since each shorter one is a literal.
+-- `front` is the malformed prefix of `t`, which has no literal at its front: the literal that
+-- begins there, with its suffix. That may itself be a literal, if the text after it may not follow
+-- it. Then `front` is the shortest longer prefix of `t` that is not a literal.
 pub record IsMeant (t front : List ℕ) : Type 0 where
   pub piece : List ℕ
   pub more : List ℕ

@@ -1,4 +1,4 @@
-//! Where the literal ends that opens at the front of a text.
+//! The end of the literal that begins at the front of a text.
 ghost use Rattle.std.specs.Prelude.{◌≡◌, ◌++◌, ◌∷◌, ℕ, Bool, List, Some, codes, drop, IsTrue, IsFalse, IfSome, IfNone};
 ghost use Rattle.std.specs.Str.{chars, IsCharBoundary};
 ghost use Rattle.std.specs.declared.ops.Range.{Range};
@@ -28,8 +28,8 @@ use litrs_lex::{
     end_dec_digits, scan_raw_string,
 };
 
-/// Where the literal at the front of the text ends, suffix and all, if one stands there; None where
-/// it is plain that none does.
+/// Returns the only place at which a literal at the front of `text` can end, with its suffix, in
+/// bytes. Returns `None` if there is clearly no literal.
 pub fn literal_end(text: &str) -> Option<usize>
     ensures boundary { IfSome result (IsCharBoundary text.now) }
     ensures literal { IfSome result (λ end. (d : Derivation) (r : List ℕ) →
@@ -42,7 +42,7 @@ pub fn literal_end(text: &str) -> Option<usize>
     }
 }
 
-/// [`literal_end`], with 0 for None.
+/// Like [`literal_end`], but returns 0 instead of `None`.
 fn some_end(text: &str) -> usize
     ensures boundary { IsCharBoundary text.now result }
     ensures literal { (d : Derivation) (r : List ℕ) → HasPrefix (chars text.now) d r →
@@ -74,7 +74,7 @@ fn bool_end(text: &str) -> Option<usize>
     }
 }
 
-/// Where another literal ends.
+/// Like [`some_end`], for a text that does not start with a bool.
 fn other_end(text: &str) -> usize
     requires { (r : List ℕ) → NoBoolBefore (chars text.now) r }
     ensures boundary { IsCharBoundary text.now result }
@@ -93,9 +93,8 @@ fn other_end(text: &str) -> usize
     }
 }
 
-/// Where a literal ends that is refused for what follows it, since more than a suffix does: its
-/// suffix is the name at the place where the refusal points. Where it is refused for another cause,
-/// none stands there, and the answer is 0.
+/// Returns the end of a literal whose error is only that of the text after it. Its suffix is the
+/// name at the place of the error. For another error there is no literal, and the result is 0.
 fn suffix_end(text: &str, e: &ParseError) -> usize
     ensures boundary { IsCharBoundary text.now result }
     ensures literal { (span : Range ℕ) (x r : List ℕ) → span_of e.now ≡ Some span →
@@ -108,7 +107,7 @@ fn suffix_end(text: &str, e: &ParseError) -> usize
     }
 }
 
-/// Where the suffix would start of a literal that is refused there.
+/// Returns the place at which the suffix of a literal with this error would start.
 fn suffix_start(e: &ParseError) -> Option<usize>
     ensures { (span : Range ℕ) → span_of e.now ≡ Some span → IsSuffixKind (kind_of e.now) →
         result ≡ Some span.start }
@@ -119,7 +118,7 @@ fn suffix_start(e: &ParseError) -> Option<usize>
     }
 }
 
-/// Where the name ends that stands there.
+/// Returns the end of the name at the place `start`.
 fn end_from(text: &str, start: usize) -> usize
     ensures boundary { IsCharBoundary text.now result }
     ensures name { (x r : List ℕ) → IsCharBoundary text.now start →
@@ -131,7 +130,7 @@ fn end_from(text: &str, start: usize) -> usize
     }
 }
 
-/// Where a number ends.
+/// Returns the end of a number.
 fn number_end(text: &str) -> usize
     requires { IsTrue (first_passes is_ascii_digit text.now) }
     ensures boundary { IsCharBoundary text.now result }
@@ -155,8 +154,9 @@ fn number_end(text: &str) -> usize
     }
 }
 
-/// Where a number ends that has a period after its decimal digits: before the period, where
-/// another or a name follows, as in `1..2` and `1.max(2)`; after it, where no digit follows.
+/// Returns the end of a number that has a period after its decimal digits. It ends before the
+/// period if another period or a name follows, for example in `1..2` and `1.max(2)`, and after it
+/// if no digit follows.
 fn period_end(text: &str, digits: usize, after: &str) -> usize
     requires digit { IsTrue (first_passes is_ascii_digit text.now) }
     requires period { after_digits (chars text.now) ≡ period ∷ chars after.now }
@@ -179,7 +179,7 @@ fn period_end(text: &str, digits: usize, after: &str) -> usize
     }
 }
 
-/// Where a number ends that does not end with its period, by its cut.
+/// Returns the end of a number that does not end with its period, by its cut.
 fn cut_end(text: &str) -> usize
     requires { IsTrue (first_passes is_ascii_digit text.now) }
     ensures boundary { IsCharBoundary text.now result }
@@ -198,7 +198,7 @@ fn cut_end(text: &str) -> usize
     }
 }
 
-/// Where a char ends.
+/// Returns the end of a char.
 fn char_end(text: &str) -> usize
     requires { IsTrue (begins_with (codes "'") text.now) }
     ensures boundary { IsCharBoundary text.now result }
@@ -212,7 +212,7 @@ fn char_end(text: &str) -> usize
     }
 }
 
-/// Where a byte ends.
+/// Returns the end of a byte.
 fn byte_end(text: &str) -> usize
     requires { IsTrue (begins_with (codes "b'") text.now) }
     ensures boundary { IsCharBoundary text.now result }
@@ -226,7 +226,7 @@ fn byte_end(text: &str) -> usize
     }
 }
 
-/// Where a quoted string of the kind ends.
+/// Returns the end of a quoted string of `kind`.
 fn quoted_end(text: &str, kind: StringKind) -> usize
     requires { IsTrue (begins_with (quoted_front kind) text.now) }
     ensures boundary { IsCharBoundary text.now result }
@@ -248,7 +248,7 @@ fn quoted_end(text: &str, kind: StringKind) -> usize
     }
 }
 
-/// Where a raw string of the kind ends.
+/// Returns the end of a raw string of `kind`.
 fn raw_end(text: &str, kind: StringKind) -> usize
     requires { IsTrue (begins_with (raw_front kind) text.now) }
     ensures boundary { IsCharBoundary text.now result }

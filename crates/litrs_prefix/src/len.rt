@@ -25,7 +25,8 @@ use litrs_lex::{Front, StringKind, cut_byte, cut_char, cut_quoted, scan_raw_stri
 /// Returns the length in bytes of the literal at the front of `text`, suffix included, or `None` if
 /// there is none, malformed or not. It does not allocate: the value of the literal is not made.
 ///
-/// The result is `Some(1)` for `1.max(2)`, `Some(4)` for `"a"b + c`, and `None` for `0b12` and `foo`.
+/// The result is `Some(1)` for `1.max(2)`, `Some(4)` for `"a"b + c`, and `None` for `0b12` and
+/// `foo`.
 pub fn prefix_len(text: &str) -> Option<usize>
     ensures boundary { IfSome result (IsCharBoundary text.now) }
     ensures literal { IfSome result (λ len.

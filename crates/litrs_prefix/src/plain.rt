@@ -18,9 +18,9 @@ use litrs_base::CharKind;
 use litrs_lex::quoted::items_end;
 use litrs_lex::{InByteString, InCString, InString, StringKind};
 
-/// Returns the part of `text` after the literal at its front, if that is a decimal number, a char or
-/// a byte of one character, or a quoted string or byte string, has no suffix, and ends the text or
-/// is before an ASCII character that no name has. Otherwise returns `None`, as for `0xFF`.
+/// Returns the part of `text` after the literal at its front, if that is a decimal number, a char
+/// or a byte of one character, or a quoted string or byte string, has no suffix, and ends the text
+/// or is before an ASCII character that no name has. Otherwise returns `None`, as for `0xFF`.
 pub fn after_plain(text: &str) -> Option<&str>
     ensures { IfSome result (λ rest. HasLiteralBefore text.now rest.now) }
 {
@@ -132,7 +132,7 @@ fn after_char<'a>(text: &'a str, body: &'a str, kind: CharKind) -> Option<&'a st
     }
 }
 
-/// Returns `true` if `c` can stand for itself in a char or a byte.
+/// Returns `true` if `c` is a plain character in a char or a byte.
 fn is_plain_char(c: char, kind: CharKind) -> bool
     ensures { result ≡ is_char_item kind (plain_char c) }
 {
