@@ -3,7 +3,7 @@ use litrs::{CStringLit, FloatLit, IntegerLit, Literal, ParseError, StringLit, Te
 use std::alloc::AllocError;
 use std::fmt::Write;
 
-/// The kind of a literal.
+/// Returns the name of the kind of a literal.
 pub fn kind_of<B: Text>(lit: &Literal<B>) -> &'static str {
     match lit {
         Literal::Bool(_) => "bool",
@@ -17,7 +17,7 @@ pub fn kind_of<B: Text>(lit: &Literal<B>) -> &'static str {
     }
 }
 
-/// The value of a string of one of the three kinds, and whether it is raw.
+/// Returns the value of a string of one of the three kinds, and `true` if it is raw.
 pub fn value_of<B: Text>(lit: &Literal<B>) -> Option<(bool, &[u8])> {
     match lit {
         Literal::String(lit) => Some(string_value(lit)),
@@ -35,7 +35,7 @@ fn c_string_value<B: Text>(lit: &CStringLit<B>) -> (bool, &[u8]) {
     (lit.is_raw_c_string(), lit.value().to_bytes())
 }
 
-/// Whether a literal is a quoted string of one of the three kinds with a backslash.
+/// Returns `true` if a literal is a quoted string of one of the three kinds with a backslash.
 pub fn is_escaped<B: Text>(lit: &Literal<B>) -> bool {
     match value_of(lit) {
         Some((is_raw, _)) => !is_raw && lit.raw_input().contains('\\'),
@@ -43,7 +43,7 @@ pub fn is_escaped<B: Text>(lit: &Literal<B>) -> bool {
     }
 }
 
-/// Whether these are the fields of a literal, by its accessors.
+/// Returns `true` if these are the fields of a literal, by its accessors.
 pub fn are_fields<B: Text>(answer: &[u8], lit: &Literal<B>) -> bool {
     match after(after(Some(answer), kind_of(lit)), lit.suffix()) {
         Some(parts) => are_parts(parts, lit),
@@ -51,12 +51,12 @@ pub fn are_fields<B: Text>(answer: &[u8], lit: &Literal<B>) -> bool {
     }
 }
 
-/// What follows this field and a tab, if they come first.
+/// Returns the fields after `field` and a tab, if `fields` starts with them.
 pub fn after<'a>(fields: Option<&'a [u8]>, field: &str) -> Option<&'a [u8]> {
     fields?.strip_prefix(field.as_bytes())?.strip_prefix(b"\t")
 }
 
-/// Whether these are the fields of the literal's kind.
+/// Returns `true` if these are the fields of the literal's kind.
 fn are_parts<B: Text>(parts: &[u8], lit: &Literal<B>) -> bool {
     match lit {
         Literal::Bool(lit) => parts == (if lit.value() { "true" } else { "false" }).as_bytes(),
@@ -82,7 +82,7 @@ fn is_integer<B: Text>(parts: &[u8], lit: &IntegerLit<B>) -> bool {
     }
 }
 
-/// The value, if it has 128 bits at most.
+/// Returns the value, if it fits 128 bits.
 pub fn number_of<B: Text>(lit: &IntegerLit<B>) -> Option<u128> {
     lit.value()
 }
@@ -96,7 +96,7 @@ pub fn is_decimal(field: &[u8], number: Option<u128>) -> bool {
     }
 }
 
-/// Whether a field is a number in hex.
+/// Returns `true` if a field is a number in hex.
 fn is_hex(field: &[u8], number: u32) -> bool {
     match str::from_utf8(field) {
         Ok(digits) => u32::from_str_radix(digits, 16).ok() == Some(number),
@@ -110,7 +110,7 @@ fn is_float<B: Text>(parts: &[u8], lit: &FloatLit<B>) -> bool {
     after(numbers, fraction) == Some(lit.exponent_part().as_bytes())
 }
 
-/// Whether these are the fields of a string of one of the three kinds.
+/// Returns `true` if these are the fields of a string of one of the three kinds.
 fn is_string<B: Text>(parts: &[u8], lit: &Literal<B>) -> bool {
     match value_of(lit) {
         Some((_, value)) => after(Some(parts), body_of(lit)) == Some(value),
@@ -118,7 +118,7 @@ fn is_string<B: Text>(parts: &[u8], lit: &Literal<B>) -> bool {
     }
 }
 
-/// How the body of a string of one of the three kinds is written.
+/// Returns the field for the form of the body of a string of one of the three kinds.
 fn body_of<B: Text>(lit: &Literal<B>) -> &'static str {
     match value_of(lit) {
         Some((true, _)) => "raw",
@@ -127,7 +127,7 @@ fn body_of<B: Text>(lit: &Literal<B>) -> &'static str {
     }
 }
 
-/// Writes the fields of a refusal, without what is printed of it.
+/// Writes the fields of an error, without its message.
 pub fn write_refusal(fields: &mut String, error: &ParseError) -> Result<(), AllocError> {
     write!(fields, "refused\t{:?}\t", error.kind())?;
     match (error.span(), error.char_span()) {

@@ -5,10 +5,10 @@ use crate::trial::{Place, Trial};
 use litrs::{FloatLit, IntegerLit, Literal};
 use litrs_build::BuildError;
 
-/// What builds literals.
+/// The type whose calls build literals.
 pub const PLACE: Place = ("litrs_build", "&str");
 
-/// The call that builds a literal of this kind from its value.
+/// Returns the name of the call that builds a literal of this kind from its value.
 pub fn call_of(lit: &Literal<&str>) -> &'static str {
     match lit {
         Literal::Integer(_) => "grouped_integer",
@@ -22,7 +22,7 @@ pub fn call_of(lit: &Literal<&str>) -> &'static str {
     }
 }
 
-/// The call that builds a raw string of this kind.
+/// Returns the name of the call that builds a raw string of this kind.
 pub fn raw_call_of(lit: &Literal<&str>) -> &'static str {
     match lit {
         Literal::ByteString(_) => "raw_byte_string",
@@ -31,7 +31,8 @@ pub fn raw_call_of(lit: &Literal<&str>) -> &'static str {
     }
 }
 
-/// Builds the literal of the value and the suffix, but of a bool. Whether memory was refused.
+/// Builds the literal of the value and the suffix, but of a bool. Returns `true` if memory was
+/// refused.
 pub fn is_build_refused(trial: &mut Trial, lit: &Literal<&str>) -> bool {
     let (alloc, suffix) = (trial.alloc, lit.suffix());
     match lit {
@@ -97,7 +98,8 @@ fn is_string_refused(trial: &mut Trial, lit: &Literal<&str>) -> bool {
     }
 }
 
-/// Builds the raw string of the value and the suffix of a raw string. Whether memory was refused.
+/// Builds the raw string of the value and the suffix of a raw string. Returns `true` if memory was
+/// refused.
 pub fn is_raw_refused(trial: &mut Trial, lit: &Literal<&str>) -> bool {
     let Some((true, value)) = value_of(lit) else {
         return false;
@@ -115,7 +117,7 @@ pub fn is_raw_refused(trial: &mut Trial, lit: &Literal<&str>) -> bool {
     }
 }
 
-/// Tries that a literal was built. Whether memory was refused.
+/// Tries that a literal was built. Returns `true` if memory was refused.
 fn is_refused<L: Drop>(trial: &mut Trial, built: Result<L, BuildError>) -> bool {
     match &built {
         Ok(_) => false,

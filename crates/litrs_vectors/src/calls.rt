@@ -18,10 +18,10 @@ use std::convert::AsSlice;
 /// The longest text that is tried here.
 const LONGEST: usize = 1000;
 
-/// How many bytes an output has room for.
+/// The number of bytes for which an output has room.
 const ROOM: usize = 8 * LONGEST;
 
-/// How many bytes a device takes in a call.
+/// The number of bytes that a device takes in a call.
 const PIECE: usize = 4096;
 
 /// A call on a literal, or on its value.
@@ -58,7 +58,7 @@ const CALLS: [Call; 8] = [
 ];
 
 impl Call {
-    /// Where the call is on a literal of this kind, and its name.
+    /// Returns the type and the name of the call on a literal of this kind.
     fn names(self, lit: &Literal<&str>) -> (Place, &'static str) {
         match self {
             Call::Unescape => (("litrs_lex", "&str"), "unescape_string"),
@@ -75,7 +75,8 @@ impl Call {
         }
     }
 
-    /// Makes the call, if it is one on a literal of this kind. Whether memory was refused.
+    /// Makes the call, if it is one on a literal of this kind. Returns `true` if memory was
+    /// refused.
     fn is_refused(self, trial: &mut Trial, lit: &Literal<&str>) -> bool {
         match self {
             Call::Unescape => is_unescape_refused(trial.alloc, lit),
@@ -91,7 +92,7 @@ impl Call {
     }
 }
 
-/// Tries the calls on the literal of a text that are no methods of it.
+/// Tries the calls on the literal of a text that are not its methods.
 pub fn try_calls(trial: &mut Trial, text: &str) {
     try_run(trial, text);
     try_collector(trial, text, true);
@@ -128,8 +129,8 @@ fn try_call(trial: &mut Trial, call: Call, lit: &Literal<&str>) {
     again!(trial, name, call.is_refused(trial, lit));
 }
 
-/// Makes a token of the value of a string, or a copy of that of a C string. Whether memory was
-/// refused.
+/// Makes a token of the value of a string, or a copy of that of a C string. Returns `true` if
+/// memory was refused.
 fn is_value_refused(alloc: Global, lit: &Literal<&str>) -> bool {
     match lit {
         Literal::String(lit) => fails(Token::string(alloc, lit.value())),
@@ -138,7 +139,7 @@ fn is_value_refused(alloc: Global, lit: &Literal<&str>) -> bool {
     }
 }
 
-/// Unescapes the body of a quoted string of any kind. Whether memory was refused.
+/// Unescapes the body of a quoted string of any kind. Returns `true` if memory was refused.
 pub fn is_unescape_refused(alloc: Global, lit: &Literal<&str>) -> bool {
     let Some((false, _)) = value_of(lit) else {
         return false;
@@ -199,7 +200,7 @@ fn try_container<C: EscapeContainer + AsSlice<u8>>(trial: &mut Trial, text: &str
     trial.check(holds, "has other contents");
 }
 
-/// Whether a container has what is pushed below.
+/// Returns `true` if a container has what is pushed below.
 fn is_pushed(bytes: &[u8], text: &str) -> bool {
     match bytes.strip_prefix(text.as_bytes()) {
         Some(rest) => rest.strip_prefix("é".as_bytes()) == Some(text.as_bytes()),
@@ -228,13 +229,13 @@ pub fn try_run(trial: &mut Trial, text: &str) {
     again!(trial, "run_program", is_program_refused(trial.alloc, text));
 }
 
-/// An output that has room for the reports on a text.
+/// Creates an output with room for the reports on a text.
 fn output(alloc: Global) -> Result<MemOutput, AllocError> {
     // bounded by what every output of this program has.
     MemOutput::new(alloc, ROOM, PIECE, None)
 }
 
-/// Runs over a text that is the only line of an input. Whether memory was refused.
+/// Runs over a text that is the only line of an input. Returns `true` if memory was refused.
 fn is_run_refused(alloc: Global, text: &str) -> bool {
     let mut input = MemInput::new(text.as_bytes(), PIECE, None);
     match &mut output(alloc) {
@@ -302,8 +303,8 @@ pub fn is_first_feed_refused(alloc: Global, line: &str) -> bool {
     is_feed_refused(&mut Collector::new(alloc), line, line, &mut is_found)
 }
 
-/// Feeds a line, and finds whether the lines are then the literal of this text. Whether memory was
-/// refused.
+/// Feeds a line, and finds whether the lines are then the literal of this text. Returns `true` if
+/// memory was refused.
 fn is_feed_refused(collector: &mut Collector, line: &str, text: &str, is_found: &mut bool) -> bool {
     match collector.feed(line) {
         Ok(Step::Literal(lit)) => {
@@ -323,7 +324,7 @@ fn try_compile_error(trial: &mut Trial, text: &str) {
     }
 }
 
-/// Tries the compile error of a tree that is no bool.
+/// Tries the compile error of a tree that is not a bool.
 fn try_no_bool(trial: &mut Trial, tree: TokenTree) {
     trial.at = ("InvalidToken", "&str");
     match &BoolLit::try_from(tree) {

@@ -8,23 +8,23 @@ use litrs_prefix::{
 };
 use std::alloc::Global;
 
-/// What is before the text in a longer one.
+/// The part before the text in a longer one.
 const BEFORE: &str = "é";
 
-/// What stands at the front of a text.
+/// The front of a text.
 #[derive(Clone, Copy)]
 enum Front {
-    /// A literal of so many bytes.
+    /// A literal with this length in bytes.
     Literal(usize),
-    /// What opens as a literal and is none.
+    /// A malformed literal.
     Malformed,
-    /// Something else.
+    /// Other text.
     None,
-    /// A literal for whose value there was no memory.
+    /// A literal of whose value the allocation failed.
     Refused,
 }
 
-/// Tries what the row says of the front of its text.
+/// Tries the front of the text of a row.
 pub fn try_front(trial: &mut Trial, row: &Row) {
     trial.at = ("litrs_prefix", "&str");
     let answer = str::from_utf8(row.answer.as_slice()).unwrap_or("");
@@ -101,7 +101,7 @@ pub fn is_unneeded_refused(alloc: Global, text: &str) -> bool {
     len == text.len() && matches!(front_of(text, parse_prefix(alloc, text)), Front::Refused)
 }
 
-/// What the library finds at the front of the text.
+/// Returns the front of the text by the answer of the library.
 fn front_of(text: &str, answer: Result<Option<Prefix>, MalformedPrefix>) -> Front {
     match answer {
         Ok(Some(prefix)) => literal_of(text, prefix),
@@ -110,7 +110,7 @@ fn front_of(text: &str, answer: Result<Option<Prefix>, MalformedPrefix>) -> Fron
     }
 }
 
-/// A literal, if its text and the rest are the whole.
+/// Returns a literal, if its text and the rest are the whole text.
 fn literal_of(text: &str, prefix: Prefix) -> Front {
     let front = prefix.literal.raw_input();
     let is_whole = text.strip_prefix(front) == Some(prefix.rest);
@@ -123,7 +123,7 @@ fn literal_of(text: &str, prefix: Prefix) -> Front {
     }
 }
 
-/// What the error says. A reader that goes on after no byte would never end.
+/// Returns the front by the error. Its length is not 0, because a reader continues after it.
 fn malformed_of(malformed: &MalformedPrefix) -> Front {
     match malformed.error.kind() {
         ParseErrorKind::OutOfMemory => Front::Refused,

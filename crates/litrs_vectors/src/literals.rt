@@ -31,7 +31,7 @@ fn try_over<B: Text>(trial: &mut Trial, parse: Parse, text: &B, row: &Row) {
     }
 }
 
-/// Tries each accessor of a literal, and what is printed of it.
+/// Tries each accessor of a literal, and its text as it is printed.
 fn try_parts<B: Text>(trial: &mut Trial, lit: &Literal<B>, row: &Row) {
     let text = row.text.as_str();
     trial.check(lit.raw_input() == text, "has another text");
@@ -48,7 +48,8 @@ fn try_printed(trial: &mut Trial, printed: Result<String, AllocError>, text: &st
     }
 }
 
-/// Copies a literal by the `clone` of the type whose parse this is. Whether memory was refused.
+/// Copies a literal by the `clone` of the type whose parse this is. Returns `true` if memory was
+/// refused.
 pub fn is_clone_refused<B: Text>(alloc: Global, parse: Parse, lit: &Literal<B>) -> bool {
     match parse {
         Parse::Literal => fails(lit.clone(alloc)),
@@ -66,7 +67,7 @@ fn try_owned(trial: &mut Trial, parse: Parse, text: &str) {
     again!(trial, call, is_own_refused(trial, parse, text));
 }
 
-/// Makes the literal of a text own it. Whether memory was refused.
+/// Makes the literal of a text own it. Returns `true` if memory was refused.
 fn is_own_refused(trial: &mut Trial, parse: Parse, text: &str) -> bool {
     match parsed(trial, parse, &text) {
         Ok(lit) => is_literal_refused(trial.alloc, parse, lit),
@@ -77,7 +78,7 @@ fn is_own_refused(trial: &mut Trial, parse: Parse, text: &str) -> bool {
     }
 }
 
-/// The same of a literal, by the call of the type whose parse this is.
+/// Like [`is_own_refused`], for a literal, by the call of the type whose parse this is.
 fn is_literal_refused(alloc: Global, parse: Parse, lit: Literal<&str>) -> bool {
     match parse {
         Parse::Literal => fails(lit.into_owned(alloc)),
@@ -85,7 +86,7 @@ fn is_literal_refused(alloc: Global, parse: Parse, lit: Literal<&str>) -> bool {
     }
 }
 
-/// The same of a literal, by the call of its kind. A bool has no text.
+/// Like [`is_own_refused`], for a literal, by the call of its kind. A bool has no text.
 fn is_kind_refused(alloc: Global, lit: Literal<&str>) -> bool {
     match lit {
         Literal::Bool(_) => false,

@@ -47,7 +47,7 @@ fn main(rt: HostRuntime) -> ExitCode {
     }
 }
 
-/// Tries each row, and prints what there is to say. Whether all rows hold.
+/// Tries each row, and prints the report. Returns `true` if all rows hold.
 fn try_table(rt: &HostRuntime) -> io::Result<bool> {
     let table = io::read_to_string(rt.alloc(), rt.reader())?;
     let mut trial = Trial::new(rt.alloc());
@@ -56,7 +56,7 @@ fn try_table(rt: &HostRuntime) -> io::Result<bool> {
     Ok(trial.held == trial.rows)
 }
 
-/// Tries the row of each line, and reports how many hold.
+/// Tries the row of each line, and reports the number of rows that hold.
 fn try_lines(trial: &mut Trial, table: &str) -> Result<(), AllocError> {
     for line in table.lines() {
         try_line(trial, line)?;
@@ -82,7 +82,7 @@ fn try_line(trial: &mut Trial, line: &str) -> Result<(), AllocError> {
     trial.end_row(line)
 }
 
-/// Tries what a row speaks of.
+/// Tries a row.
 fn try_row(trial: &mut Trial, row: &Row) {
     match row.names {
         "parse_prefix" => fronts::try_front(trial, row),

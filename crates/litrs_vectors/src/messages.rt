@@ -33,7 +33,7 @@ fn is_refusal_refused(alloc: Global, text: &str) -> bool {
     }
 }
 
-/// Shows the refusal. Whether memory was refused.
+/// Shows the refusal. Returns `true` if memory was refused.
 fn is_shown_refused(trial: &mut Trial, text: &str, error: &ParseError) -> bool {
     let span = error.marked_span(text);
     let (start, end) = (span.start, span.end);

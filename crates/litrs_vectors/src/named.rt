@@ -40,7 +40,7 @@ fn is_number(field: &str, number: Option<i16>) -> bool {
     }
 }
 
-/// Tries whether a text is an identifier.
+/// Tries if a text is an identifier.
 pub fn try_ident(trial: &mut Trial, row: &Row) {
     trial.at = ("Ident", "&str");
     let (text, answer) = (row.text.as_str(), row.answer.as_slice());

@@ -7,7 +7,7 @@ use litrs::{
 };
 use std::alloc::Global;
 
-/// The parse of one kind, or of all.
+/// A parse of one kind, or of all.
 #[derive(Clone, Copy, Drop)]
 pub enum Parse {
     Literal,
@@ -35,7 +35,7 @@ pub const PARSES: [Parse; 9] = [
 ];
 
 impl Parse {
-    /// The type that has this parse.
+    /// Returns the name of the type that has this parse.
     pub fn name(self) -> &'static str {
         match self {
             Parse::Literal => "Literal",
@@ -50,7 +50,7 @@ impl Parse {
         }
     }
 
-    /// The parse of the type of this name.
+    /// Returns the parse of the type with this name.
     pub fn from_name(name: &str) -> Option<Parse> {
         for parse in PARSES {
             if parse.name() == name {
@@ -61,20 +61,20 @@ impl Parse {
     }
 }
 
-/// The name of a buffer's type.
+/// Returns the name of the type of a buffer.
 pub fn buffer_name<B: Text>() -> &'static str {
     if B::OWNS { "String" } else { "&str" }
 }
 
-/// Whether a call fails. What it answers is dropped.
+/// Returns `true` if a call fails. What it answers is dropped.
 pub fn fails<T: Drop, E: Drop>(answer: Result<T, E>) -> bool {
     answer.is_err()
 }
 
-/// Lets a value of any type go.
+/// Drops a value of any type.
 pub fn discard<T: Drop>(_value: T) {}
 
-/// What a call on a type of one kind answers, as what the call on `Literal` would.
+/// Converts the result of a call on a type of one kind to that of the call on `Literal`.
 pub fn any<L: Into<Literal<B>>, B: Text, E>(answer: Result<L, E>) -> Result<Literal<B>, E> {
     match answer {
         Ok(lit) => Ok(lit.into()),
@@ -82,7 +82,7 @@ pub fn any<L: Into<Literal<B>>, B: Text, E>(answer: Result<L, E>) -> Result<Lite
     }
 }
 
-/// What this parse makes of the text.
+/// Parses the text.
 pub fn parse_by<B: Text>(alloc: Global, parse: Parse, text: B) -> Result<Literal<B>, ParseError> {
     match parse {
         Parse::Literal => Literal::parse(alloc, text),
@@ -97,7 +97,7 @@ pub fn parse_by<B: Text>(alloc: Global, parse: Parse, text: B) -> Result<Literal
     }
 }
 
-/// What is made of a literal of each kind, but of a bool.
+/// Calls the same on a literal of each kind except a bool.
 macro_rules! each_kind {
     ($lit:expr, $bool:pat => $of_bool:expr, $other:ident => $of_other:expr) => {
         match $lit {
@@ -115,7 +115,7 @@ macro_rules! each_kind {
 
 pub(crate) use each_kind;
 
-/// A copy of the text.
+/// Returns a copy of the text.
 fn copied<B: Text>(trial: &mut Trial, text: &B) -> Option<B> {
     match text.copy(trial.alloc) {
         Ok(copy) => Some(copy),
@@ -123,7 +123,7 @@ fn copied<B: Text>(trial: &mut Trial, text: &B) -> Option<B> {
     }
 }
 
-/// A copy of the text, for which memory was refused once.
+/// Returns a copy of the text, after an allocation failed once.
 fn copied_again<B: Text>(trial: &mut Trial, text: &B) -> Option<B> {
     let at = trial.at;
     trial.at = (buffer_name::<B>(), buffer_name::<B>());
@@ -133,7 +133,7 @@ fn copied_again<B: Text>(trial: &mut Trial, text: &B) -> Option<B> {
     trial.own(copy)
 }
 
-/// What this parse makes of a copy of the text.
+/// Parses a copy of the text.
 fn parse_copy<B: Text>(
     trial: &mut Trial,
     parse: Parse,
@@ -146,7 +146,7 @@ fn parse_copy<B: Text>(
     }
 }
 
-/// What this parse makes of the text.
+/// Parses the text.
 pub fn parsed<B: Text>(
     trial: &mut Trial,
     parse: Parse,
@@ -159,12 +159,12 @@ pub fn parsed<B: Text>(
     }
 }
 
-/// How this parse refuses the text, if it does.
+/// Returns the error of the text by this parse, if there is one.
 pub fn refusal<B: Text>(trial: &mut Trial, parse: Parse, text: &B) -> Option<ParseError> {
     parsed(trial, parse, text).err()
 }
 
-/// What this parse makes of the text, for which memory was refused once.
+/// Parses the text, after an allocation failed once.
 fn parsed_again<B: Text>(
     trial: &mut Trial,
     parse: Parse,
@@ -182,7 +182,7 @@ fn parsed_again<B: Text>(
     answer
 }
 
-/// Whether the text is a literal whose value is allocated.
+/// Returns `true` if the text is a literal whose value is allocated.
 pub fn is_allocated<B: Text>(answer: &Result<Literal<B>, ParseError>) -> bool {
     match answer {
         Ok(lit) => matches!(lit, Literal::CString(_)) || is_escaped(lit),

@@ -8,7 +8,7 @@ use litrs::{Literal, ParseError, ParseErrorKind, goes_on};
 /// The longest text whose prefixes are tried.
 const LONGEST: usize = 1000;
 
-/// What is appended to a text that no longer text completes.
+/// The texts that are appended to a text after a final error.
 const APPENDED: &[&str] = &["\"", "'", "0", "1", "_", "x", "}", "\"#", "\n", "é", "🦊"];
 
 /// Tries each prefix of a text, and the text, by all nine parses and by `goes_on`, unless they are
@@ -40,15 +40,15 @@ fn try_prefix(trial: &mut Trial, text: &str, is_literal: bool, longer: &mut Stri
     trial.check(holds, "goes_on says otherwise");
 }
 
-/// Tries how a parse refuses a prefix, if it does.
+/// Tries the error of a prefix by a parse, if there is one.
 fn try_parse(trial: &mut Trial, parse: Parse, text: &str, longer: &mut String) {
     if let Some(error) = refusal(trial, parse, &text) {
         try_error(trial, parse, text, &error, longer);
     }
 }
 
-/// Whether `goes_on` says of a text what its refusal does, of a prefix of a literal or of another.
-/// Where the text is a literal there is no refusal.
+/// Returns `true` if `goes_on` agrees with the error of a text, which may be a prefix of a literal. If
+/// the text is a literal, there is no error.
 fn is_known(refusal: Option<ParseError>, text: &str, is_literal: bool) -> bool {
     match refusal {
         Some(e) if e.is_final() => !goes_on(text),
@@ -57,7 +57,7 @@ fn is_known(refusal: Option<ParseError>, text: &str, is_literal: bool) -> bool {
     }
 }
 
-/// Tries how a parse refuses a prefix, and what that says of longer texts.
+/// Tries the error of a prefix by a parse, and what it says of longer texts.
 fn try_error(trial: &mut Trial, parse: Parse, text: &str, error: &ParseError, longer: &mut String) {
     trial.check(has_place(text, error), "is refused outside of the text");
     if text.len() <= LONGEST {
@@ -70,8 +70,8 @@ fn try_error(trial: &mut Trial, parse: Parse, text: &str, error: &ParseError, lo
     }
 }
 
-/// Whether a refusal of the text has no span or two, which lie in the text; what is to be marked is
-/// the second, or all of the text.
+/// Returns `true` if a refusal of the text has no span or two, which lie in the text; what is to be
+/// marked is the second, or all of the text.
 fn has_place(text: &str, error: &ParseError) -> bool {
     match (error.span(), error.char_span()) {
         (Some(span), Some(chars)) => {
@@ -89,7 +89,7 @@ fn has_place(text: &str, error: &ParseError) -> bool {
     }
 }
 
-/// Whether no character of the text begins from the one place up to the other.
+/// Returns `true` if no character of the text begins from the one place up to the other.
 fn is_within_character(text: &str, start: usize, end: usize) -> bool {
     for place in start..end {
         if text.is_char_boundary(place) {
@@ -144,7 +144,7 @@ fn push_hashes(trial: &mut Trial, longer: &mut String, front: &str) {
     }
 }
 
-/// Whether an answer is a string of this text and this body, without a suffix.
+/// Returns `true` if an answer is a string of this text and this body, without a suffix.
 fn is_closed(answer: Result<Literal<&str>, ParseError>, longer: &str, body: &str) -> bool {
     match answer {
         Ok(lit) => {
@@ -157,8 +157,8 @@ fn is_closed(answer: Result<Literal<&str>, ParseError>, longer: &str, body: &str
     }
 }
 
-/// Whether a string of one of the three kinds has this body: where it is raw, that is its value,
-/// and where it is quoted, its value begins so as far as the first escape.
+/// Returns `true` if a string of one of the three kinds has this body: where it is raw, that is its
+/// value, and where it is quoted, its value begins so as far as the first escape.
 fn has_body(lit: &Literal<&str>, body: &str) -> bool {
     match (value_of(lit), body.split_once('\\')) {
         (Some((false, value)), Some((plain, _))) => value.starts_with(plain.as_bytes()),
@@ -188,7 +188,7 @@ fn try_prefixes_to(trial: &mut Trial, text: &str, end: usize) {
     }
 }
 
-/// The call, of which the loops need to know nothing.
+/// Calls `goes_on`.
 fn begins_literal(text: &str) -> bool {
     goes_on(text)
 }

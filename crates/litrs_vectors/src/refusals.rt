@@ -17,7 +17,7 @@ pub fn try_refusal(trial: &mut Trial, parse: Parse, row: &Row) {
     }
 }
 
-/// Tries how a parse refuses a text.
+/// Tries the error of a text by a parse.
 fn try_over<B: Text>(trial: &mut Trial, parse: Parse, text: &B, row: &Row) {
     trial.at = (parse.name(), buffer_name::<B>());
     match &refusal(trial, parse, text) {
@@ -26,7 +26,7 @@ fn try_over<B: Text>(trial: &mut Trial, parse: Parse, text: &B, row: &Row) {
     }
 }
 
-/// Tries that the row has the fields of an error, and then either none or what is printed of it.
+/// Tries that the row has the fields of an error, and then its message or nothing.
 fn try_error(trial: &mut Trial, error: &ParseError, answer: &[u8]) {
     let mut fields = String::new(trial.alloc);
     let written = write_refusal(&mut fields, error);
@@ -37,7 +37,7 @@ fn try_error(trial: &mut Trial, error: &ParseError, answer: &[u8]) {
     }
 }
 
-/// Tries that these bytes, if there are any, are a tab and what is printed of an error.
+/// Tries that these bytes, if there are any, are a tab and the message of an error.
 fn try_printed(trial: &mut Trial, error: &ParseError, bytes: &[u8]) {
     if bytes.is_empty() {
         return;

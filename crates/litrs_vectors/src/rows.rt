@@ -1,10 +1,10 @@
 //! The rows of a table.
 use crate::trial::Trial;
 
-/// A text, and what is said of it.
+/// A text and its fields.
 #[derive(Drop)]
 pub struct Row<'a> {
-    /// The names of the calls that answer so.
+    /// The names of the calls that have this answer.
     pub names: &'a str,
     /// The text.
     pub text: String,
@@ -32,21 +32,21 @@ impl<'a> Row<'a> {
     }
 }
 
-/// What stands before a character, and what after it.
+/// Returns the parts of a text before and after the first `at`.
 fn split<'a>(trial: &mut Trial, text: &'a str, at: char) -> Option<(&'a str, &'a str)> {
     let parts = text.split_once(at);
     trial.check(parts.is_some(), "lacks a field, or a part of one");
     parts
 }
 
-/// The text that a field stands for.
+/// Returns the text of a field.
 fn read_text(trial: &mut Trial, field: &str) -> Option<String> {
     let text = String::from_utf8(unescaped(trial, field)).ok();
     trial.check(text.is_some(), "has a text that is not UTF-8");
     text
 }
 
-/// The bytes that a field stands for.
+/// Returns the bytes of a field.
 fn unescaped(trial: &mut Trial, field: &str) -> Vec<u8> {
     let mut bytes = Vec::new(trial.alloc);
     let mut pieces = field.split("%(");
@@ -57,7 +57,7 @@ fn unescaped(trial: &mut Trial, field: &str) -> Vec<u8> {
     bytes
 }
 
-/// Adds a text in which `%` and two hex digits stand for a byte.
+/// Adds a text in which `%` and two hex digits are a byte.
 fn push_text(trial: &mut Trial, bytes: &mut Vec<u8>, text: &str) {
     let mut pieces = text.split('%');
     push(trial, bytes, pieces.next().unwrap_or("").as_bytes());
@@ -78,7 +78,7 @@ fn push_escaped(trial: &mut Trial, bytes: &mut Vec<u8>, piece: &str) {
     }
 }
 
-/// Adds the part of `N*PART)` so many times, and the text after it.
+/// Adds the part of `N*PART)` N times, and the text after it.
 fn push_repeated(trial: &mut Trial, bytes: &mut Vec<u8>, piece: &str) {
     if let Some((repeated, text)) = split(trial, piece, ')') {
         if let Some((count, part)) = split(trial, repeated, '*') {
@@ -90,7 +90,7 @@ fn push_repeated(trial: &mut Trial, bytes: &mut Vec<u8>, piece: &str) {
     }
 }
 
-/// Adds what a text stands for so many times.
+/// Adds `count` copies of the bytes of a text.
 fn push_copies(trial: &mut Trial, bytes: &mut Vec<u8>, part: &str, count: u32) {
     let mut unescaped = Vec::new(trial.alloc);
     push_text(trial, &mut unescaped, part);

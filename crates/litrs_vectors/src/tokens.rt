@@ -58,8 +58,8 @@ pub fn try_no_token(trial: &mut Trial, text: &str) {
     trial.check(holds, "is a token");
 }
 
-/// Tries that a literal's token is no literal of another kind, whose value would be allocated. That
-/// is answered whether or not there is memory.
+/// Tries that the token of a literal is not a literal of another kind, whose value would be
+/// allocated. This must not depend on memory.
 fn try_other_kind(trial: &mut Trial, row: &Row) {
     let text = row.text.as_str();
     if row.answer.starts_with("string\t".as_bytes()) {
@@ -71,7 +71,8 @@ fn try_other_kind(trial: &mut Trial, row: &Row) {
     }
 }
 
-/// Tries that a token that is kept is no string of another kind, whether or not there is memory.
+/// Tries that a token that is kept is not a string of another kind, even if an allocation would
+/// fail.
 pub fn try_other_kind_ref(trial: &mut Trial, token: &Token) {
     match token.kind() {
         TokenKind::CStringLit => try_invalid_ref::<StringLit<String>>(trial, token),
@@ -108,7 +109,7 @@ fn try_is_invalid<L: Drop>(trial: &mut Trial, read: Result<L, TokenError>) {
     trial.check(holds, "is read as another kind");
 }
 
-/// Tries that a text is no identifier, whether or not there is memory.
+/// Tries that a text is not an identifier, even if an allocation would fail.
 pub fn try_no_ident(trial: &mut Trial, text: &str) {
     let answer = Ident::new(trial.alloc, text, Span::call_site());
     let holds = matches!(&answer, Err(IdentError::NotAnIdent));
@@ -121,7 +122,7 @@ fn try_written<B: Text>(trial: &mut Trial, parse: Parse, text: &B) {
     again!(trial, "into_token", is_write_refused(trial, parse, text));
 }
 
-/// Writes the literal of a text as a token. Whether memory was refused.
+/// Writes the literal of a text as a token. Returns `true` if memory was refused.
 fn is_write_refused<B: Text>(trial: &mut Trial, parse: Parse, text: &B) -> bool {
     match parsed(trial, parse, text) {
         Ok(lit) => is_token_refused(trial.alloc, lit),
@@ -132,12 +133,12 @@ fn is_write_refused<B: Text>(trial: &mut Trial, parse: Parse, text: &B) -> bool 
     }
 }
 
-/// The same of a literal. A bool is no token.
+/// Like [`is_write_refused`], for a literal. A bool is not a token.
 fn is_token_refused<B: Text>(alloc: Global, lit: Literal<B>) -> bool {
     each_kind!(lit, _ => false, lit => fails(lit.into_token(alloc)))
 }
 
-/// The token of a literal's text.
+/// Returns the token of the text of a literal.
 pub fn token_of(trial: &mut Trial, text: &str) -> Option<Token> {
     match Token::from_text(trial.alloc, text) {
         Ok(token) => Some(token),
@@ -145,7 +146,7 @@ pub fn token_of(trial: &mut Trial, text: &str) -> Option<Token> {
     }
 }
 
-/// The token of a literal's text, of which the first call gave this error.
+/// Returns the token of the text of a literal, after the first call returned this error.
 fn token_again(trial: &mut Trial, text: &str, error: LiteralError) -> Option<Token> {
     match error {
         LiteralError::Memory => note_token(trial),
@@ -204,7 +205,7 @@ fn try_tree<L: FromToken>(trial: &mut Trial, tree: TokenTree) {
     discard(tree);
 }
 
-/// Reads a literal from its token. Whether memory was refused.
+/// Reads a literal from its token. Returns `true` if memory was refused.
 fn is_literal_refused<L: FromToken>(trial: &mut Trial, text: &str) -> bool
 where
     L::Error: Drop,
@@ -215,7 +216,7 @@ where
     }
 }
 
-/// Reads a literal from the tree of its token. Whether memory was refused.
+/// Reads a literal from the tree of its token. Returns `true` if memory was refused.
 fn is_tree_refused<L: FromToken>(trial: &mut Trial, text: &str) -> bool {
     match token_of(trial, text) {
         Some(token) => fails(L::from_tree(trial.alloc, TokenTree::from(token))),
@@ -231,7 +232,7 @@ fn try_ident(trial: &mut Trial, text: &str) {
     again!(trial, "new", is_name_refused(trial.alloc, text));
 }
 
-/// Writes the bool of a text as an identifier. Whether memory was refused.
+/// Writes the bool of a text as an identifier. Returns `true` if memory was refused.
 fn is_ident_refused(alloc: Global, text: &str) -> bool {
     match BoolLit::parse(text) {
         Ok(lit) => fails(lit.into_ident(alloc)),
@@ -239,7 +240,7 @@ fn is_ident_refused(alloc: Global, text: &str) -> bool {
     }
 }
 
-/// Makes the identifier of a name. Whether memory was refused.
+/// Makes the identifier of a name. Returns `true` if memory was refused.
 fn is_name_refused(alloc: Global, name: &str) -> bool {
     fails(Ident::new(alloc, name, Span::call_site()))
 }

@@ -1,11 +1,11 @@
-//! The row that is being tried, and what is printed of it.
+//! The row that is tried, and the report on it.
 use std::alloc::{AllocError, Global};
 use std::fmt::Write;
 
-/// What is being called: a type, and the type of its text.
+/// The type that is called, and the type of its text.
 pub type Place = (&'static str, &'static str);
 
-/// What does not hold of a row.
+/// A fault of a row.
 #[derive(Clone, Copy)]
 struct Fault {
     at: Place,
@@ -13,27 +13,27 @@ struct Fault {
     prefix: Option<usize>,
 }
 
-/// The row that is being tried, and what is to be printed.
+/// The row that is tried, and the lines to print.
 #[derive(Drop)]
 pub struct Trial {
     pub alloc: Global,
-    /// The refusal of an allocation of the program's own, if there was one.
+    /// The failure of an allocation of the program itself, if there was one.
     refusal: Option<AllocError>,
     /// The number of the line.
     pub line: u64,
-    /// How many rows there were.
+    /// The number of rows.
     pub rows: u64,
-    /// How many of them hold.
+    /// The number of rows that hold.
     pub held: u64,
-    /// The lines that are to be printed.
+    /// The lines to print.
     pub report: String,
     /// The type whose calls are tried, and the type of its text.
     pub at: Place,
-    /// Whether prefixes of texts are tried.
+    /// Set if prefixes of texts are tried.
     pub tries_prefixes: bool,
-    /// How many bytes of the text are tried, where that is a prefix.
+    /// The length in bytes of the prefix that is tried, if it is one.
     pub prefix: Option<usize>,
-    /// What does not hold of the row, if all does not.
+    /// The first fault of the row, if there is one.
     fault: Option<Fault>,
 }
 
@@ -52,7 +52,7 @@ macro_rules! again {
 pub(crate) use again;
 
 impl Trial {
-    /// A trial before the first row.
+    /// Creates a trial before the first row.
     pub fn new(alloc: Global) -> Trial {
         Trial {
             alloc,
@@ -75,7 +75,7 @@ impl Trial {
         self.fault = None;
     }
 
-    /// Counts the row, and reports what does not hold of it.
+    /// Counts the row, and reports its fault.
     pub fn end_row(&mut self, row: &str) -> Result<(), AllocError> {
         if let Some(refusal) = self.refusal {
             return Err(refusal);
@@ -92,7 +92,7 @@ impl Trial {
         }
     }
 
-    /// Reports how many rows hold.
+    /// Reports the number of rows that hold.
     pub fn end(&mut self) -> Result<(), AllocError> {
         if self.held == self.rows {
             writeln!(self.report, "{} rows hold", self.rows)
@@ -101,12 +101,13 @@ impl Trial {
         }
     }
 
-    /// Whether all that was tried of the row holds, and the program has had the memory for it.
+    /// Returns `true` if all that was tried of the row holds, and the program has had the memory
+    /// for it.
     pub fn holds(&self) -> bool {
         self.fault.is_none() && self.refusal.is_none()
     }
 
-    /// Notes what does not hold, if it is the first of the row.
+    /// Notes a fault, if it is the first of the row.
     pub fn check(&mut self, holds: bool, what: &'static str) {
         if !holds && self.fault.is_none() {
             self.fault = Some(Fault {
@@ -123,7 +124,7 @@ impl Trial {
         self.own(written);
     }
 
-    /// What is answered, where no allocation is refused. The program ends where one is.
+    /// Returns the answer, if no allocation failed. The program ends if one did.
     pub fn own<T>(&mut self, answer: Result<T, AllocError>) -> Option<T> {
         match answer {
             Ok(value) => Some(value),
@@ -135,7 +136,7 @@ impl Trial {
     }
 }
 
-/// Adds the line on what does not hold of a text.
+/// Adds the line on a fault of a text.
 fn push_fault(report: &mut String, line: u64, text: &str, fault: Fault) -> Result<(), AllocError> {
     let (kind, buffer) = fault.at;
     let what = fault.what;

@@ -1,4 +1,4 @@
-//! Calls that need no memory, where there may be none.
+//! Calls that do not allocate, tried while every allocation may fail.
 use crate::literals::is_clone_refused;
 use crate::parses::{PARSES, Parse, discard, fails, is_allocated, parse_by, parsed};
 use crate::trial::Trial;
@@ -8,14 +8,14 @@ use litrs_build::BuildError;
 use litrs_lines::{MemInput, MemOutput, Output, run};
 use std::alloc::Global;
 
-/// How many bytes are asked for right before the calls. `.ci/refused.py` knows the number, and
+/// The length in bytes of an allocation directly before the calls. `.ci/refused.py` knows it, and
 /// refuses all memory from there on.
 const MARK: usize = 9973;
 
-/// How many bytes the report on a table has that holds.
+/// The length in bytes of the report on a table that holds.
 const ROOM: usize = 40;
 
-/// What the calls are made on.
+/// The texts on which the calls are made.
 #[derive(Clone, Copy)]
 enum Sort {
     /// A literal whose value is allocated.
