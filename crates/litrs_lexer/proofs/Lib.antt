@@ -12,6 +12,8 @@ pub mod Cuts
 -- one token alone
 pub mod Classes
 pub mod Unique
+-- tokens that more text changes, and those that stay
+pub mod MayChange
 -- what precedes the tokens of a file
 pub mod Attributes
 -- lists of tokens

@@ -9,6 +9,8 @@ pub mod Literal
 pub mod Punctuation
 -- the tokens of a text, one after the other
 pub mod Tokens
+-- what more text may change
+pub mod MayChange
 -- what precedes the tokens of a file
 pub mod Shebang
 -- what holds of all tokens

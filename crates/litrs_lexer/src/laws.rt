@@ -1,5 +1,5 @@
 //! Laws of tokens.
-ghost use Rattle.litrs_lexer.specs.Laws.{TokensAreUnique, MalformedPrefixesAreTokens};
+ghost use Rattle.litrs_lexer.specs.Laws.{TokensAreUnique, MalformedPrefixesAreTokens, SettledTokensStay};
 
 /// A text has at most one token at its front.
 pub fn tokens_are_unique()
@@ -10,4 +10,11 @@ pub fn tokens_are_unique()
 /// the text starts with a bool: `true"a"` is a prefix and a string.
 pub fn malformed_prefixes_are_tokens()
     ensures { MalformedPrefixesAreTokens }
+{}
+
+/// Tokens for which [`token_may_change`](crate::token_may_change) is `false` are the first tokens
+/// of every longer text, with the same kinds and texts.
+#[tactic(auto, using(crate::proofs::MayChange::settled_stay))]
+pub fn settled_tokens_stay()
+    ensures { SettledTokensStay }
 {}

@@ -36,6 +36,7 @@
 #![tactic(auto)]
 
 pub use kind::{DocStyle, TokenKind};
+pub use may_change::token_may_change;
 pub use shebang::strip_shebang;
 pub use token::Token;
 pub use tokens::{Tokens, all_tokens, first_token, tokenize};
@@ -46,6 +47,7 @@ mod cut;
 mod kind;
 pub mod laws;
 mod literal;
+mod may_change;
 mod name;
 mod shebang;
 mod token;
