@@ -1,4 +1,4 @@
--- The numbers by which the header calls kinds.
+-- The numbers of kinds in the header.
 use Rattle.std.specs.Prelude.{ℕ, Option, Some, None}
 use Rattle.litrs_base.specs.declared.err.ParseErrorKind.{ParseErrorKind}
 use Rattle.litrs_base.specs.declared.err.ParseErrorKind.TheVariants.{Empty, UnexpectedChar, InvalidLiteral, DoesNotStartWithDigit, InvalidDigit, NoDigits, NoExponentDigits, UnknownEscape, UnterminatedEscape, InvalidXEscape, NonAsciiXEscape, UnicodeEscapeInByteLiteral, InvalidStartOfUnicodeEscape, UnicodeEscapeWithoutBrace, NonHexDigitInUnicodeEscape, TooManyDigitInUnicodeEscape, InvalidUnicodeEscapeChar, UnterminatedUnicodeEscape, UnterminatedCharLiteral, OverlongCharLiteral, EmptyCharLiteral, UnterminatedByteLiteral, OverlongByteLiteral, EmptyByteLiteral, NonAsciiInByteLiteral, UnescapedSingleQuote, UnescapedSpecialWhitespace, DoesNotStartWithQuote, UnterminatedRawString, UnterminatedString, InvalidStringLiteralStart, InvalidByteLiteralStart, InvalidByteStringLiteralStart, InvalidCStringLiteralStart, DisallowedNulEscape, NulByte, CarriageReturn, TooManyHashes, InvalidSuffix, UnexpectedIntegerLit, IntegerSuffixStartingWithE, OutOfMemory}
@@ -8,7 +8,7 @@ use Rattle.litrs_lexer.specs.declared.kind.DocStyle.TheVariants.{Inner, Outer}
 use Rattle.litrs_lexer.specs.declared.kind.TokenKind.{TokenKind}
 use Rattle.litrs_lexer.specs.declared.kind.TokenKind.TheVariants.{Whitespace, LineComment, BlockComment, UnterminatedBlockComment, Ident, RawIdent, UnknownPrefix, Lifetime, RawLifetime, UnknownPrefixLifetime, Literal, MalformedLiteral, Punctuation, Unknown}
 
--- `enum litrs_kind`
+-- The number in `enum litrs_kind`.
 abbrev pub kind_code : LiteralKind → ℕ
 kind_code bool_literal = 1
 kind_code integer_literal = 2
@@ -19,7 +19,7 @@ kind_code string_literal = 6
 kind_code byte_string_literal = 7
 kind_code c_string_literal = 8
 
--- `enum litrs_error`
+-- The number in `enum litrs_error`.
 abbrev pub error_code : ParseErrorKind → ℕ
 error_code Empty = 1
 error_code UnexpectedChar = 2
@@ -64,7 +64,7 @@ error_code UnexpectedIntegerLit = 40
 error_code IntegerSuffixStartingWithE = 41
 error_code OutOfMemory = 42
 
--- `enum litrs_token_kind`
+-- The number in `enum litrs_token_kind`.
 abbrev pub token_code : TokenKind → ℕ
 token_code Whitespace = 1
 token_code LineComment = 2
@@ -81,7 +81,7 @@ token_code MalformedLiteral = 12
 token_code Punctuation = 13
 token_code Unknown = 14
 
--- `enum litrs_doc_style`
+-- The number in `enum litrs_doc_style`.
 abbrev pub doc_code : Option DocStyle → ℕ
 doc_code None = 0
 doc_code (Some Inner) = 1

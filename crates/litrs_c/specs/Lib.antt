@@ -1,17 +1,17 @@
--- the numbers that stand for kinds in C
+-- the numbers of kinds in C
 pub mod Codes
 -- and their names
 pub mod Names
--- what is answered of literals and of refusals
+-- answers for literals and errors
 pub mod Places
 pub mod LiteralFields
 pub mod RefusalFields
 pub mod Answers
--- what is answered of the front of a longer text
+-- answers for the front of a longer text
 pub mod Prefixes
--- what is answered of the tokens of a text
+-- answers for the tokens of a text
 pub mod Tokens
--- what is answered of the literal of a value
+-- answers for the literal of a value
 pub mod Writes
--- what is answered of the value of a number
+-- answers for the value of a number
 pub mod Numbers

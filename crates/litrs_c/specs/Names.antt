@@ -1,4 +1,5 @@
--- The names of kinds, which are those of the variants of `Literal`, `ParseErrorKind` and `TokenKind`.
+-- The names of kinds, which are those of the variants of `Literal`, `ParseErrorKind` and
+-- `TokenKind`.
 use Rattle.std.specs.Prelude.{ℕ, List, [], ◌∷◌, ◌++◌, map, get_or, codes}
 use Rattle.litrs_base.specs.declared.err.ParseErrorKind.{ParseErrorKind}
 use Rattle.litrs_base.specs.declared.err.ParseErrorKind.TheVariants.{Empty, UnexpectedChar, InvalidLiteral, DoesNotStartWithDigit, InvalidDigit, NoDigits, NoExponentDigits, UnknownEscape, UnterminatedEscape, InvalidXEscape, NonAsciiXEscape, UnicodeEscapeInByteLiteral, InvalidStartOfUnicodeEscape, UnicodeEscapeWithoutBrace, NonHexDigitInUnicodeEscape, TooManyDigitInUnicodeEscape, InvalidUnicodeEscapeChar, UnterminatedUnicodeEscape, UnterminatedCharLiteral, OverlongCharLiteral, EmptyCharLiteral, UnterminatedByteLiteral, OverlongByteLiteral, EmptyByteLiteral, NonAsciiInByteLiteral, UnescapedSingleQuote, UnescapedSpecialWhitespace, DoesNotStartWithQuote, UnterminatedRawString, UnterminatedString, InvalidStringLiteralStart, InvalidByteLiteralStart, InvalidByteStringLiteralStart, InvalidCStringLiteralStart, DisallowedNulEscape, NulByte, CarriageReturn, TooManyHashes, InvalidSuffix, UnexpectedIntegerLit, IntegerSuffixStartingWithE, OutOfMemory}
@@ -6,15 +7,15 @@ use Rattle.litrs_grammar.specs.Literal.{LiteralKind, bool_literal, integer_liter
 use Rattle.litrs_lexer.specs.declared.kind.TokenKind.{TokenKind}
 use Rattle.litrs_lexer.specs.declared.kind.TokenKind.TheVariants.{Whitespace, LineComment, BlockComment, UnterminatedBlockComment, Ident, RawIdent, UnknownPrefix, Lifetime, RawLifetime, UnknownPrefixLifetime, Literal, MalformedLiteral, Punctuation, Unknown}
 
--- a text of C: a zero follows its last byte
+-- A text of C: a zero follows its last byte.
 abbrev pub zero_ended : List ℕ → List ℕ
 zero_ended t = t ++ (0 ∷ [])
 
--- the name for a number that the header gives no kind
+-- The name for a number that is not in the header.
 abbrev pub unknown_name : List ℕ
 unknown_name = codes "Unknown"
 
--- the name of a kind of literals
+-- The name of a kind of literals.
 abbrev pub kind_name : LiteralKind → List ℕ
 kind_name bool_literal = codes "Bool"
 kind_name integer_literal = codes "Integer"
@@ -25,7 +26,7 @@ kind_name string_literal = codes "String"
 kind_name byte_string_literal = codes "ByteString"
 kind_name c_string_literal = codes "CString"
 
--- the name of a kind of refusals; an allocation failure is none
+-- The name of a kind of errors. An allocation failure has no name.
 abbrev pub error_name : ParseErrorKind → List ℕ
 error_name Empty = codes "Empty"
 error_name UnexpectedChar = codes "UnexpectedChar"
@@ -70,7 +71,7 @@ error_name UnexpectedIntegerLit = codes "UnexpectedIntegerLit"
 error_name IntegerSuffixStartingWithE = codes "IntegerSuffixStartingWithE"
 error_name OutOfMemory = unknown_name
 
--- the name of a kind of tokens
+-- The name of a kind of tokens.
 abbrev pub token_name : TokenKind → List ℕ
 token_name Whitespace = codes "Whitespace"
 token_name LineComment = codes "LineComment"
@@ -87,14 +88,14 @@ token_name MalformedLiteral = codes "MalformedLiteral"
 token_name Punctuation = codes "Punctuation"
 token_name Unknown = codes "Unknown"
 
--- the names by the numbers of `enum litrs_kind`
+-- The names by the numbers of `enum litrs_kind`.
 abbrev pub kind_names : List (List ℕ)
 kind_names = unknown_name ∷ map kind_name (
     bool_literal ∷ integer_literal ∷ float_literal ∷ char_literal ∷ byte_literal ∷
     string_literal ∷ byte_string_literal ∷ c_string_literal ∷ []
     )
 
--- the names by the numbers of `enum litrs_error`
+-- The names by the numbers of `enum litrs_error`.
 abbrev pub error_names : List (List ℕ)
 error_names = unknown_name ∷ map error_name (
     Empty ∷ UnexpectedChar ∷ InvalidLiteral ∷ DoesNotStartWithDigit ∷ InvalidDigit ∷ NoDigits ∷
@@ -110,7 +111,7 @@ error_names = unknown_name ∷ map error_name (
     InvalidSuffix ∷ UnexpectedIntegerLit ∷ IntegerSuffixStartingWithE ∷ []
     )
 
--- the names by the numbers of `enum litrs_token_kind`
+-- The names by the numbers of `enum litrs_token_kind`.
 abbrev pub token_names : List (List ℕ)
 token_names = unknown_name ∷ map token_name (
     Whitespace ∷ LineComment ∷ BlockComment ∷ UnterminatedBlockComment ∷ Ident ∷ RawIdent ∷
@@ -118,6 +119,6 @@ token_names = unknown_name ∷ map token_name (
     MalformedLiteral ∷ Punctuation ∷ Unknown ∷ []
     )
 
--- the name at a number
+-- The name at a number.
 abbrev pub name_at : List (List ℕ) → ℕ → List ℕ
 name_at names number = get_or names number unknown_name

@@ -1,4 +1,4 @@
--- When the value of a number, as a float, needs memory.
+-- The numbers whose value as a float needs memory.
 use Rattle.std.specs.Prelude.{◌⊎◌, ℕ, List, IsTrue}
 use Rattle.std.specs.List.{list_any}
 use Rattle.litrs_grammar.specs.Float.{number_part, is_underscore}
@@ -13,6 +13,6 @@ IsCopied (a_float d) = IsTrue (list_any is_underscore (number_part d))
 IsCopied (an_integer d) = IsLargeWithUnderscore d
 IsCopied _ = ⊥
 
--- there was no memory for that copy, or for the value of a literal that is not a number
+-- The allocation of that copy failed, or that of the value of a literal that is not a number.
 abbrev pub LacksNumberMemory : List ℕ → Type 0
 LacksNumberMemory t = LacksMemory t ⊎ IsLiteralAnd t IsCopied

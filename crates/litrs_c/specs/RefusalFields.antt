@@ -1,4 +1,4 @@
--- What the fields of an answer say of a refusal.
+-- The fields of an answer for an error.
 use Rattle.std.specs.Prelude.{◌≡◌, ℕ, Option, Some, None, is_some}
 use Rattle.std.specs.declared.ops.Range.{Range}
 use Rattle.litrs_base.specs.declared.err.ParseError.{ParseError}
@@ -9,12 +9,12 @@ use Rattle.litrs_c.specs.declared.RefusalFields.{RefusalFields}
 use Rattle.litrs_c.specs.Codes.{error_code}
 use Rattle.litrs_c.specs.Places.{nowhere}
 
--- the place of a span
+-- The place of a span.
 abbrev pub span_place : Option (Range ℕ) → Place
 span_place None = nowhere
 span_place (Some span) = record { start = span.start; end = span.end }
 
--- the fields are those of the refusal that the error holds
+-- The fields are those of the error.
 pub record IsRefusalFields (e : ParseError) (fields : RefusalFields) : Type 0 where
   pub kind : fields.kind ≡ error_code (kind_of e)
   pub final : fields.is_final ≡ is_final (kind_of e)

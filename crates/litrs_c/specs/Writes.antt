@@ -1,4 +1,4 @@
--- What the calls answer that write the literal of a value.
+-- The answers of the calls that write the literal of a value.
 use Rattle.std.specs.Prelude.{ℕ, List}
 use Rattle.std.specs.Str.{chars, IsUtf8}
 use Rattle.litrs_base.specs.declared.integer.IntegerBase.TheVariants.{Decimal}
@@ -11,18 +11,18 @@ use Rattle.litrs_grammar.specs.Integer.{IntegerParts}
 use Rattle.litrs_grammar.specs.Literal.{Derivation, IsLiteral}
 use Rattle.litrs_c.specs.Answers.{IsWritten}
 
--- a text with this derivation was written
+-- A text with this derivation was written.
 pub record WritesLiteral (old new : List ℕ) (len : ℕ) (d : Derivation) : Type 0 where
   pub text : List ℕ
   pub utf8 : IsUtf8 text
   pub literal : IsLiteral (chars text) d
   pub written : IsWritten text old new len
 
--- the status by which an error is answered
+-- The status of an error.
 abbrev pub error_status : BuildError → ℕ
 error_status Memory = OUT_OF_MEMORY
 error_status _ = REFUSED
 
--- the parts of an integer in base ten, without a zero before its first digit and without `_`
+-- The parts of an integer in base ten, without leading zeros and without `_`.
 abbrev pub decimal : ℕ → List ℕ → IntegerParts
 decimal value suffix = built_integer Decimal 0 (written_digits Decimal value) suffix

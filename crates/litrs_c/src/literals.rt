@@ -28,13 +28,13 @@ const BYTE_STRING: u32 = 7;
 
 const C_STRING: u32 = 8;
 
-/// 2^64: how many values half of a `u128` has.
+/// 2^64, the number of values of half a `u128`.
 pub(crate) const HALF: u128 = 0x1_0000_0000_0000_0000;
 
-/// The place of what is not there.
+/// The place of a part that is missing.
 pub(crate) const NOWHERE: Place = Place { start: 0, end: 0 };
 
-/// Where a text is no literal.
+/// The fields for a text that is not a literal.
 pub(crate) const NO_LITERAL: LiteralFields = LiteralFields {
     kind: 0,
     base: 0,
@@ -49,8 +49,7 @@ pub(crate) const NO_LITERAL: LiteralFields = LiteralFields {
     suffix: NOWHERE,
 };
 
-/// Writes the fields of the literal. Each kind writes all of them where the caller keeps them, so
-/// that none is put together elsewhere first.
+/// Writes the fields of `lit` to `fields`. Each kind writes all of them in place.
 #[inline(always)]
 pub(crate) fn write_literal_fields(lit: &Literal<&str>, fields: &mut LiteralFields)
     ensures { IsLiteralFields (length (literal_raw lit.now)) (derivation lit.now) fields.new }
@@ -72,7 +71,7 @@ pub(crate) fn write_literal_fields(lit: &Literal<&str>, fields: &mut LiteralFiel
     }
 }
 
-/// The place of the suffix.
+/// Returns the place of the suffix.
 #[inline(always)]
 fn suffix_place(lit: &Literal<&str>) -> Place
     ensures { IsSuffixPlace (length (literal_raw lit.now)) (derivation lit.now) result }
@@ -84,7 +83,7 @@ fn suffix_place(lit: &Literal<&str>) -> Place
     }
 }
 
-/// A literal of a kind with a value that fits 64 bits and no parts but the suffix.
+/// Returns the fields of a literal with a value that fits 64 bits and no part except the suffix.
 #[inline(always)]
 fn value_fields(kind: u32, value: u64, suffix: Place) -> LiteralFields
     ensures { result ≡ record NO_LITERAL {
@@ -103,7 +102,7 @@ fn value_fields(kind: u32, value: u64, suffix: Place) -> LiteralFields
     }
 }
 
-/// A string of one of the three kinds.
+/// Returns the fields of a string of one of the three kinds.
 #[inline(always)]
 fn string_fields(kind: u32, is_raw: bool, suffix: Place) -> LiteralFields
     ensures { result ≡ record NO_LITERAL { kind = kind; is_raw = is_raw; suffix = suffix } }
@@ -116,7 +115,7 @@ fn string_fields(kind: u32, is_raw: bool, suffix: Place) -> LiteralFields
     }
 }
 
-/// The fields of an integer.
+/// Returns the fields of an integer.
 #[inline(always)]
 fn integer_fields(lit: &IntegerLit<&str>, suffix: Place) -> LiteralFields
     requires { IsSuffixPlace (length lit.now.raw) (an_integer (integer_parts lit.now)) suffix }
@@ -136,14 +135,14 @@ fn integer_fields(lit: &IntegerLit<&str>, suffix: Place) -> LiteralFields
     }
 }
 
-/// The value modulo 2^64, and divided by it.
+/// Returns the value modulo 2^64, and divided by it.
 fn halves(value: u128) -> (u64, u64)
     ensures { result.0 + 2 ^ 64 * result.1 ≡ value }
 {
     ((value % HALF) as u64, (value / HALF) as u64)
 }
 
-/// The place of a part that begins so many bytes into a text.
+/// Returns the place of a part that starts at `start`.
 fn place_of(start: usize, part: &str) -> Place
     requires { start + length part.now < 2 ^ 64 }
     ensures { result ≡ place_of start (chars part.now) }
@@ -154,7 +153,7 @@ fn place_of(start: usize, part: &str) -> Place
     }
 }
 
-/// The fields of a float.
+/// Returns the fields of a float.
 #[inline(always)]
 fn float_fields(lit: &FloatLit<&str>, suffix: Place) -> LiteralFields
     requires { IsSuffixPlace (length lit.now.raw) (a_float (float_parts lit.now)) suffix }
@@ -171,7 +170,7 @@ fn float_fields(lit: &FloatLit<&str>, suffix: Place) -> LiteralFields
     }
 }
 
-/// The place of the digits after the period.
+/// Returns the place of the digits after the period.
 fn fraction_place(lit: &FloatLit<&str>) -> Place
     ensures { result ≡ fraction_place (a_float (float_parts lit.now)) }
 {
@@ -181,7 +180,7 @@ fn fraction_place(lit: &FloatLit<&str>) -> Place
     }
 }
 
-/// The place of the exponent.
+/// Returns the place of the exponent.
 fn exponent_place(lit: &FloatLit<&str>) -> Place
     ensures { result ≡ exponent_place (a_float (float_parts lit.now)) }
 {

@@ -1,4 +1,4 @@
-//! The message on a refusal.
+//! The message of an error.
 ghost use Rattle.std.specs.Prelude.{◌≡◌, ◌^◌, ◌<◌, Some};
 ghost use Rattle.litrs_base.specs.Refusal.{refusal_of, refusal_text, span_text};
 ghost use Rattle.litrs_c.specs.Answers.{IsWritten, IsWrittenFrom};
@@ -8,9 +8,9 @@ use itoa::Buffer;
 use litrs::ParseError;
 use std::ops::Range;
 
-/// Writes what is printed of the refusal to the room, as much as fits, and answers how many bytes
-/// that is. It does not call the `Display` of the refusal: by its contract that may fail over any
-/// writer, and no status would say so.
+/// Writes the message of `error` to `room`, as much as fits, and returns its length in bytes. It
+/// does not call the `Display` of the error: by its contract that may fail for any writer, and
+/// there is no status for such a failure.
 pub(crate) fn write_refusal(room: &mut [u8], error: &ParseError) -> usize
     ensures { IsWritten (refusal_text (refusal_of error.now)) room.old room.new result }
 {
@@ -21,7 +21,7 @@ pub(crate) fn write_refusal(room: &mut [u8], error: &ParseError) -> usize
     }
 }
 
-/// Writes what is printed of a span from a place on, and answers where it ends.
+/// Writes a span to `room` from `place` on, as much as fits, and returns its end.
 fn write_span(room: &mut [u8], place: usize, span: Range<usize>) -> usize
     requires { place < 2 ^ 63 }
     ensures { IsWrittenFrom place (span_text (Some span)) room.old room.new result }

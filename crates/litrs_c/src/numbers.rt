@@ -18,10 +18,11 @@ use std::str;
 
 /// Writes the `f64` nearest to an integer or a float to `value`, and returns the status.
 ///
-/// It is rounded once, ties to even, whatever the suffix; a number that is too large, such as
-/// `1e400`, is infinite. `value` is left as it is if the status is not [`LITERAL`]. It allocates
-/// only for the digits of a number with an underscore: of a float, or of an integer in base ten
-/// that is at least 2^64; and for a text that is not a number as [`litrs_parse`] does.
+/// It is rounded once, ties to even, whatever the suffix is. A number that is too large, for
+/// example `1e400`, is infinite. `value` is unchanged if the status is not [`LITERAL`]. It
+/// allocates only for the digits of a number with an underscore, if that is a float, or an integer
+/// in base ten that is at least 2^64. For a text that is not a number it allocates like
+/// [`litrs_parse`].
 ///
 /// [`litrs_parse`]: crate::litrs_parse
 #[unsafe(no_mangle)]
@@ -42,7 +43,8 @@ pub extern "C" fn litrs_f64(alloc: Global, text: &[u8], value: &mut f64) -> u32
     }
 }
 
-/// Writes the `f32` nearest to an integer or a float to `value`. Else it is like [`litrs_f64`].
+/// Writes the `f32` nearest to an integer or a float to `value`. Otherwise, it is like
+/// [`litrs_f64`].
 #[unsafe(no_mangle)]
 pub extern "C" fn litrs_f32(alloc: Global, text: &[u8], value: &mut f32) -> u32
     ensures statuses { (result ≤ OUT_OF_MEMORY) ⊎ (result ≡ NO_NUMBER) }

@@ -1,4 +1,4 @@
-//! The fields of a refusal.
+//! The fields of an error.
 ghost use Rattle.std.specs.Prelude.{◌≡◌};
 ghost use Rattle.litrs_c.specs.Codes.{error_code};
 ghost use Rattle.litrs_c.specs.RefusalFields.{span_place, IsRefusalFields};
@@ -8,7 +8,7 @@ use crate::{Place, RefusalFields};
 use litrs::{ParseError, ParseErrorKind};
 use std::ops::Range;
 
-/// Where a text is not refused.
+/// The fields for a text without an error.
 pub(crate) const NO_REFUSAL: RefusalFields = RefusalFields {
     kind: 0,
     has_span: false,
@@ -18,7 +18,7 @@ pub(crate) const NO_REFUSAL: RefusalFields = RefusalFields {
     char_span: NOWHERE,
 };
 
-/// The fields of the refusal.
+/// Returns the fields of `error`.
 #[inline(always)]
 pub(crate) fn refusal_fields(error: &ParseError) -> RefusalFields
     ensures { IsRefusalFields error.now result }
@@ -34,7 +34,7 @@ pub(crate) fn refusal_fields(error: &ParseError) -> RefusalFields
     }
 }
 
-/// The place of a span.
+/// Returns the place of a span.
 #[inline(always)]
 fn span_place(span: Option<Range<usize>>) -> Place
     ensures { result ≡ span_place span }
@@ -48,7 +48,7 @@ fn span_place(span: Option<Range<usize>>) -> Place
     }
 }
 
-/// The number by which the header calls the kind.
+/// Returns the number of the kind in `enum litrs_error`.
 #[inline(always)]
 fn error_code(kind: ParseErrorKind) -> u32
     ensures { result ≡ error_code kind }

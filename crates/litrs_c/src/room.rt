@@ -1,8 +1,8 @@
-//! What is written to the caller's room.
+//! Writes to the room of the caller.
 ghost use Rattle.std.specs.Prelude.{◌+◌, ◌^◌, ◌<◌, length};
 ghost use Rattle.litrs_c.specs.Answers.{IsWritten, IsWrittenFrom};
 
-/// Writes bytes to the room, as many as fit, and answers how many there are.
+/// Writes `bytes` to `room`, as many as fit, and returns the length of `bytes`.
 pub(crate) fn write(room: &mut [u8], bytes: &[u8]) -> usize
     ensures { IsWritten bytes.now room.old room.new result }
 {
@@ -11,8 +11,8 @@ pub(crate) fn write(room: &mut [u8], bytes: &[u8]) -> usize
     bytes.len()
 }
 
-/// Writes a part to the room from a place on, as much as fits, and answers where the part ends. The
-/// place may lie past the room.
+/// Writes `part` to `room` from `place` on, as much as fits, and returns the end of the part.
+/// `place` may lie past the room.
 pub(crate) fn write_from(room: &mut [u8], place: usize, part: &str) -> usize
     requires { place + length part.now < 2 ^ 64 }
     ensures { IsWrittenFrom place part.now room.old room.new result }

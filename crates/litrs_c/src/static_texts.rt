@@ -8,7 +8,7 @@ ghost use Rattle.litrs_c.specs.Names.{zero_ended, unknown_name, kind_name, error
 
 use crate::StaticText;
 
-/// The name for a number that the header gives no kind.
+/// The name for a number that is not in the header.
 const UNKNOWN: &[u8] = b"Unknown\0";
 
 /// The names by the numbers of `enum litrs_kind`.
@@ -126,7 +126,8 @@ pub extern "C" fn litrs_get_error_name(error: u32, name: &mut StaticText)
 }
 
 /// Writes the name of the kind of tokens with this number in `enum litrs_token_kind` to `name`:
-/// that of the variant of [`TokenKind`](litrs_lexer::TokenKind), and `Unknown` for any other number.
+/// that of the variant of [`TokenKind`](litrs_lexer::TokenKind), and `Unknown` for any other
+/// number.
 #[unsafe(no_mangle)]
 pub extern "C" fn litrs_get_token_kind_name(kind: u32, name: &mut StaticText)
     ensures named { (k : TokenKind) → kind ≡ token_code k

@@ -27,7 +27,7 @@ pub struct Cursor<'a> {
 pub struct TokenFields {
     /// `enum litrs_token_kind`.
     pub kind: u32,
-    /// What the token documents: `enum litrs_doc_style`.
+    /// `enum litrs_doc_style`, for a documentation comment.
     pub doc_style: u32,
     /// `true` for white space and comments.
     pub is_trivia: bool,

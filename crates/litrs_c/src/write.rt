@@ -1,4 +1,4 @@
-//! The literal of a value, written to the caller's room.
+//! Writes the literal of a value to the room of the caller.
 ghost use Rattle.std.specs.Prelude.{◌≡◌, ◌≢◌, ◌≤◌, ◌↔◌, ◌+◌, ◌*◌, ◌^◌, IsTrue, IsFalse, Some};
 ghost use Rattle.std.specs.Str.{chars, IsUtf8};
 ghost use Rattle.litrs_base.specs.declared.integer.IntegerBase.TheVariants.{Decimal};
@@ -17,9 +17,9 @@ use litrs_build::{BuildError, byte_string, integer, string};
 use std::alloc::Global;
 use std::str;
 
-/// Writes the string of a text, as `"a\nb"`, with a suffix, which may be empty, to the room, as
-/// much as fits. It is refused where the suffix is none. The rest of the room is left as it is, and
-/// all of it where nothing is written.
+/// Writes the string with the value `value` and the suffix `suffix`, which may be empty, to `room`,
+/// as much as fits: for example `"a\nb"`. The status is an error if `suffix` is not a suffix. The
+/// rest of `room` is unchanged, and all of it if nothing is written.
 #[unsafe(no_mangle)]
 pub extern "C" fn litrs_write_string(
     alloc: Global,
@@ -49,7 +49,8 @@ pub extern "C" fn litrs_write_string(
     }
 }
 
-/// Writes the byte string of some bytes, as `b"a\xff"`. Else as [`litrs_write_string`].
+/// Writes the byte string with the value `value`, for example `b"a\xff"`. Otherwise, it is like
+/// [`litrs_write_string`].
 #[unsafe(no_mangle)]
 pub extern "C" fn litrs_write_bytes(
     alloc: Global,
@@ -80,8 +81,9 @@ pub extern "C" fn litrs_write_bytes(
     }
 }
 
-/// Writes the integer with this value, `value_low` and 2^64 times `value_high`, in base ten, as
-/// `255u8`. It is refused where no such integer has the suffix. Else as [`litrs_write_string`].
+/// Writes the integer with the value `value_low` and 2^64 times `value_high` in base ten, for
+/// example `255u8`. The status is an error if no such integer has the suffix. Otherwise, it is like
+/// [`litrs_write_string`].
 #[unsafe(no_mangle)]
 pub extern "C" fn litrs_write_integer(
     alloc: Global,
@@ -115,7 +117,7 @@ pub extern "C" fn litrs_write_integer(
     }
 }
 
-/// The status of an error.
+/// Returns the status of an error.
 fn status_of(error: BuildError) -> u32
     ensures { result ≡ error_status error }
 {

@@ -22,7 +22,7 @@ const NONE: &str = "";
 /// The colors of a line that [`Diagnostic`](litrs_diagnostic::Diagnostic) writes.
 #[derive(Clone, Copy)]
 struct Style {
-    /// What the front of the line ends with.
+    /// The end of the front of the line.
     end: &'static str,
     /// The color of the front.
     front: &'static str,

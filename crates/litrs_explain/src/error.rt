@@ -1,8 +1,8 @@
-//! Why a run, or the reading of one input, ends early.
+//! The errors that end a run, or the reading of one input.
 use std::alloc::AllocError;
 use std::{fmt, io};
 
-/// Why a run, or the reading of one input, ends early.
+/// An error that ends a run, or the reading of one input.
 #[derive(Drop)]
 pub(crate) enum Error {
     /// An input could not be opened or read.

@@ -29,9 +29,9 @@ pub(crate) struct Explainer<'a> {
     pub(crate) reports: Reports<'a>,
     /// The lines of an incomplete literal, if lines are literals.
     collector: Collector,
-    /// What closes the last token of `held`, if literals are found in any text.
+    /// The open last token of `held`, if literals are found in any text.
     open: Option<Open>,
-    /// The lines of what is incomplete, and some of what is before it in the first.
+    /// The lines of an incomplete token, and a part of the first line before it.
     held: String,
     /// The place in the file of the text that is read: `held` and the line, or the line alone.
     place: Place,

@@ -9,7 +9,7 @@ use litrs_lexer::{Token, Tokens};
 /// The comments of a text, which are skipped.
 #[derive(Clone, Copy, PartialEq, Eq)]
 pub(crate) enum Comments {
-    /// There are none: `/` and `#` are characters.
+    /// No comments: `/` and `#` are ordinary characters.
     None,
     /// From `#` to the end of the line.
     Hash,

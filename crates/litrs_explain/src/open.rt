@@ -1,7 +1,7 @@
 //! Tokens that more lines belong to.
 use litrs_lexer::{Token, TokenKind};
 
-/// What closes the token that a text ends with.
+/// The open token at the end of a text, by the text that closes it.
 #[derive(Clone, Copy)]
 pub(crate) enum Open {
     /// `*/`, this number of times.

@@ -18,16 +18,16 @@ const COLORS: [&str; 3] = ["auto", "always", "never"];
 /// The comments of a text.
 const COMMENTS: [&str; 3] = ["none", "hash", "rust"];
 
-/// How inputs are read and reports written.
+/// The options for reading inputs and writing reports.
 #[derive(Clone, Copy)]
 pub(crate) struct Options {
-    /// Whether literals are found in any text. If not, lines are literals.
+    /// Set if literals are found in any text. Otherwise, lines are literals.
     pub(crate) prefix: bool,
-    /// The comments that are skipped where literals are found in any text.
+    /// The comments that are skipped if literals are found in any text.
     pub(crate) comments: Comments,
-    /// Whether reports are JSON.
+    /// Set if reports are JSON.
     pub(crate) json: bool,
-    /// Whether reports are colored.
+    /// Set if reports are colored.
     pub(crate) color: bool,
 }
 
@@ -40,12 +40,12 @@ pub(crate) enum ColorChoice {
     Never,
 }
 
-/// What the program knows of the place where reports go.
+/// The destination of the reports, as the program knows it.
 #[derive(Clone, Copy)]
 pub(crate) struct Terminal {
-    /// Whether it is a terminal.
+    /// Set if it is a terminal.
     pub(crate) is_terminal: bool,
-    /// Whether the environment asks for no colors.
+    /// Set if the environment asks for no colors.
     pub(crate) is_plain: bool,
 }
 

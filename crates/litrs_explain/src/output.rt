@@ -10,7 +10,7 @@ const BUFFER_LEN: usize = 8192;
 #[derive(Drop)]
 pub(crate) struct Output {
     rt: HostRuntime,
-    /// Whether each report is written at once.
+    /// Set if each report is written immediately.
     is_terminal: bool,
     /// Whole reports.
     unwritten: String,

@@ -13,10 +13,10 @@ use std::fs::File;
 use std::io::{BufRead, BufReader, ErrorKind, Read};
 use std::{env, fmt};
 
-/// What a literal that is no file is told.
+/// The help for a literal that is not a file.
 const TEXT_HELP: &str = "help: the argument is a literal: -e explains it";
 
-/// What a text that is not a list of literals is told.
+/// The help for a text that is not a list of literals.
 const PREFIX_HELP: &str = "help: --prefix finds the literals within lines";
 
 /// Returns the status of a run: 2 if an input was not read to its end, else 1 if there was an
@@ -103,7 +103,7 @@ fn tell<D: fmt::Display + Drop>(rt: &HostRuntime, message: D) {
     let _ = rt.eprintln(format_args!("litrs_explain: {message}"));
 }
 
-/// What is explained.
+/// An input.
 #[derive(Clone, Copy)]
 enum Source<'a> {
     /// The value of `-e`.
@@ -146,9 +146,9 @@ impl<'a> Source<'a> {
 struct Run<'a> {
     rt: HostRuntime,
     explainer: Explainer<'a>,
-    /// Whether a source was not read to its end.
+    /// Set if a source was not read to its end.
     has_failed: bool,
-    /// Whether the user was told of `--prefix`.
+    /// Set if the help on `--prefix` was written.
     was_told: bool,
 }
 
@@ -164,7 +164,7 @@ impl<'a> Run<'a> {
         }
     }
 
-    /// Explains the texts and files of a command line, or the standard input if there are none.
+    /// Explains the texts and files of a command line, or the standard input if there is none.
     fn explain_all(&mut self, texts: &[&'a str], files: &[&'a str]) -> Result<(), Error> {
         if texts.is_empty() && files.is_empty() {
             return self.explain(Source::Stdin);

@@ -37,7 +37,7 @@ pub(crate) struct Problem<'a> {
     pub(crate) span: Span,
     /// The kind of the error, or `None` for a byte that is not UTF-8.
     pub(crate) kind: Option<ParseErrorKind>,
-    /// Whether more text can complete the literal.
+    /// Set if more text can complete the literal.
     pub(crate) is_incomplete: bool,
 }
 
@@ -63,7 +63,7 @@ pub(crate) struct Reports<'a> {
     literals: usize,
     /// The number of errors in it.
     errors: usize,
-    /// Whether there was an error in any file.
+    /// Set if there was an error in any file.
     pub(crate) has_errors: bool,
 }
 

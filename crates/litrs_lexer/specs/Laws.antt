@@ -1,4 +1,4 @@
--- What holds of the tokens at the front of texts.
+-- Laws of the tokens at the front of texts.
 use Rattle.std.specs.Prelude.{◌≡◌, ℕ, List, ◌++◌, IsFalse}
 use Rattle.litrs_base.specs.Text.{IsText, byte_len}
 use Rattle.litrs_grammar.specs.Bool.{is_bool}
@@ -15,8 +15,8 @@ abbrev pub TokensAreUnique : Type 0
 TokensAreUnique = (t : List ℕ) (k j : TokenKind) (r u : List ℕ) →
     IsToken k t r → IsToken j t u → (k ≡ j) × (r ≡ u)
 
--- Where `parse_prefix` reports a malformed literal, a token of this kind and length is at the front
--- of the text, unless it starts with a bool: that is a prefix here.
+-- If `parse_prefix` reports a malformed literal, the text has a token of this kind and length at
+-- its front, unless it starts with a bool, which is a prefix here.
 abbrev pub MalformedPrefixesAreTokens : Type 0
 MalformedPrefixesAreTokens = (t : List ℕ) (e : MalformedPrefix) →
     IsMalformed t e → IsFalse (is_bool (first_name t)) →

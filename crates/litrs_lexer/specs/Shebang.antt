@@ -1,4 +1,4 @@
--- What precedes the tokens of a file. The Rust Reference, "Input format" and "Shebang".
+-- The byte order mark and the shebang. The Rust Reference, "Input format" and "Shebang".
 use Rattle.std.specs.Prelude.{◌≡◌, ℕ, Bool, ◌==◌, List, [], ◌∷◌, None, if◌then◌else◌, IsTrue}
 use Rattle.litrs_base.specs.Characters.{hash}
 use Rattle.litrs_base.specs.Text.{first_passes}

@@ -53,7 +53,7 @@ impl TokenKind {
     }
 }
 
-/// What a documentation comment documents.
+/// The item that a documentation comment documents.
 #[derive(Clone, Copy, Debug, PartialEq, Eq)]
 pub enum DocStyle {
     /// The item that contains the comment: `//!` or `/*! */`.

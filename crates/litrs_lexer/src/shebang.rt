@@ -1,4 +1,4 @@
-//! What precedes the tokens of a file.
+//! The byte order mark and the shebang, which precede the tokens of a file.
 ghost use Rattle.std.specs.Prelude.{◌≡◌, ◌∷◌, IsTrue, IsFalse, IfSome, IfNone, List, ℕ};
 ghost use Rattle.std.specs.Str.{chars};
 ghost use Rattle.litrs_base.specs.Characters.{hash};

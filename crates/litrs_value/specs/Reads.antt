@@ -44,9 +44,9 @@ IsRefusedAfter negative t (Malformed e) = (r : ParseError) × IsRefused literal_
 IsRefusedAfter negative t Memory = (d : Derivation) × IsLiteral t d × IsTrue (allocates d)
 IsRefusedAfter negative t e = ⊥
 
--- Why a text has no value of a type: the text after the sign is not a literal, and spans count from
--- the start of the text; or the type has no value for the literal that it is; or an allocation
--- failed.
+-- The error of a text without a value of the type: the text after the sign is not a literal, and
+-- spans count from the start of the text; or the type has no value for the literal; or an
+-- allocation failed.
 abbrev pub IsValueError : ValueType → List ℕ → ValueError → Type 0
 IsValueError type text (Malformed e) =
     IsRefusedAfter (is_negative text) (chars (unsigned text)) (Malformed e)

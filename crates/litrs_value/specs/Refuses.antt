@@ -1,4 +1,4 @@
--- Why a literal has no value of a type.
+-- The errors of a literal without a value of a type.
 use Rattle.std.specs.Prelude.{◌≡◌, ◌≤◌, ◌^◌, ℤ, Bool, Some, IsTrue, IsFalse, ⊤}
 use Rattle.std.specs.Float.{float_is_finite}
 use Rattle.std.specs.Float.Ieee.{Float}

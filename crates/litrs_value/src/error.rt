@@ -1,4 +1,4 @@
-//! Why a text has no value of a type.
+//! The errors of reading a value.
 ghost use Rattle.std.specs.Prelude.{◌≡◌, ◌-◌, length};
 ghost use Rattle.std.specs.Str.{chars};
 ghost use Rattle.litrs_value.specs.Reads.{marked};

@@ -115,7 +115,8 @@ fn digits<B: Text>(lit: &IntegerLit<B>) -> &[u8]
 /// large, such as `1e400`, is infinite. It allocates only if there is an underscore. See [the
 /// reference][ref].
 ///
-/// [ref]: https://doc.rust-lang.org/reference/expressions/literal-expr.html#floating-point-literal-expressions
+/// [ref]:
+/// https://doc.rust-lang.org/reference/expressions/literal-expr.html#floating-point-literal-expressions
 ///
 /// # Errors
 ///

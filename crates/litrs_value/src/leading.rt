@@ -19,7 +19,7 @@ pub(crate) struct Leading {
     number: u64,
     /// `true` if a bit that follows them is set.
     more: bool,
-    /// How many bits follow them.
+    /// The number of bits after them.
     shift: u128,
 }
 

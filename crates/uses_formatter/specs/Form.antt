@@ -15,7 +15,7 @@ abbrev pub group_len : IntegerBase → ℕ
 group_len Decimal = 3
 group_len _ = 4
 
--- the groups of an integer: 0, which is none, where its main part has no `_`
+-- The number of digits in a group of an integer, or 0 if its main part has no `_`.
 abbrev pub group_of : IntegerParts → ℕ
 group_of d = if list_any is_underscore d.main then group_len d.base else 0
 

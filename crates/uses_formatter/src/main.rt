@@ -1,10 +1,10 @@
-//! Writes each line that is a literal in a standard form, with the same kind, value and suffix. Other
-//! lines are unchanged.
+//! Writes each line that is a literal in a standard form, with the same kind, value and suffix.
+//! Other lines are unchanged.
 //!
-//! Digits of integers are in lower case. If they have a `_`, they are written in groups of three, or
-//! of four if the base is not ten. Other literals are written as [`litrs_build::unescaped`] writes
-//! them: with escapes only for characters that are not shown as they are, and raw strings with the
-//! least number of hashes.
+//! Digits of integers are in lower case. If they have a `_`, they are written in groups of three,
+//! or of four if the base is not ten. Other literals are written as [`litrs_build::unescaped`]
+//! writes them: with escapes only for characters that are not shown as they are, and raw strings
+//! with the least number of hashes.
 #![tactic(auto)]
 
 ghost use Rattle.std.specs.Prelude.{◌≡◌, IfOk, MatchOption};

@@ -1,4 +1,4 @@
--- What the prompt answers to a line.
+-- The answers of the prompt to a line.
 use Rattle.std.specs.Prelude.{◌≡◌, ◌≢◌, ◌⊎◌, ℕ, List, [], ◌∷◌, ◌++◌, codes}
 use Rattle.std.specs.Fmt.{decimal}
 use Rattle.std.specs.Str.{chars, IsUtf8}
@@ -17,7 +17,7 @@ use Rattle.litrs.specs.declared.ParseError.{ParseError}
 abbrev pub Cancels : (held line : List ℕ) → Type 0
 Cancels held line = (line ≡ codes ":cancel") × (held ≢ [])
 
--- what is said where a literal goes on: a hint after its first line
+-- The hint after the first line of a literal that continues.
 abbrev pub hint : (held : List ℕ) → List ℕ
 hint [] = codes "the literal goes on in the next line; :cancel gives it up\n"
 hint (c ∷ held) = []
@@ -26,8 +26,8 @@ hint (c ∷ held) = []
 abbrev pub ShowsRefusal : (text : List ℕ) → ParseError → (answer : List ℕ) → Type 0
 ShowsRefusal text e answer = chars answer ≡ refusal_text (codes "prompt") text e 100
 
--- What is said of all lines, where these were held before the last: the hint, the explanation of
--- the literal, or the refusal.
+-- The answer to all lines, if these were held before the last: the hint, the explanation of the
+-- literal, or the error.
 abbrev pub IsAnswerTo : (held text : List ℕ) → Step → (answer : List ℕ) → Type 0
 IsAnswerTo held text More answer = answer ≡ hint held
 IsAnswerTo held text (Literal lit) answer = IsExplanation (derivation lit) answer
@@ -41,7 +41,8 @@ pub record IsRead (held line after answer : List ℕ) : Type 0 where
   pub says : IsAnswerTo held (held ++ line) step answer
   pub holds : after ≡ held_after (held ++ line) step
 
--- What is answered to a line, and what is held after it: nothing where it gives up what is held.
+-- The answer to a line, and the text that is held after it. If the line cancels the text that is
+-- held, both are empty.
 pub record IsAnswered (held line after answer : List ℕ) : Type 0 where
   pub given_up : Cancels held line → (after ≡ []) × (answer ≡ [])
   pub read : ¬ Cancels held line → IsRead held line after answer
@@ -56,8 +57,8 @@ abbrev pub ignored_text : List ℕ → List ℕ
 ignored_text line =
     codes "not UTF-8 at byte " ++ (decimal (utf8_valid_len line) ++ codes ": ignored\n")
 
--- What is answered to the bytes of a line, and what is held after it. One CR at its end is no part
--- of the line. A line that is not UTF-8 changes nothing.
+-- The answer to the bytes of a line, and the text that is held after it. One CR at the end does not
+-- belong to the line. A line that is not UTF-8 changes nothing.
 pub record IsReply (held line after answer : List ℕ) : Type 0 where
   pub text : IsUtf8 line →
       (stripped : List ℕ) × IsWithoutReturn line stripped × IsAnswered held stripped after answer
