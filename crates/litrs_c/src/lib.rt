@@ -100,7 +100,7 @@ pub struct RefusalFields {
     pub is_open: bool,
     /// The part of the text. The start is a character boundary.
     pub span: Place,
-    /// The same part up to the next character boundary.
+    /// The part in whole characters: its end is the next character boundary.
     pub char_span: Place,
 }
 

@@ -1,4 +1,4 @@
--- Which texts more text can change the tokens of.
+-- The texts whose tokens can change if more text follows.
 use Rattle.std.specs.Prelude.{◌≡◌, ℕ, Bool, true, false, List, [], ◌∷◌, ◌++◌, codes}
 use Rattle.litrs_base.specs.Text.{IsText, is_empty, is_text}
 use Rattle.litrs_prefix.specs.MayChange.{is_open_front}
@@ -18,33 +18,33 @@ TokenChanges t = (more : List ℕ) × IsText more
     × ((kind : TokenKind) (rest : List ℕ) →
     IsToken kind t rest → IsToken kind (t ++ more) (rest ++ more) → ⊥)
 
--- a token of a list: its kind and its characters
+-- A token of a list: its kind and its characters.
 pub record Cut : Type 0 where
   pub kind : TokenKind
   pub text : List ℕ
 
--- the text has these tokens, one after the other, up to the rest
+-- The text has these tokens, one after the other, up to the rest.
 abbrev pub HasTokens : (t : List ℕ) → List Cut → (rest : List ℕ) → Type 0
 HasTokens t [] rest = t ≡ rest
 HasTokens t (cut ∷ cuts) rest =
     (next : List ℕ) × (cut.text ++ next ≡ t) × IsToken cut.kind t next × HasTokens next cuts rest
 
--- the same, and no longer text changes one of them
+-- Like `HasTokens`, and no longer text changes one of the tokens.
 abbrev pub HasSettledTokens : (t : List ℕ) → List Cut → (rest : List ℕ) → Type 0
 HasSettledTokens t [] rest = t ≡ rest
 HasSettledTokens t (cut ∷ cuts) rest =
     (next : List ℕ) × (cut.text ++ next ≡ t) × IsToken cut.kind t next × TokenStays t
     × HasSettledTokens next cuts rest
 
--- the kind is that of malformed literals
+-- `true` iff the kind is that of malformed literals.
 abbrev pub is_malformed : TokenKind → Bool
 is_malformed MalformedLiteral = true
 is_malformed kind = false
 
--- More text can change the token of this kind, which is no malformed literal, at the front of the
--- text, up to the rest: the token is at the end, and neither a closed comment nor one character; it
--- is a `/` at the end; or only hashes follow a prefix, with which more text begins a literal or a
--- raw name.
+-- `true` iff more text can change the token of this kind, which is not a malformed literal, at the
+-- front of the text, up to the rest: the token is at the end, and neither a closed comment nor one
+-- character; it is a `/` at the end; or only hashes follow a prefix, with which more text begins a
+-- literal or a raw name.
 abbrev pub is_open : TokenKind → (t rest : List ℕ) → Bool
 is_open BlockComment t rest = false
 is_open Unknown t rest = false
