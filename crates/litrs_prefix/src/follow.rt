@@ -1,4 +1,4 @@
-//! The texts that may follow a literal at the front of a longer text.
+//! Tests of the text after a literal, which decide whether the literal ends there.
 ghost use Rattle.std.specs.Prelude.{◌≡◌, not, Bool};
 ghost use Rattle.std.specs.Char.{is_ascii_digit};
 ghost use Rattle.std.specs.Str.{chars};
@@ -13,8 +13,8 @@ use crate::name::{begins_name, is_empty, split_first_char};
 use litrs::{FloatLit, IntegerLit, Literal};
 use unicode_ident::is_xid_continue;
 
-/// Returns `true` if `rest` may follow `literal`, so that the literal ends there. For example,
-/// ` + 1`, `.max()` and `..` may follow `2`, but `.5`, `_x`, `e+` and `3` may not.
+/// Returns `true` if `literal` ends where `rest` follows it. ` + 1`, `.max()` and `..` may follow
+/// `2`, but `.5`, `_x`, `e+` and `3` may not.
 pub fn may_follow(literal: &Literal<&str>, rest: &str) -> bool
     ensures { result ≡ may_follow (derivation literal.now) (chars rest.now) }
 {
@@ -30,7 +30,7 @@ pub fn may_follow(literal: &Literal<&str>, rest: &str) -> bool
     }
 }
 
-/// Returns `true` if `suffix` ends before `rest`.
+/// Returns `true` if `suffix` ends where `rest` follows it.
 pub(crate) fn ends_suffix(suffix: &str, rest: &str) -> bool
     ensures { result ≡ ends_suffix (chars suffix.now) (chars rest.now) }
 {
@@ -41,7 +41,7 @@ pub(crate) fn ends_suffix(suffix: &str, rest: &str) -> bool
     }
 }
 
-/// Returns `true` if `c` would continue the suffix, or begin one if there is none.
+/// Returns `true` if `c` would be part of the suffix, or begin one if there is `none`.
 fn is_of_suffix(none: bool, c: char) -> bool
     ensures { result ≡ is_of_suffix none c }
 {
@@ -52,7 +52,7 @@ fn is_of_suffix(none: bool, c: char) -> bool
     }
 }
 
-/// Returns `true` if a bool ends before `rest`: it is a whole name and not a reserved prefix.
+/// Returns `true` if a bool ends where `rest` follows it: it is a whole name and not a prefix.
 pub(crate) fn ends_bool(rest: &str) -> bool
     ensures { result ≡ ends_bool (chars rest.now) }
 {
@@ -69,7 +69,7 @@ fn is_quote_or_hash(c: char) -> bool
     c == '"' || c == '\'' || c == '#'
 }
 
-/// Returns `true` if the integer `lit` ends before `rest`.
+/// Returns `true` if `lit` ends where `rest` follows it.
 pub(crate) fn ends_integer(lit: &IntegerLit<&str>, rest: &str) -> bool
     ensures { result ≡ ends_integer (integer_parts lit.now) (chars rest.now) }
 {
@@ -77,7 +77,7 @@ pub(crate) fn ends_integer(lit: &IntegerLit<&str>, rest: &str) -> bool
     !begins_with_digit(rest) && !(gives_period(rest) && none)
 }
 
-/// Returns `true` if the float `lit` ends before `rest`.
+/// Like [`ends_integer`], for a float.
 pub(crate) fn ends_float(lit: &FloatLit<&str>, rest: &str) -> bool
     ensures { result ≡ ends_float (float_parts lit.now) (chars rest.now) }
 {
@@ -124,8 +124,8 @@ fn gives_period(text: &str) -> bool
     }
 }
 
-/// Returns `true` if a period before `text` does not belong to a number: `text` starts with another
-/// period or a name.
+/// Returns `true` if a period before `text` belongs to no number, as `text` starts with another
+/// period or with a name.
 pub(crate) fn keeps_period(text: &str) -> bool
     ensures { result ≡ keeps_period (chars text.now) }
 {
