@@ -1,10 +1,7 @@
 -- A char or a byte at the front of a text is found.
-use Rattle.std.proofs.Common.{◌≡◌, ℕ, ◌+◌, true, false, not, ◌&&◌, List, [], ◌∷◌, ◌++◌, drop, take, length, Option, Some, None, refl, sym, ap, subst, ◌∙◌, append_assoc, append-nil, arith}
-use Rattle.std.specs.Prelude.{◌==◌, if◌then◌else◌, option_map, is_some}
+use Rattle.std.proofs.Common.{◌≡◌, ℕ, ◌+◌, true, false, List, [], ◌∷◌, ◌++◌, drop, length, Option, Some, refl, sym, ap, subst, ◌∙◌, append_assoc, append-nil, arith}
+use Rattle.std.specs.Prelude.{option_map}
 use Rattle.std.specs.Str.{chars, IsUtf8, IsCharBoundary}
-use Rattle.std.proofs.lemmas.Bool.{and_parts, and_left, not-true}
-use Rattle.std.proofs.lemmas.List.{drop_at}
-use Rattle.std.proofs.Math.Seq.{take-append_seam}
 use Rattle.unicode_ident.specs.Ident.{is_xid_continue}
 use Rattle.unicode_ident.proofs.IdentLemmas.{is_xid_start-ascii, is_xid_continue-ascii}
 use Rattle.litrs_base.specs.declared.err.ParseError.{ParseError}
@@ -12,20 +9,18 @@ use Rattle.litrs_base.specs.declared.err.ParseErrorKind.{ParseErrorKind}
 use Rattle.litrs_base.specs.Text.{byte_len}
 use Rattle.litrs_base.specs.Refusal.{Refusal, at_byte, shifted, refusal_of}
 use Rattle.litrs_base.specs.Derivations.{HasNoDerivation}
-use Rattle.litrs_base.proofs.ListTests.{if_false}
 use Rattle.litrs_base.proofs.Spans.{byte_len-append, byte_len_ascii}
 use Rattle.litrs_grammar.specs.Suffix.{is_suffix, starts_identifier, suffix_refusal}
-use Rattle.litrs_grammar.specs.Escape.{escape_text, escape_refusal}
 use Rattle.litrs_base.specs.declared.quotes.CharKind.{CharKind}
 use Rattle.litrs_base.specs.declared.quotes.CharKind.TheVariants.{Char as char_kind, Byte as byte_kind}
-use Rattle.litrs_base.specs.Quotes.{char_front, char_switches_of}
-use Rattle.litrs_grammar.specs.CharByte.{CharItem, plain_char, escaped_char, char_item_text, is_special_whitespace, allows_char, is_char_item, CharParts, IsCharLiteral, closing_refusal, char_item_refusal, char_kind_refusal}
+use Rattle.litrs_base.specs.Quotes.{char_front}
+use Rattle.litrs_grammar.specs.CharByte.{CharItem, char_item_text, is_char_item, CharParts, IsCharLiteral, closing_refusal, char_item_refusal, char_kind_refusal}
 use Rattle.litrs_grammar.proofs.Laws.CharByte.{item_closing}
 use Rattle.litrs_prefix.specs.Prefix.{ends_suffix}
 use Rattle.litrs_prefix.specs.Opens.{after_name}
 use Rattle.litrs_prefix.specs.Ends.{IsSuffixKind}
 use Rattle.litrs_prefix.proofs.Chars.{same_char, longer_char}
-use Rattle.litrs_prefix.proofs.Complete.{skip, here, name_after, no_suffix, suffix_kind, quote_place_39, PointsAtSuffix}
+use Rattle.litrs_prefix.proofs.Complete.{here, name_after, no_suffix, suffix_kind, quote_place_39, PointsAtSuffix}
 
 abbrev refused_at : ℕ → List ℕ → Option Refusal
 refused_at place x = Some (at_byte (place + 1) (suffix_refusal x))

@@ -1,4 +1,4 @@
-//! Where the literal ends that opens at the front of a text.
+//! The end of the literal that begins at the front of a text.
 ghost use Rattle.std.specs.Prelude.{◌≡◌, ◌++◌, ◌∷◌, ℕ, Bool, List, Some, codes, drop, IsTrue, IsFalse, IfSome, IfNone};
 ghost use Rattle.std.specs.Str.{chars, IsCharBoundary};
 ghost use Rattle.std.specs.declared.ops.Range.{Range};
@@ -28,8 +28,8 @@ use litrs_lex::{
     end_dec_digits, scan_raw_string,
 };
 
-/// Where the literal at the front of the text ends, suffix and all, if one stands there; None where
-/// it is plain that none does.
+/// Returns the only place where a literal at the front of `text` can end, suffix included, or `None`
+/// if there is no such place.
 pub fn literal_end(text: &str) -> Option<usize>
     ensures boundary { IfSome result (IsCharBoundary text.now) }
     ensures literal { IfSome result (λ end. (d : Derivation) (r : List ℕ) →
@@ -42,7 +42,7 @@ pub fn literal_end(text: &str) -> Option<usize>
     }
 }
 
-/// [`literal_end`], with 0 for None.
+/// Like [`literal_end`], with 0 for `None`.
 fn some_end(text: &str) -> usize
     ensures boundary { IsCharBoundary text.now result }
     ensures literal { (d : Derivation) (r : List ℕ) → HasPrefix (chars text.now) d r →
@@ -74,7 +74,7 @@ fn bool_end(text: &str) -> Option<usize>
     }
 }
 
-/// Where another literal ends.
+/// Like [`some_end`], for a text without a bool at its front.
 fn other_end(text: &str) -> usize
     requires { (r : List ℕ) → NoBoolBefore (chars text.now) r }
     ensures boundary { IsCharBoundary text.now result }
@@ -93,9 +93,8 @@ fn other_end(text: &str) -> usize
     }
 }
 
-/// Where a literal ends that is refused for what follows it, since more than a suffix does: its
-/// suffix is the name at the place where the refusal points. Where it is refused for another cause,
-/// none stands there, and the answer is 0.
+/// Returns where a literal ends whose parse fails with `e` as it has more than a suffix after it:
+/// its suffix is the name at the place of the error. Returns 0 for an error of another kind.
 fn suffix_end(text: &str, e: &ParseError) -> usize
     ensures boundary { IsCharBoundary text.now result }
     ensures literal { (span : Range ℕ) (x r : List ℕ) → span_of e.now ≡ Some span →
@@ -108,7 +107,7 @@ fn suffix_end(text: &str, e: &ParseError) -> usize
     }
 }
 
-/// Where the suffix would start of a literal that is refused there.
+/// Returns where the suffix would start, or `None` if `e` is not about a suffix.
 fn suffix_start(e: &ParseError) -> Option<usize>
     ensures { (span : Range ℕ) → span_of e.now ≡ Some span → IsSuffixKind (kind_of e.now) →
         result ≡ Some span.start }
@@ -119,7 +118,7 @@ fn suffix_start(e: &ParseError) -> Option<usize>
     }
 }
 
-/// Where the name ends that stands there.
+/// Returns where the name at `start` ends.
 fn end_from(text: &str, start: usize) -> usize
     ensures boundary { IsCharBoundary text.now result }
     ensures name { (x r : List ℕ) → IsCharBoundary text.now start →
@@ -131,7 +130,7 @@ fn end_from(text: &str, start: usize) -> usize
     }
 }
 
-/// Where a number ends.
+/// Like [`some_end`], for a number.
 fn number_end(text: &str) -> usize
     requires { IsTrue (first_passes is_ascii_digit text.now) }
     ensures boundary { IsCharBoundary text.now result }
@@ -155,8 +154,8 @@ fn number_end(text: &str) -> usize
     }
 }
 
-/// Where a number ends that has a period after its decimal digits: before the period, where
-/// another or a name follows, as in `1..2` and `1.max(2)`; after it, where no digit follows.
+/// Like [`some_end`], for a number with a period after its decimal digits. It ends before the period
+/// if another or a name follows, as in `1..2` and `1.max(2)`, and after it if no digit follows.
 fn period_end(text: &str, digits: usize, after: &str) -> usize
     requires digit { IsTrue (first_passes is_ascii_digit text.now) }
     requires period { after_digits (chars text.now) ≡ period ∷ chars after.now }
@@ -179,7 +178,7 @@ fn period_end(text: &str, digits: usize, after: &str) -> usize
     }
 }
 
-/// Where a number ends that does not end with its period, by its cut.
+/// Like [`some_end`], for a number that does not end with its period.
 fn cut_end(text: &str) -> usize
     requires { IsTrue (first_passes is_ascii_digit text.now) }
     ensures boundary { IsCharBoundary text.now result }
@@ -198,7 +197,7 @@ fn cut_end(text: &str) -> usize
     }
 }
 
-/// Where a char ends.
+/// Like [`some_end`], for a char.
 fn char_end(text: &str) -> usize
     requires { IsTrue (begins_with (codes "'") text.now) }
     ensures boundary { IsCharBoundary text.now result }
@@ -212,7 +211,7 @@ fn char_end(text: &str) -> usize
     }
 }
 
-/// Where a byte ends.
+/// Like [`some_end`], for a byte.
 fn byte_end(text: &str) -> usize
     requires { IsTrue (begins_with (codes "b'") text.now) }
     ensures boundary { IsCharBoundary text.now result }
@@ -226,7 +225,7 @@ fn byte_end(text: &str) -> usize
     }
 }
 
-/// Where a quoted string of the kind ends.
+/// Like [`some_end`], for a quoted string of the kind `kind`.
 fn quoted_end(text: &str, kind: StringKind) -> usize
     requires { IsTrue (begins_with (quoted_front kind) text.now) }
     ensures boundary { IsCharBoundary text.now result }
@@ -248,7 +247,7 @@ fn quoted_end(text: &str, kind: StringKind) -> usize
     }
 }
 
-/// Where a raw string of the kind ends.
+/// Like [`some_end`], for a raw string of the kind `kind`.
 fn raw_end(text: &str, kind: StringKind) -> usize
     requires { IsTrue (begins_with (raw_front kind) text.now) }
     ensures boundary { IsCharBoundary text.now result }

@@ -1,4 +1,4 @@
-//! What may follow a literal that stands at the front of a longer text.
+//! Tests of the text after a literal, which decide whether the literal ends there.
 ghost use Rattle.std.specs.Prelude.{◌≡◌, not, Bool};
 ghost use Rattle.std.specs.Char.{is_ascii_digit};
 ghost use Rattle.std.specs.Str.{chars};
@@ -13,8 +13,8 @@ use crate::name::{begins_name, is_empty, split_first_char};
 use litrs::{FloatLit, IntegerLit, Literal};
 use unicode_ident::is_xid_continue;
 
-/// Whether the text may follow the literal, so that the literal ends there: ` + 1`, `.max()` and
-/// `..` may follow `2`, but `.5`, `_x`, `e+` and `3` may not.
+/// Returns `true` if `literal` ends where `rest` follows it. ` + 1`, `.max()` and `..` may follow
+/// `2`, but `.5`, `_x`, `e+` and `3` may not.
 pub fn may_follow(literal: &Literal<&str>, rest: &str) -> bool
     ensures { result ≡ may_follow (derivation literal.now) (chars rest.now) }
 {
@@ -30,7 +30,7 @@ pub fn may_follow(literal: &Literal<&str>, rest: &str) -> bool
     }
 }
 
-/// Whether the suffix ends before the text.
+/// Returns `true` if `suffix` ends where `rest` follows it.
 pub(crate) fn ends_suffix(suffix: &str, rest: &str) -> bool
     ensures { result ≡ ends_suffix (chars suffix.now) (chars rest.now) }
 {
@@ -41,7 +41,7 @@ pub(crate) fn ends_suffix(suffix: &str, rest: &str) -> bool
     }
 }
 
-/// Whether the character would be of the suffix: begin one, where there is none.
+/// Returns `true` if `c` would be part of the suffix, or begin one if there is `none`.
 fn is_of_suffix(none: bool, c: char) -> bool
     ensures { result ≡ is_of_suffix none c }
 {
@@ -52,7 +52,7 @@ fn is_of_suffix(none: bool, c: char) -> bool
     }
 }
 
-/// Whether a bool ends before the text: it is a whole name, and no prefix.
+/// Returns `true` if a bool ends where `rest` follows it: it is a whole name and not a prefix.
 pub(crate) fn ends_bool(rest: &str) -> bool
     ensures { result ≡ ends_bool (chars rest.now) }
 {
@@ -62,14 +62,14 @@ pub(crate) fn ends_bool(rest: &str) -> bool
     }
 }
 
-/// Whether it is `"`, `'` or `#`.
+/// Returns `true` if `c` is `"`, `'` or `#`.
 fn is_quote_or_hash(c: char) -> bool
     ensures { result ≡ is_quote_or_hash c }
 {
     c == '"' || c == '\'' || c == '#'
 }
 
-/// Whether an integer ends before the text.
+/// Returns `true` if `lit` ends where `rest` follows it.
 pub(crate) fn ends_integer(lit: &IntegerLit<&str>, rest: &str) -> bool
     ensures { result ≡ ends_integer (integer_parts lit.now) (chars rest.now) }
 {
@@ -77,14 +77,14 @@ pub(crate) fn ends_integer(lit: &IntegerLit<&str>, rest: &str) -> bool
     !begins_with_digit(rest) && !(gives_period(rest) && none)
 }
 
-/// Whether a float ends before the text.
+/// Like [`ends_integer`], for a float.
 pub(crate) fn ends_float(lit: &FloatLit<&str>, rest: &str) -> bool
     ensures { result ≡ ends_float (float_parts lit.now) (chars rest.now) }
 {
     !begins_with_digit(rest) && !(begins_with_period(rest) && is_bare(lit))
 }
 
-/// Whether the float ends with its period.
+/// Returns `true` if `lit` ends with its period.
 fn is_bare(lit: &FloatLit<&str>) -> bool
     ensures { result ≡ is_bare (float_parts lit.now).fraction }
 {
@@ -94,7 +94,7 @@ fn is_bare(lit: &FloatLit<&str>) -> bool
     }
 }
 
-/// Whether a decimal digit stands first.
+/// Returns `true` if `text` starts with a decimal digit.
 pub(crate) fn begins_with_digit(text: &str) -> bool
     ensures { result ≡ first_passes is_ascii_digit (chars text.now) }
 {
@@ -104,7 +104,7 @@ pub(crate) fn begins_with_digit(text: &str) -> bool
     }
 }
 
-/// Whether a period stands first.
+/// Returns `true` if `text` starts with a period.
 pub(crate) fn begins_with_period(text: &str) -> bool
     ensures { result ≡ first_passes is_period (chars text.now) }
 {
@@ -114,7 +114,7 @@ pub(crate) fn begins_with_period(text: &str) -> bool
     }
 }
 
-/// Whether a period stands first that an integer before it would take.
+/// Returns `true` if `text` starts with a period that an integer before it would take.
 fn gives_period(text: &str) -> bool
     ensures { result ≡ gives_period (chars text.now) }
 {
@@ -124,7 +124,8 @@ fn gives_period(text: &str) -> bool
     }
 }
 
-/// Whether a period before the text belongs to no number: another follows, or a name.
+/// Returns `true` if a period before `text` belongs to no number, as `text` starts with another
+/// period or with a name.
 pub(crate) fn keeps_period(text: &str) -> bool
     ensures { result ≡ keeps_period (chars text.now) }
 {

@@ -1,4 +1,4 @@
-//! What was meant as a literal, where one opens at the front of a text and none stands there.
+//! The extent of a literal that may be malformed.
 ghost use Rattle.std.specs.Prelude.{◌≡◌, drop};
 ghost use Rattle.std.specs.Str.{chars};
 ghost use Rattle.litrs_prefix.specs.Ends.{IsEndOf, after_digits, after_exponent, after_fraction, after_sign};
@@ -10,15 +10,15 @@ use litrs_base::IntegerBase;
 use litrs_lex::hashes::{hash_len, is_inner_quote};
 use litrs_lex::{Run, run_end};
 
-/// What follows what was meant as a literal that opens at the front of the text: its body up to the
-/// closing, and the name after that.
+/// Returns the part of `text` after the literal, valid or malformed, that begins at its front: after
+/// the body, its closing, and the name that follows.
 pub fn after_opened(text: &str) -> &str
     ensures { chars result.now ≡ after_opened (chars text.now) }
 {
     after_name(after_body(text))
 }
 
-/// What follows all of what opens there but its suffix.
+/// Like [`after_opened`], but returns the suffix too.
 fn after_body(text: &str) -> &str
     ensures { chars result.now ≡ after_body (chars text.now) }
 {
@@ -44,7 +44,7 @@ fn after_body(text: &str) -> &str
     }
 }
 
-/// What follows the `b` or `c` that opens a literal with it.
+/// Like [`after_body`], for the text after the `b` or `c` that begins a literal.
 fn after_prefixed(text: &str) -> &str
     ensures { chars result.now ≡ after_prefixed (chars text.now) }
 {
@@ -62,8 +62,8 @@ fn after_prefixed(text: &str) -> &str
     }
 }
 
-/// What follows the parts of a float: digits, a period and more digits, an exponent. The prefix of
-/// an integer, and its digits, are left for the suffix.
+/// Returns the part of `text` after the parts of a float: digits, a period and more digits, an
+/// exponent. The prefix of an integer and its digits are left for the suffix.
 fn after_number(text: &str) -> &str
     ensures { chars result.now ≡ after_number (chars text.now) }
 {
@@ -80,7 +80,7 @@ pub(crate) fn after_digits(text: &str) -> &str
     rest
 }
 
-/// What follows the period at the front, and its digits.
+/// Returns the part of `text` after the period at its front and the digits after that.
 fn after_fraction(text: &str) -> &str
     ensures { chars result.now ≡ after_fraction (chars text.now) }
 {
@@ -90,7 +90,7 @@ fn after_fraction(text: &str) -> &str
     }
 }
 
-/// What follows the `e` or `E` at the front, its sign and its digits.
+/// Returns the part of `text` after the `e` or `E` at its front, its sign and its digits.
 fn after_exponent(text: &str) -> &str
     ensures { chars result.now ≡ after_exponent (chars text.now) }
 {
@@ -104,7 +104,7 @@ fn after_exponent(text: &str) -> &str
     }
 }
 
-/// What follows the sign at the front.
+/// Returns the part of `text` after the sign at its front.
 fn after_sign(text: &str) -> &str
     ensures { chars result.now ≡ after_sign (chars text.now) }
 {
@@ -114,8 +114,8 @@ fn after_sign(text: &str) -> &str
     }
 }
 
-/// What follows the closing quote of a char whose first character stands first. That may be a quote
-/// or a line feed, where a quote follows it.
+/// Returns the part of `text` after the closing quote of a char. Its first character may be a quote
+/// or a line feed, if a quote follows.
 fn after_char(text: &str) -> &str
     ensures { chars result.now ≡ after_char (chars text.now) }
 {
@@ -129,8 +129,8 @@ fn after_char(text: &str) -> &str
     }
 }
 
-/// What follows the first `'` of the line that no backslash escapes, or the line where there is
-/// none.
+/// Returns the part of `text` after the first `'` of the line that no backslash escapes, or after
+/// the line if there is none.
 fn after_single_quote(text: &str) -> &str
     ensures { chars result.now ≡ after_single_quote (chars text.now) }
 {
@@ -153,7 +153,7 @@ fn after_single_quote(text: &str) -> &str
     }
 }
 
-/// What follows the first `"` that no backslash escapes.
+/// Returns the part of `text` after the first `"` that no backslash escapes.
 fn after_quoted(text: &str) -> &str
     ensures { chars result.now ≡ after_quoted (chars text.now) }
 {
@@ -173,7 +173,7 @@ fn after_quoted(text: &str) -> &str
     }
 }
 
-/// What follows the closing of a raw string whose hashes stand first.
+/// Returns the part of `text`, which starts with the hashes of a raw string, after its closing.
 fn after_raw(text: &str) -> &str
     ensures { chars result.now ≡ after_raw (chars text.now) }
 {
@@ -181,7 +181,7 @@ fn after_raw(text: &str) -> &str
     after_closing(after_first(after_hashes(text)), hashes)
 }
 
-/// What follows the first `"` and so many hashes.
+/// Returns the part of `text` after the first `"` with `hashes` hashes.
 fn after_closing(text: &str, hashes: usize) -> &str
     ensures { chars result.now ≡ after_closing hashes (chars text.now) }
 {
@@ -200,7 +200,7 @@ fn after_closing(text: &str, hashes: usize) -> &str
     }
 }
 
-/// What follows the first character.
+/// Returns the part of `text` after its first character.
 fn after_first(text: &str) -> &str
     ensures { chars result.now ≡ drop 1 (chars text.now) }
 {

@@ -1,8 +1,8 @@
 -- The literal that stands there is the one that is parsed, or there is no memory for it.
-use Rattle.std.proofs.Common.{◌≡◌, ℕ, List, ◌-◌, ◌++◌, length, take, drop, sym, ap, subst, ◌∙◌}
+use Rattle.std.proofs.Common.{◌≡◌, ℕ, List, ◌-◌, ◌++◌, length, take, sym, ap, subst, ◌∙◌}
 use Rattle.std.specs.Str.{chars}
 use Rattle.std.proofs.lemmas.List.{take-append-drop}
-use Rattle.litrs_grammar.specs.Literal.{Derivation, IsLiteral}
+use Rattle.litrs_grammar.specs.Literal.{Derivation}
 use Rattle.litrs.specs.LiteralDerivation.{derivation}
 use Rattle.litrs_prefix.specs.Prefix.{HasPrefix}
 use Rattle.litrs_prefix.proofs.Ends.{end_at, not_longer}

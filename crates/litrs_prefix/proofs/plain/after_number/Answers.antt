@@ -1,5 +1,5 @@
 -- The digits are an integer, where no name and no period follows.
-use Rattle.std.proofs.Common.{◌≡◌, ℕ, List, false, sym, ap, ◌∙◌}
+use Rattle.std.proofs.Common.{◌≡◌, false, sym, ap, ◌∙◌}
 use Rattle.std.specs.Str.{chars}
 use Rattle.litrs_base.specs.Text.{first_passes}
 use Rattle.litrs_grammar.specs.Float.{is_period}

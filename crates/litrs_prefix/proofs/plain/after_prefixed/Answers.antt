@@ -1,5 +1,4 @@
 -- What follows the first character is an end of the text.
-use Rattle.std.proofs.Common.{ℕ, ◌∷◌, sym, ap, ◌∙◌}
 use Rattle.litrs_prefix.proofs.Ends.{after_first}
 use Rattle.litrs_prefix.proofs.plain.after_prefixed.Goals as goal
 

@@ -1,5 +1,5 @@
 -- The front, the items of a body, a quote.
-use Rattle.std.proofs.Common.{◌≡◌, ℕ, List, ◌∷◌, refl, ap, ◌∙◌}
+use Rattle.std.proofs.Common.{◌≡◌, ℕ, ◌∷◌, refl, ap, ◌∙◌}
 use Rattle.std.specs.Str.{chars}
 use Rattle.litrs_prefix.proofs.Ends.{after_first, after_bytes, end_of_end}
 use Rattle.litrs_prefix.proofs.PlainLiterals.{before_of, quoted_ends}
