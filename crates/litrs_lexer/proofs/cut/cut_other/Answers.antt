@@ -10,6 +10,6 @@ pub cut_rare-kind-requires-clause-unknown : goal.cut_rare-kind-requires-clause-u
 cut_rare-kind-requires-clause-unknown c = λ none.
     unknown c.args.c c.requires.white none (sym c.is_ascii_digit.ensures.value ∙ c.if-is_ascii_digit.false) (ne_eqb c.args.c 34 c.if-c-eq34.false) (ne_eqb c.args.c 39 c.if-c-eq39.false) c.requires.punctuation
 
-pub cut_number-kind-requires : goal.cut_number-kind-requires
-cut_number-kind-requires c =
+pub cut_literal-kind-requires : goal.cut_literal-kind-requires
+cut_literal-kind-requires c =
     ap opens_quoted c.requires.first.is ∙ digit_opens c.args.c (chars c.args.after.now) (sym c.is_ascii_digit.ensures.value ∙ c.if-is_ascii_digit.true)
