@@ -1,12 +1,14 @@
 -- Which settings a line has, and what is wrong with the rest of it.
-use Rattle.std.specs.Prelude.{◌≡◌, ◌≢◌, ◌⊎◌, ℕ, pos, Bool, not, ◌==◌, ◌&&◌, List, [], ◌∷◌, ◌++◌, Some, take, take_while, codes, string_bytes, IsFalse}
-use Rattle.std.specs.Char.{is_not_whitespace}
+use Rattle.std.specs.Prelude.{◌≡◌, ◌≢◌, ◌⊎◌, ℕ, pos, Bool, List, [], ◌∷◌, ◌++◌, length, Option, Some, None, take, codes, string_bytes, IsTrue, IsFalse}
 use Rattle.std.specs.Float.{binary64}
-use Rattle.std.specs.Str.{chars, NoCharPasses, IsTrimStart, IsTrimEnd}
-use Rattle.litrs.specs.CharEnd.{IsCutBy}
+use Rattle.std.specs.Str.{chars}
 use Rattle.litrs.specs.Literal.{Derivation}
 use Rattle.litrs.specs.declared.FloatType.TheVariants.{F64}
 use Rattle.litrs.specs.declared.IntegerType.TheVariants.{U16, I64}
+use Rattle.litrs_lexer.specs.Token.{is_trivia}
+use Rattle.litrs_lexer.specs.Tokens.{IsFirstToken}
+use Rattle.litrs_lexer.specs.declared.kind.TokenKind.TheVariants.{UnterminatedBlockComment}
+use Rattle.litrs_lexer.specs.declared.token.Token.{Token}
 use Rattle.litrs_prefix.specs.Ends.{IsEndOf}
 use Rattle.litrs_prefix.specs.Opens.{opens}
 use Rattle.litrs_prefix.specs.Prefix.{HasPrefix}
@@ -14,123 +16,127 @@ use Rattle.litrs_value.specs.Prefixes.{IsPrefixError}
 use Rattle.litrs_value.specs.Reads.{is_negative, unsigned, marked}
 use Rattle.litrs_value.specs.Refuses.{HasValueOf}
 use Rattle.litrs_value.specs.Values.{number_of, float_of, flag_of, string_of}
-use Rattle.litrs_value.specs.declared.error.ValueError.TheVariants.{Memory}
 use Rattle.litrs_value.specs.declared.prefix.PrefixError.{PrefixError}
 use Rattle.litrs_value.specs.declared.value_type.ValueType.{ValueType}
 use Rattle.litrs_value.specs.declared.value_type.ValueType.TheVariants.{Bool as bool_type, Integer as integer_type, Float as float_type, String as string_type}
-use Rattle.uses_attributes.specs.declared.setting.Key.{Key}
-use Rattle.uses_attributes.specs.declared.setting.Key.TheVariants.{Max as max_key, Offset as offset_key, Ratio as ratio_key, Rename as rename_key, Skip as skip_key}
 use Rattle.uses_attributes.specs.declared.setting.Setting.{Setting}
 use Rattle.uses_attributes.specs.declared.setting.Setting.TheVariants.{Max, Offset, Ratio, Rename, Skip}
-use Rattle.uses_attributes.specs.declared.setting.Problem.{Problem}
-use Rattle.uses_attributes.specs.declared.setting.Problem.TheVariants.{NoEquals, UnknownName, NoValue, Value, NoComma}
-use Rattle.uses_attributes.specs.declared.setting.Fault.{Fault}
+use Rattle.uses_attributes.specs.declared.word.Problem.{Problem}
+use Rattle.uses_attributes.specs.declared.word.Problem.TheVariants.{Expected, OpenComment, Value}
+use Rattle.uses_attributes.specs.declared.word.Fault.{Fault}
+use Rattle.uses_attributes.specs.declared.word.Word.{Word}
 
--- the name of a key
-abbrev pub key_text : Key → List ℕ
-key_text max_key = codes "max"
-key_text offset_key = codes "offset"
-key_text ratio_key = codes "ratio"
-key_text rename_key = codes "rename"
-key_text skip_key = codes "skip"
+-- The word is the first token of the text that is neither white space nor a closed comment, or `""`
+-- at the end of the text.
+pub data IsWord (word : Word) : (text : List ℕ) → Type 0 where
+  skipped : (source text rest : List ℕ) (token : Token) → IsFirstToken source text token rest →
+      IsTrue (is_trivia token.kind) → token.kind ≢ UnterminatedBlockComment →
+      IsWord word rest → IsWord word text
+  is_token : (source text : List ℕ) (token : Token) →
+      IsFirstToken source text token word.rest.now →
+      (IsTrue (is_trivia token.kind) → token.kind ≡ UnterminatedBlockComment) →
+      word.at.now ≡ text → word.text.now ≡ token.text.now → IsWord word text
+  at_end : (text : List ℕ) → text ≡ [] → word.at.now ≡ [] → word.text.now ≡ [] → IsWord word text
 
--- the type of its values
-abbrev pub key_type : Key → ValueType
-key_type max_key = integer_type U16
-key_type offset_key = integer_type I64
-key_type ratio_key = float_type F64
-key_type rename_key = string_type
-key_type skip_key = bool_type
+-- the problem with a word that is not what is expected
+abbrev pub IsProblem : Problem → (expected text : List ℕ) → Type 0
+IsProblem OpenComment expected text = (body : List ℕ) × (text ≡ codes "/*" ++ body)
+IsProblem (Expected what) expected text =
+    (what.now ≡ expected) × ((body : List ℕ) → text ≢ codes "/*" ++ body)
+IsProblem (Value e) expected text = ⊥
 
--- no key has this name
-abbrev pub NamesNoKey : List ℕ → Type 0
-NamesNoKey name = (key : Key) → key_text key ≢ name
+-- The word at this place is not what is expected: it is a comment that is not closed, or something
+-- else. All of it is marked.
+abbrev pub IsUnexpected : (expected at text : List ℕ) → Fault → Type 0
+IsUnexpected expected at text fault = IsProblem fault.problem expected text × (fault.at.now ≡ at)
+    × (fault.span ≡ record { start = 0; end = length text })
 
--- the key of a setting
-abbrev pub key_of : Setting → Key
-key_of (Max n) = max_key
-key_of (Offset n) = offset_key
-key_of (Ratio x) = ratio_key
-key_of (Rename text) = rename_key
-key_of (Skip b) = skip_key
+-- the settings of this name have values of this type
+pub data IsNamed (name : List ℕ) (type : ValueType) : Type 0 where
+  is_max : name ≡ codes "max" → type ≡ integer_type U16 → IsNamed name type
+  is_offset : name ≡ codes "offset" → type ≡ integer_type I64 → IsNamed name type
+  is_ratio : name ≡ codes "ratio" → type ≡ float_type F64 → IsNamed name type
+  is_rename : name ≡ codes "rename" → type ≡ string_type → IsNamed name type
+  is_skip : name ≡ codes "skip" → type ≡ bool_type → IsNamed name type
 
--- the value of the setting is that of the literal
-abbrev pub HasValue : Setting → (negative : Bool) → Derivation → Type 0
-HasValue (Max n) negative d = number_of negative d ≡ Some (pos n)
-HasValue (Offset n) negative d = number_of negative d ≡ Some n
-HasValue (Ratio x) negative d = float_of binary64 negative d ≡ Some x
-HasValue (Rename text) negative d = string_of d ≡ Some (string_bytes text)
-HasValue (Skip b) negative d = flag_of d ≡ Some b
+-- the text starts with `=`, before this word
+abbrev pub HasEquals : (text : List ℕ) → (first : Word) → Type 0
+HasEquals text first = (equals : Word) × IsWord equals text × (equals.text.now ≡ codes "=")
+    × IsWord first equals.rest.now
 
--- The text starts with a literal, or with a minus sign and a number, which the type has a value
--- for. The value is as `IsValue` says, and this rest follows.
-abbrev pub IsTyped : ValueType → (Bool → Derivation → Type 0) → (text rest : List ℕ) → Type 0
-IsTyped type IsValue text rest = (d : Derivation) × HasPrefix (chars (unsigned text)) d (chars rest)
-    × HasValueOf type (is_negative text) d × IsValue (is_negative text) d
+-- After `=` the text has this literal, or a minus sign and this number, before the rest. The type
+-- has a value for it.
+pub record HasLiteral (type : ValueType) (text : List ℕ) (negative : Bool) (d : Derivation)
+    (rest : List ℕ) : Type 0 where
+  pub first : Word
+  pub equals : HasEquals text first
+  pub end : IsEndOf first.at.now rest
+  pub sign : is_negative first.at.now ≡ negative
+  pub literal : HasPrefix (chars (unsigned first.at.now)) d (chars rest)
+  pub value : HasValueOf type negative d
 
--- the text starts with the value of the setting
-abbrev pub StartsWithValue : (text : List ℕ) → Setting → (rest : List ℕ) → Type 0
-StartsWithValue text setting rest = IsTyped (key_type (key_of setting)) (HasValue setting) text rest
-
--- neither `=` nor a comma
-abbrev pub is_of_name : ℕ → Bool
-is_of_name c = not (c == 61) && not (c == 44)
-
--- the text before the first `=` or comma
-abbrev pub name_part : List ℕ → List ℕ
-name_part text = take_while is_of_name text
-
--- the text starts with the name of the key, perhaps whitespace, and `=`, and this rest follows
-abbrev pub HasKey : (text : List ℕ) → Key → (rest : List ℕ) → Type 0
-HasKey text key rest = IsTrimEnd (name_part text) (key_text key)
-    × (name_part text ++ 61 ∷ rest ≡ text)
-
--- the text starts with the key and `=`, and this follows the whitespace after it
-abbrev pub HasValueText : (text : List ℕ) → Key → (value : List ℕ) → Type 0
-HasValueText text key value = (equals : List ℕ) × HasKey text key equals × IsTrimStart equals value
-
--- Whitespace is first, and after it a comma and this rest; or nothing, and the rest is empty.
-abbrev pub EndsValue : (after rest : List ℕ) → Type 0
-EndsValue after rest = (blanks : List ℕ) × NoCharPasses is_not_whitespace blanks
-    × ((blanks ++ 44 ∷ rest ≡ after) ⊎ ((blanks ≡ after) × (rest ≡ [])))
-
--- The text starts with the setting: its key, `=` and its value, with whitespace between them. This
--- is the rest after its comma, or nothing at the end of the line.
-pub record BeginsWith (text : List ℕ) (setting : Setting) (rest : List ℕ) : Type 0 where
-  pub value : List ℕ
+-- The text starts with `=`, a literal that the type has a value for, and a comma, before this rest;
+-- or it ends after the literal. The value is as `IsValue` says.
+pub record IsTyped (type : ValueType) (IsValue : Bool → Derivation → Type 0)
+    (text rest : List ℕ) : Type 0 where
+  pub negative : Bool
+  pub d : Derivation
   pub after : List ℕ
-  pub key : HasValueText text (key_of setting) value
-  pub starts : StartsWithValue value setting after
-  pub ends : EndsValue after rest
+  pub comma : Word
+  pub literal : HasLiteral type text negative d after
+  pub value : IsValue negative d
+  pub is_comma : IsWord comma after
+  pub ends : (comma.text.now ≡ codes ",") ⊎ (comma.text.now ≡ [])
+  pub left : comma.rest.now ≡ rest
 
--- the text is these settings, each after whitespace, and whitespace and this rest
-abbrev pub LeavesAfter : (text : List ℕ) → List Setting → (rest : List ℕ) → Type 0
-LeavesAfter text [] rest = IsTrimStart text rest
-LeavesAfter text (setting ∷ settings) rest = (first next : List ℕ)
-    × IsTrimStart text first × BeginsWith first setting next × LeavesAfter next settings rest
+-- the word is the name of the setting, whose value follows, before this rest
+abbrev pub BeginsWith : (name : Word) → Setting → (rest : List ℕ) → Type 0
+BeginsWith name (Max n) rest = (name.text.now ≡ codes "max")
+    × IsTyped (integer_type U16) (λ negative d. number_of negative d ≡ Some (pos n))
+    name.rest.now rest
+BeginsWith name (Offset n) rest = (name.text.now ≡ codes "offset")
+    × IsTyped (integer_type I64) (λ negative d. number_of negative d ≡ Some n) name.rest.now rest
+BeginsWith name (Ratio x) rest = (name.text.now ≡ codes "ratio")
+    × IsTyped (float_type F64) (λ negative d. float_of binary64 negative d ≡ Some x)
+    name.rest.now rest
+BeginsWith name (Rename text) rest = (name.text.now ≡ codes "rename")
+    × IsTyped string_type (λ _ d. string_of d ≡ Some (string_bytes text)) name.rest.now rest
+BeginsWith name (Skip b) rest = (name.text.now ≡ codes "skip")
+    × IsTyped bool_type (λ _ d. flag_of d ≡ Some b) name.rest.now rest
 
--- Why the text does not start with a setting: the first of these that applies. The problem is at
--- the end `fault.rest` of the text.
-pub data IsFaultOf (text : List ℕ) (fault : Fault) : Type 0 where
-  no_equals : fault.problem ≡ NoEquals → name_part text ++ fault.rest.now ≡ text →
-      ((more : List ℕ) → fault.rest.now ≢ 61 ∷ more) → IsFaultOf text fault
-  unknown_name : (name rest : List ℕ) → fault.problem ≡ UnknownName →
-      IsTrimEnd (name_part text) name → NamesNoKey name → name_part text ++ 61 ∷ rest ≡ text →
-      fault.rest.now ≡ text → IsFaultOf text fault
-  no_value : (key : Key) → fault.problem ≡ NoValue → HasValueText text key fault.rest.now →
-      IsFalse (opens (chars (unsigned fault.rest.now))) → IsFaultOf text fault
-  no_such_value : (key : Key) (e : PrefixError) → fault.problem ≡ Value e.error →
-      HasValueText text key fault.rest.now → IsPrefixError (key_type key) fault.rest.now e →
-      fault.span ≡ marked (chars (take e.len fault.rest.now)) e.error → IsFaultOf text fault
-  no_comma : (setting : Setting) (value after : List ℕ) → fault.problem ≡ NoComma →
-      HasValueText text (key_of setting) value → StartsWithValue value setting after →
-      IsTrimStart after fault.rest.now → fault.rest.now ≢ [] →
-      ((more : List ℕ) → fault.rest.now ≢ 44 ∷ more) → IsFaultOf text fault
+-- the text is these settings, before this word
+abbrev pub LeavesAfter : (text : List ℕ) → List Setting → Word → Type 0
+LeavesAfter text [] last = IsWord last text
+LeavesAfter text (setting ∷ settings) last = (name : Word) × (rest : List ℕ)
+    × IsWord name text × BeginsWith name setting rest × LeavesAfter rest settings last
 
--- the problem is at an end of the text, which may be cut at both ends of the part to mark
-abbrev pub IsFaultIn : (text : List ℕ) → Fault → Type 0
-IsFaultIn text fault = IsEndOf text fault.rest.now × IsCutBy fault.rest.now fault.span
+-- Why the text is not `=`, a value of the type and a comma: the first of these that applies.
+pub data IsValueFault (type : ValueType) (text : List ℕ) (fault : Fault) : Type 0 where
+  no_equals : (word : Word) → IsWord word text → word.text.now ≢ codes "=" →
+      IsUnexpected (codes "`=`") word.at.now word.text.now fault → IsValueFault type text fault
+  no_value : (first : Word) → HasEquals text first →
+      IsFalse (opens (chars (unsigned first.at.now))) →
+      IsUnexpected (codes "a value") first.at.now first.text.now fault →
+      IsValueFault type text fault
+  no_such_value : (first : Word) (e : PrefixError) → HasEquals text first →
+      IsPrefixError type first.at.now e → fault.problem ≡ Value e.error →
+      fault.at.now ≡ first.at.now →
+      fault.span ≡ marked (chars (take e.len first.at.now)) e.error → IsValueFault type text fault
+  no_comma : (negative : Bool) (d : Derivation) (after : List ℕ) (word : Word) →
+      HasLiteral type text negative d after → IsWord word after →
+      word.text.now ≢ codes "," → word.text.now ≢ [] →
+      IsUnexpected (codes "a comma") word.at.now word.text.now fault → IsValueFault type text fault
 
--- an allocation failed for a value
-abbrev pub IsOfMemory : Problem → Type 0
-IsOfMemory problem = problem ≡ Value Memory
+-- Why a word does not begin a setting: no setting has the name, or what follows is not its value.
+pub data IsFaultOf (name : Word) (fault : Fault) : Type 0 where
+  not_named : ((type : ValueType) → ¬ IsNamed name.text.now type) →
+      IsUnexpected (codes "`max`, `offset`, `ratio`, `rename` or `skip`") name.at.now
+      name.text.now fault →
+      IsFaultOf name fault
+  of_value : (type : ValueType) → IsNamed name.text.now type →
+      IsValueFault type name.rest.now fault → IsFaultOf name fault
+
+-- the settings end at this word: at the end of the line, or with what is wrong there
+abbrev pub EndsAt : Option Fault → Word → Type 0
+EndsAt None word = word.text.now ≡ []
+EndsAt (Some fault) word = IsFaultOf word fault

@@ -3,27 +3,24 @@
 //! is wrong with the first part of a line that is not a setting, marked in the line.
 #![tactic(auto)]
 
-ghost use Rattle.uses_attributes.specs.Settings.{IsFaultIn};
-
-mod describe;
 mod setting;
+mod word;
 
-use describe::{describe, show};
-use setting::read_settings;
+use setting::{describe, read_settings};
 use std::alloc::{AllocError, Global};
 use std::io;
+use word::show;
 
 /// Returns what is written on the line with this number.
 fn report(alloc: Global, line: &str, number: u32) -> Result<String, AllocError> {
-    let settings = read_settings(alloc, line)?;
+    let (settings, fault) = read_settings(alloc, line)?;
     let mut out = String::new(alloc);
-    for setting in &settings.found {
+    for setting in &settings {
         let described = describe(alloc, setting)?;
         write!(out, "{number}: {described}\n")?;
     }
-    if let Some(fault) = &settings.fault {
-        let shown = show(alloc, line, number, fault)?;
-        out.push_str(shown.as_str())?;
+    if let Some(fault) = &fault {
+        out.push_str(show(alloc, line, number, fault)?.as_str())?;
     }
     Ok(out)
 }

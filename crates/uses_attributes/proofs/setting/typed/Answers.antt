@@ -1,34 +1,62 @@
--- The fault is that of the value.
-use Rattle.std.proofs.Common.{ℕ, List, take, sym, ap, subst, ◌∙◌, rules}
-use Rattle.std.specs.Prelude.{IsFalse}
+-- Each word is where the one before it ends.
+use Rattle.std.proofs.Common.{◌≡◌, ◌≢◌, [], ◌∷◌, refl, rules}
+use Rattle.std.specs.Prelude.{IsFalse, codes}
+use Rattle.litrs_value.specs.Reads.{is_negative}
 use Rattle.std.specs.Str.{chars}
+use Rattle.std.proofs.lemmas.Option.{MatchOption-at_some}
 use Rattle.litrs_prefix.specs.Opens.{opens}
-use Rattle.litrs_value.specs.Prefixes.{IsPrefixError}
-use Rattle.litrs_value.specs.Reads.{unsigned, marked}
-use Rattle.litrs_value.specs.declared.value_type.ValueType.{ValueType}
-use Rattle.uses_attributes.specs.Settings.{HasValueText, key_type, no_value, no_such_value}
-use Rattle.uses_attributes.proofs.Places.{value_end}
+use Rattle.litrs_value.specs.Reads.{unsigned}
+use Rattle.uses_attributes.specs.Settings.{HasEquals, HasLiteral, no_equals, no_value, no_such_value, no_comma}
 use Rattle.uses_attributes.proofs.setting.typed.Goals as goal
+
+pub returns-then-ne-clause-fault : goal.returns-then-ne-clause-fault
+returns-then-ne-clause-fault g c =
+    let other : c.first-equals.result.text.now ≢ codes "=" = search rules in
+    no_equals c.first-equals.result c.first-equals.ensures other c.unexpected.ensures
 
 pub returns-in-Ok-None-clause-fault : goal.returns-in-Ok-None-clause-fault
 returns-in-Ok-None-clause-fault g c =
-    let value = c.args.value.now in
-    let none : IsFalse (opens (chars (unsigned value))) = search rules in
-    no_value c.args.key c.new.ensures.problem (subst (λ (l : List ℕ). HasValueText c.args.text.now c.args.key l) (sym c.new.ensures.rest) c.requires.value)
-    (subst (λ (l : List ℕ). IsFalse (opens (chars (unsigned l)))) (sym c.new.ensures.rest) none)
-
-pub returns-in-Ok-None-clause-place : goal.returns-in-Ok-None-clause-place
-returns-in-Ok-None-clause-place g c = c.new.ensures.place c.args.text.now (value_end c.args.text.now c.args.key c.args.value.now c.requires.value)
+    let first = c.first-first.result in
+    let mark : c.first-equals.result.text.now ≡ codes "=" = search rules in
+    let equals : HasEquals c.args.text.now first = (c.first-equals.result, c.first-equals.ensures, mark, c.first-first.ensures) in
+    let none : IsFalse (opens (chars (unsigned first.at.now))) = search rules in
+    no_value first equals none c.unexpected-in-Ok-None.ensures
 
 pub returns-in-Err-clause-fault : goal.returns-in-Err-clause-fault
 returns-in-Err-clause-fault g c =
-    let value = c.args.value.now in
-    let error = c.in-Err.error in
-    let at = c.value_fault.ensures.rest in
-    let refused = subst (λ (type : ValueType). IsPrefixError type value error) (sym c.requires.same_type) c.in-Err.ensures.refused in
-    no_such_value c.args.key error c.value_fault.ensures.problem (subst (λ (l : List ℕ). HasValueText c.args.text.now c.args.key l) (sym at) c.requires.value)
-    (subst (λ (l : List ℕ). IsPrefixError (key_type c.args.key) l error) (sym at) refused)
-    (c.value_fault.ensures.span ∙ ap (λ (l : List ℕ). marked (chars (take error.len l)) error.error) (sym at))
+    let first = c.first-first.result in
+    let mark : c.first-equals.result.text.now ≡ codes "=" = search rules in
+    let equals : HasEquals c.args.text.now first = (c.first-equals.result, c.first-equals.ensures, mark, c.first-first.ensures) in
+    no_such_value first c.in-Err.error equals c.in-Err.ensures.refused refl refl c.marked_span-span.ensures
 
-pub returns-in-Err-clause-place : goal.returns-in-Err-clause-place
-returns-in-Err-clause-place g c = c.value_fault.ensures.place c.args.text.now (value_end c.args.text.now c.args.key c.args.value.now c.requires.value)
+pub returns-in_default-clause-fault : goal.returns-in_default-clause-fault
+returns-in_default-clause-fault g c =
+    let first = c.first-first.result in
+    let word = c.first-comma.result in
+    let mark : c.first-equals.result.text.now ≡ codes "=" = search rules in
+    let equals : HasEquals c.args.text.now first = (c.first-equals.result, c.first-equals.ensures, mark, c.first-first.ensures) in
+    let found = MatchOption-at_some _ _ _ c.in-Ok-Some.field-0-is c.in-Ok-Some.ensures.value in
+    let end = MatchOption-at_some _ _ _ c.in-Ok-Some.field-0-is c.in-Ok-Some.ensures.rest in
+    let literal : HasLiteral g.T.FromLiteral.value_type c.args.text.now (is_negative first.at.now) found.0 c.in-Ok-Some.rest.now =
+    record { first = first; equals = equals; end = end; sign = refl; literal = found.1; value = found.2 } in
+    let other : word.text.now ≢ codes "," = search rules in
+    let some : word.text.now ≢ [] = search rules in
+    no_comma (is_negative first.at.now) found.0 c.in-Ok-Some.rest.now word literal c.first-comma.ensures other some c.unexpected-in_default.ensures
+
+pub returns-in-text-clause-value : goal.returns-in-text-clause-value
+returns-in-text-clause-value g c =
+    let first = c.first-first.result in
+    let mark : c.first-equals.result.text.now ≡ codes "=" = search rules in
+    let equals : HasEquals c.args.text.now first = (c.first-equals.result, c.first-equals.ensures, mark, c.first-first.ensures) in
+    let found = MatchOption-at_some _ _ _ c.in-Ok-Some.field-0-is c.in-Ok-Some.ensures.value in
+    let end = MatchOption-at_some _ _ _ c.in-Ok-Some.field-0-is c.in-Ok-Some.ensures.rest in record {
+      negative = is_negative first.at.now;
+      d = found.0;
+      after = c.in-Ok-Some.rest.now;
+      comma = c.first-comma.result;
+      literal = record { first = first; equals = equals; end = end; sign = refl; literal = found.1; value = found.2 };
+      value = found.3;
+      is_comma = c.first-comma.ensures;
+      ends = c.in-text.is;
+      left = refl;
+    }
