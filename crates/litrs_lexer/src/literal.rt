@@ -4,12 +4,42 @@ ghost use Rattle.std.specs.Str.{chars, IsCharBoundary, IsUtf8};
 ghost use Rattle.litrs_grammar.specs.Literal.{Derivation, IsLiteral};
 ghost use Rattle.litrs_prefix.specs.Meant.{IsMeant};
 ghost use Rattle.litrs_prefix.specs.Opens.{opens};
-ghost use Rattle.litrs_prefix.specs.Prefix.{HasNoPrefix};
+ghost use Rattle.litrs_prefix.specs.Prefix.{HasNoPrefix, may_follow};
 ghost use Rattle.litrs_lexer.specs.Cut.{IsCut};
 ghost use Rattle.litrs_lexer.specs.Literal.{opens_quoted};
 
 use crate::kind::TokenKind;
-use litrs_prefix::{after_opened, next_boundary, opened_len, prefix_len};
+use litrs::{IntegerLit, Literal};
+use litrs_lex::{Run, run_end};
+use litrs_prefix::{after_opened, may_follow, next_boundary, opened_len, prefix_len};
+
+/// Like [`cut_literal`], for a text that starts with a digit and a letter, as `0x1F`. Most are
+/// integers of ASCII, and are read once.
+#[inline(never)]
+pub fn cut_number(text: &str) -> (TokenKind, &str)
+    requires { IsTrue (opens_quoted (chars text.now)) }
+    ensures cut { IsCut text.now result.0 result.1.now }
+    ensures utf8 { IsUtf8 result.1.now }
+{
+    let (front, rest) = text.split_at(run_end(text.as_bytes(), Run::Identifier));
+    if is_integer_before(front, rest) {
+        (TokenKind::Literal, rest)
+    } else {
+        let (kind, rest) = cut_literal(text);
+        (kind, rest)
+    }
+}
+
+/// Returns `true` if `front` is an integer that `rest` may follow.
+fn is_integer_before(front: &str, rest: &str) -> bool
+    ensures { IsTrue result → (d : Derivation)
+        × IsLiteral (chars front.now) d × IsTrue (may_follow d (chars rest.now)) }
+{
+    match IntegerLit::parse(front) {
+        Ok(lit) => may_follow(&Literal::Integer(lit), rest),
+        Err(_) => false,
+    }
+}
 
 /// Cuts the literal, valid or malformed, from the front of `text`.
 #[inline(never)]

@@ -18,6 +18,7 @@ pub fn begins_name(c: char) -> bool
 }
 
 /// Returns the first character of `text` and the text after it, or `None` if `text` is empty.
+#[inline(always)]
 pub fn split_first_char(text: &str) -> Option<(char, &str)>
     ensures empty { IfNone result (chars text.now ≡ []) }
     ensures parts { IfSome result (λ parts. chars text.now ≡ parts.0 ∷ chars parts.1.now) }
