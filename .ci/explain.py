@@ -412,6 +412,35 @@ class Tests:
         bad = self.objects(given=b"\xef\xbb\xbf1\xff2\n", status=1)[0]
         self.hold([bad["column"], bad["start"], bad["end"]] == [2, 4, 5], f"{bad}")
 
+    def try_shebang(self, folder):
+        """A shebang is skipped in Rust source alone, and what follows it keeps its place."""
+        for shebang in ("#!/usr/bin/env -S run 1 'a'\n", "#! é \" /* 2\r\n", "#!\n"):
+            for mark in ("", "\ufeff"):
+                found = self.objects("--prefix", given=mark + shebang + ' "x"\n', status=0)
+                keys = ("text", "line", "column", "start")
+                places = [[it.get(key) for key in keys] for it in found]
+                start = len((mark + shebang).encode()) + 1
+                self.hold(places == [['"x"', 2, 2, start]], f"{mark!r} {shebang!r}: {places}")
+        runs = [
+            ("rust", '#![doc = "a"] 1\n', ['"a"', "1"]),
+            ("rust", '#! /* b */ [doc = "a"] 1\n', ['"a"', "1"]),
+            ("rust", "#! /// a\n1\n", ["1"]),
+            ("rust", "1\n#!/bin/run 2\n", ["1", "2"]),
+            ("rust", " #!/bin/run 2\n", ["2"]),
+            ("rust", "#!/bin/run 1", []),
+            ("none", "#!/bin/run 1\n2\n", ["1", "2"]),
+            ("hash", '#!/bin/run 1\n"2"\n', ['"2"']),
+        ]
+        for comments, text, wanted in runs:
+            found = self.found("--comments", comments, given=text, is_wrong=False)
+            self.hold(found == wanted, f"{comments} {text!r}: {found}")
+        (folder / "a.rs").write_bytes(b"#!/bin/run 1\n2\n")
+        found = self.objects("--prefix", "a.rs", "a.rs", given="", status=0, cwd=folder)
+        self.hold([it.get("text") for it in found] == ["2", "2"], f"two files: {found}")
+        self.hold(self.run("-e", "#!/bin/run")[2] == 1, "no shebang where lines are literals")
+        (it,) = self.objects("--prefix", given=b"#!/bin/run \xff 1\n", status=1)
+        self.hold(it["error"] == "NotUtf8", f"a shebang that is not UTF-8: {it}")
+
     def try_not_utf8(self, folder):
         """An argument that is not UTF-8 is named, and the others are explained."""
         (folder / "b.txt").write_bytes(b"true\r\n")
@@ -423,7 +452,14 @@ class Tests:
         out, said, status = self.run(b"-e", b"\xff", b"-e", b"1")
         self.hold(out.startswith(b"<text>:1:1: integer") and status == 2, f"{out} {status}")
         self.hold(said == b"litrs_explain: \\xff: the argument is not UTF-8\n", said)
-        self.hold(self.run(b"--color=\xff", b"b.txt", cwd=folder)[2] == 2, "a wrong value")
+        for word in (b"--\xff", b"-\xff", b"--a\xff=1", b"--color=\xff", b"--color=\xff\xfe"):
+            name = word.replace(b"\xff", rb"\xff").replace(b"\xfe", rb"\xfe")
+            wanted = b"litrs_explain: " + name + b": the argument is not UTF-8\n"
+            for words in ([word], [word, b"b.txt"], [b"-e", b"1", word, b"--absent"]):
+                ended = self.run(*words, cwd=folder)
+                self.hold(ended == (b"", wanted, 2), f"{words}: {ended}")
+        out, said, status = self.run(b"--absent", b"\xff")
+        self.hold((out, status) == (b"", 2) and b"'--absent'" in said, f"{out} {said} {status}")
         long = b"9" * 100_000
         self.hold(self.run(b"-e", long)[0].count(long) == 1, "a long argument")
 
@@ -621,6 +657,7 @@ def main():
             tests.try_files(folder)
             tests.try_hints(folder)
             tests.try_skipped()
+            tests.try_shebang(folder)
             tests.try_not_utf8(folder)
             tests.try_streams(folder)
             tests.try_closed()

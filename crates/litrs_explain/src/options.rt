@@ -1,5 +1,6 @@
 //! The command line.
-ghost use Rattle.std.specs.Prelude.{◌≡◌, ◌&&◌, not, true, false};
+ghost use Rattle.std.specs.Prelude.{◌≡◌, ◌↔◌, ◌&&◌, not, true, false, IsTrue};
+ghost use Rattle.litrs_explain.specs.declared.find.Comments.TheVariants.{Rust};
 ghost use Rattle.litrs_explain.specs.declared.options.ColorChoice.TheVariants.{Auto, Always, Never};
 
 use crate::find::Comments;
@@ -29,6 +30,15 @@ pub(crate) struct Options {
     pub(crate) json: bool,
     /// Set if reports are colored.
     pub(crate) color: bool,
+}
+
+impl Options {
+    /// Returns `true` if a shebang is skipped, as in Rust source.
+    pub(crate) fn skips_shebang(self) -> bool
+        ensures { IsTrue result ↔ IsTrue self.prefix × (self.comments ≡ Rust) }
+    {
+        self.prefix && self.comments == Comments::Rust
+    }
 }
 
 /// When reports are colored.

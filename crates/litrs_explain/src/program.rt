@@ -7,16 +7,17 @@ use crate::explainer::Explainer;
 use crate::options::{Options, Terminal, command, options_of};
 use crate::output::Output;
 use litrs::Literal;
+use litrs_lexer::strip_shebang;
 use std::alloc::AllocError;
 use std::env::VarError;
 use std::fs::File;
 use std::io::{BufRead, BufReader, ErrorKind, Read};
-use std::{env, fmt};
+use std::{env, fmt, str};
 
-/// The help for a literal that is not a file.
+/// The hint if the name of a missing file is a literal.
 const TEXT_HELP: &str = "help: the argument is a literal: -e explains it";
 
-/// The help for a text that is not a list of literals.
+/// The hint after a text that is not a list of literals.
 const PREFIX_HELP: &str = "help: --prefix finds the literals within lines";
 
 /// Returns the status of a run: 2 if an input was not read to its end, else 1 if there was an
@@ -63,20 +64,37 @@ fn run_arguments(rt: &HostRuntime, is_terminal: bool) -> Result<u8, Error> {
             let ended = run.explain_all(texts, files);
             run.finish(ended)
         }
-        Err(error) => answer(rt, error),
+        Err(error) => answer(rt, &words, error),
     }
 }
 
-/// Prints the help or the version, or what is wrong with the arguments.
-fn answer(rt: &HostRuntime, error: &clap::Error) -> Result<u8, Error> {
-    let printed = error.print(rt);
+/// Prints the help or the version, or what is wrong with the arguments `words`.
+fn answer(rt: &HostRuntime, words: &[String], error: &clap::Error) -> Result<u8, Error> {
     if error.exit_code() != 0 {
+        tell_mistake(rt, words, error)?;
         return Ok(2);
     }
-    match printed {
+    match error.print(rt) {
         Err(error) if error.kind() != ErrorKind::BrokenPipe => Err(Error::Output(error)),
         _ => Ok(0),
     }
+}
+
+/// Tells the user what is wrong with the arguments. If the message would quote bytes that are not
+/// UTF-8, names the first argument that has such bytes.
+fn tell_mistake(rt: &HostRuntime, words: &[String], error: &clap::Error) -> Result<(), Error> {
+    let message = format!(in rt.alloc(); "{error}")?;
+    match words.iter().find(|word| !is_utf8(word.as_str())) {
+        Some(word) if !is_utf8(message.as_str()) => {
+            let name = shown(rt.alloc(), word.as_str())?;
+            let error = Error::NotUtf8;
+            tell(rt, format_args!("{name}: {error}"));
+        }
+        _ => {
+            let _ = error.print(rt);
+        }
+    }
+    Ok(())
 }
 
 /// Returns `true` if the environment asks for no colors: `NO_COLOR` is set and not empty, or the
@@ -223,11 +241,14 @@ impl<'a> Run<'a> {
     fn explain_lines<F: Read + Drop>(&mut self, input: F) -> Result<(), Error> {
         let mut reader = BufReader::new(self.rt.alloc(), input).map_err(Error::Input)?;
         let mut line = Vec::new(self.rt.alloc());
-        for _ in 0..u64::MAX {
+        for number in 0..u64::MAX {
             line.clear();
             reader.read_until(b'\n', &mut line).map_err(Error::Input)?;
             if line.is_empty() {
                 break;
+            }
+            if number == 0 && self.explainer.reports.options.skips_shebang() {
+                blank_shebang(&mut line);
             }
             self.explainer.feed(&line)?;
             if !line.ends_with(b"\n") {
@@ -261,6 +282,20 @@ impl<'a> Run<'a> {
             tell(&self.rt, PREFIX_HELP);
         }
         Ok(())
+    }
+}
+
+/// Replaces a shebang, the first line of a file, by as many blanks, which moves nothing after it.
+fn blank_shebang(line: &mut [u8]) {
+    let rest = match str::from_utf8(line) {
+        Ok(text) => strip_shebang(text),
+        Err(_) => return,
+    };
+    if rest.is_empty() || rest.starts_with('\n') {
+        let len = line.len().saturating_sub(rest.len());
+        for byte in line.iter_mut().take(len) {
+            *byte = b' ';
+        }
     }
 }
 
