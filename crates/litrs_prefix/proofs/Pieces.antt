@@ -95,11 +95,13 @@ pub literal_at : (front : List ℕ) (e : ParseError) → IsRefusedOrOutOfMemory 
 literal_at front e (inl is) kind = absurd (no_refusal_is_of_memory literal_parse front (refusal_of e) is.table kind)
 literal_at front e (inr is) kind = (is.derivation, is.literal)
 
--- where the piece is a literal, each error is that one
-pub memory_of : (bs front rest : List ℕ) (n : ℕ) (e : ParseError) (d : Derivation) → IsUtf8 bs → IsCharBoundary bs n → front ≡ take n bs → rest ≡ drop n bs → length front ≡ n →
-    IsRefusedOrOutOfMemory literal_parse (chars front) e → IsLiteral (chars front) d → IsMalformedOrOutOfMemory (chars bs) (record { error = e; len = n })
-memory_of bs front rest n e d u bound before after size (inl is) literal = absurd (is.none d literal)
-memory_of bs front rest n e d u bound before after size (inr is) literal = inr (out_of_memory bs front rest n e u bound before after size is)
+-- each error of the literal at the front of the text is that of its allocation
+pub memory_of : (bs front rest : List ℕ) (n : ℕ) (e : ParseError) (d : Derivation) (r : List ℕ) → IsUtf8 bs → IsCharBoundary bs n → front ≡ take n bs → rest ≡ drop n bs → length front ≡ n →
+    IsRefusedOrOutOfMemory literal_parse (chars front) e → HasPrefix (chars bs) d r → EndsBefore bs r n →
+    IsMalformedOrOutOfMemory (chars bs) (record { error = e; len = n })
+memory_of bs front rest n e d r u bound before after size (inl is) at place = absurd (is.none d (piece_is bs front n d r u before place at))
+memory_of bs front rest n e d r u bound before after size (inr is) at place =
+    memory_at bs front rest n e d r u bound before after size (inr is) (ap (λ (x : Refusal). x.kind) is.error) at place
 
 -- another error says that the piece is no literal
 pub none_at : (front : List ℕ) (e : ParseError) → IsRefusedOrOutOfMemory literal_parse front e → (kind_of e ≡ OutOfMemory → ⊥) → HasNoDerivation (IsLiteral front)

@@ -43,5 +43,5 @@ returns-in-Err-clause-malformed c =
     let place = end_at text c.requires.end.0 rest c.requires.utf8 c.requires.end.1 in
     let d = c.requires.literal in
     let split = c.split_at.ensures in
-    memory_of text c.split_at.result.0.now c.split_at.result.1.now n c.in-Err.error d c.utf8.text place.0 split.front split.back split.front_len c.in-Err.ensures.refused
-    (piece_is text c.split_at.result.0.now n d (chars rest) c.utf8.text split.front (place.0, ap chars place.1) c.requires.at_front)
+    memory_of text c.split_at.result.0.now c.split_at.result.1.now n c.in-Err.error d (chars rest) c.utf8.text place.0 split.front split.back split.front_len c.in-Err.ensures.refused
+    c.requires.at_front (place.0, ap chars place.1)
