@@ -1,91 +1,97 @@
 #!/usr/bin/env python3
 """Checks the comments of the crates against the conventions of Rust's API documentation.
 
-The summary of a function begins with a verb in the third person, or with a link to the function that it is like. The
-summary of a type, a field or a variant is a noun phrase, or says when the variant is met. Some constructions are rejected in
-every comment of src/ and specs/. Prints the number of summaries, and each fault with its place.
+The summary of a function begins with a verb in the third person, or with a link to the function that it is like. No comment
+of `src/` and `specs/` begins with a word of `RIDDLES` or has a construction of `FORBIDDEN`. Prints each fault with its place,
+and the number of summaries.
 """
+import pathlib
 import re
 import sys
-from pathlib import Path
 
-TOP = Path(__file__).resolve().parent.parent
-
+TOP = pathlib.Path(__file__).resolve().parent.parent
 FUNCTION = re.compile(r'\s*(?:pub(?:\(crate\))? )?(?:const |unsafe )*(?:extern "C" )?fn (\w+)')
-TYPE = re.compile(r'\s*pub (?:struct|enum|trait|type) (\w+)')
-# A summary of a function: a verb in the third person, or `Like [`f`]`.
-VERB = re.compile(r'(?:[A-Z][a-z]+s|Does not [a-z]+)\b|Like \[`')
-# Words that end like a verb and are none.
-NOUNS = {'This', 'Its', 'Bytes', 'Places', 'Texts', 'Lines', 'Tokens', 'Chars', 'Literals', 'As', 'Is', 'Has', 'Was'}
+TYPE = re.compile(r"\s*pub (?:struct|enum|trait|type) (\w+)")
+# A verb in the third person, or `Like [`f`]`.
+VERB = re.compile(r"(?:[A-Z][a-z]+s|Does not [a-z]+)\b|Like \[`")
+# Words that end like such a verb.
+NOUNS = {"This", "Its", "As", "Is", "Has", "Was", "Bytes", "Places", "Texts", "Lines", "Tokens", "Chars", "Literals"}
 # The first words of sentences without a main verb.
-RIDDLES = re.compile(r'(?:What|Whether|Where|Why|How|That|The same) ')
+RIDDLES = re.compile(r"(?:What|Whether|Where|Why|How|That|The same) ")
 # Constructions that a reader has to solve.
-FORBIDDEN = [re.compile(p) for p in (
-    r'\bso many\b', r'\b[Tt]he same of\b', r'\bnone stands\b', r'(?<!there )\bis none\b', r'(?<!there )\bare none\b', r'\bgoes on\b',
-    r'\bstands? (?:there|first|so|in|at|on|for|before|after|between)\b', r'\bas far as it goes\b')]
+FORBIDDEN = re.compile(
+    r"\bso many\b|\b[Tt]he same of\b|\bnone stands\b|(?<!there )\b(?:is|are) none\b|\bgoes on\b"
+    r"|\bstands? (?:there|first|so|in|at|on|for|before|after|between)\b")
+# Lines of code, and the number of their faults.
+EXAMPLES = [
+    ("/// Returns `true` if `text` is empty.\nfn is_empty(text: &str) -> bool", 0),
+    ("/// Like [`parse`], for a text that starts with a digit.\nfn parse_number(text: &str)", 0),
+    ("/// Whether the text is empty.\nfn is_empty(text: &str) -> bool", 2),
+    ("/// The length.\n#[inline]\npub fn len(&self) -> usize", 1),
+    ("/// Returns the digit that stands first.\nfn digit(text: &str) -> u8", 1),
+    ("/// A literal.\npub struct Literal {", 0),
+    ("-- The text is a literal.\nabbrev pub IsLiteral : List N", 0),
+    ("-- What texts are none, and so many literals.\nabbrev pub IsLiteral : List N", 3),
+]
 
 
-def comments(lines, marks):
-    """Yields each block of comment lines, with the number of its first line."""
-    block, start = [], 0
-    for number, line in enumerate(lines, 1):
-        text = line.strip()
-        mark = next((m for m in marks if text.startswith(m + ' ') or text == m), None)
-        if mark:
-            if not block:
-                start = number
-            block.append(text[len(mark):].strip())
-        elif block:
-            yield start, number, block
-            block = []
-    if block:
-        yield start, len(lines) + 1, block
+def comments(lines):
+    """The blocks of comment lines, each with its mark and the numbers of its first line and of the line after it."""
+    start = None
+    for number, line in enumerate([*lines, ""]):
+        mark = re.match(r"\s*(///|//!|//|--)( |$)", line)
+        if start is not None and not (mark and mark[1] == lines[start].split()[0]):
+            yield lines[start].split()[0], start, number
+            start = None
+        if mark and start is None:
+            start = number
+
+
+def prose(lines, mark):
+    """The text of a comment without its blocks of code."""
+    text = "\n".join(line.strip()[len(mark):].strip() for line in lines)
+    return " ".join(re.sub(r"^```.*?^```$", "", text, flags=re.M | re.S).split())
 
 
 def item_after(lines, number):
-    """Returns the first line after a comment that is not an attribute or a comment of the code."""
-    for line in lines[number - 1:]:
-        text = line.strip()
-        if not (text.startswith('#[') or (text.startswith('//') and not text.startswith('///'))):
-            return line
-    return ''
+    """The first line from this one on that is neither an attribute nor a comment of the code."""
+    return next((it for it in lines[number:] if not re.match(r"\s*(#\[|//(?!/))", it)), "")
+
+
+def faults_of(lines):
+    """The faults of a file, each with its line, and the kinds of the items that have a summary."""
+    faults, kinds = [], []
+    for mark, start, end in comments(lines):
+        text = prose(lines[start:end], mark)
+        riddle = RIDDLES.match(text)
+        words = [*FORBIDDEN.findall(text), *([riddle[0].strip()] if riddle else [])]
+        faults += [(start + 1, f"`{it}`") for it in words]
+        item = item_after(lines, end) if mark == "///" else ""
+        function = FUNCTION.match(item)
+        if function:
+            kinds.append("function")
+            if not VERB.match(text) or text.split()[0] in NOUNS:
+                faults.append((start + 1, f"the summary of `{function[1]}` does not begin with a verb"))
+        elif TYPE.match(item):
+            kinds.append("type")
+    return faults, kinds
 
 
 def main():
-    faults, functions, types = [], 0, 0
-    for path in sorted(TOP.glob('crates/*/src/**/*.rt')) + sorted(TOP.glob('crates/*/specs/**/*.antt')):
-        lines = path.read_text().split('\n')
-        marks = ['///', '//!', '//'] if path.suffix == '.rt' else ['--']
-        for start, end, block in comments(lines, marks):
-            place = f'{path.relative_to(TOP)}:{start}'
-            prose, code = [], False
-            for text in block:
-                if text.startswith('```'):
-                    code = not code
-                elif not code:
-                    prose.append(text)
-            joined = ' '.join(prose)
-            for pattern in FORBIDDEN:
-                found = pattern.search(joined)
-                if found:
-                    faults.append(f'{place}: `{found.group(0)}`')
-            if RIDDLES.match(joined):
-                faults.append(f'{place}: the summary begins with `{joined.split()[0]}`')
-            if path.suffix != '.rt' or not lines[start - 1].strip().startswith('///'):
-                continue
-            item = item_after(lines, end)
-            if FUNCTION.match(item):
-                functions += 1
-                if not VERB.match(joined) or joined.split()[0] in NOUNS:
-                    faults.append(f'{place}: the summary of `{FUNCTION.match(item).group(1)}` begins with '
-                                  f'`{joined.split()[0]}` and not with a verb')
-            elif TYPE.match(item):
-                types += 1
-    for fault in faults:
-        print(fault)
-    print(f'{functions} summaries of functions, {types} of types, {len(faults)} faults')
+    for text, count in EXAMPLES:
+        found = faults_of(text.split("\n"))[0]
+        if len(found) != count:
+            sys.exit(f"voice: {len(found)} faults, and not {count}, in the example {text!r}: {found}")
+    total, faults = [], 0
+    for path in sorted([*TOP.glob("crates/*/src/**/*.rt"), *TOP.glob("crates/*/specs/**/*.antt")]):
+        found, kinds = faults_of(path.read_text().split("\n"))
+        total += kinds
+        faults += len(found)
+        for line, fault in found:
+            print(f"{path.relative_to(TOP)}:{line}: {fault}")
+    print(f"voice: {total.count('function')} summaries of functions, {total.count('type')} of types, {faults} faults")
     return 1 if faults else 0
 
 
-if __name__ == '__main__':
+if __name__ == "__main__":
     sys.exit(main())
