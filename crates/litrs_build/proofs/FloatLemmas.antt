@@ -15,7 +15,7 @@ use Rattle.litrs_grammar.specs.Float.{FloatParts, IsFloat, is_decimal_char, is_d
 use Rattle.litrs_grammar.specs.Integer.{is_e}
 use Rattle.litrs_grammar.specs.Suffix.{is_suffix}
 use Rattle.litrs_lex.proofs.IntegerBytes.{digits_are_ascii, e_is_ascii, digit_is_ascii}
-use Rattle.litrs.proofs.Escapes.{all-chars}
+use Rattle.litrs_lex.proofs.EscapeEnds.{all-chars}
 use Rattle.litrs_build.proofs.IntegerLemmas.{main_is_ascii}
 use Rattle.litrs_build.specs.BuiltFloat.{is_float}
 

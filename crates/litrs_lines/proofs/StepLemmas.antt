@@ -5,23 +5,30 @@ use Rattle.std.specs.Str.{chars, IsUtf8, IsCharBoundary}
 use Rattle.std.specs.String.Boundary.{IsSplitPoint}
 use Rattle.std.proofs.Math.Seq.{take-append_seam, get_or-append_seam}
 use Rattle.std.proofs.lemmas.Str.{chars-append, IsUtf8-from_ascii, IsCharBoundary-at_seam}
+use Rattle.std.proofs.lemmas.Bool.{false≢true}
 use Rattle.litrs_base.specs.Derivations.{HasNoDerivation}
+use Rattle.litrs_base.specs.Text.{IsText}
+use Rattle.litrs_base.specs.declared.err.ParseErrorKind.{ParseErrorKind}
+use Rattle.litrs_base.specs.declared.err.ParseErrorKind.TheVariants.{UnterminatedRawString}
 use Rattle.litrs_base.proofs.Chars.{ascii_by_test}
 use Rattle.litrs_base.specs.Finality.{is_open, is_final}
 use Rattle.litrs_base.specs.Refusal.{Refusal, refusal_of, kind_of}
-use Rattle.litrs_grammar.specs.Literal.{IsLiteral, IsLiteralOf, literal_parse}
+use Rattle.litrs_grammar.specs.Literal.{IsLiteral, IsLiteralOf, literal_parse, Begins}
 use Rattle.litrs_grammar.specs.LiteralRefusals.{IsRefusal}
 use Rattle.litrs_grammar.proofs.Laws.Literal.{literals_are_not_refused, texts_are_decided}
 use Rattle.litrs_grammar.proofs.Spans.Literal.{no_literal_ends_with_line_feed}
 use Rattle.litrs_base.specs.declared.err.ParseError.{ParseError}
-use Rattle.litrs_grammar.specs.Refused.{IsRefused}
+use Rattle.litrs_grammar.specs.Closing.{after_raw_front, closing_text, closing_of, a_string_of}
+use Rattle.litrs_grammar.specs.Raw.{hash_len}
+use Rattle.litrs_grammar.specs.Refused.{IsRefused, IsRefusedOrOutOfMemory}
+use Rattle.litrs_grammar.proofs.LongerTexts.Raw.{closing_is_text}
 use Rattle.litrs_grammar.specs.Quoted.{without_last}
 use Rattle.litrs_grammar.proofs.QuotedItems.{without_last-append}
 use Rattle.litrs_grammar.proofs.LongerTexts.Literal.{line_ends_are_decided}
 use Rattle.litrs.specs.LiteralDerivation.{derivation}
 use Rattle.litrs_lines.specs.declared.collector.Step.{Step}
 use Rattle.litrs_lines.specs.declared.collector.Step.TheVariants.{More, Literal, Refused}
-use Rattle.litrs_lines.specs.Held.{EndsWithLineFeed, Extends, IsHeld}
+use Rattle.litrs_lines.specs.Held.{Extends, IsHeld}
 use Rattle.litrs_lines.specs.Steps.{BeginsByLine, IsUnfinished, IsStep, held_after, Feeds, Pushes}
 use Rattle.litrs_lines.specs.StepLaws.{StepsAreDecided, StepsAreUnique}
 
@@ -29,10 +36,6 @@ use Rattle.litrs_lines.specs.StepLaws.{StepsAreDecided, StepsAreUnique}
 pub OnErr-holds : {T E : Type 0} {P : Type 0} (r : Result T E) → P → OnErr r P
 OnErr-holds (Ok _) p = tt
 OnErr-holds (Err _) p = p
-
--- a text that ends with LF is no literal
-pub line_is_no_literal : (t : List ℕ) → EndsWithLineFeed t → HasNoDerivation (IsLiteral t)
-line_is_no_literal t end d is = no_literal_ends_with_line_feed end.0 d (subst (λ (u : List ℕ). IsLiteral u d) (sym end.1) is)
 
 line_feed_char : chars (10 ∷ []) ≡ 10 ∷ []
 unfolding chars
@@ -89,6 +92,17 @@ pub line_is_held : (t held : List ℕ) → held ≡ t ++ 10 ∷ [] → HasNoDeri
 line_is_held t held is none some =
     let front : without_last held ≡ t = ap without_last is ∙ without_line_feed t in
     (ap (λ (x : List ℕ). x ++ 10 ∷ []) front ∙ sym is, subst (λ (x : List ℕ). HasNoDerivation (IsLiteral (chars x))) (sym front) none)
+
+-- an open refusal says what closes the text
+closing_text_is_text : (t : List ℕ) (kind : ParseErrorKind) → IsText (closing_text t kind)
+closing_text_is_text t UnterminatedRawString = closing_is_text (hash_len (after_raw_front t))
+closing_text_is_text t _ = refl
+
+pub open_begins : (t : List ℕ) (e : ParseError) → IsRefusedOrOutOfMemory literal_parse t e → is_open (kind_of e) ≡ true → Begins literal_parse t
+open_begins t e (inl refused) opened =
+    let closed = refused.closes opened in
+    (closing_of t (refusal_of e), a_string_of closed.kind closed.parts, closing_text_is_text t (kind_of e), closed.literal)
+open_begins t e (inr lack) opened = absurd (false≢true (sym (ap (λ (r : Refusal). is_open r.kind) lack.error) ∙ opened))
 
 -- what is held after a step
 step_is_held : (t held : List ℕ) (step : Step) → IsStep t step → held ≡ held_after t step → IsHeld held

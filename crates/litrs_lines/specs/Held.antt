@@ -8,10 +8,6 @@ use Rattle.litrs_grammar.specs.Literal.{IsLiteral, literal_parse}
 use Rattle.litrs_grammar.specs.Quoted.{without_last}
 use Rattle.litrs_grammar.specs.Refused.{IsRefused}
 
--- The text ends with LF.
-abbrev pub EndsWithLineFeed : List ℕ → Type 0
-EndsWithLineFeed t = (line : List ℕ) × (line ++ line_feed ∷ [] ≡ t)
-
 -- The new text is the old one with some text after it.
 abbrev pub Extends : List ℕ → List ℕ → Type 0
 Extends old new = (more : List ℕ) × IsUtf8 more × (new ≡ old ++ more)
