@@ -1,10 +1,12 @@
 -- Ends of a line.
 use Rattle.std.proofs.Common.{◌≡◌, ℕ, ◌+◌, ◌<◌, Bool, List, [], ◌∷◌, ◌++◌, length, sym, ap, subst, ◌∙◌, length-append, arith}
+use Rattle.std.specs.Prelude.{Result, Ok, Err, IfErr}
+use Rattle.std.specs.Result.{IsOkAnd, MatchResult}
 use Rattle.litrs_prefix.specs.Ends.{IsEndOf}
 use Rattle.litrs_prefix.proofs.Ends.{all, end_of_end, not_longer}
 use Rattle.litrs.specs.Literal.{Derivation}
 use Rattle.litrs_value.specs.declared.value_type.ValueType.{ValueType}
-use Rattle.uses_attributes.specs.Settings.{IsWord, skipped, is_token, at_end, HasEquals, HasLiteral, IsTyped, BeginsWith, LeavesAfter, IsValueFault, no_equals, no_value, no_such_value, no_comma, IsFaultOf, not_named, of_value}
+use Rattle.uses_attributes.specs.Settings.{IsWord, skipped, is_token, at_end, IsNamed, HasEquals, HasLiteral, IsTyped, BeginsWith, LeavesAfter, IsValueFault, no_equals, no_value, no_such_value, no_comma, IsFaultOf, not_named, of_value}
 use Rattle.uses_attributes.specs.declared.setting.Setting.{Setting}
 use Rattle.uses_attributes.specs.declared.setting.Setting.TheVariants.{Max, Offset, Ratio, Rename, Skip}
 use Rattle.uses_attributes.specs.declared.word.Fault.{Fault}
@@ -31,7 +33,7 @@ value_end text first has = end_of_end text has.0.rest.now first.at.now (after_wo
 literal_end : {type : ValueType} {negative : Bool} {d : Derivation} (text rest : List ℕ) → HasLiteral type text negative d rest → IsEndOf text rest
 literal_end text rest has = end_of_end text has.first.at.now rest (value_end text has.first has.equals) has.end
 
-typed_end : {type : ValueType} {IsValue : Bool → Derivation → Type 0} (text rest : List ℕ) → IsTyped type IsValue text rest → IsEndOf text rest
+typed_end : {X : Type 0} {type : ValueType} {IsValue : Bool → Derivation → X → Type 0} {x : X} (text rest : List ℕ) → IsTyped type IsValue text x rest → IsEndOf text rest
 typed_end text rest is =
     let ends = end_of_end text is.after is.comma.rest.now (literal_end text is.after is.literal) (after_word is.comma is.after is.is_comma) in
     subst (λ (l : List ℕ). IsEndOf text l) is.left ends
@@ -80,3 +82,10 @@ shorter name setting rest next some begins is =
     let first = not_longer name.rest.now rest (begins_end name setting rest begins) in
     let second = not_longer rest next.at.now (word_end next rest is) in
     omega arith
+
+-- a fault of the value of a setting is one of its name
+pub fault_of_value : {A B : Type 0} (Gives : A → B → Type 0) (name : Word) (type : ValueType) (value : Result A Fault) (setting : Result B Fault) → IsNamed name.text.now type →
+    IfErr value (IsValueFault type name.rest.now) → MatchResult value (λ x. IsOkAnd setting (Gives x)) (λ fault. setting ≡ Err fault) → IfErr setting (IsFaultOf name)
+fault_of_value Gives name type (Ok _) (Ok _) named faulty maps = tt
+fault_of_value Gives name type (Ok _) (Err _) named faulty maps = absurd maps
+fault_of_value Gives name type (Err fault) setting named faulty maps = subst (λ r. IfErr r (IsFaultOf name)) (sym maps) (of_value type named faulty)

@@ -1,4 +1,2 @@
--- which settings a line has, and what is wrong with it
+-- the settings of a line, its first fault, and the texts of both
 pub mod Settings
--- what is written of a setting
-pub mod Described

@@ -1,10 +1,17 @@
--- Which settings a line has, and what is wrong with the rest of it.
+-- The settings of a line, and its first fault.
 use Rattle.std.specs.Prelude.{◌≡◌, ◌≢◌, ◌⊎◌, ℕ, pos, Bool, List, [], ◌∷◌, ◌++◌, length, Option, Some, None, take, codes, string_bytes, IsTrue, IsFalse}
 use Rattle.std.specs.Float.{binary64}
+use Rattle.std.specs.Fmt.{decimal, signed_decimal}
+use Rattle.std.specs.List.{list_all}
 use Rattle.std.specs.Str.{chars}
+use Rattle.litrs.specs.Bool.{bool_text}
 use Rattle.litrs.specs.Literal.{Derivation}
+use Rattle.litrs.specs.LiteralText.{string_text}
+use Rattle.litrs.specs.StringKind.{string_kind}
 use Rattle.litrs.specs.declared.FloatType.TheVariants.{F64}
 use Rattle.litrs.specs.declared.IntegerType.TheVariants.{U16, I64}
+use Rattle.litrs_build.specs.Written.{written_string}
+use Rattle.litrs_diagnostic.specs.Diagnostic.{is_line_feed_or_printable}
 use Rattle.litrs_lexer.specs.Token.{is_trivia}
 use Rattle.litrs_lexer.specs.Tokens.{IsFirstToken}
 use Rattle.litrs_lexer.specs.declared.kind.TokenKind.TheVariants.{UnterminatedBlockComment}
@@ -16,6 +23,7 @@ use Rattle.litrs_value.specs.Prefixes.{IsPrefixError}
 use Rattle.litrs_value.specs.Reads.{is_negative, unsigned, marked}
 use Rattle.litrs_value.specs.Refuses.{HasValueOf}
 use Rattle.litrs_value.specs.Values.{number_of, float_of, flag_of, string_of}
+use Rattle.litrs_value.specs.declared.error.ValueError.TheVariants.{Memory}
 use Rattle.litrs_value.specs.declared.prefix.PrefixError.{PrefixError}
 use Rattle.litrs_value.specs.declared.value_type.ValueType.{ValueType}
 use Rattle.litrs_value.specs.declared.value_type.ValueType.TheVariants.{Bool as bool_type, Integer as integer_type, Float as float_type, String as string_type}
@@ -76,15 +84,15 @@ pub record HasLiteral (type : ValueType) (text : List ℕ) (negative : Bool) (d 
   pub value : HasValueOf type negative d
 
 -- The text starts with `=`, a literal that the type has a value for, and a comma, before this rest;
--- or it ends after the literal. The value is as `IsValue` says.
-pub record IsTyped (type : ValueType) (IsValue : Bool → Derivation → Type 0)
-    (text rest : List ℕ) : Type 0 where
+-- or it ends after the literal. `IsValue` relates the literal to the value.
+pub record IsTyped {X : Type 0} (type : ValueType) (IsValue : Bool → Derivation → X → Type 0)
+    (text : List ℕ) (x : X) (rest : List ℕ) : Type 0 where
   pub negative : Bool
   pub d : Derivation
   pub after : List ℕ
   pub comma : Word
   pub literal : HasLiteral type text negative d after
-  pub value : IsValue negative d
+  pub value : IsValue negative d x
   pub is_comma : IsWord comma after
   pub ends : (comma.text.now ≡ codes ",") ⊎ (comma.text.now ≡ [])
   pub left : comma.rest.now ≡ rest
@@ -92,17 +100,18 @@ pub record IsTyped (type : ValueType) (IsValue : Bool → Derivation → Type 0)
 -- the word is the name of the setting, whose value follows, before this rest
 abbrev pub BeginsWith : (name : Word) → Setting → (rest : List ℕ) → Type 0
 BeginsWith name (Max n) rest = (name.text.now ≡ codes "max")
-    × IsTyped (integer_type U16) (λ negative d. number_of negative d ≡ Some (pos n))
-    name.rest.now rest
+    × IsTyped (integer_type U16) (λ negative d x. number_of negative d ≡ Some (pos x))
+    name.rest.now n rest
 BeginsWith name (Offset n) rest = (name.text.now ≡ codes "offset")
-    × IsTyped (integer_type I64) (λ negative d. number_of negative d ≡ Some n) name.rest.now rest
+    × IsTyped (integer_type I64) (λ negative d x. number_of negative d ≡ Some x)
+    name.rest.now n rest
 BeginsWith name (Ratio x) rest = (name.text.now ≡ codes "ratio")
-    × IsTyped (float_type F64) (λ negative d. float_of binary64 negative d ≡ Some x)
-    name.rest.now rest
+    × IsTyped (float_type F64) (λ negative d x. float_of binary64 negative d ≡ Some x)
+    name.rest.now x rest
 BeginsWith name (Rename text) rest = (name.text.now ≡ codes "rename")
-    × IsTyped string_type (λ _ d. string_of d ≡ Some (string_bytes text)) name.rest.now rest
+    × IsTyped string_type (λ _ d x. string_of d ≡ Some (string_bytes x)) name.rest.now text rest
 BeginsWith name (Skip b) rest = (name.text.now ≡ codes "skip")
-    × IsTyped bool_type (λ _ d. flag_of d ≡ Some b) name.rest.now rest
+    × IsTyped bool_type (λ _ d x. flag_of d ≡ Some x) name.rest.now b rest
 
 -- the text is these settings, before this word
 abbrev pub LeavesAfter : (text : List ℕ) → List Setting → Word → Type 0
@@ -110,7 +119,7 @@ LeavesAfter text [] last = IsWord last text
 LeavesAfter text (setting ∷ settings) last = (name : Word) × (rest : List ℕ)
     × IsWord name text × BeginsWith name setting rest × LeavesAfter rest settings last
 
--- Why the text is not `=`, a value of the type and a comma: the first of these that applies.
+-- The fault of a text that is not `=`, a value of the type and a comma: the first that applies.
 pub data IsValueFault (type : ValueType) (text : List ℕ) (fault : Fault) : Type 0 where
   no_equals : (word : Word) → IsWord word text → word.text.now ≢ codes "=" →
       IsUnexpected (codes "`=`") word.at.now word.text.now fault → IsValueFault type text fault
@@ -127,7 +136,8 @@ pub data IsValueFault (type : ValueType) (text : List ℕ) (fault : Fault) : Typ
       word.text.now ≢ codes "," → word.text.now ≢ [] →
       IsUnexpected (codes "a comma") word.at.now word.text.now fault → IsValueFault type text fault
 
--- Why a word does not begin a setting: no setting has the name, or what follows is not its value.
+-- The fault of a word that does not begin a setting: no setting has the name, or its value does
+-- not follow.
 pub data IsFaultOf (name : Word) (fault : Fault) : Type 0 where
   not_named : ((type : ValueType) → ¬ IsNamed name.text.now type) →
       IsUnexpected (codes "`max`, `offset`, `ratio`, `rename` or `skip`") name.at.now
@@ -136,7 +146,33 @@ pub data IsFaultOf (name : Word) (fault : Fault) : Type 0 where
   of_value : (type : ValueType) → IsNamed name.text.now type →
       IsValueFault type name.rest.now fault → IsFaultOf name fault
 
--- the settings end at this word: at the end of the line, or with what is wrong there
+-- the settings end at this word: at the end of the line, or with a fault
 abbrev pub EndsAt : Option Fault → Word → Type 0
 EndsAt None word = word.text.now ≡ []
 EndsAt (Some fault) word = IsFaultOf word fault
+
+-- the line is these settings, and then this fault or nothing
+abbrev pub HasSettings : (line : List ℕ) → List Setting → Option Fault → Type 0
+HasSettings line settings fault = (end : Word) × LeavesAfter line settings end × EndsAt fault end
+
+-- the fault is at an end of the line
+abbrev pub IsIn : (line : List ℕ) → Fault → Type 0
+IsIn line fault = IsEndOf line fault.at.now
+
+-- the fault is of the line: no allocation failed
+abbrev pub IsNoFailure : Fault → Type 0
+IsNoFailure fault = fault.problem ≢ Value Memory
+
+-- The text has the name and the value of the setting. A string is written as a literal in which
+-- all is printable. The digits of a float are not stated.
+abbrev pub Describes : Setting → (written : List ℕ) → Type 0
+Describes (Max n) written = written ≡ codes "max is " ++ decimal n
+Describes (Offset n) written = written ≡ codes "offset is " ++ signed_decimal n
+Describes (Ratio x) written = (digits : List ℕ) × (written ≡ codes "ratio is " ++ digits)
+Describes (Rename text) written = (literal : List ℕ) × (written ≡ codes "rename is " ++ literal)
+    × (chars literal ≡ string_text string_kind (written_string (chars (string_bytes text)) []))
+Describes (Skip b) written = written ≡ codes "skip is " ++ bool_text b
+
+-- each character is printable or a line feed
+abbrev pub IsPrintable : (written : List ℕ) → Type 0
+IsPrintable written = IsTrue (list_all is_line_feed_or_printable (chars written))

@@ -1,15 +1,15 @@
 //! The settings of a line.
-ghost use Rattle.std.specs.Prelude.{◌≡◌, ◌≢◌, ◌++◌, IfOk, IfErr, IfSome, string_bytes};
-ghost use Rattle.litrs_prefix.specs.Ends.{IsEndOf};
-ghost use Rattle.uses_attributes.specs.Described.{Describes};
-ghost use Rattle.uses_attributes.specs.Settings.{IsUnexpected, IsTyped, IsValueFault, BeginsWith, IsFaultOf, LeavesAfter, EndsAt};
+ghost use Rattle.std.specs.Prelude.{◌≡◌, ◌++◌, IfOk, IfErr, IfSome, string_bytes};
+ghost use Rattle.uses_attributes.specs.Settings.{Describes, IsPrintable, IsWord, IsUnexpected, IsTyped, IsValueFault, BeginsWith, IsFaultOf, HasSettings, IsIn, IsNoFailure};
 
 use crate::word::{Fault, Problem, Word};
 use litrs_build::string;
+use litrs_diagnostic::{Diagnostic, shown};
+use litrs_lexer::{Token, TokenKind, tokenize};
 use litrs_value::{FromLiteral, ValueError, read_prefix};
 use std::alloc::{AllocError, Global};
 
-/// What is expected where a setting begins.
+/// The names of the settings.
 const NAMES: &str = "`max`, `offset`, `ratio`, `rename` or `skip`";
 
 /// A setting with its value.
@@ -29,10 +29,7 @@ pub fn describe(alloc: Global, setting: &Setting) -> Result<String, AllocError>
     match setting {
         Setting::Max(number) => format!(in alloc; "max is {number}"),
         Setting::Offset(number) => format!(in alloc; "offset is {number}"),
-        Setting::Ratio(number) => {
-            let digits = format!(in alloc; "{number}")?;
-            format!(in alloc; "ratio is {digits}")
-        }
+        Setting::Ratio(number) => format!(in alloc; "ratio is {}", format!(in alloc; "{number}")?),
         Setting::Rename(name) => match string(alloc, name.as_str(), "") {
             Ok(literal) => format!(in alloc; "rename is {literal}"),
             // allocation failed: of the literal, as its suffix is empty.
@@ -42,24 +39,22 @@ pub fn describe(alloc: Global, setting: &Setting) -> Result<String, AllocError>
     }
 }
 
-/// Reads the settings of a line up to the first fault. Returns them, and the fault if there is one.
-pub fn read_settings(
-    alloc: Global,
-    line: &str,
-) -> Result<(Vec<Setting>, Option<Fault<'_>>), AllocError>
-    ensures all { IfOk result (λ read. (end : Word)
-        × LeavesAfter line.now read.0.items end × EndsAt read.1 end) }
-    ensures place { IfOk result (λ read. IfSome read.1 (λ fault. IsEndOf line.now fault.at.now)) }
-    ensures memory { IfOk result (λ read. IfSome read.1 (λ fault.
-        fault.problem ≢ Problem.Value ValueError.Memory)) }
+/// The settings up to the first fault of a line, and the fault if there is one.
+pub type Read<'a> = (Vec<Setting>, Option<Fault<'a>>);
+
+/// Reads the settings of a line up to the first fault.
+pub fn read_settings(alloc: Global, line: &str) -> Result<Read<'_>, AllocError>
+    ensures all { IfOk result (λ read. HasSettings line.now read.0.items read.1) }
+    ensures place { IfOk result (λ read. IfSome read.1 (IsIn line.now)) }
+    ensures memory { IfOk result (λ read. IfSome read.1 IsNoFailure) }
 {
     let mut found = Vec::new(alloc);
-    let mut name = Word::first(line);
+    let mut name = first_word(line);
     while !name.text.is_empty() {
         match read_setting(alloc, &name) {
             Ok((setting, rest)) => {
                 found.push(setting)?;
-                name = Word::first(rest);
+                name = first_word(rest);
             }
             Err(fault) => match &fault.problem {
                 Problem::Value(ValueError::Memory) => return Err(AllocError),
@@ -76,54 +71,53 @@ fn read_setting<'a>(alloc: Global, name: &Word<'a>) -> Result<(Setting, &'a str)
     ensures fault { IfErr result (IsFaultOf name.now) }
 {
     match name.text {
-        "max" => match typed(alloc, name.rest) {
-            Ok((n, rest)) => Ok((Setting::Max(n), rest)),
-            Err(fault) => Err(fault),
-        },
-        "offset" => match typed(alloc, name.rest) {
-            Ok((n, rest)) => Ok((Setting::Offset(n), rest)),
-            Err(fault) => Err(fault),
-        },
-        "ratio" => match typed(alloc, name.rest) {
-            Ok((n, rest)) => Ok((Setting::Ratio(n), rest)),
-            Err(fault) => Err(fault),
-        },
-        "rename" => match typed(alloc, name.rest) {
-            Ok((text, rest)) => Ok((Setting::Rename(text), rest)),
-            Err(fault) => Err(fault),
-        },
-        "skip" => match typed(alloc, name.rest) {
-            Ok((flag, rest)) => Ok((Setting::Skip(flag), rest)),
-            Err(fault) => Err(fault),
-        },
+        "max" => typed(alloc, name.rest).map(|(n, rest)| (Setting::Max(n), rest)),
+        "offset" => typed(alloc, name.rest).map(|(n, rest)| (Setting::Offset(n), rest)),
+        "ratio" => typed(alloc, name.rest).map(|(n, rest)| (Setting::Ratio(n), rest)),
+        "rename" => typed(alloc, name.rest).map(|(text, rest)| (Setting::Rename(text), rest)),
+        "skip" => typed(alloc, name.rest).map(|(flag, rest)| (Setting::Skip(flag), rest)),
         _ => Err(unexpected(NAMES, name.at, name.text, name.rest)),
     }
 }
 
 /// Returns the value after the `=` at the front of `text`, and the rest after its comma.
 fn typed<T: FromLiteral + Drop>(alloc: Global, text: &str) -> Result<(T, &str), Fault<'_>>
-    ensures value { IfOk result (λ read. IsTyped T.value_type
-        (λ negative d. T.is_value negative d read.0) text.now read.1.now) }
+    ensures value { IfOk result (λ cut. IsTyped T.value_type T.is_value text.now cut.0 cut.1.now) }
     ensures fault { IfErr result (IsValueFault T.value_type text.now) }
 {
-    let equals = Word::first(text);
+    let equals = first_word(text);
     if equals.text != "=" {
         return Err(unexpected("`=`", equals.at, equals.text, equals.rest));
     }
-    let first = Word::first(equals.rest);
-    match read_prefix::<T>(alloc, first.at) {
+    let Word { at, text, rest } = first_word(equals.rest);
+    match read_prefix::<T>(alloc, at) {
         Ok(Some((value, rest))) => {
-            let comma = Word::first(rest);
+            let comma = first_word(rest);
             match comma.text {
                 "," | "" => Ok((value, comma.rest)),
                 _ => Err(unexpected("a comma", comma.at, comma.text, comma.rest)),
             }
         }
-        Ok(None) => Err(unexpected("a value", first.at, first.text, first.rest)),
+        Ok(None) => Err(unexpected("a value", at, text, rest)),
         Err(error) => {
-            let (at, span) = (first.at, error.marked_span(first.at));
-            let problem = Problem::Value(error.error);
+            let (span, problem) = (error.marked_span(at), Problem::Value(error.error));
             Err(Fault { problem, at, span })
+        }
+    }
+}
+
+/// Returns the first word of `text`.
+fn first_word(text: &str) -> Word<'_>
+    ensures { IsWord result text.now }
+{
+    let mut left = tokenize(text);
+    loop {
+        let at = left.rest;
+        let (token, rest) = (left.next(), left.rest);
+        match token {
+            Some(it) if it.kind.is_trivia() && it.kind != TokenKind::UnterminatedBlockComment => {}
+            Some(Token { text, .. }) => return Word { at, text, rest },
+            None => return Word { at, text: at, rest },
         }
     }
 }
@@ -139,4 +133,24 @@ fn unexpected<'a>(expected: &'static str, at: &'a str, text: &str, rest: &str) -
     };
     let span = 0..text.len();
     Fault { problem, at, span }
+}
+
+/// Returns the lines that show a fault in the line with this number.
+pub fn show(alloc: Global, line: &str, number: u32, fault: &Fault<'_>) -> Result<String, AllocError>
+    requires { IsIn line.now fault.now }
+    ensures { IfOk result (λ text. IsPrintable (string_bytes text)) }
+{
+    let message = format!(in alloc; "{}", fault.problem)?;
+    let offset = line.len() - fault.at.len();
+    let diagnostic = Diagnostic {
+        name: "settings",
+        source: line,
+        start: offset + fault.span.start,
+        end: offset + fault.span.end,
+        first_line: number,
+        first_column: 1,
+        message: message.as_str(),
+        width: 100,
+    };
+    shown(alloc, &diagnostic)
 }
