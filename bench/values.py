@@ -32,7 +32,7 @@ TOP = pathlib.Path(__file__).resolve().parent.parent
 PROGRAM = TOP / "crates/litrs_vectors/out/litrs_vectors"
 INTEGERS = ["u8", "u16", "u32", "u64", "u128", "usize", "i8", "i16", "i32", "i64", "i128", "isize"]
 TYPES = [*INTEGERS, "f32", "f64", "bool", "char"]
-# What prints a value as the table writes it.
+# The arguments of `println!` that write a value as the table does.
 PRINTS = {
     "f32": '"{:x}", value.to_bits()', "f64": '"{:x}", value.to_bits()', "char": '"{:x}", value as u32'
 }
