@@ -37,13 +37,13 @@ pub record IsQuotedCut (w : Switches) (bytes : List ℕ) (offset : ℕ) (cut : Q
       IsTrue (is_item_list w (double_quote ∷ (parts.suffix ++ more)) parts.items)
 
 -- The text of these bytes is not a quoted literal whose body starts at `offset`:
--- - The table has the kind and the span of the error for it, and no other pair. The kind is not that
---   of an allocation failure.
--- - The span lies within the text and starts on a character boundary, and the character span ends on
---   one.
+-- - The table has the kind and the span of the error for it, and no other pair. The kind is not
+--   that of an allocation failure.
+-- - The span lies within the text and starts on a character boundary, and the character span ends
+--   on one.
 -- - The items before the rest that decides the refusal belong to the list before every longer rest.
--- - If the kind is final, no longer text is such a literal, and the table has this kind and span for
---   each.
+-- - If the kind is final, no longer text is such a literal, and the table has this kind and span
+--   for each.
 -- - If the kind is open, the closing quote makes the text one.
 pub record IsQuotedRefused (w : Switches) (bytes : List ℕ) (offset : ℕ) (e : ParseError)
     : Type 0 where

@@ -41,11 +41,11 @@ pub record IsRawCut (unicode allow_nul : Bool) (offset : ℕ) (bytes : List ℕ)
 
 -- The text after the offset is refused with the error:
 -- - There is no derivation, and the table has the kind and the span of the error.
--- - Both spans count from the start of the whole text and lie within it, and the character span starts
---   and ends on character boundaries.
+-- - Both spans count from the start of the whole text and lie within it, and the character span
+--   starts and ends on character boundaries.
 -- - Every longer text has the same hashes and the same first closing.
--- - If the kind is final, no longer text is such a literal, and the table has this kind and span for
---   each.
+-- - If the kind is final, no longer text is such a literal, and the table has this kind and span
+--   for each.
 -- - If the kind is open, the closing with as many hashes makes the text one, with all of the text
 --   after the opening quote as its body.
 pub record IsRawRefused (unicode allow_nul : Bool) (offset : ℕ) (bytes : List ℕ) (e : ParseError) :

@@ -12,8 +12,8 @@ pub fn malformed_prefixes_are_tokens()
     ensures { MalformedPrefixesAreTokens }
 {}
 
-/// Proves that tokens for which [`token_may_change`](crate::token_may_change) returns `false` are the
-/// first tokens of every longer text, with the same kinds and texts.
+/// Proves that tokens for which [`token_may_change`](crate::token_may_change) returns `false` are
+/// the first tokens of every longer text, with the same kinds and texts.
 #[tactic(auto, using(crate::proofs::MayChange::settled_stay))]
 pub fn settled_tokens_stay()
     ensures { SettledTokensStay }

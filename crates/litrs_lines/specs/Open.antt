@@ -57,8 +57,8 @@ abbrev pub IsKnown : List ℕ → Option Open → Type 0
 IsKnown bytes None = Unit {0}
 IsKnown bytes (Some string) = IsOpen bytes string
 
--- The text is unfinished, and with an LF after it begins this string; or there is no string, and the
--- text with an LF after it does not begin a literal.
+-- The text is unfinished, and with an LF after it begins this string; or there is no string, and
+-- the text with an LF after it does not begin a literal.
 abbrev pub IsAfter : List ℕ → Option Open → Type 0
 IsAfter t (Some string) = IsUnfinished t × IsOpen (t ++ line_feed ∷ []) string
 IsAfter t None = BeginsByLine t → ⊥

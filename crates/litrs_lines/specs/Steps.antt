@@ -44,8 +44,8 @@ pub record Feeds (text held : List ℕ) (step : Step) : Type 0 where
   pub after : held ≡ held_after text step
 
 -- The effect of a line that is added if a literal can continue after it. If it can, the text is
--- unfinished, and is held with an LF after it. Otherwise, the text with an LF after it does not begin
--- a literal, and the text that is held is unchanged.
+-- unfinished, and is held with an LF after it. Otherwise, the text with an LF after it does not
+-- begin a literal, and the text that is held is unchanged.
 pub record Pushes (old line new : List ℕ) (goes_on : Bool) : Type 0 where
   pub more : IsTrue goes_on → IsUnfinished (old ++ line) × (new ≡ (old ++ line) ++ line_feed ∷ [])
   pub other : IsFalse goes_on → (BeginsByLine (old ++ line) → ⊥) × (new ≡ old)

@@ -15,8 +15,8 @@ use litrs::goes_on;
 /// Returns `true` if [`parse_prefix`](crate::parse_prefix) has another answer for some longer text.
 ///
 /// The answer is `None`, or the literal and its length, or the length and error of a malformed
-/// literal. If the result is `false`, it is the same for every longer text: a reader of pieces
-/// takes it, and asks for more text otherwise. The call does not allocate.
+/// literal. If the result is `false`, it is the same for every longer text, so a reader of pieces
+/// can act on it; otherwise the reader asks for more text. The call does not allocate.
 ///
 /// It is `true` for the empty text, `12`, `tru`, `1.`, `0x1.`, `"a`, `'a`, `'ab`, `r#`, `0b12` and
 /// `"\q`, and `false` for `12 `, `1..`, `foo`, `'ab,`, `r#a`, `0b12 ` and `"\q";`.

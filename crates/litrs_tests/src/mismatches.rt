@@ -47,8 +47,8 @@ fn is_mismatch(alloc: Global, invalid: &InvalidToken, expected: &str, found: &st
     }
 }
 
-/// Returns `true` if `T`, which expects `expected`, accepts `tree`, whose kind has the name `called`,
-/// if the two names are equal, and rejects it otherwise.
+/// Returns `true` if `T`, which expects `expected`, accepts `tree` exactly if its kind has that
+/// name. The name of the kind is `called`.
 fn is_refused<T: FromToken>(alloc: Global, tree: &TokenTree, expected: &str, called: &str) -> bool {
     match &T::from_tree_ref(alloc, tree) {
         Ok(_) => called == expected,

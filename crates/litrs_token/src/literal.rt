@@ -98,7 +98,7 @@ impl Literal {
         })
     }
 
-    /// Creates a literal from `text`, which is a literal of the kind `kind`, with the call-site span.
+    /// Creates a literal from `text`, a literal of the kind `kind`, with the call-site span.
     ///
     /// ```rust
     /// let literal = Literal::from_text(rt.alloc(), "27u8")?;

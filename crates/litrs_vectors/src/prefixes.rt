@@ -47,8 +47,8 @@ fn try_parse(trial: &mut Trial, parse: Parse, text: &str, longer: &mut String) {
     }
 }
 
-/// Returns `true` if `goes_on` agrees with the error of a text, which may be a prefix of a literal. If
-/// the text is a literal, there is no error.
+/// Returns `true` if `goes_on` agrees with the error of a text, which may be a prefix of a literal.
+/// If the text is a literal, there is no error.
 fn is_known(refusal: Option<ParseError>, text: &str, is_literal: bool) -> bool {
     match refusal {
         Some(e) if e.is_final() => !goes_on(text),
