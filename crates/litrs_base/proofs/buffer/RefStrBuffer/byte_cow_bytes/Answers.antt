@@ -1,5 +1,0 @@
-use Rattle.std.proofs.Common.{rules}
-use Rattle.litrs_base.proofs.buffer.RefStrBuffer.byte_cow_bytes.Goals as goal
-
-pub returns-in-Borrowed : goal.returns-in-Borrowed
-returns-in-Borrowed c = search rules

@@ -1,5 +1,0 @@
-use Rattle.std.proofs.Common.{rules}
-use Rattle.litrs_base.proofs.err.ParseErrorKind.description.Goals as goal
-
-pub returns-in-UnknownEscape : goal.returns-in-UnknownEscape
-returns-in-UnknownEscape c = search rules
