@@ -1,5 +1,0 @@
-use Rattle.std.proofs.Common.{rules}
-use Rattle.litrs.proofs.byte_string.ByteStringLit.value.Goals as goal
-
-pub returns-in-Owned : goal.returns-in-Owned
-returns-in-Owned g c = search rules

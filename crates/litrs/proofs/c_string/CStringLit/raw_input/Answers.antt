@@ -1,8 +1,0 @@
-use Rattle.std.proofs.Common.{rules}
-use Rattle.litrs.proofs.c_string.CStringLit.raw_input.Goals as goal
-
-pub returns-clause-raw : goal.returns-clause-raw
-returns-clause-raw g c = search rules
-
-pub returns-clause-literal : goal.returns-clause-literal
-returns-clause-literal g c = search rules

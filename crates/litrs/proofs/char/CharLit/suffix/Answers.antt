@@ -1,8 +1,0 @@
-use Rattle.std.proofs.Common.{rules}
-use Rattle.litrs.proofs.char.CharLit.suffix.Goals as goal
-
-pub range_from-requires : goal.range_from-requires
-range_from-requires g c = search rules
-
-pub returns : goal.returns
-returns g c = search rules

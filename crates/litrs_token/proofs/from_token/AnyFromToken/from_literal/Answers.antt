@@ -1,5 +1,0 @@
-use Rattle.std.proofs.Common.{rules}
-use Rattle.litrs_token.proofs.from_token.AnyFromToken.from_literal.Goals as goal
-
-pub returns-clause-invalid : goal.returns-clause-invalid
-returns-clause-invalid g c = search rules
