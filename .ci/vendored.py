@@ -62,7 +62,7 @@ def files_of(crate):
 
 
 def names_of_copies():
-    """The crates that are copied, and those that they stand on."""
+    """The crates that are copied, and those that they depend on."""
     crates = libraries.crates_of(TOP)
     return {it for name in COPIED for it in [name, *crates[name].below(crates)]}
 
