@@ -510,24 +510,18 @@ def faults_of_names(installed):
 
 
 def faults_of_versions(installed, module):
-    """Versions that differ, and conditions on that of litrs.pc that pkg-config decides wrongly."""
-    changes = (TOP / "CHANGELOG.md").read_text()
-    version = re.search(r"^## \[(\d\S*)\]", changes, re.M)[1]
+    """Installed versions that differ from that of the header, and conditions on that of litrs.pc
+    that pkg-config decides wrongly."""
+    version = re.search(r'LITRS_VERSION "(.*)"', HEADER)[1]
     upstream, release = re.fullmatch(r"(\d+\.\d+\.\d+)-rattle\.(\d+)", version).groups()
-    numbers = ".".join(re.findall(r"LITRS_VERSION_\w+ (\d+)", HEADER))
     description = (installed / "lib/pkgconfig/litrs.pc").read_text()
     found = {
-        "the header": re.search(r'LITRS_VERSION "(.*)"', HEADER)[1],
-        "its numbers": f"{numbers}-rattle.{release}",
         "litrs.py": getattr(module, "__version__", None),
         "the library": module.version(),
         "the description": re.search(r"^Description: .* (\S+)$", description, re.M)[1],
     }
     if set(found.values()) != {version}:
         yield f"the version {version} is another: {found}"
-    page = (CRATE / "README.md").read_text()
-    if f"The version {version} is {upstream}.{release} to `pkg-config`" not in page:
-        yield "the page of the crate names another version for pkg-config"
     major, conditions = upstream.split(".")[0], []
     conditions += [(f"= {upstream}.{release}", 0), (f">= {upstream}", 0), (f">= {major}", 0)]
     conditions += [(f"< {int(major) + 1}", 0), (f"= {upstream}.{int(release) + 1}", 1)]
@@ -724,7 +718,7 @@ def main():
         faults += faults_of_move(folder, installed)
     print(*faults[:20], sep="\n", end="\n" if faults else "")
     print(f"c library: the header by {headers} standards, {calls} calls from Python")
-    print(f"c library: {number + headers + calls + 32 - len(faults)} passed, {len(faults)} failed")
+    print(f"c library: {number + headers + calls + 31 - len(faults)} passed, {len(faults)} failed")
     return 1 if faults else 0
 
 
