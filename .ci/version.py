@@ -19,6 +19,8 @@ PLACES = [
     ("crates/litrs_explain/src/options.rt", r'const VERSION: &str = "(.*)";', FULL),
     ("crates/litrs_c/src/static_texts.rt", r'zero_ended \(codes "(\d.*)"\)', FULL),
     ("crates/litrs_c/src/static_texts.rt", r'text: b"(\d.*)\\0"', FULL),
+    ("crates/litrs_c/wrong/litrs_get_version_not_ended.edit", r'old: text: b"(.*)\\0"', FULL),
+    ("crates/litrs_c/wrong/litrs_get_version_not_ended.edit", r'new: text: b"(.*)"', FULL),
     ("crates/litrs_c/include/litrs.h", r'LITRS_VERSION "(.*)"', FULL),
     ("crates/litrs_c/include/litrs.h", r"LITRS_VERSION_MAJOR (.*)", MAJOR),
     ("crates/litrs_c/include/litrs.h", r"LITRS_VERSION_MINOR (.*)", MINOR),
