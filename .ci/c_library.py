@@ -9,12 +9,12 @@ pkg-config says. Both libraries there define the calls of litrs.h and no other n
 compiles by each standard of C and C++ that the compilers at hand know.
 
 Each row of the table of `litrs_vectors` that is about literals of any kind, about what texts begin,
-or about what stands at their front, and whose text has at most 65,536 bytes, has to be answered as
+or about the literal at their front, and whose text has at most 65,536 bytes, has to be answered as
 it says by the C program .ci/c_library.c and by the module litrs.py, with the names, descriptions
 and marks that docs/GRAMMAR.md has; each prefix of its text, at each byte, has to be refused as not
 UTF-8 where Python does not decode it, and answered alike by both. Where valgrind is at hand the
 program runs under it over the texts of the rows. The samples of crates/litrs_c/README.md have to
-print what stands below them, built and run by the lines of that page, those in C as programs in
+print what the page has below them, built and run by the lines of that page, those in C as programs in
 C++ too. Each text of crates/litrs_lexer/tokens has the tokens of its row, and every text has the
 same tokens by both. What else of the module is tried, python_module.py says. Numbers that
 float_numbers.py draws, of which many lie halfway between two floats, have the double and the float
@@ -105,7 +105,7 @@ def tokens_of(module, text):
 class Wanted:
     """What is to be answered of a text: the fields, None where nothing is known of one, how often
     memory is to be asked for by each call but litrs_goes_on, the status and length of what
-    stands at its front, the fields of the object or exception of the module, and of a number the
+    is at its front, the fields of the object or exception of the module, and of a number the
     bits of the double and of the float, and how often memory is to be asked for each; and the
     tokens, as the C program prints them."""
 
@@ -299,7 +299,7 @@ def faults_of_front(wanted, fields, refused, asked):
         if asked != wanted.asked:
             yield f"memory was asked for {asked} times by litrs_parse_prefix"
     if wanted.front[0] == REFUSED and not 0 < length <= len(wanted.text):
-        yield f"{length} bytes are meant as a literal"
+        yield f"the malformed literal at the front has {length} bytes"
     if wanted.front[0] is not None and refused != status_without_memory(answer[0], asked > 0):
         yield f"{refused} at the front with every allocation refused, for {answer[0]}"
 
@@ -370,7 +370,7 @@ def faults_of_module(module, wanted):
         whole, front = outcome(module.parse, text), outcome(module.parse_prefix, text)
         yield from (f"{it} of {type(text)}" for it in faults_of_call(module, wanted, text, whole))
         if wanted.fields[24] is not None and module.goes_on(text) != wanted.fields[24]:
-            yield f"the module says otherwise whether {type(text)} goes on"
+            yield f"the module and C differ on whether {type(text)} can be completed"
         if wanted.front[0] == LITERAL and isinstance(front, tuple):
             length = wanted.front[1]
             length = length if text is wanted.text else len(wanted.text[:length].decode())
@@ -440,7 +440,7 @@ def faults_of_call(module, wanted, text, whole):
             expected = [*expected[:2], span, *expected[3:]]
         got = fields_of_error(whole, in_bytes, expected)
         if whole.length != len(text):
-            yield f"a length of {whole.length} was meant as a literal"
+            yield f"the malformed literal has the length {whole.length}"
     else:
         got = whole
     if got != expected:
@@ -510,24 +510,18 @@ def faults_of_names(installed):
 
 
 def faults_of_versions(installed, module):
-    """Versions that differ, and conditions on that of litrs.pc that pkg-config decides wrongly."""
-    changes = (TOP / "CHANGELOG.md").read_text()
-    version = re.search(r"^## \[(\d\S*)\]", changes, re.M)[1]
+    """Installed versions that differ from that of the header, and conditions on that of litrs.pc
+    that pkg-config decides wrongly."""
+    version = re.search(r'LITRS_VERSION "(.*)"', HEADER)[1]
     upstream, release = re.fullmatch(r"(\d+\.\d+\.\d+)-rattle\.(\d+)", version).groups()
-    numbers = ".".join(re.findall(r"LITRS_VERSION_\w+ (\d+)", HEADER))
     description = (installed / "lib/pkgconfig/litrs.pc").read_text()
     found = {
-        "the header": re.search(r'LITRS_VERSION "(.*)"', HEADER)[1],
-        "its numbers": f"{numbers}-rattle.{release}",
         "litrs.py": getattr(module, "__version__", None),
         "the library": module.version(),
         "the description": re.search(r"^Description: .* (\S+)$", description, re.M)[1],
     }
     if set(found.values()) != {version}:
         yield f"the version {version} is another: {found}"
-    page = (CRATE / "README.md").read_text()
-    if f"The version {version} is {upstream}.{release} to `pkg-config`" not in page:
-        yield "the page of the crate names another version for pkg-config"
     major, conditions = upstream.split(".")[0], []
     conditions += [(f"= {upstream}.{release}", 0), (f">= {upstream}", 0), (f">= {major}", 0)]
     conditions += [(f"< {int(major) + 1}", 0), (f"= {upstream}.{int(release) + 1}", 1)]
@@ -724,7 +718,7 @@ def main():
         faults += faults_of_move(folder, installed)
     print(*faults[:20], sep="\n", end="\n" if faults else "")
     print(f"c library: the header by {headers} standards, {calls} calls from Python")
-    print(f"c library: {number + headers + calls + 32 - len(faults)} passed, {len(faults)} failed")
+    print(f"c library: {number + headers + calls + 31 - len(faults)} passed, {len(faults)} failed")
     return 1 if faults else 0
 
 

@@ -69,7 +69,7 @@ FLOATS = [
 ]
 # A string's text, in Rust and in Python.
 STRINGS = [('"a\\tb\\\\"', "a\tb\\"), ('"\\u{1f98a}é"', "\U0001f98aé"), ('r#"a"b"#', 'a"b')]
-# A text with what is found in it: what stands there, or the refused text and what is wrong in it.
+# A text with what is found in it: a literal, or a malformed one and the part of it that is wrong.
 SOURCE = """fn f<'a>(x: &'a str) -> u8 { let s = "a
 b" + foo1 + r#"x"y"# ; 0b12 + 1..2; 'x' }
 // 日本 "\\q" b'\\xff' 1.5e3f32 true_ true

@@ -21,7 +21,7 @@ class Crate:
     deps: list
 
     def below(self, crates):
-        """The crates of the repository that this one stands on."""
+        """The crates of the repository that this one depends on."""
         found = {it for it in self.deps if it in crates}
         return sorted(found.union(*(crates[it].below(crates) for it in found)))
 

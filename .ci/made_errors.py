@@ -4,7 +4,7 @@ memory by a number that is not known to be a length of what it will hold.
 
 Outside tests an `AllocError` comes from the library alone, and so does a `fmt::Error`. A failure is
 an `AllocError`, an `OutOfMemory`, or the variant that some `fn from(_: AllocError)` makes, as
-`Memory`. It may stand in types, imports, clauses, declarations and patterns, beside `==` and `!=`,
+`Memory`. It may occur in types, imports, clauses, declarations and patterns, beside `==` and `!=`,
 in the body of such a `from`, and in two more places:
 
 - in the answer of a one-line arm whose pattern is one failure, as
@@ -69,7 +69,7 @@ NO_AMOUNT = (
 FROM = r"\s*fn from\(\w+: Alloc(?:Error|Failed<\w+>)\) -> \w+(?: \{)?$"
 # What is skipped as a whole, up to the closing brace under its first column.
 SKIPPED = rf"{FROM}|\s*(pub(\(\w+\))? )?(enum|struct) \w+[^;]*\{{$"
-# Where the names may stand: types, imports, clauses and patterns.
+# Where the names may occur: types, imports, clauses and patterns.
 ALLOWED = [
     r"//.*",
     r"^\s*(pub )?use (?![^;]*\b(AllocError|OutOfMemory|Memory|Error) as\b)[^;]*;",

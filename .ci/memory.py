@@ -22,7 +22,7 @@ ROOM = 1 << 16
 LINES = [1_000, 40_000, 81_000, 82_000, 83_000, 100_000]
 # The bytes of a line without its LF.
 LENGTH = 50
-# A name, what a line ends with, what it stands for with its LF, and what stands around the lines.
+# A name, what a line ends with, its value with its LF, and the texts around the lines.
 SHAPES = [
     ("continuations", b"\\", b"", b'"', b'"'),
     ("escapes", b"\\n\\t", b"\n\t\n", b'"', b'"'),

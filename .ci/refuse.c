@@ -9,7 +9,7 @@
  *                       that the block had before, the status, the bytes that follow
  *     1 rows hold..     what it printed on both standard outputs, and a line end
  *
- * The process itself then goes on, and nothing is refused to it. */
+ * The process itself then continues, and nothing is refused to it. */
 #include <errno.h>
 #include <fcntl.h>
 #include <malloc.h>
@@ -18,7 +18,7 @@
 #include <sys/wait.h>
 #include <unistd.h>
 
-/* After so many seconds a copy is ended. */
+/* A copy is ended after this number of seconds. */
 #define SECONDS 60
 
 void *__libc_malloc(size_t size);
@@ -79,7 +79,7 @@ static int is_copy(const char *how) {
     return 0;
 }
 
-/* Whether an allocation of so many bytes, for a block or a new one, is refused. */
+/* Returns 1 if an allocation of `size` bytes is refused, for this block or a new one. */
 static int is_refused(void *block, size_t size) {
     if (state == REFUSES_NONE)
         return 0;

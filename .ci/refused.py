@@ -6,8 +6,8 @@
 Runs both builds of crates/litrs_vectors, which `rt ci` leaves in its out/, on each row of its table
 and of texts that are generated here, or on the rows of the file ROWS alone, a row a process, without
 the prefixes of its text. Some of the lengths in generated texts are drawn anew in each run; SEED,
-which is printed, draws the same again. By .ci/refuse.c a process goes on from each of its
-allocations also as a copy in which that one is refused, and as one in which all from there on are.
+which is printed, draws the same again. By .ci/refuse.c a process is copied at each of its
+allocations: into one in which that one is refused, and one in which all from there on are.
 
 Where one is refused, either a call of the library answered it, and the program prints which one,
 makes the call again and has all else to say as before, also of what the refused call was made on:
@@ -191,7 +191,7 @@ def sized(draw):
         plain = "".join(draw.choice("abcxyz019 _#'") for _ in range(length))
         at = draw.randrange(length) if length else 0
         begin, end = plain[:at], plain[at + 1 :]
-        # A continuation stands for nothing.
+        # A continuation has an empty value.
         body, value = (f"{begin}\\n{end}", f"{begin}%0A{end}") if length else ("\\%0A", "")
         for front, kind in [("", "string"), ("b", "bytestring"), ("c", "cstring")]:
             row = f'Literal\t{front}"{body}"{SUFFIX}\t{kind}\t{SUFFIX}\tescaped\t{value}'
@@ -217,8 +217,8 @@ class Build:
         self.faults = []
 
     def try_row(self, task):
-        """Refuses each allocation of a row in turn. Where it is known how many bytes the value
-        takes, so many have to be asked for."""
+        """Refuses each allocation of a row in turn. If the number of bytes of the value is
+        known, exactly that number has to be asked for."""
         number, (row, room) = task
         records = self.folder / f"{self.program.name}.{number}"
         environment = {"LD_PRELOAD": self.library, "REFUSED": records}

@@ -43,7 +43,7 @@ LONG = ["/*", "'", '"', 'r#"']
 
 
 def bytes_of(field):
-    """The bytes that a field of the table stands for."""
+    """Returns the bytes that a field of the table spells."""
     parts = re.split("%([0-9a-f]{2})", field)
     return b"".join(bytes.fromhex(it) if n % 2 else it.encode() for n, it in enumerate(parts))
 

@@ -1,11 +1,11 @@
 #!/usr/bin/env python3
-"""Checks that each line of code that docs/TOUR.md quotes stands in its file.
+"""Checks that each line of code that docs/TOUR.md quotes is in its file.
 
     .ci/tour.py
 
-A block of code is a run of lines that are set in by four blanks. It has to stand, line by line and
-in its order, in one of the files that its section names before it; `..` stands for what is left out.
-A file is named by the end of its path, and has to be there.
+A block of code is a run of lines that are set in by four blanks. Its lines have to be, in their
+order, in one of the files that its section names before it; `..` marks what is left out. A file
+is named by the end of its path, and has to be there.
 """
 import pathlib
 import re
@@ -37,8 +37,8 @@ def squeezed(text):
     return " ".join(text.split())
 
 
-def stands_in(block, text):
-    """Whether the pieces of a block stand in a text, one after the other."""
+def is_in(block, text):
+    """Returns whether the pieces of a block are in a text, one after the other."""
     place, text = 0, squeezed(text)
     for line in block.splitlines():
         for piece in re.split(r"(?:^|(?<=\s))\.\.(?=\s|$)", line):
@@ -61,7 +61,7 @@ def main():
             names = NAMED.findall(before)
             near = [it for it in every if any(it.as_posix().endswith("/" + n) for n in names)]
             count += 1
-            if not any(stands_in(block, it.read_text()) for it in near):
+            if not any(is_in(block, it.read_text()) for it in near):
                 faults.append(f"{head}: not in {', '.join(names) or 'a file'}:\n{block}")
     print(*faults, sep="\n", end="\n" if faults else "")
     print(f"tour: {count} blocks, {len(faults)} faults")

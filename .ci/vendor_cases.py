@@ -161,7 +161,7 @@ def is_in_ours(word, folder, links=None, **how):
 
 
 def has_own_crate(files, folder, links=None):
-    """A crate of theirs has the name of one of ours, on which the named one stands."""
+    """A crate of theirs has the name of one of ours, on which the named one depends."""
     room = Room(folder, {"crates.txt": "litrs_low:\n", **files}, links or {})
     yield from room.faults_of_stop(1, ["theirs"], "crates/litrs_low is not a copy")
 
@@ -231,7 +231,7 @@ def is_stopped(tool, signal, calls, folder):
 def is_run_again(tool, calls, folder):
     """The run after one that was killed leaves nothing of it, whether it copies the same crates or
     one of them: then the other is the older copy, or the newer if all were replaced. A folder of a
-    run that goes on stays, and one that names no run."""
+    run that has not ended stays, and one that names no run."""
     live = {"crates/.vendor.live/run": f"{os.uname().nodename} {os.getpid()}\n"}
     live["crates/.vendor.mine/older/app/src/lib.rt"] = "// mine\n"
     for call in calls:

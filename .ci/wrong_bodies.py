@@ -11,7 +11,7 @@ crates below it are proved, over copies of their libraries, and at the least pri
 that `rt ci` and what comes after it leave idle.
 
 A wrong body is a file `crates/CRATE/wrong/NAME.edit` of lines `file:`, `old:` and `new:`, as in
-`must-fail/`. Each is read before any is tried: where an old text does not stand just once in its
+`must-fail/`. Each is read before any is tried: where an old text does not occur exactly once in its
 file, the script names every such edit and stops.
 
 As many as fit, one a function, are put into a copy of their crate, and the crate is checked once
@@ -109,7 +109,7 @@ def is_empty(line):
 
 def owner_at(text, offset):
     """The impl or trait around this place of a source file, and the function, constant or ghost
-    member that it stands in, or that its attribute is of, each None where there is none."""
+    member that contains it, or that its attribute is of, each None where there is none."""
     end = text.find("\n", offset)
     while text[text.rfind("\n", 0, end) + 1 : end].lstrip().startswith("#["):
         end = text.find("\n", end + 1)
@@ -172,8 +172,8 @@ def path_of(file, *names):
 
 
 def owners_of(file, text, offset):
-    """The paths of the functions that a change at this place touches. A path that ends in `::` stands
-    for all that is in an impl."""
+    """The paths of the functions that a change at this place touches. A path that ends in `::` is
+    that of an impl, and covers all that is in it."""
     around, inside = owner_at(text, offset)
     if inside and inside[0] == "fn":
         return {path_of(file, around, inside[1])}
@@ -292,7 +292,7 @@ def read_edit(path, originals, is_wrong=True):
             new = line.removeprefix("new:").removeprefix(" ")
             count = texts[file].count(old) if old and file in texts else 0
             if count != 1:
-                raise Unreadable(f"{path}: this stands {count} times in {file}: {old}")
+                raise Unreadable(f"{path}: this occurs {count} times in {file}: {old}")
             at = texts[file].index(old) + len(old) - len(old.lstrip())
             if not same(old, new):
                 owners |= owners_of(file.removeprefix("src/"), texts[file], at)
@@ -339,7 +339,7 @@ class Crate(libraries.Crate):
 
 
 def messages_of(output):
-    """The lines of a check, each with the indented lines below it, by which a long message goes on."""
+    """The lines of a check, each with the indented lines below it, which continue a long message."""
     messages = []
     for line in output.rstrip("\n").split("\n"):
         if line.startswith("  ") and messages:

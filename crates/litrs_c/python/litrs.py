@@ -328,8 +328,8 @@ def _written(call, *words):
 
 
 def _literal(text, data, answer, start=0, offset=0):
-    """Returns the literal that the answer on the bytes says, or raises the exception that it stands
-    for. The text begins at `start` in its source, and the bytes at `offset` in those of it."""
+    """Returns the literal of an answer on the bytes, or raises the exception of its status. The
+    text begins at `start` in its source, and the bytes at `offset` in those of it."""
     if answer.status == _NOT_UTF8:
         data.decode()
     if answer.status == _OUT_OF_MEMORY:

@@ -1,4 +1,17 @@
 //! The loop that reads a quoted body.
+//!
+//! [`read_items`] reads the items of a body: plain characters, escapes and continuations. It puts
+//! their values into a [`Sink`], of which there are three:
+//!
+//! - [`Counted`](crate::sink::Counted) keeps only the length of the value.
+//! - [`Room`](crate::room::Room) keeps a value of at most `N` bytes on the stack.
+//! - [`Filled`](crate::filled::Filled) keeps a value in a container, such as a `String`. Short
+//!   pieces are collected in a `Room` first.
+//!
+//! A [`Reading`] is the state of the loop, between two items. A [`Stop`] is the item or the closing
+//! quote after the plain characters. A [`Reached`] is the result of a call: the closing quote, an
+//! error, or the state at which the sink is full. A full sink is unchanged, and the loop continues
+//! from that state with another sink.
 ghost use Rattle.std.specs.Prelude.{not, ◌||◌, ◌≤◌, IsTrue};
 ghost use Rattle.litrs_lex.specs.Reading.{IsReading, HasReached};
 

@@ -6,8 +6,6 @@
 #[cfg(test)]
 mod built_bytes;
 #[cfg(test)]
-mod built_characters;
-#[cfg(test)]
 mod built_numbers;
 #[cfg(test)]
 mod built_raws;
@@ -16,8 +14,6 @@ mod containers;
 #[cfg(test)]
 mod errors;
 #[cfg(test)]
-mod lengths;
-#[cfg(test)]
 mod lines;
 #[cfg(test)]
 mod mismatches;
@@ -25,8 +21,6 @@ mod mismatches;
 mod printed;
 #[cfg(test)]
 mod printing;
-#[cfg(test)]
-mod rewritten;
 #[cfg(test)]
 mod rooms;
 #[cfg(test)]

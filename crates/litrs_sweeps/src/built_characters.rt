@@ -1,11 +1,15 @@
 //! Chars and strings of every character, each built in one allocation.
-use crate::built_numbers::is_exact;
 use litrs_build::{char, string};
 use std::alloc::{AllocError, Global};
 use std::process::Abort;
 
 /// The number of characters.
 const CHARACTERS: u32 = 0x11_0000 - 0x800;
+
+/// Returns `true` if the capacity of a text is its length.
+fn is_exact(text: String) -> bool {
+    text.capacity() == text.len()
+}
 
 /// Returns the number of characters that have a char.
 fn chars(alloc: Global) -> u32 {

@@ -1,5 +1,4 @@
 //! Literals of each length are printed while there is memory.
-use crate::printed::is_printed;
 use litrs::Literal;
 use std::alloc::{AllocError, Global};
 use std::process::Abort;
@@ -19,7 +18,10 @@ const PRINTED: &[(&str, &str)] = &[
 /// Returns `true` if all of the literal of a text is printed.
 fn is_literal_printed(alloc: Global, text: &str) -> bool {
     match Literal::parse(alloc, text) {
-        Ok(lit) => is_printed(alloc, &lit, text),
+        Ok(lit) => match lit.to_string(alloc) {
+            Ok(printed) => printed.as_str() == text,
+            Err(_) => false,
+        },
         Err(_) => false,
     }
 }
