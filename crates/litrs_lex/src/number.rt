@@ -1,6 +1,7 @@
 //! Numbers.
 ghost use Rattle.std.specs.Prelude.{◌≡◌, IsTrue, IfOk, IfErr};
 ghost use Rattle.std.specs.Char.{is_ascii_digit};
+ghost use Rattle.std.specs.List.{list_all};
 ghost use Rattle.std.specs.Str.{chars};
 ghost use Rattle.litrs_base.specs.Text.{first_passes};
 ghost use Rattle.litrs_grammar.specs.Literal.{kind_parse};
@@ -31,9 +32,40 @@ pub enum NumberCut {
 /// Returns the error of [`cut_float`](crate::cut_float) or [`cut_integer`](crate::cut_integer).
 ///
 /// [ref]: https://doc.rust-lang.org/reference/tokens.html#number-literals
+// Inlined up to the shortest integers, which are half of the literals of most sources.
+#[inline(always)]
+pub fn cut_number(input: &str) -> Result<NumberCut, ParseError>
+    requires { IsTrue (first_passes is_ascii_digit input.now) }
+    ensures ok { IfOk result (λ cut. IsNumberCut cut input.now) }
+    ensures refused { IfErr result
+        (IsRefused (kind_parse (number_kind (chars input.now))) (chars input.now)) }
+{
+    if is_short_decimal(input.as_bytes()) {
+        Ok(NumberCut::Integer(IntegerCut {
+            start_main: 0,
+            end_main: input.len(),
+            base: IntegerBase::Decimal,
+        }))
+    } else {
+        cut_any_number(input)
+    }
+}
+
+/// Returns `true` if `bytes`, which start with a digit, are one to three digits. Reads the byte in
+/// the middle and the last one, without a loop.
+#[inline(always)]
+fn is_short_decimal(bytes: &[u8]) -> bool
+    requires { IsTrue (first_passes is_ascii_digit bytes.now) }
+    ensures { IsTrue result → IsTrue (list_all is_ascii_digit bytes.now) }
+{
+    let len = bytes.len();
+    len <= 3 && bytes[len / 2].is_ascii_digit() && bytes[len - 1].is_ascii_digit()
+}
+
+/// Like [`cut_number`], without the test for the shortest integers.
 // Not inlined, so that the parse of a literal is small enough to be inlined.
 #[inline(never)]
-pub fn cut_number(input: &str) -> Result<NumberCut, ParseError>
+fn cut_any_number(input: &str) -> Result<NumberCut, ParseError>
     requires { IsTrue (first_passes is_ascii_digit input.now) }
     ensures ok { IfOk result (λ cut. IsNumberCut cut input.now) }
     ensures refused { IfErr result

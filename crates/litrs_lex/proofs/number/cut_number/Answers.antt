@@ -1,21 +1,10 @@
--- How the text begins decides as which kind of number it is refused.
-use Rattle.std.proofs.Common.{true, false, sym, ap, ◌∙◌}
-use Rattle.litrs_grammar.specs.LiteralRefusals.{begins_float}
-use Rattle.litrs_lex.proofs.NumberBytes.{refused_by_kind}
+-- Digits alone, or any number.
+use Rattle.std.proofs.Common.{sym, ap, ◌∙◌}
+use Rattle.std.specs.Char.{is_ascii_digit}
+use Rattle.std.specs.List.{list_all}
+use Rattle.litrs_lex.proofs.NumberBytes.{digits_are_an_integer}
 use Rattle.litrs_lex.proofs.number.cut_number.Goals as goal
 
-pub returns-in-Err-clause-refused : goal.returns-in-Err-clause-refused
-returns-in-Err-clause-refused c =
-    refused_by_kind c.args.input.now true c.in-Err.e c.utf8.input
-    (ap begins_float (sym c.as_bytes.ensures.value) ∙ sym c.if-begins_float.ensures) c.in-Err.ensures.refused
-
-pub returns-in-Err-cut_integer_at-clause-refused : goal.returns-in-Err-cut_integer_at-clause-refused
-returns-in-Err-cut_integer_at-clause-refused c =
-    refused_by_kind c.args.input.now false c.in-Err-cut_integer_at.e c.utf8.input
-    (ap begins_float (sym c.as_bytes.ensures.value) ∙ sym c.if-begins_float.ensures) c.in-Err-cut_integer_at.ensures.refused
-
-pub returns-in-Ok-clause-ok : goal.returns-in-Ok-clause-ok
-returns-in-Ok-clause-ok c = (c.in-Ok.ensures.ok, c.in-Ok.ensures.places)
-
-pub returns-in-Ok-cut_integer_at-clause-ok : goal.returns-in-Ok-cut_integer_at-clause-ok
-returns-in-Ok-cut_integer_at-clause-ok c = (c.in-Ok-cut_integer_at.ensures.ok, c.in-Ok-cut_integer_at.ensures.places)
+pub returns-then-is_short_decimal-clause-ok : goal.returns-then-is_short_decimal-clause-ok
+returns-then-is_short_decimal-clause-ok c = digits_are_an_integer c.args.input.now c.utf8.input c.requires
+    (ap (list_all is_ascii_digit) (sym c.as_bytes.ensures.value) ∙ c.is_short_decimal.ensures c.if-is_short_decimal.true)
