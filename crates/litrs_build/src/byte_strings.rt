@@ -105,7 +105,10 @@ fn first_piece(bytes: &[u8]) -> (Piece<'_>, &[u8])
 {
     let plain = plain_front(bytes);
     if plain.is_empty() {
-        (Piece::Spelled(Spelling::of_byte(bytes[0], '"')), &bytes[1..])
+        (
+            Piece::Spelled(Spelling::of_byte(bytes[0], '"')),
+            &bytes[1..],
+        )
     } else {
         (Piece::Plain(plain), &bytes[plain.len()..])
     }

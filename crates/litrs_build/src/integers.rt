@@ -115,7 +115,14 @@ pub fn regroup<B: Text>(
     // Called for its contract: the parts are those of an integer.
     let _ = lit.raw_input();
     let main = lit.raw_main_part();
-    written(alloc, lit.base(), main.as_bytes(), false, group, lit.suffix())
+    written(
+        alloc,
+        lit.base(),
+        main.as_bytes(),
+        false,
+        group,
+        lit.suffix(),
+    )
 }
 
 /// Returns `true` if an integer of this base may have this suffix.
@@ -179,18 +186,19 @@ fn write_digits(value: u128, base: IntegerBase, buffer: &mut [u8; MAX_DIGITS]) -
     }
 }
 
-/// Like [`write_digits`], in base ten.
+/// Like [`write_digits`], in base ten, by 64 bits if they suffice.
 fn write_decimal(value: u128, buffer: &mut [u8; MAX_DIGITS]) -> usize
     ensures digits { drop result buffer.new ≡ written_digits IntegerBase.Decimal value }
     ensures within { result ≤ MAX_DIGITS }
 {
-    if value > u128::from(u64::MAX) {
+    if value >> 64 != 0 {
         return write_in_radix::<10>(value, buffer);
     }
     itoa::write_digits(value as u64, buffer, MAX_DIGITS)
 }
 
-/// Like [`write_digits`], in this radix. The compiler knows it, and divides without a division.
+/// Like [`write_digits`], in this radix. It is a constant, so that the compiler divides by shifts if it
+/// is a power of two.
 fn write_in_radix<const RADIX: usize>(value: u128, buffer: &mut [u8; MAX_DIGITS]) -> usize
     requires { (2 ≤ RADIX) × (RADIX ≤ 16) }
     ensures digits { drop result buffer.new ≡ digits_in_radix RADIX value }

@@ -112,7 +112,10 @@ fn first_piece(text: &str, follows_mark: bool) -> (Piece<'_>, &str)
     }
     let mut chars = text.chars();
     match chars.next() {
-        Some(c) => (Piece::Spelled(Spelling::of_char(c, '"', follows_mark)), chars.as_str()),
+        Some(c) => (
+            Piece::Spelled(Spelling::of_char(c, '"', follows_mark)),
+            chars.as_str(),
+        ),
         None => unreachable!(),
     }
 }
