@@ -1,6 +1,6 @@
 -- Lines in the bytes of a text.
-use Rattle.std.proofs.Common.{◌≡◌, ◌≢◌, ◌≤◌, ◌<◌, ◌+◌, ◌-◌, ℕ, false, eqb, List, [], ◌∷◌, ◌++◌, Option, Some, None, MatchOption, Bor, length, take, drop, get_or, unwrap_or, refl, sym, ap, subst, ◌∙◌, arith, lit<, append_assoc, append-nil, length-append, length-drop, take_all, drop_of_length-le}
-use Rattle.std.specs.List.{list_any}
+use Rattle.std.proofs.Common.{◌≡◌, ◌≢◌, ◌≤◌, ◌<◌, ◌+◌, ◌-◌, ℕ, true, false, eqb, ltb, List, [], ◌∷◌, ◌++◌, Option, Some, None, MatchOption, Bor, length, take, drop, get_or, unwrap_or, refl, sym, ap, subst, ◌∙◌, arith, lit<, append_assoc, append-nil, length-append, length-drop, take_all, drop_of_length-le}
+use Rattle.std.specs.List.{list_any, list_all}
 use Rattle.std.specs.Str.{chars, IsUtf8, IsCharBoundary, NoCharPasses, encode_utf8_all}
 use Rattle.std.specs.Str.Pattern.{HasCharAt, FindsChar, RFindsChar, FindsCharSuffix}
 use Rattle.std.proofs.lemmas.List.{take-append-drop, take_at, drop_at, take-append-le}
@@ -9,8 +9,8 @@ use Rattle.std.proofs.lemmas.Str.{chars_from_encodes, chars-append, chars-nil, e
 use Rattle.std.proofs.lemmas.Str.Pattern.{strip_suffix_char}
 use Rattle.litrs_base.proofs.Chars.{chars_ascii, utf8_after_ascii, ascii_by_test}
 use Rattle.litrs_diagnostic.specs.Position.{is_line_feed, last_line}
-use Rattle.litrs_diagnostic.specs.Line.{first_line}
-use Rattle.litrs_diagnostic.proofs.TextLines.{none_pass, none_in_front, last_line-none, last_line-after, first_line-none, first_line-line_feed, first_line-carriage_return}
+use Rattle.litrs_diagnostic.specs.Line.{first_line, without_line_end}
+use Rattle.litrs_diagnostic.proofs.TextLines.{none_pass, none_in_front, last_line-none, last_line-after, first_line-none, first_line-line_feed, first_line-carriage_return, without_line_end-line_feed, without_line_end-carriage_return}
 
 pub no_line_feed : (bs : List ℕ) → IsUtf8 bs → NoCharPasses (λ d. eqb d 10) bs →
     list_any is_line_feed (chars bs) ≡ false
@@ -148,6 +148,36 @@ first_line_found bs line i j (Some x) u found same stripped =
     let e : line.now ≡ x.now ++ 13 ∷ [] = strip_suffix_char 13 line.now (Some x) stripped
     (lit< tt) in
     line_shortened bs x.now i j u found (sym same ∙ e)
+
+-- ---- without the end of its last line
+
+-- the bytes without a line end, and the line end after them
+pub record IsWithoutLineEnd (bs out : List ℕ) : Type 0 where
+  pub value : out ≡ without_line_end bs
+  pub front : (end : List ℕ) × IsUtf8 end × (bs ≡ out ++ end)
+
+ascii_utf8 : (bs : List ℕ) → list_all (λ c. ltb c 128) bs ≡ true → IsUtf8 bs
+ascii_utf8 bs h = IsUtf8-from_ascii bs (ascii_by_test bs h)
+
+pub line_end_stripped : (bs : List ℕ) (line : Bor (List ℕ)) (r : Option (Bor (List ℕ))) →
+    bs ≡ line.now ++ 10 ∷ [] → IsStripped line.now r →
+    IsWithoutLineEnd bs (unwrap_or r line).now
+line_end_stripped bs line None whole stripped =
+    let lacks : (front : List ℕ) → line.now ≢ front ++ 13 ∷ [] =
+    strip_suffix_char 13 line.now None stripped (lit< tt) in
+    record {
+      value = sym (ap without_line_end whole ∙ without_line_end-line_feed line.now lacks);
+      front = (10 ∷ [], ascii_utf8 (10 ∷ []) refl, whole);
+    }
+line_end_stripped bs line (Some x) whole stripped =
+    let more : line.now ≡ x.now ++ 13 ∷ [] = strip_suffix_char 13 line.now (Some x) stripped
+    (lit< tt) in
+    let all : bs ≡ x.now ++ 13 ∷ 10 ∷ [] = whole ∙ (ap (λ (l : List ℕ). l ++ 10 ∷ []) more
+    ∙ append_assoc x.now (13 ∷ []) (10 ∷ [])) in
+    record {
+      value = sym (ap without_line_end all ∙ without_line_end-carriage_return x.now);
+      front = (13 ∷ 10 ∷ [], ascii_utf8 (13 ∷ 10 ∷ []) refl, all);
+    }
 
 -- ---- a line that is cut
 

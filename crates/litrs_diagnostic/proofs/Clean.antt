@@ -14,9 +14,11 @@ use Rattle.litrs_base.proofs.Runs.{list_all-append, list_all-weaken}
 use Rattle.litrs_diagnostic.specs.Printable.{is_printable}
 use Rattle.litrs_diagnostic.specs.Position.{is_line_feed, line_number, column_in}
 use Rattle.litrs_diagnostic.specs.Shown.{blank, caret, shown, shown_char, columns}
-use Rattle.litrs_diagnostic.specs.Line.{start_line, end_line}
+use Rattle.litrs_diagnostic.specs.Line.{place_on_line, start_line, end_line}
 use Rattle.litrs_diagnostic.specs.Window.{Window, fitted}
-use Rattle.litrs_diagnostic.specs.Diagnostic.{blanks, carets, dots, gap_text, line_text, lines_text, message_text, diagnostic_text, is_line_feed_or_printable}
+use Rattle.litrs_diagnostic.specs.declared.levels.Level.{Level}
+use Rattle.litrs_diagnostic.specs.declared.levels.Level.TheVariants.{Error, Warning, Note}
+use Rattle.litrs_diagnostic.specs.Diagnostic.{Message, level_text, blanks, carets, dots, gap_text, line_text, lines_text, message_text, diagnostic_text, is_line_feed_or_printable}
 use Rattle.litrs_diagnostic.proofs.Widths.{IsPlain, ArePlain, plain_escape}
 
 -- ---- printable ASCII
@@ -190,12 +192,18 @@ lines_clean margin first_line width before range after =
     (gap_clean first last) (line_clean margin last (fitted width (end_line range after))))
     none_clean)
 
-message_clean : (first_line first_column width : ℕ) (name message before range after : List ℕ) →
-    IsClean (message_text first_line first_column width name message before range after)
+level_printable : (level : Level) → list_all is_printable (level_text level) ≡ true
+level_printable Error = plain_by_test (codes "error") refl
+level_printable Warning = plain_by_test (codes "warning") refl
+level_printable Note = plain_by_test (codes "note") refl
+
+message_clean : (level : Level) (first_line first_column width : ℕ) (name message before range after : List ℕ) →
+    IsClean (message_text level first_line first_column width name message before range after)
 unfolding message_text
-message_clean first_line first_column width name message before range after =
+message_clean level first_line first_column width name message before range after =
     let margin = length (decimal (line_number first_line (before ++ range))) in
-    piece (codes "error: ") _ (plain_by_test (codes "error: ") refl)
+    piece (level_text level) _ (level_printable level)
+    (piece (codes ": ") _ (plain_by_test (codes ": ") refl)
     (piece (shown message) _ (shown_printable message)
     (line_end (blanks margin ++ (codes "--> " ++
     (shown name ++ (codes ":" ++ (decimal (line_number first_line before)
@@ -213,11 +221,14 @@ message_clean first_line first_column width name message before range after =
     (piece (codes " |") (10 ∷ lines_text margin first_line width before range after)
     (plain_by_test (codes " |") refl)
     (line_end (lines_text margin first_line width before range after)
-    (lines_clean margin first_line width before range after))))))))))))))
+    (lines_clean margin first_line width before range after)))))))))))))))
 
-pub diagnostic_clean : (name message source : List ℕ) (first_line first_column width start end : ℕ) →
-    list_all is_line_feed_or_printable (diagnostic_text name message source first_line first_column width start end) ≡ true
+pub diagnostic_clean : (m : Message) →
+    list_all is_line_feed_or_printable (diagnostic_text m) ≡ true
 unfolding diagnostic_text
-diagnostic_clean name message source first_line first_column width start end =
-    (message_clean first_line first_column width (chars name) (chars message) (chars (take start source))
-    (chars (slice_range source start end)) (chars (drop end source))).all
+diagnostic_clean m =
+    let start = place_on_line m.source m.start in
+    let end = place_on_line m.source m.end in
+    (message_clean m.level m.first_line m.first_column m.width (chars m.name) (chars m.message)
+    (chars (take start m.source)) (chars (slice_range m.source start end))
+    (chars (drop end m.source))).all

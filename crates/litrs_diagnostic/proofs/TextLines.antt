@@ -6,7 +6,7 @@ use Rattle.std.specs.List.{list_any}
 use Rattle.std.specs.Str.{NonePass}
 use Rattle.litrs_base.proofs.ListTests.{list_any-split}
 use Rattle.litrs_diagnostic.specs.Position.{is_line_feed, last_line, line_number, column_number, column_in}
-use Rattle.litrs_diagnostic.specs.Line.{is_carriage_return, ends_line, first_line}
+use Rattle.litrs_diagnostic.specs.Line.{is_carriage_return, ends_line, first_line, is_line_end, without_line_end}
 
 pub or_parts : (a b : Bool) → (a || b) ≡ false → (a ≡ false) × (b ≡ false)
 or_parts true b h = absurd (true≢false h)
@@ -127,3 +127,48 @@ first_line-carriage_return (x ∷ d ∷ xs) ys h =
     let more = or_parts (is_line_feed d) (list_any is_line_feed xs) parts.1 in
     rw (ends_line-within x d (xs ++ 13 ∷ 10 ∷ ys) parts.0 more.0)
     (ap (λ (l : List ℕ). x ∷ l) (first_line-carriage_return (d ∷ xs) ys parts.1))
+
+-- ---- the end of the last line
+
+-- no LF ends the text
+pub without_line_end-none : (t : List ℕ) → ((front : List ℕ) → t ≢ front ++ 10 ∷ []) →
+    without_line_end t ≡ t
+unfolding without_line_end
+without_line_end-none [] lacks = refl
+without_line_end-none (c ∷ []) lacks =
+    let other : eqb c 10 ≡ false = ne_eqb c 10 (λ e. lacks [] (ap (λ (x : ℕ). x ∷ []) e)) in
+    rw other refl
+without_line_end-none (c ∷ d ∷ []) lacks =
+    let other : eqb d 10 ≡ false = ne_eqb d 10 (λ e. lacks (c ∷ [])
+    (ap (λ (x : ℕ). c ∷ x ∷ []) e)) in
+    rw other (rw (and_false (is_carriage_return c)) refl)
+without_line_end-none (c ∷ d ∷ e ∷ t) lacks =
+    ap (λ (l : List ℕ). c ∷ l) (without_line_end-none (d ∷ e ∷ t)
+    (λ front is. lacks (c ∷ front) (ap (λ (l : List ℕ). c ∷ l) is)))
+
+longer-is_line_end : (x d y : ℕ) (xs ys : List ℕ) → is_line_end (x ∷ d ∷ (xs ++ y ∷ ys)) ≡ false
+longer-is_line_end x d y [] ys = refl
+longer-is_line_end x d y (e ∷ xs) ys = refl
+
+-- an LF after anything but a CR
+pub without_line_end-line_feed : (xs : List ℕ) →
+    ((front : List ℕ) → xs ≢ front ++ 13 ∷ []) → without_line_end (xs ++ 10 ∷ []) ≡ xs
+unfolding without_line_end
+without_line_end-line_feed [] lacks = refl
+without_line_end-line_feed (x ∷ []) lacks =
+    let other : eqb x 13 ≡ false = ne_eqb x 13 (λ e. lacks [] (ap (λ (c : ℕ). c ∷ []) e)) in
+    rw other refl
+without_line_end-line_feed (x ∷ d ∷ xs) lacks =
+    rw (longer-is_line_end x d 10 xs []) (ap (λ (l : List ℕ). x ∷ l)
+    (without_line_end-line_feed (d ∷ xs)
+    (λ front e. lacks (x ∷ front) (ap (λ (l : List ℕ). x ∷ l) e))))
+
+-- a CR and an LF
+pub without_line_end-carriage_return : (xs : List ℕ) →
+    without_line_end (xs ++ 13 ∷ 10 ∷ []) ≡ xs
+unfolding without_line_end
+without_line_end-carriage_return [] = refl
+without_line_end-carriage_return (x ∷ []) = refl
+without_line_end-carriage_return (x ∷ d ∷ xs) =
+    rw (longer-is_line_end x d 13 xs (10 ∷ [])) (ap (λ (l : List ℕ). x ∷ l)
+    (without_line_end-carriage_return (d ∷ xs)))

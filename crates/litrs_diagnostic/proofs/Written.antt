@@ -1,8 +1,8 @@
 -- The bytes of what is written, piece by piece.
-use Rattle.std.proofs.Common.{◌≡◌, ◌≤◌, ◌<◌, ◌+◌, ◌-◌, ℕ, Bool, true, false, ◌&&◌, cond, eqb, List, [], ◌∷◌, ◌++◌, max, length, replicate, refl, sym, ap, ◌∙◌, arith, append_assoc, ltb, nat_lt, lt-ltb, le-ltb, append-nil, count_by, zero, suc, ◌/◌, ◌%◌}
+use Rattle.std.proofs.Common.{◌≡◌, ◌≤◌, ◌<◌, ◌+◌, ◌-◌, ℕ, Bool, true, false, ◌&&◌, cond, eqb, List, [], ◌∷◌, ◌++◌, max, length, replicate, take, drop, refl, sym, ap, ◌∙◌, arith, append_assoc, ltb, nat_lt, lt-ltb, le-ltb, append-nil, count_by, zero, suc, ◌/◌, ◌%◌}
 use Rattle.std.specs.Fmt.{decimal, digits, digits_onto, digit_glyph}
-use Rattle.std.specs.List.{list_all}
-use Rattle.std.specs.Str.{encode_utf8_all, IsAscii}
+use Rattle.std.specs.List.{list_all, slice_range}
+use Rattle.std.specs.Str.{chars, encode_utf8_all, IsAscii}
 use Rattle.std.specs.Prelude.{codes}
 use Rattle.std.proofs.lemmas.Bool.{and_parts, eqb-true}
 use Rattle.std.proofs.lemmas.List.Sums.{sum_by-append}
@@ -11,9 +11,11 @@ use Rattle.std.proofs.lemmas.Str.Ascii.{IsAscii-cons, IsAscii-nil}
 use Rattle.litrs_base.proofs.Chars.{ascii_by_test}
 use Rattle.litrs_diagnostic.specs.Shown.{caret, char_columns, columns, shown, shown_char}
 use Rattle.litrs_diagnostic.specs.Position.{is_line_feed, line_number, column_in}
-use Rattle.litrs_diagnostic.specs.Line.{start_line, end_line}
+use Rattle.litrs_diagnostic.specs.Line.{place_on_line, start_line, end_line}
 use Rattle.litrs_diagnostic.specs.Window.{Window, fitted}
-use Rattle.litrs_diagnostic.specs.Diagnostic.{blanks, carets, dots, line_text, gap_text, lines_text, message_text}
+use Rattle.litrs_diagnostic.specs.declared.levels.Level.{Level}
+use Rattle.litrs_diagnostic.specs.declared.levels.Level.TheVariants.{Error, Warning, Note}
+use Rattle.litrs_diagnostic.specs.Diagnostic.{Message, level_text, blanks, carets, dots, line_text, gap_text, lines_text, message_text, diagnostic_text}
 
 -- ---- carets
 
@@ -137,36 +139,42 @@ line_bytes margin number filling start end l is_filling is_start is_end =
 -- ---- all of it
 
 -- the message, the place of the range's start, and what is before the lines
-abbrev pub heading : (name message : List ℕ) (margin line column : ℕ) (bs : List ℕ) → List ℕ
-heading name message margin line column bs =
-    ((codes "error: " ++ (encode_utf8_all (shown message) ++ codes "\n"))
+abbrev pub heading : (level name message : List ℕ) (margin line column : ℕ) (bs : List ℕ) → List ℕ
+heading level name message margin line column bs =
+    ((level ++ (codes ": " ++ (encode_utf8_all (shown message) ++ codes "\n")))
     ++ (encode_utf8_all (blanks margin) ++ (codes "--> "
     ++ (encode_utf8_all (shown name) ++ (codes ":"
     ++ (decimal line ++ (codes ":" ++ (decimal column ++ codes "\n"))))))))
     ++ (encode_utf8_all (blanks margin) ++ (codes " |\n" ++ bs))
 
-heading_more : (name message : List ℕ) (margin line column : ℕ) (a b : List ℕ) →
-    heading name message margin line column a ++ b
-    ≡ heading name message margin line column (a ++ b)
-heading_more name message margin line column a b = simp append_assoc refl
+heading_more : (level name message : List ℕ) (margin line column : ℕ) (a b : List ℕ) →
+    heading level name message margin line column a ++ b
+    ≡ heading level name message margin line column (a ++ b)
+heading_more level name message margin line column a b = simp append_assoc refl
 
-heading_then : (first_line first_column width : ℕ) (name message before range after bs : List ℕ) →
+level_then : (level : Level) (ys bs : List ℕ) → encode_utf8_all ys ≡ bs →
+    encode_utf8_all (level_text level ++ ys) ≡ level_text level ++ bs
+level_then Error ys bs more = ascii_then (codes "error") ys bs refl more
+level_then Warning ys bs more = ascii_then (codes "warning") ys bs refl more
+level_then Note ys bs more = ascii_then (codes "note") ys bs refl more
+
+heading_then : (level : Level) (first_line first_column width : ℕ) (name message before range after bs : List ℕ) →
     encode_utf8_all (lines_text (length (decimal (line_number first_line (before ++ range)))) first_line width before
     range after) ≡ bs →
-    heading name message (length (decimal (line_number first_line (before ++ range)))) (line_number first_line before)
+    heading (level_text level) name message (length (decimal (line_number first_line (before ++ range)))) (line_number first_line before)
     (column_in first_column before) bs
-    ≡ encode_utf8_all (message_text first_line first_column width name message before range after)
+    ≡ encode_utf8_all (message_text level first_line first_column width name message before range after)
 unfolding message_text
-heading_then first_line first_column width name message before range after bs more =
+heading_then level first_line first_column width name message before range after bs more =
     let margin = length (decimal (line_number first_line (before ++ range))) in
     simp append_assoc refl
-    ∙ sym (ascii_then (codes "error: ") _ _ refl
+    ∙ sym (level_then level _ _ (ascii_then (codes ": ") _ _ refl
     (text_then (shown message) _ _ (ascii_then (10 ∷ []) _ _ refl (text_then (blanks margin) _ _
     (ascii_then (codes "--> ") _ _ refl (text_then (shown name) _ _
     (ascii_then (codes ":") _ _ refl (decimal_then (line_number first_line before) _ _
     (ascii_then (codes ":") _ _ refl (decimal_then (column_in first_column before) _ _
     (ascii_then (10 ∷ []) _ _ refl (text_then (blanks margin) _ _
-    (ascii_then (codes " |\n") _ bs refl more)))))))))))))
+    (ascii_then (codes " |\n") _ bs refl more))))))))))))))
 
 cond_then : (b : Bool) (ys bs : List ℕ) → encode_utf8_all ys ≡ bs →
     encode_utf8_all (cond b (codes "...\n") [] ++ ys) ≡ cond b (codes "...\n") [] ++ bs
@@ -206,36 +214,46 @@ pub last_number : (first_line : ℕ) (before range : List ℕ) → line_number f
 last_number first_line before range =
     let sum = sum_by-append (λ c. cond (is_line_feed c) 1 0) before range in omega (arith, sum)
 
-pub one_line_bytes : (first_line first_column width : ℕ) (name message before range after : List ℕ)
-    (margin line column : ℕ) (l : Window) →
+pub one_line_bytes : (level : Level) (first_line first_column width : ℕ) (name message before range after : List ℕ)
+    (word : List ℕ) (margin line column : ℕ) (l : Window) → word ≡ level_text level →
     margin ≡ length (decimal (line_number first_line (before ++ range))) → line ≡ line_number first_line before →
     column ≡ column_in first_column before →
     l ≡ fitted width (start_line before range after) → line_number first_line (before ++ range) ≤ line_number first_line before →
-    heading name message margin line column (encode_utf8_all (line_text margin line l))
-    ≡ encode_utf8_all (message_text first_line first_column width name message before range after)
-one_line_bytes first_line first_column width name message before range after margin line column l is_margin is_line is_column
+    heading word name message margin line column (encode_utf8_all (line_text margin line l))
+    ≡ encode_utf8_all (message_text level first_line first_column width name message before range after)
+one_line_bytes level first_line first_column width name message before range after word margin line column l is_word is_margin is_line is_column
     is_l same =
-    rw (is_margin, is_line, is_column, is_l)
-    (heading_then first_line first_column width name message before range after _
+    rw (is_word, is_margin, is_line, is_column, is_l)
+    (heading_then level first_line first_column width name message before range after _
     (one_line (length (decimal (line_number first_line (before ++ range)))) first_line width before range after
     (le-ltb (line_number first_line before) (line_number first_line (before ++ range)) same)))
 
-pub two_lines_bytes : (first_line first_column width : ℕ) (name message before range after : List ℕ)
-    (margin line column last : ℕ) (gap : List ℕ) (l m : Window) →
+pub two_lines_bytes : (level : Level) (first_line first_column width : ℕ) (name message before range after : List ℕ)
+    (word : List ℕ) (margin line column last : ℕ) (gap : List ℕ) (l m : Window) →
+    word ≡ level_text level →
     margin ≡ length (decimal (line_number first_line (before ++ range))) → line ≡ line_number first_line before →
     column ≡ column_in first_column before →
     last ≡ line_number first_line (before ++ range) → gap
     ≡ gap_text (line_number first_line before) (line_number first_line (before ++ range)) →
     l ≡ fitted width (start_line before range after) → m ≡ fitted width (end_line range after) →
     line_number first_line before < line_number first_line (before ++ range) →
-    heading name message margin line column (encode_utf8_all (line_text margin line l))
+    heading word name message margin line column (encode_utf8_all (line_text margin line l))
     ++ (gap ++ encode_utf8_all (line_text margin last m))
-    ≡ encode_utf8_all (message_text first_line first_column width name message before range after)
-two_lines_bytes first_line first_column width name message before range after margin line column last gap l m is_margin is_line
+    ≡ encode_utf8_all (message_text level first_line first_column width name message before range after)
+two_lines_bytes level first_line first_column width name message before range after word margin line column last gap l m is_word is_margin is_line
     is_column is_last is_gap is_l is_m less =
-    rw (is_margin, is_line, is_column, is_last, is_gap, is_l, is_m)
-    (heading_more name message (length (decimal (line_number first_line (before ++ range))))
+    rw (is_word, is_margin, is_line, is_column, is_last, is_gap, is_l, is_m)
+    (heading_more (level_text level) name message (length (decimal (line_number first_line (before ++ range))))
     (line_number first_line before) (column_in first_column before) _ _
-    ∙ heading_then first_line first_column width name message before range after _
+    ∙ heading_then level first_line first_column width name message before range after _
     (two_lines (length (decimal (line_number first_line (before ++ range)))) first_line width before range after
     (lt-ltb (line_number first_line before) (line_number first_line (before ++ range)) less)))
+
+-- the range that is shown
+pub placed : (m : Message) (start end : ℕ) → start ≡ place_on_line m.source m.start →
+    end ≡ place_on_line m.source m.end →
+    message_text m.level m.first_line m.first_column m.width (chars m.name) (chars m.message)
+    (chars (take start m.source)) (chars (slice_range m.source start end)) (chars (drop end m.source))
+    ≡ diagnostic_text m
+unfolding diagnostic_text
+placed m start end is_start is_end = rw (is_start, is_end) refl

@@ -8,8 +8,16 @@ use Rattle.litrs_base.specs.Refusal.{kind_of, marked_span}
 use Rattle.litrs_diagnostic.specs.Position.{is_line_feed, line_number, column_in}
 use Rattle.litrs_diagnostic.specs.Printable.{is_printable}
 use Rattle.litrs_diagnostic.specs.Shown.{blank, caret, shown, columns}
-use Rattle.litrs_diagnostic.specs.Line.{start_line, end_line}
+use Rattle.litrs_diagnostic.specs.Line.{place_on_line, start_line, end_line}
 use Rattle.litrs_diagnostic.specs.Window.{Window, fitted}
+use Rattle.litrs_diagnostic.specs.declared.levels.Level.{Level}
+use Rattle.litrs_diagnostic.specs.declared.levels.Level.TheVariants.{Error, Warning, Note}
+
+-- The word that a message begins with.
+abbrev pub level_text : Level → List ℕ
+level_text Error = codes "error"
+level_text Warning = codes "warning"
+level_text Note = codes "note"
 
 abbrev pub blanks : ℕ → List ℕ
 blanks n = replicate n blank
@@ -53,33 +61,65 @@ lines_text margin first_line width before range after =
     then gap_text first last ++ line_text margin last (fitted width (end_line range after))
     else [])
 
--- The message, the place of the start of the range, and the lines. The margin is as wide as the
+-- The level, the message, the place of the start of the range, and the lines. The margin is as wide as the
 -- greatest number in it.
-unfoldable pub message_text : (first_line first_column width : ℕ)
+unfoldable pub message_text : Level → (first_line first_column width : ℕ)
     (name message before range after : List ℕ) → List ℕ
-message_text first_line first_column width name message before range after =
+message_text level first_line first_column width name message before range after =
     let margin = length (decimal (line_number first_line (before ++ range))) in
-    codes "error: " ++ (shown message ++ (line_feed
+    level_text level ++ (codes ": " ++ (shown message ++ (line_feed
     ++ (blanks margin ++ (codes "--> " ++ (shown name ++ (codes ":"
     ++ (decimal (line_number first_line before) ++ (codes ":"
     ++ (decimal (column_in first_column before) ++ (line_feed
     ++ (blanks margin ++ (codes " |\n"
-    ++ lines_text margin first_line width before range after))))))))))))
+    ++ lines_text margin first_line width before range after)))))))))))))
 
--- The characters of a message on the bytes from `start` up to `end` of `source`, whose first
--- character is at `first_line` and `first_column`.
-unfoldable pub diagnostic_text : (name message source : List ℕ)
-    (first_line first_column width start end : ℕ) → List ℕ
-diagnostic_text name message source first_line first_column width start end =
-    message_text first_line first_column width (chars name) (chars message)
-    (chars (take start source)) (chars (slice_range source start end)) (chars (drop end source))
+-- A message on the bytes from `start` up to `end` of `source`, whose first character is at
+-- `first_line` and `first_column`. All texts are bytes.
+pub record Message : Type 0 where
+  pub level : Level
+  pub name : List ℕ
+  pub source : List ℕ
+  pub start : ℕ
+  pub end : ℕ
+  pub message : List ℕ
+  pub first_line : ℕ
+  pub first_column : ℕ
+  pub width : ℕ
 
--- The characters of the message on the refusal of a text: its kind, on the part of the text to
--- mark.
-abbrev pub refusal_text : (name text : List ℕ) → ParseError → (width : ℕ) → List ℕ
-refusal_text name text e width =
+-- The error on a range of a whole text, in 140 columns.
+abbrev pub error_on : (name source : List ℕ) → (start end : ℕ) → (message : List ℕ) → Message
+error_on name source start end message = record {
+  level = Error;
+  name = name;
+  source = source;
+  start = start;
+  end = end;
+  message = message;
+  first_line = 1;
+  first_column = 1;
+  width = 140;
+}
+
+-- The characters of a message. A range that ends after the last line is shown as if it ended with
+-- that line.
+unfoldable pub diagnostic_text : Message → List ℕ
+diagnostic_text m =
+    let start = place_on_line m.source m.start in
+    let end = place_on_line m.source m.end in
+    message_text m.level m.first_line m.first_column m.width (chars m.name) (chars m.message)
+    (chars (take start m.source)) (chars (slice_range m.source start end))
+    (chars (drop end m.source))
+
+-- The message on the refusal of a text: its kind, on the part of the text to mark.
+abbrev pub refusal_message : (name text : List ℕ) → ParseError → (width : ℕ) → Message
+refusal_message name text e width =
     let span = marked_span (chars text) e in
-    diagnostic_text name (kind_text (kind_of e)) text 1 1 width span.start span.end
+    record (error_on name text span.start span.end (kind_text (kind_of e))) { width = width }
+
+-- Its characters.
+abbrev pub refusal_text : (name text : List ℕ) → ParseError → (width : ℕ) → List ℕ
+refusal_text name text e width = diagnostic_text (refusal_message name text e width)
 
 -- `true` iff the character is an LF or printable. No other character is written.
 abbrev pub is_line_feed_or_printable : ℕ → Bool

@@ -1,5 +1,5 @@
 -- The lines of a text that a range marks.
-use Rattle.std.specs.Prelude.{ℕ, ◌==◌, ◌&&◌, ◌||◌, Bool, false, List, [], ◌∷◌, ◌++◌, length, take, drop, if◌then◌else◌}
+use Rattle.std.specs.Prelude.{ℕ, ◌==◌, ◌&&◌, ◌||◌, Bool, false, List, [], ◌∷◌, ◌++◌, length, min, take, drop, if◌then◌else◌}
 use Rattle.litrs_base.specs.Text.{first_passes}
 use Rattle.litrs_diagnostic.specs.Position.{is_line_feed, last_line}
 
@@ -16,6 +16,23 @@ ends_line (c ∷ t) = is_line_feed c || (is_carriage_return c && first_passes is
 unfoldable pub first_line : List ℕ → List ℕ
 first_line [] = []
 first_line (c ∷ t) = if ends_line (c ∷ t) then [] else c ∷ first_line t
+
+-- `true` iff the text is an LF, or a CR and an LF.
+abbrev pub is_line_end : List ℕ → Bool
+is_line_end [] = false
+is_line_end (c ∷ []) = is_line_feed c
+is_line_end (c ∷ d ∷ []) = is_carriage_return c && is_line_feed d
+is_line_end (c ∷ d ∷ e ∷ t) = false
+
+-- A text without the LF, or CR and LF, at its end. An LF at the end of a text ends its last line,
+-- and does not begin another one.
+unfoldable pub without_line_end : List ℕ → List ℕ
+without_line_end [] = []
+without_line_end (c ∷ t) = if is_line_end (c ∷ t) then [] else c ∷ without_line_end t
+
+-- A place of a text, or the end of its last line if the place is after it.
+abbrev pub place_on_line : (source : List ℕ) → (place : ℕ) → ℕ
+place_on_line source place = min place (length (without_line_end source))
 
 -- A line that is cut at both ends of the marked part.
 pub record Line : Type 0 where

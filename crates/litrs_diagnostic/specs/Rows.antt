@@ -1,7 +1,9 @@
--- A line of the program as a line.
+-- A line, a window and a diagnostic of the program, by their texts.
 use Rattle.std.specs.Str.{chars}
 use Rattle.litrs_diagnostic.specs.declared.lines.Line as code
+use Rattle.litrs_diagnostic.specs.declared.message.Diagnostic.{Diagnostic}
 use Rattle.litrs_diagnostic.specs.declared.window.Window as code_window
+use Rattle.litrs_diagnostic.specs.Diagnostic.{Message}
 use Rattle.litrs_diagnostic.specs.Line.{Line}
 use Rattle.litrs_diagnostic.specs.Window.{Window}
 
@@ -19,4 +21,17 @@ window_of window = record {
   after = chars window.after.now;
   is_cut_before = window.is_cut_before;
   is_cut_after = window.is_cut_after;
+}
+
+abbrev pub message_of : Diagnostic → Message
+message_of d = record {
+  level = d.level;
+  name = d.name.now;
+  source = d.source.now;
+  start = d.start;
+  end = d.end;
+  message = d.message.now;
+  first_line = d.first_line;
+  first_column = d.first_column;
+  width = d.width;
 }

@@ -9,14 +9,7 @@
 //! fn refused_tab(alloc: Global, source: &str) -> Result<Option<String>, AllocError> {
 //!     match source.find('\t') {
 //!         Some(start) => {
-//!             let end = start + 1;
-//!             let message = "a tab";
-//!             let name = "settings";
-//!             let width = 100;
-//!             let (first_line, first_column) = (1, 1);
-//!             let refusal = Diagnostic {
-//!                 name, source, start, end, first_line, first_column, message, width,
-//!             };
+//!             let refusal = Diagnostic::new("settings", source, start..start + 1, "a tab");
 //!             Ok(Some(shown(alloc, &refusal)?))
 //!         }
 //!         None => Ok(None),
@@ -45,7 +38,9 @@ ghost use Rattle.std.specs.Prelude.{◌≡◌, IfOk, IsTrue, string_bytes};
 ghost use Rattle.std.specs.List.{list_all};
 ghost use Rattle.std.specs.Str.{chars};
 ghost use Rattle.litrs_diagnostic.specs.Diagnostic.{diagnostic_text, is_line_feed_or_printable};
+ghost use Rattle.litrs_diagnostic.specs.Rows.{message_of};
 
+mod levels;
 mod lines;
 mod marks;
 mod message;
@@ -55,6 +50,7 @@ mod refusal;
 mod row;
 mod window;
 
+pub use levels::Level;
 pub use message::Diagnostic;
 pub use places::{LineColumn, position};
 pub use refusal::shown_refusal;
@@ -66,10 +62,8 @@ use std::alloc::{AllocError, Global};
 ///
 /// Returns `AllocError` if an allocation fails.
 pub fn shown(alloc: Global, diagnostic: &Diagnostic) -> Result<String, AllocError>
-    ensures text { IfOk result (λ written. chars (string_bytes written) ≡ diagnostic_text
-        diagnostic.now.name.now diagnostic.now.message.now diagnostic.now.source.now
-        diagnostic.now.first_line diagnostic.now.first_column diagnostic.now.width
-        diagnostic.now.start diagnostic.now.end) }
+    ensures text { IfOk result (λ written.
+        chars (string_bytes written) ≡ diagnostic_text (message_of diagnostic.now)) }
     ensures printable { IfOk result (λ written. IsTrue (
         list_all is_line_feed_or_printable (chars (string_bytes written)))) }
 {

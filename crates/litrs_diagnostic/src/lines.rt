@@ -1,7 +1,7 @@
 //! The lines that a range marks.
 ghost use Rattle.std.specs.Prelude.{◌≡◌, ◌++◌, ◌≤◌, length, take, drop, slice_range, List, ℕ};
-ghost use Rattle.std.specs.Str.{chars, IsCharBoundary};
-ghost use Rattle.litrs_diagnostic.specs.Line.{first_line, start_line, end_line};
+ghost use Rattle.std.specs.Str.{chars, IsCharBoundary, IsUtf8};
+ghost use Rattle.litrs_diagnostic.specs.Line.{first_line, without_line_end, place_on_line, start_line, end_line};
 ghost use Rattle.litrs_diagnostic.specs.Rows.{line_of};
 
 use crate::places::last_line;
@@ -74,5 +74,26 @@ fn cut_first_line(text: &str, len: usize) -> (&str, &str)
         line.split_at(len)
     } else {
         (line, "")
+    }
+}
+
+/// Returns `place`, or the end of the last line of `text` if `place` is after it.
+pub(crate) fn place_on_line(text: &str, place: usize) -> usize
+    requires { IsCharBoundary text.now place }
+    ensures value { result ≡ place_on_line text.now place }
+    ensures boundary { IsCharBoundary text.now result }
+{
+    let end = without_line_end(text).len();
+    if place <= end { place } else { end }
+}
+
+/// Returns `text` without the LF, or CR and LF, at its end.
+fn without_line_end(text: &str) -> &str
+    ensures value { result.now ≡ without_line_end text.now }
+    ensures front { (end : List ℕ) × IsUtf8 end × (text.now ≡ result.now ++ end) }
+{
+    match text.strip_suffix('\n') {
+        Some(line) => line.strip_suffix('\r').unwrap_or(line),
+        None => text,
     }
 }

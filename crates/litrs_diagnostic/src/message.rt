@@ -1,14 +1,15 @@
 //! A message on a range of a text.
-ghost use Rattle.std.specs.Prelude.{◌≡◌, ◌≤◌, length};
+ghost use Rattle.std.specs.Prelude.{◌≡◌, ◌≤◌};
 ghost use Rattle.std.specs.Str.{IsCharBoundary};
-ghost use Rattle.litrs_diagnostic.specs.Diagnostic.{gap_text};
 
-use crate::lines::{end_line, start_line};
+use crate::levels::Level;
+use crate::lines::{end_line, place_on_line, start_line};
 use crate::marks::{Blanks, Shown};
 use crate::places::{LineColumn, line_feeds, place_in};
-use crate::row::{Row, digit_count};
+use crate::row::{Row, digit_count, gap};
 use crate::window::fitted;
 use std::fmt;
+use std::ops::Range;
 
 /// A message on a range of a text.
 ///
@@ -16,10 +17,15 @@ use std::fmt;
 /// and at the end of the text. `Display` and [`shown`](crate::shown) write the line on which it
 /// begins. If it ends on a later line, they write that line too. Below the part of the range in
 /// each line there are carets, at least one. A CR before the LF of a line is not shown, unless the
-/// range begins between them. If a line has more columns than `width`, the range comes first, if it
-/// fits, and then the text around it.
+/// range begins between them. An LF at the end of the text ends its last line: a range that ends after
+/// it is shown as if it ended with that line. If a line has more columns than `width`, the range comes
+/// first, if it fits, and then the text around it.
+///
+/// [`Diagnostic::new`] makes an error on a whole text, and the methods `with_..` change it.
 #[derive(Clone, Copy, Debug)]
 pub struct Diagnostic<'a> {
+    /// The severity of the message.
+    pub level: Level,
     /// The name of the text, for example the path of its file.
     pub name: &'a str,
     /// The text.
@@ -45,33 +51,95 @@ pub struct Diagnostic<'a> {
     pub ghost in_order: { start ≤ end },
 }
 
+impl<'a> Diagnostic<'a> {
+    ghost use Rattle.litrs_diagnostic.specs.Diagnostic.{error_on};
+    ghost use Rattle.litrs_diagnostic.specs.Rows.{message_of};
+
+    /// Creates an error on a range of `source`, a whole text that is called `name`. Of each line 140
+    /// columns are shown.
+    pub fn new(
+        name: &'a str,
+        source: &'a str,
+        range: Range<usize>,
+        message: &'a str,
+    ) -> Diagnostic<'a>
+        requires start { IsCharBoundary source.now range.start }
+        requires end { IsCharBoundary source.now range.end }
+        requires in_order { range.start ≤ range.end }
+        ensures { message_of result
+            ≡ error_on name.now source.now range.start range.end message.now }
+    {
+        Diagnostic {
+            level: Level::Error,
+            name,
+            source,
+            start: range.start,
+            end: range.end,
+            first_line: 1,
+            first_column: 1,
+            message,
+            width: 140,
+        }
+    }
+
+    /// Returns the diagnostic with this level.
+    pub fn with_level(mut self, level: Level) -> Diagnostic<'a>
+        ensures { message_of result ≡ record (message_of self.entry) { level = level } }
+    {
+        self.level = level;
+        self
+    }
+
+    /// Returns the diagnostic with this width, the greatest number of columns of a line that are
+    /// shown.
+    pub fn with_width(mut self, width: usize) -> Diagnostic<'a>
+        ensures { message_of result ≡ record (message_of self.entry) { width = width } }
+    {
+        self.width = width;
+        self
+    }
+
+    /// Returns the diagnostic for a part of a longer text whose first character is at `line` and
+    /// `column`.
+    pub fn with_first(mut self, line: u32, column: u32) -> Diagnostic<'a>
+        ensures { message_of result
+            ≡ record (message_of self.entry) { first_line = line; first_column = column } }
+    {
+        self.first_line = line;
+        self.first_column = column;
+        self
+    }
+}
+
 impl fmt::Display for Diagnostic<'_> {
     ghost use Rattle.std.specs.Prelude.{Some};
     ghost use Rattle.std.specs.Str.{encode_utf8_all};
     ghost use Rattle.litrs_diagnostic.specs.Diagnostic.{diagnostic_text};
+    ghost use Rattle.litrs_diagnostic.specs.Rows.{message_of};
 
-    ghost output = { λ d. Some (encode_utf8_all (
-        diagnostic_text d.name.now d.message.now d.source.now d.first_line d.first_column d.width
-        d.start d.end)) };
+    ghost output = { λ d. Some (encode_utf8_all (diagnostic_text (message_of d))) };
 
     fn fmt<W: fmt::Write>(&self, f: &mut fmt::Formatter<W>) -> fmt::Result {
+        let level = self.level.word();
         let message = Shown(self.message);
         let name = Shown(self.name);
+        let start = place_on_line(self.source, self.start);
+        let end = place_on_line(self.source, self.end);
         let LineColumn { line, column } = place_in(
             self.source,
-            self.start,
+            start,
             self.first_line,
             self.first_column,
         );
-        let last = line + line_feeds(&self.source[self.start..self.end]);
+        let last = line + line_feeds(&self.source[start..end]);
         let digits = digit_count(last);
         let margin = Blanks(digits);
-        write!(f, "error: {message}\n")?;
+        write!(f, "{level}: {message}\n")?;
         write!(f, "{margin}--> {name}:{line}:{column}\n")?;
         let first = Row {
             margin: digits,
             number: line,
-            line: fitted(start_line(self.source, self.start, self.end), self.width),
+            line: fitted(start_line(self.source, start, end), self.width),
         };
         write!(f, "{margin} |\n{first}")?;
         if line < last {
@@ -79,21 +147,10 @@ impl fmt::Display for Diagnostic<'_> {
             let end = Row {
                 margin: digits,
                 number: last,
-                line: fitted(end_line(self.source, self.start, self.end), self.width),
+                line: fitted(end_line(self.source, start, end), self.width),
             };
             write!(f, "{gap}{end}")?;
         }
         Ok(())
-    }
-}
-
-/// Returns the text between the lines with the numbers `first` and `last`.
-fn gap(first: usize, last: usize) -> &'static str
-    ensures { result.now ≡ gap_text first last }
-{
-    if last.saturating_sub(first) > 1 {
-        "...\n"
-    } else {
-        ""
     }
 }

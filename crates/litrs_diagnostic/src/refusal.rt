@@ -30,16 +30,7 @@ pub fn shown_refusal(
     ensures printable { IfOk result (λ lines. IsTrue (
         list_all is_line_feed_or_printable (chars (string_bytes lines)))) }
 {
-    let span = error.marked_span(text);
-    let diagnostic = Diagnostic {
-        name,
-        source: text,
-        start: span.start,
-        end: span.end,
-        first_line: 1,
-        first_column: 1,
-        message: error.kind().description(),
-        width,
-    };
-    shown(alloc, &diagnostic)
+    let kind = error.kind().description();
+    let diagnostic = Diagnostic::new(name, text, error.marked_span(text), kind);
+    shown(alloc, &diagnostic.with_width(width))
 }

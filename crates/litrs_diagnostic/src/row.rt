@@ -2,7 +2,7 @@
 ghost use Rattle.std.specs.Prelude.{◌≡◌, length};
 ghost use Rattle.std.specs.Fmt.{decimal};
 ghost use Rattle.std.specs.Str.{encode_utf8_all};
-ghost use Rattle.litrs_diagnostic.specs.Diagnostic.{dots, line_text};
+ghost use Rattle.litrs_diagnostic.specs.Diagnostic.{dots, gap_text, line_text};
 
 use crate::marks::{Below, Blanks, Carets, Shown};
 use crate::window::Window;
@@ -49,6 +49,17 @@ fn dots(is_cut: bool) -> &'static str
     ensures { result.now ≡ dots is_cut }
 {
     if is_cut { "..." } else { "" }
+}
+
+/// Returns the text between the lines with the numbers `first` and `last`.
+pub(crate) fn gap(first: usize, last: usize) -> &'static str
+    ensures { result.now ≡ gap_text first last }
+{
+    if last.saturating_sub(first) > 1 {
+        "...\n"
+    } else {
+        ""
+    }
 }
 
 /// Returns the number of decimal digits of `number`.

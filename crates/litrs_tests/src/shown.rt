@@ -7,7 +7,8 @@
 //!   own; rustc draws a bar from one to the other.
 //! - A character that is not printable is written as `\u{..}`; rustc writes a picture of a control
 //!   character, U+FFFD in place of a bidi control, and a zero-width joiner not at all.
-//! - An LF at the end of the text begins a line of its own; rustc counts it to the line before.
+//! - A place after the LF at the end of the text is the end of the last line; rustc marks the same
+//!   characters, and its column counts the LF.
 //! - A blank follows the `|` before an empty line.
 //! - Of a line that is cut, the `...` are not counted to the width, and what is before the range
 //!   has half of what the range leaves of it; rustc shows the line from its start as long as the
@@ -60,6 +61,12 @@ const ROWS: &[(Place, &str)] = &[
     ((2, 15, 140, 1, 1), "one\ntwo\nthree\nfour"),
     ((1, 6, 140, 1, 1), "a\r\nbc\r\n"),
     ((0, 4, 140, 1, 1), "abc\n"),
+    ((19, 22, 140, 1, 1), "fn main(){ let s = \"a\n"),
+    ((11, 11, 140, 1, 1), "fn main(){\n"),
+    ((0, 3, 140, 1, 1), "a\r\n"),
+    ((2, 3, 140, 1, 1), "a\r\n"),
+    ((0, 3, 140, 1, 1), "a\n\n"),
+    ((0, 1, 140, 1, 1), "\n"),
     ((16, 21, 140, 1, 1), "\n\n\n\n\n\n\n\nninth = ab\ncd"),
     ((0, 11, 140, 1, 1), "\n\n\n\n\n\n\n\n\n\nb"),
     ((0, 9, 140, 1, 1), "abc"),
@@ -245,10 +252,10 @@ error: here
   |       ^^^^^^^
 
 error: here
- --> row:3:1
+ --> row:2:3
   |
-3 | 
-  | ^
+2 | bc
+  |   ^
 
 error: here
  --> row:2:1
@@ -331,7 +338,43 @@ error: here
   |
 1 | abc
   | ^^^
+
+error: here
+ --> row:1:20
+  |
+1 | fn main(){ let s = "a
+  |                    ^^
+
+error: here
+ --> row:1:11
+  |
+1 | fn main(){
+  |           ^
+
+error: here
+ --> row:1:1
+  |
+1 | a
+  | ^
+
+error: here
+ --> row:1:2
+  |
+1 | a
+  |  ^
+
+error: here
+ --> row:1:1
+  |
+1 | a
+  | ^
 2 | 
+  | ^
+
+error: here
+ --> row:1:1
+  |
+1 | 
   | ^
 
 error: here
@@ -445,8 +488,6 @@ error: here
            |
 4294967298 | d
            |  ^
-4294967299 | 
-           | ^
 
 error: here
  --> row:1:1
@@ -483,17 +524,9 @@ fn lines(
     source: &str,
 ) -> Result<String, AllocError> {
     if start <= end && source.is_char_boundary(start) && source.is_char_boundary(end) {
-        let diagnostic = Diagnostic {
-            name: "row",
-            source,
-            start,
-            end,
-            first_line,
-            first_column,
-            message: "here",
-            width,
-        };
-        shown(alloc, &diagnostic)
+        let diagnostic = Diagnostic::new("row", source, start..end, "here");
+        let placed = diagnostic.with_first(first_line, first_column);
+        shown(alloc, &placed.with_width(width))
     } else {
         format!(in alloc; "no range of the text: {start}..{end}\n")
     }

@@ -41,15 +41,7 @@ fn is_shown_refused(trial: &mut Trial, text: &str, error: &ParseError) -> bool {
         trial.check(false, "is marked inside a character");
         return false;
     }
-    let diagnostic = Diagnostic {
-        name: "row",
-        source: text,
-        start,
-        end,
-        first_line: 1,
-        first_column: 1,
-        message: error.kind().description(),
-        width: 140,
-    };
+    let message = error.kind().description();
+    let diagnostic = Diagnostic::new("row", text, start..end, message);
     fails(shown(trial.alloc, &diagnostic))
 }

@@ -142,15 +142,7 @@ pub fn show(alloc: Global, line: &str, number: u32, fault: &Fault<'_>) -> Result
 {
     let message = format!(in alloc; "{}", fault.problem)?;
     let offset = line.len() - fault.at.len();
-    let diagnostic = Diagnostic {
-        name: "settings",
-        source: line,
-        start: offset + fault.span.start,
-        end: offset + fault.span.end,
-        first_line: number,
-        first_column: 1,
-        message: message.as_str(),
-        width: 100,
-    };
-    shown(alloc, &diagnostic)
+    let range = offset + fault.span.start..offset + fault.span.end;
+    let diagnostic = Diagnostic::new("settings", line, range, message.as_str());
+    shown(alloc, &diagnostic.with_first(number, 1).with_width(100))
 }

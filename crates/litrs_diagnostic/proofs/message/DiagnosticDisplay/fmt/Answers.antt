@@ -1,22 +1,23 @@
 -- The heading, the first line, and the last where it is another.
-use Rattle.std.proofs.Common.{rules, ◌≡◌, ◌+◌, ◌-◌, ◌++◌, ℕ, List, length, take, drop, count_by, ap, ◌∙◌, arith}
+use Rattle.std.proofs.Common.{rules, ◌≡◌, ◌+◌, ◌++◌, ℕ, List, length, take, drop, count_by, ap, ◌∙◌, arith}
 use Rattle.std.specs.List.{slice_range}
-use Rattle.std.specs.Str.{chars}
+use Rattle.std.specs.Str.{chars, encode_utf8_all}
 use Rattle.std.specs.Fmt.{decimal}
 use Rattle.std.proofs.Output.{has_written_append, has_written_of_eq}
 use Rattle.litrs_diagnostic.specs.Position.{is_line_feed, line_number}
-use Rattle.litrs_diagnostic.specs.Diagnostic.{diagnostic_text, gap_text}
+use Rattle.litrs_diagnostic.specs.Diagnostic.{gap_text}
 use Rattle.litrs_diagnostic.specs.Window.{fitted}
-use Rattle.litrs_diagnostic.specs.Rows.{window_of}
-use Rattle.litrs_diagnostic.proofs.Written.{last_number, one_line_bytes, two_lines_bytes}
+use Rattle.litrs_diagnostic.specs.Rows.{message_of, window_of}
+use Rattle.litrs_diagnostic.proofs.Written.{placed, last_number, one_line_bytes, two_lines_bytes}
 use Rattle.litrs_diagnostic.proofs.message.DiagnosticDisplay.fmt.Goals as goal
 
 pub returns-else-line-last-clause-writes : goal.returns-else-line-last-clause-writes
-unfolding diagnostic_text
 returns-else-line-last-clause-writes g c = λ plain ok.
     let d = c.args.self.now in
-    let before = chars (take d.start d.source.now) in
-    let range = chars (slice_range d.source.now d.start d.end) in
+    let start = c.place_on_line-start.result in
+    let end = c.place_on_line-end.result in
+    let before = chars (take start d.source.now) in
+    let range = chars (slice_range d.source.now start end) in
     let feeds : c.line_feeds.result ≡ count_by is_line_feed range = c.line_feeds.ensures.value
     ∙ ap (λ (l : List ℕ). count_by is_line_feed (chars l)) c.range.ensures.value in
     let line = c.place_in-line.ensures.line in
@@ -29,19 +30,23 @@ returns-else-line-last-clause-writes g c = λ plain ok.
     let two = c.write-2.ensures.writes one.plain (search rules) in
     let three = c.write-3.ensures.writes two.plain (search rules) in
     has_written_of_eq _ _ _ _ _
-    (one_line_bytes d.first_line d.first_column d.width (chars d.name.now) (chars d.message.now) before range
-    (chars (drop d.end d.source.now))
-    c.digit_count-digits.result c.place_in-line.result.line c.place_in-line.result.column
+    (one_line_bytes d.level d.first_line d.first_column d.width (chars d.name.now) (chars d.message.now) before range
+    (chars (drop end d.source.now))
+    c.word-level.result.now c.digit_count-digits.result c.place_in-line.result.line
+    c.place_in-line.result.column
     (window_of c.fitted.result)
-    margin line c.place_in-line.ensures.column first (omega (arith, is_last, line)))
+    c.word-level.ensures margin line c.place_in-line.ensures.column first (omega (arith, is_last, line))
+    ∙ ap encode_utf8_all (placed (message_of d) start end c.place_on_line-start.ensures.value
+    c.place_on_line-end.ensures.value))
     (has_written_append _ _ _ _ _ _ (has_written_append _ _ _ _ _ _ one two) three)
 
 pub returns-in_ok-write-4-clause-writes : goal.returns-in_ok-write-4-clause-writes
-unfolding diagnostic_text
 returns-in_ok-write-4-clause-writes g c = λ plain ok.
     let d = c.args.self.now in
-    let before = chars (take d.start d.source.now) in
-    let range = chars (slice_range d.source.now d.start d.end) in
+    let start = c.place_on_line-start.result in
+    let end = c.place_on_line-end.result in
+    let before = chars (take start d.source.now) in
+    let range = chars (slice_range d.source.now start end) in
     let feeds : c.line_feeds.result ≡ count_by is_line_feed range = c.line_feeds.ensures.value
     ∙ ap (λ (l : List ℕ). count_by is_line_feed (chars l)) c.range.ensures.value in
     let line = c.place_in-line.ensures.line in
@@ -59,13 +64,16 @@ returns-in_ok-write-4-clause-writes g c = λ plain ok.
     let second = c.fitted-then-line-last.ensures ∙ ap (fitted d.width) c.end_line.ensures in
     let four = c.write-then-line-last.ensures.writes three.plain (search rules) in
     has_written_of_eq _ _ _ _ _
-    (two_lines_bytes d.first_line d.first_column d.width (chars d.name.now) (chars d.message.now) before range
-    (chars (drop d.end d.source.now))
-    c.digit_count-digits.result c.place_in-line.result.line c.place_in-line.result.column
+    (two_lines_bytes d.level d.first_line d.first_column d.width (chars d.name.now) (chars d.message.now) before range
+    (chars (drop end d.source.now))
+    c.word-level.result.now c.digit_count-digits.result c.place_in-line.result.line
+    c.place_in-line.result.column
     (c.place_in-line.result.line + c.line_feeds.result)
     c.gap-gap.result.now (window_of c.fitted.result)
     (window_of c.fitted-then-line-last.result)
-    margin line c.place_in-line.ensures.column is_last gap first second
-    (omega (arith, is_last, line)))
+    c.word-level.ensures margin line c.place_in-line.ensures.column is_last gap first second
+    (omega (arith, is_last, line))
+    ∙ ap encode_utf8_all (placed (message_of d) start end c.place_on_line-start.ensures.value
+    c.place_on_line-end.ensures.value))
     (has_written_append _ _ _ _ _ _ (has_written_append _ _ _ _ _ _
     (has_written_append _ _ _ _ _ _ one two) three) four)
