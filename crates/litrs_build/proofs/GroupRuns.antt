@@ -1,5 +1,5 @@
 -- Digits that are written a group at a time.
-use Rattle.std.proofs.Common.{◌≡◌, ℕ, zero, suc, ◌+◌, ◌-◌, ◌*◌, ◌/◌, ◌%◌, ◌≤◌, ◌<◌, Bool, true, false, eqb, ltb, ◌&&◌, List, [], ◌∷◌, ◌++◌, length, take, drop, refl, sym, ap, ◌∙◌, arith, length-append}
+use Rattle.std.proofs.Common.{◌≡◌, ℕ, zero, suc, ◌+◌, ◌-◌, ◌*◌, ◌/◌, ◌%◌, ◌≤◌, ◌<◌, true, false, ltb, List, [], ◌∷◌, ◌++◌, length, take, drop, refl, sym, ap, ◌∙◌, arith, length-append}
 use Rattle.std.specs.Prelude.{if◌then◌else◌}
 use Rattle.std.proofs.lemmas.Bool.{and_from, and_right, eq-eqb, ne_eqb, lt-ltb}
 use Rattle.std.proofs.lemmas.List.{append_assoc, take-append-drop, length-take-le, length-drop}
@@ -16,7 +16,8 @@ after_whole : (group k n : ℕ) → k < group → n % group ≡ 0 → (k + n) % 
 after_whole group k n few is =
     let parts = mod-add-div' n group in
     let whole : n ≡ n / group * group = omega (arith, parts, is) in
-    ap (λ m. (k + m) % group) whole ∙ (add-mul-mod_self_right k (n / group) group ∙ mod-eq_of_lt few)
+    ap (λ m. (k + m) % group) whole
+    ∙ (add-mul-mod_self_right k (n / group) group ∙ mod-eq_of_lt few)
 
 -- without groups there is no `_`
 pub grouped_none : (ds : List ℕ) → grouped 0 ds ≡ ds
@@ -65,7 +66,8 @@ rest_whole : (group n first : ℕ) → 0 < group → 0 < n → first ≡ (n - 1)
 rest_whole group n first some more is =
     let parts = mod-add-div' (n - 1) group in
     let whole : n - first ≡ 0 + (n - 1) / group * group = omega (arith, parts, is) in
-    ap (λ m. m % group) whole ∙ (add-mul-mod_self_right 0 ((n - 1) / group) group ∙ mod-eq_of_lt some)
+    ap (λ m. m % group) whole
+    ∙ (add-mul-mod_self_right 0 ((n - 1) / group) group ∙ mod-eq_of_lt some)
 
 -- one group is written
 pub group_step : (group first : ℕ) (old part mid new rest after total : List ℕ) → 0 < group →
@@ -74,8 +76,10 @@ pub group_step : (group first : ℕ) (old part mid new rest after total : List �
     old ++ grouped group rest ≡ total → new ++ grouped group after ≡ total
 group_step group first old part mid new rest after total some many is front back mid_is new_is whole =
     let below : (length rest - 1) % group < group = mod-lt (length rest - 1) some in
-    let front_len : length part ≡ first = ap length front ∙ length-take-le first rest (omega arith) in
-    let back_len : length after ≡ length rest - first = ap length back ∙ length-drop first rest in
+    let front_len : length part ≡ first = ap length front
+    ∙ length-take-le first rest (omega arith) in
+    let back_len : length after ≡ length rest - first = ap length back
+    ∙ length-drop first rest in
     let left : length after % group ≡ 0 =
     ap (λ n. n % group) back_len ∙ rest_whole group (length rest) first some (omega arith) is in
     let split : part ++ after ≡ rest =

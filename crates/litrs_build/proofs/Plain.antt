@@ -1,28 +1,27 @@
 -- Plain ASCII between double quotes is written as it is.
-use Rattle.std.proofs.Common.{◌≡◌, ℕ, suc, ◌+◌, ◌-◌, ◌≤◌, ◌<◌, Bool, true, false, not, ◌&&◌, ◌||◌, eqb, leb, List, [], ◌∷◌, ◌++◌, length, take, drop, get_or, refl, sym, ap, subst, ◌∙◌, arith}
+use Rattle.std.proofs.Common.{◌≡◌, ℕ, suc, ◌+◌, ◌-◌, ◌≤◌, ◌<◌, Bool, true, false, not, ◌&&◌, ◌||◌, eqb, List, [], ◌∷◌, ◌++◌, length, take, drop, get_or, refl, sym, ap, subst, ◌∙◌, arith}
 use Rattle.std.specs.Prelude.{Some, cond, encode_utf8_all, slice_get}
 use Rattle.std.specs.Char.{len_utf8}
 use Rattle.std.specs.List.{list_all, prefix_len}
 use Rattle.std.specs.Str.{chars, IsUtf8, IsAscii, IsCharBoundary, continuation_len}
-use Rattle.std.proofs.lemmas.Bool.{and_from, and_parts, and_right, cond-true, cond-false, ne_eqb, leb-true, agree_below, agree_below_at}
+use Rattle.std.proofs.lemmas.Bool.{and_from, and_parts, and_right, cond-true, cond-false, ne_eqb, agree_below, agree_below_at}
 use Rattle.std.proofs.lemmas.Bool.Decides.{nat_tests}
 use Rattle.std.proofs.lemmas.List.{take-append-drop, append_assoc}
 use Rattle.std.proofs.lemmas.List.Folds.{length-prefix_len}
-use Rattle.std.proofs.lemmas.Str.{chars-nil, encodes-append, len_utf8_ascii, IsUtf8-from_ascii, IsCharBoundary-from_drop}
+use Rattle.std.proofs.lemmas.Str.{encodes-append, len_utf8_ascii, IsUtf8-from_ascii, IsCharBoundary-from_drop}
 use Rattle.std.proofs.lemmas.Str.Ascii.{IsAscii-nil, IsAscii-cons}
 use Rattle.ucd_derived.specs.Binary.{is_grapheme_extend}
 use Rattle.ucd_derived.specs.GraphemeExtendRanges.{grapheme_extend_ranges}
 use Rattle.ucd_table.specs.Rows.{in_ranges}
 use Rattle.litrs_base.specs.Characters.{is_ascii}
-use Rattle.litrs_base.proofs.Chars.{OnlyAscii, ascii_from_test, chars_ascii, passing_front, prefix_len-chars}
+use Rattle.litrs_base.proofs.Chars.{OnlyAscii, ascii_from_test, chars_ascii, passing_front}
 use Rattle.litrs_base.proofs.Runs.{list_all-weaken}
 use Rattle.litrs_grammar.specs.Quoted.{item_text, body_text}
 use Rattle.litrs_build.specs.declared.spelling.Spelling.{Spelling}
 use Rattle.litrs_build.specs.declared.spelling.Spelling.TheVariants.{Plain}
 use Rattle.litrs_build.specs.CStrings.{first_char, spelling_or_byte, len_or_byte, c_items}
 use Rattle.litrs_build.specs.Pieces.{is_plain_ascii}
-use Rattle.litrs_build.specs.Printable.{is_printable}
-use Rattle.litrs_build.specs.Spelling.{char_spelling, byte_spelling, is_combining, is_escaped, is_shown, shown_or_number, spelled_item}
+use Rattle.litrs_build.specs.Spelling.{char_spelling, byte_spelling, is_combining, is_escaped, is_shown, spelled_item}
 use Rattle.litrs_build.specs.Written.{char_items, byte_items}
 use Rattle.litrs_build.proofs.PrintableAscii.{plain_printable}
 use Rattle.litrs_build.proofs.Spellings.{encodes_ascii}
@@ -40,7 +39,8 @@ none_combines = refl
 shown : (m : Bool) (c : ℕ) → is_plain_ascii c ≡ true → is_shown m c ≡ true
 shown m c plain =
     let low : c < 128 = ascii_from_test is_plain_ascii c plain_is_ascii plain in
-    let combines : is_combining c ≡ false = agree_below_at is_combining (λ d. false) 128 c none_combines low in
+    let combines : is_combining c ≡ false =
+    agree_below_at is_combining (λ d. false) 128 c none_combines low in
     and_from _ _ (plain_printable c (grind (arith, nat_tests)))
     (ap (λ v. not (m && v)) combines ∙ ap not (and_right m false refl))
 
@@ -87,7 +87,8 @@ all_ascii (c ∷ t) all =
 -- the text of plain ASCII and of what follows
 coded : (t rest : List ℕ) → list_all is_plain_ascii t ≡ true →
     encode_utf8_all (t ++ rest) ≡ t ++ encode_utf8_all rest
-coded t rest all = encodes-append t rest ∙ ap (λ (x : List ℕ). x ++ encode_utf8_all rest) (plain_stays t all)
+coded t rest all = encodes-append t rest
+    ∙ ap (λ (x : List ℕ). x ++ encode_utf8_all rest) (plain_stays t all)
 
 -- In strings
 
@@ -96,7 +97,8 @@ plain_items : (t cs : List ℕ) → list_all is_plain_ascii t ≡ true →
 plain_items [] cs all = refl
 plain_items (c ∷ t) cs all =
     let both = and_parts (is_plain_ascii c) (list_all is_plain_ascii t) all in
-    ap (λ (s : Spelling). item_text (spelled_item s) ++ body_text (char_items (is_escaped s) (t ++ cs)))
+    ap (λ (s : Spelling). item_text (spelled_item s)
+    ++ body_text (char_items (is_escaped s) (t ++ cs)))
     (plain_spelling false c both.0)
     ∙ ap (λ (x : List ℕ). c ∷ x) (plain_items t cs both.1)
 
@@ -105,7 +107,8 @@ plain_chars : (m : Bool) (t cs : List ℕ) → 0 < length t → list_all is_plai
 plain_chars m [] cs some all = absurd (omega arith)
 plain_chars m (c ∷ t) cs some all =
     let both = and_parts (is_plain_ascii c) (list_all is_plain_ascii t) all in
-    ap (λ (s : Spelling). item_text (spelled_item s) ++ body_text (char_items (is_escaped s) (t ++ cs)))
+    ap (λ (s : Spelling). item_text (spelled_item s)
+    ++ body_text (char_items (is_escaped s) (t ++ cs)))
     (plain_spelling m c both.0)
     ∙ ap (λ (x : List ℕ). c ∷ x) (plain_items t cs both.1)
 
@@ -159,15 +162,18 @@ whole bytes plain rest front back =
     ∙ (ap (λ (x : List ℕ). x ++ drop k bytes) (sym front)
     ∙ ap (λ (x : List ℕ). plain ++ x) (ap (λ (n : ℕ). drop n bytes) (sym len) ∙ sym back))
 
-pub bytes_plain : (bytes plain rest : List ℕ) → plain ≡ take (prefix_len is_plain_ascii bytes) bytes →
+pub bytes_plain : (bytes plain rest : List ℕ) →
+    plain ≡ take (prefix_len is_plain_ascii bytes) bytes →
     rest ≡ drop (length plain) bytes →
     encode_utf8_all (body_text (byte_items bytes))
     ≡ plain ++ encode_utf8_all (body_text (byte_items rest))
 bytes_plain bytes plain rest front back =
     let all : list_all is_plain_ascii plain ≡ true =
     ap (list_all is_plain_ascii) front ∙ front_passes is_plain_ascii bytes in
-    ap (λ (x : List ℕ). encode_utf8_all (body_text (byte_items x))) (whole bytes plain rest front back)
-    ∙ (ap encode_utf8_all (plain_bytes plain rest all) ∙ coded plain (body_text (byte_items rest)) all)
+    ap (λ (x : List ℕ). encode_utf8_all (body_text (byte_items x)))
+    (whole bytes plain rest front back)
+    ∙ (ap encode_utf8_all (plain_bytes plain rest all)
+    ∙ coded plain (body_text (byte_items rest)) all)
 
 pub bytes_spelled : (bytes later : List ℕ) (b : ℕ) (s : Spelling) → 0 < length bytes →
     b ≡ get_or bytes 0 0 → s ≡ byte_spelling 34 b → later ≡ drop 1 bytes →
@@ -184,7 +190,8 @@ bytes_spelled (x ∷ xs) later b s some at spelling back =
 ascii_first : (b : ℕ) (bs : List ℕ) → b < 128 → first_char (b ∷ bs) ≡ Some b
 ascii_first b bs low =
     let one : IsAscii (b ∷ []) = IsAscii-cons b [] low IsAscii-nil in
-    sym (first_read (b ∷ bs) (b ∷ []) 1 (omega arith) refl (continues b low) (IsUtf8-from_ascii (b ∷ []) one))
+    sym (first_read (b ∷ bs) (b ∷ []) 1 (omega arith) refl (continues b low)
+    (IsUtf8-from_ascii (b ∷ []) one))
     ∙ ap (λ (t : List ℕ). slice_get t 0) (chars_ascii b [] low)
   where
     continues : (b : ℕ) → b < 128 → 1 ≡ 1 + continuation_len b
@@ -224,14 +231,15 @@ pub c_plain : (m : Bool) (bytes plain rest : List ℕ) →
 c_plain m bytes plain rest front back some =
     let all : list_all is_plain_ascii plain ≡ true =
     ap (list_all is_plain_ascii) front ∙ front_passes is_plain_ascii bytes in
-    ap (λ (x : List ℕ). encode_utf8_all (body_text (c_items 0 m x))) (whole bytes plain rest front back)
+    ap (λ (x : List ℕ). encode_utf8_all (body_text (c_items 0 m x)))
+    (whole bytes plain rest front back)
     ∙ (ap encode_utf8_all (c_plain_chars m plain rest some all)
     ∙ coded plain (body_text (c_items 0 false rest)) all)
 
 -- A piece is appended
 
-pub piece_step : (total text new piece body later : List ℕ) → new ≡ text ++ piece → body ≡ piece ++ later →
-    text ++ body ≡ total → new ++ later ≡ total
+pub piece_step : (total text new piece body later : List ℕ) → new ≡ text ++ piece →
+    body ≡ piece ++ later → text ++ body ≡ total → new ++ later ≡ total
 piece_step total text new piece body later is splits whole =
     ap (λ (x : List ℕ). x ++ later) is
     ∙ (append_assoc text piece later ∙ (ap (λ (x : List ℕ). text ++ x) (sym splits) ∙ whole))

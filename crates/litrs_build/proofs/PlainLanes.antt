@@ -21,7 +21,8 @@ mark-top : (b : Bool) → top 7 (mark b) ≡ b
 mark-top true = refl
 mark-top false = refl
 
-map-same : {B : Type 0} → (f g : ℕ → B) → ((x : ℕ) → f x ≡ g x) → (xs : List ℕ) → map f xs ≡ map g xs
+map-same : {B : Type 0} → (f g : ℕ → B) → ((x : ℕ) → f x ≡ g x) → (xs : List ℕ) →
+    map f xs ≡ map g xs
 map-same f g same [] = refl
 map-same f g same (x ∷ xs) = λ i. same x i ∷ map-same f g same xs i
 

@@ -1,10 +1,10 @@
 -- The text of a literal: what it begins with, the body, the closing quote and the suffix.
-use Rattle.std.proofs.Common.{◌≡◌, ℕ, ◌<◌, Bool, true, List, [], ◌∷◌, ◌++◌, get_or, take, length, ◌+◌, refl, sym, ap, ◌∙◌, arith, suc}
+use Rattle.std.proofs.Common.{◌≡◌, ℕ, ◌<◌, Bool, true, List, [], ◌∷◌, ◌++◌, get_or, length, refl, sym, ap, ◌∙◌, arith, suc}
 use Rattle.std.specs.Prelude.{IsTrue}
 use Rattle.std.specs.Char.{encode_utf8}
 use Rattle.std.specs.Str.{chars, IsUtf8, encode_utf8_all}
 use Rattle.std.proofs.lemmas.Bool.{and_from, and_parts}
-use Rattle.std.proofs.lemmas.List.{append_assoc, append-nil, take_more, nil_from_length}
+use Rattle.std.proofs.lemmas.List.{append_assoc, append-nil, nil_from_length}
 use Rattle.std.proofs.lemmas.Str.{encodes-append, encodes-chars, chars-encodes, scalars-chars, encode_ascii, chars-nil, chars_past_char}
 use lib.Utf8.{scalar, scalars, low_scalar}
 use Rattle.litrs_grammar.specs.Suffix.{is_suffix}
@@ -13,7 +13,7 @@ use Rattle.litrs_base.specs.declared.quotes.StringKind.TheVariants.{String as st
 use Rattle.litrs_base.specs.declared.quotes.CharKind.{CharKind}
 use Rattle.litrs_base.specs.declared.quotes.CharKind.TheVariants.{Char as char_kind, Byte as byte_kind}
 use Rattle.litrs_grammar.specs.CharByte.{char_text, IsCharLiteral}
-use Rattle.litrs_grammar.specs.Quoted.{Item, item_text, body_text, body_value, is_body}
+use Rattle.litrs_grammar.specs.Quoted.{item_text, body_text, body_value, is_body}
 use Rattle.litrs_grammar.specs.Literal.{IsString, string_value}
 use Rattle.litrs_build.specs.declared.spelling.Spelling.{Spelling}
 use Rattle.litrs_build.specs.Spelling.{char_spelling, byte_spelling, is_escaped, spelled_item, spelled_char}

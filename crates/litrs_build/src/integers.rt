@@ -197,8 +197,8 @@ fn write_decimal(value: u128, buffer: &mut [u8; MAX_DIGITS]) -> usize
     itoa::write_digits(value as u64, buffer, MAX_DIGITS)
 }
 
-/// Like [`write_digits`], in this radix. It is a constant, so that the compiler divides by shifts if it
-/// is a power of two.
+/// Like [`write_digits`], in this radix. The compiler knows it, and shifts in place of a division
+/// by a power of two.
 fn write_in_radix<const RADIX: usize>(value: u128, buffer: &mut [u8; MAX_DIGITS]) -> usize
     requires { (2 ≤ RADIX) × (RADIX ≤ 16) }
     ensures digits { drop result buffer.new ≡ digits_in_radix RADIX value }

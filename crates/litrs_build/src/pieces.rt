@@ -45,7 +45,8 @@ impl<'a> Piece<'a> {
     ///
     /// `AllocError` if `text` has no room for it and an allocation fails.
     pub(crate) fn push_to(self, text: &mut String) -> Result<(), AllocError>
-        ensures { OnOk result (string_bytes text.new ≡ string_bytes text.old ++ piece_text self.entry) }
+        ensures { OnOk result (string_bytes text.new
+            ≡ string_bytes text.old ++ piece_text self.entry) }
     {
         match self {
             Piece::Plain(plain) => text.push_str(plain),

@@ -1,5 +1,5 @@
 -- A piece is the plain ASCII at the front, or else the first character or byte.
-use Rattle.std.proofs.Common.{◌≡◌, ◌<◌, [], length, refl, sym, arith, rules}
+use Rattle.std.proofs.Common.{◌<◌, [], length, refl, sym, arith, rules}
 use Rattle.std.specs.Prelude.{encode_utf8_all}
 use Rattle.std.proofs.lemmas.Grind.{common_steps}
 use Rattle.std.proofs.lemmas.List.{take_rest}

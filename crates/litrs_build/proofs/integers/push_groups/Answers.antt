@@ -23,11 +23,13 @@ loop-rest-preserved c =
     let mid = string_bytes c.push_ascii-in-loop-rest.new.text in
     let some : 0 < c.args.group = omega arith in
     record {
-      ascii = IsAscii-take (drop first rest) _ (IsAscii-drop rest first c.loop-rest.invariant.ascii);
+      ascii = IsAscii-take (drop first rest) _
+          (IsAscii-drop rest first c.loop-rest.invariant.ascii);
       written = group_step c.args.group first (string_bytes c.loop-rest.text) (take first rest) mid
           (string_bytes c.push.new.self) rest _ _ some c.loop-rest-test.true refl refl
           (take_rest rest first) c.in_ok-push_ascii.ensures
-          (c.in_ok-push.ensures.bytes ∙ ap (λ (t : List ℕ). mid ++ t) (encode_ascii 95 (omega arith)))
+          (c.in_ok-push.ensures.bytes
+          ∙ ap (λ (t : List ℕ). mid ++ t) (encode_ascii 95 (omega arith)))
           c.loop-rest.invariant.written;
     }
 
@@ -35,6 +37,7 @@ pub returns : goal.returns
 returns c =
     let rest = c.loop-rest.rest.now in
     let all = ap (λ (t : List ℕ). string_bytes c.loop-rest.text ++ t)
-    (sym (grouped_short c.args.group rest c.loop-rest-test.false)) ∙ c.loop-rest.invariant.written in
-    subst (λ (t : List ℕ). OnOk c.push_ascii-2.result (string_bytes c.push_ascii-2.new.text ≡ t)) all
-    c.push_ascii-2.ensures
+    (sym (grouped_short c.args.group rest c.loop-rest-test.false))
+    ∙ c.loop-rest.invariant.written in
+    subst (λ (t : List ℕ). OnOk c.push_ascii-2.result (string_bytes c.push_ascii-2.new.text ≡ t))
+    all c.push_ascii-2.ensures

@@ -1,9 +1,9 @@
 -- One more digit, before those that are written.
-use Rattle.std.proofs.Common.{◌≡◌, ◌≤◌, ◌<◌, ◌-◌, ◌/◌, ◌%◌, ◌^◌, ◌++◌, ℕ, map, length, drop, set, sym, ap, subst, ◌∙◌, arith, rules}
+use Rattle.std.proofs.Common.{◌≡◌, ◌≤◌, ◌<◌, ◌-◌, ◌/◌, ◌%◌, ◌^◌, ◌++◌, map, length, drop, set, ap, ◌∙◌, arith, rules}
 use Rattle.std.specs.Char.{digit_char}
 use Rattle.std.specs.Int.Digits.{digits_of}
 use Rattle.std.proofs.lemmas.List.{append-nil, drop_all, length-set}
-use Rattle.litrs_build.proofs.DigitLemmas.{digits_fit, digit_below, write_step, write_fits, write_zero, write_done}
+use Rattle.litrs_build.proofs.DigitLemmas.{digits_fit, write_step, write_fits, write_zero}
 use Rattle.litrs_build.proofs.integers.write_in_radix.Goals as goal
 
 pub returns-then-value-eq0-clause-digits : goal.returns-then-value-eq0-clause-digits

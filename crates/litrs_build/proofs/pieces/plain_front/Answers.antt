@@ -1,5 +1,5 @@
 -- Plain ASCII is UTF-8.
-use Rattle.std.proofs.Common.{ℕ, take, sym, ap, subst, ◌∙◌}
+use Rattle.std.proofs.Common.{ℕ, take, sym, subst}
 use Rattle.std.specs.List.{prefix_len}
 use Rattle.std.specs.Str.{IsUtf8}
 use Rattle.std.proofs.lemmas.Str.{IsUtf8-from_ascii}

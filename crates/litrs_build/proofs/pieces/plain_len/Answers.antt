@@ -1,4 +1,5 @@
--- Where no byte of a step is another one, the plain bytes go on after it; else they end at the lowest.
+-- Where no byte of a step is another one, the plain bytes go on after it; else they end at the
+-- lowest.
 use Rattle.std.proofs.Common.{◌≡◌, ℕ, ◌+◌, ◌-◌, not, map, List, take, drop, length, refl, sym, ap, ◌∙◌, arith}
 use Rattle.std.proofs.Math.Bool.{not-not}
 use Rattle.std.specs.List.{prefix_len}
@@ -29,13 +30,15 @@ loop-len-preserved c =
     let at = c.loop-len.len in
     let marks = c.other_marks-others.ensures ∙ step_marks bytes at in
     let on = run_through is_other bytes at 16 _ marks (omega arith) (omega arith) in
-    let more : plain (drop at bytes) ≡ 16 + plain (drop (at + 16) bytes) = sym (as_plain (drop at bytes))
+    let more : plain (drop at bytes) ≡ 16 + plain (drop (at + 16) bytes) =
+    sym (as_plain (drop at bytes))
     ∙ (on ∙ ap (λ n. 16 + n) (as_plain (drop (at + 16) bytes))) in
     (omega (arith, more, c.loop-len.invariant.0), omega arith)
 
 -- the plain bytes end at the lowest mark
 lowest : (c : goal.Then-others-ne0) →
-    plain (drop c.loop-len.len c.args.bytes.now) ≡ count_trailing_zeros 64 c.other_marks-others.result
+    plain (drop c.loop-len.len c.args.bytes.now)
+    ≡ count_trailing_zeros 64 c.other_marks-others.result
 lowest c =
     let bytes = c.args.bytes.now in
     let at = c.loop-len.len in

@@ -1,5 +1,5 @@
 -- ASCII is compared, and of other characters none is the space.
-use Rattle.std.proofs.Common.{◌≡◌, false, eqb, ◌≤◌, ◌<◌, sym, ◌∙◌, arith}
+use Rattle.std.proofs.Common.{◌≡◌, false, eqb, ◌≤◌, sym, ◌∙◌, arith}
 use Rattle.std.proofs.lemmas.Bool.{ltb-true, ltb-false, ne_eqb}
 use Rattle.std.proofs.lemmas.Grind.{common_steps}
 use Rattle.litrs_build.specs.Printable.{is_printable}
@@ -15,7 +15,8 @@ returns-then-is_ascii c =
 pub returns : goal.returns
 unfolding is_printable
 returns c =
-    let wide : 128 ≤ c.args.c = ltb-false c.args.c 128 (sym c.is_ascii.ensures ∙ c.if-is_ascii.false) in
+    let wide : 128 ≤ c.args.c =
+    ltb-false c.args.c 128 (sym c.is_ascii.ensures ∙ c.if-is_ascii.false) in
     let other : eqb c.args.c 32 ≡ false = ne_eqb c.args.c 32 (λ e. omega arith) in
     elim c.if-contains.branch [
       | then-contains w ↦ grind (arith, common_steps)

@@ -1,9 +1,6 @@
-use Rattle.std.proofs.Common.{◌≡◌, ◌++◌, true, length, encode_utf8_all, string_bytes}
+use Rattle.std.proofs.Common.{length}
 use denote.Text.{Utf8}
 use denote.Shadow.{shadow}
-use Rattle.std.specs.Str.{chars}
-use Rattle.litrs_grammar.specs.Quoted.{body_text}
-use Rattle.litrs_build.specs.Written.{char_items}
 use Rattle.litrs_build.proofs.strings.chars_len.Given as goal
 
 abbrev pub invariant-loop-rest : goal.invariant-loop-rest
