@@ -31,7 +31,7 @@ use Rattle.litrs_prefix.specs.Prefix.{HasPrefix, is_bare, keeps_period, gives_pe
 use Rattle.litrs_prefix.proofs.Chars.{longer_char}
 use Rattle.litrs_prefix.proofs.Numbers.{longer_integer, longer_float}
 use Rattle.litrs_prefix.proofs.Quoted.{longer}
-use Rattle.litrs_prefix.proofs.Stands.{string_at, to_string, string_follows}
+use Rattle.litrs_prefix.proofs.Judged.{string_at, to_string, string_follows}
 
 -- a literal at the front of a text, before this rest
 abbrev pub HasLiteral : List ℕ → List ℕ → Type 0

@@ -1,6 +1,6 @@
 //! Literals that are read once: those without a suffix, before an ASCII character that no name has.
 //! Most literals of a source are such.
-ghost use Rattle.std.specs.Prelude.{◌≡◌, ◌==◌, ◌&&◌, ◌||◌, not, ◌∷◌, ◌++◌, ⊤, IsTrue, IsFalse, IfSome};
+ghost use Rattle.std.specs.Prelude.{◌≡◌, ◌==◌, ◌&&◌, ◌||◌, not, ◌∷◌, ◌++◌, ⊤, IsTrue, IsFalse, IfSome, IfNone};
 ghost use Rattle.std.specs.Char.{is_ascii, is_ascii_alphanumeric, is_ascii_digit};
 ghost use Rattle.std.specs.Str.{chars};
 ghost use Rattle.unicode_ident.specs.Ident.{is_xid_continue};
@@ -9,20 +9,23 @@ ghost use Rattle.litrs_base.specs.Quotes.{char_front, quoted_front, switches_of}
 ghost use Rattle.litrs_grammar.specs.CharByte.{allows_char, is_char_item, plain_char};
 ghost use Rattle.litrs_grammar.specs.Float.{is_period};
 ghost use Rattle.litrs_lex.specs.Reading.{IsItemsEnd};
-ghost use Rattle.litrs_prefix.specs.Ends.{after_digits, IsEndOf, HasLiteralBefore};
+ghost use Rattle.litrs_prefix.specs.Ends.{after_digits, IsEndOf, HasLiteralBefore, IsOnlyRest};
+ghost use Rattle.litrs_prefix.specs.Meant.{after_opened};
 
 use crate::follow::{begins_with_digit, begins_with_period, keeps_period};
 use crate::malformed::after_digits;
 use crate::name::split_first_char;
+use crate::piece::integer_follows;
 use litrs_base::CharKind;
 use litrs_lex::quoted::items_end;
-use litrs_lex::{InByteString, InCString, InString, StringKind};
+use litrs_lex::{InByteString, InCString, InString, Run, StringKind, run_end};
 
 /// Returns the part of `text` after the literal at its front, if that is a decimal number, a char
 /// or a byte of one character, or a quoted string or byte string, has no suffix, and ends the text
 /// or is before an ASCII character that no name has. Otherwise returns `None`, as for `0xFF`.
 pub fn after_plain(text: &str) -> Option<&str>
-    ensures { IfSome result (λ rest. HasLiteralBefore text.now rest.now) }
+    ensures literal { IfSome result (λ rest. HasLiteralBefore text.now rest.now) }
+    ensures none { IfNone result (IsOnlyRest (chars text.now) (after_opened (chars text.now))) }
 {
     match split_first_char(text) {
         Some((c, body)) => {
@@ -82,7 +85,8 @@ fn is_name_end(c: char) -> bool
 /// Like [`after_plain`], for a text that starts with a digit.
 fn after_number(text: &str) -> Option<&str>
     requires { IsTrue (first_passes is_ascii_digit (chars text.now)) }
-    ensures { IfSome result (λ rest. HasLiteralBefore text.now rest.now) }
+    ensures literal { IfSome result (λ rest. HasLiteralBefore text.now rest.now) }
+    ensures none { IfNone result (IsOnlyRest (chars text.now) (after_opened (chars text.now))) }
 {
     let rest = after_digits(text);
     if begins_with_period(rest) {
@@ -90,7 +94,7 @@ fn after_number(text: &str) -> Option<&str>
     } else if ends_name(rest) {
         Some(rest)
     } else {
-        None
+        after_integer(text)
     }
 }
 
@@ -100,7 +104,8 @@ fn after_period<'a>(text: &'a str, rest: &'a str) -> Option<&'a str>
     requires rest { chars rest.now ≡ after_digits (chars text.now) }
     requires end { IsEndOf text.now rest.now }
     requires period { IsTrue (first_passes is_period (chars rest.now)) }
-    ensures { IfSome result (λ rest. HasLiteralBefore text.now rest.now) }
+    ensures literal { IfSome result (λ rest. HasLiteralBefore text.now rest.now) }
+    ensures none { IfNone result (IsOnlyRest (chars text.now) (after_opened (chars text.now))) }
 {
     match split_first_char(rest) {
         Some((_, after)) => {
@@ -113,6 +118,18 @@ fn after_period<'a>(text: &'a str, rest: &'a str) -> Option<&'a str>
                 Some(after)
             }
         }
+        None => None,
+    }
+}
+
+/// Like [`after_plain`], for an integer of the characters of a name, as `0xFF` and `1u32`.
+fn after_integer(text: &str) -> Option<&str>
+    ensures literal { IfSome result (λ rest. HasLiteralBefore text.now rest.now) }
+    ensures none { IfNone result (IsOnlyRest (chars text.now) (after_opened (chars text.now))) }
+{
+    let (front, rest) = text.split_at(run_end(text.as_bytes(), Run::Identifier));
+    match integer_follows(front, rest) {
+        Some(ends) => if ends { Some(rest) } else { None },
         None => None,
     }
 }
