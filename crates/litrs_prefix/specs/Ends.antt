@@ -1,8 +1,10 @@
 -- The ends of literals, as the code finds them.
-use Rattle.std.specs.Prelude.{◌≡◌, ℕ, Bool, false, not, ◌==◌, ◌&&◌, List, [], ◌∷◌, ◌++◌, drop, if◌then◌else◌}
+use Rattle.std.specs.Prelude.{◌≡◌, ℕ, Bool, false, not, ◌==◌, ◌&&◌, List, [], ◌∷◌, ◌++◌, drop, if◌then◌else◌, IsTrue}
 use Rattle.std.specs.List.{prefix_len}
 use Rattle.std.specs.Str.{chars, IsUtf8, IsCharBoundary}
 use Rattle.litrs_base.specs.Characters.{single_quote, backslash, line_feed}
+use Rattle.litrs_base.specs.declared.quotes.CharKind.{CharKind}
+use Rattle.litrs_grammar.specs.CharByte.{CharItem, char_item_text, is_char_item}
 use Rattle.litrs_grammar.specs.Float.{is_decimal_char, is_period, is_sign}
 use Rattle.litrs_grammar.specs.Integer.{is_e}
 use Rattle.litrs_grammar.specs.Literal.{Derivation}
@@ -49,6 +51,14 @@ past_single_quote escaped (c ∷ t) =
 -- The rest starts at this place of the text with these bytes.
 abbrev pub EndsBefore : (bytes rest : List ℕ) → ℕ → Type 0
 EndsBefore bytes rest end = IsCharBoundary bytes end × (chars (drop end bytes) ≡ rest)
+
+-- The text with these bytes starts with the item of a char or a byte, and has this rest.
+pub record IsItemBefore (kind : CharKind) (bytes rest : List ℕ) : Type 0 where
+  pub item : CharItem
+  pub grammar : IsTrue (is_char_item kind item)
+  pub spells : char_item_text item ++ chars rest ≡ chars bytes
+  pub end : IsEndOf bytes rest
+  pub utf8 : IsUtf8 rest
 
 -- The text with these bytes has a literal at its front, and this rest.
 pub record HasLiteralBefore (bytes rest : List ℕ) : Type 0 where

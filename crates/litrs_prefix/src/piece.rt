@@ -1,4 +1,4 @@
-//! Whether a piece of a text is a literal, and whether the rest may follow it.
+//! Tests of a piece of a text: it is a literal, and the rest may follow it.
 ghost use Rattle.std.specs.Prelude.{◌&&◌, codes, IsTrue};
 ghost use Rattle.std.specs.Str.{chars};
 ghost use Rattle.litrs_base.specs.Text.{begins_with};
