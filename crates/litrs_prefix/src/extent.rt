@@ -74,7 +74,11 @@ fn judged_extent(text: &str) -> Result<usize, usize>
     let len = text.len() - after_opened(text).len();
     let (front, rest) = text.split_at(len);
     match follows(front, rest) {
-        Some(ends) => if ends { Ok(len) } else { Err(malformed_len(text, len)) },
+        Some(ends) => if ends {
+            Ok(len)
+        } else {
+            Err(malformed_len(text, len))
+        },
         None => Err(len),
     }
 }
