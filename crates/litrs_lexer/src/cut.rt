@@ -18,7 +18,7 @@ ghost use Rattle.litrs_lexer.specs.Whitespace.{is_white_space};
 use crate::ascii::split_ascii;
 use crate::comment::{after_block, after_line};
 use crate::kind::TokenKind;
-use crate::literal::{cut_literal, cut_number};
+use crate::literal::cut_literal;
 use crate::name::{
     after_raw_mark, after_run, opens_quoted, starts_with_bool, starts_with_hash, starts_with_name,
     starts_with_quote_or_hash, starts_with_single_quote,
@@ -93,10 +93,7 @@ fn cut_other<'a>(text: &'a str, c: char, after: &'a str) -> (TokenKind, &'a str)
     ensures cut { IsCut text.now result.0 result.1.now }
     ensures utf8 { IsUtf8 result.1.now }
 {
-    if c == '0' && starts_with_name(after) {
-        let (kind, rest) = cut_number(text);
-        (kind, rest)
-    } else if c.is_ascii_digit() {
+    if c.is_ascii_digit() {
         let (kind, rest) = cut_literal(text);
         (kind, rest)
     } else if c == '"' {

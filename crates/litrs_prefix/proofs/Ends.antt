@@ -1,9 +1,9 @@
 -- Ends of texts, in bytes.
 use Rattle.std.proofs.Common.{◌≡◌, ℕ, ◌+◌, ◌-◌, ◌<◌, ◌≤◌, List, [], ◌++◌, length, take, drop, refl, sym, ap, subst, ◌∙◌, append_assoc, append-nil, length-append, arith}
 use Rattle.std.specs.Prelude.{encode_utf8}
-use Rattle.std.specs.Str.{IsUtf8, IsCharBoundary}
-use Rattle.std.proofs.lemmas.List.{drop_at, take-append-drop}
-use Rattle.std.proofs.lemmas.Str.{length-encode, len_utf8_bounds, IsCharBoundary-from_drop}
+use Rattle.std.specs.Str.{chars, IsUtf8, IsCharBoundary}
+use Rattle.std.proofs.lemmas.List.{append_cancel_right, drop_at, take-append-drop}
+use Rattle.std.proofs.lemmas.Str.{chars-append, length-encode, len_utf8_bounds, IsCharBoundary-from_drop, IsUtf8-take}
 use Rattle.litrs_prefix.specs.Ends.{IsEndOf}
 
 pub all : (t : List ℕ) → IsEndOf t t
@@ -42,3 +42,10 @@ end_at bs front after u is =
 
 pub end_boundary : (t rest : List ℕ) → IsUtf8 rest → IsEndOf t rest → IsCharBoundary t (length t - length rest)
 end_boundary t rest u h = (end_at t h.0 rest u h.1).0
+
+-- the front of a text, by what follows it
+pub front_is : (bs : List ℕ) (n : ℕ) (l r : List ℕ) → IsUtf8 bs → IsCharBoundary bs n → chars (drop n bs) ≡ r → l ++ r ≡ chars bs → chars (take n bs) ≡ l
+front_is bs n l r u bound is spells =
+    let utf8 : IsUtf8 (take n bs) = IsUtf8-take bs n u bound in
+    append_cancel_right (chars (take n bs)) l r
+    (ap (λ (x : List ℕ). chars (take n bs) ++ x) (sym is) ∙ (sym (chars-append (take n bs) (drop n bs) utf8) ∙ (ap chars (take-append-drop n bs) ∙ sym spells)))

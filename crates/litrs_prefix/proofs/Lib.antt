@@ -15,11 +15,8 @@ pub mod MoreText
 pub mod OpenedStays
 pub mod MayChange
 -- that a literal at the front is found
-pub mod Complete
-pub mod RawComplete
-pub mod CharComplete
-pub mod NumberComplete
-pub mod Dispatched
+pub mod OnlyRest
+pub mod NumberEnds
 -- what was meant as a literal
 pub mod Pieces
 pub mod Meant
@@ -27,8 +24,8 @@ pub mod MeantEnds
 pub mod MeantPieces
 -- what an error marks
 pub mod Marks
--- whether what was cut off is a literal
-pub mod Stands
+-- whether a piece is a literal
+pub mod Judged
 -- literals that are read once
 pub mod PlainLiterals
 -- examples

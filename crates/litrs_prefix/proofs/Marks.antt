@@ -13,7 +13,7 @@ use Rattle.litrs_base.proofs.CharEnds.{points_cut}
 use Rattle.litrs_lex.proofs.CharCuts.{cut_at}
 use Rattle.litrs_prefix.specs.declared.MalformedPrefix.{MalformedPrefix}
 use Rattle.litrs_prefix.specs.Malformed.{IsMalformedOrOutOfMemory, IsMovedBy, prefix_span, IsMarkedAt}
-use Rattle.litrs_prefix.proofs.Complete.{front_is}
+use Rattle.litrs_prefix.proofs.Ends.{front_is}
 
 -- a place of the front is a place of the text
 boundary_in : (bs : List ℕ) (n i : ℕ) → IsCharBoundary bs n → i ≤ n → IsCharBoundary (take n bs) i → IsCharBoundary bs i

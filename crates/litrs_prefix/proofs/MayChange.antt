@@ -25,7 +25,7 @@ use Rattle.litrs_prefix.specs.MayChange.{Answer, none, literal, malformed, IsMal
 use Rattle.litrs_prefix.specs.Meant.{after_opened}
 use Rattle.litrs_prefix.specs.Opens.{first_run, first_name, after_run, after_name, after_hashes, is_single_quote, begins_lifetime, opens_raw, opens_bytes, opens_c_string, opens}
 use Rattle.litrs_prefix.specs.Prefix.{is_of_suffix, ends_suffix, may_follow, HasPrefix, HasNoPrefix}
-use Rattle.litrs_prefix.proofs.CharComplete.{quote_stops}
+use Rattle.litrs_prefix.proofs.Names.{quote_stops}
 use Rattle.litrs_prefix.proofs.LongerTexts.{whole, stays}
 use Rattle.litrs_prefix.proofs.Opened.{opened}
 use Rattle.litrs_prefix.proofs.OpenedStays.{seven, letter_is_taken, opened_stays, raw_stays, lifetime_stays, name_kept, x_goes_on, x_begins}

@@ -137,9 +137,6 @@ line_step : (q : Bool) (e : Bool) (c : ℕ) (t : List ℕ) → past_single_quote
 line_step true e c t rest = sym (line_spelt t)
 line_step false e c t rest = rest
 
-long_drop : (c : ℕ) (line t : List ℕ) → drop (length (c ∷ line)) (c ∷ t) ≡ drop (length line) t
-long_drop c line t = refl
-
 line_case : (n e : Bool) (c : ℕ) (t : List ℕ) → (c == 10) ≡ n → past_single_quote ((c == 92) && not e) t ≡ in_line ((c == 92) && not e) (first_line t) t →
     (if n then c ∷ t else if (c == 39) && not e then t else past_single_quote ((c == 92) && not e) t) ≡ in_line e (first_line (c ∷ t)) (c ∷ t)
 line_case true e c t h rest = sym (ap (λ (line : List ℕ). in_line e line (c ∷ t)) (line_ends c t h))

@@ -1,5 +1,5 @@
 -- What follows what was meant as a literal is an end of the text, without its first character.
-use Rattle.std.proofs.Common.{◌≡◌, ℕ, ◌+◌, ◌-◌, ◌≤◌, Bool, true, false, not, ◌&&◌, ◌||◌, List, [], ◌∷◌, ◌++◌, take, drop, length, refl, sym, ap, subst, ◌∙◌, length-drop, arith}
+use Rattle.std.proofs.Common.{◌≡◌, ℕ, ◌+◌, ◌-◌, ◌<◌, ◌≤◌, Bool, true, false, not, ◌&&◌, ◌||◌, List, [], ◌∷◌, ◌++◌, take, drop, length, refl, sym, ap, subst, ◌∙◌, length-drop, arith}
 use Rattle.std.specs.Prelude.{◌==◌, if◌then◌else◌, encode_utf8_all}
 use Rattle.std.specs.Char.{is_ascii_digit}
 use Rattle.std.specs.Str.{chars, IsUtf8, IsCharBoundary}
@@ -17,11 +17,11 @@ use Rattle.litrs_grammar.specs.Raw.{is_hash, hash_len, raw_closing, length_befor
 use Rattle.litrs_grammar.specs.Suffix.{starts_identifier}
 use Rattle.litrs_lex.proofs.CharCuts.{cut_at}
 use Rattle.litrs_prefix.specs.Ends.{IsEndOf, past_quote, past_single_quote, after_digits, after_fraction, after_exponent, after_sign}
-use Rattle.litrs_prefix.specs.Meant.{after_quoted, after_single_quote, after_char, after_raw, after_prefixed, after_number, after_opened}
+use Rattle.litrs_prefix.specs.Meant.{after_quoted, after_single_quote, after_char, after_raw, after_prefixed, after_number, after_opened, IsMeant}
 use Rattle.litrs_prefix.specs.Opens.{first_run, first_name, after_run, after_name, after_hashes, is_single_quote, begins_lifetime, opens_raw, opens_bytes, opens_c_string, opens}
-use Rattle.litrs_prefix.proofs.Complete.{front_is}
-use Rattle.litrs_prefix.proofs.Ends.{end_of_end}
+use Rattle.litrs_prefix.proofs.Ends.{end_of_end, front_is, shorter}
 use Rattle.litrs_prefix.proofs.Meant.{digits_passed, number_parts, past_quote_is, past_single_quote_is}
+use Rattle.litrs_prefix.proofs.MeantPieces.{meant_first}
 use Rattle.litrs_prefix.proofs.Names.{name_and_rest, run_and_rest}
 
 -- of a text with one character more, one of two ends
@@ -172,6 +172,7 @@ pub record EndsAt (bs rest front : List ℕ) : Type 0 where
   pub boundary : IsCharBoundary bs (length bs - length rest)
   pub before : chars (take (length bs - length rest) bs) ≡ front
   pub len : byte_len front ≡ length bs - length rest
+  pub after : chars (drop (length bs - length rest) bs) ≡ chars rest
   pub within : length rest ≤ length bs
 
 pub ends_at : (bs rest front : List ℕ) → IsUtf8 bs → IsUtf8 rest → front ++ chars rest ≡ chars bs → EndsAt bs rest front
@@ -186,5 +187,29 @@ ends_at bs rest front u v is =
       boundary = subst (λ (k : ℕ). IsCharBoundary bs k) place cut.boundary;
       before = ap (λ (k : ℕ). chars (take k bs)) (sym place) ∙ front_is bs n front (chars rest) u cut.boundary cut.rest is;
       len = place;
+      after = ap (λ (k : ℕ). chars (drop k bs)) (sym place) ∙ cut.rest;
       within = omega (arith, length-drop {A = ℕ});
     }
+
+-- the piece that opens, in bytes
+pub record OpenedAt (bs : List ℕ) (n : ℕ) : Type 0 where
+  pub boundary : IsCharBoundary bs n
+  pub some : 0 < n
+  pub meant : IsMeant (chars bs) (chars (take n bs))
+  pub rest : chars (drop n bs) ≡ after_opened (chars bs)
+
+pub opened_at : (bs rest : List ℕ) → IsUtf8 bs → IsUtf8 rest → opens (chars bs) ≡ true → chars rest ≡ after_opened (chars bs) → (length rest ≤ length bs) × OpenedAt bs (length bs - length rest)
+opened_at bs rest u v opens is =
+    let piece = opened_piece (chars bs) opens in
+    let front : List ℕ = piece.first ∷ piece.piece in
+    let at = ends_at bs rest front u v (ap (λ (l : List ℕ). front ++ l) is ∙ piece.spells) in
+    let more : byte_len piece.piece < byte_len front = shorter (encode_utf8_all front) piece.first (encode_utf8_all piece.piece) refl in
+    let len = at.len in (
+      at.within,
+      record {
+        boundary = at.boundary;
+        some = omega arith;
+        meant = subst (λ (l : List ℕ). IsMeant (chars bs) l) (sym at.before) (meant_first (chars bs) front piece.spells);
+        rest = at.after ∙ is;
+      },
+    )

@@ -22,7 +22,7 @@ use Rattle.litrs_prefix.specs.Prefix.{ends_suffix, ends_integer, ends_float, is_
 use Rattle.litrs_prefix.proofs.Suffixes.{same_suffix}
 
 -- what begins no name is no letter and no `_`
-no_start : (c : ℕ) → starts_identifier c ≡ false → (is_ascii_alphabetic c || (c == 95)) ≡ false
+pub no_start : (c : ℕ) → starts_identifier c ≡ false → (is_ascii_alphabetic c || (c == 95)) ≡ false
 no_start c none = elim (cases_lt c 128) [
   | inl low ↦ (let e : is_xid_start c ≡ is_ascii_alphabetic c = is_xid_start-ascii c low in
       let s : ((c == 95) || is_ascii_alphabetic c) ≡ false = ap (λ v. (c == 95) || v) (sym e) ∙ none in grind (arith, nat_tests))

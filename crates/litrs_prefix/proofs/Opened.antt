@@ -21,8 +21,7 @@ use Rattle.litrs_prefix.specs.Prefix.{may_follow, ends_bool}
 use Rattle.litrs_prefix.specs.Opens.{after_run, after_hashes, is_single_quote, begins_lifetime, opens_raw, opens}
 use Rattle.litrs_prefix.specs.Laws.{PrefixesOpen}
 use Rattle.litrs_prefix.proofs.Chars.{longer_char, longer_raw}
-use Rattle.litrs_prefix.proofs.CharComplete.{quote_stops, backslash_stops}
-use Rattle.litrs_prefix.proofs.Dispatched.{bool_first}
+use Rattle.litrs_prefix.proofs.Names.{bool_first, quote_stops, backslash_stops}
 
 open_digit : (t : List ℕ) → first_passes is_ascii_digit t ≡ true → opens t ≡ true
 open_digit [] h = absurd (false≢true h)
@@ -46,7 +45,7 @@ no_lifetime (escaped_char e) x =
 open_char : (u : List ℕ) → begins_lifetime u ≡ false → opens (39 ∷ u) ≡ true
 open_char u h = rw h refl
 
-after_all : (n : ℕ) (y : List ℕ) → after_hashes (hashes n ++ 34 ∷ y) ≡ 34 ∷ y
+pub after_all : (n : ℕ) (y : List ℕ) → after_hashes (hashes n ++ 34 ∷ y) ≡ 34 ∷ y
 after_all zero y = refl
 after_all (suc n) y = after_all n y
 

@@ -1,5 +1,5 @@
 -- A piece at the front of a text that is refused.
-use Rattle.std.proofs.Common.{◌≡◌, ℕ, ◌+◌, ◌<◌, ◌^◌, List, ◌++◌, length, take, drop, None, true, sym, ap, subst, inl, inr, ◌∙◌, append_assoc, length-take, length-drop, [], ◌∷◌, ◌-◌, ◌≤◌, refl, arith}
+use Rattle.std.proofs.Common.{◌≡◌, ◌⊎◌, ℕ, ◌+◌, ◌<◌, ◌^◌, List, ◌++◌, length, take, drop, None, true, sym, ap, subst, inl, inr, ◌∙◌, append_assoc, length-take, length-drop, [], ◌∷◌, ◌-◌, ◌≤◌, refl, arith}
 use Rattle.std.specs.Str.{chars, IsUtf8, IsCharBoundary}
 use Rattle.std.specs.Prelude.{encode_utf8, encode_utf8_all}
 use Rattle.std.proofs.lemmas.Str.{chars-append, chars-nil, encode_ascii, encodes-chars, encodes-IsAscii, IsUtf8-take}
@@ -11,19 +11,17 @@ use Rattle.litrs_base.specs.Text.{byte_len, first_passes}
 use Rattle.litrs_grammar.specs.Float.{is_period}
 use Rattle.litrs_base.specs.Derivations.{HasNoDerivation}
 use Rattle.litrs_grammar.specs.Literal.{Derivation, IsLiteral, literal_parse}
-use Rattle.litrs_grammar.specs.Refused.{IsRefused, IsOutOfMemory, IsRefusedOrOutOfMemory}
-use Rattle.litrs_grammar.proofs.RefusalKinds.{no_refusal_is_of_memory}
-use Rattle.litrs_base.specs.Refusal.{Refusal, refusal_of, kind_of, span_of, MovesWithin}
-use Rattle.litrs_base.specs.declared.err.ParseErrorKind.TheVariants.{OutOfMemory}
+use Rattle.litrs_grammar.specs.Refused.{IsRefused, IsRefusedOrOutOfMemory}
+use Rattle.litrs_base.specs.Refusal.{Refusal, span_of, MovesWithin}
 use Rattle.litrs_lex.proofs.CharCuts.{cut_at}
 use Rattle.litrs.proofs.MovedRefusals.{refusal_moves}
 use Rattle.litrs_prefix.specs.declared.MalformedPrefix.{MalformedPrefix}
 use Rattle.litrs_prefix.specs.Ends.{EndsBefore}
+use Rattle.litrs_prefix.specs.Extent.{IsLiteralLen, IsMalformedLen}
 use Rattle.litrs_prefix.specs.Malformed.{IsMalformed, IsMalformedOrOutOfMemory}
 use Rattle.litrs_prefix.specs.Meant.{IsMeant}
-use Rattle.litrs_prefix.specs.Opens.{opens}
-use Rattle.litrs_prefix.specs.Prefix.{may_follow, HasPrefix, HasNoPrefix}
-use Rattle.litrs_prefix.proofs.Complete.{front_is}
+use Rattle.litrs_prefix.specs.Prefix.{may_follow, HasPrefix}
+use Rattle.litrs_prefix.proofs.Ends.{front_is}
 use Rattle.litrs_prefix.proofs.LongerTexts.{whole}
 use Rattle.litrs_prefix.proofs.MeantPieces.{meant_longer}
 use Rattle.litrs_prefix.proofs.Opened.{opened}
@@ -45,28 +43,12 @@ piece_len : (bs front : List ℕ) (n : ℕ) → IsUtf8 bs → IsCharBoundary bs 
 piece_len bs front n u bound before size =
     ap length (encodes-chars front (subst (λ (l : List ℕ). IsUtf8 l) (sym before) (IsUtf8-take bs n u bound))) ∙ size
 
--- a piece is not a literal, and is what is meant as one
-pub piece_refused : (bs front rest : List ℕ) (n : ℕ) (e : ParseError) → IsUtf8 bs → IsCharBoundary bs n → front ≡ take n bs → rest ≡ drop n bs → length front ≡ n →
-    opens (chars bs) ≡ true → IsRefused literal_parse (chars front) e → HasNoPrefix (chars bs) → IsMeant (chars bs) (chars front) →
-    0 < n → IsMalformed (chars bs) (record { error = e; len = n })
-piece_refused bs front rest n e u bound before after size opens_at is none meant some = record {
-  front = chars front;
-  rest = chars rest;
-  spells = parts_spell bs front rest n u bound before after;
-  len = piece_len bs front n u bound before size;
-  some = some;
-  meant = meant;
-  refused = is;
-  opens = opens_at;
-  none = none;
-}
-
--- an allocation failed for the literal that is at the front of the text
-pub memory_at : (bs front rest : List ℕ) (n : ℕ) (e : ParseError) (d : Derivation) (r : List ℕ) → IsUtf8 bs → IsCharBoundary bs n → front ≡ take n bs → rest ≡ drop n bs → length front ≡ n →
-    IsRefusedOrOutOfMemory literal_parse (chars front) e → kind_of e ≡ OutOfMemory → HasPrefix (chars bs) d r → EndsBefore bs r n →
+-- each error of the literal at the front of the text is that of its allocation
+memory_of : (bs front rest : List ℕ) (n : ℕ) (e : ParseError) (d : Derivation) (r : List ℕ) → IsUtf8 bs → IsCharBoundary bs n → front ≡ take n bs → rest ≡ drop n bs → length front ≡ n →
+    IsRefusedOrOutOfMemory literal_parse (chars front) e → HasPrefix (chars bs) d r → EndsBefore bs r n →
     IsMalformedOrOutOfMemory (chars bs) (record { error = e; len = n })
-memory_at bs front rest n e d r u bound before after size (inl is) kind at place = absurd (no_refusal_is_of_memory literal_parse (chars front) (refusal_of e) is.table kind)
-memory_at bs front rest n e d r u bound before after size (inr is) kind at place =
+memory_of bs front rest n e d r u bound before after size (inl is) at place = absurd (is.none d (piece_is bs front n d r u before place at))
+memory_of bs front rest n e d r u bound before after size (inr is) at place =
     let literal : IsLiteral (chars front) d = piece_is bs front n d r u before place at in
     let same : d ≡ is.derivation = (unique (chars front) d is.derivation [] [] (whole (chars front) d literal) (whole (chars front) is.derivation is.literal)).0 in
     let left : r ≡ chars rest = sym place.1 ∙ ap chars (sym after) in
@@ -86,27 +68,35 @@ memory_at bs front rest n e d r u bound before after size (inr is) kind at place
     })
 
 -- the error of a piece that is not a literal
-pub refused_at : (front : List ℕ) (e : ParseError) → IsRefusedOrOutOfMemory literal_parse front e → (kind_of e ≡ OutOfMemory → ⊥) → IsRefused literal_parse front e
-refused_at front e (inl is) other = is
-refused_at front e (inr is) other = absurd (other (ap (λ (r : Refusal). r.kind) is.error))
+refused_at : (front : List ℕ) (e : ParseError) → IsRefusedOrOutOfMemory literal_parse front e → HasNoDerivation (IsLiteral front) → IsRefused literal_parse front e
+refused_at front e (inl is) none = is
+refused_at front e (inr is) none = absurd (none is.derivation is.literal)
 
--- a piece is a literal if an allocation failed for its value
-pub literal_at : (front : List ℕ) (e : ParseError) → IsRefusedOrOutOfMemory literal_parse front e → kind_of e ≡ OutOfMemory → (d : Derivation) × IsLiteral front d
-literal_at front e (inl is) kind = absurd (no_refusal_is_of_memory literal_parse front (refusal_of e) is.table kind)
-literal_at front e (inr is) kind = (is.derivation, is.literal)
+-- the error of the literal, valid or malformed, at the front
+pub front_refused : (bs front rest : List ℕ) (n : ℕ) (e : ParseError) → IsUtf8 bs → front ≡ take n bs → rest ≡ drop n bs → length front ≡ n → IsLiteralLen bs n ⊎ IsMalformedLen bs n →
+    IsRefusedOrOutOfMemory literal_parse (chars front) e → IsMalformedOrOutOfMemory (chars bs) (record { error = e; len = n })
+front_refused bs front rest n e u before after size (inl is) refused =
+    memory_of bs front rest n e is.literal (chars (drop n bs)) u is.boundary before after size refused is.at_front (is.boundary, refl)
+front_refused bs front rest n e u before after size (inr is) refused = inl (record {
+  front = chars front;
+  rest = chars rest;
+  spells = parts_spell bs front rest n u is.boundary before after;
+  len = piece_len bs front n u is.boundary before size;
+  some = is.some;
+  meant = subst (λ (l : List ℕ). IsMeant (chars bs) (chars l)) (sym before) is.front.meant;
+  refused = refused_at (chars front) e refused (λ d h. is.front.invalid d (subst (λ (l : List ℕ). IsLiteral (chars l) d) before h));
+  opens = is.front.opens;
+  none = is.front.none;
+})
 
--- each error of the literal at the front of the text is that of its allocation
-pub memory_of : (bs front rest : List ℕ) (n : ℕ) (e : ParseError) (d : Derivation) (r : List ℕ) → IsUtf8 bs → IsCharBoundary bs n → front ≡ take n bs → rest ≡ drop n bs → length front ≡ n →
-    IsRefusedOrOutOfMemory literal_parse (chars front) e → HasPrefix (chars bs) d r → EndsBefore bs r n →
-    IsMalformedOrOutOfMemory (chars bs) (record { error = e; len = n })
-memory_of bs front rest n e d r u bound before after size (inl is) at place = absurd (is.none d (piece_is bs front n d r u before place at))
-memory_of bs front rest n e d r u bound before after size (inr is) at place =
-    memory_at bs front rest n e d r u bound before after size (inr is) (ap (λ (x : Refusal). x.kind) is.error) at place
-
--- another error says that the piece is no literal
-pub none_at : (front : List ℕ) (e : ParseError) → IsRefusedOrOutOfMemory literal_parse front e → (kind_of e ≡ OutOfMemory → ⊥) → HasNoDerivation (IsLiteral front)
-none_at front e (inl is) other = is.none
-none_at front e (inr is) other = absurd (other (ap (λ (r : Refusal). r.kind) is.error))
+-- the literal that is the front
+pub front_found : (bs front rest : List ℕ) (n : ℕ) (x : Derivation) → IsUtf8 bs → front ≡ take n bs → rest ≡ drop n bs → IsLiteralLen bs n ⊎ IsMalformedLen bs n → IsLiteral (chars front) x →
+    HasPrefix (chars bs) x (chars rest)
+front_found bs front rest n x u before after (inr is) h = absurd (is.front.invalid x (subst (λ (l : List ℕ). IsLiteral (chars l) x) before h))
+front_found bs front rest n x u before after (inl is) h =
+    let literal = piece_is bs front n is.literal (chars (drop n bs)) u before (is.boundary, refl) is.at_front in
+    let same : is.literal ≡ x = (unique (chars front) is.literal x [] [] (whole (chars front) is.literal literal) (whole (chars front) x h)).0 in
+    subst (λ (d : Derivation). HasPrefix (chars bs) d (chars rest)) same (subst (λ (l : List ℕ). HasPrefix (chars bs) is.literal (chars l)) (sym after) is.at_front)
 
 -- what the spans of an error are moved by fits, where it is within the source text
 pub malformed_moves : (bs : List ℕ) (e : MalformedPrefix) (offset : ℕ) → IsUtf8 bs → offset + length bs < 2 ^ 64 → IsMalformedOrOutOfMemory (chars bs) e → MovesWithin offset e.error
@@ -124,11 +114,6 @@ no_empty_piece bs d r at place =
     let none : at.front ≡ [] = append_cancel_right at.front [] r (at.spells ∙ place.1) in
     let empty = subst (λ (t : List ℕ). IsLiteral t d) none at.literal in
     false≢true (opened [] d [] (whole [] d empty))
-
--- a text where a literal opens is not empty
-pub some_bytes : (bs : List ℕ) → opens (chars bs) ≡ true → 0 < length bs
-some_bytes [] h = absurd (false≢true (sym (ap opens chars-nil) ∙ h))
-some_bytes (b ∷ bs) h = omega arith
 
 -- a text that ends with a period, in bytes
 pub last_period : (bs front : List ℕ) → IsUtf8 bs → front ++ 46 ∷ [] ≡ chars bs → IsCharBoundary bs (length bs - 1) × (drop (length bs - 1) bs ≡ 46 ∷ []) × (1 ≤ length bs)

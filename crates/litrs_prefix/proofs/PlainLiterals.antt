@@ -19,7 +19,7 @@ use Rattle.litrs_base.specs.Text.{begins_with, first_passes}
 use Rattle.litrs_grammar.specs.Suffix.{starts_identifier}
 use Rattle.litrs_grammar.specs.Integer.{IntegerParts, IsIntegerOf, integer_text, has_prefix}
 use Rattle.litrs_grammar.specs.Float.{FloatParts, IsFloatOf, float_text, is_period, is_decimal_char, is_decimal_literal, is_float_form}
-use Rattle.litrs_grammar.specs.CharByte.{CharParts, IsCharLiteral, plain_char, is_char_item, char_text}
+use Rattle.litrs_grammar.specs.CharByte.{CharItem, char_item_text, CharParts, IsCharLiteral, is_char_item, char_text}
 use Rattle.litrs_grammar.specs.Quoted.{Item, QuotedParts, IsQuotedLiteral, body_text, is_item_list, quoted_text}
 use Rattle.litrs_grammar.specs.Literal.{Derivation, an_integer, a_float, a_char, a_byte, quoted_parts}
 use Rattle.litrs_grammar.proofs.Laws.Integer.{list_all-take_while, first_passes-rest, one_more}
@@ -31,7 +31,7 @@ use Rattle.litrs_prefix.specs.Prefix.{HasPrefix, is_bare, keeps_period, gives_pe
 use Rattle.litrs_prefix.proofs.Chars.{longer_char}
 use Rattle.litrs_prefix.proofs.Numbers.{longer_integer, longer_float}
 use Rattle.litrs_prefix.proofs.Quoted.{longer}
-use Rattle.litrs_prefix.proofs.Stands.{string_at, to_string, string_follows}
+use Rattle.litrs_prefix.proofs.Judged.{string_at, to_string, string_follows}
 
 -- a literal at the front of a text, before this rest
 abbrev pub HasLiteral : List ℕ → List ℕ → Type 0
@@ -197,20 +197,20 @@ bare_at t a h at digit keeps =
 
 -- a char or a byte
 
-abbrev char_parts_of : (c : ℕ) → CharParts
-char_parts_of c = record { item = plain_char c; suffix = [] }
+abbrev char_parts_of : CharItem → CharParts
+char_parts_of a = record { item = a; suffix = [] }
 
-char_literal : (kind : CharKind) (c : ℕ) → is_char_item kind (plain_char c) ≡ true → IsCharLiteral kind (char_text kind (char_parts_of c)) (char_parts_of c)
-char_literal kind c item = record { spells = refl; item = item; suffix = is_suffix-nil }
+char_literal : (kind : CharKind) (a : CharItem) → is_char_item kind a ≡ true → IsCharLiteral kind (char_text kind (char_parts_of a)) (char_parts_of a)
+char_literal kind a item = record { spells = refl; item = item; suffix = is_suffix-nil }
 
-pub char_at : (kind : CharKind) (t : List ℕ) (c : ℕ) (r : List ℕ) → t ≡ char_front kind ++ c ∷ 39 ∷ r → is_char_item kind (plain_char c) ≡ true → first_passes starts_identifier r ≡ false → HasLiteral t r
-char_at char_kind t c r is item name =
-    let d = char_parts_of c in
-    let lit = char_literal char_kind c item in
+pub char_at : (kind : CharKind) (t : List ℕ) (a : CharItem) (r : List ℕ) → t ≡ char_front kind ++ (char_item_text a ++ 39 ∷ r) → is_char_item kind a ≡ true → first_passes starts_identifier r ≡ false → HasLiteral t r
+char_at char_kind t a r is item name =
+    let d = char_parts_of a in
+    let lit = char_literal char_kind a item in
     (a_char d, record { front = char_text char_kind d; spells = longer_char char_kind (char_text char_kind d) r d lit ∙ sym is; literal = lit; follows = ap not name })
-char_at byte_kind t c r is item name =
-    let d = char_parts_of c in
-    let lit = char_literal byte_kind c item in
+char_at byte_kind t a r is item name =
+    let d = char_parts_of a in
+    let lit = char_literal byte_kind a item in
     (a_byte d, record { front = char_text byte_kind d; spells = longer_char byte_kind (char_text byte_kind d) r d lit ∙ sym is; literal = lit; follows = ap not name })
 
 -- a quoted string

@@ -1,22 +1,18 @@
 -- The ends of literals, as the code finds them.
-use Rattle.std.specs.Prelude.{◌≡◌, ◌⊎◌, ℕ, Bool, true, false, not, ◌==◌, ◌&&◌, List, [], ◌∷◌, ◌++◌, drop, if◌then◌else◌, IsTrue, IsFalse}
+use Rattle.std.specs.Prelude.{◌≡◌, ℕ, Bool, false, not, ◌==◌, ◌&&◌, List, [], ◌∷◌, ◌++◌, drop, if◌then◌else◌, IsTrue}
 use Rattle.std.specs.List.{prefix_len}
 use Rattle.std.specs.Str.{chars, IsUtf8, IsCharBoundary}
-use Rattle.litrs_base.specs.declared.err.ParseErrorKind.{ParseErrorKind}
-use Rattle.litrs_base.specs.declared.err.ParseErrorKind.TheVariants.{UnexpectedChar, InvalidSuffix}
 use Rattle.litrs_base.specs.Characters.{single_quote, backslash, line_feed}
+use Rattle.litrs_base.specs.declared.quotes.CharKind.{CharKind}
+use Rattle.litrs_grammar.specs.CharByte.{CharItem, char_item_text, is_char_item}
 use Rattle.litrs_grammar.specs.Float.{is_decimal_char, is_period, is_sign}
 use Rattle.litrs_grammar.specs.Integer.{is_e}
-use Rattle.litrs_grammar.specs.Literal.{Derivation, a_bool, IsLiteral}
-use Rattle.litrs_prefix.specs.Prefix.{may_follow, HasPrefix}
+use Rattle.litrs_grammar.specs.Literal.{Derivation}
+use Rattle.litrs_prefix.specs.Prefix.{HasPrefix}
 
 -- The second text is the end of the first.
 abbrev pub IsEndOf : (text rest : List ℕ) → Type 0
 IsEndOf text rest = (front : List ℕ) × (front ++ rest ≡ text)
-
--- The text is not a bool followed by this rest.
-abbrev pub NoBoolBefore : (t rest : List ℕ) → Type 0
-NoBoolBefore t rest = (b : Bool) → HasPrefix t (a_bool b) rest → ⊥
 
 -- The part of a text after the decimal digits and underscores at its front.
 abbrev pub after_digits : List ℕ → List ℕ
@@ -52,13 +48,17 @@ past_single_quote escaped (c ∷ t) =
     else if (c == single_quote) && not escaped then t
     else past_single_quote ((c == backslash) && not escaped) t
 
--- The kinds of refusals of a text that is not a suffix.
-abbrev pub IsSuffixKind : ParseErrorKind → Type 0
-IsSuffixKind kind = (kind ≡ UnexpectedChar) ⊎ (kind ≡ InvalidSuffix)
-
 -- The rest starts at this place of the text with these bytes.
 abbrev pub EndsBefore : (bytes rest : List ℕ) → ℕ → Type 0
 EndsBefore bytes rest end = IsCharBoundary bytes end × (chars (drop end bytes) ≡ rest)
+
+-- The text with these bytes starts with the item of a char or a byte, and has this rest.
+pub record IsItemBefore (kind : CharKind) (bytes rest : List ℕ) : Type 0 where
+  pub item : CharItem
+  pub grammar : IsTrue (is_char_item kind item)
+  pub spells : char_item_text item ++ chars rest ≡ chars bytes
+  pub end : IsEndOf bytes rest
+  pub utf8 : IsUtf8 rest
 
 -- The text with these bytes has a literal at its front, and this rest.
 pub record HasLiteralBefore (bytes rest : List ℕ) : Type 0 where
@@ -67,14 +67,6 @@ pub record HasLiteralBefore (bytes rest : List ℕ) : Type 0 where
   pub literal : Derivation
   pub at_front : HasPrefix (chars bytes) literal (chars rest)
 
--- The result of the test that the front is a literal that the rest may follow. If it is `true`,
--- there is such a literal. Otherwise, there is none.
-abbrev pub StandsBefore : Bool → (front rest : List ℕ) → Type 0
-StandsBefore true front rest = (d : Derivation) × IsLiteral front d × IsTrue (may_follow d rest)
-StandsBefore false front rest = (d : Derivation) → IsLiteral front d → IsFalse (may_follow d rest)
-
--- Like `StandsBefore`, for the literals of one kind, whose parts have the type `D`.
-abbrev pub StandsBy :
-    {D : Type 0} → (D → Type 0) → (D → Bool) → Bool → Type 0
-StandsBy {D} Derives follows true = (d : D) × Derives d × IsTrue (follows d)
-StandsBy {D} Derives follows false = (d : D) → Derives d → IsFalse (follows d)
+-- Each literal at the front of the text has this rest.
+abbrev pub IsOnlyRest : (t rest : List ℕ) → Type 0
+IsOnlyRest t rest = (d : Derivation) (r : List ℕ) → HasPrefix t d r → r ≡ rest

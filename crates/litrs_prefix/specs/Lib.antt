@@ -8,6 +8,8 @@ pub mod Meant
 -- texts whose literal may change if more text follows
 pub mod MayChange
 pub mod GoesOn
+-- the extent of a literal, valid or malformed
+pub mod Extent
 -- laws
 pub mod Laws
 -- the ends of literals, as the code finds them

@@ -29,38 +29,34 @@
 //! ```
 #![tactic(auto)]
 
-ghost use Rattle.std.specs.Prelude.{◌≡◌, IfOk, IfErr, IfSome, IfNone, IsSome, IsTrue, IsFalse, ℕ, List, length, drop, ◌++◌, ◌<◌, ◌≤◌};
+ghost use Rattle.std.specs.Prelude.{◌≡◌, ◌⊎◌, IfOk, IfErr, IfSome, IfNone, IsTrue, IsFalse, length, drop, ◌++◌, ◌<◌, ◌≤◌};
 ghost use Rattle.std.specs.Str.{chars, IsCharBoundary};
-ghost use Rattle.litrs.specs.Literal.{Derivation, IsLiteral, literal_parse};
 ghost use Rattle.litrs.specs.LiteralDerivation.{literal_raw, derivation};
-ghost use Rattle.litrs.specs.Refused.{IsRefused};
-ghost use Rattle.litrs_prefix.specs.Malformed.{IsMalformed, IsMalformedOrOutOfMemory, IsMovedBy, IsMarkedAt};
-ghost use Rattle.litrs_prefix.specs.Ends.{EndsBefore, HasLiteralBefore};
+ghost use Rattle.litrs_prefix.specs.Malformed.{IsMalformedOrOutOfMemory, IsMovedBy, IsMarkedAt};
+ghost use Rattle.litrs_prefix.specs.Extent.{IsLiteralLen, IsMalformedLen};
 ghost use Rattle.litrs_prefix.specs.Opens.{opens};
-ghost use Rattle.litrs_prefix.specs.Prefix.{HasPrefix, HasNoPrefix};
+ghost use Rattle.litrs_prefix.specs.Prefix.{HasPrefix};
 
-use end::literal_end;
+pub use extent::{opened_extent, opened_len, prefix_len};
 pub use follow::may_follow;
 pub use going_on::prefix_goes_on;
-pub use len::{opened_len, prefix_len};
-use litrs::{Literal, ParseError, ParseErrorKind};
+use litrs::{Literal, ParseError};
 pub use malformed::after_opened;
 pub use may_change::{is_open_front, prefix_may_change};
 pub use name::{after_name, after_run, begins_name, split_first_char};
 pub use opening::opens;
-use plain::after_plain;
 use std::alloc::Global;
 use std::ops::Range;
 
-mod end;
+mod extent;
 mod follow;
 mod going_on;
 pub mod laws;
-mod len;
 mod malformed;
 mod may_change;
 mod name;
 mod opening;
+mod piece;
 mod plain;
 
 /// A literal and the rest of the text.
@@ -135,99 +131,22 @@ pub fn parse_prefix(alloc: Global, text: &str) -> Result<Option<Prefix<'_>>, Mal
     if !opens(text) {
         return Ok(None);
     }
-    if let Some(rest) = after_plain(text) {
-        return parse_before(alloc, text, rest);
-    }
-    match literal_end(text) {
-        Some(end) => parse_front(alloc, text, end),
-        None => Err(refuse_meant(alloc, text)),
-    }
-}
-
-/// Like [`parse_prefix`], for a text of a literal and `rest`.
-fn parse_before<'a>(
-    alloc: Global,
-    text: &'a str,
-    rest: &'a str,
-) -> Result<Option<Prefix<'a>>, MalformedPrefix>
-    requires { HasLiteralBefore text.now rest.now }
-    ensures spells { IfOk result (λ found. IfSome found (λ prefix.
-        literal_raw prefix.literal ++ prefix.rest.now ≡ text.now)) }
-    ensures found { IfOk result (λ found. IfSome found (λ prefix.
-        HasPrefix (chars text.now) (derivation prefix.literal) (chars prefix.rest.now))) }
-    ensures some { IfOk result IsSome }
-    ensures malformed { IfErr result (IsMalformedOrOutOfMemory (chars text.now)) }
-{
-    let len = text.len() - rest.len();
-    let (front, _) = text.split_at(len);
+    let len = front_len(text);
+    let (front, rest) = text.split_at(len);
     match Literal::parse(alloc, front) {
         Ok(literal) => Ok(Some(Prefix { literal, rest })),
         Err(error) => Err(MalformedPrefix { error, len }),
     }
 }
 
-/// Like [`parse_prefix`], for a text in which a literal begins, given the only place where it can
-/// end.
-fn parse_front(alloc: Global, text: &str, end: usize) -> Result<Option<Prefix<'_>>, MalformedPrefix>
-    requires boundary { IsCharBoundary text.now end }
-    requires opens { IsTrue (opens (chars text.now)) }
-    requires end { (d : Derivation) (r : List ℕ) → HasPrefix (chars text.now) d r →
-        EndsBefore text.now r end }
-    ensures spells { IfOk result (λ found. IfSome found (λ prefix.
-        literal_raw prefix.literal ++ prefix.rest.now ≡ text.now)) }
-    ensures found { IfOk result (λ found. IfSome found (λ prefix.
-        HasPrefix (chars text.now) (derivation prefix.literal) (chars prefix.rest.now))) }
-    ensures some { IfOk result IsSome }
-    ensures malformed { IfErr result (IsMalformedOrOutOfMemory (chars text.now)) }
+/// Returns the length of the literal at the front of `text`, valid or malformed.
+fn front_len(text: &str) -> usize
+    requires { IsTrue (opens (chars text.now)) }
+    ensures { IsLiteralLen text.now result ⊎ IsMalformedLen text.now result }
 {
-    let (front, rest) = text.split_at(end);
-    match Literal::parse(alloc, front) {
-        Ok(literal) => {
-            if may_follow(&literal, rest) {
-                Ok(Some(Prefix { literal, rest }))
-            } else {
-                Err(refuse_meant(alloc, text))
-            }
-        }
-        Err(error) => match error.kind() {
-            ParseErrorKind::OutOfMemory => match prefix_len(text) {
-                Some(_) => Err(MalformedPrefix { error, len: end }),
-                None => Err(refuse_meant(alloc, text)),
-            },
-            _ => Err(refuse_meant(alloc, text)),
-        },
-    }
-}
-
-/// Returns the error of the malformed prefix: of the body that begins at the front, with its
-/// suffix, or of the shortest longer piece that is not a literal.
-fn refuse_meant(alloc: Global, text: &str) -> MalformedPrefix
-    requires opens { IsTrue (opens (chars text.now)) }
-    requires none { HasNoPrefix (chars text.now) }
-    ensures { IsMalformed (chars text.now) result }
-{
-    let mut len = text.len() - after_opened(text).len();
-    loop {
-        let (front, _) = text.split_at(len);
-        if let Some(error) = refusal(alloc, front) {
-            return MalformedPrefix { error, len };
-        }
-        len = next_boundary(text, len);
-    }
-}
-
-/// Returns the error of `text`, or `None` if it is a literal, also if an allocation fails for its
-/// value.
-fn refusal(alloc: Global, text: &str) -> Option<ParseError>
-    ensures refused { IfSome result (IsRefused literal_parse (chars text.now)) }
-    ensures literal { IfNone result ((d : Derivation) × IsLiteral (chars text.now) d) }
-{
-    match Literal::parse(alloc, text) {
-        Ok(_) => None,
-        Err(error) => match error.kind() {
-            ParseErrorKind::OutOfMemory => None,
-            _ => Some(error),
-        },
+    match opened_extent(text) {
+        Ok(len) => len,
+        Err(len) => len,
     }
 }
 

@@ -1,5 +1,5 @@
 //! The extent of a literal that may be malformed.
-ghost use Rattle.std.specs.Prelude.{◌≡◌, drop};
+ghost use Rattle.std.specs.Prelude.{◌≡◌, ◌≤◌, ℕ, length, drop};
 ghost use Rattle.std.specs.Str.{chars};
 ghost use Rattle.litrs_prefix.specs.Ends.{IsEndOf, after_digits, after_exponent, after_fraction, after_sign};
 ghost use Rattle.litrs_prefix.specs.Meant.{after_quoted, after_single_quote, after_char, after_closing, after_raw, after_prefixed, after_number, after_body, after_opened};
@@ -8,7 +8,7 @@ use crate::name::{after_hashes, after_name, split_first_char};
 use crate::opening::{begins_with_single_quote, opens_bytes, opens_c_string, opens_raw};
 use litrs_base::IntegerBase;
 use litrs_lex::hashes::{hash_len, is_inner_quote};
-use litrs_lex::{Run, run_end};
+use litrs_lex::{Run, Special, next_special, run_end};
 
 /// Returns the part of `text` after the literal, valid or malformed, that begins at its front: after
 /// the body, its closing, and the name that follows.
@@ -187,17 +187,33 @@ fn after_closing(text: &str, hashes: usize) -> &str
 {
     let mut rest = text;
     loop {
-        match split_first_char(rest) {
+        let stop = from_quote(rest);
+        match split_first_char(stop) {
             Some((c, after)) => {
-                if c == '"' && !is_inner_quote(rest.as_bytes(), hashes) {
+                if c == '"' && !is_inner_quote(stop.as_bytes(), hashes) {
                     let (_, next) = after.split_at(hashes);
                     return next;
                 }
                 rest = after;
             }
-            None => return rest,
+            None => return stop,
         }
     }
+}
+
+/// Returns the part of `text` from its first `"` or CR on.
+fn from_quote(text: &str) -> &str
+    ensures closing { (n : ℕ) →
+        after_closing n (chars result.now) ≡ after_closing n (chars text.now) }
+    ensures shorter { length result.now ≤ length text.now }
+{
+    let what = Special {
+        backslash: false,
+        nul: false,
+        non_ascii: false,
+    };
+    let (_, rest) = text.split_at(next_special(text.as_bytes(), 0, what));
+    rest
 }
 
 /// Returns the part of `text` after its first character.

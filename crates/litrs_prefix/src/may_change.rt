@@ -5,8 +5,8 @@ ghost use Rattle.litrs_prefix.specs.MayChange.{AnswerStays, AnswerChanges, Opens
 ghost use Rattle.litrs_prefix.specs.Opens.{opens};
 ghost use Rattle.litrs_prefix.specs.Prefix.{HasNoPrefix};
 
+use crate::extent::prefix_len;
 use crate::going_on::prefix_goes_on;
-use crate::len::prefix_len;
 use crate::malformed::after_opened;
 use crate::name::{after_hashes, after_name, is_empty, split_first_char};
 use crate::opening::opens;

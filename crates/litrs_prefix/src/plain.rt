@@ -1,6 +1,6 @@
 //! Literals that are read once: those without a suffix, before an ASCII character that no name has.
 //! Most literals of a source are such.
-ghost use Rattle.std.specs.Prelude.{◌≡◌, ◌==◌, ◌&&◌, ◌||◌, not, ◌∷◌, ◌++◌, ⊤, IsTrue, IsFalse, IfSome};
+ghost use Rattle.std.specs.Prelude.{◌≡◌, ◌==◌, ◌&&◌, ◌||◌, not, ◌∷◌, ◌++◌, ⊤, IsTrue, IsFalse, IfSome, IfNone};
 ghost use Rattle.std.specs.Char.{is_ascii, is_ascii_alphanumeric, is_ascii_digit};
 ghost use Rattle.std.specs.Str.{chars};
 ghost use Rattle.unicode_ident.specs.Ident.{is_xid_continue};
@@ -9,20 +9,23 @@ ghost use Rattle.litrs_base.specs.Quotes.{char_front, quoted_front, switches_of}
 ghost use Rattle.litrs_grammar.specs.CharByte.{allows_char, is_char_item, plain_char};
 ghost use Rattle.litrs_grammar.specs.Float.{is_period};
 ghost use Rattle.litrs_lex.specs.Reading.{IsItemsEnd};
-ghost use Rattle.litrs_prefix.specs.Ends.{after_digits, IsEndOf, HasLiteralBefore};
+ghost use Rattle.litrs_prefix.specs.Ends.{after_digits, IsEndOf, IsItemBefore, HasLiteralBefore, IsOnlyRest};
+ghost use Rattle.litrs_prefix.specs.Meant.{after_opened};
 
 use crate::follow::{begins_with_digit, begins_with_period, keeps_period};
 use crate::malformed::after_digits;
 use crate::name::split_first_char;
+use crate::piece::integer_follows;
 use litrs_base::CharKind;
 use litrs_lex::quoted::items_end;
-use litrs_lex::{InByteString, InCString, InString, StringKind};
+use litrs_lex::{InByteString, InCString, InString, Run, StringKind, run_end, unescape_with};
 
-/// Returns the part of `text` after the literal at its front, if that is a decimal number, a char
-/// or a byte of one character, or a quoted string or byte string, has no suffix, and ends the text
-/// or is before an ASCII character that no name has. Otherwise returns `None`, as for `0xFF`.
+/// Returns the part of `text` after the literal at its front, if that is an integer, or a decimal
+/// number, a char, a byte, a quoted string or a quoted byte string, has no suffix, and ends the text
+/// or is before an ASCII character that no name has. Otherwise returns `None`, as for `1e3`.
 pub fn after_plain(text: &str) -> Option<&str>
-    ensures { IfSome result (λ rest. HasLiteralBefore text.now rest.now) }
+    ensures literal { IfSome result (λ rest. HasLiteralBefore text.now rest.now) }
+    ensures none { IfNone result (IsOnlyRest (chars text.now) (after_opened (chars text.now))) }
 {
     match split_first_char(text) {
         Some((c, body)) => {
@@ -82,7 +85,8 @@ fn is_name_end(c: char) -> bool
 /// Like [`after_plain`], for a text that starts with a digit.
 fn after_number(text: &str) -> Option<&str>
     requires { IsTrue (first_passes is_ascii_digit (chars text.now)) }
-    ensures { IfSome result (λ rest. HasLiteralBefore text.now rest.now) }
+    ensures literal { IfSome result (λ rest. HasLiteralBefore text.now rest.now) }
+    ensures none { IfNone result (IsOnlyRest (chars text.now) (after_opened (chars text.now))) }
 {
     let rest = after_digits(text);
     if begins_with_period(rest) {
@@ -90,7 +94,7 @@ fn after_number(text: &str) -> Option<&str>
     } else if ends_name(rest) {
         Some(rest)
     } else {
-        None
+        after_integer(text)
     }
 }
 
@@ -100,7 +104,8 @@ fn after_period<'a>(text: &'a str, rest: &'a str) -> Option<&'a str>
     requires rest { chars rest.now ≡ after_digits (chars text.now) }
     requires end { IsEndOf text.now rest.now }
     requires period { IsTrue (first_passes is_period (chars rest.now)) }
-    ensures { IfSome result (λ rest. HasLiteralBefore text.now rest.now) }
+    ensures literal { IfSome result (λ rest. HasLiteralBefore text.now rest.now) }
+    ensures none { IfNone result (IsOnlyRest (chars text.now) (after_opened (chars text.now))) }
 {
     match split_first_char(rest) {
         Some((_, after)) => {
@@ -117,18 +122,64 @@ fn after_period<'a>(text: &'a str, rest: &'a str) -> Option<&'a str>
     }
 }
 
+/// Like [`after_plain`], for an integer of the characters of a name, as `0xFF` and `1u32`.
+fn after_integer(text: &str) -> Option<&str>
+    ensures literal { IfSome result (λ rest. HasLiteralBefore text.now rest.now) }
+    ensures none { IfNone result (IsOnlyRest (chars text.now) (after_opened (chars text.now))) }
+{
+    let (front, rest) = text.split_at(run_end(text.as_bytes(), Run::Identifier));
+    match integer_follows(front, rest) {
+        Some(ends) => if ends { Some(rest) } else { None },
+        None => None,
+    }
+}
+
 /// Like [`after_plain`], for a text of the front of a char or a byte and `body`.
 fn after_char<'a>(text: &'a str, body: &'a str, kind: CharKind) -> Option<&'a str>
     requires front { chars text.now ≡ char_front kind ++ chars body.now }
     requires end { IsEndOf text.now body.now }
     ensures { IfSome result (λ rest. HasLiteralBefore text.now rest.now) }
 {
-    match split_first_char(body) {
-        Some((c, after)) if is_plain_char(c, kind) => match split_first_char(after) {
+    match after_item(body, kind) {
+        Some(after) => match split_first_char(after) {
             Some((quote, rest)) if quote == '\'' => if ends_name(rest) { Some(rest) } else { None },
             _ => None,
         },
-        _ => None,
+        None => None,
+    }
+}
+
+/// Returns the part of `body` after the character or the escape at its front, or `None` if no char
+/// or byte of the kind `kind` has it.
+fn after_item(body: &str, kind: CharKind) -> Option<&str>
+    ensures { IfSome result (λ rest. IsItemBefore kind body.now rest.now) }
+{
+    match split_first_char(body) {
+        Some((c, after)) => {
+            if c == '\\' {
+                after_escape(body, kind)
+            } else if is_plain_char(c, kind) {
+                Some(after)
+            } else {
+                None
+            }
+        }
+        None => None,
+    }
+}
+
+/// Like [`after_item`], for a body that starts with a backslash.
+fn after_escape(body: &str, kind: CharKind) -> Option<&str>
+    requires { IsTrue (first_passes (λ c. c == 92) (chars body.now)) }
+    ensures { IfSome result (λ rest. IsItemBefore kind body.now rest.now) }
+{
+    let allowed = kind.switches();
+    match unescape_with(body, allowed) {
+        Ok((_, len)) => {
+            let (_, rest) = body.split_at(len);
+            Some(rest)
+        }
+        Err(_) => None,
     }
 }
 

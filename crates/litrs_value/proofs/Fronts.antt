@@ -17,8 +17,7 @@ use Rattle.litrs_prefix.specs.declared.MalformedPrefix.{MalformedPrefix}
 use Rattle.litrs_prefix.specs.Malformed.{IsMovedBy}
 use Rattle.litrs_prefix.specs.Meant.{IsMeant}
 use Rattle.litrs_prefix.specs.Prefix.{HasPrefix}
-use Rattle.litrs_prefix.proofs.Complete.{front_is}
-use Rattle.litrs_prefix.proofs.Ends.{end_at}
+use Rattle.litrs_prefix.proofs.Ends.{end_at, front_is}
 use Rattle.litrs_prefix.proofs.Marks.{cut_in}
 use Rattle.litrs_prefix.proofs.Pieces.{piece_is}
 use Rattle.litrs_value.specs.Prefixes.{IsFrontFor, IsPrefixError, IsMarkedIn}

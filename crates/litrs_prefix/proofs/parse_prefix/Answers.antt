@@ -1,16 +1,36 @@
--- What the error marks.
-use Rattle.std.proofs.Common.{inl}
-use Rattle.std.proofs.lemmas.Result.{IfErr-weaker}
+-- What is parsed is the literal at the front, valid or malformed.
+use Rattle.std.proofs.Common.{◌≡◌, ℕ, List, ◌++◌, take, inl, inr, sym, ap, ◌∙◌}
+use Rattle.std.specs.Str.{chars}
+use Rattle.std.proofs.lemmas.List.{take-append-drop}
+use Rattle.litrs.specs.LiteralDerivation.{derivation}
 use Rattle.litrs_prefix.proofs.Marks.{malformed_marks}
+use Rattle.litrs_prefix.proofs.Pieces.{front_found, front_refused}
 use Rattle.litrs_prefix.proofs.parse_prefix.Goals as goal
 
-pub returns-in-Some-clause-marks : goal.returns-in-Some-clause-marks
-returns-in-Some-clause-marks c =
-    IfErr-weaker c.parse_before.result _ _ (λ e is. malformed_marks c.args.text.now e c.utf8.text is) c.parse_before.ensures.malformed
+pub split_at-requires : goal.split_at-requires
+split_at-requires c = elim c.front_len-len.ensures [
+  | inl is ↦ is.boundary
+  | inr is ↦ is.boundary
+]
 
-pub returns-in-None-clause-marks : goal.returns-in-None-clause-marks
-returns-in-None-clause-marks c = malformed_marks c.args.text.now c.refuse_meant.result c.utf8.text (inl c.refuse_meant.ensures)
+pub returns-in-Ok-clause-spells : goal.returns-in-Ok-clause-spells
+returns-in-Ok-clause-spells c =
+    let text = c.args.text.now in
+    let split = c.split_at.ensures in
+    ap (λ (l : List ℕ). l ++ c.split_at.result.1.now) (c.in-Ok.ensures.raw ∙ split.front) ∙ (ap (λ (l : List ℕ). take c.front_len-len.result text ++ l) split.back ∙ take-append-drop c.front_len-len.result text)
 
-pub returns-in-Some-literal_end-clause-marks : goal.returns-in-Some-literal_end-clause-marks
-returns-in-Some-literal_end-clause-marks c =
-    IfErr-weaker c.parse_front.result _ _ (λ e is. malformed_marks c.args.text.now e c.utf8.text is) c.parse_front.ensures.malformed
+pub returns-in-Ok-clause-found : goal.returns-in-Ok-clause-found
+returns-in-Ok-clause-found c =
+    let split = c.split_at.ensures in
+    front_found c.args.text.now c.split_at.result.0.now c.split_at.result.1.now c.front_len-len.result (derivation c.in-Ok.literal) c.utf8.text split.front split.back c.front_len-len.ensures c.in-Ok.ensures.ok.0
+
+pub returns-in-Err-clause-malformed : goal.returns-in-Err-clause-malformed
+returns-in-Err-clause-malformed c =
+    let split = c.split_at.ensures in
+    front_refused c.args.text.now c.split_at.result.0.now c.split_at.result.1.now c.front_len-len.result c.in-Err.error c.utf8.text split.front split.back split.front_len c.front_len-len.ensures c.in-Err.ensures.refused
+
+pub returns-in-Err-clause-marks : goal.returns-in-Err-clause-marks
+returns-in-Err-clause-marks c =
+    let split = c.split_at.ensures in
+    malformed_marks c.args.text.now _ c.utf8.text
+    (front_refused c.args.text.now c.split_at.result.0.now c.split_at.result.1.now c.front_len-len.result c.in-Err.error c.utf8.text split.front split.back split.front_len c.front_len-len.ensures c.in-Err.ensures.refused)

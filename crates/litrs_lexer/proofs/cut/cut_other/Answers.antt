@@ -1,6 +1,5 @@
 -- Numbers, and characters that begin no token.
 use Rattle.std.proofs.Common.{sym, ap, ◌∙◌}
-use Rattle.std.specs.Char.{is_ascii_digit}
 use Rattle.std.specs.Str.{chars}
 use Rattle.std.proofs.lemmas.Bool.{ne_eqb}
 use Rattle.litrs_lexer.specs.Literal.{opens_quoted}
@@ -14,6 +13,3 @@ cut_rare-kind-requires-clause-unknown c = λ none.
 pub cut_literal-kind-requires : goal.cut_literal-kind-requires
 cut_literal-kind-requires c =
     ap opens_quoted c.requires.first.is ∙ digit_opens c.args.c (chars c.args.after.now) (sym c.is_ascii_digit.ensures.value ∙ c.if-is_ascii_digit.true)
-
-pub cut_number-kind-requires : goal.cut_number-kind-requires
-cut_number-kind-requires c = ap opens_quoted c.requires.first.is ∙ digit_opens c.args.c (chars c.args.after.now) (ap is_ascii_digit c.if-c-eq48.true)

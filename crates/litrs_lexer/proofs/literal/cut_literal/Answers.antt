@@ -1,4 +1,4 @@
--- The literal, or what was meant as one.
+-- The literal, valid or malformed, as `litrs_prefix` finds it.
 use Rattle.std.proofs.Common.{sym, subst, List, ℕ}
 use Rattle.std.specs.Str.{chars}
 use Rattle.litrs_prefix.specs.Prefix.{HasPrefix}
@@ -6,21 +6,28 @@ use Rattle.litrs_lexer.specs.declared.kind.TokenKind.TheVariants.{Literal, Malfo
 use Rattle.litrs_lexer.proofs.Cuts.{opened_parts, cut_at, literal_some, meant_token}
 use Rattle.litrs_lexer.proofs.literal.cut_literal.Goals as goal
 
-pub malformed_len-requires-clause-opens : goal.malformed_len-requires-clause-opens
-malformed_len-requires-clause-opens c = opened_parts (chars c.args.text.now) c.requires
+pub opened_extent-requires : goal.opened_extent-requires
+opened_extent-requires c = opened_parts (chars c.args.text.now) c.requires
 
-pub returns-in-Some-clause-cut : goal.returns-in-Some-clause-cut
-returns-in-Some-clause-cut c =
-    let text = c.args.text.now in
-    let n = c.in-Some.len in
-    let found = c.in-Some.ensures.literal in
-    cut_at Literal text c.split_at.result.1.now n (literal_some text n found.0 c.utf8.text c.in-Some.ensures.boundary found.1) c.in-Some.ensures.boundary c.split_at.ensures.back
-    (found.0, subst (λ (l : List ℕ). HasPrefix (chars text) found.0 (chars l)) (sym c.split_at.ensures.back) found.1)
+pub split_at-requires : goal.split_at-requires
+split_at-requires c = c.in-Ok.ensures.literal.boundary
 
-pub returns-in-None-clause-cut : goal.returns-in-None-clause-cut
-returns-in-None-clause-cut c =
+pub split_at-requires-in-Err : goal.split_at-requires-in-Err
+split_at-requires-in-Err c = c.in-Err.ensures.malformed.boundary
+
+pub returns-in-Ok-clause-cut : goal.returns-in-Ok-clause-cut
+returns-in-Ok-clause-cut c =
     let text = c.args.text.now in
-    let n = c.malformed_len.result in
-    let meant = c.malformed_len.ensures in
-    cut_at MalformedLiteral text c.split_at-in-None.result.1.now n meant.some meant.boundary c.split_at-in-None.ensures.back
-    (meant_token text c.split_at-in-None.result.1.now n c.utf8.text meant.boundary c.split_at-in-None.ensures.back c.requires c.in-None.ensures.none meant.meant meant.none)
+    let n = c.in-Ok.len in
+    let is = c.in-Ok.ensures.literal in
+    cut_at Literal text c.split_at.result.1.now n (literal_some text n is.literal c.utf8.text is.boundary is.at_front) is.boundary c.split_at.ensures.back
+    (is.literal, subst (λ (l : List ℕ). HasPrefix (chars text) is.literal (chars l)) (sym c.split_at.ensures.back) is.at_front)
+
+pub returns-in-Err-clause-cut : goal.returns-in-Err-clause-cut
+returns-in-Err-clause-cut c =
+    let text = c.args.text.now in
+    let n = c.in-Err.len in
+    let is = c.in-Err.ensures.malformed in
+    let split = c.split_at-in-Err in
+    cut_at MalformedLiteral text split.result.1.now n is.some is.boundary split.ensures.back
+    (meant_token text split.result.1.now n c.utf8.text is.boundary split.ensures.back c.requires is.front.none is.front.meant is.front.invalid)

@@ -1,5 +1,6 @@
 -- A quote and the hashes close the body; else what follows its first character has the same closing.
-use Rattle.std.proofs.Common.{◌≡◌, ℕ, ◌+◌, ◌∷◌, suc, true, false, drop, sym, ap, ◌∙◌, arith}
+use Rattle.std.proofs.Common.{◌≡◌, ℕ, ◌+◌, ◌<◌, List, [], ◌∷◌, suc, true, false, length, drop, sym, ap, ◌∙◌, arith}
+use Rattle.std.proofs.lemmas.List.{drop_all}
 use Rattle.std.specs.Str.{chars}
 use Rattle.std.proofs.lemmas.Bool.{ne_eqb, and_left}
 use Rattle.std.proofs.lemmas.Str.{IsCharBoundary-from_drop}
@@ -15,7 +16,7 @@ pub split_at-requires : goal.split_at-requires
 split_at-requires c =
     let after = c.in-Some.after.now in
     let n = c.args.hashes in
-    let here = quote_hashes n c.as_bytes.result.now c.loop-c.rest.now after c.in-Some.c false c.as_bytes.ensures.value c.in-Some.ensures.bytes c.if-c-eq34.true
+    let here = quote_hashes n c.as_bytes.result.now c.from_quote-stop.result.now after c.in-Some.c false c.as_bytes.ensures.value c.in-Some.ensures.bytes c.if-c-eq34.true
     (sym c.is_inner_quote.ensures ∙ c.if-not-is_inner_quote.true) in
     let front = hashes_front n after c.in-Some.ensures.rest here in
     IsCharBoundary-from_drop after n front.within front.utf8
@@ -24,14 +25,14 @@ pub returns-then-not-is_inner_quote : goal.returns-then-not-is_inner_quote
 returns-then-not-is_inner_quote c =
     let after = c.in-Some.after.now in
     let n = c.args.hashes in
-    let here = quote_hashes n c.as_bytes.result.now c.loop-c.rest.now after c.in-Some.c false c.as_bytes.ensures.value c.in-Some.ensures.bytes c.if-c-eq34.true
+    let here = quote_hashes n c.as_bytes.result.now c.from_quote-stop.result.now after c.in-Some.c false c.as_bytes.ensures.value c.in-Some.ensures.bytes c.if-c-eq34.true
     (sym c.is_inner_quote.ensures ∙ c.if-not-is_inner_quote.true) in
     let front = hashes_front n after c.in-Some.ensures.rest here in
-    let rest : chars c.loop-c.rest.now ≡ 34 ∷ chars after = c.in-Some.ensures.parts ∙ ap (λ (k : ℕ). k ∷ chars after) c.if-c-eq34.true in
+    let rest : chars c.from_quote-stop.result.now ≡ 34 ∷ chars after = c.in-Some.ensures.parts ∙ ap (λ (k : ℕ). k ∷ chars after) c.if-c-eq34.true in
     let one : 1 + n ≡ suc n = omega arith in
     let closed : after_closing n (34 ∷ chars after) ≡ drop n (chars after) =
     closing_here n (34 ∷ chars after) (hashes_chars n after c.in-Some.ensures.rest ∙ here) ∙ ap (λ (k : ℕ). drop k (34 ∷ chars after)) one in
-    ap chars c.split_at.ensures.back ∙ (sym front.rest ∙ (sym closed ∙ (ap (after_closing n) (sym rest) ∙ c.loop-c.invariant.1)))
+    ap chars c.split_at.ensures.back ∙ (sym front.rest ∙ (sym closed ∙ (ap (after_closing n) (sym rest) ∙ (c.from_quote-stop.ensures.closing n ∙ c.loop-c.invariant.1))))
 
 pub loop-c-preserved : goal.loop-c-preserved
 loop-c-preserved c =
@@ -39,14 +40,25 @@ loop-c-preserved c =
     let n = c.args.hashes in
     let passed : begins_with (raw_closing n) (c.in-Some.c ∷ chars after) ≡ false = elim c.else-c-eq34.branch [
       | else-c-eq34-via-then-c-eq34+else-not-is_inner_quote w ↦ (
-          let inner = quote_hashes n w.as_bytes.result.now c.loop-c.rest.now after c.in-Some.c true w.as_bytes.ensures.value c.in-Some.ensures.bytes w.if-c-eq34.true
+          let inner = quote_hashes n w.as_bytes.result.now c.from_quote-stop.result.now after c.in-Some.c true w.as_bytes.ensures.value c.in-Some.ensures.bytes w.if-c-eq34.true
           (sym w.is_inner_quote.ensures ∙ w.if-not-is_inner_quote.false) in
           ap (λ (k : ℕ). begins_with (raw_closing n) (k ∷ chars after)) w.if-c-eq34.true ∙ (hashes_chars n after c.in-Some.ensures.rest ∙ inner))
       | else-c-eq34-via-else-c-eq34 w ↦ and_left _ (begins_with (hashes n) (chars after)) (ne_eqb 34 c.in-Some.c (λ e. w.if-c-eq34.false (sym e)))
     ] in (
       c.in-Some.ensures.rest,
-      sym (ap (after_closing n) c.in-Some.ensures.parts ∙ closing_later n c.in-Some.c (chars after) passed) ∙ c.loop-c.invariant.1,
+      sym (ap (after_closing n) c.in-Some.ensures.parts ∙ closing_later n c.in-Some.c (chars after) passed) ∙ (c.from_quote-stop.ensures.closing n ∙ c.loop-c.invariant.1),
     )
 
 pub loop-c-smaller : goal.loop-c-smaller
-loop-c-smaller c = shorter c.loop-c.rest.now c.in-Some.c c.in-Some.after.now c.in-Some.ensures.bytes
+loop-c-smaller c =
+    let less : length c.in-Some.after.now < length c.from_quote-stop.result.now = shorter c.from_quote-stop.result.now c.in-Some.c c.in-Some.after.now c.in-Some.ensures.bytes in
+    let within = c.from_quote-stop.ensures.shorter in
+    omega arith
+
+nothing : (n : ℕ) → after_closing n [] ≡ []
+nothing n = drop_all _ [] (omega arith)
+
+pub returns-in-None : goal.returns-in-None
+returns-in-None c =
+    let n = c.args.hashes in
+    c.in-None.ensures.empty ∙ (sym (nothing n) ∙ (ap (after_closing n) (sym c.in-None.ensures.empty) ∙ (c.from_quote-stop.ensures.closing n ∙ c.loop-c.invariant.1)))

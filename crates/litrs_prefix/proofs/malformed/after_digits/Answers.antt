@@ -4,7 +4,7 @@ use Rattle.std.specs.List.{prefix_len}
 use Rattle.std.specs.Str.{chars, IsCharBoundary}
 use Rattle.litrs_grammar.specs.Float.{is_decimal_char}
 use Rattle.litrs_prefix.proofs.Ends.{after_bytes}
-use Rattle.litrs_prefix.proofs.NumberComplete.{digits_front}
+use Rattle.litrs_prefix.proofs.NumberEnds.{digits_front}
 use Rattle.litrs_prefix.proofs.malformed.after_digits.Goals as goal
 
 pub split_at-requires : goal.split_at-requires

@@ -9,8 +9,8 @@ use Rattle.litrs_prefix.specs.Prefix.{gives_period}
 use Rattle.litrs_prefix.proofs.PlainLiterals.{before_of, integer_at, no_start, no_period}
 use Rattle.litrs_prefix.proofs.plain.after_number.Goals as goal
 
-pub returns-then-ends_name : goal.returns-then-ends_name
-returns-then-ends_name c =
+pub returns-then-ends_name-clause-literal : goal.returns-then-ends_name-clause-literal
+returns-then-ends_name-clause-literal c =
     let t = chars c.args.text.now in
     let rest = c.after_digits-rest.result.now in
     let is = c.after_digits-rest.ensures.rest in

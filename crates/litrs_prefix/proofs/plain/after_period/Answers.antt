@@ -8,10 +8,11 @@ use Rattle.litrs_prefix.specs.Ends.{after_digits}
 use Rattle.litrs_prefix.specs.Prefix.{keeps_period}
 use Rattle.litrs_prefix.proofs.Ends.{after_first, end_of_end}
 use Rattle.litrs_prefix.proofs.PlainLiterals.{before_of, period_first, fraction_at, kept_period, bare_at, no_start}
+use Rattle.litrs_prefix.proofs.NumberEnds.{only_at_fraction}
 use Rattle.litrs_prefix.proofs.plain.after_period.Goals as goal
 
-pub returns-then-ends_name : goal.returns-then-ends_name
-returns-then-ends_name c =
+pub returns-then-ends_name-clause-literal : goal.returns-then-ends_name-clause-literal
+returns-then-ends_name-clause-literal c =
     let text = c.args.text.now in
     let rest = c.args.rest.now in
     let after = c.in-Some.after.now in
@@ -23,8 +24,8 @@ returns-then-ends_name c =
     before_of text end (after_digits (chars after)) (end_of_end text after end (after_first text rest after first c.requires.end c.in-Some.ensures.bytes) c.after_digits-end.ensures.end) c.after_digits-end.utf8
     (fraction_at (chars text) (chars after) c.requires.digit at digit (ap (first_passes starts_identifier) (sym is) ∙ no_start (chars end) (c.ends_name.ensures c.if-ends_name.true))) is
 
-pub returns-then-keeps_period : goal.returns-then-keeps_period
-returns-then-keeps_period c =
+pub returns-then-keeps_period-clause-literal : goal.returns-then-keeps_period-clause-literal
+returns-then-keeps_period-clause-literal c =
     let text = c.args.text.now in
     let rest = c.args.rest.now in
     let after = c.in-Some.after.now in
@@ -32,8 +33,8 @@ returns-then-keeps_period c =
     let keeps : keeps_period (chars after) ≡ true = sym c.keeps_period.ensures ∙ c.if-keeps_period.true in
     before_of text rest (after_digits (chars text)) c.requires.end c.utf8.rest (kept_period (chars text) (chars after) c.requires.digit at keeps) c.requires.rest
 
-pub returns-else-keeps_period : goal.returns-else-keeps_period
-returns-else-keeps_period c =
+pub returns-else-keeps_period-clause-literal : goal.returns-else-keeps_period-clause-literal
+returns-else-keeps_period-clause-literal c =
     let text = c.args.text.now in
     let rest = c.args.rest.now in
     let after = c.in-Some.after.now in
@@ -43,3 +44,10 @@ returns-else-keeps_period c =
     let keeps : keeps_period (chars after) ≡ false = sym c.keeps_period.ensures ∙ c.if-keeps_period.false in
     before_of text after (chars after) (after_first text rest after first c.requires.end c.in-Some.ensures.bytes) c.in-Some.ensures.rest
     (bare_at (chars text) (chars after) c.requires.digit at digit keeps) refl
+
+pub returns-else-ends_name-clause-none : goal.returns-else-ends_name-clause-none
+returns-else-ends_name-clause-none c =
+    let text = chars c.args.text.now in
+    let after = chars c.in-Some.after.now in
+    let at : after_digits text ≡ 46 ∷ after = sym c.requires.rest ∙ period_first (chars c.args.rest.now) after c.in-Some.field-0-0 c.in-Some.ensures.parts c.requires.period in
+    only_at_fraction text after at (sym c.begins_with_digit.ensures ∙ c.if-begins_with_digit.true)

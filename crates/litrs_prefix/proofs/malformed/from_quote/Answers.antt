@@ -1,0 +1,48 @@
+-- No closing begins at a character that is passed.
+use Rattle.std.proofs.Common.{◌≡◌, ◌≤◌, ℕ, Bool, List, [], ◌∷◌, ◌++◌, true, false, drop, refl, sym, ap, subst, ◌∙◌, arith}
+use Rattle.std.specs.Prelude.{◌==◌}
+use Rattle.std.specs.List.{list_all, prefix_len}
+use Rattle.std.specs.Str.{chars, IsUtf8, IsCharBoundary}
+use Rattle.std.proofs.lemmas.Bool.{and_parts, and_left, ne_eqb, true≢false}
+use Rattle.std.proofs.lemmas.Bool.Decides.{nat_tests}
+use Rattle.std.proofs.lemmas.Str.{IsCharBoundary-from_drop}
+use Rattle.litrs_lex.specs.RawCut.{raw_special}
+use Rattle.litrs_lex.specs.Special.{is_ordinary}
+use Rattle.litrs_lex.proofs.PlainRuns.{char_run}
+use Rattle.litrs_prefix.specs.Meant.{after_closing}
+use Rattle.litrs_prefix.proofs.Ends.{after_bytes, not_longer}
+use Rattle.litrs_prefix.proofs.Meant.{closing_later}
+use Rattle.litrs_prefix.proofs.malformed.from_quote.Goals as goal
+
+abbrev passes : ℕ → Bool
+passes c = is_ordinary (raw_special true true) c
+
+wide : (c : ℕ) → 128 ≤ c → passes c ≡ true
+wide c high =
+    let quote : (c == 34) ≡ false = grind (arith, nat_tests) in
+    let feed : (c == 13) ≡ false = grind (arith, nat_tests) in
+    rw (quote, feed) refl
+
+skipped : (n : ℕ) (run t : List ℕ) → list_all passes run ≡ true → after_closing n (run ++ t) ≡ after_closing n t
+skipped n [] t h = refl
+skipped n (c ∷ run) t h =
+    let both = and_parts (passes c) (list_all passes run) h in
+    closing_later n c (run ++ t) (and_left _ _ (ne_eqb 34 c (λ e. true≢false (sym both.0 ∙ ap passes (sym e))))) ∙ skipped n run t both.1
+
+pub split_at-requires : goal.split_at-requires
+split_at-requires c =
+    let text = c.args.text.now in
+    let is : c.next_special.result ≡ prefix_len passes text = c.next_special.ensures.place ∙ ap (prefix_len passes) c.as_bytes.ensures.value in
+    let run = char_run passes true wide text c.utf8.text in
+    subst (λ (k : ℕ). IsCharBoundary text k) (sym is) (IsCharBoundary-from_drop text (prefix_len passes text) run.within run.utf8)
+
+pub returns-clause-closing : goal.returns-clause-closing
+returns-clause-closing c = λ n.
+    let text = c.args.text.now in
+    let is : c.next_special.result ≡ prefix_len passes text = c.next_special.ensures.place ∙ ap (prefix_len passes) c.as_bytes.ensures.value in
+    let run = char_run passes true wide text c.utf8.text in
+    ap (λ (l : List ℕ). after_closing n (chars l)) (c.split_at.ensures.back ∙ ap (λ (k : ℕ). drop k text) is)
+    ∙ (sym (skipped n run.run (chars (drop (prefix_len passes text) text)) run.passes) ∙ ap (after_closing n) run.split)
+
+pub returns-clause-shorter : goal.returns-clause-shorter
+returns-clause-shorter c = not_longer c.args.text.now c.split_at.result.1.now (after_bytes c.args.text.now c.split_at.result.1.now c.next_special.result c.split_at.ensures.back)

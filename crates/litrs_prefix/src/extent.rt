@@ -1,0 +1,104 @@
+//! The extent of the literal at the front of a text, valid or malformed.
+ghost use Rattle.std.specs.Prelude.{◌<◌, drop, take, IsTrue, IfOk, IfErr, IfSome, IfNone};
+ghost use Rattle.std.specs.Str.{chars, IsCharBoundary};
+ghost use Rattle.litrs_grammar.specs.Literal.{Derivation};
+ghost use Rattle.litrs_prefix.specs.Ends.{IsOnlyRest};
+ghost use Rattle.litrs_prefix.specs.Extent.{IsLiteralLen, IsMalformedLen};
+ghost use Rattle.litrs_prefix.specs.Meant.{after_opened, IsMeant};
+ghost use Rattle.litrs_prefix.specs.Opens.{opens};
+ghost use Rattle.litrs_prefix.specs.Prefix.{HasPrefix, HasNoPrefix};
+
+use crate::malformed::after_opened;
+use crate::next_boundary;
+use crate::opening::opens;
+use crate::piece::follows;
+use crate::plain::after_plain;
+
+/// Returns the length in bytes of the literal at the front of `text`, suffix included, or `None` if
+/// there is none, malformed or not. It does not allocate: the value of the literal is not made.
+///
+/// The result is `Some(1)` for `1.max(2)`, `Some(4)` for `"a"b + c`, and `None` for `0b12` and
+/// `foo`.
+pub fn prefix_len(text: &str) -> Option<usize>
+    ensures boundary { IfSome result (IsCharBoundary text.now) }
+    ensures literal { IfSome result (λ len.
+        (d : Derivation) × HasPrefix (chars text.now) d (chars (drop len text.now))) }
+    ensures none { IfNone result (HasNoPrefix (chars text.now)) }
+{
+    if opens(text) { opened_len(text) } else { None }
+}
+
+/// Like [`prefix_len`], for a text at whose front a literal begins, valid or malformed.
+pub fn opened_len(text: &str) -> Option<usize>
+    requires { IsTrue (opens (chars text.now)) }
+    ensures boundary { IfSome result (IsCharBoundary text.now) }
+    ensures literal { IfSome result (λ len.
+        (d : Derivation) × HasPrefix (chars text.now) d (chars (drop len text.now))) }
+    ensures none { IfNone result (HasNoPrefix (chars text.now)) }
+{
+    match opened_extent(text) {
+        Ok(len) => Some(len),
+        Err(_) => None,
+    }
+}
+
+/// Returns the length in bytes of the literal at the front of `text`, or as an error the length of
+/// the malformed prefix. A literal begins at the front, valid or malformed. The call does not
+/// allocate.
+///
+/// The result is `Ok(1)` for `1.max(2)`, `Ok(4)` for `"a"b + c`, and `Err(4)` for `0b12 + 1` and
+/// `0x1.5`.
+///
+/// # Errors
+///
+/// The length that [`parse_prefix`](crate::parse_prefix) returns with its error if no literal at
+/// the front is valid.
+pub fn opened_extent(text: &str) -> Result<usize, usize>
+    requires { IsTrue (opens (chars text.now)) }
+    ensures literal { IfOk result (IsLiteralLen text.now) }
+    ensures malformed { IfErr result (IsMalformedLen text.now) }
+{
+    match after_plain(text) {
+        Some(rest) => Ok(text.len() - rest.len()),
+        None => judged_extent(text),
+    }
+}
+
+/// Like [`opened_extent`], for a text in which a literal can only end where what opens ends.
+fn judged_extent(text: &str) -> Result<usize, usize>
+    requires opens { IsTrue (opens (chars text.now)) }
+    requires only { IsOnlyRest (chars text.now) (after_opened (chars text.now)) }
+    ensures literal { IfOk result (IsLiteralLen text.now) }
+    ensures malformed { IfErr result (IsMalformedLen text.now) }
+{
+    let len = text.len() - after_opened(text).len();
+    let (front, rest) = text.split_at(len);
+    match follows(front, rest) {
+        Some(ends) => if ends {
+            Ok(len)
+        } else {
+            Err(malformed_len(text, len))
+        },
+        None => Err(len),
+    }
+}
+
+/// Returns the length of the shortest piece at the front of `text` that has `start` bytes or more
+/// and is not a literal.
+fn malformed_len(text: &str, start: usize) -> usize
+    requires boundary { IsCharBoundary text.now start }
+    requires some { 0 < start }
+    requires meant { IsMeant (chars text.now) (chars (take start text.now)) }
+    requires opens { IsTrue (opens (chars text.now)) }
+    requires none { HasNoPrefix (chars text.now) }
+    ensures { IsMalformedLen text.now result }
+{
+    let mut len = start;
+    loop {
+        let (front, _) = text.split_at(len);
+        match follows(front, "") {
+            Some(_) => len = next_boundary(text, len),
+            None => return len,
+        }
+    }
+}
