@@ -1,5 +1,6 @@
 #!/usr/bin/env python3
-"""Makes each read and each write of the program of lines fail in turn, and fall short.
+"""Makes each read and each write of the program of lines fail in turn, and fall short; then each
+write of the prompt.
 
     .ci/failing_devices.py
 
@@ -11,6 +12,10 @@ failure.
 
 The program's file `stdin`, and some groups of lines alone, get their reports in pieces of 1, 3 and
 4096 bytes on both sides, and in each cut of the input into two pieces.
+
+Runs both builds of crates/uses_prompt too. If its output is closed, it ends silently with status 0,
+and after another failure with a message and status 1. `--help` reads no line, and `:quit` reads no
+line after it.
 """
 import errno
 import itertools
@@ -21,6 +26,7 @@ import tempfile
 
 TOP = pathlib.Path(__file__).resolve().parent.parent
 PROGRAM = TOP / "crates/litrs_lines_cli/out/litrs_lines_cli"
+PROMPT = TOP / "crates/uses_prompt/out/uses_prompt"
 LINES = b"0xff80\n'a'\n\n\"a\\tb\"x\n0;\n"
 REPORTS = [
     b"integer base=16 digits=ff80 suffix= value=65408\n",
@@ -55,6 +61,14 @@ GROUPS = [
     (b"", b""),
     (b"\xff", b"error input is not UTF-8\n"),
 ]
+# Lines that the prompt ends at, and what it writes. In each a line follows that would be answered.
+HINT = b"the literal continues on the next line; :cancel drops it, :quit or Ctrl-D ends\n"
+ENDED = [
+    (b":quit\n1\n", b"> "),
+    (b"\n:quit\r\n1\n", b"> > "),
+    (b'"a\n:quit\n"\n', b"> " + HINT + b". "),
+]
+IO_MESSAGE = b"Error: Input/output error (os error 5)\n"
 
 
 class Runs:
@@ -64,7 +78,7 @@ class Runs:
         self.program, self.library, self.folder = program, library, folder
         self.number, self.faults = 0, []
 
-    def run(self, read_piece, write_piece, lines=LINES, **changes):
+    def run(self, read_piece, write_piece, lines=LINES, words=(), **changes):
         """Runs the program. Returns its output, message and status, and how many reads and writes
         it made."""
         counts = self.folder / "counts"
@@ -73,7 +87,7 @@ class Runs:
         environment |= {"READ_PIECE": str(read_piece), "WRITE_PIECE": str(write_piece)}
         environment |= {name: str(value) for name, value in changes.items()}
         how = {"capture_output": True, "timeout": 60, "check": False}
-        ran = subprocess.run([self.program], input=lines, env=environment, **how)
+        ran = subprocess.run([self.program, *words], input=lines, env=environment, **how)
         self.number += 1
         answer = (ran.stdout, ran.stderr, ran.returncode)
         return answer, [int(it) for it in counts.read_text().split()]
@@ -107,6 +121,20 @@ class Runs:
             is_named = answer[1:] == (b"litrs_lines: write failed\n", 1)
             self.hold(is_prefix and is_named and counts[1] == at, f"{sizes}, write {at}: {answer}")
 
+    def try_prompt(self):
+        """Runs the prompt to its end, then with each write failing in turn."""
+        for lines, written in ENDED:
+            answer, _ = self.run(4096, 4096, lines=lines)
+            self.hold(answer == (written, b"", 0), f"{lines}: {answer}")
+        answer, (reads, _) = self.run(4096, 4096, words=["--help"])
+        is_help = answer[0].startswith(b"Usage: uses_prompt\n") and b":quit" in answer[0]
+        self.hold(is_help and answer[1:] == (b"", 0) and reads == 0, f"--help: {answer}")
+        _, (_, writes) = self.run(4096, 4096)
+        failures = [(errno.EPIPE, (b"", 0)), (errno.EIO, (IO_MESSAGE, 1))]
+        for (error, ending), at in itertools.product(failures, range(1, writes + 1)):
+            answer, counts = self.run(4096, 4096, WRITE_FAILS=at, IO_ERROR=error)
+            self.hold(answer[1:] == ending and counts[1] == at, f"write {at}, {error}: {answer}")
+
 
 def main():
     faults, number = [], 0
@@ -123,7 +151,10 @@ def main():
                 runs.try_cuts(lines, reports)
             stdin, stdout = (PROGRAM.parent.parent / name for name in ("stdin", "stdout"))
             runs.try_cuts(stdin.read_bytes(), stdout.read_bytes())
-            number, faults = number + runs.number, faults + runs.faults
+            prompt = Runs(program.replace(str(PROGRAM), str(PROMPT)), library, folder)
+            prompt.try_prompt()
+            number += runs.number + prompt.number
+            faults += runs.faults + prompt.faults
     print(*faults[:20], sep="\n", end="\n" if faults else "")
     print(f"devices: {number - len(faults)} passed, {len(faults)} failed")
     return 1 if faults else 0

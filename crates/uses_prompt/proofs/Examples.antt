@@ -1,15 +1,15 @@
 -- What is answered to lines.
 use Rattle.std.specs.Prelude.{◌≡◌, ℕ, List, [], ◌++◌, codes, refl}
-use Rattle.std.proofs.Common.{subst}
-use Rattle.litrs_lines.specs.declared.collector.Step.{Step}
-use Rattle.litrs_lines.specs.declared.collector.Step.TheVariants.{More}
-use Rattle.uses_prompt.specs.Answered.{hint, IsAnswerTo, IsRead, IsAnswered}
+use Rattle.uses_prompt.specs.Answered.{IsAnswered, Quits}
+use Rattle.std.proofs.Common.{inl, ◌∷◌}
 
--- `:cancel` gives up the line that is held, and nothing is said
+-- `:cancel` drops the line that is held, and an empty line is ignored; nothing is said
 cancelled : (after answer : List ℕ) → IsAnswered (codes "\"a\n") (codes ":cancel") after answer → (after ≡ []) × (answer ≡ [])
-cancelled after answer is = is.given_up (refl, λ (none : codes "\"a\n" ≡ []). cc)
+cancelled after answer is = is.dropped refl
 
--- where a literal goes on the hint is said
-goes_on : (held line after answer : List ℕ) (is : IsRead held line after answer) → is.step ≡ More → answer ≡ hint held
-goes_on held line after answer is more =
-    subst (λ (s : Step). IsAnswerTo held (held ++ line) s answer) more is.says
+ignored : (after answer : List ℕ) → IsAnswered [] [] after answer → (after ≡ []) × (answer ≡ [])
+ignored after answer is = is.dropped refl
+
+-- `:quit` ends the prompt, also before CR LF
+quits : Quits (codes ":quit" ++ 13 ∷ [])
+quits = inl refl

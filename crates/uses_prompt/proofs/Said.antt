@@ -1,24 +1,29 @@
 -- What is said of the lines that are read.
-use Rattle.std.proofs.Common.{◌≡◌, ◌≢◌, ℕ, List, [], ◌∷◌, ◌++◌, Bor, sym, ap, subst, ◌∙◌, inl, inr}
-use Rattle.std.specs.Prelude.{Option, Some, None, MatchOption, unwrap_or}
-use Rattle.litrs_explanation.specs.Explanation.{IsExplanation}
-use Rattle.litrs.specs.Literal.{Derivation}
-use Rattle.litrs_lines.specs.Steps.{IsStep, held_after}
-use Rattle.litrs_lines.specs.declared.collector.Step.{Step}
-use Rattle.uses_prompt.specs.Answered.{IsAnswerTo, IsRead, IsWithoutReturn}
+use Rattle.std.proofs.Common.{◌≡◌, ◌≢◌, ℕ, List, [], ◌∷◌, ◌++◌, Bor, sym, ap, subst, ◌∙◌, inl, inr, lit<}
+use Rattle.std.specs.Prelude.{Option, Some, None, MatchOption, unwrap_or, codes}
+use Rattle.std.specs.Str.{IsUtf8, IsAscii}
+use Rattle.std.proofs.lemmas.Str.Ascii.{IsAscii-nil, IsAscii-cons}
+use Rattle.std.proofs.lemmas.List.{append_cancel_right}
+use Rattle.std.proofs.lemmas.Str.{IsUtf8-from_ascii}
+use Rattle.uses_prompt.specs.Answered.{IsWithoutReturn, Quits}
 
-pub said : (held line after answer : List ℕ) (step made : Step) → step ≡ made → IsStep (held ++ line) step →
-    after ≡ held_after (held ++ line) step → IsAnswerTo held (held ++ line) made answer → IsRead held line after answer
-said held line after answer step made same is holds says = record {
-  step = step;
-  is = is;
-  says = subst (λ (s : Step). IsAnswerTo held (held ++ line) s answer) (sym same) says;
-  holds = holds;
-}
+-- a line has one text without the CR at its end
+pub without_return_is_unique : (line a b : List ℕ) → IsWithoutReturn line a → IsWithoutReturn line b → a ≡ b
+without_return_is_unique line a b (inl x) (inl y) = append_cancel_right _ _ (13 ∷ []) (sym x ∙ y)
+without_return_is_unique line a b (inl x) (inr y) = absurd (y.1 a x)
+without_return_is_unique line a b (inr x) (inl y) = absurd (x.1 b y)
+without_return_is_unique line a b (inr x) (inr y) = sym x.0 ∙ y.0
 
--- the explanation that is printed
-pub explains : (d : Derivation) (answer lines : List ℕ) → answer ≡ lines → IsExplanation d lines → IsExplanation d answer
-explains d answer lines is explained = subst (IsExplanation d) (sym is) explained
+quit_is_ascii : (end : List ℕ) → IsAscii end → IsAscii (codes ":quit" ++ end)
+quit_is_ascii end ascii =
+    IsAscii-cons 58 (113 ∷ 117 ∷ 105 ∷ 116 ∷ end) (lit< tt)
+    (IsAscii-cons 113 (117 ∷ 105 ∷ 116 ∷ end) (lit< tt)
+    (IsAscii-cons 117 (105 ∷ 116 ∷ end) (lit< tt) (IsAscii-cons 105 (116 ∷ end) (lit< tt) (IsAscii-cons 116 end (lit< tt) ascii))))
+
+-- the line that ends the prompt is UTF-8
+pub quit_is_utf8 : (line : List ℕ) → Quits line → IsUtf8 line
+quit_is_utf8 line (inl is) = subst IsUtf8 (sym is) (IsUtf8-from_ascii (codes ":quit" ++ 13 ∷ []) (quit_is_ascii (13 ∷ []) (IsAscii-cons 13 [] (lit< tt) IsAscii-nil)))
+quit_is_utf8 line (inr is) = subst IsUtf8 (sym is.0) (IsUtf8-from_ascii (codes ":quit") (quit_is_ascii [] IsAscii-nil))
 
 -- a CR at the end is stripped
 pub stripped : (r : Option (Bor (List ℕ))) (line out : Bor (List ℕ)) →

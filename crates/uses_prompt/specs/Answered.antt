@@ -5,52 +5,56 @@ use Rattle.std.specs.Str.{chars, IsUtf8}
 use Rattle.std.specs.Str.Lossy.{utf8_valid_len}
 use Rattle.litrs_diagnostic.specs.Diagnostic.{refusal_text}
 use Rattle.litrs_explanation.specs.Explanation.{IsExplanation}
-use Rattle.litrs_lines.specs.Literal.{literal_parse}
-use Rattle.litrs_lines.specs.LiteralDerivation.{derivation}
+use Rattle.litrs_lines.specs.Characters.{line_feed}
+use Rattle.litrs_lines.specs.Derivations.{IsOnlyDerivation}
+use Rattle.litrs_lines.specs.Literal.{Derivation, IsLiteral, literal_parse}
 use Rattle.litrs_lines.specs.Refused.{IsRefused}
-use Rattle.litrs_lines.specs.Steps.{IsStep, held_after}
-use Rattle.litrs_lines.specs.declared.collector.Step.{Step}
-use Rattle.litrs_lines.specs.declared.collector.Step.TheVariants.{More, Literal, Refused}
+use Rattle.litrs_lines.specs.Steps.{BeginsByLine, IsUnfinished}
 use Rattle.litrs.specs.declared.ParseError.{ParseError}
 
--- the line gives up the lines that are held
-abbrev pub Cancels : (held line : List ℕ) → Type 0
-Cancels held line = (line ≡ codes ":cancel") × (held ≢ [])
+-- The line drops the lines that are held: it is `:cancel`, or empty if no line is held.
+abbrev pub Drops : (held line : List ℕ) → Type 0
+Drops [] line = line ≡ []
+Drops (c ∷ held) line = line ≡ codes ":cancel"
 
 -- The hint after the first line of a literal that continues.
 abbrev pub hint : (held : List ℕ) → List ℕ
-hint [] = codes "the literal goes on in the next line; :cancel gives it up\n"
+hint [] = codes
+    "the literal continues on the next line; :cancel drops it, :quit or Ctrl-D ends\n"
 hint (c ∷ held) = []
 
 -- the lines on the refusal of a text
 abbrev pub ShowsRefusal : (text : List ℕ) → ParseError → (answer : List ℕ) → Type 0
 ShowsRefusal text e answer = chars answer ≡ refusal_text (codes "prompt") text e 100
 
--- The answer to all lines, if these were held before the last: the hint, the explanation of the
--- literal, or the error.
-abbrev pub IsAnswerTo : (held text : List ℕ) → Step → (answer : List ℕ) → Type 0
-IsAnswerTo held text More answer = answer ≡ hint held
-IsAnswerTo held text (Literal lit) answer = IsExplanation (derivation lit) answer
-IsAnswerTo held text (Refused e) answer = ShowsRefusal text e answer
+-- The answer to a text: the explanation of the literal, or the error.
+abbrev pub IsAnswerTo : (text answer : List ℕ) → Type 0
+IsAnswerTo text answer =
+    ((d : Derivation) × IsOnlyDerivation (IsLiteral (chars text)) d × IsExplanation d answer)
+    ⊎ ((e : ParseError) × IsRefused literal_parse (chars text) e × ShowsRefusal text e answer)
 
--- The lines that are held, and this one, are what they are; that is said; and they are held where
--- they go on.
-pub record IsRead (held line after answer : List ℕ) : Type 0 where
-  pub step : Step
-  pub is : IsStep (held ++ line) step
-  pub says : IsAnswerTo held (held ++ line) step answer
-  pub holds : after ≡ held_after (held ++ line) step
+-- The lines that are held, and this one, are unfinished: they are held, and the first is answered
+-- by the hint. Or no further line completes them: their text is answered, and none is held.
+abbrev pub IsRead : (held line after answer : List ℕ) → Type 0
+IsRead held line after answer =
+    (IsUnfinished (held ++ line) × (after ≡ (held ++ line) ++ line_feed ∷ [])
+    × (answer ≡ hint held))
+    ⊎ ((BeginsByLine (held ++ line) → ⊥) × (after ≡ []) × IsAnswerTo (held ++ line) answer)
 
--- The answer to a line, and the text that is held after it. If the line cancels the text that is
+-- The answer to a line, and the text that is held after it. If the line drops the text that is
 -- held, both are empty.
 pub record IsAnswered (held line after answer : List ℕ) : Type 0 where
-  pub given_up : Cancels held line → (after ≡ []) × (answer ≡ [])
-  pub read : ¬ Cancels held line → IsRead held line after answer
+  pub dropped : Drops held line → (after ≡ []) × (answer ≡ [])
+  pub read : ¬ Drops held line → IsRead held line after answer
 
 -- The other text is the line without one CR at its end, or the line if no CR ends it.
 abbrev pub IsWithoutReturn : (line stripped : List ℕ) → Type 0
 IsWithoutReturn line stripped = (line ≡ stripped ++ 13 ∷ [])
     ⊎ ((line ≡ stripped) × ((front : List ℕ) → line ≢ front ++ 13 ∷ []))
+
+-- The line ends the prompt.
+abbrev pub Quits : (line : List ℕ) → Type 0
+Quits line = IsWithoutReturn line (codes ":quit")
 
 -- the answer to a line that is not UTF-8: the index of the first byte that is not
 abbrev pub ignored_text : List ℕ → List ℕ

@@ -2,53 +2,78 @@
 //! shows the error, at most 100 columns of a line.
 #![tactic(auto)]
 
-ghost use Rattle.std.specs.Prelude.{◌≡◌, IfOk, string_bytes};
-ghost use Rattle.uses_prompt.specs.Answered.{IsAnswered, IsLastAnswer, IsReply};
+ghost use Rattle.std.specs.Prelude.{◌≡◌, ◌↔◌, IfOk, IfSome, IsNone, IsTrue, string_bytes};
+ghost use Rattle.uses_prompt.specs.Answered.{Drops, IsAnswerTo, IsAnswered, IsLastAnswer, IsReply, Quits};
 
+use litrs::{Literal, ParseErrorKind};
 use litrs_diagnostic::shown_refusal;
 use litrs_explanation::explanation;
-use litrs_lines::{Collector, Step};
+use litrs_lines::Collector;
 use std::alloc::{AllocError, Global};
-use std::io::BufRead;
-use std::str;
+use std::io::{BufRead, ErrorKind};
+use std::{env, io, str};
 
-/// The answer to the first line of a literal that continues in the next line.
-const HINT: &str = "the literal goes on in the next line; :cancel gives it up\n";
+/// The answer to `--help`.
+const HELP: &str = "Usage: uses_prompt
 
-/// Returns the answer to a line. `text` contains the lines so far, each with an LF after it, since
-/// a collector does not keep a text that is not a literal.
+Explains each Rust literal that you type, such as 0xFF_u8 or 'a', or shows the error.
+A string may continue over several lines.
+
+:cancel           drops the lines of a string that is not complete
+:quit or Ctrl-D   ends
+";
+
+/// The answer to the first line of a literal that continues on the next line.
+const HINT: &str =
+    "the literal continues on the next line; :cancel drops it, :quit or Ctrl-D ends\n";
+
+/// Returns the answer to a text: the explanation of the literal, or the error.
 ///
 /// # Errors
 ///
 /// `AllocError` if an allocation fails.
-fn answer(
-    alloc: Global,
-    collector: &mut Collector,
-    text: &mut String,
-    line: &str,
-) -> Result<String, AllocError>
-    requires { string_bytes text.old ≡ collector.old }
-    ensures text { IfOk result (λ _. string_bytes text.new ≡ collector.new) }
-    ensures answered { IfOk result (λ answer.
+fn answer_to(alloc: Global, text: &str) -> Result<String, AllocError>
+    ensures { IfOk result (λ answer. IsAnswerTo text.now (string_bytes answer)) }
+{
+    match Literal::parse(alloc, text) {
+        Ok(literal) => explanation(alloc, &literal),
+        Err(error) => match error.kind() {
+            ParseErrorKind::OutOfMemory => Err(AllocError),
+            _ => shown_refusal(alloc, "prompt", text, &error, 100),
+        },
+    }
+}
+
+/// Returns `true` if `line` drops the lines that are held: if it is `:cancel`, or empty if none is.
+fn drops(collector: &Collector, line: &str) -> bool
+    ensures { IsTrue result ↔ Drops collector.now line.now }
+{
+    if collector.is_empty() {
+        line.is_empty()
+    } else {
+        line == ":cancel"
+    }
+}
+
+/// Returns the answer to a line.
+///
+/// # Errors
+///
+/// `AllocError` if an allocation fails.
+fn answer(alloc: Global, collector: &mut Collector, line: &str) -> Result<String, AllocError>
+    ensures { IfOk result (λ answer.
         IsAnswered collector.old line.now collector.new (string_bytes answer)) }
 {
-    let is_first = collector.is_empty();
-    if line == ":cancel" && !is_first {
+    if drops(collector, line) {
         collector.clear();
-        text.clear();
         return Ok(String::new(alloc));
     }
-    text.push_str(line)?;
-    let answer = match collector.feed(line)? {
-        Step::More => {
-            text.push('\n')?;
-            return String::from_str(alloc, if is_first { HINT } else { "" });
-        }
-        Step::Literal(literal) => explanation(alloc, &literal)?,
-        Step::Refused(error) => shown_refusal(alloc, "prompt", text.as_str(), &error, 100)?,
-    };
-    text.clear();
-    Ok(answer)
+    let is_first = collector.is_empty();
+    if collector.push(line)? {
+        return String::from_str(alloc, if is_first { HINT } else { "" });
+    }
+    let text = collector.take_with(line)?;
+    answer_to(alloc, text.as_str())
 }
 
 /// Returns the answer to the end of the input: the error of the lines that the collector holds, if
@@ -63,8 +88,8 @@ fn last_answer(alloc: Global, collector: Collector) -> Result<String, AllocError
     }
 }
 
-/// Returns the answer to a line of the input, without its LF. A CR at its end is ignored, as is a
-/// line that is not UTF-8.
+/// Returns the answer to a line of the input, without its LF, or `None` if it is `:quit`. A CR at
+/// its end is ignored, as is a line that is not UTF-8.
 ///
 /// # Errors
 ///
@@ -72,38 +97,45 @@ fn last_answer(alloc: Global, collector: Collector) -> Result<String, AllocError
 fn reply(
     alloc: Global,
     collector: &mut Collector,
-    text: &mut String,
     line: &[u8],
-) -> Result<String, AllocError>
-    requires { string_bytes text.old ≡ collector.old }
-    ensures text { IfOk result (λ _. string_bytes text.new ≡ collector.new) }
-    ensures answered { IfOk result (λ answer.
-        IsReply collector.old line.now collector.new (string_bytes answer)) }
+) -> Result<Option<String>, AllocError>
+    ensures quits { IfOk result (λ reply. IsNone reply ↔ Quits line.now) }
+    ensures answered { IfOk result (λ reply. IfSome reply (λ answer.
+        IsReply collector.old line.now collector.new (string_bytes answer))) }
 {
     match str::from_utf8(line) {
-        Ok(line) => answer(
-            alloc,
-            collector,
-            text,
-            line.strip_suffix('\r').unwrap_or(line),
-        ),
+        Ok(line) => match line.strip_suffix('\r').unwrap_or(line) {
+            ":quit" => Ok(None),
+            line => Ok(Some(answer(alloc, collector, line)?)),
+        },
         Err(e) => {
             let place = e.valid_up_to();
-            format!(in alloc; "not UTF-8 at byte {place}: ignored\n")
+            Ok(Some(format!(in alloc; "not UTF-8 at byte {place}: ignored\n")?))
         }
     }
 }
 
-fn main(rt: HostRuntime) -> anyhow::Result<()> {
+/// Answers the lines of the standard input, or `--help`.
+fn run(rt: &HostRuntime) -> io::Result<()> {
+    if env::args(rt)?.any(|word| word.as_str() == "--help") {
+        return print!(rt; "{HELP}");
+    }
     let alloc = rt.alloc();
     let mut collector = Collector::new(alloc);
-    let mut text = String::new(alloc);
     print!(rt; "> ")?;
     for line in rt.reader().split(alloc, b'\n') {
-        let reply = reply(alloc, &mut collector, &mut text, line?.as_slice())?;
+        let Some(answer) = reply(alloc, &mut collector, line?.as_slice())? else {
+            return Ok(());
+        };
         let sign = if collector.is_empty() { "> " } else { ". " };
-        print!(rt; "{reply}{sign}")?;
+        print!(rt; "{answer}{sign}")?;
     }
-    print!(rt; "\n{}", last_answer(alloc, collector)?)?;
-    Ok(())
+    print!(rt; "\n{}", last_answer(alloc, collector)?)
+}
+
+fn main(rt: HostRuntime) -> io::Result<()> {
+    match run(&rt) {
+        Err(error) if error.kind() != ErrorKind::BrokenPipe => Err(error),
+        _ => Ok(()),
+    }
 }
