@@ -1,5 +1,5 @@
 -- No closing begins at a character that is passed.
-use Rattle.std.proofs.Common.{◌≡◌, ◌≤◌, ℕ, Bool, List, [], ◌∷◌, ◌++◌, true, false, drop, refl, sym, ap, subst, ◌∙◌, arith}
+use Rattle.std.proofs.Common.{◌≡◌, ◌≤◌, ℕ, ◌+◌, Bool, List, [], ◌∷◌, ◌++◌, true, false, drop, refl, sym, ap, subst, ◌∙◌, arith}
 use Rattle.std.specs.Prelude.{◌==◌}
 use Rattle.std.specs.List.{list_all, prefix_len}
 use Rattle.std.specs.Str.{chars, IsUtf8, IsCharBoundary}
@@ -15,7 +15,7 @@ use Rattle.litrs_prefix.proofs.Meant.{closing_later}
 use Rattle.litrs_prefix.proofs.malformed.from_quote.Goals as goal
 
 abbrev passes : ℕ → Bool
-passes c = is_ordinary (raw_special true true) c
+passes = is_ordinary (raw_special true true)
 
 wide : (c : ℕ) → 128 ≤ c → passes c ≡ true
 wide c high =
@@ -29,17 +29,22 @@ skipped n (c ∷ run) t h =
     let both = and_parts (passes c) (list_all passes run) h in
     closing_later n c (run ++ t) (and_left _ _ (ne_eqb 34 c (λ e. true≢false (sym both.0 ∙ ap passes (sym e))))) ∙ skipped n run t both.1
 
+place_is : (k : ℕ) (bytes text : List ℕ) → k ≡ 0 + prefix_len passes (drop 0 bytes) → bytes ≡ text → k ≡ prefix_len passes text
+place_is k bytes text h same =
+    let zero : 0 + prefix_len passes text ≡ prefix_len passes text = omega arith in
+    h ∙ (ap (λ (l : List ℕ). 0 + prefix_len passes l) same ∙ zero)
+
 pub split_at-requires : goal.split_at-requires
 split_at-requires c =
     let text = c.args.text.now in
-    let is : c.next_special.result ≡ prefix_len passes text = c.next_special.ensures.place ∙ ap (prefix_len passes) c.as_bytes.ensures.value in
+    let is : c.next_special.result ≡ prefix_len passes text = place_is c.next_special.result c.as_bytes.result.now text c.next_special.ensures.place c.as_bytes.ensures.value in
     let run = char_run passes true wide text c.utf8.text in
     subst (λ (k : ℕ). IsCharBoundary text k) (sym is) (IsCharBoundary-from_drop text (prefix_len passes text) run.within run.utf8)
 
 pub returns-clause-closing : goal.returns-clause-closing
 returns-clause-closing c = λ n.
     let text = c.args.text.now in
-    let is : c.next_special.result ≡ prefix_len passes text = c.next_special.ensures.place ∙ ap (prefix_len passes) c.as_bytes.ensures.value in
+    let is : c.next_special.result ≡ prefix_len passes text = place_is c.next_special.result c.as_bytes.result.now text c.next_special.ensures.place c.as_bytes.ensures.value in
     let run = char_run passes true wide text c.utf8.text in
     ap (λ (l : List ℕ). after_closing n (chars l)) (c.split_at.ensures.back ∙ ap (λ (k : ℕ). drop k text) is)
     ∙ (sym (skipped n run.run (chars (drop (prefix_len passes text) text)) run.passes) ∙ ap (after_closing n) run.split)
