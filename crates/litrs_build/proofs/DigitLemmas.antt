@@ -11,7 +11,7 @@ use Rattle.std.proofs.lemmas.Fmt.{decimal-digits_of, decimal_digit}
 use Rattle.std.proofs.lemmas.Int.Digits.{digits_of_step, length-digits_of_step, length-digits_of-le, all_below_base_digits_of, number_digits_of}
 use Rattle.std.proofs.lemmas.List.{append_assoc, length-map, map_push, drop-set, drop_all}
 use Rattle.std.proofs.lemmas.Str.{digit_value-digit_char}
-use Rattle.std.proofs.Math.Nat.{pow-zero, pow-suc, pow-le-pow_left, mod-lt}
+use Rattle.std.proofs.Math.Nat.{pow-zero, pow-suc, pow-le-pow_left}
 use Rattle.litrs_base.specs.declared.integer.IntegerBase.{IntegerBase}
 use Rattle.litrs_base.specs.declared.integer.IntegerBase.TheVariants.{Binary, Octal, Decimal, Hexadecimal}
 use Rattle.litrs_base.specs.Base.{base_value, is_digit}
@@ -29,11 +29,6 @@ at_most_sixteen Binary = omega arith
 at_most_sixteen Octal = omega arith
 at_most_sixteen Decimal = omega arith
 at_most_sixteen Hexadecimal = omega arith
-
--- a digit fits
-pub digit_below : (b n : ℕ) → 2 ≤ b → b ≤ 16 → n % b < 16
-digit_below b n two small = let some : 0 < b = omega arith in
-    let below : n % b < b = mod-lt n some in omega arith
 
 -- no number of 128 bits has more than 128 digits
 pub digits_fit : (b n : ℕ) → 2 ≤ b → n < 2 ^ 128 → length (digits_of b n) ≤ 128

@@ -14,6 +14,7 @@ use Rattle.ucd_derived.specs.Binary.{is_grapheme_extend}
 use Rattle.ucd_derived.specs.GraphemeExtendRanges.{grapheme_extend_ranges}
 use Rattle.ucd_table.specs.Rows.{in_ranges}
 use Rattle.litrs_base.specs.Characters.{is_ascii}
+use Rattle.litrs_base.specs.Text.{first_passes}
 use Rattle.litrs_base.proofs.Chars.{OnlyAscii, ascii_from_test, chars_ascii, passing_front}
 use Rattle.litrs_base.proofs.Runs.{list_all-weaken}
 use Rattle.litrs_grammar.specs.Quoted.{item_text, body_text}
@@ -73,6 +74,11 @@ passes_step p b bs false passes all = refl
 pub front_passes : (p : ℕ → Bool) (bs : List ℕ) → list_all p (take (prefix_len p bs) bs) ≡ true
 front_passes p [] = refl
 front_passes p (b ∷ bs) = passes_step p b bs (p b) refl (front_passes p bs)
+
+pub none_passes : (bs : List ℕ) → first_passes is_plain_ascii bs ≡ false →
+    prefix_len is_plain_ascii bs ≡ 0
+none_passes [] stops = refl
+none_passes (b ∷ bs) stops = cond-false (is_plain_ascii b) (1 + prefix_len is_plain_ascii bs) 0 stops
 
 plain_stays : (t : List ℕ) → list_all is_plain_ascii t ≡ true → encode_utf8_all t ≡ t
 plain_stays t all = encodes_ascii t (list_all-weaken is_plain_ascii is_ascii

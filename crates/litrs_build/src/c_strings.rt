@@ -118,6 +118,7 @@ fn push_c_bytes(text: &mut String, value: &[u8]) -> Result<(), AllocError>
 }
 
 /// Splits the first piece off `bytes`, which are not empty.
+#[inline(always)]
 fn first_piece(bytes: &[u8], follows_mark: bool) -> (Piece<'_>, &[u8])
     requires { 0 < length bytes.now }
     ensures text { encode_utf8_all (body_text (c_items 0 follows_mark bytes.now))

@@ -2,6 +2,7 @@
 ghost use Rattle.std.specs.Prelude.{◌≡◌, ◌≤◌, ◌++◌, not, map, take, length, OnOk, string_bytes};
 ghost use Rattle.std.specs.List.{prefix_len};
 ghost use Rattle.std.specs.Simd.Lanes.{mask_l, chunk};
+ghost use Rattle.litrs_base.specs.Text.{first_passes};
 ghost use Rattle.litrs_build.specs.Pieces.{is_plain_ascii, is_escape, piece_text};
 
 use crate::spelling::Spelling;
@@ -22,6 +23,7 @@ pub(crate) enum Piece<'a> {
 
 impl<'a> Piece<'a> {
     /// Returns `true` if it is an escape.
+    #[inline(always)]
     pub(crate) fn is_escape(self) -> bool
         ensures { result ≡ is_escape self.entry }
     {
@@ -32,6 +34,7 @@ impl<'a> Piece<'a> {
     }
 
     /// Returns its length in bytes.
+    #[inline(always)]
     pub(crate) fn len(self) -> usize {
         match self {
             Piece::Plain(text) => text.len(),
@@ -44,6 +47,7 @@ impl<'a> Piece<'a> {
     /// # Errors
     ///
     /// `AllocError` if `text` has no room for it and an allocation fails.
+    #[inline(always)]
     pub(crate) fn push_to(self, text: &mut String) -> Result<(), AllocError>
         ensures { OnOk result (string_bytes text.new
             ≡ string_bytes text.old ++ piece_text self.entry) }
@@ -56,14 +60,40 @@ impl<'a> Piece<'a> {
 }
 
 /// Returns the plain ASCII that `bytes` start with.
+#[inline(always)]
 pub(crate) fn plain_front(bytes: &[u8]) -> &str
     ensures { result.now ≡ take (prefix_len is_plain_ascii bytes.now) bytes.now }
 {
     unsafe { str::from_utf8_unchecked(&bytes[..plain_len(bytes)]) }
 }
 
-/// Returns the length of the plain ASCII that `bytes` start with, by 16 bytes a step.
+/// Returns the length of the plain ASCII that `bytes` start with. If the first byte is not plain,
+/// nothing more is read.
+#[inline(always)]
 pub(crate) fn plain_len(bytes: &[u8]) -> usize
+    ensures len { result ≡ prefix_len is_plain_ascii bytes.now }
+    ensures within { result ≤ length bytes.now }
+{
+    if begins_plain(bytes) {
+        plain_len_by_lanes(bytes)
+    } else {
+        0
+    }
+}
+
+/// Returns `true` if the first byte is plain ASCII.
+#[inline(always)]
+fn begins_plain(bytes: &[u8]) -> bool
+    ensures { result ≡ first_passes is_plain_ascii bytes.now }
+{
+    match bytes {
+        [first, ..] => is_plain_ascii(*first),
+        [] => false,
+    }
+}
+
+/// Like [`plain_len`], by 16 bytes a step.
+fn plain_len_by_lanes(bytes: &[u8]) -> usize
     ensures len { result ≡ prefix_len is_plain_ascii bytes.now }
     ensures within { result ≤ length bytes.now }
 {

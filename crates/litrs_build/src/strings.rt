@@ -98,6 +98,7 @@ fn push_chars(text: &mut String, value: &str) -> Result<(), AllocError>
 }
 
 /// Splits the first piece off `text`, which is not empty.
+#[inline(always)]
 fn first_piece(text: &str, follows_mark: bool) -> (Piece<'_>, &str)
     requires { 0 < length text.now }
     ensures text { encode_utf8_all (body_text (char_items follows_mark (chars text.now)))

@@ -2,7 +2,7 @@
 use Rattle.std.proofs.Common.{◌≡◌, ◌+◌, ◌-◌, ◌≤◌, length, drop}
 use Rattle.std.specs.List.{prefix_len}
 use Rattle.litrs_build.specs.Pieces.{is_plain_ascii}
-use Rattle.litrs_build.proofs.pieces.plain_len.Given as goal
+use Rattle.litrs_build.proofs.pieces.plain_len_by_lanes.Given as goal
 
 abbrev pub invariant-loop-len : goal.invariant-loop-len
 invariant-loop-len l =
