@@ -1,12 +1,19 @@
-//! Sources, which are read where they stand, and the literals of Rattle's own.
+//! Sources, which are read where they stand, and the literals in them.
 
 use crate::Texts::{self, Parsed, Valued};
 use crate::{Call, REFUSED, answer, ours};
 use std::fs;
 use std::path::Path;
 
-/// The texts of a shape at most.
+/// The texts of a shape at most, taken at equal distances from all of them.
 const TEXTS: usize = 20_000;
+
+/// The sources: their name, the variable that has their folder, and the extension of their files.
+const CORPORA: &[(&str, &str, &str)] = &[
+    ("Rattle", "LITRS_BENCH_SOURCES", "rt"),
+    ("rustc", "LITRS_BENCH_RUST", "rs"),
+    ("crates", "LITRS_BENCH_CRATES", "rs"),
+];
 
 /// The files of the folder and those below it that have this extension, in the order of their names.
 fn sources(folder: &Path, extension: &str, found: &mut Vec<String>) {
@@ -105,15 +112,16 @@ fn literals_of(mut rest: &str, found: &mut Vec<String>) {
     }
 }
 
-/// The shapes, and which of the literals are of each.
+/// A kind of literal, the name of a shape, what the texts are, and which of the literals are of the shape.
 type Class = (&'static str, &'static str, Texts, fn(&str) -> bool);
 
 const CLASSES: &[Class] = &[
-    ("", "sources: all in turn", Parsed, |_| true),
-    ("String", "sources: plain", Valued, |text| text.starts_with('"') && !text.contains('\\')),
-    ("String", "sources: with escapes", Valued, |text| text.starts_with('"') && text.contains('\\')),
-    ("Integer", "sources: integers", Valued, |text| is_number(text) && !is_float(text)),
-    ("Float", "sources: floats", Parsed, |text| is_number(text) && is_float(text)),
+    ("", "all in turn", Parsed, |_| true),
+    ("String", "plain", Valued, |text| text.starts_with('"') && !text.contains('\\')),
+    ("String", "with escapes", Valued, |text| text.starts_with('"') && text.contains('\\')),
+    ("Integer", "integers", Valued, |text| is_number(text) && !is_float(text)),
+    ("Float", "floats", Parsed, |text| is_number(text) && is_float(text)),
+    ("Char", "chars", Valued, |text| text.starts_with('\'')),
 ];
 
 fn is_number(text: &str) -> bool {
@@ -142,10 +150,39 @@ pub fn text_of(folder: &str, len: usize) -> String {
     text
 }
 
-/// The rows of the literals of the sources below the folder.
-pub fn rows(folder: &str) -> Vec<(&'static str, &'static str, Texts, Vec<String>)> {
-    let mut found = Vec::new();
-    sources_in(folder, "rt").iter().for_each(|text| literals_of(text, &mut found));
-    let of = |is: fn(&str) -> bool| found.iter().filter(|text| is(text)).take(TEXTS).cloned().collect();
-    CLASSES.iter().map(|(kind, name, shape, is)| (*kind, *name, *shape, of(*is))).collect()
+/// The literals of sources, in their order.
+pub struct Corpus {
+    pub name: &'static str,
+    pub folder: String,
+    pub files: usize,
+    pub literals: Vec<String>,
+}
+
+impl Corpus {
+    /// The rows of the literals: a kind, a name, what the texts are, and the texts.
+    pub fn rows(&self) -> Vec<(&'static str, &'static str, Texts, Vec<String>)> {
+        let of = |is: fn(&str) -> bool| {
+            let all: Vec<&String> = self.literals.iter().filter(|text| is(text)).collect();
+            let len = all.len().min(TEXTS);
+            (0..len).map(|i| all[i * all.len() / len].clone()).collect()
+        };
+        CLASSES.iter().map(|(kind, name, shape, is)| (*kind, *name, *shape, of(*is))).collect()
+    }
+}
+
+/// The corpora whose folder the environment names, if it has literals.
+pub fn found() -> Vec<Corpus> {
+    let mut corpora = Vec::new();
+    for (name, variable, extension) in CORPORA {
+        let Ok(folder) = std::env::var(variable) else {
+            continue;
+        };
+        let sources = sources_in(&folder, extension);
+        let mut literals = Vec::new();
+        sources.iter().for_each(|text| literals_of(text, &mut literals));
+        if !literals.is_empty() {
+            corpora.push(Corpus { name, folder, files: sources.len(), literals });
+        }
+    }
+    corpora
 }

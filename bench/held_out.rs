@@ -152,8 +152,11 @@ pub fn main() {
             rows.push((*kind, format!("{name} {size}"), *shape, texts_of(place, *size)));
         }
     }
-    if let Ok(folder) = std::env::var("LITRS_BENCH_SOURCES") {
-        rows.extend(corpus::rows(&folder).into_iter().map(|(kind, name, shape, texts)| (kind, name.to_string(), shape, texts)));
+    for corpus in corpus::found() {
+        println!("{}: {} literals in {} files of {}", corpus.name, corpus.literals.len(), corpus.files, corpus.folder);
+        for (kind, name, shape, texts) in corpus.rows() {
+            rows.push((kind, format!("{}: {name}", corpus.name), shape, texts));
+        }
     }
     let rows: Vec<Row> = rows
         .iter()

@@ -352,11 +352,11 @@ const FORMS: &[(&str, &str, Call)] = &[
 
 /// The same of literals of real sources.
 const SOURCE_FORMS: &[(&str, &str, Call)] = &[
-    ("sources: all in turn", "the parts or the value of each kind", parts_by_kind),
-    ("sources: plain", "where its closing quote stands", closing_quote),
-    ("sources: with escapes", VALUE, unescaped),
-    ("sources: integers", "how long its parts are", number_parts),
-    ("sources: floats", "how long its parts are", number_parts),
+    ("all in turn", "the parts or the value of each kind", parts_by_kind),
+    ("plain", "where its closing quote stands", closing_quote),
+    ("with escapes", VALUE, unescaped),
+    ("integers", "how long its parts are", number_parts),
+    ("floats", "how long its parts are", number_parts),
 ];
 
 /// Prints the row of a form.
@@ -374,12 +374,11 @@ pub fn main() {
             row(&format!("{name} {size}"), &texts, what, *form);
         }
     }
-    let Ok(folder) = std::env::var("LITRS_BENCH_SOURCES") else {
-        return;
-    };
-    for (_, name, _, texts) in corpus::rows(&folder) {
-        for (_, what, form) in SOURCE_FORMS.iter().filter(|form| form.0 == name) {
-            row(name, &texts, what, *form);
+    for corpus in corpus::found() {
+        for (_, name, _, texts) in corpus.rows() {
+            for (_, what, form) in SOURCE_FORMS.iter().filter(|form| form.0 == name) {
+                row(&format!("{}: {name}", corpus.name), &texts, what, *form);
+            }
         }
     }
 }
