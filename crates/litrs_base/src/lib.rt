@@ -1,7 +1,9 @@
-//! The types that every layer uses: buffers of texts, types of integers, escapes, and errors.
+//! The types that every layer uses: buffers of texts, types of integers, escapes, and errors; and
+//! the first character of a text.
 #![tactic(auto)]
 
 pub use buffer::{Buffer, Text};
+pub use characters::{begins_with_digit, split_first_char};
 pub use err::{ParseError, ParseErrorKind};
 pub use escape::Unescape;
 pub use float::FloatType;
@@ -10,6 +12,7 @@ pub use integer::{IntegerBase, IntegerType};
 pub use quotes::{CharKind, StringKind, Switches};
 
 pub mod buffer;
+pub mod characters;
 pub mod err;
 pub mod escape;
 pub mod float;

@@ -8,6 +8,7 @@ ghost use Rattle.litrs_diagnostic.specs.Rows.{line_of, window_of};
 
 use crate::lines::Line;
 use crate::marks::shown_width;
+use litrs_base::split_first_char;
 
 /// The part of a line that is shown, and the ends at which the line is cut.
 #[derive(Clone, Copy)]
@@ -98,19 +99,6 @@ fn suffix_within(text: &str, width: usize) -> (&str, usize)
     }
     let (_, suffix) = text.split_at(rest.len());
     (suffix, left)
-}
-
-/// Returns the first character of `text` and the text after it, or `None` if `text` is empty.
-fn split_first_char(text: &str) -> Option<(char, &str)>
-    ensures empty { IfNone result (chars text.now ≡ []) }
-    ensures parts { IfSome result (λ parts. chars text.now ≡ parts.0 ∷ chars parts.1.now) }
-    ensures bytes { IfSome result (λ parts. text.now ≡ encode_utf8 parts.0 ++ parts.1.now) }
-    ensures rest { IfSome result (λ parts. IsUtf8 parts.1.now) }
-    ensures shorter { IfSome result (λ parts. length parts.1.now < length text.now) }
-{
-    let mut chars = text.chars();
-    let first = chars.next()?;
-    Some((first, chars.as_str()))
 }
 
 /// Returns the last character of `text` after the text before it, or `None` if `text` is empty.

@@ -217,7 +217,8 @@ suffix_unless_digit x u = go (first_passes is_ascii_digit x) refl
 -- the same with the test that the code makes of the main part
 pub refusal_of_main : (cut : IntegerCut) (bs : List ℕ) → IsUtf8 bs → IsDigitsCut cut bs → integer_cut_refusal (integer_cut (chars bs)) ≡
     integer_rows cut.start_main cut.end_main (length bs)
-    (not (first_passes is_ascii_digit (drop cut.end_main bs)) && is_suffix (chars (drop cut.end_main bs))) (first_passes is_ascii_digit (drop cut.end_main bs))
+    (not (first_passes is_ascii_digit (chars (drop cut.end_main bs))) && is_suffix (chars (drop cut.end_main bs)))
+    (first_passes is_ascii_digit (chars (drop cut.end_main bs)))
     (suffix_refusal (chars (drop cut.end_main bs))) (first_passes is_e (drop cut.end_main bs))
     (list_any is_no_underscore (slice_range bs cut.start_main cut.end_main))
 refusal_of_main cut bs u h =
@@ -225,6 +226,7 @@ refusal_of_main cut bs u h =
     let len : cut.end_main - cut.start_main ≡ prefix_len p (drop cut.start_main bs) = let end = h.end in omega arith in
     let all : list_all p (slice_range bs cut.start_main cut.end_main) ≡ true =
     ap (λ n. list_all p (take n (drop cut.start_main bs))) len ∙ list_all-take_while p (drop cut.start_main bs) in
+    let utf8 : IsUtf8 (drop cut.end_main bs) = IsUtf8-drop bs cut.end_main u (places_of_cut cut bs u h).end in
     refusal_of_cut cut bs u h
     ∙ ap (integer_rows cut.start_main cut.end_main (length bs)
     (is_suffix (chars (drop cut.end_main bs))) (first_passes is_ascii_digit (drop cut.end_main bs))
@@ -233,7 +235,12 @@ refusal_of_main cut bs u h =
     ∙ ap (λ v. integer_rows cut.start_main cut.end_main (length bs) v (first_passes is_ascii_digit (drop cut.end_main bs))
     (suffix_refusal (chars (drop cut.end_main bs))) (first_passes is_e (drop cut.end_main bs))
     (list_any is_no_underscore (slice_range bs cut.start_main cut.end_main)))
-    (suffix_unless_digit (drop cut.end_main bs) (IsUtf8-drop bs cut.end_main u (places_of_cut cut bs u h).end))
+    (suffix_unless_digit (drop cut.end_main bs) utf8)
+    ∙ ap (λ d. integer_rows cut.start_main cut.end_main (length bs)
+    (not d && is_suffix (chars (drop cut.end_main bs))) d
+    (suffix_refusal (chars (drop cut.end_main bs))) (first_passes is_e (drop cut.end_main bs))
+    (list_any is_no_underscore (slice_range bs cut.start_main cut.end_main)))
+    (sym (first_passes-chars is_ascii_digit (drop cut.end_main bs) digit_is_ascii utf8))
 
 -- what the code needs of the cut
 pub within_bytes : (bs : List ℕ) → IsUtf8 bs → (start_of bs ≤ length bs) × (start_of bs + run_of bs ≤ length bs)

@@ -12,8 +12,8 @@ ghost use Rattle.litrs_grammar.specs.Refused.{IsRefused};
 ghost use Rattle.litrs_lex.specs.CharCut.{char_parts_at, IsItemRead, IsItemRefused, IsCutAfter};
 
 use crate::escape::unescape_with;
-use crate::parse::{begins_with_byte, check_suffix, has_byte, split_first_char};
-use litrs_base::{CharKind, ParseError, ParseErrorKind, Unescape};
+use crate::parse::{begins_with_byte, check_suffix, has_byte};
+use litrs_base::{CharKind, ParseError, ParseErrorKind, Unescape, split_first_char};
 
 /// Cuts `input`, which starts with `'`, as a char. Returns its value and the place of its suffix,
 /// in bytes: for `'\n'u8` these are LF and 4. See [the reference][ref].

@@ -1,9 +1,8 @@
 //! The beginnings of escapes.
-ghost use Rattle.std.specs.Prelude.{◌≡◌, ◌&&◌, Bool, true, count_by};
+ghost use Rattle.std.specs.Prelude.{◌≡◌, ◌&&◌, IsTrue, count_by};
 ghost use Rattle.std.specs.Char.{is_ascii_hexdigit};
 ghost use Rattle.litrs_base.specs.Characters.{is_scalar, nul_is_allowed};
 ghost use Rattle.litrs_grammar.specs.GoesOn.Escape.{escape_goes_on, hex_goes_on, braces_go_on, inner_goes_on};
-ghost use Rattle.litrs_lex.specs.Unescaped.{switches};
 
 use crate::escape::hex_digits;
 use crate::{Switches, hex_digit_value};
@@ -16,22 +15,21 @@ pub fn refused_escape_goes_on(after: &[u8], allowed: Switches) -> bool
     let unicode = allowed.unicode;
     match after {
         [] => true,
-        [b'x', digits @ ..] => hex_goes_on(digits, allowed.byte_escapes),
-        [b'u', braces @ ..] => unicode && braces_go_on(braces, allowed.allow_nul),
+        [b'x', digits @ ..] => hex_goes_on(digits, allowed),
+        [b'u', braces @ ..] => unicode && braces_go_on(braces, allowed),
         _ => false,
     }
 }
 
 /// Returns `true` if `\x` and `digits` begin an escape: `digits` is empty, or one hex digit, which
-/// is at most 7 unless `byte_escapes` is set.
-fn hex_goes_on(digits: &[u8], byte_escapes: bool) -> bool
-    ensures { (unicode allow_nul : Bool) →
-        result ≡ hex_goes_on (switches unicode byte_escapes allow_nul) digits.now }
+/// is at most 7 unless `\x80` to `\xff` are allowed.
+fn hex_goes_on(digits: &[u8], allowed: Switches) -> bool
+    ensures { result ≡ hex_goes_on allowed digits.now }
 {
     match digits {
         [] => true,
         [high] => match hex_digit_value(*high) {
-            Some(high) => byte_escapes || high < 8,
+            Some(high) => allowed.byte_escapes || high < 8,
             None => false,
         },
         _ => false,
@@ -39,13 +37,13 @@ fn hex_goes_on(digits: &[u8], byte_escapes: bool) -> bool
 }
 
 /// Returns `true` if `\u` and `braces` begin an escape, where such escapes are allowed.
-fn braces_go_on(braces: &[u8], allow_nul: bool) -> bool
-    ensures { (byte_escapes : Bool) →
-        result ≡ braces_go_on (switches true byte_escapes allow_nul) braces.now }
+fn braces_go_on(braces: &[u8], allowed: Switches) -> bool
+    requires { IsTrue allowed.unicode }
+    ensures { result ≡ braces_go_on allowed braces.now }
 {
     match braces {
         [] => true,
-        [b'{', inner @ ..] => inner_goes_on(inner, allow_nul),
+        [b'{', inner @ ..] => inner_goes_on(inner, allowed),
         _ => false,
     }
 }
@@ -53,16 +51,16 @@ fn braces_go_on(braces: &[u8], allow_nul: bool) -> bool
 /// Returns `true` if `\u{` and `inner` begin an escape: `inner` is empty, or a hex digit with hex
 /// digits and underscores after it. With at most five digits one more digit can always make the
 /// value valid; six digits must have an allowed value.
-fn inner_goes_on(inner: &[u8], allow_nul: bool) -> bool
-    ensures { (byte_escapes : Bool) →
-        result ≡ inner_goes_on (switches true byte_escapes allow_nul) inner.now }
+fn inner_goes_on(inner: &[u8], allowed: Switches) -> bool
+    requires { IsTrue allowed.unicode }
+    ensures { result ≡ inner_goes_on allowed inner.now }
 {
     match inner {
         [] => true,
         [first, ..] if first.is_ascii_hexdigit() => {
             let digits = hex_digits(inner);
             let is_all = digits.len == inner.len();
-            is_all && (hex_digit_count(inner) < 6 || is_value(digits.value, allow_nul))
+            is_all && (hex_digit_count(inner) < 6 || is_value(digits.value, allowed.allow_nul))
         }
         _ => false,
     }

@@ -17,7 +17,7 @@ ghost use Rattle.litrs_lex.specs.IntegerCut.{integer_parts_at, IsIntegerWithin, 
 use crate::parse::check_suffix;
 use crate::{Run, run_end};
 use litrs_base::IntegerBase::{Binary, Decimal, Hexadecimal, Octal};
-use litrs_base::{IntegerBase, ParseError, ParseErrorKind};
+use litrs_base::{IntegerBase, ParseError, ParseErrorKind, begins_with_digit};
 use std::ops::Range;
 
 /// The places at which an integer is cut, in bytes.
@@ -97,15 +97,14 @@ fn cut_refusal(cut: &IntegerCut, input: &str) -> Option<(Range<usize>, ParseErro
         ..
     } = *cut;
     let (number, suffix) = input.split_at(end_main);
-    let after = suffix.as_bytes();
     // Tested first, because no suffix starts with a digit.
-    if begins_with_digit(after) {
+    if begins_with_digit(suffix) {
         return Some((end_main..end_main + 1, ParseErrorKind::InvalidDigit));
     }
     if let Err(kind) = check_suffix(suffix) {
         return Some((end_main..input.len(), kind));
     }
-    if begins_with_e(after) {
+    if begins_with_e(suffix.as_bytes()) {
         let span = end_main..end_main + 1;
         return Some((span, ParseErrorKind::IntegerSuffixStartingWithE));
     }
@@ -114,13 +113,6 @@ fn cut_refusal(cut: &IntegerCut, input: &str) -> Option<(Range<usize>, ParseErro
     } else {
         Some((start_main..end_main, ParseErrorKind::NoDigits))
     }
-}
-
-/// Returns `true` if `bytes` starts with a decimal digit.
-fn begins_with_digit(bytes: &[u8]) -> bool
-    ensures { result ≡ first_passes is_ascii_digit bytes.now }
-{
-    matches!(bytes.first(), Some(first) if first.is_ascii_digit())
 }
 
 /// Returns `true` if `bytes` starts with `e` or `E`.

@@ -1,9 +1,9 @@
 //! Suffixes and digits.
-ghost use Rattle.std.specs.Prelude.{◌≡◌, ◌≤◌, length, [], ◌∷◌, ◌||◌, ◌==◌, is_ok, IsTrue, IfErr, IfSome, IfNone, MatchResult, slice_get};
+ghost use Rattle.std.specs.Prelude.{◌≡◌, ◌≤◌, length, [], ◌||◌, ◌==◌, is_ok, IsTrue, IfErr, MatchResult, slice_get};
 ghost use Rattle.std.specs.Char.{digit_value, is_ascii_hexdigit};
 ghost use Rattle.std.specs.List.{list_all, list_any, prefix_len};
 ghost use Rattle.std.specs.Option.{SomeIff};
-ghost use Rattle.std.specs.Str.{chars, IsUtf8};
+ghost use Rattle.std.specs.Str.{chars};
 ghost use Rattle.unicode_ident.specs.Ident.{is_xid_continue};
 ghost use Rattle.litrs_base.specs.Base.{is_digit_or_underscore};
 ghost use Rattle.litrs_base.specs.Refusal.{refusal_of, without_span};
@@ -11,7 +11,7 @@ ghost use Rattle.litrs_base.specs.Text.{first_passes};
 ghost use Rattle.litrs_grammar.specs.Suffix.{starts_identifier, is_suffix, is_ascii_symbol, suffix_refusal};
 
 use crate::{Run, run_end};
-use litrs_base::{IntegerBase, ParseError, ParseErrorKind};
+use litrs_base::{IntegerBase, ParseError, ParseErrorKind, split_first_char};
 use memchr::memchr;
 
 /// Returns the number of decimal digits and underscores at the front of `input`: 4 for `1_0_a2`.
@@ -83,17 +83,6 @@ pub(crate) fn has_byte(bytes: &[u8], byte: u8) -> bool
     ensures { result ≡ list_any (λ c. c == byte) bytes.now }
 {
     memchr(byte, bytes).is_some()
-}
-
-/// Returns the first character of `s` and the text after it, or `None` if `s` is empty.
-pub(crate) fn split_first_char(s: &str) -> Option<(char, &str)>
-    ensures empty { IfNone result (chars s.now ≡ []) }
-    ensures parts { IfSome result (λ parts. chars s.now ≡ parts.0 ∷ chars parts.1.now) }
-    ensures rest { IfSome result (λ parts. IsUtf8 parts.1.now) }
-{
-    let mut chars = s.chars();
-    let first = chars.next()?;
-    Some((first, chars.as_str()))
 }
 
 /// Returns `true` if each character of `rest` may continue an identifier. Reads bytes while they
