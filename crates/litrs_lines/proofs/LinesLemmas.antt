@@ -1,6 +1,6 @@
 -- Lemmas on lines: how the words of specs/Lines go along a list that grows at its end, and one that is taken from the front.
 use Rattle.std.proofs.Common.{◌≡◌, ℕ, suc, ◌+◌, ◌-◌, ◌<◌, ◌≤◌, Bool, true, false, ◌⊎◌, inl, inr, List, [], ◌∷◌, ◌++◌, length, take, drop, Some, None, refl, sym, ap, ◌∙◌, subst, append_assoc, append-nil, arith}
-use Rattle.std.specs.Prelude.{All, flat_map, map, position}
+use Rattle.std.specs.Prelude.{All, IsSome, ◌^◌, flat_map, map, position}
 use Rattle.std.specs.List.{slice_split, onto_first}
 use Rattle.std.proofs.lemmas.List.Splits.{slice_split-cons_yes, slice_split-cons_no, slice_split_none}
 use Rattle.std.proofs.lemmas.List.Elements.{All-nil, All-cons, All-append, All-head, All-tail}
@@ -11,7 +11,7 @@ use Rattle.std.specs.Io.KnownBytes.{Appends, Keeps, Consumes, IsAtEnd}
 use Rattle.std.proofs.KnownBytes.{Appends-nil, Appends-trans, Consumes-nil, Consumes-trans, Consumes-kept, Consumes-whole, starts_with_rest}
 use Rattle.std.proofs.Math.Seq.{take-append_seam, get_or-append_seam}
 use Rattle.std.proofs.lemmas.Option.{none-some}
-use Rattle.std.proofs.lemmas.Bool.{ltb-false}
+use Rattle.std.proofs.lemmas.Bool.{ltb-false, false≢true}
 use Rattle.std.proofs.Common.{Option, Result, Ok, Err, OnOk, OnErr, IfSome, length-append}
 use Rattle.std.specs.Prelude.{is_ok, ◌==◌, slice_index, if◌then◌else◌}
 use Rattle.litrs_lines.specs.LinesLaws.{spelled, LinesSpellTheBytes, NoLineFeedInLines, LinesAreUnique, OneCrEndsALine, LinesWithoutCr}
@@ -450,6 +450,16 @@ module _ {left_old left contents_old contents : Option (List ℕ)} {line held : 
 -- what is the same has the same value
 pub same_of : {A B : Type 0} (f : A → B) (a b : A) (v : B) → a ≡ b → f b ≡ v → f a ≡ v
 same_of f a b v same is = ap f same ∙ is
+
+-- a known input is not read that often
+pub known_reads : (old new contents_old contents_new : Option (List ℕ)) (line held : List ℕ) (reads : ℕ) → RunsOn old new contents_old contents_new line held reads →
+    IsSome old → IfSome old (λ bytes. length bytes < 2 ^ 63) → reads < 2 ^ 63
+known_reads None new contents_old contents_new line held reads run known few = absurd (false≢true known)
+known_reads (Some xs) None contents_old contents_new line held reads run known few = absurd run.takes
+known_reads (Some xs) (Some ys) contents_old contents_new line held reads run known few =
+    let count = run.few in
+    let all : length xs ≡ length (run.taken ++ ys) = ap length run.takes in
+    omega (arith, length-append run.taken ys)
 
 -- the same run, of the same contents and of the same lines that are held
 pub runs_same : (left_old left contents_old a b : Option (List ℕ)) (line held same : List ℕ) (reads : ℕ) → b ≡ a → same ≡ held →

@@ -5,7 +5,7 @@ use Rattle.std.specs.List.{list_all, prefix_len}
 use Rattle.std.specs.Str.{chars, IsUtf8, IsCharBoundary}
 use Rattle.std.proofs.Math.Seq.{take-length, drop-length}
 use Rattle.std.proofs.lemmas.Bool.{and_from, ne_eqb, not_from_false, cases_lt, false≢true}
-use Rattle.std.proofs.lemmas.List.{take-append-le, drop-append-le, take-append-drop, length-take-le, length-append, length-drop, drop-drop, append_cancel_left, append_cancel_right, take_at}
+use Rattle.std.proofs.lemmas.List.{take-append-le, drop-append-le, take-append-drop, length-take-le, length-append, length-drop, drop-drop, append_cancel_left, append_cancel_right, take_at, at_drop_all}
 use Rattle.std.proofs.lemmas.Str.{chars-append, chars-nil, IsUtf8-append, IsUtf8-drop, IsUtf8-from_ascii, IsCharBoundary-at_seam, IsCharBoundary-end, IsCharBoundary-from_drop}
 use Rattle.litrs_base.specs.Characters.{is_blank}
 use Rattle.litrs_base.specs.Text.{is_empty, first_passes, begins_with}
@@ -27,6 +27,7 @@ use Rattle.litrs_grammar.specs.Laws.Raw.{NoClosingIn}
 use Rattle.litrs_grammar.proofs.Laws.Quoted.{body_text-append}
 use Rattle.litrs_grammar.proofs.RawCuts.{HashCut, hash_cut, hash_len-append, after_hashes, length-hashes}
 use Rattle.litrs_grammar.proofs.RawScans.{raw_scans_go_on}
+use Rattle.litrs_grammar.proofs.LineFeeds.{is_other, escape_other}
 use Rattle.litrs_grammar.proofs.LongerTexts.OpenRows.{is_open_row, shut_suffix, shut_kind_if}
 use Rattle.litrs_grammar.proofs.LongerTexts.Quoted.{quoted_items_stay}
 use Rattle.litrs_lex.proofs.FloatBytes.{chars_after}
@@ -43,7 +44,7 @@ use Rattle.litrs_lines.specs.declared.collector.body.Body.TheVariants.{Quoted, C
 use Rattle.litrs_lines.specs.declared.collector.body.Open.{Open}
 use Rattle.litrs_lex.specs.BodyStop.{IsShut, EndsWithin}
 use Rattle.litrs_lex.specs.declared.body_stop.Within.TheVariants.{Escape, Continuation as Continued}
-use Rattle.litrs_lines.specs.Open.{IsAfter, IsQuotedTo, IsContinuedTo, IsRawTo, IsBodyTo, IsOpen, IsKnown}
+use Rattle.litrs_lines.specs.Open.{IsAfter, IsInLastLine, IsReadToLastLine, IsQuotedTo, IsContinuedTo, IsRawTo, IsBodyTo, IsOpen, IsKnown}
 use Rattle.litrs_lines.specs.Steps.{BeginsByLine}
 use Rattle.litrs_lines.proofs.StepLemmas.{chars-line_feed}
 use Rattle.litrs_lines.proofs.OpenTexts.{IsOpenText, IsOpenEnd, more_after, quoted_is_open, quoted_is_shut, quote_is_shut, none_over_line, line_in_body, raw_is_open, raw_is_shut, opening_is_shut}
@@ -103,6 +104,11 @@ open_stays string bytes more u v s = body_stays string.body string.kind string.p
 pub known_stays : (known : Option Open) (bytes more : List ℕ) → IsUtf8 bytes → IsUtf8 more → IsKnown bytes known → IsKnown (bytes ++ more) known
 known_stays None bytes more u v s = tt
 known_stays (Some string) bytes more u v s = open_stays string bytes more u v s
+
+-- and of the lines that are held
+pub known_of_held : (held : List ℕ) (known : Option Open) → IsReadToLastLine held known → IsKnown held known
+known_of_held held None none = tt
+known_of_held held (Some string) read = read.0
 
 -- A line
 
@@ -188,28 +194,37 @@ continuation_next kind place n bytes more blanks u size s rest line all =
       blank = all;
     }
 
+-- nothing follows the LF after the text
+pub past_end : (n : ℕ) (bytes : List ℕ) → n ≡ length bytes → IsInLastLine (n + 1) bytes
+past_end n bytes size = at_drop_all (λ (l : List ℕ). list_all is_other (chars l)) bytes (n + 1) (omega (arith, size)) ∙ ap (list_all is_other) chars-nil
+
 -- What is known after the text, by what ends its items
 
 -- the text ends between two items, or with an escape
 pub items_after : (kind : StringKind) (place : ℕ) (bytes : List ℕ) → IsUtf8 bytes → IsQuotedTo kind place bytes → chars (drop place bytes) ≡ [] →
     IsAfter bytes (Some (record { kind = kind; body = Quoted; place = place }))
-items_after kind place bytes u s none = (quoted_unfinished kind place bytes u s (inl (inl none)), quoted_next kind place bytes u s)
+items_after kind place bytes u s none = (quoted_unfinished kind place bytes u s (inl (inl none)), quoted_next kind place bytes u s, ap (list_all is_other) none)
 
 pub escape_after : (kind : StringKind) (place : ℕ) (bytes : List ℕ) → IsUtf8 bytes → IsQuotedTo kind place bytes → EndsWithin (switches_of kind) Escape (chars (drop place bytes)) →
     IsAfter bytes (Some (record { kind = kind; body = Quoted; place = place }))
-escape_after kind place bytes u s whole = (quoted_unfinished kind place bytes u s (inr (inr whole)), quoted_next kind place bytes u s)
+escape_after kind place bytes u s (e, is, grammar) = (
+  quoted_unfinished kind place bytes u s (inr (inr (e, is, grammar))),
+  quoted_next kind place bytes u s,
+  ap (list_all is_other) is ∙ escape_other (switches_of kind) e grammar,
+)
 
 -- or within a continuation
 pub slash_after : (kind : StringKind) (place n : ℕ) (bytes : List ℕ) → IsUtf8 bytes → n ≡ length bytes → IsQuotedTo kind place bytes → chars (drop place bytes) ≡ 92 ∷ [] →
     IsAfter bytes (Some (record { kind = kind; body = Continuation; place = n + 1 }))
 slash_after kind place n bytes u size s lone =
-    (quoted_unfinished kind place bytes u s (inr (inl lone)), continuation_next kind place n bytes [] [] u size s lone refl refl)
+    (quoted_unfinished kind place bytes u s (inr (inl lone)), continuation_next kind place n bytes [] [] u size s lone refl refl, past_end n bytes size)
 
 pub blanks_after : (kind : StringKind) (place n : ℕ) (bytes : List ℕ) → IsUtf8 bytes → n ≡ length bytes → IsQuotedTo kind place bytes →
     EndsWithin (switches_of kind) Continued (chars (drop place bytes)) → IsAfter bytes (Some (record { kind = kind; body = Continuation; place = n + 1 }))
 blanks_after kind place n bytes u size s (blanks, is, all) = (
   quoted_unfinished kind place bytes u s (inl (inr (blanks, is, all))),
   continuation_next kind place n bytes (10 ∷ blanks) (blanks ++ 10 ∷ []) u size s is refl (list_all-append is_blank blanks (10 ∷ []) all refl),
+  past_end n bytes size,
 )
 
 -- or it is shut

@@ -1,5 +1,5 @@
 -- Texts that begin a string whose body is open.
-use Rattle.std.specs.Prelude.{◌≡◌, ◌≤◌, ℕ, List, [], ◌∷◌, ◌++◌, Option, Some, None, IsTrue, IsFalse, take, drop}
+use Rattle.std.specs.Prelude.{◌≡◌, ◌≤◌, ◌==◌, not, ℕ, List, [], ◌∷◌, ◌++◌, Option, Some, None, IsTrue, IsFalse, take, drop}
 use Rattle.std.specs.List.{list_all}
 use Rattle.std.specs.Str.{chars, IsCharBoundary}
 use Rattle.litrs_base.specs.Characters.{line_feed, double_quote, backslash, is_blank}
@@ -57,8 +57,21 @@ abbrev pub IsKnown : List ℕ → Option Open → Type 0
 IsKnown bytes None = Unit {0}
 IsKnown bytes (Some string) = IsOpen bytes string
 
--- The text is unfinished, and with an LF after it begins this string; or there is no string, and the
--- text with an LF after it does not begin a literal.
+-- The place is in the last line of the text, or after it: no LF follows it.
+abbrev pub IsInLastLine : ℕ → List ℕ → Type 0
+IsInLastLine place t = IsTrue (list_all (λ c. not (c == line_feed)) (chars (drop place t)))
+
+-- If lines are held, the string that they begin is known. It was read up to a place in the last
+-- line, or after it, from which the next line is read.
+abbrev pub IsReadToLastLine : List ℕ → Option Open → Type 0
+IsReadToLastLine held None = held ≡ []
+IsReadToLastLine held (Some string) =
+    IsOpen held string
+    × ((lines : List ℕ) × (lines ++ line_feed ∷ [] ≡ held) × IsInLastLine string.place lines)
+
+-- The text is unfinished, and with an LF after it begins this string, which is read up to its last
+-- line; or there is no string, and the text with an LF after it does not begin a literal.
 abbrev pub IsAfter : List ℕ → Option Open → Type 0
-IsAfter t (Some string) = IsUnfinished t × IsOpen (t ++ line_feed ∷ []) string
+IsAfter t (Some string) =
+    IsUnfinished t × IsOpen (t ++ line_feed ∷ []) string × IsInLastLine string.place t
 IsAfter t None = BeginsByLine t → ⊥

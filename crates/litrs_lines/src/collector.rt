@@ -3,14 +3,14 @@
 //! A literal may contain line breaks, for example a string that spans lines. A [`Collector`] is fed
 //! one line after the other. After each it reports whether its lines are a literal, begin one, or
 //! neither.
-ghost use Rattle.std.specs.Prelude.{◌≡◌, ◌≢◌, ◌↔◌, ◌∷◌, ◌++◌, [], None, IsTrue, IfOk, OnOk, OnErr, IfSome, IfNone, MatchResult, string_bytes};
+ghost use Rattle.std.specs.Prelude.{◌≡◌, ◌≢◌, ◌↔◌, ◌∷◌, ◌++◌, [], None, Some, IsNone, IsTrue, IfOk, OnOk, OnErr, IfSome, IfNone, MatchResult, string_bytes};
 ghost use Rattle.std.specs.Str.{chars, IsUtf8};
 ghost use Rattle.litrs_base.specs.Characters.{line_feed};
 ghost use Rattle.litrs_grammar.specs.Literal.{literal_parse};
 ghost use Rattle.litrs_grammar.specs.Refused.{IsRefused};
 ghost use Rattle.litrs_lines.specs.Held.{IsHeld, IsRefusalOfHeld};
-ghost use Rattle.litrs_lines.specs.Open.{IsKnown, IsOpen};
-ghost use Rattle.litrs_lines.specs.Steps.{BeginsByLine, IsReadAs, IsStep, IsUnfinished, held_after, Feeds, Pushes};
+ghost use Rattle.litrs_lines.specs.Open.{IsAfter, IsReadToLastLine};
+ghost use Rattle.litrs_lines.specs.Steps.{BeginsByLine, IsReadAs, IsStep, held_after, Feeds, Pushes};
 
 use crate::collector::body::{Open, open_after};
 use litrs::{Literal, ParseError, ParseErrorKind};
@@ -62,7 +62,7 @@ pub struct Collector {
 impl Model for Collector {
     ghost use Rattle.std.specs.Prelude.{ℕ, List, string_bytes};
     ghost use Rattle.litrs_lines.specs.Held.{IsHeld};
-    ghost use Rattle.litrs_lines.specs.Open.{IsKnown};
+    ghost use Rattle.litrs_lines.specs.Open.{IsReadToLastLine};
 
     // The lines that are held, with an LF after each.
     ghost Value = { List ℕ };
@@ -70,7 +70,7 @@ impl Model for Collector {
     ghost view = { λ c. string_bytes c.held };
 
     ghost invariant = { λ c.
-        IsHeld (string_bytes c.held) × IsKnown (string_bytes c.held) c.known };
+        IsHeld (string_bytes c.held) × IsReadToLastLine (string_bytes c.held) c.known };
 }
 
 impl Collector {
@@ -95,9 +95,9 @@ impl Collector {
     ///
     /// `More` and `Refused` take at most one allocation.
     ///
-    /// While the lines are a string that continues, a call takes time in proportion to `line`: the
-    /// lines before it are not read again. `Literal` and `Refused` take time in proportion to all
-    /// lines.
+    /// While the lines are a string that continues, a call takes time in proportion to `line`: of
+    /// the lines before it, at most the end of the last one is read again. `Literal` and `Refused`
+    /// take time in proportion to all lines.
     ///
     /// # Errors
     ///
@@ -113,6 +113,26 @@ impl Collector {
         } else {
             self.feed_next(line)
         }
+    }
+
+    /// Like [`Collector::feed`], but ignores an empty line before a literal: returns `None` if no
+    /// line is held and `line` is empty.
+    ///
+    /// # Errors
+    ///
+    /// `AllocError` if an allocation fails. Then the lines held are those of before the call.
+    pub fn feed_skip_empty(&mut self, line: &str) -> Result<Option<Step>, AllocError>
+        ensures empty { IfOk result (λ fed. IsNone fed ↔ (self.old ++ line.now ≡ [])) }
+        ensures step { IfOk result (λ fed. IfSome fed (IsStep (self.old ++ line.now))) }
+        ensures held { IfOk result (λ fed. IfSome fed (λ step.
+            self.new ≡ held_after (self.old ++ line.now) step)) }
+        ensures ignored { IfOk result (λ fed. IfNone fed (self.new ≡ self.old)) }
+        ensures err { OnErr result (self.new ≡ self.old) }
+    {
+        if self.is_empty() && line.is_empty() {
+            return Ok(None);
+        }
+        Ok(Some(self.feed(line)?))
     }
 
     /// Like [`Collector::feed`], if no line is held. A literal is copied once it is known to be
@@ -292,10 +312,10 @@ fn read(alloc: Global, text: &str) -> Result<Result<Literal<String>, ParseError>
 /// after an error, the text is as before.
 #[inline(always)]
 fn push_line(held: &mut String, known: &mut Option<Open>, line: &str) -> Result<bool, AllocError>
-    requires { IsKnown (string_bytes held.old) known.old }
+    requires { IsReadToLastLine (string_bytes held.old) known.old }
     ensures pushed { IfOk result (Pushes (string_bytes held.old) line.now (string_bytes held.new)) }
     ensures err { OnErr result (string_bytes held.new ≡ string_bytes held.old) }
-    ensures known { IsKnown (string_bytes held.new) known.new }
+    ensures known { IsReadToLastLine (string_bytes held.new) known.new }
 {
     let len = held.len();
     // bounded by the length of the line, with its LF.
@@ -318,12 +338,11 @@ fn hold_line(
     string: Open,
 ) -> Result<bool, AllocError>
     requires none { string_bytes held.old ≡ [] }
-    requires known { IsKnown (string_bytes held.old) known.old }
-    requires unfinished { IsUnfinished line.now }
-    requires next { IsOpen (line.now ++ line_feed ∷ []) string }
+    requires known { IsReadToLastLine (string_bytes held.old) known.old }
+    requires after { IsAfter line.now (Some string) }
     ensures pushed { IfOk result (Pushes (string_bytes held.old) line.now (string_bytes held.new)) }
     ensures err { OnErr result (string_bytes held.new ≡ string_bytes held.old) }
-    ensures known { IsKnown (string_bytes held.new) known.new }
+    ensures known { IsReadToLastLine (string_bytes held.new) known.new }
 {
     // bounded by the length of the line, with its LF.
     held.reserve(line.len() + 1)?;
@@ -339,11 +358,11 @@ fn hold_line(
 /// Not inlined, so a line after which a string continues needs no room for a literal.
 #[inline(never)]
 fn read_added(held: &mut String, known: &mut Option<Open>, line: &str) -> Result<Step, AllocError>
-    requires known { IsKnown (string_bytes held.old) known.old }
+    requires known { IsReadToLastLine (string_bytes held.old) known.old }
     requires shut { BeginsByLine (string_bytes held.old ++ line.now) → ⊥ }
     ensures fed { IfOk result (Feeds (string_bytes held.old ++ line.now) (string_bytes held.new)) }
     ensures err { OnErr result (string_bytes held.new ≡ string_bytes held.old) }
-    ensures known { IsKnown (string_bytes held.new) known.new }
+    ensures known { IsReadToLastLine (string_bytes held.new) known.new }
 {
     let len = held.len();
     held.push_str(line)?;
@@ -368,11 +387,11 @@ fn read_added(held: &mut String, known: &mut Option<Open>, line: &str) -> Result
 
 /// Takes the text that is held, with `line` after it, in a block of no more bytes than it has.
 fn take_text(held: &mut String, known: &mut Option<Open>, line: &str) -> Result<String, AllocError>
-    requires { IsKnown (string_bytes held.old) known.old }
+    requires { IsReadToLastLine (string_bytes held.old) known.old }
     ensures text { IfOk result (λ text. string_bytes text ≡ string_bytes held.old ++ line.now) }
     ensures held { OnOk result (string_bytes held.new ≡ []) }
     ensures err { OnErr result (string_bytes held.new ≡ string_bytes held.old) }
-    ensures known { IsKnown (string_bytes held.new) known.new }
+    ensures known { IsReadToLastLine (string_bytes held.new) known.new }
 {
     held.push_str(line)?;
     *known = None;

@@ -37,7 +37,7 @@ pub fn try_text(trial: &mut Trial, text: &str) {
     let reserved: Result<_, _> = trial.report.reserve(ROOM);
     trial.own(reserved);
     if trial.holds() {
-        // bounded by nothing that is held: it marks where the calls begin, and is freed at once.
+        // bounded by the constant `MARK`: the block marks where the calls begin, and is freed at once.
         let _refused = fails(String::with_capacity(trial.alloc, MARK));
         if let Some(token) = &token {
             tokens::try_other_kind_ref(trial, token);

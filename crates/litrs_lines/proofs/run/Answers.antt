@@ -1,6 +1,6 @@
 use Rattle.std.proofs.Common.{false, inl, refl, arith, ap, ◌∙◌, length-take, rules}
 use Rattle.std.proofs.KnownBytes.{Appends-kept, Keeps-refl}
-use Rattle.litrs_lines.proofs.LinesLemmas.{runs_none, line_unended, runs_more, runs_same, same_of, stops_at_read, stops_in_piece, stops_at_end, ends_run, one_more_read, OnOk-holds, OnErr-holds, take_none}
+use Rattle.litrs_lines.proofs.LinesLemmas.{runs_none, line_unended, runs_more, runs_same, same_of, stops_at_read, stops_in_piece, stops_at_end, ends_run, one_more_read, known_reads, OnOk-holds, OnErr-holds, take_none}
 use Rattle.litrs_lines.proofs.Sending.{writes_these, writes_whole, appends_same, begins_same, begins_rest}
 use Rattle.litrs_lines.proofs.run.Goals as goal
 
@@ -70,3 +70,8 @@ loop-turn-preserved g c =
 
 pub returns-clause-err : goal.returns-clause-err
 returns-clause-err g c = stops_at_read c.loop-turn.invariant.runs _ (Keeps-refl _)
+
+pub returns-clause-read_known : goal.returns-clause-read_known
+returns-clause-read_known g c = λ _ known.
+    let few = known_reads _ _ _ _ _ _ _ c.loop-turn.invariant.runs known (g.met.I.Input.few c.args.reader.now) in
+    absurd (omega (arith, c.loop-turn-test.false))

@@ -4,7 +4,7 @@ use Rattle.std.specs.Str.{IsUtf8}
 use Rattle.std.proofs.lemmas.Str.{IsUtf8-drop}
 use Rattle.litrs_base.specs.Text.{first_passes, begins_with}
 use Rattle.litrs_grammar.specs.Raw.{is_quote, raw_closing}
-use Rattle.litrs_lines.proofs.OpenBytes.{stop_by, raw_unfinished, raw_next, raw_closed}
+use Rattle.litrs_lines.proofs.OpenBytes.{stop_by, raw_unfinished, raw_next, raw_closed, past_end}
 use Rattle.litrs_lines.proofs.collector.body.raw_line.Goals as goal
 
 pub body_end-stop-requires : goal.body_end-stop-requires
@@ -22,6 +22,7 @@ returns-then-stop-text c =
     let stop = stop_by kind c.switches.result c.args.hashes c.args.place c.body_end-stop.result text c.as_bytes.result.now c.as_bytes.ensures.value c.switches.ensures c.body_end-stop.ensures.stop in (
       raw_unfinished kind c.args.hashes c.args.place c.body_end-stop.result text c.utf8.text c.requires stop c.if-stop-text.true,
       raw_next kind c.args.hashes c.args.place c.body_end-stop.result text c.utf8.text c.requires stop c.if-stop-text.true,
+      past_end c.body_end-stop.result text c.if-stop-text.true,
     )
 
 pub returns-else-stop-text : goal.returns-else-stop-text
