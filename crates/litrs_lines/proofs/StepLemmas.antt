@@ -6,7 +6,7 @@ use Rattle.std.specs.String.Boundary.{IsSplitPoint}
 use Rattle.std.proofs.Math.Seq.{take-append_seam, get_or-append_seam}
 use Rattle.std.proofs.lemmas.Str.{chars-append, IsUtf8-from_ascii, IsCharBoundary-at_seam}
 use Rattle.std.proofs.lemmas.Bool.{false≢true}
-use Rattle.litrs_base.specs.Derivations.{HasNoDerivation}
+use Rattle.litrs_base.specs.Derivations.{HasNoDerivation, IsOnlyDerivation}
 use Rattle.litrs_base.specs.Text.{IsText}
 use Rattle.litrs_base.specs.declared.err.ParseErrorKind.{ParseErrorKind}
 use Rattle.litrs_base.specs.declared.err.ParseErrorKind.TheVariants.{UnterminatedRawString}
@@ -25,11 +25,12 @@ use Rattle.litrs_grammar.proofs.LongerTexts.Raw.{closing_is_text}
 use Rattle.litrs_grammar.specs.Quoted.{without_last}
 use Rattle.litrs_grammar.proofs.QuotedItems.{without_last-append}
 use Rattle.litrs_grammar.proofs.LongerTexts.Literal.{line_ends_are_decided}
-use Rattle.litrs.specs.LiteralDerivation.{derivation}
+use Rattle.litrs.specs.declared.Literal.{Literal as AnyLiteral}
+use Rattle.litrs.specs.LiteralDerivation.{literal_raw, derivation}
 use Rattle.litrs_lines.specs.declared.collector.Step.{Step}
 use Rattle.litrs_lines.specs.declared.collector.Step.TheVariants.{More, Literal, Refused}
 use Rattle.litrs_lines.specs.Held.{Extends, IsHeld}
-use Rattle.litrs_lines.specs.Steps.{BeginsByLine, IsUnfinished, IsStep, held_after, Feeds, Pushes}
+use Rattle.litrs_lines.specs.Steps.{BeginsByLine, IsUnfinished, IsReadAs, IsLiteralStep, IsStep, held_after, Feeds, Pushes}
 use Rattle.litrs_lines.specs.StepLaws.{StepsAreDecided, StepsAreUnique}
 
 -- what holds anyway holds on an error
@@ -147,6 +148,18 @@ feeds_refused old line new goes_on e none u refused pushed is =
       is = (subst (λ (t : List ℕ). IsRefused literal_parse (chars t) e) (sym text) refused, p.0);
       after = p.1 ∙ none;
     }
+
+-- a literal that is read is the step of its text
+pub feeds_literal : {B : Type 0} (old line : List ℕ) (lit : AnyLiteral B) (step : Step) → old ≡ [] → IsUtf8 line → literal_raw lit ≡ line → IsOnlyDerivation (IsLiteral (chars line)) (derivation lit) →
+    IsLiteralStep lit step → Feeds (old ++ line) old step
+feeds_literal old line lit (Literal owned) none u raw only is =
+    let text = first_is old line none in record {
+      utf8 = subst IsUtf8 (sym text) u;
+      is = subst (λ (t : List ℕ). IsReadAs t owned) (sym text) (is.0 ∙ raw, subst (IsOnlyDerivation (IsLiteral (chars line))) (sym is.1) only);
+      after = none;
+    }
+feeds_literal old line lit More none u raw only is = absurd is
+feeds_literal old line lit (Refused e) none u raw only is = absurd is
 
 -- what is fed, by parts
 

@@ -23,6 +23,12 @@ abbrev pub IsReadAs : {B : Type 0} → List ℕ → AnyLiteral B → Type 0
 IsReadAs t lit =
     (literal_raw lit ≡ t) × IsOnlyDerivation (IsLiteral (chars t)) (derivation lit)
 
+-- The step is this literal, with an owned text.
+abbrev pub IsLiteralStep : {B : Type 0} → AnyLiteral B → Step → Type 0
+IsLiteralStep lit (Literal owned) =
+    (literal_raw owned ≡ literal_raw lit) × (derivation owned ≡ derivation lit)
+IsLiteralStep lit _ = ⊥
+
 -- The step of a text: it is unfinished; or it is a literal; or it is refused, and with an LF after
 -- it does not begin a literal.
 abbrev pub IsStep : List ℕ → Step → Type 0

@@ -10,7 +10,7 @@ ghost use Rattle.litrs_grammar.specs.Literal.{literal_parse};
 ghost use Rattle.litrs_grammar.specs.Refused.{IsRefused};
 ghost use Rattle.litrs_lines.specs.Held.{IsHeld, IsRefusalOfHeld};
 ghost use Rattle.litrs_lines.specs.Open.{IsAfter, IsReadToLastLine};
-ghost use Rattle.litrs_lines.specs.Steps.{BeginsByLine, IsReadAs, IsStep, held_after, Feeds, Pushes};
+ghost use Rattle.litrs_lines.specs.Steps.{BeginsByLine, IsLiteralStep, IsReadAs, IsStep, held_after, Feeds, Pushes};
 
 use crate::collector::body::{Open, open_after};
 use litrs::{Literal, ParseError, ParseErrorKind};
@@ -145,7 +145,7 @@ impl Collector {
     {
         let alloc = *self.held.allocator();
         match Literal::parse(alloc, line) {
-            Ok(lit) => Ok(Step::Literal(lit.into_owned(alloc)?)),
+            Ok(lit) => literal_step(alloc, lit),
             Err(e) => match e.kind() {
                 ParseErrorKind::OutOfMemory => Err(AllocError),
                 _ => {
@@ -292,6 +292,16 @@ fn lines_of_held(held: &str) -> &str
     }
     let (lines, _) = held.split_at(held.len() - 1);
     lines
+}
+
+/// Returns `lit` as a step, with an owned text.
+///
+/// Not inlined, so a line that is not a literal needs no room for an owned one.
+#[inline(never)]
+fn literal_step(alloc: Global, lit: Literal<&str>) -> Result<Step, AllocError>
+    ensures { IfOk result (IsLiteralStep lit.entry) }
+{
+    Ok(Step::Literal(lit.into_owned(alloc)?))
 }
 
 /// Parses `text`. Returns the literal, or its error.
