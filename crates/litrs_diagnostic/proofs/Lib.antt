@@ -16,5 +16,7 @@ pub mod Digits
 pub mod Cuts
 -- the bytes of all that is written
 pub mod Written
+-- the bytes of remarks
+pub mod RemarkLines
 -- that it is printable
 pub mod Clean

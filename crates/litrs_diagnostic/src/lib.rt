@@ -47,6 +47,7 @@ mod message;
 mod places;
 mod printable;
 mod refusal;
+mod remarks;
 mod row;
 mod window;
 
@@ -54,6 +55,7 @@ pub use levels::Level;
 pub use message::Diagnostic;
 pub use places::{LineColumn, position};
 pub use refusal::shown_refusal;
+pub use remarks::Remark;
 use std::alloc::{AllocError, Global};
 
 /// Returns the lines of `diagnostic`, each with an LF at its end.
