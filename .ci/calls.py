@@ -91,7 +91,7 @@ def plain(text, owner):
 
 def signature(parameters, answer, owner):
     """The types of the parameters and of the answer of a function."""
-    types = [re.sub(r"^(mut )?\w+: ", "", it) for it in parts(parameters)]
+    types = [re.sub(r"^mut (?=self$)|^(mut )?\w+: ", "", it) for it in parts(parameters)]
     types = ["Global" if it == "alloc" else plain(it, owner) for it in types]
     return types, plain(answer or "()", owner)
 

@@ -1,8 +1,8 @@
-//! How severe messages are.
+//! The levels of messages.
 ghost use Rattle.std.specs.Prelude.{◌≡◌};
 ghost use Rattle.litrs_diagnostic.specs.Diagnostic.{level_text};
 
-/// How severe a message is. Its first line begins with the level.
+/// The severity of a message, with which its first line begins.
 #[derive(Clone, Copy, Debug, PartialEq, Eq)]
 pub enum Level {
     /// `error: `.

@@ -24,7 +24,7 @@ use std::ops::Range;
 /// [`Diagnostic::new`] makes an error on a whole text, and the methods `with_..` change it.
 #[derive(Clone, Copy, Debug)]
 pub struct Diagnostic<'a> {
-    /// How severe the message is.
+    /// The severity of the message.
     pub level: Level,
     /// The name of the text, for example the path of its file.
     pub name: &'a str,
