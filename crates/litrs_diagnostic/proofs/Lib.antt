@@ -1,5 +1,7 @@
 -- the first and the last line of a text
 pub mod TextLines
+-- how the starts of lines follow one another
+pub mod LineStarts
 -- the same in its bytes
 pub mod ByteLines
 -- what is written in turn

@@ -41,6 +41,7 @@ ghost use Rattle.litrs_diagnostic.specs.Diagnostic.{diagnostic_text, is_line_fee
 ghost use Rattle.litrs_diagnostic.specs.Rows.{message_of};
 
 mod levels;
+mod line_starts;
 mod lines;
 mod marks;
 mod message;
@@ -52,6 +53,7 @@ mod row;
 mod window;
 
 pub use levels::Level;
+pub use line_starts::Lines;
 pub use message::Diagnostic;
 pub use places::{LineColumn, position};
 pub use refusal::shown_refusal;
