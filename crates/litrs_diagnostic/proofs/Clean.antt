@@ -1,7 +1,7 @@
 -- Only LFs and printable characters are written.
 use Rattle.std.proofs.Common.{◌≡◌, ◌<◌, ◌+◌, ◌-◌, ◌/◌, ◌%◌, ℕ, zero, suc, Bool, true, false, ◌&&◌, ◌||◌, cond, eqb, ltb, leb, nat_lt, List, [], ◌∷◌, ◌++◌, length, get_or, replicate, take, drop, max, refl, sym, subst, ◌∙◌, arith, lit<, lit≤, ltb-true, leb-true, lt-ltb}
 use Rattle.std.specs.Fmt.{decimal, digits, digits_onto, digit_glyph}
-use Rattle.std.specs.List.{list_all, range_with_len, slice_range}
+use Rattle.std.specs.List.{list_all, flat_map, range_with_len, slice_range}
 use Rattle.std.specs.Str.{chars}
 use Rattle.std.specs.Prelude.{codes}
 use Rattle.std.specs.Char.Escape.{escape_unicode}
@@ -17,8 +17,8 @@ use Rattle.litrs_diagnostic.specs.Shown.{blank, caret, shown, shown_char, column
 use Rattle.litrs_diagnostic.specs.Line.{place_on_line, start_line, end_line}
 use Rattle.litrs_diagnostic.specs.Window.{Window, fitted}
 use Rattle.litrs_diagnostic.specs.declared.levels.Level.{Level}
-use Rattle.litrs_diagnostic.specs.declared.levels.Level.TheVariants.{Error, Warning, Note}
-use Rattle.litrs_diagnostic.specs.Diagnostic.{Message, level_text, blanks, carets, dots, gap_text, line_text, lines_text, message_text, diagnostic_text, is_line_feed_or_printable}
+use Rattle.litrs_diagnostic.specs.declared.levels.Level.TheVariants.{Error, Warning, Note, Help}
+use Rattle.litrs_diagnostic.specs.Diagnostic.{Message, Remark, level_text, remark_text, remarks_text, margin_of, blanks, carets, dots, gap_text, line_text, lines_text, message_text, diagnostic_text, is_line_feed_or_printable}
 use Rattle.litrs_diagnostic.proofs.Widths.{IsPlain, ArePlain, plain_escape}
 
 -- ---- printable ASCII
@@ -196,6 +196,7 @@ level_printable : (level : Level) → list_all is_printable (level_text level) �
 level_printable Error = plain_by_test (codes "error") refl
 level_printable Warning = plain_by_test (codes "warning") refl
 level_printable Note = plain_by_test (codes "note") refl
+level_printable Help = plain_by_test (codes "help") refl
 
 message_clean : (level : Level) (first_line first_column width : ℕ) (name message before range after : List ℕ) →
     IsClean (message_text level first_line first_column width name message before range after)
@@ -223,12 +224,38 @@ message_clean level first_line first_column width name message before range afte
     (line_end (lines_text margin first_line width before range after)
     (lines_clean margin first_line width before range after)))))))))))))))
 
+remark_clean : (margin : ℕ) (r : Remark) → IsClean (remark_text margin r)
+remark_clean margin r =
+    piece (blanks margin) _ (blanks_printable margin)
+    (piece (codes " = ") _ (plain_by_test (codes " = ") refl)
+    (piece (level_text r.level) _ (level_printable r.level)
+    (piece (codes ": ") _ (plain_by_test (codes ": ") refl)
+    (piece (shown (chars r.text)) (10 ∷ []) (shown_printable (chars r.text)) one_line_end))))
+
+remark_lines_clean : (margin : ℕ) (rs : List Remark) → IsClean (flat_map (remark_text margin) rs)
+remark_lines_clean margin [] = none_clean
+remark_lines_clean margin (r ∷ rs) =
+    both_clean (remark_text margin r) (flat_map (remark_text margin) rs)
+    (remark_clean margin r) (remark_lines_clean margin rs)
+
+remarks_clean : (margin : ℕ) (rs : List Remark) → IsClean (remarks_text margin rs)
+remarks_clean margin [] = none_clean
+remarks_clean margin (r ∷ rs) =
+    piece (blanks margin) _ (blanks_printable margin)
+    (piece (codes " |") (10 ∷ flat_map (remark_text margin) (r ∷ rs))
+    (plain_by_test (codes " |") refl)
+    (line_end (flat_map (remark_text margin) (r ∷ rs)) (remark_lines_clean margin (r ∷ rs))))
+
 pub diagnostic_clean : (m : Message) →
     list_all is_line_feed_or_printable (diagnostic_text m) ≡ true
 unfolding diagnostic_text
 diagnostic_clean m =
     let start = place_on_line m.source m.start in
     let end = place_on_line m.source m.end in
+    let before = chars (take start m.source) in
+    let range = chars (slice_range m.source start end) in
+    let margin = margin_of m.first_line before range in
+    (both_clean (message_text m.level m.first_line m.first_column m.width (chars m.name)
+    (chars m.message) before range (chars (drop end m.source))) (remarks_text margin m.remarks)
     (message_clean m.level m.first_line m.first_column m.width (chars m.name) (chars m.message)
-    (chars (take start m.source)) (chars (slice_range m.source start end))
-    (chars (drop end m.source))).all
+    before range (chars (drop end m.source))) (remarks_clean margin m.remarks)).all

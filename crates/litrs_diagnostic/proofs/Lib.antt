@@ -1,5 +1,7 @@
 -- the first and the last line of a text
 pub mod TextLines
+-- how the starts of lines follow one another
+pub mod LineStarts
 -- the same in its bytes
 pub mod ByteLines
 -- what is written in turn
@@ -16,5 +18,7 @@ pub mod Digits
 pub mod Cuts
 -- the bytes of all that is written
 pub mod Written
+-- the bytes of remarks
+pub mod RemarkLines
 -- that it is printable
 pub mod Clean

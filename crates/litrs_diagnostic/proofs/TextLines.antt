@@ -43,7 +43,7 @@ last_line-after (x ∷ xs) ys h =
 
 -- ---- columns
 
-none_counted : (p : ℕ → Bool) (t : List ℕ) → list_any p t ≡ false → count_by p t ≡ 0
+pub none_counted : (p : ℕ → Bool) (t : List ℕ) → list_any p t ≡ false → count_by p t ≡ 0
 none_counted p [] h = refl
 none_counted p (c ∷ t) h =
     let parts = or_parts (p c) (list_any p t) h in rw parts.0 (none_counted p t parts.1)

@@ -14,8 +14,8 @@ use Rattle.litrs_diagnostic.specs.Position.{is_line_feed, line_number, column_in
 use Rattle.litrs_diagnostic.specs.Line.{place_on_line, start_line, end_line}
 use Rattle.litrs_diagnostic.specs.Window.{Window, fitted}
 use Rattle.litrs_diagnostic.specs.declared.levels.Level.{Level}
-use Rattle.litrs_diagnostic.specs.declared.levels.Level.TheVariants.{Error, Warning, Note}
-use Rattle.litrs_diagnostic.specs.Diagnostic.{Message, level_text, blanks, carets, dots, line_text, gap_text, lines_text, message_text, diagnostic_text}
+use Rattle.litrs_diagnostic.specs.declared.levels.Level.TheVariants.{Error, Warning, Note, Help}
+use Rattle.litrs_diagnostic.specs.Diagnostic.{Message, Remark, level_text, remark_text, remarks_text, margin_of, blanks, carets, dots, line_text, gap_text, lines_text, message_text, diagnostic_text}
 
 -- ---- carets
 
@@ -87,7 +87,7 @@ decimal_bytes n = encodes-IsAscii (decimal n) (ascii_decimal n)
 -- ---- pieces in a row
 
 -- the bytes of an ASCII piece, and of more
-ascii_then : (xs ys bs : List ℕ) → list_all (λ c. ltb c 128) xs ≡ true → encode_utf8_all ys ≡ bs →
+pub ascii_then : (xs ys bs : List ℕ) → list_all (λ c. ltb c 128) xs ≡ true → encode_utf8_all ys ≡ bs →
     encode_utf8_all (xs ++ ys) ≡ xs ++ bs
 ascii_then xs ys bs h more =
     encodes-append xs ys ∙ (ap (λ (l : List ℕ). l ++ encode_utf8_all ys)
@@ -99,7 +99,7 @@ decimal_then n ys bs more =
     encodes-append (decimal n) ys ∙ (ap (λ (l : List ℕ). l ++ encode_utf8_all ys)
     (decimal_bytes n) ∙ ap (λ (l : List ℕ). decimal n ++ l) more)
 
-text_then : (xs ys bs : List ℕ) → encode_utf8_all ys ≡ bs →
+pub text_then : (xs ys bs : List ℕ) → encode_utf8_all ys ≡ bs →
     encode_utf8_all (xs ++ ys) ≡ encode_utf8_all xs ++ bs
 text_then xs ys bs more = encodes-append xs ys ∙ ap (λ (l : List ℕ). encode_utf8_all xs ++ l) more
 
@@ -157,6 +157,7 @@ level_then : (level : Level) (ys bs : List ℕ) → encode_utf8_all ys ≡ bs �
 level_then Error ys bs more = ascii_then (codes "error") ys bs refl more
 level_then Warning ys bs more = ascii_then (codes "warning") ys bs refl more
 level_then Note ys bs more = ascii_then (codes "note") ys bs refl more
+level_then Help ys bs more = ascii_then (codes "help") ys bs refl more
 
 heading_then : (level : Level) (first_line first_column width : ℕ) (name message before range after bs : List ℕ) →
     encode_utf8_all (lines_text (length (decimal (line_number first_line (before ++ range)))) first_line width before
@@ -249,11 +250,45 @@ two_lines_bytes level first_line first_column width name message before range af
     (two_lines (length (decimal (line_number first_line (before ++ range)))) first_line width before range after
     (lt-ltb (line_number first_line before) (line_number first_line (before ++ range)) less)))
 
+-- the remarks after it
+pub with_remarks : (level name message : List ℕ) (margin line column : ℕ) (a b t r : List ℕ) →
+    heading level name message margin line column a ≡ encode_utf8_all t → b ≡ encode_utf8_all r →
+    heading level name message margin line column (a ++ b) ≡ encode_utf8_all (t ++ r)
+with_remarks level name message margin line column a b t r is same =
+    sym (heading_more level name message margin line column a b)
+    ∙ (ap (λ (l : List ℕ). l ++ b) is ∙ (ap (λ (l : List ℕ). encode_utf8_all t ++ l) same
+    ∙ sym (encodes-append t r)))
+
+-- the same after two lines
+pub two_with_remarks : (level name message : List ℕ) (margin line column : ℕ)
+    (a gap c b t r : List ℕ) →
+    heading level name message margin line column a ++ (gap ++ c) ≡ encode_utf8_all t →
+    b ≡ encode_utf8_all r →
+    heading level name message margin line column (a ++ (gap ++ (c ++ b)))
+    ≡ encode_utf8_all (t ++ r)
+two_with_remarks level name message margin line column a gap c b t r is same =
+    ap (heading level name message margin line column)
+    (sym (append_assoc a (gap ++ c) b ∙ ap (λ (l : List ℕ). a ++ l) (append_assoc gap c b)))
+    ∙ with_remarks level name message margin line column (a ++ (gap ++ c)) b t r
+    (sym (heading_more level name message margin line column a (gap ++ c)) ∙ is) same
+
 -- the range that is shown
 pub placed : (m : Message) (start end : ℕ) → start ≡ place_on_line m.source m.start →
     end ≡ place_on_line m.source m.end →
     message_text m.level m.first_line m.first_column m.width (chars m.name) (chars m.message)
     (chars (take start m.source)) (chars (slice_range m.source start end)) (chars (drop end m.source))
+    ++ remarks_text (margin_of m.first_line (chars (take start m.source))
+    (chars (slice_range m.source start end))) m.remarks
     ≡ diagnostic_text m
 unfolding diagnostic_text
 placed m start end is_start is_end = rw (is_start, is_end) refl
+
+-- one remark
+pub remark_bytes : (margin : ℕ) (r : Remark) →
+    encode_utf8_all (blanks margin) ++ (codes " = " ++ (level_text r.level ++ (codes ": "
+    ++ (encode_utf8_all (shown (chars r.text)) ++ 10 ∷ []))))
+    ≡ encode_utf8_all (remark_text margin r)
+remark_bytes margin r =
+    sym (text_then (blanks margin) _ _ (ascii_then (codes " = ") _ _ refl
+    (level_then r.level _ _ (ascii_then (codes ": ") _ _ refl
+    (text_then (shown (chars r.text)) _ _ newline)))))

@@ -1,6 +1,7 @@
 -- The text of a message on a range of a text.
 use Rattle.std.specs.Prelude.{ℕ, Bool, ◌||◌, ◌+◌, ◌-◌, List, [], ◌∷◌, ◌++◌, length, take, drop, replicate, max, nat_lt, codes, slice_range, if◌then◌else◌}
 use Rattle.std.specs.Fmt.{decimal}
+use Rattle.std.specs.List.{flat_map}
 use Rattle.std.specs.Str.{chars}
 use Rattle.litrs_base.specs.declared.err.ParseError.{ParseError}
 use Rattle.litrs_base.specs.Kind.{kind_text}
@@ -11,13 +12,14 @@ use Rattle.litrs_diagnostic.specs.Shown.{blank, caret, shown, columns}
 use Rattle.litrs_diagnostic.specs.Line.{place_on_line, start_line, end_line}
 use Rattle.litrs_diagnostic.specs.Window.{Window, fitted}
 use Rattle.litrs_diagnostic.specs.declared.levels.Level.{Level}
-use Rattle.litrs_diagnostic.specs.declared.levels.Level.TheVariants.{Error, Warning, Note}
+use Rattle.litrs_diagnostic.specs.declared.levels.Level.TheVariants.{Error, Warning, Note, Help}
 
 -- The word that a message begins with.
 abbrev pub level_text : Level → List ℕ
 level_text Error = codes "error"
 level_text Warning = codes "warning"
 level_text Note = codes "note"
+level_text Help = codes "help"
 
 abbrev pub blanks : ℕ → List ℕ
 blanks n = replicate n blank
@@ -61,6 +63,10 @@ lines_text margin first_line width before range after =
     then gap_text first last ++ line_text margin last (fitted width (end_line range after))
     else [])
 
+-- The width of the margin: that of the greatest number in it.
+abbrev pub margin_of : (first_line : ℕ) → (before range : List ℕ) → ℕ
+margin_of first_line before range = length (decimal (line_number first_line (before ++ range)))
+
 -- The level, the message, the place of the start of the range, and the lines. The margin is as wide as the
 -- greatest number in it.
 unfoldable pub message_text : Level → (first_line first_column width : ℕ)
@@ -74,6 +80,23 @@ message_text level first_line first_column width name message before range after
     ++ (blanks margin ++ (codes " |\n"
     ++ lines_text margin first_line width before range after)))))))))))))
 
+-- A remark below a message. Its text is in bytes.
+pub record Remark : Type 0 where
+  pub level : Level
+  pub text : List ℕ
+
+-- The line of a remark, after a margin.
+abbrev pub remark_text : (margin : ℕ) → Remark → List ℕ
+remark_text margin r =
+    blanks margin ++ (codes " = " ++ (level_text r.level ++ (codes ": " ++ (shown (chars r.text)
+    ++ line_feed))))
+
+-- The lines of all remarks, after an empty one if there are any.
+abbrev pub remarks_text : (margin : ℕ) → List Remark → List ℕ
+remarks_text margin [] = []
+remarks_text margin (r ∷ rs) =
+    blanks margin ++ (codes " |\n" ++ flat_map (remark_text margin) (r ∷ rs))
+
 -- A message on the bytes from `start` up to `end` of `source`, whose first character is at
 -- `first_line` and `first_column`. All texts are bytes.
 pub record Message : Type 0 where
@@ -86,6 +109,7 @@ pub record Message : Type 0 where
   pub first_line : ℕ
   pub first_column : ℕ
   pub width : ℕ
+  pub remarks : List Remark
 
 -- The error on a range of a whole text, in 140 columns.
 abbrev pub error_on : (name source : List ℕ) → (start end : ℕ) → (message : List ℕ) → Message
@@ -99,17 +123,20 @@ error_on name source start end message = record {
   first_line = 1;
   first_column = 1;
   width = 140;
+  remarks = [];
 }
 
--- The characters of a message. A range that ends after the last line is shown as if it ended with
+-- The characters of a message, with its remarks. A range that ends after the last line is shown as if it ended with
 -- that line.
 unfoldable pub diagnostic_text : Message → List ℕ
 diagnostic_text m =
     let start = place_on_line m.source m.start in
     let end = place_on_line m.source m.end in
+    let before = chars (take start m.source) in
+    let range = chars (slice_range m.source start end) in
     message_text m.level m.first_line m.first_column m.width (chars m.name) (chars m.message)
-    (chars (take start m.source)) (chars (slice_range m.source start end))
-    (chars (drop end m.source))
+    before range (chars (drop end m.source))
+    ++ remarks_text (margin_of m.first_line before range) m.remarks
 
 -- The message on the refusal of a text: its kind, on the part of the text to mark.
 abbrev pub refusal_message : (name text : List ℕ) → ParseError → (width : ℕ) → Message

@@ -1,5 +1,7 @@
 -- lines and columns
 pub mod Position
+-- where the lines of a text start
+pub mod Lines
 -- printable characters
 pub mod Printable
 -- texts as they are shown, and their widths

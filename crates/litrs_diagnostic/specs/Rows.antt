@@ -3,7 +3,9 @@ use Rattle.std.specs.Str.{chars}
 use Rattle.litrs_diagnostic.specs.declared.lines.Line as code
 use Rattle.litrs_diagnostic.specs.declared.message.Diagnostic.{Diagnostic}
 use Rattle.litrs_diagnostic.specs.declared.window.Window as code_window
-use Rattle.litrs_diagnostic.specs.Diagnostic.{Message}
+use Rattle.std.specs.Prelude.{map}
+use Rattle.litrs_diagnostic.specs.declared.remarks.Remark as code_remark
+use Rattle.litrs_diagnostic.specs.Diagnostic.{Message, Remark}
 use Rattle.litrs_diagnostic.specs.Line.{Line}
 use Rattle.litrs_diagnostic.specs.Window.{Window}
 
@@ -23,6 +25,9 @@ window_of window = record {
   is_cut_after = window.is_cut_after;
 }
 
+abbrev pub remark_of : code_remark.Remark → Remark
+remark_of r = record { level = r.level; text = r.text.now }
+
 abbrev pub message_of : Diagnostic → Message
 message_of d = record {
   level = d.level;
@@ -34,4 +39,5 @@ message_of d = record {
   first_line = d.first_line;
   first_column = d.first_column;
   width = d.width;
+  remarks = map remark_of d.remarks.now;
 }

@@ -11,6 +11,8 @@ pub enum Level {
     Warning,
     /// `note: `.
     Note,
+    /// `help: `.
+    Help,
 }
 
 impl Level {
@@ -22,6 +24,7 @@ impl Level {
             Level::Error => "error",
             Level::Warning => "warning",
             Level::Note => "note",
+            Level::Help => "help",
         }
     }
 }

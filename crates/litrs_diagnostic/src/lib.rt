@@ -41,19 +41,23 @@ ghost use Rattle.litrs_diagnostic.specs.Diagnostic.{diagnostic_text, is_line_fee
 ghost use Rattle.litrs_diagnostic.specs.Rows.{message_of};
 
 mod levels;
+mod line_starts;
 mod lines;
 mod marks;
 mod message;
 mod places;
 mod printable;
 mod refusal;
+mod remarks;
 mod row;
 mod window;
 
 pub use levels::Level;
+pub use line_starts::Lines;
 pub use message::Diagnostic;
 pub use places::{LineColumn, position};
 pub use refusal::shown_refusal;
+pub use remarks::Remark;
 use std::alloc::{AllocError, Global};
 
 /// Returns the lines of `diagnostic`, each with an LF at its end.

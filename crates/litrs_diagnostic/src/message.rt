@@ -6,6 +6,7 @@ use crate::levels::Level;
 use crate::lines::{end_line, place_on_line, start_line};
 use crate::marks::{Blanks, Shown};
 use crate::places::{LineColumn, line_feeds, place_in};
+use crate::remarks::{Remark, Remarks};
 use crate::row::{Row, digit_count, gap};
 use crate::window::fitted;
 use std::fmt;
@@ -43,6 +44,8 @@ pub struct Diagnostic<'a> {
     /// The greatest number of columns of a line that are shown, without its number and the `...` in
     /// place of the rest. rustc uses 140 if it does not know the width of its terminal.
     pub width: usize,
+    /// The remarks below the lines.
+    pub remarks: &'a [Remark<'a>],
     /// The start is a character boundary of the text.
     pub ghost start_cuts: { IsCharBoundary source.now start },
     /// The end is a character boundary of the text.
@@ -53,7 +56,8 @@ pub struct Diagnostic<'a> {
 
 impl<'a> Diagnostic<'a> {
     ghost use Rattle.litrs_diagnostic.specs.Diagnostic.{error_on};
-    ghost use Rattle.litrs_diagnostic.specs.Rows.{message_of};
+    ghost use Rattle.std.specs.Prelude.{map};
+    ghost use Rattle.litrs_diagnostic.specs.Rows.{message_of, remark_of};
 
     /// Creates an error on a range of `source`, a whole text that is called `name`. Of each line 140
     /// columns are shown.
@@ -79,6 +83,7 @@ impl<'a> Diagnostic<'a> {
             first_column: 1,
             message,
             width: 140,
+            remarks: &[],
         }
     }
 
@@ -97,6 +102,25 @@ impl<'a> Diagnostic<'a> {
     {
         self.width = width;
         self
+    }
+
+    /// Returns the diagnostic with these remarks below its lines.
+    pub fn with_remarks(self, remarks: &'a [Remark<'a>]) -> Diagnostic<'a>
+        ensures { message_of result
+            ≡ record (message_of self.entry) { remarks = map remark_of remarks.now } }
+    {
+        Diagnostic {
+            level: self.level,
+            name: self.name,
+            source: self.source,
+            start: self.start,
+            end: self.end,
+            first_line: self.first_line,
+            first_column: self.first_column,
+            message: self.message,
+            width: self.width,
+            remarks,
+        }
     }
 
     /// Returns the diagnostic for a part of a longer text whose first character is at `line` and
@@ -141,7 +165,10 @@ impl fmt::Display for Diagnostic<'_> {
             number: line,
             line: fitted(start_line(self.source, start, end), self.width),
         };
-        write!(f, "{margin} |\n{first}")?;
+        let remarks = Remarks {
+            margin: digits,
+            remarks: self.remarks,
+        };
         if line < last {
             let gap = gap(line, last);
             let end = Row {
@@ -149,8 +176,8 @@ impl fmt::Display for Diagnostic<'_> {
                 number: last,
                 line: fitted(end_line(self.source, start, end), self.width),
             };
-            write!(f, "{gap}{end}")?;
+            return write!(f, "{margin} |\n{first}{gap}{end}{remarks}");
         }
-        Ok(())
+        write!(f, "{margin} |\n{first}{remarks}")
     }
 }

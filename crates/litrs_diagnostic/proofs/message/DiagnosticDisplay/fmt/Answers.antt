@@ -1,18 +1,18 @@
 -- The heading, the first line, and the last where it is another.
-use Rattle.std.proofs.Common.{rules, ◌≡◌, ◌+◌, ◌++◌, ℕ, List, length, take, drop, count_by, ap, ◌∙◌, arith}
+use Rattle.std.proofs.Common.{rules, ◌≡◌, ◌+◌, ◌++◌, ℕ, List, length, take, drop, count_by, map, ap, ◌∙◌, arith}
 use Rattle.std.specs.List.{slice_range}
 use Rattle.std.specs.Str.{chars, encode_utf8_all}
 use Rattle.std.specs.Fmt.{decimal}
 use Rattle.std.proofs.Output.{has_written_append, has_written_of_eq}
 use Rattle.litrs_diagnostic.specs.Position.{is_line_feed, line_number}
-use Rattle.litrs_diagnostic.specs.Diagnostic.{gap_text}
+use Rattle.litrs_diagnostic.specs.Diagnostic.{gap_text, message_text, remarks_text, margin_of}
 use Rattle.litrs_diagnostic.specs.Window.{fitted}
-use Rattle.litrs_diagnostic.specs.Rows.{message_of, window_of}
-use Rattle.litrs_diagnostic.proofs.Written.{placed, last_number, one_line_bytes, two_lines_bytes}
+use Rattle.litrs_diagnostic.specs.Rows.{message_of, remark_of, window_of}
+use Rattle.litrs_diagnostic.proofs.Written.{placed, with_remarks, two_with_remarks, last_number, one_line_bytes, two_lines_bytes}
 use Rattle.litrs_diagnostic.proofs.message.DiagnosticDisplay.fmt.Goals as goal
 
-pub returns-else-line-last-clause-writes : goal.returns-else-line-last-clause-writes
-returns-else-line-last-clause-writes g c = λ plain ok.
+pub returns-clause-writes : goal.returns-clause-writes
+returns-clause-writes g c = λ plain ok.
     let d = c.args.self.now in
     let start = c.place_on_line-start.result in
     let end = c.place_on_line-end.result in
@@ -28,20 +28,27 @@ returns-else-line-last-clause-writes g c = λ plain ok.
     let first = c.fitted.ensures ∙ ap (fitted d.width) c.start_line.ensures in
     let one = c.write.ensures.writes plain (search rules) in
     let two = c.write-2.ensures.writes one.plain (search rules) in
-    let three = c.write-3.ensures.writes two.plain (search rules) in
+    let three = c.write-3.ensures.writes two.plain ok in
+    let remarks = map remark_of d.remarks.now in
     has_written_of_eq _ _ _ _ _
+    (with_remarks c.word-level.result.now (chars d.name.now) (chars d.message.now)
+    c.digit_count-digits.result c.place_in-line.result.line c.place_in-line.result.column
+    _ _ (message_text d.level d.first_line d.first_column d.width (chars d.name.now)
+    (chars d.message.now) before range (chars (drop end d.source.now)))
+    (remarks_text (margin_of d.first_line before range) remarks)
     (one_line_bytes d.level d.first_line d.first_column d.width (chars d.name.now) (chars d.message.now) before range
     (chars (drop end d.source.now))
     c.word-level.result.now c.digit_count-digits.result c.place_in-line.result.line
     c.place_in-line.result.column
     (window_of c.fitted.result)
-    c.word-level.ensures margin line c.place_in-line.ensures.column first (omega (arith, is_last, line))
+    c.word-level.ensures margin line c.place_in-line.ensures.column first (omega (arith, is_last, line)))
+    (ap (λ (n : ℕ). encode_utf8_all (remarks_text n remarks)) margin)
     ∙ ap encode_utf8_all (placed (message_of d) start end c.place_on_line-start.ensures.value
     c.place_on_line-end.ensures.value))
     (has_written_append _ _ _ _ _ _ (has_written_append _ _ _ _ _ _ one two) three)
 
-pub returns-in_ok-write-4-clause-writes : goal.returns-in_ok-write-4-clause-writes
-returns-in_ok-write-4-clause-writes g c = λ plain ok.
+pub returns-then-line-last-clause-writes : goal.returns-then-line-last-clause-writes
+returns-then-line-last-clause-writes g c = λ plain ok.
     let d = c.args.self.now in
     let start = c.place_on_line-start.result in
     let end = c.place_on_line-end.result in
@@ -60,10 +67,15 @@ returns-in_ok-write-4-clause-writes g c = λ plain ok.
     let first = c.fitted.ensures ∙ ap (fitted d.width) c.start_line.ensures in
     let one = c.write.ensures.writes plain (search rules) in
     let two = c.write-2.ensures.writes one.plain (search rules) in
-    let three = c.write-3.ensures.writes two.plain (search rules) in
     let second = c.fitted-then-line-last.ensures ∙ ap (fitted d.width) c.end_line.ensures in
-    let four = c.write-then-line-last.ensures.writes three.plain (search rules) in
+    let three = c.write-then-line-last.ensures.writes two.plain ok in
+    let remarks = map remark_of d.remarks.now in
     has_written_of_eq _ _ _ _ _
+    (two_with_remarks c.word-level.result.now (chars d.name.now) (chars d.message.now)
+    c.digit_count-digits.result c.place_in-line.result.line c.place_in-line.result.column
+    _ _ _ _ (message_text d.level d.first_line d.first_column d.width (chars d.name.now)
+    (chars d.message.now) before range (chars (drop end d.source.now)))
+    (remarks_text (margin_of d.first_line before range) remarks)
     (two_lines_bytes d.level d.first_line d.first_column d.width (chars d.name.now) (chars d.message.now) before range
     (chars (drop end d.source.now))
     c.word-level.result.now c.digit_count-digits.result c.place_in-line.result.line
@@ -72,8 +84,8 @@ returns-in_ok-write-4-clause-writes g c = λ plain ok.
     c.gap-gap.result.now (window_of c.fitted.result)
     (window_of c.fitted-then-line-last.result)
     c.word-level.ensures margin line c.place_in-line.ensures.column is_last gap first second
-    (omega (arith, is_last, line))
+    (omega (arith, is_last, line)))
+    (ap (λ (n : ℕ). encode_utf8_all (remarks_text n remarks)) margin)
     ∙ ap encode_utf8_all (placed (message_of d) start end c.place_on_line-start.ensures.value
     c.place_on_line-end.ensures.value))
-    (has_written_append _ _ _ _ _ _ (has_written_append _ _ _ _ _ _
-    (has_written_append _ _ _ _ _ _ one two) three) four)
+    (has_written_append _ _ _ _ _ _ (has_written_append _ _ _ _ _ _ one two) three)

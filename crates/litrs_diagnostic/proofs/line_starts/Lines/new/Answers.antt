@@ -1,0 +1,40 @@
+-- Each turn adds the start of the next line.
+use Rattle.std.proofs.Common.{ℕ, List, [], ◌∷◌, ◌+◌, ◌-◌, ◌<◌, ◌≤◌, length, drop, subst, sym, arith, length-append}
+use Rattle.std.proofs.lemmas.List.{get_or_default}
+use Rattle.std.proofs.lemmas.List.Sorted.{IsNonDecreasingBy-short, IsNonDecreasingBy-push}
+use Rattle.litrs_diagnostic.specs.Lines.{IsLineStart, IsLineLen}
+use Rattle.litrs_diagnostic.proofs.LineStarts.{first_start, next_start, more_starts, no_later}
+use Rattle.litrs_diagnostic.proofs.line_starts.Lines.new.Goals as goal
+
+pub loop-len-init : goal.loop-len-init
+loop-len-init c =
+    rw c.in_ok-starts.ensures.items (record {
+      here = first_start c.args.source.now c.utf8.source;
+      starts = λ k within. absurd (omega arith);
+      sorted = IsNonDecreasingBy-short (λ (x : ℕ). x) [] (omega arith);
+      last = λ k within. absurd (omega arith);
+    })
+
+pub loop-len-preserved : goal.loop-len-preserved
+loop-len-preserved c =
+    let source = c.args.source.now in
+    let starts = c.loop-len.starts.items in
+    let start = c.loop-len.start + c.in-Some.len in
+    let now = c.loop-len.invariant in
+    let line : IsLineLen (drop c.loop-len.start source) c.in-Some.len =
+    subst (λ (bs : List ℕ). IsLineLen bs c.in-Some.len) c.range_from.ensures.value
+    c.in-Some.ensures in
+    let next = next_start source (length starts) c.loop-len.start c.in-Some.len c.utf8.source
+    now.here line in
+    let order : c.loop-len.start ≤ start = omega arith in
+    rw c.in_ok-push.ensures.items (record {
+      here = subst (λ (n : ℕ). IsLineStart source n start)
+          (sym (length-append starts (start ∷ []))) next;
+      starts = more_starts source starts start now.starts next;
+      sorted = IsNonDecreasingBy-push (λ (x : ℕ). x) starts start now.sorted (λ d some.
+          let within : length starts - 1 < length starts = omega (arith, some) in
+          let last = now.last (length starts - 1) within in
+          let same = get_or_default starts (length starts - 1) d 0 within in
+          omega (arith, last, same, order));
+      last = no_later starts c.loop-len.start start order now.last;
+    })
