@@ -27,7 +27,7 @@ use Rattle.litrs_prefix.specs.Meant.{after_opened}
 use Rattle.litrs_prefix.specs.Prefix.{ends_suffix, ends_integer, gives_period, keeps_period, HasPrefix}
 use Rattle.litrs_prefix.proofs.Ends.{front_is}
 use Rattle.litrs_prefix.proofs.Numbers.{longer_integer, stops, digit_no_name, no_start}
-use Rattle.litrs_prefix.proofs.OnlyRest.{IsBare, only_rest}
+use Rattle.litrs_prefix.proofs.OnlyRest.{only_rest}
 
 -- the characters at the front of a text that pass a test of ASCII characters, in bytes
 pub ascii_front : (p : ℕ → Bool) → OnlyAscii p → (bs : List ℕ) → IsUtf8 bs → IsCharBoundary bs (prefix_len p bs) × (chars (drop (prefix_len p bs) bs) ≡ drop (prefix_len p (chars bs)) (chars bs))

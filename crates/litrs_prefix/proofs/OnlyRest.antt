@@ -1,9 +1,9 @@
 -- The rest of a literal at the front of a text is what follows what opens there.
-use Rattle.std.proofs.Common.{◌≡◌, ◌⊎◌, inl, inr, ℕ, ◌+◌, ◌<◌, Bool, true, false, not, ◌&&◌, ◌||◌, List, [], ◌∷◌, ◌++◌, drop, length, refl, sym, ap, subst, ◌∙◌, append_assoc, arith}
-use Rattle.std.specs.Prelude.{◌==◌, if◌then◌else◌}
+use Rattle.std.proofs.Common.{◌≡◌, ◌⊎◌, inl, inr, ℕ, ◌+◌, ◌<◌, Bool, true, false, not, ◌&&◌, List, [], ◌∷◌, ◌++◌, drop, refl, sym, ap, subst, ◌∙◌, append_assoc, arith}
+use Rattle.std.specs.Prelude.{◌==◌}
 use Rattle.std.specs.Char.{is_ascii_digit, is_ascii_hexdigit}
 use Rattle.std.specs.List.{list_all}
-use Rattle.std.proofs.lemmas.Bool.{and_parts, and_from, and_right, not-true, true≢false, false≢true}
+use Rattle.std.proofs.lemmas.Bool.{and_parts, and_from, and_right, not-true, false≢true}
 use Rattle.std.proofs.lemmas.Bool.Decides.{nat_tests}
 use Rattle.unicode_ident.specs.Ident.{is_xid_continue}
 use Rattle.unicode_ident.proofs.IdentLemmas.{is_xid_start-ascii, is_xid_continue-ascii}
@@ -23,11 +23,11 @@ use Rattle.litrs_base.proofs.Runs.{list_all-append, list_all-weaken}
 use Rattle.litrs_grammar.specs.Bool.{bool_text}
 use Rattle.litrs_grammar.specs.CharByte.{CharItem, plain_char, escaped_char, char_item_text, is_char_item, CharParts, IsCharLiteral}
 use Rattle.litrs_grammar.specs.Escape.{Escape, simple_escape, hex_escape, unicode_escape, escape_text, is_escape, is_hex_or_underscore}
-use Rattle.litrs_grammar.specs.Float.{FloatParts, IsFloatOf, float_text, is_period}
+use Rattle.litrs_grammar.specs.Float.{FloatParts, IsFloatOf, is_period}
 use Rattle.litrs_grammar.specs.Integer.{IntegerParts, IsIntegerOf, is_e}
 use Rattle.litrs_grammar.specs.Literal.{Derivation, a_bool, an_integer, a_float, a_char, a_byte, a_string, a_byte_string, a_c_string, IsLiteral, StringParts, quoted_parts, raw_parts, IsString, string_suffix}
 use Rattle.litrs_grammar.specs.Quoted.{Item, plain_item, escape_item, continuation, item_text, is_item, body_text, is_body, QuotedParts, IsQuotedLiteral}
-use Rattle.litrs_grammar.specs.Raw.{RawParts, IsRawLiteral, hashes, hash_len, raw_closing, occurs}
+use Rattle.litrs_grammar.specs.Raw.{RawParts, IsRawLiteral, hashes, raw_closing, occurs}
 use Rattle.litrs_grammar.specs.Suffix.{is_suffix, starts_identifier}
 use Rattle.litrs_grammar.proofs.FloatCuts.{cut_of_text}
 use Rattle.litrs_grammar.proofs.Laws.Float.{starts_digit, suffix_no_period}
@@ -39,7 +39,7 @@ use Rattle.litrs_grammar.proofs.SuffixStart.{suffix_continues}
 use Rattle.litrs_prefix.specs.Ends.{past_quote, past_single_quote, after_digits, after_fraction, after_exponent}
 use Rattle.litrs_prefix.specs.Meant.{after_quoted, after_char, after_closing, after_raw, after_number, after_body, after_opened}
 use Rattle.litrs_prefix.specs.Opens.{after_run, after_name, after_hashes, opens_raw}
-use Rattle.litrs_prefix.specs.Prefix.{ends_suffix, ends_integer, ends_float, may_follow, HasPrefix}
+use Rattle.litrs_prefix.specs.Prefix.{ends_suffix, ends_float, may_follow, HasPrefix}
 use Rattle.litrs_prefix.proofs.Chars.{longer_char, longer_raw}
 use Rattle.litrs_prefix.proofs.Meant.{past_quote_is, past_single_quote_is, digits_passed, number_parts}
 use Rattle.litrs_prefix.proofs.Names.{run_after, name_after, bool_after}

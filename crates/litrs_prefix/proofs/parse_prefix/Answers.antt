@@ -1,6 +1,5 @@
 -- What is parsed is the literal at the front, valid or malformed.
-use Rattle.std.proofs.Common.{◌≡◌, ℕ, List, ◌++◌, take, inl, inr, sym, ap, ◌∙◌}
-use Rattle.std.specs.Str.{chars}
+use Rattle.std.proofs.Common.{ℕ, List, ◌++◌, take, inl, inr, ap, ◌∙◌}
 use Rattle.std.proofs.lemmas.List.{take-append-drop}
 use Rattle.litrs.specs.LiteralDerivation.{derivation}
 use Rattle.litrs_prefix.proofs.Marks.{malformed_marks}

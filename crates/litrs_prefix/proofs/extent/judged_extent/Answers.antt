@@ -1,6 +1,6 @@
 -- The piece that opens is the literal, or the malformed prefix, or shorter than it.
-use Rattle.std.proofs.Common.{◌≡◌, ℕ, List, ◌-◌, ◌≤◌, Some, None, true, false, length, drop, sym, ap, ◌∙◌}
-use Rattle.std.specs.Str.{chars, IsUtf8}
+use Rattle.std.proofs.Common.{◌≡◌, ℕ, List, ◌-◌, Some, None, true, false, drop, sym, ◌∙◌}
+use Rattle.std.specs.Str.{chars}
 use Rattle.std.proofs.lemmas.Bool.{true≢false}
 use Rattle.litrs_prefix.specs.Ends.{IsOnlyRest}
 use Rattle.litrs_prefix.specs.Meant.{after_opened}

@@ -1,5 +1,5 @@
 -- What follows the first character is an end of the text.
-use Rattle.std.proofs.Common.{ℕ, List, false, Option, Some, None, IfNone, sym, ap, ◌∙◌}
+use Rattle.std.proofs.Common.{false, Option, Some, None, IfNone, sym, ap, ◌∙◌}
 use Rattle.std.specs.Char.{is_ascii_digit}
 use Rattle.std.specs.Str.{chars}
 use Rattle.litrs_base.specs.Text.{first_passes}
