@@ -11,7 +11,7 @@
 #include <stdint.h>
 
 /* The version of this header; litrs_version() is that of the library. */
-#define LITRS_VERSION "1.0.1-rattle.1"
+#define LITRS_VERSION "1.0.1-rattle.2"
 #define LITRS_VERSION_MAJOR 1
 #define LITRS_VERSION_MINOR 0
 #define LITRS_VERSION_PATCH 1

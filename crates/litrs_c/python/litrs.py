@@ -29,7 +29,7 @@ __all__ = [
     "write_bytes", "write_integer", "write_string",
 ]
 # The version of this module; version() returns that of the library.
-__version__ = "1.0.1-rattle.1"
+__version__ = "1.0.1-rattle.2"
 
 _Bytes = Union[bytes, bytearray, memoryview]
 _Text = Union[str, _Bytes]

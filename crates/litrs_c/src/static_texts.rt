@@ -92,10 +92,10 @@ static TOKEN_NAMES: [&[u8]; 15] = [
 /// Writes the version of the library, that of `LITRS_VERSION`, to `version`.
 #[unsafe(no_mangle)]
 pub extern "C" fn litrs_get_version(version: &mut StaticText)
-    ensures { version.new.text.now ≡ zero_ended (codes "1.0.1-rattle.1") }
+    ensures { version.new.text.now ≡ zero_ended (codes "1.0.1-rattle.2") }
 {
     *version = StaticText {
-        text: b"1.0.1-rattle.1\0",
+        text: b"1.0.1-rattle.2\0",
     };
 }
 

@@ -8,7 +8,7 @@ use clap::{Arg, ArgAction, ArgMatches, Command};
 use std::alloc::{AllocError, Global};
 
 /// The version of the program, which is that of the library.
-const VERSION: &str = "1.0.1-rattle.1";
+const VERSION: &str = "1.0.1-rattle.2";
 
 /// The formats of reports.
 const FORMATS: [&str; 2] = ["text", "json"];
