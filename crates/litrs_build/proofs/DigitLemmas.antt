@@ -5,16 +5,18 @@ use Rattle.std.specs.Char.{digit_char, digit_value, to_ascii_lowercase}
 use Rattle.std.specs.Int.{is_in_range}
 use Rattle.std.specs.Int.Digits.{digits_of, number_from_digits_after, AllBelowBase}
 use Rattle.std.specs.List.{list_all}
-use Rattle.std.proofs.lemmas.Bool.{and_from, or_left, or_right, lt-ltb, le-ltb, le-leb, eq-eqb, ne_eqb, cond-true, cond-false, cond_both, cases_lt, eqb-true, eqb-false}
+use Rattle.std.proofs.lemmas.Bool.{and_from, or_left, or_right, lt-ltb, le-ltb, le-leb, eq-eqb, ne_eqb, cond-true, cond-false, cond_both, cases_lt, cases_eq, eqb-true, eqb-false}
+use Rattle.std.specs.Fmt.{decimal}
+use Rattle.std.proofs.lemmas.Fmt.{decimal-digits_of, decimal_digit}
 use Rattle.std.proofs.lemmas.Int.Digits.{digits_of_step, length-digits_of_step, length-digits_of-le, all_below_base_digits_of, number_digits_of}
 use Rattle.std.proofs.lemmas.List.{append_assoc, length-map, map_push, drop-set, drop_all}
 use Rattle.std.proofs.lemmas.Str.{digit_value-digit_char}
-use Rattle.std.proofs.Math.Nat.{pow-zero, pow-suc}
+use Rattle.std.proofs.Math.Nat.{pow-zero, pow-suc, pow-le-pow_left}
 use Rattle.litrs_base.specs.declared.integer.IntegerBase.{IntegerBase}
 use Rattle.litrs_base.specs.declared.integer.IntegerBase.TheVariants.{Binary, Octal, Decimal, Hexadecimal}
 use Rattle.litrs_base.specs.Base.{base_value, is_digit}
 use Rattle.litrs_base.specs.Numeral.{place_sum}
-use Rattle.litrs_build.specs.WrittenDigits.{written_digits}
+use Rattle.litrs_build.specs.WrittenDigits.{digits_in_radix, written_digits}
 
 pub two_le : (base : IntegerBase) → 2 ≤ base_value base
 two_le Binary = omega arith
@@ -28,20 +30,11 @@ at_most_sixteen Octal = omega arith
 at_most_sixteen Decimal = omega arith
 at_most_sixteen Hexadecimal = omega arith
 
--- a digit fits
-pub digit_below : (base : IntegerBase) (n : ℕ) → n % base_value base < 16
-digit_below Binary n = omega arith
-digit_below Octal n = omega arith
-digit_below Decimal n = omega arith
-digit_below Hexadecimal n = omega arith
-
 -- no number of 128 bits has more than 128 digits
-pub digits_fit : (base : IntegerBase) (n : ℕ) → n < 2 ^ 128 →
-    length (digits_of (base_value base) n) ≤ 128
-digits_fit Binary n small = length-digits_of-le 2 128 n (omega arith) small
-digits_fit Octal n small = length-digits_of-le 8 128 n (omega arith) (omega arith)
-digits_fit Decimal n small = length-digits_of-le 10 128 n (omega arith) (omega arith)
-digits_fit Hexadecimal n small = length-digits_of-le 16 128 n (omega arith) (omega arith)
+pub digits_fit : (b n : ℕ) → 2 ≤ b → n < 2 ^ 128 → length (digits_of b n) ≤ 128
+digits_fit b n two small =
+    let more : 2 ^ 128 ≤ b ^ 128 = pow-le-pow_left two 128 in
+    length-digits_of-le b 128 n two (omega arith)
 
 -- The characters of digits.
 
@@ -201,22 +194,34 @@ pub write_fits : (b rest start : ℕ) → 2 ≤ b → 0 < rest → length (digit
 write_fits b rest start two some fits =
     let one = length-digits_of_step b rest two some in (omega arith, omega arith)
 
-pub write_done : (base : IntegerBase) (value rest start : ℕ) (buffer : List ℕ) → 0 < value →
-    rest ≡ 0 →
-    map digit_char (digits_of (base_value base) rest) ++ drop start buffer
-    ≡ map digit_char (digits_of (base_value base) value) →
-    drop start buffer ≡ written_digits base value
-write_done base value rest start buffer some none so_far =
-    let b = base_value base in
+pub write_done : (b value rest start : ℕ) (buffer : List ℕ) → 0 < value → rest ≡ 0 →
+    map digit_char (digits_of b rest) ++ drop start buffer ≡ map digit_char (digits_of b value) →
+    drop start buffer ≡ digits_in_radix b value
+write_done b value rest start buffer some none so_far =
     sym (ap (λ n. map digit_char (digits_of b n) ++ drop start buffer) none)
     ∙ (so_far ∙ sym (cond-false (eqb value 0) (codes "0") (map digit_char (digits_of b value))
     (ne_eqb value 0 (λ e. omega arith))))
 
-pub write_zero : (base : IntegerBase) (value : ℕ) (buffer : List ℕ) → value ≡ 0 →
-    length buffer ≡ 128 →
-    drop 127 (set buffer 127 48) ≡ written_digits base value
-write_zero base value buffer is_zero len =
+pub write_zero : (b value : ℕ) (buffer : List ℕ) → value ≡ 0 → length buffer ≡ 128 →
+    drop 127 (set buffer 127 48) ≡ digits_in_radix b value
+write_zero b value buffer is_zero len =
     drop-set buffer 127 48 (omega arith)
     ∙ (ap (λ t. 48 ∷ t) (drop_all 128 buffer (omega arith))
-    ∙ sym (cond-true (eqb value 0) (codes "0") (map digit_char (digits_of (base_value base) value))
+    ∙ sym (cond-true (eqb value 0) (codes "0") (map digit_char (digits_of b value))
     (eq-eqb value 0 is_zero)))
+
+-- Decimal digits are those that `{}` writes.
+
+ten_chars : (ds : List ℕ) → AllBelowBase 10 ds → map (λ d. 48 + d) ds ≡ map digit_char ds
+ten_chars [] below = refl
+ten_chars (d ∷ ds) below = (λ i. sym (char_low d below.0) i ∷ ten_chars ds below.1 i)
+
+pub decimal_digits : (n : ℕ) → n < 2 ^ 64 → decimal n ≡ written_digits Decimal n
+decimal_digits n small = elim (cases_eq n 0) [
+  | inl is ↦ ap decimal is ∙ (decimal_digit 0 (omega arith)
+      ∙ sym (cond-true (eqb n 0) (codes "0") (map digit_char (digits_of 10 n)) (eq-eqb n 0 is)))
+  | inr ne ↦ (let some : 0 < n = omega arith in
+      decimal-digits_of n some small
+      ∙ (ten_chars (digits_of 10 n) (all_below_base_digits_of 10 n (omega arith))
+      ∙ sym (cond-false (eqb n 0) (codes "0") (map digit_char (digits_of 10 n)) (ne_eqb n 0 ne))))
+]

@@ -8,10 +8,14 @@ pub mod Texts
 pub mod DigitLemmas
 -- digits in groups
 pub mod GroupLemmas
+pub mod GroupRuns
 -- the integer of these parts
 pub mod IntegerLemmas
 -- the float of these parts
 pub mod FloatLemmas
+-- plain ASCII
+pub mod Plain
+pub mod PlainLanes
 -- and printable
 pub mod PrintableAscii
 pub mod PrintableTexts

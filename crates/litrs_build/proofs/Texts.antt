@@ -1,10 +1,10 @@
 -- The text of a literal: what it begins with, the body, the closing quote and the suffix.
-use Rattle.std.proofs.Common.{◌≡◌, ℕ, ◌<◌, Bool, true, List, [], ◌∷◌, ◌++◌, get_or, take, length, ◌+◌, refl, sym, ap, ◌∙◌, arith, suc}
+use Rattle.std.proofs.Common.{◌≡◌, ℕ, ◌<◌, Bool, true, List, [], ◌∷◌, ◌++◌, get_or, length, refl, sym, ap, ◌∙◌, arith, suc}
 use Rattle.std.specs.Prelude.{IsTrue}
 use Rattle.std.specs.Char.{encode_utf8}
 use Rattle.std.specs.Str.{chars, IsUtf8, encode_utf8_all}
 use Rattle.std.proofs.lemmas.Bool.{and_from, and_parts}
-use Rattle.std.proofs.lemmas.List.{append_assoc, append-nil, take_more, nil_from_length}
+use Rattle.std.proofs.lemmas.List.{append_assoc, append-nil, nil_from_length}
 use Rattle.std.proofs.lemmas.Str.{encodes-append, encodes-chars, chars-encodes, scalars-chars, encode_ascii, chars-nil, chars_past_char}
 use lib.Utf8.{scalar, scalars, low_scalar}
 use Rattle.litrs_grammar.specs.Suffix.{is_suffix}
@@ -13,7 +13,7 @@ use Rattle.litrs_base.specs.declared.quotes.StringKind.TheVariants.{String as st
 use Rattle.litrs_base.specs.declared.quotes.CharKind.{CharKind}
 use Rattle.litrs_base.specs.declared.quotes.CharKind.TheVariants.{Char as char_kind, Byte as byte_kind}
 use Rattle.litrs_grammar.specs.CharByte.{char_text, IsCharLiteral}
-use Rattle.litrs_grammar.specs.Quoted.{Item, item_text, body_text, body_value, is_body}
+use Rattle.litrs_grammar.specs.Quoted.{item_text, body_text, body_value, is_body}
 use Rattle.litrs_grammar.specs.Literal.{IsString, string_value}
 use Rattle.litrs_build.specs.declared.spelling.Spelling.{Spelling}
 use Rattle.litrs_build.specs.Spelling.{char_spelling, byte_spelling, is_escaped, spelled_item, spelled_char}
@@ -179,40 +179,6 @@ pub written_byte_string-value : (value suffix : List ℕ) → ((i : ℕ) → get
     string_value (written_byte_string value suffix) ≡ value
 written_byte_string-value value suffix small = bytes_value value small
 
--- Bytes one by one
-
-body_text-more : (items : List Item) (x : Item) →
-    body_text (items ++ x ∷ []) ≡ body_text items ++ item_text x
-body_text-more [] x = append-nil (item_text x)
-body_text-more (y ∷ ys) x =
-    ap (λ (t : List ℕ). item_text y ++ t) (body_text-more ys x)
-    ∙ sym (append_assoc (item_text y) (body_text ys) (item_text x))
-
-byte_items-more : (bs : List ℕ) (b : ℕ) →
-    byte_items (bs ++ b ∷ []) ≡ byte_items bs ++ spelled_item (byte_spelling 34 b) ∷ []
-byte_items-more [] b = refl
-byte_items-more (a ∷ bs) b =
-    ap (λ (l : List Item). spelled_item (byte_spelling 34 a) ∷ l) (byte_items-more bs b)
-
-pub more_bytes : (old text new value : List ℕ) (i b : ℕ) (s : Spelling) → i < length value →
-    b ≡ get_or value i 0 →
-    text ≡ old ++ encode_utf8_all (body_text (byte_items (take i value))) → s ≡ byte_spelling 34 b →
-    new ≡ text ++ encode_utf8_all (item_text (spelled_item s)) →
-    new ≡ old ++ encode_utf8_all (body_text (byte_items (take (i + 1) value)))
-more_bytes old text new value i b s inside byte so_far spelling is =
-    let before = body_text (byte_items (take i value)) in
-    let last = item_text (spelled_item (byte_spelling 34 (get_or value i 0))) in
-    let all : body_text (byte_items (take (i + 1) value)) ≡ before ++ last =
-    ap (λ (l : List ℕ). body_text (byte_items l)) (take_more value i 0 inside)
-    ∙ (ap body_text (byte_items-more (take i value) (get_or value i 0))
-    ∙ body_text-more (byte_items (take i value))
-    (spelled_item (byte_spelling 34 (get_or value i 0)))) in
-    is ∙ (ap (λ (v : Spelling). text ++ encode_utf8_all (item_text (spelled_item v))) (spelling
-    ∙ ap (byte_spelling 34) byte)
-    ∙ (ap (λ (x : List ℕ). x ++ encode_utf8_all last) so_far
-    ∙ (append_assoc old (encode_utf8_all before) (encode_utf8_all last)
-    ∙ sym (ap (λ (x : List ℕ). old ++ x) (ap encode_utf8_all all ∙ encodes-append before last)))))
-
 -- Characters one by one
 
 pub chars_step : (total text new rest later : List ℕ) (m after : Bool) (c : ℕ) (s : Spelling) →
@@ -240,3 +206,12 @@ chars_end total text rest m none whole =
     sym (append-nil text)
     ∙ (ap (λ (t : List ℕ). text ++ encode_utf8_all (body_text (char_items m t)))
     (sym (ap chars (nil_from_length rest none) ∙ chars-nil)) ∙ whole)
+
+-- Bytes, at the end
+
+pub bytes_end : (total text rest : List ℕ) → length rest ≡ 0 →
+    text ++ encode_utf8_all (body_text (byte_items rest)) ≡ total → text ≡ total
+bytes_end total text rest none whole =
+    sym (append-nil text)
+    ∙ (ap (λ (t : List ℕ). text ++ encode_utf8_all (body_text (byte_items t)))
+    (sym (nil_from_length rest none)) ∙ whole)

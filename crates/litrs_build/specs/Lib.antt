@@ -2,6 +2,8 @@
 pub mod Printable
 -- the spelling of a character or a byte
 pub mod Spelling
+-- the pieces of a body
+pub mod Pieces
 -- the literal of a value
 pub mod Written
 -- C strings

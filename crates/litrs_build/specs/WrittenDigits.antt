@@ -7,11 +7,15 @@ use Rattle.litrs_base.specs.Characters.{underscore}
 use Rattle.litrs_base.specs.declared.integer.IntegerBase.{IntegerBase}
 use Rattle.litrs_base.specs.Base.{base_value}
 
--- The digits of a number in the base, with letters in lower case and without leading zeros. Those
+-- The digits of a number in the radix, with letters in lower case and without leading zeros. Those
 -- of zero are `0`.
+abbrev pub digits_in_radix : ℕ → ℕ → List ℕ
+digits_in_radix radix value =
+    if value == 0 then codes "0" else map digit_char (digits_of radix value)
+
+-- The digits of a number in the base.
 abbrev pub written_digits : IntegerBase → ℕ → List ℕ
-written_digits base value =
-    if value == 0 then codes "0" else map digit_char (digits_of (base_value base) value)
+written_digits base value = digits_in_radix (base_value base) value
 
 -- `true` iff a group of `group` digits ends before `after` more digits: `after` is a multiple of
 -- `group` and not zero. If `group` is zero, no group ends.

@@ -1,5 +1,5 @@
 //! Byte strings.
-ghost use Rattle.std.specs.Prelude.{◌≡◌, ◌++◌, ◌∷◌, [], IfOk, IfErr, OnOk, IsTrue, string_bytes, encode_utf8_all, codes};
+ghost use Rattle.std.specs.Prelude.{◌≡◌, ◌<◌, ◌++◌, ◌∷◌, [], IfOk, IfErr, OnOk, IsTrue, length, string_bytes, encode_utf8_all, codes};
 ghost use Rattle.std.specs.Str.{chars};
 ghost use Rattle.litrs_base.specs.declared.quotes.StringKind.TheVariants.{ByteString as byte_string_kind};
 ghost use Rattle.litrs_grammar.specs.Quoted.{body_text};
@@ -7,9 +7,11 @@ ghost use Rattle.litrs_grammar.specs.Literal.{string_value};
 ghost use Rattle.litrs_grammar.specs.LiteralText.{string_text};
 ghost use Rattle.litrs_grammar.specs.Suffix.{is_suffix};
 ghost use Rattle.litrs_build.specs.Errors.{suffix_error, IsErrorOf};
+ghost use Rattle.litrs_build.specs.Pieces.{piece_text};
 ghost use Rattle.litrs_build.specs.Written.{byte_items, written_byte_string};
 
 use crate::error::{BuildError, memory_error};
+use crate::pieces::{Piece, plain_front};
 use crate::spelling::Spelling;
 use litrs::ByteStringLit;
 use litrs_lex::check_suffix;
@@ -71,8 +73,11 @@ fn write_byte_string(alloc: Global, value: &[u8], suffix: &str) -> Result<String
 /// Returns the length in bytes of `value`, escaped.
 fn bytes_len(value: &[u8]) -> usize {
     let mut len: usize = 0;
-    for b in value {
-        len = len.saturating_add(Spelling::of_byte(*b, '"').len());
+    let mut rest = value;
+    while !rest.is_empty() {
+        let (piece, after) = first_piece(rest);
+        len = len.saturating_add(piece.len());
+        rest = after;
     }
     len
 }
@@ -82,8 +87,30 @@ fn push_bytes(text: &mut String, value: &[u8]) -> Result<(), AllocError>
     ensures { OnOk result (string_bytes text.new
         ≡ string_bytes text.old ++ encode_utf8_all (body_text (byte_items value.now))) }
 {
-    for b in value {
-        Spelling::of_byte(*b, '"').push_to(text)?;
+    let mut rest = value;
+    while !rest.is_empty() {
+        let (piece, after) = first_piece(rest);
+        piece.push_to(text)?;
+        rest = after;
     }
     Ok(())
+}
+
+/// Splits the first piece off `bytes`, which are not empty.
+#[inline(always)]
+fn first_piece(bytes: &[u8]) -> (Piece<'_>, &[u8])
+    requires { 0 < length bytes.now }
+    ensures text { encode_utf8_all (body_text (byte_items bytes.now))
+        ≡ piece_text result.0 ++ encode_utf8_all (body_text (byte_items result.1.now)) }
+    ensures shorter { length result.1.now < length bytes.now }
+{
+    let plain = plain_front(bytes);
+    if plain.is_empty() {
+        (
+            Piece::Spelled(Spelling::of_byte(bytes[0], '"')),
+            &bytes[1..],
+        )
+    } else {
+        (Piece::Plain(plain), &bytes[plain.len()..])
+    }
 }

@@ -8,8 +8,10 @@ ghost use Rattle.litrs_grammar.specs.Literal.{string_value};
 ghost use Rattle.litrs_grammar.specs.LiteralText.{string_text};
 ghost use Rattle.litrs_build.specs.CStrings.{first_char, spelling_or_byte, len_or_byte, c_items, written_c_string, c_string_error};
 ghost use Rattle.litrs_build.specs.Errors.{IsErrorOf};
+ghost use Rattle.litrs_build.specs.Pieces.{is_escape, piece_text};
 
 use crate::error::{BuildError, memory_error};
+use crate::pieces::{Piece, plain_front};
 use crate::spelling::Spelling;
 use litrs::CStringLit;
 use litrs_lex::check_suffix;
@@ -91,10 +93,10 @@ fn c_bytes_len(value: &[u8]) -> usize {
     let mut follows_mark = true;
     let mut rest = value;
     while !rest.is_empty() {
-        let (spelling, count) = first_spelling(rest, follows_mark);
-        len = len.saturating_add(spelling.len());
-        follows_mark = spelling.is_escaped();
-        rest = &rest[count..];
+        let (piece, after) = first_piece(rest, follows_mark);
+        len = len.saturating_add(piece.len());
+        follows_mark = piece.is_escape();
+        rest = after;
     }
     len
 }
@@ -107,12 +109,29 @@ fn push_c_bytes(text: &mut String, value: &[u8]) -> Result<(), AllocError>
     let mut follows_mark = true;
     let mut rest = value;
     while !rest.is_empty() {
-        let (spelling, count) = first_spelling(rest, follows_mark);
-        spelling.push_to(text)?;
-        follows_mark = spelling.is_escaped();
-        rest = &rest[count..];
+        let (piece, after) = first_piece(rest, follows_mark);
+        piece.push_to(text)?;
+        follows_mark = piece.is_escape();
+        rest = after;
     }
     Ok(())
+}
+
+/// Splits the first piece off `bytes`, which are not empty.
+#[inline(always)]
+fn first_piece(bytes: &[u8], follows_mark: bool) -> (Piece<'_>, &[u8])
+    requires { 0 < length bytes.now }
+    ensures text { encode_utf8_all (body_text (c_items 0 follows_mark bytes.now))
+        ≡ piece_text result.0
+        ++ encode_utf8_all (body_text (c_items 0 (is_escape result.0) result.1.now)) }
+    ensures shorter { length result.1.now < length bytes.now }
+{
+    let plain = plain_front(bytes);
+    if !plain.is_empty() {
+        return (Piece::Plain(plain), &bytes[plain.len()..]);
+    }
+    let (spelling, count) = first_spelling(bytes, follows_mark);
+    (Piece::Spelled(spelling), &bytes[count..])
 }
 
 /// Returns the spelling of the character that the bytes begin with, or of their first byte, and its

@@ -12,7 +12,7 @@ ghost use Rattle.litrs_grammar.specs.Integer.{IntegerParts, IsIntegerOf, integer
 ghost use Rattle.litrs_grammar.specs.Suffix.{is_suffix};
 ghost use Rattle.litrs.specs.IntegerLiteral.{integer_parts};
 ghost use Rattle.litrs.specs.Digits.{digits_of};
-ghost use Rattle.litrs_build.specs.WrittenDigits.{written_digits, ends_group, grouped};
+ghost use Rattle.litrs_build.specs.WrittenDigits.{digits_in_radix, written_digits, ends_group, grouped};
 ghost use Rattle.litrs_build.specs.BuiltInteger.{NoIntegerHasSuffix, is_integer_suffix, is_base_letter, needs_separator, built_integer};
 
 use crate::error::BuildError;
@@ -87,7 +87,7 @@ pub fn grouped_integer(
     }
     let mut buffer = [b'0'; MAX_DIGITS];
     let start = write_digits(value, base, &mut buffer);
-    Ok(written(alloc, base, &buffer[start..], group, suffix)?)
+    Ok(written(alloc, base, &buffer[start..], true, group, suffix)?)
 }
 
 /// Returns `lit` with `_` between groups of `group` digits, for example `0xf_fffu32` for
@@ -115,7 +115,14 @@ pub fn regroup<B: Text>(
     // Called for its contract: the parts are those of an integer.
     let _ = lit.raw_input();
     let main = lit.raw_main_part();
-    written(alloc, lit.base(), main.as_bytes(), group, lit.suffix())
+    written(
+        alloc,
+        lit.base(),
+        main.as_bytes(),
+        false,
+        group,
+        lit.suffix(),
+    )
 }
 
 /// Returns `true` if an integer of this base may have this suffix.
@@ -171,17 +178,42 @@ fn write_digits(value: u128, base: IntegerBase, buffer: &mut [u8; MAX_DIGITS]) -
     ensures digits { drop result buffer.new ≡ written_digits base value }
     ensures within { result ≤ MAX_DIGITS }
 {
+    match base {
+        IntegerBase::Binary => write_in_radix::<2>(value, buffer),
+        IntegerBase::Octal => write_in_radix::<8>(value, buffer),
+        IntegerBase::Decimal => write_decimal(value, buffer),
+        IntegerBase::Hexadecimal => write_in_radix::<16>(value, buffer),
+    }
+}
+
+/// Like [`write_digits`], in base ten, by 64 bits if they suffice.
+fn write_decimal(value: u128, buffer: &mut [u8; MAX_DIGITS]) -> usize
+    ensures digits { drop result buffer.new ≡ written_digits IntegerBase.Decimal value }
+    ensures within { result ≤ MAX_DIGITS }
+{
+    if value >> 64 != 0 {
+        return write_in_radix::<10>(value, buffer);
+    }
+    itoa::write_digits(value as u64, buffer, MAX_DIGITS)
+}
+
+/// Like [`write_digits`], in this radix. The compiler knows it, and shifts in place of a division
+/// by a power of two.
+fn write_in_radix<const RADIX: usize>(value: u128, buffer: &mut [u8; MAX_DIGITS]) -> usize
+    requires { (2 ≤ RADIX) × (RADIX ≤ 16) }
+    ensures digits { drop result buffer.new ≡ digits_in_radix RADIX value }
+    ensures within { result ≤ MAX_DIGITS }
+{
     if value == 0 {
         buffer[MAX_DIGITS - 1] = b'0';
         return MAX_DIGITS - 1;
     }
-    let radix = u128::from(base.value());
     let mut start = MAX_DIGITS;
     let mut rest = value;
     while rest > 0 {
         start -= 1;
-        buffer[start] = digit_char((rest % radix) as u8);
-        rest /= radix;
+        buffer[start] = digit_char((rest % RADIX as u128) as u8);
+        rest /= RADIX as u128;
     }
     start
 }
@@ -198,11 +230,13 @@ fn digit_char(digit: u8) -> u8
     }
 }
 
-/// Builds the integer with these digits in groups, and with this suffix.
+/// Builds the integer with these digits in groups, and with this suffix. If `is_bare` is `true`,
+/// there is no `_` between the digits, and letters are in lower case.
 fn written(
     alloc: Global,
     base: IntegerBase,
     main: &[u8],
+    is_bare: bool,
     group: usize,
     suffix: &str,
 ) -> Result<IntegerLit<String>, AllocError>
@@ -210,31 +244,34 @@ fn written(
     requires some_digit { IsTrue (list_any (is_digit base) main.now) }
     requires decimal { base ≡ IntegerBase.Decimal → IsTrue (first_passes is_ascii_digit main.now) }
     requires suffix { IsTrue (is_integer_suffix base (chars suffix.now)) }
+    requires bare { IsTrue is_bare → digits_of main.now ≡ main.now }
     ensures literal { IfOk result (λ lit.
         IsOnlyDerivation (IsIntegerOf (chars lit.raw)) (integer_parts lit)) }
     ensures parts { IfOk result (λ lit. integer_parts lit
         ≡ built_integer base group (digits_of main.now) (chars suffix.now)) }
 {
-    let text = written_text(alloc, base, main, group, suffix)?;
+    let text = written_text(alloc, base, main, is_bare, group, suffix)?;
     Ok(integer_of(text))
 }
 
-/// Writes the text with these digits in groups, and with this suffix.
+/// Writes the text of the integer that [`written`] builds.
 fn written_text(
     alloc: Global,
     base: IntegerBase,
     main: &[u8],
+    is_bare: bool,
     group: usize,
     suffix: &str,
 ) -> Result<String, AllocError>
     requires ascii { IsAscii main.now }
     requires decimal { base ≡ IntegerBase.Decimal → IsTrue (first_passes is_ascii_digit main.now) }
+    requires bare { IsTrue is_bare → digits_of main.now ≡ main.now }
     ensures { let digits = digits_of main.now in IfOk result (λ text. string_bytes text
         ≡ ((prefix base ++ grouped group digits)
         ++ (if needs_separator base digits (chars suffix.now) then underscore ∷ [] else []))
         ++ suffix.now) }
 {
-    let digits = digit_count(main);
+    let digits = digit_count(main, is_bare);
     let separator = separator(needs_separator(base, main, digits, suffix));
     let prefix = base.prefix();
     let front = prefix.len() + separator.len();
@@ -244,7 +281,7 @@ fn written_text(
     // bounded by the length of the text, which was counted.
     let mut text = String::with_capacity(alloc, len)?;
     text.push_str(prefix)?;
-    push_grouped(&mut text, main, digits, group)?;
+    push_grouped(&mut text, main, digits, is_bare, group)?;
     text.push_str(separator)?;
     text.push_str(suffix)?;
     Ok(text)
@@ -270,11 +307,17 @@ fn integer_of(text: String) -> IntegerLit<String>
     }
 }
 
-/// Returns the number of digits among these digits and underscores.
-fn digit_count(main: &[u8]) -> usize
+/// Returns the number of digits among these digits and underscores. If `is_bare` is `true`, there
+/// are no underscores.
+fn digit_count(main: &[u8], is_bare: bool) -> usize
+    requires { IsTrue is_bare → digits_of main.now ≡ main.now }
     ensures { result ≡ length (filter is_no_underscore main.now) }
 {
-    main.iter().filter(|byte| **byte != b'_').count()
+    if is_bare {
+        main.len()
+    } else {
+        main.iter().filter(|byte| **byte != b'_').count()
+    }
 }
 
 /// Returns `true` if there has to be a `_` between the digits, whose number is `digits`, and the
@@ -330,6 +373,55 @@ fn grouped_len(digits: usize, group: usize) -> usize {
 
 /// Appends the digits, whose number is `digits`, in groups, letters in lower case.
 fn push_grouped(
+    text: &mut String,
+    main: &[u8],
+    digits: usize,
+    is_bare: bool,
+    group: usize,
+) -> Result<(), AllocError>
+    requires count { digits ≡ length (filter is_no_underscore main.now) }
+    requires ascii { IsAscii main.now }
+    requires bare { IsTrue is_bare → digits_of main.now ≡ main.now }
+    ensures { OnOk result (string_bytes text.new
+        ≡ string_bytes text.old ++ grouped group (digits_of main.now)) }
+{
+    if is_bare {
+        push_groups(text, main, group)
+    } else {
+        push_digits(text, main, digits, group)
+    }
+}
+
+/// Appends digits, letters in lower case, a group at a time.
+fn push_groups(text: &mut String, digits: &[u8], group: usize) -> Result<(), AllocError>
+    requires { IsAscii digits.now }
+    ensures { OnOk result (string_bytes text.new
+        ≡ string_bytes text.old ++ grouped group digits.now) }
+{
+    if group == 0 {
+        return push_ascii(text, digits);
+    }
+    let mut rest = digits;
+    while rest.len() > group {
+        let first = (rest.len() - 1) % group + 1;
+        push_ascii(text, &rest[..first])?;
+        text.push('_')?;
+        rest = &rest[first..];
+    }
+    push_ascii(text, rest)
+}
+
+/// Appends bytes that are ASCII.
+fn push_ascii(text: &mut String, bytes: &[u8]) -> Result<(), AllocError>
+    requires { IsAscii bytes.now }
+    ensures { OnOk result (string_bytes text.new ≡ string_bytes text.old ++ bytes.now) }
+{
+    text.push_str(unsafe { str::from_utf8_unchecked(bytes) })
+}
+
+/// Appends the digits among digits and underscores, whose number is `digits`, in groups, letters in
+/// lower case.
+fn push_digits(
     text: &mut String,
     main: &[u8],
     digits: usize,

@@ -62,6 +62,7 @@ mod error;
 mod floats;
 mod integers;
 pub mod laws;
+mod pieces;
 mod printable;
 mod raw;
 mod spelling;

@@ -1,5 +1,5 @@
 //! Which characters are shown as they are.
-ghost use Rattle.std.specs.Prelude.{◌≡◌};
+ghost use Rattle.std.specs.Prelude.{◌≡◌, ◌&&◌, nat_le};
 ghost use Rattle.litrs_build.specs.Printable.{is_printable};
 
 use unicode::properties::{GeneralCategory, GeneralCategoryGroup};
@@ -13,8 +13,17 @@ use unicode::properties::{GeneralCategory, GeneralCategoryGroup};
 pub fn is_printable(c: char) -> bool
     ensures { result ≡ is_printable c }
 {
+    if c.is_ascii() {
+        return is_printable_ascii(c);
+    }
     let category = GeneralCategory::for_char(c);
-    c == ' '
-        || !(GeneralCategoryGroup::Other.contains(category)
-            || GeneralCategoryGroup::Separator.contains(category))
+    !(GeneralCategoryGroup::Other.contains(category)
+        || GeneralCategoryGroup::Separator.contains(category))
+}
+
+/// Returns `true` if `c` is printable ASCII, without a look into the table of categories.
+fn is_printable_ascii(c: char) -> bool
+    ensures { result ≡ (nat_le 32 c && nat_le c 126) }
+{
+    matches!(c, ' '..='~')
 }

@@ -1,15 +1,17 @@
 //! Strings.
-ghost use Rattle.std.specs.Prelude.{◌≡◌, ◌++◌, ◌∷◌, [], IfOk, IfErr, OnOk, IsTrue, true, string_bytes, encode_utf8_all, codes};
-ghost use Rattle.std.specs.Str.{chars};
+ghost use Rattle.std.specs.Prelude.{◌≡◌, ◌<◌, ◌++◌, ◌∷◌, [], IfOk, IfErr, OnOk, IsTrue, true, length, string_bytes, encode_utf8_all, codes};
+ghost use Rattle.std.specs.Str.{chars, IsUtf8};
 ghost use Rattle.litrs_base.specs.declared.quotes.StringKind.TheVariants.{String as string_kind};
 ghost use Rattle.litrs_grammar.specs.Quoted.{body_text};
 ghost use Rattle.litrs_grammar.specs.Literal.{string_value};
 ghost use Rattle.litrs_grammar.specs.LiteralText.{string_text};
 ghost use Rattle.litrs_grammar.specs.Suffix.{is_suffix};
 ghost use Rattle.litrs_build.specs.Errors.{suffix_error, IsErrorOf};
+ghost use Rattle.litrs_build.specs.Pieces.{is_escape, piece_text};
 ghost use Rattle.litrs_build.specs.Written.{char_items, written_string};
 
 use crate::error::{BuildError, memory_error};
+use crate::pieces::{Piece, plain_len};
 use crate::spelling::Spelling;
 use litrs::StringLit;
 use litrs_lex::check_suffix;
@@ -69,10 +71,12 @@ fn write_string(alloc: Global, value: &str, suffix: &str) -> Result<String, Buil
 fn chars_len(value: &str) -> usize {
     let mut len: usize = 0;
     let mut follows_mark = true;
-    for c in value.chars() {
-        let spelling = Spelling::of_char(c, '"', follows_mark);
-        len = len.saturating_add(spelling.len());
-        follows_mark = spelling.is_escaped();
+    let mut rest = value;
+    while !rest.is_empty() {
+        let (piece, after) = first_piece(rest, follows_mark);
+        len = len.saturating_add(piece.len());
+        follows_mark = piece.is_escape();
+        rest = after;
     }
     len
 }
@@ -83,11 +87,36 @@ fn push_chars(text: &mut String, value: &str) -> Result<(), AllocError>
         ++ encode_utf8_all (body_text (char_items true (chars value.now)))) }
 {
     let mut follows_mark = true;
-    let mut rest = value.chars();
-    while let Some(c) = rest.next() {
-        let spelling = Spelling::of_char(c, '"', follows_mark);
-        spelling.push_to(text)?;
-        follows_mark = spelling.is_escaped();
+    let mut rest = value;
+    while !rest.is_empty() {
+        let (piece, after) = first_piece(rest, follows_mark);
+        piece.push_to(text)?;
+        follows_mark = piece.is_escape();
+        rest = after;
     }
     Ok(())
+}
+
+/// Splits the first piece off `text`, which is not empty.
+#[inline(always)]
+fn first_piece(text: &str, follows_mark: bool) -> (Piece<'_>, &str)
+    requires { 0 < length text.now }
+    ensures text { encode_utf8_all (body_text (char_items follows_mark (chars text.now)))
+        ≡ piece_text result.0
+        ++ encode_utf8_all (body_text (char_items (is_escape result.0) (chars result.1.now))) }
+    ensures shorter { length result.1.now < length text.now }
+    ensures utf8 { IsUtf8 result.1.now }
+{
+    let (plain, rest) = text.split_at(plain_len(text.as_bytes()));
+    if !plain.is_empty() {
+        return (Piece::Plain(plain), rest);
+    }
+    let mut chars = text.chars();
+    match chars.next() {
+        Some(c) => (
+            Piece::Spelled(Spelling::of_char(c, '"', follows_mark)),
+            chars.as_str(),
+        ),
+        None => unreachable!(),
+    }
 }

@@ -1,11 +1,12 @@
--- The bytes so far have been appended.
-use Rattle.std.proofs.Common.{◌≡◌, ◌++◌, take, string_bytes}
-use Rattle.std.specs.Str.{encode_utf8_all}
+-- What has been appended, and what the rest would append after it, are the whole.
+use Rattle.std.proofs.Common.{◌≡◌, ◌++◌, length, encode_utf8_all, string_bytes}
 use Rattle.litrs_grammar.specs.Quoted.{body_text}
 use Rattle.litrs_build.specs.Written.{byte_items}
 use Rattle.litrs_build.proofs.byte_strings.push_bytes.Given as goal
 
-abbrev pub invariant-loop-b : goal.invariant-loop-b
-invariant-loop-b l =
-    string_bytes l.text ≡ string_bytes l.initial.text
-    ++ encode_utf8_all (body_text (byte_items (take l.b-index l.value)))
+abbrev pub invariant-loop-rest : goal.invariant-loop-rest
+invariant-loop-rest l = string_bytes l.text ++ encode_utf8_all (body_text (byte_items l.rest))
+    ≡ string_bytes l.fn.text ++ encode_utf8_all (body_text (byte_items l.fn.value))
+
+abbrev pub decreases-loop-rest : goal.decreases-loop-rest
+decreases-loop-rest l = length l.rest

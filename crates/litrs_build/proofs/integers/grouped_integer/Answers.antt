@@ -35,6 +35,15 @@ written-requires-clause-decimal c =
     ∙ c.write_digits-start.ensures.digits in
     written-decimal c.args.base c.args.value _ is
 
+pub written-requires-clause-bare : goal.written-requires-clause-bare
+written-requires-clause-bare c =
+    let start = c.write_digits-start.result in
+    let buffer = c.write_digits-start.new.buffer in
+    let room : length buffer ≡ 128 = search rules in
+    let is = take_all (128 - start) (drop start buffer) (omega (arith, length-drop start buffer))
+    ∙ c.write_digits-start.ensures.digits in
+    λ bare. written-digits_of c.args.base c.args.value _ is ∙ sym is
+
 pub returns-in_err-written-clause-not_a_suffix : goal.returns-in_err-written-clause-not_a_suffix
 returns-in_err-written-clause-not_a_suffix c =
     let allowed : is_integer_suffix c.args.base (chars c.args.suffix.now)

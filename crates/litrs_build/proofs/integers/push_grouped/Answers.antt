@@ -1,43 +1,11 @@
--- One more digit, or a `_` that is left out.
-use Rattle.std.proofs.Common.{◌≡◌, ◌≤◌, ◌+◌, ◌-◌, ◌++◌, suc, length, drop, get_or, string_bytes, sym, ap, ◌∙◌, arith}
-use Rattle.std.specs.Prelude.{filter}
-use Rattle.std.proofs.lemmas.List.{drop_more, drop_all}
-use Rattle.litrs_base.specs.Numeral.{is_no_underscore}
-use Rattle.litrs.specs.Digits.{digits_of}
+-- Bare digits are their own digits.
+use Rattle.std.proofs.Common.{◌≡◌, List, ℕ, ◌++◌, string_bytes, sym, subst}
+use Rattle.std.specs.Prelude.{OnOk}
 use Rattle.litrs_build.specs.WrittenDigits.{grouped}
-use Rattle.litrs_build.proofs.GroupLemmas.{count-digit, push_step, push_done}
 use Rattle.litrs_build.proofs.integers.push_grouped.Goals as goal
 
-pub returns : goal.returns
-returns c =
-    let main = c.args.main.now in
-    let i = c.loop-byte.byte-index in
-    let past : length main ≤ i = omega arith in
-    push_done c.args.group (string_bytes c.loop-byte.text) _
-    (ap (λ t. string_bytes c.loop-byte.text ++ grouped c.args.group (digits_of t))
-    (sym (drop_all i main past)) ∙ c.loop-byte.invariant.written)
-
-pub loop-byte-preserved : goal.loop-byte-preserved
-loop-byte-preserved c =
-    let main = c.args.main.now in
-    let group = c.args.group in
-    let i = c.loop-byte.byte-index in
-    let byte = get_or main i 0 in
-    let r = drop (i + 1) main in
-    let after = c.loop-byte.after in
-    let text = string_bytes c.loop-byte.text in
-    let front = drop_more main i 0 c.loop-byte-test.true in
-    let one = count-digit byte r c.if-byte-eq95.false in
-    let before : after ≡ suc (length (filter is_no_underscore r)) =
-    c.loop-byte.invariant.count ∙ (ap (λ t. length (filter is_no_underscore t)) front ∙ one) in
-    let count : after - 1 ≡ length (filter is_no_underscore r) = omega arith in
-    record {
-      count = count;
-      written = push_step group byte
-          (after - 1) c.to_ascii_lowercase.result c.ends_group.result r text
-          (string_bytes c.push_digit.new.text) _
-          c.if-byte-eq95.false count c.to_ascii_lowercase.ensures.value c.ends_group.ensures
-          c.in_ok-push_digit.ensures
-          (ap (λ t. text ++ grouped group (digits_of t)) (sym front)
-          ∙ c.loop-byte.invariant.written);
-    }
+pub returns-then-is_bare : goal.returns-then-is_bare
+returns-then-is_bare c =
+    subst (λ (t : List ℕ). OnOk c.push_groups.result (string_bytes c.push_groups.new.text
+    ≡ string_bytes c.args.text.now ++ grouped c.args.group t))
+    (sym (c.requires.bare c.if-is_bare.true)) c.push_groups.ensures

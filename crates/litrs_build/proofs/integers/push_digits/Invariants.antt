@@ -4,7 +4,7 @@ use Rattle.std.specs.Prelude.{filter}
 use Rattle.litrs_base.specs.Numeral.{is_no_underscore}
 use Rattle.litrs.specs.Digits.{digits_of}
 use Rattle.litrs_build.specs.WrittenDigits.{grouped}
-use Rattle.litrs_build.proofs.integers.push_grouped.Given as goal
+use Rattle.litrs_build.proofs.integers.push_digits.Given as goal
 
 abbrev pub invariant-loop-byte : goal.invariant-loop-byte
 invariant-loop-byte l = record {

@@ -1,0 +1,139 @@
+//! The pieces of a body between double quotes: plain ASCII, and characters and bytes one by one.
+ghost use Rattle.std.specs.Prelude.{◌≡◌, ◌≤◌, ◌++◌, not, map, take, length, OnOk, string_bytes};
+ghost use Rattle.std.specs.List.{prefix_len};
+ghost use Rattle.std.specs.Simd.Lanes.{mask_l, chunk};
+ghost use Rattle.litrs_base.specs.Text.{first_passes};
+ghost use Rattle.litrs_build.specs.Pieces.{is_plain_ascii, is_escape, piece_text};
+
+use crate::spelling::Spelling;
+use std::alloc::AllocError;
+use std::simd::prelude::*;
+
+/// The number of bytes that are compared in a step.
+const STEP: usize = 16;
+
+/// A piece of the text of a body.
+#[derive(Clone, Copy)]
+pub(crate) enum Piece<'a> {
+    /// Plain ASCII, which is written as it is.
+    Plain(&'a str),
+    /// A character or a byte.
+    Spelled(Spelling),
+}
+
+impl<'a> Piece<'a> {
+    /// Returns `true` if it is an escape.
+    #[inline(always)]
+    pub(crate) fn is_escape(self) -> bool
+        ensures { result ≡ is_escape self.entry }
+    {
+        match self {
+            Piece::Plain(_) => false,
+            Piece::Spelled(spelling) => spelling.is_escaped(),
+        }
+    }
+
+    /// Returns its length in bytes.
+    #[inline(always)]
+    pub(crate) fn len(self) -> usize {
+        match self {
+            Piece::Plain(text) => text.len(),
+            Piece::Spelled(spelling) => spelling.len(),
+        }
+    }
+
+    /// Appends it to `text`.
+    ///
+    /// # Errors
+    ///
+    /// `AllocError` if `text` has no room for it and an allocation fails.
+    #[inline(always)]
+    pub(crate) fn push_to(self, text: &mut String) -> Result<(), AllocError>
+        ensures { OnOk result (string_bytes text.new
+            ≡ string_bytes text.old ++ piece_text self.entry) }
+    {
+        match self {
+            Piece::Plain(plain) => text.push_str(plain),
+            Piece::Spelled(spelling) => spelling.push_to(text),
+        }
+    }
+}
+
+/// Returns the plain ASCII that `bytes` start with.
+#[inline(always)]
+pub(crate) fn plain_front(bytes: &[u8]) -> &str
+    ensures { result.now ≡ take (prefix_len is_plain_ascii bytes.now) bytes.now }
+{
+    unsafe { str::from_utf8_unchecked(&bytes[..plain_len(bytes)]) }
+}
+
+/// Returns the length of the plain ASCII that `bytes` start with. If the first byte is not plain,
+/// nothing more is read.
+#[inline(always)]
+pub(crate) fn plain_len(bytes: &[u8]) -> usize
+    ensures len { result ≡ prefix_len is_plain_ascii bytes.now }
+    ensures within { result ≤ length bytes.now }
+{
+    if begins_plain(bytes) {
+        plain_len_by_lanes(bytes)
+    } else {
+        0
+    }
+}
+
+/// Returns `true` if the first byte is plain ASCII.
+#[inline(always)]
+fn begins_plain(bytes: &[u8]) -> bool
+    ensures { result ≡ first_passes is_plain_ascii bytes.now }
+{
+    match bytes {
+        [first, ..] => is_plain_ascii(*first),
+        [] => false,
+    }
+}
+
+/// Like [`plain_len`], by 16 bytes a step.
+fn plain_len_by_lanes(bytes: &[u8]) -> usize
+    ensures len { result ≡ prefix_len is_plain_ascii bytes.now }
+    ensures within { result ≤ length bytes.now }
+{
+    let mut len = 0;
+    while bytes.len() - len >= STEP {
+        let others = other_marks(&bytes[len..]);
+        if others != 0 {
+            return len + others.trailing_zeros() as usize;
+        }
+        len += STEP;
+    }
+    len + short_plain_len(&bytes[len..])
+}
+
+/// Returns the length of the plain ASCII that `bytes` start with, byte by byte.
+#[inline(always)]
+fn short_plain_len(bytes: &[u8]) -> usize
+    ensures len { result ≡ prefix_len is_plain_ascii bytes.now }
+    ensures within { result ≤ length bytes.now }
+{
+    bytes.iter().take_while(|b| is_plain_ascii(**b)).count()
+}
+
+/// Returns `true` if the byte is plain ASCII.
+#[inline(always)]
+fn is_plain_ascii(byte: u8) -> bool
+    ensures { result ≡ is_plain_ascii byte }
+{
+    matches!(byte, b' '..=b'~') && byte != b'"' && byte != b'\\'
+}
+
+/// Returns a mask of the first 16 bytes: bit `i` is set if the byte at `i` is not plain ASCII.
+#[inline(always)]
+fn other_marks(bytes: &[u8]) -> u64
+    requires { 16 ≤ length bytes.now }
+    ensures { result ≡ mask_l (map (λ b. not (is_plain_ascii b)) (chunk 0 16 bytes.now)) }
+{
+    let lanes = u8x16::from_slice(bytes);
+    (lanes.simd_lt(Simd::splat(b' '))
+        | lanes.simd_gt(Simd::splat(b'~'))
+        | lanes.simd_eq(Simd::splat(b'"'))
+        | lanes.simd_eq(Simd::splat(b'\\'))).to_bitmask()
+}
