@@ -8,6 +8,8 @@ use std::hint::black_box;
 use std::time::Instant;
 
 mod allocations;
+#[cfg(not(shapes))]
+mod built;
 mod corpus;
 mod going_on;
 mod held_out;
@@ -79,6 +81,18 @@ mod ours {
         pub fn read_f64(text: *const u8, len: usize) -> u64;
         #[link_name = "litrs_bench_read_u32"]
         pub fn read_u32(text: *const u8, len: usize) -> u64;
+        #[link_name = "litrs_bench_build_string"]
+        pub fn build_string(value: *const u8, len: usize) -> u64;
+        #[link_name = "litrs_bench_build_byte_string"]
+        pub fn build_byte_string(value: *const u8, len: usize) -> u64;
+        #[link_name = "litrs_bench_build_char"]
+        pub fn build_char(value: *const u8, len: usize) -> u64;
+        #[link_name = "litrs_bench_build_integer"]
+        pub fn build_integer(high: u64, low: u64) -> u64;
+        #[link_name = "litrs_bench_build_hexadecimal"]
+        pub fn build_hexadecimal(high: u64, low: u64) -> u64;
+        #[link_name = "litrs_bench_build_grouped"]
+        pub fn build_grouped(high: u64, low: u64) -> u64;
     }
 }
 
@@ -583,6 +597,11 @@ fn main() {
         return;
     }
     #[cfg(not(shapes))]
+    if part.as_deref() == Some("built") {
+        built::main();
+        return;
+    }
+    #[cfg(not(shapes))]
     if part.as_deref() == Some("tokens_and_values") {
         tokens_and_values();
         return;
@@ -626,7 +645,10 @@ fn main() {
     limits::main();
     prefix::main();
     #[cfg(not(shapes))]
-    tokens_and_values();
+    {
+        tokens_and_values();
+        built::main();
+    }
     lines::main();
     going_on::main(&rows.iter().map(|(kind, name, _, texts)| (*kind, *name, &texts[..])).collect::<Vec<_>>());
     println!();
