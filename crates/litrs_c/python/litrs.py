@@ -18,6 +18,7 @@ the loader's.
 import copyreg
 import ctypes
 import dataclasses
+import functools
 import operator
 import os
 import pathlib
@@ -35,6 +36,8 @@ _Text = Union[str, _Bytes]
 
 _SIZE, _WORD, _LONG, _BOOL = ctypes.c_size_t, ctypes.c_uint32, ctypes.c_uint64, ctypes.c_bool
 _LITERAL, _REFUSED, _NOT_UTF8, _OUT_OF_MEMORY, _NO_STRING, _NO_PREFIX = range(6)
+# How many bytes more than the arguments of a call have there is room for at first.
+_MORE = 100
 
 
 def _structure(name, **fields):
@@ -311,20 +314,30 @@ def _index(text, data, place):
     return len(data[:place].decode()) if isinstance(text, str) else place
 
 
+@functools.lru_cache(maxsize=None)
 def _static(call, *number):
+    """Returns a text of the library, asked for once."""
     static = _StaticText(b"", 1)
     _calls[call](*number, static)
     return static.text.decode()
 
 
 def _written(call, *words):
-    """Returns the status of a call that writes, and the bytes that it writes."""
-    size = _calls[call](*words, b"", 0).len
-    room = ctypes.create_string_buffer(size + 1)
-    status = _calls[call](*words, room, size).status
-    if status == _OUT_OF_MEMORY:
+    """Returns the status of a call that writes, and the bytes that it writes. Calls again if they
+    are more than expected."""
+    size = _MORE + sum(len(word) for word in words if isinstance(word, bytes))
+    room, answer = _with_room(call, words, size)
+    if answer.len > size:
+        room, answer = _with_room(call, words, answer.len)
+    if answer.status == _OUT_OF_MEMORY:
         raise MemoryError
-    return status, room.raw[:size]
+    return answer.status, room[: answer.len]
+
+
+def _with_room(call, words, size):
+    """Calls with room for so many bytes. Returns the room and the answer."""
+    room = ctypes.create_string_buffer(size)
+    return room, _calls[call](*words, room, size)
 
 
 def _literal(text, data, answer, start=0, offset=0):
@@ -341,11 +354,10 @@ def _literal(text, data, answer, start=0, offset=0):
     def part(place):
         return data[place.start : place.end].decode()
 
-    kind = _static("get_kind_name", fields.kind)
+    kind, main = _static("get_kind_name", fields.kind), part(fields.main)
     return Literal(
-        kind, _value(kind, data, fields, part(fields.main)), part(fields.suffix), fields.base,
-        fields.is_raw, part(fields.main), part(fields.fraction) if fields.has_fraction else None,
-        part(fields.exponent),
+        kind, _value(kind, data, fields, main), part(fields.suffix), fields.base, fields.is_raw,
+        main, part(fields.fraction) if fields.has_fraction else None, part(fields.exponent),
     )
 
 
