@@ -61,14 +61,14 @@ GROUPS = [
     (b"", b""),
     (b"\xff", b"error input is not UTF-8\n"),
 ]
-# Lines that the prompt ends at, and what it writes. In each a line follows that would be answered.
+# Inputs that end the prompt, with what it writes. Each has one more line, which is not answered.
 HINT = b"the literal continues on the next line; :cancel drops it, :quit or Ctrl-D ends\n"
 ENDED = [
     (b":quit\n1\n", b"> "),
     (b"\n:quit\r\n1\n", b"> > "),
     (b'"a\n:quit\n"\n', b"> " + HINT + b". "),
 ]
-IO_MESSAGE = b"Error: Input/output error (os error 5)\n"
+IO_MESSAGE = b'Error: Os { code: 5, kind: Uncategorized, message: "Input/output error" }\n'
 
 
 class Runs:
