@@ -14,11 +14,10 @@ use Rattle.litrs_grammar.specs.Literal.{Derivation}
 use Rattle.unicode_ident.specs.Ident.{is_xid_continue}
 use Rattle.litrs_prefix.specs.Opens.{first_name, after_name, after_run, is_single_quote, opens}
 use Rattle.litrs_prefix.specs.Prefix.{HasPrefix, is_quote_or_hash, ends_bool}
-use Rattle.litrs_prefix.proofs.Dispatched.{at_bool, bool_after}
 use Rattle.litrs_prefix.proofs.MeantPieces.{meant_unique}
-use Rattle.litrs_prefix.proofs.Names.{name_and_rest}
+use Rattle.litrs_prefix.proofs.Names.{bool_after, name_and_rest}
 use Rattle.litrs_prefix.proofs.Opened.{opened}
-use Rattle.litrs_prefix.proofs.Unique.{unique}
+use Rattle.litrs_prefix.proofs.Unique.{at_bool, unique}
 use Rattle.litrs_lexer.specs.declared.kind.TokenKind.{TokenKind}
 use Rattle.litrs_lexer.specs.declared.kind.TokenKind.TheVariants.{Whitespace, LineComment, BlockComment, UnterminatedBlockComment, Ident, RawIdent, UnknownPrefix, Lifetime, RawLifetime, UnknownPrefixLifetime, Literal, MalformedLiteral, Punctuation, Unknown}
 use Rattle.litrs_lexer.specs.Laws.{TokensAreUnique}

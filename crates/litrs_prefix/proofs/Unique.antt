@@ -17,7 +17,7 @@ use Rattle.litrs_base.proofs.ListTests.{if_true}
 use Rattle.litrs_grammar.proofs.QuotedItems.{heads_differ}
 use Rattle.litrs_grammar.proofs.Laws.Integer.{starts_with_digit, first_passes-append}
 use Rattle.litrs_grammar.proofs.Laws.Float.{starts_digit}
-use Rattle.litrs_prefix.specs.Prefix.{may_follow, ends_suffix}
+use Rattle.litrs_prefix.specs.Prefix.{may_follow, ends_suffix, ends_bool, HasPrefix}
 use Rattle.litrs_prefix.specs.Laws.{PrefixesAreUnique}
 use Rattle.litrs_prefix.proofs.Quoted.{same_quoted}
 use Rattle.litrs_prefix.proofs.Chars.{same_char, same_raw}
@@ -67,6 +67,14 @@ of_kind s r (a_byte_string (quoted_parts d)) h f = ap (λ (l : List ℕ). front_
 of_kind s r (a_byte_string (raw_parts d)) h f = ap (λ (l : List ℕ). front_kind (l ++ r)) (sym h.spells)
 of_kind s r (a_c_string (quoted_parts d)) h f = ap (λ (l : List ℕ). front_kind (l ++ r)) (sym h.spells)
 of_kind s r (a_c_string (raw_parts d)) h f = ap (λ (l : List ℕ). front_kind (l ++ r)) (sym h.spells)
+
+pub at_bool : (P : Type 0) (t r x : List ℕ) (d : Derivation) (v : Bool) → HasPrefix t d r → bool_text v ++ x ≡ t →
+    ((b : Bool) → bool_text b ++ r ≡ t → ends_bool r ≡ true → P) → P
+at_bool P t r x d v at is found = go d at (sym (of_kind at.front r d at.literal at.follows) ∙ (ap front_kind (at.spells ∙ sym is) ∙ bool_kind v x))
+  where
+    go : (d : Derivation) → HasPrefix t d r → literal_kind d ≡ bool_literal → P
+    go (a_bool b) at kind = found b (ap (λ (l : List ℕ). l ++ r) at.literal ∙ at.spells) at.follows
+    go d at kind = absurd cc
 
 -- strings of a kind: a quoted one is not raw
 
