@@ -27,6 +27,8 @@ pub mod MeantEnds
 pub mod MeantPieces
 -- what an error marks
 pub mod Marks
+-- the text before a delimiter
+pub mod Delimiters
 -- whether what was cut off is a literal
 pub mod Stands
 -- literals that are read once

@@ -51,6 +51,7 @@ pub use opening::opens;
 use plain::after_plain;
 use std::alloc::Global;
 use std::ops::Range;
+pub use until::parse_until;
 
 mod end;
 mod follow;
@@ -62,6 +63,7 @@ mod may_change;
 mod name;
 mod opening;
 mod plain;
+mod until;
 
 /// A literal and the rest of the text.
 #[derive(Drop)]
