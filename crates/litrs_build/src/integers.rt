@@ -138,7 +138,7 @@ fn begins_apart(base: IntegerBase, bytes: &[u8]) -> bool
     ensures { result ≡ (not (first_passes is_e bytes.now)
         && not (first_passes (is_digit_or_underscore base) bytes.now)) }
 {
-    !begins_with_e(bytes) && !begins_with_digit(base, bytes)
+    !begins_with_e(bytes) && !begins_with_digit_or_underscore(base, bytes)
 }
 
 /// Returns `true` if `e` or `E` comes first.
@@ -152,7 +152,7 @@ pub(crate) fn begins_with_e(bytes: &[u8]) -> bool
 }
 
 /// Returns `true` if a digit of the base or `_` comes first.
-fn begins_with_digit(base: IntegerBase, bytes: &[u8]) -> bool
+fn begins_with_digit_or_underscore(base: IntegerBase, bytes: &[u8]) -> bool
     ensures { result ≡ first_passes (is_digit_or_underscore base) bytes.now }
 {
     match bytes {

@@ -24,6 +24,8 @@ pub mod MeantEnds
 pub mod MeantPieces
 -- what an error marks
 pub mod Marks
+-- the text before a delimiter
+pub mod Delimiters
 -- whether a piece is a literal
 pub mod Judged
 -- literals that are read once

@@ -60,7 +60,7 @@ cut_after bs start span fits cut =
     }
 
 -- a span in a front of what follows, moved; or the front, if there is no span
-span_cut : (bs front rest : List ℕ) (start : ℕ) (piece : Range ℕ) (o p : Option (Range ℕ)) → IsUtf8 bs → IsCharBoundary bs start → front ++ rest ≡ chars (drop start bs) →
+pub span_cut : (bs front rest : List ℕ) (start : ℕ) (piece : Range ℕ) (o p : Option (Range ℕ)) → IsUtf8 bs → IsCharBoundary bs start → front ++ rest ≡ chars (drop start bs) →
     IsCutBy bs piece → p ≡ shifted_span start o → IfSome o (PointsAtCharacters front) → IsCutBy bs (unwrap_or p piece)
 span_cut bs front rest start piece None p utf8 bound spells whole same all = rw same whole
 span_cut bs front rest start piece (Some span) p utf8 bound spells whole same all =
@@ -73,7 +73,7 @@ span_cut bs front rest start piece (Some span) p utf8 bound spells whole same al
     let inside = points_cut (take n text) span (IsUtf8-take text n after cut.boundary) points in
     rw same (cut_after bs start span bound.0 (cut_in text n span cut.boundary inside))
 
-piece_cut : (bs front rest : List ℕ) (start : ℕ) (e : MalformedPrefix) → IsUtf8 bs → IsCharBoundary bs start → front ++ rest ≡ chars (drop start bs) → byte_len front ≡ e.len →
+pub piece_cut : (bs front rest : List ℕ) (start : ℕ) (e : MalformedPrefix) → IsUtf8 bs → IsCharBoundary bs start → front ++ rest ≡ chars (drop start bs) → byte_len front ≡ e.len →
     IsCutBy bs (prefix_span start e)
 piece_cut bs front rest start e utf8 bound spells len =
     let text : List ℕ = drop start bs in
@@ -81,7 +81,7 @@ piece_cut bs front rest start e utf8 bound spells len =
     let end = IsCharBoundary-from_rest bs start e.len bound.0 (subst (λ (n : ℕ). IsCharBoundary text n) len cut.boundary) in
     record { start = bound; end = end; in_order = omega arith; within = end.0 }
 
-no_char_span : (e : MalformedPrefix) → (refusal_of e.error).span ≡ None → char_span_of e.error ≡ None
+pub no_char_span : (e : MalformedPrefix) → (refusal_of e.error).span ≡ None → char_span_of e.error ≡ None
 no_char_span e none = ap (option_map (λ (span : Range ℕ). record { start = span.start; end = e.error.char_end })) none
 
 -- the error of what follows `start` bytes of the text

@@ -5,6 +5,8 @@ pub mod Opens
 -- malformed prefixes
 pub mod Malformed
 pub mod Meant
+-- the text before a delimiter
+pub mod Until
 -- texts whose literal may change if more text follows
 pub mod MayChange
 pub mod GoesOn

@@ -47,6 +47,7 @@ pub use name::{after_name, after_run, begins_name, split_first_char};
 pub use opening::opens;
 use std::alloc::Global;
 use std::ops::Range;
+pub use until::parse_until;
 
 mod extent;
 mod follow;
@@ -58,6 +59,7 @@ mod name;
 mod opening;
 mod piece;
 mod plain;
+mod until;
 
 /// A literal and the rest of the text.
 #[derive(Drop)]

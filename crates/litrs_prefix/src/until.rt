@@ -1,0 +1,107 @@
+//! The literal before a delimiter.
+ghost use Rattle.std.specs.Prelude.{◌≡◌, ◌-◌, drop, length, take, IfOk, IfErr};
+ghost use Rattle.std.specs.Str.{chars, IsCharBoundary, drop_trailing_whitespace};
+ghost use Rattle.litrs.specs.Literal.{IsLiteral};
+ghost use Rattle.litrs.specs.LiteralDerivation.{literal_raw, derivation};
+ghost use Rattle.litrs_prefix.specs.Ends.{IsEndOf};
+ghost use Rattle.litrs_prefix.specs.Malformed.{IsMarkedAt};
+ghost use Rattle.litrs_prefix.specs.Until.{is_delimiter, from_first, from_delimiter, before_delimiter, StartsWithDelimiter, IsRefusedUntil};
+
+use crate::malformed::after_opened;
+use crate::name::split_first_char;
+use crate::opening::opens;
+use crate::{MalformedPrefix, Prefix};
+use litrs::Literal;
+use std::alloc::Global;
+
+/// Parses the text of `source` from `start` to the next delimiter, which is a character of
+/// `delimiters`, as one literal. Returns it with the rest, which starts with the delimiter, or is
+/// empty if there is none.
+///
+/// A delimiter within the literal at the front, such as the comma of `"a,b", 2`, does not count: it
+/// is looked for after the closing quote and the name that follows. The white space before it
+/// belongs neither to the literal nor to the rest.
+///
+/// [`parse_prefix_at`](crate::parse_prefix_at) takes `1` of `1.e4, 2`, as Rust does. This call
+/// rejects `1.e4`, with the error of [`Literal::parse`]. It allocates like
+/// [`parse_prefix`](crate::parse_prefix).
+///
+/// # Errors
+///
+/// The error of [`Literal::parse`] for the text before the delimiter, with its length: for example
+/// `Empty` for `, 2`, and `InvalidLiteral` for `-1, 2`. An unterminated string extends to the end
+/// of `source`. The spans count from the start of `source`.
+pub fn parse_until<'a>(
+    alloc: Global,
+    source: &'a str,
+    start: usize,
+    delimiters: &str,
+) -> Result<Prefix<'a>, MalformedPrefix>
+    requires { IsCharBoundary source.now start }
+    ensures literal { IfOk result (λ prefix.
+        IsLiteral (before_delimiter (chars delimiters.now) (chars (drop start source.now)))
+        (derivation prefix.literal)) }
+    ensures raw { IfOk result (λ prefix. chars (literal_raw prefix.literal)
+        ≡ before_delimiter (chars delimiters.now) (chars (drop start source.now))) }
+    ensures rest { IfOk result (λ prefix. chars prefix.rest.now
+        ≡ from_delimiter (chars delimiters.now) (chars (drop start source.now))) }
+    ensures delimiter { IfOk result (λ prefix.
+        StartsWithDelimiter (chars delimiters.now) (chars prefix.rest.now)) }
+    ensures end { IfOk result (λ prefix. IsEndOf source.now prefix.rest.now) }
+    ensures refused { IfErr result (IsRefusedUntil start
+        (before_delimiter (chars delimiters.now) (chars (drop start source.now)))) }
+    ensures marks { IfErr result (IsMarkedAt start source.now) }
+{
+    let (_, text) = source.split_at(start);
+    let rest = from_delimiter(text, delimiters);
+    let front = before(text, rest);
+    match Literal::parse(alloc, front) {
+        Ok(literal) => Ok(Prefix { literal, rest }),
+        Err(error) => Err(MalformedPrefix {
+            error: error.offset_span(start),
+            len: front.len(),
+        }),
+    }
+}
+
+/// Returns the part of `text` before its end `rest`, without the white space at its end.
+fn before<'a>(text: &'a str, rest: &str) -> &'a str
+    requires { IsEndOf (chars text.now) (chars rest.now) }
+    ensures { chars result.now ≡ drop_trailing_whitespace
+        (take (length (chars text.now) - length (chars rest.now)) (chars text.now)) }
+{
+    let len = text.len() - rest.len();
+    let (front, _) = text.split_at(len);
+    front.trim_end()
+}
+
+/// Returns the part of `text` from the delimiter on.
+fn from_delimiter<'a>(text: &'a str, delimiters: &str) -> &'a str
+    ensures { chars result.now ≡ from_delimiter (chars delimiters.now) (chars text.now) }
+{
+    if opens(text) {
+        from_first(after_opened(text), delimiters)
+    } else {
+        from_first(text, delimiters)
+    }
+}
+
+/// Returns the part of `text` from its first delimiter on.
+fn from_first<'a>(text: &'a str, delimiters: &str) -> &'a str
+    ensures { chars result.now ≡ from_first (chars delimiters.now) (chars text.now) }
+{
+    let mut rest = text;
+    loop {
+        match split_first_char(rest) {
+            Some((c, after)) if !is_delimiter(c, delimiters) => rest = after,
+            _ => return rest,
+        }
+    }
+}
+
+/// Returns `true` if `c` is one of `delimiters`.
+fn is_delimiter(c: char, delimiters: &str) -> bool
+    ensures { result ≡ is_delimiter (chars delimiters.now) c }
+{
+    delimiters.chars().any(|delimiter| delimiter == c)
+}
