@@ -25,7 +25,7 @@ pub any_of_first : (p : ℕ → Bool) (xs : List ℕ) → first_passes p xs ≡ 
 any_of_first p [] first = absurd (false≢true first)
 any_of_first p (c ∷ xs) first = or_left (p c) (list_any p xs) first
 
-filter_at : (c : ℕ) (xs : List ℕ) → is_no_underscore c ≡ true →
+pub filter_at : (c : ℕ) (xs : List ℕ) → is_no_underscore c ≡ true →
     filter is_no_underscore (c ∷ xs) ≡ c ∷ filter is_no_underscore xs
 filter_at c xs h = ap (λ v. cond v (c ∷ filter is_no_underscore xs) (filter is_no_underscore xs)) h
 
@@ -194,7 +194,7 @@ filter_all (c ∷ ds) all =
     filter_at c ds parts.0 ∙ ap (λ t. c ∷ t) (filter_all ds parts.1)
 
 -- lower case stays
-lower_twice : (c : ℕ) → to_ascii_lowercase (to_ascii_lowercase c) ≡ to_ascii_lowercase c
+pub lower_twice : (c : ℕ) → to_ascii_lowercase (to_ascii_lowercase c) ≡ to_ascii_lowercase c
 lower_twice c = grind (arith, nat_tests)
 
 pub lower_all_twice : (t : List ℕ) →

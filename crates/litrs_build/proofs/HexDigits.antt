@@ -71,7 +71,7 @@ pub digits_pass : (p : ℕ → Bool) → list_all p hex_glyphs ≡ true → (n :
 unfolding digits
 digits_pass p all n = passes_onto p all 64 n [] refl
 
-first_from : (p : ℕ → Bool) (t : List ℕ) → 0 < length t → list_all p t ≡ true →
+pub first_from : (p : ℕ → Bool) (t : List ℕ) → 0 < length t → list_all p t ≡ true →
     first_passes p t ≡ true
 first_from p [] some all = absurd (omega arith)
 first_from p (c ∷ t) some all = (and_parts (p c) (list_all p t) all).0
@@ -84,7 +84,7 @@ digits_begin p all n small =
 
 -- Their value.
 
-place_after : (n : ℕ) (t : List ℕ) → digits_value_after 16 n t ≡ n * 16 ^ length t + place_sum 16 t
+pub place_after : (n : ℕ) (t : List ℕ) → digits_value_after 16 n t ≡ n * 16 ^ length t + place_sum 16 t
 unfolding place_sum
 place_after n [] = let one : 16 ^ 0 ≡ 1 = pow-zero 16 in sym (ap (λ power. n * power + 0) one
     ∙ omega arith)
@@ -95,7 +95,7 @@ place_after n (c ∷ t) =
     let more : 16 ^ suc (length t) ≡ power * 16 = pow-suc 16 (length t) in
     place_after (n * 16 + v) t ∙ sym (ap (λ p. n * p + (v * power + rest)) more ∙ omega arith)
 
-filter_kept : (p : ℕ → Bool) (t : List ℕ) → list_all p t ≡ true → filter p t ≡ t
+pub filter_kept : (p : ℕ → Bool) (t : List ℕ) → list_all p t ≡ true → filter p t ≡ t
 filter_kept p [] all = refl
 filter_kept p (c ∷ t) all =
     let both = and_parts (p c) (list_all p t) all in
@@ -129,7 +129,7 @@ length_onto (suc j) (suc k) n acc small =
     (λ t. length t ≤ suc (suc j) + length acc)
     (λ is. omega arith) (λ is. omega (arith, more))
 
-length_digits : (n : ℕ) → n < 16 ^ 6 → length (digits 16 false n) ≤ 6
+pub length_digits : (n : ℕ) → n < 16 ^ 6 → length (digits 16 false n) ≤ 6
 unfolding digits
 length_digits n small = length_onto 5 64 n [] small
 

@@ -33,3 +33,12 @@ pub mod WrittenAnew
 pub mod MemoryErrors
 -- examples
 pub mod Examples
+-- literals that are rewritten
+pub mod BodyItems
+pub mod CasedDigits
+pub mod CasedSpellings
+pub mod RewrittenItems
+pub mod RewrittenChars
+pub mod RewrittenLiterals
+pub mod CasedIntegers
+pub mod RewrittenTwice

@@ -12,6 +12,10 @@ pub mod CStrings
 pub mod Raw
 -- a literal built from the value of another
 pub mod WrittenAnew
+-- a literal that is rewritten in a style, and the items of its body
+pub mod Rewriting
+pub mod BodyItem
+pub mod RewrittenInteger
 -- errors and their messages
 pub mod Errors
 pub mod ErrorText

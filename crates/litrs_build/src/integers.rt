@@ -288,7 +288,7 @@ fn written_text(
 }
 
 /// Returns `_` if it is needed, otherwise an empty text.
-fn separator(is_needed: bool) -> &'static str
+pub(crate) fn separator(is_needed: bool) -> &'static str
     ensures { result.now ≡ (if is_needed then underscore ∷ [] else []) }
 {
     if is_needed { "_" } else { "" }
@@ -322,7 +322,7 @@ fn digit_count(main: &[u8], is_bare: bool) -> usize
 
 /// Returns `true` if there has to be a `_` between the digits, whose number is `digits`, and the
 /// suffix.
-fn needs_separator(base: IntegerBase, main: &[u8], digits: usize, suffix: &str) -> bool
+pub(crate) fn needs_separator(base: IntegerBase, main: &[u8], digits: usize, suffix: &str) -> bool
     requires count { digits ≡ length (filter is_no_underscore main.now) }
     requires decimal { base ≡ IntegerBase.Decimal → IsTrue (first_passes is_ascii_digit main.now) }
     ensures { result ≡ needs_separator base (digits_of main.now) (chars suffix.now) }
@@ -363,7 +363,7 @@ fn begins_with_base_letter(bytes: &[u8]) -> bool
 }
 
 /// Returns the length of `digits` digits with separators.
-fn grouped_len(digits: usize, group: usize) -> usize {
+pub(crate) fn grouped_len(digits: usize, group: usize) -> usize {
     if group == 0 || digits == 0 {
         digits
     } else {
@@ -444,7 +444,7 @@ fn push_digits(
 }
 
 /// Appends a digit, and `_` if it ends a group.
-fn push_digit(text: &mut String, digit: u8, ends_group: bool) -> Result<(), AllocError>
+pub(crate) fn push_digit(text: &mut String, digit: u8, ends_group: bool) -> Result<(), AllocError>
     requires { digit < 128 }
     ensures { OnOk result (string_bytes text.new ≡ string_bytes text.old
         ++ (digit ∷ (if ends_group then underscore ∷ [] else []))) }
@@ -454,7 +454,7 @@ fn push_digit(text: &mut String, digit: u8, ends_group: bool) -> Result<(), Allo
 }
 
 /// Returns `true` if a group ends before the last `after` digits.
-fn ends_group(group: usize, after: usize) -> bool
+pub(crate) fn ends_group(group: usize, after: usize) -> bool
     ensures { result ≡ ends_group group after }
 {
     group > 0 && after > 0 && after % group == 0

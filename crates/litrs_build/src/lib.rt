@@ -16,7 +16,7 @@
 //! | the parts `1`, `5` and `e3` | [`float`] | `1.5e3` |
 //!
 //! [`unescaped`] writes a literal anew, with the same kind, value and suffix, and [`regroup`] an
-//! integer in groups of digits.
+//! integer in groups of digits. [`rewritten`] does so in a [`Style`], which may keep lines.
 //!
 //! Between quotes, these characters and bytes are escaped:
 //!
@@ -52,18 +52,24 @@ pub use floats::float;
 pub use integers::{grouped_integer, integer, regroup};
 pub use printable::is_printable;
 pub use raw::{raw_byte_string, raw_c_string, raw_string};
+pub use rewriting::rewritten;
 pub use strings::string;
+pub use style::{Case, Escapes, GroupLens, Groups, Lines, Style};
 
 mod again;
+mod body_item;
 mod byte_strings;
 mod c_strings;
 mod chars;
 mod error;
 mod floats;
+mod integer_style;
 mod integers;
 pub mod laws;
 mod pieces;
 mod printable;
 mod raw;
+mod rewriting;
 mod spelling;
 mod strings;
+mod style;

@@ -1,0 +1,71 @@
+//! The style of a literal that is rewritten.
+
+/// The style in which [`rewritten`](crate::rewritten) writes a literal.
+#[derive(Clone, Copy, Debug, PartialEq, Eq)]
+pub struct Style {
+    /// The escapes of chars, bytes and quoted strings.
+    pub escapes: Escapes,
+    /// The case of the hex digits of an escape that is written anew.
+    pub escape_digits: Case,
+    /// The lines of quoted strings.
+    pub lines: Lines,
+    /// The case of the digits of integers, or `None` if each stays as it is.
+    pub digits: Option<Case>,
+    /// The groups of the digits of integers.
+    pub groups: Groups,
+}
+
+/// The escapes between quotes.
+#[derive(Clone, Copy, Debug, PartialEq, Eq)]
+pub enum Escapes {
+    /// Characters and escapes stay as they are.
+    Kept,
+    /// Characters stay as they are. An escape keeps its form, and its digits are written anew: in
+    /// the case of the style, and in `\u{..}` without `_` and leading zeros.
+    Respelled,
+    /// A character is escaped if and only if [`string`](crate::string) escapes it.
+    Needed,
+}
+
+/// The case of hex digits.
+#[derive(Clone, Copy, Debug, PartialEq, Eq)]
+pub enum Case {
+    /// `a` to `f`.
+    Lower,
+    /// `A` to `F`.
+    Upper,
+}
+
+/// The lines of a quoted string.
+#[derive(Clone, Copy, Debug, PartialEq, Eq)]
+pub enum Lines {
+    /// Each LF and each continuation stays as it is.
+    Kept,
+    /// An LF is written as `\n`, and a continuation is left out.
+    Joined,
+}
+
+/// The groups of digits.
+#[derive(Clone, Copy, Debug, PartialEq, Eq)]
+pub enum Groups {
+    /// Each `_` stays where it is.
+    Kept,
+    /// Digits among which there is a `_` are written in groups. Other digits are not.
+    Regrouped(GroupLens),
+    /// All digits are written in groups.
+    Grouped(GroupLens),
+}
+
+/// The number of digits of a group in each base, counted from the last digit. If it is 0, there are
+/// no groups.
+#[derive(Clone, Copy, Debug, PartialEq, Eq)]
+pub struct GroupLens {
+    /// The number in base two.
+    pub binary: usize,
+    /// The number in base eight.
+    pub octal: usize,
+    /// The number in base ten.
+    pub decimal: usize,
+    /// The number in base sixteen.
+    pub hexadecimal: usize,
+}
