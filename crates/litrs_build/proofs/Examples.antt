@@ -1,4 +1,5 @@
 -- Which error comes, which literals have the same value, and how literals are rewritten.
+use Rattle.std.proofs.Common.{refl}
 use Rattle.std.specs.Prelude.{◌≡◌, Bool, List, [], ◌∷◌, Some, codes}
 use Rattle.std.specs.Fmt.{digits}
 use Rattle.litrs_grammar.specs.CharByte.{CharParts}
