@@ -137,10 +137,9 @@ impl<'a> Reports<'a> {
     /// Returns the lines on an error for a person.
     fn problem_lines(&self, problem: &Problem) -> Result<String, AllocError> {
         let (start, end) = cuts(problem.source, problem.start, problem.end);
-        let diagnostic =
-            Diagnostic::new(self.name, problem.source, start..end, problem.message())
-                .with_first(narrowed(problem.place.line), narrowed(problem.place.column))
-                .with_width(WIDTH);
+        let diagnostic = Diagnostic::new(self.name, problem.source, start..end, problem.message())
+            .with_first(narrowed(problem.place.line), narrowed(problem.place.column))
+            .with_width(WIDTH);
         let mut lines = format!(in self.alloc; "{diagnostic}")?;
         if self.options.color {
             lines = colored_lines(self.alloc, lines.as_str())?;
