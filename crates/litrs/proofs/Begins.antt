@@ -3,7 +3,7 @@ use Rattle.std.proofs.Common.{◌≡◌, inl, inr, ℕ, Bool, true, false, List,
 use Rattle.std.specs.Prelude.{◌↔◌, IsTrue}
 use Rattle.std.proofs.lemmas.Bool.{false≢true}
 use Rattle.std.proofs.lemmas.List.{append-nil}
-use Rattle.litrs_grammar.specs.Continuation.{BeginsBy}
+use Rattle.litrs_grammar.specs.LongerTexts.{BeginsBy}
 use Rattle.litrs_grammar.specs.Literal.{LiteralKind, literal_parse, kind_parse, IsLiteralOf, Begins}
 use Rattle.litrs_grammar.specs.LiteralRefusals.{parsed_as, dispatch}
 use Rattle.litrs_grammar.proofs.Laws.Literal.{texts_are_decided}

@@ -16,7 +16,7 @@ use Rattle.litrs_grammar.specs.Strings.{is_raw}
 use Rattle.litrs_grammar.specs.Refused.{IsOutOfMemory}
 use Rattle.litrs_grammar.proofs.Laws.Value.{no_nul_in_c_strings}
 use Rattle.litrs_lex.proofs.StringFronts.{quoted_begins, raw_begins}
-use Rattle.litrs.specs.declared.kept.KeptValue.{KeptValue}
+use Rattle.litrs.specs.declared.kept_value.KeptValue.{KeptValue}
 use Rattle.litrs.specs.CString.{has_nul}
 use Rattle.litrs.specs.StringLiteral.{kept_value}
 use Rattle.litrs.specs.ParsedStrings.{IsParsedString}

@@ -15,9 +15,9 @@ use Rattle.litrs_grammar.specs.Strings.{StringDerivation}
 use Rattle.litrs_grammar.proofs.Laws.Literal.{only_string}
 use Rattle.litrs_lex.proofs.StringFronts.{raw_begins, quoted_before, raw_after}
 use Rattle.litrs_lex.specs.RawCut.{IsRawCut, raw_parts_at}
-use Rattle.litrs.specs.declared.kept.BodyPlace.{BodyPlace}
-use Rattle.litrs.specs.declared.kept.KeptValue.{KeptValue}
-use Rattle.litrs.specs.declared.kept.KeptValue.TheVariants.{InText}
+use Rattle.litrs.specs.declared.kept_value.BodyPlace.{BodyPlace}
+use Rattle.litrs.specs.declared.kept_value.KeptValue.{KeptValue}
+use Rattle.litrs.specs.declared.kept_value.KeptValue.TheVariants.{InText}
 use Rattle.litrs.specs.StringLiteral.{IsStringAt, IsCStringAt}
 use Rattle.litrs.specs.ParsedStrings.{IsParsedQuoted, IsParsedRaw, IsParsedString}
 

@@ -12,7 +12,7 @@ use Rattle.litrs_base.specs.declared.quotes.StringKind.TheVariants.{String as st
 use Rattle.litrs_base.specs.Quotes.{switches_of, quoted_front, raw_front}
 use Rattle.litrs_grammar.specs.Quoted.{IsQuoted}
 use Rattle.litrs_grammar.specs.Raw.{has_unicode, allows_nul, IsRawOf, IsRawLiteral}
-use Rattle.litrs_grammar.specs.Continuation.{BeginsBy}
+use Rattle.litrs_grammar.specs.LongerTexts.{BeginsBy}
 use Rattle.litrs_grammar.specs.Literal.{IsString, string_literal, byte_string_literal, c_string_literal, literal_parse, kind_parse, Begins, string_literal_of}
 use Rattle.litrs_grammar.specs.LiteralRefusals.{parsed_as, dispatch, refused_start, quoted_start, raw_start, string_start, string_start_refusal}
 use Rattle.litrs_grammar.specs.GoesOn.String.{start_goes_on}

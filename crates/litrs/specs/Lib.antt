@@ -36,7 +36,7 @@ pub use Rattle.litrs_grammar.specs.Allocation
 pub use Rattle.litrs_grammar.specs.Bool
 pub use Rattle.litrs_grammar.specs.CharByte
 pub use Rattle.litrs_grammar.specs.Closing
-pub use Rattle.litrs_grammar.specs.Continuation
+pub use Rattle.litrs_grammar.specs.LongerTexts
 pub use Rattle.litrs_grammar.specs.Escape
 pub use Rattle.litrs_grammar.specs.Float
 pub use Rattle.litrs_grammar.specs.Integer

@@ -7,9 +7,9 @@ use Rattle.litrs_base.specs.declared.quotes.StringKind.TheVariants.{CString as c
 use Rattle.litrs_grammar.specs.Quoted.{QuotedParts, IsQuoted}
 use Rattle.litrs_grammar.specs.Raw.{RawParts, IsRawOf}
 use Rattle.litrs_grammar.specs.Literal.{StringParts, quoted_parts, raw_parts, IsString}
-use Rattle.litrs.specs.declared.kept.BodyPlace.{BodyPlace}
-use Rattle.litrs.specs.declared.kept.KeptValue.{KeptValue}
-use Rattle.litrs.specs.declared.kept.KeptValue.TheVariants.{InText}
+use Rattle.litrs.specs.declared.kept_value.BodyPlace.{BodyPlace}
+use Rattle.litrs.specs.declared.kept_value.KeptValue.{KeptValue}
+use Rattle.litrs.specs.declared.kept_value.KeptValue.TheVariants.{InText}
 use Rattle.litrs.specs.StringLiteral.{IsStringAt, IsCStringAt}
 
 -- The text is a quoted string whose body starts at the offset, with this value and this start of

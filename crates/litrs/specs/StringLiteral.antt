@@ -4,9 +4,9 @@ use Rattle.std.specs.Str.{chars, IsCharBoundary}
 use Rattle.litrs_grammar.specs.Literal.{StringParts, string_suffix, string_value}
 use Rattle.litrs_grammar.specs.Allocation.{has_escapes}
 use Rattle.litrs_grammar.specs.Strings.{is_raw}
-use Rattle.litrs.specs.declared.kept.BodyPlace.{BodyPlace}
-use Rattle.litrs.specs.declared.kept.KeptValue.{KeptValue}
-use Rattle.litrs.specs.declared.kept.KeptValue.TheVariants.{InText, Owned}
+use Rattle.litrs.specs.declared.kept_value.BodyPlace.{BodyPlace}
+use Rattle.litrs.specs.declared.kept_value.KeptValue.{KeptValue}
+use Rattle.litrs.specs.declared.kept_value.KeptValue.TheVariants.{InText, Owned}
 
 -- A literal: its buffer, the bytes of its text, and its parts.
 pub record StringLiteral (B : Type 0) : Type 0 where

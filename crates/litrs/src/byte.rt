@@ -84,7 +84,7 @@ impl<B: Text> ByteLit<B> {
         ensures refused { IfErr result
             (IsRefused (kind_parse byte_literal) (chars (B.bytes input))) }
     {
-        let (value, start_suffix) = cut(input.as_str(), front)?;
+        let (value, start_suffix) = cut_with_front(input.as_str(), front)?;
         Ok(ByteLit {
             raw: input,
             value,
@@ -172,7 +172,7 @@ impl ByteLit<&str> {
 
 /// Returns the value of the byte `input` and the place of its suffix, in bytes.
 #[inline(always)]
-fn cut(input: &str, front: Front) -> Result<(u8, usize), ParseError>
+fn cut_with_front(input: &str, front: Front) -> Result<(u8, usize), ParseError>
     requires { IsFront front input.now }
     ensures ok { IfOk result (λ cut.
         IsOnlyDerivation (IsCharLiteral byte_kind (chars input.now))

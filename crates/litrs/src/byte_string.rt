@@ -14,7 +14,7 @@ ghost use Rattle.litrs_lex.specs.Front.{IsFront};
 ghost use Rattle.litrs.specs.StringLiteral.{StringLiteral, IsStringAt, kept_map, is_owned};
 
 use crate::cut::read_string;
-use crate::kept::KeptValue;
+use crate::kept_value::KeptValue;
 use litrs_lex::{Buffer, Front, InByteString, ParseError, StringKind, Text};
 use std::alloc::{AllocError, Global};
 use std::fmt;

@@ -16,7 +16,7 @@ ghost use Rattle.litrs.specs.StringLiteral.{StringLiteral, IsCStringAt, IsPlaced
 ghost use Rattle.litrs.specs.ParsedStrings.{IsParsedCString};
 
 use crate::cut::read_string;
-use crate::kept::KeptValue;
+use crate::kept_value::KeptValue;
 use litrs_lex::{Front, InCString, ParseError, ParseErrorKind, StringKind, Text};
 use std::alloc::{AllocError, Global};
 use std::fmt;

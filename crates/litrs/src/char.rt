@@ -83,7 +83,7 @@ impl<B: Text> CharLit<B> {
         ensures refused { IfErr result
             (IsRefused (kind_parse char_literal) (chars (B.bytes input))) }
     {
-        let (value, start_suffix) = cut(input.as_str(), front)?;
+        let (value, start_suffix) = cut_with_front(input.as_str(), front)?;
         Ok(CharLit {
             raw: input,
             value,
@@ -171,7 +171,7 @@ impl CharLit<&str> {
 
 /// Returns the value of the char `input` and the place of its suffix, in bytes.
 #[inline(always)]
-fn cut(input: &str, front: Front) -> Result<(char, usize), ParseError>
+fn cut_with_front(input: &str, front: Front) -> Result<(char, usize), ParseError>
     requires { IsFront front input.now }
     ensures ok { IfOk result (λ cut.
         IsOnlyDerivation (IsCharLiteral char_kind (chars input.now))

@@ -12,7 +12,7 @@ ghost use Rattle.litrs_lex.specs.Front.{IsFront};
 ghost use Rattle.litrs.specs.ParsedStrings.{IsParsedQuoted, IsParsedRaw, IsParsedString};
 ghost use Rattle.litrs.specs.StringLiteral.{kept_map};
 
-use crate::kept::{BodyPlace, KeptValue};
+use crate::kept_value::{BodyPlace, KeptValue};
 use litrs_lex::{
     Allows, EscapeContainer, Front, ParseError, ParseErrorKind, StringKind, Switches,
     scan_raw_string, unescape_string_with,

@@ -110,7 +110,7 @@ mod cut;
 mod float;
 mod going_on;
 mod integer;
-mod kept;
+mod kept_value;
 mod string;
 
 /// A literal of any kind. See [the reference][ref].

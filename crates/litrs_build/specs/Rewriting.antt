@@ -131,7 +131,8 @@ before_after before (item ∷ items) = before_next item
 abbrev pub rewritten_items : Style → Before → List Item → List Item
 rewritten_items style before [] = []
 rewritten_items style before (item ∷ items) =
-    let written = items_of style.escape_digits item (item_rewriting style double_quote before item) in
+    let rewriting = item_rewriting style double_quote before item in
+    let written = items_of style.escape_digits item rewriting in
     written ++ rewritten_items style (before_after before written) items
 
 -- A quoted string is rewritten item by item. A raw one has no escapes, and is unchanged.

@@ -54,7 +54,8 @@ pub fn raw_string(alloc: Global, value: &str, suffix: &str) -> Result<StringLit<
 /// # Errors
 ///
 /// `NotASuffix` if `suffix` is neither empty nor an identifier, otherwise `NotRaw` if `value` is
-/// not ASCII, contains a CR or needs more than 255 hashes, otherwise `Memory` if the allocation fails.
+/// not ASCII, contains a CR or needs more than 255 hashes, otherwise `Memory` if the allocation
+/// fails.
 ///
 /// [ref]: https://doc.rust-lang.org/reference/tokens.html#raw-byte-string-literals
 pub fn raw_byte_string(

@@ -67,8 +67,8 @@ lines_text margin first_line width before range after =
 abbrev pub margin_of : (first_line : ℕ) → (before range : List ℕ) → ℕ
 margin_of first_line before range = length (decimal (line_number first_line (before ++ range)))
 
--- The level, the message, the place of the start of the range, and the lines. The margin is as wide as the
--- greatest number in it.
+-- The level, the message, the place of the start of the range, and the lines. The margin is as wide
+-- as the greatest number in it.
 unfoldable pub message_text : Level → (first_line first_column width : ℕ)
     (name message before range after : List ℕ) → List ℕ
 message_text level first_line first_column width name message before range after =
@@ -126,8 +126,8 @@ error_on name source start end message = record {
   remarks = [];
 }
 
--- The characters of a message, with its remarks. A range that ends after the last line is shown as if it ended with
--- that line.
+-- The characters of a message, with its remarks. A range that ends after the last line is shown as
+-- if it ended with that line.
 unfoldable pub diagnostic_text : Message → List ℕ
 diagnostic_text m =
     let start = place_on_line m.source m.start in

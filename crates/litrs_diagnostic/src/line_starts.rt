@@ -76,7 +76,8 @@ impl<'a> Lines<'a> {
     }
 }
 
-/// Returns the number of bytes of the first line of `text` with its LF, or `None` if there is no LF.
+/// Returns the number of bytes of the first line of `text` with its LF, or `None` if there is no
+/// LF.
 fn line_len(text: &str) -> Option<usize>
     ensures { IfSome result (IsLineLen text.now) }
 {

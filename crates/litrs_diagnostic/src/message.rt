@@ -18,9 +18,9 @@ use std::ops::Range;
 /// and at the end of the text. `Display` and [`shown`](crate::shown) write the line on which it
 /// begins. If it ends on a later line, they write that line too. Below the part of the range in
 /// each line there are carets, at least one. A CR before the LF of a line is not shown, unless the
-/// range begins between them. An LF at the end of the text ends its last line: a range that ends after
-/// it is shown as if it ended with that line. If a line has more columns than `width`, the range comes
-/// first, if it fits, and then the text around it.
+/// range begins between them. An LF at the end of the text ends its last line: a range that ends
+/// after it is shown as if it ended with that line. If a line has more columns than `width`, the
+/// range comes first, if it fits, and then the text around it.
 ///
 /// [`Diagnostic::new`] makes an error on a whole text, and the methods `with_..` change it.
 #[derive(Clone, Copy, Debug)]
@@ -59,8 +59,8 @@ impl<'a> Diagnostic<'a> {
     ghost use Rattle.std.specs.Prelude.{map};
     ghost use Rattle.litrs_diagnostic.specs.Rows.{message_of, remark_of};
 
-    /// Creates an error on a range of `source`, a whole text that is called `name`. Of each line 140
-    /// columns are shown.
+    /// Creates an error on a range of `source`, a whole text that is called `name`. Of each line
+    /// 140 columns are shown.
     pub fn new(
         name: &'a str,
         source: &'a str,

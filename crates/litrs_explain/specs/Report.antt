@@ -8,7 +8,8 @@ use Rattle.litrs_grammar.specs.Literal.{Derivation}
 -- the name of a file, and a line and a column in it
 abbrev pub place_text : (name : List ℕ) → Place → List ℕ
 place_text name place =
-    name ++ (codes ":" ++ (decimal place.line ++ (codes ":" ++ (decimal place.column ++ codes ":"))))
+    name ++ (codes ":" ++
+    (decimal place.line ++ (codes ":" ++ (decimal place.column ++ codes ":"))))
 
 -- The report is a place, perhaps in color, and an explanation of the literal that begins there.
 abbrev pub IsLiteralReport : (place : List ℕ) → Derivation → (report : List ℕ) → Type 0

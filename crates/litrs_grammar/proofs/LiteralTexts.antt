@@ -8,7 +8,7 @@ use Rattle.litrs_base.specs.declared.quotes.CharKind.TheVariants.{Char as char_k
 use Rattle.litrs_grammar.specs.CharByte.{CharParts, char_text, IsCharLiteral}
 use Rattle.litrs_grammar.specs.Literal.{StringParts, quoted_parts, raw_parts, IsString, a_bool, an_integer, a_float, a_char, a_byte, a_string, a_byte_string, a_c_string, IsLiteral}
 use Rattle.litrs_grammar.specs.LiteralText.{string_text, literal_text, AreCharParts, AreStringParts}
-use Rattle.litrs_grammar.specs.Laws.Continuation.{LiteralsAreWritten, LiteralsParseBack, JoinedBodiesAreQuoted}
+use Rattle.litrs_grammar.specs.Laws.LongerTexts.{LiteralsAreWritten, LiteralsParseBack, JoinedBodiesAreQuoted}
 use Rattle.litrs_grammar.proofs.Laws.Literal.{literals_are_unique}
 use Rattle.litrs_grammar.proofs.Laws.Quoted.{quoted_bodies_join}
 

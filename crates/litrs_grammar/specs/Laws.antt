@@ -11,4 +11,4 @@ pub mod Number
 pub mod Literal
 pub mod Value
 pub mod Allocation
-pub mod Continuation
+pub mod LongerTexts

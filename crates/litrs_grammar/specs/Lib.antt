@@ -13,7 +13,7 @@ pub mod Strings
 pub mod LiteralRefusals
 pub mod Allocation
 -- the meaning of a refusal
-pub mod Continuation
+pub mod LongerTexts
 pub mod Closing
 pub mod Refused
 -- the refused texts that begin a literal, all kinds and kind by kind

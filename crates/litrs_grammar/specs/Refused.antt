@@ -7,7 +7,7 @@ use Rattle.litrs_base.specs.Derivations.{HasNoDerivation}
 use Rattle.litrs_base.specs.Characters.{line_feed}
 use Rattle.litrs_base.specs.Finality.{is_final, is_open}
 use Rattle.litrs_base.specs.Refusal.{Refusal, without_span, refusal_of, kind_of, char_span_of, IsInText, HasCharSpan}
-use Rattle.litrs_grammar.specs.Continuation.{BeginsBy, EndsBy}
+use Rattle.litrs_grammar.specs.LongerTexts.{BeginsBy, EndsBy}
 use Rattle.litrs_grammar.specs.Closing.{closing_of, IsClosedBy}
 use Rattle.litrs_grammar.specs.Literal.{Derivation, Parse, IsLiteralOf}
 use Rattle.litrs_grammar.specs.LiteralRefusals.{IsRefusal}

@@ -4,10 +4,10 @@
 
 pub mod allocation;
 pub mod char_byte;
-pub mod continuation;
 pub mod escape;
 pub mod float;
 pub mod literal;
+pub mod longer_texts;
 pub mod name;
 pub mod number;
 pub mod quoted;

@@ -14,7 +14,7 @@ use Rattle.litrs_base.specs.Finality.{is_final, is_open}
 use Rattle.litrs_base.specs.Refusal.{Refusal, refusal_of, kind_of, char_span_of, IsInText, HasCharSpan}
 use Rattle.litrs_base.specs.Text.{byte_len, is_empty}
 use Rattle.litrs_grammar.specs.Allocation.{has_backslash}
-use Rattle.litrs_grammar.specs.Continuation.{EndsBy}
+use Rattle.litrs_grammar.specs.LongerTexts.{EndsBy}
 use Rattle.litrs_grammar.specs.Escape.{Escape, IsEscape, escape_text, escape_value, escape_refusal}
 use Rattle.litrs_grammar.specs.GoesOn.Quoted.{IsClosedQuoted}
 use Rattle.litrs_grammar.specs.GoesOn.Raw.{raw_open_parts}

@@ -12,7 +12,7 @@ use Rattle.litrs_base.specs.Refusal.{Refusal, without_span, refusal_of, kind_of,
 use Rattle.litrs_base.specs.Text.{byte_len}
 use Rattle.litrs_base.specs.declared.quotes.Switches.{Switches}
 use Rattle.litrs_grammar.specs.Allocation.{has_backslash}
-use Rattle.litrs_grammar.specs.Continuation.{EndsBy}
+use Rattle.litrs_grammar.specs.LongerTexts.{EndsBy}
 use Rattle.litrs_grammar.specs.Quoted.{QuotedParts, IsQuoted, IsQuotedRefusal, body_text, body_value, is_item_list}
 use Rattle.litrs_grammar.specs.GoesOn.Quoted.{IsClosedQuoted}
 use Rattle.litrs_lex.specs.declared.quoted.QuotedCut.{QuotedCut}

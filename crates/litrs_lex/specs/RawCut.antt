@@ -11,7 +11,7 @@ use Rattle.litrs_base.specs.Characters.{double_quote}
 use Rattle.litrs_base.specs.Text.{first_passes}
 use Rattle.litrs_lex.specs.declared.search.Special.{Special}
 use Rattle.litrs_lex.specs.Special.{is_ordinary}
-use Rattle.litrs_grammar.specs.Continuation.{EndsBy}
+use Rattle.litrs_grammar.specs.LongerTexts.{EndsBy}
 use Rattle.litrs_grammar.specs.GoesOn.Raw.{raw_open_parts}
 use Rattle.litrs_grammar.specs.Laws.Raw.{NoClosingIn}
 use Rattle.litrs_grammar.specs.Laws.RawScan.{ScanStays}

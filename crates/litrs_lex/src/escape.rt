@@ -31,8 +31,8 @@ use litrs_base::{ParseError, ParseErrorKind, Switches, Unescape};
 /// - `UnterminatedUnicodeEscape` over all of `input` if no `}` follows. Otherwise, by the text
 ///   before the first `}`: `InvalidStartOfUnicodeEscape` at 3..4 if it is empty or starts with `_`;
 ///   `NonHexDigitInUnicodeEscape` at the first character that is neither a hex digit nor `_`, or
-///   `TooManyDigitInUnicodeEscape` at the seventh digit, whichever comes first, over its first byte;
-///   `InvalidUnicodeEscapeChar` over the escape if the value is not a character.
+///   `TooManyDigitInUnicodeEscape` at the seventh digit, whichever comes first, over its first
+///   byte; `InvalidUnicodeEscapeChar` over the escape if the value is not a character.
 /// - `UnknownEscape` at 0..2 if another character follows the backslash.
 ///
 /// [ref]: https://doc.rust-lang.org/reference/tokens.html#character-escapes

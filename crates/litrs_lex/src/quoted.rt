@@ -68,7 +68,7 @@ pub fn cut_quoted(
     let from = beginning(input, offset, allowed);
     let mut counted = Counted { len: 0 };
     match read_items(input, offset, from, allowed, &mut counted) {
-        Reached::Quote(place) => match closed(input, offset, place, allowed) {
+        Reached::Quote(place) => match check_after_quote(input, offset, place, allowed) {
             // A value is shorter than its body if the body has a backslash.
             Ok(()) => Ok(QuotedCut {
                 value_len: counted.len,
@@ -119,7 +119,7 @@ pub(crate) fn beginning<A: Allows>(input: &str, offset: usize, allowed: A) -> Re
 ///
 /// Returns the error of [`check_suffix`], over the first byte after the quote.
 #[inline(always)]
-pub(crate) fn closed<A: Allows>(
+pub(crate) fn check_after_quote<A: Allows>(
     input: &str,
     offset: usize,
     place: usize,

@@ -24,8 +24,8 @@ use std::ops::Range;
 ///
 /// - `InvalidLiteral` if the hashes end the text, or a character other than `"` follows them;
 /// - `TooManyHashes` if text follows more than 255 hashes, over the hashes;
-/// - `CarriageReturn`, `NulByte` or `NonAsciiInByteLiteral` at the first character that the body may
-///   not contain;
+/// - `CarriageReturn`, `NulByte` or `NonAsciiInByteLiteral` at the first character that the body
+///   may not contain;
 /// - `UnterminatedRawString` if the body is not closed;
 /// - the error of [`check_suffix`] if no suffix follows the closing, at the first byte after it.
 ///

@@ -11,7 +11,7 @@ use crate::Switches;
 use crate::allowed::Allows;
 use crate::container::EscapeContainer;
 use crate::filled::Filled;
-use crate::quoted::{closed, is_lone_quote};
+use crate::quoted::{check_after_quote, is_lone_quote};
 use crate::reading::{Reached, Reading, read_items};
 use crate::room::Room;
 use crate::search::Mask;
@@ -138,7 +138,7 @@ fn finished<C: EscapeContainer, A: Allows>(
     requires read { IsReadBody (A.allowed allowed) input.now offset (λ v. value.now ≡ v) place }
     ensures { IsReadAsValue C.contents (A.allowed allowed) input.now offset result }
 {
-    closed(input, offset, place, allowed)?;
+    check_after_quote(input, offset, place, allowed)?;
     // A value is shorter than its body where the body has a backslash.
     if value.len() == place - offset {
         return Ok((None, place + 1));
@@ -193,13 +193,13 @@ fn read_twice<C: EscapeContainer, A: Allows>(
     let mut counted = Counted { len: value.len() };
     match read_items(input, offset, from, allowed, &mut counted) {
         Reached::Quote(place) => {
-            closed(input, offset, place, allowed)?;
+            check_after_quote(input, offset, place, allowed)?;
             if counted.len == place - offset {
                 return Ok((None, place + 1));
             }
             match container_for(alloc, counted.len, allowed) {
                 Ok(made) => Ok((
-                    Some(filled(input, offset, from, allowed, value, made)),
+                    Some(fill_container(input, offset, from, allowed, value, made)),
                     place + 1,
                 )),
                 Err(e) => Err(e),
@@ -252,7 +252,7 @@ fn copied<C: EscapeContainer>(mut into: C, bytes: &[u8]) -> C
 
 /// Puts the value of a literal into the empty container `into`, in which it fits: the bytes
 /// `value`, and the values of the items from the state `from` on.
-fn filled<C: EscapeContainer, A: Allows>(
+fn fill_container<C: EscapeContainer, A: Allows>(
     input: &str,
     offset: usize,
     from: Reading,

@@ -18,7 +18,7 @@ use Rattle.litrs_base.specs.declared.quotes.StringKind.TheVariants.{String as st
 use Rattle.litrs_base.specs.Quotes.{switches_of, quoted_front, raw_front}
 use Rattle.litrs_base.specs.declared.quotes.Switches.{Switches}
 use Rattle.litrs_grammar.specs.Suffix.{is_suffix, suffix_refusal}
-use Rattle.litrs_grammar.specs.Continuation.{BeginsBy}
+use Rattle.litrs_grammar.specs.LongerTexts.{BeginsBy}
 use Rattle.litrs_grammar.specs.Escape.{Escape, escape_text, IsEscape}
 use Rattle.litrs_grammar.specs.Quoted.{Item, plain_item, escape_item, body_text, is_item_list, QuotedParts, item_refusal, IsQuotedLiteral, IsQuotedRefusal, IsQuotedLiteralRefusal}
 use Rattle.litrs_grammar.specs.GoesOn.Quoted.{IsOpenRest}

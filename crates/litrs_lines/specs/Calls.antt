@@ -1,6 +1,6 @@
 -- The calls of a device over memory, which fail from a given number on.
 use Rattle.std.specs.Prelude.{ℕ, ◌+◌, ◌-◌, ◌^◌, min, Bool, false, nat_le, Option, Some, None}
-use Rattle.litrs_lines.specs.declared.calls.Calls.{Calls}
+use Rattle.litrs_lines.specs.declared.device_calls.Calls.{Calls}
 
 -- No call was made.
 abbrev pub fresh_calls : Option ℕ → Calls

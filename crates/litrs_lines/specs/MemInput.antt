@@ -1,6 +1,6 @@
 -- Inputs over memory.
 use Rattle.std.specs.Prelude.{ℕ, List, Bool}
-use Rattle.litrs_lines.specs.declared.calls.Calls.{Calls}
+use Rattle.litrs_lines.specs.declared.device_calls.Calls.{Calls}
 use Rattle.litrs_lines.specs.declared.mem_input.MemInput.{MemInput}
 
 -- The bytes that are left.

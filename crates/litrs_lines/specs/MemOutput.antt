@@ -1,6 +1,6 @@
 -- Outputs over memory.
 use Rattle.std.specs.Prelude.{ℕ, ◌-◌, List, Bool, length}
-use Rattle.litrs_lines.specs.declared.calls.Calls.{Calls}
+use Rattle.litrs_lines.specs.declared.device_calls.Calls.{Calls}
 use Rattle.litrs_lines.specs.declared.mem_output.MemOutput.{MemOutput}
 
 -- The bytes that were written.

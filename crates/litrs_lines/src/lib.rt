@@ -22,9 +22,9 @@ use std::fmt;
 pub use std_input::StdInput;
 pub use std_output::StdOutput;
 
-mod calls;
 pub mod collector;
 mod device;
+mod device_calls;
 mod group;
 pub mod laws;
 mod mem_input;

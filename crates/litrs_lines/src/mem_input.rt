@@ -4,8 +4,8 @@ ghost use Rattle.std.specs.Io.KnownBytes.{ReadConsumes};
 ghost use Rattle.litrs_lines.specs.Devices.{RecordsFailure};
 ghost use Rattle.litrs_lines.specs.Calls.{fresh_calls, next_fails, after_call};
 
-use crate::calls::Calls;
 use crate::device::{Failed, Input};
+use crate::device_calls::Calls;
 
 /// An input over bytes in memory.
 #[derive(Debug, Drop)]

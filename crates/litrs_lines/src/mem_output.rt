@@ -4,8 +4,8 @@ ghost use Rattle.std.specs.Io.KnownBytes.{Keeps, WriteAppends};
 ghost use Rattle.litrs_lines.specs.Devices.{RecordsFailure};
 ghost use Rattle.litrs_lines.specs.Calls.{fresh_calls, next_fails, after_call};
 
-use crate::calls::Calls;
 use crate::device::{Failed, Output};
+use crate::device_calls::Calls;
 use std::alloc::{AllocError, Global};
 
 /// An output that keeps the bytes written to it in memory.

@@ -10,8 +10,8 @@ use litrs_base::IntegerBase;
 use litrs_lex::hashes::{hash_len, is_inner_quote};
 use litrs_lex::{Run, Special, next_special, run_end};
 
-/// Returns the part of `text` after the literal, valid or malformed, that begins at its front: after
-/// the body, its closing, and the name that follows.
+/// Returns the part of `text` after the literal, valid or malformed, that begins at its front:
+/// after the body, its closing, and the name that follows.
 pub fn after_opened(text: &str) -> &str
     ensures { chars result.now ≡ after_opened (chars text.now) }
 {

@@ -21,8 +21,8 @@ use litrs_lex::quoted::items_end;
 use litrs_lex::{InByteString, InCString, InString, Run, StringKind, run_end, unescape_with};
 
 /// Returns the part of `text` after the literal at its front, if that is an integer, or a decimal
-/// number, a char, a byte, a quoted string or a quoted byte string, has no suffix, and ends the text
-/// or is before an ASCII character that no name has. Otherwise returns `None`, as for `1e3`.
+/// number, a char, a byte, a quoted string or a quoted byte string, has no suffix, and ends the
+/// text or is before an ASCII character that no name has. Otherwise returns `None`, as for `1e3`.
 pub fn after_plain(text: &str) -> Option<&str>
     ensures literal { IfSome result (λ rest. HasLiteralBefore text.now rest.now) }
     ensures none { IfNone result (IsOnlyRest (chars text.now) (after_opened (chars text.now))) }

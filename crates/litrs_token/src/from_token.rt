@@ -13,11 +13,11 @@ ghost use Rattle.litrs_token.specs.declared.err.TokenError.{TokenError};
 ghost use Rattle.litrs_token.specs.declared.kind.TokenKind.{TokenKind};
 
 use crate::bool::bool_of;
-use crate::check::{as_literal, check_kind, into_literal};
 use crate::err::TokenError;
+use crate::expected::{as_literal, check_kind, into_literal};
 use crate::kind::TokenKind;
-use crate::kinds::OwnedKind;
 use crate::literal::Literal;
+use crate::one_kind::OwnedKind;
 use crate::tree::TokenTree;
 use litrs::{ParseError, ParseErrorKind};
 use std::alloc::{AllocError, Global};

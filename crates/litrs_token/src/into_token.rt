@@ -4,8 +4,8 @@ ghost use Rattle.litrs_token.specs.Place.{call_site};
 ghost use Rattle.litrs_token.specs.declared.kind.TokenKind.{TokenKind};
 
 use crate::ident::Ident;
-use crate::kinds::OneKind;
 use crate::literal::Literal;
+use crate::one_kind::OneKind;
 use crate::span::Span;
 use litrs::BoolLit;
 use std::alloc::{AllocError, Global};

@@ -50,15 +50,15 @@ pub use span::Span;
 pub use tree::{Delimiter, Group, TokenTree};
 
 mod bool;
-mod check;
 mod err;
+mod expected;
 mod from_token;
 mod ident;
 mod into_token;
 mod kind;
-mod kinds;
 pub mod laws;
 mod literal;
+mod one_kind;
 mod punct;
 mod span;
 mod tree;

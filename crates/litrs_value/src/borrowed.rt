@@ -11,9 +11,9 @@ ghost use Rattle.litrs_value.specs.Reads.{is_negative, IsReadAs, IsValueError, m
 ghost use Rattle.litrs_value.specs.Refuses.{HasValueOf, Refuses};
 ghost use Rattle.litrs_value.specs.Values.{string_of};
 
-use crate::check::check;
 use crate::error::ValueError;
 use crate::reading::{cut_sign, refused};
+use crate::type_check::check;
 use crate::value_type::ValueType;
 use litrs::{Buffer, Literal};
 use std::alloc::Global;

@@ -15,9 +15,9 @@ ghost use Rattle.litrs_value.specs.Kinds.{Fits};
 ghost use Rattle.litrs_value.specs.Refuses.{IsLargeWithUnderscore, Refuses};
 ghost use Rattle.litrs_value.specs.Values.{format_of, float_of, with_sign};
 
-use crate::check::{check, is_decimal};
 use crate::error::ValueError;
 use crate::leading::large_float;
+use crate::type_check::{check, is_decimal};
 use crate::value_type::ValueType;
 use fast_float::FastFloat;
 use litrs::{FloatLit, FloatType, IntegerBase, IntegerLit, Literal, Text};

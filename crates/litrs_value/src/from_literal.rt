@@ -11,11 +11,11 @@ ghost use Rattle.litrs_value.specs.Values.{number_of, float_of, flag_of, char_of
 ghost use Rattle.litrs_value.specs.declared.value_type.ValueType.TheVariants.{Bool as bool_type, Integer as integer_type, Float as float_type, Char as char_type, String as string_type, Bytes as bytes_type, CString as c_string_type};
 ghost use Rattle.litrs_value.specs.declared.value_type.ValueType as types;
 
-use crate::check::check;
 use crate::error::ValueError;
 use crate::floats::number;
 use crate::integers::{integer, signed};
 use crate::strings::bytes;
+use crate::type_check::check;
 use crate::value_type::ValueType;
 use litrs::{CString, FloatType, IntegerType, Literal};
 use std::alloc::Global;

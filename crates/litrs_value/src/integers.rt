@@ -9,8 +9,8 @@ ghost use Rattle.litrs_value.specs.Kinds.{Fits};
 ghost use Rattle.litrs_value.specs.Refuses.{IsInRange, Refuses};
 ghost use Rattle.litrs_value.specs.Values.{signed, number_of, least_magnitude};
 
-use crate::check::check;
 use crate::error::ValueError;
+use crate::type_check::check;
 use crate::value_type::ValueType;
 use litrs::{IntegerLit, IntegerType, Literal};
 

@@ -39,7 +39,6 @@
 #![tactic(auto)]
 
 mod borrowed;
-mod check;
 mod error;
 mod floats;
 mod from_literal;
@@ -49,6 +48,7 @@ mod leading;
 mod prefix;
 mod reading;
 mod strings;
+mod type_check;
 mod value_type;
 
 pub use borrowed::{into_str, read_str};

@@ -33,7 +33,7 @@ pub fn raw_call_of(lit: &Literal<&str>) -> &'static str {
 
 /// Builds the literal of the value and the suffix, but of a bool. Returns `true` if memory was
 /// refused.
-pub fn is_build_refused(trial: &mut Trial, lit: &Literal<&str>) -> bool {
+pub fn build_fails(trial: &mut Trial, lit: &Literal<&str>) -> bool {
     let (alloc, suffix) = (trial.alloc, lit.suffix());
     match lit {
         Literal::Bool(_) => false,

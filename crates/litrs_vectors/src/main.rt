@@ -16,9 +16,10 @@ use std::io;
 use std::process::ExitCode;
 use trial::Trial;
 
+mod allocating_calls;
 mod answers;
 mod builds;
-mod calls;
+mod field_value;
 mod fronts;
 mod literals;
 mod messages;
@@ -27,7 +28,6 @@ mod parses;
 mod prefixes;
 mod refusals;
 mod rows;
-mod said;
 mod tokens;
 mod trial;
 mod unallocated;
@@ -113,7 +113,7 @@ fn try_text(trial: &mut Trial, row: &Row) {
     }
     let text = row.text.as_str();
     if is_literal {
-        calls::try_calls(trial, text);
+        allocating_calls::try_calls(trial, text);
     }
     prefixes::try_prefixes(trial, text, is_literal);
 }

@@ -3,7 +3,7 @@ use crate::answers::write_refusal;
 use crate::parses::{Parse, buffer_name, refusal};
 use crate::rows::Row;
 use crate::trial::Trial;
-use crate::{calls, messages, tokens};
+use crate::{allocating_calls, messages, tokens};
 use litrs::{ParseError, Text};
 
 /// Tries the refused text of a row by one of its parses.
@@ -54,6 +54,6 @@ fn try_report(trial: &mut Trial, text: &str) {
     if let Some(error) = &refusal(trial, Parse::Literal, &text) {
         messages::try_shown(trial, text, error);
     }
-    calls::try_run(trial, text);
-    calls::try_collector(trial, text, false);
+    allocating_calls::try_run(trial, text);
+    allocating_calls::try_collector(trial, text, false);
 }

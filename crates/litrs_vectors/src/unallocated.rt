@@ -2,7 +2,7 @@
 use crate::literals::is_clone_refused;
 use crate::parses::{PARSES, Parse, discard, fails, is_allocated, parse_by, parsed};
 use crate::trial::Trial;
-use crate::{calls, fronts, tokens};
+use crate::{allocating_calls, fronts, tokens};
 use litrs::{Literal, ParseError, ParseErrorKind, goes_on};
 use litrs_build::BuildError;
 use litrs_lines::{MemInput, MemOutput, Output, run};
@@ -37,14 +37,14 @@ pub fn try_text(trial: &mut Trial, text: &str) {
     let reserved: Result<_, _> = trial.report.reserve(ROOM);
     trial.own(reserved);
     if trial.holds() {
-        // bounded by the constant `MARK`: the block marks where the calls begin, and is freed at once.
+        // bounded by the constant `MARK`: the block marks where the calls begin, and is freed.
         let _refused = fails(String::with_capacity(trial.alloc, MARK));
         if let Some(token) = &token {
             tokens::try_other_kind_ref(trial, token);
         }
         try_sort(trial, sort, text);
         trial.at = ("the call", "no memory");
-        let refused = is_build_refused(trial.alloc) || is_run_refused(trial.alloc);
+        let refused = build_fails(trial.alloc) || is_run_refused(trial.alloc);
         trial.check(!refused, "is refused memory that it does not need");
     }
 }
@@ -92,7 +92,7 @@ fn is_parse_refused(alloc: Global, parse: Parse, text: &str) -> bool {
     match parse_by(alloc, parse, text) {
         Ok(lit) => {
             let refused = is_clone_refused(alloc, parse, &lit)
-                || calls::is_unescape_refused(alloc, &lit);
+                || allocating_calls::is_unescape_refused(alloc, &lit);
             discard(lit);
             refused
         }
@@ -104,13 +104,13 @@ fn is_parse_refused(alloc: Global, parse: Parse, text: &str) -> bool {
 fn try_feed(trial: &mut Trial, text: &str) {
     if !goes_on(text) {
         trial.at = ("Collector", "no memory");
-        let refused = calls::is_first_feed_refused(trial.alloc, text);
+        let refused = allocating_calls::is_first_feed_refused(trial.alloc, text);
         trial.check(!refused, "is refused memory that it does not need");
     }
 }
 
 /// Builds literals that do not exist. Returns `true` unless each error says why.
-fn is_build_refused(alloc: Global) -> bool {
+fn build_fails(alloc: Global) -> bool {
     !is_error(litrs_build::char(alloc, 'a', "-"), BuildError::NotASuffix)
         || !is_error(litrs_build::string(alloc, "a", "-"), BuildError::NotASuffix)
         || !is_error(

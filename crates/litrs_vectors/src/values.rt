@@ -1,9 +1,9 @@
 //! Rows on the values of literals.
 use crate::answers::after;
+use crate::field_value::FieldValue;
 use crate::named::is_text;
 use crate::parses::{Parse, parsed};
 use crate::rows::Row;
-use crate::said::Said;
 use crate::trial::{Place, Trial, again};
 use fast_float::FastFloat;
 use litrs::{CString, Literal};
@@ -63,7 +63,7 @@ fn is_call_refused(trial: &mut Trial, call: Call, row: &Row) -> bool {
 }
 
 /// Reads a value. Returns `true` if memory was refused.
-fn is_refused<T: Said>(trial: &mut Trial, call: Call, text: &str, answer: &[u8]) -> bool {
+fn is_refused<T: FieldValue>(trial: &mut Trial, call: Call, text: &str, answer: &[u8]) -> bool {
     match call {
         Call::Read => is_read_refused::<T>(trial, text, answer),
         Call::ReadPrefix => is_prefix_refused::<T>(trial, text, answer),
@@ -71,7 +71,7 @@ fn is_refused<T: Said>(trial: &mut Trial, call: Call, text: &str, answer: &[u8])
 }
 
 /// Reads the value of a text. Returns `true` if memory was refused.
-fn is_read_refused<T: Said>(trial: &mut Trial, text: &str, answer: &[u8]) -> bool {
+fn is_read_refused<T: FieldValue>(trial: &mut Trial, text: &str, answer: &[u8]) -> bool {
     match &read::<T>(trial.alloc, text) {
         Ok(value) => {
             trial.check(value.is_said(answer), "has another value");
@@ -82,7 +82,7 @@ fn is_read_refused<T: Said>(trial: &mut Trial, text: &str, answer: &[u8]) -> boo
 }
 
 /// Reads the value at the front of a text. Returns `true` if memory was refused.
-fn is_prefix_refused<T: Said>(trial: &mut Trial, text: &str, answer: &[u8]) -> bool {
+fn is_prefix_refused<T: FieldValue>(trial: &mut Trial, text: &str, answer: &[u8]) -> bool {
     match &read_prefix::<T>(trial.alloc, text) {
         Ok(Some((value, rest))) => {
             let len = text.len().saturating_sub(rest.len());
@@ -160,7 +160,7 @@ pub fn try_float(trial: &mut Trial, row: &Row) {
 }
 
 /// Tries the value of a number as a float of this type.
-fn try_float_as<F: FastFloat + Said>(trial: &mut Trial, text: &str, bits: &[u8]) {
+fn try_float_as<F: FastFloat + FieldValue>(trial: &mut Trial, text: &str, bits: &[u8]) {
     match &parsed(trial, Parse::Literal, &text) {
         Ok(Literal::Float(lit)) => {
             again!(
@@ -181,7 +181,11 @@ fn try_float_as<F: FastFloat + Said>(trial: &mut Trial, text: &str, bits: &[u8])
 }
 
 /// Tries that a float has these bits. Returns `true` if memory was refused.
-fn is_float_refused<F: Said>(trial: &mut Trial, value: Result<F, AllocError>, bits: &[u8]) -> bool {
+fn is_float_refused<F: FieldValue>(
+    trial: &mut Trial,
+    value: Result<F, AllocError>,
+    bits: &[u8],
+) -> bool {
     match value {
         Ok(value) => {
             trial.check(value.is_said(bits), "has another value");

@@ -5,7 +5,7 @@ ghost use Rattle.litrs_base.specs.Characters.{backslash};
 ghost use Rattle.litrs_base.specs.Text.{begins_with, first_passes};
 ghost use Rattle.litrs_base.specs.Quotes.{char_front};
 ghost use Rattle.litrs_grammar.specs.CharByte.{plain_char, is_char_item, IsCharLiteral};
-ghost use Rattle.litrs_grammar.specs.Continuation.{BeginsBy};
+ghost use Rattle.litrs_grammar.specs.LongerTexts.{BeginsBy};
 ghost use Rattle.litrs_grammar.specs.Literal.{kind_parse, char_literal, byte_literal, Begins};
 ghost use Rattle.litrs.specs.Begins.{BeginsClosing};
 

@@ -2,7 +2,7 @@
 ghost use Rattle.std.specs.Prelude.{◌↔◌, IsTrue};
 ghost use Rattle.std.specs.Str.{chars};
 ghost use Rattle.litrs_base.specs.Text.{begins_with};
-ghost use Rattle.litrs_grammar.specs.Continuation.{BeginsBy};
+ghost use Rattle.litrs_grammar.specs.LongerTexts.{BeginsBy};
 ghost use Rattle.litrs_grammar.specs.Literal.{IsString};
 ghost use Rattle.litrs_base.specs.Quotes.{quoted_front};
 ghost use Rattle.litrs_base.specs.declared.quotes.StringKind.TheVariants.{String as string_kind, ByteString as byte_string_kind, CString as c_string_kind};

@@ -4,7 +4,7 @@ ghost use Rattle.std.specs.List.{list_all};
 ghost use Rattle.std.specs.Str.{chars, IsCharBoundary};
 ghost use Rattle.litrs_base.specs.Refusal.{refusal_of, span_of, IsInText};
 ghost use Rattle.litrs_base.specs.Text.{begins_with};
-ghost use Rattle.litrs_grammar.specs.Continuation.{BeginsBy};
+ghost use Rattle.litrs_grammar.specs.LongerTexts.{BeginsBy};
 ghost use Rattle.litrs_grammar.specs.Literal.{IsString};
 ghost use Rattle.litrs_base.specs.Quotes.{raw_front};
 ghost use Rattle.litrs_grammar.specs.Raw.{is_hash, IsRawOf};

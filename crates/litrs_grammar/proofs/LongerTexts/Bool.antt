@@ -8,7 +8,7 @@ use Rattle.litrs_base.specs.Characters.{is_scalar}
 use Rattle.litrs_base.specs.Text.{IsText, begins_with}
 use Rattle.litrs_base.proofs.Begins.{begins_with-split, begins_with-append}
 use Rattle.litrs_grammar.specs.Bool.{bool_text, IsBool}
-use Rattle.litrs_grammar.specs.Continuation.{BeginsBy, EndsBy}
+use Rattle.litrs_grammar.specs.LongerTexts.{BeginsBy, EndsBy}
 use Rattle.litrs_grammar.specs.GoesOn.Bool.{bool_goes_on}
 use Rattle.litrs_grammar.proofs.LineFeeds.{is_other, no_line_feed}
 

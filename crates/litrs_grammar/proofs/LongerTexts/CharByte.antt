@@ -20,7 +20,7 @@ use Rattle.litrs_base.specs.declared.quotes.CharKind.TheVariants.{Char as char_k
 use Rattle.litrs_base.specs.Quotes.{char_front, char_switches_of}
 use Rattle.litrs_grammar.specs.Escape.{Escape, escape_text, is_escape, escape_refusal}
 use Rattle.litrs_grammar.specs.CharByte.{CharItem, plain_char, escaped_char, char_item_text, is_special_whitespace, allows_char, is_char_item, CharParts, IsCharLiteral, unterminated_kind, empty_kind, overlong_kind, start_refusal, closing_refusal, char_item_refusal, char_kind_refusal}
-use Rattle.litrs_grammar.specs.Continuation.{BeginsBy, EndsBy}
+use Rattle.litrs_grammar.specs.LongerTexts.{BeginsBy, EndsBy}
 use Rattle.litrs_grammar.specs.GoesOn.CharByte.{CharRestGoesOn, CharGoesOn}
 use Rattle.litrs_grammar.proofs.LongerTexts.Suffix.{front_of, suffix_freed, is_suffix-nil, underscore_x}
 use Rattle.litrs_grammar.proofs.LongerTexts.OpenRows.{is_open_row, shut_if, shut_suffix, shut_escape}

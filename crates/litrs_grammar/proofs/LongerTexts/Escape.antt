@@ -23,7 +23,7 @@ use Rattle.std.proofs.Math.Nat.{mul-le-mul_left, pow-le-pow_right}
 use Rattle.litrs_base.specs.Characters.{is_scalar}
 use Rattle.litrs_base.specs.Numeral.{place_sum, is_no_underscore}
 use Rattle.litrs_base.proofs.Runs.{list_all-append}
-use Rattle.litrs_grammar.specs.Laws.Continuation.{FinalEscapeRefusalsStay, RefusedEscapesGoOn}
+use Rattle.litrs_grammar.specs.Laws.LongerTexts.{FinalEscapeRefusalsStay, RefusedEscapesGoOn}
 use Rattle.litrs_grammar.specs.Laws.Escape.{BeginsWithEscape}
 use Rattle.litrs_grammar.specs.GoesOn.Escape.{BeginsEscape, inner_goes_on, hex_goes_on, braces_go_on, escape_goes_on}
 

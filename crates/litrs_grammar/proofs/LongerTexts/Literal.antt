@@ -20,10 +20,10 @@ use Rattle.litrs_grammar.specs.Raw.{raw_closing, hashes, hash_len, RawParts, IsR
 use Rattle.litrs_grammar.specs.Literal.{StringParts, string_suffix, quoted_parts, raw_parts, IsString, Derivation, a_bool, an_integer, a_float, a_char, a_byte, a_string, a_byte_string, a_c_string, IsLiteral, LiteralKind, bool_literal, integer_literal, float_literal, char_literal, byte_literal, string_literal, byte_string_literal, c_string_literal, literal_kind, literal_parse, kind_parse, IsLiteralOf, Begins, string_literal_of}
 use Rattle.litrs_grammar.specs.LiteralRefusals.{StringStart, refused_start, quoted_start, raw_start, string_start, IsRefusalOfStart, IsStringRefusal, IsKindRefusal, Dispatch, refused_as, parsed_as, dispatch, IsRefusalOfDispatch}
 use Rattle.litrs_grammar.specs.Closing.{after_raw_front, closing_text, closing_of, opening_text, written_body, IsClosedBy}
-use Rattle.litrs_grammar.specs.Continuation.{BeginsBy, EndsBy}
+use Rattle.litrs_grammar.specs.LongerTexts.{BeginsBy, EndsBy}
 use Rattle.litrs_grammar.specs.GoesOn.Raw.{raw_open_parts}
 use Rattle.litrs_grammar.specs.GoesOn.{StartGoesOn, KindGoesOn, DispatchedGoesOn}
-use Rattle.litrs_grammar.specs.Laws.Continuation.{FinalRefusalsStay, OpenRefusalsClose, LineEndsAreDecided, RefusedTextsGoOn}
+use Rattle.litrs_grammar.specs.Laws.LongerTexts.{FinalRefusalsStay, OpenRefusalsClose, LineEndsAreDecided, RefusedTextsGoOn}
 use Rattle.litrs_base.proofs.Runs.{last_passes, is_line_feed, line_feed_last}
 use Rattle.litrs_grammar.proofs.LongerTexts.OpenRows.{is_open_row, shut_if, shut_number, shut_suffix}
 use Rattle.litrs_grammar.proofs.Laws.Literal.{dispatch_literal, dispatch_refusal}

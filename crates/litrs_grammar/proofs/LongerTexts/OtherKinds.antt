@@ -8,7 +8,7 @@ use Rattle.litrs_base.specs.Refusal.{without_span, at_byte, spanning}
 use Rattle.litrs_grammar.specs.Escape.{simple_escape, unicode_escape}
 use Rattle.litrs_grammar.specs.CharByte.{plain_char, escaped_char}
 use Rattle.litrs_grammar.specs.Literal.{quoted_parts, raw_parts, a_bool, an_integer, a_float, a_char, a_byte, a_string, a_byte_string, a_c_string, float_literal, byte_literal, byte_string_literal, literal_parse, kind_parse}
-use Rattle.litrs_grammar.specs.Laws.Continuation.{OtherKindsMayGoOn}
+use Rattle.litrs_grammar.specs.Laws.LongerTexts.{OtherKindsMayGoOn}
 use Rattle.litrs_grammar.proofs.Computing.{computing}
 
 pub other_kinds_may_go_on : OtherKindsMayGoOn

@@ -23,9 +23,9 @@ use Rattle.std.specs.Char.{is_ascii_hexdigit}
 use Rattle.std.proofs.lemmas.List.Folds.{list_all-append as all-append}
 use Rattle.litrs_base.proofs.Runs.{list_all-append, list_all-weaken, last_passes, is_line_feed, last_passes-append, line_feed_last}
 use Rattle.litrs_grammar.proofs.Laws.Escape.{inner_of, read_escape, refusal_escape, SomeEscape}
-use Rattle.litrs_grammar.specs.Continuation.{BeginsBy, EndsBy}
+use Rattle.litrs_grammar.specs.LongerTexts.{BeginsBy, EndsBy}
 use Rattle.litrs_grammar.proofs.LineFeeds.{is_other, escape_other, no_line_feed_last}
-use Rattle.litrs_grammar.specs.Laws.Continuation.{QuotedItemsStay, FinalQuotedRefusalsStay}
+use Rattle.litrs_grammar.specs.Laws.LongerTexts.{QuotedItemsStay, FinalQuotedRefusalsStay}
 use Rattle.litrs_grammar.specs.GoesOn.Quoted.{IsOpenRest, RestGoesOn, IsClosedQuoted, QuotedGoesOn}
 use Rattle.litrs_grammar.specs.GoesOn.Escape.{BeginsEscape}
 use Rattle.litrs_grammar.proofs.LongerTexts.Suffix.{is_suffix-nil, underscore_x, front_of, suffix_final, suffix_freed}

@@ -16,7 +16,7 @@ use Rattle.litrs_base.proofs.Runs.{list_all-weaken, prefix_len_all, IsRun, run_o
 use Rattle.litrs_grammar.specs.Suffix.{is_suffix, suffix_refusal}
 use Rattle.litrs_grammar.specs.Raw.{is_quote, is_hash, hashes, raw_closing, occurs, is_raw_char, IsRawBody, RawParts, raw_text, IsRawOf, hash_len, length_before, raw_char_refusal, raw_body_refusal, raw_refusal}
 use Rattle.litrs_grammar.specs.GoesOn.Raw.{raw_open_parts, IsClosedRaw, RawRestGoesOn, RawGoesOn}
-use Rattle.litrs_grammar.specs.Continuation.{BeginsBy, EndsBy}
+use Rattle.litrs_grammar.specs.LongerTexts.{BeginsBy, EndsBy}
 use Rattle.litrs_grammar.proofs.Laws.Integer.{prefix_len_front}
 use Rattle.litrs_grammar.proofs.LongerTexts.Escape.{never, keep}
 use Rattle.litrs_grammar.proofs.LongerTexts.Suffix.{suffix_freed, suffix_final, is_suffix-nil, underscore_x}

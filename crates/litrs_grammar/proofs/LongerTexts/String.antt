@@ -17,7 +17,7 @@ use Rattle.litrs_grammar.specs.Quoted.{QuotedParts, IsQuotedLiteral}
 use Rattle.litrs_grammar.specs.Raw.{RawParts, IsRawLiteral}
 use Rattle.litrs_grammar.specs.Literal.{StringParts, quoted_parts, raw_parts, IsString}
 use Rattle.litrs_grammar.specs.LiteralRefusals.{refused_start, quoted_start, raw_start, string_start, string_start_refusal}
-use Rattle.litrs_grammar.specs.Continuation.{BeginsBy, EndsBy}
+use Rattle.litrs_grammar.specs.LongerTexts.{BeginsBy, EndsBy}
 use Rattle.litrs_grammar.specs.GoesOn.String.{start_goes_on}
 use Rattle.litrs_grammar.proofs.Laws.Literal.{string_start_says, start_quoted, start_raw, quoted_starts, raw_starts}
 use Rattle.litrs_grammar.proofs.LongerTexts.Suffix.{is_suffix-nil, front_of}

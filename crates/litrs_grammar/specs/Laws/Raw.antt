@@ -60,8 +60,8 @@ NoNulInRawCStrings = (t : List ℕ) (d : RawParts) →
 abbrev pub RawValuesAreAsLongAsBodies : Type 0
 RawValuesAreAsLongAsBodies = (d : RawParts) → length (raw_value d.body) ≡ byte_len d.body
 
--- No closing begins in the part `front` of the text `front ++ t`. A search for the first closing has
--- then skipped it.
+-- No closing begins in the part `front` of the text `front ++ t`. A search for the first closing
+-- has then skipped it.
 abbrev pub NoClosingIn : (n : ℕ) (front t : List ℕ) → Type 0
 NoClosingIn n front t = (i : ℕ) → i < length front →
     IsFalse (begins_with (raw_closing n) (drop i (front ++ t)))

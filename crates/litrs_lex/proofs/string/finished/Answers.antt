@@ -10,7 +10,7 @@ overflow_sub-place g c = from_offset _ c.args.input.now _ _ _ c.utf8.input c.req
 
 pub returns-then-value-place : goal.returns-then-value-place
 returns-then-value-place g c =
-    none_of _ c.args.input.now _ _ _ _ c.utf8.input c.requires.at c.requires.read (ap length c.requires.read.read.held) c.in_ok-closed.ensures.ok c.if-value-place.true
+    none_of _ c.args.input.now _ _ _ _ c.utf8.input c.requires.at c.requires.read (ap length c.requires.read.read.held) c.in_ok-check_after_quote.ensures.ok c.if-value-place.true
 
 pub copied-requires-clause-text : goal.copied-requires-clause-text
 copied-requires-clause-text g c = λ none. held_is_utf8 _ c.args.input.now _ _ _ g.C.EscapeContainer.TAKES_BYTES c.utf8.input c.requires.read.read c.requires.fits none
@@ -20,9 +20,9 @@ copied-requires-clause-room g c = room_of _ _ _ c.in-Ok.ensures.room
 
 pub returns-in-Ok : goal.returns-in-Ok
 returns-in-Ok g c =
-    some_of _ c.args.input.now _ _ _ _ c.utf8.input c.requires.at c.requires.read (ap length c.requires.read.read.held) c.in_ok-closed.ensures.ok c.if-value-place.false _
+    some_of _ c.args.input.now _ _ _ _ c.utf8.input c.requires.at c.requires.read (ap length c.requires.read.read.held) c.in_ok-check_after_quote.ensures.ok c.if-value-place.false _
     (λ q is. c.copied.ensures.contents ∙ whole_held _ c.args.input.now _ _ _ q c.requires.read is)
 
 pub returns-in-Err : goal.returns-in-Err
 returns-in-Err g c =
-    inr (no_memory_of _ c.args.input.now _ _ _ _ _ c.utf8.input c.requires.at c.requires.read (ap length c.requires.read.read.held) c.in_ok-closed.ensures.ok c.if-value-place.false c.in-Err.ensures.error)
+    inr (no_memory_of _ c.args.input.now _ _ _ _ _ c.utf8.input c.requires.at c.requires.read (ap length c.requires.read.read.held) c.in_ok-check_after_quote.ensures.ok c.if-value-place.false c.in-Err.ensures.error)

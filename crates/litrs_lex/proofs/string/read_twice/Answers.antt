@@ -11,25 +11,25 @@ overflow_sub-place g c = from_offset _ c.args.input.now _ _ _ c.utf8.input c.req
 pub returns-then-counted-place : goal.returns-then-counted-place
 returns-then-counted-place g c =
     let body = c.in-Quote.ensures.reached in
-    none_of _ c.args.input.now _ _ _ _ c.utf8.input c.requires.at body body.read.held c.in_ok-closed-in-Quote.ensures.ok c.if-counted-place.true
+    none_of _ c.args.input.now _ _ _ _ c.utf8.input c.requires.at body body.read.held c.in_ok-check_after_quote-in-Quote.ensures.ok c.if-counted-place.true
 
 pub returns-in-Ok : goal.returns-in-Ok
 returns-in-Ok g c =
     let body = c.in-Quote.ensures.reached in
-    some_of _ c.args.input.now _ _ _ _ c.utf8.input c.requires.at body body.read.held c.in_ok-closed-in-Quote.ensures.ok c.if-counted-place.false _ c.filled.ensures
+    some_of _ c.args.input.now _ _ _ _ c.utf8.input c.requires.at body body.read.held c.in_ok-check_after_quote-in-Quote.ensures.ok c.if-counted-place.false _ c.fill_container.ensures
 
 pub returns-in-Err : goal.returns-in-Err
 returns-in-Err g c =
     let body = c.in-Quote.ensures.reached in
-    inr (no_memory_of _ c.args.input.now _ _ _ _ _ c.utf8.input c.requires.at body body.read.held c.in_ok-closed-in-Quote.ensures.ok c.if-counted-place.false c.in-Err.ensures.error)
+    inr (no_memory_of _ c.args.input.now _ _ _ _ _ c.utf8.input c.requires.at body body.read.held c.in_ok-check_after_quote-in-Quote.ensures.ok c.if-counted-place.false c.in-Err.ensures.error)
 
 pub returns-in-Refused : goal.returns-in-Refused
 returns-in-Refused g c = inl c.in-Refused.ensures.reached.1
 
-pub filled-requires-clause-room : goal.filled-requires-clause-room
-filled-requires-clause-room g c =
+pub fill_container-requires-clause-room : goal.fill_container-requires-clause-room
+fill_container-requires-clause-room g c =
     let body = c.in-Quote.ensures.reached in
-    within_of _ c.args.input.now _ _ _ _ _ _ c.utf8.input c.requires.at body body.read.held c.in_ok-closed-in-Quote.ensures.ok c.in-Ok.ensures.room
+    within_of _ c.args.input.now _ _ _ _ _ _ c.utf8.input c.requires.at body body.read.held c.in_ok-check_after_quote-in-Quote.ensures.ok c.in-Ok.ensures.room
 
 pub unreachable-requires : goal.unreachable-requires
 unreachable-requires g c = none_longer _ c.args.input.now _ (let small : length c.args.input.now < 2 ^ 64 = omega arith in small) c.in-Full.ensures.reached.1

@@ -7,5 +7,5 @@ returns-in_err-value-clause-refused g c = search rules
 pub invariant_of-result : goal.invariant_of-result
 invariant_of-result g c = search rules
 
-pub cut-requires : goal.cut-requires
-cut-requires g c = rw (← c.as_str.ensures) at c.requires
+pub cut_with_front-requires : goal.cut_with_front-requires
+cut_with_front-requires g c = rw (← c.as_str.ensures) at c.requires

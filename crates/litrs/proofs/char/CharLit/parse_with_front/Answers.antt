@@ -4,5 +4,5 @@ use Rattle.litrs.proofs.char.CharLit.parse_with_front.Goals as goal
 pub returns-in_err-value-clause-refused : goal.returns-in_err-value-clause-refused
 returns-in_err-value-clause-refused g c = search rules
 
-pub cut-requires : goal.cut-requires
-cut-requires g c = rw (← c.as_str.ensures) at c.requires
+pub cut_with_front-requires : goal.cut_with_front-requires
+cut_with_front-requires g c = rw (← c.as_str.ensures) at c.requires

@@ -1,5 +1,0 @@
-use Rattle.litrs_grammar.proofs.LiteralTexts.{joined_bodies_are_quoted}
-use Rattle.litrs_grammar.proofs.continuation.joined_bodies_are_quoted.Goals as goal
-
-pub returns : goal.returns
-returns c = joined_bodies_are_quoted

@@ -1,6 +1,0 @@
--- The text of the literal is one of its kind.
-use Rattle.litrs_token.proofs.TokenTexts.{char_token}
-use Rattle.litrs_token.proofs.kinds.CharLitOneKind.text.Goals as goal
-
-pub returns-clause-literal : goal.returns-clause-literal
-returns-clause-literal g c = char_token _ _ c.raw_input.ensures.literal
