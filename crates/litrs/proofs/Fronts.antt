@@ -22,7 +22,7 @@ pub front_ends : (front bs : List ℕ) → list_all (λ c. ltb c 128) front ≡ 
 front_ends front bs low u e = let f = begins_front front bs low e u in IsCharBoundary-from_drop bs
     (length front) f.within f.utf8
 
--- the front is what stands before the cut
+-- the front is the text before the cut
 pub front_taken : (front bs : List ℕ) → list_all (λ c. ltb c 128) front ≡ true →
     begins_with front bs ≡ true → chars (take (length front) bs) ≡ front
 front_taken front bs low e =

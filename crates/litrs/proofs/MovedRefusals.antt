@@ -1,4 +1,4 @@
--- The refusal of a text may be moved by the place where the text stands in a longer one: the
+-- The refusal of a text may be moved by the place of the text in a longer one: the
 -- condition of `offset_span`.
 use Rattle.std.proofs.Common.{◌≡◌, ℕ, ◌+◌, ◌<◌, ◌^◌, List, length, Option, Some, None, IfSome, inl, inr, ap, arith, subst}
 use Rattle.std.specs.Option.{ForSome}

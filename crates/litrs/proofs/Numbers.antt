@@ -40,7 +40,7 @@ use Rattle.litrs_lex.specs.Front.{row_of}
 use Rattle.litrs_lex.specs.declared.kind.Front.TheVariants as front
 use Rattle.litrs.proofs.Begins.{answer_is, begins_now}
 
--- nothing stands after a front that is as long as the text
+-- nothing follows a front that is as long as the text
 nothing_after : (a b : List ℕ) → byte_len a ≡ byte_len (a ++ b) → b ≡ []
 nothing_after a [] same = refl
 nothing_after a (c ∷ b) same =
@@ -96,7 +96,7 @@ no_digit_row start end len digit false kind r h same =
     let at_byte : spanning start end NoDigits ≡ r = cc in
     subst (λ (e : Refusal). may_gain_digits e len ≡ true) at_byte (eq-eqb end len same)
 
--- nothing stands after the main part if and only if the refusal lacks digits
+-- nothing follows the main part if and only if the refusal lacks digits
 integer_lacks : (d : IntegerParts) (r : Refusal) → integer_cut_refusal d ≡ Some r →
     (may_gain_digits r (byte_len (integer_text d)) ≡ true) ↔ (d.suffix ≡ [])
 integer_lacks d r h = (to, from)

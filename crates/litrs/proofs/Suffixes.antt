@@ -16,7 +16,7 @@ use Rattle.litrs.proofs.Begins.{yes, answer_is}
 pub suffix_now : (t : List ℕ) → is_suffix t ≡ true → BeginsSuffix t
 suffix_now t is = ([], refl, ap is_suffix (append-nil t) ∙ is)
 
--- so does the underscore that stands alone
+-- so does a lone underscore
 pub lone_begins : BeginsSuffix (95 ∷ [])
 lone_begins = (120 ∷ [], refl, underscore_x)
 

@@ -189,7 +189,7 @@ points_cut bs span utf8 at =
       within = subst (λ (b : List ℕ). span.end ≤ length b) same at.within;
     }
 
--- the same of its character span, or all of it where there is none
+-- Likewise for its character span, or for all of the text if there is none.
 pub marked_span_cuts : (bs : List ℕ) (e : ParseError) → IsUtf8 bs → IfSome (char_span_of e) (PointsAtCharacters (chars bs)) → IsCutBy bs (marked_span (chars bs) e)
 marked_span_cuts bs e utf8 = cuts e.span e.char_end
   where

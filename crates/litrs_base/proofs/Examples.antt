@@ -1,4 +1,4 @@
--- The only derivation, the names of types, and what escapes stand for, by computation.
+-- The only derivation, the names of types, and the values of escapes, by computation.
 use Rattle.std.specs.Prelude.{◌≡◌, ℕ, refl, true, false}
 use Rattle.litrs_base.specs.declared.integer.IntegerType.{IntegerType}
 use Rattle.litrs_base.specs.declared.float.FloatType.{FloatType}

@@ -1,4 +1,4 @@
--- Tests on lists: where the first element stands that passes.
+-- Tests on lists: the place of the first element that passes.
 use Rattle.std.proofs.Common.{◌≡◌, ℕ, Bool, true, false, not, ◌||◌, cond, ◌≤◌, List, [], ◌∷◌, ◌++◌, length, Option, Some, None, refl, ap, ◌∙◌, subst, arith}
 use Rattle.std.specs.Prelude.{if◌then◌else◌}
 use Rattle.std.specs.List.{list_all, list_any, position_or_len, before_first, take_while}
@@ -16,7 +16,7 @@ pub none_unless : {A : Type 0} (b : Bool) (x : A) (y : Option A) → b ≡ true 
 none_unless true x y h e = e
 none_unless false x y h e = cc
 
--- a refusal that does not stand unless the test passes
+-- if there is no refusal, the test passes
 pub unless_none : {A : Type 0} (b : Bool) (x : A) (y : Option A) → (if not b then Some x else y) ≡ None → (b ≡ true) × (y ≡ None)
 unless_none true x y h = (refl, h)
 unless_none false x y h = cc
@@ -48,7 +48,7 @@ split_first p (c ∷ t) h = go (p c) refl (split_first p t)
     go true e rec = ([], c, t, record { spells = refl; before = refl; passes = e })
     go false e rec = split_later p c t e (rec (rw e at h))
 
--- what stands before the first that passes
+-- the place of the first that passes is the number of elements before it
 pub position_or_len-split : (p : ℕ → Bool) (xs : List ℕ) (c : ℕ) (ys : List ℕ) → list_all (λ x. not (p x)) xs ≡ true → p c ≡ true →
     position_or_len p (xs ++ c ∷ ys) ≡ length xs
 position_or_len-split p [] c ys h e = rw e refl

@@ -35,7 +35,7 @@ escape_second w (simple_escape d) x c t h same =
 escape_second w (hex_escape d f) x c t h same = let at : 120 ≡ c = cc in subst (λ n. (n == 10) ≡ false) at refl
 escape_second w (unicode_escape inner) x c t h same = let at : 117 ≡ c = cc in subst (λ n. (n == 10) ≡ false) at refl
 
--- no character that stands for itself is a backslash or a quote
+-- no plain character is a backslash or a quote
 not_plain : (w : Switches) (c d : ℕ) → is_plain w c ≡ true → c ≡ d → is_plain w d ≡ false → ⊥
 not_plain w c d h at none = both_ways (is_plain w d) none (subst (λ n. is_plain w n ≡ true) at h)
 
@@ -80,7 +80,7 @@ same_item w (continuation a) (continuation b) x y h g k l same =
     let both = blanks_same a b x y h g (not-true _ left.1) (not-true _ right.1) tails in
     (ap continuation both.0, both.1)
 
--- no item stands at the front of the text
+-- the text begins with no item
 abbrev pub NoItem : Switches → List ℕ → Type 0
 NoItem w x = (a : Item) (after : List ℕ) → is_item w a ≡ true → is_complete_before after a ≡ true → item_text a ++ after ≡ x → ⊥
 
@@ -171,7 +171,7 @@ refused_no_item w x e told a after h k same =
     let none : item_refusal w x ≡ None = subst (λ l. item_refusal w l ≡ None) same (item_no_refusal w a after h k) in
     cc
 
--- What stands at the front of a text: an item, a reason to refuse it, or the closing quote and a suffix.
+-- The front of a text: an item, a reason to refuse it, or the closing quote and a suffix.
 pub record HasItem (w : Switches) (t : List ℕ) (a : Item) (after : List ℕ) : Type 0 where
   pub spells : item_text a ++ after ≡ t
   pub grammar : is_item w a ≡ true
@@ -327,7 +327,7 @@ read_within (suc n) w t h = go (front w t) (read_within n w)
 pub read_items : (w : Switches) (t : List ℕ) → SomeReading w t
 read_items w t = read_within (length t + 1) w t (omega arith)
 
--- a body stands before its closing quote, and what stands there is a body
+-- a body precedes its closing quote, and the text before that quote is a body
 stands_item : (a : Item) (t s : List ℕ) → takes_all_blanks a t ≡ true → is_complete_before (t ++ 34 ∷ s) a ≡ true
 stands_item (plain_item c) t s h = refl
 stands_item (escape_item e) [] s h = refl

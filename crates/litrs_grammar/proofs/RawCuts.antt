@@ -61,11 +61,11 @@ hashes_before_quote zero s t = refl
 hashes_before_quote (suc n) [] t = refl
 hashes_before_quote (suc n) (c ∷ cs) t = ap (λ v. (35 == c) && v) (hashes_before_quote n cs t)
 
--- Before another closing a closing stands where it stood without that.
+-- A closing before another closing is found as it is without the other.
 pub closing_before_closing : (n c : ℕ) (cs t : List ℕ) → begins_with (raw_closing n) ((c ∷ cs) ++ (34 ∷ t)) ≡ begins_with (raw_closing n) (c ∷ cs)
 closing_before_closing n c cs t = ap (λ v. (34 == c) && v) (hashes_before_quote n cs t)
 
--- the first closing after a body in which there is none
+-- the first closing after a body that contains no closing
 pub length_before-body : (n : ℕ) (body t : List ℕ) → occurs (raw_closing n) body ≡ false → length_before (raw_closing n) (body ++ (raw_closing n ++ t)) ≡ length body
 length_before-body n [] t none = ap (λ v. cond v 0 (1 + length_before (raw_closing n) (hashes n ++ t))) (begins_with-append (raw_closing n) t)
 length_before-body n (c ∷ cs) t none =
@@ -78,7 +78,7 @@ pub occurs-body : (n : ℕ) (body t : List ℕ) → occurs (raw_closing n) (body
 occurs-body n [] t = or_left _ _ (begins_with-append (raw_closing n) t)
 occurs-body n (c ∷ cs) t = or_right (begins_with (raw_closing n) ((c ∷ cs) ++ (raw_closing n ++ t))) _ (occurs-body n cs t)
 
--- a text in which a closing stands, cut there
+-- a text that contains a closing, cut there
 pub record ClosingCut (n : ℕ) (t : List ℕ) : Type 0 where
   pub before : List ℕ
   pub after : List ℕ

@@ -14,7 +14,7 @@ use Rattle.litrs_base.proofs.Chars.{OnlyAscii, IsAsciiFront, front_zero, front_s
 pub only_char : (k : ℕ) → k < 128 → OnlyAscii (λ c. c == k)
 only_char k low c high = ne_eqb c k (λ e. omega arith)
 
--- an ASCII character stands in a text where its byte does
+-- a text contains an ASCII character if and only if its bytes contain it
 list_any-encode : (p : ℕ → Bool) (c : ℕ) → OnlyAscii p → list_any p (encode_utf8 c) ≡ p c
 list_any-encode p c only = elim (cases_lt c 128) [
   | inl low ↦ ap (list_any p) (encode_ascii c low) ∙ or_nothing (p c)

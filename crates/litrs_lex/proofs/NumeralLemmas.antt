@@ -19,7 +19,7 @@ use Rattle.litrs_base.specs.declared.integer.IntegerBase.TheVariants.{Binary, Oc
 use Rattle.litrs_base.specs.Base.{base_value, is_digit_or_underscore}
 use Rattle.litrs_base.specs.Numeral.{place_sum, is_no_underscore, numeral}
 
--- the digits in front stand so many places higher
+-- the digits in front count higher by the number of digits after them
 place_sum-append : (base : ℕ) (xs ys : List ℕ) → place_sum base (xs ++ ys) ≡ place_sum base xs * base ^ length ys + place_sum base ys
 unfolding place_sum
 place_sum-append base [] ys = omega arith

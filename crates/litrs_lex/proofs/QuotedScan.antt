@@ -14,7 +14,7 @@ use Rattle.litrs_grammar.specs.Quoted.{Item, plain_item, item_text, item_value, 
 use Rattle.litrs_grammar.proofs.Laws.Quoted.{body_text-append, body_value-append}
 use Rattle.litrs_lex.specs.QuotedItems.{IsPlainRun, IsItemAt, item_bytes}
 
--- After the front stand some items, up to this place and standing for these bytes, and then the rest.
+-- Some items follow the front, up to this place and with this value, and then the rest.
 pub record ReadsSome (w : Switches) (front t rest : List ℕ) (at : ℕ) (value : List ℕ) : Type 0 where
   pub items : List Item
   pub spells : front ++ (body_text items ++ rest) ≡ t
@@ -31,7 +31,7 @@ reads_none w front t rest spells = record {
   is_value = refl;
 }
 
--- items that stand before what items stand before
+-- items before further items, both before the same rest
 pub is_item_list-append : (w : Switches) (items more : List Item) (rest : List ℕ) → is_item_list w (body_text more ++ rest) items ≡ true → is_item_list w rest more ≡ true →
     is_item_list w rest (items ++ more) ≡ true
 is_item_list-append w [] more rest h g = g
@@ -111,7 +111,7 @@ reads_start w bytes n u at =
     subst (λ (m : ℕ). ReadsSome w (chars (take n bytes)) (chars bytes) (chars (drop n bytes)) m []) cut.1
     (reads_none w (chars (take n bytes)) (chars bytes) (chars (drop n bytes)) cut.0)
 
--- a run of plain characters stands for its bytes
+-- the value of a run of plain characters is its bytes
 pub reads_run : (w : Switches) (front t bytes value : List ℕ) (at end : ℕ) → (run : IsPlainRun w bytes at end) → ReadsSome w front t (chars (drop at bytes)) at value →
     ReadsSome w front t (chars (drop end bytes)) end (value ++ encode_utf8_all run.run)
 reads_run w front t bytes value at end run read =

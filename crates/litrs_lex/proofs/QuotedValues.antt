@@ -57,7 +57,7 @@ pub whole_held : (w : Switches) (bytes value : List ℕ) (offset place : ℕ) (q
     IsQuoted (chars (take offset bytes)) w (chars bytes) q → value ≡ body_value q.items
 whole_held w bytes value offset place q b is = b.read.held ∙ whole_value w bytes offset place _ q b is
 
--- Items at the front of a body are its first ones, so they stand for no more than it
+-- Items at the front of a body are its first ones, so their value is at most as long as its value
 first_items : (w : Switches) (items others : List Item) (x s : List ℕ) → is_item_list w x items ≡ true → is_item_list w (34 ∷ s) others ≡ true →
     body_text items ++ x ≡ body_text others ++ 34 ∷ s → length (body_value items) ≤ length (body_value others)
 first_items w [] others x s h g same = omega arith

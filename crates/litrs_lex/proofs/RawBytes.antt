@@ -34,7 +34,7 @@ use Rattle.litrs_lex.proofs.PlainRuns.{AlikeFrom128, IsCharRun, char_run, not_as
 use Rattle.litrs_lex.proofs.FloatBytes.{chars_after, utf8_after, rest_is}
 use Rattle.litrs_lex.proofs.SuffixBytes.{is_suffix-nil}
 
--- One character: the search stops at those that may not stand in a body, and at `"`.
+-- One character: the search stops at those that no body contains, and at `"`.
 
 regrouped : (quote return x y : Bool) → (not quote && true && not return && x && y) ≡ (not quote && (not return && (x && y)))
 regrouped true r x y = refl
@@ -54,7 +54,7 @@ ordinary_raw u a c h = (and_parts (not (c == 34)) (is_raw_char u a c) (sym (ordi
 ordinary_no_quote : (u a : Bool) (c : ℕ) → is_ordinary (raw_special u a) c ≡ true → (34 == c) ≡ false
 ordinary_no_quote u a c h = no_quote c (not-true _ (and_parts (not (c == 34)) (is_raw_char u a c) (sym (ordinary_is u a c) ∙ h)).0)
 
--- what is neither ordinary nor `"` may not stand in a body
+-- no body contains a character that is neither ordinary nor `"`
 stops_raw : (u a : Bool) (c : ℕ) → is_ordinary (raw_special u a) c ≡ false → (c == 34) ≡ false → is_raw_char u a c ≡ false
 stops_raw u a c h other = ap (λ v. not v && is_raw_char u a c) (sym other) ∙ (sym (ordinary_is u a c) ∙ h)
 
@@ -176,7 +176,7 @@ pub after_quote : (u a : Bool) (n start place : ℕ) (bytes : List ℕ) → IsSt
     (first_passes is_quote (drop place bytes) && not (begins_with (raw_closing n) (drop place bytes))) ≡ true → After u a n start place bytes
 after_quote u a n start place bytes s inner = after_first u a n start place bytes (drop place bytes) refl s.within s.utf8 s.passed inner
 
--- What stands at the end of the search
+-- The place at which the search ends
 
 place_is : (u a : Bool) (n start place : ℕ) (bytes : List ℕ) → IsUtf8 (drop start bytes) → (s : IsStop u a n start bytes place) → start + byte_len s.passed.front ≡ place
 place_is u a n start place bytes utf8 s =
@@ -207,7 +207,7 @@ pub open_body : (u a : Bool) (n start place : ℕ) (bytes : List ℕ) → IsUtf8
 open_body u a n start place bytes utf8 s none =
     refusal_here u a n start place bytes utf8 s ∙ (ap (raw_body_refusal u a n place) (ap chars none ∙ chars-nil) ∙ open_rest u a n place)
 
--- a character that may not stand in the body
+-- a character that the body may not contain
 body_by : (u a : Bool) (n place : ℕ) (t body : List ℕ) (allowed : ℕ) → Option Refusal
 body_by u a n place t body allowed =
     if ltb allowed (length body) then Some (at_byte (place + byte_len (take allowed t)) (raw_char_refusal (slice_index t allowed)))
@@ -515,7 +515,7 @@ cons_at bytes text place b same within inside is =
 pub none_at : (bytes text : List ℕ) (place : ℕ) → bytes ≡ text → place ≡ length bytes → drop place text ≡ []
 none_at bytes text place same is = ap (λ k. drop k text) (is ∙ ap length same) ∙ drop_all (length text) text (omega arith)
 
--- where a quote stands that the search stops at, it closes
+-- a quote at which the search stops begins a closing
 pub closes_there : (n : ℕ) (rest : List ℕ) → (first_passes is_quote rest && not (begins_with (raw_closing n) rest)) ≡ false → first_passes is_quote rest ≡ true → begins_with (raw_closing n) rest ≡ true
 closes_there n rest outer quote = not-false _ (ap (λ v. v && not (begins_with (raw_closing n) rest)) (sym quote) ∙ outer)
 

@@ -98,7 +98,7 @@ pub none_longer : (w : Switches) (bytes : List ℕ) (offset : ℕ) → length by
 none_longer w bytes offset small (place, read) =
     let longer = read.held in let fit = read.fits in let within = read.boundary.0 in omega arith
 
--- after the run no plain character stands: an empty run
+-- no plain character follows the run: an empty run
 pub no_run : (w : Switches) (bytes : List ℕ) (at place : ℕ) → IsPlainRun w bytes at place → IsPlainRun w bytes place place
 no_run w bytes at place run = record {
   run = [];
@@ -131,7 +131,7 @@ value_small w bytes rest offset place len v h r is item small =
     let fit = r.fits in let size = item.fits in let within = item.within in let e = ap length is in let at = r.boundary.0 in
     (body_value r.items, (r.held, omega (arith, length-drop place bytes)))
 
--- what stands at the front of the rest
+-- the front of the rest
 
 pub item_of : (w : Switches) (bytes : List ℕ) {s : Stop} {v : Option Unescape} {n : ℕ} → s ≡ stop.Item v n → StandsAt w bytes s → IsItemAt w bytes n v
 item_of w bytes is h = subst (λ (x : Stop). StandsAt w bytes x) is h

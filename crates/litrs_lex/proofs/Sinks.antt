@@ -53,6 +53,6 @@ pub room_of : (no_zero : Bool) (len capacity : ℕ) → capacity ≡ (if no_zero
 room_of true len capacity is = omega arith
 room_of false len capacity is = omega arith
 
--- so many bytes, said otherwise
+-- the same number of bytes, by an equal list
 pub lacked : {P : Type 0} (room : ℕ) (v a b : List ℕ) → a ≡ b → P × (room < length v + length a) → P × (room < length v + length b)
 lacked room v a b is held = (held.0, subst (λ l. room < length v + length l) is held.1)

@@ -45,7 +45,7 @@ pub raw_boundary : (kind : StringKind) (bs : List ℕ) → IsUtf8 bs → begins_
     IsCharBoundary bs (length (raw_front kind))
 raw_boundary kind bs u begins = front_boundary (raw_front kind) bs (raw_low kind) u begins
 
--- what stands before the body of a quoted string
+-- the front of a quoted string, before its body
 pub quoted_before : (kind : StringKind) (bs : List ℕ) → IsUtf8 bs → begins_with (quoted_front kind) bs ≡ true →
     chars (take (length (quoted_front kind)) bs) ≡ quoted_front kind
 quoted_before kind bs u begins =
@@ -54,7 +54,7 @@ quoted_before kind bs u begins =
     chars-IsAscii (take (length front) bs) f.ascii
     ∙ (ap (take (length front)) (sym (begins_with-split front bs begins)) ∙ take-append_seam front (drop (length front) bs))
 
--- what stands after the front of a raw one
+-- the text after the front of a raw one
 pub raw_after : (kind : StringKind) (bs : List ℕ) → IsUtf8 bs → begins_with (raw_front kind) bs ≡ true →
     drop (length (raw_front kind)) (chars bs) ≡ chars (drop (length (raw_front kind)) bs)
 raw_after kind bs u begins = (begins_front (raw_front kind) bs (raw_low kind) begins u).rest

@@ -74,7 +74,7 @@ unclosed_row byte_escapes allow_nul bs b never =
     braced_refusal (switches true byte_escapes allow_nul) bs b
     ∙ (if_true _ _ _ (ap not (list_any-chars (λ c. c == 125) r brace_only b.utf8 ∙ never)) ∙ ap (λ n. Some (spanning 0 n UnterminatedUnicodeEscape)) size)
 
--- what stands between the braces
+-- the text between the braces
 to_inner : (byte_escapes allow_nul : Bool) (inner t : List ℕ) (c : ℕ) (zs : List ℕ) → Split (λ c. c == 125) t inner c zs →
     unicode_refusal (switches true byte_escapes allow_nul) (123 ∷ t) ≡ inner_refusal (switches true byte_escapes allow_nul) inner
 to_inner byte_escapes allow_nul inner t c zs s =
@@ -233,11 +233,11 @@ left_false : (a b : Bool) → b ≡ true → (a && b) ≡ false → a ≡ false
 left_false true b h g = absurd (true≢false (sym h ∙ g))
 left_false false b h g = refl
 
--- what stands at the digits' end
+-- the digits do not end at a closing brace, or there are none
 abbrev pub AtEnd : List ℕ → List ℕ → Type 0
 AtEnd bs ys = (first_passes is_ascii_hexdigit (drop 3 bs) && first_passes (λ c. c == 125) ys) ≡ false
 
--- between the braces, after the digits, stands one more character
+-- between the braces, a further character follows the digits
 pub record IsStopped (bs xs ys : List ℕ) : Type 0 where
   pub inner : List ℕ
   pub brace : ℕ

@@ -195,7 +195,7 @@ rows-unicode_escape_in_byte_literal = refl
 
 rows-unterminated_unicode_escape :
     CharRefused "'\\u{a0_b  '" (spanning 1 11 kind.UnterminatedUnicodeEscape)
-    -- that no brace closes comes before what stands first inside
+    -- a missing closing brace is refused before the first character inside
     × CharRefused "'\\u{_" (spanning 1 5 kind.UnterminatedUnicodeEscape)
 unfolding computing
 rows-unterminated_unicode_escape = (refl, refl)

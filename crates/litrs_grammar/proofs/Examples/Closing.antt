@@ -46,7 +46,7 @@ suffix_closes_nothing closed =
     let none : codes "x" ≡ [] = sym (ap suffix_of is) ∙ (suffix_same closed.kind closed.parts ∙ closed.no_suffix) in
     cc
 
--- what stands before the closing quote of a string of one of the three kinds
+-- the text before the closing quote of a string of one of the three kinds
 abbrev opened : Derivation → List ℕ
 opened (a_bool b) = []
 opened (an_integer d) = []

@@ -10,11 +10,11 @@ use Rattle.litrs_base.specs.Quotes.{char_switches, byte_switches, string_switche
 use Rattle.litrs_grammar.specs.Escape.{Escape, simple_escape, hex_escape, unicode_escape, escape_text, escape_value, value_bytes, is_escape, escape_refusal}
 use Rattle.litrs_grammar.proofs.Computing.{computing}
 
--- an escape where the switches are so, how it is written and what it stands for
+-- an escape under these switches, with its text and its value
 abbrev Is : Switches → Escape → String → Unescape → Type 0
 Is w e text value = (escape_text e ≡ codes text) × (escape_value e ≡ value) × IsTrue (is_escape w e)
 
--- no escape stands at the front of the text, under these switches
+-- the text begins with no escape under these switches, and has this refusal
 abbrev Refused : Switches → String → Refusal → Type 0
 Refused w text refusal = escape_refusal w (codes text) ≡ Some refusal
 
@@ -22,7 +22,7 @@ Refused w text refusal = escape_refusal w (codes text) ≡ Some refusal
 abbrev Accepted : Switches → String → Type 0
 Accepted w text = escape_refusal w (codes text) ≡ None
 
--- Escapes and what they stand for
+-- Escapes and their values
 
 simple_escapes :
     Is char_switches (simple_escape 39) "\\'" (Byte 39)
@@ -237,7 +237,7 @@ rows-unicode_escape_without_brace = (refl, refl)
 rows-unterminated_unicode_escape :
     Refused char_switches "\\u{a0_b  '" (spanning 0 10 kind.UnterminatedUnicodeEscape)
     × Refused char_switches "\\u{é'" (spanning 0 6 kind.UnterminatedUnicodeEscape)
-    -- that no brace closes comes before what stands first inside
+    -- a missing closing brace is refused before the first character inside
     × Refused char_switches "\\u{_" (spanning 0 4 kind.UnterminatedUnicodeEscape)
     × Refused char_switches "\\u{" (spanning 0 3 kind.UnterminatedUnicodeEscape)
 unfolding computing

@@ -13,7 +13,7 @@ use Rattle.litrs_grammar.specs.Escape.{simple_escape, hex_escape, unicode_escape
 use Rattle.litrs_grammar.specs.Quoted.{Item, plain_item, escape_item, continuation, body_value, is_body, IsQuotedLiteral, IsQuotedLiteralRefusal, item_refusal, is_item_list, is_plain}
 use Rattle.litrs_grammar.proofs.Computing.{computing, quoted, refused_after}
 
--- characters that stand for themselves
+-- plain characters
 abbrev plains : String → List Item
 plains text = map plain_item (codes text)
 
@@ -39,7 +39,7 @@ literals :
     -- 0 where NUL is allowed
     × Is string_kind "\"\\u{0}\"" (escape_item (unicode_escape (codes "0")) ∷ []) "" (0 ∷ [])
     × Is byte_string_kind "b\"\0\"" (plain_item 0 ∷ []) "" (0 ∷ [])
-    -- LF and tab may stand for themselves
+    -- LF and tab may be plain characters
     × Is string_kind "\"\n\t\"" (plains "\n\t") "" (codes "\n\t")
     × Is byte_string_kind "b\"\n\"" (plains "\n") "" (codes "\n")
     × Is c_string_kind "c\"\"" [] "" []
@@ -125,7 +125,7 @@ not_bodies :
 unfolding computing
 not_bodies = (refl, refl, refl, refl, refl, refl)
 
--- Rests that no row fits, as an item or the end stands there
+-- Rests that no row fits, since they begin with an item or are the end
 
 accepted :
     (item_refusal string_switches (codes "a") ≡ None)
@@ -136,7 +136,7 @@ accepted :
 unfolding computing
 accepted = (refl, refl, refl, refl, refl)
 
--- Items that do not stand before a rest
+-- Items that a rest cannot follow
 
 not_before :
     (is_item_list string_switches [] (continuation [] ∷ []) ≡ false)

@@ -8,7 +8,7 @@ use Rattle.litrs_base.specs.declared.quotes.StringKind.TheVariants.{String as st
 use Rattle.litrs_grammar.specs.Raw.{hashes, raw_value, IsRawLiteral, raw_literal_refusal, raw_refusal, is_raw_char, raw_char_refusal, occurs, length_before}
 use Rattle.litrs_grammar.proofs.Computing.{computing, raw}
 
--- the text is a raw string of the kind, with so many hashes, this body and this suffix
+-- the text is a raw string of the kind, with this number of hashes, this body and this suffix
 abbrev Is : StringKind → List ℕ → ℕ → String → String → Type 0
 Is kind text hash_count body suffix =
     IsRawLiteral kind text (record { hash_count = hash_count; body = codes body; suffix = codes suffix })
@@ -29,7 +29,7 @@ literals :
     × Is byte_string_kind (codes "br\"\\n\"") 0 "\\n" ""
     × Is byte_string_kind (codes "br" ++ (hashes 255 ++ (codes "\"peter\"" ++ hashes 255))) 255 "peter" ""
     × Is c_string_kind (codes "cr#\"a\\x0cb\\\\\"#_jürgen") 1 "a\\x0cb\\\\" "_jürgen"
-    -- LF may stand in a body, and tab
+    -- a body may contain LF and tab
     × Is string_kind (codes "r\"a\nb\"") 0 "a\nb" ""
     × Is byte_string_kind (codes "br#\"\t\n\"#x") 1 "\t\n" "x"
     × Is string_kind (codes "r\"\0\"") 0 "\0" ""
@@ -78,7 +78,7 @@ kinds :
 unfolding computing
 kinds = (refl, refl, refl)
 
--- where NUL and characters beyond ASCII are both not allowed, the first that stands in the text decides
+-- if neither NUL nor characters beyond ASCII are allowed, the first one in the text decides
 first_characters :
     (raw_refusal false false 0 (34 ∷ 13 ∷ 0 ∷ 233 ∷ []) ≡ Some (at_byte 1 kind.CarriageReturn))
     × (raw_refusal false false 0 (34 ∷ 0 ∷ 13 ∷ 233 ∷ []) ≡ Some (at_byte 1 kind.NulByte))

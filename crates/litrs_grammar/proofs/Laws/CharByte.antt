@@ -88,7 +88,7 @@ pub backslash_allowed : (kind : CharKind) → allows_char kind 92 ≡ true
 backslash_allowed char_kind = refl
 backslash_allowed byte_kind = refl
 
--- the row of an escape passes on where one stands there
+-- the row of an escape does not fit if there is an escape
 pub none_row : (b : Bool) (o y : Option Refusal) → o ≡ None → (if b && is_some o then o else y) ≡ y
 none_row false o y h = refl
 none_row true o y h = rw h refl
@@ -137,7 +137,7 @@ item_closing kind (escaped_char e) t is = escaped (escape_head e t)
 item_none : (kind : CharKind) (a : CharItem) (s : List ℕ) → is_char_item kind a ≡ true → is_suffix s ≡ true → char_item_refusal kind (char_item_text a ++ 39 ∷ s) ≡ None
 item_none kind a s h g = item_closing kind a (39 ∷ s) h ∙ closing_none kind _ s g
 
--- where the table has no row, an item, the closing quote and a suffix stand there
+-- if the table has no row, the text is an item, the closing quote and a suffix
 pub record HasChar (kind : CharKind) (t : List ℕ) (a : CharItem) (s : List ℕ) : Type 0 where
   pub spells : char_item_text a ++ 39 ∷ s ≡ t
   pub item : is_char_item kind a ≡ true

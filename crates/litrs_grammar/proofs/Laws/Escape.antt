@@ -93,7 +93,7 @@ no_stranger inner a =
     let e : length (take_while is_hex_or_underscore inner) ≡ length inner = ap length (take_while_all is_hex_or_underscore inner a) in
     and_left _ _ (le-ltb (length (take_while is_hex_or_underscore inner)) (length inner) (omega arith))
 
--- what stands between the braces of an escape
+-- the text between the braces of an escape has no refusal
 pub inner_none : (w : Switches) (inner : List ℕ) → first_passes is_ascii_hexdigit inner ≡ true → list_all is_hex_or_underscore inner ≡ true →
     leb (count_by is_ascii_hexdigit inner) 6 ≡ true → allows_value w (hex_value inner) ≡ true → is_scalar (hex_value inner) ≡ true → inner_refusal w inner ≡ None
 inner_none w inner f a n v s =
@@ -148,7 +148,7 @@ refusal_escape w (hex_escape c d) x h =
 refusal_escape w (unicode_escape inner) x h =
     subst (λ l. escape_refusal w (92 ∷ 117 ∷ 123 ∷ l) ≡ None) (sym (append_assoc inner (125 ∷ []) x)) (refusal_unicode w inner x h)
 
--- Where the table has no row, an escape stands at the front.
+-- If the table has no row, the text begins with an escape.
 pub record HasEscape (w : Switches) (t : List ℕ) (e : Escape) (rest : List ℕ) : Type 0 where
   pub spells : escape_text e ++ rest ≡ t
   pub grammar : is_escape w e ≡ true
@@ -255,14 +255,14 @@ read_escape w (c ∷ t) h =
     let a = none_from ((c == 48) && not w.allow_nul) _ _ h in
     read_letter w c t (c == 120) (c == 117) refl refl a.0 _ a.1
 
--- no closing brace stands inside an escape
+-- an escape contains no closing brace between its braces
 pub unicode_parts : (w : Switches) (inner : List ℕ) → is_escape w (unicode_escape inner) ≡ true → list_all (λ c. not (c == 125)) inner ≡ true
 unicode_parts w inner h = list_all-weaken _ _ not_brace inner (inner_of w inner h).all
 
 second_same : (c d : ℕ) (x y : List ℕ) → 92 ∷ c ∷ x ≡ 92 ∷ d ∷ y → c ≡ d
 second_same c d x y same = cc
 
--- at most one escape stands at the front of a text
+-- a text begins with at most one escape
 pub same_escape : (w : Switches) (e f : Escape) (x y : List ℕ) → is_escape w e ≡ true → is_escape w f ≡ true →
     escape_text e ++ x ≡ escape_text f ++ y → (e ≡ f) × (x ≡ y)
 same_escape w (simple_escape c) (simple_escape d) x y h g same = (cc, cc)

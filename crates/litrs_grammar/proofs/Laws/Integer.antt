@@ -1,4 +1,4 @@
--- Integers: a text has at most one derivation, and one exactly where no refusal stands. The grammar alone.
+-- Integers: a text has at most one derivation, and one if and only if it has no refusal. The grammar alone.
 use Rattle.std.proofs.Common.{◌≡◌, ℕ, suc, ◌+◌, Bool, true, false, cond, eqb, ◌||◌, List, [], ◌∷◌, ◌++◌, length, take, drop, Option, Some, None, refl, sym, ap, subst, ◌∙◌, arith}
 use Rattle.std.specs.Char.{is_ascii_digit}
 use Rattle.std.specs.List.{prefix_len, list_all, list_any, take_while}
@@ -142,7 +142,7 @@ cut_of_text t d r =
 pub only_integer : (t : List ℕ) (d e : IntegerParts) → IsIntegerOf t d → IsIntegerOf t e → e ≡ d
 only_integer t d e r s = sym (cut_of_text t e s) ∙ cut_of_text t d r
 
--- Where there is a derivation no refusal stands
+-- a text with a derivation has no refusal
 
 first_digit : (base : IntegerBase) (m x : List ℕ) → IsInteger (record { base = base; main = m; suffix = x }) →
     first_passes is_ascii_digit (integer_text (record { base = base; main = m; suffix = x })) ≡ true
@@ -164,7 +164,7 @@ integer_refusal-free t d r =
     let filled = not_empty_by_first is_ascii_digit t digit in
     rw (filled, digit, cut_of_text t d r) (cut_refusal-free d r.grammar)
 
--- Where no refusal stands the cut is a derivation
+-- if there is no refusal, the cut is a derivation
 
 abbrev IsBase : List ℕ → IntegerBase → Type 0
 IsBase t base = (prefix base ++ drop (length (prefix base)) t ≡ t) × (base ≡ Decimal → has_prefix t ≡ false)

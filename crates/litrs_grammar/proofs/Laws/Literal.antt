@@ -1,5 +1,5 @@
--- Literals of all eight kinds: the dispatch names the kind of each, a text has at most one derivation, and one exactly
--- where no refusal stands.
+-- Literals of all eight kinds: the dispatch names the kind of each, a text has at most one derivation, and one if
+-- and only if it has no refusal.
 use Rattle.std.proofs.Common.{◌≡◌, ◌⊎◌, ℕ, Bool, true, false, eqb, List, [], ◌∷◌, ◌++◌, length, drop, Option, Some, None, refl, sym, ap, subst, ◌∙◌, inl, inr}
 use Rattle.std.specs.Prelude.{if◌then◌else◌}
 use Rattle.std.specs.Char.{is_ascii_digit}

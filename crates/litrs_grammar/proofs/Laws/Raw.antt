@@ -1,4 +1,4 @@
--- Raw strings: a derivation stands exactly where the table has no row, and there is one at most.
+-- Raw strings: a text has a derivation if and only if the table has no row, and at most one.
 use Rattle.std.proofs.Common.{◌≡◌, ℕ, suc, ◌+◌, Bool, true, false, ltb, List, [], ◌∷◌, ◌++◌, length, take, drop, Option, None, refl, sym, ap, ◌∙◌, arith, subst, Some}
 use Rattle.std.specs.List.{prefix_len, slice_index}
 use Rattle.std.proofs.lemmas.Bool.{false≢true, eqb-true, ltb-false, le-ltb, not-false}
@@ -15,8 +15,8 @@ use Rattle.litrs_base.proofs.Runs.{prefix_len_all, all_from_prefix_len}
 use Rattle.litrs_base.proofs.Spans.{none_from}
 use Rattle.litrs_grammar.proofs.RawCuts.{length-hashes, hash_len-append, after_hashes, hash_cut, length_before-body, occurs-body, ClosingCut, closing_cut}
 
--- The rows after the opening quote, by what is known of the text: a character that may not stand in the body stands before
--- the first closing; there is a closing; a suffix follows it.
+-- The rows after the opening quote, by three tests of the text: a character that the body may not
+-- contain precedes the first closing; there is a closing; a suffix follows it.
 abbrev pub raw_body_rows : (place suffix_place : ℕ) (kind suffix_kind : ParseErrorKind) (refused closed suffix : Bool) → Option Refusal
 raw_body_rows place suffix_place kind suffix_kind refused closed suffix =
     if refused then Some (at_byte place kind)
@@ -43,7 +43,7 @@ refusal_of_hashes unicode allow_nul start n rest stop =
     let after : drop (hash_len (hashes n ++ rest)) (hashes n ++ rest) ≡ rest = ap (λ k. drop k (hashes n ++ rest)) count ∙ after_hashes n rest in
     λ j. raw_rows start (count j) (raw_body_refusal unicode allow_nul (count j) (start + (count j + 1)) (drop 1 (after j))) (is_empty (after j)) (ltb 255 (count j)) (first_passes is_quote (after j))
 
--- what stands before the first closing, and after it
+-- the texts before the first closing and after it
 pub before_closing : (n : ℕ) (body x : List ℕ) → occurs (raw_closing n) body ≡ false →
     take (length_before (raw_closing n) (body ++ (raw_closing n ++ x))) (body ++ (raw_closing n ++ x)) ≡ body
 before_closing n body x none = take_at body (raw_closing n ++ x) (length_before (raw_closing n) (body ++ (raw_closing n ++ x))) (sym (length_before-body n body x none))

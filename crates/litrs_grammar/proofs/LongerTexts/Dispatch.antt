@@ -65,7 +65,7 @@ no_bool c r x k h = go (116 == c) (102 == c) refl refl
     go false true e f = absurd (let at : 102 ≡ c = eqb-true 102 c f in let g : other (102 ∷ r) ≡ parsed_as k = subst (λ n. other (n ∷ r) ≡ parsed_as k) (sym at) h in cc)
     go false false e f = rw (e, f) refl
 
--- after the leading run a character stands
+-- a character follows the leading run
 float_more : (run : List ℕ) (m : ℕ) (s x : List ℕ) → list_all (is_digit_or_underscore Decimal) run ≡ true → is_digit_or_underscore Decimal m ≡ false →
     begins_float ((run ++ m ∷ s) ++ x) ≡ is_float_mark m
 float_more run m s x all stops =

@@ -140,7 +140,7 @@ place_one (c ∷ xs) =
 value_one : (t : List ℕ) → hex_value (t ++ 49 ∷ []) ≡ hex_value t * 16 + 1
 value_one t = ap (place_sum 16) (filter-append is_no_underscore t (49 ∷ [])) ∙ place_one (filter is_no_underscore t)
 
--- so many digits, so great a value
+-- the value of a number of digits is below that power of the base
 digit_small : (c : ℕ) → is_ascii_hexdigit c ≡ true → digit_value c ≤ 15
 digit_small c h = grind (arith, nat_tests)
 
@@ -206,7 +206,7 @@ value_small t h few =
     let pow : 16 ^ length (filter is_no_underscore t) ≤ 16 ^ 5 = pow-le-pow_right (omega arith) le in
     omega arith
 
--- a value of at most five digits may stand there, or what one more digit 1 makes of it
+-- a value of at most five digits is allowed, or the one with a further digit 1
 allowed_one : (b : Bool) (v : ℕ) → (b || not ((v * 16 + 1) == 0)) ≡ true
 allowed_one b v = or_right b _ (grind (arith, nat_tests))
 

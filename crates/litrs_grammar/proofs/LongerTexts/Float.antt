@@ -127,7 +127,7 @@ starts_so : (t more : List ℕ) → first_passes is_ascii_digit (t ++ more) ≡ 
 starts_so [] more digit = refl
 starts_so (c ∷ t) more digit = digit
 
--- the first digit stands in the integer part
+-- the first digit is in the integer part
 integer_first : (d : FloatParts) → IsCut d → first_passes is_ascii_digit (float_text d) ≡ true → first_passes is_ascii_digit d.integer ≡ true
 integer_first d cut digit = by d.integer refl
   where
@@ -304,7 +304,7 @@ no_open_row t = search (shut_number, shut_if, shut_suffix)
 pub float_not_open : (t : List ℕ) (r : Refusal) → float_refusal t ≡ Some r → is_open r.kind ≡ false
 float_not_open t r h = sym (ap is_open_row h) ∙ no_open_row t
 
--- no LF stands in a float, so none ends what begins one
+-- a float contains no LF, so no text that begins one ends with LF
 pub float_line_end : (t : List ℕ) → EndsBy IsFloatOf (t ++ 10 ∷ [])
 float_line_end t more d float =
     let number : list_all is_other (number_part d) ≡ true =

@@ -36,7 +36,7 @@ cut_parts base m x all stops =
     ∙ (ap (λ n. record { base = base; main = n; suffix = drop (length n) (m ++ x) }) main
     ∙ ap (λ y. record { base = base; main = m; suffix = y }) (drop_at m x (length m) refl))
 
--- after the main part stands none of its characters
+-- none of its characters follows the main part
 cut_ends : (base : IntegerBase) (t : List ℕ) → first_passes (is_digit_or_underscore base) (cut_with base t).suffix ≡ false
 cut_ends base t =
     let after = drop (length (prefix base)) t in
@@ -58,7 +58,7 @@ cut_more c d r x k s is =
     let stops : first_passes (is_digit_or_underscore base) (k ∷ s) ≡ false = ap (first_passes (is_digit_or_underscore base)) (sym is) ∙ cut_ends base (c ∷ d ∷ r) in
     integer_cut-is (c ∷ d ∷ (r ++ x)) ∙ ap (cut_with base) spelled ∙ cut_parts base cut.main (k ∷ (s ++ x)) (cut_digits base (c ∷ d ∷ r)) stops
 
--- ... where nothing stands there, and one more digit is appended
+-- ... if nothing follows it, and one more digit is appended
 cut_one : (c d : ℕ) (r : List ℕ) → (cut_with (base_of (c ∷ d ∷ r)) (c ∷ d ∷ r)).suffix ≡ [] →
     integer_cut (c ∷ d ∷ (r ++ 49 ∷ [])) ≡ record { base = base_of (c ∷ d ∷ r); main = (cut_with (base_of (c ∷ d ∷ r)) (c ∷ d ∷ r)).main ++ 49 ∷ []; suffix = [] }
 cut_one c d r is =
@@ -211,7 +211,7 @@ prefix_other Octal = refl
 prefix_other Decimal = refl
 prefix_other Hexadecimal = refl
 
--- no LF stands in an integer, so none ends what begins one
+-- an integer contains no LF, so no text that begins one ends with LF
 pub integer_line_end : (t : List ℕ) → EndsBy IsIntegerOf (t ++ 10 ∷ [])
 integer_line_end t x d reads =
     no_line_feed t x (subst (λ l. list_all is_other l ≡ true) reads.spells

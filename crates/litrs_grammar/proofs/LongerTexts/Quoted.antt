@@ -205,7 +205,7 @@ open_rest w (c ∷ t) e f h = go (c == 92) refl
     go true g = subst (λ n. IsOpenRest (n ∷ t)) (sym (eqb-true c 92 g)) (open_backslash w t e f (sym (if_true _ _ _ g) ∙ h))
     go false g = never_open _ e (closed_rows w c t) f (sym (if_false _ _ _ g) ∙ h)
 
--- what stands before a rest is a body
+-- the items before a rest are a body
 item_body : (a : Item) (t rest : List ℕ) → is_complete_before (t ++ rest) a ≡ true → takes_all_blanks a t ≡ true
 item_body (plain_item c) t rest h = refl
 item_body (escape_item e) t rest h = refl
@@ -277,7 +277,7 @@ cut_or_more : (c : ℕ) (t x : List ℕ) →
 cut_or_more c t [] = inl (ap (λ l. without_last (c ∷ l)) (append-nil t))
 cut_or_more c t (m ∷ x) = inr (without_last (m ∷ x), without_last-append (c ∷ t) m x)
 
--- an escape that is refused without the last character, and stands where more is appended, is begun
+-- an escape that is refused without the last character, and is whole once more is appended, is begun
 escape_freed : (w : Switches) (t x : List ℕ) (e : Refusal) → escape_refusal w (without_last (92 ∷ t)) ≡ Some e → escape_refusal w (without_last (92 ∷ (t ++ x))) ≡ None →
     BeginsEscape w (92 ∷ t)
 escape_freed w t x e h none = elim (cut_or_more 92 t x) [

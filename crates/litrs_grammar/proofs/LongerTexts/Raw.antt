@@ -24,9 +24,9 @@ use Rattle.litrs_grammar.proofs.LongerTexts.OpenRows.{shut_kind_if, shut_suffix}
 use Rattle.litrs_grammar.proofs.RawCuts.{hashes_pass, length-hashes, hash_len-append, after_hashes, HashCut, hash_cut, closing_cut}
 use Rattle.litrs_grammar.proofs.Laws.Raw.{raw_body_rows, raw_rows, refusal_of_hashes, refusal_of_closed, refused, refusal_free}
 
--- After n hashes and the quote: what a text is up to its first closing, or to the first character that may not stand there.
+-- After n hashes and the quote: a text up to its first closing, or to the first character that is not allowed.
 
--- a raw body, and a character that may not stand in one
+-- a raw body, and a character that no raw body contains
 pub record IsStopped (unicode allow_nul : Bool) (n : ℕ) (t : List ℕ) : Type 0 where
   pub front : List ℕ
   pub character : ℕ
@@ -89,7 +89,7 @@ hashes_before zero s c t other = refl
 hashes_before (suc n) [] c t other = ap (λ v. v && begins_with (hashes n) t) (other_than_hash c other)
 hashes_before (suc n) (d ∷ s) c t other = ap (λ v. (35 == d) && v) (hashes_before n s c t other)
 
--- Nor does a closing: the first one follows it, where none stands before it.
+-- Nor does a closing: the first one follows it, if none precedes it.
 length_before_past : (n : ℕ) (front : List ℕ) (c : ℕ) (t : List ℕ) → occurs (raw_closing n) front ≡ false → is_quote c ≡ false → is_hash c ≡ false →
     length_before (raw_closing n) (front ++ c ∷ t) ≡ length front + suc (length_before (raw_closing n) t)
 length_before_past n [] c t none quote other =
@@ -114,7 +114,7 @@ hash_allowed unicode allow_nul c bad = by (is_hash c) refl
     by false is = refl
     by true is = absurd (true≢false (sym (ap (is_raw_char unicode allow_nul) (eqb-true c 35 is) ∙ and_from _ _ refl (and_from _ _ (or_right unicode true refl) (or_right allow_nul true refl))) ∙ bad))
 
--- the character after a body that may not stand there is refused
+-- a character after a body that is not allowed there is refused
 pub stopped_at : (unicode allow_nul : Bool) (n start : ℕ) (front : List ℕ) (c : ℕ) (t : List ℕ) → IsRawBody unicode allow_nul n front → is_raw_char unicode allow_nul c ≡ false →
     raw_body_refusal unicode allow_nul n start (front ++ c ∷ t) ≡ Some (at_byte (start + byte_len front) (raw_char_refusal c))
 unfolding raw_body_refusal
@@ -430,7 +430,7 @@ raw_open unicode allow_nul start t r is h =
 
 -- Texts that end with LF.
 
--- what stands open is refused as open
+-- an open body is refused as open
 open_refusal : (unicode allow_nul : Bool) (start : ℕ) (t : List ℕ) → IsOpenRaw unicode allow_nul t → raw_refusal unicode allow_nul start t ≡ Some (without_span UnterminatedRawString)
 open_refusal unicode allow_nul start t x =
     let n = x.hash_count in
@@ -445,7 +445,7 @@ closed_last n body =
     last_passes-append is_line_feed (hashes n) 34 (body ++ (raw_closing n ++ 95 ∷ [])) ∙ last_passes-append is_line_feed (34 ∷ body) 34 (hashes n ++ 95 ∷ [])
     ∙ last_passes-append is_line_feed (34 ∷ hashes n) 95 []
 
--- a refused text that ends with LF goes on only where it stands open
+-- a refused text that ends with LF can be continued only if its body is open
 line_end_open : (unicode allow_nul : Bool) (t : List ℕ) → last_passes is_line_feed t ≡ true → RawGoesOn unicode allow_nul t → IsOpenRaw unicode allow_nul t
 line_end_open unicode allow_nul t last goes_on = by cut.rest cut.spells (to_cut unicode allow_nul cut.count cut.rest cut.stops (subst (RawGoesOn unicode allow_nul) (sym cut.spells) goes_on))
   where

@@ -19,7 +19,7 @@ use Rattle.litrs_grammar.proofs.FloatCuts.{IsCut, is_exponent_front, fraction_pa
 use Rattle.litrs_grammar.proofs.Laws.Float.{float_rows, cut_rows, refusal_of_cut, float_is_cut}
 use Rattle.litrs_grammar.proofs.Laws.Integer.{number_rows}
 
--- what stands in front of the suffix
+-- the characters of a float before its suffix
 abbrev pub is_number_char : ℕ → Bool
 is_number_char c = is_decimal_char c || (is_period c || (is_e c || is_sign c))
 

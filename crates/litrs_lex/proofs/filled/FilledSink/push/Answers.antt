@@ -1,4 +1,4 @@
--- A continuation stands for nothing.
+-- A continuation has an empty value.
 use Rattle.std.proofs.Common.{sym, ap}
 use Rattle.litrs_lex.specs.QuotedItems.{item_bytes}
 use Rattle.litrs_lex.proofs.Sinks.{grown}
