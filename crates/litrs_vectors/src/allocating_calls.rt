@@ -48,20 +48,6 @@ enum Call {
     Explain,
 }
 
-/// A style in which the text of no char, byte or string is longer.
-const RESPELLED: Style = Style {
-    escapes: Escapes::Respelled,
-    escape_digits: Case::Lower,
-    lines: Lines::Kept,
-    digits: Some(Case::Lower),
-    groups: Groups::Grouped(GroupLens {
-        binary: 4,
-        octal: 4,
-        decimal: 3,
-        hexadecimal: 4,
-    }),
-};
-
 /// All such calls.
 const CALLS: [Call; 9] = [
     Call::Unescape,
@@ -106,9 +92,25 @@ impl Call {
             Call::BuildInteger => builds::is_plain_refused(trial, lit),
             Call::BuildRaw => builds::is_raw_refused(trial, lit),
             Call::Unescaped => fails(litrs_build::unescaped(trial.alloc, lit)),
-            Call::Rewritten => fails(litrs_build::rewritten(trial.alloc, lit, &RESPELLED)),
+            Call::Rewritten => fails(litrs_build::rewritten(trial.alloc, lit, &respelled())),
             Call::Explain => fails(explanation(trial.alloc, lit)),
         }
+    }
+}
+
+/// Returns a style in which the text of no char, byte or string is longer.
+fn respelled() -> Style {
+    Style {
+        escapes: Escapes::Respelled,
+        escape_digits: Case::Lower,
+        lines: Lines::Kept,
+        digits: Some(Case::Lower),
+        groups: Groups::Grouped(GroupLens {
+            binary: 4,
+            octal: 4,
+            decimal: 3,
+            hexadecimal: 4,
+        }),
     }
 }
 

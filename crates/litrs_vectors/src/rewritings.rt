@@ -7,7 +7,7 @@ use litrs::{Literal, Text};
 use litrs_build::{Case, Escapes, GroupLens, Groups, Lines, Style, rewritten};
 
 /// The style that changes nothing.
-pub const KEPT: Style = Style {
+const KEPT: Style = Style {
     escapes: Escapes::Kept,
     escape_digits: Case::Lower,
     lines: Lines::Kept,
