@@ -53,7 +53,7 @@ HOLDS = b"1 rows hold\n"
 # As in crates/litrs_vectors/src/unallocated.rt.
 MARK = 9973
 FEED = "Collector::feed over &str"
-BUILD = re.compile(r"litrs_build::(\w+) over &str")
+BUILD = re.compile(r"litrs_build::(\w+) over (?:&str|String)")
 VALUED = "litrs_value::"
 # The calls of litrs_build that make a literal whose value may be allocated.
 BUILDS_VALUE = {"string", "byte_string", "c_string", "raw_c_string"}
@@ -125,6 +125,8 @@ def calls():
         yield f"litrs_build::{call} over &str"
     for call in ["float", "raw_string", "raw_byte_string", "raw_c_string", "unescaped"]:
         yield f"litrs_build::{call} over &str"
+    for call in ["rewritten over &str", "rewritten over String", "rewritten_again over &str"]:
+        yield f"litrs_build::{call}"
     yield "litrs_diagnostic::shown over &str"
     yield "litrs_diagnostic::shown_refusal over &str"
     yield "litrs_explanation::explanation over &str"
@@ -157,6 +159,10 @@ def generated(lengths, draw):
         if len(value) > 39 or int(value) >= 1 << 128:
             value = "none"
         yield f"Literal,IntegerLit\t{digits}\tinteger\t\t10\t{digits}\t{value}"
+        first = len(digits) % 3
+        groups = [digits[:first], *(digits[at : at + 3] for at in range(first, len(digits), 3))]
+        grouped = "_".join(it for it in groups if it)
+        yield f"rewritten\t{digits}\tgrouped=0,0,3,0\t{grouped}"
         yield f"Literal,FloatLit\t{digits}.5\tfloat\t\t{digits}.5\t{digits}\t5\t"
         yield f"Literal,CharLit\t'a'a{digits}\tchar\ta{digits}\t61"
         yield f"Literal,ByteLit\tb'a'a{digits}\tbyte\ta{digits}\t61"
@@ -173,6 +179,11 @@ def generated(lengths, draw):
             begin, end = escaped(plain[:at]), escaped(plain[at:])
             quoted = f'{front}"{begin}\\n{end}"u8'
             yield f"Literal,{parse}\t{quoted}\t{kind}\tu8\tescaped\t{begin}%0A{end}"
+            rewritten = f'{front}"{begin}A{end}"u8'
+            yield f'rewritten\t{front}"{begin}\\x41{end}"u8\tneeded\t{rewritten}'
+            blanks, escapes = length * "%C2%A0", length * "\\u{a0}"
+            if front != "b":
+                yield f'rewritten\t{front}"{blanks}"\tneeded\t{front}"{escapes}"'
 
 
 def ended():
@@ -276,12 +287,28 @@ def is_short(row):
     return all(int(count) <= LONGEST for count in re.findall(r"%\((\d+)\*", row))
 
 
+def byte_len(field):
+    """The length in bytes of a field of the table."""
+    field = re.sub(r"%\((\d+)\*([^)]*)\)", lambda found: int(found[1]) * found[2], field)
+    return len(re.sub("%[0-9A-F]{2}", "x", field).encode())
+
+
+def doublings(room, length):
+    """How often a buffer of the size `room` is doubled until it has `length` bytes."""
+    count = 0
+    while room << count < length:
+        count += 1
+    return count
+
+
 def most_asked(call, fields):
     """How often a call may allocate for a row of these fields: one of litrs_build for the text of a
-    literal and for its value, one of litrs_value for the literal and for a value that owns
-    memory, and a collector that is fed the lines of a text once a line where each is answered by
-    `More` or `Refused`."""
+    literal and for its value, `rewritten` also while the text becomes longer than that of the literal,
+    one of litrs_value for the literal and for a value that owns memory, and a collector that is fed the
+    lines of a text once a line where each is answered by `More` or `Refused`."""
     if built := BUILD.fullmatch(call):
+        if built[1] == "rewritten" and fields[0] == "rewritten":
+            return 1 + doublings(byte_len(fields[1]), byte_len(fields[3]))
         has_value = built[1] in BUILDS_VALUE
         if built[1] == "unescaped":
             kind, body = fields[2], fields[4]

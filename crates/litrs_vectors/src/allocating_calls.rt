@@ -6,6 +6,7 @@ use crate::tokens::{Token, token_of};
 use crate::trial::{Place, Trial, again};
 use litrs::{BoolLit, Literal};
 use litrs_base::Unescape;
+use litrs_build::{Case, Escapes, GroupLens, Groups, Lines, Style};
 use litrs_explanation::explanation;
 use litrs_lex::{
     EscapeContainer, InByteString, InCString, InString, unescape_string, unescape_string_with,
@@ -41,12 +42,14 @@ enum Call {
     BuildRaw,
     /// Writes the literal anew.
     Unescaped,
+    /// Rewrites the literal in a style that makes no text longer but by groups of digits.
+    Rewritten,
     /// Explains the literal.
     Explain,
 }
 
 /// All such calls.
-const CALLS: [Call; 8] = [
+const CALLS: [Call; 9] = [
     Call::Unescape,
     Call::UnescapeWith,
     Call::Value,
@@ -54,6 +57,7 @@ const CALLS: [Call; 8] = [
     Call::BuildInteger,
     Call::BuildRaw,
     Call::Unescaped,
+    Call::Rewritten,
     Call::Explain,
 ];
 
@@ -71,6 +75,7 @@ impl Call {
             Call::BuildInteger => (builds::PLACE, "integer"),
             Call::BuildRaw => (builds::PLACE, builds::raw_call_of(lit)),
             Call::Unescaped => (builds::PLACE, "unescaped"),
+            Call::Rewritten => (builds::PLACE, "rewritten"),
             Call::Explain => (("litrs_explanation", "&str"), "explanation"),
         }
     }
@@ -87,8 +92,25 @@ impl Call {
             Call::BuildInteger => builds::is_plain_refused(trial, lit),
             Call::BuildRaw => builds::is_raw_refused(trial, lit),
             Call::Unescaped => fails(litrs_build::unescaped(trial.alloc, lit)),
+            Call::Rewritten => fails(litrs_build::rewritten(trial.alloc, lit, &respelled())),
             Call::Explain => fails(explanation(trial.alloc, lit)),
         }
+    }
+}
+
+/// Returns a style in which the text of no char, byte or string is longer.
+fn respelled() -> Style {
+    Style {
+        escapes: Escapes::Respelled,
+        escape_digits: Case::Lower,
+        lines: Lines::Kept,
+        digits: Some(Case::Lower),
+        groups: Groups::Grouped(GroupLens {
+            binary: 4,
+            octal: 4,
+            decimal: 3,
+            hexadecimal: 4,
+        }),
     }
 }
 

@@ -27,6 +27,7 @@ mod named;
 mod parses;
 mod prefixes;
 mod refusals;
+mod rewritings;
 mod rows;
 mod tokens;
 mod trial;
@@ -96,6 +97,7 @@ fn try_row(trial: &mut Trial, row: &Row) {
         "read" => values::try_read(trial, row),
         "read_prefix" => values::try_read_prefix(trial, row),
         "float" => values::try_float(trial, row),
+        "rewritten" => rewritings::try_rewritten(trial, row),
         _ => try_text(trial, row),
     }
     unallocated::try_text(trial, row.text.as_str());
