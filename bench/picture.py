@@ -1,5 +1,5 @@
 #!/usr/bin/env python3
-"""Draws the table of shapes of bench/README.md: both crates by shape, on a logarithmic axis.
+"""Draws the table of shapes of bench/figures.txt: both crates by shape, on a logarithmic axis.
 
     bench/picture.py            draws docs/speed.svg, of the shapes below, and bench/shapes.svg
     bench/picture.py --check    fails where one of them is not what the table gives
@@ -13,7 +13,7 @@ import re
 import sys
 
 TOP = pathlib.Path(__file__).resolve().parent.parent
-TABLE = TOP / "bench/README.md"
+TABLE = TOP / "bench/figures.txt"
 # The shapes of the first page.
 SHOWN = {
     "Bool": ["bool"],
@@ -168,7 +168,7 @@ def main(is_check):
         if not is_check:
             (TOP / name).write_text(picture(machine, drawn))
         elif not (TOP / name).exists() or (TOP / name).read_text() != picture(machine, drawn):
-            sys.exit(f"{name} is not what bench/README.md gives: run bench/picture.py")
+            sys.exit(f"{name} is not what bench/figures.txt gives: run bench/picture.py")
     print(*(f"{name}: {len(drawn)} shapes" for name, drawn in pictures.items()), sep="\n")
 
 
