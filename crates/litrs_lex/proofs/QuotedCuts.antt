@@ -6,14 +6,15 @@ use Rattle.std.proofs.lemmas.Bool.{ne_eqb, eq-eqb, true≢false}
 use Rattle.std.proofs.lemmas.Str.{chars-nil, encodes-chars, encodes-append, chars_from_encodes, IsUtf8-drop, IsUtf8-take}
 use Rattle.std.proofs.Math.Seq.{take-append_seam}
 use Rattle.litrs_base.specs.declared.err.ParseError.{ParseError}
-use Rattle.litrs_base.specs.Refusal.{Refusal, refusal_of, IsInText, shifted, shifted_span, char_span_of, HasCharSpan, MovesWithin}
+use Rattle.litrs_base.specs.declared.err.ParseErrorKind.{ParseErrorKind}
+use Rattle.litrs_base.specs.Refusal.{Refusal, refusal_of, at_byte, IsInText, shifted, shifted_span, char_span_of, HasCharSpan, MovesWithin}
 use Rattle.litrs_base.specs.Text.{byte_len, first_passes}
 use Rattle.litrs_base.proofs.ByteLen.{byte_len_one_ascii}
 use Rattle.litrs_base.proofs.CharEnds.{char_span_points, char_span_moved, moves_within}
 use Rattle.litrs_base.proofs.Spans.{byte_len-append}
 use Rattle.litrs_base.specs.declared.quotes.Switches.{Switches}
 use Rattle.litrs_grammar.specs.Allocation.{has_backslash}
-use Rattle.litrs_grammar.specs.Suffix.{is_suffix}
+use Rattle.litrs_grammar.specs.Suffix.{is_suffix, suffix_refusal}
 use Rattle.litrs_grammar.proofs.LongerTexts.Suffix.{is_suffix-nil}
 use Rattle.litrs_grammar.specs.Quoted.{Item, body_text, body_value, is_item_list, is_body, is_plain, QuotedParts, IsQuoted, IsQuotedRefusal, item_refusal}
 use Rattle.litrs_grammar.proofs.QuotedItems.{body_stands, stands_body}
@@ -25,7 +26,7 @@ use Rattle.litrs_grammar.proofs.Laws.Value.{plain_bodies_are_their_values}
 use Rattle.litrs_lex.specs.QuotedCut.{IsQuotedCut, IsQuotedRefused}
 use Rattle.litrs_lex.specs.Reading.{IsReadTo, IsReadBody, IsItemsEnd, IsBodyRefused, IsRestRefused}
 use Rattle.litrs_lex.proofs.CharCuts.{cut_at}
-use Rattle.litrs_lex.proofs.QuotedBytes.{closed_of, quote_free}
+use Rattle.litrs_lex.proofs.QuotedBytes.{closed_of, quote_free, quote_byte, quote_refused}
 use Rattle.litrs_lex.proofs.QuotedScan.{front_splits}
 
 -- The refusal
@@ -97,6 +98,29 @@ ends_here w bytes rest offset place h e read stops is told = record {
   stops = stops;
   ends = inr (_, ap (λ (l : List ℕ). item_refusal w (chars l)) (sym is) ∙ told.table);
 }
+
+-- what follows a body that is read begins with the quote
+pub at_quote : (w : Switches) (bytes rest : List ℕ) (offset place : ℕ) (h : List ℕ → Type 0) → IsUtf8 bytes → IsReadBody w bytes offset h place → rest ≡ drop place bytes →
+    IsUtf8 rest × (first_passes (λ c. c == 34) (chars rest) ≡ true)
+at_quote w bytes rest offset place h u b is = (
+  subst (λ (l : List ℕ). IsUtf8 l) (sym is) (IsUtf8-drop bytes place u b.read.boundary),
+  subst (λ (l : List ℕ). first_passes (λ c. c == 34) (chars l) ≡ true) (sym is) b.quote,
+)
+
+pub closed_free : (w : Switches) (bytes rest after : List ℕ) (offset place : ℕ) (h : List ℕ → Type 0) → IsUtf8 bytes → IsReadBody w bytes offset h place →
+    rest ≡ drop place bytes → after ≡ drop 1 rest → is_suffix (chars after) ≡ true → item_refusal w (chars (drop place bytes)) ≡ None
+closed_free w bytes rest after offset place h u b is more suffix =
+    let quote = at_quote w bytes rest offset place h u b is in
+    ap (λ (l : List ℕ). item_refusal w (chars l)) (sym is) ∙ quote_free w rest _ after (quote_byte rest quote.0 quote.1) more suffix
+
+pub closed_refused : (w : Switches) (bytes rest after : List ℕ) (offset place : ℕ) (h : List ℕ → Type 0) (kind : ParseErrorKind) (e : ParseError) → IsUtf8 bytes →
+    IsReadBody w bytes offset h place → rest ≡ drop place bytes → after ≡ drop 1 rest → is_suffix (chars after) ≡ false → kind ≡ suffix_refusal (chars after) →
+    refusal_of e ≡ at_byte 1 kind → HasCharSpan (chars rest) e → IsRestRefused w (chars rest) e
+closed_refused w bytes rest after offset place h kind e u b is more other told same span =
+    let quote = at_quote w bytes rest offset place h u b is in record {
+      table = quote_refused w rest _ after (quote_byte rest quote.0 quote.1) more other ∙ ap Some (ap (at_byte 1) (sym told) ∙ sym same);
+      char_span = span;
+    }
 
 pub from_offset : (w : Switches) (bytes : List ℕ) (offset place : ℕ) (h : List ℕ → Type 0) → IsUtf8 bytes → IsCharBoundary bytes offset → IsReadTo w bytes offset place h → offset ≤ place
 from_offset w bytes offset place h u start read =

@@ -1,5 +1,5 @@
 -- The value of a quoted literal, from what is read of its body.
-use Rattle.std.proofs.Common.{◌≡◌, ℕ, ◌+◌, ◌-◌, ◌≤◌, ◌==◌, Bool, true, false, not, ◌||◌, List, [], ◌∷◌, ◌++◌, length, drop, take, refl, sym, ap, subst, ◌∙◌, append_assoc, length-append, arith, inl, inr, Some, None, Option}
+use Rattle.std.proofs.Common.{◌≡◌, ℕ, ◌+◌, ◌-◌, ◌≤◌, ◌<◌, ◌^◌, ◌==◌, Bool, true, false, not, ◌||◌, List, [], ◌∷◌, ◌++◌, length, drop, take, refl, sym, ap, subst, ◌∙◌, append_assoc, length-append, arith, inl, inr, Some, None, Option}
 use Rattle.std.specs.List.{list_all}
 use Rattle.std.specs.Prelude.{◌⊎◌, Result, Ok, Err, IfOk, IfErr, if◌then◌else◌, option_map}
 use Rattle.std.specs.Str.{chars, IsUtf8, IsCharBoundary}
@@ -10,18 +10,18 @@ use Rattle.std.proofs.lemmas.List.Folds.{list_all-append}
 use Rattle.std.proofs.lemmas.Str.{scalars-chars}
 use Rattle.litrs_base.specs.declared.err.ParseError.{ParseError}
 use Rattle.litrs_base.specs.Characters.{is_scalar}
-use Rattle.litrs_base.specs.Refusal.{Refusal}
+use Rattle.litrs_base.specs.Refusal.{Refusal, refusal_of, shifted, shifted_span, char_span_of, MovesWithin}
 use Rattle.litrs_base.specs.Text.{is_empty, first_passes}
 use Rattle.litrs_base.specs.declared.quotes.Switches.{Switches}
-use Rattle.litrs_grammar.specs.Quoted.{Item, plain_item, escape_item, continuation, item_text, item_value, is_item, is_complete_before, takes_all_blanks, is_body, body_text, body_value, is_item_list, QuotedParts, IsQuoted, item_refusal}
+use Rattle.litrs_grammar.specs.Quoted.{Item, plain_item, escape_item, continuation, item_text, item_value, is_item, is_complete_before, takes_all_blanks, is_plain, is_body, body_text, body_value, is_item_list, QuotedParts, IsQuoted, item_refusal}
 use Rattle.litrs_grammar.proofs.QuotedItems.{stands_body, body_stands, same_item, quote_no_item}
 use Rattle.litrs_grammar.proofs.Laws.Quoted.{quoted_texts_are_unique, quoted_texts_are_not_refused}
 use Rattle.litrs_grammar.proofs.Laws.Value.{values_without_byte_escapes_are_utf8}
 use Rattle.litrs_lex.specs.QuotedCut.{IsQuotedRefused, IsQuotedValue, IsOutOfMemory, IsQuotedOutOfMemory}
 use Rattle.litrs_lex.specs.QuotedItems.{IsPlainRun}
-use Rattle.litrs_lex.specs.Reading.{IsReadTo, IsReadBody, IsBodyRefused, IsReadAsValue, IsLongerThan, HasValueWithin}
+use Rattle.litrs_lex.specs.Reading.{IsReadTo, IsReadBody, IsBodyRefused, IsRestRefused, IsReadAsValue, IsLongerThan, HasValueWithin}
 use Rattle.litrs_lex.proofs.QuotedBytes.{closed_of}
-use Rattle.litrs_lex.proofs.QuotedCuts.{cut_of, refused_of}
+use Rattle.litrs_lex.proofs.QuotedCuts.{cut_of, refused_of, refuses}
 use Rattle.litrs_lex.proofs.Readings.{read_none, read_run}
 use Rattle.litrs_lex.proofs.Sinks.{room_of}
 
@@ -139,18 +139,37 @@ within_of w bytes offset place n h no_zero capacity u at b is free room =
       fits = omega arith;
     }
 
--- plain characters alone, and then the quote
+-- plain characters alone are read
+pub plain_read : (w : Switches) (bytes : List ℕ) (offset place : ℕ) → IsUtf8 bytes → IsCharBoundary bytes offset → IsPlainRun w bytes offset place →
+    IsReadTo w bytes offset place (λ v. place - offset ≡ length v)
+plain_read w bytes offset place u at run =
+    let size = run.size in let within = run.boundary.0 in
+    let len : length (take (place - offset) (drop offset bytes)) ≡ place - offset = length-take-le (place - offset) (drop offset bytes) (omega (arith, length-drop offset bytes)) in
+    read_run w bytes offset offset place (λ v. v ≡ []) (λ v. place - offset ≡ length v) u (read_none w bytes offset (λ v. v ≡ []) u at refl) run
+    (λ v none. sym (ap (λ l. length (l ++ take (place - offset) (drop offset bytes))) none ∙ len))
+
+-- and then the quote
+pub plain_body : (w : Switches) (bytes : List ℕ) (offset place : ℕ) → IsUtf8 bytes → IsCharBoundary bytes offset → IsPlainRun w bytes offset place →
+    first_passes (λ c. c == 34) (chars (drop place bytes)) ≡ true → IsReadBody w bytes offset (λ v. place - offset ≡ length v) place
+plain_body w bytes offset place u at run quote = record {
+  read = plain_read w bytes offset place u at run;
+  quote = quote;
+  stops = run.stops;
+}
+
 pub plain_of : (w : Switches) (bytes : List ℕ) (offset place : ℕ) → IsUtf8 bytes → IsCharBoundary bytes offset → IsPlainRun w bytes offset place →
     first_passes (λ c. c == 34) (chars (drop place bytes)) ≡ true → item_refusal w (chars (drop place bytes)) ≡ None → IsQuotedValue w bytes offset None (place + 1)
 plain_of w bytes offset place u at run quote free =
-    let size = run.size in let within = run.boundary.0 in
-    let len : length (take (place - offset) (drop offset bytes)) ≡ place - offset = length-take-le (place - offset) (drop offset bytes) (omega (arith, length-drop offset bytes)) in
-    let b : IsReadBody w bytes offset (λ v. place - offset ≡ length v) place = record {
-      read = read_run w bytes offset offset place (λ v. v ≡ []) (λ v. place - offset ≡ length v) u (read_none w bytes offset (λ v. v ≡ []) u at refl) run (λ v none. sym (ap (λ l. length (l ++ take (place - offset) (drop offset bytes))) none ∙ len));
-      quote = quote;
-      stops = run.stops;
-    } in
+    let b = plain_body w bytes offset place u at run quote in
     none_of w bytes offset place (place - offset) _ u at b b.read.held free refl
+
+-- and then what is refused
+pub plain_refused : (w : Switches) (bytes rest : List ℕ) (offset place : ℕ) (e : ParseError) → IsUtf8 bytes → length bytes < 2 ^ 64 → IsCharBoundary bytes offset →
+    IsPlainRun w bytes offset place → rest ≡ drop place bytes → ((v : Switches) → first_passes (is_plain v) (chars rest) ≡ false → IsRestRefused v (chars rest) e) →
+    MovesWithin place e × ((f : ParseError) → refusal_of f ≡ shifted place (refusal_of e) → char_span_of f ≡ shifted_span place (char_span_of e) → IsBodyRefused w bytes offset f)
+plain_refused w bytes rest offset place e u small at run is told =
+    refuses w bytes rest offset place _ e u small (plain_read w bytes offset place u at run) is
+    (told w (subst (λ (l : List ℕ). first_passes (is_plain w) (chars l) ≡ false) (sym is) run.stops))
 
 -- The items read so far are a body of their own, whose value is UTF-8 where byte escapes are off
 

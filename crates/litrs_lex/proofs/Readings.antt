@@ -109,6 +109,14 @@ no_run w bytes at place run = record {
   stops = run.stops;
 }
 
+-- a body is read, without what holds its value
+pub body_held : (w : Switches) (bytes : List ℕ) (offset place : ℕ) (h : List ℕ → Type 0) → IsReadBody w bytes offset h place → IsReadBody w bytes offset (λ _. ⊤) place
+body_held w bytes offset place h b = record {
+  read = read_held w bytes offset place h (λ _. ⊤) b.read (λ v _. tt);
+  quote = b.quote;
+  stops = b.stops;
+}
+
 -- the items end at the closing quote
 pub body_ends : (w : Switches) (bytes : List ℕ) (offset place : ℕ) (h : List ℕ → Type 0) → IsReadBody w bytes offset h place → IsItemsEnd w bytes offset (λ _. ⊤) place
 body_ends w bytes offset place h b = record {

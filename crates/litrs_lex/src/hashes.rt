@@ -42,7 +42,7 @@ pub fn hash_len(bytes: &[u8]) -> usize
 {
     match bytes {
         // Few hashes are compared one by one.
-        [b'#', b'#', b'#', b'#', ..] => hash_len_of_many(bytes),
+        [b'#', b'#', b'#', b'#', b'#', b'#', b'#', b'#', ..] => hash_len_of_many(bytes),
         _ => bytes.iter().take_while(|b| **b == b'#').count(),
     }
 }

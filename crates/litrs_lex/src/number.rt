@@ -1,5 +1,5 @@
 //! Numbers.
-ghost use Rattle.std.specs.Prelude.{◌≡◌, IsTrue, IfOk, IfErr};
+ghost use Rattle.std.specs.Prelude.{◌≡◌, ◌&&◌, nat_le, length, IsTrue, IfOk, IfErr};
 ghost use Rattle.std.specs.Char.{is_ascii_digit};
 ghost use Rattle.std.specs.List.{list_all};
 ghost use Rattle.std.specs.Str.{chars};
@@ -56,7 +56,7 @@ pub fn cut_number(input: &str) -> Result<NumberCut, ParseError>
 #[inline(always)]
 fn is_short_decimal(bytes: &[u8]) -> bool
     requires { IsTrue (first_passes is_ascii_digit bytes.now) }
-    ensures { IsTrue result → IsTrue (list_all is_ascii_digit bytes.now) }
+    ensures { result ≡ (nat_le (length bytes.now) 3 && list_all is_ascii_digit bytes.now) }
 {
     let len = bytes.len();
     len <= 3 && bytes[len / 2].is_ascii_digit() && bytes[len - 1].is_ascii_digit()

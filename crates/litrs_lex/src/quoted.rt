@@ -1,12 +1,9 @@
 //! Quoted strings, byte strings and C strings.
-ghost use Rattle.std.specs.Prelude.{◌≡◌, ◌≢◌, ◌==◌, ⊤, [], None, codes, drop, IfOk, IfErr, IfSome, IfNone, IsTrue, IsFalse};
+ghost use Rattle.std.specs.Prelude.{◌≡◌, ◌≢◌, ⊤, [], None, codes, drop, IfOk, IfErr, IsTrue, IsFalse};
 ghost use Rattle.std.specs.Str.{chars, IsCharBoundary};
-ghost use Rattle.litrs_base.specs.Characters.{double_quote};
-ghost use Rattle.litrs_base.specs.Text.{first_passes};
-ghost use Rattle.litrs_base.specs.declared.quotes.Switches.{Switches};
 ghost use Rattle.litrs_grammar.specs.Quoted.{item_refusal};
 ghost use Rattle.litrs_lex.specs.QuotedCut.{IsQuotedCut, IsQuotedRefused};
-ghost use Rattle.litrs_lex.specs.Reading.{IsReading, IsReadBody, IsBodyRefused, IsRestRefused, IsItemsEnd};
+ghost use Rattle.litrs_lex.specs.Reading.{IsReading, IsReadBody, IsBodyRefused, IsItemsEnd};
 ghost use Rattle.litrs_lex.specs.Unescaped.{switches};
 
 use crate::allowed::Allows;
@@ -130,24 +127,10 @@ pub(crate) fn check_after_quote<A: Allows>(
         item_refusal (A.allowed allowed) (chars (drop place input.now)) ≡ None) }
     ensures refused { IfErr result (IsBodyRefused (A.allowed allowed) input.now offset) }
 {
-    match quote_refusal(&input[place..]) {
-        None => Ok(()),
-        Some(e) => Err(e.offset_span(place)),
-    }
-}
-
-/// Returns the error of the text after the closing quote at the front of `rest`, or `None` if it is
-/// a suffix.
-#[inline(always)]
-fn quote_refusal(rest: &str) -> Option<ParseError>
-    requires { IsTrue (first_passes (λ c. c == double_quote) (chars rest.now)) }
-    ensures none { IfNone result ((w : Switches) → item_refusal w (chars rest.now) ≡ None) }
-    ensures refusal { IfSome result (λ e.
-        (w : Switches) → IsRestRefused w (chars rest.now) e) }
-{
+    let rest = &input[place..];
     match check_suffix(&rest[1..]) {
-        Ok(()) => None,
-        Err(kind) => Some(ParseError::in_text(rest, Some(1..2), kind)),
+        Ok(()) => Ok(()),
+        Err(kind) => Err(ParseError::in_text(rest, Some(1..2), kind).offset_span(place)),
     }
 }
 

@@ -134,7 +134,7 @@ fn cut_body(
     }
     let byte = bytes[end];
     if byte != b'"' {
-        return Err((Some(end..end + 1), raw_char_refusal(byte)));
+        return Err((Some(end..end + 1), char_refusal(byte)));
     }
     let place = end + 1 + hashes;
     let (_, suffix) = input.split_at(place);
@@ -147,7 +147,7 @@ fn cut_body(
 /// Returns the first place from `start` on at which a raw body is closed by a quote and `hashes`
 /// hashes, or contains a byte that it may not contain; else the end of the text. In `a"b"#` from 0
 /// on with one hash that is 3.
-#[inline(never)]
+#[inline(always)]
 pub fn body_end(bytes: &[u8], start: usize, hashes: usize, allowed: Switches) -> usize
     requires { (start ≤ length bytes.now) × IsUtf8 (drop start bytes.now) }
     ensures stop { IsStop allowed.unicode allowed.allow_nul hashes start bytes.now result }
@@ -167,8 +167,8 @@ pub fn body_end(bytes: &[u8], start: usize, hashes: usize, allowed: Switches) ->
     place
 }
 
-/// Returns the error kind of a byte that a raw body may not contain.
-fn raw_char_refusal(byte: u8) -> ParseErrorKind
+/// Returns the error kind of a character that a body may not contain, by its first byte.
+pub(crate) fn char_refusal(byte: u8) -> ParseErrorKind
     ensures { result ≡ raw_char_refusal byte }
 {
     match byte {

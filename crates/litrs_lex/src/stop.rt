@@ -2,7 +2,7 @@
 ghost use Rattle.std.specs.Prelude.{◌≡◌, ◌≤◌, ◌==◌, length, IfOk, IfErr, IsTrue, IsFalse};
 ghost use Rattle.std.specs.List.{prefix_len};
 ghost use Rattle.std.specs.Str.{chars, IsCharBoundary};
-ghost use Rattle.litrs_base.specs.Characters.{line_feed, is_blank};
+ghost use Rattle.litrs_base.specs.Characters.{line_feed, double_quote, backslash, is_blank};
 ghost use Rattle.litrs_base.specs.Text.{first_passes};
 ghost use Rattle.litrs_base.specs.declared.quotes.Switches.{Switches};
 ghost use Rattle.litrs_grammar.specs.Quoted.{is_plain, without_last};
@@ -12,6 +12,7 @@ ghost use Rattle.litrs_lex.specs.Mask.{IsMaskOf};
 
 use crate::allowed::Allows;
 use crate::parse::begins_with_byte;
+use crate::raw::char_refusal;
 use crate::search::{Mask, next_special_masked};
 use crate::{Run, Special, Switches, next_special, run_end, unescape_with};
 use litrs_base::{ParseError, ParseErrorKind, Unescape};
@@ -38,7 +39,7 @@ pub(crate) fn stop_at(rest: &str, allowed: Switches) -> Result<Stop, ParseError>
     ensures refused { IfErr result (IsRestRefused allowed (chars rest.now)) }
 {
     let [first, after @ ..] = rest.as_bytes() else {
-        return Err(ParseError::new(None, ParseErrorKind::UnterminatedString));
+        return Err(stop_refusal(rest));
     };
     match *first {
         b'"' => Ok(Stop::Quote),
@@ -54,9 +55,22 @@ pub(crate) fn stop_at(rest: &str, allowed: Switches) -> Result<Stop, ParseError>
             Ok((value, len)) => Ok(Stop::Item(Some(value), len)),
             Err(e) => Err(e),
         },
-        b'\r' => Err(ParseError::in_text(rest, Some(0..1), ParseErrorKind::CarriageReturn)),
-        0 => Err(ParseError::in_text(rest, Some(0..1), ParseErrorKind::NulByte)),
-        _ => Err(ParseError::in_text(rest, Some(0..1), ParseErrorKind::NonAsciiInByteLiteral)),
+        _ => Err(stop_refusal(rest)),
+    }
+}
+
+/// Returns the error of `rest`, which starts with neither a plain character, `"` nor a backslash.
+/// The span counts from the start of `rest`.
+#[inline(always)]
+pub(crate) fn stop_refusal(rest: &str) -> ParseError
+    requires quote { IsFalse (first_passes (λ c. c == double_quote) rest.now) }
+    requires slash { IsFalse (first_passes (λ c. c == backslash) rest.now) }
+    ensures { (w : Switches) → IsFalse (first_passes (is_plain w) (chars rest.now)) →
+        IsRestRefused w (chars rest.now) result }
+{
+    match rest.as_bytes().first() {
+        Some(first) => ParseError::in_text(rest, Some(0..1), char_refusal(*first)),
+        None => ParseError::new(None, ParseErrorKind::UnterminatedString),
     }
 }
 

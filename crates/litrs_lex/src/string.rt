@@ -1,6 +1,8 @@
 //! The values of quoted strings, byte strings and C strings.
-ghost use Rattle.std.specs.Prelude.{◌≡◌, ◌≤◌, ◌<◌, ◌+◌, [], ◌⊎◌, ◌||◌, not, if◌then◌else◌, length, take, option_map, IfOk, IfErr, IsTrue, IsFalse};
+ghost use Rattle.std.specs.Prelude.{◌≡◌, ◌≤◌, ◌<◌, ◌+◌, ◌==◌, [], ◌⊎◌, ◌||◌, not, if◌then◌else◌, length, take, drop, option_map, IfOk, IfErr, IsTrue, IsFalse};
 ghost use Rattle.std.specs.Str.{chars, IsUtf8, IsCharBoundary};
+ghost use Rattle.litrs_base.specs.Characters.{backslash};
+ghost use Rattle.litrs_base.specs.Text.{first_passes};
 ghost use Rattle.litrs_grammar.specs.Quoted.{QuotedParts, IsQuoted, body_value};
 ghost use Rattle.litrs_lex.specs.QuotedCut.{IsQuotedRefused, IsQuotedValue, IsOutOfMemory, IsQuotedOutOfMemory};
 ghost use Rattle.litrs_lex.specs.QuotedItems.{IsPlainRun};
@@ -11,12 +13,13 @@ use crate::Switches;
 use crate::allowed::Allows;
 use crate::container::EscapeContainer;
 use crate::filled::Filled;
+use crate::parse::begins_with_byte;
 use crate::quoted::{check_after_quote, is_lone_quote};
 use crate::reading::{Reached, Reading, read_items};
 use crate::room::Room;
 use crate::search::Mask;
 use crate::sink::Counted;
-use crate::stop::first_plain_end;
+use crate::stop::{first_plain_end, stop_refusal};
 use litrs_base::{ParseError, ParseErrorKind};
 use std::alloc::Global;
 
@@ -89,12 +92,36 @@ pub fn unescape_string_with<C: EscapeContainer, A: Allows>(
         ⊎ IsQuotedOutOfMemory (A.allowed allowed) input.now offset e) }
 {
     let place = first_plain_end(input, offset, allowed);
-    // Tested first, because most strings end like this, and need no room for a value or an error.
-    if is_lone_quote(input[place..].as_bytes()) {
+    let rest = input[place..].as_bytes();
+    // Tested first, because most strings end like this.
+    if is_lone_quote(rest) {
         Ok((None, place + 1))
-    } else {
+    } else if begins_with_byte(rest, b'\\') {
         read_value(alloc, input, offset, place, allowed)
+    } else {
+        read_closing(input, offset, place, allowed)
     }
+}
+
+/// Like [`unescape_string_with`], for a body without a backslash, whose characters end at `place`.
+#[inline(never)]
+fn read_closing<C: EscapeContainer, A: Allows>(
+    input: &str,
+    offset: usize,
+    place: usize,
+    allowed: A,
+) -> Result<(Option<C>, usize), ParseError>
+    requires at { IsCharBoundary input.now offset }
+    requires run { IsPlainRun (A.allowed allowed) input.now offset place }
+    requires other { IsFalse (first_passes (λ c. c == backslash) (drop place input.now)) }
+    ensures { IsReadAsValue C.contents (A.allowed allowed) input.now offset result }
+{
+    let rest = &input[place..];
+    if !begins_with_byte(rest.as_bytes(), b'"') {
+        return Err(stop_refusal(rest).offset_span(place));
+    }
+    check_after_quote(input, offset, place, allowed)?;
+    Ok((None, place + 1))
 }
 
 /// Like [`unescape_string_with`], for a body whose plain characters at the front end at `place`.

@@ -32,7 +32,7 @@ returns-then-byte-ne34-clause-refused c =
     let stop = stop_of c.args.allowed.unicode c.args.allowed.allow_nul n start place bytes text same c.body_end-end.ensures.stop in
     let b = get_or bytes place 0 in
     refused_body c.args.allowed.unicode c.args.allowed.allow_nul n start place b text (drop (place + 1) text) utf8 stop (cons_at bytes text place b same stop.within c.if-end-bytes.false refl) (ne_eqb b 34 c.if-byte-ne34.true)
-    ∙ ap (λ k. Some (at_byte place k)) (sym c.raw_char_refusal.ensures)
+    ∙ ap (λ k. Some (at_byte place k)) (sym c.char_refusal.ensures)
 
 pub split_at-requires : goal.split_at-requires
 split_at-requires c =
