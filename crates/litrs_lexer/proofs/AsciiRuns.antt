@@ -9,6 +9,7 @@ use Rattle.litrs_base.proofs.Chars.{chars_ascii, utf8_after_ascii, OnlyAscii, fi
 use Rattle.litrs_base.proofs.ListTests.{if_true, if_false}
 use Rattle.litrs_base.specs.Text.{first_passes}
 use Rattle.litrs_grammar.proofs.Laws.Integer.{first_passes-rest}
+use Rattle.litrs_prefix.specs.Opens.{is_single_quote}
 use Rattle.litrs_prefix.specs.Prefix.{is_quote_or_hash}
 use Rattle.litrs_lexer.specs.Cut.{is_wide, is_ascii_white_space, IsFirstChar}
 use Rattle.litrs_lexer.specs.Whitespace.{is_white_space, after_while, after_white_space}
@@ -76,6 +77,9 @@ white_none bs h =
 
 pub marks_are_ascii : OnlyAscii is_quote_or_hash
 marks_are_ascii c wide = grind (arith, nat_tests)
+
+pub quote_is_ascii : OnlyAscii is_single_quote
+quote_is_ascii c wide = grind (arith, nat_tests)
 
 first_of : (p : ℕ → Bool) → OnlyAscii p → (bs : List ℕ) → IsUtf8 bs → 1 ≤ length bs → p (slice_index_or bs 0 0) ≡ first_passes p (chars bs)
 first_of p ascii [] u some = absurd (omega arith)

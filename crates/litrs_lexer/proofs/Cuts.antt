@@ -1,8 +1,8 @@
 -- Tokens at the front of a text, in its bytes and in its characters.
 use Rattle.std.proofs.Common.{◌≡◌, ℕ, zero, suc, ◌-◌, ◌<◌, ◌≤◌, Bool, true, false, not, List, [], ◌∷◌, ◌++◌, length, take, drop, refl, sym, ap, subst, ◌∙◌, length-drop, arith}
-use Rattle.std.specs.Prelude.{if◌then◌else◌, ◌==◌, ◌||◌}
+use Rattle.std.specs.Prelude.{if◌then◌else◌, ◌==◌, ◌&&◌, ◌||◌}
 use Rattle.std.specs.Str.{chars, IsUtf8, IsCharBoundary}
-use Rattle.std.proofs.lemmas.Bool.{and_parts, and_from}
+use Rattle.std.proofs.lemmas.Bool.{and_parts, and_from, and_left, and_right, or_parts, eqb-true, ne_eqb, true≢false, false≢true, false_from_ne_true}
 use Rattle.std.proofs.lemmas.Bool.Decides.{nat_tests}
 use Rattle.unicode_ident.proofs.IdentLemmas.{is_xid_start-ascii}
 use Rattle.std.proofs.lemmas.Str.{IsCharBoundary-start}
@@ -16,19 +16,20 @@ use Rattle.litrs_grammar.proofs.Laws.Literal.{some_bool}
 use Rattle.litrs_grammar.specs.Literal.{Derivation, a_bool, IsLiteral}
 use Rattle.litrs_prefix.specs.Ends.{IsEndOf}
 use Rattle.litrs_prefix.specs.Meant.{IsMeant}
-use Rattle.litrs_prefix.specs.Opens.{after_run, first_run, first_name, after_name, opens}
+use Rattle.litrs_prefix.specs.Opens.{is_single_quote, after_run, first_run, first_name, after_name, opens}
 use Rattle.litrs_prefix.specs.Prefix.{HasPrefix, HasNoPrefix, is_quote_or_hash, ends_bool}
 use Rattle.litrs_prefix.proofs.Ends.{end_at, all, after_first, after_bytes, end_of_end, not_longer, shorter}
 use Rattle.litrs_prefix.proofs.Names.{name_and_rest}
 use Rattle.litrs_prefix.proofs.Pieces.{no_empty_piece, parts_spell}
 use Rattle.litrs_lexer.specs.declared.kind.TokenKind.{TokenKind}
 use Rattle.litrs_lexer.specs.declared.kind.TokenKind.TheVariants.{Literal, MalformedLiteral}
-use Rattle.litrs_lexer.specs.Cut.{begins_bool, IsCut, IsFirstChar}
+use Rattle.litrs_lexer.specs.Cut.{begins_bool, begins_prefix, IsCut, IsFirstChar}
+use Rattle.litrs_lexer.specs.Identifier.{begins_name, begins_raw_name}
 use Rattle.litrs_lexer.specs.Literal.{opens_quoted}
 use Rattle.litrs_lexer.specs.Punctuation.{is_punctuation, is_unknown}
 use Rattle.litrs_lexer.specs.Token.{IsToken}
 use Rattle.litrs_lexer.specs.Tokens.{IsLiteralBy}
-use Rattle.litrs_lexer.proofs.Classes.{digit_starts_none}
+use Rattle.litrs_lexer.proofs.Classes.{digit_starts_none, quote_starts_none, single_starts_none}
 use Rattle.litrs_lexer.specs.Whitespace.{is_white_space}
 use Rattle.std.specs.Char.{is_ascii_digit, is_ascii_alphabetic}
 
@@ -142,3 +143,44 @@ first_bool c t false h = refl
 
 pub no_bool : (text : List ℕ) (c : ℕ) (after : List ℕ) → IsFirstChar text c after → begins_bool c ≡ false → is_bool (first_name (chars text)) ≡ false
 no_bool text c after first h = ap (λ (l : List ℕ). is_bool (first_name l)) first.is ∙ first_bool c (chars after) (starts_identifier c) h
+
+-- a byte opens a literal
+pub byte_opens : (c : ℕ) (t : List ℕ) → ((c == 98) && first_passes is_single_quote t) ≡ true → opens_quoted (c ∷ t) ≡ true
+byte_opens c [] h = absurd (false≢true (sym (and_right (c == 98) false refl) ∙ h))
+byte_opens c (d ∷ t) h =
+    let both = and_parts (c == 98) (is_single_quote d) h in
+    let b : c ≡ 98 = eqb-true c 98 both.0 in
+    let q : d ≡ 39 = eqb-true d 39 both.1 in
+    subst (λ (k : ℕ). opens_quoted (k ∷ d ∷ t) ≡ true) (sym b)
+    (subst (λ (k : ℕ). opens_quoted (98 ∷ k ∷ t) ≡ true) (sym q)
+    (and_from (opens (98 ∷ 39 ∷ t)) (not (is_bool (first_name (98 ∷ 39 ∷ t)))) refl (ap not (first_bool 98 (39 ∷ t) (starts_identifier 98) refl))))
+
+-- a name that begins with `b`, `c` or `r` is no bool
+pub prefix_opens : (c : ℕ) (t : List ℕ) → begins_prefix c ≡ true → opens_quoted (c ∷ t) ≡ opens (c ∷ t)
+prefix_opens c t h =
+    let other : begins_bool c ≡ false = grind (arith, nat_tests) in
+    ap (λ (v : Bool). opens (c ∷ t) && not v) (first_bool c t (starts_identifier c) other) ∙ and_true (opens (c ∷ t))
+  where
+    and_true : (v : Bool) → (v && true) ≡ v
+    and_true true = refl
+    and_true false = refl
+
+-- a name that begins with another letter opens no literal but a bool
+pub no_prefix_opens : (c : ℕ) (t : List ℕ) → starts_identifier c ≡ true → begins_prefix c ≡ false → opens_quoted (c ∷ t) ≡ false
+no_prefix_opens c t name other =
+    let digit : is_ascii_digit c ≡ false = false_from_ne_true (is_ascii_digit c) (λ e. true≢false (sym name ∙ digit_starts_none c e)) in
+    let quote : (c == 34) ≡ false = ne_eqb c 34 (λ e. true≢false (sym name ∙ (ap starts_identifier e ∙ quote_starts_none))) in
+    let single : (c == 39) ≡ false = ne_eqb c 39 (λ e. true≢false (sym name ∙ (ap starts_identifier e ∙ single_starts_none))) in
+    let letters = or_parts ((c == 98) || (c == 99)) (c == 114) other in
+    let more = or_parts (c == 98) (c == 99) letters.0 in
+    last (is_ascii_digit c) (c == 34) (c == 39) (c == 114) (c == 98) (c == 99) _ _ _ _ (is_bool (first_name (c ∷ t))) digit quote single letters.1 more.0 more.1
+  where
+    last : (a b d e f g x y z w v : Bool) → a ≡ false → b ≡ false → d ≡ false → e ≡ false → f ≡ false → g ≡ false →
+        ((a || b || (d && x) || (e && y) || (f && z) || (g && w) || v) && not v) ≡ false
+    last a b d e f g x y z w true ha hb hd he hf hg = and_right _ false refl
+    last a b d e f g x y z w false ha hb hd he hf hg = rw (ha, hb, hd, he, hf, hg) refl
+
+-- a raw mark begins with `r`
+pub no_raw_name : (c : ℕ) (t : List ℕ) → (c == 114) ≡ false → begins_raw_name (c ∷ t) ≡ false
+no_raw_name c [] h = refl
+no_raw_name c (d ∷ t) h = and_left ((c == 114) && (d == 35)) (begins_name t) (and_left (c == 114) (d == 35) h)

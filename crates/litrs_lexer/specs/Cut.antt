@@ -2,6 +2,7 @@
 use Rattle.std.specs.Prelude.{◌≡◌, ◌<◌, ℕ, zero, suc, Bool, not, ◌==◌, ◌&&◌, ◌||◌, List, [], ◌∷◌, ◌++◌, length, Option, Some, None, if◌then◌else◌, nat_le}
 use Rattle.std.specs.Char.{encode_utf8}
 use Rattle.std.specs.Str.{chars}
+use Rattle.litrs_base.specs.Characters.{letter_b, letter_c, letter_r}
 use Rattle.litrs_lex.specs.Run.{is_in_run}
 use Rattle.litrs_lex.specs.declared.run.Run.TheVariants.{Identifier}
 use Rattle.litrs_prefix.specs.Ends.{IsEndOf}
@@ -29,6 +30,10 @@ is_wide b = nat_le 128 b
 -- `t` or `f`, with which a bool begins
 abbrev pub begins_bool : ℕ → Bool
 begins_bool c = (c == 116) || (c == 102)
+
+-- `b`, `c` or `r`, with which the prefix of a literal begins
+abbrev pub begins_prefix : ℕ → Bool
+begins_prefix c = (c == letter_b) || (c == letter_c) || (c == letter_r)
 
 -- `"`, `'`, `\`, `_` or a backtick
 abbrev pub is_other_mark : ℕ → Bool

@@ -11,7 +11,6 @@ ghost use Rattle.litrs_prefix.specs.Ends.{IsEndOf};
 ghost use Rattle.litrs_prefix.specs.Opens.{after_name};
 ghost use Rattle.litrs_prefix.specs.Prefix.{is_quote_or_hash};
 ghost use Rattle.litrs_lexer.specs.Cut.{is_other_mark, IsCut, IsFirstChar};
-ghost use Rattle.litrs_lexer.specs.Identifier.{begins_name};
 ghost use Rattle.litrs_lexer.specs.Punctuation.{is_punctuation, is_unknown};
 ghost use Rattle.litrs_lexer.specs.Whitespace.{is_white_space};
 
@@ -20,8 +19,8 @@ use crate::comment::{after_block, after_line};
 use crate::kind::TokenKind;
 use crate::literal::cut_literal;
 use crate::name::{
-    after_raw_mark, after_run, opens_quoted, starts_with_bool, starts_with_hash, starts_with_name,
-    starts_with_quote_or_hash, starts_with_single_quote,
+    after_raw_mark, after_run, begins_byte, opens_prefixed, raw_name, starts_with_bool,
+    starts_with_hash, starts_with_name, starts_with_quote_or_hash, starts_with_single_quote,
 };
 use crate::whitespace::{after_white_space, is_white_space};
 use litrs_prefix::{after_name, begins_name, split_first_char};
@@ -148,9 +147,27 @@ fn is_other_mark(c: char) -> bool
     c == '"' || c == '\'' || c == '\\' || c == '_' || c == '`'
 }
 
-/// Cuts the token from the front of a text that starts with a name.
+/// Cuts the token from the front of a text that starts with a name. A byte is cut first, so that
+/// its `b` is not cut as a name.
 #[inline(always)]
 fn cut_name<'a>(text: &'a str, c: char, after: &'a str) -> (TokenKind, &'a str)
+    requires first { IsFirstChar text.now c after.now }
+    requires name { IsTrue (starts_identifier c) }
+    ensures cut { IsCut text.now result.0 result.1.now }
+    ensures utf8 { IsUtf8 result.1.now }
+{
+    if begins_byte(c, after) {
+        let (kind, rest) = cut_literal(text);
+        (kind, rest)
+    } else {
+        let (kind, rest) = cut_word(text, c, after);
+        (kind, rest)
+    }
+}
+
+/// Like [`cut_name`], for every token that starts with a name.
+#[inline(always)]
+fn cut_word<'a>(text: &'a str, c: char, after: &'a str) -> (TokenKind, &'a str)
     requires first { IsFirstChar text.now c after.now }
     requires name { IsTrue (starts_identifier c) }
     ensures cut { IsCut text.now result.0 result.1.now }
@@ -171,7 +188,7 @@ fn cut_name<'a>(text: &'a str, c: char, after: &'a str) -> (TokenKind, &'a str)
 #[inline(never)]
 fn cut_prefix<'a>(text: &'a str, c: char, after: &str, rest: &'a str) -> (TokenKind, &'a str)
     requires first { IsFirstChar text.now c after.now }
-    requires name { IsTrue (begins_name (chars text.now)) }
+    requires name { IsTrue (starts_identifier c) }
     requires rest { chars rest.now ≡ after_name (chars text.now) }
     requires end { IsEndOf text.now rest.now }
     requires shorter { length rest.now < length text.now }
@@ -179,10 +196,11 @@ fn cut_prefix<'a>(text: &'a str, c: char, after: &str, rest: &'a str) -> (TokenK
     ensures cut { IsCut text.now result.0 result.1.now }
     ensures utf8 { IsUtf8 result.1.now }
 {
-    match after_raw_mark(text) {
+    match raw_name(text, c, after) {
         Some(name) => (TokenKind::RawIdent, after_name(name)),
-        None => if opens_quoted(text, c, after, rest) {
-            cut_literal(text)
+        None => if opens_prefixed(text, c, after) {
+            let (kind, rest) = cut_literal(text);
+            (kind, rest)
         } else {
             (TokenKind::UnknownPrefix, rest)
         },

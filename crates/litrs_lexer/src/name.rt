@@ -1,13 +1,14 @@
 //! Names at the front of a text.
-ghost use Rattle.std.specs.Prelude.{◌≡◌, ◌<◌, length, ◌∷◌, IsTrue, IsFalse, IfSome, IfNone};
+ghost use Rattle.std.specs.Prelude.{◌≡◌, ◌<◌, ◌==◌, ◌&&◌, length, ◌∷◌, IsTrue, IsFalse, IfSome, IfNone};
 ghost use Rattle.std.specs.Str.{chars};
-ghost use Rattle.litrs_base.specs.Characters.{letter_r, hash};
+ghost use Rattle.litrs_base.specs.Characters.{letter_b, letter_r, hash};
 ghost use Rattle.litrs_base.specs.Text.{first_passes};
 ghost use Rattle.litrs_grammar.specs.Bool.{is_bool};
+ghost use Rattle.litrs_grammar.specs.Suffix.{starts_identifier};
 ghost use Rattle.litrs_prefix.specs.Ends.{IsEndOf};
 ghost use Rattle.litrs_prefix.specs.Prefix.{is_quote_or_hash};
 ghost use Rattle.litrs_prefix.specs.Opens.{is_single_quote, first_name, after_run, after_name};
-ghost use Rattle.litrs_lexer.specs.Cut.{begins_bool, IsFirstChar};
+ghost use Rattle.litrs_lexer.specs.Cut.{begins_bool, begins_prefix, IsFirstChar};
 ghost use Rattle.litrs_lexer.specs.Identifier.{begins_name, begins_raw_name};
 ghost use Rattle.litrs_lexer.specs.Lifetime.{is_hash};
 ghost use Rattle.litrs_lexer.specs.Literal.{opens_quoted};
@@ -105,12 +106,13 @@ fn is_quote_or_hash(b: u8) -> bool
 }
 
 /// Returns `true` if `text` starts with `'`.
+#[inline(always)]
 pub fn starts_with_single_quote(text: &str) -> bool
     ensures { result ≡ first_passes is_single_quote (chars text.now) }
 {
-    match split_first_char(text) {
-        Some((c, _)) => c == '\'',
-        None => false,
+    match text.as_bytes() {
+        [first, ..] => *first == b'\'',
+        _ => false,
     }
 }
 
@@ -148,13 +150,42 @@ pub fn after_raw_mark(text: &str) -> Option<&str>
     }
 }
 
-/// Returns `true` if a literal that is not a bool begins at the front of `text`, which is `c` and
-/// `after`. `rest` is the part of `text` after its name.
-pub fn opens_quoted(text: &str, c: char, after: &str, rest: &str) -> bool
+/// Like [`after_raw_mark`], for a text that is `c` and `after`.
+#[inline(always)]
+pub fn raw_name<'a>(text: &'a str, c: char, after: &str) -> Option<&'a str>
+    requires { IsFirstChar text.now c after.now }
+    ensures some { IfSome result (λ name.
+        (chars text.now ≡ letter_r ∷ hash ∷ chars name.now)
+        × IsTrue (begins_name (chars name.now))) }
+    ensures end { IfSome result (λ name. IsEndOf text.now name.now) }
+    ensures shorter { IfSome result (λ name. length name.now < length text.now) }
+    ensures none { IfNone result (IsFalse (begins_raw_name (chars text.now))) }
+{
+    if c == 'r' { after_raw_mark(text) } else { None }
+}
+
+/// Returns `true` if a literal that is not a bool begins at the front of `text`, which starts with
+/// a name and is `c` and `after`.
+pub fn opens_prefixed(text: &str, c: char, after: &str) -> bool
     requires first { IsFirstChar text.now c after.now }
-    requires name { chars rest.now ≡ after_name (chars text.now) }
-    requires end { IsEndOf text.now rest.now }
+    requires name { IsTrue (starts_identifier c) }
     ensures { result ≡ opens_quoted (chars text.now) }
 {
-    opens(text) && !starts_with_bool(text, c, after, rest)
+    if begins_prefix(c) { opens(text) } else { false }
+}
+
+/// Returns `true` if the prefix of a literal starts with the character.
+#[inline(always)]
+fn begins_prefix(c: char) -> bool
+    ensures { result ≡ begins_prefix c }
+{
+    c == 'b' || c == 'c' || c == 'r'
+}
+
+/// Returns `true` if `c` and `after` begin a byte.
+#[inline(always)]
+pub fn begins_byte(c: char, after: &str) -> bool
+    ensures { result ≡ ((c == letter_b) && first_passes is_single_quote (chars after.now)) }
+{
+    c == 'b' && starts_with_single_quote(after)
 }

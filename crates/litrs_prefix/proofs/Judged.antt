@@ -48,13 +48,13 @@ second_raw string_kind x = refl
 second_raw byte_string_kind x = refl
 second_raw c_string_kind x = refl
 
-only_quoted : (kind : StringKind) (t : List ℕ) (x : StringParts) → begins_with (quoted_front kind) t ≡ true → IsString kind t x → (q : QuotedParts) × (x ≡ quoted_parts q)
+pub only_quoted : (kind : StringKind) (t : List ℕ) (x : StringParts) → begins_with (quoted_front kind) t ≡ true → IsString kind t x → (q : QuotedParts) × (x ≡ quoted_parts q)
 only_quoted kind t (quoted_parts q) begins h = (q, refl)
 only_quoted kind t (raw_parts q) begins h =
     absurd (false≢true (sym (kinds.raw_begins kind t [] q h)
     ∙ (ap (second_is_quote kind) (append-nil t ∙ sym (begins_with-split (quoted_front kind) t begins)) ∙ second_quoted kind _)))
 
-only_raw : (kind : StringKind) (t : List ℕ) (x : StringParts) → begins_with (raw_front kind) t ≡ true → IsString kind t x → (q : RawParts) × (x ≡ raw_parts q)
+pub only_raw : (kind : StringKind) (t : List ℕ) (x : StringParts) → begins_with (raw_front kind) t ≡ true → IsString kind t x → (q : RawParts) × (x ≡ raw_parts q)
 only_raw kind t (raw_parts q) begins h = (q, refl)
 only_raw kind t (quoted_parts q) begins h =
     absurd (true≢false (sym (kinds.quoted_begins kind t [] q h)
@@ -103,7 +103,7 @@ string_at string_kind x = a_string x
 string_at byte_string_kind x = a_byte_string x
 string_at c_string_kind x = a_c_string x
 
-string_of : (kind : StringKind) (d : Derivation) → parsed_as (literal_kind d) ≡ parsed_as (string_literal_of kind) → (x : StringParts) × (d ≡ string_at kind x)
+pub string_of : (kind : StringKind) (d : Derivation) → parsed_as (literal_kind d) ≡ parsed_as (string_literal_of kind) → (x : StringParts) × (d ≡ string_at kind x)
 string_of string_kind (a_string x) h = (x, refl)
 string_of byte_string_kind (a_byte_string x) h = (x, refl)
 string_of c_string_kind (a_c_string x) h = (x, refl)
@@ -116,7 +116,7 @@ to_string string_kind t x h = h
 to_string byte_string_kind t x h = h
 to_string c_string_kind t x h = h
 
-from_string : (kind : StringKind) (t : List ℕ) (x : StringParts) → IsLiteral t (string_at kind x) → IsString kind t x
+pub from_string : (kind : StringKind) (t : List ℕ) (x : StringParts) → IsLiteral t (string_at kind x) → IsString kind t x
 from_string string_kind t x h = h
 from_string byte_string_kind t x h = h
 from_string c_string_kind t x h = h

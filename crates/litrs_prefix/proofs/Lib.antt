@@ -28,7 +28,10 @@ pub mod Marks
 pub mod Delimiters
 -- whether a piece is a literal
 pub mod Judged
--- literals that are read once
+-- literals and strings that are read once
+pub mod Extents
+pub mod NumberExtents
 pub mod PlainLiterals
+pub mod Unclosed
 -- examples
 pub mod Examples

@@ -107,7 +107,7 @@ escape_passed w e t h =
     ∙ (ap (λ (v : Bool). past_quote 34 v (is.tail ++ t)) (and_right (is.second == 92) false refl)
     ∙ run_passed is_inner inner_none is.tail t is.inner))
 
-item_passed : (w : Switches) (a : Item) (t : List ℕ) → is_item w a ≡ true → past_quote 34 false (item_text a ++ t) ≡ past_quote 34 false t
+pub item_passed : (w : Switches) (a : Item) (t : List ℕ) → is_item w a ≡ true → past_quote 34 false (item_text a ++ t) ≡ past_quote 34 false t
 item_passed w (plain_item c) t h =
     let p = and_parts _ _ (and_parts _ _ (and_parts _ _ (and_parts _ _ h).0).0).0 in
     plain_passed c t (not-true _ p.0) (not-true _ p.1)
@@ -121,7 +121,7 @@ body_passed w (a ∷ items) x h =
     ap (past_quote 34 false) (append_assoc (item_text a) (body_text items) (34 ∷ x))
     ∙ (item_passed w a (body_text items ++ 34 ∷ x) (and_parts _ _ p.0).0 ∙ body_passed w items x p.1)
 
-quoted_body : (kind : StringKind) (y : List ℕ) → after_body (quoted_front kind ++ y) ≡ after_quoted y
+pub quoted_body : (kind : StringKind) (y : List ℕ) → after_body (quoted_front kind ++ y) ≡ after_quoted y
 quoted_body string_kind y = refl
 quoted_body byte_string_kind y = refl
 quoted_body c_string_kind y = refl
@@ -177,7 +177,7 @@ raw_closed n body x h =
     ∙ (ap (λ (l : List ℕ). after_closing n (drop 1 l)) (after_all n z)
     ∙ (ap (λ (k : ℕ). drop (k + (1 + n)) z) (length_before-body n body x h) ∙ raw.after_closing n body x))
 
-raw_body : (kind : StringKind) (y : List ℕ) → opens_raw y ≡ true → after_body (raw_front kind ++ y) ≡ after_raw y
+pub raw_body : (kind : StringKind) (y : List ℕ) → opens_raw y ≡ true → after_body (raw_front kind ++ y) ≡ after_raw y
 raw_body string_kind y h = rw h refl
 raw_body byte_string_kind y h = rw h refl
 raw_body c_string_kind y h = rw h refl
@@ -202,7 +202,7 @@ bool_body false r = refl
 
 -- numbers
 
-number_body : (t : List ℕ) → first_passes is_ascii_digit t ≡ true → after_body t ≡ after_number t
+pub number_body : (t : List ℕ) → first_passes is_ascii_digit t ≡ true → after_body t ≡ after_number t
 number_body [] h = absurd (false≢true h)
 number_body (c ∷ t) h = if_true (is_ascii_digit c) (after_number (c ∷ t)) _ h
 

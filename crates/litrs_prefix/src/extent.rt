@@ -1,8 +1,8 @@
 //! The extent of the literal at the front of a text, valid or malformed.
-ghost use Rattle.std.specs.Prelude.{◌<◌, drop, take, IsTrue, IfOk, IfErr, IfSome, IfNone};
+ghost use Rattle.std.specs.Prelude.{◌≡◌, ◌<◌, ◌∷◌, drop, take, IsTrue, IfOk, IfErr, IfSome, IfNone};
 ghost use Rattle.std.specs.Str.{chars, IsCharBoundary};
 ghost use Rattle.litrs_grammar.specs.Literal.{Derivation};
-ghost use Rattle.litrs_prefix.specs.Ends.{IsOnlyRest};
+ghost use Rattle.litrs_prefix.specs.Ends.{IsEndOf, IsOnlyRest};
 ghost use Rattle.litrs_prefix.specs.Extent.{IsLiteralLen, IsMalformedLen};
 ghost use Rattle.litrs_prefix.specs.Meant.{after_opened, IsMeant};
 ghost use Rattle.litrs_prefix.specs.Opens.{opens};
@@ -12,7 +12,9 @@ use crate::malformed::after_opened;
 use crate::next_boundary;
 use crate::opening::opens;
 use crate::piece::follows;
-use crate::plain::after_plain;
+use crate::plain::{char_extent, number_extent, quoted_extent, raw_extent};
+use litrs_base::{CharKind, split_first_char};
+use litrs_lex::StringKind;
 
 /// Returns the length in bytes of the literal at the front of `text`, suffix included, or `None` if
 /// there is none, malformed or not. It does not allocate: the value of the literal is not made.
@@ -58,14 +60,53 @@ pub fn opened_extent(text: &str) -> Result<usize, usize>
     ensures literal { IfOk result (IsLiteralLen text.now) }
     ensures malformed { IfErr result (IsMalformedLen text.now) }
 {
-    match after_plain(text) {
-        Some(rest) => Ok(text.len() - rest.len()),
+    match split_first_char(text) {
+        Some((c, body)) => {
+            if c.is_ascii_digit() {
+                number_extent(text)
+            } else if c == '"' {
+                quoted_extent(text, body, StringKind::String)
+            } else if c == '\'' {
+                char_extent(text, body, CharKind::Char)
+            } else if c == 'r' {
+                raw_extent(text, body, StringKind::String)
+            } else if c == 'b' {
+                bytes_extent(text, body)
+            } else {
+                judged_extent(text)
+            }
+        }
+        None => judged_extent(text),
+    }
+}
+
+/// Like [`opened_extent`], for a text that starts with `b`, before `after`.
+fn bytes_extent<'a>(text: &'a str, after: &'a str) -> Result<usize, usize>
+    requires opens { IsTrue (opens (chars text.now)) }
+    requires front { chars text.now ≡ 98 ∷ chars after.now }
+    requires end { IsEndOf text.now after.now }
+    ensures literal { IfOk result (IsLiteralLen text.now) }
+    ensures malformed { IfErr result (IsMalformedLen text.now) }
+{
+    match split_first_char(after) {
+        Some((c, body)) => {
+            if c == '\'' {
+                char_extent(text, body, CharKind::Byte)
+            } else if c == '"' {
+                quoted_extent(text, body, StringKind::ByteString)
+            } else if c == 'r' {
+                raw_extent(text, body, StringKind::ByteString)
+            } else {
+                judged_extent(text)
+            }
+        }
         None => judged_extent(text),
     }
 }
 
 /// Like [`opened_extent`], for a text in which a literal can only end where what opens ends.
-fn judged_extent(text: &str) -> Result<usize, usize>
+#[inline(never)]
+pub(crate) fn judged_extent(text: &str) -> Result<usize, usize>
     requires opens { IsTrue (opens (chars text.now)) }
     requires only { IsOnlyRest (chars text.now) (after_opened (chars text.now)) }
     ensures literal { IfOk result (IsLiteralLen text.now) }

@@ -1,6 +1,5 @@
 //! Tests of the text after a literal, which decide whether the literal ends there.
 ghost use Rattle.std.specs.Prelude.{◌≡◌, not, Bool};
-ghost use Rattle.std.specs.Char.{is_ascii_digit};
 ghost use Rattle.std.specs.Str.{chars};
 ghost use Rattle.litrs_base.specs.Text.{first_passes};
 ghost use Rattle.litrs_grammar.specs.Float.{is_period};
@@ -9,8 +8,9 @@ ghost use Rattle.litrs.specs.IntegerLiteral.{integer_parts};
 ghost use Rattle.litrs.specs.LiteralDerivation.{derivation};
 ghost use Rattle.litrs_prefix.specs.Prefix.{is_of_suffix, ends_suffix, is_quote_or_hash, ends_bool, keeps_period, gives_period, ends_integer, is_bare, ends_float, may_follow};
 
-use crate::name::{begins_name, is_empty, split_first_char};
+use crate::name::{begins_name, is_empty};
 use litrs::{FloatLit, IntegerLit, Literal};
+use litrs_base::{begins_with_digit, split_first_char};
 use unicode_ident::is_xid_continue;
 
 /// Returns `true` if `literal` ends where `rest` follows it. ` + 1`, `.max()` and `..` may follow
@@ -90,16 +90,6 @@ fn is_bare(lit: &FloatLit<&str>) -> bool
 {
     match lit.fractional_part() {
         Some(fraction) => is_empty(fraction),
-        None => false,
-    }
-}
-
-/// Returns `true` if `text` starts with a decimal digit.
-pub(crate) fn begins_with_digit(text: &str) -> bool
-    ensures { result ≡ first_passes is_ascii_digit (chars text.now) }
-{
-    match split_first_char(text) {
-        Some((c, _)) => c.is_ascii_digit(),
         None => false,
     }
 }

@@ -4,9 +4,9 @@ ghost use Rattle.std.specs.Str.{chars};
 ghost use Rattle.litrs_prefix.specs.Ends.{IsEndOf, after_digits, after_exponent, after_fraction, after_sign};
 ghost use Rattle.litrs_prefix.specs.Meant.{after_quoted, after_single_quote, after_char, after_closing, after_raw, after_prefixed, after_number, after_body, after_opened};
 
-use crate::name::{after_hashes, after_name, split_first_char};
+use crate::name::{after_hashes, after_name};
 use crate::opening::{begins_with_single_quote, opens_bytes, opens_c_string, opens_raw};
-use litrs_base::IntegerBase;
+use litrs_base::{IntegerBase, split_first_char};
 use litrs_lex::hashes::{hash_len, is_inner_quote};
 use litrs_lex::{Run, Special, next_special, run_end};
 

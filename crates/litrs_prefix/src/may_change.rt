@@ -8,9 +8,10 @@ ghost use Rattle.litrs_prefix.specs.Prefix.{HasNoPrefix};
 use crate::extent::prefix_len;
 use crate::going_on::prefix_goes_on;
 use crate::malformed::after_opened;
-use crate::name::{after_hashes, after_name, is_empty, split_first_char};
+use crate::name::{after_hashes, after_name, is_empty};
 use crate::opening::opens;
 use litrs::goes_on;
+use litrs_base::split_first_char;
 
 /// Returns `true` if [`parse_prefix`](crate::parse_prefix) has another answer for some longer text.
 ///

@@ -1,12 +1,12 @@
 //! Names at the front of a text, and the characters that they are made of.
-ghost use Rattle.std.specs.Prelude.{◌≡◌, ◌∷◌, ◌++◌, [], IfSome, IfNone, nat_le};
-ghost use Rattle.std.specs.Char.{encode_utf8};
+ghost use Rattle.std.specs.Prelude.{◌≡◌, ◌++◌, nat_le};
 ghost use Rattle.std.specs.Str.{chars, IsUtf8};
 ghost use Rattle.litrs_base.specs.Text.{first_passes, is_empty};
 ghost use Rattle.litrs_grammar.specs.Suffix.{starts_identifier};
 ghost use Rattle.litrs_prefix.specs.Ends.{IsEndOf};
 ghost use Rattle.litrs_prefix.specs.Opens.{first_name, after_run, after_name, after_hashes};
 
+use litrs_base::split_first_char;
 use litrs_lex::{Run, run_end};
 use unicode_ident::{is_xid_continue, is_xid_start};
 
@@ -15,19 +15,6 @@ pub fn begins_name(c: char) -> bool
     ensures { result ≡ starts_identifier c }
 {
     c == '_' || is_xid_start(c)
-}
-
-/// Returns the first character of `text` and the text after it, or `None` if `text` is empty.
-#[inline(always)]
-pub fn split_first_char(text: &str) -> Option<(char, &str)>
-    ensures empty { IfNone result (chars text.now ≡ []) }
-    ensures parts { IfSome result (λ parts. chars text.now ≡ parts.0 ∷ chars parts.1.now) }
-    ensures rest { IfSome result (λ parts. IsUtf8 parts.1.now) }
-    ensures bytes { IfSome result (λ parts. text.now ≡ encode_utf8 parts.0 ++ parts.1.now) }
-{
-    let mut chars = text.chars();
-    let first = chars.next()?;
-    Some((first, chars.as_str()))
 }
 
 /// Returns `true` if `text` has no character.
@@ -78,7 +65,7 @@ pub fn after_run(text: &str) -> &str
 }
 
 /// Returns `true` if `text` starts with a character that is not ASCII.
-fn starts_beyond_ascii(text: &str) -> bool
+pub fn starts_beyond_ascii(text: &str) -> bool
     ensures { result ≡ first_passes (nat_le 128) text.now }
 {
     match text.as_bytes() {

@@ -6,7 +6,8 @@ ghost use Rattle.litrs_grammar.specs.Bool.{is_bool};
 ghost use Rattle.litrs_grammar.specs.Raw.{is_quote};
 ghost use Rattle.litrs_prefix.specs.Opens.{first_name, begins_lifetime, is_single_quote, opens_raw, opens_c_string, opens_bytes, opens};
 
-use crate::name::{after_hashes, after_name, begins_name, split_first_char, split_name};
+use crate::name::{after_hashes, after_name, begins_name, split_name};
+use litrs_base::split_first_char;
 use litrs_lex::cut_bool;
 
 /// Returns `true` if a literal begins at the front of `text`, by its first characters: for `12abc`,
@@ -49,7 +50,7 @@ pub fn begins_with_single_quote(text: &str) -> bool
 }
 
 /// Returns `true` if `text` starts with `"`.
-fn begins_with_quote(text: &str) -> bool
+pub fn begins_with_quote(text: &str) -> bool
     ensures { result ≡ first_passes is_quote (chars text.now) }
 {
     match split_first_char(text) {

@@ -1,12 +1,13 @@
 //! Tests of a piece of a text: it is a literal, and the rest may follow it.
-ghost use Rattle.std.specs.Prelude.{◌&&◌, codes, IsTrue};
+ghost use Rattle.std.specs.Prelude.{◌≡◌, ◌&&◌, codes, IsTrue};
 ghost use Rattle.std.specs.Str.{chars};
 ghost use Rattle.litrs_base.specs.Text.{begins_with};
 ghost use Rattle.litrs_base.specs.declared.quotes.CharKind.TheVariants.{Char as char_kind, Byte as byte_kind};
 ghost use Rattle.litrs_base.specs.Quotes.{quoted_front, raw_front};
 ghost use Rattle.litrs_grammar.specs.CharByte.{IsCharLiteral};
 ghost use Rattle.litrs_grammar.specs.Float.{IsFloatOf};
-ghost use Rattle.litrs_grammar.specs.Integer.{IsIntegerOf};
+ghost use Rattle.litrs_grammar.specs.Integer.{IsIntegerOf, is_e};
+ghost use Rattle.litrs_grammar.specs.LiteralRefusals.{begins_float};
 ghost use Rattle.litrs_grammar.specs.Quoted.{IsQuotedLiteral};
 ghost use Rattle.litrs_grammar.specs.Raw.{IsRawLiteral};
 ghost use Rattle.litrs_lex.specs.Front.{IsFront};
@@ -14,7 +15,9 @@ ghost use Rattle.litrs_prefix.specs.Extent.{IsJudged, IsJudgedBy};
 ghost use Rattle.litrs_prefix.specs.Prefix.{ends_suffix, ends_integer, ends_float};
 
 use crate::follow::{ends_bool, ends_float, ends_integer, ends_suffix};
+use crate::malformed::after_digits;
 use litrs::{FloatLit, IntegerLit};
+use litrs_base::split_first_char;
 use litrs_lex::{Front, StringKind, cut_byte, cut_char, cut_quoted, scan_raw_string};
 
 /// Returns `Some(true)` if `rest` may follow the literal `front`, `Some(false)` if it may not, and
@@ -39,10 +42,28 @@ fn number_follows(front: &str, rest: &str) -> Option<bool>
     requires { IsFront Front.Number front.now }
     ensures { IsJudged result (chars front.now) (chars rest.now) }
 {
-    match integer_follows(front, rest) {
-        Some(ends) => Some(ends),
-        None => float_follows(front, rest),
+    if begins_float(front) {
+        float_follows(front, rest)
+    } else {
+        integer_follows(front, rest)
     }
+}
+
+/// Returns `true` if `front` is parsed as a float: a period, `e` or `E` follows its digits.
+fn begins_float(front: &str) -> bool
+    ensures { result ≡ begins_float (chars front.now) }
+{
+    match split_first_char(after_digits(front)) {
+        Some((c, _)) => c == '.' || is_e(c),
+        None => false,
+    }
+}
+
+/// Returns `true` if `c` is `e` or `E`.
+pub fn is_e(c: char) -> bool
+    ensures { result ≡ is_e c }
+{
+    c == 'e' || c == 'E'
 }
 
 /// Like [`follows`], for an integer.

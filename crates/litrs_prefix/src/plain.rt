@@ -1,67 +1,180 @@
 //! Literals that are read once: those without a suffix, before an ASCII character that no name has.
 //! Most literals of a source are such.
-ghost use Rattle.std.specs.Prelude.{◌≡◌, ◌==◌, ◌&&◌, ◌||◌, not, ◌∷◌, ◌++◌, ⊤, IsTrue, IsFalse, IfSome, IfNone};
+ghost use Rattle.std.specs.Prelude.{◌≡◌, ◌==◌, ◌&&◌, ◌||◌, not, ◌++◌, ⊤, IsTrue, IsFalse, IfOk, IfErr, IfSome, IfNone};
 ghost use Rattle.std.specs.Char.{is_ascii, is_ascii_alphanumeric, is_ascii_digit};
 ghost use Rattle.std.specs.Str.{chars};
 ghost use Rattle.unicode_ident.specs.Ident.{is_xid_continue};
 ghost use Rattle.litrs_base.specs.Text.{first_passes};
-ghost use Rattle.litrs_base.specs.Quotes.{char_front, quoted_front, switches_of};
+ghost use Rattle.litrs_base.specs.Quotes.{char_front, quoted_front, raw_front, switches_of};
 ghost use Rattle.litrs_grammar.specs.CharByte.{allows_char, is_char_item, plain_char};
 ghost use Rattle.litrs_grammar.specs.Float.{is_period};
+ghost use Rattle.litrs_grammar.specs.Integer.{is_e};
+ghost use Rattle.litrs_lex.specs.RawCut.{IsRawOpening};
 ghost use Rattle.litrs_lex.specs.Reading.{IsItemsEnd};
-ghost use Rattle.litrs_prefix.specs.Ends.{after_digits, IsEndOf, IsItemBefore, HasLiteralBefore, IsOnlyRest};
+ghost use Rattle.litrs_prefix.specs.Ends.{after_digits, is_other_letter, IsEndOf, IsItemBefore, HasLiteralBefore, IsOnlyRest};
+ghost use Rattle.litrs_prefix.specs.Extent.{IsLiteralLen, IsMalformedLen};
 ghost use Rattle.litrs_prefix.specs.Meant.{after_opened};
+ghost use Rattle.litrs_prefix.specs.Opens.{opens};
 
-use crate::follow::{begins_with_digit, begins_with_period, keeps_period};
+use crate::extent::judged_extent;
+use crate::follow::{begins_with_period, keeps_period};
 use crate::malformed::after_digits;
-use crate::name::split_first_char;
-use crate::piece::integer_follows;
-use litrs_base::CharKind;
+use crate::name::{is_empty, starts_beyond_ascii};
+use crate::opening::begins_with_quote;
+use crate::piece::{integer_follows, is_e};
+use litrs_base::{CharKind, begins_with_digit, split_first_char};
 use litrs_lex::quoted::items_end;
+use litrs_lex::raw::{body_end, open_raw};
 use litrs_lex::{InByteString, InCString, InString, Run, StringKind, run_end, unescape_with};
 
-/// Returns the part of `text` after the literal at its front, if that is an integer, or a decimal
-/// number, a char, a byte, a quoted string or a quoted byte string, has no suffix, and ends the
-/// text or is before an ASCII character that no name has. Otherwise returns `None`, as for `1e3`.
-pub fn after_plain(text: &str) -> Option<&str>
-    ensures literal { IfSome result (λ rest. HasLiteralBefore text.now rest.now) }
-    ensures none { IfNone result (IsOnlyRest (chars text.now) (after_opened (chars text.now))) }
+/// Like [`opened_extent`](crate::opened_extent), for a text that starts with a digit.
+#[inline(never)]
+pub fn number_extent(text: &str) -> Result<usize, usize>
+    requires opens { IsTrue (opens (chars text.now)) }
+    requires digit { IsTrue (first_passes is_ascii_digit (chars text.now)) }
+    ensures literal { IfOk result (IsLiteralLen text.now) }
+    ensures malformed { IfErr result (IsMalformedLen text.now) }
 {
-    match split_first_char(text) {
-        Some((c, body)) => {
-            if c.is_ascii_digit() {
-                after_number(text)
-            } else if c == '"' {
-                after_quoted(text, body, StringKind::String)
-            } else if c == '\'' {
-                after_char(text, body, CharKind::Char)
-            } else if c == 'b' {
-                after_prefixed(text, body)
-            } else {
-                None
-            }
+    let rest = after_digits(text);
+    if begins_with_letter(rest) {
+        word_extent(text)
+    } else if begins_with_e(rest) {
+        judged_extent(text)
+    } else {
+        match after_number(text, rest) {
+            Some(after) => Ok(text.len() - after.len()),
+            None => judged_extent(text),
         }
-        None => None,
     }
 }
 
-/// Like [`after_plain`], for a text that starts with `b`, before `after`.
-fn after_prefixed<'a>(text: &'a str, after: &'a str) -> Option<&'a str>
-    requires front { chars text.now ≡ 98 ∷ chars after.now }
-    requires end { IsEndOf text.now after.now }
-    ensures { IfSome result (λ rest. HasLiteralBefore text.now rest.now) }
+/// Like [`number_extent`], for a text in which a letter but `e` and `E` follows the digits, as in
+/// `0xFF` and `1u32`.
+fn word_extent(text: &str) -> Result<usize, usize>
+    requires opens { IsTrue (opens (chars text.now)) }
+    requires digit { IsTrue (first_passes is_ascii_digit (chars text.now)) }
+    requires letter { IsTrue (first_passes is_other_letter (after_digits (chars text.now))) }
+    ensures literal { IfOk result (IsLiteralLen text.now) }
+    ensures malformed { IfErr result (IsMalformedLen text.now) }
 {
-    match split_first_char(after) {
-        Some((c, body)) => {
-            if c == '"' {
-                after_quoted(text, body, StringKind::ByteString)
-            } else if c == '\'' {
-                after_char(text, body, CharKind::Byte)
-            } else {
-                None
-            }
+    let len = run_end(text.as_bytes(), Run::Identifier);
+    let (front, rest) = text.split_at(len);
+    match integer_follows(front, rest) {
+        Some(ends) => if ends { Ok(len) } else { judged_extent(text) },
+        None => if starts_beyond_ascii(rest) {
+            judged_extent(text)
+        } else {
+            Err(len)
+        },
+    }
+}
+
+/// Returns `true` if `text` starts with an ASCII letter but `e` and `E`.
+fn begins_with_letter(text: &str) -> bool
+    ensures { result ≡ first_passes is_other_letter (chars text.now) }
+{
+    match split_first_char(text) {
+        Some((c, _)) => c.is_ascii_alphabetic() && !is_e(c),
+        None => false,
+    }
+}
+
+/// Returns `true` if `text` starts with `e` or `E`.
+fn begins_with_e(text: &str) -> bool
+    ensures { result ≡ first_passes is_e (chars text.now) }
+{
+    match split_first_char(text) {
+        Some((c, _)) => is_e(c),
+        None => false,
+    }
+}
+
+/// Like [`opened_extent`](crate::opened_extent), for a text of the front of a char or a byte and
+/// `body`.
+pub fn char_extent<'a>(text: &'a str, body: &'a str, kind: CharKind) -> Result<usize, usize>
+    requires opens { IsTrue (opens (chars text.now)) }
+    requires front { chars text.now ≡ char_front kind ++ chars body.now }
+    requires end { IsEndOf text.now body.now }
+    ensures literal { IfOk result (IsLiteralLen text.now) }
+    ensures malformed { IfErr result (IsMalformedLen text.now) }
+{
+    match after_char(text, body, kind) {
+        Some(rest) => Ok(text.len() - rest.len()),
+        None => judged_extent(text),
+    }
+}
+
+/// Like [`opened_extent`](crate::opened_extent), for a text of the front of a quoted string and
+/// `body`. A string whose items end with the text is not closed.
+#[inline(never)]
+pub fn quoted_extent<'a>(text: &'a str, body: &'a str, kind: StringKind) -> Result<usize, usize>
+    requires opens { IsTrue (opens (chars text.now)) }
+    requires front { chars text.now ≡ quoted_front kind ++ chars body.now }
+    requires end { IsEndOf text.now body.now }
+    ensures literal { IfOk result (IsLiteralLen text.now) }
+    ensures malformed { IfErr result (IsMalformedLen text.now) }
+{
+    let end = items_len(body, kind);
+    let (_, closing) = body.split_at(end);
+    match split_first_char(closing) {
+        Some((quote, rest)) if quote == '"' => if ends_name(rest) {
+            Ok(text.len() - rest.len())
+        } else {
+            judged_extent(text)
+        },
+        Some(_) => judged_extent(text),
+        None => Err(text.len()),
+    }
+}
+
+/// Like [`opened_extent`](crate::opened_extent), for a text of the front of a raw string and
+/// `body`.
+#[inline(never)]
+pub fn raw_extent<'a>(text: &'a str, body: &'a str, kind: StringKind) -> Result<usize, usize>
+    requires opens { IsTrue (opens (chars text.now)) }
+    requires front { chars text.now ≡ raw_front kind ++ chars body.now }
+    requires end { IsEndOf text.now body.now }
+    ensures literal { IfOk result (IsLiteralLen text.now) }
+    ensures malformed { IfErr result (IsMalformedLen text.now) }
+{
+    match open_raw(body, 0) {
+        Ok((hashes, start)) => raw_body_extent(text, body, kind, hashes, start),
+        Err(_) => judged_extent(text),
+    }
+}
+
+/// Like [`raw_extent`], for a body of `hashes` hashes and `"`, which ends at `start`. A string that
+/// is not closed extends to the end of the text.
+fn raw_body_extent<'a>(
+    text: &'a str,
+    body: &'a str,
+    kind: StringKind,
+    hashes: usize,
+    start: usize,
+) -> Result<usize, usize>
+    requires opens { IsTrue (opens (chars text.now)) }
+    requires front { chars text.now ≡ raw_front kind ++ chars body.now }
+    requires end { IsEndOf text.now body.now }
+    requires opening { IsRawOpening 0 body.now (hashes, start) }
+    ensures literal { IfOk result (IsLiteralLen text.now) }
+    ensures malformed { IfErr result (IsMalformedLen text.now) }
+{
+    let bytes = body.as_bytes();
+    let allowed = kind.switches();
+    let end = body_end(bytes, start, hashes, allowed);
+    let (_, closing) = body.split_at(end);
+    if is_empty(closing) {
+        Err(text.len())
+    } else if begins_with_quote(closing) {
+        let place = end + 1 + hashes;
+        let (_, rest) = body.split_at(place);
+        if ends_name(rest) {
+            Ok(text.len() - rest.len())
+        } else {
+            judged_extent(text)
         }
-        None => None,
+    } else {
+        judged_extent(text)
     }
 }
 
@@ -82,13 +195,16 @@ fn is_name_end(c: char) -> bool
     c.is_ascii() && !(c.is_ascii_alphanumeric() || c == '_')
 }
 
-/// Like [`after_plain`], for a text that starts with a digit.
-fn after_number(text: &str) -> Option<&str>
-    requires { IsTrue (first_passes is_ascii_digit (chars text.now)) }
+/// Returns the part of `text` after the number at its front, which has no suffix, exponent or
+/// letter. `rest` is the part after its digits. Returns `None` if a name follows the fraction, or
+/// if what follows the digits may not follow an integer.
+fn after_number<'a>(text: &'a str, rest: &'a str) -> Option<&'a str>
+    requires digit { IsTrue (first_passes is_ascii_digit (chars text.now)) }
+    requires rest { chars rest.now ≡ after_digits (chars text.now) }
+    requires end { IsEndOf text.now rest.now }
     ensures literal { IfSome result (λ rest. HasLiteralBefore text.now rest.now) }
     ensures none { IfNone result (IsOnlyRest (chars text.now) (after_opened (chars text.now))) }
 {
-    let rest = after_digits(text);
     if begins_with_period(rest) {
         after_period(text, rest)
     } else if ends_name(rest) {
@@ -98,7 +214,7 @@ fn after_number(text: &str) -> Option<&str>
     }
 }
 
-/// Like [`after_plain`], for a text of digits and `rest`, which starts with a period.
+/// Like [`after_number`], for a text of digits and `rest`, which starts with a period.
 fn after_period<'a>(text: &'a str, rest: &'a str) -> Option<&'a str>
     requires digit { IsTrue (first_passes is_ascii_digit (chars text.now)) }
     requires rest { chars rest.now ≡ after_digits (chars text.now) }
@@ -122,7 +238,7 @@ fn after_period<'a>(text: &'a str, rest: &'a str) -> Option<&'a str>
     }
 }
 
-/// Like [`after_plain`], for an integer of the characters of a name, as `0xFF` and `1u32`.
+/// Like [`after_number`], for an integer of the characters of a name.
 fn after_integer(text: &str) -> Option<&str>
     ensures literal { IfSome result (λ rest. HasLiteralBefore text.now rest.now) }
     ensures none { IfNone result (IsOnlyRest (chars text.now) (after_opened (chars text.now))) }
@@ -134,7 +250,9 @@ fn after_integer(text: &str) -> Option<&str>
     }
 }
 
-/// Like [`after_plain`], for a text of the front of a char or a byte and `body`.
+/// Returns the part of `text`, which is the front of a char or a byte and `body`, after the char or
+/// byte, if it has no suffix before an ASCII character that no name has, or the end of the text.
+/// Otherwise returns `None`.
 fn after_char<'a>(text: &'a str, body: &'a str, kind: CharKind) -> Option<&'a str>
     requires front { chars text.now ≡ char_front kind ++ chars body.now }
     requires end { IsEndOf text.now body.now }
@@ -200,22 +318,8 @@ fn fits_kind(c: char, kind: CharKind) -> bool
     }
 }
 
-/// Like [`after_plain`], for a text of the front of a quoted string and `body`.
-fn after_quoted<'a>(text: &'a str, body: &'a str, kind: StringKind) -> Option<&'a str>
-    requires front { chars text.now ≡ quoted_front kind ++ chars body.now }
-    requires end { IsEndOf text.now body.now }
-    ensures { IfSome result (λ rest. HasLiteralBefore text.now rest.now) }
-{
-    let end = body_end(body, kind);
-    let (_, closing) = body.split_at(end);
-    match split_first_char(closing) {
-        Some((quote, rest)) if quote == '"' => if ends_name(rest) { Some(rest) } else { None },
-        _ => None,
-    }
-}
-
 /// Returns where the items of `body` end.
-fn body_end(body: &str, kind: StringKind) -> usize
+fn items_len(body: &str, kind: StringKind) -> usize
     ensures { IsItemsEnd (switches_of kind) body.now 0 (λ _. ⊤) result }
 {
     match kind {

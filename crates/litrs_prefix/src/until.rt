@@ -8,10 +8,10 @@ ghost use Rattle.litrs_prefix.specs.Malformed.{IsMarkedAt};
 ghost use Rattle.litrs_prefix.specs.Until.{is_delimiter, from_first, from_delimiter, before_delimiter, StartsWithDelimiter, IsRefusedUntil};
 
 use crate::malformed::after_opened;
-use crate::name::split_first_char;
 use crate::opening::opens;
 use crate::{MalformedPrefix, Prefix};
 use litrs::Literal;
+use litrs_base::split_first_char;
 use std::alloc::Global;
 
 /// Parses the text of `source` from `start` to the next delimiter, which is a character of

@@ -1,10 +1,9 @@
 -- The piece that opens is the literal, or the malformed prefix, or shorter than it.
-use Rattle.std.proofs.Common.{◌≡◌, ℕ, List, ◌-◌, Some, None, true, false, drop, sym, ◌∙◌}
+use Rattle.std.proofs.Common.{◌≡◌, ℕ, List, Some, None, true, drop, sym, ◌∙◌}
 use Rattle.std.specs.Str.{chars}
 use Rattle.std.proofs.lemmas.Bool.{true≢false}
 use Rattle.litrs_prefix.specs.Ends.{IsOnlyRest}
 use Rattle.litrs_prefix.specs.Meant.{after_opened}
-use Rattle.litrs_prefix.specs.Opens.{opens}
 use Rattle.litrs_prefix.proofs.Judged.{judged_prefix, judged_none, malformed_piece}
 use Rattle.litrs_prefix.proofs.MeantEnds.{OpenedAt, opened_at}
 use Rattle.litrs_prefix.proofs.extent.judged_extent.Goals as goal

@@ -1,17 +1,30 @@
--- A literal that is read once ends where its rest begins.
-use Rattle.std.proofs.Common.{ℕ, List, sym, subst}
+-- How the text begins decides.
+use Rattle.std.proofs.Common.{sym, ap, ◌∙◌}
+use Rattle.std.specs.Char.{is_ascii_digit}
 use Rattle.std.specs.Str.{chars}
-use Rattle.litrs_prefix.specs.Prefix.{HasPrefix}
-use Rattle.litrs_prefix.proofs.Ends.{not_longer, end_at}
+use Rattle.litrs_base.specs.Text.{first_passes}
+use Rattle.litrs_prefix.proofs.Ends.{all, after_first}
+use Rattle.litrs_prefix.proofs.Extents.{only_other, only_nothing}
 use Rattle.litrs_prefix.proofs.extent.opened_extent.Goals as goal
 
-pub overflow_sub-result : goal.overflow_sub-result
-overflow_sub-result c = not_longer c.args.text.now c.in-Some.rest.now c.in-Some.ensures.literal.end
+pub number_extent-requires-clause-digit : goal.number_extent-requires-clause-digit
+number_extent-requires-clause-digit c = ap (first_passes is_ascii_digit) c.in-Some.ensures.parts ∙ (sym c.is_ascii_digit.ensures.value ∙ c.if-is_ascii_digit.true)
 
-pub returns-in-Some-clause-literal : goal.returns-in-Some-clause-literal
-returns-in-Some-clause-literal c =
-    let text = c.args.text.now in
-    let rest = c.in-Some.rest.now in
-    let is = c.in-Some.ensures.literal in
-    let place = end_at text is.end.0 rest is.utf8 is.end.1 in
-    record { boundary = place.0; literal = is.literal; at_front = subst (λ (l : List ℕ). HasPrefix (chars text) is.literal (chars l)) (sym place.1) is.at_front }
+pub quoted_extent-requires-clause-end : goal.quoted_extent-requires-clause-end
+quoted_extent-requires-clause-end c = after_first c.args.text.now c.args.text.now c.in-Some.body.now c.in-Some.c (all c.args.text.now) c.in-Some.ensures.bytes
+
+pub char_extent-requires-clause-end : goal.char_extent-requires-clause-end
+char_extent-requires-clause-end c = after_first c.args.text.now c.args.text.now c.in-Some.body.now c.in-Some.c (all c.args.text.now) c.in-Some.ensures.bytes
+
+pub raw_extent-requires-clause-end : goal.raw_extent-requires-clause-end
+raw_extent-requires-clause-end c = after_first c.args.text.now c.args.text.now c.in-Some.body.now c.in-Some.c (all c.args.text.now) c.in-Some.ensures.bytes
+
+pub bytes_extent-requires-clause-end : goal.bytes_extent-requires-clause-end
+bytes_extent-requires-clause-end c = after_first c.args.text.now c.args.text.now c.in-Some.body.now c.in-Some.c (all c.args.text.now) c.in-Some.ensures.bytes
+
+pub judged_extent-requires-clause-only : goal.judged_extent-requires-clause-only
+judged_extent-requires-clause-only c =
+    only_other c.in-Some.c (chars c.args.text.now) (chars c.in-Some.body.now) c.in-Some.ensures.parts (sym c.is_ascii_digit.ensures.value ∙ c.if-is_ascii_digit.false)
+
+pub judged_extent-requires-in-None-clause-only : goal.judged_extent-requires-in-None-clause-only
+judged_extent-requires-in-None-clause-only c = only_nothing (chars c.args.text.now) c.in-None.ensures.empty

@@ -1,10 +1,17 @@
--- It is an integer, or a float.
+-- What follows the digits decides.
+use Rattle.std.proofs.Common.{sym, ◌∙◌}
 use Rattle.std.specs.Str.{chars}
-use Rattle.litrs_prefix.proofs.Judged.{integer_before, number_before}
+use Rattle.std.proofs.lemmas.Bool.{true≢false}
+use Rattle.litrs_grammar.proofs.Laws.Number.{integer_begins}
+use Rattle.litrs_prefix.proofs.Judged.{number_before}
+use Rattle.litrs_prefix.proofs.NumberExtents.{integer_alone}
 use Rattle.litrs_prefix.proofs.piece.number_follows.Goals as goal
 
-pub returns-in-Some : goal.returns-in-Some
-returns-in-Some c = integer_before (chars c.args.front.now) (chars c.args.rest.now) c.in-Some.ends c.in-Some.ensures
+pub returns-then-begins_float : goal.returns-then-begins_float
+returns-then-begins_float c =
+    number_before c.args.front.now (chars c.args.rest.now) c.float_follows.result c.utf8.front c.requires
+    (λ d h. true≢false (sym (sym c.begins_float.ensures ∙ c.if-begins_float.true) ∙ integer_begins (chars c.args.front.now) d h)) c.float_follows.ensures
 
-pub returns-in-None : goal.returns-in-None
-returns-in-None c = number_before c.args.front.now (chars c.args.rest.now) c.float_follows.result c.utf8.front c.requires c.in-None.ensures c.float_follows.ensures
+pub returns-else-begins_float : goal.returns-else-begins_float
+returns-else-begins_float c =
+    integer_alone c.args.front.now (chars c.args.rest.now) c.integer_follows.result c.utf8.front c.requires (sym c.begins_float.ensures ∙ c.if-begins_float.false) c.integer_follows.ensures

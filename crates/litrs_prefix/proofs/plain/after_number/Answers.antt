@@ -12,8 +12,8 @@ use Rattle.litrs_prefix.proofs.plain.after_number.Goals as goal
 pub returns-then-ends_name-clause-literal : goal.returns-then-ends_name-clause-literal
 returns-then-ends_name-clause-literal c =
     let t = chars c.args.text.now in
-    let rest = c.after_digits-rest.result.now in
-    let is = c.after_digits-rest.ensures.rest in
+    let rest = c.args.rest.now in
+    let is = c.requires.rest in
     let period : first_passes is_period (chars rest) ≡ false = sym c.begins_with_period.ensures ∙ c.if-begins_with_period.false in
-    before_of c.args.text.now rest (after_digits t) c.after_digits-rest.ensures.end c.after_digits-rest.utf8
-    (integer_at t c.requires (ap (first_passes starts_identifier) (sym is) ∙ no_start (chars rest) (c.ends_name.ensures c.if-ends_name.true)) (ap gives_period (sym is) ∙ no_period (chars rest) period)) is
+    before_of c.args.text.now rest (after_digits t) c.requires.end c.utf8.rest
+    (integer_at t c.requires.digit (ap (first_passes starts_identifier) (sym is) ∙ no_start (chars rest) (c.ends_name.ensures c.if-ends_name.true)) (ap gives_period (sym is) ∙ no_period (chars rest) period)) is

@@ -1,6 +1,6 @@
 -- A body begins at a character.
 use Rattle.std.proofs.lemmas.Str.{IsCharBoundary-start}
-use Rattle.litrs_prefix.proofs.plain.body_end.Goals as goal
+use Rattle.litrs_prefix.proofs.plain.items_len.Goals as goal
 
 pub items_end-requires : goal.items_end-requires
 items_end-requires c = IsCharBoundary-start c.args.body.now c.utf8.body

@@ -1,0 +1,85 @@
+-- Extents of literals, valid or malformed, by what follows them.
+use Rattle.std.proofs.Common.{◌≡◌, ℕ, ◌-◌, ◌≤◌, true, false, List, [], ◌∷◌, ◌++◌, length, take, drop, None, refl, sym, ap, subst, ◌∙◌, arith}
+use Rattle.std.specs.Char.{is_ascii_digit}
+use Rattle.std.specs.Str.{chars, IsUtf8}
+use Rattle.std.proofs.lemmas.List.{take_all, drop_all}
+use Rattle.std.proofs.lemmas.Str.{chars-nil, IsUtf8-nil}
+use Rattle.litrs_base.specs.Derivations.{HasNoDerivation}
+use Rattle.litrs_base.specs.declared.quotes.CharKind.{CharKind}
+use Rattle.litrs_base.specs.declared.quotes.CharKind.TheVariants.{Char as char_kind, Byte as byte_kind}
+use Rattle.litrs_base.specs.declared.quotes.StringKind.{StringKind}
+use Rattle.litrs_base.specs.declared.quotes.StringKind.TheVariants.{String as string_kind, ByteString as byte_string_kind, CString as c_string_kind}
+use Rattle.litrs_base.specs.Quotes.{char_front, quoted_front, raw_front}
+use Rattle.litrs_base.specs.Text.{first_passes}
+use Rattle.litrs_grammar.specs.Literal.{IsLiteral}
+use Rattle.litrs_prefix.specs.Ends.{HasLiteralBefore, IsOnlyRest}
+use Rattle.litrs_prefix.specs.Extent.{IsLiteralLen, IsMalformedLen}
+use Rattle.litrs_prefix.specs.Meant.{after_opened}
+use Rattle.litrs_prefix.specs.Opens.{opens}
+use Rattle.litrs_prefix.specs.Prefix.{HasPrefix}
+use Rattle.litrs_prefix.proofs.Ends.{end_at, not_longer}
+use Rattle.litrs_prefix.proofs.Judged.{judged_none, malformed_piece}
+use Rattle.litrs_prefix.proofs.MeantEnds.{OpenedAt, opened_at}
+use Rattle.litrs_prefix.proofs.NumberEnds.{only_unless_digit}
+
+-- a literal ends where its rest begins
+pub literal_len : (bs rest : List ℕ) → HasLiteralBefore bs rest → IsLiteralLen bs (length bs - length rest)
+literal_len bs rest is =
+    let place = end_at bs is.end.0 rest is.utf8 is.end.1 in
+    record { boundary = place.0; literal = is.literal; at_front = subst (λ (l : List ℕ). HasPrefix (chars bs) is.literal (chars l)) (sym place.1) is.at_front }
+
+pub within : (bs rest : List ℕ) → HasLiteralBefore bs rest → length rest ≤ length bs
+within bs rest is = not_longer bs rest is.end
+
+-- what opens has the whole text, which is no literal
+pub whole_malformed : (bs : List ℕ) → IsUtf8 bs → opens (chars bs) ≡ true → after_opened (chars bs) ≡ [] → first_passes is_ascii_digit (chars bs) ≡ false →
+    HasNoDerivation (IsLiteral (chars bs)) → IsMalformedLen bs (length bs)
+whole_malformed bs u opens_at after digit invalid =
+    let at = (opened_at bs [] u IsUtf8-nil opens_at (chars-nil ∙ sym after)).1 in
+    let same : length bs - length {A = ℕ} [] ≡ length bs = omega arith in
+    let all : OpenedAt bs (length bs) = subst (λ (k : ℕ). OpenedAt bs k) same at in
+    let before : bs ≡ take (length bs) bs = sym (take_all (length bs) bs (omega arith)) in
+    let left : [] ≡ drop (length bs) bs = sym (drop_all (length bs) bs (omega arith)) in
+    let only : IsOnlyRest (chars bs) (chars (drop (length bs) bs)) = λ d r h. only_unless_digit (chars bs) digit d r h ∙ sym all.rest in
+    let none = judged_none bs bs [] (length bs) None u all.boundary before left only invalid (λ e. cc) in
+    malformed_piece bs bs [] (length bs) u all.boundary before left all.some all.meant opens_at none invalid
+
+-- no front of another kind than a number starts with a digit
+
+char_no_digit : (kind : CharKind) (x : List ℕ) → first_passes is_ascii_digit (char_front kind ++ x) ≡ false
+char_no_digit char_kind x = refl
+char_no_digit byte_kind x = refl
+
+quoted_no_digit : (kind : StringKind) (x : List ℕ) → first_passes is_ascii_digit (quoted_front kind ++ x) ≡ false
+quoted_no_digit string_kind x = refl
+quoted_no_digit byte_string_kind x = refl
+quoted_no_digit c_string_kind x = refl
+
+raw_no_digit : (kind : StringKind) (x : List ℕ) → first_passes is_ascii_digit (raw_front kind ++ x) ≡ false
+raw_no_digit string_kind x = refl
+raw_no_digit byte_string_kind x = refl
+raw_no_digit c_string_kind x = refl
+
+pub char_digit : (kind : CharKind) (t x : List ℕ) → t ≡ char_front kind ++ x → first_passes is_ascii_digit t ≡ false
+char_digit kind t x is = ap (first_passes is_ascii_digit) is ∙ char_no_digit kind x
+
+pub quoted_digit : (kind : StringKind) (t x : List ℕ) → t ≡ quoted_front kind ++ x → first_passes is_ascii_digit t ≡ false
+quoted_digit kind t x is = ap (first_passes is_ascii_digit) is ∙ quoted_no_digit kind x
+
+pub raw_digit : (kind : StringKind) (t x : List ℕ) → t ≡ raw_front kind ++ x → first_passes is_ascii_digit t ≡ false
+raw_digit kind t x is = ap (first_passes is_ascii_digit) is ∙ raw_no_digit kind x
+
+pub only_char : (kind : CharKind) (t x : List ℕ) → t ≡ char_front kind ++ x → IsOnlyRest t (after_opened t)
+only_char kind t x is = only_unless_digit t (char_digit kind t x is)
+
+pub only_quoted : (kind : StringKind) (t x : List ℕ) → t ≡ quoted_front kind ++ x → IsOnlyRest t (after_opened t)
+only_quoted kind t x is = only_unless_digit t (quoted_digit kind t x is)
+
+pub only_raw : (kind : StringKind) (t x : List ℕ) → t ≡ raw_front kind ++ x → IsOnlyRest t (after_opened t)
+only_raw kind t x is = only_unless_digit t (raw_digit kind t x is)
+
+pub only_other : (c : ℕ) (t x : List ℕ) → t ≡ c ∷ x → is_ascii_digit c ≡ false → IsOnlyRest t (after_opened t)
+only_other c t x is digit = only_unless_digit t (ap (first_passes is_ascii_digit) is ∙ digit)
+
+pub only_nothing : (t : List ℕ) → t ≡ [] → IsOnlyRest t (after_opened t)
+only_nothing t is = only_unless_digit t (ap (first_passes is_ascii_digit) is)
